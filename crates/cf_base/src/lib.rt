@@ -1,0 +1,20 @@
+//! The ground that every crate stands on.
+//!
+//! It has what source and target share: lists and boxes that contracts see as plain values, the kinds of
+//! integers, the numbered rules and limits, the traits of the outside with objects in memory that meet
+//! them; and in `specs/` the integers of the language, events, the world of a run, and agreement.
+#![tactic(auto)]
+
+mod boxed;
+mod items;
+mod kind;
+mod limit;
+mod memory;
+mod rule;
+
+pub use boxed::Boxed;
+pub use items::{Bytes, Items, Name};
+pub use kind::Kind;
+pub use limit::{Bound, Limit};
+pub use memory::{Failed, Memory};
+pub use rule::{Broken, Rule};

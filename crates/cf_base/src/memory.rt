@@ -1,0 +1,25 @@
+use std::alloc::{AllocError, AllocFailed};
+
+/// Want of memory, the one answer that no clause ties to a cause.
+#[derive(Clone, Copy, Debug, PartialEq, Eq)]
+pub struct Memory;
+
+impl From<AllocError> for Memory {
+    ghost from_gives = { λ _ e. Unit {0} };
+
+    fn from(_error: AllocError) -> Memory {
+        Memory
+    }
+}
+
+impl<T: Drop> From<AllocFailed<T>> for Memory {
+    ghost from_gives = { λ _ e. Unit {0} };
+
+    fn from(_error: AllocFailed<T>) -> Memory {
+        Memory
+    }
+}
+
+/// A call on the outside that failed: its fault count rose.
+#[derive(Clone, Copy, Debug, PartialEq, Eq)]
+pub struct Failed;
