@@ -1,4 +1,4 @@
-ghost use Rattle.std.specs.Prelude.{◌≡◌, ℕ, ◌≤◌, ◌-◌, get_or, []};
+ghost use Rattle.std.specs.Prelude.{◌≡◌, ℕ, ◌≤◌, ◌-◌, ◌<◌, get_or, length, map, []};
 ghost use Rattle.cf_base.specs.Rule.{sections, texts};
 
 use std::marker::Model;
@@ -42,14 +42,14 @@ impl Rule {
     pub fn section(&self) -> &'static str
         ensures { result.now ≡ get_or sections (self.now - 1) [] }
     {
-        SECTIONS[usize::from(self.number - 1)]
+        row(&SECTIONS, usize::from(self.number - 1))
     }
 
     /// Why a file is refused.
     pub fn text(&self) -> &'static str
         ensures { result.now ≡ get_or texts (self.now - 1) [] }
     {
-        TEXTS[usize::from(self.number - 1)]
+        row(&TEXTS, usize::from(self.number - 1))
     }
 }
 
@@ -58,6 +58,15 @@ impl Rule {
 pub struct Broken {
     pub rule: Rule,
     pub at: u32,
+}
+
+/// The text at an index of a table.
+#[tactic(auto, using(crate::proofs::Tables::text_at))]
+fn row(table: &[&'static str], index: usize) -> &'static str
+    requires { index < length table.now }
+    ensures { result.now ≡ get_or (map (λ text. text.now) table.now) index [] }
+{
+    table[index]
 }
 
 const SECTIONS: [&str; 48] = [
