@@ -1,2 +1,6 @@
+pub mod Agree
+pub mod Event
+pub mod Integers
 pub mod Rule
+pub mod World
 pub mod formers
