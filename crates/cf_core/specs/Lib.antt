@@ -1,0 +1,17 @@
+pub mod Access
+pub mod Building
+pub mod Calls
+pub mod Classes
+pub mod Core
+pub mod Expressions
+pub mod Objects
+pub mod Places
+pub mod Pointers
+pub mod Program
+pub mod Run
+pub mod Scalars
+pub mod Size
+pub mod Statements
+pub mod Store
+pub mod Subobjects
+pub mod Types

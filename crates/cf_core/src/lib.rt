@@ -1,0 +1,6 @@
+//! The typed core that elaboration makes, and in `specs/` the meaning that the manual gives to it.
+#![tactic(auto)]
+
+mod operators;
+
+pub use operators::{PointerOperator, UnaryOperator};
