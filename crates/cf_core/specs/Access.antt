@@ -3,7 +3,7 @@ use Rattle.std.specs.Prelude.{not, List, ◌++◌, ℤ, Some}
 use Rattle.cf_core.specs.Types.{SourceType}
 use Rattle.cf_core.specs.Classes.{Class}
 use Rattle.cf_core.specs.Places.{Route, Place, type_at, is_inside, is_reference}
-use Rattle.cf_core.specs.Store.{Value, Nothing, Number, Null, At, Code, DataMember, FunctionMember, Object, hold, hold_all, all_alive, zero_of, is_usable, is_constant_place}
+use Rattle.cf_core.specs.Store.{Value, Nothing, Built, Number, Null, At, Code, DataMember, FunctionMember, Object, hold, hold_all, all_alive, zero_of, is_usable, is_constant_place}
 use Rattle.cf_core.specs.Run.{State, Act, ◌>>=◌, ◌>>◌, gives, malformed, undefined, state, need, some_or, when, object_changed, null_used, not_alive, outside_array, no_value, write_to_const, no_result}
 
 abbrev pub place_type : List Class → State → Place → SourceType
@@ -12,6 +12,7 @@ place_type classes s p = type_at classes (s.object p.object).type p.route
 -- a value that is used: the use of one that a function ended without is undefined (6.6.3)
 abbrev pub used : Value → Act Value
 used Nothing = undefined no_result
+used Built = malformed
 used (Number z) = gives (Number z)
 used Null = gives Null
 used (At p) = gives (At p)

@@ -225,7 +225,7 @@ assign_to again P t from to = copy_over P.classes from to
 -- The free store (5.3.4).
 
 abbrev pub destructor_signature : Name
-destructor_signature = codes "__dtF"
+destructor_signature = codes "__dtFv"
 
 abbrev pub is_virtual_in : Option MemberFunction → Bool
 is_virtual_in None = false

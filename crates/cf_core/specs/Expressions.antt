@@ -3,14 +3,14 @@ use Rattle.std.specs.Prelude.{ℕ, suc, ◌-◌, true, false, ◌&&◌, not, if�
 use Rattle.cf_core.specs.Types.{SourceType, array, parameters, plain, element}
 use Rattle.cf_core.specs.Core.{Core, Cores, MaybeCore, item, field, no_temporary, local_temporary, static_temporary, none, more, absent, given, number, text, this, local, static_object, function, member, read, address, dereference, decay, index, convert, up, down, from_void, to_member, data_pointer, function_pointer, through, operate, unary, logical_not, logical_and, logical_or, pointer_operate, conditional, comma, store, update, step, assign, temporary, call, virtual_call, pointer_call, new, new_array, delete, delete_array, build, copy, each, list, string, bind, zeros, blank}
 use Rattle.cf_core.specs.Places.{Place, inner}
-use Rattle.cf_core.specs.Store.{Value, Nothing, Number, At, Code, DataMember, FunctionMember}
+use Rattle.cf_core.specs.Store.{Value, Nothing, Built, Number, At, Code, DataMember, FunctionMember}
 use Rattle.cf_core.specs.Run.{Act, ◌>>=◌, ◌>>◌, gives, malformed, state, done, some_or, when, for_each, declared_object, frame_changed, lists_in_scope, lists_temporary}
 use Rattle.cf_core.specs.Access.{place_type, using, placed, name_part, read_place, write_place, followed, fill_zeros}
 use Rattle.cf_core.specs.Pointers.{truth_value, pointer_op, from_void_value, down_value}
 use Rattle.cf_core.specs.Building.{dispatch, up_value}
 use Rattle.cf_core.specs.Calls.{Program, Again, root, run_named, name_function, full_expression, finish_static, copy_to, assign_to, delete_value}
 use Rattle.cf_core.specs.Scalars.{truth_of, converted_value, operated, signed, changed_value, indexed, decayed, pointed_to, to_derived, through_pointer}
-use Rattle.cf_core.specs.Objects.{local_place, static_type, static_place, same_type, literal_object, new_local, settled, built_at, write_bytes, element_part, element_count, is_array, costs_tick, one_tick, count_of, new_storage, count, run_pointer}
+use Rattle.cf_core.specs.Objects.{result_place, local_place, static_type, static_place, same_type, literal_object, new_local, settled, built_at, write_bytes, element_part, element_count, is_array, costs_tick, one_tick, count_of, new_storage, count, run_pointer}
 
 module _ (again : Again) (P : Program) where
   abbrev mutual
@@ -98,17 +98,17 @@ module _ (again : Again) (P : Program) where
       name_function P name t
       p ← object_place object
       os ← arguments (parameters t) args
-      run_named again P name os p into
+      run_named again P name os p (result_place t into)
     value (virtual_call signature t object args) into = do
       p ← placed (value object None)
       os ← arguments (parameters t) args
       f ← dispatch P.classes p signature
-      run_named again P f.name os (Some f.this) into
+      run_named again P f.name os (Some f.this) (result_place t into)
     value (pointer_call object e t args) into = do
       p ← object_place object
       f ← using (value e None)
       os ← arguments (parameters t) args
-      run_pointer again P p f os into
+      run_pointer again P p f os (result_place t into)
     value (new t e) into =
         new_storage P false t (λ o. settled P.classes (root o) (value e (Some (root o))) >> gives (At (root o)))
     value (new_array t n e) into = do
@@ -121,12 +121,13 @@ module _ (again : Again) (P : Program) where
       p ← built_at into
       os ← arguments (parameters t) args
       run_named again P name os (Some p) None
+      gives Built
     value (copy e) into = do
       to ← built_at into
       from ← placed (value e None)
       s ← state
       copy_to again P (place_type P.classes s to) from to
-      gives Nothing
+      gives Built
     value (each e) into = do
       p ← built_at into
       s ← state
@@ -134,7 +135,7 @@ module _ (again : Again) (P : Program) where
       for_each 0 (element_count P.classes t) (λ i.
         one_tick (costs_tick e P.classes (element (plain t)))
         >> settled P.classes (inner (item i) p) (full_expression again P (value e (Some (inner (item i) p)))))
-      gives Nothing
+      gives Built
     value (list es rest) into = do
       p ← built_at into
       s ← state
@@ -145,12 +146,12 @@ module _ (again : Again) (P : Program) where
         let q = inner (element_part t i) p in
         one_tick (is_array t && costs_tick rest P.classes (element (plain t)))
         >> settled P.classes q (full_expression again P (value rest (Some q))))
-      gives Nothing
+      gives Built
     value (string bytes) into = do
       p ← built_at into
       fill_zeros P.classes p
       write_bytes p 0 bytes
-      gives Nothing
+      gives Built
     value (bind no_temporary e) into = value e None
     value (bind (local_temporary i t) e) into = do
       o ← new_local i t
@@ -162,8 +163,8 @@ module _ (again : Again) (P : Program) where
       settled P.classes p (value e (Some p))
       finish_static P (static_type P name) p.object
       gives (At p)
-    value zeros into = built_at into >>= fill_zeros P.classes >> gives Nothing
-    value blank into = gives Nothing
+    value zeros into = built_at into >>= fill_zeros P.classes >> gives Built
+    value blank into = gives Built
     value e into = malformed
 
     -- a comma's expressions in order; the value is the last one's (5.18)

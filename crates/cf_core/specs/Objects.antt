@@ -1,13 +1,13 @@
 -- The objects that names and literals stand for, initialised places, storage of the free store, and calls through pointers.
-use Rattle.std.specs.Prelude.{ℕ, suc, ◌+◌, Bool, true, false, ◌&&◌, ◌||◌, ◌==◌, List, [], ◌∷◌, pos, negsuc, Option, Some, None, find, position, slice_get, option_map, length, bytes_eq}
+use Rattle.std.specs.Prelude.{if◌then◌else◌, ℕ, suc, ◌+◌, Bool, true, false, ◌&&◌, ◌||◌, ◌==◌, List, [], ◌∷◌, pos, negsuc, Option, Some, None, find, position, slice_get, option_map, length, bytes_eq}
 use Rattle.std.specs.List.{list_any}
 use Rattle.cf_base.specs.declared.kind.Kind.TheVariants.{Char}
 use Rattle.cf_base.specs.Integers.{convert as converted}
-use Rattle.cf_core.specs.Types.{Name, SourceType, void, integer, array, const, plain, element, same_but_const}
+use Rattle.cf_core.specs.Types.{is_class, result, Name, SourceType, void, integer, array, const, plain, element, same_but_const}
 use Rattle.cf_core.specs.Classes.{Class, fields_of}
 use Rattle.cf_core.specs.Core.{Core, Cores, Part, item, field, Target, direct, dispatched, none, more, Static, build, copy, each, list}
 use Rattle.cf_core.specs.Places.{Route, Place, inner, along, is_scalar, class_of}
-use Rattle.cf_core.specs.Store.{Value, Number, Null, Code, FunctionMember, Object, new_object, literal, free_store}
+use Rattle.cf_core.specs.Store.{Value, Built, Number, Null, Code, FunctionMember, Object, new_object, literal, free_store}
 use Rattle.cf_core.specs.Size.{size}
 use Rattle.cf_core.specs.Run.{Literal, Act, ◌>>=◌, ◌>>◌, gives, malformed, undefined, state, changed, done, tick, need, some_or, when, born, declared_object, frame_changed, lists_local, take_heap, null_used, outside_array, cast_from_void}
 use Rattle.cf_core.specs.Access.{place_type, used, first_value}
@@ -72,12 +72,17 @@ new_local i t = do
 
 -- An initialiser has given a value for a place: a scalar or reference holds it, any other object has been built (8.4).
 abbrev pub settle : List Class → Place → Value → Act (Unit {0})
+settle classes p Built = done
 settle classes p v = do
   s ← state
   when (is_scalar (place_type classes s p)) (used v >>= first_value p) done
 
 abbrev pub settled : List Class → Place → Act Value → Act (Unit {0})
 settled classes p act = act >>= settle classes p
+
+-- where a call builds its result: the place that is given, for a result of class type
+abbrev pub result_place : SourceType → Option Place → Option Place
+result_place t into = if is_class (result t) then into else None
 
 abbrev pub built_at : Option Place → Act Place
 built_at into = some_or into malformed

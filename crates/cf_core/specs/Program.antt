@@ -1,8 +1,8 @@
 -- The meaning of a program: its trace and end, from an input, a heap limit, a depth limit and a bound of ticks.
-use Rattle.std.specs.Prelude.{ℕ, zero, suc, Bool, true, false, List, [], ◌∷◌, ℤ, pos, Option, Some, None, reverse, slice_get, codes}
+use Rattle.std.specs.Prelude.{ℕ, zero, suc, Bool, true, List, [], ◌∷◌, ℤ, pos, Option, Some, None, reverse, slice_get, codes}
 use Rattle.cf_base.specs.Event.{Ended, Ticks}
 use Rattle.cf_base.specs.World.{World, Ran, Went, Stops, and_then, world_at, Outcome}
-use Rattle.cf_core.specs.Types.{SourceType, void, class, const, result}
+use Rattle.cf_core.specs.Types.{is_class, void, result}
 use Rattle.cf_core.specs.Classes.{Class}
 use Rattle.cf_core.specs.Core.{Role, constructor, destructor, Function, Static}
 use Rattle.cf_core.specs.Places.{Place, path_in}
@@ -29,11 +29,6 @@ ends classes (constructor c) (Some p) before =
     state >>= (λ s. sets_life p (constructed (path_in p.route) (whole_life classes p before) (whole_life classes p s)))
 ends classes (destructor c) (Some p) before = sets_life p (destroyed (path_in p.route) (whole_life classes p before))
 ends classes role object before = done
-
-abbrev pub is_class : SourceType → Bool
-is_class (class c) = true
-is_class (const t) = is_class t
-is_class t = false
 
 -- a function of class type doesn't flow off its end (6.6.3)
 abbrev pub ended_well : Bool → Flow → Act (Unit {0})

@@ -11,7 +11,7 @@ use Rattle.cf_core.specs.Classes.{Class}
 use Rattle.cf_core.specs.Subobjects.{Path}
 use Rattle.cf_core.specs.Core.{item, field, Change, arithmetic, moved}
 use Rattle.cf_core.specs.Places.{Place, inner, along}
-use Rattle.cf_core.specs.Store.{Value, Nothing, Number, Null, At, Code, DataMember, FunctionMember}
+use Rattle.cf_core.specs.Store.{Value, Nothing, Built, Number, Null, At, Code, DataMember, FunctionMember}
 use Rattle.cf_core.specs.Run.{Act, ◌>>=◌, ◌>>◌, gives, malformed, undefined, ok_or_act, null_used, no_result}
 use Rattle.cf_core.specs.Access.{used, number_of, name_part}
 use Rattle.cf_core.specs.Pointers.{moved_value}
@@ -19,6 +19,7 @@ use Rattle.cf_core.specs.Pointers.{moved_value}
 -- whether a value counts as true: a number that isn't 0, a pointer that isn't null
 abbrev pub truth_of : Value → Act Bool
 truth_of Nothing = undefined no_result
+truth_of Built = malformed
 truth_of (Number (pos zero)) = gives false
 truth_of (Number z) = gives true
 truth_of Null = gives false

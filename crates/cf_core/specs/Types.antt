@@ -93,3 +93,8 @@ result t = void
 abbrev pub element : SourceType → SourceType
 element (array t n) = t
 element t = t
+
+abbrev pub is_class : SourceType → Bool
+is_class (class c) = true
+is_class (const t) = is_class t
+is_class t = false
