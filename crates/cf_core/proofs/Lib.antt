@@ -1,2 +1,3 @@
+mod ClassRows
 mod Sample
 mod ScalarRows
