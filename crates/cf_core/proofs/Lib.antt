@@ -1,3 +1,6 @@
+mod ActRows
 mod ClassRows
+mod ObjectRows
 mod Sample
 mod ScalarRows
+mod SubobjectRows
