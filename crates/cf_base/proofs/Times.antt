@@ -1,5 +1,5 @@
 -- What one more name does to the counts of a list of names.
-use Rattle.std.proofs.Common.{◌≡◌, ◌≢◌, ℕ, ◌+◌, ◌≤◌, refl, sym, List, [], ◌∷◌, ◌++◌, Bool, true, false, cond, arith, sum_by}
+use Rattle.std.proofs.Common.{◌≡◌, ℕ, ◌+◌, refl, sym, List, [], ◌∷◌, ◌++◌, Bool, true, false, cond, arith}
 use Rattle.std.specs.Prelude.{bytes_eq}
 use Rattle.std.proofs.lemmas.List.Sums.{sum_by_push}
 use Rattle.std.proofs.lemmas.Slice.Eq.{bytes_eq-Decides}
@@ -20,7 +20,7 @@ times_push names name other = sum_by_push (λ (x : List ℕ). cond (bytes_eq x o
 pub rises : (names : List (List ℕ)) (name : List ℕ) → Rises name (times names) (times (names ++ name ∷ []))
 rises names name = record {
   here = let same : bytes_eq name name ≡ true = (bytes_eq-Decides name name).1 refl in
-    rw (times_push names name name, same) (omega arith);
+      rw (times_push names name name, same) (omega arith);
   elsewhere = λ other differ. let no : bytes_eq name other ≡ false = differs (bytes_eq name other) (name ≡ other) (bytes_eq-Decides name other).0 (λ e. differ (sym e)) in
-    rw (times_push names name other, no) (omega arith);
+      rw (times_push names name other, no) (omega arith);
 }

@@ -1,5 +1,5 @@
 -- Named files: their content where it is told, and how many calls failed on each name.
-use Rattle.std.specs.Prelude.{◌≡◌, ◌≢◌, ℕ, ◌<◌, Bool, List, length, Option, Some, None, Result, Ok, Err, IsSomeAnd}
+use Rattle.std.specs.Prelude.{◌≡◌, ◌≢◌, ℕ, ◌<◌, Bool, true, List, length, Option, Some, Result, Ok, Err, IsSomeAnd}
 use Rattle.cf_base.specs.declared.files.ReadErr.{ReadErr}
 use Rattle.cf_base.specs.declared.files.ReadErr.TheVariants as read
 use Rattle.cf_base.specs.declared.files.WriteErr.{WriteErr}
@@ -19,6 +19,10 @@ pub record Disk : Type 0 where
   pub content : Names
   pub read_faults : Counts
   pub write_faults : Counts
+
+-- these names, told, with no failures so far
+abbrev pub disk_without_faults : Names → Disk
+disk_without_faults content = record { told = true; content = content; read_faults = λ _. 0; write_faults = λ _. 0 }
 
 -- every name but this one has what it had
 abbrev pub SameElsewhere : {T : Type 0} → List ℕ → (List ℕ → T) → (List ℕ → T) → Type 0

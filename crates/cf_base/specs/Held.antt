@@ -1,5 +1,5 @@
 -- What a list of named files holds.
-use Rattle.std.specs.Prelude.{ℕ, List, Option, Some, None, find, option_map, unwrap_or, bytes_eq, [], string_bytes, Vec, String}
+use Rattle.std.specs.Prelude.{ℕ, List, Option, Some, find, option_map, unwrap_or, bytes_eq, [], string_bytes, Vec, String}
 use Rattle.std.specs.Global.{Global}
 
 abbrev pub Named : Type 0

@@ -1,5 +1,5 @@
 -- Counts of faults on the outside.
-use Rattle.std.specs.Prelude.{◌≡◌, ◌≢◌, ℕ, ◌+◌, ◌-◌, ◌^◌, ◌≤◌, min, List, Result, Ok, Err}
+use Rattle.std.specs.Prelude.{◌≡◌, ℕ, ◌+◌, ◌-◌, ◌^◌, ◌≤◌, min, Result, Ok, Err}
 
 -- A count rose over a call: it is greater afterwards, or stands at the most that it can hold.
 abbrev pub Rose : ℕ → ℕ → Type 0

@@ -1,5 +1,5 @@
 -- What a source has left, and what a sink took.
-use Rattle.std.specs.Prelude.{◌≡◌, ℕ, Bool, List, [], ◌∷◌, ◌++◌, Option, Some, None, Result, Ok, Err}
+use Rattle.std.specs.Prelude.{◌≡◌, ℕ, Bool, true, List, [], ◌∷◌, ◌++◌, Option, Some, None, Result, Ok, Err}
 use Rattle.cf_base.specs.declared.memory.Failed.{Failed}
 
 -- Of a source the bytes left, of a sink the bytes written, where it tells them; and how many of its calls failed.
@@ -7,6 +7,10 @@ pub record Stream : Type 0 where
   pub told : Bool
   pub bytes : List ℕ
   pub faults : ℕ
+
+-- these bytes, told, with no failures so far
+abbrev pub stream_without_faults : List ℕ → Stream
+stream_without_faults bytes = record { told = true; bytes = bytes; faults = 0 }
 
 -- The first of two lists begins the second.
 pub record IsFront {A : Type 0} (front whole : List A) : Type 0 where

@@ -1,3 +1,8 @@
+ghost use Rattle.std.specs.Prelude.{◌≡◌, [], IfOk, true, drop};
+ghost use Rattle.cf_base.specs.Disk.{disk_without_faults};
+ghost use Rattle.cf_base.specs.Held.{held_or_empty};
+ghost use Rattle.cf_base.specs.Stream.{stream_without_faults};
+
 use crate::files::{Files, ReadErr, WriteErr};
 use crate::held::{copy_file, find_file, put_file};
 use crate::memory::{Failed, Memory};
@@ -28,21 +33,8 @@ pub struct CleanSink {
     is_whole: bool,
 }
 
-impl CleanFiles {
-    /// The files of these names, the first of a name before others.
-    pub fn new(alloc: Global, pairs: Vec<(String, Vec<u8>)>) -> CleanFiles {
-        CleanFiles {
-            alloc,
-            files: pairs,
-        }
-    }
-}
-
 impl Files for CleanFiles {
-    ghost use Rattle.std.specs.Prelude.{true};
-    ghost use Rattle.cf_base.specs.Held.{held_or_empty};
-
-    ghost disk = { λ f. record { told = true; content = held_or_empty f.files.items; read_faults = λ _. 0; write_faults = λ _. 0 } };
+    ghost disk = { λ f. disk_without_faults (held_or_empty f.files.items) };
 
     fn read(&mut self, name: &str, cap: u32) -> Result<Vec<u8>, ReadErr> {
         match find_file(&self.files, name) {
@@ -57,16 +49,20 @@ impl Files for CleanFiles {
     }
 }
 
-impl CleanSource {
-    pub fn new(bytes: Vec<u8>) -> CleanSource {
-        CleanSource { bytes, taken: 0 }
+impl CleanFiles {
+    /// The files of these names, the first of a name before others.
+    pub fn new(alloc: Global, pairs: Vec<(String, Vec<u8>)>) -> CleanFiles
+        ensures { ⟦<CleanFiles as Files>⟧.disk result ≡ disk_without_faults (held_or_empty pairs.items) }
+    {
+        CleanFiles {
+            alloc,
+            files: pairs,
+        }
     }
 }
 
 impl Source for CleanSource {
-    ghost use Rattle.std.specs.Prelude.{true, drop};
-
-    ghost stream = { λ s. record { told = true; bytes = drop s.taken s.bytes.items; faults = 0 } };
+    ghost stream = { λ s. stream_without_faults (drop s.taken s.bytes.items) };
 
     fn next(&mut self) -> Result<Option<u8>, Failed> {
         match self.bytes.get(self.taken) {
@@ -79,19 +75,11 @@ impl Source for CleanSource {
     }
 }
 
-impl CleanSink {
-    /// Room for `cap` bytes.
-    pub fn new(alloc: Global, cap: u32) -> Result<CleanSink, Memory> {
-        let room = Room::new(alloc, cap)?;
-        Ok(CleanSink {
-            room,
-            is_whole: true,
-        })
-    }
-
-    /// What was written, without the pieces that were dropped.
-    pub fn bytes(&self) -> &[u8] {
-        self.room.bytes()
+impl CleanSource {
+    pub fn new(bytes: Vec<u8>) -> CleanSource
+        ensures { ⟦<CleanSource as Source>⟧.stream result ≡ stream_without_faults bytes.items }
+    {
+        CleanSource { bytes, taken: 0 }
     }
 }
 
@@ -107,5 +95,25 @@ impl Sink for CleanSink {
 
     fn flush(&mut self) -> Result<(), Failed> {
         Ok(())
+    }
+}
+
+impl CleanSink {
+    /// Room for `cap` bytes.
+    pub fn new(alloc: Global, cap: u32) -> Result<CleanSink, Memory>
+        ensures { IfOk result (λ sink. ⟦<CleanSink as Sink>⟧.stream sink ≡ stream_without_faults []) }
+    {
+        let room = Room::new(alloc, cap)?;
+        Ok(CleanSink {
+            room,
+            is_whole: true,
+        })
+    }
+
+    /// What was written, without the pieces that were dropped.
+    pub fn bytes(&self) -> &[u8]
+        ensures { result.now ≡ (⟦<CleanSink as Sink>⟧.stream self.now).bytes }
+    {
+        self.room.bytes()
     }
 }

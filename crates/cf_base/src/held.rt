@@ -15,7 +15,12 @@ pub fn find_file<'a>(files: &'a [(String, Vec<u8>)], name: &str) -> Option<&'a (
 }
 
 /// Puts a file in front of all others, so that it is found by its name.
-pub fn put_file(alloc: Global, files: &mut Vec<(String, Vec<u8>)>, name: &str, bytes: &[u8]) -> Result<(), Memory>
+pub fn put_file(
+    alloc: Global,
+    files: &mut Vec<(String, Vec<u8>)>,
+    name: &str,
+    bytes: &[u8],
+) -> Result<(), Memory>
     ensures here { OnOk result (held files.new.items name.now ≡ Some bytes.now) }
     ensures elsewhere { OnOk result (SameElsewhere name.now (held files.old.items) (held files.new.items)) }
     ensures err { OnErr result (files.new.items ≡ files.old.items) }

@@ -17,19 +17,6 @@ pub struct MemFiles {
     failed_writes: Failures,
 }
 
-impl MemFiles {
-    /// The files of these names, the first of a name before others; `fail` has the numbers, from 1, of the calls that fail.
-    pub fn new(alloc: Global, pairs: Vec<(String, Vec<u8>)>, fail: Vec<u32>) -> MemFiles {
-        MemFiles {
-            alloc,
-            files: pairs,
-            planned: Planned::new(fail),
-            failed_reads: Failures::new(alloc),
-            failed_writes: Failures::new(alloc),
-        }
-    }
-}
-
 impl Files for MemFiles {
     ghost use Rattle.std.specs.Prelude.{true};
     ghost use Rattle.cf_base.specs.Held.{held};
@@ -58,5 +45,24 @@ impl Files for MemFiles {
         }
         put_file(self.alloc, &mut self.files, name, bytes)?;
         Ok(())
+    }
+}
+
+impl MemFiles {
+    ghost use Rattle.std.specs.Prelude.{◌≡◌, true};
+    ghost use Rattle.cf_base.specs.Held.{held};
+    ghost use Rattle.cf_base.specs.Disk.{disk_without_faults};
+
+    /// The files of these names, the first of a name before others; `fail` has the numbers, from 1, of the calls that fail.
+    pub fn new(alloc: Global, pairs: Vec<(String, Vec<u8>)>, fail: Vec<u32>) -> MemFiles
+        ensures { ⟦<MemFiles as Files>⟧.disk result ≡ disk_without_faults (held pairs.items) }
+    {
+        MemFiles {
+            alloc,
+            files: pairs,
+            planned: Planned::new(fail),
+            failed_reads: Failures::new(alloc),
+            failed_writes: Failures::new(alloc),
+        }
     }
 }

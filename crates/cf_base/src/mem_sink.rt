@@ -36,8 +36,13 @@ impl Sink for MemSink {
 }
 
 impl MemSink {
+    ghost use Rattle.std.specs.Prelude.{◌≡◌, [], IfOk};
+    ghost use Rattle.cf_base.specs.Stream.{stream_without_faults};
+
     /// Room for `cap` bytes; `fail` has the numbers, from 1, of the calls that fail.
-    pub fn new(alloc: Global, cap: u32, fail: Vec<u32>) -> Result<MemSink, Memory> {
+    pub fn new(alloc: Global, cap: u32, fail: Vec<u32>) -> Result<MemSink, Memory>
+        ensures { IfOk result (λ sink. ⟦<MemSink as Sink>⟧.stream sink ≡ stream_without_faults []) }
+    {
         let room = Room::new(alloc, cap)?;
         Ok(MemSink {
             room,
@@ -47,7 +52,9 @@ impl MemSink {
     }
 
     /// What was written.
-    pub fn bytes(&self) -> &[u8] {
+    pub fn bytes(&self) -> &[u8]
+        ensures { result.now ≡ (⟦<MemSink as Sink>⟧.stream self.now).bytes }
+    {
         self.room.bytes()
     }
 }

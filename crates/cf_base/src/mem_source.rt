@@ -11,18 +11,6 @@ pub struct MemSource {
     faults: u64,
 }
 
-impl MemSource {
-    /// `fail` has the numbers, from 1, of the calls that fail.
-    pub fn new(bytes: Vec<u8>, fail: Vec<u32>) -> MemSource {
-        MemSource {
-            bytes,
-            taken: 0,
-            planned: Planned::new(fail),
-            faults: 0,
-        }
-    }
-}
-
 impl Source for MemSource {
     ghost use Rattle.std.specs.Prelude.{true, drop};
 
@@ -39,6 +27,23 @@ impl Source for MemSource {
                 self.taken += 1;
                 Ok(Some(*byte))
             }
+        }
+    }
+}
+
+impl MemSource {
+    ghost use Rattle.std.specs.Prelude.{◌≡◌};
+    ghost use Rattle.cf_base.specs.Stream.{stream_without_faults};
+
+    /// `fail` has the numbers, from 1, of the calls that fail.
+    pub fn new(bytes: Vec<u8>, fail: Vec<u32>) -> MemSource
+        ensures { ⟦<MemSource as Source>⟧.stream result ≡ stream_without_faults bytes.items }
+    {
+        MemSource {
+            bytes,
+            taken: 0,
+            planned: Planned::new(fail),
+            faults: 0,
         }
     }
 }

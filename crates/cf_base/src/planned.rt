@@ -14,6 +14,8 @@ impl Planned {
     /// Counts one more call, and tells whether it is to fail.
     pub fn fails_next(&mut self) -> bool {
         self.calls = self.calls.saturating_add(1);
-        self.fail.iter().any(|number| u64::from(*number) == self.calls)
+        self.fail
+            .iter()
+            .any(|number| u64::from(*number) == self.calls)
     }
 }
