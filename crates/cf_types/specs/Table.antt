@@ -1,5 +1,5 @@
 -- The table of types: a type's number is its place in the table.
-use Rattle.std.specs.Prelude.{◌≡◌, ℕ, ◌<◌, ◌≤◌, ◌^◌, List, [], ◌∷◌, ◌++◌, length, slice_get, Option, None, Some, All, Contains, IsTrue}
+use Rattle.std.specs.Prelude.{◌≡◌, ℕ, ◌⊎◌, ◌<◌, ◌≤◌, ◌^◌, List, [], ◌∷◌, ◌++◌, length, slice_get, Option, None, Some, All, Contains, IsTrue}
 use Rattle.cf_types.specs.declared.ty.Ty.{Ty}
 use Rattle.cf_types.specs.declared.ty.Ty.TheVariants as ty
 use Rattle.cf_types.specs.declared.ty.Fun.{Fun}
@@ -50,11 +50,21 @@ pub record Names (funs : List Fun) (types count : ℕ) (ty : Ty) : Type 0 where
   pub parts_known : All (λ t. t < types) (parts funs ty)
   pub fun_known : All (λ f. f < count) (fun_in ty)
 
+-- the list gains this item at its end, unless it has it; the item's place is its one place
+pub record Enters {A : Type 0} (old new : List A) (item : A) (place : ℕ) : Type 0 where
+  pub found : slice_get new place ≡ Some item
+  pub only : (other : ℕ) → slice_get new other ≡ Some item → other ≡ place
+  pub kept : (new ≡ old) ⊎ (new ≡ old ++ item ∷ [])
+
+-- no item has two places
+pub record HasOnce {A : Type 0} (items : List A) : Type 0 where
+  pub same : (i j : ℕ) (item : A) → slice_get items i ≡ Some item → slice_get items j ≡ Some item → i ≡ j
+
 -- each type names types before it alone, so types are finite trees; and no type has two numbers
 pub record IsTable (t : Table) : Type 0 where
   pub earlier : (i : ℕ) (ty : Ty) → slice_get t.types i ≡ Some ty → Names t.funs i (length t.funs) ty
   pub known : (f : ℕ) (fun : Fun) → slice_get t.funs f ≡ Some fun → All (λ p. p < length t.types) (fun_parts fun)
-  pub one_number : (i j : ℕ) (ty : Ty) → slice_get t.types i ≡ Some ty → slice_get t.types j ≡ Some ty → i ≡ j
-  pub one_fun_number : (f g : ℕ) (fun : Fun) → slice_get t.funs f ≡ Some fun → slice_get t.funs g ≡ Some fun → f ≡ g
+  pub one_number : HasOnce t.types
+  pub one_fun_number : HasOnce t.funs
   pub types_fit : length t.types ≤ 2 ^ 32
   pub funs_fit : length t.funs ≤ 2 ^ 32
