@@ -7,6 +7,7 @@
 
 mod arith;
 mod boxed;
+mod compared;
 mod items;
 mod kind;
 mod laws;
