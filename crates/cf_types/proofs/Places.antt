@@ -10,6 +10,12 @@ get-left [] ys i x h = cc
 get-left (z ∷ xs) ys zero x h = h
 get-left (z ∷ xs) ys (suc i) x h = get-left xs ys i x h
 
+-- the longer list has the same items at the places of the shorter
+pub get-front : {A : Type 0} (xs ys : List A) (i : ℕ) → i < length xs → slice_get (xs ++ ys) i ≡ slice_get xs i
+get-front [] ys i h = absurd (omega arith)
+get-front (z ∷ xs) ys zero h = refl
+get-front (z ∷ xs) ys (suc i) h = get-front xs ys i (omega arith)
+
 pub get-last : {A : Type 0} (xs : List A) (y : A) → slice_get (xs ++ y ∷ []) (length xs) ≡ Some y
 get-last [] y = refl
 get-last (x ∷ xs) y = get-last xs y

@@ -22,7 +22,7 @@ pub enum Ty {
 }
 
 /// The type of a function (8.2.5).
-#[derive(Debug, Drop)]
+#[derive(Debug, PartialEq, Eq, Hash, Drop)]
 pub struct Fun {
     pub result: TyId,
     pub params: Items<TyId>,

@@ -1,18 +1,19 @@
-ghost use Rattle.std.specs.Prelude.{◌≡◌, ℕ, ◌+◌, ◌<◌, ◌≤◌, ◌^◌, List, [], ◌∷◌, ◌++◌, length, slice_get, Some, Contains, All, IfOk, OnOk, OnErr};
-ghost use Rattle.cf_types.specs.Table.{Names, Enters, HasOnce};
+ghost use Rattle.std.specs.Prelude.{◌≡◌, ℕ, ◌+◌, ◌<◌, ◌≤◌, ◌^◌, List, [], ◌∷◌, ◌++◌, length, slice_get, Some, Contains, All, IfOk, OnOk, OnErr, true};
+ghost use Rattle.cf_types.specs.Table.{Names, Enters, HasOnce, fun_parts};
 
 use crate::ids::{FunId, TyId};
 use crate::ty::{Fun, Ty};
 use cf_base::Memory;
 use indexmap::IndexSet;
 use std::alloc::Global;
+use std::hash::Hash;
 use std::marker::Model;
 
 /// The types of a file. Equal types have equal numbers.
 #[derive(Drop)]
 pub struct Types {
     types: IndexSet<Ty>,
-    funs: Vec<Fun>,
+    funs: IndexSet<Fun>,
 }
 
 impl Model for Types {
@@ -20,9 +21,9 @@ impl Model for Types {
 
     ghost Value = { Table };
 
-    ghost view = { λ t. record { types = t.types.keys; funs = t.funs.items } };
+    ghost view = { λ t. record { types = t.types.keys; funs = t.funs.keys } };
 
-    ghost invariant = { λ t. IsTable (record { types = t.types.keys; funs = t.funs.items }) };
+    ghost invariant = { λ t. IsTable (record { types = t.types.keys; funs = t.funs.keys }) };
 }
 
 impl Types {
@@ -33,7 +34,7 @@ impl Types {
     {
         Types {
             types: IndexSet::new(alloc),
-            funs: Vec::new(alloc),
+            funs: IndexSet::new(alloc),
         }
     }
 
@@ -50,7 +51,7 @@ impl Types {
         requires { id < length self.now.funs }
         ensures { slice_get self.now.funs id ≡ Some result.now }
     {
-        &self.funs[id.number() as usize]
+        &self.funs.as_slice()[id.number() as usize]
     }
 
     /// The number of a type, which the table has afterwards.
@@ -63,21 +64,33 @@ impl Types {
         let place = place_of(&mut self.types, ty)?;
         Ok(TyId::new(place))
     }
+
+    /// The number of a function type, which the table has afterwards.
+    pub fn intern_fun(&mut self, fun: Fun) -> Result<FunId, Memory>
+        requires known { All (λ t. t < length self.old.types) (fun_parts fun) }
+        ensures ok { IfOk result (Enters self.old.funs self.new.funs fun) }
+        ensures types { self.new.types ≡ self.old.types }
+        ensures err { OnErr result (self.new ≡ self.old) }
+    {
+        let place = place_of(&mut self.funs, fun)?;
+        Ok(FunId::new(place))
+    }
 }
 
-/// The place of a type in the list, at the end if it is new. Type numbers have 32 bits, so no more types are held.
-fn place_of(types: &mut IndexSet<Ty>, ty: Ty) -> Result<u32, Memory>
-    requires once { HasOnce types.old.keys }
-    requires fit { length types.old.keys ≤ 2 ^ 32 }
-    ensures ok { IfOk result (Enters types.old.keys types.new.keys ty) }
-    ensures fits { length types.new.keys ≤ 2 ^ 32 }
-    ensures err { OnErr result (types.new.keys ≡ types.old.keys) }
+/// The place of an item in a list, at the end if it is new. Numbers have 32 bits, so no more items are held.
+fn place_of<T: Hash + Eq + Drop>(items: &mut IndexSet<T>, item: T) -> Result<u32, Memory>
+    requires same { (x y : T) → T.eq x y ≡ true → x ≡ y }
+    requires once { HasOnce items.old.keys }
+    requires fit { length items.old.keys ≤ 2 ^ 32 }
+    ensures ok { IfOk result (Enters items.old.keys items.new.keys item) }
+    ensures fits { length items.new.keys ≤ 2 ^ 32 }
+    ensures err { OnErr result (items.new.keys ≡ items.old.keys) }
 {
-    match types.get_index_of(&ty) {
+    match items.get_index_of(&item) {
         Some(place) => Ok(place as u32),
         None => {
-            let place = u32::try_from(types.len()).map_err(|_| Memory)?;
-            types.insert(ty)?;
+            let place = u32::try_from(items.len()).map_err(|_| Memory)?;
+            items.insert(item)?;
             Ok(place)
         }
     }
