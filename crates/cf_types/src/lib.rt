@@ -5,9 +5,11 @@
 #![tactic(auto)]
 
 mod ids;
+mod integers;
 mod ty;
 mod types;
 
 pub use ids::{ClassId, FunId, TyId};
+pub use integers::{convert_int, promote, usual};
 pub use ty::{Fun, Ty};
 pub use types::Types;
