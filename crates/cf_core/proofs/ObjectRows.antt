@@ -5,6 +5,7 @@ use Rattle.cf_base.specs.declared.kind.Kind.TheVariants.{Int, Char}
 use Rattle.cf_base.specs.declared.arith.Arith.TheVariants as op
 use Rattle.cf_base.specs.Event.{End, Ended, Ticks, Depth, Undefined}
 use Rattle.cf_core.specs.declared.operators.PointerOperator.TheVariants as ptr
+use Rattle.cf_core.specs.declared.operators.LoopForm.TheVariants as form
 use Rattle.cf_core.specs.Types.{SourceType, integer, void, class, pointer, reference, array, const}
 use Rattle.cf_core.specs.Classes.{Class}
 use Rattle.cf_core.specs.Subobjects.{base}
@@ -25,7 +26,7 @@ abbrev three_objects : Program
 three_objects = program (plain_class (codes "1N") [] (array int 10 ∷ []) ∷ [])
   (main_of (declare 0 int blank ∷ declare 1 (pointer N) (convert (pointer N) (num 0)) ∷ declare 2 (pointer N) blank
     ∷ set (local 0) (num 0)
-    ∷ loop true (given (operate op.Less Int (value_of 0) (num 3))) (given (store (local 0) (add (value_of 0) (num 1))))
+    ∷ loop form.While (given (operate op.Less Int (value_of 0) (num 3))) (given (store (local 0) (add (value_of 0) (num 1))))
         (in_block (set (local 2) (new N blank) ∷ put_whether ∷ branch (value_of 2) (set (local 1) (value_of 2)) absent ∷ []))
     ∷ full (delete N (value_of 1)) ∷ set (local 2) (new N blank) ∷ put_whether ∷ returns (num 0) ∷ []) ∷ []) []
 

@@ -41,7 +41,7 @@ program cs fs ss = record { classes = cs; functions = fs; statics = ss; constant
 
 abbrev pub static_of : Name → SourceType → Static
 static_of name t = record {
-  name = name; type = t; start = blank; is_constant = true; is_in_function = false; is_shared = false; is_local = false }
+  name = name; type = t; start = blank; is_constant = true; is_shared = false; is_local = false }
 
 abbrev pub returns : Core → Core
 returns c = give (given c)

@@ -6,6 +6,7 @@ use Rattle.cf_base.specs.declared.arith.Arith.TheVariants as op
 use Rattle.cf_base.specs.Event.{Enter, Ended, Ticks, Depth, Undefined}
 use Rattle.cf_core.specs.declared.operators.UnaryOperator.TheVariants as sign
 use Rattle.cf_core.specs.declared.operators.PointerOperator.TheVariants as ptr
+use Rattle.cf_core.specs.declared.operators.LoopForm.TheVariants as form
 use Rattle.cf_core.specs.Types.{void, integer, enumeration, pointer, reference, array, const}
 use Rattle.cf_core.specs.Core.{absent, given, local, read, operate, unary, convert, full, declare, blank, update, step, arithmetic, loop, store, switch, case_label, default_label, leave, static_object, decay, dereference, pointer_operate, temporary}
 use Rattle.cf_core.specs.Calls.{Program}
@@ -27,7 +28,7 @@ flow_off_main : run (program [] (main_of [] ∷ []) []) 1 ≡ Some (record { end
 flow_off_main = refl
 
 -- int main(){for(;;);}
-endless_loop : run (program [] (main_of (loop true absent absent (full blank) ∷ []) ∷ []) []) 5 ≡ Some (record { end = Ticks; out = [] })
+endless_loop : run (program [] (main_of (loop form.For absent absent (full blank) ∷ []) ∷ []) []) 5 ≡ Some (record { end = Ticks; out = [] })
 endless_loop = refl
 
 -- int f(){return f();}int main(){return f();}
@@ -60,7 +61,7 @@ overflow_after_output = refl
 -- int main(){int c;while((c=getchar())!=-1)putchar(c);return 0;}
 abbrev echo : Program
 echo = program [] (main_of (declare 0 int blank
-    ∷ loop true (given (operate op.NotEqual Int (read (store (local 0) (called (codes "getchar") [] int []))) (unary sign.Negate Int (num 1)))) absent (put (value_of 0))
+    ∷ loop form.While (given (operate op.NotEqual Int (read (store (local 0) (called (codes "getchar") [] int []))) (unary sign.Negate Int (num 1)))) absent (put (value_of 0))
     ∷ returns (num 0) ∷ []) ∷ []) []
 
 last_turn_spends_a_tick : shown_of (Mean echo (codes "hi") 0 1 4) ≡ Some (record { end = Ended (pos 0); out = codes "hi" })
@@ -133,7 +134,7 @@ exit_ends_the_run = refl
 -- int main(){int i=0;int s=0;do{s+=i;i++;}while(i<5);return s;} with main and five turns
 abbrev sum_to_four : Program
 sum_to_four = program [] (main_of (declare 0 int (num 0) ∷ declare 1 int (num 0)
-    ∷ loop false (given (operate op.Less Int (value_of 0) (num 5))) absent
+    ∷ loop form.Do (given (operate op.Less Int (value_of 0) (num 5))) absent
         (in_block (full (update (local 1) (arithmetic op.Add Int Int) (value_of 0)) ∷ full (step true (arithmetic op.Add Int Int) (local 0)) ∷ []))
     ∷ returns (value_of 1) ∷ []) ∷ []) []
 

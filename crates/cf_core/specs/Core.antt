@@ -5,6 +5,7 @@ use Rattle.cf_base.specs.declared.kind.Kind.{Kind}
 use Rattle.cf_base.specs.declared.arith.Arith.{Arith}
 use Rattle.cf_core.specs.declared.operators.UnaryOperator.{UnaryOperator}
 use Rattle.cf_core.specs.declared.operators.PointerOperator.{PointerOperator}
+use Rattle.cf_core.specs.declared.operators.LoopForm.{LoopForm}
 use Rattle.cf_core.specs.Types.{Name, SourceType}
 use Rattle.cf_core.specs.Classes.{Class}
 use Rattle.cf_core.specs.Subobjects.{Step, Path}
@@ -90,7 +91,7 @@ mutual
     declare : ℕ → SourceType → Core → Core                   -- a local, and its initialiser (6.7)
     once : Name → Core → Core                                -- a static object's initialiser, run when it is first reached (6.7)
     branch : Core → Core → MaybeCore → Core                  -- `if` (6.4.1)
-    loop : Bool → MaybeCore → MaybeCore → Core → Core        -- whether the condition comes first, the condition, the step, the body (6.5)
+    loop : LoopForm → MaybeCore → MaybeCore → Core → Core    -- the condition, the step, the body (6.5)
     switch : Core → Cores → Core                             -- (6.4.2)
     case_label : ℤ → Core
     default_label : Core
@@ -131,9 +132,8 @@ pub record Function : Type 0 where
 pub record Static : Type 0 where
   pub name : Name
   pub type : SourceType
-  pub start : Core           -- its initialiser; for a local static that isn't constant it stands in its function
-  pub is_constant : Bool     -- takes effect before any function is entered
-  pub is_in_function : Bool
+  pub start : Core           -- its initialiser; `blank` for a local static that isn't constant, whose initialiser stands in its function
+  pub is_constant : Bool     -- whether it takes effect before any function is entered
   pub is_shared : Bool
   pub is_local : Bool
 

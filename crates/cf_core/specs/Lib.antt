@@ -4,6 +4,9 @@ pub mod Calls
 pub mod Classes
 pub mod Core
 pub mod Expressions
+pub mod Frame
+pub mod Named
+pub mod Nodes
 pub mod Objects
 pub mod Places
 pub mod Pointers

@@ -1,6 +1,8 @@
 -- The meaning of statements and of constructors' initialisers (6, 12.6.2).
 use Rattle.std.specs.Prelude.{ℕ, Bool, true, false, ◌&&◌, ◌||◌, not, List, [], ◌∷◌, ℤ, int_le, Some, None, bytes_eq}
 use Rattle.std.specs.List.{list_any}
+use Rattle.cf_core.specs.declared.operators.LoopForm.{LoopForm}
+use Rattle.cf_core.specs.declared.operators.LoopForm.TheVariants as form
 use Rattle.cf_core.specs.Types.{Name, SourceType}
 use Rattle.cf_core.specs.Subobjects.{virtual}
 use Rattle.cf_core.specs.Core.{Core, Cores, MaybeCore, Parts, Part, within, none, more, absent, given, no_parts, part, blank, full, block, declare, once, branch, loop, switch, case_label, default_label, leave, continue, give, parts}
@@ -43,6 +45,12 @@ turning next Falls = next
 turning next Continues = next
 turning next Breaks = gives Falls
 turning next (Returns v) = gives (Returns v)
+
+-- whether a turn begins with the condition; in `do` it ends with it (6.5)
+abbrev pub tests_first : LoopForm → Bool
+tests_first form.While = true
+tests_first form.Do = false
+tests_first form.For = true
 
 -- a switch is left by `break`
 abbrev pub leaving : Flow → Act Flow
@@ -122,14 +130,11 @@ module _ (again : Again) (P : Program) where
     does (branch c a b) = do
       t ← holds (given c)
       when t (does a) (does_maybe b)
-    does (loop true c e s) = do
+    does (loop form c e s) = do
       tick
-      t ← holds c
-      when t (in_scope again P (does s) >>= turning (step_and e (again (turn (loop true c e s))))) (gives Falls)
-    does (loop false c e s) = do
-      tick
-      flow ← in_scope again P (does s)
-      turning (holds c >>= (λ t. when t (again (turn (loop false c e s))) (gives Falls))) flow
+      when (tests_first form)
+        (holds c >>= (λ t. when t (in_scope again P (does s) >>= turning (step_and e (again (turn (loop form c e s))))) (gives Falls)))
+        (in_scope again P (does s) >>= turning (holds c >>= (λ t. when t (again (turn (loop form c e s))) (gives Falls))))
     does (switch e es) = do
       z ← full_expression again P (using (value again P e None)) >>= number_of
       in_scope again P (for_all (passed es) declare_passed >> when (has_case z es) (from_case z es) (from_default es)) >>= leaving

@@ -3,4 +3,4 @@
 
 mod operators;
 
-pub use operators::{PointerOperator, UnaryOperator};
+pub use operators::{LoopForm, PointerOperator, UnaryOperator};

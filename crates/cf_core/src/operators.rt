@@ -21,3 +21,11 @@ pub enum PointerOperator {
     Equal,
     NotEqual,
 }
+
+/// Where a loop tests its condition, and which statement it was written as (6.5).
+#[derive(Clone, Copy, Debug, PartialEq, Eq)]
+pub enum LoopForm {
+    While,
+    Do,
+    For,
+}
