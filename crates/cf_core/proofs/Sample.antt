@@ -88,11 +88,11 @@ virtual_base_of c = record { class = c; is_virtual = true }
 
 abbrev pub plain_class : Name → List Base → List SourceType → Class
 plain_class c bs fs = record {
-  code = c; bases = bs; fields = fs; functions = []; is_built = false; destructor = None; copy = None; assignment = None }
+  code = c; bases = bs; fields = fs; functions = []; is_built = false; destructor = None; copy = None; assignment = None; description = [] }
 
 abbrev pub built_class : Name → List Base → List SourceType → List MemberFunction → Option Name → Class
 built_class c bs fs ms d = record {
-  code = c; bases = bs; fields = fs; functions = ms; is_built = true; destructor = d; copy = None; assignment = None }
+  code = c; bases = bs; fields = fs; functions = ms; is_built = true; destructor = d; copy = None; assignment = None; description = [] }
 
 abbrev pub virtual_function : Name → Name → MemberFunction
 virtual_function signature name = record { signature = signature; name = name; is_virtual = true; is_pure = false }

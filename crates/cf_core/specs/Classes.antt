@@ -1,5 +1,5 @@
 -- The classes of a program, as far as its meaning depends on them (9, 10, 12).
-use Rattle.std.specs.Prelude.{Bool, false, List, [], Option, Some, None, bytes_eq, find}
+use Rattle.std.specs.Prelude.{ℕ, Bool, false, List, [], Option, Some, None, bytes_eq, find}
 use Rattle.cf_core.specs.Types.{Name, SourceType, void}
 
 pub record Base : Type 0 where
@@ -23,6 +23,7 @@ pub record Class : Type 0 where
   pub destructor : Option Name
   pub copy : Option Name                -- the copy constructor
   pub assignment : Option Name          -- the copying assignment
+  pub description : List ℕ              -- the text of its bases and members, which files must have alike
 
 abbrev pub class_named : List Class → Name → Option Class
 class_named classes code = find (λ (c : Class). bytes_eq c.code code) classes

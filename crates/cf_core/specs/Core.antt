@@ -78,7 +78,7 @@ mutual
     delete_array : SourceType → Core → Core
     -- initialisers of a place (8.4, 12.6); a value is one too
     build : Name → SourceType → Cores → Core                 -- by this constructor
-    copy : Core → Core                                       -- from another place of its type, memberwise or by its copy constructor (12.8)
+    copy : SourceType → Core → Core                          -- from another place of this type, memberwise or by its copy constructor (12.8)
     each : Core → Core                                       -- every element by this initialiser
     list : Cores → Core → Core                               -- elements or members in order, and each one more by the last initialiser (8.4.1)
     string : List ℕ → Core                                   -- a char array by these bytes, and 0 behind (8.4.2)

@@ -122,11 +122,10 @@ module _ (again : Again) (P : Program) where
       os ← arguments (parameters t) args
       run_named again P name os (Some p) None
       gives Built
-    value (copy e) into = do
+    value (copy t e) into = do
       to ← built_at into
       from ← placed (value e None)
-      s ← state
-      copy_to again P (place_type P.classes s to) from to
+      copy_to again P t from to
       gives Built
     value (each e) into = do
       p ← built_at into

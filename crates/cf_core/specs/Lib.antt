@@ -1,10 +1,13 @@
 pub mod Access
 pub mod Building
+pub mod CType
 pub mod Calls
 pub mod Classes
 pub mod Core
 pub mod Expressions
 pub mod Frame
+pub mod Join
+pub mod Joined
 pub mod Named
 pub mod Nodes
 pub mod Objects

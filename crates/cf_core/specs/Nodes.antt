@@ -45,7 +45,7 @@ abbrev mutual
   nodes (delete t e) = delete t e ∷ nodes e
   nodes (delete_array t e) = delete_array t e ∷ nodes e
   nodes (build n t es) = build n t es ∷ nodes_all es
-  nodes (copy e) = copy e ∷ nodes e
+  nodes (copy t e) = copy t e ∷ nodes e
   nodes (each e) = each e ∷ nodes e
   nodes (list es rest) = list es rest ∷ nodes_all es ++ nodes rest
   nodes (string bytes) = string bytes ∷ []

@@ -112,7 +112,7 @@ is_array t = false
 abbrev mutual
   pub costs_tick : Core → List Class → SourceType → Bool
   costs_tick (build name t args) classes u = true
-  costs_tick (copy e) classes u = has_copy classes u
+  costs_tick (copy t e) classes u = has_copy classes t
   costs_tick (each e) classes u = costs_tick e classes (element (plain u))
   costs_tick (list es rest) classes u = is_array u && (any_costs es classes (element (plain u)) || costs_tick rest classes (element (plain u)))
   costs_tick e classes u = false
