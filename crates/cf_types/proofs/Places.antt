@@ -30,10 +30,13 @@ get-snoc (z ∷ xs) y (suc i) x h = elim (get-snoc xs y i x h) [ inl a ↦ inl a
 module _ {A : Type 0} (xs : List A) (y : A) (absent : (i : ℕ) → slice_get xs i ≡ Some y → ⊥) where
   -- a new item is there once
   pub HasOnce-snoc : HasOnce xs → HasOnce (xs ++ y ∷ [])
-  HasOnce-snoc old = record { same = λ i j x h k.
-    elim (get-snoc xs y i x h) [
-      inl a ↦ elim (get-snoc xs y j x k) [ inl b ↦ old.same i j x a b | inr b ↦ absurd (absent i cc) ]
-      | inr a ↦ elim (get-snoc xs y j x k) [ inl b ↦ absurd (absent j cc) | inr b ↦ a.0 ∙ sym b.0 ] ] }
+  HasOnce-snoc old = record {
+    same = λ i j x h k.
+        elim (get-snoc xs y i x h) [
+          | inl a ↦ elim (get-snoc xs y j x k) [ inl b ↦ old.same i j x a b | inr b ↦ absurd (absent i cc) ]
+          | inr a ↦ elim (get-snoc xs y j x k) [ inl b ↦ absurd (absent j cc) | inr b ↦ a.0 ∙ sym b.0 ]
+        ];
+  }
 
   pub Enters-new : HasOnce xs → Enters xs (xs ++ y ∷ []) y (length xs)
   Enters-new old = record {
