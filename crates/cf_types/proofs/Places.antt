@@ -40,6 +40,7 @@ module _ {A : Type 0} (xs : List A) (y : A) (absent : (i : ℕ) → slice_get xs
 
   pub Enters-new : HasOnce xs → Enters xs (xs ++ y ∷ []) y (length xs)
   Enters-new old = record {
+    within = slice_get_within (xs ++ y ∷ []) (length xs) y (get-last xs y);
     found = get-last xs y;
     only = λ other h. (HasOnce-snoc old).same other (length xs) y h (get-last xs y);
     kept = inr refl;
@@ -47,7 +48,7 @@ module _ {A : Type 0} (xs : List A) (y : A) (absent : (i : ℕ) → slice_get xs
 
 -- an item that is there keeps its place
 pub Enters-old : {A : Type 0} (xs : List A) (y : A) (i : ℕ) → HasOnce xs → slice_get xs i ≡ Some y → Enters xs xs y i
-Enters-old xs y i old h = record { found = h; only = λ other k. old.same other i y k h; kept = inl refl }
+Enters-old xs y i old h = record { within = slice_get_within xs i y h; found = h; only = λ other k. old.same other i y k h; kept = inl refl }
 
 -- where no item passes the test, one that would isn't there
 pub absent_from_any : {A : Type 0} (test : A → Bool) (xs : List A) (y : A) → test y ≡ true → list_any test xs ≡ false → (i : ℕ) → slice_get xs i ≡ Some y → ⊥

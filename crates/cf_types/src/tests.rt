@@ -15,27 +15,23 @@ fn arithmetic_of_mixed_types(rt: HostRuntime) -> Result<(), Fail> {
 
 #[test]
 fn equal_types_have_equal_numbers(rt: HostRuntime) -> Result<(), Fail> {
-    let alloc = rt.alloc();
-    let mut types = Types::new(alloc);
+    let mut types = Types::new(rt.alloc());
     let int = types.intern(Ty::Int(Kind::Int)).ok().ok_or("memory")?;
-    let long = types.intern(Ty::Int(Kind::Long)).ok().ok_or("memory")?;
     let again = types.intern(Ty::Int(Kind::Int)).ok().ok_or("memory")?;
     assert_eq!(rt; again, int);
-    assert_ne!(rt; long, int);
-    let params = Items::from_slice(alloc, &[int, long]).ok().ok_or("memory")?;
+    Ok(())
+}
+
+#[test]
+fn function_types_are_kept(rt: HostRuntime) -> Result<(), Fail> {
+    let mut types = Types::new(rt.alloc());
+    let result = types.intern(Ty::Void).ok().ok_or("memory")?;
     let fun = Fun {
-        result: int,
-        params,
+        result,
+        params: Items::new(rt.alloc()),
         is_const: false,
     };
-    let first = types.intern_fun(fun).ok().ok_or("memory")?;
-    let params = Items::from_slice(alloc, &[int, long]).ok().ok_or("memory")?;
-    let fun = Fun {
-        result: int,
-        params,
-        is_const: false,
-    };
-    let second = types.intern_fun(fun).ok().ok_or("memory")?;
-    assert_eq!(rt; first, second);
+    let id = types.intern_fun(fun).ok().ok_or("memory")?;
+    assert_eq!(rt; types.get_fun(id).result, result);
     Ok(())
 }
