@@ -1,6 +1,6 @@
-use Rattle.std.proofs.Common.{◌≡◌, ◌+ℤ◌, ◌-ℤ◌, ◌*ℤ◌, FitsSigned, w64, ◌^◌, ◌∙◌, sym, ap, lit<, arith}
+use Rattle.std.proofs.Common.{◌*ℤ◌, w64, ◌^◌, ◌∙◌, sym, lit<}
 use Rattle.std.specs.Result.{result_ok}
-use Rattle.cf_base.specs.Integers.{ranged, int_op, quotient}
+use Rattle.cf_base.specs.Integers.{ranged}
 use Rattle.std.proofs.lemmas.Int.{fits_signed_mul}
 use Rattle.cf_types.proofs.Computed.{stored, signed_bound}
 use Rattle.cf_types.proofs.arithmetic.product.Goals as goal

@@ -1,6 +1,6 @@
-use Rattle.std.proofs.Common.{◌≡◌, ◌+ℤ◌, ◌-ℤ◌, ◌*ℤ◌, FitsSigned, w64, ◌^◌, ◌∙◌, sym, ap, lit<, arith}
+use Rattle.std.proofs.Common.{◌∙◌, sym, ap}
 use Rattle.std.specs.Result.{result_ok}
-use Rattle.cf_base.specs.Integers.{ranged, int_op, quotient}
+use Rattle.cf_base.specs.Integers.{ranged}
 use Rattle.cf_types.proofs.Computed.{stored, quotient-fits, quotient-ranged}
 use Rattle.std.specs.Int.RustNames.{int_div}
 use Rattle.cf_types.proofs.arithmetic.quotient.Goals as goal

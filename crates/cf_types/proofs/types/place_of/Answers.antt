@@ -1,4 +1,4 @@
-use Rattle.std.proofs.Common.{◌≡◌, ℕ, Bool, false, length, is_some, Option, Some, None, sym, ap, ◌∙◌, arith, rules}
+use Rattle.std.proofs.Common.{◌≡◌, false, length, is_some, sym, ap, ◌∙◌, rules}
 use Rattle.std.specs.List.{list_any}
 use Rattle.cf_types.proofs.Tables.{found_item, new_item}
 use Rattle.cf_types.proofs.types.place_of.Goals as goal
