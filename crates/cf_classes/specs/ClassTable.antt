@@ -1,7 +1,7 @@
 -- The classes and enumerations of a file.
-use Rattle.std.specs.Prelude.{ℕ, Bool, true, false, ◌==◌, List, [], ◌∷◌, reverse, Option, None, Some, slice_get}
-use Rattle.std.specs.List.{find}
-use Rattle.std.specs.Option.{option_map, option_map_or}
+use Rattle.std.specs.Prelude.{ℕ, Bool, true, false, ◌==◌, nat_eq, List, [], ◌∷◌, reverse, Option, None, Some, slice_get}
+use Rattle.std.specs.Map.{lookup}
+use Rattle.std.specs.Option.{option_map_or}
 use Rattle.cf_classes.specs.declared.label.Label.{Label}
 use Rattle.cf_classes.specs.declared.class.ClassDef.{ClassDef}
 use Rattle.cf_classes.specs.declared.class.BaseDef.{BaseDef}
@@ -24,7 +24,7 @@ made {A} none make (d ∷ older) c = elim (c == d.0) as (λ _. A) [ true ↦ mak
 
 -- the definition of a class
 abbrev pub definition : List (ℕ × ClassDef) → ℕ → Option ClassDef
-definition defs c = option_map (λ d. d.1) (find (λ d. c == d.0) defs)
+definition defs c = lookup (nat_eq c) defs
 
 abbrev pub bases_of : List (ℕ × ClassDef) → ℕ → List BaseDef
 bases_of defs c = option_map_or (λ def. def.bases) (definition defs c) []
