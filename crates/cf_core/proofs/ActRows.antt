@@ -141,26 +141,26 @@ array_through_base = refl
 
 -- struct A{virtual void f()=0;A(){g();}void g(){f();}};struct B:A{void f(){}};B b;
 pure_function_is_called :
-  ends_of (built_class (codes "1A") [] [] (pure_function (codes "fFv") (codes "f__1AFv") ∷ nonvirtual_function (codes "gFv") (codes "g__1AFv") ∷ []) None
-           ∷ built_class (codes "1B") (base_of (codes "1A") ∷ []) [] (virtual_function (codes "fFv") (codes "f__1BFv") ∷ []) None ∷ [])
+    ends_of (built_class (codes "1A") [] [] (pure_function (codes "f__Fv") (codes "f__1AFv") ∷ nonvirtual_function (codes "g__Fv") (codes "g__1AFv") ∷ []) None
+    ∷ built_class (codes "1B") (base_of (codes "1A") ∷ []) [] (virtual_function (codes "f__Fv") (codes "f__1BFv") ∷ []) None ∷ [])
     (constructor_of (codes "1A") (codes "__ct__1AFv") [] no_parts (full (call (codes "g__1AFv") (function_type [] void) (given this) none) ∷ [])
-     ∷ constructor_of (codes "1B") (codes "__ct__1BFv") [] (part (within (base 0)) (built (codes "__ct__1AFv") [] []) no_parts) []
-     ∷ method_of (codes "1A") (codes "g__1AFv") void (full (virtual_call (codes "fFv") (function_type [] void) this none) ∷ [])
-     ∷ method_of (codes "1B") (codes "f__1BFv") void [] ∷ [])
+    ∷ constructor_of (codes "1B") (codes "__ct__1BFv") [] (part (within (base 0)) (built (codes "__ct__1AFv") [] []) no_parts) []
+    ∷ method_of (codes "1A") (codes "g__1AFv") void (full (virtual_call (codes "f__Fv") (function_type [] void) this none) ∷ [])
+    ∷ method_of (codes "1B") (codes "f__1BFv") void [] ∷ [])
     (declare 0 (class (codes "1B")) (built (codes "__ct__1BFv") [] []) ∷ returns (num 0) ∷ []) ≡ act 13
 pure_function_is_called = refl
 
 -- struct A{virtual void f(){}};struct B{int b;B(A*p){p->f();}};struct C:B,A{C():B(this){}};C c;: A's part isn't begun
 not_under_construction :
-  ends_of (built_class (codes "1A") [] [] (virtual_function (codes "fFv") (codes "f__1AFv") ∷ []) None
-           ∷ built_class (codes "1B") [] (int ∷ []) [] None
-           ∷ built_class (codes "1C") (base_of (codes "1B") ∷ base_of (codes "1A") ∷ []) [] [] None ∷ [])
+    ends_of (built_class (codes "1A") [] [] (virtual_function (codes "f__Fv") (codes "f__1AFv") ∷ []) None
+    ∷ built_class (codes "1B") [] (int ∷ []) [] None
+    ∷ built_class (codes "1C") (base_of (codes "1B") ∷ base_of (codes "1A") ∷ []) [] [] None ∷ [])
     (constructor_of (codes "1A") (codes "__ct__1AFv") [] no_parts []
-     ∷ constructor_of (codes "1B") (codes "__ct__1BFP1A") (pointer (class (codes "1A")) ∷ []) no_parts (full (virtual_call (codes "fFv") (function_type [] void) (dereference (value_of 0)) none) ∷ [])
-     ∷ constructor_of (codes "1C") (codes "__ct__1CFv") []
-         (part (within (base 0)) (built (codes "__ct__1BFP1A") (pointer (class (codes "1A")) ∷ []) (up (base 1 ∷ []) (address this) ∷ []))
-          (part (within (base 1)) (built (codes "__ct__1AFv") [] []) no_parts)) []
-     ∷ method_of (codes "1A") (codes "f__1AFv") void [] ∷ [])
+    ∷ constructor_of (codes "1B") (codes "__ct__1BFP1A") (pointer (class (codes "1A")) ∷ []) no_parts (full (virtual_call (codes "f__Fv") (function_type [] void) (dereference (value_of 0)) none) ∷ [])
+    ∷ constructor_of (codes "1C") (codes "__ct__1CFv") []
+    (part (within (base 0)) (built (codes "__ct__1BFP1A") (pointer (class (codes "1A")) ∷ []) (up (base 1 ∷ []) (address this) ∷ []))
+    (part (within (base 1)) (built (codes "__ct__1AFv") [] []) no_parts)) []
+    ∷ method_of (codes "1A") (codes "f__1AFv") void [] ∷ [])
     (declare 0 (class (codes "1C")) (built (codes "__ct__1CFv") [] []) ∷ returns (num 0) ∷ []) ≡ act 14
 not_under_construction = refl
 
@@ -173,13 +173,13 @@ const_object_is_written = refl
 
 -- struct T{int v;T(){v=1;}};const T t;t.v=2 by a cast: the constructor writes, and then nothing may
 const_object_is_built :
-  ends_of (built_class (codes "1T") [] (int ∷ []) [] None ∷ [])
+    ends_of (built_class (codes "1T") [] (int ∷ []) [] None ∷ [])
     (constructor_of (codes "1T") (codes "__ct__1TFv") [] no_parts (set (member this 0) (num 1) ∷ []) ∷ [])
     (declare 0 (const (class (codes "1T"))) (built (codes "__ct__1TFv") [] []) ∷ set (member (local 0) 0) (num 2) ∷ []) ≡ act 15
 const_object_is_built = refl
 
 -- struct P{int a;};P f(){}P p=f();
 class_result_is_missing :
-  ends_of (plain_class (codes "1P") [] (int ∷ []) ∷ []) (function_of (codes "f__Fv") [] (class (codes "1P")) (in_block []) ∷ [])
+    ends_of (plain_class (codes "1P") [] (int ∷ []) ∷ []) (function_of (codes "f__Fv") [] (class (codes "1P")) (in_block []) ∷ [])
     (declare 0 (class (codes "1P")) (called (codes "f__Fv") [] (class (codes "1P")) []) ∷ returns (num 0) ∷ []) ≡ act 16
 class_result_is_missing = refl

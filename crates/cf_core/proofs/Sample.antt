@@ -21,7 +21,14 @@ function_type (p ∷ ps) t = takes p (function_type ps t)
 
 abbrev pub function_as : Role → Name → List SourceType → SourceType → Core → Function
 function_as role name ps t s = record {
-  name = name; role = role; type = function_type ps t; locals = []; body = s; is_shared = false; is_local = false }
+  name = name;
+  role = role;
+  type = function_type ps t;
+  locals = [];
+  body = s;
+  is_shared = false;
+  is_local = false;
+}
 
 abbrev pub function_of : Name → List SourceType → SourceType → Core → Function
 function_of name ps t s = function_as plain_function name ps t s
@@ -41,7 +48,13 @@ program cs fs ss = record { classes = cs; functions = fs; statics = ss; constant
 
 abbrev pub static_of : Name → SourceType → Static
 static_of name t = record {
-  name = name; type = t; start = blank; is_constant = true; is_shared = false; is_local = false }
+  name = name;
+  type = t;
+  start = blank;
+  is_constant = true;
+  is_shared = false;
+  is_local = false;
+}
 
 abbrev pub returns : Core → Core
 returns c = give (given c)
@@ -88,11 +101,29 @@ virtual_base_of c = record { class = c; is_virtual = true }
 
 abbrev pub plain_class : Name → List Base → List SourceType → Class
 plain_class c bs fs = record {
-  code = c; bases = bs; fields = fs; functions = []; is_built = false; destructor = None; copy = None; assignment = None; description = [] }
+  code = c;
+  bases = bs;
+  fields = fs;
+  functions = [];
+  is_built = false;
+  destructor = None;
+  copy = None;
+  assignment = None;
+  description = [];
+}
 
 abbrev pub built_class : Name → List Base → List SourceType → List MemberFunction → Option Name → Class
 built_class c bs fs ms d = record {
-  code = c; bases = bs; fields = fs; functions = ms; is_built = true; destructor = d; copy = None; assignment = None; description = [] }
+  code = c;
+  bases = bs;
+  fields = fs;
+  functions = ms;
+  is_built = true;
+  destructor = d;
+  copy = None;
+  assignment = None;
+  description = [];
+}
 
 abbrev pub virtual_function : Name → Name → MemberFunction
 virtual_function signature name = record { signature = signature; name = name; is_virtual = true; is_pure = false }

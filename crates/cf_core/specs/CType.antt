@@ -16,7 +16,7 @@ pub data CType : Type 0 where
   c_unsigned : CType
   c_pointer : CType
   c_function : CType
-  c_words : ℕ → CType         -- an array of so many ints
+  c_words : ℕ → CType  -- an array of so many ints
 
 abbrev pub c_integer : Kind → CType
 c_integer Char = c_char

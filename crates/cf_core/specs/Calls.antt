@@ -17,8 +17,8 @@ pub record Program : Type 0 where
   pub classes : List Class
   pub functions : List Function
   pub statics : List Static
-  pub constants : List Function      -- of each file, what sets its static objects with constant initialisers
-  pub initialisers : List Function   -- of each file that has them, what initialises its static objects that need more, in order
+  pub constants : List Function  -- of each file, what sets its static objects with constant initialisers
+  pub initialisers : List Function  -- of each file that has them, what initialises its static objects that need more, in order
 
 -- how a statement ends
 pub data Flow : Type 0 where
@@ -71,15 +71,22 @@ abbrev pub run_library : Name → List ℕ → Act Value
 run_library name args = do
   s ← state
   elim (bytes_eq name (codes "getchar")) [
-      true ↦ get
-    | false ↦ some_or (argument args s) malformed >>= (λ v. when (bytes_eq name (codes "putchar")) (put v) (leave_with v)) ]
+    | true ↦ get
+    | false ↦ some_or (argument args s) malformed >>= (λ v. when (bytes_eq name (codes "putchar")) (put v) (leave_with v))
+  ]
 
 -- Functions of the program.
 
 abbrev pub frame_of : Name → List ℕ → Option Place → Option Place → ℕ → Frame
 frame_of name args this result depth = record {
-  function = name; this = this; result = result; depth = depth;
-  locals = λ i. slice_get args i; scope = []; temporaries = [] }
+  function = name;
+  this = this;
+  result = result;
+  depth = depth;
+  locals = λ i. slice_get args i;
+  scope = [];
+  temporaries = [];
+}
 
 -- the value with which a body ended; a body has given one, or ended without
 abbrev pub returned : Flow → Value
@@ -92,8 +99,8 @@ returned (Returns v) = v
 abbrev pub enter : Again → Function → List ℕ → Option Place → Option Place → Act Value
 enter again f args this result = λ s w.
     spend w (λ w. deeper s.frame.depth w (λ depth.
-      (again (body f args) >>= (λ flow. changed (with_frame s.frame) >> gives (returned flow)))
-        (with_frame (frame_of f.name args this result depth) s) (show (Enter f.name) w)))
+    (again (body f args) >>= (λ flow. changed (with_frame s.frame) >> gives (returned flow)))
+    (with_frame (frame_of f.name args this result depth) s) (show (Enter f.name) w)))
 
 abbrev pub enter_found : Again → Option Function → List ℕ → Option Place → Option Place → Act Value
 enter_found again None args this result = malformed
@@ -203,8 +210,8 @@ abbrev pub copy_to : Again → Program → SourceType → Place → Place → Ac
 copy_to again P (class c) from to = copy_by again P (copy_in (class_named P.classes c)) (class c) from to
 copy_to again P (array t n) from to =
     when (has_copy P.classes t)
-      (for_each 0 n (λ i. tick >> copy_to again P t (inner (item i) from) (inner (item i) to)))
-      (copy_first P.classes from to)
+    (for_each 0 n (λ i. tick >> copy_to again P t (inner (item i) from) (inner (item i) to)))
+    (copy_first P.classes from to)
 copy_to again P (const t) from to = copy_to again P t from to
 copy_to again P t from to = copy_first P.classes from to
 
@@ -217,15 +224,15 @@ abbrev pub assign_to : Again → Program → SourceType → Place → Place → 
 assign_to again P (class c) from to = assign_by again P (assignment_in (class_named P.classes c)) (class c) from to
 assign_to again P (array t n) from to =
     when (has_assignment P.classes t)
-      (for_each 0 n (λ i. assign_to again P t (inner (item i) from) (inner (item i) to)))
-      (copy_over P.classes from to)
+    (for_each 0 n (λ i. assign_to again P t (inner (item i) from) (inner (item i) to)))
+    (copy_over P.classes from to)
 assign_to again P (const t) from to = assign_to again P t from to
 assign_to again P t from to = copy_over P.classes from to
 
 -- The free store (5.3.4).
 
 abbrev pub destructor_signature : Name
-destructor_signature = codes "__dtFv"
+destructor_signature = codes "__dt__Fv"
 
 abbrev pub is_virtual_in : Option MemberFunction → Bool
 is_virtual_in None = false

@@ -8,22 +8,22 @@ pub record Base : Type 0 where
 
 -- A nonstatic member function that the class declares; a needed generated destructor counts as declared.
 pub record MemberFunction : Type 0 where
-  pub signature : Name    -- its link name without the class: equal for functions of one name, parameter types and constness
-  pub name : Name         -- its link name
-  pub is_virtual : Bool   -- by its own word or since it overrides (10.2)
+  pub signature : Name  -- its link name without the class: equal for functions of one name, parameter types and constness
+  pub name : Name  -- its link name
+  pub is_virtual : Bool  -- by its own word or since it overrides (10.2)
   pub is_pure : Bool
 
 -- A class that is defined. A function that is absent here is trivial: it isn't declared, and no generated one is needed (12.1, 12.4, 12.8).
 pub record Class : Type 0 where
-  pub code : Name                       -- its link code
-  pub bases : List Base                 -- the direct ones, in order
-  pub fields : List SourceType          -- of the nonstatic data members, in order
+  pub code : Name  -- its link code
+  pub bases : List Base  -- the direct ones, in order
+  pub fields : List SourceType  -- of the nonstatic data members, in order
   pub functions : List MemberFunction
-  pub is_built : Bool                   -- whether a constructor builds its objects
+  pub is_built : Bool  -- whether a constructor builds its objects
   pub destructor : Option Name
-  pub copy : Option Name                -- the copy constructor
-  pub assignment : Option Name          -- the copying assignment
-  pub description : List ℕ              -- the text of its bases and members, which files must have alike
+  pub copy : Option Name  -- the copy constructor
+  pub assignment : Option Name  -- the copying assignment
+  pub description : List ℕ  -- the text of its bases and members, which files must have alike
 
 abbrev pub class_named : List Class → Name → Option Class
 class_named classes code = find (λ (c : Class). bytes_eq c.code code) classes

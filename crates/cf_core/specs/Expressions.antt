@@ -114,7 +114,7 @@ module _ (again : Again) (P : Program) where
     value (new_array t n e) into = do
       i ← using (value n None) >>= count_of
       new_storage P true (array t i) (λ o.
-        settled P.classes (root o) (value e (Some (root o))) >> gives (At (inner (item 0) (root o))))
+          settled P.classes (root o) (value e (Some (root o))) >> gives (At (inner (item 0) (root o))))
     value (delete t e) into = using (value e None) >>= delete_value again P false t
     value (delete_array t e) into = using (value e None) >>= delete_value again P true t
     value (build name t args) into = do
@@ -132,8 +132,8 @@ module _ (again : Again) (P : Program) where
       s ← state
       let t = place_type P.classes s p
       for_each 0 (element_count P.classes t) (λ i.
-        one_tick (costs_tick e P.classes (element (plain t)))
-        >> settled P.classes (inner (item i) p) (full_expression again P (value e (Some (inner (item i) p)))))
+          one_tick (costs_tick e P.classes (element (plain t)))
+          >> settled P.classes (inner (item i) p) (full_expression again P (value e (Some (inner (item i) p)))))
       gives Built
     value (list es rest) into = do
       p ← built_at into
@@ -142,9 +142,9 @@ module _ (again : Again) (P : Program) where
       let n = element_count P.classes t
       elements es 0 p t
       for_each (count es) (n - count es) (λ i.
-        let q = inner (element_part t i) p in
-        one_tick (is_array t && costs_tick rest P.classes (element (plain t)))
-        >> settled P.classes q (full_expression again P (value rest (Some q))))
+          let q = inner (element_part t i) p in
+          one_tick (is_array t && costs_tick rest P.classes (element (plain t)))
+          >> settled P.classes q (full_expression again P (value rest (Some q))))
       gives Built
     value (string bytes) into = do
       p ← built_at into

@@ -69,11 +69,11 @@ overrider_name (Some x) = if x.function.is_pure then [] else x.function.name ∷
 abbrev pub table_uses : List Class → Name → List Name
 table_uses classes c =
     flat_map (λ (q : Subobject).
-      flat_map (λ (r : Subobject).
-        flat_map (λ (f : MemberFunction). overrider_name (final_overrider classes q.class r.path f.signature))
-          (filter (λ (f : MemberFunction). f.is_virtual) (functions_in (class_named classes r.class))))
-        (subobjects classes q.class))
-      (subobjects classes c)
+    flat_map (λ (r : Subobject).
+    flat_map (λ (f : MemberFunction). overrider_name (final_overrider classes q.class r.path f.signature))
+    (filter (λ (f : MemberFunction). f.is_virtual) (functions_in (class_named classes r.class))))
+    (subobjects classes q.class))
+    (subobjects classes c)
 
 abbrev pub function_uses : List Class → Function → List Name
 function_uses classes f =
@@ -140,16 +140,16 @@ pub record DefinedTwice (files : List CoreFile) (a b : Definition) : Type 0 wher
 pub data Join (files : List CoreFile) : ℕ → Name → Type 0 where
   -- a name that is used has no definition, the library's functions excepted
   without_definition : (name : Name) → Contains (flat_map uses_in (named_files files)) name → is_library name ≡ false
-    → (Contains (defined_names files) name → ⊥) → Join files 1 name
+      → (Contains (defined_names files) name → ⊥) → Join files 1 name
   -- one name has two definitions that aren't both shared
   two_definitions : (a b : Definition) → DefinedTwice files a b → a.is_shared && b.is_shared ≡ false → Join files 2 a.name
   -- a shared function, object or literal has two different cores
   different_cores : (a b : Definition) → DefinedTwice files a b → a.is_shared && b.is_shared ≡ true → a.thing ≢ b.thing → Join files 3 a.name
   -- a class has two different descriptions
   different_classes : (c d : Class) → Contains (flat_map (λ (f : CoreFile). f.classes) files) c
-    → Contains (flat_map (λ (f : CoreFile). f.classes) files) d → c.code ≡ d.code → c.description ≢ d.description → Join files 3 (description_name c)
+      → Contains (flat_map (λ (f : CoreFile). f.classes) files) d → c.code ≡ d.code → c.description ≢ d.description → Join files 3 (description_name c)
   -- no file defines `main`
   no_main : (Contains (defined_names files) (codes "__main") → ⊥) → Join files 4 (codes "__main")
   -- one name is defined or used with two different types of the small C
   different_types : (a b : Typed) → Contains (flat_map typed_in (named_files files)) a → Contains (flat_map typed_in (named_files files)) b
-    → a.name ≡ b.name → a.types ≢ b.types → Join files 5 a.name
+      → a.name ≡ b.name → a.types ≢ b.types → Join files 5 a.name

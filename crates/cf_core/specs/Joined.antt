@@ -149,8 +149,14 @@ setting (x ∷ rest) = more (once x.name x.start) (setting rest)
 abbrev pub file_initialiser : Name → List Static → List Function
 file_initialiser name [] = []
 file_initialiser name (x ∷ rest) = record {
-  name = name; role = plain_function; type = gives void false; locals = []; body = block (setting (x ∷ rest));
-  is_shared = false; is_local = false } ∷ []
+  name = name;
+  role = plain_function;
+  type = gives void false;
+  locals = [];
+  body = block (setting (x ∷ rest));
+  is_shared = false;
+  is_local = false;
+} ∷ []
 
 abbrev pub sets_constant : Static → Bool
 sets_constant x = x.is_constant && not (is_nothing x.start)
@@ -165,7 +171,8 @@ with_file P k file =
       functions = P.functions ++ new_functions P.functions file.functions;
       statics = P.statics ++ statics;
       constants = P.constants ++ file_initialiser name (filter sets_constant statics);
-      initialisers = P.initialisers ++ file_initialiser name (filter (λ (x : Static). not x.is_constant) statics) }
+      initialisers = P.initialisers ++ file_initialiser name (filter (λ (x : Static). not x.is_constant) statics);
+    }
 
 abbrev pub with_files : Program → ℕ → List CoreFile → Program
 with_files P k [] = P

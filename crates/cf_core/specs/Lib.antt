@@ -6,6 +6,7 @@ pub mod Classes
 pub mod Core
 pub mod Expressions
 pub mod Frame
+pub mod FromTypes
 pub mod Join
 pub mod Joined
 pub mod Named
@@ -21,3 +22,4 @@ pub mod Statements
 pub mod Store
 pub mod Subobjects
 pub mod Types
+pub mod View

@@ -43,7 +43,12 @@ byte_at bytes π = None
 
 abbrev pub literal_of : List ℕ → Object
 literal_of bytes = record {
-  type = array (integer Char) (length bytes); held = byte_at bytes; life = λ π. None; storage = literal; is_gone = false }
+  type = array (integer Char) (length bytes);
+  held = byte_at bytes;
+  life = λ π. None;
+  storage = literal;
+  is_gone = false;
+}
 
 abbrev pub found_literal : Option Literal → Option ℕ
 found_literal None = None

@@ -122,6 +122,7 @@ comparable classes s p q =
   where
     ends : Place → Place → Bool
     ends p q = not (is_end classes s p) || in_array q p
+
     lies : Place → Place → Bool
     lies p q = not (is_end classes s p) && (p.object == q.object) && is_beyond p.route q.route
 

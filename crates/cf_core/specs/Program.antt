@@ -74,7 +74,11 @@ abbrev pub first_state : Program → ℕ → State
 first_state P depth = record {
   next = length_of P.statics;
   object = λ o. static_object_of P.classes (slice_get P.statics o);
-  literals = []; reached = []; finished = []; frame = no_frame depth }
+  literals = [];
+  reached = [];
+  finished = [];
+  frame = no_frame depth;
+}
 
 -- constant initialisers take effect without a function being entered (8.4)
 abbrev pub set_constants : Again → Program → Function → Act (Unit {0})
@@ -118,10 +122,11 @@ abbrev pub destroy_statics : Again → Program → ℕ → ℕ → ℤ → Act �
 destroy_statics again P depth zero status s w = Stops Ticks w.trace
 destroy_statics again P depth (suc n) status s w =
     elim s.finished [
-        [] ↦ Went (Gives status s) w
+      | [] ↦ Went (Gives status s) w
       | o ∷ rest ↦
           and_then (destroy_static again P o (record s { finished = rest }) w)
-            (resumed depth (destroy_statics again P depth n) status) ]
+          (resumed depth (destroy_statics again P depth n) status)
+    ]
 
 abbrev pub ended_run : Again → Program → ℕ → ℕ → Did ℤ → World → Ran (Did ℤ)
 ended_run again P depth n (Gives status s) w = destroy_statics again P depth n status (left depth s) w
@@ -138,5 +143,5 @@ run_outcome (Stops end trace) = Some (record { end = end; trace = trace })
 abbrev pub Mean : Program → List ℕ → ℕ → ℕ → ℕ → Option Outcome
 Mean P input heap depth n =
     run_outcome
-      (and_then (main_run (runs P n) P (first_state P depth) (world_at n input heap))
-        (ended_run (runs P n) P depth (suc n)))
+    (and_then (main_run (runs P n) P (first_state P depth) (world_at n input heap))
+    (ended_run (runs P n) P depth (suc n)))

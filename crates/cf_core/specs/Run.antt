@@ -50,11 +50,11 @@ no_result = 16
 pub record Frame : Type 0 where
   pub function : Name
   pub this : Option Place
-  pub result : Option Place          -- where a result of class type is built
-  pub depth : ℕ                      -- how many more functions may be entered
-  pub locals : ℕ → Option ℕ          -- the object of each parameter and local that stands
-  pub scope : List ℕ                 -- the objects declared in the innermost open scope, the newest first
-  pub temporaries : List ℕ           -- of the full expression at hand, the newest first
+  pub result : Option Place  -- where a result of class type is built
+  pub depth : ℕ  -- how many more functions may be entered
+  pub locals : ℕ → Option ℕ  -- the object of each parameter and local that stands
+  pub scope : List ℕ  -- the objects declared in the innermost open scope, the newest first
+  pub temporaries : List ℕ  -- of the full expression at hand, the newest first
 
 -- the object of a string literal, by its number in a function
 pub record Literal : Type 0 where
@@ -63,11 +63,11 @@ pub record Literal : Type 0 where
   pub object : ℕ
 
 pub record State : Type 0 where
-  pub next : ℕ                       -- the number of the next object; none comes twice
+  pub next : ℕ  -- the number of the next object; none comes twice
   pub object : ℕ → Object
   pub literals : List Literal
-  pub reached : List Name            -- the static objects whose initialiser control has reached
-  pub finished : List ℕ              -- the static objects that are to be destroyed, the last initialised first
+  pub reached : List Name  -- the static objects whose initialiser control has reached
+  pub finished : List ℕ  -- the static objects that are to be destroyed, the last initialised first
   pub frame : Frame
 
 -- A step has given a value, or `exit` was called with a status, or the core is none that elaboration makes: a valid one never is.
@@ -93,7 +93,6 @@ abbrev pub ◌>>◌ : {A B : Type 0} → Act A → Act B → Act B
 
 infixl 1 ◌>>=◌
 infixl 1 ◌>>◌
-
 abbrev pub gives : {A : Type 0} → A → Act A
 gives a = λ s w. Went (Gives a s) w
 

@@ -50,7 +50,7 @@ proper (s ∷ rest) = rest
 abbrev pub introduces : List Class → Name → Bool
 introduces classes c =
     list_any (λ (f : MemberFunction). f.is_virtual && not (inherited classes f.signature (proper (subobjects classes c))))
-      (functions_in (class_named classes c))
+    (functions_in (class_named classes c))
 
 abbrev pub direct : List Base → List Base
 direct bases = filter (λ (b : Base). not b.is_virtual) bases
@@ -93,10 +93,10 @@ abbrev mutual
   part_within zero classes c = extent 1
   part_within (suc n) classes c =
       part_of (placed (record { size = 0; align = 1 })
-        (map (λ (b : Base). part_within n classes b.class) (direct (bases_of classes c))
-          ++ (if owns_table classes c then word ∷ [] else [])
-          ++ map (λ (b : Base). word) (shared (bases_of classes c))
-          ++ map (extent_with (whole_within n classes)) (fields_of classes c)))
+      (map (λ (b : Base). part_within n classes b.class) (direct (bases_of classes c))
+      ++ (if owns_table classes c then word ∷ [] else [])
+      ++ map (λ (b : Base). word) (shared (bases_of classes c))
+      ++ map (extent_with (whole_within n classes)) (fields_of classes c)))
 
   pub whole_within : ℕ → List Class → Name → Extent
   whole_within zero classes c = extent 1

@@ -68,8 +68,9 @@ module _ (again : Again) (P : Program) where
   result_of e = do
     s ← state
     elim s.frame.result [
-        None ↦ full_expression again P (using (value again P e None))
-      | Some p ↦ settled P.classes p (full_expression again P (value again P e (Some p))) >> gives Nothing ]
+      | None ↦ full_expression again P (using (value again P e None))
+      | Some p ↦ settled P.classes p (full_expression again P (value again P e (Some p))) >> gives Nothing
+    ]
 
   abbrev pub builds_part : Part → Core → Act (Unit {0})
   builds_part w e = do
@@ -133,8 +134,8 @@ module _ (again : Again) (P : Program) where
     does (loop form c e s) = do
       tick
       when (tests_first form)
-        (holds c >>= (λ t. when t (in_scope again P (does s) >>= turning (step_and e (again (turn (loop form c e s))))) (gives Falls)))
-        (in_scope again P (does s) >>= turning (holds c >>= (λ t. when t (again (turn (loop form c e s))) (gives Falls))))
+          (holds c >>= (λ t. when t (in_scope again P (does s) >>= turning (step_and e (again (turn (loop form c e s))))) (gives Falls)))
+          (in_scope again P (does s) >>= turning (holds c >>= (λ t. when t (again (turn (loop form c e s))) (gives Falls))))
     does (switch e es) = do
       z ← full_expression again P (using (value again P e None)) >>= number_of
       in_scope again P (for_all (passed es) declare_passed >> when (has_case z es) (from_case z es) (from_default es)) >>= leaving

@@ -8,13 +8,13 @@ use Rattle.cf_core.specs.Places.{Route, Place, beyond, is_beyond, route_eq, type
 
 -- What an expression gives. A place stands for an lvalue and for a pointer to it alike.
 pub data Value : Type 0 where
-  Nothing : Value                            -- of type void, or of a function that ended without a value
-  Built : Value                              -- of an initialiser that has built the place that it was given
-  Number : ℤ → Value                         -- of an integer type or an enumeration
-  Null : Value                               -- a null pointer or null pointer to member
+  Nothing : Value  -- of type void, or of a function that ended without a value
+  Built : Value  -- of an initialiser that has built the place that it was given
+  Number : ℤ → Value  -- of an integer type or an enumeration
+  Null : Value  -- a null pointer or null pointer to member
   At : Place → Value
-  Code : Name → Value                        -- a function, or a pointer to it
-  DataMember : Path → ℕ → Value              -- a data member of the subobject at a path
+  Code : Name → Value  -- a function, or a pointer to it
+  DataMember : Path → ℕ → Value  -- a data member of the subobject at a path
   FunctionMember : Path → Target → Value
 
 -- what static storage holds before any initialisation (8.4)
@@ -44,8 +44,8 @@ pub data Storage : Type 0 where
 
 pub record Object : Type 0 where
   pub type : SourceType
-  pub held : Route → Option Value   -- what the scalar at a route holds
-  pub life : Route → Option Life    -- of the objects in it that were built or destroyed
+  pub held : Route → Option Value  -- what the scalar at a route holds
+  pub life : Route → Option Life  -- of the objects in it that were built or destroyed
   pub storage : Storage
   pub is_gone : Bool
 
