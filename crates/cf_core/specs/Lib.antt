@@ -6,7 +6,9 @@ pub mod Classes
 pub mod Core
 pub mod Expressions
 pub mod Frame
+pub mod FromClasses
 pub mod FromTypes
+pub mod FromUnit
 pub mod Join
 pub mod Joined
 pub mod Named
