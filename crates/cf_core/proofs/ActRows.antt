@@ -1,17 +1,15 @@
 -- Each act that has no meaning, met by a program.
 use Rattle.std.proofs.Common.{◌≡◌, ℕ, List, [], ◌∷◌, refl}
-use Rattle.std.specs.Prelude.{ℤ, pos, negsuc, Option, Some, None, true, false, codes}
+use Rattle.std.specs.Prelude.{pos, Option, Some, None, codes}
 use Rattle.cf_base.specs.declared.kind.Kind.TheVariants.{Int, Char, UInt}
-use Rattle.cf_base.specs.declared.arith.Arith.TheVariants as op
-use Rattle.cf_base.specs.Event.{End, Ended, Ticks, Depth, Undefined}
+use Rattle.cf_base.specs.Event.{Ended, Undefined}
 use Rattle.cf_core.specs.declared.operators.PointerOperator.TheVariants as ptr
 use Rattle.cf_core.specs.declared.operators.UnaryOperator.TheVariants as sign
-use Rattle.cf_core.specs.Types.{SourceType, integer, void, class, pointer, reference, array, const, data_member, function_member}
+use Rattle.cf_core.specs.Types.{SourceType, integer, void, class, pointer, array, const}
 use Rattle.cf_core.specs.Classes.{Class}
-use Rattle.cf_core.specs.Subobjects.{base, virtual}
-use Rattle.cf_core.specs.Core.{Core, field, within, none, more, absent, given, no_parts, part, Function, Static, number, text, this, local, member, read, address, decay, index, convert, dereference, up, down, from_void, through, operate, unary, pointer_operate, store, call, virtual_call, pointer_call, function, new, new_array, delete, delete_array, build, copy, each, blank, full, block, declare, static_object}
-use Rattle.cf_core.specs.Calls.{Program}
-use Rattle.cf_core.proofs.Sample.{int, function_type, function_of, listed, in_block, main_of, program, static_of, returns, num, add, put, put_code, put_digit, value_of, set, called, built, referred, base_of, virtual_base_of, plain_class, built_class, virtual_function, nonvirtual_function, pure_function, constructor_of, destructor_of, method_of, Shown, run}
+use Rattle.cf_core.specs.Subobjects.{base}
+use Rattle.cf_core.specs.Core.{Core, within, none, absent, given, no_parts, part, Function, text, this, local, member, read, address, decay, index, convert, dereference, up, down, from_void, unary, pointer_operate, call, virtual_call, pointer_call, new, new_array, delete, delete_array, blank, full, block, declare, static_object}
+use Rattle.cf_core.proofs.Sample.{int, function_type, function_of, listed, in_block, main_of, program, static_of, returns, num, value_of, set, called, built, base_of, plain_class, built_class, virtual_function, nonvirtual_function, pure_function, constructor_of, method_of, Shown, run}
 
 -- the end of a run of these statements as `main`, over these classes and functions
 abbrev ends_of : List Class → List Function → List Core → Option Shown

@@ -1,16 +1,16 @@
 -- Programs with classes: construction, dispatch, conversions, temporaries, pointers to members; and what each run shows.
 use Rattle.std.proofs.Common.{◌≡◌, ℕ, List, [], ◌∷◌, refl}
-use Rattle.std.specs.Prelude.{ℤ, pos, negsuc, Option, Some, None, true, false, codes}
+use Rattle.std.specs.Prelude.{pos, Some, None, codes}
 use Rattle.cf_base.specs.declared.kind.Kind.TheVariants.{Int}
 use Rattle.cf_base.specs.declared.arith.Arith.TheVariants as op
-use Rattle.cf_base.specs.Event.{End, Ended, Ticks, Depth, Undefined}
+use Rattle.cf_base.specs.Event.{Ended}
 use Rattle.cf_core.specs.declared.operators.PointerOperator.TheVariants as ptr
-use Rattle.cf_core.specs.Types.{SourceType, void, class, pointer, reference, array, const, data_member, function_member, gives}
+use Rattle.cf_core.specs.Types.{SourceType, void, class, pointer, reference, const, data_member, function_member}
 use Rattle.cf_core.specs.Classes.{Class}
-use Rattle.cf_core.specs.Subobjects.{Step, base, virtual}
-use Rattle.cf_core.specs.Core.{Core, Cores, field, within, direct, dispatched, no_temporary, local_temporary, none, more, absent, given, no_parts, part, Function, this, local, member, read, address, dereference, convert, up, down, to_member, data_pointer, function_pointer, through, operate, pointer_operate, conditional, comma, store, temporary, call, virtual_call, pointer_call, build, copy, bind, blank, full, declare}
+use Rattle.cf_core.specs.Subobjects.{base, virtual}
+use Rattle.cf_core.specs.Core.{Core, within, direct, dispatched, local_temporary, none, given, no_parts, part, Function, this, local, member, read, address, dereference, convert, up, to_member, data_pointer, function_pointer, through, operate, pointer_operate, conditional, comma, temporary, virtual_call, pointer_call, copy, bind, blank, full, declare}
 use Rattle.cf_core.specs.Calls.{Program}
-use Rattle.cf_core.proofs.Sample.{int, function_type, function_of, listed, in_block, main_of, program, returns, num, add, put, put_code, put_digit, value_of, set, called, built, referred, base_of, virtual_base_of, plain_class, built_class, virtual_function, nonvirtual_function, constructor_of, destructor_of, method_of, Shown, run}
+use Rattle.cf_core.proofs.Sample.{int, function_type, function_of, listed, in_block, main_of, program, returns, num, add, put_code, put_digit, value_of, set, called, built, referred, base_of, virtual_base_of, plain_class, built_class, virtual_function, nonvirtual_function, constructor_of, destructor_of, method_of, run}
 
 -- struct T{int v;T(int a){v=a;putchar('c');putchar('0'+a);}~T(){putchar('d');putchar('0'+v);}};
 abbrev T : SourceType

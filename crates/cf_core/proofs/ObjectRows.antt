@@ -1,18 +1,17 @@
 -- Programs with the free store, arrays of objects and static objects, and what each run shows.
-use Rattle.std.proofs.Common.{◌≡◌, ℕ, List, [], ◌∷◌, refl}
-use Rattle.std.specs.Prelude.{ℤ, pos, negsuc, Option, Some, None, true, false, codes}
+use Rattle.std.proofs.Common.{◌≡◌, ℕ, [], ◌∷◌, refl}
+use Rattle.std.specs.Prelude.{pos, Some, codes}
 use Rattle.cf_base.specs.declared.kind.Kind.TheVariants.{Int, Char}
 use Rattle.cf_base.specs.declared.arith.Arith.TheVariants as op
-use Rattle.cf_base.specs.Event.{End, Ended, Ticks, Depth, Undefined}
+use Rattle.cf_base.specs.Event.{Ended, Ticks}
 use Rattle.cf_core.specs.declared.operators.PointerOperator.TheVariants as ptr
 use Rattle.cf_core.specs.declared.operators.LoopForm.TheVariants as form
-use Rattle.cf_core.specs.Types.{SourceType, integer, void, class, pointer, reference, array, const}
-use Rattle.cf_core.specs.Classes.{Class}
+use Rattle.cf_core.specs.Types.{SourceType, integer, void, class, pointer, array, const}
 use Rattle.cf_core.specs.Subobjects.{base}
-use Rattle.cf_core.specs.Core.{Core, field, within, none, more, absent, given, no_parts, part, Function, Static, number, text, this, local, member, read, decay, index, conditional, convert, dereference, up, operate, pointer_operate, store, call, new, new_array, delete, delete_array, build, copy, each, list, string, zeros, blank, full, declare, once, branch, loop, static_object}
+use Rattle.cf_core.specs.Core.{Core, within, absent, given, no_parts, part, text, this, local, member, read, decay, index, conditional, convert, up, operate, pointer_operate, store, new, new_array, delete, delete_array, each, list, string, zeros, blank, full, declare, once, branch, loop, static_object}
 use Rattle.cf_core.specs.Calls.{Program}
 use Rattle.cf_core.specs.Program.{Mean}
-use Rattle.cf_core.proofs.Sample.{int, function_type, function_of, listed, in_block, main_of, program, static_of, returns, num, add, put, put_code, put_digit, value_of, set, called, built, referred, base_of, plain_class, built_class, virtual_function, nonvirtual_function, constructor_of, destructor_of, method_of, Shown, shown_of, run}
+use Rattle.cf_core.proofs.Sample.{int, function_of, listed, in_block, main_of, program, static_of, returns, num, add, put, put_code, value_of, set, called, built, base_of, plain_class, built_class, virtual_function, nonvirtual_function, constructor_of, destructor_of, shown_of, run}
 
 -- struct N{int a[10];};int main(){int i;N*p=0;N*q;for(i=0;i<3;i=i+1){q=new N;putchar(q?'1':'0');if(q)p=q;}
 -- delete p;q=new N;putchar(q?'1':'0');return 0;}

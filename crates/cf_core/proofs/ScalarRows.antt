@@ -1,6 +1,6 @@
 -- Programs over integers, enumerations, pointers, arrays and references, and what each run shows.
 use Rattle.std.proofs.Common.{◌≡◌, [], ◌∷◌, refl}
-use Rattle.std.specs.Prelude.{pos, Some, true, false, codes}
+use Rattle.std.specs.Prelude.{pos, Some, true, codes}
 use Rattle.cf_base.specs.declared.kind.Kind.TheVariants.{Int, UInt, Long, ULong}
 use Rattle.cf_base.specs.declared.arith.Arith.TheVariants as op
 use Rattle.cf_base.specs.Event.{Enter, Ended, Ticks, Depth, Undefined}

@@ -1,10 +1,10 @@
 -- Paths of subobjects, overriders and sizes, tried on classes worked out by hand.
-use Rattle.std.proofs.Common.{◌≡◌, ℕ, List, [], ◌∷◌, refl}
-use Rattle.std.specs.Prelude.{Option, Some, None, true, false, codes, map}
+use Rattle.std.proofs.Common.{◌≡◌, List, [], ◌∷◌, refl}
+use Rattle.std.specs.Prelude.{Option, Some, None, codes, map}
 use Rattle.cf_base.specs.declared.kind.Kind.TheVariants.{Char}
-use Rattle.cf_core.specs.Types.{Name, SourceType, integer, class, array}
+use Rattle.cf_core.specs.Types.{Name, integer, class, array}
 use Rattle.cf_core.specs.Classes.{Class}
-use Rattle.cf_core.specs.Subobjects.{Step, base, virtual, Path, Subobject, subobjects, Overrider, final_overrider}
+use Rattle.cf_core.specs.Subobjects.{base, virtual, Path, Subobject, subobjects, Overrider, final_overrider}
 use Rattle.cf_core.specs.Size.{size}
 use Rattle.cf_core.proofs.Sample.{int, base_of, virtual_base_of, plain_class, built_class, virtual_function}
 

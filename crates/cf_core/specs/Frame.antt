@@ -2,11 +2,11 @@
 use Rattle.std.specs.Prelude.{ℕ, ◌+◌, ◌*◌, ◌/◌, max, Bool, true, false, List, [], ◌∷◌, ◌++◌, map, sum, length}
 use Rattle.std.specs.List.{flat_map}
 use Rattle.cf_core.specs.declared.operators.LoopForm.TheVariants as form
-use Rattle.cf_core.specs.Types.{Name, SourceType, parameters, is_class}
+use Rattle.cf_core.specs.Types.{SourceType, parameters, is_class}
 use Rattle.cf_core.specs.Classes.{Class}
-use Rattle.cf_core.specs.Core.{Core, Cores, MaybeCore, Parts, none, more, absent, given, no_parts, part, Function, Static, temporary, call, virtual_call, pointer_call, build, list, blank, full, block, declare, once, branch, loop, switch, give, parts}
+use Rattle.cf_core.specs.Core.{Core, Cores, MaybeCore, Parts, none, more, absent, given, no_parts, part, Function, Static, temporary, call, virtual_call, pointer_call, build, list, blank, full, declare, once, branch, loop, switch, give, parts}
 use Rattle.cf_core.specs.Size.{size}
-use Rattle.cf_core.specs.Nodes.{nodes, nodes_maybe}
+use Rattle.cf_core.specs.Nodes.{nodes}
 
 abbrev pub up_to_eight : ℕ → ℕ
 up_to_eight n = (n + 7) / 8 * 8

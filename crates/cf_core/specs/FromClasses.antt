@@ -1,5 +1,5 @@
 -- The classes of a file as far as the meaning depends on them.
-use Rattle.std.specs.Prelude.{ℕ, ◌+◌, ◌==◌, ◌&&◌, ◌||◌, not, nat_le, Bool, true, false, if◌then◌else◌, List, [], ◌∷◌, ◌++◌, Option, Some, None, codes, map, filter, find, length, slice_get, bytes_eq}
+use Rattle.std.specs.Prelude.{ℕ, ◌&&◌, ◌||◌, not, nat_le, Bool, true, false, if◌then◌else◌, List, [], ◌∷◌, ◌++◌, Option, Some, None, codes, map, filter, find, length, slice_get, bytes_eq}
 use Rattle.std.specs.List.{list_any, flat_map}
 use Rattle.cf_classes.specs.declared.class.BaseDef.{BaseDef}
 use Rattle.cf_classes.specs.declared.class.ClassDef.{ClassDef}
@@ -7,7 +7,7 @@ use Rattle.cf_classes.specs.declared.class.MemberDef.{MemberDef}
 use Rattle.cf_classes.specs.declared.class.MemberRef.{MemberRef}
 use Rattle.cf_classes.specs.declared.class.What.{What}
 use Rattle.cf_classes.specs.declared.class.What.TheVariants as what
-use Rattle.cf_classes.specs.ClassTable.{ClassTable, latest_first, members_of}
+use Rattle.cf_classes.specs.ClassTable.{latest_first, members_of}
 use Rattle.cf_classes.specs.Description.{description}
 use Rattle.cf_classes.specs.LinkName.{Code, Function as FunctionCode, Codes, none as no_codes, more as more_codes, code_all, code_of}
 use Rattle.cf_classes.specs.Signature.{may_override, overrides, virtuals}
@@ -96,14 +96,20 @@ base_in tables b = record { class = class_code tables.classes b.class; is_virtua
 
 abbrev pub function_in : Tables → Name → List MemberDef → MemberDef → MemberFunction
 function_in tables scope inherited m = record {
-  signature = name_in_scope tables [] m; name = name_in_scope tables scope m;
-  is_virtual = m.is_virtual || overrides tables.types inherited m; is_pure = m.is_pure }
+  signature = name_in_scope tables [] m;
+  name = name_in_scope tables scope m;
+  is_virtual = m.is_virtual || overrides tables.types inherited m;
+  is_pure = m.is_pure;
+}
 
 -- a needed generated destructor is virtual where a base's destructor is (12.4)
 abbrev pub generated_destructor : Name → List MemberDef → MemberFunction
 generated_destructor scope inherited = record {
-  signature = destructor_name []; name = destructor_name scope;
-  is_virtual = list_any (λ (m : MemberDef). is_destructor m.what) inherited; is_pure = false }
+  signature = destructor_name [];
+  name = destructor_name scope;
+  is_virtual = list_any (λ (m : MemberDef). is_destructor m.what) inherited;
+  is_pure = false;
+}
 
 -- a defined class, by its number
 abbrev pub class_in : Tables → ℕ → ClassDef → Class
@@ -117,13 +123,14 @@ class_in tables c def =
       bases = map (base_in tables) def.bases;
       fields = map (λ (m : MemberDef). type_of tables m.ty) (fields_of def);
       functions =
-        map (function_in tables scope inherited) (filter may_override def.members)
-        ++ (if is_needed has.destructor then generated_destructor scope inherited ∷ [] else []);
+          map (function_in tables scope inherited) (filter may_override def.members)
+          ++ (if is_needed has.destructor then generated_destructor scope inherited ∷ [] else []);
       is_built = list_any (λ (m : MemberDef). is_constructor m.what) def.members || is_needed has.constructor;
       destructor = special_name has.destructor (found_name tables scope (find (λ (m : MemberDef). is_destructor m.what) def.members)) (destructor_name scope);
       copy = special_name has.copy (found_name tables scope (find (is_copy tables scope) def.members)) (taking_itself (codes "__ct") scope);
       assignment = special_name has.assign (found_name tables scope (find (is_assignment tables scope) def.members)) (taking_itself (codes "__as") scope);
-      description = description tables.types tables.classes c }
+      description = description tables.types tables.classes c;
+    }
 
 -- the defined classes, in order of definition
 abbrev pub classes_in : Tables → List (ℕ × ClassDef) → List Class

@@ -1,5 +1,5 @@
 -- The core of a file as plain data, and the meaning of files.
-use Rattle.std.specs.Prelude.{ℕ, false, List, [], ◌∷◌, Option, map}
+use Rattle.std.specs.Prelude.{ℕ, false, List, Option, map}
 use Rattle.cf_base.specs.World.{Outcome}
 use Rattle.cf_core.specs.declared.unit.CoreFn.{CoreFn}
 use Rattle.cf_core.specs.declared.unit.CoreStatic.{CoreStatic}
@@ -25,15 +25,24 @@ role_of tables (role.Destructor c) = destructor (class_code tables.classes c)
 
 abbrev pub function_of : Tables → CoreFn → Function
 function_of tables f = record {
-  name = f.name; role = role_of tables f.role;
+  name = f.name;
+  role = role_of tables f.role;
   type = taking (map (type_of tables) f.params) (gives (type_of tables f.result) false);
-  locals = map (type_of tables) f.locals; body = core_of tables (signature_of tables) f.body;
-  is_shared = f.is_shared; is_local = f.is_local }
+  locals = map (type_of tables) f.locals;
+  body = core_of tables (signature_of tables) f.body;
+  is_shared = f.is_shared;
+  is_local = f.is_local;
+}
 
 abbrev pub static_of : Tables → CoreStatic → Static
 static_of tables x = record {
-  name = x.name; type = type_of tables x.ty; start = core_of tables (signature_of tables) x.start;
-  is_constant = x.is_constant; is_shared = x.is_shared; is_local = x.is_local }
+  name = x.name;
+  type = type_of tables x.ty;
+  start = core_of tables (signature_of tables) x.start;
+  is_constant = x.is_constant;
+  is_shared = x.is_shared;
+  is_local = x.is_local;
+}
 
 abbrev pub file_of : CoreUnit → CoreFile
 file_of unit =
@@ -41,7 +50,8 @@ file_of unit =
     record {
       classes = classes_in tables unit.classes.defined;
       functions = map (function_of tables) unit.functions;
-      statics = map (static_of tables) unit.statics }
+      statics = map (static_of tables) unit.statics;
+    }
 
 -- The meaning of files, in the order of the command line: from an input, a heap limit, a depth limit and a bound of ticks.
 abbrev pub units_mean : List CoreUnit → List ℕ → ℕ → ℕ → ℕ → Option Outcome

@@ -1,6 +1,6 @@
 -- What stands in the way of joining files: names without a definition or with several, and definitions and types that differ.
-use Rattle.std.specs.Prelude.{◌≡◌, ◌≢◌, ℕ, suc, Bool, true, false, ◌&&◌, not, if◌then◌else◌, List, [], ◌∷◌, ◌++◌, Option, Some, None, codes, decimal, map, filter, bytes_eq, Contains, slice_get, option_to_list}
-use Rattle.std.specs.List.{flat_map, list_any}
+use Rattle.std.specs.Prelude.{◌≡◌, ◌≢◌, ℕ, suc, Bool, true, false, ◌&&◌, if◌then◌else◌, List, [], ◌∷◌, ◌++◌, Option, Some, None, codes, decimal, map, filter, Contains, slice_get, option_to_list}
+use Rattle.std.specs.List.{flat_map}
 use Rattle.cf_core.specs.Types.{Name, SourceType, class, array, const, parameters}
 use Rattle.cf_core.specs.Classes.{Class, MemberFunction, class_named, functions_in, copy_in}
 use Rattle.cf_core.specs.Subobjects.{Subobject, subobjects, Overrider, final_overrider}

@@ -1,9 +1,9 @@
 -- The files of a program joined by link names.
-use Rattle.std.specs.Prelude.{ℕ, suc, Bool, true, false, ◌&&◌, ◌||◌, not, if◌then◌else◌, List, [], ◌∷◌, ◌++◌, Option, Some, None, codes, decimal, map, filter, bytes_eq}
-use Rattle.std.specs.List.{flat_map, list_any}
-use Rattle.cf_core.specs.Types.{Name, SourceType, void, gives}
+use Rattle.std.specs.Prelude.{ℕ, suc, Bool, true, false, ◌&&◌, not, if◌then◌else◌, List, [], ◌∷◌, ◌++◌, codes, decimal, map, filter, bytes_eq}
+use Rattle.std.specs.List.{list_any}
+use Rattle.cf_core.specs.Types.{Name, void, gives}
 use Rattle.cf_core.specs.Classes.{Class}
-use Rattle.cf_core.specs.Core.{Core, Cores, MaybeCore, Parts, Target, direct, dispatched, Holder, no_temporary, local_temporary, static_temporary, none, more, absent, given, no_parts, part, Role, plain_function, Function, Static, CoreFile, number, text, this, local, static_object, function, member, read, address, dereference, decay, index, convert, up, down, from_void, to_member, data_pointer, function_pointer, through, operate, unary, logical_not, logical_and, logical_or, pointer_operate, conditional, comma, store, update, step, assign, temporary, call, virtual_call, pointer_call, new, new_array, delete, delete_array, build, copy, each, list, string, bind, zeros, blank, full, block, declare, once, branch, loop, switch, case_label, default_label, leave, continue, give, parts}
+use Rattle.cf_core.specs.Core.{Core, Cores, MaybeCore, Parts, Target, direct, dispatched, Holder, no_temporary, local_temporary, static_temporary, none, more, absent, given, no_parts, part, plain_function, Function, Static, CoreFile, number, text, this, local, static_object, function, member, read, address, dereference, decay, index, convert, up, down, from_void, to_member, data_pointer, function_pointer, through, operate, unary, logical_not, logical_and, logical_or, pointer_operate, conditional, comma, store, update, step, assign, temporary, call, virtual_call, pointer_call, new, new_array, delete, delete_array, build, copy, each, list, string, bind, zeros, blank, full, block, declare, once, branch, loop, switch, case_label, default_label, leave, continue, give, parts}
 use Rattle.cf_core.specs.Calls.{Program}
 
 -- The names of functions and objects are replaced.

@@ -1,9 +1,9 @@
 -- The virtual functions that a function's core uses without dispatch (10.2, 12.4).
-use Rattle.std.specs.Prelude.{ℕ, Bool, true, false, ◌&&◌, if◌then◌else◌, List, [], ◌∷◌, ◌++◌, Option, Some, None, filter, bytes_eq, option_to_list}
+use Rattle.std.specs.Prelude.{Bool, true, ◌&&◌, if◌then◌else◌, List, [], ◌∷◌, ◌++◌, filter, bytes_eq, option_to_list}
 use Rattle.std.specs.List.{flat_map, list_any}
 use Rattle.cf_core.specs.Types.{Name, SourceType, class, array, const, parameters}
 use Rattle.cf_core.specs.Classes.{Class, MemberFunction, class_named, destructor_in, assignment_in}
-use Rattle.cf_core.specs.Core.{Core, Holder, no_temporary, local_temporary, static_temporary, Role, plain_function, member_function, constructor, destructor, Function, call, build, temporary, declare, bind, delete, delete_array, assign}
+use Rattle.cf_core.specs.Core.{Core, local_temporary, Role, plain_function, member_function, constructor, destructor, Function, call, build, temporary, declare, bind, delete, delete_array, assign}
 use Rattle.cf_core.specs.Building.{BuiltPart, building}
 use Rattle.cf_core.specs.Calls.{has_virtual_destructor}
 use Rattle.cf_core.specs.Nodes.{nodes}

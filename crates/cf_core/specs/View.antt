@@ -1,9 +1,9 @@
 -- The core of a file as plain data: what each node is there.
-use Rattle.std.specs.Prelude.{ℕ, List, [], ◌∷◌, ◌++◌, Option, Some, None, map}
+use Rattle.std.specs.Prelude.{List, [], ◌∷◌, Option, Some, None}
 use Rattle.cf_classes.specs.declared.class.MemberRef.{MemberRef}
 use Rattle.cf_core.specs.declared.node.Core.{Core as Node, fold-Core}
 use Rattle.cf_core.specs.declared.node.Core.TheOpen.{Core-F}
-use Rattle.cf_core.specs.declared.node.PartStart.{PartStart, PartStart-F}
+use Rattle.cf_core.specs.declared.node.PartStart.{PartStart-F}
 use Rattle.cf_core.specs.declared.node.Target.{Target as NodeTarget}
 use Rattle.cf_core.specs.declared.node.Target.TheVariants as target
 use Rattle.cf_core.specs.declared.node.Change.{Change as NodeChange}
