@@ -1,5 +1,7 @@
 mod ActRows
 mod ClassRows
+mod ClassViewRows
+mod FileRows
 mod ObjectRows
 mod Sample
 mod ScalarRows

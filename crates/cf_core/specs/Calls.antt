@@ -3,12 +3,12 @@ use Rattle.std.specs.Prelude.{ℕ, Bool, true, false, ◌&&◌, ◌||◌, not, L
 use Rattle.cf_base.specs.Event.{Enter, Out}
 use Rattle.cf_base.specs.World.{Went, spend, deeper, show, next_byte}
 use Rattle.cf_base.specs.Integers.{bits_of}
-use Rattle.cf_core.specs.Types.{Name, SourceType, class, reference, array, const, same_but_const}
+use Rattle.cf_core.specs.Types.{Name, SourceType, void, parameters, is_class, class, reference, array, const, same_but_const}
 use Rattle.cf_core.specs.Classes.{Class, MemberFunction, class_named, destructor_in, copy_in, assignment_in, declared}
 use Rattle.cf_core.specs.Core.{Core, item, Function, Static}
 use Rattle.cf_core.specs.Places.{Route, Place, inner, whole, class_of, route_eq}
 use Rattle.cf_core.specs.Store.{Value, Nothing, Number, Null, At, Object, new_object, hold, is_settled, life_at, is_dead, Storage, automatic, free_store}
-use Rattle.cf_core.specs.Run.{State, Frame, Gives, Act, ◌>>=◌, ◌>>◌, gives, malformed, exits, undefined, state, changed, done, tick, need, some_or, when, for_each, for_each_back, for_all, object_changed, born, gone, with_frame, frame_changed, give_heap, not_alive, cast_from_void, wrong_delete, delete_through_base}
+use Rattle.cf_core.specs.Run.{State, Frame, Gives, Act, ◌>>=◌, ◌>>◌, gives, malformed, exits, undefined, state, changed, done, tick, need, some_or, when, for_each, for_each_back, for_all, object_changed, born, declared_object, gone, with_frame, frame_changed, give_heap, not_alive, cast_from_void, wrong_delete, delete_through_base}
 use Rattle.cf_core.specs.Access.{copy_first, copy_over}
 use Rattle.cf_core.specs.Building.{BuiltPart, part_place, is_whole, whole_life}
 
@@ -215,9 +215,28 @@ copy_to again P (array t n) from to =
 copy_to again P (const t) from to = copy_to again P t from to
 copy_to again P t from to = copy_first P.classes from to
 
+abbrev pub first_parameter : Option Function → SourceType
+first_parameter None = void
+first_parameter (Some f) = first (parameters f.type)
+  where
+    first : List SourceType → SourceType
+    first [] = void
+    first (t ∷ ts) = t
+
+-- the parameter of an assignment: a reference, or an object that is built as a copy
+abbrev pub assigned_from : Again → Program → Bool → SourceType → Place → Act ℕ
+assigned_from again P true t from = do
+  o ← declared_object t
+  copy_to again P t from (root o)
+  gives o
+assigned_from again P false t from = born (reference_to t from)
+
 abbrev pub assign_by : Again → Program → Option Name → SourceType → Place → Place → Act (Unit {0})
 assign_by again P None t from to = copy_over P.classes from to
-assign_by again P (Some f) t from to = born (reference_to t from) >>= (λ o. run_named again P f (o ∷ []) (Some to) None >> done)
+assign_by again P (Some f) t from to = do
+  o ← assigned_from again P (is_class (first_parameter (function_named P f))) t from
+  run_named again P f (o ∷ []) (Some to) None
+  done
 
 -- a place is assigned from another, by the class's assignment or memberwise, elements in order
 abbrev pub assign_to : Again → Program → SourceType → Place → Place → Act (Unit {0})

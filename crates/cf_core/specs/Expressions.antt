@@ -30,7 +30,7 @@ module _ (again : Again) (P : Program) where
     value (read e) into = placed (value e None) >>= read_place P.classes
     value (address e) into = using (value e None)
     value (dereference e) into = using (value e None) >>= pointed_to
-    value (decay e) into = using (value e None) >>= decayed
+    value (decay e) into = using (value e None) >>= decayed P.classes
     value (index a i) into = do
       x ← using (value a None)
       y ← using (value i None)

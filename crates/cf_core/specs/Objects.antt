@@ -34,7 +34,7 @@ abbrev pub static_place : Program → Name → Act Place
 static_place P name = some_or (static_number P name) malformed >>= (λ o. gives (root o))
 
 abbrev pub same_type : Program → Name → SourceType → Act (Unit {0})
-same_type P name t = need (same_but_const (static_type P name) t) cast_from_void
+same_type P name t = static_place P name >> need (same_but_const (static_type P name) t) cast_from_void
 
 -- a string literal is one object for the whole run (2.5.4)
 abbrev pub byte_at : List ℕ → Route → Option Value

@@ -1,6 +1,7 @@
 -- What operators and conversions give (4, 5).
 use Rattle.std.specs.Prelude.{zero, suc, Bool, true, false, List, ◌++◌, pos, negsuc}
 use Rattle.cf_base.specs.declared.kind.Kind.{Kind}
+use Rattle.cf_base.specs.declared.kind.Kind.TheVariants.{Int}
 use Rattle.cf_base.specs.declared.arith.Arith.{Arith}
 use Rattle.cf_base.specs.declared.arith.Arith.TheVariants as arith
 use Rattle.cf_base.specs.Integers.{int_op, convert as converted}
@@ -29,7 +30,7 @@ truth_of v = gives true
 abbrev pub converted_value : SourceType → Value → Act Value
 converted_value void v = gives Nothing
 converted_value (integer k) v = used v >>= number_of >>= (λ z. gives (Number (converted k z)))
-converted_value (enumeration e) v = used v >>= number_of >>= (λ z. gives (Number z))
+converted_value (enumeration e) v = used v >>= number_of >>= (λ z. gives (Number (converted Int z)))
 converted_value (const t) v = converted_value t v
 converted_value t (Number (pos zero)) = gives Null
 converted_value t v = used v
@@ -67,10 +68,10 @@ indexed classes (Number z) w = moved_value classes w z
 indexed classes v w = moved_by classes v w
 
 -- the first element of an array; a function stays itself (4.6)
-abbrev pub decayed : Value → Act Value
-decayed (At p) = gives (At (inner (item 0) p))
-decayed (Code f) = gives (Code f)
-decayed v = malformed
+abbrev pub decayed : List Class → Value → Act Value
+decayed classes (At p) = name_part classes p >> gives (At (inner (item 0) p))
+decayed classes (Code f) = gives (Code f)
+decayed classes v = malformed
 
 -- what a pointer points to (5.3)
 abbrev pub pointed_to : Value → Act Value
