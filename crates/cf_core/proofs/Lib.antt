@@ -1,6 +1,7 @@
 mod ActRows
 mod ClassRows
 mod ClassViewRows
+mod ControlRows
 mod FileRows
 mod ObjectRows
 mod Sample
