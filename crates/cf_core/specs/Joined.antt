@@ -73,7 +73,7 @@ module _ (r : Name → Name) where
     renamed (declare i t e) = declare i t (renamed e)
     renamed (once n e) = once (r n) (renamed e)
     renamed (branch c a b) = branch (renamed c) (renamed a) (renamed_maybe b)
-    renamed (loop form c e s) = loop form (renamed_maybe c) (renamed_maybe e) (renamed s)
+    renamed (loop f c e s) = loop f (renamed_maybe c) (renamed_maybe e) (renamed s)
     renamed (switch e es) = switch (renamed e) (renamed_all es)
     renamed (case_label z) = case_label z
     renamed default_label = default_label

@@ -12,6 +12,7 @@ pub mod FromUnit
 pub mod Join
 pub mod Joined
 pub mod Named
+pub mod NodePlace
 pub mod Nodes
 pub mod Objects
 pub mod Places

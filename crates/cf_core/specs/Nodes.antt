@@ -57,7 +57,7 @@ abbrev mutual
   nodes (declare i t e) = declare i t e ∷ nodes e
   nodes (once n e) = once n e ∷ nodes e
   nodes (branch c a b) = branch c a b ∷ nodes c ++ nodes a ++ nodes_maybe b
-  nodes (loop form c e s) = loop form c e s ∷ nodes_maybe c ++ nodes_maybe e ++ nodes s
+  nodes (loop f c e s) = loop f c e s ∷ nodes_maybe c ++ nodes_maybe e ++ nodes s
   nodes (switch e es) = switch e es ∷ nodes e ++ nodes_all es
   nodes (case_label z) = case_label z ∷ []
   nodes default_label = default_label ∷ []

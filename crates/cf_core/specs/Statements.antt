@@ -131,11 +131,11 @@ module _ (again : Again) (P : Program) where
     does (branch c a b) = do
       t ← holds (given c)
       when t (does a) (does_maybe b)
-    does (loop form c e s) = do
+    does (loop f c e s) = do
       tick
-      when (tests_first form)
-          (holds c >>= (λ t. when t (in_scope again P (does s) >>= turning (step_and e (again (turn (loop form c e s))))) (gives Falls)))
-          (in_scope again P (does s) >>= turning (holds c >>= (λ t. when t (again (turn (loop form c e s))) (gives Falls))))
+      when (tests_first f)
+          (holds c >>= (λ t. when t (in_scope again P (does s) >>= turning (step_and e (again (turn (loop f c e s))))) (gives Falls)))
+          (in_scope again P (does s) >>= turning (holds c >>= (λ t. when t (again (turn (loop f c e s))) (gives Falls))))
     does (switch e es) = do
       z ← full_expression again P (using (value again P e None)) >>= number_of
       in_scope again P (for_all (passed es) declare_passed >> when (has_case z es) (from_case z es) (from_default es)) >>= leaving

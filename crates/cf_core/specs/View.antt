@@ -105,7 +105,7 @@ module _ (tables : Tables) (signature : MemberRef → Name) where
   core_step (Core-F.Declare at i t e) = declare i (type_of tables t) e
   core_step (Core-F.Once at n e) = once n e
   core_step (Core-F.If at c a b) = branch c a (maybe b)
-  core_step (Core-F.Loop at form c e s) = loop form (maybe c) (maybe e) s
+  core_step (Core-F.Loop at f c e s) = loop f (maybe c) (maybe e) s
   core_step (Core-F.Switch at e es) = switch e (listed es)
   core_step (Core-F.Case at z) = case_label z
   core_step (Core-F.Default at) = default_label

@@ -6,6 +6,7 @@
 
 mod node;
 mod operators;
+mod place;
 mod unit;
 
 pub use node::{BuiltPart, Change, Core, Holder, PartStart, Target};
