@@ -1,5 +1,5 @@
 -- Flow of control, scopes, lifetimes and copies, and what each run shows.
-use Rattle.std.proofs.Common.{◌≡◌, ℕ, List, [], ◌∷◌, refl}
+use Rattle.std.proofs.Common.{◌≡◌, ℕ, List, [], ◌∷◌, ◌++◌, refl}
 use Rattle.std.specs.Prelude.{pos, Some, None, true, codes}
 use Rattle.cf_base.specs.declared.kind.Kind.TheVariants.{Int, Char}
 use Rattle.cf_base.specs.declared.arith.Arith.TheVariants as op
@@ -206,3 +206,12 @@ const_and_reference_members :
     ∷ main_of (declare 0 int (num 0) ∷ declare 1 (class (codes "1C")) (built (codes "__ct__1CFRi") (reference int ∷ []) (referred (local 0) ∷ [])) ∷ returns (value_of 0) ∷ []) ∷ []) []) 10
     ≡ Some (record { end = Ended (pos 5); out = [] })
 const_and_reference_members = refl
+
+-- struct T as above but with T(){..} too; struct Q{T t;int x;};int main(){Q q={T(1),2};return q.x+q.t.v;}: a list builds what has a generated constructor
+list_builds_an_object :
+  run (program (loud ++ built_class (codes "1Q") [] (T ∷ int ∷ []) [] (Some (codes "__dt__1QFv")) ∷ [])
+    (destructor_of (codes "1Q") (codes "__dt__1QFv") []
+     ∷ main_of (declare 0 (class (codes "1Q")) (list (listed (made 1 ∷ num 2 ∷ [])) zeros)
+       ∷ returns (add (read (member (local 0) 1)) (read (member (member (local 0) 0) 0))) ∷ []) ∷ loud_functions) []) 20
+  ≡ Some (record { end = Ended (pos 3); out = codes "c1d1" })
+list_builds_an_object = refl

@@ -1,6 +1,6 @@
 -- The meaning of expressions and initialisers (5, 8.4, 12).
 use Rattle.std.specs.Prelude.{ℕ, suc, ◌-◌, true, false, ◌&&◌, not, if◌then◌else◌, List, [], ◌∷◌, pos, Option, Some, None}
-use Rattle.cf_core.specs.Types.{SourceType, array, parameters, plain, element}
+use Rattle.cf_core.specs.Types.{SourceType, is_class, array, parameters, plain, element}
 use Rattle.cf_core.specs.Core.{Core, Cores, MaybeCore, item, field, no_temporary, local_temporary, static_temporary, none, more, absent, given, number, text, this, local, static_object, function, member, read, address, dereference, decay, index, convert, up, down, from_void, to_member, data_pointer, function_pointer, through, operate, unary, logical_not, logical_and, logical_or, pointer_operate, conditional, comma, store, update, step, assign, temporary, call, virtual_call, pointer_call, new, new_array, delete, delete_array, build, copy, each, list, string, bind, zeros, blank}
 use Rattle.cf_core.specs.Places.{Place, inner}
 use Rattle.cf_core.specs.Store.{Value, Nothing, Built, Number, At, Code, DataMember, FunctionMember}
@@ -10,7 +10,7 @@ use Rattle.cf_core.specs.Pointers.{truth_value, pointer_op, from_void_value, dow
 use Rattle.cf_core.specs.Building.{dispatch, up_value}
 use Rattle.cf_core.specs.Calls.{Program, Again, root, run_named, name_function, full_expression, finish_static, copy_to, assign_to, delete_value}
 use Rattle.cf_core.specs.Scalars.{truth_of, converted_value, operated, signed, changed_value, indexed, decayed, pointed_to, to_derived, through_pointer}
-use Rattle.cf_core.specs.Objects.{result_place, local_place, static_type, static_place, same_type, literal_object, new_local, settled, built_at, write_bytes, element_part, element_count, is_array, costs_tick, one_tick, count_of, new_storage, count, run_pointer}
+use Rattle.cf_core.specs.Objects.{result_place, local_place, static_type, static_place, same_type, literal_object, new_local, settled, built_at, write_bytes, element_part, element_count, is_array, listed_object, costs_tick, one_tick, count_of, new_storage, count, run_pointer}
 
 module _ (again : Again) (P : Program) where
   abbrev mutual
@@ -145,6 +145,7 @@ module _ (again : Again) (P : Program) where
           let q = inner (element_part t i) p in
           one_tick (is_array t && costs_tick rest P.classes (element (plain t)))
           >> settled P.classes q (full_expression again P (value rest (Some q))))
+      when (is_class t) (listed_object p) done
       gives Built
     value (string bytes) into = do
       p ← built_at into

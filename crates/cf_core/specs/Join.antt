@@ -8,7 +8,7 @@ use Rattle.cf_core.specs.Core.{Core, Target, direct, dispatched, Function, Stati
 use Rattle.cf_core.specs.Calls.{is_library}
 use Rattle.cf_core.specs.Nodes.{nodes}
 use Rattle.cf_core.specs.Named.{used_by, used_by_role, destructors}
-use Rattle.cf_core.specs.Joined.{own_names}
+use Rattle.cf_core.specs.Joined.{own_names, name_in, local_names}
 use Rattle.cf_core.specs.CType.{CType, c_types}
 
 -- Definitions.
@@ -27,19 +27,29 @@ pub record Definition : Type 0 where
 abbrev pub literal_name : Name → ℕ → Name
 literal_name f j = codes "__s" ++ decimal j ++ codes "__" ++ f
 
-abbrev pub literal_at : Function → Core → List Definition
-literal_at f (text j bytes) = record { name = literal_name f.name j; is_shared = f.is_shared; thing = a_literal bytes } ∷ []
-literal_at f e = []
+abbrev pub literal_at : Name → Bool → Core → List Definition
+literal_at f is_shared (text j bytes) = record { name = literal_name f j; is_shared = is_shared; thing = a_literal bytes } ∷ []
+literal_at f is_shared e = []
 
-abbrev pub function_definitions : Function → List Definition
-function_definitions f =
-    record { name = f.name; is_shared = f.is_shared; thing = a_function f } ∷ flat_map (literal_at f) (nodes f.body)
+abbrev pub function_definitions : (Name → Name) → Function → List Definition
+function_definitions r f =
+    record { name = r f.name; is_shared = f.is_shared; thing = a_function f } ∷ flat_map (literal_at (r f.name) f.is_shared) (nodes f.body)
 
-abbrev pub object_definition : Static → Definition
-object_definition x = record { name = x.name; is_shared = x.is_shared; thing = an_object x }
+abbrev pub object_definition : (Name → Name) → Static → Definition
+object_definition r x = record { name = r x.name; is_shared = x.is_shared; thing = an_object x }
 
-abbrev pub definitions_in : CoreFile → List Definition
-definitions_in file = flat_map function_definitions file.functions ++ map object_definition file.statics
+-- What is local to a file is defined under its name there; inside a core it keeps its link name, so that files' cores can be compared.
+abbrev pub definitions_in : ℕ → CoreFile → List Definition
+definitions_in k file =
+    let r = name_in k (local_names file) in
+    flat_map (function_definitions r) file.functions ++ map (object_definition r) file.statics
+
+abbrev pub definitions_from : ℕ → List CoreFile → List Definition
+definitions_from k [] = []
+definitions_from k (file ∷ rest) = definitions_in k file ++ definitions_from (suc k) rest
+
+abbrev pub definitions : List CoreFile → List Definition
+definitions files = definitions_from 1 files
 
 -- Uses.
 
@@ -117,9 +127,6 @@ with_own_names k (file ∷ rest) = own_names k file ∷ with_own_names (suc k) r
 
 abbrev pub named_files : List CoreFile → List CoreFile
 named_files files = with_own_names 1 files
-
-abbrev pub definitions : List CoreFile → List Definition
-definitions files = flat_map definitions_in (named_files files)
 
 abbrev pub defined_names : List CoreFile → List Name
 defined_names files = map (λ (d : Definition). d.name) (definitions files)
