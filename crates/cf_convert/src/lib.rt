@@ -1,13 +1,8 @@
-// A library with one function.
+//! Implicit conversions: from a value to the type that is wanted of it.
 #![tactic(auto)]
 
-ghost use Rattle.std.specs.Prelude.{◌≡◌};
-ghost use Rattle.cf_convert.specs.Echo.{echo_of};
+mod conv;
+mod standard;
 
-// The `ensures` clause is the contract: what `echo` returns is `echo_of` of its argument, a definition
-// in `specs/Echo.antt`, which a caller's clause can cite too.
-pub fn echo(x: usize) -> usize
-    ensures { result ≡ echo_of x }
-{
-    x
-}
+pub use conv::{Conv, ConvStep, Val};
+
