@@ -69,26 +69,30 @@ abbrev to_class : List (ℕ × ClassDef) → ℕ → ℕ → Option (List ConvSt
 to_class defs c d = if c == d then Some [] else to_base (base_path defs c d)
 
 -- what a pointer or reference to an object leads to, without const; no function becomes `void`
-abbrev pointed : List (ℕ × ClassDef) → Ty → Ty → Option (List ConvStep)
+abbrev pub pointed : List (ℕ × ClassDef) → Ty → Ty → Option (List ConvStep)
 pointed defs (ty.Fun f) u = None
 pointed defs t ty.Void = Some (ToVoid ∷ [])
 pointed defs (ty.Class c) (ty.Class d) = to_base (base_path defs c d)
 pointed defs t u = None
 
 -- const may be added there, and not dropped
-abbrev with_const : Bool → Bool → Option (List ConvStep) → Option (List ConvStep)
+abbrev pub with_const : Bool → Bool → Option (List ConvStep) → Option (List ConvStep)
 with_const true false steps = None
 with_const true true steps = steps
 with_const false false steps = steps
 with_const false true steps = option_map (λ s. s ++ AddConst ∷ []) steps
 
+-- what a pointer leads to, without const, to what another does
+abbrev pub pointee : Table → List (ℕ × ClassDef) → ℕ → ℕ → Option (List ConvStep)
+pointee types defs t u = if t == u then Some [] else pointed defs (type_at types t) (type_at types u)
+
 -- a pointer to t to a pointer to u
 abbrev pub to_pointer : Table → List (ℕ × ClassDef) → ℕ → ℕ → Option (List ConvStep)
 to_pointer types defs t u =
     with_const (is_const types t) (is_const types u)
-        (if bare types t == bare types u then Some [] else pointed defs (type_at types (bare types t)) (type_at types (bare types u)))
+    (if bare types t == bare types u then Some [] else pointed defs (type_at types (bare types t)) (type_at types (bare types u)))
 
-abbrev same_then : Bool → Option (List ConvStep) → Option (List ConvStep)
+abbrev pub same_then : Bool → Option (List ConvStep) → Option (List ConvStep)
 same_then true steps = steps
 same_then false steps = None
 

@@ -2,7 +2,8 @@
 #![tactic(auto)]
 
 mod conv;
-mod standard;
+mod implicit;
+mod types;
 
 pub use conv::{Conv, ConvStep, Val};
-
+pub use implicit::standard;
