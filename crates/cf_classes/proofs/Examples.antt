@@ -15,14 +15,24 @@ use Rattle.cf_classes.specs.declared.class.Access.TheVariants as access
 abbrev pub types : Table
 types = record {
   types =
-    ty.Int kind.Char ∷ ty.Int kind.Int ∷ ty.Void ∷ ty.Fun 0 ∷ ty.Const 0 ∷ ty.Ptr 4 ∷ ty.Fun 1 ∷ ty.Class 0 ∷ ty.Class 1 ∷ ty.Class 2 ∷ ty.Class 3
-    ∷ ty.Const 1 ∷ ty.Array 7 3 ∷ [];
+      ty.Int kind.Char ∷ ty.Int kind.Int ∷ ty.Void ∷ ty.Fun 0 ∷ ty.Const 0 ∷ ty.Ptr 4 ∷ ty.Fun 1 ∷ ty.Class 0 ∷ ty.Class 1 ∷ ty.Class 2 ∷ ty.Class 3
+      ∷ ty.Const 1 ∷ ty.Array 7 3 ∷ [];
   funs = record { result = 1; params = []; is_const = false } ∷ record { result = 1; params = []; is_const = true } ∷ [];
 }
 
 abbrev pub field : List ℕ → ℕ → MemberDef
 field name t = record {
-  name = name; what = what.Field; ty = t; access = access.Public; is_static = false; is_virtual = false; is_pure = false; is_inline = false; defaults = 0; at = 0 }
+  name = name;
+  what = what.Field;
+  ty = t;
+  access = access.Public;
+  is_static = false;
+  is_virtual = false;
+  is_pure = false;
+  is_inline = false;
+  defaults = 0;
+  at = 0;
+}
 
 abbrev pub static_field : List ℕ → ℕ → MemberDef
 static_field name t = record (field name t) { is_static = true }

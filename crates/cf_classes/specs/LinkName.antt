@@ -26,8 +26,9 @@ mutual
     Reference : Code → Code
     Const : Code → Code
     Array : ℕ → Code → Code
-    Function : Bool → Codes → Code → Code -- whether it is that of a const member function, its parameters, its result
-    Member : List (List ℕ) → Code → Code -- a pointer to a member of this class
+    Function : Bool → Codes → Code → Code  -- whether it is that of a const member function, its parameters, its result
+    Member : List (List ℕ) → Code → Code  -- a pointer to a member of this class
+
   pub data Codes : Type 0 where
     none : Codes
     more : Code → Codes → Codes
@@ -64,6 +65,7 @@ abbrev mutual
   code (Array n t) = codes "A" ++ decimal n ++ codes "_" ++ code t
   code (Function is_const params result) = (if is_const then codes "CF" else codes "F") ++ code_all params ++ codes "_" ++ code result
   code (Member names t) = codes "M" ++ scope_code names ++ code t
+
   pub code_all : Codes → List ℕ
   code_all none = []
   code_all (more t ts) = code t ++ code_all ts
@@ -79,7 +81,7 @@ pub data Called : Type 0 where
   Conversion : Code → Called
 
 pub record Entity : Type 0 where
-  pub scope : List (List ℕ) -- the names of the classes that it is a member of, from the outside
+  pub scope : List (List ℕ)  -- the names of the classes that it is a member of, from the outside
   pub what : Called
   pub params : Codes
   pub is_const : Bool

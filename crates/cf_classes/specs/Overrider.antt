@@ -21,8 +21,9 @@ abbrev pub has_table : Table → List (ℕ × ClassDef) → ℕ → Bool
 has_table types [] c = false
 has_table types (d ∷ older) c =
     elim (c == d.0) as (λ _. Bool) [
-      true ↦ nat_le 1 (length (introduced types (d ∷ older) c)) || list_any (λ b. not b.is_virtual && has_table types older b.class) d.1.bases
-      | false ↦ has_table types older c ]
+      | true ↦ nat_le 1 (length (introduced types (d ∷ older) c)) || list_any (λ b. not b.is_virtual && has_table types older b.class) d.1.bases
+      | false ↦ has_table types older c
+    ]
 
 -- it is the class's own where no direct nonvirtual base has one
 abbrev pub owns_table : Table → List (ℕ × ClassDef) → ℕ → Bool

@@ -43,8 +43,8 @@ overrides types virtuals m = may_override m && list_any (λ v. same_signature ty
 abbrev pub virtuals : Table → List (ℕ × ClassDef) → ℕ → List MemberDef
 virtuals types defs c =
     made [] (λ rec def.
-      let inherited = flat_map (λ b. rec b.class) def.bases in
-      filter (λ m. may_override m && (m.is_virtual || overrides types inherited m)) def.members ++ inherited) defs c
+    let inherited = flat_map (λ b. rec b.class) def.bases in
+    filter (λ m. may_override m && (m.is_virtual || overrides types inherited m)) def.members ++ inherited) defs c
 
 -- the virtual functions that a class declares and that override none of a base, in order
 abbrev pub introduced : Table → List (ℕ × ClassDef) → ℕ → List MemberDef

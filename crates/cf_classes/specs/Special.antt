@@ -22,10 +22,10 @@ pub data Made : Type 0 where
   Absent : Made
 
 pub record Specials : Type 0 where
-  pub constructor : Made -- the one without arguments
+  pub constructor : Made  -- the one without arguments
   pub destructor : Made
-  pub copy : Made -- the copy constructor
-  pub assign : Made -- the copying assignment
+  pub copy : Made  -- the copy constructor
+  pub assign : Made  -- the copying assignment
 
 abbrev pub no_specials : Specials
 no_specials = record { constructor = Absent; destructor = Absent; copy = Absent; assign = Absent }
@@ -102,9 +102,9 @@ specials_in types defs c rec def =
     let constructors = filter (λ m. is_constructor m.what) def.members in
     record {
       constructor =
-        if nat_le 1 (length constructors)
-        then (if list_any (takes_no_argument types) constructors then Declared else Absent)
-        else generated fixed by_pointer (map (λ s. s.constructor) parts);
+          if nat_le 1 (length constructors)
+          then (if list_any (takes_no_argument types) constructors then Declared else Absent)
+          else generated fixed by_pointer (map (λ s. s.constructor) parts);
       destructor = if list_any (λ m. is_destructor m.what) def.members then Declared else generated false false (map (λ s. s.destructor) direct);
       copy = if list_any (is_copy types c) def.members then Declared else generated false by_pointer (map (λ s. s.copy) parts);
       assign = if list_any (is_assign types c) def.members then Declared else generated fixed by_pointer (map (λ s. s.assign) parts);

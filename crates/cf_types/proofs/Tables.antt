@@ -8,7 +8,7 @@ use Rattle.indexmap.specs.IndexSet.{insert_key}
 use Rattle.cf_types.specs.declared.ty.Ty.{Ty}
 use Rattle.cf_types.specs.declared.ty.Ty.TheVariants as ty
 use Rattle.cf_types.specs.declared.ty.Fun.{Fun}
-use Rattle.cf_types.specs.Table.{Table, IsTable, Names, parts, parts_of_fun, fun_in, fun_parts, HasOnce, Enters}
+use Rattle.cf_types.specs.Table.{Table, IsTable, Names, NamesBelow, parts, parts_of_fun, fun_in, fun_parts, HasOnce, Enters}
 use Rattle.cf_types.proofs.Places.{get-left, get-front, get-last, get-snoc, HasOnce-snoc, Enters-old, Enters-new, absent_from_any}
 
 -- a list that was not full has grown by an item that it did not have
@@ -104,3 +104,17 @@ module _ {A : Type 0} (eq : A → A → Bool) (same : (x y : A) → eq x y ≡ t
       let e : new ≡ items ++ u ∷ [] = grown ∙ ap (λ b. if b then items else items ++ u ∷ []) none in
       subst (λ l. Enters items l u i) (sym e)
       (subst (Enters items (items ++ u ∷ []) u) (sym last) (Enters-new items u (absent_from_any (eq u) items u (laws.refl u) none) old))
+
+-- in a table the type that a type names stands before it
+pub names_below : (funs : List Fun) (i n : ℕ) (v : Ty) → Names funs i n v → NamesBelow i v
+names_below funs i n ty.Void h = tt
+names_below funs i n (ty.Int k) h = tt
+names_below funs i n (ty.Enum e) h = tt
+names_below funs i n (ty.Class c) h = tt
+names_below funs i n (ty.Ptr t) h = h.parts_known 0 t (omega arith)
+names_below funs i n (ty.Ref t) h = h.parts_known 0 t (omega arith)
+names_below funs i n (ty.Array t k) h = h.parts_known 0 t (omega arith)
+names_below funs i n (ty.Fun f) h = tt
+names_below funs i n (ty.MemData c t) h = h.parts_known 0 t (omega arith)
+names_below funs i n (ty.MemFun c f) h = tt
+names_below funs i n (ty.Const t) h = h.parts_known 0 t (omega arith)
