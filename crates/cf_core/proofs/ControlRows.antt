@@ -209,9 +209,9 @@ const_and_reference_members = refl
 
 -- struct T as above but with T(){..} too; struct Q{T t;int x;};int main(){Q q={T(1),2};return q.x+q.t.v;}: a list builds what has a generated constructor
 list_builds_an_object :
-  run (program (loud ++ built_class (codes "1Q") [] (T ∷ int ∷ []) [] (Some (codes "__dt__1QFv")) ∷ [])
+    run (program (loud ++ built_class (codes "1Q") [] (T ∷ int ∷ []) [] (Some (codes "__dt__1QFv")) ∷ [])
     (destructor_of (codes "1Q") (codes "__dt__1QFv") []
-     ∷ main_of (declare 0 (class (codes "1Q")) (list (listed (made 1 ∷ num 2 ∷ [])) zeros)
-       ∷ returns (add (read (member (local 0) 1)) (read (member (member (local 0) 0) 0))) ∷ []) ∷ loud_functions) []) 20
-  ≡ Some (record { end = Ended (pos 3); out = codes "c1d1" })
+    ∷ main_of (declare 0 (class (codes "1Q")) (list (listed (made 1 ∷ num 2 ∷ [])) zeros)
+    ∷ returns (add (read (member (local 0) 1)) (read (member (member (local 0) 0) 0))) ∷ []) ∷ loud_functions) []) 20
+    ≡ Some (record { end = Ended (pos 3); out = codes "c1d1" })
 list_builds_an_object = refl

@@ -140,12 +140,12 @@ module _ (again : Again) (P : Program) where
       s ← state
       let t = place_type P.classes s p
       let n = element_count P.classes t
+      when (is_class t) (listed_object p) done
       elements es 0 p t
       for_each (count es) (n - count es) (λ i.
           let q = inner (element_part t i) p in
           one_tick (is_array t && costs_tick rest P.classes (element (plain t)))
           >> settled P.classes q (full_expression again P (value rest (Some q))))
-      when (is_class t) (listed_object p) done
       gives Built
     value (string bytes) into = do
       p ← built_at into

@@ -108,7 +108,7 @@ element_count classes (array t n) = n
 element_count classes (const t) = element_count classes t
 element_count classes t = length (fields_of classes (class_of t))
 
--- an object of class type that a list has built is alive
+-- an object of class type that a list builds is alive: no constructor is entered for it
 abbrev pub listed_object : Place → Act (Unit {0})
 listed_object p = object_changed p.object (set_life p.route alive)
 
