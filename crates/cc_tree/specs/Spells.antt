@@ -21,7 +21,7 @@ use Rattle.cc_tree.specs.declared.unit.CParameter.{CParameter}
 use Rattle.cc_tree.specs.declared.unit.CPrototype.{CPrototype}
 use Rattle.cc_tree.specs.declared.unit.CItem.{CItem}
 use Rattle.cc_tree.specs.declared.unit.CItem.TheVariants as item
-use Rattle.cc_tree.specs.Build.{body_of}
+use Rattle.cc_tree.specs.Build.{made_body}
 
 -- the operator that a sign is between two operands, and its level: the tighter it binds, the lower, and 0 is an operand
 abbrev pub operator_of : Mark → Option (ℕ × Arith)
@@ -79,7 +79,7 @@ pub data SpellsLocals : List CLocal → List Token → Type 0 where
 mutual
   pub data SpellsBody : CBody → List Token → Type 0 where
     body : (locals : List CLocal) (xs : List Token) (all : List CStatement) (ys : List Token) → SpellsLocals locals xs → SpellsStatements all ys
-        → SpellsBody (body_of locals all) (sign mark.LeftBrace ++ (xs ++ (ys ++ sign mark.RightBrace)))
+        → SpellsBody (made_body locals all) (sign mark.LeftBrace ++ (xs ++ (ys ++ sign mark.RightBrace)))
 
   pub data SpellsStatements : List CStatement → List Token → Type 0 where
     none : SpellsStatements [] []
