@@ -1,5 +1,5 @@
 -- What linking makes of units: a program, or the first broken rule and a name.
-use Rattle.std.specs.Prelude.{ℕ, suc, Bool, true, false, not, ◌&&◌, ◌||◌, ◌==◌, if◌then◌else◌, List, [], ◌∷◌, ◌++◌, Option, Some, None, Result, Ok, Err, codes, decimal, length, bytes_eq, find}
+use Rattle.std.specs.Prelude.{ℕ, suc, Bool, true, false, not, ◌&&◌, ◌||◌, ◌==◌, if◌then◌else◌, List, [], ◌∷◌, ◌++◌, Option, Some, None, Result, Ok, Err, codes, decimal, length, bytes_eq, find, map}
 use Rattle.std.specs.List.{list_any}
 use Rattle.cc_tree.specs.declared.types.CType.TheVariants as ty
 use Rattle.cc_tree.specs.declared.expression.CPlace.TheVariants as place
@@ -8,13 +8,12 @@ use Rattle.cc_tree.specs.declared.statement.CLocal.{CLocal}
 use Rattle.cc_tree.specs.declared.statement.CStatement.{CStatement}
 use Rattle.cc_tree.specs.declared.statement.CStatement.TheVariants as statement
 use Rattle.cc_tree.specs.declared.unit.CFunction.{CFunction}
-use Rattle.cc_tree.specs.declared.unit.CPrototype.{CPrototype}
 use Rattle.cc_tree.specs.declared.unit.CItem.{CItem}
 use Rattle.cc_tree.specs.declared.unit.CItem.TheVariants as item
 use Rattle.cc_tree.specs.declared.unit.CUnit.{CUnit}
 use Rattle.cc_tree.specs.declared.unit.CProgram.{CProgram}
 use Rattle.cc_tree.specs.Build.{made_body}
-use Rattle.cc_tree.specs.Plain.{Statement, assign, call, block, leave, choose, loop, give, Statements, done, followed, Body, body, body_of}
+use Rattle.cc_tree.specs.Plain.{Statement, assign, call, block, leave, choose, loop, give, Statements, done, followed, Body, body, Function, Item, declares, defines, name_of, prototype_of, items_of}
 use Rattle.cc_tree.specs.Mean.{is_main}
 use Rattle.cc_tree.specs.Valid.{is_in, is_library, same_type}
 
@@ -44,56 +43,45 @@ abbrev mutual
 -- an item and the number of its unit
 pub record Placed : Type 0 where
   pub unit : ℕ
-  pub item : CItem
+  pub item : Item
 
-abbrev pub placed_items : ℕ → List CItem → List Placed
+abbrev pub placed_items : ℕ → List Item → List Placed
 placed_items unit [] = []
 placed_items unit (i ∷ rest) = record { unit = unit; item = i } ∷ placed_items unit rest
 
 -- the items of all units, in order
-abbrev pub placed_units : ℕ → List CUnit → List Placed
+abbrev pub placed_units : ℕ → List (List Item) → List Placed
 placed_units unit [] = []
-placed_units unit (u ∷ rest) = placed_items unit u.items ++ placed_units (suc unit) rest
+placed_units unit (items ∷ rest) = placed_items unit items ++ placed_units (suc unit) rest
 
-abbrev pub items_of : List CUnit → List CItem
-items_of [] = []
-items_of (u ∷ rest) = u.items ++ items_of rest
+abbrev pub is_definition : Item → Bool
+is_definition (declares p) = false
+is_definition (defines f) = true
 
-abbrev pub prototype_of : CItem → CPrototype
-prototype_of (item.Prototype p) = p
-prototype_of (item.Function f) = f.prototype
-
-abbrev pub is_definition : CItem → Bool
-is_definition (item.Prototype p) = false
-is_definition (item.Function f) = true
-
-abbrev pub name_of : CItem → List ℕ
-name_of i = (prototype_of i).name
-
-abbrev pub defines : List ℕ → CItem → Bool
-defines name i = is_definition i && bytes_eq (name_of i) name
+abbrev pub is_definition_of : List ℕ → Item → Bool
+is_definition_of name i = is_definition i && bytes_eq (name_of i) name
 
 -- the functions that an item calls
-abbrev pub uses_of_item : CItem → List (List ℕ)
-uses_of_item (item.Prototype p) = []
-uses_of_item (item.Function f) = uses_of_body (body_of f.body)
+abbrev pub uses_of_item : Item → List (List ℕ)
+uses_of_item (declares p) = []
+uses_of_item (defines f) = uses_of_body f.body
 
 -- rule 1: a used name that no unit defines, the library functions excepted
-abbrev pub undefined_use : List CItem → CItem → Option (List ℕ)
-undefined_use all i = find (λ name. not (is_library name) && not (list_any (defines name) all)) (uses_of_item i)
+abbrev pub undefined_use : List Placed → Item → Option (List ℕ)
+undefined_use all i = find (λ name. not (is_library name) && not (list_any (λ (b : Placed). is_definition_of name b.item) all)) (uses_of_item i)
 
 -- the functions that the linker calls or that `main` is made of
-abbrev pub starts : CItem → Bool
-starts i = defines (codes "__main") i || (defines (codes "__sti") i || defines (codes "__hci") i)
+abbrev pub starts : Item → Bool
+starts i = is_definition_of (codes "__main") i || (is_definition_of (codes "__sti") i || is_definition_of (codes "__hci") i)
 
 -- one unit defines `main`, and another what the linker would call in its place
 abbrev pub clashes : Placed → Placed → Bool
-clashes a b = not (a.unit == b.unit) && ((defines (codes "main") a.item && starts b.item) || (starts a.item && defines (codes "main") b.item))
+clashes a b = not (a.unit == b.unit) && ((is_definition_of (codes "main") a.item && starts b.item) || (starts a.item && is_definition_of (codes "main") b.item))
 
 -- rule 2: a second definition
 abbrev pub second_definition : List Placed → Placed → Option (List ℕ)
 second_definition before i =
-    if is_definition i.item && list_any (λ (b : Placed). defines (name_of i.item) b.item) before then Some (name_of i.item)
+    if is_definition i.item && list_any (λ (b : Placed). is_definition_of (name_of i.item) b.item) before then Some (name_of i.item)
     else (if list_any (λ b. clashes b i) before then Some (codes "main") else None)
 
 -- rule 5: a declaration with another type
@@ -107,10 +95,14 @@ broken rule None otherwise = otherwise
 broken rule (Some name) otherwise = Some (record { rule = rule; name = name })
 
 -- at each item, in order, rules 1, 2 and 5
-abbrev pub first_broken : List CItem → List Placed → List Placed → Option Refusal
+abbrev pub first_broken : List Placed → List Placed → List Placed → Option Refusal
 first_broken all before [] = None
 first_broken all before (i ∷ rest) =
     broken 1 (undefined_use all i.item) (broken 2 (second_definition before i) (broken 5 (other_type before i) (first_broken all (before ++ i ∷ []) rest)))
+
+-- the first broken rule of all but 4 and 6
+abbrev pub broken_rule : List (List Item) → Option Refusal
+broken_rule units = first_broken (placed_units 1 units) [] (placed_units 1 units)
 
 -- rule 6: a version that is not 1
 abbrev pub other_version : List CUnit → Option (List ℕ)
@@ -120,17 +112,24 @@ other_version (u ∷ rest) = if u.version == 1 then other_version rest else Some
 -- `int main(void) { int status; status = __main(); return status; }`
 abbrev pub added_main : CItem
 added_main = item.Function (record {
-    prototype = record { result = Some ty.Int; name = codes "main"; parameters = [] };
-    body = made_body (record { ty = ty.Int; name = codes "status" } ∷ [])
+  prototype = record { result = Some ty.Int; name = codes "main"; parameters = [] };
+  body = made_body (record { ty = ty.Int; name = codes "status" } ∷ [])
       (statement.Call (Some (place.Name (codes "status"))) (codes "__main") []
-        ∷ statement.Return (Some (tree.Load (place.Name (codes "status")))) ∷ []);
-  })
+      ∷ statement.Return (Some (tree.Load (place.Name (codes "status")))) ∷ []);
+})
+
+abbrev pub all_items : List CUnit → List CItem
+all_items [] = []
+all_items (u ∷ rest) = u.items ++ all_items rest
+
+abbrev pub defined_in : List CItem → List ℕ → Bool
+defined_in all name = list_any (is_definition_of name) (items_of all)
 
 -- the program has a `main` of its own, or the added one, which calls `__main` (rule 4)
 abbrev pub with_main : List CItem → Result CProgram Refusal
 with_main all =
-    if list_any (defines (codes "main")) all then Ok (record { items = all })
-    else (if list_any (defines (codes "__main")) all then Ok (record { items = all ++ added_main ∷ [] })
+    if defined_in all (codes "main") then Ok (record { items = all })
+    else (if defined_in all (codes "__main") then Ok (record { items = all ++ added_main ∷ [] })
     else Err (record { rule = 4; name = codes "__main" }))
 
 abbrev pub refused_or : Option Refusal → Result CProgram Refusal → Result CProgram Refusal
@@ -138,4 +137,4 @@ refused_or None otherwise = otherwise
 refused_or (Some refusal) otherwise = Err refusal
 
 abbrev pub link : List CUnit → Result CProgram Refusal
-link units = refused_or (broken 6 (other_version units) (first_broken (items_of units) [] (placed_units 1 units))) (with_main (items_of units))
+link units = refused_or (broken 6 (other_version units) (broken_rule (map (λ (u : CUnit). items_of u.items) units))) (with_main (all_items units))

@@ -8,8 +8,8 @@ use Rattle.cf_base.specs.World.{World, Ran, Went, Stops, and_then, spend, deeper
 use Rattle.cc_tree.specs.declared.statement.CLocal.{CLocal}
 use Rattle.cc_tree.specs.declared.unit.CParameter.{CParameter}
 use Rattle.cc_tree.specs.declared.unit.CPrototype.{CPrototype}
-use Rattle.cc_tree.specs.declared.unit.CItem.{CItem}
-use Rattle.cc_tree.specs.Plain.{Place, named, Expression, number, load, binary, Statement, assign, call, block, leave, choose, loop, give, Statements, done, followed, Body, body, Function, functions_of}
+use Rattle.cc_tree.specs.declared.unit.CProgram.{CProgram}
+use Rattle.cc_tree.specs.Plain.{Place, named, Expression, number, load, binary, Statement, assign, call, block, leave, choose, loop, give, Statements, done, followed, Body, body, Function, items_of, functions_of}
 use Rattle.cc_tree.specs.Memory.{Memory, no_memory, born, born_all, born_with, died_all, read, write, carry, dead}
 
 -- a function called with another type, or one that isn't there
@@ -157,7 +157,7 @@ Again = Bool → Statement → Scope → ℕ → Memory → World → Ran Flow
 abbrev pub run_function : (Statement → Scope → ℕ → Memory → World → Ran Flow) → Function → List ℤ → ℕ → Memory → World → Ran Returned
 run_function run f vs depth m w =
     and_then (run (block f.body) (bind_all (parameter_names f.prototype.parameters) m.next no_names) depth (born_with vs m) w)
-      (λ flow w. Went (returned (ending vs m.next flow)) w)
+    (λ flow w. Went (returned (ending vs m.next flow)) w)
 
 abbrev pub has_arity : Function → List ℤ → Bool
 has_arity f vs = length f.prototype.parameters == length vs
@@ -223,7 +223,7 @@ abbrev mutual
   pub does_body : Again → Again → List Function → Bool → Body → Scope → ℕ → Memory → World → Ran Flow
   does_body again helps p inside (body locals all) scope depth m w =
       and_then (does_all again helps p inside all (bind_all (local_names locals) m.next scope) depth (born_all locals m) w)
-        (λ flow w. Went (ending locals m.next flow) w)
+      (λ flow w. Went (ending locals m.next flow) w)
 
   pub does_all : Again → Again → List Function → Bool → Statements → Scope → ℕ → Memory → World → Ran Flow
   does_all again helps p inside done scope depth m w = Went (Falls m) w
@@ -245,7 +245,10 @@ start p n None depth w = Stops (Undefined wrong_type) w.trace
 start p n (Some f) depth w = run_function (runs p (suc n) false) f [] depth no_memory w
 
 -- `main` runs, and the result that it returns is the status
-abbrev pub c_mean : List CItem → List ℕ → ℕ → ℕ → ℕ → Outcome
-c_mean items input heap depth n = outcome
-    (and_then (start (functions_of items) n (function_named (functions_of items) (codes "main")) depth (world_at n input heap))
-      (λ r w. tried (used r.result) w (λ status. Went status w)))
+abbrev pub mean_of : List Function → List ℕ → ℕ → ℕ → ℕ → Outcome
+mean_of p input heap depth n = outcome
+    (and_then (start p n (function_named p (codes "main")) depth (world_at n input heap))
+    (λ r w. tried (used r.result) w (λ status. Went status w)))
+
+abbrev pub c_mean : CProgram → List ℕ → ℕ → ℕ → ℕ → Outcome
+c_mean program input heap depth n = mean_of (functions_of (items_of program.items)) input heap depth n

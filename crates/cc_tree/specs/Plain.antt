@@ -83,8 +83,26 @@ pub record Function : Type 0 where
 abbrev pub function_of : CFunction → Function
 function_of f = record { prototype = f.prototype; body = body_of f.body }
 
+pub data Item : Type 0 where
+  declares : CPrototype → Item
+  defines : Function → Item
+
+abbrev pub item_of : CItem → Item
+item_of (item.Prototype p) = declares p
+item_of (item.Function f) = defines (function_of f)
+
+abbrev pub items_of : List CItem → List Item
+items_of items = map item_of items
+
+abbrev pub prototype_of : Item → CPrototype
+prototype_of (declares p) = p
+prototype_of (defines f) = f.prototype
+
+abbrev pub name_of : Item → List ℕ
+name_of i = (prototype_of i).name
+
 -- the functions that are defined, in order
-abbrev pub functions_of : List CItem → List Function
+abbrev pub functions_of : List Item → List Function
 functions_of [] = []
-functions_of (item.Prototype p ∷ rest) = functions_of rest
-functions_of (item.Function f ∷ rest) = function_of f ∷ functions_of rest
+functions_of (declares p ∷ rest) = functions_of rest
+functions_of (defines f ∷ rest) = f ∷ functions_of rest

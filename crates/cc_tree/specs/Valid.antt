@@ -12,11 +12,9 @@ use Rattle.cc_tree.specs.declared.types.CType.TheVariants as ty
 use Rattle.cc_tree.specs.declared.statement.CLocal.{CLocal}
 use Rattle.cc_tree.specs.declared.unit.CParameter.{CParameter}
 use Rattle.cc_tree.specs.declared.unit.CPrototype.{CPrototype}
-use Rattle.cc_tree.specs.declared.unit.CItem.{CItem}
-use Rattle.cc_tree.specs.declared.unit.CItem.TheVariants as item
 use Rattle.cc_tree.specs.declared.unit.CUnit.{CUnit}
 use Rattle.cc_tree.specs.declared.unit.CProgram.{CProgram}
-use Rattle.cc_tree.specs.Plain.{Place, named, Expression, number, load, binary, Statement, assign, call, block, leave, choose, loop, give, Statements, done, followed, Body, body, body_of}
+use Rattle.cc_tree.specs.Plain.{Place, named, Expression, number, load, binary, Statement, assign, call, block, leave, choose, loop, give, Statements, done, followed, Body, body, Function, Item, declares, defines, items_of}
 use Rattle.cc_tree.specs.Mean.{local_names, parameter_names, is_helper, is_main}
 
 -- letters, digits and `_`, a digit not first, and no reserved word
@@ -87,7 +85,7 @@ abbrev mutual
   valid_statement (assign place e) k = valid_place place k && valid_expression e k
   valid_statement (call place name es) k =
       valid_places place k && (is_name name && (not (is_in k.names name) && (may_call name k.in_helper
-        && (valid_call (prototype_named k.declared name) es (is_some place) && valid_expressions es k))))
+      && (valid_call (prototype_named k.declared name) es (is_some place) && valid_expressions es k))))
   valid_statement (block b) k = valid_body b k
   valid_statement leave k = k.in_loop
   valid_statement (choose e b other) k = valid_expression e k && (valid_body b k && valid_body other k)
@@ -139,26 +137,26 @@ has_own_type p =
 abbrev pub valid_prototype : List CPrototype → CPrototype → Bool
 valid_prototype declared p =
     is_name p.name && (list_all is_name (parameter_names p.parameters) && (differ (parameter_names p.parameters)
-      && (has_own_type p && list_all (λ (q : CPrototype). not (bytes_eq q.name p.name) || same_type q p) declared)))
+    && (has_own_type p && list_all (λ (q : CPrototype). not (bytes_eq q.name p.name) || same_type q p) declared)))
 
 -- a function is defined once (V2), and no library function is (V10)
-abbrev pub valid_items : List CItem → List CPrototype → List (List ℕ) → Bool
+abbrev pub valid_items : List Item → List CPrototype → List (List ℕ) → Bool
 valid_items [] declared defined = true
-valid_items (item.Prototype p ∷ rest) declared defined = valid_prototype declared p && valid_items rest (declared ++ p ∷ []) defined
-valid_items (item.Function f ∷ rest) declared defined =
+valid_items (declares p ∷ rest) declared defined = valid_prototype declared p && valid_items rest (declared ++ p ∷ []) defined
+valid_items (defines f ∷ rest) declared defined =
     valid_prototype declared f.prototype && (not (is_in defined f.prototype.name) && (not (is_library f.prototype.name)
-      && (valid_body (body_of f.body) (record {
-            declared = declared ++ f.prototype ∷ [];
-            in_helper = is_helper f.prototype.name;
-            result = f.prototype.result;
-            names = parameter_names f.prototype.parameters;
-            in_loop = false;
-          })
-      && valid_items rest (declared ++ f.prototype ∷ []) (f.prototype.name ∷ defined))))
+    && (valid_body f.body (record {
+      declared = declared ++ f.prototype ∷ [];
+      in_helper = is_helper f.prototype.name;
+      result = f.prototype.result;
+      names = parameter_names f.prototype.parameters;
+      in_loop = false;
+    })
+    && valid_items rest (declared ++ f.prototype ∷ []) (f.prototype.name ∷ defined))))
 
 -- the version is one that a text can have
 abbrev pub valid_version : ℕ → Bool
 valid_version version = nat_lt 0 version && nat_lt version (10 ^ 9)
 
 abbrev pub valid_unit : CUnit → Bool
-valid_unit unit = valid_version unit.version && valid_items unit.items [] []
+valid_unit unit = valid_version unit.version && valid_items (items_of unit.items) [] []

@@ -14,9 +14,9 @@ pub data AreTexts : List (List ℕ) → List CUnit → Type 0 where
   more : (text : List ℕ) (unit : CUnit) (texts : List (List ℕ)) (units : List CUnit) → Text text unit → IsTrue (valid_unit unit)
       → AreTexts texts units → AreTexts (text ∷ texts) (unit ∷ units)
 
-pub record TextsMean (texts : List (List ℕ)) (input : List ℕ) (heap depth n : ℕ) (end : Outcome) : Type 0 where
+pub record CMean (texts : List (List ℕ)) (input : List ℕ) (heap depth n : ℕ) (end : Outcome) : Type 0 where
   pub units : List CUnit
   pub program : CProgram
   pub read : AreTexts texts units
   pub linked : link units ≡ Ok program
-  pub runs : end ≡ c_mean program.items input heap depth n
+  pub runs : end ≡ c_mean program input heap depth n
