@@ -157,7 +157,7 @@ Again = Bool → Statement → Scope → ℕ → Memory → World → Ran Flow
 abbrev pub run_function : (Statement → Scope → ℕ → Memory → World → Ran Flow) → Function → List ℤ → ℕ → Memory → World → Ran Returned
 run_function run f vs depth m w =
     and_then (run (block f.body) (bind_all (parameter_names f.prototype.parameters) m.next no_names) depth (born_with vs m) w)
-    (λ flow w. Went (returned (ending vs m.next flow)) w)
+    (λ flow w. Went (returned (ending f.prototype.parameters m.next flow)) w)
 
 abbrev pub has_arity : Function → List ℤ → Bool
 has_arity f vs = length f.prototype.parameters == length vs
