@@ -234,11 +234,15 @@ abbrev mutual
 abbrev pub refused : Again
 refused inside s scope depth m w = Stops (Undefined wrong_type) w.trace
 
--- A statement at n ticks. What stands behind a spent tick runs at n - 1; so does not the body of a helper.
+-- how the body of a helper that is called here runs
+abbrev pub helps_in : Again → List Function → Bool → Again
+helps_in again p true inside s scope depth m w = refused inside s scope depth m w
+helps_in again p false inside s scope depth m w = does again refused p true s scope depth m w
+
+-- A statement at n ticks. What stands behind a spent tick runs at n - 1.
 abbrev pub runs : List Function → ℕ → Again
 runs p zero inside s scope depth m w = Stops Ticks w.trace
-runs p (suc n) true s scope depth m w = does (runs p n) refused p true s scope depth m w
-runs p (suc n) false s scope depth m w = does (runs p n) (λ inside. does (runs p n) refused p true) p false s scope depth m w
+runs p (suc n) inside s scope depth m w = does (runs p n) (helps_in (runs p n) p inside) p inside s scope depth m w
 
 abbrev pub start : List Function → ℕ → Option Function → ℕ → World → Ran Returned
 start p n None depth w = Stops (Undefined wrong_type) w.trace
