@@ -4,7 +4,7 @@ use Rattle.cf_base.specs.Event.{Event, Enter, End, Ticks, Undefined}
 use Rattle.cf_base.specs.World.{World, Ran, Went, Stops, and_then, spend, spend_of, deeper, show}
 use Rattle.cc_tree.specs.Plain.{Place, Expression, Statement, assign, call, block, leave, choose, loop, give, Statements, done, followed, Body, body, Function}
 use Rattle.cc_tree.specs.Memory.{Memory, write, born_all, born_with}
-use Rattle.cc_tree.specs.Mean.{Again, Scope, Flow, Falls, Breaks, Returns, Returned, tried, falling, turning, ending, returned, used, choice, put, run_function, enter_helper, enter_function, enter, called, call_to, store_result, does, does_body, does_all, refused, helps_in, runs, values, value, block_at, assigned, give_value, bind_all, parameter_names, no_names, is_putchar, is_main, is_helper, has_arity, function_named, local_names}
+use Rattle.cc_tree.specs.Mean.{Again, Scope, Flow, Falls, Breaks, Returns, Returned, tried, falling, turning, ending, returned, used, choice, put, run_function, enter_helper, enter_function, enter, called, call_to, target_of, go_back, does, does_body, does_all, refused, helps_in, runs, values, value, block_at, assigned_to, give_value, bind_all, parameter_names, no_names, is_putchar, is_main, is_helper, has_arity, function_named, local_names}
 
 -- at most so many ticks are left where a run goes on
 abbrev pub Left : {A : Type 0} → ℕ → Ran A → Type 0
@@ -111,24 +111,22 @@ module _ (p : List Function) (k : ℕ) (a b h i : Again) (again : AlikeBelow k a
       alike-if w.ticks (is_putchar name) _ _ _ _ (alike-put vs m w)
         (alike-if w.ticks (is_main name) _ _ _ _ (record { same = refl; left = tt }) (alike-enter inside (function_named p name) vs depth m w le))
 
-  alike-stored : (n : ℕ) (r : Returned) (c : ℕ) (w : World) → w.ticks ≤ n → Alike n (store_result r c w) (store_result r c w)
-  alike-stored n r c w le = alike-tried n (used r.result) w _ _ (λ v. alike-tried n (write c (Some v) r.memory) w _ _ (λ m. record { same = refl; left = le }))
+  alike-back : (n : ℕ) (back : Option ℕ) (r : Returned) (w : World) → w.ticks ≤ n → Alike n (go_back back r w) (go_back back r w)
+  alike-back n None r w le = record { same = refl; left = le }
+  alike-back n (Some c) r w le = alike-tried n (used r.result) w _ _ (λ v. alike-tried n (write c (Some v) r.memory) w _ _ (λ m. record { same = refl; left = le }))
 
   alike-call : (inside : Bool) (name : List ℕ) (place : Option Place) (es : List Expression) (scope : Scope) (depth : ℕ) (m : Memory) (w : World) → w.ticks ≤ k
       → Alike w.ticks (call_to (λ vs m w. called a h p inside name vs depth m w) place es scope m w)
           (call_to (λ vs m w. called b i p inside name vs depth m w) place es scope m w)
-  alike-call inside name None es scope depth m w le = alike-tried w.ticks (values es scope m) w _ _ (λ vs.
+  alike-call inside name place es scope depth m w le = alike-tried w.ticks (target_of place scope) w _ _ (λ back. alike-tried w.ticks (values es scope m) w _ _ (λ vs.
       alike-then w.ticks (called a h p inside name vs depth m w) (called b i p inside name vs depth m w) _ _ (alike-called inside name vs depth m w le)
-        (λ r v le. record { same = refl; left = le }))
-  alike-call inside name (Some place) es scope depth m w le = alike-tried w.ticks (block_at place scope) w _ _ (λ c. alike-tried w.ticks (values es scope m) w _ _ (λ vs.
-      alike-then w.ticks (called a h p inside name vs depth m w) (called b i p inside name vs depth m w) _ _ (alike-called inside name vs depth m w le)
-        (λ r v le. alike-stored w.ticks r c v le)))
+        (λ r v le'. alike-back w.ticks back r v le')))
 
   mutual
     pub alike-does : (inside : Bool) (s : Statement) (scope : Scope) (depth : ℕ) (m : Memory) (w : World) → w.ticks ≤ k
         → Alike w.ticks (does a h p inside s scope depth m w) (does b i p inside s scope depth m w)
     alike-does inside (assign place e) scope depth m w le =
-        alike-tried w.ticks (block_at place scope) w _ _ (λ c. alike-tried w.ticks (assigned e c scope m) w _ _ (λ m. record { same = refl; left = omega arith }))
+        alike-tried w.ticks (assigned_to (block_at place scope) e scope m) w _ _ (λ m. record { same = refl; left = omega arith })
     alike-does inside (call place name es) scope depth m w le = alike-call inside name place es scope depth m w le
     alike-does inside (block c) scope depth m w le = alike-body inside c scope depth m w le
     alike-does inside leave scope depth m w le = record { same = refl; left = omega arith }
