@@ -1,6 +1,7 @@
 ghost use Rattle.std.specs.Prelude.{◌≡◌, option_map, map, decimal, IfOk};
 ghost use Rattle.std.specs.List.{list_any};
-ghost use Rattle.cc_tree.specs.Link.{all_items as items_of_all, defined_in as defined_among, other_version as odd_version, with_main as completed};
+ghost use Rattle.cc_tree.specs.Plain.{item_of};
+ghost use Rattle.cc_tree.specs.Link.{all_items as items_of_all, defined_in as defined_among, is_definition_of as defines_name, other_version as odd_version, with_main as completed};
 ghost use Rattle.cc_link.specs.Links.{Answers, Checks, Links, Refuses};
 
 use crate::error::LinkErr;
@@ -39,10 +40,17 @@ fn all_items(alloc: Global, units: Vec<CUnit>) -> Result<Vec<CItem>, Memory>
     Ok(all)
 }
 
+fn any_defines(items: &[CItem], name: &[u8]) -> bool
+    ensures { result ≡ list_any (λ item. defines_name name.now (item_of item)) items.now }
+{
+    items.iter().any(|item| is_definition_of(name, item))
+}
+
+/// Whether some item defines the name.
 fn defined_in(items: &[CItem], name: &[u8]) -> bool
     ensures { result ≡ defined_among items.now name.now }
 {
-    items.iter().any(|item| is_definition_of(name, item))
+    any_defines(items, name)
 }
 
 fn refused(alloc: Global, rule: u8, name: &[u8]) -> LinkErr

@@ -1,13 +1,14 @@
-ghost use Rattle.std.specs.Prelude.{◌≡◌, ◌&&◌, [], Option, option_map, map, not, bytes_eq};
+ghost use Rattle.std.specs.Prelude.{◌≡◌, ◌&&◌, [], Option, Some, None, option_map, map, not, bytes_eq, codes, if◌then◌else◌};
 ghost use Rattle.std.specs.Option.{option_copied};
+ghost use Rattle.std.specs.List.{list_any};
 ghost use Rattle.cc_tree.specs.Plain.{name_of as its_name, prototype_of as its_prototype};
 ghost use Rattle.cc_tree.specs.Valid.{same_type as equal_types};
-ghost use Rattle.cc_tree.specs.Link.{broken as broken_or, clashes as clash, first_broken as first_of, other_type as typed_otherwise, second_definition as defined_again, undefined_use as undefined_name, Refusal};
+ghost use Rattle.cc_tree.specs.Link.{broken as broken_or, clashes as clash, first_broken as first_of, other_type as typed_otherwise, second_definition as defined_again, undefined_use as undefined_name, is_definition as is_defined, is_definition_of as defines_name, Refusal};
 ghost use Rattle.cc_link.specs.Placed.{or_else, placed_of, refusal_of};
 
 use crate::names::{is_definition, is_definition_of, name_of, prototype_of, same_type, starts};
 use crate::placed::Placed;
-use crate::uses::undefined_use;
+use crate::uses::{any_defines, undefined_use};
 
 /// A broken rule of linking, 1 to 6, and the name that it is about.
 #[derive(Clone, Copy)]
@@ -25,18 +26,41 @@ fn clashes(a: &Placed<'_>, b: &Placed<'_>) -> bool
             || (starts(a.item) && is_definition_of(b"main", b.item)))
 }
 
-/// The name of a second definition.
-fn second_definition<'a>(before: &[Placed<'_>], placed: &Placed<'a>) -> Option<&'a [u8]>
-    ensures { option_copied result ≡ defined_again (map placed_of before.now) (placed_of placed.now) }
+fn any_clashes(before: &[Placed<'_>], placed: &Placed<'_>) -> bool
+    ensures { result ≡ list_any (λ other. clash (placed_of other) (placed_of placed.now)) before.now }
 {
-    let name = name_of(placed.item);
-    if is_definition(placed.item) && before.iter().any(|other| is_definition_of(name, other.item)) {
+    before.iter().any(|other| clashes(other, placed))
+}
+
+fn defined_before(before: &[Placed<'_>], placed: &Placed<'_>) -> bool
+    ensures {
+        result ≡ (is_defined (placed_of placed.now).item
+          && list_any (λ other. defines_name (its_name (placed_of placed.now).item) (placed_of other).item) before.now)
+    }
+{
+    is_definition(placed.item) && any_defines(before, name_of(placed.item))
+}
+
+/// The name, or that of `main`, or none.
+fn chosen<'a>(again: bool, clash: bool, name: &'a [u8]) -> Option<&'a [u8]>
+    ensures { option_copied result ≡ (if again then Some name.now else (if clash then Some (codes "main") else None)) }
+{
+    if again {
         Some(name)
-    } else if before.iter().any(|other| clashes(other, placed)) {
+    } else if clash {
         Some(b"main")
     } else {
         None
     }
+}
+
+/// The name of a second definition.
+fn second_definition<'a>(before: &[Placed<'_>], placed: &Placed<'a>) -> Option<&'a [u8]>
+    ensures { option_copied result ≡ defined_again (map placed_of before.now) (placed_of placed.now) }
+{
+    let again = defined_before(before, placed);
+    let clash = any_clashes(before, placed);
+    chosen(again, clash, name_of(placed.item))
 }
 
 /// Whether two items give one name two types.
@@ -49,22 +73,27 @@ fn differ_in_type(a: &Placed<'_>, b: &Placed<'_>) -> bool
     name_of(a.item) == name_of(b.item) && !same_type(prototype_of(a.item), prototype_of(b.item))
 }
 
+fn any_differs(before: &[Placed<'_>], placed: &Placed<'_>) -> bool
+    ensures {
+        result ≡ list_any (λ other. bytes_eq (its_name (placed_of other).item) (its_name (placed_of placed.now).item)
+          && not (equal_types (its_prototype (placed_of other).item) (its_prototype (placed_of placed.now).item))) before.now
+    }
+{
+    before.iter().any(|other| differ_in_type(other, placed))
+}
+
 /// The name of an item whose type differs from an earlier one's.
 fn other_type<'a>(before: &[Placed<'_>], placed: &Placed<'a>) -> Option<&'a [u8]>
     ensures { option_copied result ≡ typed_otherwise (map placed_of before.now) (placed_of placed.now) }
 {
-    if before.iter().any(|other| differ_in_type(other, placed)) {
-        Some(name_of(placed.item))
-    } else {
-        None
-    }
+    chosen(any_differs(before, placed), false, name_of(placed.item))
 }
 
 /// A broken rule, where there is a name that it is about.
 fn broken<'a>(rule: u8, name: Option<&'a [u8]>, otherwise: Option<BrokenRule<'a>>) -> Option<BrokenRule<'a>>
     ensures {
         (rest : Option Refusal) → or_else (option_map refusal_of result) rest
-          ≡ broken_or rule (option_copied name) (or_else (option_map refusal_of otherwise) rest)
+          ≡ broken_or rule (option_copied name.entry) (or_else (option_map refusal_of otherwise.entry) rest)
     }
 {
     match name {
