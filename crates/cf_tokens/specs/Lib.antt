@@ -1,2 +1,10 @@
+pub mod Chain
+pub mod Class
+pub mod Constant
+pub mod Gap
 pub mod Keywords
+pub mod Name
+pub mod Number
+pub mod Piece
 pub mod Signs
+pub mod Table

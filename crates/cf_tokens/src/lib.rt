@@ -4,9 +4,16 @@
 //! definition `Lex` of `specs/` says which.
 #![tactic(auto)]
 
+mod class;
+mod constant;
 mod fault;
+mod gap;
 pub mod keyword;
+mod name;
+mod number;
+mod piece;
 pub mod sign;
+mod table;
 mod token;
 
 pub use fault::LexFault;
