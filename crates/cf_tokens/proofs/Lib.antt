@@ -1,1 +1,3 @@
+pub mod Literals
+pub mod Numbers
 pub mod Tables

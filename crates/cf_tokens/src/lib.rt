@@ -4,15 +4,19 @@
 //! definition `Lex` of `specs/` says which.
 #![tactic(auto)]
 
+mod character;
 mod class;
 mod constant;
 mod fault;
+mod front;
 mod gap;
 pub mod keyword;
+mod literal;
 mod name;
 mod number;
 mod piece;
 pub mod sign;
+mod symbol;
 mod table;
 mod token;
 
