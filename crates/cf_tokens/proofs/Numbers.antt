@@ -1,5 +1,5 @@
 -- The number that digits are grows with each digit.
-use Rattle.std.proofs.Common.{◌≡◌, ℕ, ◌+◌, ◌*◌, ◌<◌, ◌≤◌, List, [], ◌∷◌, length, drop, get_or, Bool, true, false, refl, sym, lt-ltb, None, Option, Some, arith, nat_eq, nat_lt, drop-cons, add-one, subst, cond, if◌then◌else◌, ◌||◌}
+use Rattle.std.proofs.Common.{◌≡◌, ℕ, ◌+◌, ◌*◌, ◌<◌, ◌≤◌, List, [], ◌∷◌, length, drop, get_or, Bool, true, false, refl, lt-ltb, None, Some, arith, nat_eq, nat_lt, drop-cons, add-one, if◌then◌else◌, ◌||◌}
 use Rattle.std.proofs.Math.Nat.{le-mul_of_pos_right}
 use Rattle.cf_tokens.specs.Number.{number, number_within, digit_value}
 
@@ -27,6 +27,6 @@ pub too_large : (most radix value i : ℕ) (digits : List ℕ) → 1 ≤ radix �
     → most < value * radix + digit_value (get_or digits i 0) → None ≡ number_within most radix digits
 too_large most radix value i digits some within so_far over =
     let next : number radix value (drop i digits) ≡ number radix (value * radix + digit_value (get_or digits i 0)) (drop (i + 1) digits)
-            = rw (add-one, drop-cons digits i 0) refl in
+    = rw (add-one, drop-cons digits i 0) refl in
     let grows = number_grows radix (value * radix + digit_value (get_or digits i 0)) (drop (i + 1) digits) some in
     over_most most radix digits (omega (arith, next, so_far, grows, over))

@@ -1,7 +1,7 @@
 -- What the tables of the code have is what the definitions' tables have.
-use Rattle.std.proofs.Common.{◌≡◌, ℕ, ◌+◌, List, [], ◌∷◌, map, length, Bor, Bool, true, false, cond, refl, ap, Some, None, Option, not, nat_lt, ◌||◌, sym}
+use Rattle.std.proofs.Common.{◌≡◌, ℕ, ◌+◌, List, [], ◌∷◌, map, Bor, Bool, cond, refl, ap, not, ◌||◌, sym}
 use Rattle.std.proofs.lemmas.List.{length-map}
-use Rattle.std.specs.List.{position, list_any, prefix_len, position_or_len}
+use Rattle.std.specs.List.{position, list_any, prefix_len}
 use Rattle.std.specs.Str.{bytes_eq}
 use Rattle.cf_tokens.specs.Table.{index_in, stands_in}
 

@@ -1,5 +1,5 @@
 -- The characters of constants and literals, and character constants (2.5.2).
-use Rattle.std.specs.Prelude.{ℕ, ◌+◌, List, [], ◌∷◌, length, take, drop, get_or, nat_eq, nat_lt, if◌then◌else◌, ◌||◌, Option, Some, None, ℤ, pos}
+use Rattle.std.specs.Prelude.{ℕ, ◌+◌, List, [], ◌∷◌, length, take, drop, get_or, nat_eq, nat_lt, if◌then◌else◌, ◌||◌, Option, Some, None, pos}
 use Rattle.cf_base.specs.Integers.{convert}
 use Rattle.cf_base.specs.declared.kind.Kind.TheVariants as kind
 use Rattle.cf_tokens.specs.Class.{has, run, leading}

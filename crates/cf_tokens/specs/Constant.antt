@@ -75,8 +75,8 @@ typed base digits letters = do
 abbrev pub constant_of : List ℕ → Option (ℕ × Kind)
 constant_of spelling =
     typed (base_of spelling)
-        (leading (digits_of (base_of spelling)) (body_of (base_of spelling) spelling))
-        (behind (digits_of (base_of spelling)) (body_of (base_of spelling) spelling))
+    (leading (digits_of (base_of spelling)) (body_of (base_of spelling) spelling))
+    (behind (digits_of (base_of spelling)) (body_of (base_of spelling) spelling))
 
 -- a digit begins a constant, which takes every letter, digit and `_` behind it, and has to be one (K5)
 unfoldable pub constant : List ℕ → Piece

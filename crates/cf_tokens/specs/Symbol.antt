@@ -1,5 +1,5 @@
 -- Operators and punctuation (2.1).
-use Rattle.std.specs.Prelude.{ℕ, zero, suc, List, take, length, Option, Some, None}
+use Rattle.std.specs.Prelude.{ℕ, List, take, length, Option, Some, None}
 use Rattle.cf_tokens.specs.Signs.{signs}
 use Rattle.cf_tokens.specs.Table.{index_in}
 use Rattle.cf_tokens.specs.declared.token.Word.TheVariants.{Sign}

@@ -1,6 +1,7 @@
 ghost use Rattle.std.specs.Prelude.{◌≡◌, ◌≤◌, ◌+◌, take, get_or, length, pos, IfSome};
 ghost use Rattle.cf_base.specs.Integers.{convert};
 ghost use Rattle.cf_base.specs.declared.kind.Kind.TheVariants.{Char};
+ghost use Rattle.cf_tokens.specs.Piece.{IsWithin};
 ghost use Rattle.cf_tokens.specs.Character.{simple_escape, with_length, escape_at, unit_at, character};
 
 use crate::class::Class;
@@ -14,21 +15,26 @@ use cf_base::Rule;
 #[tactic(auto, unfolding(crate::specs::Character::character))]
 pub(crate) fn character(text: &[u8]) -> Piece
     requires { 1 ≤ length text.now }
-    ensures { result ≡ character text.now }
+    ensures piece { result ≡ character text.now }
+    ensures within { IsWithin (length text.now) result }
 {
     let first = byte_at(text, 1);
     if first == b'\'' || first > 127 {
         return Piece::Flaw(Rule::new(5));
     }
     match unit_at(rest_of(text, 1)) {
-        Some((value, n)) if byte_at(text, n + 1) == b'\'' => Piece::Whole(Word::Char(char_of(value)), n + 2),
+        Some((value, n)) if byte_at(text, n + 1) == b'\'' => Piece::Whole(
+            Word::Char(char_of(value)),
+            n + 2,
+        ),
         _ => Piece::Flaw(Rule::new(5)),
     }
 }
 
 /// The byte at an index, and 0 where there is none.
 pub(crate) fn byte_at(bytes: &[u8], index: usize) -> u8
-    ensures { result ≡ get_or bytes.now index 0 }
+    ensures byte { result ≡ get_or bytes.now index 0 }
+    ensures within { 1 ≤ result → index + 1 ≤ length bytes.now }
 {
     match bytes.get(index) {
         Some(byte) => *byte,
@@ -84,7 +90,9 @@ fn escape_at(bytes: &[u8]) -> Option<(u8, usize)>
 
 /// The first bytes, as many as there are up to `n`.
 pub(crate) fn at_most(n: usize, bytes: &[u8]) -> &[u8]
-    ensures { result.now ≡ take n bytes.now }
+    ensures bytes { result.now ≡ take n bytes.now }
+    ensures within { length result.now ≤ length bytes.now }
+    ensures some { 1 ≤ n → 1 ≤ length bytes.now → 1 ≤ length result.now }
 {
     if n < bytes.len() { &bytes[..n] } else { bytes }
 }

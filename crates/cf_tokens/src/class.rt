@@ -1,4 +1,4 @@
-ghost use Rattle.std.specs.Prelude.{◌≡◌, ◌≤◌, length};
+ghost use Rattle.std.specs.Prelude.{◌≡◌, ◌≤◌, length, get_or, true};
 ghost use Rattle.cf_tokens.specs.Class.{has, run, leading, behind};
 
 /// A class of bytes (2.1, 2.3, 2.5).
@@ -27,7 +27,9 @@ impl Class {
             Class::Blank => byte == b' ' || (b'\t'..=b'\r').contains(&byte),
             Class::Digit => is_digit(byte),
             Class::OctalDigit => (b'0'..=b'7').contains(&byte),
-            Class::HexDigit => is_digit(byte) || (b'A'..=b'F').contains(&byte) || (b'a'..=b'f').contains(&byte),
+            Class::HexDigit => is_digit(byte)
+                || (b'A'..=b'F').contains(&byte)
+                || (b'a'..=b'f').contains(&byte),
             Class::Letter => is_letter(byte),
             Class::NameByte => is_letter(byte) || is_digit(byte),
             Class::InLine => byte != b'\n',
@@ -39,13 +41,16 @@ impl Class {
     pub(crate) fn run(self, bytes: &[u8]) -> usize
         ensures count { result ≡ run self bytes.now }
         ensures within { result ≤ length bytes.now }
+        ensures some { 1 ≤ length bytes.now → has self (get_or bytes.now 0 0) ≡ true → 1 ≤ result }
     {
         bytes.iter().take_while(|byte| self.has(**byte)).count()
     }
 
     /// The bytes of the class at the front.
     pub(crate) fn leading(self, bytes: &[u8]) -> &[u8]
-        ensures { result.now ≡ leading self bytes.now }
+        ensures bytes { result.now ≡ leading self bytes.now }
+        ensures within { length result.now ≤ length bytes.now }
+        ensures some { 1 ≤ length bytes.now → has self (get_or bytes.now 0 0) ≡ true → 1 ≤ length result.now }
     {
         &bytes[..self.run(bytes)]
     }

@@ -1,5 +1,8 @@
-ghost use Rattle.std.specs.Prelude.{◌≡◌, ◌≤◌, pos, find};
+ghost use Rattle.std.specs.Prelude.{◌≡◌, ◌≤◌, length, get_or, true, pos, find};
 ghost use Rattle.cf_base.specs.Integers.{fits};
+ghost use Rattle.cf_tokens.specs.Piece.{IsWithin};
+ghost use Rattle.cf_tokens.specs.Class.{has};
+ghost use Rattle.cf_tokens.specs.declared.class.Class.TheVariants.{NameByte};
 ghost use Rattle.cf_tokens.specs.Constant.{base_of, radix_of, digits_of, body_of, suffix_of, kinds, typed, constant_of, constant};
 
 use crate::class::Class;
@@ -28,7 +31,10 @@ pub(crate) enum Suffix {
 /// The piece that begins with a digit (2.5.1).
 #[tactic(auto, unfolding(crate::specs::Constant::constant))]
 pub(crate) fn constant(text: &[u8]) -> Piece
-    ensures { result ≡ constant text.now }
+    requires some { 1 ≤ length text.now }
+    requires in_name { has NameByte (get_or text.now 0 0) ≡ true }
+    ensures piece { result ≡ constant text.now }
+    ensures within { IsWithin (length text.now) result }
 {
     let spelling = Class::NameByte.leading(text);
     match constant_of(spelling) {

@@ -1,4 +1,5 @@
 ghost use Rattle.std.specs.Prelude.{◌≡◌, ◌≤◌, length, IfOk};
+ghost use Rattle.cf_tokens.specs.Piece.{IsWithin};
 ghost use Rattle.cf_tokens.specs.Front.{front};
 
 use crate::character::{byte_at, character};
@@ -16,7 +17,8 @@ use std::alloc::Global;
 #[tactic(auto, unfolding(crate::specs::Front::front))]
 pub(crate) fn front(alloc: Global, starts_line: bool, text: &[u8]) -> Result<Piece, Memory>
     requires { 1 ≤ length text.now }
-    ensures { IfOk result (λ piece. piece ≡ front starts_line text.now) }
+    ensures piece { IfOk result (λ piece. piece ≡ front starts_line text.now) }
+    ensures within { IfOk result (λ piece. IsWithin (length text.now) piece) }
 {
     let first = byte_at(text, 0);
     if Class::Blank.has(first) {

@@ -1,6 +1,9 @@
-ghost use Rattle.std.specs.Prelude.{◌≡◌, ◌≤◌, length, drop};
+ghost use Rattle.std.specs.Prelude.{◌≡◌, ◌≤◌, ◌+◌, length, drop, get_or, true, IfSome};
 ghost use Rattle.std.specs.List.{list_all};
 ghost use Rattle.std.specs.Option.{option_copied};
+ghost use Rattle.cf_tokens.specs.Piece.{IsWithin};
+ghost use Rattle.cf_tokens.specs.Class.{has};
+ghost use Rattle.cf_tokens.specs.declared.class.Class.TheVariants.{InLine};
 ghost use Rattle.cf_tokens.specs.Gap.{line_comment, comment, comment_end, behind_byte, behind_some, behind_line, behind_marker, is_blank_or_digit, is_marker, directive};
 
 use crate::class::Class;
@@ -18,7 +21,10 @@ pub(crate) fn rest_of(bytes: &[u8], n: usize) -> &[u8]
 /// The piece that begins with `//` (2.2).
 #[tactic(auto, unfolding(crate::specs::Gap::line_comment))]
 pub(crate) fn line_comment(text: &[u8]) -> Piece
-    ensures { result ≡ line_comment text.now }
+    requires some { 1 ≤ length text.now }
+    requires in_line { has InLine (get_or text.now 0 0) ≡ true }
+    ensures piece { result ≡ line_comment text.now }
+    ensures within { IsWithin (length text.now) result }
 {
     Piece::Gap(Class::InLine.run(text))
 }
@@ -27,7 +33,8 @@ pub(crate) fn line_comment(text: &[u8]) -> Piece
 #[tactic(auto, unfolding(crate::specs::Gap::comment))]
 pub(crate) fn comment(text: &[u8]) -> Piece
     requires { 2 ≤ length text.now }
-    ensures { result ≡ comment text.now }
+    ensures piece { result ≡ comment text.now }
+    ensures within { IsWithin (length text.now) result }
 {
     match comment_end(rest_of(text, 2)) {
         Some(n) => Piece::Gap(n),
@@ -37,7 +44,8 @@ pub(crate) fn comment(text: &[u8]) -> Piece
 
 /// How many bytes a comment has, given those behind its `/*`.
 fn comment_end(bytes: &[u8]) -> Option<usize>
-    ensures { result ≡ comment_end 2 bytes.now }
+    ensures count { result ≡ comment_end 2 bytes.now }
+    ensures within { IfSome result (λ n. (2 ≤ n) × (n ≤ length bytes.now + 2)) }
 {
     let mut rest = bytes;
     let mut n = 2usize;
@@ -54,7 +62,10 @@ fn comment_end(bytes: &[u8]) -> Option<usize>
 /// The piece that begins with `#` (16.4).
 #[tactic(auto, unfolding(crate::specs::Gap::directive))]
 pub(crate) fn directive(starts_line: bool, text: &[u8]) -> Piece
-    ensures { result ≡ directive starts_line text.now }
+    requires some { 1 ≤ length text.now }
+    requires in_line { has InLine (get_or text.now 0 0) ≡ true }
+    ensures piece { result ≡ directive starts_line text.now }
+    ensures within { IsWithin (length text.now) result }
 {
     if !starts_line {
         return Piece::Flaw(Rule::new(1));

@@ -1,4 +1,5 @@
-ghost use Rattle.std.specs.Prelude.{◌≡◌, ◌≤◌, length, IfOk};
+ghost use Rattle.std.specs.Prelude.{◌≡◌, ◌≤◌, length, IfOk, IfSome};
+ghost use Rattle.cf_tokens.specs.Piece.{IsWithin};
 ghost use Rattle.cf_tokens.specs.Literal.{characters, literal};
 
 use crate::character::{byte_at, unit_at};
@@ -12,7 +13,8 @@ use std::alloc::Global;
 #[tactic(auto, unfolding(crate::specs::Literal::literal))]
 pub(crate) fn literal(alloc: Global, text: &[u8]) -> Result<Piece, Memory>
     requires { 1 ≤ length text.now }
-    ensures { IfOk result (λ piece. piece ≡ literal text.now) }
+    ensures piece { IfOk result (λ piece. piece ≡ literal text.now) }
+    ensures within { IfOk result (λ piece. IsWithin (length text.now) piece) }
 {
     match characters(alloc, rest_of(text, 1))? {
         Some((values, n)) => Ok(Piece::Whole(Word::Text(values), n + 1)),
@@ -22,7 +24,8 @@ pub(crate) fn literal(alloc: Global, text: &[u8]) -> Result<Piece, Memory>
 
 /// The values of the characters up to the `"` that ends them, and how many bytes spell them.
 fn characters(alloc: Global, bytes: &[u8]) -> Result<Option<(Bytes, usize)>, Memory>
-    ensures { IfOk result (λ found. found ≡ characters (length bytes.now) bytes.now) }
+    ensures found { IfOk result (λ found. found ≡ characters (length bytes.now) bytes.now) }
+    ensures within { IfOk result (λ found. IfSome found (λ literal. literal.1 ≤ length bytes.now)) }
 {
     let mut values = Bytes::new(alloc);
     let mut at = 0usize;

@@ -1,4 +1,7 @@
-ghost use Rattle.std.specs.Prelude.{◌≡◌, ◌≤◌, length, IfOk, IfSome};
+ghost use Rattle.std.specs.Prelude.{◌≡◌, ◌≤◌, length, get_or, true, IfOk};
+ghost use Rattle.cf_tokens.specs.Piece.{IsWithin};
+ghost use Rattle.cf_tokens.specs.Class.{has};
+ghost use Rattle.cf_tokens.specs.declared.class.Class.TheVariants.{NameByte};
 ghost use Rattle.cf_tokens.specs.Name.{has_double, keyword_of, named, name};
 ghost use Rattle.cf_tokens.specs.Keywords.{left_out};
 ghost use Rattle.cf_tokens.specs.Table.{stands_in};
@@ -15,14 +18,19 @@ const MOST_BYTES: usize = 255;
 
 /// The piece that begins with a letter or `_` (2.3, 2.4).
 pub(crate) fn name(alloc: Global, text: &[u8]) -> Result<Piece, Memory>
-    ensures { IfOk result (λ piece. piece ≡ name text.now) }
+    requires some { 1 ≤ length text.now }
+    requires in_name { has NameByte (get_or text.now 0 0) ≡ true }
+    ensures piece { IfOk result (λ piece. piece ≡ name text.now) }
+    ensures within { IfOk result (λ piece. IsWithin (length text.now) piece) }
 {
     named(alloc, Class::NameByte.leading(text))
 }
 
 #[tactic(auto, unfolding(crate::specs::Name::named))]
 fn named(alloc: Global, name: &[u8]) -> Result<Piece, Memory>
-    ensures { IfOk result (λ piece. piece ≡ named name.now) }
+    requires { 1 ≤ length name.now }
+    ensures piece { IfOk result (λ piece. piece ≡ named name.now) }
+    ensures within { IfOk result (λ piece. IsWithin (length name.now) piece) }
 {
     if name.len() > MOST_BYTES || has_double(name) {
         return Ok(Piece::Flaw(Rule::new(3)));
