@@ -1,3 +1,4 @@
+pub mod Cuts
 pub mod Literals
 pub mod Numbers
 pub mod Tables

@@ -2,9 +2,11 @@ pub mod Chain
 pub mod Character
 pub mod Class
 pub mod Constant
+pub mod Cutting
 pub mod Front
 pub mod Gap
 pub mod Keywords
+pub mod Lex
 pub mod Literal
 pub mod Name
 pub mod Number

@@ -1,4 +1,7 @@
-use cf_base::{Broken, Limit};
+ghost use Rattle.std.specs.Prelude.{◌≡◌};
+ghost use Rattle.cf_tokens.specs.declared.fault.LexFault.TheVariants as fault;
+
+use cf_base::{Broken, Limit, Memory};
 use thiserror::Error;
 
 /// Why the bytes of a file have no list of tokens.
@@ -13,4 +16,12 @@ pub enum LexFault {
     /// Want of memory.
     #[error("out of memory")]
     Memory,
+}
+
+impl From<Memory> for LexFault {
+    ghost from_gives = { λ _ e. e ≡ fault.Memory };
+
+    fn from(_want: Memory) -> LexFault {
+        LexFault::Memory
+    }
 }

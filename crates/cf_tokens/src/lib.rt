@@ -10,7 +10,9 @@ mod constant;
 mod fault;
 mod front;
 mod gap;
+mod join;
 pub mod keyword;
+mod lexer;
 mod literal;
 mod name;
 mod number;
@@ -21,4 +23,5 @@ mod table;
 mod token;
 
 pub use fault::LexFault;
+pub use lexer::tokens;
 pub use token::{Token, Word};
