@@ -1,10 +1,10 @@
 -- How `tokens` goes over a text; no public clause cites this.
-use Rattle.std.specs.Prelude.{◌≡◌, ℕ, ◌+◌, ◌<◌, ◌≤◌, List, length, drop, Result, Ok, Err}
+use Rattle.std.specs.Prelude.{◌≡◌, ℕ, ◌+◌, ◌<◌, ◌≤◌, List, length, drop, Ok, Err}
 use Rattle.cf_tokens.specs.Front.{front}
 use Rattle.cf_tokens.specs.Lex.{Cut, add, joined, starts_line, token_at}
 use Rattle.cf_tokens.specs.declared.fault.LexFault.{LexFault}
 use Rattle.cf_tokens.specs.declared.fault.LexFault.TheVariants as fault
-use Rattle.cf_tokens.specs.declared.piece.Piece.TheVariants.{Gap, Whole, Flaw}
+use Rattle.cf_tokens.specs.declared.piece.Piece.TheVariants.{Gap, Whole}
 use Rattle.cf_tokens.specs.declared.token.Token.{Token}
 use Rattle.cf_tokens.specs.declared.token.Word.{Word}
 

@@ -13,6 +13,7 @@ use cf_base::{Bound, Broken, Limit};
 use std::alloc::Global;
 
 const MOST_BYTES: u64 = 1 << 20;
+
 const MOST_TOKENS: u64 = 200_000;
 
 /// The tokens of a file (chapter 2), each with its place and its length in bytes.
@@ -69,7 +70,10 @@ fn step(alloc: Global, text: &[u8], at: usize, found: &mut Vec<Token>) -> Result
             add(found, token)?;
             Ok(at + n)
         }
-        Piece::Flaw(rule) => Err(LexFault::Broken(Broken { rule, at: at as u32 })),
+        Piece::Flaw(rule) => Err(LexFault::Broken(Broken {
+            rule,
+            at: at as u32,
+        })),
     }
 }
 
