@@ -6,6 +6,7 @@ pub mod Cutting
 pub mod Front
 pub mod Gap
 pub mod Keywords
+pub mod Laws
 pub mod Lex
 pub mod Literal
 pub mod Name

@@ -12,6 +12,7 @@ mod front;
 mod gap;
 mod join;
 pub mod keyword;
+mod laws;
 mod lexer;
 mod literal;
 mod name;
@@ -23,5 +24,6 @@ mod table;
 mod token;
 
 pub use fault::LexFault;
+pub use laws::one_answer;
 pub use lexer::tokens;
 pub use token::{Token, Word};
