@@ -70,10 +70,10 @@ fn step(alloc: Global, text: &[u8], at: usize, found: &mut Vec<Token>) -> Result
             add(found, token)?;
             Ok(at + n)
         }
-        Piece::Flaw(rule) => Err(LexFault::Broken(Broken {
-            rule,
-            at: at as u32,
-        })),
+        Piece::Flaw(rule) => {
+            let place = at as u32;
+            Err(LexFault::Broken(Broken { rule, at: place }))
+        }
     }
 }
 
