@@ -29,7 +29,7 @@ read_nothing bytes =
     record { whole = rw most (behind-nil (characters (length bytes) bytes)); within = omega arith }
 
 -- one more character
-step : (most value n : ℕ) (rest : List ℕ) → nat_eq (get_or rest 0 0) 34 ≡ false → unit_at rest ≡ Some (value, n)
+pub step : (most value n : ℕ) (rest : List ℕ) → nat_eq (get_or rest 0 0) 34 ≡ false → unit_at rest ≡ Some (value, n)
     → characters (suc most) rest ≡ before (value, n) (characters most (drop n rest))
 step most value n rest no_end unit = rw (no_end, unit) refl
 
@@ -48,7 +48,7 @@ read_more bytes values rest at turn end value n so_far turns is no_end unit fits
       within = omega (arith, so_far.within, fits, ap length is ∙ length-drop at bytes);
     }
 
-at_end : (most : ℕ) (rest : List ℕ) → nat_eq (get_or rest 0 0) 34 ≡ true → characters (suc most) rest ≡ Some ([], 1)
+pub at_end : (most : ℕ) (rest : List ℕ) → nat_eq (get_or rest 0 0) 34 ≡ true → characters (suc most) rest ≡ Some ([], 1)
 at_end most rest end = rw end refl
 
 pub read_all : (bytes values rest : List ℕ) (at turn end : ℕ) → ReadSoFar bytes values at (end - turn) → turn < end

@@ -12,7 +12,7 @@ use Rattle.cf_tokens.specs.declared.token.Word.{Word}
 same_gap : (p : Piece) (n m : ℕ) → p ≡ Gap n → p ≡ Gap m → n ≡ m
 same_gap p n m e f = let same : Gap n ≡ Gap m = sym e ∙ f in cc
 
-same_length : (p : Piece) (v w : Word) (n m : ℕ) → p ≡ Whole v n → p ≡ Whole w m → n ≡ m
+pub same_length : (p : Piece) (v w : Word) (n m : ℕ) → p ≡ Whole v n → p ≡ Whole w m → n ≡ m
 same_length p v w n m e f = let same : Whole v n ≡ Whole w m = sym e ∙ f in cc
 
 same_word : (p : Piece) (v w : Word) (n m : ℕ) → p ≡ Whole v n → p ≡ Whole w m → v ≡ w

@@ -78,10 +78,13 @@ constant_of spelling =
     (leading (digits_of (base_of spelling)) (body_of (base_of spelling) spelling))
     (behind (digits_of (base_of spelling)) (body_of (base_of spelling) spelling))
 
+abbrev pub of_type : ℕ → Option (ℕ × Kind) → Piece
+of_type n (Some (value, kind)) = Whole (word.Int value kind) n
+of_type n None = Flaw 5
+
+abbrev pub spelled : List ℕ → Piece
+spelled spelling = of_type (length spelling) (constant_of spelling)
+
 -- a digit begins a constant, which takes every letter, digit and `_` behind it, and has to be one (K5)
 unfoldable pub constant : List ℕ → Piece
-constant text = spelled (constant_of (leading NameByte text))
-  where
-    spelled : Option (ℕ × Kind) → Piece
-    spelled (Some (value, kind)) = Whole (word.Int value kind) (length (leading NameByte text))
-    spelled None = Flaw 5
+constant text = spelled (leading NameByte text)

@@ -18,13 +18,13 @@ abbrev pub comment_end : ℕ → List ℕ → Option ℕ
 comment_end n [] = None
 comment_end n (b ∷ bs) = if starts_with nat_eq (b ∷ bs) (codes "*/") then Some (n + 2) else comment_end (n + 1) bs
 
+abbrev pub commented : Option ℕ → Piece
+commented (Some n) = Gap n
+commented None = Flaw 2
+
 -- `/*` begins a comment that runs through the first `*/` behind it; there has to be one (K2)
 unfoldable pub comment : List ℕ → Piece
-comment text = ended (comment_end 2 (drop 2 text))
-  where
-    ended : Option ℕ → Piece
-    ended (Some n) = Gap n
-    ended None = Flaw 2
+comment text = commented (comment_end 2 (drop 2 text))
 
 -- what stands behind this byte at the front
 abbrev pub behind_byte : ℕ → List ℕ → Option (List ℕ)

@@ -19,10 +19,10 @@ characters (suc most) bytes =
     if nat_eq (get_or bytes 0 0) 34 then Some ([], 1)
     else unit_at bytes >>= λ unit. before unit (characters most (drop unit.1 bytes))
 
+abbrev pub ended : Option (List ℕ × ℕ) → Piece
+ended (Some (values, n)) = Whole (word.Text values) (n + 1)
+ended None = Flaw 5
+
 -- `"` begins a literal, which has to end with a `"` in its line (K5)
 unfoldable pub literal : List ℕ → Piece
 literal text = ended (characters (length (drop 1 text)) (drop 1 text))
-  where
-    ended : Option (List ℕ × ℕ) → Piece
-    ended (Some (values, n)) = Whole (word.Text values) (n + 1)
-    ended None = Flaw 5

@@ -18,13 +18,13 @@ has_double (b ∷ bs) = starts_with nat_eq (b ∷ bs) (codes "__") || has_double
 abbrev pub keyword_of : List ℕ → Option ℕ
 keyword_of name = index_in keywords name
 
+abbrev pub spelled : List ℕ → Option ℕ → Piece
+spelled name (Some keyword) = if stands_in left_out name then Flaw 4 else Whole (Keyword keyword) (length name)
+spelled name None = Whole (Ident name) (length name)
+
 -- what a name is: with `__` or over 255 bytes it is refused (K3), and so is a keyword outside the profile (K4)
 unfoldable pub named : List ℕ → Piece
-named name = if nat_lt 255 (length name) || has_double name then Flaw 3 else spelled (keyword_of name)
-  where
-    spelled : Option ℕ → Piece
-    spelled (Some keyword) = if stands_in left_out name then Flaw 4 else Whole (Keyword keyword) (length name)
-    spelled None = Whole (Ident name) (length name)
+named name = if nat_lt 255 (length name) || has_double name then Flaw 3 else spelled name (keyword_of name)
 
 -- a letter begins a name, which takes every letter, digit and `_` behind it
 abbrev pub name : List ℕ → Piece

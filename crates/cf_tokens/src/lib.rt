@@ -24,7 +24,7 @@ mod table;
 mod token;
 
 pub use fault::LexFault;
-pub use laws::one_answer;
+pub use laws::{longest_tokens, one_answer};
 pub use lexer::tokens;
 pub use token::{Token, Word};
 
