@@ -3,6 +3,7 @@ mod ClassRows
 mod ClassViewRows
 mod ControlRows
 mod FileRows
+mod NodeRows
 mod ObjectRows
 mod Sample
 mod ScalarRows
