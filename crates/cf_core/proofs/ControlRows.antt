@@ -215,3 +215,12 @@ list_builds_an_object :
     ∷ returns (add (read (member (local 0) 1)) (read (member (member (local 0) 0) 0))) ∷ []) ∷ loud_functions) []) 20
     ≡ Some (record { end = Ended (pos 3); out = codes "c1d1" })
 list_builds_an_object = refl
+
+-- const Q q={T(1),2}; with T's constructor writing its member: the object is const only once it is built
+list_builds_a_const_object :
+    run (program (loud ++ built_class (codes "1Q") [] (T ∷ int ∷ []) [] (Some (codes "__dt__1QFv")) ∷ [])
+    (destructor_of (codes "1Q") (codes "__dt__1QFv") []
+    ∷ main_of (declare 0 (const (class (codes "1Q"))) (list (listed (made 1 ∷ num 2 ∷ [])) zeros)
+    ∷ put_digit (read (member (local 0) 1)) ∷ set (member (local 0) 1) (num 3) ∷ returns (num 0) ∷ []) ∷ loud_functions) []) 20
+    ≡ Some (record { end = Undefined 15; out = codes "c12" })
+list_builds_a_const_object = refl

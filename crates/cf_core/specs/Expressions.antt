@@ -10,7 +10,7 @@ use Rattle.cf_core.specs.Pointers.{truth_value, pointer_op, from_void_value, dow
 use Rattle.cf_core.specs.Building.{dispatch, up_value}
 use Rattle.cf_core.specs.Calls.{Program, Again, root, run_named, name_function, full_expression, finish_static, copy_to, assign_to, delete_value}
 use Rattle.cf_core.specs.Scalars.{truth_of, converted_value, operated, signed, changed_value, indexed, decayed, pointed_to, to_derived, through_pointer}
-use Rattle.cf_core.specs.Objects.{result_place, local_place, static_type, static_place, same_type, literal_object, new_local, settled, built_at, write_bytes, element_part, element_count, is_array, listed_object, costs_tick, one_tick, count_of, new_storage, count, run_pointer}
+use Rattle.cf_core.specs.Objects.{result_place, local_place, static_type, static_place, same_type, literal_object, new_local, settled, built_at, write_bytes, element_part, element_count, is_array, begin_list, end_list, costs_tick, one_tick, count_of, new_storage, count, run_pointer}
 
 module _ (again : Again) (P : Program) where
   abbrev mutual
@@ -140,12 +140,13 @@ module _ (again : Again) (P : Program) where
       s ← state
       let t = place_type P.classes s p
       let n = element_count P.classes t
-      when (is_class t) (listed_object p) done
+      when (is_class t) (begin_list p) done
       elements es 0 p t
       for_each (count es) (n - count es) (λ i.
           let q = inner (element_part t i) p in
           one_tick (is_array t && costs_tick rest P.classes (element (plain t)))
           >> settled P.classes q (full_expression again P (value rest (Some q))))
+      when (is_class t) (end_list p) done
       gives Built
     value (string bytes) into = do
       p ← built_at into

@@ -7,7 +7,7 @@ use Rattle.cf_core.specs.Types.{is_class, result, Name, SourceType, void, intege
 use Rattle.cf_core.specs.Classes.{Class, fields_of}
 use Rattle.cf_core.specs.Core.{Core, Cores, Part, item, field, Target, direct, dispatched, none, more, Static, build, copy, each, list}
 use Rattle.cf_core.specs.Places.{Route, Place, inner, along, is_scalar, class_of}
-use Rattle.cf_core.specs.Store.{Value, Built, Number, Null, Code, FunctionMember, Object, new_object, alive, set_life, literal, free_store}
+use Rattle.cf_core.specs.Store.{Value, Built, Number, Null, Code, FunctionMember, Object, new_object, in_construction, alive, set_life, literal, free_store}
 use Rattle.cf_core.specs.Size.{size}
 use Rattle.cf_core.specs.Run.{object_changed, Literal, Act, ◌>>=◌, ◌>>◌, gives, malformed, undefined, state, changed, done, tick, need, some_or, when, born, declared_object, frame_changed, lists_local, take_heap, null_used, outside_array, cast_from_void}
 use Rattle.cf_core.specs.Access.{place_type, used, first_value}
@@ -108,9 +108,12 @@ element_count classes (array t n) = n
 element_count classes (const t) = element_count classes t
 element_count classes t = length (fields_of classes (class_of t))
 
--- an object of class type that a list builds is alive: no constructor is entered for it
-abbrev pub listed_object : Place → Act (Unit {0})
-listed_object p = object_changed p.object (set_life p.route alive)
+-- an object of class type that a list builds: no constructor is entered for it, and it is under construction until its members are built
+abbrev pub begin_list : Place → Act (Unit {0})
+begin_list p = object_changed p.object (set_life p.route (in_construction [] ([] ∷ [])))
+
+abbrev pub end_list : Place → Act (Unit {0})
+end_list p = object_changed p.object (set_life p.route alive)
 
 abbrev pub is_array : SourceType → Bool
 is_array (array t n) = true
