@@ -1,5 +1,5 @@
 -- Sizes, alignments and offsets, in bytes.
-use Rattle.std.specs.Prelude.{ℕ, ◌+◌, ◌-◌, ◌*◌, ◌/◌, Bool, true, false, not, ◌==◌, min, max, if◌then◌else◌, List, [], ◌∷◌, ◌++◌, map, filter, fold, Option, None, Some, slice_get}
+use Rattle.std.specs.Prelude.{ℕ, ◌+◌, ◌-◌, ◌*◌, ◌/◌, ◌^◌, Bool, true, false, not, nat_le, is_some, ◌==◌, min, max, if◌then◌else◌, List, [], ◌∷◌, ◌++◌, map, filter, fold, Option, None, Some, slice_get}
 use Rattle.std.specs.List.{flat_map}
 use Rattle.std.specs.Option.{option_map_or}
 use Rattle.cf_base.specs.declared.kind.Kind.{Kind}
@@ -14,7 +14,7 @@ use Rattle.cf_classes.specs.declared.class.BaseDef.{BaseDef}
 use Rattle.cf_classes.specs.declared.class.MemberDef.{MemberDef}
 use Rattle.cf_classes.specs.declared.class.What.{What}
 use Rattle.cf_classes.specs.declared.class.What.TheVariants as what
-use Rattle.cf_classes.specs.ClassTable.{bases_of}
+use Rattle.cf_classes.specs.ClassTable.{bases_of, definition}
 use Rattle.cf_classes.specs.Subobject.{virtual_bases}
 use Rattle.cf_classes.specs.Overrider.{owns_table}
 use Rattle.cf_classes.specs.TypeTree.{of_type}
@@ -143,3 +143,19 @@ offset types defs c [] = 0
 offset types defs c (Base i ∷ p) =
     offset_of (layout types defs c).items (BasePart i) + offset types defs (option_map_or (λ b. b.class) (slice_get (bases_of defs c) i) c) p
 offset types defs c (VBase v ∷ p) = offset_of (layout types defs c).items (VirtualPart v) + offset types defs v p
+
+-- whether objects of a type can be made: a class has to be defined, and `void` and functions have none
+abbrev complete_step : List (ℕ × ClassDef) → (ℕ → Bool) → Ty → Bool
+complete_step defs rec ty.Void = false
+complete_step defs rec (ty.Class c) = is_some (definition defs c)
+complete_step defs rec (ty.Array t n) = rec t
+complete_step defs rec (ty.Fun f) = false
+complete_step defs rec (ty.Const t) = rec t
+complete_step defs rec other = true
+
+abbrev pub is_complete : Table → List (ℕ × ClassDef) → ℕ → Bool
+is_complete types defs t = of_type false (complete_step defs) types t
+
+-- a type has at most 2 ^ 22 bytes
+abbrev pub accepted_size : ℕ → Option ℕ
+accepted_size n = if nat_le n (2 ^ 22) then Some n else None

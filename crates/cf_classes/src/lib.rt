@@ -13,3 +13,6 @@ pub use class::{Access, BaseDef, ClassDef, Friend, MemberDef, MemberRef, What};
 pub use classes::Classes;
 pub use label::Label;
 pub use path::{Path, Step};
+
+#[cfg(test)]
+mod tests;
