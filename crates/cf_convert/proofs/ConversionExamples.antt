@@ -17,18 +17,18 @@ use Rattle.cf_convert.specs.Converts.{steps, rank, is_better}
 abbrev types : Table
 types = record {
   types =
-    ty.Int kind.Char ∷ ty.Int kind.Int ∷ ty.Int kind.Long ∷ ty.Int kind.UShort ∷ ty.Enum 0 ∷ ty.Const 1 ∷ ty.Ptr 1 ∷ ty.Ptr 5 ∷ ty.Void ∷ ty.Ptr 8 ∷ ty.Ptr 27
-    ∷ ty.Array 1 3 ∷ ty.Fun 0 ∷ ty.Ptr 12 ∷ ty.Ref 1 ∷ ty.Ref 5 ∷ ty.Class 0 ∷ ty.Class 1 ∷ ty.Class 2 ∷ ty.Ptr 16 ∷ ty.Ptr 17 ∷ ty.Ptr 18 ∷ ty.Ref 16
-    ∷ ty.MemData 0 1 ∷ ty.MemData 2 1 ∷ ty.Ptr 6 ∷ ty.Ptr 7 ∷ ty.Const 8 ∷ [];
+      ty.Int kind.Char ∷ ty.Int kind.Int ∷ ty.Int kind.Long ∷ ty.Int kind.UShort ∷ ty.Enum 0 ∷ ty.Const 1 ∷ ty.Ptr 1 ∷ ty.Ptr 5 ∷ ty.Void ∷ ty.Ptr 8 ∷ ty.Ptr 27
+      ∷ ty.Array 1 3 ∷ ty.Fun 0 ∷ ty.Ptr 12 ∷ ty.Ref 1 ∷ ty.Ref 5 ∷ ty.Class 0 ∷ ty.Class 1 ∷ ty.Class 2 ∷ ty.Ptr 16 ∷ ty.Ptr 17 ∷ ty.Ptr 18 ∷ ty.Ref 16
+      ∷ ty.MemData 0 1 ∷ ty.MemData 2 1 ∷ ty.Ptr 6 ∷ ty.Ptr 7 ∷ ty.Const 8 ∷ [];
   funs = record { result = 1; params = []; is_const = false } ∷ [];
 }
+
+abbrev derived : ℕ → ClassDef
+derived c = record { is_struct = true; bases = record { class = c; is_virtual = false; access = access.Public } ∷ []; members = []; friends = [] }
 
 -- class 1 is derived from class 0, and class 2 from class 1
 abbrev classes : List (ℕ × ClassDef)
 classes = (2, derived 1) ∷ (1, derived 0) ∷ (0, record { is_struct = true; bases = []; members = []; friends = [] }) ∷ []
-  where
-    abbrev derived : ℕ → ClassDef
-    derived c = record { is_struct = true; bases = record { class = c; is_virtual = false; access = access.Public } ∷ []; members = []; friends = [] }
 
 abbrev object : ℕ → Val
 object t = record { ty = t; lvalue = true; zero = false }
