@@ -8,6 +8,7 @@ mod class;
 mod classes;
 mod label;
 mod path;
+mod sizes;
 
 pub use class::{Access, BaseDef, ClassDef, Friend, MemberDef, MemberRef, What};
 pub use classes::Classes;
