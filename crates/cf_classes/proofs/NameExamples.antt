@@ -7,6 +7,7 @@ use Rattle.cf_classes.specs.declared.class.ClassDef.{ClassDef}
 use Rattle.cf_classes.specs.ClassTable.{ClassTable}
 use Rattle.cf_classes.specs.LinkName.{Code, Codes, Integer, Named, Pointer, Const, none, more, link_name, Entity, Main, Plain, Variable, Constructor, Operator, Conversion, code, code_of, as_parameter, scope_code}
 use Rattle.cf_classes.specs.Description.{description}
+use Rattle.cf_classes.specs.OwnedName.{tables_name, literal_name, local_static_name}
 use Rattle.cf_classes.proofs.Examples.{types, field, plain, virtual_function, from, virtual_from, struct_of}
 
 abbrev global : List ℕ → Codes → Entity
@@ -78,3 +79,15 @@ description_of_members = refl
 description_of_override : description types nested 1 ≡ codes "bvu1A;ufvif:F_i;"
 unfolding digits
 description_of_override = refl
+
+tables_of_a_class : tables_name (codes "A" ∷ []) ≡ codes "__vt__1A"
+unfolding digits
+tables_of_a_class = refl
+
+second_literal_of_main : literal_name 2 (codes "__main") ≡ codes "__s2____main"
+unfolding digits
+second_literal_of_main = refl
+
+first_static_of_a_function : local_static_name (codes "s") 1 (codes "g__Fv") ≡ codes "s__L1__g__Fv"
+unfolding digits
+first_static_of_a_function = refl

@@ -1,5 +1,5 @@
 -- Sizes, alignments and offsets, in bytes.
-use Rattle.std.specs.Prelude.{ℕ, ◌+◌, ◌-◌, ◌*◌, ◌/◌, Bool, true, false, not, ◌==◌, min, max, if◌then◌else◌, List, [], ◌∷◌, ◌++◌, map, filter, fold, Option, None, Some, slice_get}
+use Rattle.std.specs.Prelude.{ℕ, ◌+◌, ◌-◌, ◌*◌, ◌/◌, ◌^◌, Bool, true, false, not, nat_le, is_some, ◌==◌, min, max, if◌then◌else◌, List, [], ◌∷◌, ◌++◌, map, filter, fold, Option, None, Some, slice_get}
 use Rattle.std.specs.List.{flat_map}
 use Rattle.std.specs.Option.{option_map_or}
 use Rattle.cf_base.specs.declared.kind.Kind.{Kind}
@@ -14,7 +14,7 @@ use Rattle.cf_classes.specs.declared.class.BaseDef.{BaseDef}
 use Rattle.cf_classes.specs.declared.class.MemberDef.{MemberDef}
 use Rattle.cf_classes.specs.declared.class.What.{What}
 use Rattle.cf_classes.specs.declared.class.What.TheVariants as what
-use Rattle.cf_classes.specs.ClassTable.{bases_of}
+use Rattle.cf_classes.specs.ClassTable.{bases_of, definition}
 use Rattle.cf_classes.specs.Subobject.{virtual_bases}
 use Rattle.cf_classes.specs.Overrider.{owns_table}
 use Rattle.cf_classes.specs.TypeTree.{of_type}
@@ -29,7 +29,7 @@ abbrev pub aligned : ℕ → ℕ → ℕ
 aligned n align = (n + (align - 1)) / align * align
 
 -- a scalar is aligned to its size, but at most to 4
-abbrev scalar : ℕ → Extent
+abbrev pub scalar : ℕ → Extent
 scalar n = record { size = n; align = min n 4 }
 
 -- what an object of a class has: a direct base that is not virtual, by its number; the pointer to its table; a pointer to a direct
@@ -69,7 +69,7 @@ abbrev greatest : List (Item × Extent) → ℕ
 greatest xs = fold (λ n x. max n x.1.align) 1 xs
 
 -- the extent of a type, by those of classes; void and functions have none
-abbrev size_step : (ℕ → Extent) → (ℕ → Extent) → Ty → Extent
+abbrev pub size_step : (ℕ → Extent) → (ℕ → Extent) → Ty → Extent
 size_step classes rec ty.Void = scalar 0
 size_step classes rec (ty.Int kind) = scalar (width kind / 8)
 size_step classes rec (ty.Enum e) = scalar 4
@@ -82,7 +82,7 @@ size_step classes rec (ty.MemData c t) = scalar 4
 size_step classes rec (ty.MemFun c f) = scalar 12
 size_step classes rec (ty.Const t) = rec t
 
-abbrev extent_by : Table → (ℕ → Extent) → ℕ → Extent
+abbrev pub extent_by : Table → (ℕ → Extent) → ℕ → Extent
 extent_by types classes t = of_type (scalar 0) (size_step classes) types t
 
 abbrev base_items : (ℕ → ClassLayout) → ℕ → List BaseDef → List (Item × Extent)
@@ -143,3 +143,34 @@ offset types defs c [] = 0
 offset types defs c (Base i ∷ p) =
     offset_of (layout types defs c).items (BasePart i) + offset types defs (option_map_or (λ b. b.class) (slice_get (bases_of defs c) i) c) p
 offset types defs c (VBase v ∷ p) = offset_of (layout types defs c).items (VirtualPart v) + offset types defs v p
+
+-- whether objects of a type can be made: a class has to be defined, and `void` and functions have none
+abbrev pub complete_step : List (ℕ × ClassDef) → (ℕ → Bool) → Ty → Bool
+complete_step defs rec ty.Void = false
+complete_step defs rec (ty.Class c) = is_some (definition defs c)
+complete_step defs rec (ty.Array t n) = rec t
+complete_step defs rec (ty.Fun f) = false
+complete_step defs rec (ty.Const t) = rec t
+complete_step defs rec other = true
+
+abbrev pub is_complete : Table → List (ℕ × ClassDef) → ℕ → Bool
+is_complete types defs t = of_type false (complete_step defs) types t
+
+-- a type has at most 2 ^ 22 bytes
+abbrev pub accepted_size : ℕ → Option ℕ
+accepted_size n = if nat_le n (2 ^ 22) then Some n else None
+
+-- an array of elements of an accepted size or not, and this many
+abbrev pub array_bytes : Option ℕ → ℕ → Option ℕ
+array_bytes (Some size) count = accepted_size (size * count)
+array_bytes None count = if count == 0 then Some 0 else None
+
+-- the type and the number of the objects that an array has; a const object is one of its type
+abbrev pub repeated_in : Ty → Option (ℕ × ℕ)
+repeated_in (ty.Array t n) = Some (t, n)
+repeated_in (ty.Const t) = Some (t, 1)
+repeated_in other = None
+
+-- the bytes of a scalar
+abbrev pub scalar_bytes : Ty → ℕ
+scalar_bytes t = (size_step (λ c. scalar 0) (λ u. scalar 0) t).size

@@ -4,6 +4,7 @@ pub mod Layout
 pub mod LinkName
 pub mod Lookup
 pub mod Overrider
+pub mod OwnedName
 pub mod Signature
 pub mod Special
 pub mod Subobject

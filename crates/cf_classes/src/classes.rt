@@ -1,11 +1,13 @@
-ghost use Rattle.std.specs.Prelude.{◌≡◌, ℕ, ◌<◌, ◌≤◌, ◌^◌, List, [], ◌∷◌, ◌++◌, length, slice_get, Some, IfOk, OnOk, OnErr, is_some};
+ghost use Rattle.std.specs.Prelude.{◌≡◌, ℕ, ◌<◌, ◌≤◌, ◌^◌, List, [], ◌∷◌, ◌++◌, length, slice_get, Some, IfOk, OnOk, OnErr, IsTrue, is_some};
 ghost use Rattle.std.specs.Option.{ForSome, option_map};
 ghost use Rattle.cf_classes.specs.ClassTable.{latest_first, definition};
+ghost use Rattle.cf_classes.specs.Layout.{extent, is_complete, accepted_size};
 
 use crate::class::ClassDef;
 use crate::label::Label;
+use crate::sizes::size_without_classes;
 use cf_base::Memory;
-use cf_types::ClassId;
+use cf_types::{ClassId, TyId, Types};
 use indexmap::IndexMap;
 use std::alloc::Global;
 use std::marker::Model;
@@ -86,6 +88,17 @@ impl Classes {
         ensures { result ≡ is_some (definition self.now.defined class) }
     {
         self.defined.contains_key(&class)
+    }
+
+    /// The bytes of an object of this type, if a type of that size is accepted.
+    /// So far no class has a definition.
+    pub fn size(&self, types: &Types, ty: TyId) -> Option<u32>
+        requires known { ty < length types.now.types }
+        requires complete { IsTrue (is_complete types.now (latest_first self.now) ty) }
+        requires no_class { self.now.defined ≡ [] }
+        ensures { result ≡ accepted_size (extent types.now (latest_first self.now) ty).size }
+    {
+        size_without_classes(types, ty)
     }
 
     /// How many classes have a definition.

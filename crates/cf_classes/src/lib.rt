@@ -8,8 +8,12 @@ mod class;
 mod classes;
 mod label;
 mod path;
+mod sizes;
 
 pub use class::{Access, BaseDef, ClassDef, Friend, MemberDef, MemberRef, What};
 pub use classes::Classes;
 pub use label::Label;
 pub use path::{Path, Step};
+
+#[cfg(test)]
+mod tests;

@@ -1,2 +1,3 @@
+pub mod ConversionExamples
 pub mod Known
 pub mod Steps

@@ -85,8 +85,7 @@ fn to_reference(
     ensures { IfOk result (λ steps. steps ≡ converts.to_reference types.now [] from.now to) }
 {
     let adds_const = is_const(types, to);
-    let keeps_const = adds_const || !is_const(types, from.ty);
-    if from.lvalue && keeps_const && bare(types, from.ty) == bare(types, to) {
+    if from.lvalue && bare(types, from.ty) == bare(types, to) {
         with_const(
             Some(Items::new(alloc)),
             is_const(types, from.ty),
