@@ -1,11 +1,13 @@
 -- Cutting a text from left to right.
-use Rattle.std.proofs.Common.{◌≡◌, ℕ, ◌+◌, ◌-◌, ◌<◌, ◌≤◌, Bool, List, [], ◌∷◌, ◌++◌, drop, length, Result, Ok, Err, refl, append_assoc, arith, ◌∙◌, sym, ap, subst}
+use Rattle.std.proofs.Common.{Option, Some, None, ◌≡◌, ℕ, ◌+◌, ◌-◌, ◌<◌, ◌≤◌, Bool, List, [], ◌∷◌, ◌++◌, drop, length, Result, Ok, Err, refl, append_assoc, arith, ◌∙◌, sym, ap, subst}
+use Rattle.std.specs.List.{All}
+use Rattle.std.proofs.lemmas.List.Elements.{All-nil, All-cons, All-head, All-tail}
 use Rattle.std.proofs.lemmas.List.{append-nil, length-drop}
 use Rattle.std.proofs.lemmas.List.Sums.{fold-append}
 use Rattle.cf_base.specs.declared.limit.Bound.TheVariants as bound
 use Rattle.cf_base.specs.declared.rule.Broken.{Broken}
 use Rattle.cf_tokens.specs.Front.{front}
-use Rattle.cf_tokens.specs.Lex.{Cut, at_end, at_gap, at_token, at_flaw, add, beside, joined, put_before, token_at, starts_line, most_bytes, most_tokens, Lex, broken, too_many, listed, IsFault}
+use Rattle.cf_tokens.specs.Lex.{IsInside, literal_of, beside_as, add_behind, Cut, at_end, at_gap, at_token, at_flaw, add, beside, joined, put_before, token_at, starts_line, most_bytes, most_tokens, Lex, broken, too_many, listed, IsFault}
 use Rattle.cf_tokens.specs.Piece.{IsWithin}
 use Rattle.cf_tokens.specs.Cutting.{Goes, over_gap, over_token, Steps, Stops, CutsTo}
 use Rattle.cf_tokens.specs.declared.fault.LexFault.{LexFault}
@@ -26,6 +28,7 @@ pub record CutSoFar (text : List ℕ) (at : ℕ) (found : List Token) : Type 0 w
   pub is : found ≡ joined cut
   pub whole : (rest : Result (List Token) Broken) → Cut text at rest → Cut text 0 (before_rest cut rest)
   pub within : at ≤ length text
+  pub inside : All (IsInside text) found
 
 nil-before_rest : (rest : Result (List Token) Broken) → before_rest [] rest ≡ rest
 nil-before_rest (Ok tokens) = refl
@@ -37,6 +40,7 @@ cut_nothing text = record {
   is = refl;
   whole = λ rest h. subst (λ r. Cut text 0 r) (sym (nil-before_rest rest)) h;
   within = omega arith;
+  inside = All-nil (IsInside text);
 }
 
 before_rest-put_before : (cut : List Token) (token : Token) (rest : Result (List Token) Broken)
@@ -47,6 +51,28 @@ before_rest-put_before cut token (Err first) = refl
 joined-push : (cut : List Token) (token : Token) → joined (cut ++ token ∷ []) ≡ add (joined cut) token
 joined-push cut token = fold-append add [] cut (token ∷ [])
 
+beside_as_inside : (text : List ℕ) (last next : Token) (x y : Option (List ℕ)) → IsInside text last → IsInside text next
+    → All (IsInside text) (beside_as last next x y)
+beside_as_inside text last next (Some xs) (Some ys) h k =
+    All-cons (IsInside text) _ [] (omega (arith, h, k)) (All-nil (IsInside text))
+beside_as_inside text last next (Some xs) None h k =
+    All-cons (IsInside text) last (next ∷ []) h (All-cons (IsInside text) next [] k (All-nil (IsInside text)))
+beside_as_inside text last next None ys h k =
+    All-cons (IsInside text) last (next ∷ []) h (All-cons (IsInside text) next [] k (All-nil (IsInside text)))
+
+add_behind_inside : (text : List ℕ) (next first : Token) (more : List Token) → IsInside text next → All (IsInside text) (first ∷ more)
+    → All (IsInside text) (add_behind next first more)
+add_behind_inside text next first [] h all =
+    beside_as_inside text first next (literal_of first.word) (literal_of next.word) (All-head (IsInside text) first [] all) h
+add_behind_inside text next first (second ∷ more) h all =
+    All-cons (IsInside text) first (add_behind next second more) (All-head (IsInside text) first (second ∷ more) all)
+    (add_behind_inside text next second more h (All-tail (IsInside text) first (second ∷ more) all))
+
+add_inside : (text : List ℕ) (tokens : List Token) (next : Token) → All (IsInside text) tokens → IsInside text next
+    → All (IsInside text) (add tokens next)
+add_inside text [] next all h = All-cons (IsInside text) next [] h (All-nil (IsInside text))
+add_inside text (first ∷ more) next all h = add_behind_inside text next first more h all
+
 goes_on : (text : List ℕ) (at : ℕ) (old : List Token) (next : ℕ) (new : List Token)
     → Goes text at old next new → at < length text → next ≤ length text → CutSoFar text at old → CutSoFar text next new
 goes_on text at old next new (over_gap n piece) inside within so_far = record {
@@ -54,6 +80,7 @@ goes_on text at old next new (over_gap n piece) inside within so_far = record {
   is = so_far.is;
   whole = λ rest h. so_far.whole rest (at_gap at n rest inside piece h);
   within = within;
+  inside = so_far.inside;
 }
 goes_on text at old next new (over_token n word piece) inside within so_far =
     let token : Token = token_at word at n in
@@ -63,6 +90,7 @@ goes_on text at old next new (over_token n word piece) inside within so_far =
       whole = λ rest h. subst (λ r. Cut text 0 r) (before_rest-put_before so_far.cut token rest)
           (so_far.whole (put_before token rest) (at_token at n word rest inside piece h));
       within = within;
+      inside = add_inside text old token so_far.inside within;
     }
 
 pub cut_more : (text : List ℕ) (at : ℕ) (old : List Token) (next : ℕ) (new : List Token)
@@ -73,7 +101,12 @@ pub cut_all : (text : List ℕ) (at : ℕ) (found : List Token) → CutSoFar tex
 cut_all text at found so_far end =
     let here : at ≡ length text = omega (arith, so_far.within) in
     let whole : Cut text 0 (Ok (so_far.cut ++ [])) = so_far.whole (Ok []) (at_end at here) in
-    record { tokens = so_far.cut; cut = subst (λ tokens. Cut text 0 (Ok tokens)) (append-nil so_far.cut) whole; is = so_far.is }
+    record {
+      tokens = so_far.cut;
+      cut = subst (λ tokens. Cut text 0 (Ok tokens)) (append-nil so_far.cut) whole;
+      is = so_far.is;
+      inside = so_far.inside;
+    }
 
 pub cut_stops : (text : List ℕ) (at : ℕ) (found : List Token) (e : LexFault) → CutSoFar text at found → Stops text at e → Stops text 0 e
 cut_stops text at found fault.Memory so_far stops = tt

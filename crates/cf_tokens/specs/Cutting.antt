@@ -1,7 +1,8 @@
 -- How `tokens` goes over a text; no public clause cites this.
 use Rattle.std.specs.Prelude.{◌≡◌, ℕ, ◌+◌, ◌<◌, ◌≤◌, List, length, drop, Ok, Err}
+use Rattle.std.specs.List.{All}
 use Rattle.cf_tokens.specs.Front.{front}
-use Rattle.cf_tokens.specs.Lex.{Cut, add, joined, starts_line, token_at}
+use Rattle.cf_tokens.specs.Lex.{Cut, IsInside, add, joined, starts_line, token_at}
 use Rattle.cf_tokens.specs.declared.fault.LexFault.{LexFault}
 use Rattle.cf_tokens.specs.declared.fault.LexFault.TheVariants as fault
 use Rattle.cf_tokens.specs.declared.piece.Piece.TheVariants.{Gap, Whole}
@@ -30,3 +31,4 @@ pub record CutsTo (text : List ℕ) (found : List Token) : Type 0 where
   pub tokens : List Token
   pub cut : Cut text 0 (Ok tokens)
   pub is : found ≡ joined tokens
+  pub inside : All (IsInside text) found

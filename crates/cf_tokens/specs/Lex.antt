@@ -42,27 +42,32 @@ literal_of (word.Int value kind) = None
 literal_of (word.Char value) = None
 literal_of (word.Sign number) = None
 
+abbrev pub beside_as : Token → Token → Option (List ℕ) → Option (List ℕ) → List Token
+beside_as last next (Some xs) (Some ys) =
+    record { word = word.Text (xs ++ ys); at = last.at; len = next.at + next.len - last.at } ∷ []
+beside_as last next (Some xs) None = last ∷ next ∷ []
+beside_as last next None ys = last ∷ next ∷ []
+
 -- two tokens with nothing but gaps between them; string literals are one, from the first byte of the one to the last of the other
 abbrev pub beside : Token → Token → List Token
-beside last next = joined (literal_of last.word) (literal_of next.word)
-  where
-    joined : Option (List ℕ) → Option (List ℕ) → List Token
-    joined (Some xs) (Some ys) = record { word = word.Text (xs ++ ys); at = last.at; len = next.at + next.len - last.at } ∷ []
-    joined (Some xs) None = last ∷ next ∷ []
-    joined None ys = last ∷ next ∷ []
+beside last next = beside_as last next (literal_of last.word) (literal_of next.word)
+
+abbrev pub add_behind : Token → Token → List Token → List Token
+add_behind next last [] = beside last next
+add_behind next first (second ∷ more) = first ∷ add_behind next second more
 
 -- a token behind others
 abbrev pub add : List Token → Token → List Token
 add [] next = next ∷ []
-add (token ∷ tokens) next = add_behind token tokens
-  where
-    add_behind : Token → List Token → List Token
-    add_behind last [] = beside last next
-    add_behind first (second ∷ more) = first ∷ add_behind second more
+add (token ∷ tokens) next = add_behind next token tokens
 
 -- tokens in order, with neighbouring string literals joined (2.5.4)
 abbrev pub joined : List Token → List Token
 joined tokens = fold add [] tokens
+
+-- a token doesn't go past the end of the text
+abbrev pub IsInside : List ℕ → Token → Type 0
+IsInside text token = token.at + token.len ≤ length text
 
 abbrev pub most_bytes : ℕ
 most_bytes = 1048576

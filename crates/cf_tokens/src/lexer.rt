@@ -1,6 +1,6 @@
-ghost use Rattle.std.specs.Prelude.{◌≡◌, ◌<◌, ◌≤◌, length, MatchResult, Ok, Err};
+ghost use Rattle.std.specs.Prelude.{◌≡◌, ◌<◌, ◌≤◌, length, vec_len, MatchResult, IfOk, OnOk, Ok, Err, All};
 ghost use Rattle.cf_tokens.specs.Cutting.{Steps, Stops, CutsTo};
-ghost use Rattle.cf_tokens.specs.Lex.{Lex, IsFault, starts_line, most_bytes};
+ghost use Rattle.cf_tokens.specs.Lex.{Lex, IsFault, IsInside, starts_line, most_bytes, most_tokens};
 
 use crate::character::byte_at;
 use crate::fault::LexFault;
@@ -22,7 +22,12 @@ const MOST_TOKENS: u64 = 200_000;
 /// that can't be, the fault is the first broken rule of K1 to K5 and K7 in text order. The limit of bytes comes
 /// before these, the limit of tokens behind them.
 pub fn tokens(alloc: Global, text: &[u8]) -> Result<Vec<Token>, LexFault>
-    ensures { MatchResult result (λ found. Lex text.now (Ok found.items)) (λ fault. IsFault text.now fault) }
+    ensures answer { MatchResult result (λ found. Lex text.now (Ok found.items)) (λ fault. IsFault text.now fault) }
+
+    // What callers need of a list: how long it and the text are, and that each token ends in the text.
+    ensures short { OnOk result (length text.now ≤ most_bytes) }
+    ensures few { IfOk result (λ found. vec_len found ≤ most_tokens) }
+    ensures inside { IfOk result (λ found. All (IsInside text.now) found.items) }
 {
     if text.len() as u64 > MOST_BYTES {
         return Err(LexFault::Limit(Limit {
