@@ -1,6 +1,5 @@
 -- Tokens as they are printed: each with a space behind it, or with a newline where it ends its line.
 use Rattle.std.specs.Prelude.{ℕ, Bool, true, false, if◌then◌else◌, List, [], ◌∷◌, ◌++◌}
-use Rattle.std.specs.List.{concat}
 use Rattle.cc_tokens.specs.declared.mark.Mark.{Mark}
 use Rattle.cc_tokens.specs.declared.mark.Mark.TheVariants as mark
 use Rattle.cc_tokens.specs.Mark.{mark_text}
@@ -26,11 +25,12 @@ abbrev pub printed_if : Bool → Mark → List ℕ
 printed_if true m = printed_mark m
 printed_if false m = []
 
+-- each piece with a comma before it
+abbrev pub after_commas : List (List ℕ) → List ℕ
+after_commas [] = []
+after_commas (piece ∷ pieces) = printed_mark mark.Comma ++ (piece ++ after_commas pieces)
+
 -- pieces with commas between them
 abbrev pub with_commas : List (List ℕ) → List ℕ
 with_commas [] = []
-with_commas (piece ∷ pieces) = piece ++ concat_after pieces
-  where
-    concat_after : List (List ℕ) → List ℕ
-    concat_after [] = []
-    concat_after (p ∷ ps) = printed_mark mark.Comma ++ (p ++ concat_after ps)
+with_commas (piece ∷ pieces) = piece ++ after_commas pieces

@@ -105,16 +105,31 @@ abbrev pub value_text : Option CExpression → List ℕ
 value_text None = []
 value_text (Some e) = whole_text e
 
+abbrev pub assignment_text : CPlace → CExpression → List ℕ
+assignment_text p e = place_text p ++ (printed_mark mark.Assign ++ (whole_text e ++ printed_mark mark.Semicolon))
+
+abbrev pub break_text : List ℕ
+break_text = printed_mark mark.Break ++ printed_mark mark.Semicolon
+
+abbrev pub condition_text : CExpression → List ℕ
+condition_text e = printed_mark mark.If ++ (printed_mark mark.LeftParen ++ (whole_text e ++ printed_mark mark.RightParen))
+
+abbrev pub forever_text : List ℕ
+forever_text =
+    printed_mark mark.For
+        ++ (printed_mark mark.LeftParen ++ (printed_mark mark.Semicolon ++ (printed_mark mark.Semicolon ++ printed_mark mark.RightParen)))
+
+abbrev pub return_text : Option CExpression → List ℕ
+return_text e = printed_mark mark.Return ++ (value_text e ++ printed_mark mark.Semicolon)
+
 abbrev pub statement_step : CStatement-F (List ℕ) (List ℕ) → List ℕ
-statement_step (open_statement.Assign p e) = place_text p ++ (printed_mark mark.Assign ++ (whole_text e ++ printed_mark mark.Semicolon))
+statement_step (open_statement.Assign p e) = assignment_text p e
 statement_step (open_statement.Call p name all) = target_text p ++ call_text name all
 statement_step (open_statement.Block b) = b
-statement_step open_statement.Break = printed_mark mark.Break ++ printed_mark mark.Semicolon
-statement_step (open_statement.If e b c) =
-    printed_mark mark.If ++ (printed_mark mark.LeftParen ++ (whole_text e ++ (printed_mark mark.RightParen ++ (b ++ else_text c))))
-statement_step (open_statement.Loop b) =
-    printed_mark mark.For ++ (printed_mark mark.LeftParen ++ (printed_mark mark.Semicolon ++ (printed_mark mark.Semicolon ++ (printed_mark mark.RightParen ++ b))))
-statement_step (open_statement.Return e) = printed_mark mark.Return ++ (value_text e ++ printed_mark mark.Semicolon)
+statement_step open_statement.Break = break_text
+statement_step (open_statement.If e b c) = condition_text e ++ (b ++ else_text c)
+statement_step (open_statement.Loop b) = forever_text ++ b
+statement_step (open_statement.Return e) = return_text e
 
 abbrev pub body_step : CBody-F (List ℕ) (List ℕ) → List ℕ
 body_step b = printed_mark mark.LeftBrace ++ (concat (map local_text b.locals) ++ (concat b.statements ++ printed_mark mark.RightBrace))

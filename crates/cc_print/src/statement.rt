@@ -2,7 +2,7 @@
 
 ghost use Rattle.std.specs.Prelude.{◌≡◌, ◌++◌, OnOk, map};
 ghost use Rattle.std.specs.List.{concat};
-ghost use Rattle.cc_print.specs.Printed.{type_text, local_text, statement_text, body_text, target_text, call_text, value_text};
+ghost use Rattle.cc_print.specs.Printed.{type_text, local_text, statement_text, body_text, target_text, call_text, value_text, assignment_text, break_text, condition_text, forever_text, return_text};
 
 use crate::expression::{arguments, place, whole};
 use crate::lines::{put, put_spaced};
@@ -66,31 +66,63 @@ fn value(out: &mut Vec<u8>, expr: &Option<Boxed<CExpression>>) -> Result<(), Mem
     }
 }
 
+fn assignment(out: &mut Vec<u8>, to: &CPlace, expr: &CExpression) -> Result<(), Memory>
+    ensures { OnOk result (out.new.items ≡ out.old.items ++ assignment_text to.now expr.now) }
+{
+    place(out, to)?;
+    put(out, Mark::Assign)?;
+    whole(out, expr)?;
+    put(out, Mark::Semicolon)
+}
+
+fn leave(out: &mut Vec<u8>) -> Result<(), Memory>
+    ensures { OnOk result (out.new.items ≡ out.old.items ++ break_text) }
+{
+    put(out, Mark::Break)?;
+    put(out, Mark::Semicolon)
+}
+
+fn condition(out: &mut Vec<u8>, expr: &CExpression) -> Result<(), Memory>
+    ensures { OnOk result (out.new.items ≡ out.old.items ++ condition_text expr.now) }
+{
+    put(out, Mark::If)?;
+    put(out, Mark::LeftParen)?;
+    whole(out, expr)?;
+    put(out, Mark::RightParen)
+}
+
+fn forever(out: &mut Vec<u8>) -> Result<(), Memory>
+    ensures { OnOk result (out.new.items ≡ out.old.items ++ forever_text) }
+{
+    put(out, Mark::For)?;
+    put(out, Mark::LeftParen)?;
+    put(out, Mark::Semicolon)?;
+    put(out, Mark::Semicolon)?;
+    put(out, Mark::RightParen)
+}
+
+fn returned(out: &mut Vec<u8>, expr: &Option<Boxed<CExpression>>) -> Result<(), Memory>
+    ensures { OnOk result (out.new.items ≡ out.old.items ++ return_text expr.now) }
+{
+    put(out, Mark::Return)?;
+    value(out, expr)?;
+    put(out, Mark::Semicolon)
+}
+
 #[cycle(body)]
 fn statement(out: &mut Vec<u8>, one: &CStatement) -> Result<(), Memory>
     ensures { OnOk result (out.new.items ≡ out.old.items ++ statement_text one.now) }
 {
     match one {
-        CStatement::Assign(to, expr) => {
-            place(out, to)?;
-            put(out, Mark::Assign)?;
-            whole(out, expr.get())?;
-            put(out, Mark::Semicolon)
-        }
+        CStatement::Assign(to, expr) => assignment(out, to, expr.get()),
         CStatement::Call(to, name, all) => {
             target(out, to)?;
             call(out, name, all)
         }
         CStatement::Block(inner) => body(out, inner.get()),
-        CStatement::Break => {
-            put(out, Mark::Break)?;
-            put(out, Mark::Semicolon)
-        }
+        CStatement::Break => leave(out),
         CStatement::If(expr, then, otherwise) => {
-            put(out, Mark::If)?;
-            put(out, Mark::LeftParen)?;
-            whole(out, expr.get())?;
-            put(out, Mark::RightParen)?;
+            condition(out, expr.get())?;
             body(out, then.get())?;
             match otherwise {
                 None => Ok(()),
@@ -101,18 +133,10 @@ fn statement(out: &mut Vec<u8>, one: &CStatement) -> Result<(), Memory>
             }
         }
         CStatement::Loop(inner) => {
-            put(out, Mark::For)?;
-            put(out, Mark::LeftParen)?;
-            put(out, Mark::Semicolon)?;
-            put(out, Mark::Semicolon)?;
-            put(out, Mark::RightParen)?;
+            forever(out)?;
             body(out, inner.get())
         }
-        CStatement::Return(expr) => {
-            put(out, Mark::Return)?;
-            value(out, expr)?;
-            put(out, Mark::Semicolon)
-        }
+        CStatement::Return(expr) => returned(out, expr),
     }
 }
 

@@ -28,16 +28,12 @@ pub enum Act {
 /// How a run ends.
 #[derive(Clone, Copy, Debug, PartialEq, Eq)]
 pub enum End {
-    Ended {
-        status: i32,
-    },
+    Ended { status: i32 },
     /// No tick is left.
     Ticks,
     /// No level of depth is left.
     Depth,
-    Undefined {
-        act: Act,
-    },
+    Undefined { act: Act },
     /// A call on the input failed.
     SourceFault,
     /// A call on the output or on the trace failed.
