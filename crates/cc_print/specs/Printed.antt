@@ -73,7 +73,7 @@ expression_step (open_expression.Load p) loosest = place_text p
 expression_step (open_expression.Binary op a b) loosest =
     let needed = nat_lt loosest (level_of op) in
     printed_if needed mark.LeftParen
-        ++ (a (level_of op) ++ (printed_mark (sign_of op) ++ (b (level_of op - 1) ++ printed_if needed mark.RightParen)))
+    ++ (a (level_of op) ++ (printed_mark (sign_of op) ++ (b (level_of op - 1) ++ printed_if needed mark.RightParen)))
 
 abbrev pub expression_text : CExpression → ℕ → List ℕ
 expression_text = fold-CExpression (ℕ → List ℕ) expression_step
@@ -117,7 +117,7 @@ condition_text e = printed_mark mark.If ++ (printed_mark mark.LeftParen ++ (whol
 abbrev pub forever_text : List ℕ
 forever_text =
     printed_mark mark.For
-        ++ (printed_mark mark.LeftParen ++ (printed_mark mark.Semicolon ++ (printed_mark mark.Semicolon ++ printed_mark mark.RightParen)))
+    ++ (printed_mark mark.LeftParen ++ (printed_mark mark.Semicolon ++ (printed_mark mark.Semicolon ++ printed_mark mark.RightParen)))
 
 abbrev pub return_text : Option CExpression → List ℕ
 return_text e = printed_mark mark.Return ++ (value_text e ++ printed_mark mark.Semicolon)

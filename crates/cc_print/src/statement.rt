@@ -141,13 +141,21 @@ fn statement(out: &mut Vec<u8>, one: &CStatement) -> Result<(), Memory>
 }
 
 #[cycle(body)]
+fn statements(out: &mut Vec<u8>, all: &Items<CStatement>) -> Result<(), Memory>
+    ensures { OnOk result (out.new.items ≡ out.old.items ++ concat (map statement_text all.now)) }
+{
+    for one in all.as_slice() {
+        statement(out, one)?;
+    }
+    Ok(())
+}
+
+#[cycle(body)]
 pub fn body(out: &mut Vec<u8>, body: &CBody) -> Result<(), Memory>
     ensures { OnOk result (out.new.items ≡ out.old.items ++ body_text body.now) }
 {
     put(out, Mark::LeftBrace)?;
     locals(out, &body.locals)?;
-    for one in body.statements.as_slice() {
-        statement(out, one)?;
-    }
+    statements(out, &body.statements)?;
     put(out, Mark::RightBrace)
 }

@@ -3,5 +3,5 @@ use Rattle.std.specs.List.{concat}
 use Rattle.cc_print.specs.Printed.{statement_text}
 use Rattle.cc_print.proofs.statement.+body.Given as goal
 
-abbrev pub invariant-body-loop-one : goal.invariant-body-loop-one
-invariant-body-loop-one l = l.out.items ≡ l.initial.out.items ++ concat (map statement_text (take l.one-index l.one-items))
+abbrev pub invariant-statements-loop-one : goal.invariant-statements-loop-one
+invariant-statements-loop-one l = l.out.items ≡ l.initial.out.items ++ concat (map statement_text (take l.one-index l.one-items))
