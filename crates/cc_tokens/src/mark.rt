@@ -1,3 +1,6 @@
+ghost use Rattle.std.specs.Prelude.{◌≡◌};
+ghost use Rattle.cc_tokens.specs.Mark.{mark_text};
+
 /// A sign or a reserved word of the small C.
 #[derive(Clone, Copy, Debug, PartialEq, Eq)]
 pub enum Mark {
@@ -51,4 +54,60 @@ pub enum Mark {
     Pair,
     /// `__f`, the type of a function pointer.
     FunctionPointer,
+}
+
+impl Mark {
+    /// Its bytes in a text.
+    pub fn text(self) -> &'static str
+        ensures { result.now ≡ mark_text self }
+    {
+        match self {
+            Mark::LeftParen => "(",
+            Mark::RightParen => ")",
+            Mark::LeftBrace => "{",
+            Mark::RightBrace => "}",
+            Mark::LeftBracket => "[",
+            Mark::RightBracket => "]",
+            Mark::Comma => ",",
+            Mark::Semicolon => ";",
+            Mark::Assign => "=",
+            Mark::Star => "*",
+            Mark::Slash => "/",
+            Mark::Percent => "%",
+            Mark::Plus => "+",
+            Mark::Minus => "-",
+            Mark::ShiftLeft => "<<",
+            Mark::ShiftRight => ">>",
+            Mark::Less => "<",
+            Mark::Greater => ">",
+            Mark::LessEqual => "<=",
+            Mark::GreaterEqual => ">=",
+            Mark::Equal => "==",
+            Mark::NotEqual => "!=",
+            Mark::And => "&",
+            Mark::Xor => "^",
+            Mark::Or => "|",
+            Mark::Not => "!",
+            Mark::Complement => "~",
+            Mark::Break => "break",
+            Mark::Case => "case",
+            Mark::Char => "char",
+            Mark::Continue => "continue",
+            Mark::Default => "default",
+            Mark::Else => "else",
+            Mark::Extern => "extern",
+            Mark::For => "for",
+            Mark::If => "if",
+            Mark::Int => "int",
+            Mark::Return => "return",
+            Mark::Short => "short",
+            Mark::Static => "static",
+            Mark::Struct => "struct",
+            Mark::Switch => "switch",
+            Mark::Unsigned => "unsigned",
+            Mark::Void => "void",
+            Mark::Pair => "__e",
+            Mark::FunctionPointer => "__f",
+        }
+    }
 }
