@@ -1,0 +1,4 @@
+pub mod Cut
+pub mod First
+pub mod Symbol
+pub mod Tokens
