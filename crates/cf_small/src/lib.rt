@@ -4,8 +4,9 @@
 mod cursor;
 mod fault;
 mod lex;
+mod read;
 mod token;
 mod tree;
 
 pub use fault::Fault;
-pub use tree::Unit;
+pub use tree::SourceUnit;
