@@ -4,5 +4,5 @@ use Rattle.cc_tree.specs.declared.statement.CLocal.{CLocal}
 use Rattle.cc_tree.specs.declared.statement.CStatement.{CStatement}
 use Rattle.cc_tree.specs.declared.statement.CBody.{CBody, roll-CBody}
 
-abbrev pub body_of : List CLocal → List CStatement → CBody
-body_of locals statements = roll-CBody (record { locals = locals; statements = statements })
+abbrev pub made_body : List CLocal → List CStatement → CBody
+made_body locals statements = roll-CBody (record { locals = locals; statements = statements })

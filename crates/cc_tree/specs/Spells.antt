@@ -21,7 +21,7 @@ use Rattle.cc_tree.specs.declared.unit.CParameter.{CParameter}
 use Rattle.cc_tree.specs.declared.unit.CPrototype.{CPrototype}
 use Rattle.cc_tree.specs.declared.unit.CItem.{CItem}
 use Rattle.cc_tree.specs.declared.unit.CItem.TheVariants as item
-use Rattle.cc_tree.specs.Build.{body_of}
+use Rattle.cc_tree.specs.Build.{made_body}
 
 -- the operator that a sign is between two operands, and its level: the tighter it binds, the lower, and 0 is an operand
 abbrev pub operator_of : Mark → Option (ℕ × Arith)
@@ -79,7 +79,7 @@ pub data SpellsLocals : List CLocal → List Token → Type 0 where
 mutual
   pub data SpellsBody : CBody → List Token → Type 0 where
     body : (locals : List CLocal) (xs : List Token) (all : List CStatement) (ys : List Token) → SpellsLocals locals xs → SpellsStatements all ys
-        → SpellsBody (body_of locals all) (sign mark.LeftBrace ++ (xs ++ (ys ++ sign mark.RightBrace)))
+        → SpellsBody (made_body locals all) (sign mark.LeftBrace ++ (xs ++ (ys ++ sign mark.RightBrace)))
 
   pub data SpellsStatements : List CStatement → List Token → Type 0 where
     none : SpellsStatements [] []
@@ -93,7 +93,7 @@ mutual
         → SpellsStatement (statement.Call None name es) (token.Name name ∷ token.Mark mark.LeftParen ∷ (xs ++ (token.Mark mark.RightParen ∷ sign mark.Semicolon)))
     call_to : (p : CPlace) (ps : List Token) (name : List ℕ) (es : List CExpression) (xs : List Token) → SpellsPlace p ps → SpellsArguments es xs
         → SpellsStatement (statement.Call (Some p) name es)
-            (ps ++ (token.Mark mark.Assign ∷ token.Name name ∷ token.Mark mark.LeftParen ∷ (xs ++ (token.Mark mark.RightParen ∷ sign mark.Semicolon))))
+        (ps ++ (token.Mark mark.Assign ∷ token.Name name ∷ token.Mark mark.LeftParen ∷ (xs ++ (token.Mark mark.RightParen ∷ sign mark.Semicolon))))
     block : (b : CBody) (xs : List Token) → SpellsBody b xs → SpellsStatement (statement.Block b) xs
     leaves : SpellsStatement statement.Break (token.Mark mark.Break ∷ sign mark.Semicolon)
     if_only : (e : CExpression) (xs : List Token) (b : CBody) (ys : List Token) → SpellsExpression loosest e xs → SpellsBody b ys
@@ -101,10 +101,10 @@ mutual
     if_else : (e : CExpression) (xs : List Token) (b : CBody) (ys : List Token) (c : CBody) (zs : List Token)
         → SpellsExpression loosest e xs → SpellsBody b ys → SpellsBody c zs
         → SpellsStatement (statement.If e b (Some c))
-            (token.Mark mark.If ∷ token.Mark mark.LeftParen ∷ (xs ++ (token.Mark mark.RightParen ∷ (ys ++ (token.Mark mark.Else ∷ zs)))))
+        (token.Mark mark.If ∷ token.Mark mark.LeftParen ∷ (xs ++ (token.Mark mark.RightParen ∷ (ys ++ (token.Mark mark.Else ∷ zs)))))
     loops : (b : CBody) (xs : List Token) → SpellsBody b xs
         → SpellsStatement (statement.Loop b)
-            (token.Mark mark.For ∷ token.Mark mark.LeftParen ∷ token.Mark mark.Semicolon ∷ token.Mark mark.Semicolon ∷ token.Mark mark.RightParen ∷ xs)
+        (token.Mark mark.For ∷ token.Mark mark.LeftParen ∷ token.Mark mark.Semicolon ∷ token.Mark mark.Semicolon ∷ token.Mark mark.RightParen ∷ xs)
     returns : SpellsStatement (statement.Return None) (token.Mark mark.Return ∷ sign mark.Semicolon)
     gives : (e : CExpression) (xs : List Token) → SpellsExpression loosest e xs
         → SpellsStatement (statement.Return (Some e)) (token.Mark mark.Return ∷ (xs ++ sign mark.Semicolon))
@@ -129,7 +129,7 @@ pub data SpellsPrototype : CPrototype → List Token → Type 0 where
   prototype : (result : Option CType) (rs : List Token) (name : List ℕ) (parameters : List CParameter) (xs : List Token)
       → SpellsResult result rs → SpellsSignature parameters xs
       → SpellsPrototype (record { result = result; name = name; parameters = parameters })
-          (rs ++ (token.Name name ∷ token.Mark mark.LeftParen ∷ (xs ++ sign mark.RightParen)))
+      (rs ++ (token.Name name ∷ token.Mark mark.LeftParen ∷ (xs ++ sign mark.RightParen)))
 
 -- `extern` before a prototype says nothing more
 pub data SpellsItem : CItem → List Token → Type 0 where
