@@ -1,5 +1,8 @@
 pub mod Cut
 pub mod First
+pub mod Lower
+pub mod Lowered
+pub mod Mean
 pub mod Parse
 pub mod Read
 pub mod Spells

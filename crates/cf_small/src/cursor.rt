@@ -11,6 +11,7 @@ use std::alloc::Global;
 use std::marker::Model;
 
 /// A place in a list of tokens, which contracts see as the tokens from it on.
+#[derive(Drop)]
 pub struct Cursor<'a> {
     rest: &'a [Token],
 }

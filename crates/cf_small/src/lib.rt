@@ -4,9 +4,12 @@
 mod cursor;
 mod fault;
 mod lex;
-mod read;
+mod reader;
 mod token;
+mod translate;
 mod tree;
 
 pub use fault::Fault;
+pub use reader::read;
+pub use translate::lower;
 pub use tree::SourceUnit;

@@ -1,8 +1,10 @@
 //! Reads a file of the small language.
 
-ghost use Rattle.std.specs.Prelude.{◌≡◌, ◌≤◌, length};
+ghost use Rattle.std.specs.Prelude.{◌≡◌, ◌≤◌, length, IfOk};
 ghost use Rattle.cf_small.specs.Read as spec;
 ghost use Rattle.cf_small.specs.Parse.{Reads};
+ghost use Rattle.cf_small.specs.Read.{Answers};
+ghost use Rattle.cf_small.specs.Lowered.{IsSound};
 
 use crate::cursor::Cursor;
 use crate::fault::{Fault, outside_profile};
@@ -36,4 +38,15 @@ fn unit(alloc: Global, c: &mut Cursor<'_>) -> Result<SourceUnit, Fault>
     c.expect(Symbol::CloseBlock)?;
     c.end()?;
     Ok(SourceUnit { result })
+}
+
+/// The unit that a file of at most 2^20 bytes spells. A file that spells none breaks K48 at its first byte.
+pub fn read(alloc: Global, text: &[u8]) -> Result<SourceUnit, Fault>
+    requires { length text.now ≤ 1048576 }
+    ensures first { Answers text.now result }
+    ensures sound { IfOk result IsSound }
+{
+    let tokens = tokens(alloc, text)?;
+    let mut c = Cursor::new(tokens.as_slice());
+    unit(alloc, &mut c)
 }
