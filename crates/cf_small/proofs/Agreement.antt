@@ -51,7 +51,7 @@ starts =
     body_of-made_body status (calls ∷ gives ∷ [])
     ∙ ap (λ s. body status (followed s (followed (statement_of gives) done))) (statement_of-Call (Some (place.Name (codes "status"))) (codes "__main") [])
     ∙ ap (λ s. body status (followed (call (Some (named (codes "status"))) (codes "__main") []) (followed s done)))
-        (statement_of-Return (Some (expression.Load (place.Name (codes "status")))) ∙ ap (λ e. give (Some e)) (expression_of-Load (place.Name (codes "status"))))
+    (statement_of-Return (Some (expression.Load (place.Name (codes "status")))) ∙ ap (λ e. give (Some e)) (expression_of-Load (place.Name (codes "status"))))
 
 abbrev head : List ℕ → CPrototype
 head name = record { result = Some ty.Int; name = name; parameters = [] }

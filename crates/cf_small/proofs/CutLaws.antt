@@ -13,7 +13,6 @@ use Rattle.cf_small.specs.declared.token.Symbol.TheVariants as symbol
 use Rattle.cf_small.specs.declared.token.Token.{Token}
 use Rattle.cf_small.specs.declared.token.Token.TheVariants as token
 use Rattle.cf_small.specs.Tokens.{is_blank, is_word, begins, is_byte, symbol_of, run_token, Lexes, ended, blank, run, equal, single}
-
 use Rattle.cf_small.specs.Cut.{Piece, blank_piece, token_piece, signed, symbol_piece, piece, tokens_of, and_go, after, cut}
 use Rattle.cf_small.proofs.CutSteps.{cut_end, cut_step, cut_fails}
 
@@ -170,6 +169,7 @@ module _ (n : ℕ) (ih : (at : ℕ) (bs : List ℕ) (ts : List Token) → cut n 
     where
       w : List ℕ
       w = take (prefix_len is_word bs) bs
+
       go : (o : Option Token) → run_token at (b ∷ w) ≡ o → Lexes at (b ∷ bs) ts
       go None is = absurd (fails n at b bs ts e (piece_run_at at b bs no_blank word ∙ ap (token_piece (suc (prefix_len is_word bs))) is))
       go (Some t) is =
@@ -198,6 +198,7 @@ module _ (n : ℕ) (ih : (at : ℕ) (bs : List ℕ) (ts : List Token) → cut n 
       by_symbol lone (Some s) is =
           let (us, rest, parts) = behind n at b bs ts (1, Some (token.Symbol s)) e (piece_is_single at b bs s is lone) in
           subst (Lexes at (b ∷ bs)) (sym parts) (single at b bs s us is lone (ih (at + 1) bs us rest h))
+
       by_test : (t : Bool) → (b == 61 && begins (is_byte 61) bs) ≡ t → Lexes at (b ∷ bs) ts
       by_test true is =
           let p = both (b == 61) (begins (is_byte 61) bs) is in sound_equal at b bs ts (eqb-true b 61 p.0) p.1 e h
@@ -213,6 +214,7 @@ sound (suc n) at (b ∷ bs) ts e h = go (sound n) (is_blank b) refl
     go_on : ((at : ℕ) (bs : List ℕ) (ts : List Token) → cut n at bs ≡ Some ts → length bs ≤ n → Lexes at bs ts) → is_blank b ≡ false → (u : Bool) → is_word b ≡ u → Lexes at (b ∷ bs) ts
     go_on ih no_blank true word = sound_run n ih at b bs ts no_blank word e (omega arith)
     go_on ih no_blank false no_word = sound_symbol n ih at b bs ts no_blank no_word e (omega arith)
+
     go : ((at : ℕ) (bs : List ℕ) (ts : List Token) → cut n at bs ≡ Some ts → length bs ≤ n → Lexes at bs ts) → (t : Bool) → is_blank b ≡ t → Lexes at (b ∷ bs) ts
     go ih true blank_is = sound_blank n ih at b bs ts blank_is e (omega arith)
     go ih false no_blank = go_on ih no_blank (is_word b) refl

@@ -15,7 +15,7 @@ use Rattle.cf_small.specs.declared.token.Token.TheVariants as token
 use Rattle.cf_small.specs.declared.tree.SourceUnit.{SourceUnit}
 use Rattle.cf_small.specs.Tokens.{begins, int_max, value_from, small_value, number, number_token, identifier, token_of, keyword, run_token, Lexes, ended, blank, run, equal, single, has_no_leading_zero}
 use Rattle.cf_small.specs.Cut.{cut, FailsAs}
-use Rattle.cf_small.specs.Parse.{Parse, Reads, expect, end}
+use Rattle.cf_small.specs.Parse.{Parse, Reads, ◌>>=◌, pure, expect, end}
 use Rattle.cf_small.specs.Read.{unit, is_main, Answers}
 use Rattle.cf_small.specs.Spells.{Spells, main_returns}
 use Rattle.cf_small.specs.First.{First, accepted, refused, Text, outside}
@@ -54,13 +54,16 @@ run_is_int at w t e = go (begins is_ascii_digit w) e
     by_number : (o : Option ℕ) → number w ≡ o → number_token o ≡ Some t → IsInt t
     by_number (Some n) is f = subst IsInt (some_is (token.Number n) t f) (number_is_int w n is)
     by_number None is f = no_some t f
+
     by_name : (c : Bool) → (if c then Some (token.Identifier at w) else None) ≡ Some t → IsInt t
     by_name true f = subst IsInt (some_is (token.Identifier at w) t f) tt
     by_name false f = no_some t f
+
     by_word : (o : Option (Option Symbol)) → token_of at w o ≡ Some t → IsInt t
     by_word None f = by_name _ f
     by_word (Some None) f = no_some t f
     by_word (Some (Some s)) f = subst IsInt (some_is (token.Symbol s) t f) tt
+
     go : (c : Bool) → (if c then number_token (number w) else token_of at w (keyword w)) ≡ Some t → IsInt t
     go true f = by_number (number w) refl f
     go false f = by_word (keyword w) f
@@ -89,38 +92,66 @@ pub spelled_is_read : (u : SourceUnit) (ts : List Token) → Spells u ts → uni
 unfolding unit expect is_main Rattle.cf_small.specs.Parse.number Rattle.cf_small.specs.Parse.identifier end
 spelled_is_read u ts (main_returns at n) = refl
 
-next : {t : Token} {ts mid rest : List Token} → ts ≡ t ∷ mid → mid ≡ rest → ts ≡ t ∷ rest
-next {t = t} p q = p ∙ ap (λ l. t ∷ l) q
+-- a parser whose text is spelled by the unit that it gives
+abbrev Spelled : Parse SourceUnit → (SourceUnit → List Token) → Type 0
+Spelled p spelling = (ts : List Token) (q : SourceUnit × List Token) → p ts ≡ Some q → ts ≡ spelling q.0
 
-pub read_is_spelled : (ts : List Token) (q : SourceUnit × List Token) → unit ts ≡ Some q → Spells q.0 ts
+took : (s : Symbol) (p : Parse SourceUnit) (spelling : SourceUnit → List Token) → Spelled p spelling → Spelled (expect s >>= (λ _. p)) (λ u. token.Symbol s ∷ spelling u)
+took s p spelling h ts q e =
+    let (x, t, e1, f) = bind_some (expect s ts) _ q e in expect_some s ts (x, t) e1 ∙ ap (λ l. token.Symbol s ∷ l) (h t q f)
+
+ends : (n : ℕ) → Spelled (end >>= (λ _. pure (record { result = n }))) (λ u. [])
+ends n ts q e = let (x, t, e1, f) = bind_some (end ts) _ q e in end_some ts (x, t) e1
+
+gives : (n : ℕ) → (ts : List Token) (q : SourceUnit × List Token) → (end >>= (λ _. pure (record { result = n }))) ts ≡ Some q → record { result = n } ≡ q.0
+gives n ts q e = let (x, t, e1, f) = bind_some (end ts) _ q e in ap (λ (p : SourceUnit × List Token). p.0) (some_is (record { result = n }, t) q f)
+
+passes : (s : Symbol) (p : Parse SourceUnit) (u : SourceUnit) → ((ts : List Token) (q : SourceUnit × List Token) → p ts ≡ Some q → u ≡ q.0)
+    → (ts : List Token) (q : SourceUnit × List Token) → (expect s >>= (λ _. p)) ts ≡ Some q → u ≡ q.0
+passes s p u h ts q e = let (x, t, e1, f) = bind_some (expect s ts) _ q e in h t q f
+
+abbrev behind_number : ℕ → Parse SourceUnit
+behind_number n = expect symbol.Semicolon >>= (λ _. expect symbol.CloseBlock >>= (λ _. end >>= (λ _. pure (record { result = n }))))
+
+abbrev from_number : Parse SourceUnit
+from_number = Rattle.cf_small.specs.Parse.number >>= behind_number
+
+number_spelled : Spelled from_number (λ u. token.Number u.result ∷ token.Symbol symbol.Semicolon ∷ token.Symbol symbol.CloseBlock ∷ [])
+number_spelled ts q e =
+    let (n, t, e1, f) = bind_some (Rattle.cf_small.specs.Parse.number ts) behind_number q e in
+    let is = passes symbol.Semicolon _ (record { result = n }) (passes symbol.CloseBlock _ (record { result = n }) (gives n)) t q f in
+    number_some ts (n, t) e1
+    ∙ ap (λ l. token.Number n ∷ l) (took symbol.Semicolon _ _ (took symbol.CloseBlock _ _ (ends n)) t q f)
+    ∙ ap (λ (u : SourceUnit). token.Number u.result ∷ token.Symbol symbol.Semicolon ∷ token.Symbol symbol.CloseBlock ∷ []) is
+
+abbrev from_name : List ℕ → Parse SourceUnit
+from_name name = is_main name >>= (λ _. expect symbol.Open >>= (λ _. expect symbol.Close >>= (λ _. expect symbol.OpenBlock >>= (λ _. expect symbol.Return >>= (λ _. from_number)))))
+
+abbrev behind_name : SourceUnit → List Token
+behind_name u = token.Symbol symbol.Open ∷ token.Symbol symbol.Close ∷ token.Symbol symbol.OpenBlock ∷ token.Symbol symbol.Return ∷ token.Number u.result
+    ∷ token.Symbol symbol.Semicolon ∷ token.Symbol symbol.CloseBlock ∷ []
+
+name_spelled : (name : List ℕ) (ts : List Token) (q : SourceUnit × List Token) → from_name name ts ≡ Some q → (name ≡ codes "main") × (ts ≡ behind_name q.0)
+name_spelled name ts q e =
+    let (x, t, e1, f) = bind_some (is_main name ts) _ q e in
+    let p = is_main_some name ts (x, t) e1 in
+    (p.0, p.1 ∙ took symbol.Open _ _ (took symbol.Close _ _ (took symbol.OpenBlock _ _ (took symbol.Return _ _ number_spelled))) t q f)
+
+abbrev whole : Parse SourceUnit
+whole = expect symbol.Int >>= (λ _. Rattle.cf_small.specs.Parse.identifier >>= (λ name. from_name name.1))
+
+whole_spelled : (ts : List Token) (q : SourceUnit × List Token) → whole ts ≡ Some q → Spells q.0 ts
+whole_spelled ts q e =
+    let (x, t, e1, f) = bind_some (expect symbol.Int ts) _ q e in
+    let (name, t2, e2, f2) = bind_some (Rattle.cf_small.specs.Parse.identifier t) (λ name. from_name name.1) q f in
+    let p = name_spelled name.1 t2 q f2 in
+    let is = expect_some symbol.Int ts (x, t) e1 ∙ ap (λ l. token.Symbol symbol.Int ∷ l)
+    (identifier_some t (name, t2) e2 ∙ ap (λ w. token.Identifier name.0 w ∷ t2) p.0 ∙ ap (λ l. token.Identifier name.0 (codes "main") ∷ l) p.1) in
+    subst (Spells q.0) (sym is) (main_returns name.0 q.0.result)
+
+read_is_spelled : (ts : List Token) (q : SourceUnit × List Token) → unit ts ≡ Some q → Spells q.0 ts
 unfolding unit
-read_is_spelled ts q e =
-    let (u1, t1, e1, f1) = bind_some (expect symbol.Int ts) _ q e in
-    let (name, t2, e2, f2) = bind_some (Rattle.cf_small.specs.Parse.identifier t1) _ q f1 in
-    let (u3, t3, e3, f3) = bind_some (is_main name.1 t2) _ q f2 in
-    let (u4, t4, e4, f4) = bind_some (expect symbol.Open t3) _ q f3 in
-    let (u5, t5, e5, f5) = bind_some (expect symbol.Close t4) _ q f4 in
-    let (u6, t6, e6, f6) = bind_some (expect symbol.OpenBlock t5) _ q f5 in
-    let (u7, t7, e7, f7) = bind_some (expect symbol.Return t6) _ q f6 in
-    let (n, t8, e8, f8) = bind_some (Rattle.cf_small.specs.Parse.number t7) _ q f7 in
-    let (u9, t9, e9, f9) = bind_some (expect symbol.Semicolon t8) _ q f8 in
-    let (u10, t10, e10, f10) = bind_some (expect symbol.CloseBlock t9) _ q f9 in
-    let (u11, t11, e11, f11) = bind_some (end t10) _ q f10 in
-    let p1 = expect_some symbol.Int ts (u1, t1) e1 in
-    let p2 = identifier_some t1 (name, t2) e2 in
-    let p3 = is_main_some name.1 t2 (u3, t3) e3 in
-    let p4 = expect_some symbol.Open t3 (u4, t4) e4 in
-    let p5 = expect_some symbol.Close t4 (u5, t5) e5 in
-    let p6 = expect_some symbol.OpenBlock t5 (u6, t6) e6 in
-    let p7 = expect_some symbol.Return t6 (u7, t7) e7 in
-    let p8 = number_some t7 (n, t8) e8 in
-    let p9 = expect_some symbol.Semicolon t8 (u9, t9) e9 in
-    let p10 = expect_some symbol.CloseBlock t9 (u10, t10) e10 in
-    let p11 = end_some t10 (u11, t11) e11 in
-    let whole =
-        next p1 (next (p2 ∙ ap (λ w. token.Identifier name.0 w ∷ t2) p3.0) (p3.1 ∙ next p4 (next p5 (next p6 (next p7 (next p8 (next p9 (next p10 p11)))))))) in
-    subst (λ l. Spells q.0 l) (sym whole)
-    (subst (λ (p : SourceUnit × List Token). Spells p.0 _) (some_is (record { result = n }, t11) q f11) (main_returns name.0 n))
+read_is_spelled ts q e = whole_spelled ts q e
 
 -- ---- the answer
 
@@ -147,3 +178,18 @@ no_tokens text fault.Memory fails = tt
 no_tokens text (fault.Broken b) fails =
     subst (λ k. First text (Err k)) (sym fails.1)
     (refused (λ u t. no_some t.tokens (sym fails.0 ∙ complete 0 text t.tokens t.lexes (length text) (omega arith))))
+
+-- ---- a file has one answer
+
+one_unit : (bytes : List ℕ) (u v : SourceUnit) → Text bytes u → Text bytes v → u ≡ v
+one_unit bytes u v p q =
+    let e = spelled_is_read u p.tokens p.spells in
+    let f = spelled_is_read v q.tokens q.spells in
+    let same = some_is (u, []) (v, []) (sym e ∙ ap unit (unique bytes p.tokens q.tokens p.lexes q.lexes) ∙ f) in
+    ap (λ (x : SourceUnit × List Token). x.0) same
+
+pub one_answer : (bytes : List ℕ) (a b : Result SourceUnit Broken) → First bytes a → First bytes b → a ≡ b
+one_answer bytes a b (accepted u p) (accepted v q) = ap Ok (one_unit bytes u v p q)
+one_answer bytes a b (accepted u p) (refused no) = absurd (no u p)
+one_answer bytes a b (refused no) (accepted v q) = absurd (no v q)
+one_answer bytes a b (refused no) (refused none) = refl

@@ -10,6 +10,6 @@ mod translate;
 mod tree;
 
 pub use fault::Fault;
-pub use reader::read;
+pub use reader::{file_has_one_answer, read};
 pub use translate::lower;
 pub use tree::SourceUnit;

@@ -1,8 +1,11 @@
 //! Reads a file of the small language.
 
-ghost use Rattle.std.specs.Prelude.{◌≡◌, ◌≤◌, length, IfOk};
+ghost use Rattle.std.specs.Prelude.{◌≡◌, ◌≤◌, length, IfOk, List, ℕ, Result};
 ghost use Rattle.cf_small.specs.Read as spec;
 ghost use Rattle.cf_small.specs.Parse.{Reads};
+ghost use Rattle.cf_base.specs.declared.rule.Broken.{Broken};
+ghost use Rattle.cf_small.specs.declared.tree.SourceUnit.{SourceUnit};
+ghost use Rattle.cf_small.specs.First.{First};
 ghost use Rattle.cf_small.specs.Read.{Answers};
 ghost use Rattle.cf_small.specs.Lowered.{IsSound};
 
@@ -19,7 +22,11 @@ const MAIN: &[u8] = b"main";
 fn is_main(name: &[u8], c: &Cursor<'_>) -> Result<(), Fault>
     ensures { Reads (spec.is_main name.now c.now) result c.now }
 {
-    if name == MAIN { Ok(()) } else { Err(outside_profile()) }
+    if name == MAIN {
+        Ok(())
+    } else {
+        Err(outside_profile())
+    }
 }
 
 #[tactic(auto, unfolding(crate::specs::Read::unit))]
@@ -50,3 +57,8 @@ pub fn read(alloc: Global, text: &[u8]) -> Result<SourceUnit, Fault>
     let mut c = Cursor::new(tokens.as_slice());
     unit(alloc, &mut c)
 }
+
+/// A law: a file is one unit or breaks one rule at one place.
+pub fn file_has_one_answer()
+    ensures { (bytes : List ℕ) → (a b : Result SourceUnit Broken) → First bytes a → First bytes b → a ≡ b }
+{}

@@ -8,7 +8,7 @@ abbrev pub invariant-loop-rest : goal.invariant-loop-rest
 invariant-loop-rest l = record {
   same : value_from l.value l.rest ≡ value_from 0 l.fn.digits;
   digits : list_all is_ascii_digit l.rest ≡ true;
-  small : l.value ≤ 2147483647
+  small : l.value ≤ 2147483647;
 }
 
 abbrev pub decreases-loop-rest : goal.decreases-loop-rest

@@ -32,7 +32,7 @@ loop-turn-preserved c =
     record {
       within = omega (arith, within.1, length-drop c.loop-turn.at c.args.text.now);
       same = goes_on c.loop-turn.found c.add.new.found n _ c.loop-turn.at (c.loop-turn.at + len) c.args.text.now bs (len, c.in_ok-len-in-len1-up.token) _
-        c.loop-turn.invariant.same m_is some is c.in_ok-add-in-len1-up.ensures (sym (drop-drop len c.loop-turn.at c.args.text.now)) refl;
+          c.loop-turn.invariant.same m_is some is c.in_ok-add-in-len1-up.ensures (sym (drop-drop len c.loop-turn.at c.args.text.now)) refl;
     }
 
 pub returns : goal.returns
