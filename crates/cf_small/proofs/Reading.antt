@@ -190,6 +190,6 @@ one_unit bytes u v p q =
 
 pub one_answer : (bytes : List ℕ) (a b : Result SourceUnit Broken) → First bytes a → First bytes b → a ≡ b
 one_answer bytes a b (accepted u p) (accepted v q) = ap Ok (one_unit bytes u v p q)
-one_answer bytes a b (accepted u p) (refused no) = absurd (no u p)
-one_answer bytes a b (refused no) (accepted v q) = absurd (no v q)
-one_answer bytes a b (refused no) (refused none) = refl
+one_answer bytes a b (accepted u p) (refused never) = absurd (never u p)
+one_answer bytes a b (refused never) (accepted v q) = absurd (never v q)
+one_answer bytes a b (refused never) (refused none) = refl
