@@ -1,8 +1,7 @@
 -- The translation keeps the meaning.
-use Rattle.std.proofs.Common.{◌≡◌, ℕ, zero, suc, ◌<◌, ◌≤◌, ◌^◌, Bool, true, false, ◌&&◌, List, [], ◌∷◌, ◌++◌, pos, Some, None, Result, Ok, refl, sym, ap, subst, ◌∙◌, codes, arith}
+use Rattle.std.proofs.Common.{◌≡◌, ℕ, zero, suc, ◌≤◌, ◌^◌, true, ◌&&◌, List, [], ◌∷◌, ◌++◌, pos, Some, refl, sym, ap, subst, ◌∙◌, codes, arith}
 use Rattle.std.specs.Prelude.{nat_lt}
 use Rattle.std.proofs.lemmas.Bool.Decides.{nat_tests}
-use Rattle.cf_base.specs.Event.{Event, Enter}
 use Rattle.cf_base.specs.World.{Outcome}
 use Rattle.cf_base.specs.Agree.{Agree}
 use Rattle.cc_tree.specs.declared.types.CType.TheVariants as ty
@@ -14,10 +13,10 @@ use Rattle.cc_tree.specs.declared.expression.CPlace.TheVariants as place
 use Rattle.cc_tree.specs.declared.expression.CExpression.TheVariants as expression
 use Rattle.cc_tree.specs.declared.statement.CStatement.TheVariants as statement
 use Rattle.cc_tree.specs.Build.{made_body}
-use Rattle.cc_tree.specs.Plain.{Expression, number, load, named, Statement, call, give, Body, body, done, followed, Item, defines, body_of, statement_of}
-use Rattle.cc_tree.specs.Valid.{valid_unit, valid_items}
-use Rattle.cc_tree.specs.Link.{link, added_main, refused_or, broken, broken_rule, with_main}
-use Rattle.cc_tree.specs.Mean.{c_mean, mean_of}
+use Rattle.cc_tree.specs.Plain.{number, load, named, call, give, Body, body, done, followed, Item, defines, body_of, statement_of}
+use Rattle.cc_tree.specs.Valid.{valid_items}
+use Rattle.cc_tree.specs.Link.{added_main, refused_or, broken_rule, with_main}
+use Rattle.cc_tree.specs.Mean.{mean_of}
 use Rattle.cc_tree.proofs.Views.{body_of-made_body, statement_of-Return, statement_of-Call, expression_of-Int, expression_of-Load}
 use Rattle.cf_small.specs.declared.tree.SourceUnit.{SourceUnit}
 use Rattle.cf_small.specs.Mean.{mean}

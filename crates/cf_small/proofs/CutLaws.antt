@@ -1,19 +1,18 @@
 -- The cutting gives the tokens that the definition gives, and none where there are none.
-use Rattle.std.proofs.Common.{◌≡◌, ℕ, zero, suc, ◌+◌, ◌<◌, ◌≤◌, Bool, true, false, ◌&&◌, ◌||◌, cond, List, [], ◌∷◌, ◌++◌, length, take, drop, Option, Some, None, refl, sym, ap, subst, ◌∙◌, arith, length-append}
+use Rattle.std.proofs.Common.{◌≡◌, ℕ, zero, suc, ◌+◌, ◌≤◌, Bool, true, false, ◌&&◌, cond, List, [], ◌∷◌, ◌++◌, length, take, drop, Option, Some, None, refl, sym, ap, subst, ◌∙◌, arith, length-append}
 use Rattle.std.specs.Prelude.{if◌then◌else◌, ◌==◌, option_map}
 use Rattle.std.proofs.lemmas.Bool.{eqb-true}
 use Rattle.std.proofs.lemmas.Bool.Decides.{nat_tests}
 use Rattle.std.proofs.lemmas.List.{take-append-drop, length-drop}
 use Rattle.std.proofs.lemmas.List.Folds.{length-prefix_len}
 use Rattle.std.proofs.Math.Seq.{drop-append_seam, take-append_seam}
-use Rattle.std.specs.Char.{is_ascii_digit, is_ascii_alphanumeric}
 use Rattle.std.specs.List.{list_all, prefix_len}
 use Rattle.cf_small.specs.declared.token.Symbol.{Symbol}
 use Rattle.cf_small.specs.declared.token.Symbol.TheVariants as symbol
 use Rattle.cf_small.specs.declared.token.Token.{Token}
 use Rattle.cf_small.specs.declared.token.Token.TheVariants as token
 use Rattle.cf_small.specs.Tokens.{is_blank, is_word, begins, is_byte, symbol_of, run_token, Lexes, ended, blank, run, equal, single}
-use Rattle.cf_small.specs.Cut.{Piece, blank_piece, token_piece, signed, symbol_piece, piece, tokens_of, and_go, after, cut}
+use Rattle.cf_small.specs.Cut.{Piece, blank_piece, token_piece, signed, symbol_piece, piece, tokens_of, after, cut}
 use Rattle.cf_small.proofs.CutSteps.{cut_end, cut_step, cut_fails}
 
 -- ---- runs

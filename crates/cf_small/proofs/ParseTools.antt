@@ -1,5 +1,5 @@
 -- What each step of reading has taken.
-use Rattle.std.proofs.Common.{◌≡◌, ℕ, Bool, true, false, List, [], ◌∷◌, ◌++◌, Option, Some, None, refl, sym, ap, subst, ◌∙◌, cond, rules, codes}
+use Rattle.std.proofs.Common.{◌≡◌, ℕ, Bool, true, false, List, [], ◌∷◌, Option, Some, None, refl, ap, ◌∙◌, rules}
 use Rattle.std.specs.Prelude.{if◌then◌else◌}
 use Rattle.std.specs.Str.{bytes_eq}
 use Rattle.std.proofs.lemmas.Slice.Eq.{bytes_eq-Decides}
@@ -9,7 +9,7 @@ use Rattle.cf_small.specs.declared.token.Symbol.{Symbol}
 use Rattle.cf_small.specs.declared.token.Token.{Token}
 use Rattle.cf_small.specs.declared.token.Token.TheVariants as token
 use Rattle.cf_small.specs.Symbol.{same_symbol}
-use Rattle.cf_small.specs.Parse.{Parse, and_then, sees, behind, expect, number, identifier, end}
+use Rattle.cf_small.specs.Parse.{Parse, and_then, expect, number, identifier, end}
 
 pub some_is : {A : Type 0} (a b : A) → Some a ≡ Some b → a ≡ b
 some_is a b e = cc

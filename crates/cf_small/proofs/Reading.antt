@@ -1,5 +1,5 @@
 -- What is read is what the file is.
-use Rattle.std.proofs.Common.{◌≡◌, ℕ, zero, suc, ◌+◌, ◌≤◌, Bool, true, false, ◌&&◌, List, [], ◌∷◌, ◌++◌, length, Option, Some, None, Result, Ok, Err, IfOk, refl, sym, ap, subst, ◌∙◌, cond, codes, arith}
+use Rattle.std.proofs.Common.{◌≡◌, ℕ, suc, ◌+◌, ◌≤◌, Bool, true, false, ◌&&◌, List, [], ◌∷◌, length, Option, Some, None, Result, Ok, Err, IfOk, refl, sym, ap, subst, ◌∙◌, codes, arith}
 use Rattle.std.specs.Prelude.{if◌then◌else◌, nat_le}
 use Rattle.std.specs.Str.{bytes_eq}
 use Rattle.std.specs.List.{list_all}
@@ -13,12 +13,12 @@ use Rattle.cf_small.specs.declared.token.Symbol.TheVariants as symbol
 use Rattle.cf_small.specs.declared.token.Token.{Token}
 use Rattle.cf_small.specs.declared.token.Token.TheVariants as token
 use Rattle.cf_small.specs.declared.tree.SourceUnit.{SourceUnit}
-use Rattle.cf_small.specs.Tokens.{begins, int_max, value_from, small_value, number, number_token, identifier, token_of, keyword, run_token, Lexes, ended, blank, run, equal, single, has_no_leading_zero}
+use Rattle.cf_small.specs.Tokens.{begins, int_max, value_from, small_value, number, number_token, token_of, keyword, run_token, Lexes, ended, blank, run, equal, single, has_no_leading_zero}
 use Rattle.cf_small.specs.Cut.{cut, FailsAs}
 use Rattle.cf_small.specs.Parse.{Parse, Reads, ◌>>=◌, pure, expect, end}
 use Rattle.cf_small.specs.Read.{unit, is_main, Answers}
 use Rattle.cf_small.specs.Spells.{Spells, main_returns}
-use Rattle.cf_small.specs.First.{First, accepted, refused, Text, outside}
+use Rattle.cf_small.specs.First.{First, accepted, refused, Text}
 use Rattle.cf_small.specs.Lowered.{IsSound}
 use Rattle.cf_small.proofs.CutLaws.{sound, complete, unique}
 use Rattle.cf_small.proofs.ParseTools.{some_is, no_some, bind_some, expect_some, number_some, identifier_some, end_some, same_bytes}

@@ -1,7 +1,6 @@
 -- The way in which the code cuts a text: one piece after another, each as long as it can be.
-use Rattle.std.specs.Prelude.{◌≡◌, ℕ, zero, suc, ◌+◌, Bool, true, false, ◌&&◌, if◌then◌else◌, ◌==◌, List, [], ◌∷◌, ◌++◌, length, take, drop, Option, Some, None, option_map, Result, Ok, Err}
+use Rattle.std.specs.Prelude.{◌≡◌, ℕ, zero, suc, ◌+◌, ◌&&◌, if◌then◌else◌, ◌==◌, List, [], ◌∷◌, ◌++◌, take, drop, Option, Some, None, option_map, Result, Ok, Err}
 use Rattle.std.specs.List.{prefix_len}
-use Rattle.cf_base.specs.declared.rule.Broken.{Broken}
 use Rattle.cf_small.specs.First.{outside}
 use Rattle.cf_small.specs.declared.fault.Fault.{Fault}
 use Rattle.cf_small.specs.declared.fault.Fault.TheVariants as fault

@@ -1,5 +1,5 @@
 -- The way in which a unit is translated.
-use Rattle.std.specs.Prelude.{ℕ, List, [], ◌∷◌, pos, Some, codes}
+use Rattle.std.specs.Prelude.{[], ◌∷◌, pos, Some, codes}
 use Rattle.cc_tree.specs.declared.types.CType.TheVariants as ty
 use Rattle.cc_tree.specs.declared.expression.CExpression.TheVariants as expression
 use Rattle.cc_tree.specs.declared.statement.CStatement.TheVariants as statement

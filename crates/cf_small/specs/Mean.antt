@@ -1,7 +1,7 @@
 -- The meaning of a unit: its trace and end, from an input, a heap limit, a depth limit and a bound of ticks.
 use Rattle.std.specs.Prelude.{ℕ, List, pos, codes}
 use Rattle.cf_base.specs.Event.{Enter}
-use Rattle.cf_base.specs.World.{World, Went, spend, deeper, show, world_at, Outcome, outcome}
+use Rattle.cf_base.specs.World.{Went, spend, deeper, show, world_at, Outcome, outcome}
 use Rattle.cf_small.specs.declared.tree.SourceUnit.{SourceUnit}
 
 -- `main` is entered: one tick, then one level of depth, then the event. Its result is the status.

@@ -1,9 +1,7 @@
 -- The way in which the code reads a unit from tokens: what it takes, and what is left behind.
-use Rattle.std.specs.Prelude.{◌≡◌, ℕ, Bool, true, false, if◌then◌else◌, List, [], ◌∷◌, Option, Some, None, Result, Ok, Err, codes}
-use Rattle.std.specs.Str.{bytes_eq}
+use Rattle.std.specs.Prelude.{◌≡◌, ℕ, Bool, false, if◌then◌else◌, List, [], ◌∷◌, Option, Some, None, Result, Ok, Err}
 use Rattle.cf_small.specs.declared.fault.Fault.{Fault}
 use Rattle.cf_small.specs.declared.token.Symbol.{Symbol}
-use Rattle.cf_small.specs.declared.token.Symbol.TheVariants as symbol
 use Rattle.cf_small.specs.declared.token.Token.{Token}
 use Rattle.cf_small.specs.declared.token.Token.TheVariants as token
 use Rattle.cf_small.specs.Cut.{FailsAs}

@@ -1,12 +1,11 @@
 -- The way in which the code reads a unit, and what reading ensures.
-use Rattle.std.specs.Prelude.{◌≡◌, ℕ, List, Option, Some, None, Result, Ok, Err, codes, if◌then◌else◌, Bool}
+use Rattle.std.specs.Prelude.{ℕ, List, Some, None, Result, Ok, Err, codes, if◌then◌else◌}
 use Rattle.std.specs.Str.{bytes_eq}
 use Rattle.cf_small.specs.declared.fault.Fault.{Fault}
 use Rattle.cf_small.specs.declared.fault.Fault.TheVariants as fault
 use Rattle.cf_small.specs.declared.token.Symbol.TheVariants as symbol
-use Rattle.cf_small.specs.declared.token.Token.{Token}
 use Rattle.cf_small.specs.declared.tree.SourceUnit.{SourceUnit}
-use Rattle.cf_small.specs.Parse.{Parse, and_then, ◌>>=◌, pure, expect, number, identifier, end}
+use Rattle.cf_small.specs.Parse.{Parse, ◌>>=◌, pure, expect, number, identifier, end}
 use Rattle.cf_small.specs.First.{First}
 
 -- the identifier `main`

@@ -1,7 +1,7 @@
 use Rattle.std.proofs.Common.{◌≡◌, ◌≤◌, true, length}
 use Rattle.std.specs.List.{list_all}
 use Rattle.std.specs.Char.{is_ascii_digit}
-use Rattle.cf_small.specs.Tokens.{value_from, int_max}
+use Rattle.cf_small.specs.Tokens.{value_from}
 use Rattle.cf_small.proofs.lex.small_value.Given as goal
 
 abbrev pub invariant-loop-rest : goal.invariant-loop-rest

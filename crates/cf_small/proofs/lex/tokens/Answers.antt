@@ -1,7 +1,7 @@
-use Rattle.std.proofs.Common.{◌≡◌, zero, suc, ◌-◌, ◌+◌, ◌<◌, ◌≤◌, length, drop, refl, sym, ap, subst, ◌∙◌, arith, length-drop, Some}
+use Rattle.std.proofs.Common.{◌≡◌, zero, suc, ◌-◌, ◌+◌, ◌<◌, ◌≤◌, length, drop, refl, sym, subst, arith, length-drop, Some}
 use Rattle.std.proofs.lemmas.List.{drop-drop}
 use Rattle.std.proofs.lemmas.Result.{err_from_is_err_and}
-use Rattle.cf_small.specs.Cut.{cut, after, Gives, FailsAs, piece}
+use Rattle.cf_small.specs.Cut.{FailsAs, piece}
 use Rattle.cf_small.proofs.CutSteps.{cut_end, cut_none, goes_on, ends, stops}
 use Rattle.cf_small.proofs.lex.tokens.Goals as goal
 
