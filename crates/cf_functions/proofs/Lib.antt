@@ -1,3 +1,4 @@
 pub mod Blocks
 pub mod Growth
+pub mod Steps
 mod Tried
