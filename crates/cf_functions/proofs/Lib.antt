@@ -1,4 +1,5 @@
 pub mod Blocks
+pub mod Expressions
 pub mod Growth
 pub mod Steps
 mod Tried
