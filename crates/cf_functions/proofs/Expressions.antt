@@ -37,10 +37,10 @@ pub record GetsAll (base k count : ℕ) (n : Memory) (vs : List ℤ) (o : Memory
 gets_written : (base k : ℕ) (n : Memory) (v : ℤ) → Gets base k n v (written (base + k) (Some v) n)
 gets_written base k n v = record { steady = steady-written (base + k) (base + k) (Some v) n (omega arith); held = put_same (base + k) (holding (Some v)) n.block }
 
-max_left : (a b t : ℕ) → max a b ≤ t → a ≤ t
+pub max_left : (a b t : ℕ) → max a b ≤ t → a ≤ t
 max_left a b t h = omega arith
 
-max_right : (a b t : ℕ) → max a b ≤ t → b ≤ t
+pub max_right : (a b t : ℕ) → max a b ≤ t → b ≤ t
 max_right a b t h = omega arith
 
 -- an expression needs its own variable
@@ -77,7 +77,7 @@ module _ (again : Again) (c_again helps : m.Again) (fs : List Function) (p : Lis
   falls-run all d flow w = grows-falling (λ n w. run all d n w) (λ n w. grows-run all d n w) flow w
 
   -- a call of putchar with one argument
-  put_sim : (vs : List ℤ) → length vs ≡ 1 → (d : ℕ) (n : Memory) (w : World) → Sim (Back n) (put (first_of vs) w) (m.called c_again helps p false putchar_name vs d n w)
+  pub put_sim : (vs : List ℤ) → length vs ≡ 1 → (d : ℕ) (n : Memory) (w : World) → Sim (Back n) (put (first_of vs) w) (m.called c_again helps p false putchar_name vs d n w)
   put_sim [] e d n w = absurd (omega arith)
   put_sim (v ∷ []) e d n w = sim-went (Back n) _ _ _ (record { result = refl; steady = steady n.next n })
   put_sim (v ∷ u ∷ vs) e d n w = absurd (omega arith)
