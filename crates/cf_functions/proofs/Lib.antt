@@ -1,6 +1,8 @@
 pub mod Blocks
+pub mod Entry
 pub mod Expressions
 pub mod Growth
+pub mod LinkNames
 pub mod Statements
 pub mod Steps
 mod Tried

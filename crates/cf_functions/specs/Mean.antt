@@ -28,7 +28,7 @@ putchar_name = codes "putchar"
 abbrev pub main_name : List ℕ
 main_name = codes "main"
 
--- ---- link names: one letter for each parameter of type int, v for none
+-- ---- link names: one letter for each parameter of type int, v for none; `main` has a name of its own
 
 abbrev pub ints : ℕ → List ℕ
 ints zero = []
@@ -39,7 +39,7 @@ parameter_code zero = 118 ∷ []
 parameter_code (suc n) = ints (suc n)
 
 abbrev pub link_name : List ℕ → ℕ → List ℕ
-link_name name n = if bytes_eq name main_name then codes "__main" else name ++ (codes "__F" ++ parameter_code n)
+link_name name n = if bytes_eq name main_name && (n == 0) then codes "__main" else name ++ (codes "__F" ++ parameter_code n)
 
 abbrev pub link_name_of : Function → List ℕ
 link_name_of f = link_name f.name (length f.parameters)
@@ -107,10 +107,14 @@ leaving before (Returns v) = Returns v
 abbrev pub in_block : Locals → Ran Flow → Ran Flow
 in_block before r = and_then r (λ flow w. Went (leaving before flow) w)
 
--- the result, if one was returned
-abbrev pub result_of : Flow → Option ℤ
-result_of (Falls locals) = None
-result_of (Returns v) = Some v
+-- flow off the end of `main` gives status 0 (3.4)
+abbrev pub result_at_end : Function → Option ℤ
+result_at_end f = if bytes_eq f.name main_name then Some (pos 0) else None
+
+-- the result of a function, if it returned one
+abbrev pub result_of : Function → Flow → Option ℤ
+result_of f (Falls locals) = result_at_end f
+result_of f (Returns v) = Some v
 
 abbrev pub used : Option ℤ → World → Ran ℤ
 used None w = Stops (Undefined no_result) w.trace
@@ -140,7 +144,7 @@ Again = Statements → Locals → ℕ → World → Ran Flow
 abbrev pub enter : Again → Function → List ℤ → ℕ → World → Ran (Option ℤ)
 enter again f vs depth w =
     spend w (λ w. deeper depth w (λ depth.
-      and_then (again f.body (bind f.parameters vs []) depth (show (Enter (link_name_of f)) w)) (λ flow w. Went (result_of flow) w)))
+      and_then (again f.body (bind f.parameters vs []) depth (show (Enter (link_name_of f)) w)) (λ flow w. Went (result_of f flow) w)))
 
 abbrev pub called : Again → Callee → List ℤ → ℕ → World → Ran (Option ℤ)
 called again Puts vs depth w = put (first_of vs) w
@@ -187,13 +191,8 @@ abbrev pub runs : List Function → ℕ → Again
 runs fs zero all locals depth w = Stops Ticks w.trace
 runs fs (suc n) all locals depth w = does_all (runs fs n) fs all locals depth w
 
--- flow off the end of `main` gives status 0
-abbrev pub status_of : Option ℤ → ℤ
-status_of None = pos 0
-status_of (Some v) = v
-
 abbrev pub start : List Function → ℕ → Callee → ℕ → World → Ran ℤ
-start fs n main depth w = and_then (called (runs fs n) main [] depth w) (λ r w. Went (status_of r) w)
+start fs n main depth w = and_then (called (runs fs n) main [] depth w) used
 
 abbrev pub mean : List Function → List ℕ → ℕ → ℕ → ℕ → Outcome
 mean fs input heap depth n = outcome (start fs n (callee fs main_name 0) depth (world_at n input heap))
