@@ -110,3 +110,15 @@ live_stored base (l ∷ locals) n i s h = go (eq_or i (length locals)) (λ lower
     go : (i ≡ length locals) ⊎ (i ≢ length locals) → (i < length locals → (n.block (base + i)).live ≡ true) → (n.block (base + i)).live ≡ true
     go (inl e) next = ap (λ j. (n.block (base + j)).live) e ∙ ap (λ (x : Block). x.live) s.0
     go (inr ne) next = next (omega arith)
+
+pub entry_living : (base k n : ℕ) (locals : Locals) (xs : List CLocal) (m : Memory) → length locals ≡ k → length xs ≡ n → m.next ≡ base + k → Stored base locals m
+    → Living base (k + n) (born_all xs m)
+entry_living base k n locals xs m lk ln at s = record {
+  live = λ i h. go i h (lt_or i k);
+  room = let next = next-born_all xs m in omega arith;
+}
+  where
+    go : (i : ℕ) → i < k + n → (i < k) ⊎ (k ≤ i) → ((born_all xs m).block (base + i)).live ≡ true
+    go i h (inl low) =
+        let st = steady-born_all m.next xs m (omega arith) in st.alive (base + i) (omega arith) (live_stored base locals m i s (omega arith))
+    go i h (inr high) = born_all-lives xs m (base + i) (omega arith) (omega arith)

@@ -114,7 +114,7 @@ module _ (again helps : Again) (h : GrowsAgain again) (k : GrowsAgain helps) (p 
     grows-does_all inside (followed s rest) scope depth m w =
         adds-then w.trace _ _ (grows-does inside s scope depth m w) (grows-falling _ (λ m w. grows-does_all inside rest scope depth m w))
 
-grows-refused : GrowsAgain refused
+pub grows-refused : GrowsAgain refused
 grows-refused inside s scope depth m w = stopped _ w
 
 pub grows-runs : (p : List Function) (n : ℕ) → GrowsAgain (runs p n)

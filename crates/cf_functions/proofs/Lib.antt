@@ -1,6 +1,7 @@
 pub mod Blocks
 pub mod Entry
 pub mod Expressions
+pub mod Functions
 pub mod Growth
 pub mod LinkNames
 pub mod Statements

@@ -1,7 +1,7 @@
 -- How a file is written in the small C. The locals in scope and the values in between stand in numbered variables of the function:
 -- a local in the one that counts the locals before it, the value of an expression in the first one above, so that what is
 -- evaluated later leaves it alone.
-use Rattle.std.specs.Prelude.{ℕ, zero, suc, ◌+◌, ◌-◌, max, Bool, true, false, if◌then◌else◌, List, [], ◌∷◌, ◌++◌, ℤ, pos, Option, Some, None, codes, decimal, length, map}
+use Rattle.std.specs.Prelude.{ℕ, zero, suc, ◌+◌, ◌-◌, ◌^◌, max, nat_lt, Bool, true, false, not, ◌&&◌, if◌then◌else◌, List, [], ◌∷◌, ◌++◌, ℤ, pos, Option, Some, None, is_some, codes, decimal, length, map, take, find}
 use Rattle.std.specs.Str.{bytes_eq}
 use Rattle.cc_tree.specs.declared.types.CType.TheVariants as ty
 use Rattle.cc_tree.specs.declared.statement.CLocal.{CLocal}
@@ -9,7 +9,7 @@ use Rattle.cc_tree.specs.declared.unit.CParameter.{CParameter}
 use Rattle.cc_tree.specs.declared.unit.CPrototype.{CPrototype}
 use Rattle.cc_tree.specs.Plain as c
 use Rattle.cf_functions.specs.Plain.{Expression, number, local, call, binary, Expressions, none, more, Statement, declare, assign, perform, give, choose, loop, block, Statements, done, followed, Function}
-use Rattle.cf_functions.specs.Mean.{Callee, Puts, Defined, Missing, callee, count, arith_of, link_name_of, putchar_name, main_name}
+use Rattle.cf_functions.specs.Mean.{Callee, Puts, Defined, Missing, callee, count, arith_of, link_name_of, putchar_name, main_name, is_called}
 
 -- the variable of this number
 abbrev pub slot : ℕ → List ℕ
@@ -176,3 +176,27 @@ putchar = record { result = Some ty.Int; name = putchar_name; parameters = param
 
 abbrev pub items : List Function → List c.Item
 items fs = c.declares putchar ∷ map (λ f. c.defines (lowered fs f)) fs
+
+-- how many variables a function has
+abbrev pub variables : Function → ℕ
+variables f = length f.parameters + locals_count f
+
+-- no identifier begins with __, and no function needs 2 ^ 64 variables
+abbrev pub is_sound : Function → Bool
+is_sound f = not (bytes_eq (take 3 f.name) (codes "__h")) && nat_lt (variables f) (2 ^ 64)
+
+-- one function is `main` without parameters
+abbrev pub has_main : List Function → Bool
+has_main fs = is_some (find (is_called main_name 0) fs)
+
+-- what linking adds: `int main(void) { int status; status = __main(); return status; }`
+abbrev pub added_main : c.Function
+added_main = record {
+  prototype = record { result = Some ty.Int; name = codes "main"; parameters = [] };
+  body = c.body (record { ty = ty.Int; name = codes "status" } ∷ [])
+      (c.in_order (c.call (Some (c.named (codes "status"))) (codes "__main") [] ∷ c.give (Some (c.load (c.named (codes "status")))) ∷ []));
+}
+
+-- the program of a file
+abbrev pub program : List Function → List c.Item
+program fs = items fs ++ (c.defines added_main ∷ [])
