@@ -170,6 +170,10 @@ sound_parts f e =
     go true h = absurd (cc)
     go false h = refl
 
+length-locals_of : (k n : ℕ) → length (locals_of k n) ≡ n
+length-locals_of k zero = refl
+length-locals_of k (suc n) = ap suc (length-locals_of (suc k) n)
+
 abbrev parameter_list : ℕ → ℕ → List CParameter
 parameter_list i j = map (λ name. record { ty = ty.Int; name = name }) (slots_from i j)
 
@@ -254,4 +258,99 @@ module _ (fs : List Function) (sound : list_all is_sound fs ≡ true) (again : A
         }))
 
     body_at : BodySim fs (λ all locals d w. does_all again fs all locals d w) (λ inside s sc d o w. m.does c_again helps (linked fs) inside s sc d o w)
-    body_at f ok vs arity d n w = ?
+    body_at f ok vs arity d n w =
+        let k = length f.parameters in
+        let count = locals_count f in
+        let m0 = born_with vs n in
+        let xs = locals_of k count in
+        let m1 = born_all xs m0 in
+        let locals0 = bind f.parameters vs [] in
+        let next0 = next-born_with vs n in
+        let at0 : m0.next ≡ n.next + k = omega arith in
+        let empty : n.next ≡ n.next + 0 = omega arith in
+        let s0 = stored_bind n.next f.parameters vs [] n arity empty tt in
+        let names = names-bind f.parameters vs [] in
+        let scope_len = length-in_scope f.parameters [] in
+        let names_len = ap length names in
+        let locals_len = length-names_of locals0 in
+        let len_names : length (names_of locals0) ≡ k = omega arith in
+        let len_locals : length locals0 ≡ k = omega arith in
+        let len_xs = length-locals_of k count in
+        let bound = (sound_parts f ok).1 in
+        let fits : k + count ≤ 2 ^ 64 = omega arith in
+        let l1 = entry_living n.next k count locals0 xs m0 len_locals len_xs at0 s0 in
+        let le_locals : length locals0 ≤ length locals0 = omega arith in
+        let low0 : n.next + length locals0 ≤ m0.next = omega arith in
+        let s1 = stored n.next (length locals0) locals0 m0 m1 le_locals (steady-born_all (n.next + length locals0) xs m0 low0) s0 in
+        let sc1 = bind_all (local_names xs) m0.next (bind_all (parameter_names (parameters_of k)) n.next no_names) in
+        let scoped = subst (λ j. Scoped (bind_all (local_names xs) j (bind_all (parameter_names (parameters_of k)) n.next no_names)) n.next (k + count)) (sym at0) (entry_scoped n.next k count fits) in
+        let top_k : top_of_all f.body k ≤ k + count = omega arith in
+        let top_l = subst (λ j. top_of_all f.body j ≤ k + count) (sym len_names) top_k in
+        let le0 : n.next ≤ n.next = omega arith in
+        let le1 : n.next ≤ m0.next = omega arith in
+        let st = steady-through n.next n.next n m0 m1 le0 (steady-born_with n.next vs n le0) (steady-born_all n.next xs m0 le1) in
+        let sim1 = all_sim again c_again helps fs (linked fs) gr gh calls_sim (callee_puts fs) sc1 n.next (k + count) scoped (turns sc1 n.next (k + count) scoped) f.body locals0 d m1 w top_l l1 s1 in
+        let sim1' = subst (λ a. Sim (Reaches n.next a m1) (does_all again fs f.body locals0 d w) (run (codes_of fs a f.body) sc1 d m1 w)) names sim1 in
+        let sim2 : Sim (Done f n) (does_all again fs f.body locals0 d w) (run (codes_of fs (in_scope f.parameters []) f.body ++ finish f) sc1 d m1 w) =
+            sim-at _ _ _ (all_join c_again helps (linked fs) (codes_of fs (in_scope f.parameters []) f.body) (finish f) sc1 d m1 w)
+            (sim-tail _ _ _ sim1' (λ s fl w r. finish_sim f n.next (in_scope f.parameters []) n m1 sc1 d st refl s fl w r)
+              (λ fl w. grows-falling (λ o w. run (finish f) sc1 d o w) (λ o w. grows (finish f) sc1 d o w) fl w)) in
+        sim-tail _ _ _ sim2
+        (λ s fl w r. sim-went (Done f n) s (m.ending xs m0.next fl) w (record {
+          memory = died_all xs m0.next r.memory;
+          is = ap (m.ending xs m0.next) r.is ∙ ending_flow xs m0.next (result_of f s) r.memory;
+          steady_is = steady-died_all n.next xs m0.next r.memory n le1 le1 r.steady_is;
+        }))
+        (λ fl w. went _ w)
+
+-- ---- at each number of ticks
+
+record Simulated (fs : List Function) (n : ℕ) : Type 0 where
+  bodies : BodySim fs (runs fs n) (m.runs (linked fs) n)
+  turns : TurnSim fs (runs fs n) (m.runs (linked fs) n)
+
+abbrev helpers : List c.Function → ℕ → m.Again
+helpers p n inside = m.does (m.runs p n) m.refused p true
+
+grows-helpers : (p : List c.Function) (n : ℕ) → GrowsAgain (helpers p n)
+grows-helpers p n inside s sc d o w = grows-does (m.runs p n) m.refused (grows-runs p n) grows-refused p true s sc d o w
+
+simulated : (fs : List Function) → list_all is_sound fs ≡ true → (n : ℕ) → Simulated fs n
+simulated fs sound zero = record {
+  bodies = λ f ok vs arity d n w. sim-stops (Done f n) Ticks w.trace;
+  turns = λ sc base total scoped e body locals d n w h l s. sim-stops (Flows base (names_of locals) n) Ticks w.trace;
+}
+simulated fs sound (suc n) =
+    let ih = simulated fs sound n in
+    record {
+      bodies = body_at fs sound (runs fs n) (m.runs (linked fs) n) (helpers (linked fs) n) ih.bodies (grows-runs (linked fs) n) (grows-helpers (linked fs) n) ih.turns;
+      turns = turn_at fs sound (runs fs n) (m.runs (linked fs) n) (helpers (linked fs) n) ih.bodies (grows-runs (linked fs) n) (grows-helpers (linked fs) n) ih.turns;
+    }
+
+-- ---- the whole program
+
+-- what stands behind the call of `__main` in the added `main`
+abbrev status : List CLocal
+status = record { ty = ty.Int; name = codes "status" } ∷ []
+
+abbrev status_scope : Scope
+status_scope = bind_all (local_names status) 0 (bind_all [] 0 no_names)
+
+abbrev rest_of_main : m.Again → m.Again → List c.Function → ℕ → Ran Returned → Ran ℤ
+rest_of_main again helps p d r =
+    and_then (and_then (and_then (and_then (and_then r (λ r w. m.store_result r 0 w))
+      (m.falling (λ o w. m.does_all again helps p false (c.followed (c.give (Some (c.load (c.named (codes "status"))))) c.done) status_scope d o w)))
+      (λ flow w. Went (m.ending status 0 flow) w))
+      (λ flow w. Went (m.returned (m.ending {A = ℤ} [] 0 flow)) w))
+      (λ r w. tried (m.used r.result) w (λ v. Went v w))
+
+rest_splits : (again helps : m.Again) (p : List c.Function) (d : ℕ) (r : Ran Returned) → rest_of_main again helps p d r ≡ and_then r (λ b w. rest_of_main again helps p d (Went b w))
+rest_splits again helps p d (Went b w) = refl
+rest_splits again helps p d (Stops end t) = refl
+
+grows-rest : (again helps : m.Again) → GrowsAgain again → GrowsAgain helps → (p : List c.Function) (d : ℕ) (b : Returned) (w : World) → Adds w.trace (rest_of_main again helps p d (Went b w))
+grows-rest again helps gr gh p d b w =
+    adds-then w.trace _ _ (adds-then w.trace _ _ (adds-then w.trace _ _ (adds-then w.trace _ _ (grows-store_result b 0 w)
+      (λ fl w. grows-falling _ (λ o w. grows-does_all again helps gr gh p false _ status_scope d o w) fl w))
+      (λ fl w. went _ w)) (λ fl w. went _ w)) (λ r w. grows-tried (m.used r.result) w _ (λ v. went v w))
+
