@@ -350,7 +350,64 @@ rest_splits again helps p d (Stops end t) = refl
 
 grows-rest : (again helps : m.Again) → GrowsAgain again → GrowsAgain helps → (p : List c.Function) (d : ℕ) (b : Returned) (w : World) → Adds w.trace (rest_of_main again helps p d (Went b w))
 grows-rest again helps gr gh p d b w =
-    adds-then w.trace _ _ (adds-then w.trace _ _ (adds-then w.trace _ _ (adds-then w.trace _ _ (grows-store_result b 0 w)
-      (λ fl w. grows-falling _ (λ o w. grows-does_all again helps gr gh p false _ status_scope d o w) fl w))
-      (λ fl w. went _ w)) (λ fl w. went _ w)) (λ r w. grows-tried (m.used r.result) w _ (λ v. went v w))
+    let all = c.followed (c.give (Some (c.load (c.named (codes "status"))))) c.done in
+    adds-then {A = Returned} w.trace _ _ (adds-then {A = m.Flow} w.trace _ _ (adds-then {A = m.Flow} w.trace _ _ (adds-then {A = m.Flow} w.trace _ _ (grows-store_result b 0 w)
+      (λ fl w. grows-falling (λ o w. m.does_all again helps p false all status_scope d o w) (λ o w. grows-does_all again helps gr gh p false all status_scope d o w) fl w))
+      (λ fl w. went (m.ending status 0 fl) w)) (λ fl w. went (m.returned (m.ending {A = ℤ} [] 0 fl)) w)) (λ r w. grows-tried (m.used r.result) w _ (λ v. went v w))
 
+-- the value that `__main` gives back is the status
+rest_is : (again helps : m.Again) (p : List c.Function) (d : ℕ) (v : ℤ) (b : Returned) (w : World) → b.result ≡ Some v → (b.memory.block 0).live ≡ true
+    → rest_of_main again helps p d (Went b w) ≡ Went v w
+rest_is again helps p d v b w e live = ap behind (ap (λ q. tried (m.used q) w (λ v. tried (write 0 (Some v) b.memory) w (λ n. Went (m.Falls n) w))) e
+    ∙ ap (λ q. tried q w (λ n. Went (m.Falls n) w)) (write_live 0 (Some v) b.memory live))
+  where
+    behind : Ran m.Flow → Ran ℤ
+    behind x = and_then (and_then (and_then (and_then x
+      (m.falling (λ o w. m.does_all again helps p false (c.followed (c.give (Some (c.load (c.named (codes "status"))))) c.done) status_scope d o w)))
+      (λ flow w. Went (m.ending status 0 flow) w))
+      (λ flow w. Went (m.returned (m.ending {A = ℤ} [] 0 flow)) w))
+      (λ (r : Returned) w. tried (m.used r.result) w (λ v. Went v w))
+
+abbrev SameValue : ℤ → ℤ → Type 0
+SameValue a b = a ≡ b
+
+status_sim : (again helps : m.Again) → GrowsAgain again → GrowsAgain helps → (p : List c.Function) (d : ℕ) (o : Option ℤ) (b : Returned) (w : World)
+    → Back (born None no_memory) o b → Sim SameValue (used o w) (rest_of_main again helps p d (Went b w))
+status_sim again helps gr gh p d None b w back = sim-undefined SameValue no_result w.trace _ (grows-rest again helps gr gh p d b w)
+status_sim again helps gr gh p d (Some v) b w back =
+    let first : 0 < 1 = omega arith in
+    let live = back.steady.alive 0 first refl in
+    sim-at _ _ _ (rest_is again helps p d v b w back.result live) (sim-went SameValue v v w refl)
+
+main_sim : (fs : List Function) → list_all is_sound fs ≡ true → (f : Function) → find (is_called main_name 0) fs ≡ Some f → (n d : ℕ) (w : World)
+    → Sim SameValue (start fs n (Defined f) d w) (and_then (m.start (linked fs) n (Some added_main) d w) (λ (r : Returned) w. tried (m.used r.result) w (λ v. Went v w)))
+main_sim fs sound f at n d w =
+    let p = linked fs in
+    let again = m.runs p n in
+    let helps = helpers p n in
+    let ih = simulated fs sound n in
+    let tells = called_tells main_name 0 f (find_holds (is_called main_name 0) fs f at) in
+    let name : link_name_of f ≡ codes "__main" = ap (λ x. link_name x (length f.parameters)) tells.0 ∙ ap (λ k. link_name main_name k) tells.1 in
+    let call = calls_sim fs sound (runs fs n) again helps ih.bodies main_name 0 f (ap defined at) [] refl d (born None no_memory) w in
+    let call' = subst (λ x. Sim (Back (born None no_memory)) (enter (runs fs n) f [] d w) (m.called again helps p false x [] d (born None no_memory) w)) name call in
+    sim-at _ _ _ (rest_splits again helps p d (m.called again helps p false (codes "__main") [] d (born None no_memory) w))
+    (sim-then _ _ _ _ call' (λ o b u back. status_sim again helps (grows-runs p n) (grows-helpers p n) p d o b u back)
+      (λ b u. grows-rest again helps (grows-runs p n) (grows-helpers p n) p d b u))
+
+found_main : (fs : List Function) → has_main fs ≡ true → (f : Function) × (find (is_called main_name 0) fs ≡ Some f)
+found_main fs e = go (find (is_called main_name 0) fs) refl e
+  where
+    go : (o : Option Function) → find (is_called main_name 0) fs ≡ o → is_some o ≡ true → (f : Function) × (find (is_called main_name 0) fs ≡ Some f)
+    go None is h = absurd (cc)
+    go (Some f) is h = (f, is)
+
+-- the program of a file runs as the file means
+pub agrees : (fs : List Function) → list_all is_sound fs ≡ true → has_main fs ≡ true → (input : List ℕ) (heap depth n : ℕ)
+    → Agree (mean fs input heap depth n) (mean_of (c.functions_of (program fs)) input heap depth n)
+agrees fs sound main input heap depth n =
+    let (f, at) = found_main fs main in
+    let w = world_at n input heap in
+    let sim = agree-sim _ _ (main_sim fs sound f at n depth w) in
+    subst (λ cal. Agree (outcome (start fs n cal depth w)) (mean_of (c.functions_of (program fs)) input heap depth n)) (sym (ap defined at))
+    (subst (λ p. Agree (outcome (start fs n (Defined f) depth w)) (mean_of p input heap depth n)) (sym (functions-map fs fs))
+    (subst (λ o. Agree (outcome (start fs n (Defined f) depth w)) (outcome (and_then (m.start (linked fs) n o depth w) (λ (r : Returned) w. tried (m.used r.result) w (λ v. Went v w))))) (sym (find_main fs fs)) sim))
