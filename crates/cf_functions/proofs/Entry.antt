@@ -67,9 +67,11 @@ entry_scoped base k n h = record { at = λ i low. go i low (lt_or i k) }
   where
     whole : Scope
     whole = bind_all (slots_from k n) (base + k) (bind_all (slots_from 0 k) base no_names)
+
     is : entry_scope base k n ≡ bind_all (slots_from k n) (base + k) (bind_all (slots_from 0 k) base no_names)
     is = ap (λ a. bind_all a (base + k) (bind_all (parameter_names (parameters_of k)) base no_names)) (names_are k n)
         ∙ ap (λ a. bind_all (slots_from k n) (base + k) (bind_all a base no_names)) (parameter_names_from 0 k)
+
     go : (i : ℕ) → i < k + n → (i < k) ⊎ (k ≤ i) → entry_scope base k n (slot i) ≡ Some (base + i)
     go i low (inl h1) =
         let zero_in : 0 + i ≡ i = omega arith in
@@ -90,9 +92,10 @@ stored_bind base [] (v ∷ vs) locals n e at s = absurd (omega arith)
 stored_bind base (x ∷ xs) [] locals n e at s = absurd (omega arith)
 stored_bind base (x ∷ xs) (v ∷ vs) locals n e at s =
     let le : length locals ≤ length locals = omega arith in
-    stored_bind base xs vs ((x, v) ∷ locals) (born (Some v) n) (omega arith) (omega arith)
-    (ap (λ b. (born (Some v) n).block b) (sym at) ∙ put_same n.next (holding (Some v)) n.block,
-      stored base (length locals) locals n (born (Some v) n) le (steady-born (base + length locals) (Some v) n (omega arith)) s)
+    stored_bind base xs vs ((x, v) ∷ locals) (born (Some v) n) (omega arith) (omega arith) (
+      ap (λ b. (born (Some v) n).block b) (sym at) ∙ put_same n.next (holding (Some v)) n.block,
+      stored base (length locals) locals n (born (Some v) n) le (steady-born (base + length locals) (Some v) n (omega arith)) s,
+    )
 
 pub names-bind : (xs : List (List ℕ)) (vs : List ℤ) (locals : Locals) → names_of (bind_locals xs vs locals) ≡ in_scope xs (names_of locals)
 names-bind [] vs locals = refl

@@ -63,10 +63,9 @@ gets_from base k n o v fl s r = record {
 
 module _ (again : Again) (c_again helps : m.Again) (fs : List Function) (p : List c.Function) (gr : GrowsAgain c_again) (gh : GrowsAgain helps)
     (calls : (x : List ℕ) (k : ℕ) (f : Function) → callee fs x k ≡ Defined f → (vs : List ℤ) → length vs ≡ k → (d : ℕ) (n : Memory) (w : World)
-      → Sim (Back n) (enter again f vs d w) (m.called c_again helps p false (link_name_of f) vs d n w))
+    → Sim (Back n) (enter again f vs d w) (m.called c_again helps p false (link_name_of f) vs d n w))
     (puts : (x : List ℕ) (k : ℕ) → callee fs x k ≡ Puts → k ≡ 1)
     (sc : Scope) (base total : ℕ) (scoped : Scoped sc base total) where
-
   abbrev run : List c.Statement → ℕ → Memory → World → Ran m.Flow
   run all d n w = run_all c_again helps p all sc d n w
 
@@ -91,8 +90,8 @@ module _ (again : Again) (c_again helps : m.Again) (fs : List Function) (p : Lis
       let next = back.steady.next in
       let live = back.steady.alive (base + k) (omega arith) (l.live k h) in
       let is : m.store_result r (base + k) w ≡ Went (Falls (written (base + k) (Some v) r.memory)) w =
-          ap (λ q. tried (m.used q) w (λ v. tried (write (base + k) (Some v) r.memory) w (λ n. Went (Falls n) w))) back.result
-          ∙ ap (λ q. tried q w (λ n. Went (Falls n) w)) (write_live (base + k) (Some v) r.memory live) in
+      ap (λ q. tried (m.used q) w (λ v. tried (write (base + k) (Some v) r.memory) w (λ n. Went (Falls n) w))) back.result
+      ∙ ap (λ q. tried q w (λ n. Went (Falls n) w)) (write_live (base + k) (Some v) r.memory live) in
       sim-at _ _ _ is (sim-went (FallsAs (Gets base k n)) v (Falls (written (base + k) (Some v) r.memory)) w (record {
         memory = written (base + k) (Some v) r.memory;
         is = refl;
@@ -111,7 +110,7 @@ module _ (again : Again) (c_again helps : m.Again) (fs : List Function) (p : Lis
   call_is name k vs d n w h room e =
       all_one c_again helps p (c.call (Some (place k)) name (held_from k (length vs))) sc d n w
       ∙ ap (λ o. tried (found o) w (λ b. tried (m.values (held_from k (length vs)) sc n) w
-          (λ vs. and_then (m.called c_again helps p false name vs d n w) (λ r w. m.store_result r b w)))) (scoped.at k h)
+      (λ vs. and_then (m.called c_again helps p false name vs d n w) (λ r w. m.store_result r b w)))) (scoped.at k h)
       ∙ ap (λ r. tried r w (λ vs. and_then (m.called c_again helps p false name vs d n w) (λ r w. m.store_result r (base + k) w))) (values_held sc base total scoped k vs n room e)
 
   value_call_sim : (x : List ℕ) (k j : ℕ) (cal : Callee) → callee fs x j ≡ cal → (vs : List ℤ) → length vs ≡ j → (d : ℕ) (n : Memory) (w : World)
@@ -161,16 +160,16 @@ module _ (again : Again) (c_again helps : m.Again) (fs : List Function) (p : Lis
     flat_sim (call at x es) locals k d n w le h l s =
         sim-at _ _ _ (all_join c_again helps p (flats fs (names_of locals) es k) (value_call (callee fs x (count es)) k (count es) ∷ []) sc d n w)
         (sim-falls (GetsAll base k (count es) n) _ _ _ _ (flats_sim es locals k d n w le (max_right (suc k) (tops es k) total h) l s)
-          (λ vs o w g.
-            let k_in = max_left (suc k) (tops es k) total h in
-            let many = g.many in
-            let above = tops-above es k in
-            let fits = max_right (suc k) (tops es k) total h in
-            let room : k + length vs ≤ total = omega arith in
-            let sim = value_call_sim x k (count es) (callee fs x (count es)) refl vs g.many d o w k_in room (living base total (base + k) n o g.steady l) g.held in
-            let sim' = subst (λ j. Sim (FallsAs (Gets base k o)) (and_then (called again (callee fs x (count es)) vs d w) used) (run (value_call (callee fs x (count es)) k j ∷ []) d o w)) g.many sim in
-            sim-wider (FallsAs (Gets base k o)) (FallsAs (Gets base k n)) _ _ (λ v fl r. gets_from base k n o v fl g.steady r) sim')
-          (falls-run (value_call (callee fs x (count es)) k (count es) ∷ []) d))
+        (λ vs o w g.
+        let k_in = max_left (suc k) (tops es k) total h in
+        let many = g.many in
+        let above = tops-above es k in
+        let fits = max_right (suc k) (tops es k) total h in
+        let room : k + length vs ≤ total = omega arith in
+        let sim = value_call_sim x k (count es) (callee fs x (count es)) refl vs g.many d o w k_in room (living base total (base + k) n o g.steady l) g.held in
+        let sim' = subst (λ j. Sim (FallsAs (Gets base k o)) (and_then (called again (callee fs x (count es)) vs d w) used) (run (value_call (callee fs x (count es)) k j ∷ []) d o w)) g.many sim in
+        sim-wider (FallsAs (Gets base k o)) (FallsAs (Gets base k n)) _ _ (λ v fl r. gets_from base k n o v fl g.steady r) sim')
+        (falls-run (value_call (callee fs x (count es)) k (count es) ∷ []) d))
     flat_sim (binary op a b) locals k d n w le h l s =
         let top_a = max_left (top a k) (top b (suc k)) total h in
         let top_b = max_right (top a k) (top b (suc k)) total h in
@@ -179,18 +178,18 @@ module _ (again : Again) (c_again helps : m.Again) (fs : List Function) (p : Lis
         let last = set k (c.binary (arith_of op) (held k) (held (suc k))) in
         sim-at _ _ _ (all_join c_again helps p (flat fs (names_of locals) a k) (flat fs (names_of locals) b (suc k) ++ last ∷ []) sc d n w)
         (sim-falls (Gets base k n) _ _ _ _ (flat_sim a locals k d n w le top_a l s)
-          (λ x o w g.
-            let l_o = living base total (base + k) n o g.steady l in
-            sim-at _ _ _ (all_join c_again helps p (flat fs (names_of locals) b (suc k)) (last ∷ []) sc d o w)
-            (sim-falls (Gets base (suc k) o) _ _ _ _ (flat_sim b locals (suc k) d o w (omega arith) top_b l_o (stored base k locals n o le g.steady s))
-              (λ y q w g2.
-                let l_q = living base total (base + suc k) o q g2.steady l_o in
-                let x_held = g2.steady.same (base + k) (omega arith) ∙ g.held in
-                sim-at _ _ _ (all_one c_again helps p last sc d q w
-                  ∙ set_binary c_again helps p sc base total scoped (arith_of op) k k (suc k) x y d q w (omega arith) (omega arith) (omega arith) l_q x_held g2.held)
-                (compute_sim (int_op (arith_of op) Int x y) k n q w (steady-through (base + k) (base + k) n o q (omega arith) g.steady (steady-less (base + suc k) (base + k) o q (omega arith) g2.steady))))
-              (falls-run (last ∷ []) d)))
-          (falls-run (flat fs (names_of locals) b (suc k) ++ last ∷ []) d))
+        (λ x o w g.
+        let l_o = living base total (base + k) n o g.steady l in
+        sim-at _ _ _ (all_join c_again helps p (flat fs (names_of locals) b (suc k)) (last ∷ []) sc d o w)
+        (sim-falls (Gets base (suc k) o) _ _ _ _ (flat_sim b locals (suc k) d o w (omega arith) top_b l_o (stored base k locals n o le g.steady s))
+        (λ y q w g2.
+        let l_q = living base total (base + suc k) o q g2.steady l_o in
+        let x_held = g2.steady.same (base + k) (omega arith) ∙ g.held in
+        sim-at _ _ _ (all_one c_again helps p last sc d q w
+        ∙ set_binary c_again helps p sc base total scoped (arith_of op) k k (suc k) x y d q w (omega arith) (omega arith) (omega arith) l_q x_held g2.held)
+        (compute_sim (int_op (arith_of op) Int x y) k n q w (steady-through (base + k) (base + k) n o q (omega arith) g.steady (steady-less (base + suc k) (base + k) o q (omega arith) g2.steady))))
+        (falls-run (last ∷ []) d)))
+        (falls-run (flat fs (names_of locals) b (suc k) ++ last ∷ []) d))
 
     pub flats_sim : (es : Expressions) (locals : Locals) (k d : ℕ) (n : Memory) (w : World) → length locals ≤ k → tops es k ≤ total → Living base total n → Stored base locals n
         → Sim (FallsAs (GetsAll base k (count es) n)) (values again fs es locals d w) (run (flats fs (names_of locals) es k) d n w)
@@ -201,12 +200,12 @@ module _ (again : Again) (c_again helps : m.Again) (fs : List Function) (p : Lis
         let top_es = max_right (top e k) (tops es (suc k)) total h in
         sim-at _ _ _ (all_join c_again helps p (flat fs (names_of locals) e k) (flats fs (names_of locals) es (suc k)) sc d n w)
         (sim-falls (Gets base k n) _ _ _ _ (flat_sim e locals k d n w le top_e l s)
-          (λ v o w g.
-            sim-map (GetsAll base (suc k) (count es) o) (GetsAll base k (suc (count es)) n) _ _ (λ vs. v ∷ vs)
-            (flats_sim es locals (suc k) d o w (omega arith) top_es (living base total (base + k) n o g.steady l) (stored base k locals n o le g.steady s))
-            (λ vs q ga. record {
-              steady = steady-through (base + k) (base + k) n o q (omega arith) g.steady (steady-less (base + suc k) (base + k) o q (omega arith) ga.steady);
-              held = (ga.steady.same (base + k) (omega arith) ∙ g.held, ga.held);
-              many = ap suc ga.many;
-            }))
-          (falls-run (flats fs (names_of locals) es (suc k)) d))
+        (λ v o w g.
+        sim-map (GetsAll base (suc k) (count es) o) (GetsAll base k (suc (count es)) n) _ _ (λ vs. v ∷ vs)
+        (flats_sim es locals (suc k) d o w (omega arith) top_es (living base total (base + k) n o g.steady l) (stored base k locals n o le g.steady s))
+        (λ vs q ga. record {
+          steady = steady-through (base + k) (base + k) n o q (omega arith) g.steady (steady-less (base + suc k) (base + k) o q (omega arith) ga.steady);
+          held = (ga.steady.same (base + k) (omega arith) ∙ g.held, ga.held);
+          many = ap suc ga.many;
+        }))
+        (falls-run (flats fs (names_of locals) es (suc k)) d))

@@ -35,6 +35,7 @@ callee_defined fs x k f e = go (bytes_eq x putchar_name && (k == 1)) (find (is_c
     by_option : (o : Option Function) → defined o ≡ Defined f → o ≡ Some f
     by_option None h = absurd (cc)
     by_option (Some g) h = cc
+
     go : (t : Bool) (o : Option Function) → find (is_called x k) fs ≡ o → (if t then Puts else defined o) ≡ Defined f → find (is_called x k) fs ≡ Some f
     go true o is h = absurd (cc)
     go false o is h = is ∙ by_option o h
@@ -45,6 +46,7 @@ callee_puts fs x k e = go (bytes_eq x putchar_name && (k == 1)) refl e
     by_option : (o : Option Function) → defined o ≡ Puts → k ≡ 1
     by_option None h = absurd (cc)
     by_option (Some g) h = absurd (cc)
+
     go : (t : Bool) → (bytes_eq x putchar_name && (k == 1)) ≡ t → (if t then Puts else defined (find (is_called x k) fs)) ≡ Puts → k ≡ 1
     go true is h = eqb-true k 1 (both (bytes_eq x putchar_name) (k == 1) is).1
     go false is h = by_option (find (is_called x k) fs) h
@@ -64,6 +66,7 @@ find_all test q (g ∷ fs) f e all = go (find_all test q fs f) (test g) e
   where
     p : (q g ≡ true) × (list_all q fs ≡ true)
     p = both (q g) (list_all q fs) all
+
     go : (find test fs ≡ Some f → list_all q fs ≡ true → q f ≡ true) → (t : Bool) → cond t (Some g) (find test fs) ≡ Some f → q f ≡ true
     go next true h = let same : g ≡ f = cc in ap q (sym same) ∙ p.0
     go next false h = next h p.1
@@ -92,9 +95,9 @@ find_lowered fs (g ∷ gs) rest x k f n a e = go (find_lowered fs gs rest x k f 
     go next false is h =
         ap (λ t. cond t (Some (lowered fs g)) (find (named (link_name_of f)) (map (lowered fs) gs ++ rest)))
         (bytes_differ (link_name_of g) (link_name_of f) (λ q.
-          let p = link_tells g.name f.name (length g.parameters) (length f.parameters) q in
-          let yes_called = called_is x k g (p.0 ∙ n) (p.1 ∙ a) in
-          let bad : true ≡ false = sym yes_called ∙ is in absurd (cc)))
+        let p = link_tells g.name f.name (length g.parameters) (length f.parameters) q in
+        let yes_called = called_is x k g (p.0 ∙ n) (p.1 ∙ a) in
+        let bad : true ≡ false = sym yes_called ∙ is in absurd (cc)))
         ∙ next h
 
 find_main : (fs gs : List Function) → find (named (codes "main")) (map (lowered fs) gs ++ (added_main ∷ [])) ≡ Some added_main
@@ -147,14 +150,14 @@ abbrev pub BodySim : List Function → Again → m.Again → Type 0
 BodySim fs again c_again =
     (f : Function) → is_sound f ≡ true → (vs : List ℤ) → length f.parameters ≡ length vs → (d : ℕ) (n : Memory) (w : World)
     → Sim (Done f n) (again f.body (bind f.parameters vs []) d w)
-      (c_again false (c.block (lowered fs f).body) (bind_all (parameter_names (parameters_of (length f.parameters))) n.next no_names) d (born_with vs n) w)
+    (c_again false (c.block (lowered fs f).body) (bind_all (parameter_names (parameters_of (length f.parameters))) n.next no_names) d (born_with vs n) w)
 
 abbrev pub TurnSim : List Function → Again → m.Again → Type 0
 TurnSim fs again c_again =
     (sc : Scope) (base total : ℕ) → Scoped sc base total → (e : Expression) (body : Statements) (locals : Locals) (d : ℕ) (n : Memory) (w : World)
     → top_of (loop e body) (length (names_of locals)) ≤ total → Living base total n → Stored base locals n
     → Sim (Flows base (names_of locals) n) (again (followed (loop e body) done) locals d w)
-      (c_again false (c.loop (plain_body (turn fs (names_of locals) e (codes_of fs (names_of locals) body)))) sc d n w)
+    (c_again false (c.loop (plain_body (turn fs (names_of locals) e (codes_of fs (names_of locals) body)))) sc d n w)
 
 abbrev pub CallSim : List Function → List c.Function → Again → m.Again → m.Again → Type 0
 CallSim fs p again c_again helps =
@@ -189,27 +192,28 @@ module _ (fs : List Function) (sound : list_all is_sound fs ≡ true) (again : A
       let params : length (parameters_of (length f.parameters)) ≡ length f.parameters = length-parameters (length f.parameters) in
       let has : (length (parameters_of (length f.parameters)) == length vs) ≡ true = eq-eqb (length (parameters_of (length f.parameters))) (length vs) (params ∙ arity) in
       sim-at _ _ _
-        (ap (λ t. if t then m.put vs n w else (if m.is_main (link_name_of f) then Stops (Undefined m.wrong_type) w.trace else m.enter c_again helps false (function_named (linked fs) (link_name_of f)) vs d n w))
-            (link_is_no_putchar f.name (length f.parameters))
-        ∙ ap (λ t. if t then Stops (Undefined m.wrong_type) w.trace else m.enter c_again helps false (function_named (linked fs) (link_name_of f)) vs d n w) (link_is_no_main f.name (length f.parameters))
-        ∙ ap (λ o. m.enter c_again helps false o vs d n w) (find_lowered fs fs (added_main ∷ []) x k f names.0 names.1 at)
-        ∙ ap (λ t. if t then (if m.is_helper (link_name_of f) then m.enter_helper false helps (lowered fs f) vs d n w else m.enter_function c_again (lowered fs f) vs d n w) else Stops (Undefined m.wrong_type) w.trace) has
-        ∙ ap (λ t. if t then m.enter_helper false helps (lowered fs f) vs d n w else m.enter_function c_again (lowered fs f) vs d n w) (link_is_no_helper f.name (length f.parameters) parts.0))
+      (ap (λ t. if t then m.put vs n w else (if m.is_main (link_name_of f) then Stops (Undefined m.wrong_type) w.trace else m.enter c_again helps false (function_named (linked fs) (link_name_of f)) vs d n w))
+      (link_is_no_putchar f.name (length f.parameters))
+      ∙ ap (λ t. if t then Stops (Undefined m.wrong_type) w.trace else m.enter c_again helps false (function_named (linked fs) (link_name_of f)) vs d n w) (link_is_no_main f.name (length f.parameters))
+      ∙ ap (λ o. m.enter c_again helps false o vs d n w) (find_lowered fs fs (added_main ∷ []) x k f names.0 names.1 at)
+      ∙ ap (λ t. if t then (if m.is_helper (link_name_of f) then m.enter_helper false helps (lowered fs f) vs d n w else m.enter_function c_again (lowered fs f) vs d n w) else Stops (Undefined m.wrong_type) w.trace) has
+      ∙ ap (λ t. if t then m.enter_helper false helps (lowered fs f) vs d n w else m.enter_function c_again (lowered fs f) vs d n w) (link_is_no_helper f.name (length f.parameters) parts.0))
       (sim-spend_of w.ticks w _ _ (λ v q. sim-deeper d v _ _ (λ left.
-        sim-then _ _ _ _ (bodies f ok vs arity left n (show (Enter (link_name_of f)) v))
-        (λ s fl u r.
-          let le : n.next ≤ n.next = omega arith in
-          let back : m.returned (m.ending vs n.next fl) ≡ record { result = result_of f s; memory = died_all vs n.next r.memory } =
-              ap (λ x. m.returned (m.ending vs n.next x)) r.is ∙ ap m.returned (ending_flow vs n.next (result_of f s) r.memory) ∙ returned_flow (result_of f s) (died_all vs n.next r.memory) in
-          sim-went (Back n) (result_of f s) (m.returned (m.ending vs n.next fl)) u (record {
-            result = ap (λ (b : Returned). b.result) back;
-            steady = subst (λ (b : Returned). Steady n.next n b.memory) (sym back) (steady-died_all n.next vs n.next r.memory n le le r.steady_is);
-          }))
-        (λ fl u. went _ u))))
+      sim-then _ _ _ _ (bodies f ok vs arity left n (show (Enter (link_name_of f)) v))
+      (λ s fl u r.
+      let le : n.next ≤ n.next = omega arith in
+      let back : m.returned (m.ending vs n.next fl) ≡ record { result = result_of f s; memory = died_all vs n.next r.memory } =
+      ap (λ x. m.returned (m.ending vs n.next x)) r.is ∙ ap m.returned (ending_flow vs n.next (result_of f s) r.memory) ∙ returned_flow (result_of f s) (died_all vs n.next r.memory) in
+      sim-went (Back n) (result_of f s) (m.returned (m.ending vs n.next fl)) u (record {
+        result = ap (λ (b : Returned). b.result) back;
+        steady = subst (λ (b : Returned). Steady n.next n b.memory) (sym back) (steady-died_all n.next vs n.next r.memory n le le r.steady_is);
+      }))
+      (λ fl u. went _ u))))
     where
       length-from : (i j : ℕ) → length (parameter_list i j) ≡ j
       length-from i zero = refl
       length-from i (suc j) = ap suc (length-from (suc i) j)
+
       length-parameters : (j : ℕ) → length (parameters_of j) ≡ j
       length-parameters j = length-from 0 j
 
@@ -245,7 +249,8 @@ module _ (fs : List Function) (sound : list_all is_sound fs ≡ true) (again : A
         let S : m.Flow → Type 0 = λ x. Sim (Done f n) (Went (Falls now) w) (m.falling (λ o w. run (finish f) sc d o w) x w) in
         let le : n.next ≤ n.next = omega arith in
         subst S (sym q.is) (sim-at _ _ _ (finish_is f sc d q.memory w) (sim-went (Done f n) (Falls now) _ w (record {
-          memory = q.memory; is = refl;
+          memory = q.memory;
+          is = refl;
           steady_is = steady-through n.next n.next n m1 q.memory le st (subst (λ b. Steady b m1 q.memory) same q.steady_is);
         })))
     finish_sim f base names n m1 sc d st same (Returns v) fl w r =
@@ -253,7 +258,8 @@ module _ (fs : List Function) (sound : list_all is_sound fs ≡ true) (again : A
         let S : m.Flow → Type 0 = λ x. Sim (Done f n) (Went (Returns v) w) (m.falling (λ o w. run (finish f) sc d o w) x w) in
         let le : n.next ≤ n.next = omega arith in
         subst S (sym q.is) (sim-went (Done f n) (Returns v) _ w (record {
-          memory = q.memory; is = refl;
+          memory = q.memory;
+          is = refl;
           steady_is = steady-through n.next n.next n m1 q.memory le st (subst (λ b. Steady b m1 q.memory) same q.steady_is);
         }))
 
@@ -292,9 +298,9 @@ module _ (fs : List Function) (sound : list_all is_sound fs ≡ true) (again : A
         let sim1 = all_sim again c_again helps fs (linked fs) gr gh calls_sim (callee_puts fs) sc1 n.next (k + count) scoped (turns sc1 n.next (k + count) scoped) f.body locals0 d m1 w top_l l1 s1 in
         let sim1' = subst (λ a. Sim (Reaches n.next a m1) (does_all again fs f.body locals0 d w) (run (codes_of fs a f.body) sc1 d m1 w)) names sim1 in
         let sim2 : Sim (Done f n) (does_all again fs f.body locals0 d w) (run (codes_of fs (in_scope f.parameters []) f.body ++ finish f) sc1 d m1 w) =
-            sim-at _ _ _ (all_join c_again helps (linked fs) (codes_of fs (in_scope f.parameters []) f.body) (finish f) sc1 d m1 w)
-            (sim-tail _ _ _ sim1' (λ s fl w r. finish_sim f n.next (in_scope f.parameters []) n m1 sc1 d st refl s fl w r)
-              (λ fl w. grows-falling (λ o w. run (finish f) sc1 d o w) (λ o w. grows (finish f) sc1 d o w) fl w)) in
+        sim-at _ _ _ (all_join c_again helps (linked fs) (codes_of fs (in_scope f.parameters []) f.body) (finish f) sc1 d m1 w)
+        (sim-tail _ _ _ sim1' (λ s fl w r. finish_sim f n.next (in_scope f.parameters []) n m1 sc1 d st refl s fl w r)
+        (λ fl w. grows-falling (λ o w. run (finish f) sc1 d o w) (λ o w. grows (finish f) sc1 d o w) fl w)) in
         sim-tail _ _ _ sim2
         (λ s fl w r. sim-went (Done f n) s (m.ending xs m0.next fl) w (record {
           memory = died_all xs m0.next r.memory;
@@ -339,10 +345,10 @@ status_scope = bind_all (local_names status) 0 (bind_all [] 0 no_names)
 abbrev rest_of_main : m.Again → m.Again → List c.Function → ℕ → Ran Returned → Ran ℤ
 rest_of_main again helps p d r =
     and_then (and_then (and_then (and_then (and_then r (λ r w. m.store_result r 0 w))
-      (m.falling (λ o w. m.does_all again helps p false (c.followed (c.give (Some (c.load (c.named (codes "status"))))) c.done) status_scope d o w)))
-      (λ flow w. Went (m.ending status 0 flow) w))
-      (λ flow w. Went (m.returned (m.ending {A = ℤ} [] 0 flow)) w))
-      (λ r w. tried (m.used r.result) w (λ v. Went v w))
+    (m.falling (λ o w. m.does_all again helps p false (c.followed (c.give (Some (c.load (c.named (codes "status"))))) c.done) status_scope d o w)))
+    (λ flow w. Went (m.ending status 0 flow) w))
+    (λ flow w. Went (m.returned (m.ending {A = ℤ} [] 0 flow)) w))
+    (λ r w. tried (m.used r.result) w (λ v. Went v w))
 
 rest_splits : (again helps : m.Again) (p : List c.Function) (d : ℕ) (r : Ran Returned) → rest_of_main again helps p d r ≡ and_then r (λ b w. rest_of_main again helps p d (Went b w))
 rest_splits again helps p d (Went b w) = refl
@@ -352,8 +358,8 @@ grows-rest : (again helps : m.Again) → GrowsAgain again → GrowsAgain helps �
 grows-rest again helps gr gh p d b w =
     let all = c.followed (c.give (Some (c.load (c.named (codes "status"))))) c.done in
     adds-then {A = Returned} w.trace _ _ (adds-then {A = m.Flow} w.trace _ _ (adds-then {A = m.Flow} w.trace _ _ (adds-then {A = m.Flow} w.trace _ _ (grows-store_result b 0 w)
-      (λ fl w. grows-falling (λ o w. m.does_all again helps p false all status_scope d o w) (λ o w. grows-does_all again helps gr gh p false all status_scope d o w) fl w))
-      (λ fl w. went (m.ending status 0 fl) w)) (λ fl w. went (m.returned (m.ending {A = ℤ} [] 0 fl)) w)) (λ r w. grows-tried (m.used r.result) w _ (λ v. went v w))
+    (λ fl w. grows-falling (λ o w. m.does_all again helps p false all status_scope d o w) (λ o w. grows-does_all again helps gr gh p false all status_scope d o w) fl w))
+    (λ fl w. went (m.ending status 0 fl) w)) (λ fl w. went (m.returned (m.ending {A = ℤ} [] 0 fl)) w)) (λ r w. grows-tried (m.used r.result) w _ (λ v. went v w))
 
 -- the value that `__main` gives back is the status
 rest_is : (again helps : m.Again) (p : List c.Function) (d : ℕ) (v : ℤ) (b : Returned) (w : World) → b.result ≡ Some v → (b.memory.block 0).live ≡ true
@@ -363,10 +369,10 @@ rest_is again helps p d v b w e live = ap behind (ap (λ q. tried (m.used q) w (
   where
     behind : Ran m.Flow → Ran ℤ
     behind x = and_then (and_then (and_then (and_then x
-      (m.falling (λ o w. m.does_all again helps p false (c.followed (c.give (Some (c.load (c.named (codes "status"))))) c.done) status_scope d o w)))
-      (λ flow w. Went (m.ending status 0 flow) w))
-      (λ flow w. Went (m.returned (m.ending {A = ℤ} [] 0 flow)) w))
-      (λ (r : Returned) w. tried (m.used r.result) w (λ v. Went v w))
+        (m.falling (λ o w. m.does_all again helps p false (c.followed (c.give (Some (c.load (c.named (codes "status"))))) c.done) status_scope d o w)))
+        (λ flow w. Went (m.ending status 0 flow) w))
+        (λ flow w. Went (m.returned (m.ending {A = ℤ} [] 0 flow)) w))
+        (λ (r : Returned) w. tried (m.used r.result) w (λ v. Went v w))
 
 abbrev SameValue : ℤ → ℤ → Type 0
 SameValue a b = a ≡ b
@@ -392,7 +398,7 @@ main_sim fs sound f at n d w =
     let call' = subst (λ x. Sim (Back (born None no_memory)) (enter (runs fs n) f [] d w) (m.called again helps p false x [] d (born None no_memory) w)) name call in
     sim-at _ _ _ (rest_splits again helps p d (m.called again helps p false (codes "__main") [] d (born None no_memory) w))
     (sim-then _ _ _ _ call' (λ o b u back. status_sim again helps (grows-runs p n) (grows-helpers p n) p d o b u back)
-      (λ b u. grows-rest again helps (grows-runs p n) (grows-helpers p n) p d b u))
+    (λ b u. grows-rest again helps (grows-runs p n) (grows-helpers p n) p d b u))
 
 found_main : (fs : List Function) → has_main fs ≡ true → (f : Function) × (find (is_called main_name 0) fs ≡ Some f)
 found_main fs e = go (find (is_called main_name 0) fs) refl e

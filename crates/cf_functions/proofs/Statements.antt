@@ -51,7 +51,7 @@ assigns_further base l locals n x v (Some i) e last h =
     let same = length-with_value locals x v in
     let is : with_value (l ∷ locals) x v ≡ l ∷ with_value locals x v = ap (λ t. if t then (l.0, v) ∷ locals else l ∷ with_value locals x v) e in
     let above : (written (base + i) (Some v) n).block (base + length (with_value locals x v)) ≡ holding (Some l.1) =
-        put_other (base + i) (base + length (with_value locals x v)) (holding (Some v)) n.block (omega arith) ∙ ap (λ k. n.block (base + k)) same ∙ last in
+    put_other (base + i) (base + length (with_value locals x v)) (holding (Some v)) n.block (omega arith) ∙ ap (λ k. n.block (base + k)) same ∙ last in
     let more : i < suc (length locals) = omega arith in
     (more, subst (λ k. Stored base k (written (base + i) (Some v) n)) (sym is) (above, h.1))
 
@@ -62,15 +62,17 @@ assigns base (l ∷ locals) n x v h = go (assigns base locals n x v h.1) (bytes_
     go : AssignsAs base locals n x v (slot_of (names_of locals) x) → (t : Bool) → bytes_eq l.0 x ≡ t → AssignsAs base (l ∷ locals) n x v (slot_of (names_of (l ∷ locals)) x)
     go further true e =
         let at : slot_of (names_of (l ∷ locals)) x ≡ Some (length locals) =
-            ap (λ t. if t then Some (length (names_of locals)) else slot_of (names_of locals) x) e ∙ ap Some (length-names_of locals) in
+        ap (λ t. if t then Some (length (names_of locals)) else slot_of (names_of locals) x) e ∙ ap Some (length-names_of locals) in
         let is : with_value (l ∷ locals) x v ≡ (l.0, v) ∷ locals = ap (λ t. if t then (l.0, v) ∷ locals else l ∷ with_value locals x v) e in
         let last : length locals < suc (length locals) = omega arith in
         let le : length locals ≤ length locals = omega arith in
         let b = base + length locals in
         let low : b ≤ b = omega arith in
-        subst (AssignsAs base (l ∷ locals) n x v) (sym at)
-        (last, subst (λ k. Stored base k (written b (Some v) n)) (sym is)
-          (put_same b (holding (Some v)) n.block, stored base (length locals) locals n (written b (Some v) n) le (steady-written b b (Some v) n low) h.1))
+        subst (AssignsAs base (l ∷ locals) n x v) (sym at) (
+          last,
+          subst (λ k. Stored base k (written b (Some v) n)) (sym is)
+              (put_same b (holding (Some v)) n.block, stored base (length locals) locals n (written b (Some v) n) le (steady-written b b (Some v) n low) h.1),
+        )
     go further false e =
         subst (AssignsAs base (l ∷ locals) n x v) (sym (ap (λ t. if t then Some (length (names_of locals)) else slot_of (names_of locals) x) e))
         (assigns_further base l locals n x v (slot_of (names_of locals) x) e h.0 further)
@@ -97,10 +99,22 @@ pub record Flows (base : ℕ) (names : List (List ℕ)) (n : Memory) (s : Flow) 
   pub by : FlowsBy base names n s flow
 
 flows_from : (base : ℕ) (names : List (List ℕ)) (n o : Memory) (s : Flow) (flow : m.Flow) → Steady base n o → Flows base names o s flow → Flows base names n s flow
-flows_from base names n o (Falls locals) flow st r = let f = r.by in record { by = record {
-  memory = f.memory; is = f.is; steady_is = steady-through base base n o f.memory (omega arith) st f.steady_is; stored_is = f.stored_is; names_are = f.names_are } }
-flows_from base names n o (Returns v) flow st r = let f = r.by in record { by = record {
-  memory = f.memory; is = f.is; steady_is = steady-through base base n o f.memory (omega arith) st f.steady_is } }
+flows_from base names n o (Falls locals) flow st r = let f = r.by in record {
+  by = record {
+    memory = f.memory;
+    is = f.is;
+    steady_is = steady-through base base n o f.memory (omega arith) st f.steady_is;
+    stored_is = f.stored_is;
+    names_are = f.names_are;
+  };
+}
+flows_from base names n o (Returns v) flow st r = let f = r.by in record {
+  by = record {
+    memory = f.memory;
+    is = f.is;
+    steady_is = steady-through base base n o f.memory (omega arith) st f.steady_is;
+  };
+}
 
 fell : (base : ℕ) (names : List (List ℕ)) (n o : Memory) (locals : Locals) → Steady base n o → Stored base locals o → names_of locals ≡ names → Flows base names n (Falls locals) (m.Falls o)
 fell base names n o locals st s e = record { by = record { memory = o; is = refl; steady_is = st; stored_is = s; names_are = e } }
@@ -130,10 +144,15 @@ names-leave before now extra e =
     names-drop (length now - length before) now ∙ ap (λ j. drop j (names_of now)) k ∙ ap (drop (length extra)) e ∙ drop-append_seam extra (names_of before)
 
 left_sim : (base : ℕ) (before : Locals) (n : Memory) (s : Flow) (flow : m.Flow) → Reaches base (names_of before) n s flow → Flows base (names_of before) n (leaving before s) flow
-left_sim base before n (Falls now) flow r = let f = r.flows.by in record { by = record {
-  memory = f.memory; is = f.is; steady_is = f.steady_is;
-  stored_is = stored-drop base (length now - length before) now f.memory f.stored_is;
-  names_are = names-leave before now r.extra f.names_are } }
+left_sim base before n (Falls now) flow r = let f = r.flows.by in record {
+  by = record {
+    memory = f.memory;
+    is = f.is;
+    steady_is = f.steady_is;
+    stored_is = stored-drop base (length now - length before) now f.memory f.stored_is;
+    names_are = names-leave before now r.extra f.names_are;
+  };
+}
 left_sim base before n (Returns v) flow r = record { by = r.flows.by }
 
 sim-onto : {A B C : Type 0} {R : A → C → Type 0} {Q : B → C → Type 0} (x : Ran A) (y : Ran C) (f : A → B) → Sim R x y → ((a : A) (k : C) → R a k → Q (f a) k) → Sim Q (and_then x (λ a w. Went (f a) w)) y
@@ -172,14 +191,13 @@ extra-after (block body) names = ([], refl)
 
 module _ (again : Again) (c_again helps : m.Again) (fs : List Function) (p : List c.Function) (gr : GrowsAgain c_again) (gh : GrowsAgain helps)
     (calls : (x : List ℕ) (k : ℕ) (f : Function) → callee fs x k ≡ Defined f → (vs : List ℤ) → length vs ≡ k → (d : ℕ) (n : Memory) (w : World)
-      → Sim (Back n) (enter again f vs d w) (m.called c_again helps p false (link_name_of f) vs d n w))
+    → Sim (Back n) (enter again f vs d w) (m.called c_again helps p false (link_name_of f) vs d n w))
     (puts : (x : List ℕ) (k : ℕ) → callee fs x k ≡ Puts → k ≡ 1)
     (sc : Scope) (base total : ℕ) (scoped : Scoped sc base total)
     (turns : (e : Expression) (body : Statements) (locals : Locals) (d : ℕ) (n : Memory) (w : World) → top_of (loop e body) (length (names_of locals)) ≤ total
-      → Living base total n → Stored base locals n
-      → Sim (Flows base (names_of locals) n) (again (followed (loop e body) done) locals d w)
-        (c_again false (c.loop (plain_body (turn fs (names_of locals) e (codes_of fs (names_of locals) body)))) sc d n w)) where
-
+    → Living base total n → Stored base locals n
+    → Sim (Flows base (names_of locals) n) (again (followed (loop e body) done) locals d w)
+    (c_again false (c.loop (plain_body (turn fs (names_of locals) e (codes_of fs (names_of locals) body)))) sc d n w)) where
   abbrev run : List c.Statement → ℕ → Memory → World → Ran m.Flow
   run all d n w = run_all c_again helps p all sc d n w
 
@@ -212,8 +230,8 @@ module _ (again : Again) (c_again helps : m.Again) (fs : List Function) (p : Lis
       let le : length locals ≤ k = omega arith in
       sim-at _ _ _ (all_join c_again helps p (flat fs (names_of locals) e k) rest sc d n w)
       (sim-falls (Gets base k n) _ _ _ _ (expression_sim e locals d n w h l s)
-        (λ v o w g. next v o w (steady-less (base + k) base n o (omega arith) g.steady) (living base total (base + k) n o g.steady l) (stored base k locals n o le g.steady s) g.held)
-        (behind rest d))
+      (λ v o w g. next v o w (steady-less (base + k) base n o (omega arith) g.steady) (living base total (base + k) n o g.steady l) (stored base k locals n o le g.steady s) g.held)
+      (behind rest d))
 
   store_sim : (locals : Locals) (x : List ℕ) (v : ℤ) (i : Option ℕ) (k d : ℕ) (n o : Memory) (w : World) → k < total → length locals ≤ k → Steady base n o → Living base total o → Stored base locals o
       → o.block (base + k) ≡ holding (Some v) → AssignsAs base locals o x v i
@@ -226,7 +244,7 @@ module _ (again : Again) (c_again helps : m.Again) (fs : List Function) (p : Lis
       sim-at _ _ _ (all_one c_again helps p (set i (held k)) sc d o w ∙ set_held c_again helps p sc base total scoped i k v d o w (omega arith) h l e)
       (sim-went (Flows base (names_of locals) n) _ _ w
       (fell base (names_of locals) n (written (base + i) (Some v) o) (with_value locals x v)
-        (steady-through base base n o (written (base + i) (Some v) o) (omega arith) st (steady-written base (base + i) (Some v) o (omega arith))) a.1 (names-with_value locals x v)))
+      (steady-through base base n o (written (base + i) (Some v) o) (omega arith) st (steady-written base (base + i) (Some v) o (omega arith))) a.1 (names-with_value locals x v)))
 
   -- a call whose value is not used
   name_call : (name : List ℕ) (k : ℕ) (vs : List ℤ) (d : ℕ) (n : Memory) (w : World) → k + length vs ≤ total → HeldFrom base k vs n
@@ -243,7 +261,7 @@ module _ (again : Again) (c_again helps : m.Again) (fs : List Function) (p : Lis
       let fits : base ≤ o.next = omega arith in
       sim-went (Flows base (names_of locals) n) (Falls locals) (m.Falls r.memory) w
       (fell base (names_of locals) n r.memory locals (steady-through base base n o r.memory (omega arith) st (steady-less o.next base o r.memory fits back.steady))
-        (stored base total locals o r.memory le (steady-less o.next (base + total) o r.memory room back.steady) s) refl)
+      (stored base total locals o r.memory le (steady-less o.next (base + total) o r.memory room back.steady) s) refl)
 
   plain_call_sim : (x : List ℕ) (j : ℕ) (cal : Callee) → callee fs x j ≡ cal → (locals : Locals) (k : ℕ) (vs : List ℤ) (d : ℕ) (n o : Memory) (w : World) → length vs ≡ j → k + length vs ≤ total
       → length locals ≤ total → Living base total o → Steady base n o → Stored base locals o → HeldFrom base k vs o
@@ -251,7 +269,7 @@ module _ (again : Again) (c_again helps : m.Again) (fs : List Function) (p : Lis
   plain_call_sim x j Puts is locals k vs d n o w e room le l st s held =
       sim-at _ _ _ (name_call putchar_name k vs d o w room held)
       (sim-then _ _ _ _ (put_sim again c_again helps fs p gr gh calls puts sc base total scoped vs (e ∙ puts x j is) d o w)
-        (λ q r w back. back_falls locals n o le l st s q r w back) (λ r w. went _ w))
+      (λ q r w back. back_falls locals n o le l st s q r w back) (λ r w. went _ w))
   plain_call_sim x j (Defined f) is locals k vs d n o w e room le l st s held =
       sim-at _ _ _ (name_call (link_name_of f) k vs d o w room held)
       (sim-then _ _ _ _ (calls x j f is vs e d o w) (λ q r w back. back_falls locals n o le l st s q r w back) (λ r w. went _ w))
@@ -287,24 +305,24 @@ module _ (again : Again) (c_again helps : m.Again) (fs : List Function) (p : Lis
   again_sim : (e : Expression) (body : Statements) (locals : Locals) (d : ℕ) (n o : Memory) → top_of (loop e body) (length (names_of locals)) ≤ total → Living base total n → Steady base n o
       → (f : Flow) (fl : m.Flow) (w : World) → Flows base (names_of locals) o f fl
       → Sim (Flows base (names_of locals) n) (falling (λ locals w. again (followed (loop e body) done) locals d w) f w)
-        (turning (λ o w. c_again false (c.loop (plain_body (turn fs (names_of locals) e (codes_of fs (names_of locals) body)))) sc d o w) fl w)
+      (turning (λ o w. c_again false (c.loop (plain_body (turn fs (names_of locals) e (codes_of fs (names_of locals) body)))) sc d o w) fl w)
   again_sim e body locals d n o h l st (Falls now) fl w r =
       let f = r.by in
       let whole = steady-through base base n o f.memory (omega arith) st f.steady_is in
       let S : m.Flow → Type 0 = λ q. Sim (Flows base (names_of locals) n) (again (followed (loop e body) done) now d w)
-          (turning (λ o w. c_again false (c.loop (plain_body (turn fs (names_of locals) e (codes_of fs (names_of locals) body)))) sc d o w) q w) in
+      (turning (λ o w. c_again false (c.loop (plain_body (turn fs (names_of locals) e (codes_of fs (names_of locals) body)))) sc d o w) q w) in
       let P : List (List ℕ) → Type 0 = λ names. Sim (Flows base names f.memory) (again (followed (loop e body) done) now d w)
-          (c_again false (c.loop (plain_body (turn fs names e (codes_of fs names body)))) sc d f.memory w) in
+      (c_again false (c.loop (plain_body (turn fs names e (codes_of fs names body)))) sc d f.memory w) in
       let fits = subst (λ names. top_of (loop e body) (length names) ≤ total) (sym f.names_are) h in
       subst S (sym f.is)
       (widen (names_of locals) n f.memory whole _ _
-        (subst P f.names_are (turns e body now d f.memory w fits (living base total base n f.memory whole l) f.stored_is)))
+      (subst P f.names_are (turns e body now d f.memory w fits (living base total base n f.memory whole l) f.stored_is)))
   again_sim e body locals d n o h l st (Returns v) fl w r =
       let f = r.by in
       let S : m.Flow → Type 0 = λ q. Sim (Flows base (names_of locals) n) (Went (Returns v) w)
-          (turning (λ o w. c_again false (c.loop (plain_body (turn fs (names_of locals) e (codes_of fs (names_of locals) body)))) sc d o w) q w) in
+      (turning (λ o w. c_again false (c.loop (plain_body (turn fs (names_of locals) e (codes_of fs (names_of locals) body)))) sc d o w) q w) in
       subst S (sym f.is) (sim-went (Flows base (names_of locals) n) (Returns v) _ w
-        (record { by = record { memory = f.memory; is = refl; steady_is = steady-through base base n o f.memory (omega arith) st f.steady_is } }))
+      (record { by = record { memory = f.memory; is = refl; steady_is = steady-through base base n o f.memory (omega arith) st f.steady_is } }))
 
   -- what a turn does with the value of its condition
   abbrev turned : (Memory → World → Ran m.Flow) → List c.Statement → ℤ → ℕ → Memory → World → Ran m.Flow
@@ -331,7 +349,7 @@ module _ (again : Again) (c_again helps : m.Again) (fs : List Function) (p : Lis
 
   rest_sim : (s : Statement) (rest : Statements) (names : List (List ℕ)) (d : ℕ) (n : Memory) (f : Flow) (fl : m.Flow) (w : World) → Flows base (names_after s names) n f fl
       → ((now : Locals) (o : Memory) (w : World) → names_of now ≡ names_after s names → Steady base n o → Stored base now o
-        → Sim (Reaches base (names_of now) o) (does_all again fs rest now d w) (run (codes_of fs (names_of now) rest) d o w))
+      → Sim (Reaches base (names_of now) o) (does_all again fs rest now d w) (run (codes_of fs (names_of now) rest) d o w))
       → Sim (Reaches base names n) (falling (λ locals w. does_all again fs rest locals d w) f w) (m.falling (λ o w. run (codes_of fs (names_after s names) rest) d o w) fl w)
   rest_sim s rest names d n (Falls now) fl w r next =
       let f = r.by in
@@ -339,12 +357,12 @@ module _ (again : Again) (c_again helps : m.Again) (fs : List Function) (p : Lis
       let P : List (List ℕ) → Type 0 = λ k. Sim (Reaches base k f.memory) (does_all again fs rest now d w) (run (codes_of fs k rest) d f.memory w) in
       subst S (sym f.is)
       (sim-wider (Reaches base (names_after s names) f.memory) (Reaches base names n) _ _ (λ g gl q. reaches_more s names n f.memory f.steady_is g gl q)
-        (subst P f.names_are (next now f.memory w f.names_are f.steady_is f.stored_is)))
+      (subst P f.names_are (next now f.memory w f.names_are f.steady_is f.stored_is)))
   rest_sim s rest names d n (Returns v) fl w r next =
       let f = r.by in
       let S : m.Flow → Type 0 = λ q. Sim (Reaches base names n) (Went (Returns v) w) (m.falling (λ o w. run (codes_of fs (names_after s names) rest) d o w) q w) in
       subst S (sym f.is) (sim-went (Reaches base names n) (Returns v) _ w
-        (record { extra = []; flows = record { by = record { memory = f.memory; is = refl; steady_is = f.steady_is } } }))
+      (record { extra = []; flows = record { by = record { memory = f.memory; is = refl; steady_is = f.steady_is } } }))
 
   mutual
     pub does_sim : (s : Statement) (locals : Locals) (d : ℕ) (n : Memory) (w : World) → top_of s (length (names_of locals)) ≤ total → Living base total n → Stored base locals n
@@ -353,9 +371,16 @@ module _ (again : Again) (c_again helps : m.Again) (fs : List Function) (p : Lis
         let same = length-names_of locals in
         sim-onto _ _ (λ v. Falls ((x, v) ∷ locals)) (expression_sim e locals d n w h l s)
         (λ v fl g. let r = g.holds in
-          let le : length locals ≤ length (names_of locals) = omega arith in
-          record { by = record { memory = g.memory; is = g.is; steady_is = steady-less (base + length (names_of locals)) base n g.memory (omega arith) r.steady;
-            stored_is = (ap (λ k. g.memory.block (base + k)) (sym same) ∙ r.held, stored base (length (names_of locals)) locals n g.memory le r.steady s); names_are = refl } })
+        let le : length locals ≤ length (names_of locals) = omega arith in
+        record {
+          by = record {
+            memory = g.memory;
+            is = g.is;
+            steady_is = steady-less (base + length (names_of locals)) base n g.memory (omega arith) r.steady;
+            stored_is = (ap (λ k. g.memory.block (base + k)) (sym same) ∙ r.held, stored base (length (names_of locals)) locals n g.memory le r.steady s);
+            names_are = refl;
+          };
+        })
     does_sim (assign at x e) locals d n w h l s =
         let same = length-names_of locals in
         let above = top-above e (length (names_of locals)) in
@@ -367,21 +392,21 @@ module _ (again : Again) (c_again helps : m.Again) (fs : List Function) (p : Lis
         let le : length locals ≤ k = omega arith in
         sim-at _ _ _ (all_join c_again helps p (flats fs (names_of locals) es k) (plain_call (callee fs x (count es)) k (count es)) sc d n w)
         (sim-falls (GetsAll base k (count es) n) _ _ _ _ (flats_sim again c_again helps fs p gr gh calls puts sc base total scoped es locals k d n w le h l s)
-          (λ vs o w g.
-            let many = g.many in
-            let above = tops-above es k in
-            let room : k + length vs ≤ total = omega arith in
-            let fits : length locals ≤ total = omega arith in
-            let sim = plain_call_sim x (count es) (callee fs x (count es)) refl locals k vs d n o w g.many room fits (living base total (base + k) n o g.steady l)
-                (steady-less (base + k) base n o (omega arith) g.steady) (stored base k locals n o le g.steady s) g.held in
-            subst (λ j. Sim (Flows base (names_of locals) n) (and_then (called again (callee fs x (count es)) vs d w) (λ r w. Went (Falls locals) w)) (run (plain_call (callee fs x (count es)) k j) d o w)) g.many sim)
-          (behind (plain_call (callee fs x (count es)) k (count es)) d))
+        (λ vs o w g.
+        let many = g.many in
+        let above = tops-above es k in
+        let room : k + length vs ≤ total = omega arith in
+        let fits : length locals ≤ total = omega arith in
+        let sim = plain_call_sim x (count es) (callee fs x (count es)) refl locals k vs d n o w g.many room fits (living base total (base + k) n o g.steady l)
+        (steady-less (base + k) base n o (omega arith) g.steady) (stored base k locals n o le g.steady s) g.held in
+        subst (λ j. Sim (Flows base (names_of locals) n) (and_then (called again (callee fs x (count es)) vs d w) (λ r w. Went (Falls locals) w)) (run (plain_call (callee fs x (count es)) k j) d o w)) g.many sim)
+        (behind (plain_call (callee fs x (count es)) k (count es)) d))
     does_sim (give e) locals d n w h l s =
         let k = length (names_of locals) in
         let above = top-above e k in
         after_value e locals (c.give (Some (held k)) ∷ []) (λ v w. Went (Returns v) w) d n w h l s
         (λ v o w st l_o s_o e_held. sim-at _ _ _ (give_is k v d o w (omega arith) e_held)
-          (sim-went (Flows base (names_of locals) n) (Returns v) _ w (record { by = record { memory = o; is = refl; steady_is = st } })))
+        (sim-went (Flows base (names_of locals) n) (Returns v) _ w (record { by = record { memory = o; is = refl; steady_is = st } })))
     does_sim (choose e chosen other) locals d n w h l s =
         let k = length (names_of locals) in
         let above = top-above e k in
@@ -393,9 +418,9 @@ module _ (again : Again) (c_again helps : m.Again) (fs : List Function) (p : Lis
         let c2 = codes_of fs (names_of locals) other in
         after_value e locals (c.choose (held k) (plain_body c1) (plain_body c2) ∷ []) _ d n w top_e l s
         (λ v o w st l_o s_o e_held.
-          sim-at _ _ _ (all_one c_again helps p (c.choose (held k) (plain_body c1) (plain_body c2)) sc d o w ∙ choose_is k v c1 c2 d o w (omega arith) e_held)
-          (widen (names_of locals) n o st _ _
-            (choice_sim v _ _ _ _ (in_block_sim locals o _ _ (all_sim chosen locals d o w top_c l_o s_o)) (in_block_sim locals o _ _ (all_sim other locals d o w top_o l_o s_o)))))
+        sim-at _ _ _ (all_one c_again helps p (c.choose (held k) (plain_body c1) (plain_body c2)) sc d o w ∙ choose_is k v c1 c2 d o w (omega arith) e_held)
+        (widen (names_of locals) n o st _ _
+        (choice_sim v _ _ _ _ (in_block_sim locals o _ _ (all_sim chosen locals d o w top_c l_o s_o)) (in_block_sim locals o _ _ (all_sim other locals d o w top_o l_o s_o)))))
     does_sim (loop e body) locals d n w h l s =
         let names = names_of locals in
         let k = length names in
@@ -409,18 +434,18 @@ module _ (again : Again) (c_again helps : m.Again) (fs : List Function) (p : Lis
         let go : Memory → World → Ran m.Flow = λ o w. c_again false (c.loop (plain_body (turn fs names e codes))) sc d o w in
         sim-at _ _ _ (all_one c_again helps p (c.loop (plain_body (turn fs names e codes))) sc d n w)
         (sim-spend_of w.ticks w _ _ (λ u q.
-          sim-at _ _ _ (ap (λ r. and_then r (turning go)) (body_is (turn fs names e codes) d n u ∙ all_join c_again helps p (flat fs names e k) (test ∷ codes) sc d n u)
-            ∙ then-assoc (run (flat fs names e k) d n u) (m.falling (λ o w. run (test ∷ codes) d o w)) (turning go))
-          (sim-falls (Gets base k n) _ _ _ _ (expression_sim e locals d n u top_e l s)
-            (λ v o w g.
-              let st = steady-less (base + k) base n o (omega arith) g.steady in
-              let s_o = stored base k locals n o le g.steady s in
-              let l_o = living base total (base + k) n o g.steady l in
-              sim-at _ _ _ (ap (λ r. and_then (and_then r (m.falling (λ o w. run codes d o w))) (turning go)) (choose_is k v [] (c.leave ∷ []) d o w (omega arith) g.held))
-              (turn_sim locals n o go (λ o w. gr false _ sc d o w) codes st s_o (λ w. in_block locals (does_all again fs body locals d w)) _ v d w
-                (in_block_sim locals o _ _ (all_sim body locals d o w top_b l_o s_o))
-                (λ f fl w r. again_sim e body locals d n o h l st f fl w r)))
-            (λ fl w. adds-then w.trace _ _ (behind (test ∷ codes) d fl w) (λ fl w. grows-turning go (λ o w. gr false _ sc d o w) fl w)))))
+        sim-at _ _ _ (ap (λ r. and_then r (turning go)) (body_is (turn fs names e codes) d n u ∙ all_join c_again helps p (flat fs names e k) (test ∷ codes) sc d n u)
+        ∙ then-assoc (run (flat fs names e k) d n u) (m.falling (λ o w. run (test ∷ codes) d o w)) (turning go))
+        (sim-falls (Gets base k n) _ _ _ _ (expression_sim e locals d n u top_e l s)
+        (λ v o w g.
+        let st = steady-less (base + k) base n o (omega arith) g.steady in
+        let s_o = stored base k locals n o le g.steady s in
+        let l_o = living base total (base + k) n o g.steady l in
+        sim-at _ _ _ (ap (λ r. and_then (and_then r (m.falling (λ o w. run codes d o w))) (turning go)) (choose_is k v [] (c.leave ∷ []) d o w (omega arith) g.held))
+        (turn_sim locals n o go (λ o w. gr false _ sc d o w) codes st s_o (λ w. in_block locals (does_all again fs body locals d w)) _ v d w
+        (in_block_sim locals o _ _ (all_sim body locals d o w top_b l_o s_o))
+        (λ f fl w r. again_sim e body locals d n o h l st f fl w r)))
+        (λ fl w. adds-then w.trace _ _ (behind (test ∷ codes) d fl w) (λ fl w. grows-turning go (λ o w. gr false _ sc d o w) fl w)))))
     does_sim (block body) locals d n w h l s = in_block_sim locals n _ _ (all_sim body locals d n w h l s)
 
     pub all_sim : (all : Statements) (locals : Locals) (d : ℕ) (n : Memory) (w : World) → top_of_all all (length (names_of locals)) ≤ total → Living base total n → Stored base locals n
@@ -433,7 +458,7 @@ module _ (again : Again) (c_again helps : m.Again) (fs : List Function) (p : Lis
         let top_r = max_right (top_of s (length names)) (top_of_all rest (count_after s (length names))) total h in
         sim-at _ _ _ (all_join c_again helps p (code fs names s) (codes_of fs (names_after s names) rest) sc d n w)
         (sim-then _ _ _ _ (does_sim s locals d n w top_s l st)
-          (λ f fl w r. rest_sim s rest names d n f fl w r (λ now o w e s_n s_o.
-            let fits = subst (λ j. top_of_all rest j ≤ total) (sym (ap length e ∙ count-after s names)) top_r in
-            all_sim rest now d o w fits (living base total base n o s_n l) s_o))
-          (behind (codes_of fs (names_after s names) rest) d))
+        (λ f fl w r. rest_sim s rest names d n f fl w r (λ now o w e s_n s_o.
+        let fits = subst (λ j. top_of_all rest j ≤ total) (sym (ap length e ∙ count-after s names)) top_r in
+        all_sim rest now d o w fits (living base total base n o s_n l) s_o))
+        (behind (codes_of fs (names_after s names) rest) d))

@@ -123,7 +123,7 @@ reads base (l ∷ locals) n x h = go (reads base locals n x h.1) (bytes_eq l.0 x
     go : ReadsAs base locals n x (slot_of (names_of locals) x) → (t : Bool) → bytes_eq l.0 x ≡ t → ReadsAs base (l ∷ locals) n x (slot_of (names_of (l ∷ locals)) x)
     go further true e =
         let at : slot_of (names_of (l ∷ locals)) x ≡ Some (length locals) =
-            ap (λ t. if t then Some (length (names_of locals)) else slot_of (names_of locals) x) e ∙ ap Some (length-names_of locals) in
+        ap (λ t. if t then Some (length (names_of locals)) else slot_of (names_of locals) x) e ∙ ap Some (length-names_of locals) in
         let value : value_in (l ∷ locals) x ≡ l.1 = ap (λ t. if t then l.1 else value_in locals x) e in
         let last : length locals < suc (length locals) = omega arith in
         subst (ReadsAs base (l ∷ locals) n x) (sym at) (last, h.0 ∙ ap (λ v. holding (Some v)) (sym value))

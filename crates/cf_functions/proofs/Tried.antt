@@ -20,9 +20,9 @@ sum = record {
   name = codes "f";
   parameters = n ∷ [];
   body = in_order (declare 0 s (number 0)
-    ∷ loop (binary operator.Less (number 0) (var n))
-        (in_order (assign 0 s (binary operator.Add (var s) (var n)) ∷ assign 0 n (binary operator.Subtract (var n) (number 1)) ∷ []))
-    ∷ give (var s) ∷ []);
+      ∷ loop (binary operator.Less (number 0) (var n))
+      (in_order (assign 0 s (binary operator.Add (var s) (var n)) ∷ assign 0 n (binary operator.Subtract (var n) (number 1)) ∷ []))
+      ∷ give (var s) ∷ []);
 }
 
 abbrev function : List ℕ → List (List ℕ) → List Statement → Function
@@ -66,8 +66,10 @@ in_order_program =
     ∷ function (codes "main") [] (give (call 0 (codes "f") (arguments (call 0 (codes "g") (arguments (number 1 ∷ [])) ∷ call 0 (codes "g") (arguments (number 2 ∷ [])) ∷ []))) ∷ []) ∷ []
 
 abbrev in_order_shown : Outcome
-in_order_shown = record { end = Ended (pos 3);
-  trace = Enter (codes "__main") ∷ Enter (codes "g__Fi") ∷ Out 49 ∷ Enter (codes "g__Fi") ∷ Out 50 ∷ Enter (codes "f__Fii") ∷ []; }
+in_order_shown = record {
+  end = Ended (pos 3);
+  trace = Enter (codes "__main") ∷ Enter (codes "g__Fi") ∷ Out 49 ∷ Enter (codes "g__Fi") ∷ Out 50 ∷ Enter (codes "f__Fii") ∷ [];
+}
 
 left_to_right : run in_order_program 1024 100 ≡ in_order_shown
 left_to_right = refl

@@ -144,7 +144,7 @@ Again = Statements → Locals → ℕ → World → Ran Flow
 abbrev pub enter : Again → Function → List ℤ → ℕ → World → Ran (Option ℤ)
 enter again f vs depth w =
     spend w (λ w. deeper depth w (λ depth.
-      and_then (again f.body (bind f.parameters vs []) depth (show (Enter (link_name_of f)) w)) (λ flow w. Went (result_of f flow) w)))
+    and_then (again f.body (bind f.parameters vs []) depth (show (Enter (link_name_of f)) w)) (λ flow w. Went (result_of f flow) w)))
 
 abbrev pub called : Again → Callee → List ℤ → ℕ → World → Ran (Option ℤ)
 called again Puts vs depth w = put (first_of vs) w
@@ -177,8 +177,8 @@ abbrev mutual
       and_then (value again fs e locals depth w) (λ v w. choice v (in_block locals (does_all again fs chosen locals depth w)) (in_block locals (does_all again fs other locals depth w)))
   does again fs (loop e body) locals depth w =
       spend w (λ w. and_then (value again fs e locals depth w) (λ v w. choice v
-        (and_then (in_block locals (does_all again fs body locals depth w)) (falling (λ locals w. again (followed (loop e body) done) locals depth w)))
-        (Went (Falls locals) w)))
+      (and_then (in_block locals (does_all again fs body locals depth w)) (falling (λ locals w. again (followed (loop e body) done) locals depth w)))
+      (Went (Falls locals) w)))
   does again fs (block body) locals depth w = in_block locals (does_all again fs body locals depth w)
 
   pub does_all : Again → List Function → Statements → Locals → ℕ → World → Ran Flow

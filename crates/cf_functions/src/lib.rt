@@ -2,6 +2,8 @@
 //! written in the small C, with the law that the two agree.
 #![tactic(auto)]
 
+mod laws;
 mod tree;
 
+pub use laws::translation_keeps_meaning;
 pub use tree::{Expression, Function, Operator, Program, Statement};
