@@ -1,3 +1,4 @@
 pub mod Mark
 pub mod Token
 pub mod Cut
+pub mod Front

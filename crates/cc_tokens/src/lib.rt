@@ -4,6 +4,7 @@
 //! is spelled and how a text is cut; `tokens` cuts one.
 #![tactic(auto)]
 
+mod front;
 mod mark;
 mod token;
 
