@@ -72,7 +72,7 @@ fn begins_with(text: &[u8], wanted: u8) -> bool
 }
 
 /// The bytes from a place on.
-fn rest_of(text: &[u8], at: usize) -> &[u8]
+pub fn rest_of(text: &[u8], at: usize) -> &[u8]
     requires { at ≤ length text.now }
     ensures { result.now ≡ drop at text.now }
 {
