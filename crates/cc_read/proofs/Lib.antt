@@ -1,0 +1,7 @@
+pub mod Values
+pub mod Steps
+pub mod Loops
+pub mod Tools
+pub mod SoundExpressions
+pub mod SoundLists
+pub mod SoundStatements

@@ -1,0 +1,4 @@
+pub mod Parse
+pub mod Expressions
+pub mod Statements
+pub mod Items
