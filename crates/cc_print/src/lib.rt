@@ -5,8 +5,10 @@
 #![tactic(auto)]
 
 mod expression;
+mod laws;
 mod lines;
 mod statement;
 mod unit;
 
+pub use laws::returned_text_is_its_text;
 pub use unit::print;
