@@ -55,3 +55,6 @@ pub decimal_is_numeral : (n : ℕ) → n < 2 ^ 64 → is_numeral (decimal n) ≡
 decimal_is_numeral n fits =
     let d = digits n fits in
     rw (d.first, d.all, plain n fits) refl
+
+pub decimal_is_digits : (n : ℕ) → n < 2 ^ 64 → list_all is_ascii_digit (decimal n) ≡ true
+decimal_is_digits n fits = (digits n fits).all

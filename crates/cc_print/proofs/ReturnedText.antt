@@ -86,19 +86,19 @@ any_level e xs (suc level) s = g.SpellsExpression.tighter level e xs (any_level 
 number_spelled : (n : ℕ) → n < 2 ^ 64 → g.SpellsExpression g.loosest (tree.Int (pos n)) (token.Signed (decimal n) ∷ [])
 number_spelled n fits =
     any_level (tree.Int (pos n)) (token.Signed (decimal n) ∷ []) g.loosest
-      (let P : ℕ → Type 0 = λ m. g.SpellsExpression 0 (tree.Int (pos m)) (token.Signed (decimal n) ∷ []) in
-        subst P (decimal_is_IsNumeral n fits).1 (g.SpellsExpression.int (decimal n)))
+    (let P : ℕ → Type 0 = λ m. g.SpellsExpression 0 (tree.Int (pos m)) (token.Signed (decimal n) ∷ []) in
+    subst P (decimal_is_IsNumeral n fits).1 (g.SpellsExpression.int (decimal n)))
 
 spelled_of : (n : ℕ) → n < 2 ^ 64 → g.SpellsItems (returning n).items (tokens_of n)
 unfolding tokens_of
 spelled_of n fits =
     g.SpellsItems.more _ _ [] []
-      (g.SpellsItem.function _ _ _ _
-        (g.SpellsPrototype.prototype (Some ty.Int) (g.sign mark.Int) (codes "__main") [] (g.sign mark.Void)
-          (g.SpellsResult.some ty.Int (g.sign mark.Int) g.SpellsType.int) g.SpellsSignature.void)
-        (g.SpellsBody.body [] [] (statement.Return (Some (tree.Int (pos n))) ∷ []) _ g.SpellsLocals.none
-          (g.SpellsStatements.more _ _ [] [] (g.SpellsStatement.gives (tree.Int (pos n)) (token.Signed (decimal n) ∷ []) (number_spelled n fits)) g.SpellsStatements.none)))
-      g.SpellsItems.none
+    (g.SpellsItem.function _ _ _ _
+    (g.SpellsPrototype.prototype (Some ty.Int) (g.sign mark.Int) (codes "__main") [] (g.sign mark.Void)
+    (g.SpellsResult.some ty.Int (g.sign mark.Int) g.SpellsType.int) g.SpellsSignature.void)
+    (g.SpellsBody.body [] [] (statement.Return (Some (tree.Int (pos n))) ∷ []) _ g.SpellsLocals.none
+    (g.SpellsStatements.more _ _ [] [] (g.SpellsStatement.gives (tree.Int (pos n)) (token.Signed (decimal n) ∷ []) (number_spelled n fits)) g.SpellsStatements.none)))
+    g.SpellsItems.none
 
 -- ---- the text
 
@@ -111,7 +111,13 @@ items_printed n =
     })))
     ∙ ap (λ b. prototype_text (record { result = Some ty.Int; name = codes "__main"; parameters = [] }) ++ b) (printed_body n)
     ∙ ap (λ r. codes "int __main ( void ) {\nreturn " ++ r)
-      (append_assoc (decimal n ++ codes " ") (codes ";\n") (codes "}\n") ∙ append_assoc (decimal n) (codes " ") (codes ";\n}\n"))
+    (append_assoc (decimal n ++ codes " ") (codes ";\n") (codes "}\n") ∙ append_assoc (decimal n) (codes " ") (codes ";\n}\n"))
+
+-- all that is printed
+pub printed_of : (n : ℕ) → unit_text (returning n)
+    ≡ codes "#pragma cfront " ++ (decimal 1 ++ (codes "\nint __main ( void ) {\nreturn " ++ (decimal n ++ codes " ;\n}\n")))
+unfolding bytes_of
+printed_of n = ap (λ r. codes "#pragma cfront " ++ (decimal 1 ++ (codes "\n" ++ r))) (items_printed n)
 
 -- the printed text of a unit that returns a number is a text of it
 pub returned_text : (n : ℕ) → n < 2 ^ 64 → Text (unit_text (returning n)) (returning n)
@@ -134,5 +140,5 @@ returned_text n fits = record {
   cut = cut_of n fits;
   spelled = spelled_of n fits;
   parts = ap (λ r. codes "#pragma cfront " ++ (decimal 1 ++ (codes "\n" ++ r))) (items_printed n)
-    ∙ ap (λ r. codes "#pragma cfront " ++ r) (sym (append_assoc (decimal 1) (codes "\n") (bytes_of n)));
+      ∙ ap (λ r. codes "#pragma cfront " ++ r) (sym (append_assoc (decimal 1) (codes "\n") (bytes_of n)));
 }

@@ -1,7 +1,3 @@
-pub mod Values
-pub mod Steps
-pub mod Loops
-pub mod Tools
-pub mod SoundExpressions
-pub mod SoundLists
-pub mod SoundStatements
+pub mod Numbers
+pub mod PrintedNumber
+pub mod ReadLaws

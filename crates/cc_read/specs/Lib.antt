@@ -1,4 +1,2 @@
-pub mod Parse
-pub mod Expressions
-pub mod Statements
-pub mod Items
+pub mod Number
+pub mod Read

@@ -1,30 +1,23 @@
 ghost use Rattle.std.specs.Prelude.{◌≡◌};
+ghost use Rattle.cc_read.specs.declared.error.ReadErr.TheVariants as error;
 
-use cf_base::Memory;
+use cf_base::{Limit, Memory};
 
-/// Why tokens are no text, by how many tokens are left.
+/// Why a text is not read.
 #[derive(Clone, Copy, Debug, PartialEq, Eq)]
-pub enum Fault {
-    /// What stands there is not what must stand there.
-    Broken(usize),
-    /// A constant is too large.
-    Large(usize),
+pub enum ReadErr {
+    /// No unit has this text. The place is the first byte so far.
+    NotC { at: u32 },
+    /// The unit breaks a rule of validity, at a byte place.
+    Invalid { rule: u8, at: u32 },
+    Limit(Limit),
+    Memory,
 }
 
-/// What parsing answers without a tree.
-#[derive(Clone, Copy, Debug, PartialEq, Eq)]
-pub enum ParseError {
-    Faulty(Fault),
-    OutOfMemory,
-}
+impl From<Memory> for ReadErr {
+    ghost from_gives = { λ _ e. e ≡ error.Memory };
 
-impl From<Memory> for ParseError {
-    ghost use Rattle.cc_read.specs.declared.error.ParseError.{ParseError};
-    ghost use Rattle.cc_read.specs.declared.error.ParseError.TheVariants.{OutOfMemory};
-
-    ghost from_gives = { λ _ e. e ≡ OutOfMemory };
-
-    fn from(_error: Memory) -> ParseError {
-        ParseError::OutOfMemory
+    fn from(_error: Memory) -> ReadErr {
+        ReadErr::Memory
     }
 }
