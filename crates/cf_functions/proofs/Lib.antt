@@ -1,0 +1,9 @@
+pub mod Blocks
+pub mod Entry
+pub mod Expressions
+pub mod Functions
+pub mod Growth
+pub mod LinkNames
+pub mod Statements
+pub mod Steps
+mod Tried

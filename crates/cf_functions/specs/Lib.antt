@@ -1,0 +1,4 @@
+pub mod Agrees
+pub mod Mean
+pub mod Plain
+pub mod Translate

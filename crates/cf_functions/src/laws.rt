@@ -1,0 +1,7 @@
+ghost use Rattle.cf_functions.specs.Agrees.{TranslationAgrees};
+
+/// A law: the program of the small C that a file is written as runs as the file means, whatever the input and the
+/// limits: with the same trace and the same end, up to the first undefined act.
+pub fn translation_keeps_meaning()
+    ensures { TranslationAgrees }
+{}
