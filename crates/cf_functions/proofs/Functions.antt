@@ -29,7 +29,7 @@ use Rattle.cf_functions.proofs.Entry.{entry_scope, entry_scoped, stored_bind, na
 
 -- ---- what a call reaches
 
-callee_defined : (fs : List Function) (x : List ℕ) (k : ℕ) (f : Function) → callee fs x k ≡ Defined f → find (is_called x k) fs ≡ Some f
+pub callee_defined : (fs : List Function) (x : List ℕ) (k : ℕ) (f : Function) → callee fs x k ≡ Defined f → find (is_called x k) fs ≡ Some f
 callee_defined fs x k f e = go (bytes_eq x putchar_name && (k == 1)) (find (is_called x k) fs) refl e
   where
     by_option : (o : Option Function) → defined o ≡ Defined f → o ≡ Some f
@@ -40,7 +40,7 @@ callee_defined fs x k f e = go (bytes_eq x putchar_name && (k == 1)) (find (is_c
     go true o is h = absurd (cc)
     go false o is h = is ∙ by_option o h
 
-callee_puts : (fs : List Function) (x : List ℕ) (k : ℕ) → callee fs x k ≡ Puts → k ≡ 1
+pub callee_puts : (fs : List Function) (x : List ℕ) (k : ℕ) → callee fs x k ≡ Puts → k ≡ 1
 callee_puts fs x k e = go (bytes_eq x putchar_name && (k == 1)) refl e
   where
     by_option : (o : Option Function) → defined o ≡ Puts → k ≡ 1
@@ -52,7 +52,7 @@ callee_puts fs x k e = go (bytes_eq x putchar_name && (k == 1)) refl e
     go false is h = by_option (find (is_called x k) fs) h
 
 -- what was found passes the test, and has what all have
-find_holds : (test : Function → Bool) (fs : List Function) (f : Function) → find test fs ≡ Some f → test f ≡ true
+pub find_holds : (test : Function → Bool) (fs : List Function) (f : Function) → find test fs ≡ Some f → test f ≡ true
 find_holds test [] f e = absurd (cc)
 find_holds test (g ∷ fs) f e = go (find_holds test fs f) (test g) refl e
   where
@@ -60,7 +60,7 @@ find_holds test (g ∷ fs) f e = go (find_holds test fs f) (test g) refl e
     go next true is h = let same : g ≡ f = cc in ap test (sym same) ∙ is
     go next false is h = next h
 
-find_all : (test q : Function → Bool) (fs : List Function) (f : Function) → find test fs ≡ Some f → list_all q fs ≡ true → q f ≡ true
+pub find_all : (test q : Function → Bool) (fs : List Function) (f : Function) → find test fs ≡ Some f → list_all q fs ≡ true → q f ≡ true
 find_all test q [] f e all = absurd (cc)
 find_all test q (g ∷ fs) f e all = go (find_all test q fs f) (test g) e
   where
@@ -71,10 +71,10 @@ find_all test q (g ∷ fs) f e all = go (find_all test q fs f) (test g) e
     go next true h = let same : g ≡ f = cc in ap q (sym same) ∙ p.0
     go next false h = next h p.1
 
-called_tells : (x : List ℕ) (k : ℕ) (f : Function) → is_called x k f ≡ true → (f.name ≡ x) × (length f.parameters ≡ k)
+pub called_tells : (x : List ℕ) (k : ℕ) (f : Function) → is_called x k f ≡ true → (f.name ≡ x) × (length f.parameters ≡ k)
 called_tells x k f e = let p = both (bytes_eq f.name x) (length f.parameters == k) e in (same_bytes f.name x p.0, eqb-true (length f.parameters) k p.1)
 
-called_is : (x : List ℕ) (k : ℕ) (f : Function) → f.name ≡ x → length f.parameters ≡ k → is_called x k f ≡ true
+pub called_is : (x : List ℕ) (k : ℕ) (f : Function) → f.name ≡ x → length f.parameters ≡ k → is_called x k f ≡ true
 called_is x k f e h = ap (λ t. t && (length f.parameters == k)) (bytes_same f.name x e) ∙ eq-eqb (length f.parameters) k h
 
 abbrev named : List ℕ → c.Function → Bool
@@ -164,7 +164,7 @@ CallSim fs p again c_again helps =
     (x : List ℕ) (k : ℕ) (f : Function) → callee fs x k ≡ Defined f → (vs : List ℤ) → length vs ≡ k → (d : ℕ) (n : Memory) (w : World)
     → Sim (Back n) (enter again f vs d w) (m.called c_again helps p false (link_name_of f) vs d n w)
 
-sound_parts : (f : Function) → is_sound f ≡ true → (bytes_eq (take 3 f.name) (codes "__h") ≡ false) × (variables f < 2 ^ 64)
+pub sound_parts : (f : Function) → is_sound f ≡ true → (bytes_eq (take 3 f.name) (codes "__h") ≡ false) × (variables f < 2 ^ 64)
 sound_parts f e =
     let p = both (not (bytes_eq (take 3 f.name) (codes "__h"))) (nat_lt (variables f) (2 ^ 64)) e in
     (go (bytes_eq (take 3 f.name) (codes "__h")) p.0, let q = p.1 in grind (arith, nat_tests))
@@ -173,7 +173,7 @@ sound_parts f e =
     go true h = absurd (cc)
     go false h = refl
 
-length-locals_of : (k n : ℕ) → length (locals_of k n) ≡ n
+pub length-locals_of : (k n : ℕ) → length (locals_of k n) ≡ n
 length-locals_of k zero = refl
 length-locals_of k (suc n) = ap suc (length-locals_of (suc k) n)
 
@@ -400,7 +400,7 @@ main_sim fs sound f at n d w =
     (sim-then _ _ _ _ call' (λ o b u back. status_sim again helps (grows-runs p n) (grows-helpers p n) p d o b u back)
     (λ b u. grows-rest again helps (grows-runs p n) (grows-helpers p n) p d b u))
 
-found_main : (fs : List Function) → has_main fs ≡ true → (f : Function) × (find (is_called main_name 0) fs ≡ Some f)
+pub found_main : (fs : List Function) → has_main fs ≡ true → (f : Function) × (find (is_called main_name 0) fs ≡ Some f)
 found_main fs e = go (find (is_called main_name 0) fs) refl e
   where
     go : (o : Option Function) → find (is_called main_name 0) fs ≡ o → is_some o ≡ true → (f : Function) × (find (is_called main_name 0) fs ≡ Some f)

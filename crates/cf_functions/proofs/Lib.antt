@@ -7,3 +7,4 @@ pub mod LinkNames
 pub mod Statements
 pub mod Steps
 mod Tried
+pub mod Validity

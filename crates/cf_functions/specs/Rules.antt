@@ -2,7 +2,7 @@
 use Rattle.std.specs.Prelude.{ℕ, zero, suc, Bool, true, false, not, ◌&&◌, ◌||◌, ◌==◌, nat_le, if◌then◌else◌, List, [], ◌∷◌, ◌++◌, Option, Some, None, codes, find, length, map}
 use Rattle.std.specs.List.{list_all, list_any}
 use Rattle.std.specs.Str.{bytes_eq}
-use Rattle.cf_functions.specs.Plain.{Expression, number, local, call, binary, Expressions, none, more, Statement, declare, assign, perform, give, choose, loop, block, Statements, done, followed, Function}
+use Rattle.cf_functions.specs.Plain.{Expression, number, local, call, binary, Expressions, none, more, Statement, declare, assign, perform, give, choose, loop, block, Statements, done, followed, names_after, Function}
 use Rattle.cf_functions.specs.Mean.{count, putchar_name, main_name}
 
 abbrev pub is_in : List (List ℕ) → List ℕ → Bool
@@ -38,15 +38,6 @@ locals_of (f ∷ fs) = (f.parameters ++ declared_all f.body) ++ locals_of fs
 
 -- ---- no name is declared twice in one block; parameters count with the outermost
 
-abbrev pub names_here : Statement → List (List ℕ) → List (List ℕ)
-names_here (declare at x e) names = x ∷ names
-names_here (assign at x e) names = names
-names_here (perform at x es) names = names
-names_here (give e) names = names
-names_here (choose e chosen other) names = names
-names_here (loop e body) names = names
-names_here (block body) names = names
-
 abbrev mutual
   pub once : Statement → List (List ℕ) → Bool
   once (declare at x e) names = not (is_in names x)
@@ -59,7 +50,7 @@ abbrev mutual
 
   pub once_all : Statements → List (List ℕ) → Bool
   once_all done names = true
-  once_all (followed s rest) names = once s names && once_all rest (names_here s names)
+  once_all (followed s rest) names = once s names && once_all rest (names_after s names)
 
 -- ---- a function's name stands only before (, and a local's never
 
@@ -159,7 +150,7 @@ abbrev mutual
   -- a local is in scope after its declaration, to the end of its block
   pub unknown_in_all : List (List ℕ) → List (List ℕ) → Statements → Option ℕ
   unknown_in_all functions scope done = None
-  unknown_in_all functions scope (followed s rest) = first (unknown_in functions scope s) (unknown_in_all functions (names_here s scope) rest)
+  unknown_in_all functions scope (followed s rest) = first (unknown_in functions scope s) (unknown_in_all functions (names_after s scope) rest)
 
 abbrev pub first_unknown : List (List ℕ) → List Function → Option ℕ
 first_unknown before [] = None
