@@ -43,6 +43,7 @@ pub record Slots (k : Known) (total : ℕ) : Type 0 where
 
 -- calls of known functions with fitting arguments are valid, stored or not
 pub record Calls (file : File) (known : List Function) (k : Known) : Type 0 where
+  pub result : is_some k.result ≡ true
   pub calls : (x : List ℕ) (n : ℕ) (f : Function) → is_called x n f ≡ true → is_in (function_names known) x ≡ true → may_call file known x n ≡ true
       → (target : Option c.Place) (es : List c.Expression) → length es ≡ n → v.valid_places target k ≡ true → valid_expressions es k ≡ true
       → valid_statement (c.call target (link_name_of f) es) k ≡ true
@@ -99,7 +100,7 @@ top-of-all-above (followed s rest) k = let h = top-of-all-above rest (count_afte
     count-grows (block body) k = omega arith
 
 -- a test that leads on to a list of names
-test_true : {A : Type 0} (t : Bool) (at : ℕ) (o : Option ℕ) → (if t then o else Some at) ≡ None → (t ≡ true) × (o ≡ None)
+test_true : (t : Bool) (at : ℕ) (o : Option ℕ) → (if t then o else Some at) ≡ None → (t ≡ true) × (o ≡ None)
 test_true true at o e = (refl, e)
 test_true false at o e = absurd (cc)
 
@@ -160,7 +161,7 @@ module _ (fs : List Function) (file : File) (known : List Function) (functions :
           valid_one (set k (read_local (slot_of names x))) kn (valid_set kn total s k (read_local (slot_of names x)) h (read_valid kn s names x (slot_of names x) refl (omega arith)))
       flat_valid kn s cs (call at x es) names scope k le h used none_unknown =
           let u = both (may_call file known x (count es)) (all_used_well file known es) used in
-          let t = test_true {A = ℕ} (bytes_eq x putchar_name || is_in functions x) at (unknowns functions scope es) none_unknown in
+          let t = test_true (bytes_eq x putchar_name || is_in functions x) at (unknowns functions scope es) none_unknown in
           let k_in = max_left (suc k) (tops es k) total h in
           let top_es = max_right (suc k) (tops es k) total h in
           let above = tops-above es k in
@@ -210,11 +211,38 @@ module _ (fs : List Function) (file : File) (known : List Function) (functions :
     abbrev in_loop : Known → Known
     in_loop kn = record kn { in_loop = true }
 
+    loop_expression : (kn : Known) (e : c.Expression) → valid_expression e (in_loop kn) ≡ valid_expression e kn
+    loop_expression kn (c.number z) = refl
+    loop_expression kn (c.load (c.named x)) = refl
+    loop_expression kn (c.binary o a b) =
+        ap (λ t. is_written o && (t && valid_expression b (in_loop kn))) (loop_expression kn a) ∙ ap (λ t. is_written o && (valid_expression a kn && t)) (loop_expression kn b)
+
+    loop_expressions : (kn : Known) (es : List c.Expression) → valid_expressions es (in_loop kn) ≡ valid_expressions es kn
+    loop_expressions kn [] = refl
+    loop_expressions kn (e ∷ es) = ap (λ t. t && valid_expressions es (in_loop kn)) (loop_expression kn e) ∙ ap (λ t. valid_expression e kn && t) (loop_expressions kn es)
+
+    loop_places : (kn : Known) (target : Option c.Place) → v.valid_places target (in_loop kn) ≡ v.valid_places target kn
+    loop_places kn None = refl
+    loop_places kn (Some (c.named x)) = refl
+
+    loop_call : (kn : Known) (target : Option c.Place) (name : List ℕ) (es : List c.Expression) → valid_statement (c.call target name es) kn ≡ true → valid_statement (c.call target name es) (in_loop kn) ≡ true
+    loop_call kn target name es e =
+        ap (λ t. t && (is_name name && (not (v.is_in kn.names name) && (v.may_call name kn.in_helper && (valid_call (prototype_named kn.declared name) es (is_some target) && valid_expressions es (in_loop kn))))))
+            (loop_places kn target)
+        ∙ ap (λ t. v.valid_places target kn && (is_name name && (not (v.is_in kn.names name) && (v.may_call name kn.in_helper && (valid_call (prototype_named kn.declared name) es (is_some target) && t)))))
+            (loop_expressions kn es)
+        ∙ e
+
     loop_slots : (kn : Known) → Slots kn total → Slots (in_loop kn) total
     loop_slots kn s = record { at = s.at }
 
     loop_calls : (kn : Known) → Calls file known kn → Calls file known (in_loop kn)
-    loop_calls kn cs = record { calls = ?; puts = ? }
+    loop_calls kn cs = record {
+      result = cs.result;
+      calls = λ x n f is known_is may target es e vp ve.
+          loop_call kn target (link_name_of f) es (cs.calls x n f is known_is may target es e (sym (loop_places kn target) ∙ vp) (sym (loop_expressions kn es) ∙ ve));
+      puts = λ target es e vp ve. loop_call kn target putchar_name es (cs.puts target es e (sym (loop_places kn target) ∙ vp) (sym (loop_expressions kn es) ∙ ve));
+    }
 
     mutual
       pub code_valid : (kn : Known) → Slots kn total → Calls file known kn → (s : Statement) (names scope : List (List ℕ)) → top_of s (length names) ≤ total → length names ≤ total
@@ -224,18 +252,22 @@ module _ (fs : List Function) (file : File) (known : List Function) (functions :
       code_valid kn sl cs (assign at x e) names scope h le used none_unknown =
           let k = length names in
           let u = both (not (is_function file x)) (used_well file known e) used in
-          let t = test_true {A = ℕ} (is_in scope x) at (unknown functions scope e) none_unknown in
+          let t = test_true (is_in scope x) at (unknown functions scope e) none_unknown in
           let above = top-above e k in
           valid_append (flat fs names e k) (store_local (slot_of names x) k) kn (flat_valid kn sl cs e names scope k (omega arith) h u.1 t.1)
           (store_valid kn sl names x (slot_of names x) k refl (omega arith) (omega arith))
       code_valid kn sl cs (perform at x es) names scope h le used none_unknown =
           let k = length names in
           let u = both (may_call file known x (count es)) (all_used_well file known es) used in
-          let t = test_true {A = ℕ} (bytes_eq x putchar_name || is_in functions x) at (unknowns functions scope es) none_unknown in
+          let t = test_true (bytes_eq x putchar_name || is_in functions x) at (unknowns functions scope es) none_unknown in
           let above = tops-above es k in
           valid_append (flats fs names es k) (plain_call (callee fs x (count es)) k (count es)) kn (flats_valid kn sl cs es names scope k (omega arith) h u.1 t.1)
           (plain_call_valid kn sl cs x (count es) k at (callee fs x (count es)) refl u.0 t.0 (omega arith))
-      code_valid kn sl cs (give e) names scope h le used none_unknown = ?
+      code_valid kn sl cs (give e) names scope h le used none_unknown =
+          let k = length names in
+          let above = top-above e k in
+          valid_append (flat fs names e k) (c.give (Some (held k)) ∷ []) kn (flat_valid kn sl cs e names scope k (omega arith) h used none_unknown)
+          (valid_one (c.give (Some (held k))) kn (all_of (is_some kn.result) _ cs.result (sl.at k (omega arith))))
       code_valid kn sl cs (choose e chosen other) names scope h le used none_unknown =
           let k = length names in
           let u = both (used_well file known e) _ used in
@@ -251,7 +283,20 @@ module _ (fs : List Function) (file : File) (known : List Function) (functions :
             (all_of (valid_body (plain_body (codes_of fs names chosen)) kn) _
               (codes_valid kn sl cs chosen names scope (max_left (top_of_all chosen k) (top_of_all other k) total top_both) le u2.0 t2.0)
               (codes_valid kn sl cs other names scope (max_right (top_of_all chosen k) (top_of_all other k) total top_both) le u2.1 t2.1))))
-      code_valid kn sl cs (loop e body) names scope h le used none_unknown = ?
+      code_valid kn sl cs (loop e body) names scope h le used none_unknown =
+          let k = length names in
+          let u = both (used_well file known e) (all_well file known body) used in
+          let t = first_none (unknown functions scope e) (unknown_in_all functions scope body) none_unknown in
+          let top_e = max_left (top e k) (top_of_all body k) total h in
+          let top_b = max_right (top e k) (top_of_all body k) total h in
+          let above = top-above e k in
+          let test = c.choose (held k) (plain_body []) (plain_body (c.leave ∷ [])) in
+          let turns = turn fs names e (codes_of fs names body) in
+          let inner : valid_statements (c.in_order turns) (in_loop kn) ≡ true =
+              valid_append (flat fs names e k) (test ∷ codes_of fs names body) (in_loop kn) (flat_valid (in_loop kn) (loop_slots kn sl) (loop_calls kn cs) e names scope k (omega arith) top_e u.0 t.0)
+              (all_of (valid_statement test (in_loop kn)) _ (all_of (valid_place (place k) kn) _ (sl.at k (omega arith)) refl)
+                (codes_valid (in_loop kn) (loop_slots kn sl) (loop_calls kn cs) body names scope top_b le u.1 t.1)) in
+          valid_one (c.loop (plain_body turns)) kn inner
       code_valid kn sl cs (block body) names scope h le used none_unknown = codes_valid kn sl cs body names scope h le used none_unknown
 
       pub codes_valid : (kn : Known) → Slots kn total → Calls file known kn → (all : Statements) (names scope : List (List ℕ)) → top_of_all all (length names) ≤ total → length names ≤ total
