@@ -16,7 +16,7 @@ use Rattle.cf_functions.proofs.Blocks.{Steady, steady-born, steady-born_all, nex
 use Rattle.cf_functions.proofs.Steps.{Scoped, Living, living, Stored, stored, names_of}
 use Rattle.cf_functions.proofs.LinkNames.{same_bytes, bytes_same, bytes_differ, lt_or, eq_or}
 
-slots_differ : (i j : ℕ) → i < 2 ^ 64 → j < 2 ^ 64 → slot i ≡ slot j → i ≡ j
+pub slots_differ : (i j : ℕ) → i < 2 ^ 64 → j < 2 ^ 64 → slot i ≡ slot j → i ≡ j
 slots_differ i j hi hj e =
     let f : decimal i ≡ decimal j = cc in
     sym (decimal_is_IsNumeral i hi).1 ∙ ap (digits_value 10) f ∙ (decimal_is_IsNumeral j hj).1

@@ -4,6 +4,7 @@ pub mod Expressions
 pub mod Functions
 pub mod Growth
 pub mod LinkNames
+pub mod Names
 pub mod Statements
 pub mod Steps
 mod Tried
