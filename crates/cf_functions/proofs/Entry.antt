@@ -46,11 +46,11 @@ bound_at k (suc n) b scope (suc i) h low =
     ∙ bound_at (suc k) n (suc b) (bind (slot k) b scope) i (omega arith) (omega arith)
     ∙ ap Some (omega arith)
 
-names_are : (k n : ℕ) → local_names (locals_of k n) ≡ slots_from k n
+pub names_are : (k n : ℕ) → local_names (locals_of k n) ≡ slots_from k n
 names_are k zero = refl
 names_are k (suc n) = ap (λ names. slot k ∷ names) (names_are (suc k) n)
 
-parameter_names_from : (k n : ℕ) → parameter_names (map (λ name. record { ty = ty.Int; name = name }) (slots_from k n)) ≡ slots_from k n
+pub parameter_names_from : (k n : ℕ) → parameter_names (map (λ name. record { ty = ty.Int; name = name }) (slots_from k n)) ≡ slots_from k n
 parameter_names_from k zero = refl
 parameter_names_from k (suc n) = ap (λ names. slot k ∷ names) (parameter_names_from (suc k) n)
 

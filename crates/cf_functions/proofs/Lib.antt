@@ -3,6 +3,7 @@ pub mod Entry
 pub mod Expressions
 pub mod Functions
 pub mod Growth
+pub mod Items
 pub mod LinkNames
 pub mod Names
 pub mod Statements

@@ -9,6 +9,7 @@ use Rattle.std.proofs.lemmas.Fmt.{decimal_by_steps}
 use Rattle.std.proofs.lemmas.Bool.{eqb-true, eq-eqb}
 use Rattle.std.proofs.lemmas.Bool.Decides.{nat_tests}
 use Rattle.cc_tokens.specs.Token.{is_word_byte, is_word, begins, is_reserved}
+use Rattle.cc_tokens.specs.Mark.{mark_text, words}
 use Rattle.cc_tree.specs.Valid.{is_name, is_in, differ, is_library, library}
 use Rattle.cf_functions.specs.Mean.{ints, parameter_code, link_name, main_name, putchar_name}
 use Rattle.cf_functions.specs.Translate.{slot, slots_from}
@@ -92,3 +93,86 @@ in_append (z ∷ xs) ys x (inl e) = go (λ h. in_append xs ys x (inl h)) (bytes_
     go : (is_in xs x ≡ true → is_in (xs ++ ys) x ≡ true) → (t : Bool) → (t || is_in xs x) ≡ true → (t || is_in (xs ++ ys) x) ≡ true
     go next true h = refl
     go next false h = next h
+
+-- ---- link names
+
+abbrev no_F : ℕ → Bool
+no_F b = not (b == 70)
+
+lacks_F : (xs u r : List ℕ) → list_all no_F xs ≡ true → xs ≡ u ++ (70 ∷ r) → ⊥
+lacks_F [] [] r h e = cc
+lacks_F [] (a ∷ u) r h e = cc
+lacks_F (b ∷ bs) [] r h e = let h1 = (both (no_F b) (list_all no_F bs) h).0 in let is : b ≡ 70 = cc in
+    let bad : no_F 70 ≡ true = subst (λ k. no_F k ≡ true) is h1 in cc
+lacks_F (b ∷ bs) (a ∷ u) r h e = lacks_F bs u r (both (no_F b) (list_all no_F bs) h).1 (cc)
+
+none_is : (ws : List (List ℕ)) (u r : List ℕ) → list_all (λ w. list_all no_F w) ws ≡ true → list_any (λ w. bytes_eq w (u ++ (70 ∷ r))) ws ≡ false
+none_is [] u r h = refl
+none_is (w ∷ ws) u r h =
+    let p = both (list_all no_F w) (list_all (λ w. list_all no_F w) ws) h in
+    neither (bytes_eq w (u ++ (70 ∷ r))) _ (bytes_differ w (u ++ (70 ∷ r)) (lacks_F w u r p.0)) (none_is ws u r p.1)
+
+-- the parts of a link name that is not `__main`
+split_link : (x : List ℕ) (k : ℕ) → x ++ tail k ≡ (x ++ (95 ∷ 95 ∷ [])) ++ (70 ∷ parameter_code k)
+split_link x k = sym (append_assoc x (95 ∷ 95 ∷ []) (70 ∷ parameter_code k))
+
+link_is_none : (ws : List (List ℕ)) (x : List ℕ) (k : ℕ) → list_all (λ w. list_all no_F w) ws ≡ true → list_any (λ w. bytes_eq w (x ++ tail k)) ws ≡ false
+link_is_none ws x k h = ap (λ l. list_any (λ w. bytes_eq w l) ws) (split_link x k) ∙ none_is ws (x ++ (95 ∷ 95 ∷ [])) (parameter_code k) h
+
+code_is_word : (k : ℕ) → list_all is_word_byte (parameter_code k) ≡ true
+code_is_word zero = refl
+code_is_word (suc k) = ints_are_word (suc k)
+  where
+    ints_are_word : (n : ℕ) → list_all is_word_byte (ints n) ≡ true
+    ints_are_word zero = refl
+    ints_are_word (suc n) = ints_are_word n
+
+word_goes_on : (x t : List ℕ) → is_word x ≡ true → list_all is_word_byte t ≡ true → is_word (x ++ t) ≡ true
+word_goes_on [] t e f = absurd (cc)
+word_goes_on (b ∷ x) t e f =
+    let h = both (begins (λ b. is_word_byte b && not (is_ascii_digit b)) (b ∷ x)) (list_all is_word_byte (b ∷ x)) e in
+    all_of (begins (λ b. is_word_byte b && not (is_ascii_digit b)) (b ∷ x)) _ h.0 (all_append is_word_byte (b ∷ x) t h.1 f)
+
+pub link_is_name : (x : List ℕ) (k : ℕ) → is_word x ≡ true → is_name (link_name x k) ≡ true
+link_is_name x k h = go (main_or x k)
+  where
+    go : ((x ≡ main_name) × (k ≡ 0)) ⊎ ((bytes_eq x main_name && (k == 0)) ≡ false) → is_name (link_name x k) ≡ true
+    go (inl p) = ap is_name (link-main x k p.0 p.1)
+    go (inr p) = ap is_name (link-other x k p)
+        ∙ all_of (is_word (x ++ tail k)) _ (word_goes_on x (tail k) h (code_is_word k)) (ap not (link_is_none (map mark_text words) x k refl))
+
+pub link_is_no_library : (x : List ℕ) (k : ℕ) → is_library (link_name x k) ≡ false
+link_is_no_library x k = go (main_or x k)
+  where
+    go : ((x ≡ main_name) × (k ≡ 0)) ⊎ ((bytes_eq x main_name && (k == 0)) ≡ false) → is_library (link_name x k) ≡ false
+    go (inl p) = ap is_library (link-main x k p.0 p.1)
+    go (inr p) = ap is_library (link-other x k p) ∙ link_is_none library x k refl
+
+-- a link name has a `_`
+link_has : (x : List ℕ) (k : ℕ) → (u : List ℕ) × (r : List ℕ) × (link_name x k ≡ u ++ (95 ∷ r))
+link_has x k = go (main_or x k)
+  where
+    go : ((x ≡ main_name) × (k ≡ 0)) ⊎ ((bytes_eq x main_name && (k == 0)) ≡ false) → (u : List ℕ) × (r : List ℕ) × (link_name x k ≡ u ++ (95 ∷ r))
+    go (inl p) = ([], codes "_main", link-main x k p.0 p.1)
+    go (inr p) = (x, 95 ∷ 70 ∷ parameter_code k, link-other x k p)
+
+pub link_not_in : (x : List ℕ) (k i n : ℕ) → i + n ≤ 2 ^ 64 → is_in (slots_from i n) (link_name x k) ≡ false
+link_not_in x k i zero h = refl
+link_not_in x k i (suc n) h =
+    let (u, r, e) = link_has x k in
+    neither (bytes_eq (slot i) (link_name x k)) _
+    (bytes_differ (slot i) (link_name x k) (λ q. no_underscore (slot i) u r (lacks_plain (slot i) (all_of true _ refl (decimal_is_plain i (omega arith)))) (q ∙ e)))
+    (link_not_in x k (suc i) n (omega arith))
+
+pub putchar_not_in : (i n : ℕ) → is_in (slots_from i n) putchar_name ≡ false
+putchar_not_in i zero = refl
+putchar_not_in i (suc n) = putchar_not_in (suc i) n
+
+pub not_in_append : (xs ys : List (List ℕ)) (x : List ℕ) → is_in xs x ≡ false → is_in ys x ≡ false → is_in (xs ++ ys) x ≡ false
+not_in_append [] ys x e f = f
+not_in_append (z ∷ xs) ys x e f = go (not_in_append xs ys x) (bytes_eq z x) e
+  where
+    go : (is_in xs x ≡ false → is_in ys x ≡ false → is_in (xs ++ ys) x ≡ false) → (t : Bool) → (t || is_in xs x) ≡ false → (t || is_in (xs ++ ys) x) ≡ false
+    go next true h = absurd (cc)
+    go next false h = next h f
+
