@@ -1,6 +1,6 @@
 -- The items of a translation are valid.
 use Rattle.std.proofs.Common.{◌≡◌, ◌≢◌, ℕ, zero, suc, ◌+◌, ◌-◌, ◌<◌, ◌≤◌, ◌^◌, Bool, true, false, not, ◌&&◌, ◌||◌, List, [], ◌∷◌, ◌++◌, length, map, take, Option, Some, None, refl, sym, ap, subst, ◌∙◌, arith, codes, cond, ◌⊎◌, inl, inr}
-use Rattle.std.specs.Prelude.{if◌then◌else◌, ◌==◌, find, is_some, is_none}
+use Rattle.std.specs.Prelude.{if◌then◌else◌, ◌==◌, find, is_some, is_none, pos}
 use Rattle.std.specs.Str.{bytes_eq}
 use Rattle.std.specs.List.{list_all, list_any}
 use Rattle.std.proofs.lemmas.Bool.{eqb-true, eq-eqb}
@@ -17,7 +17,7 @@ use Rattle.cf_functions.specs.Mean.{is_called, link_name, link_name_of, putchar_
 use Rattle.cf_functions.specs.Rules.{File, is_in, differ, function_names, may_call, arity_fits, functions_well, first_unknown, unknown_in_all, all_well, once_all, file_of, keeps_names, first_unknown_of}
 use Rattle.cf_functions.specs.Translate.{slot, slots_from, parameters_of, locals_of, locals_count, lowered, items, putchar, variables, is_sound, in_scope, finish, codes_of, top_of_all, held}
 use Rattle.cf_functions.proofs.LinkNames.{same_bytes, bytes_same, bytes_differ, both, link_tells, lt_or, main_or, link-main, link-other, tail, link_is_no_putchar, link_is_no_main, link_is_no_helper}
-use Rattle.cf_functions.proofs.Names.{all_of, neither, slots_are_names, slots_are_different, slot_is_name, slot_in, in_append, link_is_name, link_is_no_library, link_not_in, putchar_not_in, not_in_append}
+use Rattle.cf_functions.proofs.Names.{all_of, neither, slots_are_names, slots_are_different, slot_is_name, slot_in, in_append, link_is_name, link_is_no_library, link_not_in, putchar_not_in, not_in_append, no_F, lacks_F, split_link}
 use Rattle.cf_functions.proofs.Entry.{names_are, parameter_names_from, length-in_scope}
 use Rattle.cf_functions.proofs.Functions.{sound_parts, called_tells}
 use Rattle.cf_functions.proofs.Validity.{Slots, Calls, codes_valid, first_none}
@@ -178,3 +178,112 @@ calls_known file known f bound good no_put = record {
       (all_of (v.may_call putchar_name (is_helper (link_name_of f))) _ (ap not (and_false (is_helper (link_name_of f)) false refl))
       (all_of (valid_call (Some putchar) es (is_some target)) _ (all_of (1 == length es) _ (eq-eqb 1 (length es) (sym many)) (stored_ok (is_some target) putchar refl)) ve)));
 }
+
+-- ---- names of functions, one more at the end
+
+in_snoc_false : (ks : List Function) (g : Function) (x : List ℕ) → is_in (function_names ks) x ≡ false → bytes_eq g.name x ≡ false → is_in (function_names (ks ++ (g ∷ []))) x ≡ false
+in_snoc_false [] g x e f = neither (bytes_eq g.name x) false f refl
+in_snoc_false (h ∷ ks) g x e f = go (in_snoc_false ks g x) (bytes_eq h.name x) e
+  where
+    go : (is_in (function_names ks) x ≡ false → bytes_eq g.name x ≡ false → is_in (function_names (ks ++ (g ∷ []))) x ≡ false) → (t : Bool) → (t || is_in (function_names ks) x) ≡ false
+        → (t || is_in (function_names (ks ++ (g ∷ []))) x) ≡ false
+    go next true q = absurd (cc)
+    go next false q = next q f
+
+in_snoc_left : (ks : List Function) (g : Function) (x : List ℕ) → is_in (function_names ks) x ≡ true → is_in (function_names (ks ++ (g ∷ []))) x ≡ true
+in_snoc_left [] g x e = absurd (cc)
+in_snoc_left (h ∷ ks) g x e = go (in_snoc_left ks g x) (bytes_eq h.name x) e
+  where
+    go : (is_in (function_names ks) x ≡ true → is_in (function_names (ks ++ (g ∷ []))) x ≡ true) → (t : Bool) → (t || is_in (function_names ks) x) ≡ true → (t || is_in (function_names (ks ++ (g ∷ []))) x) ≡ true
+    go next true q = refl
+    go next false q = next q
+
+in_snoc_last : (ks : List Function) (g : Function) (x : List ℕ) → bytes_eq g.name x ≡ true → is_in (function_names (ks ++ (g ∷ []))) x ≡ true
+in_snoc_last [] g x e = ap (λ t. t || false) e
+in_snoc_last (h ∷ ks) g x e = go (in_snoc_last ks g x e) (bytes_eq h.name x)
+  where
+    go : is_in (function_names (ks ++ (g ∷ []))) x ≡ true → (t : Bool) → (t || is_in (function_names (ks ++ (g ∷ []))) x) ≡ true
+    go next true = refl
+    go next false = next
+
+or_parts : (a b : Bool) → (a || b) ≡ false → (a ≡ false) × (b ≡ false)
+or_parts false b e = (refl, e)
+or_parts true b e = absurd (cc)
+
+not_parts : (a : Bool) → not a ≡ true → a ≡ false
+not_parts true e = absurd (cc)
+not_parts false e = refl
+
+all_snoc : (p : Function → Bool) (ks : List Function) (g : Function) → list_all p ks ≡ true → p g ≡ true → list_all p (ks ++ (g ∷ [])) ≡ true
+all_snoc p [] g e f = all_of (p g) true f refl
+all_snoc p (h ∷ ks) g e f = let q = both (p h) (list_all p ks) e in all_of (p h) _ q.0 (all_snoc p ks g q.1 f)
+
+map_snoc : (ks : List Function) (g : Function) → map head (ks ++ (g ∷ [])) ≡ map head ks ++ (head g ∷ [])
+map_snoc [] g = refl
+map_snoc (h ∷ ks) g = ap (λ l. head h ∷ l) (map_snoc ks g)
+
+abbrev fresh : List Function → List Function → Bool
+fresh before gs = list_all (λ (g : Function). not (is_in (function_names before) g.name)) gs
+
+fresh_more : (before gs : List Function) (g : Function) → fresh before gs ≡ true → is_in (function_names gs) g.name ≡ false → fresh (before ++ (g ∷ [])) gs ≡ true
+fresh_more before [] g e f = refl
+fresh_more before (h ∷ gs) g e f =
+    let q = both (not (is_in (function_names before) h.name)) _ e in
+    let r = or_parts (bytes_eq h.name g.name) (is_in (function_names gs) g.name) f in
+    let other = bytes_differ g.name h.name (λ s. let t = bytes_same h.name g.name (sym s) in let u = r.0 in cc) in
+    all_of (not (is_in (function_names (before ++ (g ∷ []))) h.name)) _ (ap not (in_snoc_false before g h.name (not_parts _ q.0) other)) (fresh_more before gs g q.1 r.1)
+
+-- ---- heads
+
+abbrev own : Bool → Bool → Bool → Bool → Bool → Bool → Bool → Bool → CPrototype → Bool
+own a b c d e f g lib p =
+    if a || (b || c) then v.gives_int p 0 else (if d then v.gives_int p 1 else (if e then v.gives_none p 1 else (if f || g then v.gives_none p 0 else not lib)))
+
+own_none : (a b c d e f g lib : Bool) (p : CPrototype) → a ≡ false → b ≡ false → c ≡ false → d ≡ false → e ≡ false → f ≡ false → g ≡ false → lib ≡ false → own a b c d e f g lib p ≡ true
+own_none a b c d e f g lib p ha hb hc hd he hf hg hl =
+    ap (λ t. own t b c d e f g lib p) ha ∙ ap (λ t. own false t c d e f g lib p) hb ∙ ap (λ t. own false false t d e f g lib p) hc ∙ ap (λ t. own false false false t e f g lib p) hd
+    ∙ ap (λ t. own false false false false t f g lib p) he ∙ ap (λ t. own false false false false false t g lib p) hf ∙ ap (λ t. own false false false false false false t lib p) hg
+    ∙ ap (λ t. own false false false false false false false t p) hl
+
+abbrev head_of : List ℕ → ℕ → CPrototype
+head_of name n = record { result = Some ty.Int; name = name; parameters = parameters_of n }
+
+own_type : (x : List ℕ) (k : ℕ) → has_own_type (head_of (link_name x k) k) ≡ true
+own_type x k = go (main_or x k)
+  where
+    other : (w : List ℕ) → list_all no_F w ≡ true → bytes_eq (x ++ tail k) w ≡ false
+    other w h = bytes_differ (x ++ tail k) w (λ q. lacks_F w (x ++ (95 ∷ 95 ∷ [])) _ h (sym q ∙ split_link x k))
+    go : ((x ≡ main_name) × (k ≡ 0)) ⊎ ((bytes_eq x main_name && (k == 0)) ≡ false) → has_own_type (head_of (link_name x k) k) ≡ true
+    go (inl p) = ap (λ l. has_own_type (head_of l k)) (link-main x k p.0 p.1) ∙ ap (λ n. has_own_type (head_of (codes "__main") n)) p.1
+    go (inr p) = ap (λ l. has_own_type (head_of l k)) (link-other x k p)
+        ∙ own_none _ _ _ _ _ _ _ _ (head_of (x ++ tail k) k) (other (codes "main") refl) (other (codes "__main") refl) (other (codes "getchar") refl) (other (codes "putchar") refl) (other (codes "exit") refl)
+          (other (codes "__hci") refl) (other (codes "__sti") refl) (sym (ap v.is_library (link-other x k p)) ∙ link_is_no_library x k)
+
+distinct : (ks : List Function) (f : Function) → is_in (function_names ks) f.name ≡ false
+    → list_all (λ (q : CPrototype). not (bytes_eq q.name (link_name_of f)) || v.same_type q (head f)) (map head ks) ≡ true
+distinct [] f e = refl
+distinct (g ∷ ks) f e =
+    let q = or_parts (bytes_eq g.name f.name) (is_in (function_names ks) f.name) e in
+    let ne = bytes_differ (link_name_of g) (link_name_of f) (λ s. let t = bytes_same g.name f.name (link_tells g.name f.name (length g.parameters) (length f.parameters) s).0 in let u = q.0 in cc) in
+    all_of (not (bytes_eq (link_name_of g) (link_name_of f)) || v.same_type (head g) (head f)) _ (ap (λ t. not t || v.same_type (head g) (head f)) ne) (distinct ks f q.1)
+
+head_valid : (before : List Function) (f : Function) → is_word f.name ≡ true → variables f < 2 ^ 64 → is_in (function_names before) f.name ≡ false → valid_prototype (heads before) (head f) ≡ true
+head_valid before f word bound new =
+    let k = length f.parameters in
+    let names = parameter_names_from 0 k in
+    let fits : 0 + k ≤ 2 ^ 64 = omega arith in
+    let no_put = bytes_differ putchar_name (link_name_of f) (λ q. let bad = bytes_same (link_name_of f) putchar_name (sym q) in let no = link_is_no_putchar f.name k in cc) in
+    all_of (is_name (link_name_of f)) _ (link_is_name f.name k word)
+    (all_of (list_all is_name (parameter_names (parameters_of k))) _ (ap (list_all is_name) names ∙ slots_are_names 0 k fits)
+    (all_of (v.differ (parameter_names (parameters_of k))) _ (ap v.differ names ∙ slots_are_different 0 k fits)
+    (all_of (has_own_type (head f)) _ (own_type f.name k)
+    (all_of (not (bytes_eq putchar_name (link_name_of f)) || v.same_type putchar (head f)) _ (ap (λ t. not t || v.same_type putchar (head f)) no_put) (distinct before f new)))))
+
+-- ---- bodies
+
+finish_valid : (before : List Function) (f : Function) → v.valid_statements (c.in_order (finish f)) (known_in before f) ≡ true
+finish_valid before f = go (bytes_eq f.name main_name)
+  where
+    go : (t : Bool) → v.valid_statements (c.in_order (if t then c.give (Some (c.number (pos 0))) ∷ [] else [])) (known_in before f) ≡ true
+    go true = refl
+    go false = refl

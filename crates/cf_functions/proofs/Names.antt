@@ -96,10 +96,10 @@ in_append (z ∷ xs) ys x (inl e) = go (λ h. in_append xs ys x (inl h)) (bytes_
 
 -- ---- link names
 
-abbrev no_F : ℕ → Bool
+abbrev pub no_F : ℕ → Bool
 no_F b = not (b == 70)
 
-lacks_F : (xs u r : List ℕ) → list_all no_F xs ≡ true → xs ≡ u ++ (70 ∷ r) → ⊥
+pub lacks_F : (xs u r : List ℕ) → list_all no_F xs ≡ true → xs ≡ u ++ (70 ∷ r) → ⊥
 lacks_F [] [] r h e = cc
 lacks_F [] (a ∷ u) r h e = cc
 lacks_F (b ∷ bs) [] r h e = let h1 = (both (no_F b) (list_all no_F bs) h).0 in let is : b ≡ 70 = cc in
@@ -113,7 +113,7 @@ none_is (w ∷ ws) u r h =
     neither (bytes_eq w (u ++ (70 ∷ r))) _ (bytes_differ w (u ++ (70 ∷ r)) (lacks_F w u r p.0)) (none_is ws u r p.1)
 
 -- the parts of a link name that is not `__main`
-split_link : (x : List ℕ) (k : ℕ) → x ++ tail k ≡ (x ++ (95 ∷ 95 ∷ [])) ++ (70 ∷ parameter_code k)
+pub split_link : (x : List ℕ) (k : ℕ) → x ++ tail k ≡ (x ++ (95 ∷ 95 ∷ [])) ++ (70 ∷ parameter_code k)
 split_link x k = sym (append_assoc x (95 ∷ 95 ∷ []) (70 ∷ parameter_code k))
 
 link_is_none : (ws : List (List ℕ)) (x : List ℕ) (k : ℕ) → list_all (λ w. list_all no_F w) ws ≡ true → list_any (λ w. bytes_eq w (x ++ tail k)) ws ≡ false

@@ -50,11 +50,11 @@ pub record Calls (file : File) (known : List Function) (k : Known) : Type 0 wher
   pub puts : (target : Option c.Place) (es : List c.Expression) → length es ≡ 1 → v.valid_places target k ≡ true → valid_expressions es k ≡ true
       → valid_statement (c.call target putchar_name es) k ≡ true
 
-valid_append : (a b : List c.Statement) (k : Known) → valid_statements (c.in_order a) k ≡ true → valid_statements (c.in_order b) k ≡ true → valid_statements (c.in_order (a ++ b)) k ≡ true
+pub valid_append : (a b : List c.Statement) (k : Known) → valid_statements (c.in_order a) k ≡ true → valid_statements (c.in_order b) k ≡ true → valid_statements (c.in_order (a ++ b)) k ≡ true
 valid_append [] b k p q = q
 valid_append (s ∷ a) b k p q = let h = both (valid_statement s k) (valid_statements (c.in_order a) k) p in all_of (valid_statement s k) _ h.0 (valid_append a b k h.1 q)
 
-valid_one : (s : c.Statement) (k : Known) → valid_statement s k ≡ true → valid_statements (c.in_order (s ∷ [])) k ≡ true
+pub valid_one : (s : c.Statement) (k : Known) → valid_statement s k ≡ true → valid_statements (c.in_order (s ∷ [])) k ≡ true
 valid_one s k e = all_of (valid_statement s k) true e refl
 
 length-held_from : (k n : ℕ) → length (held_from k n) ≡ n
