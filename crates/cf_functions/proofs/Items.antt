@@ -1,5 +1,5 @@
 -- The items of a translation are valid.
-use Rattle.std.proofs.Common.{◌≡◌, ◌≢◌, ℕ, zero, suc, ◌+◌, ◌-◌, ◌<◌, ◌≤◌, ◌^◌, Bool, true, false, not, ◌&&◌, ◌||◌, List, [], ◌∷◌, ◌++◌, length, map, take, Option, Some, None, refl, sym, ap, subst, ◌∙◌, arith, codes, cond, ◌⊎◌, inl, inr}
+use Rattle.std.proofs.Common.{◌≡◌, ◌≢◌, ℕ, zero, suc, ◌+◌, ◌-◌, ◌<◌, ◌≤◌, ◌^◌, Bool, true, false, not, ◌&&◌, ◌||◌, List, [], ◌∷◌, ◌++◌, length, map, take, Option, Some, None, refl, sym, ap, subst, ◌∙◌, arith, codes, cond, ◌⊎◌, inl, inr, lit<}
 use Rattle.std.specs.Prelude.{if◌then◌else◌, ◌==◌, find, is_some, is_none, pos}
 use Rattle.std.specs.Str.{bytes_eq}
 use Rattle.std.specs.List.{list_all, list_any}
@@ -20,7 +20,7 @@ use Rattle.cf_functions.proofs.LinkNames.{same_bytes, bytes_same, bytes_differ, 
 use Rattle.cf_functions.proofs.Names.{all_of, neither, slots_are_names, slots_are_different, slot_is_name, slot_in, in_append, link_is_name, link_is_no_library, link_not_in, putchar_not_in, not_in_append, no_F, lacks_F, split_link}
 use Rattle.cf_functions.proofs.Entry.{names_are, parameter_names_from, length-in_scope}
 use Rattle.cf_functions.proofs.Functions.{sound_parts, called_tells}
-use Rattle.cf_functions.proofs.Validity.{Slots, Calls, codes_valid, first_none}
+use Rattle.cf_functions.proofs.Validity.{Slots, Calls, valid_append, codes_valid, first_none}
 
 abbrev is_good : Function → Bool
 is_good f = is_sound f && is_word f.name
@@ -287,3 +287,97 @@ finish_valid before f = go (bytes_eq f.name main_name)
     go : (t : Bool) → v.valid_statements (c.in_order (if t then c.give (Some (c.number (pos 0))) ∷ [] else [])) (known_in before f) ≡ true
     go true = refl
     go false = refl
+
+body_valid : (fs before : List Function) (file : File) (functions : List (List ℕ)) (f : Function) → is_sound f ≡ true → list_all is_good before ≡ true → is_in (function_names before) putchar_name ≡ false
+    → ((x : List ℕ) → is_in functions x ≡ true → is_in (function_names before) x ≡ true) → all_well file before f.body ≡ true → unknown_in_all functions f.parameters f.body ≡ None
+    → v.valid_body (lowered fs f).body (record { declared = heads before; in_helper = is_helper (link_name_of f); result = Some ty.Int; names = parameter_names (parameters_of (length f.parameters)); in_loop = false }) ≡ true
+body_valid fs before file functions f ok good no_put knows used none_unknown =
+    let k = length f.parameters in
+    let count = locals_count f in
+    let bound = (sound_parts f ok).1 in
+    let fits : k + count ≤ 2 ^ 64 = omega arith in
+    let names = names_are k count in
+    let in_len = length-in_scope f.parameters [] in
+    let len : length (in_scope f.parameters []) ≡ k = in_len ∙ omega arith in
+    let total = variables f in
+    let top_k : top_of_all f.body k ≤ total = omega arith in
+    let top_l = subst (λ j. top_of_all f.body j ≤ total) (sym len) top_k in
+    let le = subst (λ j. j ≤ total) (sym len) (omega arith) in
+    all_of (list_all is_name (local_names (locals_of k count))) _ (ap (list_all is_name) names ∙ slots_are_names k count fits)
+    (all_of (v.differ (local_names (locals_of k count))) _ (ap v.differ names ∙ slots_are_different k count fits)
+    (valid_append (codes_of fs (in_scope f.parameters []) f.body) (finish f) (known_in before f)
+      (codes_valid fs file before functions knows total (known_in before f) (slots_known before f bound) (calls_known file before f bound good no_put) f.body (in_scope f.parameters []) f.parameters top_l le used none_unknown)
+      (finish_valid before f)))
+
+more_known : (before : List Function) (g : Function) (names : List (List ℕ)) (x : List ℕ) → ((y : List ℕ) → is_in names y ≡ true → is_in (function_names before) y ≡ true)
+    → is_in (g.name ∷ names) x ≡ true → is_in (function_names (before ++ (g ∷ []))) x ≡ true
+more_known before g names x kn e = go (bytes_eq g.name x) refl e
+  where
+    go : (t : Bool) → bytes_eq g.name x ≡ t → (t || is_in names x) ≡ true → is_in (function_names (before ++ (g ∷ []))) x ≡ true
+    go true is h = in_snoc_last before g x is
+    go false is h = in_snoc_left before g x (kn x h)
+
+in_snoc_parts : (ks : List Function) (g : Function) (x : List ℕ) → is_in (function_names (ks ++ (g ∷ []))) x ≡ false → (is_in (function_names ks) x ≡ false) × (bytes_eq g.name x ≡ false)
+in_snoc_parts [] g x e = (refl, (or_parts (bytes_eq g.name x) false e).0)
+in_snoc_parts (h ∷ ks) g x e =
+    let p = or_parts (bytes_eq h.name x) _ e in
+    let q = in_snoc_parts ks g x p.1 in
+    (neither (bytes_eq h.name x) _ p.0 q.0, q.1)
+
+more_defined : (before : List Function) (g : Function) (E : List (List ℕ)) (f : Function) → ((f : Function) → is_in (function_names before) f.name ≡ false → v.is_in E (link_name_of f) ≡ false)
+    → is_in (function_names (before ++ (g ∷ []))) f.name ≡ false → v.is_in (link_name_of g ∷ E) (link_name_of f) ≡ false
+more_defined before g E f ed e =
+    let p = in_snoc_parts before g f.name e in
+    let ne = bytes_differ (link_name_of g) (link_name_of f) (λ s. let t = bytes_same g.name f.name (link_tells g.name f.name (length g.parameters) (length f.parameters) s).0 in let u = p.1 in cc) in
+    neither (bytes_eq (link_name_of g) (link_name_of f)) _ ne (ed f p.0)
+
+all_fresh : (gs : List Function) → fresh [] gs ≡ true
+all_fresh [] = refl
+all_fresh (g ∷ gs) = all_fresh gs
+
+valid_rest : (fs : List Function) (file : File) (gs before : List Function) (E names : List (List ℕ)) → fresh before gs ≡ true → differ (function_names gs) ≡ true
+    → list_all is_good before ≡ true → list_all is_good gs ≡ true → is_in (function_names before) putchar_name ≡ false → is_in (function_names gs) putchar_name ≡ false
+    → functions_well file before gs ≡ true → first_unknown names gs ≡ None → ((x : List ℕ) → is_in names x ≡ true → is_in (function_names before) x ≡ true)
+    → ((f : Function) → is_in (function_names before) f.name ≡ false → v.is_in E (link_name_of f) ≡ false)
+    → valid_items (map (λ f. c.defines (lowered fs f)) gs) (heads before) E ≡ true
+valid_rest fs file [] before E names fr df gb gg pb pg wl un kn ed = refl
+valid_rest fs file (g ∷ gs) before E names fr df gb gg pb pg wl un kn ed =
+    let before' = before ++ (g ∷ []) in
+    let f1 = both (not (is_in (function_names before) g.name)) (fresh before gs) fr in
+    let new = not_parts _ f1.0 in
+    let d1 = both (not (is_in (function_names gs) g.name)) (differ (function_names gs)) df in
+    let alone = not_parts _ d1.0 in
+    let g1 = both (is_good g) (list_all is_good gs) gg in
+    let good = both (is_sound g) (is_word g.name) g1.0 in
+    let bound = (sound_parts g good.0).1 in
+    let p1 = or_parts (bytes_eq g.name putchar_name) (is_in (function_names gs) putchar_name) pg in
+    let w1 = both (once_all g.body g.parameters) _ wl in
+    let w2 = both (differ g.parameters) _ w1.1 in
+    let w3 = both (all_well file before' g.body) (functions_well file before' gs) w2.1 in
+    let u1 = first_none (unknown_in_all (g.name ∷ names) g.parameters g.body) (first_unknown (g.name ∷ names) gs) un in
+    let good' = all_snoc is_good before g gb g1.0 in
+    let put' = in_snoc_false before g putchar_name pb p1.0 in
+    let knows' : (x : List ℕ) → is_in (g.name ∷ names) x ≡ true → is_in (function_names before') x ≡ true = λ x e. more_known before g names x kn e in
+    let defined' : (f : Function) → is_in (function_names before') f.name ≡ false → v.is_in (link_name_of g ∷ E) (link_name_of f) ≡ false = λ f e. more_defined before g E f ed e in
+    let D : heads before ++ (head g ∷ []) ≡ heads before' = ap (λ l. putchar ∷ l) (sym (map_snoc before g)) in
+    all_of (valid_prototype (heads before) (head g)) _ (head_valid before g good.1 bound new)
+    (all_of (not (v.is_in E (link_name_of g))) _ (ap not (ed g new))
+    (all_of (not (v.is_library (link_name_of g))) _ (ap not (link_is_no_library g.name (length g.parameters)))
+    (all_of (v.valid_body (lowered fs g).body (record { declared = heads before ++ (head g ∷ []); in_helper = is_helper (link_name_of g); result = Some ty.Int; names = parameter_names (parameters_of (length g.parameters)); in_loop = false })) _
+      (ap (λ ps. v.valid_body (lowered fs g).body (record { declared = ps; in_helper = is_helper (link_name_of g); result = Some ty.Int; names = parameter_names (parameters_of (length g.parameters)); in_loop = false })) D
+        ∙ body_valid fs before' file (g.name ∷ names) g good.0 good' put' knows' w3.0 u1.0)
+      (ap (λ ps. valid_items (map (λ f. c.defines (lowered fs f)) gs) ps (link_name_of g ∷ E)) D
+        ∙ valid_rest fs file gs before' (link_name_of g ∷ E) (g.name ∷ names) (fresh_more before gs g f1.1 alone) d1.1 good' g1.1 put' p1.1 w3.1 u1.1 knows' defined'))))
+
+-- a file that keeps the rules has valid items
+pub items_valid : (fs : List Function) → keeps_names fs ≡ true → first_unknown_of fs ≡ None → list_all is_good fs ≡ true → valid_items (items fs) [] [] ≡ true
+items_valid fs keeps none_unknown good =
+    let r = both _ _ keeps in
+    let r1 = both (differ (function_names fs)) _ r.0 in
+    let r2 = both (not (is_in (function_names fs) putchar_name)) _ r1.1 in
+    let w = both _ (functions_well (file_of fs) [] fs) r.1 in
+    let small : 0 < 2 ^ 64 = lit< tt in
+    let first_name = slot_is_name 0 small in
+    let head_ok : valid_prototype [] putchar ≡ true = all_of (list_all is_name (slot 0 ∷ [])) true (all_of (is_name (slot 0)) true first_name refl) refl in
+    all_of (valid_prototype [] putchar) _ head_ok
+    (valid_rest fs (file_of fs) fs [] [] [] (all_fresh fs) r1.0 refl good refl (not_parts _ r2.0) w.1 none_unknown (λ x e. absurd (cc)) (λ f e. refl))
