@@ -181,7 +181,7 @@ calls_known file known f bound good no_put = record {
 
 -- ---- names of functions, one more at the end
 
-in_snoc_false : (ks : List Function) (g : Function) (x : List ℕ) → is_in (function_names ks) x ≡ false → bytes_eq g.name x ≡ false → is_in (function_names (ks ++ (g ∷ []))) x ≡ false
+pub in_snoc_false : (ks : List Function) (g : Function) (x : List ℕ) → is_in (function_names ks) x ≡ false → bytes_eq g.name x ≡ false → is_in (function_names (ks ++ (g ∷ []))) x ≡ false
 in_snoc_false [] g x e f = neither (bytes_eq g.name x) false f refl
 in_snoc_false (h ∷ ks) g x e f = go (in_snoc_false ks g x) (bytes_eq h.name x) e
   where
@@ -206,15 +206,15 @@ in_snoc_last (h ∷ ks) g x e = go (in_snoc_last ks g x e) (bytes_eq h.name x)
     go next true = refl
     go next false = next
 
-or_parts : (a b : Bool) → (a || b) ≡ false → (a ≡ false) × (b ≡ false)
+pub or_parts : (a b : Bool) → (a || b) ≡ false → (a ≡ false) × (b ≡ false)
 or_parts false b e = (refl, e)
 or_parts true b e = absurd (cc)
 
-not_parts : (a : Bool) → not a ≡ true → a ≡ false
+pub not_parts : (a : Bool) → not a ≡ true → a ≡ false
 not_parts true e = absurd (cc)
 not_parts false e = refl
 
-all_snoc : (p : Function → Bool) (ks : List Function) (g : Function) → list_all p ks ≡ true → p g ≡ true → list_all p (ks ++ (g ∷ [])) ≡ true
+pub all_snoc : (p : Function → Bool) (ks : List Function) (g : Function) → list_all p ks ≡ true → p g ≡ true → list_all p (ks ++ (g ∷ [])) ≡ true
 all_snoc p [] g e f = all_of (p g) true f refl
 all_snoc p (h ∷ ks) g e f = let q = both (p h) (list_all p ks) e in all_of (p h) _ q.0 (all_snoc p ks g q.1 f)
 
@@ -222,10 +222,10 @@ map_snoc : (ks : List Function) (g : Function) → map head (ks ++ (g ∷ [])) �
 map_snoc [] g = refl
 map_snoc (h ∷ ks) g = ap (λ l. head h ∷ l) (map_snoc ks g)
 
-abbrev fresh : List Function → List Function → Bool
+abbrev pub fresh : List Function → List Function → Bool
 fresh before gs = list_all (λ (g : Function). not (is_in (function_names before) g.name)) gs
 
-fresh_more : (before gs : List Function) (g : Function) → fresh before gs ≡ true → is_in (function_names gs) g.name ≡ false → fresh (before ++ (g ∷ [])) gs ≡ true
+pub fresh_more : (before gs : List Function) (g : Function) → fresh before gs ≡ true → is_in (function_names gs) g.name ≡ false → fresh (before ++ (g ∷ [])) gs ≡ true
 fresh_more before [] g e f = refl
 fresh_more before (h ∷ gs) g e f =
     let q = both (not (is_in (function_names before) h.name)) _ e in
@@ -331,7 +331,7 @@ more_defined before g E f ed e =
     let ne = bytes_differ (link_name_of g) (link_name_of f) (λ s. let t = bytes_same g.name f.name (link_tells g.name f.name (length g.parameters) (length f.parameters) s).0 in let u = p.1 in cc) in
     neither (bytes_eq (link_name_of g) (link_name_of f)) _ ne (ed f p.0)
 
-all_fresh : (gs : List Function) → fresh [] gs ≡ true
+pub all_fresh : (gs : List Function) → fresh [] gs ≡ true
 all_fresh [] = refl
 all_fresh (g ∷ gs) = all_fresh gs
 
