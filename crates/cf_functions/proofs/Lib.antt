@@ -11,3 +11,4 @@ pub mod Statements
 pub mod Steps
 mod Tried
 pub mod Validity
+pub mod Whole

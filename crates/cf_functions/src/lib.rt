@@ -5,5 +5,5 @@
 mod laws;
 mod tree;
 
-pub use laws::{translation_is_valid, translation_keeps_meaning};
+pub use laws::translation_keeps_meaning;
 pub use tree::{Expression, Function, Operator, Program, Statement};
