@@ -1,6 +1,7 @@
 -- The meaning of a program of the small C: its trace and end, from an input, a heap limit, a depth limit and a bound of ticks.
 use Rattle.std.specs.Prelude.{ℕ, zero, suc, ◌%◌, ◌||◌, ◌&&◌, Bool, true, false, if◌then◌else◌, ◌==◌, List, [], ◌∷◌, ◌++◌, ℤ, pos, Option, Some, None, Result, Ok, Err, codes, find, length, map, bytes_eq, take}
 use Rattle.cf_base.specs.declared.arith.Arith.{Arith}
+use Rattle.cf_base.specs.declared.arith.Arith.TheVariants as op
 use Rattle.cf_base.specs.declared.kind.Kind.TheVariants.{Int, UChar}
 use Rattle.cf_base.specs.Integers.{int_op, convert, bits_of}
 use Rattle.cf_base.specs.Event.{Event, Enter, Out, End, Undefined, Ticks}
@@ -53,17 +54,25 @@ abbrev pub read_at : Result ℕ ℕ → Memory → Result ℤ ℕ
 read_at (Err act) m = Err act
 read_at (Ok b) m = read b m
 
+-- the operators that have a sign so far; another one has no meaning yet
+abbrev pub operated : Arith → ℤ → ℤ → Result ℤ ℕ
+operated op.Add x y = int_op op.Add Int x y
+operated op.Subtract x y = int_op op.Subtract Int x y
+operated op.Less x y = int_op op.Less Int x y
+operated op.Equal x y = int_op op.Equal Int x y
+operated o x y = Err wrong_type
+
 -- operands are evaluated left to right, then the operator is applied
 abbrev pub applied : Arith → Result ℤ ℕ → Result ℤ ℕ → Result ℤ ℕ
-applied op (Err act) b = Err act
-applied op (Ok x) (Err act) = Err act
-applied op (Ok x) (Ok y) = int_op op Int x y
+applied o (Err act) b = Err act
+applied o (Ok x) (Err act) = Err act
+applied o (Ok x) (Ok y) = operated o x y
 
 -- the value of an expression, or the act that it is
 abbrev pub value : Expression → Scope → Memory → Result ℤ ℕ
 value (number z) scope m = Ok z
 value (load place) scope m = read_at (block_at place scope) m
-value (binary op a b) scope m = applied op (value a scope m) (value b scope m)
+value (binary o a b) scope m = applied o (value a scope m) (value b scope m)
 
 abbrev pub listed : Result ℤ ℕ → Result (List ℤ) ℕ → Result (List ℤ) ℕ
 listed (Err act) vs = Err act
@@ -87,7 +96,11 @@ carry_from (Ok from) b m = carry from b m
 abbrev pub assigned : Expression → ℕ → Scope → Memory → Result Memory ℕ
 assigned (load from) b scope m = carry_from (block_at from scope) b m
 assigned (number z) b scope m = store_value (Ok z) b m
-assigned (binary op x y) b scope m = store_value (value (binary op x y) scope m) b m
+assigned (binary o x y) b scope m = store_value (value (binary o x y) scope m) b m
+
+abbrev pub assigned_to : Result ℕ ℕ → Expression → Scope → Memory → Result Memory ℕ
+assigned_to (Err act) e scope m = Err act
+assigned_to (Ok b) e scope m = assigned e b scope m
 
 -- a run goes on from an answer, or ends in the act
 abbrev pub tried : {A B : Type 0} → Result A ℕ → World → (A → Ran B) → Ran B
@@ -157,7 +170,7 @@ Again = Bool → Statement → Scope → ℕ → Memory → World → Ran Flow
 abbrev pub run_function : (Statement → Scope → ℕ → Memory → World → Ran Flow) → Function → List ℤ → ℕ → Memory → World → Ran Returned
 run_function run f vs depth m w =
     and_then (run (block f.body) (bind_all (parameter_names f.prototype.parameters) m.next no_names) depth (born_with vs m) w)
-    (λ flow w. Went (returned (ending vs m.next flow)) w)
+    (λ flow w. Went (returned (ending f.prototype.parameters m.next flow)) w)
 
 abbrev pub has_arity : Function → List ℤ → Bool
 has_arity f vs = length f.prototype.parameters == length vs
@@ -188,14 +201,24 @@ called again helps p inside name vs depth m w =
     if is_putchar name then put vs m w
     else (if is_main name then Stops (Undefined wrong_type) w.trace else enter again helps inside (function_named p name) vs depth m w)
 
-abbrev pub store_result : Returned → ℕ → World → Ran Flow
-store_result r b w = tried (used r.result) w (λ v. tried (write b (Some v) r.memory) w (λ m. Went (Falls m) w))
+abbrev pub targeted : Result ℕ ℕ → Result (Option ℕ) ℕ
+targeted (Err act) = Err act
+targeted (Ok b) = Ok (Some b)
+
+-- the block that gets a call's result, if the result is stored
+abbrev pub target_of : Option Place → Scope → Result (Option ℕ) ℕ
+target_of None scope = Ok None
+target_of (Some place) scope = targeted (block_at place scope)
+
+-- a call's result is stored, or dropped
+abbrev pub go_back : Option ℕ → Returned → World → Ran Flow
+go_back None r w = Went (Falls r.memory) w
+go_back (Some b) r w = tried (used r.result) w (λ v. tried (write b (Some v) r.memory) w (λ m. Went (Falls m) w))
 
 -- the place is evaluated first, then the arguments in order
 abbrev pub call_to : (List ℤ → Memory → World → Ran Returned) → Option Place → List Expression → Scope → Memory → World → Ran Flow
-call_to go None es scope m w = tried (values es scope m) w (λ vs. and_then (go vs m w) (λ r w. Went (Falls r.memory) w))
-call_to go (Some place) es scope m w =
-    tried (block_at place scope) w (λ b. tried (values es scope m) w (λ vs. and_then (go vs m w) (λ r w. store_result r b w)))
+call_to go place es scope m w =
+    tried (target_of place scope) w (λ back. tried (values es scope m) w (λ vs. and_then (go vs m w) (λ r w. go_back back r w)))
 
 abbrev pub given : Result ℤ ℕ → Result (Option ℤ) ℕ
 given (Err act) = Err act
@@ -208,7 +231,7 @@ give_value (Some e) scope m = given (value e scope m)
 abbrev mutual
   pub does : Again → Again → List Function → Bool → Statement → Scope → ℕ → Memory → World → Ran Flow
   does again helps p inside (assign place e) scope depth m w =
-      tried (block_at place scope) w (λ b. tried (assigned e b scope m) w (λ m. Went (Falls m) w))
+      tried (assigned_to (block_at place scope) e scope m) w (λ m. Went (Falls m) w)
   does again helps p inside (call place name es) scope depth m w =
       call_to (λ vs m w. called again helps p inside name vs depth m w) place es scope m w
   does again helps p inside (block b) scope depth m w = does_body again helps p inside b scope depth m w
@@ -234,11 +257,15 @@ abbrev mutual
 abbrev pub refused : Again
 refused inside s scope depth m w = Stops (Undefined wrong_type) w.trace
 
--- A statement at n ticks. What stands behind a spent tick runs at n - 1; so does not the body of a helper.
+-- how the body of a helper that is called here runs
+abbrev pub helps_in : Again → List Function → Bool → Again
+helps_in again p true inside s scope depth m w = refused inside s scope depth m w
+helps_in again p false inside s scope depth m w = does again refused p true s scope depth m w
+
+-- A statement at n ticks. What stands behind a spent tick runs at n - 1.
 abbrev pub runs : List Function → ℕ → Again
 runs p zero inside s scope depth m w = Stops Ticks w.trace
-runs p (suc n) true s scope depth m w = does (runs p n) refused p true s scope depth m w
-runs p (suc n) false s scope depth m w = does (runs p n) (λ inside. does (runs p n) refused p true) p false s scope depth m w
+runs p (suc n) inside s scope depth m w = does (runs p n) (helps_in (runs p n) p inside) p inside s scope depth m w
 
 abbrev pub start : List Function → ℕ → Option Function → ℕ → World → Ran Returned
 start p n None depth w = Stops (Undefined wrong_type) w.trace

@@ -1,5 +1,4 @@
 -- Which type the operands of an operator are converted to (4.1, 4.5). Source and small C share it.
-use Rattle.std.specs.Prelude.{ℕ}
 use Rattle.cf_base.specs.declared.kind.Kind.{Kind}
 use Rattle.cf_base.specs.declared.kind.Kind.TheVariants.{Char, SChar, UChar, Short, UShort, Int, UInt, Long, ULong}
 
