@@ -19,7 +19,7 @@ use Rattle.cc_tree.specs.Mean.{Scope, Returned, tried, found, bind_all, no_names
 use Rattle.cf_functions.specs.Plain.{Expression, Statement, loop, Statements, done, followed, Function}
 use Rattle.cf_functions.specs.Mean.{Again, Locals, bind, Callee, Puts, Defined, Missing, callee, defined, is_called, enter, called, link_name_of, link_name, putchar_name, main_name, Flow, Falls, Returns, falling, does, does_all, result_of, result_at_end, used, runs, start, mean, no_result}
 use Rattle.cf_functions.specs.Translate.{slot, slots_from, codes_of, turn, plain_body, in_scope, finish, locals_of, locals_count, parameters_of, lowered, items, variables, is_sound, has_main, added_main, program, top_of, top_of_all}
-use Rattle.cf_functions.proofs.Growth.{GrowsAgain, grows-falling, grows-does_all, grows-does, grows-runs, grows-refused, grows-store_result, grows-tried, went}
+use Rattle.cf_functions.proofs.Growth.{GrowsAgain, grows-falling, grows-does_all, grows-does, grows-runs, grows-helps_in, grows-go_back, grows-tried, went}
 use Rattle.cf_functions.proofs.Blocks.{Steady, steady, steady-through, steady-less, steady-born_with, steady-born_all, steady-died_all, next-born_with, next-born_all, written, write_live, read_held, put_same}
 use Rattle.cf_functions.proofs.Steps.{run_all, all_join, all_one, sim-at, Scoped, Living, Stored, stored, names_of, length-names_of}
 use Rattle.cf_functions.proofs.Expressions.{Back}
@@ -201,12 +201,13 @@ module _ (fs : List Function) (sound : list_all is_sound fs ≡ true) (again : A
       (sim-spend_of w.ticks w _ _ (λ v q. sim-deeper d v _ _ (λ left.
       sim-then _ _ _ _ (bodies f ok vs arity left n (show (Enter (link_name_of f)) v))
       (λ s fl u r.
+      let ps = parameters_of (length f.parameters) in
       let le : n.next ≤ n.next = omega arith in
-      let back : m.returned (m.ending vs n.next fl) ≡ record { result = result_of f s; memory = died_all vs n.next r.memory } =
-      ap (λ x. m.returned (m.ending vs n.next x)) r.is ∙ ap m.returned (ending_flow vs n.next (result_of f s) r.memory) ∙ returned_flow (result_of f s) (died_all vs n.next r.memory) in
-      sim-went (Back n) (result_of f s) (m.returned (m.ending vs n.next fl)) u (record {
+      let back : m.returned (m.ending ps n.next fl) ≡ record { result = result_of f s; memory = died_all ps n.next r.memory } =
+      ap (λ x. m.returned (m.ending ps n.next x)) r.is ∙ ap m.returned (ending_flow ps n.next (result_of f s) r.memory) ∙ returned_flow (result_of f s) (died_all ps n.next r.memory) in
+      sim-went (Back n) (result_of f s) (m.returned (m.ending ps n.next fl)) u (record {
         result = ap (λ (b : Returned). b.result) back;
-        steady = subst (λ (b : Returned). Steady n.next n b.memory) (sym back) (steady-died_all n.next vs n.next r.memory n le le r.steady_is);
+        steady = subst (λ (b : Returned). Steady n.next n b.memory) (sym back) (steady-died_all n.next ps n.next r.memory n le le r.steady_is);
       }))
       (λ fl u. went _ u))))
     where
@@ -316,10 +317,10 @@ record Simulated (fs : List Function) (n : ℕ) : Type 0 where
   turns : TurnSim fs (runs fs n) (m.runs (linked fs) n)
 
 abbrev helpers : List c.Function → ℕ → m.Again
-helpers p n inside = m.does (m.runs p n) m.refused p true
+helpers p n = m.helps_in (m.runs p n) p false
 
 grows-helpers : (p : List c.Function) (n : ℕ) → GrowsAgain (helpers p n)
-grows-helpers p n inside s sc d o w = grows-does (m.runs p n) m.refused (grows-runs p n) grows-refused p true s sc d o w
+grows-helpers p n = grows-helps_in (m.runs p n) (grows-runs p n) p false
 
 simulated : (fs : List Function) → list_all is_sound fs ≡ true → (n : ℕ) → Simulated fs n
 simulated fs sound zero = record {
@@ -344,10 +345,10 @@ status_scope = bind_all (local_names status) 0 (bind_all [] 0 no_names)
 
 abbrev rest_of_main : m.Again → m.Again → List c.Function → ℕ → Ran Returned → Ran ℤ
 rest_of_main again helps p d r =
-    and_then (and_then (and_then (and_then (and_then r (λ r w. m.store_result r 0 w))
+    and_then (and_then (and_then (and_then (and_then r (λ r w. m.go_back (Some 0) r w))
     (m.falling (λ o w. m.does_all again helps p false (c.followed (c.give (Some (c.load (c.named (codes "status"))))) c.done) status_scope d o w)))
     (λ flow w. Went (m.ending status 0 flow) w))
-    (λ flow w. Went (m.returned (m.ending {A = ℤ} [] 0 flow)) w))
+    (λ flow w. Went (m.returned (m.ending {A = CParameter} [] 0 flow)) w))
     (λ r w. tried (m.used r.result) w (λ v. Went v w))
 
 rest_splits : (again helps : m.Again) (p : List c.Function) (d : ℕ) (r : Ran Returned) → rest_of_main again helps p d r ≡ and_then r (λ b w. rest_of_main again helps p d (Went b w))
@@ -357,9 +358,9 @@ rest_splits again helps p d (Stops end t) = refl
 grows-rest : (again helps : m.Again) → GrowsAgain again → GrowsAgain helps → (p : List c.Function) (d : ℕ) (b : Returned) (w : World) → Adds w.trace (rest_of_main again helps p d (Went b w))
 grows-rest again helps gr gh p d b w =
     let all = c.followed (c.give (Some (c.load (c.named (codes "status"))))) c.done in
-    adds-then {A = Returned} w.trace _ _ (adds-then {A = m.Flow} w.trace _ _ (adds-then {A = m.Flow} w.trace _ _ (adds-then {A = m.Flow} w.trace _ _ (grows-store_result b 0 w)
+    adds-then {A = Returned} w.trace _ _ (adds-then {A = m.Flow} w.trace _ _ (adds-then {A = m.Flow} w.trace _ _ (adds-then {A = m.Flow} w.trace _ _ (grows-go_back (Some 0) b w)
     (λ fl w. grows-falling (λ o w. m.does_all again helps p false all status_scope d o w) (λ o w. grows-does_all again helps gr gh p false all status_scope d o w) fl w))
-    (λ fl w. went (m.ending status 0 fl) w)) (λ fl w. went (m.returned (m.ending {A = ℤ} [] 0 fl)) w)) (λ r w. grows-tried (m.used r.result) w _ (λ v. went v w))
+    (λ fl w. went (m.ending status 0 fl) w)) (λ fl w. went (m.returned (m.ending {A = CParameter} [] 0 fl)) w)) (λ r w. grows-tried (m.used r.result) w _ (λ v. went v w))
 
 -- the value that `__main` gives back is the status
 rest_is : (again helps : m.Again) (p : List c.Function) (d : ℕ) (v : ℤ) (b : Returned) (w : World) → b.result ≡ Some v → (b.memory.block 0).live ≡ true
@@ -371,7 +372,7 @@ rest_is again helps p d v b w e live = ap behind (ap (λ q. tried (m.used q) w (
     behind x = and_then (and_then (and_then (and_then x
         (m.falling (λ o w. m.does_all again helps p false (c.followed (c.give (Some (c.load (c.named (codes "status"))))) c.done) status_scope d o w)))
         (λ flow w. Went (m.ending status 0 flow) w))
-        (λ flow w. Went (m.returned (m.ending {A = ℤ} [] 0 flow)) w))
+        (λ flow w. Went (m.returned (m.ending {A = CParameter} [] 0 flow)) w))
         (λ (r : Returned) w. tried (m.used r.result) w (λ v. Went v w))
 
 abbrev SameValue : ℤ → ℤ → Type 0
