@@ -43,6 +43,7 @@ good_name (g ∷ ks) x e h = go (good_name ks x) (bytes_eq g.name x) refl e
   where
     p : (is_good g ≡ true) × (list_all is_good ks ≡ true)
     p = both (is_good g) (list_all is_good ks) h
+
     go : (is_in (function_names ks) x ≡ true → list_all is_good ks ≡ true → (bytes_eq (take 3 x) (codes "__h") ≡ false) × (is_word x ≡ true))
         → (t : Bool) → bytes_eq g.name x ≡ t → (t || is_in (function_names ks) x) ≡ true → (bytes_eq (take 3 x) (codes "__h") ≡ false) × (is_word x ≡ true)
     go next true is q =
@@ -69,11 +70,13 @@ finds (g ∷ ks) x n e h = go (finds ks x n) (bytes_eq (link_name_of g) (link_na
   where
     p : ((not (bytes_eq g.name x) || (length g.parameters == n)) ≡ true) × (list_all (λ (f : Function). not (bytes_eq f.name x) || (length f.parameters == n)) ks ≡ true)
     p = both _ _ h
+
     other : (t : Bool) → bytes_eq g.name x ≡ t → bytes_eq (link_name_of g) (link_name x n) ≡ false → is_in (function_names ks) x ≡ true
     other true is ne =
         let same : length g.parameters ≡ n = eqb-true (length g.parameters) n (or_true (bytes_eq g.name x) (length g.parameters == n) p.0 is) in
         let eq = bytes_same (link_name_of g) (link_name x n) (ap (λ y. link_name y (length g.parameters)) (same_bytes g.name x is) ∙ ap (link_name x) same) in absurd (cc)
     other false is ne = sym (ap (λ t. t || is_in (function_names ks) x) is) ∙ e
+
     go : (is_in (function_names ks) x ≡ true → list_all (λ (f : Function). not (bytes_eq f.name x) || (length f.parameters == n)) ks ≡ true → FindsHead (map head ks) (link_name x n) n)
         → (t : Bool) → bytes_eq (link_name_of g) (link_name x n) ≡ t → FindsHead (map head (g ∷ ks)) (link_name x n) n
     go next true is = record {
@@ -121,8 +124,10 @@ body_names : (k n : ℕ) → local_names (locals_of k n) ++ parameter_names (par
 body_names k n = ap (λ a. a ++ parameter_names (parameters_of k)) (names_are k n) ∙ ap (λ a. slots_from k n ++ a) (parameter_names_from 0 k)
 
 slots_known : (ks : List Function) (f : Function) → variables f < 2 ^ 64 → Slots (known_in ks f) (variables f)
-slots_known ks f bound = record { at = λ i h. all_of (is_name (slot i)) _ (slot_is_name i (omega arith))
-    (ap (λ names. v.is_in names (slot i)) (body_names (length f.parameters) (locals_count f)) ∙ in_append (slots_from (length f.parameters) (locals_count f)) (slots_from 0 (length f.parameters)) (slot i) (go i h (lt_or i (length f.parameters)))) }
+slots_known ks f bound = record {
+  at = λ i h. all_of (is_name (slot i)) _ (slot_is_name i (omega arith))
+      (ap (λ names. v.is_in names (slot i)) (body_names (length f.parameters) (locals_count f)) ∙ in_append (slots_from (length f.parameters) (locals_count f)) (slots_from 0 (length f.parameters)) (slot i) (go i h (lt_or i (length f.parameters))));
+}
   where
     go : (i : ℕ) → i < variables f → (i < length f.parameters) ⊎ (length f.parameters ≤ i)
         → (v.is_in (slots_from (length f.parameters) (locals_count f)) (slot i) ≡ true) ⊎ (v.is_in (slots_from 0 (length f.parameters)) (slot i) ≡ true)
@@ -163,14 +168,14 @@ calls_known file known f bound good no_put = record {
       let found = finds_known known x n known_is (arity_of file known x n ne may) in
       let ok = good_name known x known_is good in
       let call : valid_statement (c.call target (link_name x n) es) (known_in known f) ≡ true =
-          all_of (v.valid_places target (known_in known f)) _ vp
-          (all_of (is_name (link_name x n)) _ (link_is_name x n ok.1)
-          (all_of (not (v.is_in (known_in known f).names (link_name x n))) _ (ap not (no_name f bound x n))
-          (all_of (v.may_call (link_name x n) (is_helper (link_name_of f))) _
-            (all_of (not (is_main (link_name x n))) _ (ap not (link_is_no_main x n)) (ap not (and_false (is_helper (link_name_of f)) (is_helper (link_name x n)) (link_is_no_helper x n ok.0))))
-          (all_of (valid_call (prototype_named (heads known) (link_name x n)) es (is_some target)) _
-            (ap (λ o. valid_call o es (is_some target)) found.is
-              ∙ all_of (length found.prototype.parameters == length es) _ (eq-eqb (length found.prototype.parameters) (length es) (found.many ∙ sym many)) (stored_ok (is_some target) found.prototype found.gives)) ve)))) in
+      all_of (v.valid_places target (known_in known f)) _ vp
+      (all_of (is_name (link_name x n)) _ (link_is_name x n ok.1)
+      (all_of (not (v.is_in (known_in known f).names (link_name x n))) _ (ap not (no_name f bound x n))
+      (all_of (v.may_call (link_name x n) (is_helper (link_name_of f))) _
+      (all_of (not (is_main (link_name x n))) _ (ap not (link_is_no_main x n)) (ap not (and_false (is_helper (link_name_of f)) (is_helper (link_name x n)) (link_is_no_helper x n ok.0))))
+      (all_of (valid_call (prototype_named (heads known) (link_name x n)) es (is_some target)) _
+      (ap (λ o. valid_call o es (is_some target)) found.is
+      ∙ all_of (length found.prototype.parameters == length es) _ (eq-eqb (length found.prototype.parameters) (length es) (found.many ∙ sym many)) (stored_ok (is_some target) found.prototype found.gives)) ve)))) in
       ap (λ y. valid_statement (c.call target y es) (known_in known f)) name ∙ call;
   puts = λ target es many vp ve.
       all_of (v.valid_places target (known_in known f)) _ vp
@@ -253,11 +258,12 @@ own_type x k = go (main_or x k)
   where
     other : (w : List ℕ) → list_all no_F w ≡ true → bytes_eq (x ++ tail k) w ≡ false
     other w h = bytes_differ (x ++ tail k) w (λ q. lacks_F w (x ++ (95 ∷ 95 ∷ [])) _ h (sym q ∙ split_link x k))
+
     go : ((x ≡ main_name) × (k ≡ 0)) ⊎ ((bytes_eq x main_name && (k == 0)) ≡ false) → has_own_type (head_of (link_name x k) k) ≡ true
     go (inl p) = ap (λ l. has_own_type (head_of l k)) (link-main x k p.0 p.1) ∙ ap (λ n. has_own_type (head_of (codes "__main") n)) p.1
     go (inr p) = ap (λ l. has_own_type (head_of l k)) (link-other x k p)
         ∙ own_none _ _ _ _ _ _ _ _ (head_of (x ++ tail k) k) (other (codes "main") refl) (other (codes "__main") refl) (other (codes "getchar") refl) (other (codes "putchar") refl) (other (codes "exit") refl)
-          (other (codes "__hci") refl) (other (codes "__sti") refl) (sym (ap v.is_library (link-other x k p)) ∙ link_is_no_library x k)
+        (other (codes "__hci") refl) (other (codes "__sti") refl) (sym (ap v.is_library (link-other x k p)) ∙ link_is_no_library x k)
 
 distinct : (ks : List Function) (f : Function) → is_in (function_names ks) f.name ≡ false
     → list_all (λ (q : CPrototype). not (bytes_eq q.name (link_name_of f)) || v.same_type q (head f)) (map head ks) ≡ true
@@ -306,8 +312,8 @@ body_valid fs before file functions f ok good no_put knows used none_unknown =
     all_of (list_all is_name (local_names (locals_of k count))) _ (ap (list_all is_name) names ∙ slots_are_names k count fits)
     (all_of (v.differ (local_names (locals_of k count))) _ (ap v.differ names ∙ slots_are_different k count fits)
     (valid_append (codes_of fs (in_scope f.parameters []) f.body) (finish f) (known_in before f)
-      (codes_valid fs file before functions knows total (known_in before f) (slots_known before f bound) (calls_known file before f bound good no_put) f.body (in_scope f.parameters []) f.parameters top_l le used none_unknown)
-      (finish_valid before f)))
+    (codes_valid fs file before functions knows total (known_in before f) (slots_known before f bound) (calls_known file before f bound good no_put) f.body (in_scope f.parameters []) f.parameters top_l le used none_unknown)
+    (finish_valid before f)))
 
 more_known : (before : List Function) (g : Function) (names : List (List ℕ)) (x : List ℕ) → ((y : List ℕ) → is_in names y ≡ true → is_in (function_names before) y ≡ true)
     → is_in (g.name ∷ names) x ≡ true → is_in (function_names (before ++ (g ∷ []))) x ≡ true
@@ -364,10 +370,10 @@ valid_rest fs file (g ∷ gs) before E names fr df gb gg pb pg wl un kn ed =
     (all_of (not (v.is_in E (link_name_of g))) _ (ap not (ed g new))
     (all_of (not (v.is_library (link_name_of g))) _ (ap not (link_is_no_library g.name (length g.parameters)))
     (all_of (v.valid_body (lowered fs g).body (record { declared = heads before ++ (head g ∷ []); in_helper = is_helper (link_name_of g); result = Some ty.Int; names = parameter_names (parameters_of (length g.parameters)); in_loop = false })) _
-      (ap (λ ps. v.valid_body (lowered fs g).body (record { declared = ps; in_helper = is_helper (link_name_of g); result = Some ty.Int; names = parameter_names (parameters_of (length g.parameters)); in_loop = false })) D
-        ∙ body_valid fs before' file (g.name ∷ names) g good.0 good' put' knows' w3.0 u1.0)
-      (ap (λ ps. valid_items (map (λ f. c.defines (lowered fs f)) gs) ps (link_name_of g ∷ E)) D
-        ∙ valid_rest fs file gs before' (link_name_of g ∷ E) (g.name ∷ names) (fresh_more before gs g f1.1 alone) d1.1 good' g1.1 put' p1.1 w3.1 u1.1 knows' defined'))))
+    (ap (λ ps. v.valid_body (lowered fs g).body (record { declared = ps; in_helper = is_helper (link_name_of g); result = Some ty.Int; names = parameter_names (parameters_of (length g.parameters)); in_loop = false })) D
+    ∙ body_valid fs before' file (g.name ∷ names) g good.0 good' put' knows' w3.0 u1.0)
+    (ap (λ ps. valid_items (map (λ f. c.defines (lowered fs f)) gs) ps (link_name_of g ∷ E)) D
+    ∙ valid_rest fs file gs before' (link_name_of g ∷ E) (g.name ∷ names) (fresh_more before gs g f1.1 alone) d1.1 good' g1.1 put' p1.1 w3.1 u1.1 knows' defined'))))
 
 -- a file that keeps the rules has valid items
 pub items_valid : (fs : List Function) → keeps_names fs ≡ true → first_unknown_of fs ≡ None → list_all is_good fs ≡ true → valid_items (items fs) [] [] ≡ true

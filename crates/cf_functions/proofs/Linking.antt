@@ -80,7 +80,7 @@ module _ (fine : List ℕ → Bool) (fs : List Function) (puts_fine : fine putch
     code_uses names (choose e chosen other) =
         uses_join (flat fs names e (length names)) (c.choose (held (length names)) (plain_body (codes_of fs names chosen)) (plain_body (codes_of fs names other)) ∷ []) (flat_uses names e (length names))
         (fine_append (uses (codes_of fs names chosen) ++ uses (codes_of fs names other)) []
-          (fine_append (uses (codes_of fs names chosen)) (uses (codes_of fs names other)) (codes_uses names chosen) (codes_uses names other)) refl)
+        (fine_append (uses (codes_of fs names chosen)) (uses (codes_of fs names other)) (codes_uses names chosen) (codes_uses names other)) refl)
     code_uses names (loop e body) =
         fine_append (uses (turn fs names e (codes_of fs names body))) []
         (uses_join (flat fs names e (length names)) (c.choose (held (length names)) (plain_body []) (plain_body (c.leave ∷ [])) ∷ codes_of fs names body) (flat_uses names e (length names)) (codes_uses names body)) refl
@@ -180,13 +180,13 @@ rest_links fs (g ∷ gs) ks fr df =
     let fine = item_uses (is_fine (whole fs)) fs refl (λ x n f is. either_true (v.is_library (link_name_of f)) _ (found_defined fs fs x n f (callee_defined fs x n f is))) g in
     let no_put = bytes_differ putchar_name (link_name_of g) (λ q. let bad = bytes_same (link_name_of g) putchar_name (sym q) in let no = link_is_no_putchar g.name (length g.parameters) in cc) in
     ap (λ o. broken 1 o (broken 2 (second_definition (earlier fs ks) (at i)) (broken 5 (other_type (earlier fs ks) (at i)) (first_broken (whole fs) (earlier fs ks ++ (at i ∷ [])) (placed fs gs ++ [])))))
-        (none_undefined (whole fs) (uses_of_item i) fine)
+    (none_undefined (whole fs) (uses_of_item i) fine)
     ∙ ap (λ o. broken 2 o (broken 5 (other_type (earlier fs ks) (at i)) (first_broken (whole fs) (earlier fs ks ++ (at i ∷ [])) (placed fs gs ++ []))))
-        (ap (λ t. if t then Some (link_name_of g) else (if list_any (λ (b : Placed). clashes b (at i)) (placed fs ks) then Some (codes "main") else None)) (not_defined fs ks g new)
-          ∙ ap (λ t. if t then Some (codes "main") else None) (no_clash fs ks i))
+    (ap (λ t. if t then Some (link_name_of g) else (if list_any (λ (b : Placed). clashes b (at i)) (placed fs ks) then Some (codes "main") else None)) (not_defined fs ks g new)
+    ∙ ap (λ t. if t then Some (codes "main") else None) (no_clash fs ks i))
     ∙ ap (λ o. broken 5 o (first_broken (whole fs) (earlier fs ks ++ (at i ∷ [])) (placed fs gs ++ [])))
-        (ap (λ t. if t then Some (link_name_of g) else None)
-          (neither (bytes_eq putchar_name (link_name_of g) && _) _ (ap (λ t. t && not (v.same_type putchar (lowered fs g).prototype)) no_put) (same_types fs ks g new)))
+    (ap (λ t. if t then Some (link_name_of g) else None)
+    (neither (bytes_eq putchar_name (link_name_of g) && _) _ (ap (λ t. t && not (v.same_type putchar (lowered fs g).prototype)) no_put) (same_types fs ks g new)))
     ∙ ap (λ l. first_broken (whole fs) (at (c.declares putchar) ∷ l) (placed fs gs ++ [])) (placed_snoc fs ks g)
     ∙ rest_links fs gs (ks ++ (g ∷ [])) (fresh_more ks gs g f1.1 (not_parts _ d1.0)) d1.1
 

@@ -175,4 +175,3 @@ not_in_append (z ∷ xs) ys x e f = go (not_in_append xs ys x) (bytes_eq z x) e
     go : (is_in xs x ≡ false → is_in ys x ≡ false → is_in (xs ++ ys) x ≡ false) → (t : Bool) → (t || is_in xs x) ≡ false → (t || is_in (xs ++ ys) x) ≡ false
     go next true h = absurd (cc)
     go next false h = next h f
-

@@ -114,6 +114,7 @@ not_putchar fs known file x n f is may = go (bytes_eq x putchar_name) refl
   where
     fit : arity_fits known x n ≡ true
     fit = (both (not (bytes_eq x main_name)) (arity_fits known x n) (both (not (is_in file.locals x)) _ may).1).1
+
     go : (t : Bool) → bytes_eq x putchar_name ≡ t → bytes_eq x putchar_name ≡ false
     go false e = e
     go true e =
@@ -123,7 +124,6 @@ not_putchar fs known file x n f is may = go (bytes_eq x putchar_name) refl
 
 module _ (fs : List Function) (file : File) (known : List Function) (functions : List (List ℕ))
     (knows : (x : List ℕ) → is_in functions x ≡ true → is_in (function_names known) x ≡ true) where
-
   -- where a call's name is known and its use is good, the statement that calls it is valid
   called_valid : (x : List ℕ) (n : ℕ) (f : Function) (at : ℕ) (o : Option ℕ) → callee fs x n ≡ Defined f → may_call file known x n ≡ true
       → (bytes_eq x putchar_name || is_in functions x) ≡ true → (is_called x n f ≡ true) × (is_in (function_names known) x ≡ true)
@@ -177,8 +177,8 @@ module _ (fs : List Function) (file : File) (known : List Function) (functions :
           let last = set k (c.binary (arith_of op) (held k) (held (suc k))) in
           valid_append (flat fs names a k) (flat fs names b (suc k) ++ (last ∷ [])) kn (flat_valid kn s cs a names scope k le top_a u.0 t.0)
           (valid_append (flat fs names b (suc k)) (last ∷ []) kn (flat_valid kn s cs b names scope (suc k) (omega arith) top_b u.1 t.1)
-            (valid_one last kn (valid_set kn total s k (c.binary (arith_of op) (held k) (held (suc k))) (omega arith)
-              (all_of (is_written (arith_of op)) _ (written_is op) (all_of (valid_place (place k) kn) _ (s.at k (omega arith)) (s.at (suc k) (omega arith)))))))
+          (valid_one last kn (valid_set kn total s k (c.binary (arith_of op) (held k) (held (suc k))) (omega arith)
+          (all_of (is_written (arith_of op)) _ (written_is op) (all_of (valid_place (place k) kn) _ (s.at k (omega arith)) (s.at (suc k) (omega arith)))))))
 
       pub flats_valid : (kn : Known) → Slots kn total → Calls file known kn → (es : Expressions) (names scope : List (List ℕ)) (k : ℕ) → length names ≤ k → tops es k ≤ total
           → all_used_well file known es ≡ true → unknowns functions scope es ≡ None → valid_statements (c.in_order (flats fs names es k)) kn ≡ true
@@ -228,9 +228,9 @@ module _ (fs : List Function) (file : File) (known : List Function) (functions :
     loop_call : (kn : Known) (target : Option c.Place) (name : List ℕ) (es : List c.Expression) → valid_statement (c.call target name es) kn ≡ true → valid_statement (c.call target name es) (in_loop kn) ≡ true
     loop_call kn target name es e =
         ap (λ t. t && (is_name name && (not (v.is_in kn.names name) && (v.may_call name kn.in_helper && (valid_call (prototype_named kn.declared name) es (is_some target) && valid_expressions es (in_loop kn))))))
-            (loop_places kn target)
+        (loop_places kn target)
         ∙ ap (λ t. v.valid_places target kn && (is_name name && (not (v.is_in kn.names name) && (v.may_call name kn.in_helper && (valid_call (prototype_named kn.declared name) es (is_some target) && t)))))
-            (loop_expressions kn es)
+        (loop_expressions kn es)
         ∙ e
 
     loop_slots : (kn : Known) → Slots kn total → Slots (in_loop kn) total
@@ -280,9 +280,9 @@ module _ (fs : List Function) (file : File) (known : List Function) (functions :
           let test = c.choose (held k) (plain_body (codes_of fs names chosen)) (plain_body (codes_of fs names other)) in
           valid_append (flat fs names e k) (test ∷ []) kn (flat_valid kn sl cs e names scope k (omega arith) top_e u.0 t.0)
           (valid_one test kn (all_of (valid_place (place k) kn) _ (sl.at k (omega arith))
-            (all_of (valid_body (plain_body (codes_of fs names chosen)) kn) _
-              (codes_valid kn sl cs chosen names scope (max_left (top_of_all chosen k) (top_of_all other k) total top_both) le u2.0 t2.0)
-              (codes_valid kn sl cs other names scope (max_right (top_of_all chosen k) (top_of_all other k) total top_both) le u2.1 t2.1))))
+          (all_of (valid_body (plain_body (codes_of fs names chosen)) kn) _
+          (codes_valid kn sl cs chosen names scope (max_left (top_of_all chosen k) (top_of_all other k) total top_both) le u2.0 t2.0)
+          (codes_valid kn sl cs other names scope (max_right (top_of_all chosen k) (top_of_all other k) total top_both) le u2.1 t2.1))))
       code_valid kn sl cs (loop e body) names scope h le used none_unknown =
           let k = length names in
           let u = both (used_well file known e) (all_well file known body) used in
@@ -293,9 +293,9 @@ module _ (fs : List Function) (file : File) (known : List Function) (functions :
           let test = c.choose (held k) (plain_body []) (plain_body (c.leave ∷ [])) in
           let turns = turn fs names e (codes_of fs names body) in
           let inner : valid_statements (c.in_order turns) (in_loop kn) ≡ true =
-              valid_append (flat fs names e k) (test ∷ codes_of fs names body) (in_loop kn) (flat_valid (in_loop kn) (loop_slots kn sl) (loop_calls kn cs) e names scope k (omega arith) top_e u.0 t.0)
-              (all_of (valid_statement test (in_loop kn)) _ (all_of (valid_place (place k) kn) _ (sl.at k (omega arith)) refl)
-                (codes_valid (in_loop kn) (loop_slots kn sl) (loop_calls kn cs) body names scope top_b le u.1 t.1)) in
+          valid_append (flat fs names e k) (test ∷ codes_of fs names body) (in_loop kn) (flat_valid (in_loop kn) (loop_slots kn sl) (loop_calls kn cs) e names scope k (omega arith) top_e u.0 t.0)
+          (all_of (valid_statement test (in_loop kn)) _ (all_of (valid_place (place k) kn) _ (sl.at k (omega arith)) refl)
+          (codes_valid (in_loop kn) (loop_slots kn sl) (loop_calls kn cs) body names scope top_b le u.1 t.1)) in
           valid_one (c.loop (plain_body turns)) kn inner
       code_valid kn sl cs (block body) names scope h le used none_unknown = codes_valid kn sl cs body names scope h le used none_unknown
 

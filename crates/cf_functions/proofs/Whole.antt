@@ -27,6 +27,7 @@ main_is_there (f ∷ fs) e h = go (main_is_there fs) (bytes_eq f.name main_name)
   where
     p : (is_plain_main f ≡ true) × (list_all is_plain_main fs ≡ true)
     p = both (is_plain_main f) (list_all is_plain_main fs) h
+
     go : (is_in (function_names fs) main_name ≡ true → list_all is_plain_main fs ≡ true → has_main fs ≡ true) → (t : Bool) → bytes_eq f.name main_name ≡ t
         → (t || is_in (function_names fs) main_name) ≡ true → is_some (cond (bytes_eq f.name main_name && (length f.parameters == 0)) (Some f) (find (is_called main_name 0) fs)) ≡ true
     go next true is q =

@@ -4,5 +4,4 @@ ghost use Rattle.cf_functions.specs.Agrees.{TranslationKeeps};
 /// input and the limits: with the same trace and the same end, up to the first undefined act.
 pub fn translation_keeps_meaning()
     ensures { TranslationKeeps }
-{
-}
+{}
