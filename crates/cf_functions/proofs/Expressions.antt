@@ -1,10 +1,10 @@
 -- The code of an expression puts its value into its variable, in a run that simulates the evaluation.
-use Rattle.std.proofs.Common.{◌≡◌, ◌≢◌, ℕ, zero, suc, ◌+◌, ◌-◌, ◌<◌, ◌≤◌, Bool, true, false, List, [], ◌∷◌, ◌++◌, length, map, ℤ, pos, Option, Some, None, Result, Ok, Err, refl, sym, ap, subst, ◌∙◌, arith}
+use Rattle.std.proofs.Common.{◌≡◌, ℕ, suc, ◌+◌, ◌<◌, ◌≤◌, false, List, [], ◌∷◌, ◌++◌, length, ℤ, pos, Option, Some, None, Result, Ok, Err, refl, sym, ap, subst, ◌∙◌, arith}
 use Rattle.std.specs.Prelude.{max}
 use Rattle.cf_base.specs.declared.kind.Kind.TheVariants.{Int}
 use Rattle.cf_base.specs.Integers.{int_op}
-use Rattle.cf_base.specs.Event.{End, Undefined}
-use Rattle.cf_base.specs.World.{World, Ran, Went, Stops, and_then}
+use Rattle.cf_base.specs.Event.{Undefined}
+use Rattle.cf_base.specs.World.{World, Ran, Went, and_then}
 use Rattle.cf_base.specs.Agree.{Sim, Adds}
 use Rattle.cf_base.proofs.Agreement.{sim-then, sim-went, sim-stops, sim-undefined, sim-wider}
 use Rattle.cc_tree.specs.Memory.{Memory, holding, write}
@@ -15,8 +15,8 @@ use Rattle.cf_functions.specs.declared.tree.Operator.{Operator}
 use Rattle.cf_functions.specs.declared.tree.Operator.TheVariants as operator
 use Rattle.cf_functions.specs.Plain.{Expression, number, local, call, binary, Expressions, none, more, Function}
 use Rattle.cf_functions.specs.Mean.{Again, Locals, value_in, Callee, Puts, Defined, Missing, callee, count, arith_of, value, values, called, enter, used, computed, link_name_of, putchar_name, no_result, put, first_of}
-use Rattle.cf_functions.specs.Translate.{slot, place, held, set, held_from, slot_of, read_local, flat, flats, value_call, top, tops}
-use Rattle.cf_functions.proofs.Growth.{GrowsAgain, grows-falling, grows-does_all, grows-go_back, went}
+use Rattle.cf_functions.specs.Translate.{place, held, set, held_from, slot_of, read_local, flat, flats, value_call, top, tops}
+use Rattle.cf_functions.proofs.Growth.{GrowsAgain, grows-falling, grows-does_all, grows-go_back}
 use Rattle.cf_functions.proofs.Blocks.{Steady, steady, steady-through, steady-less, steady-written, written, write_live, put_same}
 use Rattle.cf_functions.proofs.Steps.{run_all, all_join, all_one, FallsAs, sim-falls, sim-map, sim-at, Scoped, Living, living, Stored, stored, names_of, ReadsAs, reads, set_number, set_held, set_binary, HeldFrom, values_held}
 

@@ -1,31 +1,31 @@
 -- Functions that are entered, and whole programs.
-use Rattle.std.proofs.Common.{◌≡◌, ◌≢◌, ℕ, zero, suc, ◌+◌, ◌-◌, ◌<◌, ◌≤◌, ◌^◌, Bool, true, false, not, ◌&&◌, List, [], ◌∷◌, ◌++◌, length, map, take, ℤ, pos, Option, Some, None, Result, Ok, Err, refl, sym, ap, subst, ◌∙◌, arith, codes, cond}
-use Rattle.std.specs.Prelude.{if◌then◌else◌, ◌==◌, find, nat_lt, is_some, max}
+use Rattle.std.proofs.Common.{◌≡◌, ℕ, zero, suc, ◌+◌, ◌<◌, ◌≤◌, ◌^◌, Bool, true, false, not, ◌&&◌, List, [], ◌∷◌, ◌++◌, length, map, take, ℤ, pos, Option, Some, None, refl, sym, ap, subst, ◌∙◌, arith, codes, cond}
+use Rattle.std.specs.Prelude.{if◌then◌else◌, ◌==◌, find, nat_lt, is_some}
 use Rattle.std.specs.Str.{bytes_eq}
 use Rattle.std.specs.List.{list_all}
 use Rattle.std.proofs.lemmas.Bool.{eqb-true, eq-eqb}
 use Rattle.std.proofs.lemmas.Bool.Decides.{nat_tests}
-use Rattle.cf_base.specs.Event.{Event, Enter, End, Undefined, Ticks}
-use Rattle.cf_base.specs.World.{World, Ran, Went, Stops, and_then, spend, deeper, show, world_at, Outcome, outcome}
+use Rattle.cf_base.specs.Event.{Enter, Undefined, Ticks}
+use Rattle.cf_base.specs.World.{World, Ran, Went, Stops, and_then, show, world_at, outcome}
 use Rattle.cf_base.specs.Agree.{Sim, Adds, Agree}
 use Rattle.cf_base.proofs.Agreement.{adds-then, sim-then, sim-went, sim-stops, sim-undefined, sim-spend_of, sim-deeper, agree-sim}
 use Rattle.cc_tree.specs.declared.types.CType.TheVariants as ty
 use Rattle.cc_tree.specs.declared.statement.CLocal.{CLocal}
 use Rattle.cc_tree.specs.declared.unit.CParameter.{CParameter}
-use Rattle.cc_tree.specs.Memory.{Memory, holding, born, born_all, born_with, died_all, no_memory, write}
+use Rattle.cc_tree.specs.Memory.{Memory, born, born_all, born_with, died_all, no_memory, write}
 use Rattle.cc_tree.specs.Plain as c
 use Rattle.cc_tree.specs.Mean as m
 use Rattle.cc_tree.specs.Mean.{Scope, Returned, tried, found, bind_all, no_names, parameter_names, local_names, function_named, mean_of}
-use Rattle.cf_functions.specs.Plain.{Expression, Statement, loop, Statements, done, followed, Function}
-use Rattle.cf_functions.specs.Mean.{Again, Locals, bind, Callee, Puts, Defined, Missing, callee, defined, is_called, enter, called, link_name_of, link_name, putchar_name, main_name, Flow, Falls, Returns, falling, does, does_all, result_of, result_at_end, used, runs, start, mean, no_result}
-use Rattle.cf_functions.specs.Translate.{slot, slots_from, codes_of, turn, plain_body, in_scope, finish, locals_of, locals_count, parameters_of, lowered, items, variables, is_sound, has_main, added_main, program, top_of, top_of_all}
-use Rattle.cf_functions.proofs.Growth.{GrowsAgain, grows-falling, grows-does_all, grows-does, grows-runs, grows-helps_in, grows-go_back, grows-tried, went}
-use Rattle.cf_functions.proofs.Blocks.{Steady, steady, steady-through, steady-less, steady-born_with, steady-born_all, steady-died_all, next-born_with, next-born_all, written, write_live, read_held, put_same}
+use Rattle.cf_functions.specs.Plain.{Expression, loop, Statements, done, followed, Function}
+use Rattle.cf_functions.specs.Mean.{Again, Locals, bind, Puts, Defined, callee, defined, is_called, enter, link_name_of, link_name, putchar_name, main_name, Flow, Falls, Returns, falling, does, does_all, result_of, result_at_end, used, runs, start, mean, no_result}
+use Rattle.cf_functions.specs.Translate.{slots_from, codes_of, turn, plain_body, in_scope, finish, locals_of, locals_count, parameters_of, lowered, variables, is_sound, has_main, added_main, program, top_of, top_of_all}
+use Rattle.cf_functions.proofs.Growth.{GrowsAgain, grows-falling, grows-does_all, grows-runs, grows-helps_in, grows-go_back, grows-tried, went}
+use Rattle.cf_functions.proofs.Blocks.{Steady, steady-through, steady-born_with, steady-born_all, steady-died_all, next-born_with, write_live}
 use Rattle.cf_functions.proofs.Steps.{run_all, all_join, all_one, sim-at, Scoped, Living, Stored, stored, names_of, length-names_of}
 use Rattle.cf_functions.proofs.Expressions.{Back}
 use Rattle.cf_functions.proofs.Statements.{Flows, Reaches, does_sim, all_sim}
 use Rattle.cf_functions.proofs.LinkNames.{same_bytes, bytes_same, bytes_differ, both, link_tells, link_is_no_putchar, link_is_no_main, link_is_no_helper}
-use Rattle.cf_functions.proofs.Entry.{entry_scope, entry_scoped, stored_bind, names-bind, length-in_scope, entry_living}
+use Rattle.cf_functions.proofs.Entry.{entry_scoped, stored_bind, names-bind, length-in_scope, entry_living}
 
 -- ---- what a call reaches
 

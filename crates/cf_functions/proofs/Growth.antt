@@ -1,14 +1,13 @@
 -- A run of the small C only adds to its trace.
-use Rattle.std.proofs.Common.{◌≡◌, ℕ, zero, suc, Bool, true, false, List, [], ◌∷◌, ◌++◌, ℤ, pos, negsuc, Option, Some, None, Result, Ok, Err, refl, sym, subst}
+use Rattle.std.proofs.Common.{ℕ, zero, suc, Bool, true, false, List, [], ◌∷◌, ◌++◌, ℤ, pos, negsuc, Option, Some, None, Result, Ok, Err, refl, subst}
 use Rattle.std.specs.Prelude.{if◌then◌else◌}
-use Rattle.cf_base.specs.Event.{Event, Enter, Out, End, Undefined, Ticks}
-use Rattle.cf_base.specs.World.{World, Ran, Went, Stops, and_then, spend, deeper, show}
-use Rattle.cf_base.specs.Agree.{Begins, Adds}
+use Rattle.cf_base.specs.Event.{Event, Enter, End, Undefined}
+use Rattle.cf_base.specs.World.{World, Ran, Went, Stops, and_then, deeper, show}
+use Rattle.cf_base.specs.Agree.{Adds}
 use Rattle.cf_base.proofs.Agreement.{begins-refl, adds-went, adds-stops, adds-from, adds-then, adds-spend_of, adds-deeper}
-use Rattle.cc_tree.specs.declared.statement.CLocal.{CLocal}
-use Rattle.cc_tree.specs.Memory.{Memory, born_all, write}
+use Rattle.cc_tree.specs.Memory.{Memory, write}
 use Rattle.cc_tree.specs.Plain.{Place, Expression, Statement, assign, call, block, leave, choose, loop, give, Statements, done, followed, Body, body, Function}
-use Rattle.cc_tree.specs.Mean.{Scope, Flow, Falls, Breaks, Returns, Returned, Again, tried, falling, turning, ending, choice, used, value, values, block_at, assigned, give_value, run_function, enter_helper, enter_function, enter, called, put, go_back, target_of, assigned_to, helps_in, call_to, does, does_body, does_all, refused, runs, has_arity, is_helper, is_putchar, is_main, function_named, bind_all, local_names}
+use Rattle.cc_tree.specs.Mean.{Scope, Flow, Falls, Breaks, Returns, Returned, Again, tried, falling, turning, choice, used, value, values, block_at, give_value, run_function, enter_helper, enter_function, enter, called, put, go_back, target_of, assigned_to, helps_in, call_to, does, does_body, does_all, refused, runs, has_arity, is_helper, is_putchar, is_main, function_named}
 
 abbrev Grows : {A : Type 0} → World → Ran A → Type 0
 Grows w y = Adds w.trace y

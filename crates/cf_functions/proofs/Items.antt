@@ -1,8 +1,8 @@
 -- The items of a translation are valid.
-use Rattle.std.proofs.Common.{◌≡◌, ◌≢◌, ℕ, zero, suc, ◌+◌, ◌-◌, ◌<◌, ◌≤◌, ◌^◌, Bool, true, false, not, ◌&&◌, ◌||◌, List, [], ◌∷◌, ◌++◌, length, map, take, Option, Some, None, refl, sym, ap, subst, ◌∙◌, arith, codes, cond, ◌⊎◌, inl, inr, lit<}
-use Rattle.std.specs.Prelude.{if◌then◌else◌, ◌==◌, find, is_some, is_none, pos}
+use Rattle.std.proofs.Common.{◌≡◌, ℕ, zero, suc, ◌+◌, ◌<◌, ◌≤◌, ◌^◌, Bool, true, false, not, ◌&&◌, ◌||◌, List, [], ◌∷◌, ◌++◌, length, map, take, Some, None, refl, sym, ap, subst, ◌∙◌, arith, codes, cond, ◌⊎◌, inl, inr, lit<}
+use Rattle.std.specs.Prelude.{if◌then◌else◌, ◌==◌, is_some, pos}
 use Rattle.std.specs.Str.{bytes_eq}
-use Rattle.std.specs.List.{list_all, list_any}
+use Rattle.std.specs.List.{list_all}
 use Rattle.std.proofs.lemmas.Bool.{eqb-true, eq-eqb}
 use Rattle.cc_tokens.specs.Token.{is_word}
 use Rattle.cc_tree.specs.declared.types.CType.TheVariants as ty
@@ -13,9 +13,9 @@ use Rattle.cc_tree.specs.Mean.{is_helper, is_main, local_names, parameter_names}
 use Rattle.cc_tree.specs.Valid as v
 use Rattle.cc_tree.specs.Valid.{Known, is_name, valid_prototype, valid_items, valid_call, valid_expressions, valid_statement, prototype_named, has_own_type, gives_int}
 use Rattle.cf_functions.specs.Plain.{Function}
-use Rattle.cf_functions.specs.Mean.{is_called, link_name, link_name_of, putchar_name, main_name}
+use Rattle.cf_functions.specs.Mean.{link_name, link_name_of, putchar_name, main_name}
 use Rattle.cf_functions.specs.Rules.{File, is_in, differ, function_names, may_call, arity_fits, functions_well, first_unknown, unknown_in_all, all_well, once_all, file_of, keeps_names, first_unknown_of}
-use Rattle.cf_functions.specs.Translate.{slot, slots_from, parameters_of, locals_of, locals_count, lowered, items, putchar, variables, is_sound, in_scope, finish, codes_of, top_of_all, held}
+use Rattle.cf_functions.specs.Translate.{slot, slots_from, parameters_of, locals_of, locals_count, lowered, items, putchar, variables, is_sound, in_scope, finish, codes_of, top_of_all}
 use Rattle.cf_functions.proofs.LinkNames.{same_bytes, bytes_same, bytes_differ, both, link_tells, lt_or, main_or, link-main, link-other, tail, link_is_no_putchar, link_is_no_main, link_is_no_helper}
 use Rattle.cf_functions.proofs.Names.{all_of, neither, slots_are_names, slots_are_different, slot_is_name, slot_in, in_append, link_is_name, link_is_no_library, link_not_in, putchar_not_in, not_in_append, no_F, lacks_F, split_link}
 use Rattle.cf_functions.proofs.Entry.{names_are, parameter_names_from, length-in_scope}

@@ -1,16 +1,16 @@
 -- The unit of a translation links.
-use Rattle.std.proofs.Common.{◌≡◌, ◌≢◌, ℕ, zero, suc, ◌+◌, Bool, true, false, not, ◌&&◌, ◌||◌, List, [], ◌∷◌, ◌++◌, length, map, Option, Some, None, refl, sym, ap, subst, ◌∙◌, arith, codes, cond}
-use Rattle.std.specs.Prelude.{if◌then◌else◌, ◌==◌, find, pos}
+use Rattle.std.proofs.Common.{◌≡◌, ℕ, suc, Bool, true, false, not, ◌&&◌, ◌||◌, List, [], ◌∷◌, ◌++◌, length, map, Option, Some, None, refl, sym, ap, ◌∙◌, codes, cond}
+use Rattle.std.specs.Prelude.{if◌then◌else◌, find, pos}
 use Rattle.std.specs.Str.{bytes_eq}
 use Rattle.std.specs.List.{list_all, list_any}
 use Rattle.cc_tree.specs.Plain as c
 use Rattle.cc_tree.specs.Valid as v
-use Rattle.cc_tree.specs.Link.{uses_of, uses_of_body, uses_of_all, Placed, placed_items, placed_units, is_definition, is_definition_of, uses_of_item, undefined_use, clashes, second_definition, other_type, broken, broken_rule, first_broken, Refusal}
+use Rattle.cc_tree.specs.Link.{uses_of, uses_of_body, uses_of_all, Placed, placed_items, is_definition_of, uses_of_item, clashes, second_definition, other_type, broken, broken_rule, first_broken}
 use Rattle.cf_functions.specs.Plain.{Expression, number, local, call, binary, Expressions, none, more, Statement, declare, assign, perform, give, choose, loop, block, Statements, done, followed, names_after, Function}
-use Rattle.cf_functions.specs.Mean.{Callee, Puts, Defined, Missing, callee, is_called, count, arith_of, link_name_of, link_name, putchar_name, main_name}
-use Rattle.cf_functions.specs.Translate.{slot, slot_of, read_local, store_local, held, set, value_call, plain_call, flat, flats, code, codes_of, turn, plain_body, finish, in_scope, lowered, items, putchar}
+use Rattle.cf_functions.specs.Mean.{Callee, Puts, Defined, Missing, callee, is_called, count, arith_of, link_name_of, putchar_name, main_name}
+use Rattle.cf_functions.specs.Translate.{slot_of, store_local, held, set, value_call, plain_call, flat, flats, code, codes_of, turn, plain_body, finish, in_scope, lowered, items, putchar}
 use Rattle.cf_functions.specs.Rules.{is_in, differ, function_names}
-use Rattle.cf_functions.proofs.LinkNames.{same_bytes, bytes_same, bytes_differ, both, link_tells, link_is_no_putchar}
+use Rattle.cf_functions.proofs.LinkNames.{bytes_same, bytes_differ, both, link_tells, link_is_no_putchar}
 use Rattle.cf_functions.proofs.Names.{neither}
 use Rattle.cf_functions.proofs.Functions.{callee_defined}
 use Rattle.cf_functions.proofs.Items.{or_parts, not_parts, fresh, fresh_more, all_fresh}

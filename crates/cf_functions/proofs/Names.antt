@@ -1,19 +1,18 @@
 -- The names in a translation are names of the small C, and differ.
-use Rattle.std.proofs.Common.{◌≡◌, ◌≢◌, ℕ, zero, suc, ◌+◌, ◌-◌, ◌<◌, ◌≤◌, ◌^◌, ◌/◌, ◌%◌, Bool, true, false, not, ◌&&◌, ◌||◌, List, [], ◌∷◌, ◌++◌, length, map, take, Option, Some, None, refl, sym, ap, subst, ◌∙◌, arith, codes, ◌⊎◌, inl, inr, append_assoc}
-use Rattle.std.specs.Prelude.{if◌then◌else◌, ◌==◌}
+use Rattle.std.proofs.Common.{◌≡◌, ◌≢◌, ℕ, zero, suc, ◌+◌, ◌<◌, ◌≤◌, ◌^◌, ◌%◌, Bool, true, false, not, ◌&&◌, ◌||◌, List, [], ◌∷◌, ◌++◌, map, refl, sym, ap, subst, ◌∙◌, arith, codes, ◌⊎◌, inl, inr, append_assoc}
+use Rattle.std.specs.Prelude.{◌==◌}
 use Rattle.std.specs.Fmt.{decimal}
 use Rattle.std.specs.Str.{bytes_eq}
 use Rattle.std.specs.Char.{is_ascii_digit}
 use Rattle.std.specs.List.{list_all, list_any}
 use Rattle.std.proofs.lemmas.Fmt.{decimal_by_steps}
-use Rattle.std.proofs.lemmas.Bool.{eqb-true, eq-eqb}
 use Rattle.std.proofs.lemmas.Bool.Decides.{nat_tests}
-use Rattle.cc_tokens.specs.Token.{is_word_byte, is_word, begins, is_reserved}
+use Rattle.cc_tokens.specs.Token.{is_word_byte, is_word, begins}
 use Rattle.cc_tokens.specs.Mark.{mark_text, words}
 use Rattle.cc_tree.specs.Valid.{is_name, is_in, differ, is_library, library}
 use Rattle.cf_functions.specs.Mean.{ints, parameter_code, link_name, main_name, putchar_name}
 use Rattle.cf_functions.specs.Translate.{slot, slots_from}
-use Rattle.cf_functions.proofs.LinkNames.{same_bytes, bytes_same, bytes_differ, both, lt_or, eq_or, clash, main_or, link-main, link-other, never_main, tail, lacks, no_underscore, lacks-code}
+use Rattle.cf_functions.proofs.LinkNames.{bytes_same, bytes_differ, both, eq_or, main_or, link-main, link-other, tail, lacks, no_underscore}
 use Rattle.cf_functions.proofs.Entry.{slots_differ}
 
 pub all_of : (a b : Bool) → a ≡ true → b ≡ true → (a && b) ≡ true

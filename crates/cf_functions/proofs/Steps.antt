@@ -1,23 +1,18 @@
 -- How runs of the small C are put together, and what single statements over numbered variables do.
-use Rattle.std.proofs.Common.{◌≡◌, ◌≢◌, ℕ, zero, suc, ◌+◌, ◌-◌, ◌<◌, ◌≤◌, Bool, true, false, List, [], ◌∷◌, ◌++◌, length, map, ℤ, pos, Option, Some, None, Result, Ok, Err, refl, sym, ap, subst, ◌∙◌, arith}
-use Rattle.std.specs.Prelude.{if◌then◌else◌, ◌==◌}
+use Rattle.std.proofs.Common.{◌≡◌, ℕ, suc, ◌+◌, ◌<◌, ◌≤◌, Bool, true, false, List, [], ◌∷◌, ◌++◌, length, ℤ, pos, Option, Some, None, Result, Ok, Err, refl, sym, ap, subst, ◌∙◌, arith}
+use Rattle.std.specs.Prelude.{if◌then◌else◌}
 use Rattle.std.specs.Str.{bytes_eq}
-use Rattle.std.proofs.lemmas.Slice.Eq.{bytes_eq-Decides}
 use Rattle.cf_base.specs.declared.arith.Arith.{Arith}
-use Rattle.cf_base.specs.declared.kind.Kind.TheVariants.{Int}
-use Rattle.cf_base.specs.Integers.{int_op}
-use Rattle.cf_base.specs.Event.{End, Undefined}
 use Rattle.cf_base.specs.World.{World, Ran, Went, Stops, and_then}
 use Rattle.cf_base.specs.Agree.{Sim, Adds}
-use Rattle.cf_base.proofs.Agreement.{sim-then, sim-went, sim-stops, sim-wider}
-use Rattle.cc_tree.specs.Memory.{Memory, holding, read, write, carry}
+use Rattle.cf_base.proofs.Agreement.{sim-then}
+use Rattle.cc_tree.specs.Memory.{Memory, holding}
 use Rattle.cc_tree.specs.Plain as c
 use Rattle.cc_tree.specs.Mean as m
 use Rattle.cc_tree.specs.Mean.{Scope, Falls, Breaks, Returns, Returned, tried, falling, found, listed}
-use Rattle.cf_functions.specs.Mean.{Locals, value_in, Callee}
-use Rattle.cf_functions.specs.Translate.{slot, place, held, set, held_from, slot_of}
-use Rattle.cf_functions.proofs.Growth.{GrowsAgain, grows-falling, grows-does_all}
-use Rattle.cf_functions.proofs.Blocks.{Steady, steady, steady-through, steady-less, steady-written, written, write_live, read_held, carry_held, put_same}
+use Rattle.cf_functions.specs.Mean.{Locals, value_in}
+use Rattle.cf_functions.specs.Translate.{slot, held, set, held_from, slot_of}
+use Rattle.cf_functions.proofs.Blocks.{Steady, written, write_live, read_held, carry_held}
 
 -- ---- joining
 

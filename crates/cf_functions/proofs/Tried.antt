@@ -1,9 +1,9 @@
 -- The definitions, evaluated on small programs.
-use Rattle.std.proofs.Common.{◌≡◌, ℕ, Bool, true, false, List, [], ◌∷◌, ◌++◌, ℤ, pos, negsuc, Option, Some, None, refl, codes}
-use Rattle.cf_base.specs.Event.{Event, Enter, Out, Ended, Ticks, Depth, Undefined}
+use Rattle.std.proofs.Common.{◌≡◌, ℕ, true, false, List, [], ◌∷◌, pos, Some, None, refl, codes}
+use Rattle.cf_base.specs.Event.{Enter, Out, Ended, Ticks, Depth, Undefined}
 use Rattle.cf_base.specs.World.{Outcome}
 use Rattle.cf_functions.specs.declared.tree.Operator.TheVariants as operator
-use Rattle.cf_functions.specs.Plain.{Expression, number, local, call, binary, Expressions, none, more, arguments, Statement, declare, assign, perform, give, choose, loop, block, Statements, done, followed, in_order, Function}
+use Rattle.cf_functions.specs.Plain.{Expression, number, local, call, binary, none, arguments, Statement, declare, assign, perform, give, loop, block, in_order, Function}
 use Rattle.cf_functions.specs.Mean.{mean}
 use Rattle.cf_functions.specs.Rules.{keeps_names, first_unknown_of}
 

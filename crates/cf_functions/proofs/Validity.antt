@@ -1,29 +1,22 @@
 -- The statements of a translation keep the rules of validity of the small C.
-use Rattle.std.proofs.Common.{◌≡◌, ◌≢◌, ℕ, zero, suc, ◌+◌, ◌-◌, ◌<◌, ◌≤◌, ◌^◌, Bool, true, false, not, ◌&&◌, ◌||◌, List, [], ◌∷◌, ◌++◌, length, map, take, ℤ, pos, Option, Some, None, refl, sym, ap, subst, ◌∙◌, arith, codes, cond, ◌⊎◌, inl, inr}
+use Rattle.std.proofs.Common.{◌≡◌, ℕ, zero, suc, ◌+◌, ◌<◌, ◌≤◌, ◌^◌, Bool, true, false, not, ◌&&◌, ◌||◌, List, [], ◌∷◌, ◌++◌, length, pos, Option, Some, None, refl, sym, ap, subst, ◌∙◌, arith}
 use Rattle.std.specs.Prelude.{if◌then◌else◌, ◌==◌, find, nat_lt, nat_le, is_some, max}
-use Rattle.std.specs.Fmt.{decimal}
 use Rattle.std.specs.Str.{bytes_eq}
-use Rattle.std.specs.List.{list_all, list_any}
-use Rattle.std.proofs.lemmas.Bool.{eqb-true, eq-eqb}
+use Rattle.std.specs.List.{list_all}
 use Rattle.std.proofs.lemmas.Bool.Decides.{nat_tests}
-use Rattle.cf_base.specs.declared.arith.Arith.{Arith}
 use Rattle.cf_base.specs.declared.kind.Kind.TheVariants.{Int}
 use Rattle.cf_base.specs.Integers.{fits}
-use Rattle.cc_tree.specs.declared.types.CType.TheVariants as ty
-use Rattle.cc_tree.specs.declared.unit.CParameter.{CParameter}
-use Rattle.cc_tree.specs.declared.unit.CPrototype.{CPrototype}
 use Rattle.cc_tree.specs.Plain as c
-use Rattle.cc_tree.specs.Mean.{is_helper, is_main}
 use Rattle.cc_tree.specs.Valid.{Known, is_name, is_written, valid_place, valid_expression, valid_expressions, valid_call, valid_statement, valid_statements, valid_body, prototype_named}
 use Rattle.cc_tree.specs.Valid as v
 use Rattle.cf_functions.specs.declared.tree.Operator.{Operator}
 use Rattle.cf_functions.specs.declared.tree.Operator.TheVariants as operator
 use Rattle.cf_functions.specs.Plain.{Expression, number, local, call, binary, Expressions, none, more, Statement, declare, assign, perform, give, choose, loop, block, Statements, done, followed, names_after, Function}
-use Rattle.cf_functions.specs.Mean.{Callee, Puts, Defined, Missing, callee, defined, is_called, count, arith_of, link_name, link_name_of, putchar_name, main_name}
+use Rattle.cf_functions.specs.Mean.{Callee, Puts, Defined, Missing, callee, defined, is_called, count, arith_of, link_name_of, putchar_name, main_name}
 use Rattle.cf_functions.specs.Rules.{File, is_in, is_function, may_call, arity_fits, used_well, all_used_well, well, all_well, unknown, unknowns, unknown_in, unknown_in_all, first, int_max, function_names}
-use Rattle.cf_functions.specs.Translate.{slot, place, held, set, held_from, slot_of, read_local, store_local, value_call, plain_call, flat, flats, code, codes_of, turn, plain_body, count_after, top, tops, top_of, top_of_all}
+use Rattle.cf_functions.specs.Translate.{place, held, set, held_from, slot_of, read_local, store_local, value_call, plain_call, flat, flats, code, codes_of, turn, plain_body, count_after, top, tops, top_of, top_of_all}
 use Rattle.cf_functions.proofs.Expressions.{max_left, max_right, top-above, tops-above}
-use Rattle.cf_functions.proofs.LinkNames.{same_bytes, bytes_same, bytes_differ, both, link_tells}
+use Rattle.cf_functions.proofs.LinkNames.{both}
 use Rattle.cf_functions.proofs.Functions.{callee_defined, callee_puts, find_holds}
 
 pub all_of : (a b : Bool) → a ≡ true → b ≡ true → (a && b) ≡ true

@@ -1,7 +1,7 @@
 -- How a file is written in the small C. The locals in scope and the values in between stand in numbered variables of the function:
 -- a local in the one that counts the locals before it, the value of an expression in the first one above, so that what is
 -- evaluated later leaves it alone.
-use Rattle.std.specs.Prelude.{ℕ, zero, suc, ◌+◌, ◌-◌, ◌^◌, max, nat_lt, Bool, true, false, not, ◌&&◌, if◌then◌else◌, List, [], ◌∷◌, ◌++◌, ℤ, pos, Option, Some, None, is_some, codes, decimal, length, map, take, find}
+use Rattle.std.specs.Prelude.{ℕ, zero, suc, ◌+◌, ◌-◌, ◌^◌, max, nat_lt, Bool, not, ◌&&◌, if◌then◌else◌, List, [], ◌∷◌, ◌++◌, pos, Option, Some, None, is_some, codes, decimal, length, map, take, find}
 use Rattle.std.specs.Str.{bytes_eq}
 use Rattle.cc_tree.specs.declared.types.CType.TheVariants as ty
 use Rattle.cc_tree.specs.declared.statement.CLocal.{CLocal}
