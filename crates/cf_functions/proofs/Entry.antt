@@ -1,22 +1,20 @@
 -- The variables of a function that is entered.
-use Rattle.std.proofs.Common.{◌≡◌, ◌≢◌, ℕ, zero, suc, ◌+◌, ◌-◌, ◌<◌, ◌≤◌, ◌^◌, Bool, true, false, List, [], ◌∷◌, ◌++◌, length, map, ℤ, pos, Option, Some, None, refl, sym, ap, subst, ◌∙◌, arith, codes, ◌⊎◌, inl, inr}
-use Rattle.std.specs.Prelude.{if◌then◌else◌, ◌==◌}
+use Rattle.std.proofs.Common.{◌≡◌, ◌≢◌, ℕ, zero, suc, ◌+◌, ◌-◌, ◌<◌, ◌≤◌, ◌^◌, true, List, [], ◌∷◌, length, map, ℤ, pos, Some, refl, sym, ap, ◌∙◌, arith, ◌⊎◌, inl, inr}
+use Rattle.std.specs.Prelude.{if◌then◌else◌}
 use Rattle.std.specs.Fmt.{decimal}
-use Rattle.std.specs.Str.{bytes_eq}
 use Rattle.std.specs.Str.Parse.{digits_value}
 use Rattle.std.proofs.lemmas.Fmt.{decimal_is_IsNumeral}
 use Rattle.cc_tree.specs.declared.types.CType.TheVariants as ty
 use Rattle.cc_tree.specs.declared.statement.CLocal.{CLocal}
-use Rattle.cc_tree.specs.declared.unit.CParameter.{CParameter}
 use Rattle.cc_tree.specs.Memory.{Block, Memory, holding, born, born_with, born_all}
 use Rattle.cc_tree.specs.Mean.{Scope, bind, bind_all, no_names, local_names, parameter_names}
 use Rattle.cf_functions.specs.Mean.{Locals, bind as bind_locals}
 use Rattle.cf_functions.specs.Translate.{slot, slots_from, parameters_of, locals_of, in_scope}
-use Rattle.cf_functions.proofs.Blocks.{Steady, steady-born, steady-born_all, next-born_with, next-born_all, born_all-lives, put_same}
-use Rattle.cf_functions.proofs.Steps.{Scoped, Living, living, Stored, stored, names_of}
-use Rattle.cf_functions.proofs.LinkNames.{same_bytes, bytes_same, bytes_differ, lt_or, eq_or}
+use Rattle.cf_functions.proofs.Blocks.{steady-born, steady-born_all, next-born_all, born_all-lives, put_same}
+use Rattle.cf_functions.proofs.Steps.{Scoped, Living, Stored, stored, names_of}
+use Rattle.cf_functions.proofs.LinkNames.{bytes_same, bytes_differ, lt_or, eq_or}
 
-slots_differ : (i j : ℕ) → i < 2 ^ 64 → j < 2 ^ 64 → slot i ≡ slot j → i ≡ j
+pub slots_differ : (i j : ℕ) → i < 2 ^ 64 → j < 2 ^ 64 → slot i ≡ slot j → i ≡ j
 slots_differ i j hi hj e =
     let f : decimal i ≡ decimal j = cc in
     sym (decimal_is_IsNumeral i hi).1 ∙ ap (digits_value 10) f ∙ (decimal_is_IsNumeral j hj).1
@@ -46,11 +44,11 @@ bound_at k (suc n) b scope (suc i) h low =
     ∙ bound_at (suc k) n (suc b) (bind (slot k) b scope) i (omega arith) (omega arith)
     ∙ ap Some (omega arith)
 
-names_are : (k n : ℕ) → local_names (locals_of k n) ≡ slots_from k n
+pub names_are : (k n : ℕ) → local_names (locals_of k n) ≡ slots_from k n
 names_are k zero = refl
 names_are k (suc n) = ap (λ names. slot k ∷ names) (names_are (suc k) n)
 
-parameter_names_from : (k n : ℕ) → parameter_names (map (λ name. record { ty = ty.Int; name = name }) (slots_from k n)) ≡ slots_from k n
+pub parameter_names_from : (k n : ℕ) → parameter_names (map (λ name. record { ty = ty.Int; name = name }) (slots_from k n)) ≡ slots_from k n
 parameter_names_from k zero = refl
 parameter_names_from k (suc n) = ap (λ names. slot k ∷ names) (parameter_names_from (suc k) n)
 

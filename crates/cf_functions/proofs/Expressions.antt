@@ -1,10 +1,10 @@
 -- The code of an expression puts its value into its variable, in a run that simulates the evaluation.
-use Rattle.std.proofs.Common.{◌≡◌, ◌≢◌, ℕ, zero, suc, ◌+◌, ◌-◌, ◌<◌, ◌≤◌, Bool, true, false, List, [], ◌∷◌, ◌++◌, length, map, ℤ, pos, Option, Some, None, Result, Ok, Err, refl, sym, ap, subst, ◌∙◌, arith}
+use Rattle.std.proofs.Common.{◌≡◌, ℕ, suc, ◌+◌, ◌<◌, ◌≤◌, false, List, [], ◌∷◌, ◌++◌, length, ℤ, pos, Option, Some, None, Result, Ok, Err, refl, sym, ap, subst, ◌∙◌, arith}
 use Rattle.std.specs.Prelude.{max}
 use Rattle.cf_base.specs.declared.kind.Kind.TheVariants.{Int}
 use Rattle.cf_base.specs.Integers.{int_op}
-use Rattle.cf_base.specs.Event.{End, Undefined}
-use Rattle.cf_base.specs.World.{World, Ran, Went, Stops, and_then}
+use Rattle.cf_base.specs.Event.{Undefined}
+use Rattle.cf_base.specs.World.{World, Ran, Went, and_then}
 use Rattle.cf_base.specs.Agree.{Sim, Adds}
 use Rattle.cf_base.proofs.Agreement.{sim-then, sim-went, sim-stops, sim-undefined, sim-wider}
 use Rattle.cc_tree.specs.Memory.{Memory, holding, write}
@@ -12,10 +12,11 @@ use Rattle.cc_tree.specs.Plain as c
 use Rattle.cc_tree.specs.Mean as m
 use Rattle.cc_tree.specs.Mean.{Scope, Falls, Returned, tried, falling, found}
 use Rattle.cf_functions.specs.declared.tree.Operator.{Operator}
+use Rattle.cf_functions.specs.declared.tree.Operator.TheVariants as operator
 use Rattle.cf_functions.specs.Plain.{Expression, number, local, call, binary, Expressions, none, more, Function}
 use Rattle.cf_functions.specs.Mean.{Again, Locals, value_in, Callee, Puts, Defined, Missing, callee, count, arith_of, value, values, called, enter, used, computed, link_name_of, putchar_name, no_result, put, first_of}
-use Rattle.cf_functions.specs.Translate.{slot, place, held, set, held_from, slot_of, read_local, flat, flats, value_call, top, tops}
-use Rattle.cf_functions.proofs.Growth.{GrowsAgain, grows-falling, grows-does_all, grows-store_result, went}
+use Rattle.cf_functions.specs.Translate.{place, held, set, held_from, slot_of, read_local, flat, flats, value_call, top, tops}
+use Rattle.cf_functions.proofs.Growth.{GrowsAgain, grows-falling, grows-does_all, grows-go_back}
 use Rattle.cf_functions.proofs.Blocks.{Steady, steady, steady-through, steady-less, steady-written, written, write_live, put_same}
 use Rattle.cf_functions.proofs.Steps.{run_all, all_join, all_one, FallsAs, sim-falls, sim-map, sim-at, Scoped, Living, living, Stored, stored, names_of, ReadsAs, reads, set_number, set_held, set_binary, HeldFrom, values_held}
 
@@ -61,6 +62,12 @@ gets_from base k n o v fl s r = record {
   holds = record { steady = steady-through (base + k) (base + k) n o r.memory (omega arith) s r.holds.steady; held = r.holds.held };
 }
 
+operated_is : (op : Operator) (x y : ℤ) → m.operated (arith_of op) x y ≡ int_op (arith_of op) Int x y
+operated_is operator.Add x y = refl
+operated_is operator.Subtract x y = refl
+operated_is operator.Less x y = refl
+operated_is operator.Equal x y = refl
+
 module _ (again : Again) (c_again helps : m.Again) (fs : List Function) (p : List c.Function) (gr : GrowsAgain c_again) (gh : GrowsAgain helps)
     (calls : (x : List ℕ) (k : ℕ) (f : Function) → callee fs x k ≡ Defined f → (vs : List ℤ) → length vs ≡ k → (d : ℕ) (n : Memory) (w : World)
     → Sim (Back n) (enter again f vs d w) (m.called c_again helps p false (link_name_of f) vs d n w))
@@ -83,13 +90,13 @@ module _ (again : Again) (c_again helps : m.Again) (fs : List Function) (p : Lis
 
   -- the result of a call into variable k
   store_sim : (k : ℕ) (n : Memory) → k < total → Living base total n → (o : Option ℤ) (r : Returned) (w : World) → Back n o r
-      → Sim (FallsAs (Gets base k n)) (used o w) (m.store_result r (base + k) w)
-  store_sim k n h l None r w back = sim-undefined (FallsAs (Gets base k n)) no_result w.trace _ (grows-store_result r (base + k) w)
+      → Sim (FallsAs (Gets base k n)) (used o w) (m.go_back (Some (base + k)) r w)
+  store_sim k n h l None r w back = sim-undefined (FallsAs (Gets base k n)) no_result w.trace _ (grows-go_back (Some (base + k)) r w)
   store_sim k n h l (Some v) r w back =
       let room = l.room in
       let next = back.steady.next in
       let live = back.steady.alive (base + k) (omega arith) (l.live k h) in
-      let is : m.store_result r (base + k) w ≡ Went (Falls (written (base + k) (Some v) r.memory)) w =
+      let is : m.go_back (Some (base + k)) r w ≡ Went (Falls (written (base + k) (Some v) r.memory)) w =
       ap (λ q. tried (m.used q) w (λ v. tried (write (base + k) (Some v) r.memory) w (λ n. Went (Falls n) w))) back.result
       ∙ ap (λ q. tried q w (λ n. Went (Falls n) w)) (write_live (base + k) (Some v) r.memory live) in
       sim-at _ _ _ is (sim-went (FallsAs (Gets base k n)) v (Falls (written (base + k) (Some v) r.memory)) w (record {
@@ -102,26 +109,26 @@ module _ (again : Again) (c_again helps : m.Again) (fs : List Function) (p : Lis
       }))
 
   abbrev call_name : List ℕ → ℕ → List ℤ → ℕ → Memory → World → Ran m.Flow
-  call_name name k vs d n w = and_then (m.called c_again helps p false name vs d n w) (λ r w. m.store_result r (base + k) w)
+  call_name name k vs d n w = and_then (m.called c_again helps p false name vs d n w) (λ r w. m.go_back (Some (base + k)) r w)
 
   -- a call of a name with arguments in variables from k on
   call_is : (name : List ℕ) (k : ℕ) (vs : List ℤ) (d : ℕ) (n : Memory) (w : World) → k < total → k + length vs ≤ total → HeldFrom base k vs n
       → run (c.call (Some (place k)) name (held_from k (length vs)) ∷ []) d n w ≡ call_name name k vs d n w
   call_is name k vs d n w h room e =
       all_one c_again helps p (c.call (Some (place k)) name (held_from k (length vs))) sc d n w
-      ∙ ap (λ o. tried (found o) w (λ b. tried (m.values (held_from k (length vs)) sc n) w
-      (λ vs. and_then (m.called c_again helps p false name vs d n w) (λ r w. m.store_result r b w)))) (scoped.at k h)
-      ∙ ap (λ r. tried r w (λ vs. and_then (m.called c_again helps p false name vs d n w) (λ r w. m.store_result r (base + k) w))) (values_held sc base total scoped k vs n room e)
+      ∙ ap (λ o. tried (m.targeted (found o)) w (λ back. tried (m.values (held_from k (length vs)) sc n) w
+      (λ vs. and_then (m.called c_again helps p false name vs d n w) (λ r w. m.go_back back r w)))) (scoped.at k h)
+      ∙ ap (λ r. tried r w (λ vs. and_then (m.called c_again helps p false name vs d n w) (λ r w. m.go_back (Some (base + k)) r w))) (values_held sc base total scoped k vs n room e)
 
   value_call_sim : (x : List ℕ) (k j : ℕ) (cal : Callee) → callee fs x j ≡ cal → (vs : List ℤ) → length vs ≡ j → (d : ℕ) (n : Memory) (w : World)
       → k < total → k + length vs ≤ total → Living base total n → HeldFrom base k vs n
       → Sim (FallsAs (Gets base k n)) (and_then (called again cal vs d w) used) (run (value_call cal k (length vs) ∷ []) d n w)
   value_call_sim x k j Puts is vs e d n w h room l held =
       sim-at _ _ _ (call_is putchar_name k vs d n w h room held)
-      (sim-then _ _ _ _ (put_sim vs (e ∙ puts x j is) d n w) (λ o r w back. store_sim k n h l o r w back) (λ r w. grows-store_result r (base + k) w))
+      (sim-then _ _ _ _ (put_sim vs (e ∙ puts x j is) d n w) (λ o r w back. store_sim k n h l o r w back) (λ r w. grows-go_back (Some (base + k)) r w))
   value_call_sim x k j (Defined f) is vs e d n w h room l held =
       sim-at _ _ _ (call_is (link_name_of f) k vs d n w h room held)
-      (sim-then _ _ _ _ (calls x j f is vs e d n w) (λ o r w back. store_sim k n h l o r w back) (λ r w. grows-store_result r (base + k) w))
+      (sim-then _ _ _ _ (calls x j f is vs e d n w) (λ o r w back. store_sim k n h l o r w back) (λ r w. grows-go_back (Some (base + k)) r w))
   value_call_sim x k j Missing is vs e d n w h room l held =
       sim-at _ _ _ (all_one c_again helps p (set k (c.number (pos 0))) sc d n w ∙ set_number c_again helps p sc base total scoped k (pos 0) d n w h l)
       (sim-went (FallsAs (Gets base k n)) (pos 0) _ w (record { memory = written (base + k) (Some (pos 0)) n; is = refl; holds = gets_written base k n (pos 0) }))
@@ -186,7 +193,8 @@ module _ (again : Again) (c_again helps : m.Again) (fs : List Function) (p : Lis
         let l_q = living base total (base + suc k) o q g2.steady l_o in
         let x_held = g2.steady.same (base + k) (omega arith) ∙ g.held in
         sim-at _ _ _ (all_one c_again helps p last sc d q w
-        ∙ set_binary c_again helps p sc base total scoped (arith_of op) k k (suc k) x y d q w (omega arith) (omega arith) (omega arith) l_q x_held g2.held)
+        ∙ set_binary c_again helps p sc base total scoped (arith_of op) k k (suc k) x y d q w (omega arith) (omega arith) (omega arith) l_q x_held g2.held
+        ∙ ap (λ r. tried r w (λ v. Went (Falls (written (base + k) (Some v) q)) w)) (operated_is op x y))
         (compute_sim (int_op (arith_of op) Int x y) k n q w (steady-through (base + k) (base + k) n o q (omega arith) g.steady (steady-less (base + suc k) (base + k) o q (omega arith) g2.steady))))
         (falls-run (last ∷ []) d)))
         (falls-run (flat fs (names_of locals) b (suc k) ++ last ∷ []) d))

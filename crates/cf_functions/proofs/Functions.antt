@@ -1,35 +1,35 @@
 -- Functions that are entered, and whole programs.
-use Rattle.std.proofs.Common.{◌≡◌, ◌≢◌, ℕ, zero, suc, ◌+◌, ◌-◌, ◌<◌, ◌≤◌, ◌^◌, Bool, true, false, not, ◌&&◌, List, [], ◌∷◌, ◌++◌, length, map, take, ℤ, pos, Option, Some, None, Result, Ok, Err, refl, sym, ap, subst, ◌∙◌, arith, codes, cond}
-use Rattle.std.specs.Prelude.{if◌then◌else◌, ◌==◌, find, nat_lt, is_some, max}
+use Rattle.std.proofs.Common.{◌≡◌, ℕ, zero, suc, ◌+◌, ◌<◌, ◌≤◌, ◌^◌, Bool, true, false, not, ◌&&◌, List, [], ◌∷◌, ◌++◌, length, map, take, ℤ, pos, Option, Some, None, refl, sym, ap, subst, ◌∙◌, arith, codes, cond}
+use Rattle.std.specs.Prelude.{if◌then◌else◌, ◌==◌, find, nat_lt, is_some}
 use Rattle.std.specs.Str.{bytes_eq}
 use Rattle.std.specs.List.{list_all}
 use Rattle.std.proofs.lemmas.Bool.{eqb-true, eq-eqb}
 use Rattle.std.proofs.lemmas.Bool.Decides.{nat_tests}
-use Rattle.cf_base.specs.Event.{Event, Enter, End, Undefined, Ticks}
-use Rattle.cf_base.specs.World.{World, Ran, Went, Stops, and_then, spend, deeper, show, world_at, Outcome, outcome}
+use Rattle.cf_base.specs.Event.{Enter, Undefined, Ticks}
+use Rattle.cf_base.specs.World.{World, Ran, Went, Stops, and_then, show, world_at, outcome}
 use Rattle.cf_base.specs.Agree.{Sim, Adds, Agree}
 use Rattle.cf_base.proofs.Agreement.{adds-then, sim-then, sim-went, sim-stops, sim-undefined, sim-spend_of, sim-deeper, agree-sim}
 use Rattle.cc_tree.specs.declared.types.CType.TheVariants as ty
 use Rattle.cc_tree.specs.declared.statement.CLocal.{CLocal}
 use Rattle.cc_tree.specs.declared.unit.CParameter.{CParameter}
-use Rattle.cc_tree.specs.Memory.{Memory, holding, born, born_all, born_with, died_all, no_memory, write}
+use Rattle.cc_tree.specs.Memory.{Memory, born, born_all, born_with, died_all, no_memory, write}
 use Rattle.cc_tree.specs.Plain as c
 use Rattle.cc_tree.specs.Mean as m
 use Rattle.cc_tree.specs.Mean.{Scope, Returned, tried, found, bind_all, no_names, parameter_names, local_names, function_named, mean_of}
-use Rattle.cf_functions.specs.Plain.{Expression, Statement, loop, Statements, done, followed, Function}
-use Rattle.cf_functions.specs.Mean.{Again, Locals, bind, Callee, Puts, Defined, Missing, callee, defined, is_called, enter, called, link_name_of, link_name, putchar_name, main_name, Flow, Falls, Returns, falling, does, does_all, result_of, result_at_end, used, runs, start, mean, no_result}
-use Rattle.cf_functions.specs.Translate.{slot, slots_from, codes_of, turn, plain_body, in_scope, finish, locals_of, locals_count, parameters_of, lowered, items, variables, is_sound, has_main, added_main, program, top_of, top_of_all}
-use Rattle.cf_functions.proofs.Growth.{GrowsAgain, grows-falling, grows-does_all, grows-does, grows-runs, grows-refused, grows-store_result, grows-tried, went}
-use Rattle.cf_functions.proofs.Blocks.{Steady, steady, steady-through, steady-less, steady-born_with, steady-born_all, steady-died_all, next-born_with, next-born_all, written, write_live, read_held, put_same}
+use Rattle.cf_functions.specs.Plain.{Expression, loop, Statements, done, followed, Function}
+use Rattle.cf_functions.specs.Mean.{Again, Locals, bind, Puts, Defined, callee, defined, is_called, enter, link_name_of, link_name, putchar_name, main_name, Flow, Falls, Returns, falling, does, does_all, result_of, result_at_end, used, runs, start, mean, no_result}
+use Rattle.cf_functions.specs.Translate.{slots_from, codes_of, turn, plain_body, in_scope, finish, locals_of, locals_count, parameters_of, lowered, variables, is_sound, has_main, added_main, program, top_of, top_of_all}
+use Rattle.cf_functions.proofs.Growth.{GrowsAgain, grows-falling, grows-does_all, grows-runs, grows-helps_in, grows-go_back, grows-tried, went}
+use Rattle.cf_functions.proofs.Blocks.{Steady, steady-through, steady-born_with, steady-born_all, steady-died_all, next-born_with, write_live}
 use Rattle.cf_functions.proofs.Steps.{run_all, all_join, all_one, sim-at, Scoped, Living, Stored, stored, names_of, length-names_of}
 use Rattle.cf_functions.proofs.Expressions.{Back}
 use Rattle.cf_functions.proofs.Statements.{Flows, Reaches, does_sim, all_sim}
 use Rattle.cf_functions.proofs.LinkNames.{same_bytes, bytes_same, bytes_differ, both, link_tells, link_is_no_putchar, link_is_no_main, link_is_no_helper}
-use Rattle.cf_functions.proofs.Entry.{entry_scope, entry_scoped, stored_bind, names-bind, length-in_scope, entry_living}
+use Rattle.cf_functions.proofs.Entry.{entry_scoped, stored_bind, names-bind, length-in_scope, entry_living}
 
 -- ---- what a call reaches
 
-callee_defined : (fs : List Function) (x : List ℕ) (k : ℕ) (f : Function) → callee fs x k ≡ Defined f → find (is_called x k) fs ≡ Some f
+pub callee_defined : (fs : List Function) (x : List ℕ) (k : ℕ) (f : Function) → callee fs x k ≡ Defined f → find (is_called x k) fs ≡ Some f
 callee_defined fs x k f e = go (bytes_eq x putchar_name && (k == 1)) (find (is_called x k) fs) refl e
   where
     by_option : (o : Option Function) → defined o ≡ Defined f → o ≡ Some f
@@ -40,7 +40,7 @@ callee_defined fs x k f e = go (bytes_eq x putchar_name && (k == 1)) (find (is_c
     go true o is h = absurd (cc)
     go false o is h = is ∙ by_option o h
 
-callee_puts : (fs : List Function) (x : List ℕ) (k : ℕ) → callee fs x k ≡ Puts → k ≡ 1
+pub callee_puts : (fs : List Function) (x : List ℕ) (k : ℕ) → callee fs x k ≡ Puts → k ≡ 1
 callee_puts fs x k e = go (bytes_eq x putchar_name && (k == 1)) refl e
   where
     by_option : (o : Option Function) → defined o ≡ Puts → k ≡ 1
@@ -52,7 +52,7 @@ callee_puts fs x k e = go (bytes_eq x putchar_name && (k == 1)) refl e
     go false is h = by_option (find (is_called x k) fs) h
 
 -- what was found passes the test, and has what all have
-find_holds : (test : Function → Bool) (fs : List Function) (f : Function) → find test fs ≡ Some f → test f ≡ true
+pub find_holds : (test : Function → Bool) (fs : List Function) (f : Function) → find test fs ≡ Some f → test f ≡ true
 find_holds test [] f e = absurd (cc)
 find_holds test (g ∷ fs) f e = go (find_holds test fs f) (test g) refl e
   where
@@ -60,7 +60,7 @@ find_holds test (g ∷ fs) f e = go (find_holds test fs f) (test g) refl e
     go next true is h = let same : g ≡ f = cc in ap test (sym same) ∙ is
     go next false is h = next h
 
-find_all : (test q : Function → Bool) (fs : List Function) (f : Function) → find test fs ≡ Some f → list_all q fs ≡ true → q f ≡ true
+pub find_all : (test q : Function → Bool) (fs : List Function) (f : Function) → find test fs ≡ Some f → list_all q fs ≡ true → q f ≡ true
 find_all test q [] f e all = absurd (cc)
 find_all test q (g ∷ fs) f e all = go (find_all test q fs f) (test g) e
   where
@@ -71,10 +71,10 @@ find_all test q (g ∷ fs) f e all = go (find_all test q fs f) (test g) e
     go next true h = let same : g ≡ f = cc in ap q (sym same) ∙ p.0
     go next false h = next h p.1
 
-called_tells : (x : List ℕ) (k : ℕ) (f : Function) → is_called x k f ≡ true → (f.name ≡ x) × (length f.parameters ≡ k)
+pub called_tells : (x : List ℕ) (k : ℕ) (f : Function) → is_called x k f ≡ true → (f.name ≡ x) × (length f.parameters ≡ k)
 called_tells x k f e = let p = both (bytes_eq f.name x) (length f.parameters == k) e in (same_bytes f.name x p.0, eqb-true (length f.parameters) k p.1)
 
-called_is : (x : List ℕ) (k : ℕ) (f : Function) → f.name ≡ x → length f.parameters ≡ k → is_called x k f ≡ true
+pub called_is : (x : List ℕ) (k : ℕ) (f : Function) → f.name ≡ x → length f.parameters ≡ k → is_called x k f ≡ true
 called_is x k f e h = ap (λ t. t && (length f.parameters == k)) (bytes_same f.name x e) ∙ eq-eqb (length f.parameters) k h
 
 abbrev named : List ℕ → c.Function → Bool
@@ -164,7 +164,7 @@ CallSim fs p again c_again helps =
     (x : List ℕ) (k : ℕ) (f : Function) → callee fs x k ≡ Defined f → (vs : List ℤ) → length vs ≡ k → (d : ℕ) (n : Memory) (w : World)
     → Sim (Back n) (enter again f vs d w) (m.called c_again helps p false (link_name_of f) vs d n w)
 
-sound_parts : (f : Function) → is_sound f ≡ true → (bytes_eq (take 3 f.name) (codes "__h") ≡ false) × (variables f < 2 ^ 64)
+pub sound_parts : (f : Function) → is_sound f ≡ true → (bytes_eq (take 3 f.name) (codes "__h") ≡ false) × (variables f < 2 ^ 64)
 sound_parts f e =
     let p = both (not (bytes_eq (take 3 f.name) (codes "__h"))) (nat_lt (variables f) (2 ^ 64)) e in
     (go (bytes_eq (take 3 f.name) (codes "__h")) p.0, let q = p.1 in grind (arith, nat_tests))
@@ -173,7 +173,7 @@ sound_parts f e =
     go true h = absurd (cc)
     go false h = refl
 
-length-locals_of : (k n : ℕ) → length (locals_of k n) ≡ n
+pub length-locals_of : (k n : ℕ) → length (locals_of k n) ≡ n
 length-locals_of k zero = refl
 length-locals_of k (suc n) = ap suc (length-locals_of (suc k) n)
 
@@ -201,12 +201,13 @@ module _ (fs : List Function) (sound : list_all is_sound fs ≡ true) (again : A
       (sim-spend_of w.ticks w _ _ (λ v q. sim-deeper d v _ _ (λ left.
       sim-then _ _ _ _ (bodies f ok vs arity left n (show (Enter (link_name_of f)) v))
       (λ s fl u r.
+      let ps = parameters_of (length f.parameters) in
       let le : n.next ≤ n.next = omega arith in
-      let back : m.returned (m.ending vs n.next fl) ≡ record { result = result_of f s; memory = died_all vs n.next r.memory } =
-      ap (λ x. m.returned (m.ending vs n.next x)) r.is ∙ ap m.returned (ending_flow vs n.next (result_of f s) r.memory) ∙ returned_flow (result_of f s) (died_all vs n.next r.memory) in
-      sim-went (Back n) (result_of f s) (m.returned (m.ending vs n.next fl)) u (record {
+      let back : m.returned (m.ending ps n.next fl) ≡ record { result = result_of f s; memory = died_all ps n.next r.memory } =
+      ap (λ x. m.returned (m.ending ps n.next x)) r.is ∙ ap m.returned (ending_flow ps n.next (result_of f s) r.memory) ∙ returned_flow (result_of f s) (died_all ps n.next r.memory) in
+      sim-went (Back n) (result_of f s) (m.returned (m.ending ps n.next fl)) u (record {
         result = ap (λ (b : Returned). b.result) back;
-        steady = subst (λ (b : Returned). Steady n.next n b.memory) (sym back) (steady-died_all n.next vs n.next r.memory n le le r.steady_is);
+        steady = subst (λ (b : Returned). Steady n.next n b.memory) (sym back) (steady-died_all n.next ps n.next r.memory n le le r.steady_is);
       }))
       (λ fl u. went _ u))))
     where
@@ -316,10 +317,10 @@ record Simulated (fs : List Function) (n : ℕ) : Type 0 where
   turns : TurnSim fs (runs fs n) (m.runs (linked fs) n)
 
 abbrev helpers : List c.Function → ℕ → m.Again
-helpers p n inside = m.does (m.runs p n) m.refused p true
+helpers p n = m.helps_in (m.runs p n) p false
 
 grows-helpers : (p : List c.Function) (n : ℕ) → GrowsAgain (helpers p n)
-grows-helpers p n inside s sc d o w = grows-does (m.runs p n) m.refused (grows-runs p n) grows-refused p true s sc d o w
+grows-helpers p n = grows-helps_in (m.runs p n) (grows-runs p n) p false
 
 simulated : (fs : List Function) → list_all is_sound fs ≡ true → (n : ℕ) → Simulated fs n
 simulated fs sound zero = record {
@@ -344,10 +345,10 @@ status_scope = bind_all (local_names status) 0 (bind_all [] 0 no_names)
 
 abbrev rest_of_main : m.Again → m.Again → List c.Function → ℕ → Ran Returned → Ran ℤ
 rest_of_main again helps p d r =
-    and_then (and_then (and_then (and_then (and_then r (λ r w. m.store_result r 0 w))
+    and_then (and_then (and_then (and_then (and_then r (λ r w. m.go_back (Some 0) r w))
     (m.falling (λ o w. m.does_all again helps p false (c.followed (c.give (Some (c.load (c.named (codes "status"))))) c.done) status_scope d o w)))
     (λ flow w. Went (m.ending status 0 flow) w))
-    (λ flow w. Went (m.returned (m.ending {A = ℤ} [] 0 flow)) w))
+    (λ flow w. Went (m.returned (m.ending {A = CParameter} [] 0 flow)) w))
     (λ r w. tried (m.used r.result) w (λ v. Went v w))
 
 rest_splits : (again helps : m.Again) (p : List c.Function) (d : ℕ) (r : Ran Returned) → rest_of_main again helps p d r ≡ and_then r (λ b w. rest_of_main again helps p d (Went b w))
@@ -357,9 +358,9 @@ rest_splits again helps p d (Stops end t) = refl
 grows-rest : (again helps : m.Again) → GrowsAgain again → GrowsAgain helps → (p : List c.Function) (d : ℕ) (b : Returned) (w : World) → Adds w.trace (rest_of_main again helps p d (Went b w))
 grows-rest again helps gr gh p d b w =
     let all = c.followed (c.give (Some (c.load (c.named (codes "status"))))) c.done in
-    adds-then {A = Returned} w.trace _ _ (adds-then {A = m.Flow} w.trace _ _ (adds-then {A = m.Flow} w.trace _ _ (adds-then {A = m.Flow} w.trace _ _ (grows-store_result b 0 w)
+    adds-then {A = Returned} w.trace _ _ (adds-then {A = m.Flow} w.trace _ _ (adds-then {A = m.Flow} w.trace _ _ (adds-then {A = m.Flow} w.trace _ _ (grows-go_back (Some 0) b w)
     (λ fl w. grows-falling (λ o w. m.does_all again helps p false all status_scope d o w) (λ o w. grows-does_all again helps gr gh p false all status_scope d o w) fl w))
-    (λ fl w. went (m.ending status 0 fl) w)) (λ fl w. went (m.returned (m.ending {A = ℤ} [] 0 fl)) w)) (λ r w. grows-tried (m.used r.result) w _ (λ v. went v w))
+    (λ fl w. went (m.ending status 0 fl) w)) (λ fl w. went (m.returned (m.ending {A = CParameter} [] 0 fl)) w)) (λ r w. grows-tried (m.used r.result) w _ (λ v. went v w))
 
 -- the value that `__main` gives back is the status
 rest_is : (again helps : m.Again) (p : List c.Function) (d : ℕ) (v : ℤ) (b : Returned) (w : World) → b.result ≡ Some v → (b.memory.block 0).live ≡ true
@@ -371,7 +372,7 @@ rest_is again helps p d v b w e live = ap behind (ap (λ q. tried (m.used q) w (
     behind x = and_then (and_then (and_then (and_then x
         (m.falling (λ o w. m.does_all again helps p false (c.followed (c.give (Some (c.load (c.named (codes "status"))))) c.done) status_scope d o w)))
         (λ flow w. Went (m.ending status 0 flow) w))
-        (λ flow w. Went (m.returned (m.ending {A = ℤ} [] 0 flow)) w))
+        (λ flow w. Went (m.returned (m.ending {A = CParameter} [] 0 flow)) w))
         (λ (r : Returned) w. tried (m.used r.result) w (λ v. Went v w))
 
 abbrev SameValue : ℤ → ℤ → Type 0
@@ -400,7 +401,7 @@ main_sim fs sound f at n d w =
     (sim-then _ _ _ _ call' (λ o b u back. status_sim again helps (grows-runs p n) (grows-helpers p n) p d o b u back)
     (λ b u. grows-rest again helps (grows-runs p n) (grows-helpers p n) p d b u))
 
-found_main : (fs : List Function) → has_main fs ≡ true → (f : Function) × (find (is_called main_name 0) fs ≡ Some f)
+pub found_main : (fs : List Function) → has_main fs ≡ true → (f : Function) × (find (is_called main_name 0) fs ≡ Some f)
 found_main fs e = go (find (is_called main_name 0) fs) refl e
   where
     go : (o : Option Function) → find (is_called main_name 0) fs ≡ o → is_some o ≡ true → (f : Function) × (find (is_called main_name 0) fs ≡ Some f)

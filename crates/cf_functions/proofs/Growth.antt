@@ -1,14 +1,13 @@
 -- A run of the small C only adds to its trace.
-use Rattle.std.proofs.Common.{◌≡◌, ℕ, zero, suc, Bool, true, false, List, [], ◌∷◌, ◌++◌, ℤ, pos, negsuc, Option, Some, None, Result, Ok, Err, refl, sym, subst}
+use Rattle.std.proofs.Common.{ℕ, zero, suc, Bool, true, false, List, [], ◌∷◌, ◌++◌, ℤ, pos, negsuc, Option, Some, None, Result, Ok, Err, refl, subst}
 use Rattle.std.specs.Prelude.{if◌then◌else◌}
-use Rattle.cf_base.specs.Event.{Event, Enter, Out, End, Undefined, Ticks}
-use Rattle.cf_base.specs.World.{World, Ran, Went, Stops, and_then, spend, deeper, show}
-use Rattle.cf_base.specs.Agree.{Begins, Adds}
+use Rattle.cf_base.specs.Event.{Event, Enter, End, Undefined}
+use Rattle.cf_base.specs.World.{World, Ran, Went, Stops, and_then, deeper, show}
+use Rattle.cf_base.specs.Agree.{Adds}
 use Rattle.cf_base.proofs.Agreement.{begins-refl, adds-went, adds-stops, adds-from, adds-then, adds-spend_of, adds-deeper}
-use Rattle.cc_tree.specs.declared.statement.CLocal.{CLocal}
-use Rattle.cc_tree.specs.Memory.{Memory, born_all, write}
+use Rattle.cc_tree.specs.Memory.{Memory, write}
 use Rattle.cc_tree.specs.Plain.{Place, Expression, Statement, assign, call, block, leave, choose, loop, give, Statements, done, followed, Body, body, Function}
-use Rattle.cc_tree.specs.Mean.{Scope, Flow, Falls, Breaks, Returns, Returned, Again, tried, falling, turning, ending, choice, used, value, values, block_at, assigned, give_value, run_function, enter_helper, enter_function, enter, called, put, store_result, call_to, does, does_body, does_all, refused, runs, has_arity, is_helper, is_putchar, is_main, function_named, bind_all, local_names}
+use Rattle.cc_tree.specs.Mean.{Scope, Flow, Falls, Breaks, Returns, Returned, Again, tried, falling, turning, choice, used, value, values, block_at, give_value, run_function, enter_helper, enter_function, enter, called, put, go_back, target_of, assigned_to, helps_in, call_to, does, does_body, does_all, refused, runs, has_arity, is_helper, is_putchar, is_main, function_named}
 
 abbrev Grows : {A : Type 0} → World → Ran A → Type 0
 Grows w y = Adds w.trace y
@@ -77,8 +76,9 @@ grows-put [] m w = stopped _ w
 grows-put (c ∷ []) m w = shown_more _ w _ (went _ _)
 grows-put (c ∷ d ∷ vs) m w = stopped _ w
 
-pub grows-store_result : (r : Returned) (b : ℕ) (w : World) → Adds w.trace (store_result r b w)
-grows-store_result r b w = grows-tried (used r.result) w _ (λ v. grows-tried (write b (Some v) r.memory) w _ (λ m. went _ w))
+pub grows-go_back : (back : Option ℕ) (r : Returned) (w : World) → Adds w.trace (go_back back r w)
+grows-go_back None r w = went _ w
+grows-go_back (Some b) r w = grows-tried (used r.result) w _ (λ v. grows-tried (write b (Some v) r.memory) w _ (λ m. went _ w))
 
 module _ (again helps : Again) (h : GrowsAgain again) (k : GrowsAgain helps) (p : List Function) where
   pub grows-called : (inside : Bool) (name : List ℕ) (vs : List ℤ) (depth : ℕ) (m : Memory) (w : World) → Adds w.trace (called again helps p inside name vs depth m w)
@@ -88,14 +88,12 @@ module _ (again helps : Again) (h : GrowsAgain again) (k : GrowsAgain helps) (p 
 
   pub grows-call_to : (inside : Bool) (name : List ℕ) (place : Option Place) (es : List Expression) (scope : Scope) (depth : ℕ) (m : Memory) (w : World)
       → Adds w.trace (call_to (λ vs m w. called again helps p inside name vs depth m w) place es scope m w)
-  grows-call_to inside name None es scope depth m w =
-      grows-tried (values es scope m) w _ (λ vs. adds-then w.trace _ _ (grows-called inside name vs depth m w) (λ r w. went _ w))
-  grows-call_to inside name (Some place) es scope depth m w =
-      grows-tried (block_at place scope) w _ (λ b. grows-tried (values es scope m) w _ (λ vs. adds-then w.trace _ _ (grows-called inside name vs depth m w) (λ r w. grows-store_result r b w)))
+  grows-call_to inside name place es scope depth m w =
+      grows-tried (target_of place scope) w _ (λ back. grows-tried (values es scope m) w _ (λ vs. adds-then w.trace _ _ (grows-called inside name vs depth m w) (λ r w. grows-go_back back r w)))
 
   mutual
     pub grows-does : (inside : Bool) (s : Statement) (scope : Scope) (depth : ℕ) (m : Memory) (w : World) → Adds w.trace (does again helps p inside s scope depth m w)
-    grows-does inside (assign place e) scope depth m w = grows-tried (block_at place scope) w _ (λ b. grows-tried (assigned e b scope m) w _ (λ m. went _ w))
+    grows-does inside (assign place e) scope depth m w = grows-tried (assigned_to (block_at place scope) e scope m) w _ (λ m. went _ w)
     grows-does inside (call place name es) scope depth m w = grows-call_to inside name place es scope depth m w
     grows-does inside (block b) scope depth m w = grows-does_body inside b scope depth m w
     grows-does inside leave scope depth m w = went _ w
@@ -117,8 +115,11 @@ module _ (again helps : Again) (h : GrowsAgain again) (k : GrowsAgain helps) (p 
 pub grows-refused : GrowsAgain refused
 grows-refused inside s scope depth m w = stopped _ w
 
+pub grows-helps_in : (again : Again) → GrowsAgain again → (p : List Function) (b : Bool) → GrowsAgain (helps_in again p b)
+grows-helps_in again h p true inside s scope depth m w = stopped _ w
+grows-helps_in again h p false inside s scope depth m w = grows-does again refused h grows-refused p true s scope depth m w
+
 pub grows-runs : (p : List Function) (n : ℕ) → GrowsAgain (runs p n)
 grows-runs p zero inside s scope depth m w = stopped _ w
-grows-runs p (suc n) true s scope depth m w = grows-does (runs p n) refused (grows-runs p n) grows-refused p true s scope depth m w
-grows-runs p (suc n) false s scope depth m w =
-    grows-does (runs p n) _ (grows-runs p n) (λ inside s scope depth m w. grows-does (runs p n) refused (grows-runs p n) grows-refused p true s scope depth m w) p false s scope depth m w
+grows-runs p (suc n) inside s scope depth m w =
+    grows-does (runs p n) (helps_in (runs p n) p inside) (grows-runs p n) (grows-helps_in (runs p n) (grows-runs p n) p inside) p inside s scope depth m w

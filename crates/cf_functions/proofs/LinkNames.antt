@@ -1,9 +1,9 @@
 -- Link names differ where names or numbers of parameters do, and are none of the names that the small C knows.
-use Rattle.std.proofs.Common.{◌≡◌, ◌≢◌, ℕ, zero, suc, ◌+◌, ◌<◌, ◌≤◌, Bool, true, false, ◌&&◌, not, List, [], ◌∷◌, ◌++◌, length, take, Option, Some, None, refl, sym, ap, subst, ◌∙◌, arith, codes, append_assoc, append-nil, ◌⊎◌, inl, inr}
-use Rattle.std.specs.Prelude.{if◌then◌else◌, ◌==◌, find, map}
+use Rattle.std.proofs.Common.{◌≡◌, ◌≢◌, ℕ, zero, suc, ◌<◌, ◌≤◌, Bool, true, false, ◌&&◌, not, List, [], ◌∷◌, ◌++◌, length, take, refl, sym, ap, subst, ◌∙◌, arith, codes, append-nil, ◌⊎◌, inl, inr}
+use Rattle.std.specs.Prelude.{if◌then◌else◌, ◌==◌}
 use Rattle.std.specs.Str.{bytes_eq}
 use Rattle.std.proofs.lemmas.Bool.{eqb-true, eq-eqb}
-use Rattle.std.proofs.lemmas.Bool.Decides.{nat_tests, leb_tells, eqb_tells}
+use Rattle.std.proofs.lemmas.Bool.Decides.{leb_tells, eqb_tells}
 use Rattle.std.proofs.lemmas.List.{length-append}
 use Rattle.std.proofs.lemmas.Slice.Eq.{bytes_eq-Decides}
 use Rattle.cf_functions.specs.Mean.{ints, parameter_code, link_name, main_name}
@@ -31,15 +31,15 @@ heads a b xs ys e = cc
 true_or_false : true ≡ false → ⊥
 true_or_false e = absurd (cc)
 
-clash : (a b : ℕ) (xs ys : List ℕ) → (a == b) ≡ false → a ∷ xs ≡ b ∷ ys → ⊥
+pub clash : (a b : ℕ) (xs ys : List ℕ) → (a == b) ≡ false → a ∷ xs ≡ b ∷ ys → ⊥
 clash a b xs ys ne e = true_or_false (sym (eq-eqb a b (heads a b xs ys e)) ∙ ne)
 
 -- no byte is `_`
-abbrev lacks : List ℕ → Bool
+abbrev pub lacks : List ℕ → Bool
 lacks [] = true
 lacks (b ∷ bs) = not (b == 95) && lacks bs
 
-no_underscore : (xs u r : List ℕ) → lacks xs ≡ true → xs ≡ u ++ (95 ∷ r) → ⊥
+pub no_underscore : (xs u r : List ℕ) → lacks xs ≡ true → xs ≡ u ++ (95 ∷ r) → ⊥
 no_underscore [] [] r h e = cc
 no_underscore [] (a ∷ u) r h e = cc
 no_underscore (b ∷ bs) [] r h e = let h1 = (both (not (b == 95)) (lacks bs) h).0 in let is : b ≡ 95 = cc in
@@ -50,7 +50,7 @@ lacks-ints : (n : ℕ) → lacks (ints n) ≡ true
 lacks-ints zero = refl
 lacks-ints (suc n) = lacks-ints n
 
-lacks-code : (n : ℕ) → lacks (parameter_code n) ≡ true
+pub lacks-code : (n : ℕ) → lacks (parameter_code n) ≡ true
 lacks-code zero = refl
 lacks-code (suc n) = lacks-ints (suc n)
 
@@ -73,10 +73,10 @@ suffix (a ∷ x) s (b ∷ y) t e h =
     let (u, p, q) = suffix x s y t tails h in (u, p, ap (λ k. k ∷ x) head ∙ ap (λ k. b ∷ k) q)
 
 -- the tail of a link name
-abbrev tail : ℕ → List ℕ
+abbrev pub tail : ℕ → List ℕ
 tail n = 95 ∷ 95 ∷ 70 ∷ parameter_code n
 
-tail_tells : (k j : ℕ) (u : List ℕ) → tail j ≡ u ++ tail k → (u ≡ []) × (k ≡ j)
+pub tail_tells : (k j : ℕ) (u : List ℕ) → tail j ≡ u ++ tail k → (u ≡ []) × (k ≡ j)
 tail_tells k j [] e = let f : parameter_code k ≡ parameter_code j = cc in (refl, code_tells k j f)
 tail_tells k j (a ∷ []) e = let f : 70 ∷ parameter_code j ≡ 95 ∷ 70 ∷ parameter_code k = cc in absurd (clash 70 95 _ _ refl f)
 tail_tells k j (a ∷ b ∷ []) e = let f : 70 ∷ parameter_code j ≡ 95 ∷ 95 ∷ 70 ∷ parameter_code k = cc in absurd (clash 70 95 _ _ refl f)
@@ -106,21 +106,21 @@ tails_tell x y k j e = go (le_or (length (tail k)) (length (tail j)))
 
 -- ---- whole link names
 
-main_or : (x : List ℕ) (k : ℕ) → ((x ≡ main_name) × (k ≡ 0)) ⊎ ((bytes_eq x main_name && (k == 0)) ≡ false)
+pub main_or : (x : List ℕ) (k : ℕ) → ((x ≡ main_name) × (k ≡ 0)) ⊎ ((bytes_eq x main_name && (k == 0)) ≡ false)
 main_or x k = go (bytes_eq x main_name && (k == 0)) refl
   where
     go : (t : Bool) → (bytes_eq x main_name && (k == 0)) ≡ t → ((x ≡ main_name) × (k ≡ 0)) ⊎ ((bytes_eq x main_name && (k == 0)) ≡ false)
     go true e = let h = both (bytes_eq x main_name) (k == 0) e in inl (same_bytes x main_name h.0, eqb-true k 0 h.1)
     go false e = inr e
 
-link-main : (x : List ℕ) (k : ℕ) → x ≡ main_name → k ≡ 0 → link_name x k ≡ codes "__main"
+pub link-main : (x : List ℕ) (k : ℕ) → x ≡ main_name → k ≡ 0 → link_name x k ≡ codes "__main"
 link-main x k e f = ap (λ y. link_name y k) e ∙ ap (λ j. link_name main_name j) f
 
-link-other : (x : List ℕ) (k : ℕ) → (bytes_eq x main_name && (k == 0)) ≡ false → link_name x k ≡ x ++ tail k
+pub link-other : (x : List ℕ) (k : ℕ) → (bytes_eq x main_name && (k == 0)) ≡ false → link_name x k ≡ x ++ tail k
 link-other x k e = ap (λ t. if t then codes "__main" else x ++ tail k) e
 
 -- `__main` ends in another byte
-never_main : (x : List ℕ) (k : ℕ) → codes "__main" ≡ x ++ tail k → ⊥
+pub never_main : (x : List ℕ) (k : ℕ) → codes "__main" ≡ x ++ tail k → ⊥
 never_main [] k e = let f : codes "main" ≡ 70 ∷ parameter_code k = cc in clash 109 70 _ _ refl f
 never_main (a ∷ []) k e = let f : 95 ∷ codes "main" ≡ 95 ∷ 95 ∷ 70 ∷ parameter_code k = cc in
     let g : codes "main" ≡ 95 ∷ 70 ∷ parameter_code k = cc in clash 109 95 _ _ refl g
@@ -137,7 +137,7 @@ link_tells x y k j e = go (main_or x k) (main_or y j)
     go (inr p) (inr q) = tails_tell x y k j (sym (link-other x k p) ∙ e ∙ link-other y j q)
 
 -- a link name has a `_`
-link_is_none_of : (known : List ℕ) → lacks known ≡ true → (x : List ℕ) (k : ℕ) → link_name x k ≡ known → ⊥
+pub link_is_none_of : (known : List ℕ) → lacks known ≡ true → (x : List ℕ) (k : ℕ) → link_name x k ≡ known → ⊥
 link_is_none_of known h x k e = go (main_or x k)
   where
     go : ((x ≡ main_name) × (k ≡ 0)) ⊎ ((bytes_eq x main_name && (k == 0)) ≡ false) → ⊥

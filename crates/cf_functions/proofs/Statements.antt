@@ -1,22 +1,21 @@
 -- The code of statements simulates them.
-use Rattle.std.proofs.Common.{◌≡◌, ◌≢◌, ℕ, zero, suc, ◌+◌, ◌-◌, ◌<◌, ◌≤◌, Bool, true, false, List, [], ◌∷◌, ◌++◌, length, map, drop, ℤ, pos, negsuc, Option, Some, None, Result, Ok, Err, refl, sym, ap, subst, ◌∙◌, arith, append_assoc}
+use Rattle.std.proofs.Common.{◌≡◌, ℕ, zero, suc, ◌+◌, ◌-◌, ◌<◌, ◌≤◌, Bool, true, false, List, [], ◌∷◌, ◌++◌, length, drop, ℤ, pos, negsuc, Option, Some, None, refl, sym, ap, subst, ◌∙◌, arith, append_assoc}
 use Rattle.std.specs.Prelude.{max, if◌then◌else◌}
 use Rattle.std.specs.Str.{bytes_eq}
 use Rattle.std.proofs.Math.Seq.{drop-append_seam}
 use Rattle.std.proofs.lemmas.List.{length-append}
-use Rattle.cf_base.specs.Event.{End, Undefined}
-use Rattle.cf_base.specs.World.{World, Ran, Went, Stops, and_then, spend}
+use Rattle.cf_base.specs.World.{World, Ran, Went, Stops, and_then}
 use Rattle.cf_base.specs.Agree.{Sim, Adds}
-use Rattle.cf_base.proofs.Agreement.{adds-then, sim-then, sim-went, sim-stops, sim-wider, sim-spend_of}
+use Rattle.cf_base.proofs.Agreement.{adds-then, sim-then, sim-went, sim-wider, sim-spend_of}
 use Rattle.cc_tree.specs.declared.statement.CLocal.{CLocal}
 use Rattle.cc_tree.specs.Memory.{Memory, holding}
 use Rattle.cc_tree.specs.Plain as c
 use Rattle.cc_tree.specs.Mean as m
 use Rattle.cc_tree.specs.Mean.{Scope, Returned, tried, found, turning}
-use Rattle.cf_functions.specs.Plain.{Expression, Expressions, Statement, declare, assign, perform, give, choose, loop, block, Statements, done, followed, Function}
-use Rattle.cf_functions.specs.Mean.{Again, Locals, with_value, leave, leaving, in_block, Callee, Puts, Defined, Missing, callee, count, value, values, called, enter, link_name_of, putchar_name, choice, Flow, Falls, Returns, falling, does, does_all, first_of, put}
-use Rattle.cf_functions.specs.Translate.{slot, place, held, set, held_from, slot_of, store_local, flat, flats, plain_call, code, codes_of, turn, plain_body, names_after, count_after, top, tops, top_of, top_of_all}
-use Rattle.cf_functions.proofs.Growth.{GrowsAgain, grows-falling, grows-turning, went}
+use Rattle.cf_functions.specs.Plain.{Expression, Statement, declare, assign, perform, give, choose, loop, block, Statements, done, followed, names_after, Function}
+use Rattle.cf_functions.specs.Mean.{Again, Locals, with_value, leave, leaving, in_block, Callee, Puts, Defined, Missing, callee, count, value, called, enter, link_name_of, putchar_name, choice, Flow, Falls, Returns, falling, does, does_all}
+use Rattle.cf_functions.specs.Translate.{held, set, held_from, slot_of, store_local, flat, flats, plain_call, code, codes_of, turn, plain_body, count_after, top, top_of, top_of_all}
+use Rattle.cf_functions.proofs.Growth.{GrowsAgain, grows-turning, went}
 use Rattle.cf_functions.proofs.Blocks.{Steady, steady, steady-through, steady-less, steady-written, written, put_same, put_other}
 use Rattle.cf_functions.proofs.Steps.{run_all, all_join, all_one, FallsAs, sim-falls, sim-at, Scoped, Living, living, Stored, stored, names_of, length-names_of, set_held, value_held, HeldFrom, values_held}
 use Rattle.cf_functions.proofs.Expressions.{Back, Gets, GetsAll, max_left, max_right, top-above, tops-above, flat_sim, flats_sim, grows-run, falls-run, put_sim}

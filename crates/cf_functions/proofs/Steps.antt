@@ -1,23 +1,18 @@
 -- How runs of the small C are put together, and what single statements over numbered variables do.
-use Rattle.std.proofs.Common.{◌≡◌, ◌≢◌, ℕ, zero, suc, ◌+◌, ◌-◌, ◌<◌, ◌≤◌, Bool, true, false, List, [], ◌∷◌, ◌++◌, length, map, ℤ, pos, Option, Some, None, Result, Ok, Err, refl, sym, ap, subst, ◌∙◌, arith}
-use Rattle.std.specs.Prelude.{if◌then◌else◌, ◌==◌}
+use Rattle.std.proofs.Common.{◌≡◌, ℕ, suc, ◌+◌, ◌<◌, ◌≤◌, Bool, true, false, List, [], ◌∷◌, ◌++◌, length, ℤ, pos, Option, Some, None, Result, Ok, Err, refl, sym, ap, subst, ◌∙◌, arith}
+use Rattle.std.specs.Prelude.{if◌then◌else◌}
 use Rattle.std.specs.Str.{bytes_eq}
-use Rattle.std.proofs.lemmas.Slice.Eq.{bytes_eq-Decides}
 use Rattle.cf_base.specs.declared.arith.Arith.{Arith}
-use Rattle.cf_base.specs.declared.kind.Kind.TheVariants.{Int}
-use Rattle.cf_base.specs.Integers.{int_op}
-use Rattle.cf_base.specs.Event.{End, Undefined}
 use Rattle.cf_base.specs.World.{World, Ran, Went, Stops, and_then}
 use Rattle.cf_base.specs.Agree.{Sim, Adds}
-use Rattle.cf_base.proofs.Agreement.{sim-then, sim-went, sim-stops, sim-wider}
-use Rattle.cc_tree.specs.Memory.{Memory, holding, read, write, carry}
+use Rattle.cf_base.proofs.Agreement.{sim-then}
+use Rattle.cc_tree.specs.Memory.{Memory, holding}
 use Rattle.cc_tree.specs.Plain as c
 use Rattle.cc_tree.specs.Mean as m
 use Rattle.cc_tree.specs.Mean.{Scope, Falls, Breaks, Returns, Returned, tried, falling, found, listed}
-use Rattle.cf_functions.specs.Mean.{Locals, value_in, Callee}
-use Rattle.cf_functions.specs.Translate.{slot, place, held, set, held_from, slot_of}
-use Rattle.cf_functions.proofs.Growth.{GrowsAgain, grows-falling, grows-does_all}
-use Rattle.cf_functions.proofs.Blocks.{Steady, steady, steady-through, steady-less, steady-written, written, write_live, read_held, carry_held, put_same}
+use Rattle.cf_functions.specs.Mean.{Locals, value_in}
+use Rattle.cf_functions.specs.Translate.{slot, held, set, held_from, slot_of}
+use Rattle.cf_functions.proofs.Blocks.{Steady, written, write_live, read_held, carry_held}
 
 -- ---- joining
 
@@ -140,13 +135,13 @@ module _ (again helps : m.Again) (p : List c.Function) (sc : Scope) (base total 
   pub set_number : (k : ℕ) (z : ℤ) (d : ℕ) (n : Memory) (w : World) → k < total → Living base total n
       → does (set k (c.number z)) d n w ≡ Went (Falls (written (base + k) (Some z) n)) w
   set_number k z d n w h l =
-      ap (λ o. tried (found o) w (λ b. tried (write b (Some z) n) w (λ n. Went (Falls n) w))) (scoped.at k h)
+      ap (λ o. tried (m.assigned_to (found o) (c.number z) sc n) w (λ n. Went (Falls n) w)) (scoped.at k h)
       ∙ ap (λ r. tried r w (λ n. Went (Falls n) w)) (write_live (base + k) (Some z) n (l.live k h))
 
   pub set_held : (k i : ℕ) (v : ℤ) (d : ℕ) (n : Memory) (w : World) → k < total → i < total → Living base total n → n.block (base + i) ≡ holding (Some v)
       → does (set k (held i)) d n w ≡ Went (Falls (written (base + k) (Some v) n)) w
   set_held k i v d n w h j l e =
-      ap (λ o. tried (found o) w (λ b. tried (m.carry_from (found (sc (slot i))) b n) w (λ n. Went (Falls n) w))) (scoped.at k h)
+      ap (λ o. tried (m.assigned_to (found o) (held i) sc n) w (λ n. Went (Falls n) w)) (scoped.at k h)
       ∙ ap (λ o. tried (m.carry_from (found o) (base + k) n) w (λ n. Went (Falls n) w)) (scoped.at i j)
       ∙ ap (λ r. tried r w (λ n. Went (Falls n) w)) (carry_held (base + i) (base + k) v n e (l.live k h))
 
@@ -160,12 +155,12 @@ module _ (again helps : m.Again) (p : List c.Function) (sc : Scope) (base total 
 
   pub set_binary : (o : Arith) (k i j : ℕ) (x y : ℤ) (d : ℕ) (n : Memory) (w : World) → k < total → i < total → j < total → Living base total n
       → n.block (base + i) ≡ holding (Some x) → n.block (base + j) ≡ holding (Some y)
-      → does (set k (c.binary o (held i) (held j))) d n w ≡ tried (int_op o Int x y) w (λ v. Went (Falls (written (base + k) (Some v) n)) w)
+      → does (set k (c.binary o (held i) (held j))) d n w ≡ tried (m.operated o x y) w (λ v. Went (Falls (written (base + k) (Some v) n)) w)
   set_binary o k i j x y d n w hk hi hj l ex ey =
-      ap (λ q. tried (found q) w (λ b. tried (m.store_value (m.applied o (m.value (held i) sc n) (m.value (held j) sc n)) b n) w (λ n. Went (Falls n) w))) (scoped.at k hk)
+      ap (λ q. tried (m.assigned_to (found q) (c.binary o (held i) (held j)) sc n) w (λ n. Went (Falls n) w)) (scoped.at k hk)
       ∙ ap (λ a. tried (m.store_value (m.applied o a (m.value (held j) sc n)) (base + k) n) w (λ n. Went (Falls n) w)) (value_held i x n hi ex)
       ∙ ap (λ b. tried (m.store_value (m.applied o (Ok x) b) (base + k) n) w (λ n. Went (Falls n) w)) (value_held j y n hj ey)
-      ∙ stores (int_op o Int x y) k n w hk l
+      ∙ stores (m.operated o x y) k n w hk l
 
 -- values in variables from k on
 abbrev pub HeldFrom : ℕ → ℕ → List ℤ → Memory → Type 0

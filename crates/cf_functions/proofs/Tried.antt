@@ -1,10 +1,11 @@
 -- The definitions, evaluated on small programs.
-use Rattle.std.proofs.Common.{◌≡◌, ℕ, Bool, true, false, List, [], ◌∷◌, ◌++◌, ℤ, pos, negsuc, Option, Some, None, refl, codes}
-use Rattle.cf_base.specs.Event.{Event, Enter, Out, Ended, Ticks, Depth, Undefined}
+use Rattle.std.proofs.Common.{◌≡◌, ℕ, true, false, List, [], ◌∷◌, pos, Some, None, refl, codes}
+use Rattle.cf_base.specs.Event.{Enter, Out, Ended, Ticks, Depth, Undefined}
 use Rattle.cf_base.specs.World.{Outcome}
 use Rattle.cf_functions.specs.declared.tree.Operator.TheVariants as operator
-use Rattle.cf_functions.specs.Plain.{Expression, number, local, call, binary, Expressions, none, more, arguments, Statement, declare, assign, perform, give, choose, loop, block, Statements, done, followed, in_order, Function}
+use Rattle.cf_functions.specs.Plain.{Expression, number, local, call, binary, none, arguments, Statement, declare, assign, perform, give, loop, block, in_order, Function}
 use Rattle.cf_functions.specs.Mean.{mean}
+use Rattle.cf_functions.specs.Rules.{keeps_names, first_unknown_of}
 
 abbrev var : List ℕ → Expression
 var x = local 0 x
@@ -99,3 +100,70 @@ no_value = refl
 
 no_depth : run uses_none 1 2 ≡ record { end = Depth; trace = Enter (codes "__main") ∷ [] }
 no_depth = refl
+
+-- ---- rules of names
+
+sum_keeps : keeps_names shows_sum ≡ true
+sum_keeps = refl
+
+sum_is_known : first_unknown_of shows_sum ≡ None
+sum_is_known = refl
+
+in_order_keeps : keeps_names in_order_program ≡ true
+in_order_keeps = refl
+
+hides_keeps : keeps_names hides ≡ true
+hides_keeps = refl
+
+-- `int main(){return x;}`
+undeclared_name : first_unknown_of (function (codes "main") [] (give (local 18 x) ∷ []) ∷ []) ≡ Some 18
+undeclared_name = refl
+
+-- `int main(){return f(1);} int f(int a){return a;}`: a function is known from where it stands
+abbrev forward : List Function
+forward = function (codes "main") [] (give (call 18 (codes "f") (arguments (number 1 ∷ []))) ∷ []) ∷ function (codes "f") (a ∷ []) (give (var a) ∷ []) ∷ []
+
+forward_is_unknown : first_unknown_of forward ≡ Some 18
+forward_is_unknown = refl
+
+forward_keeps : keeps_names forward ≡ true
+forward_keeps = refl
+
+-- `int x=x;` reads a name before it is in scope
+own_name : first_unknown_of (function (codes "main") [] (declare 15 x (local 17 x) ∷ []) ∷ []) ≡ Some 17
+own_name = refl
+
+-- two mains, a parameter of main, a local named as a function, twice in a block, a function as a value, a call of a local, of main, with too many arguments
+breaks_1 : keeps_names (function (codes "main") [] [] ∷ function (codes "main") [] [] ∷ []) ≡ false
+breaks_1 = refl
+
+breaks_2 : keeps_names (function (codes "main") (a ∷ []) [] ∷ []) ≡ false
+breaks_2 = refl
+
+breaks_3 : keeps_names (function (codes "main") [] (declare 0 (codes "main") (number 1) ∷ []) ∷ []) ≡ false
+breaks_3 = refl
+
+breaks_4 : keeps_names (function (codes "main") [] (declare 0 x (number 1) ∷ declare 0 x (number 1) ∷ []) ∷ []) ≡ false
+breaks_4 = refl
+
+breaks_5 : keeps_names (function (codes "main") [] (give (var (codes "putchar")) ∷ []) ∷ []) ≡ false
+breaks_5 = refl
+
+breaks_6 : keeps_names (function (codes "main") [] (declare 0 x (number 1) ∷ perform 0 x none ∷ []) ∷ []) ≡ false
+breaks_6 = refl
+
+breaks_7 : keeps_names (function (codes "main") [] (perform 0 (codes "main") none ∷ []) ∷ []) ≡ false
+breaks_7 = refl
+
+breaks_8 : keeps_names (function (codes "main") [] (perform 0 (codes "putchar") none ∷ []) ∷ []) ≡ false
+breaks_8 = refl
+
+breaks_9 : keeps_names (function (codes "f") (a ∷ []) [] ∷ function (codes "main") [] (perform 0 (codes "f") none ∷ []) ∷ []) ≡ false
+breaks_9 = refl
+
+-- a parameter and a local of the outermost block
+breaks_10 : keeps_names (function (codes "f") (a ∷ []) (declare 0 a (number 1) ∷ []) ∷ function (codes "main") [] [] ∷ []) ≡ false
+breaks_10 = refl
+
+no_main : keeps_names [] ≡ false
+no_main = refl

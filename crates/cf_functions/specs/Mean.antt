@@ -1,12 +1,12 @@
 -- The meaning of a file of the small language: its trace and end, from an input, a heap limit, a depth limit and a bound of ticks.
 -- Operands are evaluated strictly left to right, and the value of an operand is read when it is evaluated.
-use Rattle.std.specs.Prelude.{ℕ, zero, suc, ◌-◌, Bool, true, false, if◌then◌else◌, ◌==◌, ◌&&◌, List, [], ◌∷◌, ◌++◌, ℤ, pos, Option, Some, None, Result, Ok, Err, codes, find, length, drop}
+use Rattle.std.specs.Prelude.{ℕ, zero, suc, ◌-◌, Bool, if◌then◌else◌, ◌==◌, ◌&&◌, List, [], ◌∷◌, ◌++◌, ℤ, pos, Option, Some, None, Result, Ok, Err, codes, find, length, drop}
 use Rattle.std.specs.Str.{bytes_eq}
 use Rattle.cf_base.specs.declared.arith.Arith.{Arith}
 use Rattle.cf_base.specs.declared.arith.Arith.TheVariants as arith_op
 use Rattle.cf_base.specs.declared.kind.Kind.TheVariants.{Int, UChar}
 use Rattle.cf_base.specs.Integers.{int_op, convert, bits_of}
-use Rattle.cf_base.specs.Event.{Event, Enter, Out, End, Undefined, Ticks}
+use Rattle.cf_base.specs.Event.{Enter, Out, Undefined, Ticks}
 use Rattle.cf_base.specs.World.{World, Ran, Went, Stops, and_then, spend, deeper, show, world_at, Outcome, outcome}
 use Rattle.cf_functions.specs.declared.tree.Operator.{Operator}
 use Rattle.cf_functions.specs.declared.tree.Operator.TheVariants as operator

@@ -65,6 +65,16 @@ statement_step (Statement-F.Block body) = block (in_order body)
 abbrev pub statement_of : tree_s.Statement → Statement
 statement_of = tree_s.fold-Statement Statement statement_step
 
+-- the names in scope behind a statement
+abbrev pub names_after : Statement → List (List ℕ) → List (List ℕ)
+names_after (declare at x e) names = x ∷ names
+names_after (assign at x e) names = names
+names_after (perform at x es) names = names
+names_after (give e) names = names
+names_after (choose e chosen other) names = names
+names_after (loop e body) names = names
+names_after (block body) names = names
+
 pub record Function : Type 0 where
   pub name : List ℕ
   pub parameters : List (List ℕ)

@@ -1,14 +1,14 @@
 -- How a file is written in the small C. The locals in scope and the values in between stand in numbered variables of the function:
 -- a local in the one that counts the locals before it, the value of an expression in the first one above, so that what is
 -- evaluated later leaves it alone.
-use Rattle.std.specs.Prelude.{ℕ, zero, suc, ◌+◌, ◌-◌, ◌^◌, max, nat_lt, Bool, true, false, not, ◌&&◌, if◌then◌else◌, List, [], ◌∷◌, ◌++◌, ℤ, pos, Option, Some, None, is_some, codes, decimal, length, map, take, find}
+use Rattle.std.specs.Prelude.{ℕ, zero, suc, ◌+◌, ◌-◌, ◌^◌, max, nat_lt, Bool, not, ◌&&◌, if◌then◌else◌, List, [], ◌∷◌, ◌++◌, pos, Option, Some, None, is_some, codes, decimal, length, map, take, find}
 use Rattle.std.specs.Str.{bytes_eq}
 use Rattle.cc_tree.specs.declared.types.CType.TheVariants as ty
 use Rattle.cc_tree.specs.declared.statement.CLocal.{CLocal}
 use Rattle.cc_tree.specs.declared.unit.CParameter.{CParameter}
 use Rattle.cc_tree.specs.declared.unit.CPrototype.{CPrototype}
 use Rattle.cc_tree.specs.Plain as c
-use Rattle.cf_functions.specs.Plain.{Expression, number, local, call, binary, Expressions, none, more, Statement, declare, assign, perform, give, choose, loop, block, Statements, done, followed, Function}
+use Rattle.cf_functions.specs.Plain.{Expression, number, local, call, binary, Expressions, none, more, Statement, declare, assign, perform, give, choose, loop, block, Statements, done, followed, names_after, Function}
 use Rattle.cf_functions.specs.Mean.{Callee, Puts, Defined, Missing, callee, count, arith_of, link_name_of, putchar_name, main_name, is_called}
 
 -- the variable of this number
@@ -71,16 +71,6 @@ abbrev mutual
   pub flats : List Function → List (List ℕ) → Expressions → ℕ → List c.Statement
   flats fs names none k = []
   flats fs names (more e es) k = flat fs names e k ++ flats fs names es (suc k)
-
--- the names in scope behind a statement
-abbrev pub names_after : Statement → List (List ℕ) → List (List ℕ)
-names_after (declare at x e) names = x ∷ names
-names_after (assign at x e) names = names
-names_after (perform at x es) names = names
-names_after (give e) names = names
-names_after (choose e chosen other) names = names
-names_after (loop e body) names = names
-names_after (block body) names = names
 
 abbrev pub plain_body : List c.Statement → c.Body
 plain_body all = c.body [] (c.in_order all)
