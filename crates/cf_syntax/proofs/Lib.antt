@@ -1,1 +1,4 @@
+pub mod Good
 pub mod Newest
+pub mod Repeats
+pub mod Tails

@@ -5,6 +5,7 @@
 //! and declarations, which hold them. `TypeNames` knows which names are types in the scopes that are open.
 #![tactic(auto)]
 
+mod asked;
 mod declarator;
 mod expression;
 mod lookup;
@@ -13,6 +14,7 @@ mod operator;
 mod specifier;
 mod type_names;
 
+pub use asked::Asked;
 pub use declarator::{DeclTree, Param, TypeId};
 pub use expression::Expr;
 pub use name::{Last, Name, Path};
