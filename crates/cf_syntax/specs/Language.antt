@@ -49,3 +49,11 @@ Maybe M a = Either (Empty a) (M a)
 pub data Many {A : Type 0} (M : A → Language A) : A → List Token → A → List Token → Type 0 where
   ended : (a : A) (ts : List Token) → Many M a ts a ts
   again : (a b c : A) (ts mid rest : List Token) → M a ts b mid → Many M b mid c rest → Many M a ts c rest
+
+-- one where the test holds of the tokens that begin there, and another elsewhere
+abbrev pub By : {A : Type 0} → (List Token → Bool) → Language A → Language A → Language A
+By test L M = Either (Where (λ ts. test ts ≡ true) L) (Where (λ ts. test ts ≡ false) M)
+
+-- one where this can be read there, and another elsewhere
+abbrev pub Rather : {A : Type 0} → (List Token → Type 0) → Language A → Language A → Language A
+Rather P L M = Either (Where P L) (Where (λ ts. P ts → ⊥) M)

@@ -1,6 +1,9 @@
+pub mod Grammar
 pub mod Language
 pub mod Named
 pub mod Names
 pub mod NamesData
+pub mod Operators
 pub mod Parse
+pub mod Specified
 pub mod Words

@@ -11,6 +11,7 @@ mod expression;
 mod lookup;
 mod name;
 mod operator;
+mod reading;
 mod specifier;
 mod type_names;
 
@@ -19,5 +20,6 @@ pub use declarator::{DeclTree, Param, TypeId};
 pub use expression::Expr;
 pub use name::{Last, Name, Path};
 pub use operator::{AssignOp, BinaryOp, PrefixOp, StepOp};
+pub use reading::{DeclaratorKind, Qualifiers, Specifiers, Suffix};
 pub use specifier::{BasicType, ClassKey, Pointer, Storage, TypeSpecifier};
 pub use type_names::{NameKind, TypeNames};
