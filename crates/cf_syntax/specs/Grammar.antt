@@ -13,6 +13,8 @@ use Rattle.cf_syntax.specs.declared.declarator.TypeId.{TypeId}
 use Rattle.cf_syntax.specs.declared.expression.Expr.{Expr}
 use Rattle.cf_syntax.specs.declared.expression.Expr.TheVariants as tree
 use Rattle.cf_syntax.specs.declared.name.Name.{Name}
+use Rattle.cf_syntax.specs.declared.operator.AssignOp.{AssignOp}
+use Rattle.cf_syntax.specs.declared.operator.BinaryOp.{BinaryOp}
 use Rattle.cf_syntax.specs.declared.reading.DeclaratorKind.{DeclaratorKind}
 use Rattle.cf_syntax.specs.declared.reading.DeclaratorKind.TheVariants as kind
 use Rattle.cf_syntax.specs.declared.reading.Suffix.{Suffix}
@@ -42,6 +44,18 @@ pub record Inside : Type 1 where
 
 abbrev pub sees : ℕ → List Token → Bool
 sees n ts = nat_eq (front ts) n
+
+abbrev pub begins : List ℕ → List Token → Bool
+begins [] ts = false
+begins (n ∷ ns) ts = cond (nat_eq (front ts) n) true (begins ns ts)
+
+-- the words that a name begins with, and those that a specifier does
+abbrev pub name_words : List ℕ
+name_words = 128 ∷ 9 ∷ 16 ∷ 89 ∷ []
+
+abbrev pub specifier_words : List ℕ
+specifier_words =
+    128 ∷ 9 ∷ 65 ∷ 93 ∷ 98 ∷ 79 ∷ 85 ∷ 108 ∷ 82 ∷ 105 ∷ 71 ∷ 69 ∷ 95 ∷ 86 ∷ 87 ∷ 96 ∷ 107 ∷ 109 ∷ 70 ∷ 99 ∷ 78 ∷ []
 
 -- no token: the place of what follows
 abbrev pub here : Parse ℕ
@@ -90,6 +104,12 @@ applied a (suffix.Call at all) = tree.Call at a all
 applied a (suffix.Dot at n) = tree.Dot at a n
 applied a (suffix.Arrow at n) = tree.Arrow at a n
 applied a (suffix.Step at op) = tree.StepAfter at op a
+
+abbrev pub param_of : ℕ → List TypeSpecifier → DeclTree → Param
+param_of at list d = record { at = at; specifiers = list; declarator = d; default = None }
+
+abbrev pub with_default : Param → ℕ → Expr → Param
+with_default p at x = record { at = p.at; specifiers = p.specifiers; declarator = p.declarator; default = Some (at, x) }
 
 module _ («in» : Inside) where
 
@@ -193,20 +213,22 @@ module _ («in» : Inside) where
   -- casts joined by the operators of the tightest levels, so many, each from the left
   abbrev pub Joined : Names → ℕ → Language Expr
   Joined names zero = Cast names
-  Joined names (suc n) = Then (Joined names n) (Many (λ a. Then (Exactly (operator (level n))) (λ op. Made (tree.Binary op.0 op.1 a) (Joined names n))))
+  Joined names (suc n) = Then (Joined names n) (Many (λ a. Made {A = (ℕ × BinaryOp) × Expr} (λ s. tree.Binary s.0.0 s.0.1 a s.1)
+      (Then (Exactly (operator (level n))) (λ op. Made (λ y. (op, y)) (Joined names n)))))
 
-  abbrev pub Choice : Names → Expr → Language Expr
-  Choice names c = Then (Word question) (λ at. Then («in».commas names) (λ a. Then (Word colon) (λ _. Made (tree.Conditional at c a) («in».condition names))))
+  abbrev pub Choice : Names → Language (ℕ × Expr × Expr)
+  Choice names = Then (Word question) (λ at. Then («in».commas names) (λ a. Then (Word colon) (λ _. Made (λ b. (at, a, b)) («in».condition names))))
 
   abbrev pub Condition : Names → Language Expr
-  Condition names = Then (Joined names 11) (Maybe (Choice names))
+  Condition names = Then (Joined names 11) (Maybe (λ c. Made (λ s. tree.Conditional s.0 c s.1 s.2) (Choice names)))
 
-  abbrev pub Assigned : Names → Expr → Language Expr
-  Assigned names a = Then (Exactly (operator assigning)) (λ op. Made (tree.Assign op.0 op.1 a) («in».assign names))
+  abbrev pub Assigned : Names → Language ((ℕ × AssignOp) × Expr)
+  Assigned names = Then (Exactly (operator assigning)) (λ op. Made (λ y. (op, y)) («in».assign names))
 
   -- the left side stands in the place of a cast too
   abbrev pub Assign : Names → Language Expr
-  Assign names = Either (Condition names) (Where (λ ts. HoldsType names ts → ⊥) (Then (Unary names) (Assigned names)))
+  Assign names = Either (Condition names)
+      (Where (λ ts. HoldsType names ts → ⊥) (Then (Unary names) (λ a. Made (λ s. tree.Assign s.0.0 s.0.1 a s.1) (Assigned names))))
 
   abbrev pub Commas : Names → Language Expr
   Commas names = Then (Assign names) (Maybe (λ x. Then (NextAssign names) (λ next. Made (tree.Comma next.0) (MoreAssigns names (x ∷ next.1 ∷ [])))))
@@ -220,20 +242,28 @@ module _ («in» : Inside) where
   BracketedHead k names = Then (Word left_paren) (λ at. Then («in».declarator k names) (λ d. Made (λ _. (decl.Bracketed at d.0, d.1)) (Word right_paren)))
 
   -- brackets that can hold params in a parameter or a type in brackets hold them
+  abbrev pub BracketedUnless : DeclaratorKind → Names → Language (DeclTree × List ℕ)
+  BracketedUnless k names = Where (λ ts. HoldsParams names ts → ⊥) (BracketedHead k names)
+
   abbrev pub SomeHead : DeclaratorKind → Names → Language (DeclTree × List ℕ)
   SomeHead kind.Named names = By (sees left_paren) (BracketedHead kind.Named names) (NamedHead names)
-  SomeHead kind.Abstract names = Maybe (λ _. Rather (HoldsParams names) Never (BracketedHead kind.Abstract names)) (decl.Unnamed, [])
-  SomeHead kind.Either names = Maybe (λ _. By (sees left_paren) (Rather (HoldsParams names) Never (BracketedHead kind.Either names)) (NamedHead names)) (decl.Unnamed, [])
+  SomeHead kind.Abstract names = Maybe (λ _. By (sees left_paren) (BracketedUnless kind.Abstract names) Never) (decl.Unnamed, [])
+  SomeHead kind.Either names = Maybe (λ _. By (sees left_paren) (BracketedUnless kind.Either names) (By (begins name_words) (NamedHead names) Never)) (decl.Unnamed, [])
 
   -- "[" [cond] "]"
+  abbrev pub ArrayBound : Names → Language (Option Expr)
+  ArrayBound names = By (sees right_bracket) (Made (λ _. None) (Word right_bracket))
+      (Then («in».condition names) (λ x. Made (λ _. Some x) (Word right_bracket)))
+
   abbrev pub ArrayBehind : Names → DeclTree × List ℕ → Language (DeclTree × List ℕ)
-  ArrayBehind names d = Then (Word left_bracket) (λ at. By (sees right_bracket)
-      (Made (λ _. (decl.Array at d.0 None, d.1)) (Word right_bracket))
-      (Then («in».condition (opened names d.1)) (λ x. Made (λ _. (decl.Array at d.0 (Some x), d.1)) (Word right_bracket))))
+  ArrayBehind names d = Made {A = ℕ × Option Expr} (λ s. (decl.Array s.0 d.0 s.1, d.1)) (Then (Word left_bracket) (λ at. Made (λ b. (at, b)) (ArrayBound (opened names d.1))))
 
   -- "(" params ")" [const]
+  abbrev pub ParametersBehind : Names → Language (ℕ × List Param × Bool)
+  ParametersBehind names = Then (ParamsInBrackets names) (λ all. Exactly (const_behind (λ is_const. (all.0, all.1, is_const))))
+
   abbrev pub FunctionBehind : Names → DeclTree × List ℕ → Language (DeclTree × List ℕ)
-  FunctionBehind names d = Then (ParamsInBrackets (opened names d.1)) (λ all. Exactly (const_behind (λ is_const. (decl.Function all.0 d.0 all.1 is_const, d.1))))
+  FunctionBehind names d = Made (λ s. (decl.Function s.0 d.0 s.1 s.2, d.1)) (ParametersBehind (opened names d.1))
 
   abbrev pub DeclaratorBehind : Names → DeclTree × List ℕ → Language (DeclTree × List ℕ)
   DeclaratorBehind names d = By (sees left_bracket) (ArrayBehind names d) (FunctionBehind names d)
@@ -246,18 +276,23 @@ module _ («in» : Inside) where
 
   -- ---- params and typeid
 
-  abbrev pub param_of : ℕ → List TypeSpecifier → DeclTree → Param
-  param_of at list d = record { at = at; specifiers = list; declarator = d; default = None }
+  abbrev pub PlainParam : Names → Language Param
+  PlainParam names = Then (Exactly here) (λ at. Then (Exactly (specifiers names)) (λ list. Made (λ d. param_of at list d.0) («in».declarator kind.Either names)))
 
-  abbrev pub with_default : Param → ℕ → Expr → Param
-  with_default p at x = record { at = p.at; specifiers = p.specifiers; declarator = p.declarator; default = Some (at, x) }
+  abbrev pub DefaultBehind : Names → Language (ℕ × Expr)
+  DefaultBehind names = Then (Word equals) (λ at. Made (λ x. (at, x)) («in».assign names))
 
   abbrev pub OneParam : Names → Language Param
-  OneParam names = Then (Then (Exactly here) (λ at. Then (Exactly (specifiers names)) (λ list. Made (λ d. param_of at list d.0) («in».declarator kind.Either names))))
-      (Maybe (λ p. Then (Word equals) (λ at. Made (with_default p at) («in».assign names))))
+  OneParam names = Then (PlainParam names) (Maybe (λ p. Made (λ s. with_default p s.0 s.1) (DefaultBehind names)))
+
+  abbrev pub NextParam : Names → Language Param
+  NextParam names = Then (Word comma) (λ _. OneParam names)
+
+  abbrev pub SomeParams : Names → Language (List Param)
+  SomeParams names = Then (Made (λ p. p ∷ []) (OneParam names)) (Many (λ all. Made (λ p. all ++ p ∷ []) (NextParam names)))
 
   abbrev pub Params : Names → Language (List Param)
-  Params names = Maybe (λ _. Then (Made (λ p. p ∷ []) (OneParam names)) (Many (λ all. Then (Word comma) (λ _. Made (λ p. all ++ p ∷ []) (OneParam names))))) []
+  Params names = Maybe (λ _. By (begins specifier_words) (SomeParams names) Never) []
 
   abbrev pub TypeInside : Names → Language TypeId
   TypeInside names = Then (Exactly here) (λ at. Then (Exactly (specifiers names)) (λ list. Made (λ d. record { at = at; specifiers = list; declarator = d.0 }) («in».declarator kind.Abstract names)))

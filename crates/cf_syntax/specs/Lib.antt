@@ -5,5 +5,6 @@ pub mod Names
 pub mod NamesData
 pub mod Operators
 pub mod Parse
+pub mod Reading
 pub mod Specified
 pub mod Words
