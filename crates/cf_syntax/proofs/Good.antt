@@ -2,9 +2,9 @@
 use Rattle.std.proofs.Common.{◌≡◌, ℕ, zero, suc, ◌+◌, ◌<◌, ◌≤◌, Bool, true, false, cond, ◌&&◌, ◌||◌, not, ◌⊎◌, inl, inr, List, [], ◌∷◌, ◌++◌, length, Option, Some, None, nat_eq, refl, sym, ◌∙◌, ap, subst, arith}
 use Rattle.std.proofs.lemmas.Bool.{eqb-true}
 use Rattle.cf_tokens.specs.declared.token.Token.{Token}
-use Rattle.cf_syntax.specs.Words.{front}
-use Rattle.cf_syntax.specs.Parse.{Parse, pure, with_rest, then, choose, or_stop, option, turn, loop, repeat}
-use Rattle.cf_syntax.specs.Language.{Language, Empty, Never, Exactly, Then, Either, Made, Where, Maybe, Many, ended, again}
+use Rattle.cf_syntax.specs.Words.{code, front}
+use Rattle.cf_syntax.specs.Parse.{Parse, pure, with_rest, then, choose, or_stop, option, turn, loop, repeat, word}
+use Rattle.cf_syntax.specs.Language.{Language, Empty, Never, Exactly, Then, Either, Made, Where, Maybe, Many, Word, ended, again}
 
 -- ---- sets of codes
 
@@ -169,3 +169,23 @@ good-made {A = A} {B = B} g f p L first = record {
     go : (ts rest : List Token) (a : A) → Meets g (p ts) a rest → Meets g (with_rest (p ts) (λ b. pure (f b))) (f a) rest
     go ts rest a (inl e) = inl (ap (λ r. with_rest r (λ b. pure (f b))) e)
     go ts rest a (inr x) = inr (record { value = f x.value; after = x.after; is = ap (λ r. with_rest r (λ b. pure (f b))) x.is; less = x.less; on = x.on })
+
+pub some-value : {A : Type 0} (u v : A) → Some u ≡ Some v → u ≡ v
+some-value {A = A} u v e = ap (λ o. of_some u o) e
+  where
+    of_some : A → Option A → A
+    of_some d (Some w) = w
+    of_some d None = d
+
+
+abbrev placed : ℕ → List Token → ℕ × List Token
+placed x rest = (x, rest)
+
+pub starts-word : (n : ℕ) → Starts (n ∷ []) (Word n)
+starts-word n ts x rest e = go ts e
+  where
+    go : (ts : List Token) → word n ts ≡ Some (x, rest) → among (n ∷ []) (front ts) ≡ true
+    go [] q = some-is-not-none None (placed x rest) refl q
+    go (t ∷ us) q = cond-cases (nat_eq (code t.word) n) (Some (t.at, us)) None (Some (placed x rest)) q
+        (λ same _. ap (λ b. cond b true false) same) (λ _ h. some-is-not-none None (placed x rest) refl h)
+

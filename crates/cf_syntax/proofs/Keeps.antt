@@ -5,8 +5,7 @@ use Rattle.cf_syntax.specs.Words.{code, front}
 use Rattle.cf_syntax.specs.Parse.{Parse, word}
 use Rattle.cf_syntax.specs.Language.{Language, Empty, Never, Exactly, Word, Then, Either, Made, Where, Maybe, Many, By, Rather, ended, again}
 use Rattle.cf_syntax.specs.Operators.{operator_of, found, operator, heads}
-use Rattle.cf_syntax.proofs.Good.{among, Starts, Eats, both-ways, cond-cases, some-is-not-none}
-use Rattle.cf_syntax.proofs.Tails.{some-value}
+use Rattle.cf_syntax.proofs.Good.{among, Starts, Eats, both-ways, cond-cases, some-is-not-none, some-value, starts-word}
 use Rattle.cf_syntax.proofs.Under.{Under}
 
 abbrev pub Keeps : {A : Type 0} → Language A → Type 0
@@ -62,14 +61,6 @@ eats-word n ts x rest e = go ts e
     go [] q = some-is-not-none None (pair x rest) refl q
     go (t ∷ us) q = cond-cases (nat_eq (code t.word) n) (Some (t.at, us)) None (Some (pair x rest)) q
         (λ _ h. let at = ap (λ (w : ℕ × List Token). length w.1) (some-value (t.at, us) (pair x rest) h) in omega (arith, at)) (λ _ h. some-is-not-none None (pair x rest) refl h)
-
-pub starts-word : (n : ℕ) → Starts (n ∷ []) (Word n)
-starts-word n ts x rest e = go ts e
-  where
-    go : (ts : List Token) → word n ts ≡ Some (x, rest) → among (n ∷ []) (front ts) ≡ true
-    go [] q = some-is-not-none None (pair x rest) refl q
-    go (t ∷ us) q = cond-cases (nat_eq (code t.word) n) (Some (t.at, us)) None (Some (pair x rest)) q
-        (λ same _. ap (λ b. cond b true false) same) (λ _ h. some-is-not-none None (pair x rest) refl h)
 
 pub eats-then : {A B : Type 0} (L : Language A) (M : A → Language B) → Eats L → ((a : A) → Keeps (M a)) → Eats (Then L M)
 eats-then L M k h ts b rest (a, mid, l, m) = let one = k ts a mid l in let two = h a mid b rest m in omega (arith, one, two)

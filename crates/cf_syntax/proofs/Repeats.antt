@@ -4,8 +4,8 @@ use Rattle.cf_tokens.specs.declared.token.Token.{Token}
 use Rattle.cf_syntax.specs.Words.{front}
 use Rattle.cf_syntax.specs.Parse.{Parse, pure, with_rest, then, turn, loop, repeat}
 use Rattle.cf_syntax.specs.Language.{Language, Then, Many, ended, again}
-use Rattle.cf_syntax.proofs.Good.{among, disjoint, Exceeds, Meets, Good, Starts, Eats, both-ways, apart-at, split-rest}
-use Rattle.cf_syntax.proofs.Tails.{Tail, some-value, among-left, among-right}
+use Rattle.cf_syntax.proofs.Good.{among, disjoint, Exceeds, Meets, Good, Starts, Eats, both-ways, apart-at, split-rest, some-value}
+use Rattle.cf_syntax.proofs.Tails.{Tail, among-left, among-right}
 
 module _ {A : Type 0} (firsts goes : List ℕ) (step : A → Parse A) (M : A → Language A)
     (each : (a : A) → Good goes (step a) (M a)) (starts : (a : A) → Starts firsts (M a)) (eats : (a : A) → Eats (M a))
@@ -88,9 +88,9 @@ module _ {A : Type 0} (firsts goes : List ℕ) (step : A → Parse A) (M : A →
       starts = begins; }
 
 -- a phrase with such a tail
-pub good-tail : {A : Type 0} (g firsts goes : List ℕ) (p : Parse A) (L : Language A) (q : A → Parse A) (M : A → Language A)
+pub good-tail : {C A : Type 0} (g firsts goes : List ℕ) (p : Parse C) (L : Language C) (q : C → Parse A) (M : C → Language A)
     → Good g p L → Tail firsts goes q M → disjoint firsts g ≡ true → Good (g ++ (firsts ++ goes)) (then p q) (Then L M)
-good-tail {A = A} g firsts goes p L q M head tail apart = record {
+good-tail {C = C} {A = A} g firsts goes p L q M head tail apart = record {
     sound = λ ts b rest e. let s = split-rest (p ts) q (b, rest) e in
         (s.value, s.mid, head.sound ts s.value s.mid s.first, (tail.good s.value).sound s.mid b rest s.second);
     meets = λ ts b rest (a, mid, l, m). go ts b rest a mid m (head.meets ts a mid l); }
@@ -108,7 +108,7 @@ good-tail {A = A} g firsts goes p L q M head tail apart = record {
         inr (record { value = t.0.0; after = t.0.1; is = ap (λ r. with_rest r q) x.is ∙ t.1; less = omega arith;
           on = among-left g (firsts ++ goes) (front rest) (ap (λ z. among g (front z)) same ∙ x.on) })
     past ts b rest mid x (inr first) = both-ways (among g (front mid)) x.on (apart-at firsts g (front mid) apart first)
-    go : (ts : List Token) (b : A) (rest : List Token) (a : A) (mid : List Token) → M a mid b rest → Meets g (p ts) a mid
+    go : (ts : List Token) (b : A) (rest : List Token) (a : C) (mid : List Token) → M a mid b rest → Meets g (p ts) a mid
         → Meets (g ++ (firsts ++ goes)) (with_rest (p ts) q) b rest
     go ts b rest a mid m (inl e) = subst (λ r. Meets (g ++ (firsts ++ goes)) (with_rest r q) b rest) (sym e) (raised (q a mid) b rest ((tail.good a).meets mid b rest m))
     go ts b rest a mid m (inr x) = past ts b rest mid x (tail.starts a mid b rest m)

@@ -2,16 +2,9 @@
 use Rattle.std.proofs.Common.{◌≡◌, ℕ, zero, suc, ◌+◌, ◌<◌, ◌≤◌, Bool, true, false, cond, ◌⊎◌, inl, inr, List, [], ◌∷◌, ◌++◌, length, Option, Some, None, nat_eq, refl, sym, ◌∙◌, ap, subst, arith}
 use Rattle.cf_tokens.specs.declared.token.Token.{Token}
 use Rattle.cf_syntax.specs.Words.{front}
-use Rattle.cf_syntax.specs.Parse.{Parse, pure, with_rest, then, choose, or_stop, option, turn, loop, repeat}
-use Rattle.cf_syntax.specs.Language.{Language, Empty, Exactly, Then, Either, Made, Where, Maybe, Many, ended, again}
-use Rattle.cf_syntax.proofs.Good.{among, disjoint, within, Exceeds, Meets, Good, Starts, Eats, both-ways, cond-cases, apart-at, within-at, split-rest, some-is-not-none}
-
-pub some-value : {A : Type 0} (u v : A) → Some u ≡ Some v → u ≡ v
-some-value {A = A} u v e = ap (λ o. of_some u o) e
-  where
-    of_some : A → Option A → A
-    of_some d (Some w) = w
-    of_some d None = d
+use Rattle.cf_syntax.specs.Parse.{Parse, pure, with_rest, none, then, choose, or_stop, option, turn, loop, repeat, word}
+use Rattle.cf_syntax.specs.Language.{Language, Empty, Exactly, Then, Either, Made, Where, Maybe, Many, By, Never, Word, ended, again}
+use Rattle.cf_syntax.proofs.Good.{among, disjoint, within, Exceeds, Meets, Good, Starts, Eats, both-ways, cond-cases, apart-at, within-at, split-rest, some-is-not-none, some-value, good-then, good-made, good-exactly, starts-word}
 
 -- ---- choices
 
@@ -56,13 +49,16 @@ good-only {A = A} g P test q M two holds decides = record {
     never ts not_there true e = absurd (not_there (holds ts e))
     never ts not_there false e = e
 
+abbrev pair_of : {A : Type 0} → A → List Token → A × List Token
+pair_of x rest = (x, rest)
+
 -- ---- tails
 
 -- what may follow a value: the reading always answers, and a phrase has no tokens or begins so
-pub record Tail {A : Type 0} (firsts goes : List ℕ) (q : A → Parse A) (M : A → Language A) : Type 0 where
-  pub good : (a : A) → Good (firsts ++ goes) (q a) (M a)
-  pub total : (a : A) (ts : List Token) → (z : A × List Token) × (q a ts ≡ Some z) × (length z.1 ≤ length ts)
-  pub starts : (a : A) (ts : List Token) (b : A) (rest : List Token) → M a ts b rest → (rest ≡ ts) ⊎ (among firsts (front ts) ≡ true)
+pub record Tail {C A : Type 0} (firsts goes : List ℕ) (q : C → Parse A) (M : C → Language A) : Type 0 where
+  pub good : (c : C) → Good (firsts ++ goes) (q c) (M c)
+  pub total : (c : C) (ts : List Token) → (z : A × List Token) × (q c ts ≡ Some z) × (length z.1 ≤ length ts)
+  pub starts : (c : C) (ts : List Token) (b : A) (rest : List Token) → M c ts b rest → (rest ≡ ts) ⊎ (among firsts (front ts) ≡ true)
 
 pub among-left : (ks js : List ℕ) (n : ℕ) → among ks n ≡ true → among (ks ++ js) n ≡ true
 among-left [] js n e = absurd (clash e)
@@ -113,3 +109,36 @@ tail-option {A = A} firsts goes step M each starts eats = record {
         lifted : Meets goes (step a ts) x rest → Meets (firsts ++ goes) (or_stop a ts (step a ts)) x rest
         lifted (inl e) = inl (ap (or_stop a ts) e)
         lifted (inr y) = inr (record { value = y.value; after = y.after; is = ap (or_stop a ts) y.is; less = y.less; on = among-right firsts goes (front rest) y.on })
+
+pub tail-made : {C A B : Type 0} (firsts goes : List ℕ) (init : C → A) (f : C → A → B) (q : A → Parse A) (M : A → Language A) → Tail firsts goes q M
+    → Tail firsts goes (λ c. then (q (init c)) (λ a. pure (f c a))) (λ c. Made (f c) (M (init c)))
+tail-made firsts goes init f q M tail = record {
+    good = λ c. good-made (firsts ++ goes) (f c) (q (init c)) (M (init c)) (tail.good (init c));
+    total = λ c ts. let t = tail.total (init c) ts in ((f c t.0.0, t.0.1), ap (λ r. with_rest r (λ a. pure (f c a))) t.1, t.2);
+    starts = λ c ts b rest (a, m, e). tail.starts (init c) ts a rest m; }
+
+pub tail-plain : {C A : Type 0} (firsts goes : List ℕ) (init : C → A) (q : A → Parse A) (M : A → Language A) → Tail firsts goes q M
+    → Tail firsts goes (λ c. q (init c)) (λ c. M (init c))
+tail-plain firsts goes init q M tail = record { good = λ c. tail.good (init c); total = λ c ts. tail.total (init c) ts; starts = λ c ts b rest m. tail.starts (init c) ts b rest m }
+
+pub good-by : {A : Type 0} (g : List ℕ) (test : List Token → Bool) (p q : Parse A) (L M : Language A) → Good g p L → Good g q M → Good g (choose test p q) (By test L M)
+good-by {A = A} g test p q L M one two = record {
+    sound = λ ts x rest e. cond-cases (test ts) (p ts) (q ts) (Some (x, rest)) e (λ t h. inl (t, one.sound ts x rest h)) (λ f h. inr (f, two.sound ts x rest h));
+    meets = λ ts x rest l. go ts x rest l; }
+  where
+    go : (ts : List Token) (x : A) (rest : List Token) → By test L M ts x rest → Meets g (cond (test ts) (p ts) (q ts)) x rest
+    go ts x rest (inl l) = subst (λ b. Meets g (cond b (p ts) (q ts)) x rest) (sym l.0) (one.meets ts x rest l.1)
+    go ts x rest (inr m) = subst (λ b. Meets g (cond b (p ts) (q ts)) x rest) (sym m.0) (two.meets ts x rest m.1)
+
+pub good-never : {A : Type 0} → Good {A = A} [] none Never
+good-never {A = A} = record { sound = λ ts x rest e. absurd (clash x rest e); meets = λ ts x rest l. absurd l }
+  where
+    clash : (x : A) (rest : List Token) → None ≡ Some (pair_of x rest) → ⊥
+    clash x rest e = cc
+
+-- a phrase with a closing word
+pub good-close : {A B : Type 0} (g : List ℕ) (n : ℕ) (f : A → B) (p : Parse A) (L : Language A) → Good g p L → disjoint (n ∷ []) g ≡ true
+    → Good [] (then p (λ a. then (word n) (λ _. pure (f a)))) (Then L (λ a. Made (λ _. f a) (Word n)))
+good-close g n f p L good apart = good-then g [] p (λ a. then (word n) (λ _. pure (f a))) L (λ a. Made (λ _. f a) (Word n)) good
+    (λ a. good-made [] (λ _. f a) (word n) (Word n) (good-exactly (word n)))
+    (λ a ts b rest m. apart-at (n ∷ []) g (front ts) apart (starts-word n ts m.0 rest m.1))

@@ -18,8 +18,7 @@ use Rattle.cf_syntax.specs.Named.{type_at, qualified, qualifier, qualifiers, unq
 use Rattle.cf_syntax.specs.Specified.{storage_of, basic_of, key_of, named_type, keyed_type, basic_type, storage_word, one_specifier, no_specifiers, specifiers, operator_number, pair_of, conversion, operator_name, some_ident, last_part, name}
 use Rattle.cf_syntax.specs.Operators.{operator_of, found, operator}
 use Rattle.cf_syntax.specs.Grammar.{constant_of, taken, constant, basic_word, from_file, array_brackets, here}
-use Rattle.cf_syntax.proofs.Tails.{some-value}
-use Rattle.cf_syntax.proofs.Good.{split-rest}
+use Rattle.cf_syntax.proofs.Good.{split-rest, some-value}
 
 pub record Under {A : Type 0} (n : ℕ) (r : Option (A × List Token)) : Type 0 where
   pub by : (z : A × List Token) → r ≡ Some z → length z.1 ≤ n
