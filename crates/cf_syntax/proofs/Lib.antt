@@ -5,4 +5,5 @@ pub mod Newest
 pub mod Operands
 pub mod Repeats
 pub mod Tails
+pub mod Unaries
 pub mod Under

@@ -18,7 +18,7 @@ use Rattle.cf_syntax.specs.Language.{Language, Empty, Never, Exactly, Word, Then
 use Rattle.cf_syntax.specs.Grammar.{Inside, sees, constant, basic_word, allocates, from_file, array_brackets, applied, NextAssign, MoreAssigns, Arguments, TypeInBrackets, HoldsType, Bracketed, Head, Member, Behind, Post, Sizeof, Bound, Bounds, Initialised, NewType, Allocation, Unary, Cast}
 use Rattle.cf_syntax.specs.Reading.{Readers, next_assign, more_assigns, first_assigns, arguments_behind, arguments, type_in_brackets, holds_type, bracketed, basic_call, type_call, named, head, member, index, behind, post, size_of, bound, bounds, initialised, new_bracketed, new_plain, new_type, deleted, allocation, stepped, prefixed, unary, cast_only, cast}
 use Rattle.cf_syntax.proofs.Good.{among, disjoint, within, Exceeds, Good, Starts, Eats, good-wider, good-then, good-made, good-exactly, within-at, starts-word}
-use Rattle.cf_syntax.proofs.Tails.{Tail, tail-option, tail-made, tail-plain, good-where, good-by, good-never, good-close}
+use Rattle.cf_syntax.proofs.Tails.{Tail, tail-option, tail-made, good-where, good-by, good-never, good-close}
 use Rattle.cf_syntax.proofs.Repeats.{tail-repeat, good-tail}
 use Rattle.cf_syntax.proofs.Keeps.{Keeps, codes_of, keeps-never, keeps-exactly, keeps-then, keeps-made, keeps-by, keeps-rather, keeps-maybe, keeps-many, keeps-eats, eats-word, eats-then, starts-then, eats-made, starts-made, starts-by, eats-by, starts-operator, eats-operator}
 use Rattle.cf_syntax.proofs.Under.{under-constant, under-basic_word, under-type_path, under-name, under-pointers, under-specifiers, under-from_file, under-array_brackets, under-operator}
@@ -39,7 +39,7 @@ module _ («in» : Inside) (r : Readers) (ok : Inner «in» r) where
   pub eats-next_assign : (names : Names) → Eats (NextAssign «in» names)
   eats-next_assign names = eats-then (Word comma) _ (eats-word comma) (λ at. keeps-made _ («in».assign names) (ok.keeps_assign names))
 
-  pub tail-more_assigns : (names : Names) → Tail (comma ∷ []) behind_assign (more_assigns r names) (MoreAssigns «in» names)
+  pub tail-more_assigns : (names : Names) → Tail (λ a. a) (comma ∷ []) behind_assign (more_assigns r names) (MoreAssigns «in» names)
   tail-more_assigns names = tail-repeat (comma ∷ []) behind_assign _ _
       (λ all. good-made behind_assign (λ next. all ++ next.1 ∷ []) (next_assign r names) (NextAssign «in» names) (good-next_assign names))
       (λ all. starts-made (comma ∷ []) (λ next. all ++ next.1 ∷ []) (NextAssign «in» names) (starts-then (comma ∷ []) (Word comma) _ (starts-word comma)))
@@ -54,7 +54,7 @@ module _ («in» : Inside) (r : Readers) (ok : Inner «in» r) where
       (Then (Then (Made (λ x. x ∷ []) («in».assign names)) (MoreAssigns «in» names)) (λ all. Made (λ _. (at, all)) (Word right_paren))))
   good-arguments_behind names at = good-by [] (sees right_paren) _ _ _ _ (good-made [] (λ _. (at, [])) (word right_paren) (Word right_paren) (good-exactly (word right_paren)))
       (good-close (behind_assign ++ (comma ∷ [] ++ behind_assign)) right_paren (λ all. (at, all)) (first_assigns r names) _
-        (good-tail behind_assign (comma ∷ []) behind_assign _ _ (more_assigns r names) (MoreAssigns «in» names)
+        (good-tail (λ a. a) behind_assign (comma ∷ []) behind_assign _ _ (more_assigns r names) (MoreAssigns «in» names)
           (good-made behind_assign (λ x. x ∷ []) (r.assign names) («in».assign names) (ok.assign names)) (tail-more_assigns names) refl)
         refl)
 
@@ -146,7 +146,7 @@ module _ («in» : Inside) (r : Readers) (ok : Inner «in» r) where
 
   pub good-post : (names : Names) → Good suffixes (post r names) (Post «in» names)
   good-post names = good-wider ([] ++ (suffixes ++ [])) suffixes (post r names) (Post «in» names) refl
-      (good-tail [] suffixes [] (head r names) (Head «in» names) _ _ (good-head names)
+      (good-tail (λ a. a) [] suffixes [] (head r names) (Head «in» names) _ _ (good-head names)
         (tail-repeat suffixes [] _ _ (λ a. good-made [] (λ s. applied a s) (behind r names) (Behind «in» names) (good-suffix names))
           (λ a. starts-made suffixes (applied a) (Behind «in» names) (starts-suffix names)) (λ a. eats-made (applied a) (Behind «in» names) (eats-suffix names)) refl)
         refl)

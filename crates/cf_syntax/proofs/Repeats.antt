@@ -4,7 +4,7 @@ use Rattle.cf_tokens.specs.declared.token.Token.{Token}
 use Rattle.cf_syntax.specs.Words.{front}
 use Rattle.cf_syntax.specs.Parse.{Parse, pure, with_rest, then, turn, loop, repeat}
 use Rattle.cf_syntax.specs.Language.{Language, Then, Many, ended, again}
-use Rattle.cf_syntax.proofs.Good.{among, disjoint, Exceeds, Meets, Good, Starts, Eats, both-ways, apart-at, split-rest, some-value}
+use Rattle.cf_syntax.proofs.Good.{among, disjoint, Exceeds, Meets, Good, Starts, Eats, both-ways, apart-at, within-at, within, good-wider, split-rest, some-value}
 use Rattle.cf_syntax.proofs.Tails.{Tail, among-left, among-right}
 
 module _ {A : Type 0} (firsts goes : List ℕ) (step : A → Parse A) (M : A → Language A)
@@ -48,8 +48,8 @@ module _ {A : Type 0} (firsts goes : List ℕ) (step : A → Parse A) (M : A →
           record { value = inner.value; after = inner.after; is = ap (λ r. turn r a ts (loop step n)) is ∙ inner.is;
             how = inr (omega arith, starts a ts q.0 q.1 there) }
 
-  begins : (a : A) (ts : List Token) (b : A) (rest : List Token) → Many M a ts b rest → (rest ≡ ts) ⊎ (among firsts (front ts) ≡ true)
-  begins _ _ _ _ (ended a ts) = inl refl
+  begins : (a : A) (ts : List Token) (b : A) (rest : List Token) → Many M a ts b rest → ((b ≡ a) × (rest ≡ ts)) ⊎ (among firsts (front ts) ≡ true)
+  begins _ _ _ _ (ended a ts) = inl (refl, refl)
   begins _ _ _ _ (again a b c ts mid rest m more) = inr (starts a ts b mid m)
 
   meets_loop : (a : A) (ts : List Token) (x : A) (rest : List Token) → Many M a ts x rest → (n : ℕ) → length ts ≤ n
@@ -69,8 +69,8 @@ module _ {A : Type 0} (firsts goes : List ℕ) (step : A → Parse A) (M : A →
       stepped ((each a).meets ts b mid m) (meets_loop b mid c rest more n (omega arith))
     where
       past : (y : A) (after : List Token) → step a ts ≡ Some (y, after) → length after < length mid → among goes (front mid) ≡ true
-          → (rest ≡ mid) ⊎ (among firsts (front mid) ≡ true) → Meets (firsts ++ goes) (loop step (suc n) a ts) c rest
-      past y after is shorter_there on (inl same) =
+          → ((c ≡ b) × (rest ≡ mid)) ⊎ (among firsts (front mid) ≡ true) → Meets (firsts ++ goes) (loop step (suc n) a ts) c rest
+      past y after is shorter_there on (inl (_, same)) =
           let inner = ends_loop n y after in
           let back : length inner.after ≤ length after = shorter y after _ inner in
           let at : length rest ≡ length mid = ap length same in
@@ -81,16 +81,16 @@ module _ {A : Type 0} (firsts goes : List ℕ) (step : A → Parse A) (M : A →
       stepped (inl e) ih = subst (λ r. Meets (firsts ++ goes) (turn r a ts (loop step n)) c rest) (sym e) ih
       stepped (inr y) ih = past y.value y.after y.is y.less y.on (begins b mid c rest more)
 
-  pub tail-repeat : Tail firsts goes (repeat step) (Many M)
+  pub tail-repeat : Tail (λ a. a) firsts goes (repeat step) (Many M)
   tail-repeat = record {
       good = λ a. record { sound = λ ts x rest e. sound_loop (length ts) a ts x rest e; meets = λ ts x rest l. meets_loop a ts x rest l (length ts) (omega arith) };
       total = λ a ts. let e = ends_loop (length ts) a ts in ((e.value, e.after), e.is, shorter a ts _ e);
       starts = begins; }
 
 -- a phrase with such a tail
-pub good-tail : {C A : Type 0} (g firsts goes : List ℕ) (p : Parse C) (L : Language C) (q : C → Parse A) (M : C → Language A)
-    → Good g p L → Tail firsts goes q M → disjoint firsts g ≡ true → Good (g ++ (firsts ++ goes)) (then p q) (Then L M)
-good-tail {C = C} {A = A} g firsts goes p L q M head tail apart = record {
+pub good-tail : {C A : Type 0} (base : C → A) (g firsts goes : List ℕ) (p : Parse C) (L : Language C) (q : C → Parse A) (M : C → Language A)
+    → Good g p L → Tail base firsts goes q M → disjoint firsts g ≡ true → Good (g ++ (firsts ++ goes)) (then p q) (Then L M)
+good-tail {C = C} {A = A} base g firsts goes p L q M head tail apart = record {
     sound = λ ts b rest e. let s = split-rest (p ts) q (b, rest) e in
         (s.value, s.mid, head.sound ts s.value s.mid s.first, (tail.good s.value).sound s.mid b rest s.second);
     meets = λ ts b rest (a, mid, l, m). go ts b rest a mid m (head.meets ts a mid l); }
@@ -98,17 +98,40 @@ good-tail {C = C} {A = A} g firsts goes p L q M head tail apart = record {
     raised : (r : Option (A × List Token)) (b : A) (rest : List Token) → Meets (firsts ++ goes) r b rest → Meets (g ++ (firsts ++ goes)) r b rest
     raised r b rest (inl e) = inl e
     raised r b rest (inr y) = inr (record { value = y.value; after = y.after; is = y.is; less = y.less; on = among-right g (firsts ++ goes) (front rest) y.on })
-    past : (ts : List Token) (b : A) (rest mid : List Token) → Exceeds g (p ts) mid → (rest ≡ mid) ⊎ (among firsts (front mid) ≡ true)
+    past : (ts : List Token) (b : A) (rest : List Token) (a : C) (mid : List Token) → Exceeds g (p ts) mid → ((b ≡ base a) × (rest ≡ mid)) ⊎ (among firsts (front mid) ≡ true)
         → Meets (g ++ (firsts ++ goes)) (with_rest (p ts) q) b rest
-    past ts b rest mid x (inl same) =
+    past ts b rest a mid x (inl (_, same)) =
         let t = tail.total x.value x.after in
         let at : length rest ≡ length mid = ap length same in
         let back : length t.0.1 ≤ length x.after = t.2 in
         let less : length x.after < length mid = x.less in
         inr (record { value = t.0.0; after = t.0.1; is = ap (λ r. with_rest r q) x.is ∙ t.1; less = omega arith;
           on = among-left g (firsts ++ goes) (front rest) (ap (λ z. among g (front z)) same ∙ x.on) })
-    past ts b rest mid x (inr first) = both-ways (among g (front mid)) x.on (apart-at firsts g (front mid) apart first)
+    past ts b rest a mid x (inr first) = both-ways (among g (front mid)) x.on (apart-at firsts g (front mid) apart first)
     go : (ts : List Token) (b : A) (rest : List Token) (a : C) (mid : List Token) → M a mid b rest → Meets g (p ts) a mid
         → Meets (g ++ (firsts ++ goes)) (with_rest (p ts) q) b rest
     go ts b rest a mid m (inl e) = subst (λ r. Meets (g ++ (firsts ++ goes)) (with_rest r q) b rest) (sym e) (raised (q a mid) b rest ((tail.good a).meets mid b rest m))
-    go ts b rest a mid m (inr x) = past ts b rest mid x (tail.starts a mid b rest m)
+    go ts b rest a mid m (inr x) = past ts b rest a mid x (tail.starts a mid b rest m)
+
+-- one tail behind another
+pub tail-then : {C A B : Type 0} (base1 : C → A) (base2 : A → B) (f1 g1 f2 g2 firsts goes : List ℕ) (q1 : C → Parse A) (M1 : C → Language A) (q2 : A → Parse B) (M2 : A → Language B)
+    → Tail base1 f1 g1 q1 M1 → Tail base2 f2 g2 q2 M2 → disjoint f2 (f1 ++ g1) ≡ true
+    → within ((f1 ++ g1) ++ (f2 ++ g2)) (firsts ++ goes) ≡ true → within f1 firsts ≡ true → within f2 firsts ≡ true
+    → Tail (λ c. base2 (base1 c)) firsts goes (λ c. then (q1 c) q2) (λ c. Then (M1 c) M2)
+tail-then {C = C} {A = A} {B = B} base1 base2 f1 g1 f2 g2 firsts goes q1 M1 q2 M2 one two apart w w1 w2 = record {
+    good = λ c. good-wider ((f1 ++ g1) ++ (f2 ++ g2)) (firsts ++ goes) _ _ w (good-tail base2 (f1 ++ g1) f2 g2 (q1 c) (M1 c) q2 M2 (one.good c) two apart);
+    total = λ c ts. let s = one.total c ts in let t = two.total s.0.0 s.0.1 in let less = s.2 in let more = t.2 in
+        (t.0, ap (λ r. with_rest r q2) s.1 ∙ t.1, omega (arith, less, more));
+    starts = λ c ts b rest (a, mid, m1, m2). go c ts b rest a mid (one.starts c ts a mid m1) (two.starts a mid b rest m2); }
+  where
+    go : (c : C) (ts : List Token) (b : B) (rest : List Token) (a : A) (mid : List Token) → ((a ≡ base1 c) × (mid ≡ ts)) ⊎ (among f1 (front ts) ≡ true)
+        → ((b ≡ base2 a) × (rest ≡ mid)) ⊎ (among f2 (front mid) ≡ true) → ((b ≡ base2 (base1 c)) × (rest ≡ ts)) ⊎ (among firsts (front ts) ≡ true)
+    go c ts b rest a mid (inr first) later = inr (within-at f1 firsts (front ts) w1 first)
+    go c ts b rest a mid (inl z) (inl y) = inl (y.0 ∙ ap base2 z.0, y.1 ∙ z.1)
+    go c ts b rest a mid (inl z) (inr first) = inr (within-at f2 firsts (front ts) w2 (ap (λ us. among f2 (front us)) (sym z.1) ∙ first))
+
+-- one language for another
+pub good-same : {A : Type 0} (g : List ℕ) (p : Parse A) (L M : Language A)
+    → ((ts : List Token) (x : A) (rest : List Token) → L ts x rest → M ts x rest) → ((ts : List Token) (x : A) (rest : List Token) → M ts x rest → L ts x rest)
+    → Good g p L → Good g p M
+good-same g p L M to from good = record { sound = λ ts x rest e. to ts x rest (good.sound ts x rest e); meets = λ ts x rest m. good.meets ts x rest (from ts x rest m) }

@@ -4,7 +4,7 @@ use Rattle.cf_tokens.specs.declared.token.Token.{Token}
 use Rattle.cf_syntax.specs.Words.{front}
 use Rattle.cf_syntax.specs.Parse.{Parse, pure, with_rest, none, then, choose, or_stop, option, turn, loop, repeat, word}
 use Rattle.cf_syntax.specs.Language.{Language, Empty, Exactly, Then, Either, Made, Where, Maybe, Many, By, Never, Word, ended, again}
-use Rattle.cf_syntax.proofs.Good.{among, disjoint, within, Exceeds, Meets, Good, Starts, Eats, both-ways, cond-cases, apart-at, within-at, split-rest, some-is-not-none, some-value, good-then, good-made, good-exactly, starts-word}
+use Rattle.cf_syntax.proofs.Good.{among, disjoint, within, Exceeds, Meets, Good, Starts, Eats, both-ways, cond-cases, apart-at, within-at, split-rest, some-is-not-none, some-value, good-wider, good-then, good-made, good-exactly, starts-word}
 
 -- ---- choices
 
@@ -54,11 +54,11 @@ pair_of x rest = (x, rest)
 
 -- ---- tails
 
--- what may follow a value: the reading always answers, and a phrase has no tokens or begins so
-pub record Tail {C A : Type 0} (firsts goes : List ℕ) (q : C → Parse A) (M : C → Language A) : Type 0 where
+-- what may follow a value: the reading always answers, and a phrase has no tokens and is `base`, or begins so
+pub record Tail {C A : Type 0} (base : C → A) (firsts goes : List ℕ) (q : C → Parse A) (M : C → Language A) : Type 0 where
   pub good : (c : C) → Good (firsts ++ goes) (q c) (M c)
   pub total : (c : C) (ts : List Token) → (z : A × List Token) × (q c ts ≡ Some z) × (length z.1 ≤ length ts)
-  pub starts : (c : C) (ts : List Token) (b : A) (rest : List Token) → M c ts b rest → (rest ≡ ts) ⊎ (among firsts (front ts) ≡ true)
+  pub starts : (c : C) (ts : List Token) (b : A) (rest : List Token) → M c ts b rest → ((b ≡ base c) × (rest ≡ ts)) ⊎ (among firsts (front ts) ≡ true)
 
 pub among-left : (ks js : List ℕ) (n : ℕ) → among ks n ≡ true → among (ks ++ js) n ≡ true
 among-left [] js n e = absurd (clash e)
@@ -78,7 +78,7 @@ among-right (k ∷ ks) js n e = split (nat_eq n k) refl (among-right ks js n e)
 
 pub tail-option : {A : Type 0} (firsts goes : List ℕ) (step : A → Parse A) (M : A → Language A)
     → ((a : A) → Good goes (step a) (M a)) → ((a : A) → Starts firsts (M a)) → ((a : A) → Eats (M a))
-    → Tail firsts goes (option step) (Maybe M)
+    → Tail (λ a. a) firsts goes (option step) (Maybe M)
 tail-option {A = A} firsts goes step M each starts eats = record {
     good = λ a. record {
       sound = λ ts x rest e. sound a ts x rest (step a ts) refl e;
@@ -93,8 +93,8 @@ tail-option {A = A} firsts goes step M each starts eats = record {
     total : (a : A) (ts : List Token) (r : Option (A × List Token)) → step a ts ≡ r → (z : A × List Token) × (or_stop a ts (step a ts) ≡ Some z) × (length z.1 ≤ length ts)
     total a ts None is = ((a, ts), ap (or_stop a ts) is, omega arith)
     total a ts (Some q) is = let shorter : length q.1 < length ts = eats a ts q.0 q.1 ((each a).sound ts q.0 q.1 is) in (q, ap (or_stop a ts) is, omega arith)
-    begins : (a : A) (ts : List Token) (b : A) (rest : List Token) → Maybe M a ts b rest → (rest ≡ ts) ⊎ (among firsts (front ts) ≡ true)
-    begins a ts b rest (inl e) = inl e.1
+    begins : (a : A) (ts : List Token) (b : A) (rest : List Token) → Maybe M a ts b rest → ((b ≡ a) × (rest ≡ ts)) ⊎ (among firsts (front ts) ≡ true)
+    begins a ts b rest (inl e) = inl e
     begins a ts b rest (inr m) = inr (starts a ts b rest m)
     meets : (a : A) (ts : List Token) (x : A) (rest : List Token) → Maybe M a ts x rest → Meets (firsts ++ goes) (or_stop a ts (step a ts)) x rest
     meets a ts x rest (inl e) = subst (λ z. Meets (firsts ++ goes) (or_stop a ts (step a ts)) z rest) (sym e.0)
@@ -110,16 +110,31 @@ tail-option {A = A} firsts goes step M each starts eats = record {
         lifted (inl e) = inl (ap (or_stop a ts) e)
         lifted (inr y) = inr (record { value = y.value; after = y.after; is = ap (or_stop a ts) y.is; less = y.less; on = among-right firsts goes (front rest) y.on })
 
-pub tail-made : {C A B : Type 0} (firsts goes : List ℕ) (init : C → A) (f : C → A → B) (q : A → Parse A) (M : A → Language A) → Tail firsts goes q M
-    → Tail firsts goes (λ c. then (q (init c)) (λ a. pure (f c a))) (λ c. Made (f c) (M (init c)))
-tail-made firsts goes init f q M tail = record {
+pub tail-made : {C A B : Type 0} (base : A → A) (firsts goes : List ℕ) (init : C → A) (f : C → A → B) (q : A → Parse A) (M : A → Language A)
+    → Tail base firsts goes q M
+    → Tail (λ c. f c (base (init c))) firsts goes (λ c. then (q (init c)) (λ a. pure (f c a))) (λ c. Made (f c) (M (init c)))
+tail-made {C = C} {A = A} {B = B} base firsts goes init f q M tail = record {
     good = λ c. good-made (firsts ++ goes) (f c) (q (init c)) (M (init c)) (tail.good (init c));
     total = λ c ts. let t = tail.total (init c) ts in ((f c t.0.0, t.0.1), ap (λ r. with_rest r (λ a. pure (f c a))) t.1, t.2);
-    starts = λ c ts b rest (a, m, e). tail.starts (init c) ts a rest m; }
+    starts = λ c ts b rest (a, m, e). go c ts b rest a e (tail.starts (init c) ts a rest m); }
+  where
+    go : (c : C) (ts : List Token) (b : B) (rest : List Token) (a : A) → b ≡ f c a → ((a ≡ base (init c)) × (rest ≡ ts)) ⊎ (among firsts (front ts) ≡ true)
+        → ((b ≡ f c (base (init c))) × (rest ≡ ts)) ⊎ (among firsts (front ts) ≡ true)
+    go c ts b rest a e (inl z) = inl (e ∙ ap (f c) z.0, z.1)
+    go c ts b rest a e (inr first) = inr first
 
-pub tail-plain : {C A : Type 0} (firsts goes : List ℕ) (init : C → A) (q : A → Parse A) (M : A → Language A) → Tail firsts goes q M
-    → Tail firsts goes (λ c. q (init c)) (λ c. M (init c))
-tail-plain firsts goes init q M tail = record { good = λ c. tail.good (init c); total = λ c ts. tail.total (init c) ts; starts = λ c ts b rest m. tail.starts (init c) ts b rest m }
+-- one tail behind another
+pub tail-wider : {C A : Type 0} (base : C → A) (fs gs firsts goes : List ℕ) (q : C → Parse A) (M : C → Language A)
+    → within fs firsts ≡ true → within (fs ++ gs) (firsts ++ goes) ≡ true → Tail base fs gs q M → Tail base firsts goes q M
+tail-wider {C = C} {A = A} base fs gs firsts goes q M w v tail = record {
+    good = λ c. good-wider (fs ++ gs) (firsts ++ goes) (q c) (M c) v (tail.good c);
+    total = tail.total;
+    starts = λ c ts b rest m. go c ts b rest (tail.starts c ts b rest m); }
+  where
+    go : (c : C) (ts : List Token) (b : A) (rest : List Token) → ((b ≡ base c) × (rest ≡ ts)) ⊎ (among fs (front ts) ≡ true)
+        → ((b ≡ base c) × (rest ≡ ts)) ⊎ (among firsts (front ts) ≡ true)
+    go c ts b rest (inl z) = inl z
+    go c ts b rest (inr first) = inr (within-at fs firsts (front ts) w first)
 
 pub good-by : {A : Type 0} (g : List ℕ) (test : List Token → Bool) (p q : Parse A) (L M : Language A) → Good g p L → Good g q M → Good g (choose test p q) (By test L M)
 good-by {A = A} g test p q L M one two = record {
