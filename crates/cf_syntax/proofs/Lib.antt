@@ -1,3 +1,5 @@
+pub mod Binaries
+pub mod Declarators
 pub mod Good
 pub mod Inner
 pub mod Keeps

@@ -79,7 +79,7 @@ module _ («in» : Inside) (r : Readers) (ok : Inner «in» r) where
   eats-type_in_brackets names = eats-then (Word left_paren) _ (eats-word left_paren) (λ at. keeps-then _ _ (ok.keeps_type_id names) (λ t. keeps-closing right_paren (at, t)))
 
   -- the test says whether brackets can hold a type
-  is-some-has : {A : Type 0} (o : Option A) → is_some o ≡ true → (x : A) × (o ≡ Some x)
+  pub is-some-has : {A : Type 0} (o : Option A) → is_some o ≡ true → (x : A) × (o ≡ Some x)
   is-some-has None e = absurd (clash e)
     where
       clash : false ≡ true → ⊥
