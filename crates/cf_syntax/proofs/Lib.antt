@@ -9,3 +9,4 @@ pub mod Repeats
 pub mod Tails
 pub mod Unaries
 pub mod Under
+pub mod Whole

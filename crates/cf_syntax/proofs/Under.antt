@@ -4,12 +4,15 @@ use Rattle.std.specs.Prelude.{is_some}
 use Rattle.cf_tokens.specs.declared.token.Token.{Token}
 use Rattle.cf_syntax.specs.declared.asked.Asked.{Asked}
 use Rattle.cf_syntax.specs.declared.name.Last.{Last}
+use Rattle.cf_syntax.specs.declared.name.Name.{Name}
+use Rattle.cf_syntax.specs.declared.name.Path.{Path}
 use Rattle.cf_syntax.specs.declared.reading.Qualifiers.{Qualifiers}
 use Rattle.cf_syntax.specs.declared.reading.Specifiers.{Specifiers}
 use Rattle.cf_syntax.specs.declared.specifier.BasicType.{BasicType}
 use Rattle.cf_syntax.specs.declared.specifier.ClassKey.{ClassKey}
 use Rattle.cf_syntax.specs.declared.specifier.Pointer.TheVariants as pointer
 use Rattle.cf_syntax.specs.declared.specifier.Storage.{Storage}
+use Rattle.cf_syntax.specs.declared.specifier.TypeSpecifier.{TypeSpecifier}
 use Rattle.cf_syntax.specs.NamesData.{Names}
 use Rattle.cf_syntax.specs.Words.{code, front, place, ident_at}
 use Rattle.cf_syntax.specs.Parse.{Parse, pure, with_rest, then, turn, loop, repeat, word}
@@ -18,7 +21,7 @@ use Rattle.cf_syntax.specs.Named.{type_at, qualified, qualifier, qualifiers, unq
 use Rattle.cf_syntax.specs.Specified.{storage_of, basic_of, key_of, named_type, keyed_type, basic_type, storage_word, one_specifier, no_specifiers, specifiers, operator_number, pair_of, conversion, operator_name, some_ident, last_part, name}
 use Rattle.cf_syntax.specs.Operators.{operator_of, found, operator}
 use Rattle.cf_syntax.specs.Grammar.{constant_of, taken, constant, basic_word, from_file, array_brackets, here}
-use Rattle.cf_syntax.proofs.Good.{split-rest, some-value}
+use Rattle.cf_syntax.proofs.Good.{split-rest, some-value, some-is-not-none}
 
 pub record Under {A : Type 0} (n : ℕ) (r : Option (A × List Token)) : Type 0 where
   pub by : (z : A × List Token) → r ≡ Some z → length z.1 ≤ n
@@ -194,3 +197,67 @@ under-from_file n us h = under-cond n _ _ _ (under-some n true (drop 1 us) (drop
 
 pub under-array_brackets : (n : ℕ) (us : List Token) → length us ≤ n → Under n (array_brackets us)
 under-array_brackets n us h = under-cond n _ _ _ (under-some n true (drop 2 us) (dropped 2 n us h)) (under-some n false us h)
+
+-- ---- a name, a type's name and a specifier take a token
+
+under-last_part-more : (names : Names) (t : Token) (ts : List Token) → Under (length ts) (last_part names (t ∷ ts))
+under-last_part-more names t ts =
+    let n = length ts in
+    let one : length (drop 1 ts) ≤ length ts = dropped 1 n ts (omega arith) in
+    under-cond n _ _ _ (under-some_ident _ (ident_at ts) n (drop 1 ts) one)
+      (under-cond n _ _ _ (under-operator_name names n ts (omega arith))
+        (under-cond n _ _ _ (under-none n) (under-some_ident _ (ident_at (t ∷ ts)) n ts (omega arith))))
+
+last-strict : (names : Names) (us : List Token) (y : Last) (rest : List Token) → last_part names us ≡ Some (y, rest) → length rest < length us
+last-strict names [] y rest e = some-is-not-none None (y, rest) refl e
+last-strict names (t ∷ ts) y rest e = let h = (under-last_part-more names t ts).by (y, rest) e in omega (arith, h)
+
+pub name-strict : (names : Names) (ts : List Token) (x : Name × List ℕ) (rest : List Token) → name names ts ≡ Some (x, rest) → length rest < length ts
+name-strict names ts x rest e =
+    let s = split-rest (qualifiers names ts) _ (x, rest) e in
+    let t = split-rest (last_part names s.mid) _ (x, rest) s.second in
+    let less = (under-qualifiers names (length ts) ts (omega arith)).by (s.value, s.mid) s.first in
+    let strict = last-strict names s.mid t.value t.mid t.first in
+    let same = ap (λ (z : (Name × List ℕ) × List Token). length z.1) (some-value _ (x, rest) t.second) in
+    omega (arith, less, strict, same)
+
+type-strict : (at : ℕ) (q : Qualifiers) (names : Names) (us : List Token) (y : Path) (rest : List Token)
+    → last_type at q (type_at names q.asked us) (ident_at us) (drop 1 us) ≡ Some (y, rest) → length rest < length us
+type-strict at q names [] y rest e = some-is-not-none None (y, rest) refl e
+type-strict at q names (t ∷ ts) y rest e = let h = (under-last_type (length ts) at q (type_at names q.asked (t ∷ ts)) (ident_at (t ∷ ts)) ts (omega arith)).by (y, rest) e in omega (arith, h)
+
+type_path-strict : (names : Names) (ts : List Token) (y : Path) (rest : List Token) → type_path names ts ≡ Some (y, rest) → length rest < length ts
+type_path-strict names ts y rest e =
+    let s = split-rest (qualifiers names ts) _ (y, rest) e in
+    let less = (under-qualifiers names (length ts) ts (omega arith)).by (s.value, s.mid) s.first in
+    let strict = type-strict (place ts) s.value names s.mid y rest s.second in
+    omega (arith, less, strict)
+
+under-type_path-more : (names : Names) (t : Token) (ts : List Token) → Under (length ts) (type_path names (t ∷ ts))
+under-type_path-more names t ts = record { by = λ z e. let strict = type_path-strict names (t ∷ ts) z.0 z.1 e in omega (arith, strict) }
+
+under-key-more : (names : Names) (s : Specifiers) (key : Option ClassKey) (t : Token) (ts : List Token) → Under (length ts) (keyed_type names s key (t ∷ ts))
+under-key-more names s None t ts = under-cond (length ts) s.has_type _ _ (under-none (length ts))
+    (under-then (length ts) (type_path names (t ∷ ts)) _ (under-type_path-more names t ts) (λ path vs k. under-some (length ts) _ vs k))
+under-key-more names s (Some k) t ts = under-then (length ts) (ident_path names ts) _ (under-ident_path names (length ts) ts (omega arith)) (λ path vs j. under-some (length ts) _ vs j)
+
+under-basic-more : (names : Names) (s : Specifiers) (b : Option BasicType) (t : Token) (ts : List Token) → Under (length ts) (basic_type names s b (t ∷ ts))
+under-basic-more names s None t ts = under-key-more names s (key_of (front (t ∷ ts))) t ts
+under-basic-more names s (Some b) t ts = under-some (length ts) _ ts (omega arith)
+
+under-storage-more : (names : Names) (s : Specifiers) (w : Option Storage) (t : Token) (ts : List Token) → Under (length ts) (storage_word names s w (t ∷ ts))
+under-storage-more names s None t ts = under-cond (length ts) _ _ _ (under-some (length ts) _ ts (omega arith)) (under-basic-more names s (basic_of (front (t ∷ ts))) t ts)
+under-storage-more names s (Some w) t ts = under-some (length ts) _ ts (omega arith)
+
+specifier-strict : (names : Names) (ts : List Token) (x : Specifiers) (rest : List Token) → one_specifier names no_specifiers ts ≡ Some (x, rest) → length rest < length ts
+specifier-strict names [] x rest e = some-is-not-none None (x, rest) refl e
+specifier-strict names (t ∷ ts) x rest e = let h = (under-storage-more names no_specifiers (storage_of (front (t ∷ ts))) t ts).by (x, rest) e in omega (arith, h)
+
+pub specifiers-strict : (names : Names) (ts : List Token) (x : List TypeSpecifier) (rest : List Token) → specifiers names ts ≡ Some (x, rest) → length rest < length ts
+specifiers-strict names ts x rest e =
+    let s = split-rest (one_specifier names no_specifiers ts) _ (x, rest) e in
+    let strict = specifier-strict names ts s.value s.mid s.first in
+    let t = split-rest (repeat (one_specifier names) s.value s.mid) _ (x, rest) s.second in
+    let less = (under-repeat (one_specifier names) (λ q vs. under-one_specifier names q (length vs) vs (omega arith)) (length s.mid) s.value s.mid (omega arith)).by (t.value, t.mid) t.first in
+    let same = ap (λ (z : List TypeSpecifier × List Token). length z.1) (some-value _ (x, rest) t.second) in
+    omega (arith, less, strict, same)

@@ -1,5 +1,6 @@
 pub mod Grammar
 pub mod Language
+pub mod Longest
 pub mod Named
 pub mod Names
 pub mod NamesData

@@ -8,6 +8,7 @@
 mod asked;
 mod declarator;
 mod expression;
+mod laws;
 mod lookup;
 mod name;
 mod operator;
@@ -18,6 +19,7 @@ mod type_names;
 pub use asked::Asked;
 pub use declarator::{DeclTree, Param, TypeId};
 pub use expression::Expr;
+pub use laws::{one_longest_declarator, one_longest_expression, one_tree};
 pub use name::{Last, Name, Path};
 pub use operator::{AssignOp, BinaryOp, PrefixOp, StepOp};
 pub use reading::{DeclaratorKind, Qualifiers, Specifiers, Suffix};
