@@ -1,2 +1,4 @@
 pub mod Agreement
+pub mod IntegerRows
 pub mod Tables
+pub mod Times

@@ -1,6 +1,13 @@
 pub mod Agree
+pub mod Disk
 pub mod Event
+pub mod Failures
+pub mod Held
 pub mod Integers
+pub mod Place
+pub mod Promotion
+pub mod Rose
 pub mod Rule
+pub mod Stream
 pub mod World
 pub mod formers

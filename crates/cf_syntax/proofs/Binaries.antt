@@ -138,7 +138,6 @@ operand-within (suc (suc (suc (suc (suc (suc (suc (suc (suc (suc (suc zero))))))
 operand-within (suc (suc (suc (suc (suc (suc (suc (suc (suc (suc (suc (suc n)))))))))))) h = absurd (omega arith)
 
 module _ («in» : Inside) (r : Readers) (ok : Inner «in» r) where
-
   -- ---- binary
 
   abbrev RightSide : Names → ℕ → Language ((ℕ × BinaryOp) × Expr)
@@ -169,22 +168,23 @@ module _ («in» : Inside) (r : Readers) (ok : Inner «in» r) where
       → Good (behind_binary n) (then (cast r names) (joined_from r names n)) (Joined «in» names n)
   good-joined-of names n h tail = good-same (behind_binary n) _ _ _ (from-first names n) (to-first names n)
       (good-wider (suffixes ++ (operators n ++ behind_binary n)) (behind_binary n) _ _ (operand-within n h)
-        (good-tail (λ a. a) suffixes (operators n) (behind_binary n) (cast r names) (Cast «in» names) _ _ (good-cast «in» r ok names) tail (operand-apart n h)))
+      (good-tail (λ a. a) suffixes (operators n) (behind_binary n) (cast r names) (Cast «in» names) _ _ (good-cast «in» r ok names) tail (operand-apart n h)))
 
   tail-level : (names : Names) (n : ℕ) → n ≤ 10 → Good (behind_binary n) (then (cast r names) (joined_from r names n)) (Joined «in» names n)
       → Tail (λ a. a) (codes_of (level n)) (behind_binary n) (repeat (λ b. then (right_side r names n (joined_from r names n)) (λ s. pure (tree.Binary s.0.0 s.0.1 b s.1)))) (Many (Goes names n))
   tail-level names n h operand = tail-repeat (codes_of (level n)) (behind_binary n) _ _
       (λ b. good-made (behind_binary n) (λ s. tree.Binary s.0.0 s.0.1 b s.1) (right_side r names n (joined_from r names n)) (RightSide names n)
-        (good-behind «in» r ok (behind_binary n) (operator (level n)) _ _ (λ op. good-made (behind_binary n) (λ y. (op, y)) _ (Joined «in» names n) operand)))
+      (good-behind «in» r ok (behind_binary n) (operator (level n)) _ _ (λ op. good-made (behind_binary n) (λ y. (op, y)) _ (Joined «in» names n) operand)))
       (λ b. starts-made (codes_of (level n)) _ (RightSide names n) (starts-then (codes_of (level n)) _ _ (starts-operator (level n))))
       (λ b. eats-made _ (RightSide names n) (eats-then _ _ (eats-operator (level n) (level-ends n h)) (λ op. keeps-made _ _ (keeps-joined names n))))
       (level-apart-right n h)
 
   tail-joined : (names : Names) (n : ℕ) → n ≤ 11 → Tail (λ a. a) (operators n) (behind_binary n) (joined_from r names n) (JoinedFrom names n)
   tail-joined names zero h = record {
-      good = λ a. good-wider [] suffixes (pure a) (Empty a) refl (good-empty a);
-      total = λ a ts. ((a, ts), refl, omega arith);
-      starts = λ a ts b rest e. inl e; }
+    good = λ a. good-wider [] suffixes (pure a) (Empty a) refl (good-empty a);
+    total = λ a ts. ((a, ts), refl, omega arith);
+    starts = λ a ts b rest e. inl e;
+  }
   tail-joined names (suc n) h = with_lower (tail-joined names n (omega arith))
     where
       with_lower : Tail (λ a. a) (operators n) (behind_binary n) (joined_from r names n) (JoinedFrom names n)
@@ -198,8 +198,8 @@ module _ («in» : Inside) (r : Readers) (ok : Inner «in» r) where
   good-choice : (names : Names) → Good behind_condition (choice r names) (Choice «in» names)
   good-choice names = good-after «in» r ok behind_condition question _ _ (λ at.
       good-then behind_commas behind_condition (r.commas names) _ («in».commas names) _ (ok.commas names)
-        (λ a. good-after «in» r ok behind_condition colon _ _ (λ _. good-made behind_condition (λ b. (at, a, b)) (r.condition names) («in».condition names) (ok.condition names)))
-        (λ a ts b rest m. apart-at (colon ∷ []) behind_commas (front ts) refl (starts-word colon ts m.0 m.1 m.2)))
+      (λ a. good-after «in» r ok behind_condition colon _ _ (λ _. good-made behind_condition (λ b. (at, a, b)) (r.condition names) («in».condition names) (ok.condition names)))
+      (λ a ts b rest m. apart-at (colon ∷ []) behind_commas (front ts) refl (starts-word colon ts m.0 m.1 m.2)))
 
   eats-choice : (names : Names) → Eats (Choice «in» names)
   eats-choice names = eats-then (Word question) _ (eats-word question) (λ at. keeps-then _ _ (ok.keeps_commas names) (λ a. keeps-then _ _ (keeps-eats _ (eats-word colon)) (λ _. keeps-made _ _ (ok.keeps_condition names))))
@@ -232,7 +232,7 @@ module _ («in» : Inside) (r : Readers) (ok : Inner «in» r) where
   pub good-condition : (names : Names) → Good behind_condition (condition r names) (Condition «in» names)
   good-condition names = good-same behind_condition _ _ _ (from-operand names) (to-operand names)
       (good-wider (suffixes ++ (condition_words ++ behind_condition)) behind_condition _ _ refl
-        (good-tail (λ a. a) suffixes condition_words behind_condition (cast r names) (Cast «in» names) _ _ (good-cast «in» r ok names) (tail-condition names) refl))
+      (good-tail (λ a. a) suffixes condition_words behind_condition (cast r names) (Cast «in» names) _ _ (good-cast «in» r ok names) (tail-condition names) refl))
 
   pub keeps-condition : (names : Names) → Keeps (Condition «in» names)
   keeps-condition names = keeps-then _ _ (keeps-joined names 11) (λ a. keeps-maybe (Chosen names) a (λ c. keeps-made _ _ (keeps-eats _ (eats-choice names))))
@@ -273,31 +273,39 @@ module _ («in» : Inside) (r : Readers) (ok : Inner «in» r) where
 
   tail-assign : (names : Names) → Tail (λ a. a) assign_words behind_assign (assign_from r names) (AssignFrom names)
   tail-assign names = record {
-      good = λ a. record { sound = λ ts x rest e. sound a ts x rest e; meets = λ ts x rest l. meets a ts x rest l };
-      total = λ a ts. total a ts (heads assigning ts) refl;
-      starts = λ a ts b rest m. begins a ts b rest m; }
+    good = λ a. record { sound = λ ts x rest e. sound a ts x rest e; meets = λ ts x rest l. meets a ts x rest l };
+    total = λ a ts. total a ts (heads assigning ts) refl;
+    starts = λ a ts b rest m. begins a ts b rest m;
+  }
     where
       one : Tail (λ a. a) (codes_of assigning) behind_assign (option (λ b. then (assigned r names) (λ s. pure (tree.Assign s.0.0 s.0.1 b s.1)))) (Maybe (AssignedTo names))
       one = tail-assigned names
+
       two : Tail (λ a. a) condition_words behind_condition (condition_from r names) (ConditionFrom names)
       two = tail-condition names
+
       stays : (a : Expr) (ts : List Token) (x : Expr) (rest : List Token) → Maybe (AssignedTo names) a ts x rest → AssignFrom names a ts x rest
       stays a ts x rest (inl e) = inl (subst (λ v. ConditionFrom names a ts v rest) (sym e.0) (subst (λ us. ConditionFrom names a ts a us) (sym e.1) (a, ts, nothing-joined names 11 a ts, inl (refl, refl))))
       stays a ts x rest (inr m) = inr m
+
       sound : (a : Expr) (ts : List Token) (x : Expr) (rest : List Token) → assign_from r names a ts ≡ Some (x, rest) → AssignFrom names a ts x rest
       sound a ts x rest e = cond-cases (heads assigning ts) _ _ _ e (λ _ h. stays a ts x rest ((one.good a).sound ts x rest h)) (λ _ h. inl ((two.good a).sound ts x rest h))
+
       idle : (a : Expr) (ts : List Token) (x : Expr) (rest : List Token) → heads assigning ts ≡ true → ConditionFrom names a ts x rest → (x ≡ a) × (rest ≡ ts)
       idle a ts x rest h l = by_start (two.starts a ts x rest l)
         where
           by_start : ((x ≡ a) × (rest ≡ ts)) ⊎ (among condition_words (front ts) ≡ true) → (x ≡ a) × (rest ≡ ts)
           by_start (inl z) = z
           by_start (inr first) = both-ways (among condition_words (front ts)) first (apart-at (codes_of assigning) condition_words (front ts) refl (sym (heads-among assigning ts) ∙ h))
+
       raised : (q : Option (Expr × List Token)) (x : Expr) (rest : List Token) → Meets (condition_words ++ behind_condition) q x rest → Meets (assign_words ++ behind_assign) q x rest
       raised q x rest (inl e) = inl e
       raised q x rest (inr y) = inr (record { value = y.value; after = y.after; is = y.is; less = y.less; on = within-at (condition_words ++ behind_condition) (assign_words ++ behind_assign) (front rest) refl y.on })
+
       lifted : (q : Option (Expr × List Token)) (x : Expr) (rest : List Token) → Meets (codes_of assigning ++ behind_assign) q x rest → Meets (assign_words ++ behind_assign) q x rest
       lifted q x rest (inl e) = inl e
       lifted q x rest (inr y) = inr (record { value = y.value; after = y.after; is = y.is; less = y.less; on = within-at (codes_of assigning ++ behind_assign) (assign_words ++ behind_assign) (front rest) refl y.on })
+
       meets : (a : Expr) (ts : List Token) (x : Expr) (rest : List Token) → AssignFrom names a ts x rest → Meets (assign_words ++ behind_assign) (assign_from r names a ts) x rest
       meets a ts x rest l = by_head (heads assigning ts) refl l
         where
@@ -309,9 +317,11 @@ module _ («in» : Inside) (r : Readers) (ok : Inner «in» r) where
           by_head false h (inl c) = subst (λ b. Meets (assign_words ++ behind_assign) (cond b (option (λ y. then (assigned r names) (λ s. pure (tree.Assign s.0.0 s.0.1 y s.1))) a ts) (condition_from r names a ts)) x rest) (sym h)
               (raised _ x rest ((two.good a).meets ts x rest c))
           by_head false h (inr m) = both-ways (heads assigning ts) (heads-among assigning ts ∙ starts-assigned names a ts x rest m) h
+
       total : (a : Expr) (ts : List Token) (b : Bool) → heads assigning ts ≡ b → (z : Expr × List Token) × (assign_from r names a ts ≡ Some z) × (length z.1 ≤ length ts)
       total a ts true h = let t = one.total a ts in (t.0, ap (λ b. cond b (option (λ b. then (assigned r names) (λ s. pure (tree.Assign s.0.0 s.0.1 b s.1))) a ts) (condition_from r names a ts)) h ∙ t.1, t.2)
       total a ts false h = let t = two.total a ts in (t.0, ap (λ b. cond b (option (λ b. then (assigned r names) (λ s. pure (tree.Assign s.0.0 s.0.1 b s.1))) a ts) (condition_from r names a ts)) h ∙ t.1, t.2)
+
       begins : (a : Expr) (ts : List Token) (b : Expr) (rest : List Token) → AssignFrom names a ts b rest → ((b ≡ a) × (rest ≡ ts)) ⊎ (among assign_words (front ts) ≡ true)
       begins a ts b rest (inl c) = by_start (two.starts a ts b rest c)
         where
@@ -339,11 +349,11 @@ module _ («in» : Inside) (r : Readers) (ok : Inner «in» r) where
   pub good-assign : (names : Names) → Good behind_assign (assign r names) (Assign «in» names)
   good-assign names = good-same behind_assign _ _ _ (from-head names) (to-head names)
       (good-where behind_assign (HoldsType «in» names) (holds_type r names) _ _ _ _
-        (good-wider (suffixes ++ (condition_words ++ behind_condition)) behind_assign _ _ refl
-          (good-tail (λ a. a) suffixes condition_words behind_condition (cast_only r names) (CastOnly «in» r ok names) _ _ (good-cast_only «in» r ok names) (tail-condition names) refl))
-        (good-wider (suffixes ++ (assign_words ++ behind_assign)) behind_assign _ _ refl
-          (good-tail (λ a. a) suffixes assign_words behind_assign (unary r names) (Unary «in» names) _ _ (good-unary «in» r ok names) (tail-assign names) refl))
-        (type-held «in» r ok names) (type-decides «in» r ok names))
+      (good-wider (suffixes ++ (condition_words ++ behind_condition)) behind_assign _ _ refl
+      (good-tail (λ a. a) suffixes condition_words behind_condition (cast_only r names) (CastOnly «in» r ok names) _ _ (good-cast_only «in» r ok names) (tail-condition names) refl))
+      (good-wider (suffixes ++ (assign_words ++ behind_assign)) behind_assign _ _ refl
+      (good-tail (λ a. a) suffixes assign_words behind_assign (unary r names) (Unary «in» names) _ _ (good-unary «in» r ok names) (tail-assign names) refl))
+      (type-held «in» r ok names) (type-decides «in» r ok names))
 
   pub keeps-assign : (names : Names) → Keeps (Assign «in» names)
   keeps-assign names = keeps-either _ _ (keeps-condition names) (keeps-where _ _ (keeps-then _ _ (keeps-unary «in» r ok names) (λ a. keeps-made _ _ (keeps-eats _ (eats-assigned names)))))
@@ -359,12 +369,12 @@ module _ («in» : Inside) (r : Readers) (ok : Inner «in» r) where
   pub good-commas : (names : Names) → Good behind_commas (commas r names) (Commas «in» names)
   good-commas names = good-wider (behind_assign ++ (comma ∷ [] ++ (behind_assign ++ (comma ∷ [] ++ behind_assign)))) behind_commas _ _ refl
       (good-tail (λ a. a) behind_assign (comma ∷ []) (behind_assign ++ (comma ∷ [] ++ behind_assign)) (assign r names) (Assign «in» names) _ _ (good-assign names)
-        (tail-option (comma ∷ []) (behind_assign ++ (comma ∷ [] ++ behind_assign)) _ _
-          (λ x. good-tail _ behind_assign (comma ∷ []) behind_assign (next_assign r names) (NextAssign «in» names) _ _ (good-next_assign «in» r ok names)
-            (tail-made (λ a. a) (comma ∷ []) behind_assign (λ next. x ∷ next.1 ∷ []) (λ next all. tree.Comma next.0 all) _ _ (tail-more_assigns «in» r ok names)) refl)
-          (λ x. starts-then (comma ∷ []) _ _ (starts-then (comma ∷ []) (Word comma) _ (starts-word comma)))
-          (eats-commas names))
-        refl)
+      (tail-option (comma ∷ []) (behind_assign ++ (comma ∷ [] ++ behind_assign)) _ _
+      (λ x. good-tail _ behind_assign (comma ∷ []) behind_assign (next_assign r names) (NextAssign «in» names) _ _ (good-next_assign «in» r ok names)
+      (tail-made (λ a. a) (comma ∷ []) behind_assign (λ next. x ∷ next.1 ∷ []) (λ next all. tree.Comma next.0 all) _ _ (tail-more_assigns «in» r ok names)) refl)
+      (λ x. starts-then (comma ∷ []) _ _ (starts-then (comma ∷ []) (Word comma) _ (starts-word comma)))
+      (eats-commas names))
+      refl)
 
   pub keeps-commas : (names : Names) → Keeps (Commas «in» names)
   keeps-commas names = keeps-then _ _ (keeps-assign names) (λ a. keeps-maybe (CommasFrom names) a (λ x. keeps-eats _ (eats-commas names x)))

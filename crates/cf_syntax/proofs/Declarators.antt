@@ -27,7 +27,6 @@ use Rattle.cf_syntax.proofs.Inner.{Inner, behind_assign, behind_condition, behin
 use Rattle.cf_syntax.proofs.Operands.{good-after, good-behind, is-some-has}
 
 module _ («in» : Inside) (r : Readers) (ok : Inner «in» r) where
-
   keeps-closing : {B : Type 0} (n : ℕ) (b : B) → Keeps (Made (λ _. b) (Word n))
   keeps-closing n b = keeps-made _ (Word n) (keeps-eats _ (eats-word n))
 
@@ -113,13 +112,13 @@ module _ («in» : Inside) (r : Readers) (ok : Inner «in» r) where
   good-some_head kind.Named names = good-wider [] head_words _ _ refl (good-by [] (sees left_paren) _ _ _ _ (good-bracketed_head kind.Named names) (good-named_head names))
   good-some_head kind.Abstract names = good-wider (head_words ++ []) head_words _ _ refl
       ((tail-option head_words [] _ (λ _. AbstractStep names) (λ _. good-abstract_step names)
-        (λ _. starts-by head_words _ _ _ (starts-bracketed_unless kind.Abstract names) (starts-never head_words))
-        (λ _. eats-by _ _ _ (eats-bracketed_unless kind.Abstract names) eats-never)).good (decl.Unnamed, []))
+      (λ _. starts-by head_words _ _ _ (starts-bracketed_unless kind.Abstract names) (starts-never head_words))
+      (λ _. eats-by _ _ _ (eats-bracketed_unless kind.Abstract names) eats-never)).good (decl.Unnamed, []))
   good-some_head kind.Either names = good-wider (head_words ++ []) head_words _ _ refl
       ((tail-option head_words [] _ (λ _. EitherStep names) (λ _. good-either_step names)
-        (λ _. starts-by head_words _ _ _ (starts-bracketed_unless kind.Either names)
-          (starts-wider name_words head_words _ refl (starts-guarded name_words _ _ (starts-never name_words))))
-        (λ _. eats-by _ _ _ (eats-bracketed_unless kind.Either names) (eats-by _ _ _ (eats-named_head names) eats-never))).good (decl.Unnamed, []))
+      (λ _. starts-by head_words _ _ _ (starts-bracketed_unless kind.Either names)
+      (starts-wider name_words head_words _ refl (starts-guarded name_words _ _ (starts-never name_words))))
+      (λ _. eats-by _ _ _ (eats-bracketed_unless kind.Either names) (eats-by _ _ _ (eats-named_head names) eats-never))).good (decl.Unnamed, []))
 
   keeps-some_head : (k : DeclaratorKind) (names : Names) → Keeps (SomeHead «in» k names)
   keeps-some_head kind.Named names = keeps-by _ _ _ (keeps-eats _ (eats-bracketed_head kind.Named names)) (keeps-named_head names)
@@ -159,11 +158,11 @@ module _ («in» : Inside) (r : Readers) (ok : Inner «in» r) where
   tail-behind names = tail-repeat behind_words [] _ _
       (λ d. good-by [] (sees left_bracket) _ _ _ _ (good-array_behind names d) (good-function_behind names d))
       (λ d. starts-by behind_words _ _ _
-        (starts-wider (left_bracket ∷ []) behind_words _ refl (starts-made (left_bracket ∷ []) _ (ArrayParts (opened names d.1)) (starts-then (left_bracket ∷ []) (Word left_bracket) _ (starts-word left_bracket))))
-        (starts-wider (left_paren ∷ []) behind_words _ refl (starts-made (left_paren ∷ []) _ (ParametersBehind «in» (opened names d.1))
-          (starts-then (left_paren ∷ []) _ _ (starts-then (left_paren ∷ []) (Word left_paren) _ (starts-word left_paren))))))
+      (starts-wider (left_bracket ∷ []) behind_words _ refl (starts-made (left_bracket ∷ []) _ (ArrayParts (opened names d.1)) (starts-then (left_bracket ∷ []) (Word left_bracket) _ (starts-word left_bracket))))
+      (starts-wider (left_paren ∷ []) behind_words _ refl (starts-made (left_paren ∷ []) _ (ParametersBehind «in» (opened names d.1))
+      (starts-then (left_paren ∷ []) _ _ (starts-then (left_paren ∷ []) (Word left_paren) _ (starts-word left_paren))))))
       (λ d. eats-by _ _ _ (eats-made _ (ArrayParts (opened names d.1)) (eats-then (Word left_bracket) _ (eats-word left_bracket) (λ at. keeps-made _ _ (keeps-array_bound (opened names d.1)))))
-        (eats-made _ (ParametersBehind «in» (opened names d.1)) (eats-parameters_behind (opened names d.1))))
+      (eats-made _ (ParametersBehind «in» (opened names d.1)) (eats-parameters_behind (opened names d.1))))
       refl
 
   -- the reading of a head went past a phrase of it, where no params stand in brackets
@@ -187,10 +186,13 @@ module _ («in» : Inside) (r : Readers) (ok : Inner «in» r) where
     where
       moved : (DeclTree × List ℕ) × List Token
       moved = (d, mid)
+
       bare : (DeclTree × List ℕ) × List Token
       bare = ((decl.Unnamed, []), ts)
+
       same : Some bare ≡ Some moved
       same = ap (λ (z : DeclTree × List ℕ). Some (z, ts)) (sym e.0) ∙ ap (λ (us : List Token). Some (d, us)) (sym e.1)
+
       by_step : (q : Option ((DeclTree × List ℕ) × List Token)) → step ts ≡ q
           → (option (λ _. step) (decl.Unnamed, []) ts ≡ Some (d, mid)) ⊎ HeadExceeds names (option (λ _. step) (decl.Unnamed, []) ts) d mid
       by_step None is = inl (ap (or_stop (decl.Unnamed, []) ts) is ∙ same)
@@ -199,12 +201,15 @@ module _ («in» : Inside) (r : Readers) (ok : Inner «in» r) where
           let less = eats ts q.0 q.1 there in
           let at : length mid ≡ length ts = ap length e.1 in
           inr (record {
-            value = q.0; after = q.1; is = ap (or_stop (decl.Unnamed, []) ts) is;
+            value = q.0;
+            after = q.1;
+            is = ap (or_stop (decl.Unnamed, []) ts) is;
             less = omega (arith, less, at);
             on = ap (λ us. among head_words (front us)) e.1 ∙ starts ts q.0 q.1 there;
             not_params = λ held. guard ts q.0 q.1 there
-              (subst (λ ns. HoldsParams «in» ns ts) (opened-none names)
-                (subst (λ us. HoldsParams «in» (opened names []) us) e.1 (subst (λ (z : DeclTree × List ℕ). HoldsParams «in» (opened names z.1) mid) e.0 held))); })
+                (subst (λ ns. HoldsParams «in» ns ts) (opened-none names)
+                (subst (λ us. HoldsParams «in» (opened names []) us) e.1 (subst (λ (z : DeclTree × List ℕ). HoldsParams «in» (opened names z.1) mid) e.0 held)));
+          })
   head-maybe names step S good starts eats guard ts d mid (inr m) = by_meets (good.meets ts d mid m)
     where
       by_meets : (step ts ≡ Some (d, mid)) ⊎ Exceeds [] (step ts) mid
@@ -236,7 +241,7 @@ module _ («in» : Inside) (r : Readers) (ok : Inner «in» r) where
       (eats-by _ _ _ (eats-bracketed_unless kind.Abstract names) eats-never) (abstract-guard names) ts d mid h
   head-meets kind.Either names ts d mid h = head-maybe names _ (EitherStep names) (good-either_step names)
       (starts-by head_words _ _ _ (starts-bracketed_unless kind.Either names)
-        (starts-wider name_words head_words _ refl (starts-guarded name_words _ _ (starts-never name_words))))
+      (starts-wider name_words head_words _ refl (starts-guarded name_words _ _ (starts-never name_words))))
       (eats-by _ _ _ (eats-bracketed_unless kind.Either names) (eats-by _ _ _ (eats-named_head names) eats-never)) (either-guard names) ts d mid h
 
   -- what stands behind a head at a word of heads holds params in brackets
@@ -251,13 +256,15 @@ module _ («in» : Inside) (r : Readers) (ok : Inner «in» r) where
 
   good-direct : (k : DeclaratorKind) (names : Names) → Good behind_declarator (direct r k names) (Then (SomeHead «in» k names) (Many (DeclaratorBehind «in» names)))
   good-direct k names = record {
-      sound = λ ts b rest e. let s = split-rest (some_head r k names ts) (repeat (declarator_behind r names)) (b, rest) e in
-          (s.value, s.mid, (good-some_head k names).sound ts s.value s.mid s.first, ((tail-behind names).good s.value).sound s.mid b rest s.second);
-      meets = λ ts b rest (d, mid, h, m). go ts b rest d mid m (head-meets k names ts d mid h); }
+    sound = λ ts b rest e. let s = split-rest (some_head r k names ts) (repeat (declarator_behind r names)) (b, rest) e in
+        (s.value, s.mid, (good-some_head k names).sound ts s.value s.mid s.first, ((tail-behind names).good s.value).sound s.mid b rest s.second);
+    meets = λ ts b rest (d, mid, h, m). go ts b rest d mid m (head-meets k names ts d mid h);
+  }
     where
       raised : (q : Option ((DeclTree × List ℕ) × List Token)) (b : DeclTree × List ℕ) (rest : List Token) → Meets (behind_words ++ []) q b rest → Meets behind_declarator q b rest
       raised q b rest (inl e) = inl e
       raised q b rest (inr y) = inr (record { value = y.value; after = y.after; is = y.is; less = y.less; on = within-at (behind_words ++ []) behind_declarator (front rest) refl y.on })
+
       past : (ts : List Token) (b : DeclTree × List ℕ) (rest : List Token) (d : DeclTree × List ℕ) (mid : List Token) → HeadExceeds names (some_head r k names ts) d mid
           → ((b ≡ d) × (rest ≡ mid)) ⊎ HoldsParams «in» (opened names d.1) mid → Meets behind_declarator (direct r k names ts) b rest
       past ts b rest d mid x (inr held) = absurd (x.not_params held)
@@ -266,8 +273,14 @@ module _ («in» : Inside) (r : Readers) (ok : Inner «in» r) where
           let at : length rest ≡ length mid = ap length same in
           let back = t.2 in
           let less = x.less in
-          inr (record { value = t.0.0; after = t.0.1; is = ap (λ q. with_rest q (repeat (declarator_behind r names))) x.is ∙ t.1; less = omega (arith, at, back, less);
-            on = within-at head_words behind_declarator (front rest) refl (ap (λ us. among head_words (front us)) same ∙ x.on) })
+          inr (record {
+            value = t.0.0;
+            after = t.0.1;
+            is = ap (λ q. with_rest q (repeat (declarator_behind r names))) x.is ∙ t.1;
+            less = omega (arith, at, back, less);
+            on = within-at head_words behind_declarator (front rest) refl (ap (λ us. among head_words (front us)) same ∙ x.on);
+          })
+
       go : (ts : List Token) (b : DeclTree × List ℕ) (rest : List Token) (d : DeclTree × List ℕ) (mid : List Token) → Many (DeclaratorBehind «in» names) d mid b rest
           → (some_head r k names ts ≡ Some (d, mid)) ⊎ HeadExceeds names (some_head r k names ts) d mid → Meets behind_declarator (direct r k names ts) b rest
       go ts b rest d mid m (inl e) = subst (λ q. Meets behind_declarator (with_rest q (repeat (declarator_behind r names))) b rest) (sym e)
@@ -318,11 +331,11 @@ module _ («in» : Inside) (r : Readers) (ok : Inner «in» r) where
   good-one_param : (names : Names) → Good behind_param (one_param r names) (OneParam «in» names)
   good-one_param names = good-wider (behind_declarator ++ (equals ∷ [] ++ behind_assign)) behind_param _ _ refl
       (good-tail (λ a. a) behind_declarator (equals ∷ []) behind_assign (plain_param r names) (PlainParam «in» names) _ _ (good-plain_param names)
-        (tail-option (equals ∷ []) behind_assign _ (WithDefault names)
-          (λ p. good-made behind_assign (λ s. with_default p s.0 s.1) (default_behind r names) (DefaultBehind «in» names) (good-default_behind names))
-          (λ p. starts-made (equals ∷ []) _ (DefaultBehind «in» names) (starts-then (equals ∷ []) (Word equals) _ (starts-word equals)))
-          (λ p. eats-made _ (DefaultBehind «in» names) (eats-default_behind names)))
-        refl)
+      (tail-option (equals ∷ []) behind_assign _ (WithDefault names)
+      (λ p. good-made behind_assign (λ s. with_default p s.0 s.1) (default_behind r names) (DefaultBehind «in» names) (good-default_behind names))
+      (λ p. starts-made (equals ∷ []) _ (DefaultBehind «in» names) (starts-then (equals ∷ []) (Word equals) _ (starts-word equals)))
+      (λ p. eats-made _ (DefaultBehind «in» names) (eats-default_behind names)))
+      refl)
 
   eats-one_param : (names : Names) → Eats (OneParam «in» names)
   eats-one_param names = eats-then _ _ (eats-plain_param names) (λ p. keeps-maybe (WithDefault names) p (λ q. keeps-made _ _ (keeps-eats _ (eats-default_behind names))))
@@ -339,12 +352,12 @@ module _ («in» : Inside) (r : Readers) (ok : Inner «in» r) where
   good-some_params : (names : Names) → Good behind_params (some_params r names) (SomeParams «in» names)
   good-some_params names = good-wider (behind_param ++ (comma ∷ [] ++ behind_param)) behind_params _ _ refl
       (good-tail (λ a. a) behind_param (comma ∷ []) behind_param _ _ _ (MoreParams names)
-        (good-made behind_param (λ p. p ∷ []) (one_param r names) (OneParam «in» names) (good-one_param names))
-        (tail-repeat (comma ∷ []) behind_param _ _
-          (λ all. good-made behind_param (λ p. all ++ p ∷ []) (next_param r names) (NextParam «in» names) (good-next_param names))
-          (λ all. starts-made (comma ∷ []) _ (NextParam «in» names) (starts-then (comma ∷ []) (Word comma) _ (starts-word comma)))
-          (λ all. eats-made _ (NextParam «in» names) (eats-next_param names)) refl)
-        refl)
+      (good-made behind_param (λ p. p ∷ []) (one_param r names) (OneParam «in» names) (good-one_param names))
+      (tail-repeat (comma ∷ []) behind_param _ _
+      (λ all. good-made behind_param (λ p. all ++ p ∷ []) (next_param r names) (NextParam «in» names) (good-next_param names))
+      (λ all. starts-made (comma ∷ []) _ (NextParam «in» names) (starts-then (comma ∷ []) (Word comma) _ (starts-word comma)))
+      (λ all. eats-made _ (NextParam «in» names) (eats-next_param names)) refl)
+      refl)
 
   eats-some_params : (names : Names) → Eats (SomeParams «in» names)
   eats-some_params names = eats-then _ _ (eats-made _ (OneParam «in» names) (eats-one_param names)) (keeps-many _ (λ all. keeps-made _ _ (keeps-eats _ (eats-next_param names))))
@@ -355,9 +368,9 @@ module _ («in» : Inside) (r : Readers) (ok : Inner «in» r) where
   pub good-params : (names : Names) → Good behind_params (params r names) (Params «in» names)
   good-params names = good-wider (specifier_words ++ behind_params) behind_params _ _ refl
       ((tail-option specifier_words behind_params _ (λ _. ParamsStep names)
-        (λ _. good-by behind_params (begins specifier_words) _ _ _ _ (good-some_params names) (good-wider [] behind_params _ _ refl good-never))
-        (λ _. starts-guarded specifier_words _ _ (starts-never specifier_words))
-        (λ _. eats-by _ _ _ (eats-some_params names) eats-never)).good [])
+      (λ _. good-by behind_params (begins specifier_words) _ _ _ _ (good-some_params names) (good-wider [] behind_params _ _ refl good-never))
+      (λ _. starts-guarded specifier_words _ _ (starts-never specifier_words))
+      (λ _. eats-by _ _ _ (eats-some_params names) eats-never)).good [])
 
   pub keeps-params : (names : Names) → Keeps (Params «in» names)
   keeps-params names = keeps-maybe (λ _. ParamsStep names) [] (λ _. keeps-by _ _ _ (keeps-eats _ (eats-some_params names)) keeps-never)

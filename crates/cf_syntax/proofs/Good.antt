@@ -78,7 +78,7 @@ apart-at (k ∷ ks) js n d m = split (λ d2 m2. apart-at ks js n d2 m2) (among j
         clash : false ≡ true → ⊥
         clash q = cc
     split ih false e = cond-cases (nat_eq n k) true (among ks n) true m (λ same _. among-at js n k same ∙ e)
-      (λ other more. ih (sym (ap (λ v. cond v false (disjoint ks js)) e) ∙ d) more)
+        (λ other more. ih (sym (ap (λ v. cond v false (disjoint ks js)) e) ∙ d) more)
 
 pub within-at : (ks js : List ℕ) (n : ℕ) → within ks js ≡ true → among ks n ≡ true → among js n ≡ true
 within-at [] js n d m = absurd (clash m)
@@ -93,7 +93,7 @@ within-at (k ∷ ks) js n d m = split (λ d2 m2. within-at ks js n d2 m2) (among
         clash : false ≡ true → ⊥
         clash q = cc
     split ih true e = cond-cases (nat_eq n k) true (among ks n) true m (λ same _. among-at js n k same ∙ e)
-      (λ other more. ih (sym (ap (λ v. cond v (within ks js) false) e) ∙ d) more)
+        (λ other more. ih (sym (ap (λ v. cond v (within ks js) false) e) ∙ d) more)
 
 -- ---- parts
 
@@ -119,12 +119,14 @@ good-wider {A = A} ks js p L w g = record { sound = g.sound; meets = λ ts x res
 
 pub good-empty : {A : Type 0} (x : A) → Good [] (pure x) (Empty x)
 good-empty {A = A} x = record {
-    sound = λ ts y rest e. (ap (λ o. value_or x o) (sym e), ap (λ o. rest_or ts o) (sym e));
-    meets = λ ts y rest l. inl (ap (λ z. Some (z, ts)) (sym l.0) ∙ ap (λ z. Some (y, z)) (sym l.1)); }
+  sound = λ ts y rest e. (ap (λ o. value_or x o) (sym e), ap (λ o. rest_or ts o) (sym e));
+  meets = λ ts y rest l. inl (ap (λ z. Some (z, ts)) (sym l.0) ∙ ap (λ z. Some (y, z)) (sym l.1));
+}
   where
     value_or : A → Option (A × List Token) → A
     value_or d (Some q) = q.0
     value_or d None = d
+
     rest_or : List Token → Option (A × List Token) → List Token
     rest_or d (Some q) = q.1
     rest_or d None = d
@@ -137,9 +139,10 @@ pub good-then : {A B : Type 0} (g1 g2 : List ℕ) (p : Parse A) (q : A → Parse
     → ((a : A) (ts : List Token) (b : B) (rest : List Token) → M a ts b rest → among g1 (front ts) ≡ false)
     → Good g2 (then p q) (Then L M)
 good-then {A = A} {B = B} g1 g2 p q L M first second apart = record {
-    sound = λ ts b rest e. let s = split-rest (p ts) q (b, rest) e in
-        (s.value, s.mid, first.sound ts s.value s.mid s.first, (second s.value).sound s.mid b rest s.second);
-    meets = λ ts b rest (a, mid, l, m). go ts b rest a mid m (first.meets ts a mid l); }
+  sound = λ ts b rest e. let s = split-rest (p ts) q (b, rest) e in
+      (s.value, s.mid, first.sound ts s.value s.mid s.first, (second s.value).sound s.mid b rest s.second);
+  meets = λ ts b rest (a, mid, l, m). go ts b rest a mid m (first.meets ts a mid l);
+}
   where
     go : (ts : List Token) (b : B) (rest : List Token) (a : A) (mid : List Token) → M a mid b rest → Meets g1 (p ts) a mid
         → Meets g2 (with_rest (p ts) q) b rest
@@ -149,10 +152,13 @@ good-then {A = A} {B = B} g1 g2 p q L M first second apart = record {
 pub good-made : {A B : Type 0} (g : List ℕ) (f : A → B) (p : Parse A) (L : Language A) → Good g p L
     → Good g (then p (λ a. pure (f a))) (Made f L)
 good-made {A = A} {B = B} g f p L first = record {
-    sound = λ ts b rest e. let s = split-rest (p ts) (λ a. pure (f a)) (b, rest) e in
-        (s.value, subst (λ r. L ts s.value r) (pair-second (f s.value, s.mid) (b, rest) s.second) (first.sound ts s.value s.mid s.first),
-          sym (pair-first (f s.value, s.mid) (b, rest) s.second));
-    meets = λ ts b rest (a, l, e). subst (λ v. Meets g (with_rest (p ts) (λ a. pure (f a))) v rest) (sym e) (go ts rest a (first.meets ts a rest l)); }
+  sound = λ ts b rest e. let s = split-rest (p ts) (λ a. pure (f a)) (b, rest) e in (
+    s.value,
+    subst (λ r. L ts s.value r) (pair-second (f s.value, s.mid) (b, rest) s.second) (first.sound ts s.value s.mid s.first),
+    sym (pair-first (f s.value, s.mid) (b, rest) s.second),
+  );
+  meets = λ ts b rest (a, l, e). subst (λ v. Meets g (with_rest (p ts) (λ a. pure (f a))) v rest) (sym e) (go ts rest a (first.meets ts a rest l));
+}
   where
     pair-first : (u v : B × List Token) → Some u ≡ Some v → u.0 ≡ v.0
     pair-first u v e = ap (λ o. first_of_some u.0 o) e
@@ -160,12 +166,14 @@ good-made {A = A} {B = B} g f p L first = record {
         first_of_some : B → Option (B × List Token) → B
         first_of_some d (Some w) = w.0
         first_of_some d None = d
+
     pair-second : (u v : B × List Token) → Some u ≡ Some v → u.1 ≡ v.1
     pair-second u v e = ap (λ o. second_of_some u.1 o) e
       where
         second_of_some : List Token → Option (B × List Token) → List Token
         second_of_some d (Some w) = w.1
         second_of_some d None = d
+
     go : (ts rest : List Token) (a : A) → Meets g (p ts) a rest → Meets g (with_rest (p ts) (λ b. pure (f b))) (f a) rest
     go ts rest a (inl e) = inl (ap (λ r. with_rest r (λ b. pure (f b))) e)
     go ts rest a (inr x) = inr (record { value = f x.value; after = x.after; is = ap (λ r. with_rest r (λ b. pure (f b))) x.is; less = x.less; on = x.on })
@@ -177,7 +185,6 @@ some-value {A = A} u v e = ap (λ o. of_some u o) e
     of_some d (Some w) = w
     of_some d None = d
 
-
 abbrev placed : ℕ → List Token → ℕ × List Token
 placed x rest = (x, rest)
 
@@ -188,4 +195,3 @@ starts-word n ts x rest e = go ts e
     go [] q = some-is-not-none None (placed x rest) refl q
     go (t ∷ us) q = cond-cases (nat_eq (code t.word) n) (Some (t.at, us)) None (Some (placed x rest)) q
         (λ same _. ap (λ b. cond b true false) same) (λ _ h. some-is-not-none None (placed x rest) refl h)
-

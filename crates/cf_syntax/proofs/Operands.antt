@@ -25,7 +25,6 @@ use Rattle.cf_syntax.proofs.Under.{under-constant, under-basic_word, under-type_
 use Rattle.cf_syntax.proofs.Inner.{Inner, suffixes, behind_assign, behind_commas, behind_declarator}
 
 module _ («in» : Inside) (r : Readers) (ok : Inner «in» r) where
-
   -- a word before something else
   pub good-after : {A : Type 0} (g : List ℕ) (n : ℕ) (q : ℕ → Parse A) (M : ℕ → Language A) → ((at : ℕ) → Good g (q at) (M at)) → Good g (then (word n) q) (Then (Word n) M)
   good-after g n q M good = good-then [] g (word n) q (Word n) M (good-exactly (word n)) good (λ at ts b rest m. refl)
@@ -54,9 +53,9 @@ module _ («in» : Inside) (r : Readers) (ok : Inner «in» r) where
       (Then (Then (Made (λ x. x ∷ []) («in».assign names)) (MoreAssigns «in» names)) (λ all. Made (λ _. (at, all)) (Word right_paren))))
   good-arguments_behind names at = good-by [] (sees right_paren) _ _ _ _ (good-made [] (λ _. (at, [])) (word right_paren) (Word right_paren) (good-exactly (word right_paren)))
       (good-close (behind_assign ++ (comma ∷ [] ++ behind_assign)) right_paren (λ all. (at, all)) (first_assigns r names) _
-        (good-tail (λ a. a) behind_assign (comma ∷ []) behind_assign _ _ (more_assigns r names) (MoreAssigns «in» names)
-          (good-made behind_assign (λ x. x ∷ []) (r.assign names) («in».assign names) (ok.assign names)) (tail-more_assigns names) refl)
-        refl)
+      (good-tail (λ a. a) behind_assign (comma ∷ []) behind_assign _ _ (more_assigns r names) (MoreAssigns «in» names)
+      (good-made behind_assign (λ x. x ∷ []) (r.assign names) («in».assign names) (ok.assign names)) (tail-more_assigns names) refl)
+      refl)
 
   pub good-arguments : (names : Names) → Good [] (arguments r names) (Arguments «in» names)
   good-arguments names = good-after [] left_paren _ _ (good-arguments_behind names)
@@ -64,7 +63,7 @@ module _ («in» : Inside) (r : Readers) (ok : Inner «in» r) where
   pub eats-arguments : (names : Names) → Eats (Arguments «in» names)
   eats-arguments names = eats-then (Word left_paren) _ (eats-word left_paren) (λ at. keeps-by _ _ _ (keeps-made _ (Word right_paren) (keeps-eats _ (eats-word right_paren)))
       (keeps-then _ _ (keeps-then _ _ (keeps-made _ («in».assign names) (ok.keeps_assign names)) (keeps-more_assigns names))
-        (λ all. keeps-made _ (Word right_paren) (keeps-eats _ (eats-word right_paren)))))
+      (λ all. keeps-made _ (Word right_paren) (keeps-eats _ (eats-word right_paren)))))
 
   pub starts-arguments : (names : Names) → Starts (left_paren ∷ []) (Arguments «in» names)
   starts-arguments names = starts-then (left_paren ∷ []) (Word left_paren) _ (starts-word left_paren)
@@ -107,15 +106,15 @@ module _ («in» : Inside) (r : Readers) (ok : Inner «in» r) where
   pub good-head : (names : Names) → Good [] (head r names) (Head «in» names)
   good-head names = good-by [] _ _ _ _ _ (good-exactly constant) (good-by [] _ _ _ _ _ (good-bracketed names)
       (good-by [] _ _ _ _ _ (good-behind [] basic_word _ _ (λ b. good-made [] (λ all. tree.BasicCall b.0 b.1 all.1) (arguments r names) (Arguments «in» names) (good-arguments names)))
-        (good-by [] _ _ _ _ _ (good-behind [] (type_path names) _ _ (λ path. good-made [] (λ all. tree.TypeCall path.at path all.1) (arguments r names) (Arguments «in» names) (good-arguments names)))
-          (good-named names))))
+      (good-by [] _ _ _ _ _ (good-behind [] (type_path names) _ _ (λ path. good-made [] (λ all. tree.TypeCall path.at path all.1) (arguments r names) (Arguments «in» names) (good-arguments names)))
+      (good-named names))))
 
   pub keeps-head : (names : Names) → Keeps (Head «in» names)
   keeps-head names = keeps-by _ _ _ (keeps-exactly constant (λ ts. under-constant (length ts) ts (omega arith)))
       (keeps-by _ _ _ (keeps-then _ _ (keeps-eats _ (eats-word left_paren)) (λ at. keeps-then _ _ (ok.keeps_commas names) (λ x. keeps-closing right_paren (tree.Paren at x))))
-        (keeps-by _ _ _ (keeps-then _ _ (keeps-exactly basic_word (λ ts. under-basic_word (length ts) ts (omega arith))) (λ b. keeps-made _ _ (keeps-eats _ (eats-arguments names))))
-          (keeps-by _ _ _ (keeps-then _ _ (keeps-exactly (type_path names) (λ ts. under-type_path names (length ts) ts (omega arith))) (λ b. keeps-made _ _ (keeps-eats _ (eats-arguments names))))
-            (keeps-by _ _ _ keeps-never (keeps-made _ _ (keeps-exactly (name names) (λ ts. under-name names (length ts) ts (omega arith))))))))
+      (keeps-by _ _ _ (keeps-then _ _ (keeps-exactly basic_word (λ ts. under-basic_word (length ts) ts (omega arith))) (λ b. keeps-made _ _ (keeps-eats _ (eats-arguments names))))
+      (keeps-by _ _ _ (keeps-then _ _ (keeps-exactly (type_path names) (λ ts. under-type_path names (length ts) ts (omega arith))) (λ b. keeps-made _ _ (keeps-eats _ (eats-arguments names))))
+      (keeps-by _ _ _ keeps-never (keeps-made _ _ (keeps-exactly (name names) (λ ts. under-name names (length ts) ts (omega arith))))))))
 
   good-member : (names : Names) (n : ℕ) (make : ℕ → Name → Suffix) → Good [] (member r names n make) (Member «in» names n make)
   good-member names n make = good-after [] n _ _ (λ at. good-made [] (λ m. make at m.0) (name names) (Exactly (name names)) (good-exactly (name names)))
@@ -123,16 +122,16 @@ module _ («in» : Inside) (r : Readers) (ok : Inner «in» r) where
   good-suffix : (names : Names) → Good [] (behind r names) (Behind «in» names)
   good-suffix names = good-by [] _ _ _ _ _ (good-after [] left_bracket _ _ (λ at. good-close behind_commas right_bracket (λ i. suffix.Index at i) (r.commas names) («in».commas names) (ok.commas names) refl))
       (good-by [] _ _ _ _ _ (good-made [] (λ all. suffix.Call all.0 all.1) (arguments r names) (Arguments «in» names) (good-arguments names))
-        (good-by [] _ _ _ _ _ (good-member names dot suffix.Dot)
-          (good-by [] _ _ _ _ _ (good-member names arrow suffix.Arrow)
-            (good-made [] (λ op. suffix.Step op.0 op.1) (operator stepping) (Exactly (operator stepping)) (good-exactly (operator stepping))))))
+      (good-by [] _ _ _ _ _ (good-member names dot suffix.Dot)
+      (good-by [] _ _ _ _ _ (good-member names arrow suffix.Arrow)
+      (good-made [] (λ op. suffix.Step op.0 op.1) (operator stepping) (Exactly (operator stepping)) (good-exactly (operator stepping))))))
 
   eats-suffix : (names : Names) → Eats (Behind «in» names)
   eats-suffix names = eats-by _ _ _ (eats-then (Word left_bracket) _ (eats-word left_bracket) (λ at. keeps-then _ _ (ok.keeps_commas names) (λ i. keeps-closing right_bracket (suffix.Index at i))))
       (eats-by _ _ _ (eats-made _ (Arguments «in» names) (eats-arguments names))
-        (eats-by _ _ _ (eats-then (Word dot) _ (eats-word dot) (λ at. keeps-made _ _ (keeps-exactly (name names) (λ ts. under-name names (length ts) ts (omega arith)))))
-          (eats-by _ _ _ (eats-then (Word arrow) _ (eats-word arrow) (λ at. keeps-made _ _ (keeps-exactly (name names) (λ ts. under-name names (length ts) ts (omega arith)))))
-            (eats-made _ _ (eats-operator stepping refl)))))
+      (eats-by _ _ _ (eats-then (Word dot) _ (eats-word dot) (λ at. keeps-made _ _ (keeps-exactly (name names) (λ ts. under-name names (length ts) ts (omega arith)))))
+      (eats-by _ _ _ (eats-then (Word arrow) _ (eats-word arrow) (λ at. keeps-made _ _ (keeps-exactly (name names) (λ ts. under-name names (length ts) ts (omega arith)))))
+      (eats-made _ _ (eats-operator stepping refl)))))
 
   starts-in : {A : Type 0} (ks js : List ℕ) (L : Language A) → within ks js ≡ true → Starts ks L → Starts js L
   starts-in ks js L w h ts x rest l = within-at ks js (front ts) w (h ts x rest l)
@@ -140,16 +139,16 @@ module _ («in» : Inside) (r : Readers) (ok : Inner «in» r) where
   starts-suffix : (names : Names) → Starts suffixes (Behind «in» names)
   starts-suffix names = starts-by suffixes _ _ _ (starts-in (left_bracket ∷ []) suffixes _ refl (starts-then (left_bracket ∷ []) (Word left_bracket) _ (starts-word left_bracket)))
       (starts-by suffixes _ _ _ (starts-in (left_paren ∷ []) suffixes _ refl (starts-made (left_paren ∷ []) _ _ (starts-arguments names)))
-        (starts-by suffixes _ _ _ (starts-in (dot ∷ []) suffixes _ refl (starts-then (dot ∷ []) (Word dot) _ (starts-word dot)))
-          (starts-by suffixes _ _ _ (starts-in (arrow ∷ []) suffixes _ refl (starts-then (arrow ∷ []) (Word arrow) _ (starts-word arrow)))
-            (starts-in (codes_of stepping) suffixes _ refl (starts-made (codes_of stepping) _ _ (starts-operator stepping))))))
+      (starts-by suffixes _ _ _ (starts-in (dot ∷ []) suffixes _ refl (starts-then (dot ∷ []) (Word dot) _ (starts-word dot)))
+      (starts-by suffixes _ _ _ (starts-in (arrow ∷ []) suffixes _ refl (starts-then (arrow ∷ []) (Word arrow) _ (starts-word arrow)))
+      (starts-in (codes_of stepping) suffixes _ refl (starts-made (codes_of stepping) _ _ (starts-operator stepping))))))
 
   pub good-post : (names : Names) → Good suffixes (post r names) (Post «in» names)
   good-post names = good-wider ([] ++ (suffixes ++ [])) suffixes (post r names) (Post «in» names) refl
       (good-tail (λ a. a) [] suffixes [] (head r names) (Head «in» names) _ _ (good-head names)
-        (tail-repeat suffixes [] _ _ (λ a. good-made [] (λ s. applied a s) (behind r names) (Behind «in» names) (good-suffix names))
-          (λ a. starts-made suffixes (applied a) (Behind «in» names) (starts-suffix names)) (λ a. eats-made (applied a) (Behind «in» names) (eats-suffix names)) refl)
-        refl)
+      (tail-repeat suffixes [] _ _ (λ a. good-made [] (λ s. applied a s) (behind r names) (Behind «in» names) (good-suffix names))
+      (λ a. starts-made suffixes (applied a) (Behind «in» names) (starts-suffix names)) (λ a. eats-made (applied a) (Behind «in» names) (eats-suffix names)) refl)
+      refl)
 
   pub keeps-post : (names : Names) → Keeps (Post «in» names)
   keeps-post names = keeps-then _ _ (keeps-head names) (keeps-many _ (λ a. keeps-made _ _ (keeps-eats _ (eats-suffix names))))

@@ -10,7 +10,6 @@ use Rattle.cf_syntax.proofs.Tails.{Tail, among-left, among-right}
 module _ {A : Type 0} (firsts goes : List ℕ) (step : A → Parse A) (M : A → Language A)
     (each : (a : A) → Good goes (step a) (M a)) (starts : (a : A) → Starts firsts (M a)) (eats : (a : A) → Eats (M a))
     (apart : disjoint firsts goes ≡ true) where
-
   sound_loop : (n : ℕ) (a : A) (ts : List Token) (x : A) (rest : List Token) → loop step n a ts ≡ Some (x, rest) → Many M a ts x rest
   sound_loop zero a ts x rest e = subst (λ (z : A × List Token). Many M a ts z.0 z.1) (some-value (a, ts) (x, rest) e) (ended a ts)
   sound_loop (suc n) a ts x rest e = turned (step a ts) refl e (sound_loop n)
@@ -45,8 +44,12 @@ module _ {A : Type 0} (firsts goes : List ℕ) (step : A → Parse A) (M : A →
           let less : length q.1 < length ts = eats a ts q.0 q.1 there in
           let inner = ih q.0 q.1 in
           let back : length inner.after ≤ length q.1 = shorter q.0 q.1 _ inner in
-          record { value = inner.value; after = inner.after; is = ap (λ r. turn r a ts (loop step n)) is ∙ inner.is;
-            how = inr (omega arith, starts a ts q.0 q.1 there) }
+          record {
+            value = inner.value;
+            after = inner.after;
+            is = ap (λ r. turn r a ts (loop step n)) is ∙ inner.is;
+            how = inr (omega arith, starts a ts q.0 q.1 there);
+          }
 
   begins : (a : A) (ts : List Token) (b : A) (rest : List Token) → Many M a ts b rest → ((b ≡ a) × (rest ≡ ts)) ⊎ (among firsts (front ts) ≡ true)
   begins _ _ _ _ (ended a ts) = inl (refl, refl)
@@ -74,30 +77,39 @@ module _ {A : Type 0} (firsts goes : List ℕ) (step : A → Parse A) (M : A →
           let inner = ends_loop n y after in
           let back : length inner.after ≤ length after = shorter y after _ inner in
           let at : length rest ≡ length mid = ap length same in
-          inr (record { value = inner.value; after = inner.after; is = ap (λ r. turn r a ts (loop step n)) is ∙ inner.is; less = omega arith;
-            on = among-right firsts goes (front rest) (ap (λ z. among goes (front z)) same ∙ on) })
+          inr (record {
+            value = inner.value;
+            after = inner.after;
+            is = ap (λ r. turn r a ts (loop step n)) is ∙ inner.is;
+            less = omega arith;
+            on = among-right firsts goes (front rest) (ap (λ z. among goes (front z)) same ∙ on);
+          })
       past y after is shorter_there on (inr first) = both-ways (among goes (front mid)) on (apart-at firsts goes (front mid) apart first)
+
       stepped : Meets goes (step a ts) b mid → Meets (firsts ++ goes) (loop step n b mid) c rest → Meets (firsts ++ goes) (loop step (suc n) a ts) c rest
       stepped (inl e) ih = subst (λ r. Meets (firsts ++ goes) (turn r a ts (loop step n)) c rest) (sym e) ih
       stepped (inr y) ih = past y.value y.after y.is y.less y.on (begins b mid c rest more)
 
   pub tail-repeat : Tail (λ a. a) firsts goes (repeat step) (Many M)
   tail-repeat = record {
-      good = λ a. record { sound = λ ts x rest e. sound_loop (length ts) a ts x rest e; meets = λ ts x rest l. meets_loop a ts x rest l (length ts) (omega arith) };
-      total = λ a ts. let e = ends_loop (length ts) a ts in ((e.value, e.after), e.is, shorter a ts _ e);
-      starts = begins; }
+    good = λ a. record { sound = λ ts x rest e. sound_loop (length ts) a ts x rest e; meets = λ ts x rest l. meets_loop a ts x rest l (length ts) (omega arith) };
+    total = λ a ts. let e = ends_loop (length ts) a ts in ((e.value, e.after), e.is, shorter a ts _ e);
+    starts = begins;
+  }
 
 -- a phrase with such a tail
 pub good-tail : {C A : Type 0} (base : C → A) (g firsts goes : List ℕ) (p : Parse C) (L : Language C) (q : C → Parse A) (M : C → Language A)
     → Good g p L → Tail base firsts goes q M → disjoint firsts g ≡ true → Good (g ++ (firsts ++ goes)) (then p q) (Then L M)
 good-tail {C = C} {A = A} base g firsts goes p L q M head tail apart = record {
-    sound = λ ts b rest e. let s = split-rest (p ts) q (b, rest) e in
-        (s.value, s.mid, head.sound ts s.value s.mid s.first, (tail.good s.value).sound s.mid b rest s.second);
-    meets = λ ts b rest (a, mid, l, m). go ts b rest a mid m (head.meets ts a mid l); }
+  sound = λ ts b rest e. let s = split-rest (p ts) q (b, rest) e in
+      (s.value, s.mid, head.sound ts s.value s.mid s.first, (tail.good s.value).sound s.mid b rest s.second);
+  meets = λ ts b rest (a, mid, l, m). go ts b rest a mid m (head.meets ts a mid l);
+}
   where
     raised : (r : Option (A × List Token)) (b : A) (rest : List Token) → Meets (firsts ++ goes) r b rest → Meets (g ++ (firsts ++ goes)) r b rest
     raised r b rest (inl e) = inl e
     raised r b rest (inr y) = inr (record { value = y.value; after = y.after; is = y.is; less = y.less; on = among-right g (firsts ++ goes) (front rest) y.on })
+
     past : (ts : List Token) (b : A) (rest : List Token) (a : C) (mid : List Token) → Exceeds g (p ts) mid → ((b ≡ base a) × (rest ≡ mid)) ⊎ (among firsts (front mid) ≡ true)
         → Meets (g ++ (firsts ++ goes)) (with_rest (p ts) q) b rest
     past ts b rest a mid x (inl (_, same)) =
@@ -105,9 +117,15 @@ good-tail {C = C} {A = A} base g firsts goes p L q M head tail apart = record {
         let at : length rest ≡ length mid = ap length same in
         let back : length t.0.1 ≤ length x.after = t.2 in
         let less : length x.after < length mid = x.less in
-        inr (record { value = t.0.0; after = t.0.1; is = ap (λ r. with_rest r q) x.is ∙ t.1; less = omega arith;
-          on = among-left g (firsts ++ goes) (front rest) (ap (λ z. among g (front z)) same ∙ x.on) })
+        inr (record {
+          value = t.0.0;
+          after = t.0.1;
+          is = ap (λ r. with_rest r q) x.is ∙ t.1;
+          less = omega arith;
+          on = among-left g (firsts ++ goes) (front rest) (ap (λ z. among g (front z)) same ∙ x.on);
+        })
     past ts b rest a mid x (inr first) = both-ways (among g (front mid)) x.on (apart-at firsts g (front mid) apart first)
+
     go : (ts : List Token) (b : A) (rest : List Token) (a : C) (mid : List Token) → M a mid b rest → Meets g (p ts) a mid
         → Meets (g ++ (firsts ++ goes)) (with_rest (p ts) q) b rest
     go ts b rest a mid m (inl e) = subst (λ r. Meets (g ++ (firsts ++ goes)) (with_rest r q) b rest) (sym e) (raised (q a mid) b rest ((tail.good a).meets mid b rest m))
@@ -119,10 +137,11 @@ pub tail-then : {C A B : Type 0} (base1 : C → A) (base2 : A → B) (f1 g1 f2 g
     → within ((f1 ++ g1) ++ (f2 ++ g2)) (firsts ++ goes) ≡ true → within f1 firsts ≡ true → within f2 firsts ≡ true
     → Tail (λ c. base2 (base1 c)) firsts goes (λ c. then (q1 c) q2) (λ c. Then (M1 c) M2)
 tail-then {C = C} {A = A} {B = B} base1 base2 f1 g1 f2 g2 firsts goes q1 M1 q2 M2 one two apart w w1 w2 = record {
-    good = λ c. good-wider ((f1 ++ g1) ++ (f2 ++ g2)) (firsts ++ goes) _ _ w (good-tail base2 (f1 ++ g1) f2 g2 (q1 c) (M1 c) q2 M2 (one.good c) two apart);
-    total = λ c ts. let s = one.total c ts in let t = two.total s.0.0 s.0.1 in let less = s.2 in let more = t.2 in
-        (t.0, ap (λ r. with_rest r q2) s.1 ∙ t.1, omega (arith, less, more));
-    starts = λ c ts b rest (a, mid, m1, m2). go c ts b rest a mid (one.starts c ts a mid m1) (two.starts a mid b rest m2); }
+  good = λ c. good-wider ((f1 ++ g1) ++ (f2 ++ g2)) (firsts ++ goes) _ _ w (good-tail base2 (f1 ++ g1) f2 g2 (q1 c) (M1 c) q2 M2 (one.good c) two apart);
+  total = λ c ts. let s = one.total c ts in let t = two.total s.0.0 s.0.1 in let less = s.2 in let more = t.2 in
+      (t.0, ap (λ r. with_rest r q2) s.1 ∙ t.1, omega (arith, less, more));
+  starts = λ c ts b rest (a, mid, m1, m2). go c ts b rest a mid (one.starts c ts a mid m1) (two.starts a mid b rest m2);
+}
   where
     go : (c : C) (ts : List Token) (b : B) (rest : List Token) (a : A) (mid : List Token) → ((a ≡ base1 c) × (mid ≡ ts)) ⊎ (among f1 (front ts) ≡ true)
         → ((b ≡ base2 a) × (rest ≡ mid)) ⊎ (among f2 (front mid) ≡ true) → ((b ≡ base2 (base1 c)) × (rest ≡ ts)) ⊎ (among firsts (front ts) ≡ true)

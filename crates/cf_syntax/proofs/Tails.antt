@@ -13,8 +13,9 @@ pub good-choose : {A : Type 0} (g : List ℕ) (test : List Token → Bool) (p q 
     → ((ts : List Token) (x : A) (rest : List Token) → M ts x rest → test ts ≡ false)
     → Good g (choose test p q) (Either L M)
 good-choose {A = A} g test p q L M one two left right = record {
-    sound = λ ts x rest e. cond-cases (test ts) (p ts) (q ts) (Some (x, rest)) e (λ _ h. inl (one.sound ts x rest h)) (λ _ h. inr (two.sound ts x rest h));
-    meets = λ ts x rest l. go ts x rest l; }
+  sound = λ ts x rest e. cond-cases (test ts) (p ts) (q ts) (Some (x, rest)) e (λ _ h. inl (one.sound ts x rest h)) (λ _ h. inr (two.sound ts x rest h));
+  meets = λ ts x rest l. go ts x rest l;
+}
   where
     go : (ts : List Token) (x : A) (rest : List Token) → Either L M ts x rest → Meets g (cond (test ts) (p ts) (q ts)) x rest
     go ts x rest (inl l) = subst (λ b. Meets g (cond b (p ts) (q ts)) x rest) (sym (left ts x rest l)) (one.meets ts x rest l)
@@ -25,13 +26,15 @@ pub good-where : {A : Type 0} (g : List ℕ) (P : List Token → Type 0) (test :
     → ((ts : List Token) → test ts ≡ true → P ts) → ((ts : List Token) → P ts → test ts ≡ true)
     → Good g (choose test p q) (Either (Where P L) (Where (λ ts. P ts → ⊥) M))
 good-where {A = A} g P test p q L M one two holds decides = record {
-    sound = λ ts x rest e. cond-cases (test ts) (p ts) (q ts) (Some (x, rest)) e
-        (λ t h. inl (holds ts t, one.sound ts x rest h)) (λ f h. inr ((λ y. both-ways (test ts) (decides ts y) f), two.sound ts x rest h));
-    meets = λ ts x rest l. go ts x rest l; }
+  sound = λ ts x rest e. cond-cases (test ts) (p ts) (q ts) (Some (x, rest)) e
+      (λ t h. inl (holds ts t, one.sound ts x rest h)) (λ f h. inr ((λ y. both-ways (test ts) (decides ts y) f), two.sound ts x rest h));
+  meets = λ ts x rest l. go ts x rest l;
+}
   where
     never : (ts : List Token) → (P ts → ⊥) → (b : Bool) → test ts ≡ b → test ts ≡ false
     never ts not_there true e = absurd (not_there (holds ts e))
     never ts not_there false e = e
+
     go : (ts : List Token) (x : A) (rest : List Token) → Either (Where P L) (Where (λ ts. P ts → ⊥) M) ts x rest → Meets g (cond (test ts) (p ts) (q ts)) x rest
     go ts x rest (inl l) = subst (λ b. Meets g (cond b (p ts) (q ts)) x rest) (sym (decides ts l.0)) (one.meets ts x rest l.1)
     go ts x rest (inr m) = subst (λ b. Meets g (cond b (p ts) (q ts)) x rest) (sym (never ts m.0 (test ts) refl)) (two.meets ts x rest m.1)
@@ -41,9 +44,10 @@ pub good-only : {A : Type 0} (g : List ℕ) (P : List Token → Type 0) (test : 
     → ((ts : List Token) → test ts ≡ true → P ts) → ((ts : List Token) → P ts → test ts ≡ true)
     → Good g (choose test (λ ts. None) q) (Where (λ ts. P ts → ⊥) M)
 good-only {A = A} g P test q M two holds decides = record {
-    sound = λ ts x rest e. cond-cases (test ts) None (q ts) (Some (x, rest)) e
-        (λ t h. some-is-not-none None (x, rest) refl h) (λ f h. ((λ y. both-ways (test ts) (decides ts y) f), two.sound ts x rest h));
-    meets = λ ts x rest m. subst (λ b. Meets g (cond b None (q ts)) x rest) (sym (never ts m.0 (test ts) refl)) (two.meets ts x rest m.1); }
+  sound = λ ts x rest e. cond-cases (test ts) None (q ts) (Some (x, rest)) e
+      (λ t h. some-is-not-none None (x, rest) refl h) (λ f h. ((λ y. both-ways (test ts) (decides ts y) f), two.sound ts x rest h));
+  meets = λ ts x rest m. subst (λ b. Meets g (cond b None (q ts)) x rest) (sym (never ts m.0 (test ts) refl)) (two.meets ts x rest m.1);
+}
   where
     never : (ts : List Token) → (P ts → ⊥) → (b : Bool) → test ts ≡ b → test ts ≡ false
     never ts not_there true e = absurd (not_there (holds ts e))
@@ -80,22 +84,27 @@ pub tail-option : {A : Type 0} (firsts goes : List ℕ) (step : A → Parse A) (
     → ((a : A) → Good goes (step a) (M a)) → ((a : A) → Starts firsts (M a)) → ((a : A) → Eats (M a))
     → Tail (λ a. a) firsts goes (option step) (Maybe M)
 tail-option {A = A} firsts goes step M each starts eats = record {
-    good = λ a. record {
-      sound = λ ts x rest e. sound a ts x rest (step a ts) refl e;
-      meets = λ ts x rest l. meets a ts x rest l; };
-    total = λ a ts. total a ts (step a ts) refl;
-    starts = λ a ts b rest m. begins a ts b rest m; }
+  good = λ a. record {
+    sound = λ ts x rest e. sound a ts x rest (step a ts) refl e;
+    meets = λ ts x rest l. meets a ts x rest l;
+  };
+  total = λ a ts. total a ts (step a ts) refl;
+  starts = λ a ts b rest m. begins a ts b rest m;
+}
   where
     sound : (a : A) (ts : List Token) (x : A) (rest : List Token) (r : Option (A × List Token)) → step a ts ≡ r
         → or_stop a ts r ≡ Some (x, rest) → Maybe M a ts x rest
     sound a ts x rest None is e = inl (ap (λ (z : A × List Token). z.0) (sym (some-value (a, ts) (x, rest) e)), ap (λ (z : A × List Token). z.1) (sym (some-value (a, ts) (x, rest) e)))
     sound a ts x rest (Some q) is e = inr ((each a).sound ts x rest (is ∙ e))
+
     total : (a : A) (ts : List Token) (r : Option (A × List Token)) → step a ts ≡ r → (z : A × List Token) × (or_stop a ts (step a ts) ≡ Some z) × (length z.1 ≤ length ts)
     total a ts None is = ((a, ts), ap (or_stop a ts) is, omega arith)
     total a ts (Some q) is = let shorter : length q.1 < length ts = eats a ts q.0 q.1 ((each a).sound ts q.0 q.1 is) in (q, ap (or_stop a ts) is, omega arith)
+
     begins : (a : A) (ts : List Token) (b : A) (rest : List Token) → Maybe M a ts b rest → ((b ≡ a) × (rest ≡ ts)) ⊎ (among firsts (front ts) ≡ true)
     begins a ts b rest (inl e) = inl e
     begins a ts b rest (inr m) = inr (starts a ts b rest m)
+
     meets : (a : A) (ts : List Token) (x : A) (rest : List Token) → Maybe M a ts x rest → Meets (firsts ++ goes) (or_stop a ts (step a ts)) x rest
     meets a ts x rest (inl e) = subst (λ z. Meets (firsts ++ goes) (or_stop a ts (step a ts)) z rest) (sym e.0)
         (subst (λ z. Meets (firsts ++ goes) (or_stop a ts (step a ts)) a z) (sym e.1) (stays (step a ts) refl))
@@ -114,9 +123,10 @@ pub tail-made : {C A B : Type 0} (base : A → A) (firsts goes : List ℕ) (init
     → Tail base firsts goes q M
     → Tail (λ c. f c (base (init c))) firsts goes (λ c. then (q (init c)) (λ a. pure (f c a))) (λ c. Made (f c) (M (init c)))
 tail-made {C = C} {A = A} {B = B} base firsts goes init f q M tail = record {
-    good = λ c. good-made (firsts ++ goes) (f c) (q (init c)) (M (init c)) (tail.good (init c));
-    total = λ c ts. let t = tail.total (init c) ts in ((f c t.0.0, t.0.1), ap (λ r. with_rest r (λ a. pure (f c a))) t.1, t.2);
-    starts = λ c ts b rest (a, m, e). go c ts b rest a e (tail.starts (init c) ts a rest m); }
+  good = λ c. good-made (firsts ++ goes) (f c) (q (init c)) (M (init c)) (tail.good (init c));
+  total = λ c ts. let t = tail.total (init c) ts in ((f c t.0.0, t.0.1), ap (λ r. with_rest r (λ a. pure (f c a))) t.1, t.2);
+  starts = λ c ts b rest (a, m, e). go c ts b rest a e (tail.starts (init c) ts a rest m);
+}
   where
     go : (c : C) (ts : List Token) (b : B) (rest : List Token) (a : A) → b ≡ f c a → ((a ≡ base (init c)) × (rest ≡ ts)) ⊎ (among firsts (front ts) ≡ true)
         → ((b ≡ f c (base (init c))) × (rest ≡ ts)) ⊎ (among firsts (front ts) ≡ true)
@@ -127,9 +137,10 @@ tail-made {C = C} {A = A} {B = B} base firsts goes init f q M tail = record {
 pub tail-wider : {C A : Type 0} (base : C → A) (fs gs firsts goes : List ℕ) (q : C → Parse A) (M : C → Language A)
     → within fs firsts ≡ true → within (fs ++ gs) (firsts ++ goes) ≡ true → Tail base fs gs q M → Tail base firsts goes q M
 tail-wider {C = C} {A = A} base fs gs firsts goes q M w v tail = record {
-    good = λ c. good-wider (fs ++ gs) (firsts ++ goes) (q c) (M c) v (tail.good c);
-    total = tail.total;
-    starts = λ c ts b rest m. go c ts b rest (tail.starts c ts b rest m); }
+  good = λ c. good-wider (fs ++ gs) (firsts ++ goes) (q c) (M c) v (tail.good c);
+  total = tail.total;
+  starts = λ c ts b rest m. go c ts b rest (tail.starts c ts b rest m);
+}
   where
     go : (c : C) (ts : List Token) (b : A) (rest : List Token) → ((b ≡ base c) × (rest ≡ ts)) ⊎ (among fs (front ts) ≡ true)
         → ((b ≡ base c) × (rest ≡ ts)) ⊎ (among firsts (front ts) ≡ true)
@@ -138,8 +149,9 @@ tail-wider {C = C} {A = A} base fs gs firsts goes q M w v tail = record {
 
 pub good-by : {A : Type 0} (g : List ℕ) (test : List Token → Bool) (p q : Parse A) (L M : Language A) → Good g p L → Good g q M → Good g (choose test p q) (By test L M)
 good-by {A = A} g test p q L M one two = record {
-    sound = λ ts x rest e. cond-cases (test ts) (p ts) (q ts) (Some (x, rest)) e (λ t h. inl (t, one.sound ts x rest h)) (λ f h. inr (f, two.sound ts x rest h));
-    meets = λ ts x rest l. go ts x rest l; }
+  sound = λ ts x rest e. cond-cases (test ts) (p ts) (q ts) (Some (x, rest)) e (λ t h. inl (t, one.sound ts x rest h)) (λ f h. inr (f, two.sound ts x rest h));
+  meets = λ ts x rest l. go ts x rest l;
+}
   where
     go : (ts : List Token) (x : A) (rest : List Token) → By test L M ts x rest → Meets g (cond (test ts) (p ts) (q ts)) x rest
     go ts x rest (inl l) = subst (λ b. Meets g (cond b (p ts) (q ts)) x rest) (sym l.0) (one.meets ts x rest l.1)

@@ -22,7 +22,6 @@ use Rattle.cf_syntax.proofs.Inner.{Inner, suffixes, behind_assign, behind_commas
 use Rattle.cf_syntax.proofs.Operands.{good-after, good-behind, good-arguments, eats-arguments, starts-arguments, good-type_in_brackets, eats-type_in_brackets, type-held, type-decides, good-post, keeps-post}
 
 module _ («in» : Inside) (r : Readers) (ok : Inner «in» r) where
-
   good-sizeof : (names : Names) (at : ℕ) → Good suffixes (size_of r names at) (Sizeof «in» names at)
   good-sizeof names at = good-where suffixes (HoldsType «in» names) (holds_type r names) _ _ _ _
       (good-wider [] suffixes _ _ refl (good-made [] (λ t. tree.SizeofType at t.1) (type_in_brackets r names) (TypeInBrackets «in» names) (good-type_in_brackets «in» r ok names)))
@@ -56,45 +55,45 @@ module _ («in» : Inside) (r : Readers) (ok : Inner «in» r) where
   good-new_type : (names : Names) (file : Bool) (at : ℕ) → Good suffixes (new_type r names file at) (NewType «in» names at file)
   good-new_type names file at = good-by suffixes _ _ _ _ _
       (good-wider ([] ++ (left_paren ∷ [] ++ [])) suffixes _ _ refl
-        (good-tail _ [] (left_paren ∷ []) [] (type_in_brackets r names) (TypeInBrackets «in» names) _ _ (good-type_in_brackets «in» r ok names)
-          (tail-made (λ a. a) (left_paren ∷ []) [] (λ _. (false, [])) (λ t i. tree.NewBracketed at file t.1 i.0 i.1) _ _ (tail-initialised names)) refl))
+      (good-tail _ [] (left_paren ∷ []) [] (type_in_brackets r names) (TypeInBrackets «in» names) _ _ (good-type_in_brackets «in» r ok names)
+      (tail-made (λ a. a) (left_paren ∷ []) [] (λ _. (false, [])) (λ t i. tree.NewBracketed at file t.1 i.0 i.1) _ _ (tail-initialised names)) refl))
       (good-behind «in» r ok suffixes (specifiers names) _ _ (λ list. good-behind «in» r ok suffixes (pointers names) _ _ (λ ps.
-        good-wider ((left_bracket ∷ [] ++ []) ++ (left_paren ∷ [] ++ [])) suffixes _ _ refl
-          (good-tail _ (left_bracket ∷ [] ++ []) (left_paren ∷ []) [] (bounds r names []) (Bounds «in» names []) _ _ ((tail-bounds names).good [])
-            (tail-made (λ a. a) (left_paren ∷ []) [] (λ _. (false, [])) (λ all i. tree.New at file list ps all i.0 i.1) _ _ (tail-initialised names)) refl))))
+      good-wider ((left_bracket ∷ [] ++ []) ++ (left_paren ∷ [] ++ [])) suffixes _ _ refl
+      (good-tail _ (left_bracket ∷ [] ++ []) (left_paren ∷ []) [] (bounds r names []) (Bounds «in» names []) _ _ ((tail-bounds names).good [])
+      (tail-made (λ a. a) (left_paren ∷ []) [] (λ _. (false, [])) (λ all i. tree.New at file list ps all i.0 i.1) _ _ (tail-initialised names)) refl))))
 
   keeps-new_type : (names : Names) (file : Bool) (at : ℕ) → Keeps (NewType «in» names at file)
   keeps-new_type names file at = keeps-by _ _ _
       (keeps-then _ _ (keeps-eats _ (eats-type_in_brackets «in» r ok names)) (λ t. keeps-made _ _ (keeps-initialised names (false, []))))
       (keeps-then _ _ (keeps-exactly (specifiers names) (λ ts. under-specifiers names (length ts) ts (omega arith))) (λ list.
-        keeps-then _ _ (keeps-exactly (pointers names) (λ ts. under-pointers names (length ts) ts (omega arith))) (λ ps.
-          keeps-then _ _ (keeps-bounds names []) (λ all. keeps-made _ _ (keeps-initialised names (false, []))))))
+      keeps-then _ _ (keeps-exactly (pointers names) (λ ts. under-pointers names (length ts) ts (omega arith))) (λ ps.
+      keeps-then _ _ (keeps-bounds names []) (λ all. keeps-made _ _ (keeps-initialised names (false, []))))))
 
   good-allocation : (names : Names) (file : Bool) → Good suffixes (allocation r names file) (Allocation «in» names file)
   good-allocation names file = good-by suffixes _ _ _ _ _ (good-after «in» r ok suffixes new_word _ _ (λ at. good-new_type names file at))
       (good-after «in» r ok suffixes delete_word _ _ (λ at. good-behind «in» r ok suffixes array_brackets _ _ (λ array.
-        good-made suffixes (tree.Delete at file array) (r.cast names) («in».cast names) (ok.cast names))))
+      good-made suffixes (tree.Delete at file array) (r.cast names) («in».cast names) (ok.cast names))))
 
   keeps-allocation : (names : Names) (file : Bool) → Keeps (Allocation «in» names file)
   keeps-allocation names file = keeps-by _ _ _ (keeps-then _ _ (keeps-eats _ (eats-word new_word)) (λ at. keeps-new_type names file at))
       (keeps-then _ _ (keeps-eats _ (eats-word delete_word)) (λ at. keeps-then _ _ (keeps-exactly array_brackets (λ ts. under-array_brackets (length ts) ts (omega arith)))
-        (λ array. keeps-made _ _ (ok.keeps_cast names))))
+      (λ array. keeps-made _ _ (ok.keeps_cast names))))
 
   pub good-unary : (names : Names) → Good suffixes (unary r names) (Unary «in» names)
   good-unary names = good-by suffixes _ _ _ _ _
       (good-behind «in» r ok suffixes (operator stepping) _ _ (λ op. good-made suffixes (tree.StepBefore op.0 op.1) (r.unary names) («in».unary names) (ok.unary names)))
       (good-by suffixes _ _ _ _ _
-        (good-behind «in» r ok suffixes (operator prefixing) _ _ (λ op. good-made suffixes (tree.Prefix op.0 op.1) (r.cast names) («in».cast names) (ok.cast names)))
-        (good-by suffixes _ _ _ _ _ (good-after «in» r ok suffixes sizeof_word _ _ (good-sizeof names))
-          (good-by suffixes _ _ _ _ _ (good-behind «in» r ok suffixes from_file _ _ (good-allocation names)) (good-post «in» r ok names))))
+      (good-behind «in» r ok suffixes (operator prefixing) _ _ (λ op. good-made suffixes (tree.Prefix op.0 op.1) (r.cast names) («in».cast names) (ok.cast names)))
+      (good-by suffixes _ _ _ _ _ (good-after «in» r ok suffixes sizeof_word _ _ (good-sizeof names))
+      (good-by suffixes _ _ _ _ _ (good-behind «in» r ok suffixes from_file _ _ (good-allocation names)) (good-post «in» r ok names))))
 
   pub keeps-unary : (names : Names) → Keeps (Unary «in» names)
   keeps-unary names = keeps-by _ _ _ (keeps-then _ _ (keeps-exactly (operator stepping) (λ ts. under-operator stepping (length ts) ts (omega arith))) (λ op. keeps-made _ _ (ok.keeps_unary names)))
       (keeps-by _ _ _ (keeps-then _ _ (keeps-exactly (operator prefixing) (λ ts. under-operator prefixing (length ts) ts (omega arith))) (λ op. keeps-made _ _ (ok.keeps_cast names)))
-        (keeps-by _ _ _ (keeps-then _ _ (keeps-eats _ (eats-word sizeof_word)) (λ at. keeps-rather _ _ _
-            (keeps-made _ _ (keeps-eats _ (eats-type_in_brackets «in» r ok names))) (keeps-made _ _ (ok.keeps_unary names))))
-          (keeps-by _ _ _ (keeps-then _ _ (keeps-exactly from_file (λ ts. under-from_file (length ts) ts (omega arith))) (keeps-allocation names))
-            (keeps-post «in» r ok names))))
+      (keeps-by _ _ _ (keeps-then _ _ (keeps-eats _ (eats-word sizeof_word)) (λ at. keeps-rather _ _ _
+      (keeps-made _ _ (keeps-eats _ (eats-type_in_brackets «in» r ok names))) (keeps-made _ _ (ok.keeps_unary names))))
+      (keeps-by _ _ _ (keeps-then _ _ (keeps-exactly from_file (λ ts. under-from_file (length ts) ts (omega arith))) (keeps-allocation names))
+      (keeps-post «in» r ok names))))
 
   abbrev pub CastOnly : Names → Language Expr
   CastOnly names = Then (TypeInBrackets «in» names) (λ t. Made (tree.Cast t.0 t.1) («in».cast names))

@@ -118,7 +118,7 @@ under-const_behind make n us h = under-cond n _ _ _ (under-some n (make true) (d
 under-to_member : (names : Names) (n : ℕ) (us : List Token) → length us ≤ n → Under n (to_member names us)
 under-to_member names n us h = under-then n (qualifiers names us) _ (under-qualifiers names n us h)
     (λ q vs k. under-cond n (no_names q.names) _ _ (under-none n)
-      (under-then n (word 20 vs) _ (under-word 20 n vs k) (λ at ws j. under-const_behind (λ is_const. pointer.ToMember (place us) (record { at = place us; from_file = q.from_file; names = q.names }) is_const) n ws j)))
+    (under-then n (word 20 vs) _ (under-word 20 n vs k) (λ at ws j. under-const_behind (λ is_const. pointer.ToMember (place us) (record { at = place us; from_file = q.from_file; names = q.names }) is_const) n ws j)))
 
 pub under-one_pointer : (names : Names) (n : ℕ) (us : List Token) → length us ≤ n → Under n (one_pointer names us)
 under-one_pointer names n us h = under-cond n _ _ _ (under-const_behind (λ is_const. pointer.To (place us) is_const) n (drop 1 us) (dropped 1 n us h))
@@ -150,7 +150,7 @@ under-one_specifier names s n us h = under-storage_word names s (storage_of (fro
 pub under-specifiers : (names : Names) (n : ℕ) (us : List Token) → length us ≤ n → Under n (specifiers names us)
 under-specifiers names n us h = under-then n (one_specifier names no_specifiers us) _ (under-one_specifier names no_specifiers n us h)
     (λ s vs k. under-then n (repeat (one_specifier names) s vs) _
-      (under-repeat (one_specifier names) (λ t ws. under-one_specifier names t (length ws) ws (omega arith)) n s vs k) (λ all ws j. under-some n _ ws j))
+    (under-repeat (one_specifier names) (λ t ws. under-one_specifier names t (length ws) ws (omega arith)) n s vs k) (λ all ws j. under-some n _ ws j))
 
 under-pair_of : (close number n : ℕ) (us : List Token) → length us ≤ n → Under n (pair_of close number us)
 under-pair_of close number n us h = under-then n (word close (drop 1 us)) _ (under-word close n (drop 1 us) (dropped 1 n us h)) (λ at vs k. under-some n _ vs k)
@@ -158,8 +158,8 @@ under-pair_of close number n us h = under-then n (word close (drop 1 us)) _ (und
 under-operator_name : (names : Names) (n : ℕ) (us : List Token) → length us ≤ n → Under n (operator_name names us)
 under-operator_name names n us h = under-cond n _ _ _ (under-pair_of 1 25 n us h) (under-cond n _ _ _ (under-pair_of 3 26 n us h)
     (under-cond n _ _ _ (under-then n (specifiers names us) _ (under-specifiers names n us h)
-      (λ list vs k. under-then n (pointers names vs) _ (under-pointers names n vs k) (λ ps ws j. under-some n _ ws j)))
-      (under-some n _ (drop 1 us) (dropped 1 n us h))))
+    (λ list vs k. under-then n (pointers names vs) _ (under-pointers names n vs k) (λ ps ws j. under-some n _ ws j)))
+    (under-some n _ (drop 1 us) (dropped 1 n us h))))
 
 under-some_ident : (make : List ℕ → Last) (ident : Option (List ℕ)) (n : ℕ) (us : List Token) → length us ≤ n → Under n (some_ident make ident us)
 under-some_ident make None n us h = under-none n
@@ -168,7 +168,7 @@ under-some_ident make (Some name) n us h = under-some n _ us h
 under-last_part : (names : Names) (n : ℕ) (us : List Token) → length us ≤ n → Under n (last_part names us)
 under-last_part names n us h = under-cond n _ _ _ (under-some_ident _ (ident_at (drop 1 us)) n (drop 2 us) (dropped 2 n us h))
     (under-cond n _ _ _ (under-operator_name names n (drop 1 us) (dropped 1 n us h))
-      (under-cond n _ _ _ (under-none n) (under-some_ident _ (ident_at us) n (drop 1 us) (dropped 1 n us h))))
+    (under-cond n _ _ _ (under-none n) (under-some_ident _ (ident_at us) n (drop 1 us) (dropped 1 n us h))))
 
 pub under-name : (names : Names) (n : ℕ) (us : List Token) → length us ≤ n → Under n (name names us)
 under-name names n us h = under-then n (qualifiers names us) _ (under-qualifiers names n us h)
@@ -205,8 +205,8 @@ under-last_part-more names t ts =
     let n = length ts in
     let one : length (drop 1 ts) ≤ length ts = dropped 1 n ts (omega arith) in
     under-cond n _ _ _ (under-some_ident _ (ident_at ts) n (drop 1 ts) one)
-      (under-cond n _ _ _ (under-operator_name names n ts (omega arith))
-        (under-cond n _ _ _ (under-none n) (under-some_ident _ (ident_at (t ∷ ts)) n ts (omega arith))))
+    (under-cond n _ _ _ (under-operator_name names n ts (omega arith))
+    (under-cond n _ _ _ (under-none n) (under-some_ident _ (ident_at (t ∷ ts)) n ts (omega arith))))
 
 last-strict : (names : Names) (us : List Token) (y : Last) (rest : List Token) → last_part names us ≡ Some (y, rest) → length rest < length us
 last-strict names [] y rest e = some-is-not-none None (y, rest) refl e

@@ -25,18 +25,41 @@ nothing g w = good-wider [] g none Never w good-never
 
 pub all-good : (n : ℕ) → Inner (inside n) (readers n)
 all-good zero = record {
-  commas = λ _. nothing behind_commas refl; assign = λ _. nothing behind_assign refl; condition = λ _. nothing behind_condition refl;
-  cast = λ _. nothing suffixes refl; unary = λ _. nothing suffixes refl; type_id = λ _. nothing behind_declarator refl;
-  params = λ _. nothing behind_params refl; declarator = λ _ _. nothing behind_declarator refl;
-  keeps_commas = λ _. keeps-never; keeps_assign = λ _. keeps-never; keeps_condition = λ _. keeps-never; keeps_cast = λ _. keeps-never;
-  keeps_unary = λ _. keeps-never; keeps_type_id = λ _. keeps-never; keeps_params = λ _. keeps-never; keeps_declarator = λ _ _. keeps-never; }
+  commas = λ _. nothing behind_commas refl;
+  assign = λ _. nothing behind_assign refl;
+  condition = λ _. nothing behind_condition refl;
+  cast = λ _. nothing suffixes refl;
+  unary = λ _. nothing suffixes refl;
+  type_id = λ _. nothing behind_declarator refl;
+  params = λ _. nothing behind_params refl;
+  declarator = λ _ _. nothing behind_declarator refl;
+  keeps_commas = λ _. keeps-never;
+  keeps_assign = λ _. keeps-never;
+  keeps_condition = λ _. keeps-never;
+  keeps_cast = λ _. keeps-never;
+  keeps_unary = λ _. keeps-never;
+  keeps_type_id = λ _. keeps-never;
+  keeps_params = λ _. keeps-never;
+  keeps_declarator = λ _ _. keeps-never;
+}
 all-good (suc n) = let ok = all-good n in record {
-  commas = good-commas (inside n) (readers n) ok; assign = good-assign (inside n) (readers n) ok; condition = good-condition (inside n) (readers n) ok;
-  cast = good-cast (inside n) (readers n) ok; unary = good-unary (inside n) (readers n) ok; type_id = good-type_inside (inside n) (readers n) ok;
-  params = good-params (inside n) (readers n) ok; declarator = good-declarator (inside n) (readers n) ok;
-  keeps_commas = keeps-commas (inside n) (readers n) ok; keeps_assign = keeps-assign (inside n) (readers n) ok; keeps_condition = keeps-condition (inside n) (readers n) ok;
-  keeps_cast = keeps-cast (inside n) (readers n) ok; keeps_unary = keeps-unary (inside n) (readers n) ok; keeps_type_id = keeps-type_inside (inside n) (readers n) ok;
-  keeps_params = keeps-params (inside n) (readers n) ok; keeps_declarator = keeps-declarator (inside n) (readers n) ok; }
+  commas = good-commas (inside n) (readers n) ok;
+  assign = good-assign (inside n) (readers n) ok;
+  condition = good-condition (inside n) (readers n) ok;
+  cast = good-cast (inside n) (readers n) ok;
+  unary = good-unary (inside n) (readers n) ok;
+  type_id = good-type_inside (inside n) (readers n) ok;
+  params = good-params (inside n) (readers n) ok;
+  declarator = good-declarator (inside n) (readers n) ok;
+  keeps_commas = keeps-commas (inside n) (readers n) ok;
+  keeps_assign = keeps-assign (inside n) (readers n) ok;
+  keeps_condition = keeps-condition (inside n) (readers n) ok;
+  keeps_cast = keeps-cast (inside n) (readers n) ok;
+  keeps_unary = keeps-unary (inside n) (readers n) ok;
+  keeps_type_id = keeps-type_inside (inside n) (readers n) ok;
+  keeps_params = keeps-params (inside n) (readers n) ok;
+  keeps_declarator = keeps-declarator (inside n) (readers n) ok;
+}
 
 -- ---- one tree
 

@@ -112,7 +112,6 @@ abbrev pub with_default : Param → ℕ → Expr → Param
 with_default p at x = record { at = p.at; specifiers = p.specifiers; declarator = p.declarator; default = Some (at, x) }
 
 module _ («in» : Inside) where
-
   -- ---- lists and brackets
 
   -- "," assign
@@ -152,9 +151,9 @@ module _ («in» : Inside) where
   abbrev pub Head : Names → Language Expr
   Head names = By (λ ts. is_some (constant ts)) (Exactly constant)
       (By (sees left_paren) (Bracketed names)
-        (By (λ ts. is_some (basic_word ts)) (Then (Exactly basic_word) (λ b. Made (λ all. tree.BasicCall b.0 b.1 all.1) (Arguments names)))
-          (By (λ ts. is_some (type_path names ts)) (Then (Exactly (type_path names)) (λ path. Made (λ all. tree.TypeCall path.at path all.1) (Arguments names)))
-            (By (sees tilde) Never (Made (λ n. tree.Named n.0) (Exactly (name names)))))))
+      (By (λ ts. is_some (basic_word ts)) (Then (Exactly basic_word) (λ b. Made (λ all. tree.BasicCall b.0 b.1 all.1) (Arguments names)))
+      (By (λ ts. is_some (type_path names ts)) (Then (Exactly (type_path names)) (λ path. Made (λ all. tree.TypeCall path.at path all.1) (Arguments names)))
+      (By (sees tilde) Never (Made (λ n. tree.Named n.0) (Exactly (name names)))))))
 
   abbrev pub Member : Names → ℕ → (ℕ → Name → Suffix) → Language Suffix
   Member names sign make = Then (Word sign) (λ at. Made (λ n. make at n.0) (Exactly (name names)))
@@ -163,9 +162,9 @@ module _ («in» : Inside) where
   abbrev pub Behind : Names → Language Suffix
   Behind names = By (sees left_bracket) (Then (Word left_bracket) (λ at. Then («in».commas names) (λ i. Made (λ _. suffix.Index at i) (Word right_bracket))))
       (By (sees left_paren) (Made (λ all. suffix.Call all.0 all.1) (Arguments names))
-        (By (sees dot) (Member names dot suffix.Dot)
-          (By (sees arrow) (Member names arrow suffix.Arrow)
-            (Made (λ op. suffix.Step op.0 op.1) (Exactly (operator stepping))))))
+      (By (sees dot) (Member names dot suffix.Dot)
+      (By (sees arrow) (Member names arrow suffix.Arrow)
+      (Made (λ op. suffix.Step op.0 op.1) (Exactly (operator stepping))))))
 
   abbrev pub Post : Names → Language Expr
   Post names = Then (Head names) (Many (λ a. Made (applied a) (Behind names)))
@@ -192,7 +191,7 @@ module _ («in» : Inside) where
   NewType names at file = By (sees left_paren)
       (Then (TypeInBrackets names) (λ t. Made (λ i. tree.NewBracketed at file t.1 i.0 i.1) (Initialised names (false, []))))
       (Then (Exactly (specifiers names)) (λ list. Then (Exactly (pointers names)) (λ ps.
-        Then (Bounds names []) (λ bounds. Made (λ i. tree.New at file list ps bounds i.0 i.1) (Initialised names (false, []))))))
+      Then (Bounds names []) (λ bounds. Made (λ i. tree.New at file list ps bounds i.0 i.1) (Initialised names (false, []))))))
 
   abbrev pub Allocation : Names → Bool → Language Expr
   Allocation names file = By (sees new_word) (Then (Word new_word) (λ at. NewType names at file))
@@ -201,8 +200,8 @@ module _ («in» : Inside) where
   abbrev pub Unary : Names → Language Expr
   Unary names = By (heads stepping) (Then (Exactly (operator stepping)) (λ op. Made (tree.StepBefore op.0 op.1) («in».unary names)))
       (By (heads prefixing) (Then (Exactly (operator prefixing)) (λ op. Made (tree.Prefix op.0 op.1) («in».cast names)))
-        (By (sees sizeof_word) (Then (Word sizeof_word) (Sizeof names))
-          (By allocates (Then (Exactly from_file) (Allocation names)) (Post names))))
+      (By (sees sizeof_word) (Then (Word sizeof_word) (Sizeof names))
+      (By allocates (Then (Exactly from_file) (Allocation names)) (Post names))))
 
   -- brackets that can hold a typeid in the place of a cast hold one
   abbrev pub Cast : Names → Language Expr
@@ -301,14 +300,28 @@ module _ («in» : Inside) where
 
 abbrev pub nothing_inside : Inside
 nothing_inside = record {
-  commas = λ _. Never; assign = λ _. Never; condition = λ _. Never; cast = λ _. Never; unary = λ _. Never;
-  type_id = λ _. Never; params = λ _. Never; declarator = λ _ _. Never; }
+  commas = λ _. Never;
+  assign = λ _. Never;
+  condition = λ _. Never;
+  cast = λ _. Never;
+  unary = λ _. Never;
+  type_id = λ _. Never;
+  params = λ _. Never;
+  declarator = λ _ _. Never;
+}
 
 abbrev pub inside : ℕ → Inside
 inside zero = nothing_inside
 inside (suc n) = record {
-  commas = Commas (inside n); assign = Assign (inside n); condition = Condition (inside n); cast = Cast (inside n); unary = Unary (inside n);
-  type_id = TypeInside (inside n); params = Params (inside n); declarator = Declarator (inside n); }
+  commas = Commas (inside n);
+  assign = Assign (inside n);
+  condition = Condition (inside n);
+  cast = Cast (inside n);
+  unary = Unary (inside n);
+  type_id = TypeInside (inside n);
+  params = Params (inside n);
+  declarator = Declarator (inside n);
+}
 
 -- ---- what tokens spell: more depth than tokens is no other language
 

@@ -122,12 +122,12 @@ no_names (n ∷ ns) = false
 abbrev pub to_member : Names → Parse Pointer
 to_member names ts = then (qualifiers names) (λ q us.
     cond (no_names q.names) None
-      (then (word star) (λ at. const_behind (λ is_const. pointer.ToMember (place ts) (record { at = place ts; from_file = q.from_file; names = q.names }) is_const)) us)) ts
+    (then (word star) (λ at. const_behind (λ is_const. pointer.ToMember (place ts) (record { at = place ts; from_file = q.from_file; names = q.names }) is_const)) us)) ts
 
 abbrev pub one_pointer : Names → Parse Pointer
 one_pointer names ts =
     cond (nat_eq (front ts) star) (const_behind (λ is_const. pointer.To (place ts) is_const) (drop 1 ts))
-      (cond (nat_eq (front ts) ampersand) (Some (pointer.Reference (place ts), drop 1 ts)) (to_member names ts))
+    (cond (nat_eq (front ts) ampersand) (Some (pointer.Reference (place ts), drop 1 ts)) (to_member names ts))
 
 -- {ptr}, as long as it can be
 abbrev pub pointers : Names → Parse (List Pointer)

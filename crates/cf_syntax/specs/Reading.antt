@@ -39,7 +39,6 @@ abbrev pub closed : {A B : Type 0} → ℕ → (A → B) → Parse A → Parse B
 closed n make p = then p (λ a. then (word n) (λ _. pure (make a)))
 
 module _ (r : Readers) where
-
   abbrev pub next_assign : Names → Parse (ℕ × Expr)
   next_assign names = then (word comma) (λ at. then (r.assign names) (λ x. pure (at, x)))
 
@@ -83,8 +82,8 @@ module _ (r : Readers) where
   abbrev pub head : Names → Parse Expr
   head names = choose (λ ts. is_some (constant ts)) constant
       (choose (sees left_paren) (bracketed names)
-        (choose (λ ts. is_some (basic_word ts)) (basic_call names)
-          (choose (λ ts. is_some (type_path names ts)) (type_call names) (named names))))
+      (choose (λ ts. is_some (basic_word ts)) (basic_call names)
+      (choose (λ ts. is_some (type_path names ts)) (type_call names) (named names))))
 
   abbrev pub member : Names → ℕ → (ℕ → Name → Suffix) → Parse Suffix
   member names sign make = then (word sign) (λ at. then (name names) (λ n. pure (make at n.0)))
@@ -95,9 +94,9 @@ module _ (r : Readers) where
   abbrev pub behind : Names → Parse Suffix
   behind names = choose (sees left_bracket) (index names)
       (choose (sees left_paren) (then (arguments names) (λ all. pure (suffix.Call all.0 all.1)))
-        (choose (sees dot) (member names dot suffix.Dot)
-          (choose (sees arrow) (member names arrow suffix.Arrow)
-            (then (operator stepping) (λ op. pure (suffix.Step op.0 op.1))))))
+      (choose (sees dot) (member names dot suffix.Dot)
+      (choose (sees arrow) (member names arrow suffix.Arrow)
+      (then (operator stepping) (λ op. pure (suffix.Step op.0 op.1))))))
 
   abbrev pub post : Names → Parse Expr
   post names = then (head names) (repeat (λ a. then (behind names) (λ s. pure (applied a s))))
@@ -140,8 +139,8 @@ module _ (r : Readers) where
   abbrev pub unary : Names → Parse Expr
   unary names = choose (heads stepping) (stepped names)
       (choose (heads prefixing) (prefixed names)
-        (choose (sees sizeof_word) (then (word sizeof_word) (size_of names))
-          (choose allocates (then from_file (allocation names)) (post names))))
+      (choose (sees sizeof_word) (then (word sizeof_word) (size_of names))
+      (choose allocates (then from_file (allocation names)) (post names))))
 
   abbrev pub cast_only : Names → Parse Expr
   cast_only names = then (type_in_brackets names) (λ t. then (r.cast names) (λ x. pure (tree.Cast t.0 t.1 x)))
@@ -250,11 +249,25 @@ module _ (r : Readers) where
 
 abbrev pub no_readers : Readers
 no_readers = record {
-  commas = λ _. none; assign = λ _. none; condition = λ _. none; cast = λ _. none; unary = λ _. none;
-  type_id = λ _. none; params = λ _. none; declarator = λ _ _. none; }
+  commas = λ _. none;
+  assign = λ _. none;
+  condition = λ _. none;
+  cast = λ _. none;
+  unary = λ _. none;
+  type_id = λ _. none;
+  params = λ _. none;
+  declarator = λ _ _. none;
+}
 
 abbrev pub readers : ℕ → Readers
 readers zero = no_readers
 readers (suc n) = record {
-  commas = commas (readers n); assign = assign (readers n); condition = condition (readers n); cast = cast (readers n); unary = unary (readers n);
-  type_id = type_inside (readers n); params = params (readers n); declarator = declarator (readers n); }
+  commas = commas (readers n);
+  assign = assign (readers n);
+  condition = condition (readers n);
+  cast = cast (readers n);
+  unary = unary (readers n);
+  type_id = type_inside (readers n);
+  params = params (readers n);
+  declarator = declarator (readers n);
+}

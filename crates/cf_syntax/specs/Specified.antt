@@ -24,14 +24,14 @@ use Rattle.cf_syntax.specs.Named.{qualifiers, type_path, ident_path, pointers}
 abbrev pub storage_of : ℕ → Option Storage
 storage_of n =
     cond (nat_eq n 65) (Some storage.Auto) (cond (nat_eq n 93) (Some storage.Register) (cond (nat_eq n 98) (Some storage.Static)
-      (cond (nat_eq n 79) (Some storage.Extern) (cond (nat_eq n 85) (Some storage.Inline) (cond (nat_eq n 108) (Some storage.Virtual)
-        (cond (nat_eq n 82) (Some storage.Friend) (cond (nat_eq n 105) (Some storage.Typedef) None)))))))
+    (cond (nat_eq n 79) (Some storage.Extern) (cond (nat_eq n 85) (Some storage.Inline) (cond (nat_eq n 108) (Some storage.Virtual)
+    (cond (nat_eq n 82) (Some storage.Friend) (cond (nat_eq n 105) (Some storage.Typedef) None)))))))
 
 abbrev pub basic_of : ℕ → Option BasicType
 basic_of n =
     cond (nat_eq n 69) (Some basic.Char) (cond (nat_eq n 95) (Some basic.Short) (cond (nat_eq n 86) (Some basic.Int)
-      (cond (nat_eq n 87) (Some basic.Long) (cond (nat_eq n 96) (Some basic.Signed) (cond (nat_eq n 107) (Some basic.Unsigned)
-        (cond (nat_eq n 109) (Some basic.Void) None))))))
+    (cond (nat_eq n 87) (Some basic.Long) (cond (nat_eq n 96) (Some basic.Signed) (cond (nat_eq n 107) (Some basic.Unsigned)
+    (cond (nat_eq n 109) (Some basic.Void) None))))))
 
 abbrev pub key_of : ℕ → Option ClassKey
 key_of n =
@@ -94,8 +94,8 @@ conversion names = then (specifiers names) (λ list. then (pointers names) (λ p
 abbrev pub operator_name : Names → Parse Last
 operator_name names ts =
     cond (nat_eq (front ts) left_paren) (pair_of right_paren 25 ts)
-      (cond (nat_eq (front ts) left_bracket) (pair_of right_bracket 26 ts)
-        (cond (nat_eq (operator_number (front ts)) 255) (conversion names ts) (Some (last.Operator (operator_number (front ts)), drop 1 ts))))
+    (cond (nat_eq (front ts) left_bracket) (pair_of right_bracket 26 ts)
+    (cond (nat_eq (operator_number (front ts)) 255) (conversion names ts) (Some (last.Operator (operator_number (front ts)), drop 1 ts))))
 
 abbrev pub some_ident : (List ℕ → Last) → Option (List ℕ) → Parse Last
 some_ident make None ts = None
@@ -105,8 +105,8 @@ some_ident make (Some name) ts = Some (make name, ts)
 abbrev pub last_part : Names → Parse Last
 last_part names ts =
     cond (nat_eq (front ts) tilde) (some_ident last.Destructor (ident_at (drop 1 ts)) (drop 2 ts))
-      (cond (nat_eq (front ts) operator_word) (operator_name names (drop 1 ts))
-        (cond (nat_eq (front (drop 1 ts)) scope) None (some_ident last.Ident (ident_at ts) (drop 1 ts))))
+    (cond (nat_eq (front ts) operator_word) (operator_name names (drop 1 ts))
+    (cond (nat_eq (front (drop 1 ts)) scope) None (some_ident last.Ident (ident_at ts) (drop 1 ts))))
 
 abbrev pub name_of : ℕ → Qualifiers → ℕ → Last → Name
 name_of at q last_at part = record { at = at; from_file = q.from_file; scopes = q.names; last_at = last_at; last = part }

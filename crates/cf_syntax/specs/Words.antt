@@ -38,51 +38,75 @@ ident_at (t ∷ ts) = ident_of t.word
 -- ---- the codes of the words that the grammar names
 abbrev pub left_paren : ℕ
 left_paren = 0
+
 abbrev pub right_paren : ℕ
 right_paren = 1
+
 abbrev pub left_bracket : ℕ
 left_bracket = 2
+
 abbrev pub right_bracket : ℕ
 right_bracket = 3
+
 abbrev pub comma : ℕ
 comma = 7
+
 abbrev pub colon : ℕ
 colon = 8
+
 abbrev pub scope : ℕ
 scope = 9
+
 abbrev pub question : ℕ
 question = 10
+
 abbrev pub dot : ℕ
 dot = 11
+
 abbrev pub arrow : ℕ
 arrow = 13
+
 abbrev pub tilde : ℕ
 tilde = 16
+
 abbrev pub star : ℕ
 star = 20
+
 abbrev pub ampersand : ℕ
 ampersand = 23
+
 abbrev pub equals : ℕ
 equals = 28
+
 abbrev pub increment : ℕ
 increment = 37
+
 abbrev pub decrement : ℕ
 decrement = 38
+
 abbrev pub class_word : ℕ
 class_word = 70
+
 abbrev pub const_word : ℕ
 const_word = 71
+
 abbrev pub delete_word : ℕ
 delete_word = 74
+
 abbrev pub enum_word : ℕ
 enum_word = 78
+
 abbrev pub new_word : ℕ
 new_word = 88
+
 abbrev pub operator_word : ℕ
 operator_word = 89
+
 abbrev pub sizeof_word : ℕ
 sizeof_word = 97
+
 abbrev pub struct_word : ℕ
 struct_word = 99
+
 abbrev pub this_word : ℕ
 this_word = 102

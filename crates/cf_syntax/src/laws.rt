@@ -9,8 +9,7 @@ pub fn one_longest_expression()
     ensures commas { (names : Names) → HasOneLongest (SpellsCommas names) }
     ensures assign { (names : Names) → HasOneLongest (SpellsAssign names) }
     ensures condition { (names : Names) → HasOneLongest (SpellsCondition names) }
-{
-}
+{}
 
 /// From each token on at most one longest phrase of a declarator, of parameters and of a type in brackets
 /// begins, and it has one tree (8).
@@ -18,11 +17,9 @@ pub fn one_longest_declarator()
     ensures declarator { (names : Names) → HasOneLongest (SpellsDeclarator names) }
     ensures params { (names : Names) → HasOneLongest (SpellsParams names) }
     ensures type_id { (names : Names) → HasOneLongest (SpellsTypeId names) }
-{
-}
+{}
 
 /// Tokens that spell an expression as a whole have one tree (5).
 pub fn one_tree()
     ensures { (names : Names) → HasOneTree (SpellsCommas names) }
-{
-}
+{}

@@ -1,0 +1,49 @@
+use crate::memory::Failed;
+use crate::planned::Planned;
+use crate::source::Source;
+
+/// Bytes in memory to take one by one; the calls with the given numbers fail.
+#[derive(Debug, Drop)]
+pub struct MemSource {
+    bytes: Vec<u8>,
+    taken: usize,
+    planned: Planned,
+    faults: u64,
+}
+
+impl Source for MemSource {
+    ghost use Rattle.std.specs.Prelude.{true, drop};
+
+    ghost stream = { λ s. record { told = true; bytes = drop s.taken s.bytes.items; faults = s.faults } };
+
+    fn next(&mut self) -> Result<Option<u8>, Failed> {
+        if self.planned.fails_next() {
+            self.faults = self.faults.saturating_add(1);
+            return Err(Failed);
+        }
+        match self.bytes.get(self.taken) {
+            None => Ok(None),
+            Some(byte) => {
+                self.taken += 1;
+                Ok(Some(*byte))
+            }
+        }
+    }
+}
+
+impl MemSource {
+    ghost use Rattle.std.specs.Prelude.{◌≡◌};
+    ghost use Rattle.cf_base.specs.Stream.{stream_without_faults};
+
+    /// `fail` has the numbers, from 1, of the calls that fail.
+    pub fn new(bytes: Vec<u8>, fail: Vec<u32>) -> MemSource
+        ensures { ⟦<MemSource as Source>⟧.stream result ≡ stream_without_faults bytes.items }
+    {
+        MemSource {
+            bytes,
+            taken: 0,
+            planned: Planned::new(fail),
+            faults: 0,
+        }
+    }
+}

@@ -1,0 +1,7 @@
+int down(int n) {
+  return down(n + 1);
+}
+int main() {
+  putchar(100);
+  return down(0);
+}
