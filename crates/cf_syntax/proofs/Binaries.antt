@@ -1,5 +1,5 @@
 -- Binary expressions, choices, assignments and comma expressions are read as their longest phrases.
-use Rattle.std.proofs.Common.{◌≡◌, ℕ, zero, suc, ◌<◌, ◌≤◌, Bool, true, false, cond, ◌⊎◌, inl, inr, List, [], ◌∷◌, ◌++◌, length, Option, Some, None, nat_eq, refl, sym, ◌∙◌, ap, subst, arith}
+use Rattle.std.proofs.Common.{◌≡◌, ℕ, zero, suc, ◌≤◌, Bool, true, false, cond, ◌⊎◌, inl, inr, List, [], ◌∷◌, ◌++◌, length, Option, Some, nat_eq, refl, sym, ◌∙◌, ap, subst, arith}
 use Rattle.cf_tokens.specs.declared.token.Token.{Token}
 use Rattle.cf_syntax.specs.declared.expression.Expr.{Expr}
 use Rattle.cf_syntax.specs.declared.expression.Expr.TheVariants as tree
@@ -8,12 +8,12 @@ use Rattle.cf_syntax.specs.declared.operator.BinaryOp.{BinaryOp}
 use Rattle.cf_syntax.specs.NamesData.{Names}
 use Rattle.cf_syntax.specs.Words.{front, comma, colon, question}
 use Rattle.cf_syntax.specs.Operators.{level, assigning, operator, heads}
-use Rattle.cf_syntax.specs.Parse.{Parse, pure, then, choose, option, repeat, with_rest}
-use Rattle.cf_syntax.specs.Language.{Language, Empty, Exactly, Word, Then, Either, Made, Where, Maybe, Many, Rather, ended}
-use Rattle.cf_syntax.specs.Grammar.{Inside, TypeInBrackets, HoldsType, NextAssign, MoreAssigns, Unary, Cast, Joined, Choice, Condition, Assigned, Assign, Commas}
-use Rattle.cf_syntax.specs.Reading.{Readers, holds_type, next_assign, more_assigns, unary, cast_only, cast, right_side, joined_from, choice, condition_from, condition, assigned, assign_from, assign, commas}
-use Rattle.cf_syntax.proofs.Good.{among, disjoint, within, Meets, Good, Starts, Eats, good-wider, good-then, good-made, good-exactly, good-empty, apart-at, within-at, both-ways, cond-cases, starts-word}
-use Rattle.cf_syntax.proofs.Tails.{Tail, tail-option, tail-made, tail-wider, good-where}
+use Rattle.cf_syntax.specs.Parse.{pure, then, option, repeat}
+use Rattle.cf_syntax.specs.Language.{Language, Empty, Exactly, Word, Then, Either, Made, Maybe, Many, Rather, ended}
+use Rattle.cf_syntax.specs.Grammar.{Inside, HoldsType, NextAssign, MoreAssigns, Unary, Cast, Joined, Choice, Condition, Assigned, Assign, Commas}
+use Rattle.cf_syntax.specs.Reading.{Readers, holds_type, next_assign, unary, cast_only, cast, right_side, joined_from, choice, condition_from, condition, assigned, assign_from, assign, commas}
+use Rattle.cf_syntax.proofs.Good.{among, disjoint, within, Meets, Good, Starts, Eats, good-wider, good-then, good-made, good-empty, apart-at, within-at, both-ways, cond-cases, starts-word}
+use Rattle.cf_syntax.proofs.Tails.{Tail, tail-option, tail-made, good-where}
 use Rattle.cf_syntax.proofs.Repeats.{tail-repeat, good-tail, tail-then, good-same}
 use Rattle.cf_syntax.proofs.Keeps.{Keeps, codes_of, keeps-exactly, keeps-then, keeps-made, keeps-either, keeps-where, keeps-maybe, keeps-many, keeps-eats, eats-word, eats-then, starts-then, eats-made, starts-made, starts-operator, eats-operator}
 use Rattle.cf_syntax.proofs.Under.{under-operator}

@@ -1,27 +1,26 @@
 -- Declarators, parameters and types in brackets are read as their longest phrases.
-use Rattle.std.proofs.Common.{◌≡◌, ℕ, zero, suc, Bool, true, false, ◌⊎◌, inl, inr, List, [], ◌∷◌, ◌++◌, ◌<◌, subst, append-nil, length, Option, Some, None, refl, sym, ◌∙◌, ap, arith, cond, nat_eq}
+use Rattle.std.proofs.Common.{◌≡◌, ℕ, true, false, ◌⊎◌, inl, inr, List, [], ◌∷◌, ◌++◌, ◌<◌, subst, append-nil, length, Option, Some, None, refl, sym, ◌∙◌, ap, arith, cond, nat_eq}
 use Rattle.std.specs.Prelude.{is_some}
 use Rattle.cf_tokens.specs.declared.token.Token.{Token}
 use Rattle.cf_syntax.specs.declared.declarator.DeclTree.{DeclTree}
 use Rattle.cf_syntax.specs.declared.declarator.DeclTree.TheVariants as decl
 use Rattle.cf_syntax.specs.declared.declarator.Param.{Param}
-use Rattle.cf_syntax.specs.declared.declarator.TypeId.{TypeId}
 use Rattle.cf_syntax.specs.declared.expression.Expr.{Expr}
 use Rattle.cf_syntax.specs.declared.reading.DeclaratorKind.{DeclaratorKind}
 use Rattle.cf_syntax.specs.declared.reading.DeclaratorKind.TheVariants as kind
 use Rattle.cf_syntax.specs.declared.type_names.Scope.{Scope}
 use Rattle.cf_syntax.specs.NamesData.{Names}
 use Rattle.cf_syntax.specs.Words.{front, left_paren, right_paren, left_bracket, right_bracket, comma, equals}
-use Rattle.cf_syntax.specs.Named.{opened, one_pointer, const_behind}
+use Rattle.cf_syntax.specs.Named.{opened, one_pointer}
 use Rattle.cf_syntax.specs.Specified.{specifiers, name}
-use Rattle.cf_syntax.specs.Parse.{Parse, pure, none, with_rest, then, choose, or_stop, option, repeat, word}
-use Rattle.cf_syntax.specs.Language.{Language, Never, Exactly, Word, Then, Made, Where, Maybe, Many, By, ended, again}
+use Rattle.cf_syntax.specs.Parse.{Parse, none, with_rest, choose, or_stop, option, repeat, word}
+use Rattle.cf_syntax.specs.Language.{Language, Never, Exactly, Word, Then, Made, Maybe, Many, By, ended, again}
 use Rattle.cf_syntax.specs.Grammar.{Inside, sees, begins, name_words, specifier_words, here, param_of, with_default, ParamsInBrackets, HoldsParams, NamedHead, BracketedHead, BracketedUnless, SomeHead, ArrayBound, ArrayBehind, ParametersBehind, FunctionBehind, DeclaratorBehind, Declarator, PlainParam, DefaultBehind, OneParam, NextParam, SomeParams, Params, TypeInside}
-use Rattle.cf_syntax.specs.Reading.{Readers, params_in_brackets, holds_params, named_head, bracketed_head, bracketed_unless, some_head, array_bound, array_behind, parameters_behind, function_behind, declarator_behind, pointed, direct, declarator, plain_param, default_behind, one_param, next_param, some_params, params, type_inside}
+use Rattle.cf_syntax.specs.Reading.{Readers, params_in_brackets, holds_params, named_head, bracketed_head, bracketed_unless, some_head, array_bound, array_behind, parameters_behind, function_behind, declarator_behind, direct, declarator, plain_param, default_behind, one_param, next_param, some_params, params, type_inside}
 use Rattle.cf_syntax.proofs.Good.{among, within, Exceeds, Meets, both-ways, apart-at, split-rest, Good, Starts, Eats, good-wider, good-then, good-made, good-exactly, starts-word, within-at}
 use Rattle.cf_syntax.proofs.Tails.{Tail, tail-option, good-by, good-only, good-never, good-close}
 use Rattle.cf_syntax.proofs.Repeats.{tail-repeat, good-tail}
-use Rattle.cf_syntax.proofs.Keeps.{Keeps, keeps-never, keeps-exactly, keeps-then, keeps-made, keeps-by, keeps-where, keeps-maybe, keeps-many, keeps-eats, eats-word, eats-then, starts-then, eats-made, starts-made, starts-by, eats-by}
+use Rattle.cf_syntax.proofs.Keeps.{Keeps, keeps-never, keeps-exactly, keeps-then, keeps-made, keeps-by, keeps-maybe, keeps-many, keeps-eats, eats-word, eats-then, starts-then, eats-made, starts-made, starts-by, eats-by}
 use Rattle.cf_syntax.proofs.Under.{under-some, under-name, under-one_pointer, under-const_behind, under-specifiers, name-strict, specifiers-strict}
 use Rattle.cf_syntax.proofs.Inner.{Inner, behind_assign, behind_condition, behind_declarator, behind_params}
 use Rattle.cf_syntax.proofs.Operands.{good-after, good-behind, is-some-has}

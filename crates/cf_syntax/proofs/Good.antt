@@ -1,10 +1,10 @@
 -- What it means that a reading function reads the longest phrase of a language, and how that comes from parts.
-use Rattle.std.proofs.Common.{◌≡◌, ℕ, zero, suc, ◌+◌, ◌<◌, ◌≤◌, Bool, true, false, cond, ◌&&◌, ◌||◌, not, ◌⊎◌, inl, inr, List, [], ◌∷◌, ◌++◌, length, Option, Some, None, nat_eq, refl, sym, ◌∙◌, ap, subst, arith}
+use Rattle.std.proofs.Common.{◌≡◌, ℕ, ◌<◌, Bool, true, false, cond, ◌⊎◌, inl, inr, List, [], ◌∷◌, length, Option, Some, None, nat_eq, refl, sym, ◌∙◌, ap, subst}
 use Rattle.std.proofs.lemmas.Bool.{eqb-true}
 use Rattle.cf_tokens.specs.declared.token.Token.{Token}
 use Rattle.cf_syntax.specs.Words.{code, front}
-use Rattle.cf_syntax.specs.Parse.{Parse, pure, with_rest, then, choose, or_stop, option, turn, loop, repeat, word}
-use Rattle.cf_syntax.specs.Language.{Language, Empty, Never, Exactly, Then, Either, Made, Where, Maybe, Many, Word, ended, again}
+use Rattle.cf_syntax.specs.Parse.{Parse, pure, with_rest, then, word}
+use Rattle.cf_syntax.specs.Language.{Language, Empty, Exactly, Then, Made, Word}
 
 -- ---- sets of codes
 

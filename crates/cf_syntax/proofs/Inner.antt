@@ -1,5 +1,5 @@
 -- What is known of the readings at a smaller depth, and the sets of words that may go on behind each phrase.
-use Rattle.std.proofs.Common.{◌≡◌, ℕ, zero, suc, List, [], ◌∷◌, ◌++◌}
+use Rattle.std.proofs.Common.{ℕ, zero, suc, List, [], ◌∷◌, ◌++◌}
 use Rattle.cf_syntax.specs.declared.reading.DeclaratorKind.{DeclaratorKind}
 use Rattle.cf_syntax.specs.NamesData.{Names}
 use Rattle.cf_syntax.specs.Operators.{level, assigning}

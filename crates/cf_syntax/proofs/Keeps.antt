@@ -1,11 +1,11 @@
 -- Phrases leave no more tokens than there were, and those that begin with a token leave fewer.
-use Rattle.std.proofs.Common.{◌≡◌, ℕ, zero, suc, ◌+◌, ◌<◌, ◌≤◌, Bool, true, false, cond, ◌⊎◌, inl, inr, List, [], ◌∷◌, ◌++◌, length, drop, Option, Some, None, nat_eq, refl, sym, ◌∙◌, ap, subst, arith}
+use Rattle.std.proofs.Common.{◌≡◌, ℕ, ◌<◌, ◌≤◌, Bool, true, false, cond, inl, inr, List, [], ◌∷◌, length, drop, Option, Some, None, nat_eq, refl, ◌∙◌, ap, arith}
 use Rattle.cf_tokens.specs.declared.token.Token.{Token}
 use Rattle.cf_syntax.specs.Words.{code, front}
 use Rattle.cf_syntax.specs.Parse.{Parse, word}
 use Rattle.cf_syntax.specs.Language.{Language, Empty, Never, Exactly, Word, Then, Either, Made, Where, Maybe, Many, By, Rather, ended, again}
-use Rattle.cf_syntax.specs.Operators.{operator_of, found, operator, heads}
-use Rattle.cf_syntax.proofs.Good.{among, Starts, Eats, both-ways, cond-cases, some-is-not-none, some-value, starts-word}
+use Rattle.cf_syntax.specs.Operators.{operator_of, found, operator}
+use Rattle.cf_syntax.proofs.Good.{among, Starts, Eats, both-ways, cond-cases, some-is-not-none, some-value}
 use Rattle.cf_syntax.proofs.Under.{Under}
 
 abbrev pub Keeps : {A : Type 0} → Language A → Type 0

@@ -1,27 +1,26 @@
 -- Operands of expressions are read as their longest phrases.
-use Rattle.std.proofs.Common.{◌≡◌, ℕ, zero, suc, Bool, true, false, ◌⊎◌, inl, inr, List, [], ◌∷◌, ◌++◌, length, Option, Some, None, refl, sym, ap, arith}
+use Rattle.std.proofs.Common.{◌≡◌, ℕ, true, false, ◌⊎◌, inl, inr, List, [], ◌∷◌, ◌++◌, length, Option, Some, None, refl, ap, arith}
 use Rattle.std.specs.Prelude.{is_some}
 use Rattle.cf_tokens.specs.declared.token.Token.{Token}
 use Rattle.cf_syntax.specs.declared.expression.Expr.{Expr}
 use Rattle.cf_syntax.specs.declared.expression.Expr.TheVariants as tree
-use Rattle.cf_syntax.specs.declared.declarator.TypeId.{TypeId}
 use Rattle.cf_syntax.specs.declared.name.Name.{Name}
 use Rattle.cf_syntax.specs.declared.reading.Suffix.{Suffix}
 use Rattle.cf_syntax.specs.declared.reading.Suffix.TheVariants as suffix
 use Rattle.cf_syntax.specs.NamesData.{Names}
-use Rattle.cf_syntax.specs.Words.{front, left_paren, right_paren, left_bracket, right_bracket, comma, dot, arrow, tilde, new_word, delete_word, sizeof_word}
-use Rattle.cf_syntax.specs.Named.{type_path, pointers}
-use Rattle.cf_syntax.specs.Specified.{specifiers, name}
-use Rattle.cf_syntax.specs.Operators.{prefixing, stepping, operator, heads}
-use Rattle.cf_syntax.specs.Parse.{Parse, pure, none, then, choose, option, repeat, word}
-use Rattle.cf_syntax.specs.Language.{Language, Empty, Never, Exactly, Word, Then, Either, Made, Where, Maybe, Many, By, Rather}
-use Rattle.cf_syntax.specs.Grammar.{Inside, sees, constant, basic_word, allocates, from_file, array_brackets, applied, NextAssign, MoreAssigns, Arguments, TypeInBrackets, HoldsType, Bracketed, Head, Member, Behind, Post, Sizeof, Bound, Bounds, Initialised, NewType, Allocation, Unary, Cast}
-use Rattle.cf_syntax.specs.Reading.{Readers, next_assign, more_assigns, first_assigns, arguments_behind, arguments, type_in_brackets, holds_type, bracketed, basic_call, type_call, named, head, member, index, behind, post, size_of, bound, bounds, initialised, new_bracketed, new_plain, new_type, deleted, allocation, stepped, prefixed, unary, cast_only, cast}
-use Rattle.cf_syntax.proofs.Good.{among, disjoint, within, Exceeds, Good, Starts, Eats, good-wider, good-then, good-made, good-exactly, within-at, starts-word}
-use Rattle.cf_syntax.proofs.Tails.{Tail, tail-option, tail-made, good-where, good-by, good-never, good-close}
+use Rattle.cf_syntax.specs.Words.{front, left_paren, right_paren, left_bracket, right_bracket, comma, dot, arrow, tilde}
+use Rattle.cf_syntax.specs.Named.{type_path}
+use Rattle.cf_syntax.specs.Specified.{name}
+use Rattle.cf_syntax.specs.Operators.{stepping, operator}
+use Rattle.cf_syntax.specs.Parse.{Parse, none, then, word}
+use Rattle.cf_syntax.specs.Language.{Language, Never, Exactly, Word, Then, Made, By}
+use Rattle.cf_syntax.specs.Grammar.{Inside, sees, constant, basic_word, applied, NextAssign, MoreAssigns, Arguments, TypeInBrackets, HoldsType, Bracketed, Head, Member, Behind, Post}
+use Rattle.cf_syntax.specs.Reading.{Readers, next_assign, more_assigns, first_assigns, arguments_behind, arguments, type_in_brackets, holds_type, bracketed, named, head, member, behind, post}
+use Rattle.cf_syntax.proofs.Good.{within, Exceeds, Good, Starts, Eats, good-wider, good-then, good-made, good-exactly, within-at, starts-word}
+use Rattle.cf_syntax.proofs.Tails.{Tail, good-by, good-never, good-close}
 use Rattle.cf_syntax.proofs.Repeats.{tail-repeat, good-tail}
-use Rattle.cf_syntax.proofs.Keeps.{Keeps, codes_of, keeps-never, keeps-exactly, keeps-then, keeps-made, keeps-by, keeps-rather, keeps-maybe, keeps-many, keeps-eats, eats-word, eats-then, starts-then, eats-made, starts-made, starts-by, eats-by, starts-operator, eats-operator}
-use Rattle.cf_syntax.proofs.Under.{under-constant, under-basic_word, under-type_path, under-name, under-pointers, under-specifiers, under-from_file, under-array_brackets, under-operator}
+use Rattle.cf_syntax.proofs.Keeps.{Keeps, codes_of, keeps-never, keeps-exactly, keeps-then, keeps-made, keeps-by, keeps-many, keeps-eats, eats-word, eats-then, starts-then, eats-made, starts-made, starts-by, eats-by, starts-operator, eats-operator}
+use Rattle.cf_syntax.proofs.Under.{under-constant, under-basic_word, under-type_path, under-name}
 use Rattle.cf_syntax.proofs.Inner.{Inner, suffixes, behind_assign, behind_commas, behind_declarator}
 
 module _ («in» : Inside) (r : Readers) (ok : Inner «in» r) where

@@ -1,8 +1,8 @@
 -- What may follow a phrase any number of times, and a phrase with such a tail.
-use Rattle.std.proofs.Common.{◌≡◌, ℕ, zero, suc, ◌+◌, ◌<◌, ◌≤◌, Bool, true, false, cond, ◌⊎◌, inl, inr, List, [], ◌∷◌, ◌++◌, length, Option, Some, None, nat_eq, refl, sym, ◌∙◌, ap, subst, arith}
+use Rattle.std.proofs.Common.{◌≡◌, ℕ, zero, suc, ◌<◌, ◌≤◌, true, ◌⊎◌, inl, inr, List, ◌++◌, length, Option, Some, None, refl, sym, ◌∙◌, ap, subst, arith}
 use Rattle.cf_tokens.specs.declared.token.Token.{Token}
 use Rattle.cf_syntax.specs.Words.{front}
-use Rattle.cf_syntax.specs.Parse.{Parse, pure, with_rest, then, turn, loop, repeat}
+use Rattle.cf_syntax.specs.Parse.{Parse, with_rest, then, turn, loop, repeat}
 use Rattle.cf_syntax.specs.Language.{Language, Then, Many, ended, again}
 use Rattle.cf_syntax.proofs.Good.{among, disjoint, Exceeds, Meets, Good, Starts, Eats, both-ways, apart-at, within-at, within, good-wider, split-rest, some-value}
 use Rattle.cf_syntax.proofs.Tails.{Tail, among-left, among-right}

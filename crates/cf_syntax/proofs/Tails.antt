@@ -1,10 +1,10 @@
 -- What may follow a phrase, once or any number of times, and choices by a test of the tokens.
-use Rattle.std.proofs.Common.{◌≡◌, ℕ, zero, suc, ◌+◌, ◌<◌, ◌≤◌, Bool, true, false, cond, ◌⊎◌, inl, inr, List, [], ◌∷◌, ◌++◌, length, Option, Some, None, nat_eq, refl, sym, ◌∙◌, ap, subst, arith}
+use Rattle.std.proofs.Common.{◌≡◌, ℕ, ◌<◌, ◌≤◌, Bool, true, false, cond, ◌⊎◌, inl, inr, List, [], ◌∷◌, ◌++◌, length, Option, Some, None, nat_eq, refl, sym, ◌∙◌, ap, subst, arith}
 use Rattle.cf_tokens.specs.declared.token.Token.{Token}
 use Rattle.cf_syntax.specs.Words.{front}
-use Rattle.cf_syntax.specs.Parse.{Parse, pure, with_rest, none, then, choose, or_stop, option, turn, loop, repeat, word}
-use Rattle.cf_syntax.specs.Language.{Language, Empty, Exactly, Then, Either, Made, Where, Maybe, Many, By, Never, Word, ended, again}
-use Rattle.cf_syntax.proofs.Good.{among, disjoint, within, Exceeds, Meets, Good, Starts, Eats, both-ways, cond-cases, apart-at, within-at, split-rest, some-is-not-none, some-value, good-wider, good-then, good-made, good-exactly, starts-word}
+use Rattle.cf_syntax.specs.Parse.{Parse, pure, with_rest, none, then, choose, or_stop, option, word}
+use Rattle.cf_syntax.specs.Language.{Language, Then, Either, Made, Where, Maybe, By, Never, Word}
+use Rattle.cf_syntax.proofs.Good.{among, disjoint, within, Meets, Good, Starts, Eats, both-ways, cond-cases, apart-at, within-at, some-is-not-none, some-value, good-wider, good-then, good-made, good-exactly, starts-word}
 
 -- ---- choices
 

@@ -1,24 +1,22 @@
 -- Unary expressions and casts are read as their longest phrases.
-use Rattle.std.proofs.Common.{◌≡◌, ℕ, zero, suc, Bool, true, false, List, [], ◌∷◌, ◌++◌, length, Option, Some, None, refl, sym, ap, arith}
-use Rattle.cf_tokens.specs.declared.token.Token.{Token}
+use Rattle.std.proofs.Common.{ℕ, Bool, true, false, List, [], ◌∷◌, ◌++◌, length, refl, arith}
 use Rattle.cf_syntax.specs.declared.expression.Expr.{Expr}
 use Rattle.cf_syntax.specs.declared.expression.Expr.TheVariants as tree
 use Rattle.cf_syntax.specs.NamesData.{Names}
-use Rattle.cf_syntax.specs.Words.{front, left_paren, left_bracket, right_bracket, new_word, delete_word, sizeof_word}
+use Rattle.cf_syntax.specs.Words.{left_paren, left_bracket, right_bracket, new_word, delete_word, sizeof_word}
 use Rattle.cf_syntax.specs.Named.{pointers}
 use Rattle.cf_syntax.specs.Specified.{specifiers}
 use Rattle.cf_syntax.specs.Operators.{prefixing, stepping, operator}
-use Rattle.cf_syntax.specs.Parse.{Parse, pure, then, word}
-use Rattle.cf_syntax.specs.Language.{Language, Exactly, Word, Then, Made, Where, Maybe, By, Rather}
-use Rattle.cf_syntax.specs.Grammar.{Inside, from_file, array_brackets, Arguments, TypeInBrackets, HoldsType, Post, Sizeof, Bound, Bounds, Initialised, NewType, Allocation, Unary, Cast}
-use Rattle.cf_syntax.specs.Reading.{Readers, arguments, type_in_brackets, holds_type, size_of, bound, bounds, initialised, new_type, allocation, unary, cast_only, cast, post}
-use Rattle.cf_syntax.proofs.Good.{Good, Eats, good-wider, good-then, good-made, good-exactly}
+use Rattle.cf_syntax.specs.Language.{Language, Word, Then, Made}
+use Rattle.cf_syntax.specs.Grammar.{Inside, from_file, array_brackets, Arguments, TypeInBrackets, HoldsType, Sizeof, Bound, Bounds, Initialised, NewType, Allocation, Unary, Cast}
+use Rattle.cf_syntax.specs.Reading.{Readers, arguments, type_in_brackets, holds_type, size_of, bound, bounds, initialised, new_type, allocation, unary, cast_only, cast}
+use Rattle.cf_syntax.proofs.Good.{Good, Eats, good-wider, good-then, good-made}
 use Rattle.cf_syntax.proofs.Tails.{Tail, tail-option, tail-made, good-where, good-by, good-close}
 use Rattle.cf_syntax.proofs.Repeats.{tail-repeat, good-tail}
 use Rattle.cf_syntax.proofs.Keeps.{Keeps, keeps-exactly, keeps-then, keeps-made, keeps-by, keeps-rather, keeps-maybe, keeps-many, keeps-eats, eats-word, eats-then, starts-then, eats-made, starts-made}
 use Rattle.cf_syntax.proofs.Good.{starts-word}
 use Rattle.cf_syntax.proofs.Under.{under-pointers, under-specifiers, under-from_file, under-array_brackets, under-operator}
-use Rattle.cf_syntax.proofs.Inner.{Inner, suffixes, behind_assign, behind_commas}
+use Rattle.cf_syntax.proofs.Inner.{Inner, suffixes, behind_commas}
 use Rattle.cf_syntax.proofs.Operands.{good-after, good-behind, good-arguments, eats-arguments, starts-arguments, good-type_in_brackets, eats-type_in_brackets, type-held, type-decides, good-post, keeps-post}
 
 module _ («in» : Inside) (r : Readers) (ok : Inner «in» r) where

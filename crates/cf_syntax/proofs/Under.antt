@@ -1,6 +1,5 @@
 -- What is read leaves no more tokens than there were.
-use Rattle.std.proofs.Common.{◌≡◌, ℕ, zero, suc, ◌+◌, ◌<◌, ◌≤◌, Bool, true, false, cond, List, [], ◌∷◌, ◌++◌, length, drop, Option, Some, None, nat_eq, refl, sym, ◌∙◌, ap, subst, arith, length-drop}
-use Rattle.std.specs.Prelude.{is_some}
+use Rattle.std.proofs.Common.{◌≡◌, ℕ, zero, suc, ◌<◌, ◌≤◌, Bool, true, false, cond, List, [], ◌∷◌, length, drop, Option, Some, None, nat_eq, refl, sym, ap, subst, arith, length-drop}
 use Rattle.cf_tokens.specs.declared.token.Token.{Token}
 use Rattle.cf_syntax.specs.declared.asked.Asked.{Asked}
 use Rattle.cf_syntax.specs.declared.name.Last.{Last}
@@ -15,12 +14,11 @@ use Rattle.cf_syntax.specs.declared.specifier.Storage.{Storage}
 use Rattle.cf_syntax.specs.declared.specifier.TypeSpecifier.{TypeSpecifier}
 use Rattle.cf_syntax.specs.NamesData.{Names}
 use Rattle.cf_syntax.specs.Words.{code, front, place, ident_at}
-use Rattle.cf_syntax.specs.Parse.{Parse, pure, with_rest, then, turn, loop, repeat, word}
-use Rattle.cf_syntax.specs.Language.{Language, Exactly}
-use Rattle.cf_syntax.specs.Named.{type_at, qualified, qualifier, qualifiers, unqualified, last_type, type_path, before_ident, last_ident, ident_path_from, ident_path, const_behind, no_names, to_member, one_pointer, pointers, path_of}
-use Rattle.cf_syntax.specs.Specified.{storage_of, basic_of, key_of, named_type, keyed_type, basic_type, storage_word, one_specifier, no_specifiers, specifiers, operator_number, pair_of, conversion, operator_name, some_ident, last_part, name}
+use Rattle.cf_syntax.specs.Parse.{Parse, with_rest, turn, loop, repeat, word}
+use Rattle.cf_syntax.specs.Named.{type_at, qualified, qualifier, qualifiers, unqualified, last_type, type_path, before_ident, last_ident, ident_path_from, ident_path, const_behind, no_names, to_member, one_pointer, pointers}
+use Rattle.cf_syntax.specs.Specified.{storage_of, basic_of, key_of, named_type, keyed_type, basic_type, storage_word, one_specifier, no_specifiers, specifiers, pair_of, operator_name, some_ident, last_part, name}
 use Rattle.cf_syntax.specs.Operators.{operator_of, found, operator}
-use Rattle.cf_syntax.specs.Grammar.{constant_of, taken, constant, basic_word, from_file, array_brackets, here}
+use Rattle.cf_syntax.specs.Grammar.{constant_of, taken, constant, basic_word, from_file, array_brackets}
 use Rattle.cf_syntax.proofs.Good.{split-rest, some-value, some-is-not-none}
 
 pub record Under {A : Type 0} (n : ℕ) (r : Option (A × List Token)) : Type 0 where

@@ -1,18 +1,14 @@
 -- At each depth the readings are those of the longest phrases, so tokens have at most one tree.
-use Rattle.std.proofs.Common.{◌≡◌, ℕ, zero, suc, true, ◌<◌, ◌≤◌, ◌⊎◌, inl, inr, List, [], ◌∷◌, length, Option, Some, None, refl, sym, ◌∙◌, ap, arith}
+use Rattle.std.proofs.Common.{◌≡◌, ℕ, zero, suc, true, ◌≤◌, inl, inr, List, [], length, Some, refl, sym, ◌∙◌, ap, arith}
 use Rattle.cf_tokens.specs.declared.token.Token.{Token}
-use Rattle.cf_syntax.specs.declared.declarator.DeclTree.{DeclTree}
-use Rattle.cf_syntax.specs.declared.declarator.Param.{Param}
-use Rattle.cf_syntax.specs.declared.declarator.TypeId.{TypeId}
-use Rattle.cf_syntax.specs.declared.expression.Expr.{Expr}
 use Rattle.cf_syntax.specs.declared.reading.DeclaratorKind.TheVariants as kind
 use Rattle.cf_syntax.specs.NamesData.{Names}
 use Rattle.cf_syntax.specs.Parse.{Parse, none}
 use Rattle.cf_syntax.specs.Language.{Language, Never}
 use Rattle.cf_syntax.specs.Grammar.{inside, SpellsCommas, SpellsAssign, SpellsCondition, SpellsDeclarator, SpellsParams, SpellsTypeId}
 use Rattle.cf_syntax.specs.Reading.{readers}
-use Rattle.cf_syntax.specs.Longest.{IsLongest, HasOneLongest, HasOneTree}
-use Rattle.cf_syntax.proofs.Good.{Meets, Exceeds, Good, good-wider, some-value, within}
+use Rattle.cf_syntax.specs.Longest.{HasOneLongest, HasOneTree}
+use Rattle.cf_syntax.proofs.Good.{Meets, Good, good-wider, some-value, within}
 use Rattle.cf_syntax.proofs.Tails.{good-never}
 use Rattle.cf_syntax.proofs.Keeps.{keeps-never}
 use Rattle.cf_syntax.proofs.Inner.{Inner, suffixes, behind_condition, behind_assign, behind_commas, behind_declarator, behind_params}

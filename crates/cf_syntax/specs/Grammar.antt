@@ -2,7 +2,7 @@
 --
 -- Each production is a language made of parts. What stands inside it at a smaller depth is a part `in`; the depth of a
 -- phrase is at most the number of its tokens.
-use Rattle.std.specs.Prelude.{◌≡◌, ℕ, zero, suc, Bool, true, false, cond, ◌&&◌, ◌||◌, not, List, [], ◌∷◌, ◌++◌, length, drop, Option, Some, None, nat_eq, is_some}
+use Rattle.std.specs.Prelude.{ℕ, zero, suc, Bool, true, false, cond, ◌&&◌, ◌||◌, List, [], ◌∷◌, ◌++◌, length, drop, Option, Some, None, nat_eq, is_some}
 use Rattle.cf_tokens.specs.declared.token.Token.{Token}
 use Rattle.cf_tokens.specs.declared.token.Word.{Word as TokenWord}
 use Rattle.cf_tokens.specs.declared.token.Word.TheVariants as words
@@ -25,9 +25,9 @@ use Rattle.cf_syntax.specs.NamesData.{Names}
 use Rattle.cf_syntax.specs.Named.{opened, type_path, one_pointer, pointers, const_behind}
 use Rattle.cf_syntax.specs.Specified.{specifiers, name, basic_of}
 use Rattle.cf_syntax.specs.Operators.{level, assigning, prefixing, stepping, operator, heads}
-use Rattle.cf_syntax.specs.Parse.{Parse, pure, then}
-use Rattle.cf_syntax.specs.Language.{Language, Empty, Never, Exactly, Word, Then, Either, Made, Where, Maybe, Many, By, Rather}
-use Rattle.cf_syntax.specs.Words.{front, place, left_paren, right_paren, left_bracket, right_bracket, comma, colon, scope, question, dot, arrow, tilde, equals, delete_word, new_word, sizeof_word, this_word}
+use Rattle.cf_syntax.specs.Parse.{Parse}
+use Rattle.cf_syntax.specs.Language.{Language, Never, Exactly, Word, Then, Either, Made, Where, Maybe, Many, By, Rather}
+use Rattle.cf_syntax.specs.Words.{front, place, left_paren, right_paren, left_bracket, right_bracket, comma, colon, scope, question, dot, arrow, tilde, equals, delete_word, new_word, sizeof_word}
 
 -- what stands inside, by the names that are known there
 pub record Inside : Type 1 where

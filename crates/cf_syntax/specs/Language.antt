@@ -2,7 +2,7 @@
 --
 -- A phrase begins with a list of tokens and ends where a rest of it begins. A production of the grammar is a
 -- language made of these parts, and says nothing of how it is read.
-use Rattle.std.specs.Prelude.{◌≡◌, ℕ, Bool, true, false, ◌⊎◌, List, Option, Some}
+use Rattle.std.specs.Prelude.{◌≡◌, ℕ, Bool, true, false, ◌⊎◌, List, Some}
 use Rattle.cf_tokens.specs.declared.token.Token.{Token}
 use Rattle.cf_syntax.specs.Parse.{Parse, word}
 

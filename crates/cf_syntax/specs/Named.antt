@@ -1,30 +1,19 @@
 -- Names and types' names as tokens spell them (5.1, 7.1.6, 10.4). Each is as long as it can be.
-use Rattle.std.specs.Prelude.{ℕ, suc, Bool, true, false, cond, List, [], ◌∷◌, ◌++◌, map, length, drop, Option, Some, None, nat_eq, get_or, is_some}
+use Rattle.std.specs.Prelude.{ℕ, Bool, true, false, cond, List, [], ◌∷◌, ◌++◌, map, drop, Option, Some, None, nat_eq, is_some}
 use Rattle.cf_tokens.specs.declared.token.Token.{Token}
 use Rattle.cf_syntax.specs.declared.asked.Asked.{Asked}
 use Rattle.cf_syntax.specs.declared.asked.Asked.TheVariants as asked
-use Rattle.cf_syntax.specs.declared.name.Last.TheVariants as last
-use Rattle.cf_syntax.specs.declared.name.Name.{Name}
 use Rattle.cf_syntax.specs.declared.name.Path.{Path}
 use Rattle.cf_syntax.specs.declared.reading.Qualifiers.{Qualifiers}
-use Rattle.cf_syntax.specs.declared.reading.Specifiers.{Specifiers}
-use Rattle.cf_syntax.specs.declared.specifier.BasicType.{BasicType}
-use Rattle.cf_syntax.specs.declared.specifier.BasicType.TheVariants as basic
-use Rattle.cf_syntax.specs.declared.specifier.ClassKey.{ClassKey}
-use Rattle.cf_syntax.specs.declared.specifier.ClassKey.TheVariants as key
 use Rattle.cf_syntax.specs.declared.specifier.Pointer.{Pointer}
 use Rattle.cf_syntax.specs.declared.specifier.Pointer.TheVariants as pointer
-use Rattle.cf_syntax.specs.declared.specifier.Storage.{Storage}
-use Rattle.cf_syntax.specs.declared.specifier.Storage.TheVariants as storage
-use Rattle.cf_syntax.specs.declared.specifier.TypeSpecifier.{TypeSpecifier}
-use Rattle.cf_syntax.specs.declared.specifier.TypeSpecifier.TheVariants as specifier
 use Rattle.cf_syntax.specs.declared.type_names.NameKind.{NameKind}
 use Rattle.cf_syntax.specs.declared.type_names.NameKind.TheVariants as kind
 use Rattle.cf_syntax.specs.declared.type_names.Scope.TheVariants as open_scope
 use Rattle.cf_syntax.specs.NamesData.{Names}
-use Rattle.cf_syntax.specs.Names.{find, find_in, find_in_file, or_else}
-use Rattle.cf_syntax.specs.Parse.{Parse, pure, then, repeat, word, with_rest}
-use Rattle.cf_syntax.specs.Words.{front, place, ident_at, scope, tilde, star, ampersand, const_word, class_word, struct_word, enum_word, operator_word, left_paren, left_bracket, right_paren, right_bracket}
+use Rattle.cf_syntax.specs.Names.{find, find_in, find_in_file}
+use Rattle.cf_syntax.specs.Parse.{Parse, pure, then, repeat, word}
+use Rattle.cf_syntax.specs.Words.{front, place, ident_at, scope, star, ampersand, const_word}
 
 -- ---- what a name is where it is asked
 

@@ -1,5 +1,5 @@
 -- Operators by the codes of their words (5.3 to 5.17).
-use Rattle.std.specs.Prelude.{ℕ, zero, suc, Bool, true, false, cond, List, [], ◌∷◌, drop, Option, Some, None, nat_eq, ◌||◌}
+use Rattle.std.specs.Prelude.{ℕ, zero, suc, Bool, true, false, cond, List, [], ◌∷◌, drop, Option, Some, None, nat_eq}
 use Rattle.cf_tokens.specs.declared.token.Token.{Token}
 use Rattle.cf_syntax.specs.declared.operator.AssignOp.{AssignOp}
 use Rattle.cf_syntax.specs.declared.operator.AssignOp.TheVariants as assign

@@ -1,7 +1,7 @@
 -- Reading from a list of tokens: what is read, with the tokens behind it, or nothing.
-use Rattle.std.specs.Prelude.{ℕ, zero, suc, Bool, cond, List, [], ◌∷◌, length, drop, Option, Some, None, nat_eq}
+use Rattle.std.specs.Prelude.{ℕ, zero, suc, Bool, cond, List, [], ◌∷◌, length, Option, Some, None, nat_eq}
 use Rattle.cf_tokens.specs.declared.token.Token.{Token}
-use Rattle.cf_syntax.specs.Words.{code, front}
+use Rattle.cf_syntax.specs.Words.{code}
 
 abbrev pub Parse : Type 0 → Type 0
 Parse A = List Token → Option (A × List Token)

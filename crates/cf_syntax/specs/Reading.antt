@@ -1,5 +1,5 @@
 -- How expressions and declarators are read from the left, without looking back.
-use Rattle.std.specs.Prelude.{ℕ, zero, suc, Bool, true, false, cond, ◌&&◌, ◌||◌, List, [], ◌∷◌, ◌++◌, length, drop, Option, Some, None, nat_eq, is_some}
+use Rattle.std.specs.Prelude.{ℕ, zero, suc, Bool, true, false, List, [], ◌∷◌, ◌++◌, Option, Some, None, is_some}
 use Rattle.cf_tokens.specs.declared.token.Token.{Token}
 use Rattle.cf_syntax.specs.declared.declarator.DeclTree.{DeclTree}
 use Rattle.cf_syntax.specs.declared.declarator.DeclTree.TheVariants as decl
@@ -14,14 +14,13 @@ use Rattle.cf_syntax.specs.declared.reading.DeclaratorKind.{DeclaratorKind}
 use Rattle.cf_syntax.specs.declared.reading.DeclaratorKind.TheVariants as kind
 use Rattle.cf_syntax.specs.declared.reading.Suffix.{Suffix}
 use Rattle.cf_syntax.specs.declared.reading.Suffix.TheVariants as suffix
-use Rattle.cf_syntax.specs.declared.specifier.TypeSpecifier.{TypeSpecifier}
 use Rattle.cf_syntax.specs.NamesData.{Names}
 use Rattle.cf_syntax.specs.Named.{opened, type_path, one_pointer, pointers, const_behind}
 use Rattle.cf_syntax.specs.Specified.{specifiers, name}
 use Rattle.cf_syntax.specs.Operators.{level, assigning, prefixing, stepping, operator, heads}
 use Rattle.cf_syntax.specs.Parse.{Parse, pure, none, then, choose, option, repeat, word}
 use Rattle.cf_syntax.specs.Grammar.{sees, begins, name_words, specifier_words, here, constant, basic_word, allocates, from_file, array_brackets, applied, param_of, with_default}
-use Rattle.cf_syntax.specs.Words.{front, left_paren, right_paren, left_bracket, right_bracket, comma, colon, scope, question, dot, arrow, tilde, equals, delete_word, new_word, sizeof_word}
+use Rattle.cf_syntax.specs.Words.{left_paren, right_paren, left_bracket, right_bracket, comma, colon, question, dot, arrow, tilde, equals, delete_word, new_word, sizeof_word}
 
 -- how what stands inside is read
 pub record Readers : Type 0 where

@@ -1,6 +1,5 @@
 -- Specifiers and whole names as tokens spell them (5.1, 7.1). Each is as long as it can be.
-use Rattle.std.specs.Prelude.{ℕ, suc, Bool, true, false, cond, List, [], ◌∷◌, ◌++◌, length, drop, Option, Some, None, nat_eq, get_or, is_some}
-use Rattle.cf_tokens.specs.declared.token.Token.{Token}
+use Rattle.std.specs.Prelude.{ℕ, true, false, cond, List, [], ◌∷◌, ◌++◌, drop, Option, Some, None, nat_eq, get_or}
 use Rattle.cf_syntax.specs.declared.name.Last.{Last}
 use Rattle.cf_syntax.specs.declared.name.Last.TheVariants as last
 use Rattle.cf_syntax.specs.declared.name.Name.{Name}
@@ -15,7 +14,7 @@ use Rattle.cf_syntax.specs.declared.specifier.Storage.TheVariants as storage
 use Rattle.cf_syntax.specs.declared.specifier.TypeSpecifier.{TypeSpecifier}
 use Rattle.cf_syntax.specs.declared.specifier.TypeSpecifier.TheVariants as specifier
 use Rattle.cf_syntax.specs.NamesData.{Names}
-use Rattle.cf_syntax.specs.Parse.{Parse, pure, none, then, repeat, word}
+use Rattle.cf_syntax.specs.Parse.{Parse, pure, then, repeat, word}
 use Rattle.cf_syntax.specs.Words.{front, place, ident_at, scope, tilde, const_word, class_word, struct_word, enum_word, operator_word, left_paren, left_bracket, right_paren, right_bracket}
 use Rattle.cf_syntax.specs.Named.{qualifiers, type_path, ident_path, pointers}
 
