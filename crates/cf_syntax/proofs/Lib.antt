@@ -6,6 +6,7 @@ pub mod Keeps
 pub mod Newest
 pub mod Operands
 pub mod Repeats
+mod Samples
 pub mod Tails
 pub mod Unaries
 pub mod Under
