@@ -18,7 +18,8 @@ names : Names
 names = record {
   classes = record { entries = []; bases = []; is_defined = true } ∷ [];
   file = record { name = 84 ∷ []; kind = kind.Plain } ∷ record { name = 67 ∷ []; kind = kind.OfClass 0 } ∷ [];
-  inner = []; }
+  inner = [];
+}
 
 abbrev id : ℕ → Token
 id c = record { word = words.Ident (c ∷ []); at = 0; len = 1 }
