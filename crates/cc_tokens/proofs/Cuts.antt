@@ -1,16 +1,16 @@
 -- A text is cut in one way.
-use Rattle.std.proofs.Common.{◌≡◌, ◌≢◌, ℕ, zero, suc, ◌+◌, ◌<◌, ◌≤◌, Bool, true, false, cond, ◌||◌, ◌==◌, List, [], ◌∷◌, ◌++◌, length, take, drop, refl, ap, sym, ◌∙◌, subst, arith, Option, Some, None, ⊎_elim, append_assoc}
-use Rattle.std.proofs.lemmas.Bool.{false≢true, true≢false, or_cases, eqb-true}
+use Rattle.std.proofs.Common.{◌≡◌, ℕ, suc, ◌+◌, ◌<◌, ◌≤◌, Bool, true, false, cond, ◌==◌, List, [], ◌∷◌, ◌++◌, length, take, drop, refl, ap, sym, ◌∙◌, subst, arith, Some, None, ⊎_elim, append_assoc}
+use Rattle.std.proofs.lemmas.Bool.{true≢false, or_cases, eqb-true}
 use Rattle.std.proofs.lemmas.List.{take_at, drop_at, take-append-drop, append-nil}
 use Rattle.std.specs.List.{prefix_len}
 use Rattle.cc_tokens.specs.declared.token.Token.{Token}
 use Rattle.cc_tokens.specs.declared.front.Shape.{Shape}
-use Rattle.cc_tokens.specs.Token.{begins, is_token, spelling, ends}
+use Rattle.cc_tokens.specs.Token.{begins, spelling}
 use Rattle.cc_tokens.specs.Cut.{Cut, ended, blank, token, is_blank}
 use Rattle.cc_tokens.specs.Front.{front, token_of}
 use Rattle.cc_tokens.proofs.Runs.{run_stops}
 use Rattle.cc_tokens.proofs.Fronts.{complete, of_shape, shape_of}
-use Rattle.cc_tokens.proofs.Found.{IsFront, found}
+use Rattle.cc_tokens.proofs.Found.{found}
 
 blank_none : (b : ℕ) (bs : List ℕ) → is_blank b ≡ true → front (b ∷ bs) ≡ None
 unfolding front
@@ -134,13 +134,13 @@ one_more text rest out q h e =
       goes_on = λ ts c. subst (λ z. Cut text z) (sym (append_assoc out (t ∷ []) ts))
           (h.goes_on (t ∷ ts) (cut_token rest q ts e (blanks_before (drop q.1 rest) ts c)));
       only = λ us c.
-        let l = h.only us c in
-        let k = only_token l.cut q e in
-        record {
-          more = k.more;
-          parts = l.parts ∙ (ap (λ z. out ++ z) k.parts ∙ sym (append_assoc out (t ∷ []) k.more));
-          cut = blanks_off (drop q.1 rest) k.more k.cut;
-        };
+          let l = h.only us c in
+          let k = only_token l.cut q e in
+          record {
+            more = k.more;
+            parts = l.parts ∙ (ap (λ z. out ++ z) k.parts ∙ sym (append_assoc out (t ∷ []) k.more));
+            cut = blanks_off (drop q.1 rest) k.more k.cut;
+          };
       bare = run_stops is_blank (drop q.1 rest);
     }
 

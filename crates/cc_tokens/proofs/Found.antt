@@ -1,22 +1,20 @@
 -- What is found at the front is a token that stands there.
-use Rattle.std.proofs.Common.{◌≡◌, ℕ, zero, suc, ◌+◌, ◌-◌, ◌<◌, ◌≤◌, Bool, true, false, cond, ◌&&◌, ◌||◌, ◌==◌, nat_eq, not, List, [], ◌∷◌, ◌++◌, codes, length, take, drop, refl, ap, sym, ◌∙◌, subst, arith, Option, Some, None, IfSome, append_assoc, lit<}
-use Rattle.std.proofs.lemmas.Bool.{and_parts, and_from, false≢true, true≢false, not-true, eqb-true}
-use Rattle.std.proofs.lemmas.Bool.Decides.{nat_tests, Decides-eqb}
+use Rattle.std.proofs.Common.{◌≡◌, ℕ, ◌+◌, ◌-◌, ◌<◌, ◌≤◌, Bool, true, false, ◌&&◌, ◌==◌, nat_eq, not, List, [], ◌∷◌, ◌++◌, codes, length, take, drop, refl, ap, sym, ◌∙◌, subst, arith, Option, Some, None, IfSome, append_assoc, lit<}
+use Rattle.std.proofs.lemmas.Bool.{and_parts, and_from, false≢true, eqb-true}
+use Rattle.std.proofs.lemmas.Bool.Decides.{Decides-eqb}
 use Rattle.std.proofs.lemmas.List.{take_at, drop_at, length-append, length-take, take-append-drop}
 use Rattle.std.proofs.lemmas.List.Sums.{prefix_len-le-length}
 use Rattle.std.proofs.lemmas.Slice.Eq.{starts_is, bytes_eq-Decides}
 use Rattle.std.specs.Char.{is_ascii_digit}
-use Rattle.std.specs.List.{list_all, list_any, prefix_len, starts_with}
+use Rattle.std.specs.List.{list_all, prefix_len, starts_with}
 use Rattle.std.specs.Str.{bytes_eq}
 use Rattle.cc_tokens.specs.declared.mark.Mark.{Mark}
 use Rattle.cc_tokens.specs.declared.mark.Mark.TheVariants as mark
-use Rattle.cc_tokens.specs.declared.token.Token.{Token}
-use Rattle.cc_tokens.specs.declared.token.Token.TheVariants as token
 use Rattle.cc_tokens.specs.declared.front.Shape.{Shape}
 use Rattle.cc_tokens.specs.declared.front.Shape.TheVariants as shape
 use Rattle.cc_tokens.specs.Mark.{mark_text, words, signs}
-use Rattle.cc_tokens.specs.Token.{begins, is_word, is_word_byte, is_numeral, is_token, is_reserved, spelling, goes_on, ends}
-use Rattle.cc_tokens.specs.Front.{front, word_front, number_front, word_shape, sign_shape, reserved, sign_at, is_dash, is_suffix, token_of}
+use Rattle.cc_tokens.specs.Token.{begins, is_word, is_word_byte, is_numeral, is_token, spelling, ends}
+use Rattle.cc_tokens.specs.Front.{front, number_front, word_shape, sign_shape, reserved, sign_at, is_dash, is_suffix, token_of}
 use Rattle.cc_tokens.proofs.Runs.{run_all, run_stops, begins_taken, none_any, find_passes}
 use Rattle.cc_tokens.proofs.Words.{word_ends, sign_ends}
 use Rattle.cc_tokens.proofs.Fronts.{front_word, front_number, front_dash, front_sign}
@@ -50,12 +48,12 @@ suffixed_number : (n : ℕ) (bs : List ℕ) → 0 < n → n ≤ length bs → is
 suffixed_number n bs some within is suffix =
     let (u, stop) = and_parts (begins (λ b. b == 117) (drop n bs)) (not (begins is_word_byte (drop 1 (drop n bs)))) suffix in
     let whole : bs ≡ (take n bs ++ codes "u") ++ drop 1 (drop n bs) =
-        sym (take-append-drop n bs) ∙ (ap (λ r. take n bs ++ r) (one_taken (drop n bs) 117 u) ∙ sym (append_assoc (take n bs) (codes "u") (drop 1 (drop n bs)))) in
+    sym (take-append-drop n bs) ∙ (ap (λ r. take n bs ++ r) (one_taken (drop n bs) 117 u) ∙ sym (append_assoc (take n bs) (codes "u") (drop 1 (drop n bs)))) in
     let len : length (take n bs ++ codes "u") ≡ n + 1 = rw (length-append, length-take) (omega arith) in
     let taken : take (n + 1) bs ≡ take n bs ++ codes "u" = ap (take (n + 1)) whole ∙ take_at (take n bs ++ codes "u") (drop 1 (drop n bs)) (n + 1) len in
     let left : drop (n + 1) bs ≡ drop 1 (drop n bs) = ap (drop (n + 1)) whole ∙ drop_at (take n bs ++ codes "u") (drop 1 (drop n bs)) (n + 1) len in
     let short : take (length (take n bs ++ codes "u") - 1) (take n bs ++ codes "u") ≡ take n bs =
-        take_at (take n bs) (codes "u") (length (take n bs ++ codes "u") - 1) (rw (length-append, length-take) (omega arith)) in
+    take_at (take n bs) (codes "u") (length (take n bs ++ codes "u") - 1) (rw (length-append, length-take) (omega arith)) in
     let fits : n + 1 ≤ length bs = let l : length bs ≡ length ((take n bs ++ codes "u") ++ drop 1 (drop n bs)) = ap length whole in omega (arith, l, len, length-append (take n bs ++ codes "u") (drop 1 (drop n bs))) in
     record {
       some = omega arith;
@@ -114,11 +112,11 @@ sign_stands bs (Some m) q dash e f =
     let passes = find_passes (λ m. starts_with nat_eq bs (mark_text m)) signs m e in
     let parts : bs ≡ mark_text m ++ drop (length (mark_text m)) bs = (starts_is Decides-eqb bs (mark_text m) (starts_with nat_eq bs (mark_text m)) refl).0 passes in
     let taken : take (length (mark_text m)) bs ≡ mark_text m =
-        ap (take (length (mark_text m))) parts ∙ take_at (mark_text m) (drop (length (mark_text m)) bs) (length (mark_text m)) refl in
+    ap (take (length (mark_text m))) parts ∙ take_at (mark_text m) (drop (length (mark_text m)) bs) (length (mark_text m)) refl in
     let stop = sign_ends m (drop (length (mark_text m)) bs) (subst (λ z. sign_at z ≡ Some m) parts e) (subst (λ z. is_dash z ≡ false) parts dash) in
     let fits : length (mark_text m) ≤ length bs = let l = ap length parts in omega (arith, l, length-append (mark_text m) (drop (length (mark_text m)) bs)) in
     some_at (IsFront bs) (shape.Mark m, length (mark_text m)) q
-      (record { some = mark_some m; within = fits; is = refl; ends = rw stop refl; spelled = sym taken }) f
+    (record { some = mark_some m; within = fits; is = refl; ends = rw stop refl; spelled = sym taken }) f
 
 dash_stands : (bs : List ℕ) → is_dash bs ≡ true → IsFront bs (shape.Dash, 1)
 dash_stands bs h =
@@ -131,13 +129,13 @@ dash_stands bs h =
 found_by : (bs : List ℕ) (q : Shape × ℕ) (x y z : Bool) → begins is_ascii_digit bs ≡ x → begins is_word_byte bs ≡ y → is_dash bs ≡ z → front bs ≡ Some q → IsFront bs q
 found_by bs q true y z d w h e =
     number_found (prefix_len is_ascii_digit bs) bs q (is_numeral (take (prefix_len is_ascii_digit bs) bs)) (begins is_word_byte (drop (prefix_len is_ascii_digit bs) bs))
-      (is_suffix (drop (prefix_len is_ascii_digit bs) bs)) (run_some is_ascii_digit bs d) (prefix_len-le-length is_ascii_digit bs) refl refl refl
-      (sym (front_number bs (prefix_len is_ascii_digit bs) d refl) ∙ e)
+    (is_suffix (drop (prefix_len is_ascii_digit bs) bs)) (run_some is_ascii_digit bs d) (prefix_len-le-length is_ascii_digit bs) refl refl refl
+    (sym (front_number bs (prefix_len is_ascii_digit bs) d refl) ∙ e)
 found_by bs q false true z d w h e =
     some_at (IsFront bs) (word_shape (reserved (take (prefix_len is_word_byte bs) bs)), prefix_len is_word_byte bs) q
-      (word_found (prefix_len is_word_byte bs) bs (reserved (take (prefix_len is_word_byte bs) bs)) (run_some is_word_byte bs w) (prefix_len-le-length is_word_byte bs)
-        (word_taken bs d w) (run_stops is_word_byte bs) refl)
-      (sym (front_word bs (prefix_len is_word_byte bs) d w refl) ∙ e)
+    (word_found (prefix_len is_word_byte bs) bs (reserved (take (prefix_len is_word_byte bs) bs)) (run_some is_word_byte bs w) (prefix_len-le-length is_word_byte bs)
+    (word_taken bs d w) (run_stops is_word_byte bs) refl)
+    (sym (front_word bs (prefix_len is_word_byte bs) d w refl) ∙ e)
 found_by bs q false false true d w h e = some_at (IsFront bs) (shape.Dash, 1) q (dash_stands bs h) (sym (front_dash bs d w h) ∙ e)
 found_by bs q false false false d w h e = sign_stands bs (sign_at bs) q h refl (sym (front_sign bs d w h) ∙ e)
 

@@ -1,9 +1,8 @@
 -- The token that is found at the front is the one that stands there.
-use Rattle.std.proofs.Common.{◌≡◌, ℕ, zero, suc, ◌+◌, ◌-◌, ◌<◌, ◌≤◌, Bool, true, false, cond, ◌&&◌, ◌||◌, ◌==◌, not, List, [], ◌∷◌, ◌++◌, codes, length, take, drop, refl, ap, sym, ◌∙◌, subst, arith, Option, Some, None, append_assoc}
-use Rattle.std.proofs.lemmas.Bool.{and_parts, false≢true, true≢false, not-true, eqb-true}
+use Rattle.std.proofs.Common.{◌≡◌, ℕ, ◌+◌, ◌-◌, Bool, true, false, ◌&&◌, not, List, [], ◌∷◌, ◌++◌, codes, length, take, drop, refl, ap, sym, ◌∙◌, arith, Some, append_assoc}
+use Rattle.std.proofs.lemmas.Bool.{and_parts, false≢true, true≢false, not-true}
 use Rattle.std.proofs.lemmas.Bool.Decides.{nat_tests}
-use Rattle.std.proofs.lemmas.List.{take_at, drop_at, length-append, take-append-drop}
-use Rattle.std.proofs.lemmas.List.Sums.{prefix_len-le-length}
+use Rattle.std.proofs.lemmas.List.{take_at, drop_at, length-append}
 use Rattle.std.specs.Char.{is_ascii_digit}
 use Rattle.std.specs.List.{list_all, prefix_len}
 use Rattle.std.specs.Str.{bytes_eq}
@@ -85,7 +84,7 @@ unsigned_is ds rest is stop =
     let suffix : is_suffix (117 ∷ rest) ≡ true = rw stop refl in
     front_number (ds ++ (117 ∷ rest)) (length ds) (numeral_begins ds (117 ∷ rest) is) (sym len)
     ∙ number_unsigned (length ds) (ds ++ (117 ∷ rest)) ds (117 ∷ rest) (take_at ds (117 ∷ rest) (length ds) refl)
-        (drop_at ds (117 ∷ rest) (length ds) refl) is refl suffix
+    (drop_at ds (117 ∷ rest) (length ds) refl) is refl suffix
 
 abbrev pub shape_of : Token → Shape
 shape_of (token.Mark m) = shape.Mark m

@@ -1,5 +1,5 @@
 -- Equality of signs and words.
-use Rattle.std.proofs.Common.{◌≡◌, Bool, true, rules}
+use Rattle.std.proofs.Common.{◌≡◌, true, rules}
 use denote.Enum.Bare.{same_true}
 use Rattle.cc_tokens.specs.contracts.mark.Mark.{the_type}
 use Rattle.cc_tokens.specs.declared.mark.Mark.{Mark}

@@ -1,5 +1,5 @@
 -- The token at the front of a text that does not begin with a blank, by its shape and its length in bytes.
-use Rattle.std.specs.Prelude.{◌≡◌, ℕ, ◌+◌, ◌-◌, Bool, true, false, not, ◌||◌, ◌&&◌, ◌==◌, nat_eq, if◌then◌else◌, List, [], ◌∷◌, codes, length, take, drop, Option, Some, None}
+use Rattle.std.specs.Prelude.{ℕ, ◌+◌, ◌-◌, Bool, not, ◌&&◌, ◌==◌, nat_eq, if◌then◌else◌, List, length, take, drop, Option, Some, None}
 use Rattle.std.specs.Char.{is_ascii_digit}
 use Rattle.std.specs.List.{find, prefix_len, starts_with}
 use Rattle.std.specs.Str.{bytes_eq}

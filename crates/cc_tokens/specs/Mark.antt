@@ -1,5 +1,5 @@
 -- The signs and reserved words of the small C.
-use Rattle.std.specs.Prelude.{◌≡◌, ℕ, Bool, List, [], ◌∷◌, codes}
+use Rattle.std.specs.Prelude.{ℕ, Bool, List, [], ◌∷◌, codes}
 use denote.Enum.Bare.{sameb}
 use Rattle.cc_tokens.specs.contracts.mark.Mark.{the_type}
 use Rattle.cc_tokens.specs.declared.mark.Mark.{Mark}

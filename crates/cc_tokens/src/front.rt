@@ -82,13 +82,19 @@ pub fn rest_of(text: &[u8], at: usize) -> &[u8]
 fn sign_at(text: &[u8]) -> Option<Mark>
     ensures { result ≡ spec.sign_at text.now }
 {
-    SIGNS.iter().copied().find(|mark| text.starts_with(mark.text().as_bytes()))
+    SIGNS
+        .iter()
+        .copied()
+        .find(|mark| text.starts_with(mark.text().as_bytes()))
 }
 
 fn reserved(word: &[u8]) -> Option<Mark>
     ensures { result ≡ spec.reserved word.now }
 {
-    WORDS.iter().copied().find(|mark| mark.text().as_bytes() == word)
+    WORDS
+        .iter()
+        .copied()
+        .find(|mark| mark.text().as_bytes() == word)
 }
 
 fn word_front(text: &[u8]) -> Option<(Shape, usize)>

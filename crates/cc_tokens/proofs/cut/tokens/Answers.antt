@@ -1,4 +1,4 @@
-use Rattle.std.proofs.Common.{◌≡◌, ◌<◌, ◌≤◌, [], ◌∷◌, ◌++◌, length, take, drop, Some, None, sym, rules, arith}
+use Rattle.std.proofs.Common.{◌≡◌, ◌<◌, ◌≤◌, [], ◌∷◌, ◌++◌, length, take, Some, sym, rules, arith}
 use Rattle.std.proofs.lemmas.Grind.{common_steps}
 use Rattle.cc_tokens.specs.Front.{front, token_of}
 use Rattle.cc_tokens.proofs.Cuts.{at_start, one_more, strays, at_end}
@@ -15,10 +15,10 @@ returns-in-None c =
 pub loop-rest-preserved : goal.loop-rest-preserved
 loop-rest-preserved c =
     let added : c.add.new.list.items ≡ c.loop-rest.list.items ++ token_of c.in-Some.shape (take c.in-Some.len c.loop-rest.rest.now) ∷ [] =
-        c.in_ok-add-in-Some.ensures in
+    c.in_ok-add-in-Some.ensures in
     let e : front c.loop-rest.rest.now ≡ Some (c.in-Some.shape, c.in-Some.len) = sym c.in-Some.ensures.value in
     rw (c.without_blanks-rest-in-Some.ensures.value, c.rest_of.ensures, added)
-      (one_more c.args.text.now c.loop-rest.rest.now c.loop-rest.list.items (c.in-Some.shape, c.in-Some.len) c.loop-rest.invariant e)
+    (one_more c.args.text.now c.loop-rest.rest.now c.loop-rest.list.items (c.in-Some.shape, c.in-Some.len) c.loop-rest.invariant e)
 
 pub returns : goal.returns
 returns c =
