@@ -1,7 +1,7 @@
 -- The keywords, in order of their numbers from 0 (2.4).
 use Rattle.std.specs.Prelude.{ℕ, List, [], ◌∷◌, codes}
 
-abbrev pub keywords : List (List ℕ)
+unfoldable pub keywords : List (List ℕ)
 keywords =
     codes "asm"
     ∷ codes "auto"
@@ -54,7 +54,7 @@ keywords =
     ∷ []
 
 -- those of floating types, templates, exceptions, `asm`, `goto`, `union` and `volatile`, which the profile leaves out
-abbrev pub left_out : List (List ℕ)
+unfoldable pub left_out : List (List ℕ)
 left_out =
     codes "asm"
     ∷ codes "catch"

@@ -1,7 +1,7 @@
 -- The signs, operators and punctuation, in order of their numbers from 0 (2.1).
 use Rattle.std.specs.Prelude.{ℕ, List, [], ◌∷◌, codes}
 
-abbrev pub signs : List (List ℕ)
+unfoldable pub signs : List (List ℕ)
 signs =
     codes "("
     ∷ codes ")"

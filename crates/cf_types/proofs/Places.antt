@@ -1,5 +1,5 @@
 -- Items at their places in a list that grows at its end.
-use Rattle.std.proofs.Common.{◌≡◌, ℕ, zero, suc, ◌<◌, ◌≤◌, ◌⊎◌, inl, inr, Bool, true, false, List, [], ◌∷◌, ◌++◌, length, Option, None, Some, slice_get, refl, sym, ap, ◌∙◌, true≢false, arith, length-append}
+use Rattle.std.proofs.Common.{◌≡◌, ℕ, zero, suc, ◌<◌, ◌⊎◌, inl, inr, Bool, true, false, List, [], ◌∷◌, ◌++◌, length, Some, slice_get, refl, sym, ap, ◌∙◌, true≢false, arith}
 use Rattle.std.proofs.lemmas.Option.{slice_get_within}
 use Rattle.std.proofs.lemmas.Map.Keys.{any_passes_from_place}
 use Rattle.std.specs.List.{list_any}
@@ -30,13 +30,17 @@ get-snoc (z ∷ xs) y (suc i) x h = elim (get-snoc xs y i x h) [ inl a ↦ inl a
 module _ {A : Type 0} (xs : List A) (y : A) (absent : (i : ℕ) → slice_get xs i ≡ Some y → ⊥) where
   -- a new item is there once
   pub HasOnce-snoc : HasOnce xs → HasOnce (xs ++ y ∷ [])
-  HasOnce-snoc old = record { same = λ i j x h k.
-    elim (get-snoc xs y i x h) [
-      inl a ↦ elim (get-snoc xs y j x k) [ inl b ↦ old.same i j x a b | inr b ↦ absurd (absent i cc) ]
-      | inr a ↦ elim (get-snoc xs y j x k) [ inl b ↦ absurd (absent j cc) | inr b ↦ a.0 ∙ sym b.0 ] ] }
+  HasOnce-snoc old = record {
+    same = λ i j x h k.
+        elim (get-snoc xs y i x h) [
+          | inl a ↦ elim (get-snoc xs y j x k) [ inl b ↦ old.same i j x a b | inr b ↦ absurd (absent i cc) ]
+          | inr a ↦ elim (get-snoc xs y j x k) [ inl b ↦ absurd (absent j cc) | inr b ↦ a.0 ∙ sym b.0 ]
+        ];
+  }
 
   pub Enters-new : HasOnce xs → Enters xs (xs ++ y ∷ []) y (length xs)
   Enters-new old = record {
+    within = slice_get_within (xs ++ y ∷ []) (length xs) y (get-last xs y);
     found = get-last xs y;
     only = λ other h. (HasOnce-snoc old).same other (length xs) y h (get-last xs y);
     kept = inr refl;
@@ -44,7 +48,7 @@ module _ {A : Type 0} (xs : List A) (y : A) (absent : (i : ℕ) → slice_get xs
 
 -- an item that is there keeps its place
 pub Enters-old : {A : Type 0} (xs : List A) (y : A) (i : ℕ) → HasOnce xs → slice_get xs i ≡ Some y → Enters xs xs y i
-Enters-old xs y i old h = record { found = h; only = λ other k. old.same other i y k h; kept = inl refl }
+Enters-old xs y i old h = record { within = slice_get_within xs i y h; found = h; only = λ other k. old.same other i y k h; kept = inl refl }
 
 -- where no item passes the test, one that would isn't there
 pub absent_from_any : {A : Type 0} (test : A → Bool) (xs : List A) (y : A) → test y ≡ true → list_any test xs ≡ false → (i : ℕ) → slice_get xs i ≡ Some y → ⊥

@@ -1,5 +1,5 @@
 -- The table of types: a type's number is its place in the table.
-use Rattle.std.specs.Prelude.{◌≡◌, ℕ, ◌⊎◌, ◌<◌, ◌≤◌, ◌^◌, List, [], ◌∷◌, ◌++◌, length, slice_get, Option, None, Some, All, Contains, IsTrue}
+use Rattle.std.specs.Prelude.{◌≡◌, ℕ, ◌⊎◌, ◌<◌, ◌≤◌, ◌^◌, List, [], ◌∷◌, ◌++◌, length, slice_get, Option, None, Some, All}
 use Rattle.cf_types.specs.declared.ty.Ty.{Ty}
 use Rattle.cf_types.specs.declared.ty.Ty.TheVariants as ty
 use Rattle.cf_types.specs.declared.ty.Fun.{Fun}
@@ -50,8 +50,23 @@ pub record Names (funs : List Fun) (types count : ℕ) (ty : Ty) : Type 0 where
   pub parts_known : All (λ t. t < types) (parts funs ty)
   pub fun_known : All (λ f. f < count) (fun_in ty)
 
+-- the type that a type names stands before this number
+abbrev pub NamesBelow : ℕ → Ty → Type 0
+NamesBelow n ty.Void = Unit {0}
+NamesBelow n (ty.Int kind) = Unit {0}
+NamesBelow n (ty.Enum number) = Unit {0}
+NamesBelow n (ty.Class class) = Unit {0}
+NamesBelow n (ty.Ptr t) = t < n
+NamesBelow n (ty.Ref t) = t < n
+NamesBelow n (ty.Array t count) = t < n
+NamesBelow n (ty.Fun f) = Unit {0}
+NamesBelow n (ty.MemData class t) = t < n
+NamesBelow n (ty.MemFun class f) = Unit {0}
+NamesBelow n (ty.Const t) = t < n
+
 -- the list gains this item at its end, unless it has it; the item's place is its one place
 pub record Enters {A : Type 0} (old new : List A) (item : A) (place : ℕ) : Type 0 where
+  pub within : place < length new
   pub found : slice_get new place ≡ Some item
   pub only : (other : ℕ) → slice_get new other ≡ Some item → other ≡ place
   pub kept : (new ≡ old) ⊎ (new ≡ old ++ item ∷ [])

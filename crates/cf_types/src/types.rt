@@ -1,5 +1,5 @@
 ghost use Rattle.std.specs.Prelude.{◌≡◌, ℕ, ◌+◌, ◌<◌, ◌≤◌, ◌^◌, List, [], ◌∷◌, ◌++◌, length, slice_get, Some, Contains, All, IfOk, OnOk, OnErr, true};
-ghost use Rattle.cf_types.specs.Table.{Names, Enters, HasOnce, fun_parts};
+ghost use Rattle.cf_types.specs.Table.{Names, NamesBelow, Enters, HasOnce, fun_parts};
 
 use crate::ids::{FunId, TyId};
 use crate::ty::{Fun, Ty};
@@ -41,7 +41,8 @@ impl Types {
     /// The type of this number.
     pub fn get(&self, id: TyId) -> &Ty
         requires { id < length self.now.types }
-        ensures { slice_get self.now.types id ≡ Some result.now }
+        ensures kept { slice_get self.now.types id ≡ Some result.now }
+        ensures earlier { NamesBelow id result.now }
     {
         &self.types.as_slice()[id.number() as usize]
     }

@@ -1,4 +1,4 @@
-use Rattle.std.proofs.Common.{◌≡◌, ℕ, Bool, false, length, is_some, Option, Some, None, sym, ap, ◌∙◌, arith, rules}
+use Rattle.std.proofs.Common.{◌≡◌, false, length, is_some, sym, ap, ◌∙◌, rules}
 use Rattle.std.specs.List.{list_any}
 use Rattle.cf_types.proofs.Tables.{found_item, new_item}
 use Rattle.cf_types.proofs.types.place_of.Goals as goal
@@ -12,4 +12,4 @@ returns-in_ok-insert-in-None-clause-ok g c =
     let none : list_any (g.T.PartialEq.eq c.args.item) c.args.items.now.keys ≡ false = sym c.get_index_of.ensures.found ∙ ap is_some c.in-None.is in
     let last : c.in_ok-place-in-None.place ≡ length c.args.items.now.keys = search rules in
     new_item g.T.PartialEq.eq c.requires.same g.met.T.Eq.laws c.args.items.now.keys c.args.item c.in_ok-place-in-None.place c.requires.once
-        c.insert.new.self.keys none c.in_ok-insert-in-None.ensures.keys last
+    c.insert.new.self.keys none c.in_ok-insert-in-None.ensures.keys last

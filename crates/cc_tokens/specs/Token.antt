@@ -1,0 +1,61 @@
+-- How the tokens of the small C are spelled.
+use Rattle.std.specs.Prelude.{◌≡◌, ℕ, Bool, true, false, not, ◌||◌, ◌&&◌, ◌==◌, if◌then◌else◌, List, [], ◌∷◌, ◌++◌, codes, slice_index, length, map}
+use Rattle.std.specs.Char.{is_ascii_digit, is_ascii_alphanumeric}
+use Rattle.std.specs.List.{list_all, list_any}
+use Rattle.std.specs.Str.{bytes_eq}
+use Rattle.cc_tokens.specs.declared.mark.Mark.{Mark}
+use Rattle.cc_tokens.specs.declared.mark.Mark.TheVariants as mark
+use Rattle.cc_tokens.specs.declared.token.Token.{Token}
+use Rattle.cc_tokens.specs.declared.token.Token.TheVariants as token
+use Rattle.cc_tokens.specs.Mark.{mark_text, words}
+
+-- a letter, a digit or `_`
+abbrev pub is_word_byte : ℕ → Bool
+is_word_byte b = is_ascii_alphanumeric b || b == 95
+
+-- whether the first byte passes a test
+abbrev pub begins : (ℕ → Bool) → List ℕ → Bool
+begins test [] = false
+begins test (b ∷ bs) = test b
+
+-- letters, digits and `_`, a digit not first
+abbrev pub is_word : List ℕ → Bool
+is_word bs = begins (λ b. is_word_byte b && not (is_ascii_digit b)) bs && list_all is_word_byte bs
+
+abbrev pub is_reserved : List ℕ → Bool
+is_reserved bs = list_any (λ word. bytes_eq word bs) (map mark_text words)
+
+-- decimal digits, 0 not first but alone
+abbrev pub is_numeral : List ℕ → Bool
+is_numeral bs = begins is_ascii_digit bs && list_all is_ascii_digit bs && (not (begins (λ b. b == 48) bs) || length bs == 1)
+
+abbrev pub is_token : Token → Bool
+is_token (token.Mark m) = true
+is_token token.Dash = true
+is_token (token.Name name) = is_word name && not (is_reserved name)
+is_token (token.Signed digits) = is_numeral digits
+is_token (token.Unsigned digits) = is_numeral digits
+
+abbrev pub spelling : Token → List ℕ
+spelling (token.Mark m) = mark_text m
+spelling token.Dash = codes "-"
+spelling (token.Name name) = name
+spelling (token.Signed digits) = digits
+spelling (token.Unsigned digits) = digits ++ codes "u"
+
+-- whether a sign or word with this byte behind it is a longer one
+abbrev pub goes_on : Mark → ℕ → Bool
+goes_on mark.Minus b = is_ascii_digit b
+goes_on mark.Less b = b == 60 || b == 61
+goes_on mark.Greater b = b == 61 || b == 62
+goes_on mark.Assign b = b == 61
+goes_on mark.Not b = b == 61
+goes_on m b = begins (λ b. is_word_byte b) (mark_text m) && is_word_byte b
+
+-- whether the token ends where these bytes go on
+abbrev pub ends : Token → List ℕ → Bool
+ends (token.Mark m) bs = not (begins (goes_on m) bs)
+ends token.Dash bs = begins is_ascii_digit bs
+ends (token.Name name) bs = not (begins is_word_byte bs)
+ends (token.Signed digits) bs = not (begins is_word_byte bs)
+ends (token.Unsigned digits) bs = not (begins is_word_byte bs)

@@ -1,0 +1,3 @@
+pub mod Enough
+mod Tried
+pub mod Views

@@ -1,0 +1,4 @@
+pub mod Examples
+pub mod LayoutExamples
+pub mod LookupExamples
+pub mod NameExamples
