@@ -1,0 +1,6 @@
+pub mod BlockLaws
+pub mod CallLaws
+pub mod Marks
+pub mod Resume
+pub mod StepLaws
+pub mod ValueLaws

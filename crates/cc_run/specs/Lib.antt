@@ -1,0 +1,5 @@
+pub mod Answer
+pub mod Blocks
+pub mod Names
+pub mod State
+pub mod Steps
