@@ -1,5 +1,6 @@
 pub mod BlockLaws
 pub mod CallLaws
+pub mod GoingLaws
 pub mod Marks
 pub mod Resume
 pub mod StepLaws

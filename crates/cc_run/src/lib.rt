@@ -9,8 +9,13 @@ mod blocks;
 mod calls;
 mod evaluate;
 mod leaving;
+mod machine;
 mod mark;
 mod names;
 mod state;
 mod statements;
 mod step;
+mod types;
+
+pub use machine::Machine;
+pub use types::{Limits, Ran};
