@@ -36,12 +36,12 @@ nil (x ∷ xs) e = absurd (omega arith)
 entered : (p : List Function) (n : ℕ) (level : Level) (f : Function) (vs : List ℤ) (m : Memory) (w : World) → Bool → Bool → Ran Returned
 entered p n level f vs m w fits helper =
     cond fits (cond helper (enter_helper level.in_helper (helps_in (runs p n) p level.in_helper) f vs level.depth m w) (enter_function (runs p n) f vs level.depth m w))
-      (Stops (Undefined 9) w.trace)
+    (Stops (Undefined 9) w.trace)
 
 enters : (p : List Function) (n : ℕ) (level : Level) (f : Function) (vs : List ℤ) (m : Memory) (w : World) (helper : Bool)
     → has_arity f vs ≡ true → is_helper f.prototype.name ≡ helper
     → enter (runs p n) (helps_in (runs p n) p level.in_helper) level.in_helper (Some f) vs level.depth m w
-      ≡ cond helper (enter_helper level.in_helper (helps_in (runs p n) p level.in_helper) f vs level.depth m w) (enter_function (runs p n) f vs level.depth m w)
+    ≡ cond helper (enter_helper level.in_helper (helps_in (runs p n) p level.in_helper) f vs level.depth m w) (enter_function (runs p n) f vs level.depth m w)
 unfolding entered
 enters p n level f vs m w helper fits is = ap (λ t. entered p n level f vs m w t (is_helper f.prototype.name)) fits ∙ ap (entered p n level f vs m w true) is
 
@@ -51,7 +51,7 @@ unfolding entered
 enter-arity s f vs back rest other = going_back-ends s back rest
     (λ n p m w. enter (runs p n) (helps_in (runs p n) p s.level.in_helper) s.level.in_helper (Some f) vs s.level.depth m w) act.A9
     (λ n o. ap (λ t. entered (program_of s.program.now) n s.level f vs (memory_of s.blocks.items) (world_of s.ticks o) t (is_helper f.prototype.name))
-      (eqb_false (length f.prototype.parameters) (length vs) other))
+    (eqb_false (length f.prototype.parameters) (length vs) other))
 
 helping : (p : List Function) (n : ℕ) (depth : ℕ) (f : Function) (vs : List ℤ) (m : Memory) (w : World) → Bool → Ran Returned
 helping p n depth f vs m w inside = enter_helper inside (helps_in (runs p n) p inside) f vs depth m w
@@ -62,8 +62,8 @@ unfolding helping
 enter-nested s f vs back rest fits helper inside = going_back-ends s back rest
     (λ n p m w. enter (runs p n) (helps_in (runs p n) p s.level.in_helper) s.level.in_helper (Some f) vs s.level.depth m w) act.A9
     (λ n o. enters (program_of s.program.now) n s.level f vs (memory_of s.blocks.items) (world_of s.ticks o) true
-        (eqb_true (length f.prototype.parameters) (length vs) fits) helper
-      ∙ ap (helping (program_of s.program.now) n s.level.depth f vs (memory_of s.blocks.items) (world_of s.ticks o)) inside)
+    (eqb_true (length f.prototype.parameters) (length vs) fits) helper
+    ∙ ap (helping (program_of s.program.now) n s.level.depth f vs (memory_of s.blocks.items) (world_of s.ticks o)) inside)
 
 pub enter-helper : (s new : State) (f : Function) (vs : List ℤ) (back : Option ℕ) (rest : Statements) → length f.prototype.parameters ≡ length vs
     → is_helper f.prototype.name ≡ true → s.level.in_helper ≡ false
@@ -71,15 +71,15 @@ pub enter-helper : (s new : State) (f : Function) (vs : List ℤ) (back : Option
     → StepsOn (λ n o. entering n f vs back rest s o) None s new
 unfolding helping
 enter-helper s new f vs back rest fits helper inside begun_so = record {
-    same = λ n o lt.
+  same = λ n o lt.
       let P = program_of s.program.now in
       ap (λ (r : Ran Returned). whole P n s.stack.items (back_to P n s.level back rest (scope_of s.stack.items) r))
-        (enters P n s.level f vs (memory_of s.blocks.items) (world_of s.ticks o) true (eqb_true (length f.prototype.parameters) (length vs) fits) helper
-        ∙ ap (helping P n s.level.depth f vs (memory_of s.blocks.items) (world_of s.ticks o)) inside)
+      (enters P n s.level f vs (memory_of s.blocks.items) (world_of s.ticks o) true (eqb_true (length f.prototype.parameters) (length vs) fits) helper
+      ∙ ap (helping P n s.level.depth f vs (memory_of s.blocks.items) (world_of s.ticks o)) inside)
       ∙ sym (begun_so.same n o);
-    ticks = let h : new.ticks ≡ s.ticks = begun_so.ticks in omega arith;
-    program = begun_so.program;
-  }
+  ticks = let h : new.ticks ≡ s.ticks = begun_so.ticks in omega arith;
+  program = begun_so.program;
+}
 
 -- what entering a function that is no helper comes to, at these ticks and this depth
 spending : (p : List Function) (n : ℕ) (f : Function) (vs : List ℤ) (m : Memory) (depth : ℕ) (w : World) → Ran Returned
@@ -89,26 +89,26 @@ pub enter-ticks : (s : State) (f : Function) (vs : List ℤ) (back : Option ℕ)
     → is_helper f.prototype.name ≡ false → s.ticks ≡ 0 → EndsAs (λ n o. entering n f vs back rest s o) end.Ticks s
 unfolding spending
 enter-ticks s f vs back rest fits helper none = record {
-    same = λ n o lt.
+  same = λ n o lt.
       let P = program_of s.program.now in
       ap (λ (r : Ran Returned). whole P n s.stack.items (back_to P n s.level back rest (scope_of s.stack.items) r))
-        (enters P n s.level f vs (memory_of s.blocks.items) (world_of s.ticks o) false (eqb_true (length f.prototype.parameters) (length vs) fits) helper
-        ∙ spent-none s.ticks (world_of s.ticks o) (spending P n f vs (memory_of s.blocks.items) s.level.depth) none)
+      (enters P n s.level f vs (memory_of s.blocks.items) (world_of s.ticks o) false (eqb_true (length f.prototype.parameters) (length vs) fits) helper
+      ∙ spent-none s.ticks (world_of s.ticks o) (spending P n f vs (memory_of s.blocks.items) s.level.depth) none)
       ∙ whole-stops P n s.stack.items Ticks o.trace;
-  }
+}
 
 pub enter-depth : (s : State) (f : Function) (vs : List ℤ) (back : Option ℕ) (rest : Statements) → length f.prototype.parameters ≡ length vs
     → is_helper f.prototype.name ≡ false → (s.ticks ≡ 0 → ⊥) → s.level.depth ≡ 0 → EndsAs (λ n o. entering n f vs back rest s o) end.Depth s
 unfolding spending
 enter-depth s f vs back rest fits helper some none = record {
-    same = λ n o lt.
+  same = λ n o lt.
       let P = program_of s.program.now in
       ap (λ (r : Ran Returned). whole P n s.stack.items (back_to P n s.level back rest (scope_of s.stack.items) r))
-        (enters P n s.level f vs (memory_of s.blocks.items) (world_of s.ticks o) false (eqb_true (length f.prototype.parameters) (length vs) fits) helper
-        ∙ spent-one s.ticks (world_of s.ticks o) (spending P n f vs (memory_of s.blocks.items) s.level.depth) some
-        ∙ ap (λ d. spending P n f vs (memory_of s.blocks.items) d (world_of (s.ticks - 1) o)) none)
+      (enters P n s.level f vs (memory_of s.blocks.items) (world_of s.ticks o) false (eqb_true (length f.prototype.parameters) (length vs) fits) helper
+      ∙ spent-one s.ticks (world_of s.ticks o) (spending P n f vs (memory_of s.blocks.items) s.level.depth) some
+      ∙ ap (λ d. spending P n f vs (memory_of s.blocks.items) d (world_of (s.ticks - 1) o)) none)
       ∙ whole-stops P n s.stack.items Depth o.trace;
-  }
+}
 
 deeper-one : {A : Type 0} (d : ℕ) (w : World) (go : ℕ → Ran A) → (d ≡ 0 → ⊥) → deeper d w go ≡ go (d - 1)
 deeper-one zero w go some = absurd (some refl)
@@ -121,23 +121,23 @@ pub enter-goes : (s mid new : State) (f : Function) (vs : List ℤ) (back : Opti
     → StepsOn (λ n o. entering n f vs back rest s o) (Some (Enter f.prototype.name)) s new
 unfolding spending
 enter-goes s mid new f vs back rest fits helper some deep is begun_so = record {
-    same = λ n o lt.
+  same = λ n o lt.
       let P = program_of s.program.now in
       let M = memory_of s.blocks.items in
       let event = Some (Enter f.prototype.name) in
       ap (λ (r : Ran Returned). whole P n s.stack.items (back_to P n s.level back rest (scope_of s.stack.items) r))
-        (enters P n s.level f vs M (world_of s.ticks o) false (eqb_true (length f.prototype.parameters) (length vs) fits) helper
-        ∙ spent-one s.ticks (world_of s.ticks o) (spending P n f vs M s.level.depth) some
-        ∙ deeper-one s.level.depth (world_of (s.ticks - 1) o) (λ depth. run_function (runs P n false) f vs depth M (world_of (s.ticks - 1) (noted event o))) deep
-        ∙ ap (λ r. and_then r (λ flow w. Went (returned (ending f.prototype.parameters M.next flow)) w))
-            (runs_again P n false (block f.body) (bind_all (parameter_names f.prototype.parameters) M.next no_names) (s.level.depth - 1) (born_with vs M)
-              (world_of (s.ticks - 1) (noted event o)) (omega arith)))
+      (enters P n s.level f vs M (world_of s.ticks o) false (eqb_true (length f.prototype.parameters) (length vs) fits) helper
+      ∙ spent-one s.ticks (world_of s.ticks o) (spending P n f vs M s.level.depth) some
+      ∙ deeper-one s.level.depth (world_of (s.ticks - 1) o) (λ depth. run_function (runs P n false) f vs depth M (world_of (s.ticks - 1) (noted event o))) deep
+      ∙ ap (λ r. and_then r (λ flow w. Went (returned (ending f.prototype.parameters M.next flow)) w))
+      (runs_again P n false (block f.body) (bind_all (parameter_names f.prototype.parameters) M.next no_names) (s.level.depth - 1) (born_with vs M)
+      (world_of (s.ticks - 1) (noted event o)) (omega arith)))
       ∙ ap (λ (x : State). whole P n x.stack.items (back_to P n x.level back rest (scope_of x.stack.items)
-          (begun P n (record { depth = s.level.depth - 1; in_helper = false }) f vs (memory_of x.blocks.items) (world_of x.ticks (noted event o))))) (sym is)
+      (begun P n (record { depth = s.level.depth - 1; in_helper = false }) f vs (memory_of x.blocks.items) (world_of x.ticks (noted event o))))) (sym is)
       ∙ sym (begun_so.same n (noted event o));
-    ticks = let h : new.ticks ≡ mid.ticks = begun_so.ticks in let g : mid.ticks ≡ s.ticks - 1 = ap (λ (x : State). x.ticks) is in omega arith;
-    program = begun_so.program;
-  }
+  ticks = let h : new.ticks ≡ mid.ticks = begun_so.ticks in let g : mid.ticks ≡ s.ticks - 1 = ap (λ (x : State). x.ticks) is in omega arith;
+  program = begun_so.program;
+}
 
 -- A call by name, by the tests on the name.
 naming : (p : List Function) (n : ℕ) (level : Level) (vs : List ℤ) (m : Memory) (w : World) → Bool → Bool → Option Function → Ran Returned
@@ -149,7 +149,7 @@ pub called-put : (s : State) (name : List ℕ) (vs : List ℤ) (back : Option �
 unfolding naming
 called-put s name vs back rest n o puts =
     ap (λ t. whole (program_of s.program.now) n s.stack.items (back_to (program_of s.program.now) n s.level back rest (scope_of s.stack.items)
-      (naming (program_of s.program.now) n s.level vs (memory_of s.blocks.items) (world_of s.ticks o) t (is_main name) (function_named (program_of s.program.now) name)))) puts
+    (naming (program_of s.program.now) n s.level vs (memory_of s.blocks.items) (world_of s.ticks o) t (is_main name) (function_named (program_of s.program.now) name)))) puts
 
 pub called-main : (s : State) (name : List ℕ) (vs : List ℤ) (back : Option ℕ) (rest : Statements) → is_putchar name ≡ false → is_main name ≡ true
     → EndsAs (λ n o. calling n name vs back rest s o) (end.Undefined act.A9) s
@@ -157,22 +157,22 @@ unfolding naming
 called-main s name vs back rest puts main = going_back-ends s back rest
     (λ n p m w. called (runs p n) (helps_in (runs p n) p s.level.in_helper) p s.level.in_helper name vs s.level.depth m w) act.A9
     (λ n o. ap (λ t. naming (program_of s.program.now) n s.level vs (memory_of s.blocks.items) (world_of s.ticks o) t (is_main name)
-        (function_named (program_of s.program.now) name)) puts
-      ∙ ap (λ t. naming (program_of s.program.now) n s.level vs (memory_of s.blocks.items) (world_of s.ticks o) false t
-        (function_named (program_of s.program.now) name)) main)
+    (function_named (program_of s.program.now) name)) puts
+    ∙ ap (λ t. naming (program_of s.program.now) n s.level vs (memory_of s.blocks.items) (world_of s.ticks o) false t
+    (function_named (program_of s.program.now) name)) main)
 
 named : (s : State) (name : List ℕ) (vs : List ℤ) (n : ℕ) (o : Outside) (f : Option Function) → is_putchar name ≡ false → is_main name ≡ false
     → function_named (program_of s.program.now) name ≡ f
     → called (runs (program_of s.program.now) n) (helps_in (runs (program_of s.program.now) n) (program_of s.program.now) s.level.in_helper)
-        (program_of s.program.now) s.level.in_helper name vs s.level.depth (memory_of s.blocks.items) (world_of s.ticks o)
-      ≡ enter (runs (program_of s.program.now) n) (helps_in (runs (program_of s.program.now) n) (program_of s.program.now) s.level.in_helper) s.level.in_helper f vs
-        s.level.depth (memory_of s.blocks.items) (world_of s.ticks o)
+    (program_of s.program.now) s.level.in_helper name vs s.level.depth (memory_of s.blocks.items) (world_of s.ticks o)
+    ≡ enter (runs (program_of s.program.now) n) (helps_in (runs (program_of s.program.now) n) (program_of s.program.now) s.level.in_helper) s.level.in_helper f vs
+    s.level.depth (memory_of s.blocks.items) (world_of s.ticks o)
 unfolding naming
 named s name vs n o f puts main is =
     ap (λ t. naming (program_of s.program.now) n s.level vs (memory_of s.blocks.items) (world_of s.ticks o) t (is_main name)
-        (function_named (program_of s.program.now) name)) puts
+    (function_named (program_of s.program.now) name)) puts
     ∙ ap (λ t. naming (program_of s.program.now) n s.level vs (memory_of s.blocks.items) (world_of s.ticks o) false t
-        (function_named (program_of s.program.now) name)) main
+    (function_named (program_of s.program.now) name)) main
     ∙ ap (naming (program_of s.program.now) n s.level vs (memory_of s.blocks.items) (world_of s.ticks o) false false) is
 
 pub called-none : (s : State) (name : List ℕ) (vs : List ℤ) (back : Option ℕ) (rest : Statements) → is_putchar name ≡ false → is_main name ≡ false
@@ -185,35 +185,35 @@ pub called-some : (s : State) (name : List ℕ) (vs : List ℤ) (back : Option �
     → is_main name ≡ false → function_named (program_of s.program.now) name ≡ Some f → calling n name vs back rest s o ≡ entering n f vs back rest s o
 called-some s name vs back rest f n o puts main is =
     ap (λ r. whole (program_of s.program.now) n s.stack.items (back_to (program_of s.program.now) n s.level back rest (scope_of s.stack.items) r))
-      (named s name vs n o (Some f) puts main is)
+    (named s name vs n o (Some f) puts main is)
 
 -- A call statement.
 calls : (s : State) (n : ℕ) (o : Outside) (name : List ℕ) (rest : Statements) → Result (Option ℕ) ℕ → Result (List ℤ) ℕ → Ran Flow
 calls s n o name rest target vs =
     and_then (tried target (world_of s.ticks o) (λ back. tried vs (world_of s.ticks o) (λ vs.
-        and_then (called (runs (program_of s.program.now) n) (helps_in (runs (program_of s.program.now) n) (program_of s.program.now) s.level.in_helper)
-          (program_of s.program.now) s.level.in_helper name vs s.level.depth (memory_of s.blocks.items) (world_of s.ticks o)) (λ r w. go_back back r w))))
-      (falling (λ m w. run_all (program_of s.program.now) n s.level rest (scope_of s.stack.items) m w))
+    and_then (called (runs (program_of s.program.now) n) (helps_in (runs (program_of s.program.now) n) (program_of s.program.now) s.level.in_helper)
+    (program_of s.program.now) s.level.in_helper name vs s.level.depth (memory_of s.blocks.items) (world_of s.ticks o)) (λ r w. go_back back r w))))
+    (falling (λ m w. run_all (program_of s.program.now) n s.level rest (scope_of s.stack.items) m w))
 
 pub call-ends-target : (s : State) (place : Option Place) (name : List ℕ) (es : List Expression) (rest : Statements) (a : Act)
     → IsAt s.doing (followed (call place name es) rest) → target_of place (scope_of s.stack.items) ≡ Err (act_number a) → EndsAs (λ n o. total n s o) (end.Undefined a) s
 unfolding calls
 call-ends-target s place name es rest a at fails = record {
-    same = λ n o lt. total-at n s o (followed (call place name es) rest) at
+  same = λ n o lt. total-at n s o (followed (call place name es) rest) at
       ∙ ap (λ t. whole (program_of s.program.now) n s.stack.items (calls s n o name rest t (values es (scope_of s.stack.items) (memory_of s.blocks.items)))) fails
       ∙ whole-stops (program_of s.program.now) n s.stack.items (Undefined (act_number a)) o.trace;
-  }
+}
 
 pub call-ends-values : (s : State) (place : Option Place) (name : List ℕ) (es : List Expression) (rest : Statements) (back : Option ℕ) (a : Act)
     → IsAt s.doing (followed (call place name es) rest) → target_of place (scope_of s.stack.items) ≡ Ok back
     → values es (scope_of s.stack.items) (memory_of s.blocks.items) ≡ Err (act_number a) → EndsAs (λ n o. total n s o) (end.Undefined a) s
 unfolding calls
 call-ends-values s place name es rest back a at goes fails = record {
-    same = λ n o lt. total-at n s o (followed (call place name es) rest) at
+  same = λ n o lt. total-at n s o (followed (call place name es) rest) at
       ∙ ap (λ t. whole (program_of s.program.now) n s.stack.items (calls s n o name rest t (values es (scope_of s.stack.items) (memory_of s.blocks.items)))) goes
       ∙ ap (λ vs. whole (program_of s.program.now) n s.stack.items (calls s n o name rest (Ok back) vs)) fails
       ∙ whole-stops (program_of s.program.now) n s.stack.items (Undefined (act_number a)) o.trace;
-  }
+}
 
 pub call-goes : (s : State) (place : Option Place) (name : List ℕ) (es : List Expression) (rest : Statements) (back : Option ℕ) (vs : List ℤ) (n : ℕ) (o : Outside)
     → IsAt s.doing (followed (call place name es) rest) → target_of place (scope_of s.stack.items) ≡ Ok back

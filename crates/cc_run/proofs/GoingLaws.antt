@@ -25,7 +25,7 @@ use Rattle.cc_run.specs.declared.types.Limits.{Limits}
 use Rattle.cc_run.specs.Blocks.{memory_of}
 use Rattle.cc_run.specs.Names.{layer, scope_of, place_number}
 use Rattle.cc_run.specs.State.{program_of, statements_of, run_all, run_body, run_doing, after, resume, finish, whole, Outside, noted, world_of, total}
-use Rattle.cc_run.specs.Steps.{HasEnd, EndsAs, Opens}
+use Rattle.cc_run.specs.Steps.{HasEnd, StepsOn, EndsAs, Opens}
 use Rattle.cf_base.specs.declared.memory.Memory.{Memory as Mem}
 use Rattle.cc_tree.specs.declared.outcome.Act.TheVariants as act
 use Rattle.cc_run.specs.declared.types.Ran.{Ran as RunEnd}
@@ -39,7 +39,7 @@ use Rattle.cc_run.proofs.Resume.{whole-push}
 grows-all : (p : List Function) (n : ℕ) (level : Level) (all : _) (scope : Scope) (m : Memory) (w : World) → Adds w.trace (run_all p n level all scope m w)
 grows-all p n level all scope m w =
     grows-does_all (runs p n) (helps_in (runs p n) p level.in_helper) (grows-runs p n) (grows-helps p (runs p n) (grows-runs p n) level.in_helper) p
-      level.in_helper all scope level.depth m w
+    level.in_helper all scope level.depth m w
 
 grows-after : (p : List Function) (n : ℕ) (scope : Scope) (m : Mark) (t : List Event) (r : Ran Flow) → Adds t r → Adds t (after p n scope m r)
 grows-after p n scope (mark.Rest level all) t r h = adds-then t r _ h (grows-falling _ (λ m w. grows-all p n level (statements_of all.now) scope m w))
@@ -65,12 +65,12 @@ grows-doing p n level (doing.Returns v) scope m w = went _ w
 pub grows-total : (n : ℕ) (s : State) (o : Outside) → IsFront o.trace (total n s o).trace
 grows-total n s o =
     let r = resume (program_of s.program.now) n no_names s.stack.items
-      (run_doing (program_of s.program.now) n s.level s.doing (scope_of s.stack.items) (memory_of s.blocks.items) (world_of s.ticks o)) in
+    (run_doing (program_of s.program.now) n s.level s.doing (scope_of s.stack.items) (memory_of s.blocks.items) (world_of s.ticks o)) in
     let h : Adds o.trace r = grows-resume (program_of s.program.now) n no_names s.stack.items o.trace _
-      (grows-doing (program_of s.program.now) n s.level s.doing (scope_of s.stack.items) (memory_of s.blocks.items) (world_of s.ticks o)) in
+    (grows-doing (program_of s.program.now) n s.level s.doing (scope_of s.stack.items) (memory_of s.blocks.items) (world_of s.ticks o)) in
     let g : Adds o.trace (and_then r (λ flow w. tried (used (returned flow).result) w (λ status. Went status w))) =
-      adds-then o.trace r _ h (λ flow w. grows-tried (used (returned flow).result) w _ (λ status. went status w)) in
-    record { rest = g.by.rest; joined = outcome-trace _ ∙ g.by.parts }
+    adds-then o.trace r _ h (λ flow w. grows-tried (used (returned flow).result) w _ (λ status. went status w)) in
+    record { rest = g.by.rest; joined = outcome-trace (and_then r (λ flow w. tried (used (returned flow).result) w (λ status. Went status w))) ∙ g.by.parts }
 
 -- Bytes of traces.
 pub out_bytes-append : (xs ys : List Event) → out_bytes (xs ++ ys) ≡ out_bytes xs ++ out_bytes ys
@@ -95,34 +95,34 @@ going-starts s a = record { events = []; quiet = refl; same = λ input heap. ref
 
 pub going-moves : (s now new : State) (a b c : Stream) → Going s now a b → Moves now new b c → Going s new a c
 going-moves s now new a b c g m = record {
-    events = g.events ++ events_of m.event;
-    quiet = in_bytes-append g.events (events_of m.event) ∙ ap (λ l. l ++ in_bytes (events_of m.event)) g.quiet ∙ m.quiet;
-    same = λ input heap. g.same input heap ∙ m.same (suc s.ticks) (outside input heap g.events) (let h : now.ticks ≤ s.ticks = g.ticks in omega arith)
+  events = g.events ++ events_of m.event;
+  quiet = in_bytes-append g.events (events_of m.event) ∙ ap (λ l. l ++ in_bytes (events_of m.event)) g.quiet ∙ m.quiet;
+  same = λ input heap. g.same input heap ∙ m.same (suc s.ticks) (outside input heap g.events) (let h : now.ticks ≤ s.ticks = g.ticks in omega arith)
       ∙ ap (total (suc s.ticks) new) (noted-outside input heap g.events m.event);
-    ticks = let h : now.ticks ≤ s.ticks = g.ticks in let k : new.ticks ≤ now.ticks = m.ticks in omega arith;
-    told = λ t. g.told (m.told t);
-    put = λ t. m.put t ∙ ap (λ l. l ++ out_bytes (events_of m.event)) (g.put (m.told t))
+  ticks = let h : now.ticks ≤ s.ticks = g.ticks in let k : new.ticks ≤ now.ticks = m.ticks in omega arith;
+  told = λ t. g.told (m.told t);
+  put = λ t. m.put t ∙ ap (λ l. l ++ out_bytes (events_of m.event)) (g.put (m.told t))
       ∙ append_assoc a.bytes (out_bytes g.events) (out_bytes (events_of m.event)) ∙ ap (λ l. a.bytes ++ l) (sym (out_bytes-append g.events (events_of m.event)));
-    faults = m.faults ∙ g.faults;
-  }
+  faults = m.faults ∙ g.faults;
+}
 
 pub going-whole : (s now : State) (a b : Stream) (e : EndOf) → Going s now a b → EndsAs (λ n o. total n now o) e now → WentWhole (ahead s) a b e
 going-whole s now a b e g h = record {
-    events = g.events;
-    quiet = g.quiet;
-    ends = λ input heap. subst (HasEnd e g.events) (sym (g.same input heap))
+  events = g.events;
+  quiet = g.quiet;
+  ends = λ input heap. subst (HasEnd e g.events) (sym (g.same input heap))
       (h.same (suc s.ticks) (outside input heap g.events) (let k : now.ticks ≤ s.ticks = g.ticks in omega arith));
-    put = g.put;
-    faults = g.faults;
-  }
+  put = g.put;
+  faults = g.faults;
+}
 
 pub going-some : (s now : State) (a b : Stream) → Going s now a b → WentSome (ahead s) a b
 going-some s now a b g = record {
-    events = g.events;
-    quiet = g.quiet;
-    front = λ input heap. subst (λ (c : Outcome). IsFront g.events c.trace) (sym (g.same input heap)) (grows-total (suc s.ticks) now (outside input heap g.events));
-    put = g.put;
-  }
+  events = g.events;
+  quiet = g.quiet;
+  front = λ input heap. subst (λ (c : Outcome). IsFront g.events c.trace) (sym (g.same input heap)) (grows-total (suc s.ticks) now (outside input heap g.events));
+  put = g.put;
+}
 
 -- a byte that was not put, or put and then reported as failed
 front-of-one : (byte : ℕ) (front rest : List ℕ) → byte ∷ [] ≡ front ++ rest → (front ≡ []) ⊎ (front ≡ byte ∷ [])
@@ -132,26 +132,27 @@ front-of-one byte (x ∷ (y ∷ front)) rest e = absurd (cc)
 
 with-byte : (s now : State) (a b c : Stream) → Going s now a b → (f : Fails now b c) → (IsTrue c.told → c.bytes ≡ b.bytes ++ f.byte ∷ []) → WentSome (ahead s) a c
 with-byte s now a b c g f put = record {
-    events = g.events ++ Out f.byte ∷ [];
-    quiet = in_bytes-append g.events (Out f.byte ∷ []) ∙ ap (λ l. l ++ []) g.quiet;
-    front = λ input heap. subst (λ (d : Outcome). IsFront (g.events ++ Out f.byte ∷ []) d.trace)
+  events = g.events ++ Out f.byte ∷ [];
+  quiet = in_bytes-append g.events (Out f.byte ∷ []) ∙ ap (λ l. l ++ []) g.quiet;
+  front = λ input heap. subst (λ (d : Outcome). IsFront (g.events ++ Out f.byte ∷ []) d.trace)
       (sym (g.same input heap ∙ f.same (suc s.ticks) (outside input heap g.events) (let k : now.ticks ≤ s.ticks = g.ticks in omega arith)))
       (grows-total (suc s.ticks) f.new (outside input heap (g.events ++ Out f.byte ∷ [])));
-    put = λ t. put t ∙ ap (λ l. l ++ f.byte ∷ []) (g.put (f.told t)) ∙ append_assoc a.bytes (out_bytes g.events) (f.byte ∷ [])
+  put = λ t. put t ∙ ap (λ l. l ++ f.byte ∷ []) (g.put (f.told t)) ∙ append_assoc a.bytes (out_bytes g.events) (f.byte ∷ [])
       ∙ ap (λ l. a.bytes ++ l) (sym (out_bytes-append g.events (Out f.byte ∷ [])));
-  }
+}
 
 without-byte : (s now : State) (a b c : Stream) → Going s now a b → (f : Fails now b c) → (IsTrue c.told → c.bytes ≡ b.bytes) → WentSome (ahead s) a c
+unfolding going-some
 without-byte s now a b c g f put = let some = going-some s now a b g in record {
-    events = g.events;
-    quiet = g.quiet;
-    front = some.front;
-    put = λ t. put t ∙ g.put (f.told t);
-  }
+  events = g.events;
+  quiet = g.quiet;
+  front = some.front;
+  put = λ t. put t ∙ g.put (f.told t);
+}
 
 told_cases : (t : Bool) → (IsTrue t → ⊥) ⊎ IsTrue t
-told_cases true = inr tt
-told_cases false = inl (λ x. x)
+told_cases true = inr refl
+told_cases false = let silent : IsTrue false → ⊥ = λ x. cc in inl silent
 
 pub going-fails : (s now : State) (a b c : Stream) → Going s now a b → Fails now b c → WentSome (ahead s) a c
 going-fails s now a b c g f = go (told_cases c.told)
@@ -159,6 +160,7 @@ going-fails s now a b c g f = go (told_cases c.told)
     parts : (x : AddsFront (f.byte ∷ []) b.bytes c.bytes) → (x.front ≡ []) ⊎ (x.front ≡ f.byte ∷ []) → WentSome (ahead s) a c
     parts x (inl none) = without-byte s now a b c g f (λ t. x.added ∙ ap (λ l. b.bytes ++ l) none ∙ append-nil b.bytes)
     parts x (inr one) = with-byte s now a b c g f (λ t. x.added ∙ ap (λ l. b.bytes ++ l) one)
+
     go : (IsTrue c.told → ⊥) ⊎ IsTrue c.told → WentSome (ahead s) a c
     go (inl silent) = without-byte s now a b c g f (λ t. absurd (silent t))
     go (inr t) = let x = f.put t in parts x (front-of-one f.byte x.front x.is_front.rest x.is_front.joined)
@@ -174,22 +176,22 @@ pub starts : (program : CProgram) (limits : Limits) (f : Function) (ps : Bor (Li
     → Opens f.body program (record { depth = limits.depth; in_helper = false }) (mark.Parameters ps 0 ∷ []) no_memory limits.ticks s
     → StartsIn program limits s
 starts program limits f ps s named is opened = record {
-    same = λ input heap.
+  same = λ input heap.
       let P = program_of program in
       let n = limits.ticks in
       let o = outside input heap [] in
-      let L = record { depth = limits.depth; in_helper = false } in
+      let L : Level = record { depth = limits.depth; in_helper = false } in
       let w = world_of n o in
       let R = (λ (x : Scope). run_body P (suc n) L f.body x no_memory w) in
       ap (λ (g : Option Function). outcome (and_then (start P n g limits.depth (world_at n input heap)) (λ r w. tried (used r.result) w (λ status. Went status w)))) named
       ∙ ap (λ r. outcome (and_then (and_then r (λ flow w. Went (returned (ending f.prototype.parameters 0 flow)) w)) (λ r w. tried (used r.result) w (λ status. Went status w))))
-          (runs_again P (suc n) false (block f.body) (bind_all (parameter_names f.prototype.parameters) 0 no_names) limits.depth no_memory w (omega arith))
+      (runs_again P (suc n) false (block f.body) (bind_all (parameter_names f.prototype.parameters) 0 no_names) limits.depth no_memory w (omega arith))
       ∙ ap outcome (sym (handed (R (bind_all (parameter_names f.prototype.parameters) 0 no_names)) (ending f.prototype.parameters 0)
-          (λ r w. tried (used r.result) w (λ status. Went status w))))
+      (λ r w. tried (used r.result) w (λ status. Went status w))))
       ∙ ap (λ (l : List CParameter). finish (and_then (R (bind_all (parameter_names l) 0 no_names)) (λ flow w. Went (ending l 0 flow) w))) (sym is)
       ∙ sym (opened.same (suc n) o)
       ∙ ap (λ t. total (suc t) s o) (sym opened.ticks);
-  }
+}
 
 pub turns-ends : (e : EndOf) (s : State) (a : Stream) → EndsAs (λ n o. total n s o) e s → TurnsAt s a a e
 turns-ends (end.Ended status) s a h = (h, refl)
@@ -223,13 +225,20 @@ whole-not program limits a h = record { events = []; quiet = refl; ends = h.same
 
 whole-from : (M N : List ℕ → ℕ → Outcome) (a b : Stream) (e : EndOf) → ((input : List ℕ) (heap : ℕ) → M input heap ≡ N input heap) → WentWhole N a b e → WentWhole M a b e
 whole-from M N a b e same h = record {
-    events = h.events; quiet = h.quiet; ends = λ input heap. subst (HasEnd e h.events) (sym (same input heap)) (h.ends input heap); put = h.put; faults = h.faults }
+  events = h.events;
+  quiet = h.quiet;
+  ends = λ input heap. subst (HasEnd e h.events) (sym (same input heap)) (h.ends input heap);
+  put = h.put;
+  faults = h.faults;
+}
 
 some-from : (M N : List ℕ → ℕ → Outcome) (a b : Stream) → ((input : List ℕ) (heap : ℕ) → M input heap ≡ N input heap) → WentSome N a b → WentSome M a b
 some-from M N a b same h = record {
-    events = h.events; quiet = h.quiet;
-    front = λ input heap. subst (λ (c : Outcome). IsFront h.events c.trace) (sym (same input heap)) (h.front input heap);
-    put = h.put }
+  events = h.events;
+  quiet = h.quiet;
+  front = λ input heap. subst (λ (c : Outcome). IsFront h.events c.trace) (sym (same input heap)) (h.front input heap);
+  put = h.put;
+}
 
 at-from : (M N : List ℕ → ℕ → Outcome) (a b : Stream) (e : EndOf) → ((input : List ℕ) (heap : ℕ) → M input heap ≡ N input heap) → GoesAt N a b e → GoesAt M a b e
 at-from M N a b (end.Ended status) same h = whole-from M N a b (end.Ended status) same h
@@ -247,7 +256,11 @@ goes-from M N a b (Err memory) same h = (some-from M N a b same h.0, h.1)
 carried : (events : List Event) (i a b t : Stream) → in_bytes events ≡ [] → (IsTrue b.told → b.bytes ≡ a.bytes ++ out_bytes events)
     → Carried false events i.bytes (streams i a t) (streams i b t)
 carried events i a b t quiet put = record {
-    held = λ told. refl; taken = λ told. ap (λ l. l ++ i.bytes) (sym quiet); put = put; shown = λ told. sym (append-nil t.bytes) }
+  held = λ told. refl;
+  taken = λ told. ap (λ l. l ++ i.bytes) (sym quiet);
+  put = put;
+  shown = λ told. sym (append-nil t.bytes);
+}
 
 leaves-whole : (program : CProgram) (limits : Limits) (i a b t : Stream) (e : EndOf) (z : End)
     → ((events : List Event) (c : Outcome) → HasEnd e events c → c ≡ record { end = z; trace = events })
@@ -278,3 +291,23 @@ pub leaves : (program : CProgram) (limits : Limits) (i a b t : Stream) (r : Resu
     → Leaves program limits false (streams i a t) (streams i b t) r
 leaves program limits i a b t (Ok ran) h = leaves-at program limits i a b t ran.end h
 leaves program limits i a b t (Err memory) h = (leaves-some program limits i a b t h.0, record { input = refl; out = h.1; trace = refl })
+
+-- One step and what it shows.
+pub moves-quietly : (old new : State) (a : Stream) (name : List ℕ) → StepsOn (λ n o. total n old o) (Some (Enter name)) old new → Moves old new a a
+moves-quietly old new a name h = record {
+  event = Some (Enter name);
+  quiet = refl;
+  same = h.same;
+  ticks = h.ticks;
+  told = λ t. t;
+  put = λ t. sym (append-nil a.bytes);
+  faults = refl;
+}
+
+pub moves-put : (old new : State) (a b : Stream) (byte : ℕ) → StepsOn (λ n o. total n old o) (Some (Out byte)) old new
+    → (IsTrue b.told → IsTrue a.told) → (IsTrue b.told → b.bytes ≡ a.bytes ++ byte ∷ []) → b.faults ≡ a.faults → Moves old new a b
+moves-put old new a b byte h told put faults = record { event = Some (Out byte); quiet = refl; same = h.same; ticks = h.ticks; told = told; put = put; faults = faults }
+
+pub fails-put : (old new : State) (a b : Stream) (byte : ℕ) → StepsOn (λ n o. total n old o) (Some (Out byte)) old new
+    → (IsTrue b.told → IsTrue a.told) → (IsTrue b.told → AddsFront (byte ∷ []) a.bytes b.bytes) → Rose a.faults b.faults → Fails old a b
+fails-put old new a b byte h told put rose = record { byte = byte; new = new; same = h.same; told = told; put = put; rose = rose }

@@ -21,7 +21,7 @@ bind_all-located [] first i scope found below name e = e
 bind_all-located (other ∷ names) first i scope found below name e =
     ap (λ k. bind_all names k (bind other (first + i) scope) name) (let h : suc (first + i) ≡ first + suc i = omega arith in h)
     ∙ bind_all-located names first (suc i) (bind other (first + i) scope) (cond (bytes_eq name other) (Some i) found) below name
-        (ap (cond (bytes_eq name other) (Some (first + i))) e ∙ later first i (bytes_eq name other) found below)
+    (ap (cond (bytes_eq name other) (Some (first + i))) e ∙ later first i (bytes_eq name other) found below)
 
 pub bind_all-last : (names : List (List ℕ)) (first : ℕ) (scope : Scope) (name : List ℕ)
     → bind_all names first scope name ≡ located first (last_place None 0 names name) (scope name)

@@ -58,7 +58,7 @@ doing-at p n level (doing.Returns v) s scope m w at = absurd at
 -- a state that is at these statements
 pub total-at : (n : ℕ) (s : State) (o : Outside) (all : Statements) → IsAt s.doing all
     → total n s o ≡ whole (program_of s.program.now) n s.stack.items
-        (run_all (program_of s.program.now) n s.level all (scope_of s.stack.items) (memory_of s.blocks.items) (world_of s.ticks o))
+    (run_all (program_of s.program.now) n s.level all (scope_of s.stack.items) (memory_of s.blocks.items) (world_of s.ticks o))
 total-at n s o all at = ap (whole (program_of s.program.now) n s.stack.items)
     (doing-at (program_of s.program.now) n s.level s.doing all (scope_of s.stack.items) (memory_of s.blocks.items) (world_of s.ticks o) at)
 
@@ -78,13 +78,13 @@ body_of-out b = fold_out-CBody Statement Body statement_step body_step b
 pub opens : (p : List Function) (n : ℕ) (level : Level) (ms : List Mark) (b : CBody) (locals : Bor (List CLocal)) (all : List CStatement) (m : Memory) (w : World)
     → locals.now ≡ (out-CBody b).locals → all ≡ (out-CBody b).statements
     → whole p n (ms ++ mark.Locals locals m.next ∷ [])
-        (run_all p n level (statements_of all) (scope_of (ms ++ mark.Locals locals m.next ∷ [])) (added (length locals.now) m) w)
-      ≡ whole p n ms (run_body p n level (body_of b) (scope_of ms) m w)
+    (run_all p n level (statements_of all) (scope_of (ms ++ mark.Locals locals m.next ∷ [])) (added (length locals.now) m) w)
+    ≡ whole p n ms (run_body p n level (body_of b) (scope_of ms) m w)
 opens p n level ms b locals all m w e f =
     whole-push p n ms (mark.Locals locals m.next) _
     ∙ ap (λ (s : Scope). whole p n ms (after p n (scope_of ms) (mark.Locals locals m.next) (run_all p n level (statements_of all) s (added (length locals.now) m) w)))
-        (scope_over-push no_names ms (mark.Locals locals m.next))
+    (scope_over-push no_names ms (mark.Locals locals m.next))
     ∙ ap (λ k. whole p n ms (after p n (scope_of ms) (mark.Locals locals m.next)
-        (run_all p n level (statements_of all) (bind_all (local_names locals.now) m.next (scope_of ms)) k w))) (sym (born_all-added locals.now m))
+    (run_all p n level (statements_of all) (bind_all (local_names locals.now) m.next (scope_of ms)) k w))) (sym (born_all-added locals.now m))
     ∙ ap (λ c. whole p n ms (run_body p n level c (scope_of ms) m w))
-        (ap (λ l. body l (statements_of all)) e ∙ ap (λ s. body (out-CBody b).locals (statements_of s)) f ∙ sym (body_of-out b))
+    (ap (λ l. body l (statements_of all)) e ∙ ap (λ s. body (out-CBody b).locals (statements_of s)) f ∙ sym (body_of-out b))

@@ -98,7 +98,7 @@ total n s o = whole (program_of s.program.now) n s.stack.items
 abbrev pub going_back : ℕ → Option ℕ → Statements → State → (List Function → Memory → World → Ran Returned) → Outside → Outcome
 going_back n back rest s run o = whole (program_of s.program.now) n s.stack.items
     (back_to (program_of s.program.now) n s.level back rest (scope_of s.stack.items)
-      (run (program_of s.program.now) (memory_of s.blocks.items) (world_of s.ticks o)))
+    (run (program_of s.program.now) (memory_of s.blocks.items) (world_of s.ticks o)))
 
 -- the outcome where a function is called by name
 abbrev pub calling : ℕ → List ℕ → List ℤ → Option ℕ → Statements → State → Outside → Outcome

@@ -86,6 +86,6 @@ pub record Opens (b : Body) (p : CProgram) (level : Level) (stack : List Mark) (
 pub record BeginsCall (p : CProgram) (f : Function) (vs : List ℤ) (level : Level) (back : Option ℕ) (rest : Statements) (old new : State) : Type 0 where
   pub same : (n : ℕ) (o : Outside) → total n new o
       ≡ whole (program_of p) n old.stack.items (back_to (program_of p) n old.level back rest (scope_of old.stack.items)
-          (begun (program_of p) n level f vs (memory_of old.blocks.items) (world_of old.ticks o)))
+      (begun (program_of p) n level f vs (memory_of old.blocks.items) (world_of old.ticks o)))
   pub ticks : new.ticks ≡ old.ticks
   pub program : new.program.now ≡ p

@@ -38,12 +38,22 @@ fn is_helper(name: &[u8]) -> bool
 fn byte_of(c: i32) -> u8
     ensures { result ≡ bits_of 8 c }
 {
-    if c < 0 { 255 - ((-(c + 1)) % 256) as u8 } else { (c % 256) as u8 }
+    if c < 0 {
+        255 - ((-(c + 1)) % 256) as u8
+    } else {
+        (c % 256) as u8
+    }
 }
 
 impl<'a> State<'a> {
     /// `[place =] name(arguments);`
-    pub fn call(&mut self, place: &Option<CPlace>, name: &[u8], arguments: &[CExpression], rest: &'a [CStatement]) -> Result<Step<'a>, Stop>
+    pub fn call(
+        &mut self,
+        place: &Option<CPlace>,
+        name: &[u8],
+        arguments: &[CExpression],
+        rest: &'a [CStatement],
+    ) -> Result<Step<'a>, Stop>
         requires { IsAt self.old.doing (followed (call (option_map place_of place.now) name.now (map expression_of arguments.now)) (statements_of rest.now)) }
         ensures { Steps result self.old self.new }
     {
@@ -57,7 +67,13 @@ impl<'a> State<'a> {
     }
 
     /// A function is called by name.
-    fn called(&mut self, name: &[u8], found: &[i32], back: Option<BlockNumber>, rest: &'a [CStatement]) -> Result<Step<'a>, Stop>
+    fn called(
+        &mut self,
+        name: &[u8],
+        found: &[i32],
+        back: Option<BlockNumber>,
+        rest: &'a [CStatement],
+    ) -> Result<Step<'a>, Stop>
         ensures { Comes (λ n o. calling n name.now found.now (place_number back) (statements_of rest.now) self.old o) result self.old self.new }
     {
         if name == b"putchar".as_slice() {
@@ -73,7 +89,12 @@ impl<'a> State<'a> {
     }
 
     /// A byte is put, and is the result.
-    fn put(&mut self, found: &[i32], back: Option<BlockNumber>, rest: &'a [CStatement]) -> Result<Step<'a>, Stop>
+    fn put(
+        &mut self,
+        found: &[i32],
+        back: Option<BlockNumber>,
+        rest: &'a [CStatement],
+    ) -> Result<Step<'a>, Stop>
         ensures { Comes (λ n o. putting n found.now (place_number back) (statements_of rest.now) self.old o) result self.old self.new }
     {
         match found.split_first() {
@@ -92,7 +113,13 @@ impl<'a> State<'a> {
     }
 
     /// A function is entered: a tick and a level of depth are spent, unless it is a helper.
-    fn enter_function(&mut self, f: &'a CFunction, found: &[i32], back: Option<BlockNumber>, rest: &'a [CStatement]) -> Result<Step<'a>, Stop>
+    fn enter_function(
+        &mut self,
+        f: &'a CFunction,
+        found: &[i32],
+        back: Option<BlockNumber>,
+        rest: &'a [CStatement],
+    ) -> Result<Step<'a>, Stop>
         ensures { Comes (λ n o. entering n (function_of f.now) found.now (place_number back) (statements_of rest.now) self.old o) result self.old self.new }
     {
         if f.prototype.parameters.len() != found.len() {
@@ -125,14 +152,22 @@ impl<'a> State<'a> {
     }
 
     /// A function begins with these values at this level.
-    fn begin_call(&mut self, f: &'a CFunction, found: &[i32], level: Level, back: Option<BlockNumber>, rest: &'a [CStatement]) -> Result<(), AllocError>
+    fn begin_call(
+        &mut self,
+        f: &'a CFunction,
+        found: &[i32],
+        level: Level,
+        back: Option<BlockNumber>,
+        rest: &'a [CStatement],
+    ) -> Result<(), AllocError>
         ensures { IfOk result (λ u. BeginsCall self.old.program.now (function_of f.now) found.now level (place_number back) (statements_of rest.now) self.old self.new) }
     {
         self.stack.push(Mark::Rest(self.level, rest))?;
         self.stack.push(Mark::Back(back))?;
         let first = self.blocks.len();
         add_values(&mut self.blocks, found)?;
-        self.stack.push(Mark::Parameters(f.prototype.parameters.as_slice(), first))?;
+        self.stack
+            .push(Mark::Parameters(f.prototype.parameters.as_slice(), first))?;
         self.level = level;
         self.open(&f.body)?;
         Ok(())

@@ -50,7 +50,12 @@ pub fn value(e: &CExpression, stack: &[Mark<'_>], blocks: &[Cell]) -> Result<i32
 }
 
 /// The values of arguments, in order.
-pub fn values(alloc: Global, all: &[CExpression], stack: &[Mark<'_>], blocks: &[Cell]) -> Result<Vec<i32>, Stop>
+pub fn values(
+    alloc: Global,
+    all: &[CExpression],
+    stack: &[Mark<'_>],
+    blocks: &[Cell],
+) -> Result<Vec<i32>, Stop>
     ensures ok { IfOk result (λ vs. values_of (map expression_of all.now) (scope_of stack.now) (memory_of blocks.now) ≡ Ok vs.items) }
     ensures err { IfErr result (λ stop. StopsAt stop (values_of (map expression_of all.now) (scope_of stack.now) (memory_of blocks.now))) }
 {
@@ -76,7 +81,11 @@ pub fn target(place: &Option<CPlace>, stack: &[Mark<'_>]) -> Result<Option<Block
 }
 
 /// The value that a statement returns, if it returns one.
-pub fn given(e: &Option<Boxed<CExpression>>, stack: &[Mark<'_>], blocks: &[Cell]) -> Result<Option<i32>, Act>
+pub fn given(
+    e: &Option<Boxed<CExpression>>,
+    stack: &[Mark<'_>],
+    blocks: &[Cell],
+) -> Result<Option<i32>, Act>
     ensures { answer result ≡ give_value (option_map expression_of e.now) (scope_of stack.now) (memory_of blocks.now) }
 {
     match e {
@@ -89,7 +98,12 @@ pub fn given(e: &Option<Boxed<CExpression>>, stack: &[Mark<'_>], blocks: &[Cell]
 }
 
 /// A place gets what an expression gives. One load moves what stands there, no value included.
-pub fn assign(place: &CPlace, e: &CExpression, stack: &[Mark<'_>], blocks: &mut Vec<Cell>) -> Result<(), Act>
+pub fn assign(
+    place: &CPlace,
+    e: &CExpression,
+    stack: &[Mark<'_>],
+    blocks: &mut Vec<Cell>,
+) -> Result<(), Act>
     ensures ok { OnOk result (assigned_to (block_at (place_of place.now) (scope_of stack.now)) (expression_of e.now) (scope_of stack.now) (memory_of blocks.old.items) ≡ Ok (memory_of blocks.new.items)) }
     ensures err { IfErr result (λ act. assigned_to (block_at (place_of place.now) (scope_of stack.now)) (expression_of e.now) (scope_of stack.now) (memory_of blocks.old.items) ≡ Err (act_number act)) }
 {
@@ -97,7 +111,12 @@ pub fn assign(place: &CPlace, e: &CExpression, stack: &[Mark<'_>], blocks: &mut 
     assign_block(at, e, stack, blocks)
 }
 
-fn assign_block(at: BlockNumber, e: &CExpression, stack: &[Mark<'_>], blocks: &mut Vec<Cell>) -> Result<(), Act>
+fn assign_block(
+    at: BlockNumber,
+    e: &CExpression,
+    stack: &[Mark<'_>],
+    blocks: &mut Vec<Cell>,
+) -> Result<(), Act>
     ensures ok { OnOk result (assigned (expression_of e.now) (number_of at) (scope_of stack.now) (memory_of blocks.old.items) ≡ Ok (memory_of blocks.new.items)) }
     ensures err { IfErr result (λ act. assigned (expression_of e.now) (number_of at) (scope_of stack.now) (memory_of blocks.old.items) ≡ Err (act_number act)) }
 {

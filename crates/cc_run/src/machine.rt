@@ -52,7 +52,12 @@ impl<'a> Machine<'a> {
 }
 
 /// A program runs.
-fn run_program<O: Sink>(alloc: Global, program: &CProgram, limits: Limits, out: &mut O) -> Result<Ran, Memory>
+fn run_program<O: Sink>(
+    alloc: Global,
+    program: &CProgram,
+    limits: Limits,
+    out: &mut O,
+) -> Result<Ran, Memory>
     ensures { Runs program.now limits (O.stream out.old) (O.stream out.new) result }
 {
     match start(alloc, program, limits) {
@@ -66,7 +71,11 @@ fn run_program<O: Sink>(alloc: Global, program: &CProgram, limits: Limits, out: 
 }
 
 /// The state in which `main` begins, if there is one.
-fn start<'a>(alloc: Global, program: &'a CProgram, limits: Limits) -> Result<Option<State<'a>>, Memory>
+fn start<'a>(
+    alloc: Global,
+    program: &'a CProgram,
+    limits: Limits,
+) -> Result<Option<State<'a>>, Memory>
     ensures { IfOk result (λ started. Starts program.now limits started) }
 {
     match function_named(program, b"main".as_slice()) {
@@ -84,7 +93,9 @@ fn start<'a>(alloc: Global, program: &'a CProgram, limits: Limits) -> Result<Opt
                 },
                 ticks: limits.ticks,
             };
-            state.stack.push(Mark::Parameters(main.prototype.parameters.as_slice(), 0))?;
+            state
+                .stack
+                .push(Mark::Parameters(main.prototype.parameters.as_slice(), 0))?;
             state.open(&main.body)?;
             Ok(Some(state))
         }
@@ -108,7 +119,11 @@ fn go<O: Sink>(state: State<'_>, out: &mut O) -> Result<Ran, Memory>
 }
 
 /// One step, and what it shows.
-fn turn<O: Sink>(state: &mut State<'_>, out: &mut O, entered: &mut u64) -> Result<Option<End>, Memory>
+fn turn<O: Sink>(
+    state: &mut State<'_>,
+    out: &mut O,
+    entered: &mut u64,
+) -> Result<Option<End>, Memory>
     ensures { Turns state.old state.new (O.stream out.old) (O.stream out.new) result }
 {
     match state.step() {

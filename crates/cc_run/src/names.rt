@@ -56,7 +56,10 @@ fn look_on(mark: &Mark<'_>, name: &[u8]) -> Look
 {
     match mark {
         Mark::Locals(locals, first) => look_at(*first, place_of_local(locals, name)),
-        Mark::Parameters(parameters, first) => look_at(*first, place_of_parameter(parameters, name)),
+        Mark::Parameters(parameters, first) => look_at(
+            *first,
+            place_of_parameter(parameters, name),
+        ),
         Mark::Back(_) => Look::Nowhere,
         Mark::Rest(_, _) => Look::Below,
         Mark::Turn(_, _) => Look::Below,

@@ -19,13 +19,19 @@ impl<'a> State<'a> {
     {
         let first = self.blocks.len();
         add_empty(&mut self.blocks, body.locals.len())?;
-        self.stack.push(Mark::Locals(body.locals.as_slice(), first))?;
+        self.stack
+            .push(Mark::Locals(body.locals.as_slice(), first))?;
         self.doing = Doing::Run(body.statements.as_slice());
         Ok(())
     }
 
     /// `place = expression;`
-    pub fn assign(&mut self, place: &CPlace, e: &CExpression, rest: &'a [CStatement]) -> Result<Step<'a>, Stop>
+    pub fn assign(
+        &mut self,
+        place: &CPlace,
+        e: &CExpression,
+        rest: &'a [CStatement],
+    ) -> Result<Step<'a>, Stop>
         requires { IsAt self.old.doing (followed (assign (place_of place.now) (expression_of e.now)) (statements_of rest.now)) }
         ensures { Steps result self.old self.new }
     {

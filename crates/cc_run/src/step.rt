@@ -31,7 +31,12 @@ impl<'a> State<'a> {
     {
         match first {
             CStatement::Assign(place, e) => self.assign(place, e.get(), rest),
-            CStatement::Call(place, name, arguments) => self.call(place, name.as_slice(), arguments.as_slice(), rest),
+            CStatement::Call(place, name, arguments) => self.call(
+                place,
+                name.as_slice(),
+                arguments.as_slice(),
+                rest,
+            ),
             CStatement::Block(body) => self.enter(body.get(), rest),
             CStatement::Break => Ok(self.leave(rest)),
             CStatement::If(e, body, other) => self.choose(e.get(), body.get(), other, rest),

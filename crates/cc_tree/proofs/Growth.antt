@@ -91,7 +91,7 @@ module _ (again helps : Again) (h : GrowsAgain again) (k : GrowsAgain helps) (p 
       → Adds w.trace (call_to (λ vs m w. called again helps p inside name vs depth m w) place es scope m w)
   grows-call_to inside name place es scope depth m w =
       grows-tried (target_of place scope) w _ (λ back. grows-tried (values es scope m) w _ (λ vs.
-        adds-then w.trace _ _ (grows-called inside name vs depth m w) (λ r w. grows-back back r w)))
+      adds-then w.trace _ _ (grows-called inside name vs depth m w) (λ r w. grows-back back r w)))
 
   mutual
     pub grows-does : (inside : Bool) (s : Statement) (scope : Scope) (depth : ℕ) (m : Memory) (w : World) → Adds w.trace (does again helps p inside s scope depth m w)
@@ -117,7 +117,7 @@ module _ (again helps : Again) (h : GrowsAgain again) (k : GrowsAgain helps) (p 
 pub grows-refused : GrowsAgain refused
 grows-refused inside s scope depth m w = stopped _ w
 
-grows-helps : (p : List Function) (again : Again) → GrowsAgain again → (inside : Bool) → GrowsAgain (helps_in again p inside)
+pub grows-helps : (p : List Function) (again : Again) → GrowsAgain again → (inside : Bool) → GrowsAgain (helps_in again p inside)
 grows-helps p again h true inside s scope depth m w = stopped _ w
 grows-helps p again h false inside s scope depth m w = grows-does again refused h grows-refused p true s scope depth m w
 

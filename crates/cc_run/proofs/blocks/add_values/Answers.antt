@@ -11,8 +11,8 @@ loop-value-preserved c =
     let fits : FitsSigned w32 v = search rules in
     ap (λ l. born_with (drop (c.loop-value.value-index + 1) c.args.values.now) (memory_of l)) c.in_ok-push.ensures.items
     ∙ ap (λ (z : ℤ). born_with (drop (c.loop-value.value-index + 1) c.args.values.now)
-        (memory_of (c.loop-value.blocks.items ++ record { live = true; held = Some z } ∷ []))) (to_z-of_z {w = w32} {z = v} fits)
+    (memory_of (c.loop-value.blocks.items ++ record { live = true; held = Some z } ∷ []))) (to_z-of_z {w = w32} {z = v} fits)
     ∙ ap (λ m. born_with (drop (c.loop-value.value-index + 1) c.args.values.now) m)
-        (memory-push c.loop-value.blocks.items (record { live = true; held = Some v }))
+    (memory-push c.loop-value.blocks.items (record { live = true; held = Some v }))
     ∙ sym (born_with-step c.args.values.now c.loop-value.value-index v (pos 0) (memory_of c.loop-value.blocks.items) c.loop-value-test.true refl)
     ∙ c.loop-value.invariant

@@ -9,4 +9,4 @@ use Rattle.cc_run.proofs.evaluate.values.Given as goal
 abbrev pub invariant-loop-e : goal.invariant-loop-e
 invariant-loop-e l =
     values (map expression_of l.all) (scope_of l.stack) (memory_of l.blocks)
-      ≡ behind l.found.items (values (map expression_of (drop l.e-index l.all)) (scope_of l.stack) (memory_of l.blocks))
+    ≡ behind l.found.items (values (map expression_of (drop l.e-index l.all)) (scope_of l.stack) (memory_of l.blocks))

@@ -9,5 +9,5 @@ use Rattle.cc_run.proofs.state.State.enter.Goals as goal
 pub returns : goal.returns
 returns c =
     enter-goes c.args.self.now c.open.new.self (body_of c.args.body.now) c.args.rest c.requires
-      (subst (λ (ms : List Mark). Opens (body_of c.args.body.now) c.args.self.now.program.now c.args.self.now.level ms (memory_of c.args.self.now.blocks.items)
-        c.args.self.now.ticks c.open.new.self) c.in_ok-push.ensures.items c.in_ok-open.ensures)
+    (subst (λ (ms : List Mark). Opens (body_of c.args.body.now) c.args.self.now.program.now c.args.self.now.level ms (memory_of c.args.self.now.blocks.items)
+    c.args.self.now.ticks c.open.new.self) c.in_ok-push.ensures.items c.in_ok-open.ensures)

@@ -12,6 +12,6 @@ use Rattle.cc_run.proofs.state.State.give.Goals as goal
 pub returns-in-Err : goal.returns-in-Err
 returns-in-Err c =
     give-ends c.args.self.now (option_map expression_of c.args.e.now) (statements_of c.args.rest.now) c.in-Err.act c.requires
-      (ap (λ (ms : List Mark). give_value (option_map expression_of c.args.e.now) (scope_of ms) (memory_of c.args.self.now.blocks.items)) (sym c.deref.ensures.value)
-      ∙ ap (λ (cells : List Cell). give_value (option_map expression_of c.args.e.now) (scope_of c.deref.result.now) (memory_of cells)) (sym c.deref-2.ensures.value)
-      ∙ sym c.in-Err.ensures)
+    (ap (λ (ms : List Mark). give_value (option_map expression_of c.args.e.now) (scope_of ms) (memory_of c.args.self.now.blocks.items)) (sym c.deref.ensures.value)
+    ∙ ap (λ (cells : List Cell). give_value (option_map expression_of c.args.e.now) (scope_of c.deref.result.now) (memory_of cells)) (sym c.deref-2.ensures.value)
+    ∙ sym c.in-Err.ensures)

@@ -10,7 +10,7 @@ use Rattle.cc_run.proofs.state.State.open.Goals as goal
 
 pub returns : goal.returns
 returns c = record {
-    same = λ n o.
+  same = λ n o.
       let P = program_of c.args.self.now.program.now in
       let L = c.args.self.now.level in
       let S = c.args.self.now.stack.items in
@@ -20,10 +20,10 @@ returns c = record {
       let first : c.len-first.result ≡ M.next = search rules in
       ap (λ (ms : List Mark). whole P n ms (run_all P n L A (scope_of ms) (memory_of c.add_empty.new.blocks.items) w)) c.in_ok-push.ensures.items
       ∙ ap (λ (k : ℕ). whole P n (S ++ mark.Locals c.as_slice.result k ∷ [])
-          (run_all P n L A (scope_of (S ++ mark.Locals c.as_slice.result k ∷ [])) (memory_of c.add_empty.new.blocks.items) w)) first
+      (run_all P n L A (scope_of (S ++ mark.Locals c.as_slice.result k ∷ [])) (memory_of c.add_empty.new.blocks.items) w)) first
       ∙ ap (λ (m : Memory). whole P n (S ++ mark.Locals c.as_slice.result M.next ∷ []) (run_all P n L A (scope_of (S ++ mark.Locals c.as_slice.result M.next ∷ [])) m w))
-          (c.in_ok-add_empty.ensures ∙ ap (λ k. added k M) (c.len.ensures ∙ sym (ap length c.as_slice.ensures)))
+      (c.in_ok-add_empty.ensures ∙ ap (λ k. added k M) (c.len.ensures ∙ sym (ap length c.as_slice.ensures)))
       ∙ opens P n L S c.args.body.now c.as_slice.result c.as_slice-2.result.now M w c.as_slice.ensures c.as_slice-2.ensures;
-    ticks = refl;
-    program = refl;
-  }
+  ticks = refl;
+  program = refl;
+}

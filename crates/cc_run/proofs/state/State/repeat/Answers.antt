@@ -14,6 +14,6 @@ returns-then-self-eq0 c = repeat-ends c.args.self.now c.args.body.now (statement
 pub returns : goal.returns
 returns c =
     repeat-goes c.args.self.now c.open.new.self c.args.body c.args.rest c.requires c.if-self-eq0.false
-      (subst (λ (ms : List Mark). Opens (body_of c.args.body.now) c.args.self.now.program.now c.args.self.now.level ms (memory_of c.args.self.now.blocks.items)
-        (c.args.self.now.ticks - 1) c.open.new.self)
-        (c.in_ok-push-2.ensures.items ∙ ap (λ (ms : List Mark). ms ++ mark.Turn c.args.self.now.level c.args.body ∷ []) c.in_ok-push.ensures.items) c.in_ok-open.ensures)
+    (subst (λ (ms : List Mark). Opens (body_of c.args.body.now) c.args.self.now.program.now c.args.self.now.level ms (memory_of c.args.self.now.blocks.items)
+    (c.args.self.now.ticks - 1) c.open.new.self)
+    (c.in_ok-push-2.ensures.items ∙ ap (λ (ms : List Mark). ms ++ mark.Turn c.args.self.now.level c.args.body ∷ []) c.in_ok-push.ensures.items) c.in_ok-open.ensures)

@@ -12,5 +12,5 @@ returns-then-self-eq0 c = turn-ends c.args.self.now c.args.level c.args.body c.i
 pub returns-in_ok-open-in-Falls : goal.returns-in_ok-open-in-Falls
 returns-in_ok-open-in-Falls c =
     turn-goes c.args.self.now c.open.new.self c.args.level c.args.body c.in-Falls.is c.if-self-eq0.false
-      (subst (λ (ms : List Mark). Opens (body_of c.args.body.now) c.args.self.now.program.now c.args.level ms (memory_of c.args.self.now.blocks.items)
-        (c.args.self.now.ticks - 1) c.open.new.self) c.in_ok-push-in-Falls.ensures.items c.in_ok-open-in-Falls.ensures)
+    (subst (λ (ms : List Mark). Opens (body_of c.args.body.now) c.args.self.now.program.now c.args.level ms (memory_of c.args.self.now.blocks.items)
+    (c.args.self.now.ticks - 1) c.open.new.self) c.in_ok-push-in-Falls.ensures.items c.in_ok-open-in-Falls.ensures)
