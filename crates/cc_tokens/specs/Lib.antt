@@ -1,3 +1,5 @@
 pub mod Mark
 pub mod Token
 pub mod Cut
+pub mod Front
+pub mod Stray

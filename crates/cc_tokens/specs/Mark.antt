@@ -1,5 +1,7 @@
 -- The signs and reserved words of the small C.
-use Rattle.std.specs.Prelude.{◌≡◌, ℕ, List, [], ◌∷◌, codes, Contains}
+use Rattle.std.specs.Prelude.{ℕ, Bool, List, [], ◌∷◌, codes}
+use denote.Enum.Bare.{sameb}
+use Rattle.cc_tokens.specs.contracts.mark.Mark.{the_type}
 use Rattle.cc_tokens.specs.declared.mark.Mark.{Mark}
 use Rattle.cc_tokens.specs.declared.mark.Mark.TheVariants as mark
 
@@ -58,3 +60,15 @@ words =
     mark.Break ∷ mark.Case ∷ mark.Char ∷ mark.Continue ∷ mark.Default ∷ mark.Else ∷ mark.Extern ∷ mark.For ∷ mark.If ∷ mark.Int
     ∷ mark.Return ∷ mark.Short ∷ mark.Static ∷ mark.Struct ∷ mark.Switch ∷ mark.Unsigned ∷ mark.Void ∷ mark.Pair ∷ mark.FunctionPointer
     ∷ []
+
+-- those that are signs, the longer ones first
+abbrev pub signs : List Mark
+signs =
+    mark.ShiftLeft ∷ mark.ShiftRight ∷ mark.LessEqual ∷ mark.GreaterEqual ∷ mark.Equal ∷ mark.NotEqual ∷ mark.LeftParen ∷ mark.RightParen
+    ∷ mark.LeftBrace ∷ mark.RightBrace ∷ mark.LeftBracket ∷ mark.RightBracket ∷ mark.Comma ∷ mark.Semicolon ∷ mark.Assign ∷ mark.Star
+    ∷ mark.Slash ∷ mark.Percent ∷ mark.Plus ∷ mark.Minus ∷ mark.Less ∷ mark.Greater ∷ mark.And ∷ mark.Xor ∷ mark.Or ∷ mark.Not ∷ mark.Complement
+    ∷ []
+
+-- `==` on signs and words
+unfoldable pub same_mark : Mark → Mark → Bool
+same_mark = sameb the_type

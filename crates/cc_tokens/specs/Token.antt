@@ -1,5 +1,5 @@
 -- How the tokens of the small C are spelled.
-use Rattle.std.specs.Prelude.{◌≡◌, ℕ, Bool, true, false, not, ◌||◌, ◌&&◌, ◌==◌, if◌then◌else◌, List, [], ◌∷◌, ◌++◌, codes, slice_index, length, map}
+use Rattle.std.specs.Prelude.{ℕ, Bool, true, false, not, ◌||◌, ◌&&◌, ◌==◌, List, [], ◌∷◌, ◌++◌, codes, length}
 use Rattle.std.specs.Char.{is_ascii_digit, is_ascii_alphanumeric}
 use Rattle.std.specs.List.{list_all, list_any}
 use Rattle.std.specs.Str.{bytes_eq}
@@ -23,11 +23,15 @@ abbrev pub is_word : List ℕ → Bool
 is_word bs = begins (λ b. is_word_byte b && not (is_ascii_digit b)) bs && list_all is_word_byte bs
 
 abbrev pub is_reserved : List ℕ → Bool
-is_reserved bs = list_any (λ word. bytes_eq word bs) (map mark_text words)
+is_reserved bs = list_any (λ m. bytes_eq (mark_text m) bs) words
+
+-- 0 stands not first, or alone
+abbrev pub is_plain : List ℕ → Bool
+is_plain bs = not (begins (λ b. b == 48) bs) || length bs == 1
 
 -- decimal digits, 0 not first but alone
 abbrev pub is_numeral : List ℕ → Bool
-is_numeral bs = begins is_ascii_digit bs && list_all is_ascii_digit bs && (not (begins (λ b. b == 48) bs) || length bs == 1)
+is_numeral bs = begins is_ascii_digit bs && (list_all is_ascii_digit bs && is_plain bs)
 
 abbrev pub is_token : Token → Bool
 is_token (token.Mark m) = true
@@ -43,18 +47,18 @@ spelling (token.Name name) = name
 spelling (token.Signed digits) = digits
 spelling (token.Unsigned digits) = digits ++ codes "u"
 
--- whether a sign or word with this byte behind it is a longer one
-abbrev pub goes_on : Mark → ℕ → Bool
-goes_on mark.Minus b = is_ascii_digit b
-goes_on mark.Less b = b == 60 || b == 61
-goes_on mark.Greater b = b == 61 || b == 62
-goes_on mark.Assign b = b == 61
-goes_on mark.Not b = b == 61
-goes_on m b = begins (λ b. is_word_byte b) (mark_text m) && is_word_byte b
+-- whether a sign or word is longer with the bytes behind it
+abbrev pub goes_on : Mark → List ℕ → Bool
+goes_on mark.Minus bs = begins is_ascii_digit bs
+goes_on mark.Less bs = begins (λ b. b == 60 || b == 61) bs
+goes_on mark.Greater bs = begins (λ b. b == 61 || b == 62) bs
+goes_on mark.Assign bs = begins (λ b. b == 61) bs
+goes_on mark.Not bs = begins (λ b. b == 61) bs
+goes_on m bs = begins is_word_byte (mark_text m) && begins is_word_byte bs
 
 -- whether the token ends where these bytes go on
 abbrev pub ends : Token → List ℕ → Bool
-ends (token.Mark m) bs = not (begins (goes_on m) bs)
+ends (token.Mark m) bs = not (goes_on m bs)
 ends token.Dash bs = begins is_ascii_digit bs
 ends (token.Name name) bs = not (begins is_word_byte bs)
 ends (token.Signed digits) bs = not (begins is_word_byte bs)

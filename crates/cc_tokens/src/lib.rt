@@ -4,8 +4,11 @@
 //! is spelled and how a text is cut; `tokens` cuts one.
 #![tactic(auto)]
 
+mod cut;
+mod front;
 mod mark;
 mod token;
 
+pub use cut::{CutError, TokenList, tokens};
 pub use mark::Mark;
 pub use token::Token;

@@ -2,8 +2,8 @@
 use Rattle.std.proofs.Common.{◌≡◌, ℕ, zero, suc, List, [], ◌∷◌, ◌++◌, refl, sym, ◌∙◌, ap, subst, append_assoc, append-nil}
 use Rattle.std.specs.Prelude.{ℤ}
 use Rattle.cf_base.specs.Event.{Event, End, Ended, Ticks, Depth, Undefined}
-use Rattle.cf_base.specs.World.{World, Ran, Went, Stops, and_then, shown, spend_of, spend, deeper, show, next_of, next_byte, Outcome, outcome}
-use Rattle.cf_base.specs.Agree.{Begins, AgreesFrom, Agree, StopsAs, GoesOnAs, Same, Sim, Adds}
+use Rattle.cf_base.specs.World.{World, Ran, Went, Stops, and_then, shown, spend_of, deeper, Outcome, outcome}
+use Rattle.cf_base.specs.Agree.{Begins, AgreesFrom, Agree, StopsAs, GoesOnAs, Sim, Adds}
 
 -- ---- fronts of traces
 

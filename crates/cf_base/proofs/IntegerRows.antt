@@ -1,7 +1,7 @@
 -- The integers' definitions tried on numbers worked out by hand.
-use Rattle.std.proofs.Common.{◌≡◌, ℕ, refl}
-use Rattle.std.specs.Prelude.{ℤ, pos, negsuc, Ok, Err, true, false}
-use Rattle.cf_base.specs.declared.kind.Kind.TheVariants.{Char, SChar, UChar, Short, UShort, Int, UInt, Long, ULong}
+use Rattle.std.proofs.Common.{◌≡◌, refl}
+use Rattle.std.specs.Prelude.{pos, negsuc, Ok, Err, true, false}
+use Rattle.cf_base.specs.declared.kind.Kind.TheVariants.{Char, UChar, Short, UShort, Int, UInt, ULong}
 use Rattle.cf_base.specs.declared.arith.Arith.TheVariants as op
 use Rattle.cf_base.specs.Integers.{fits, convert, int_op}
 

@@ -1,5 +1,5 @@
 -- When a run of the written text agrees with the run that the source means.
-use Rattle.std.specs.Prelude.{◌≡◌, ℕ, List, ◌++◌, ℤ}
+use Rattle.std.specs.Prelude.{◌≡◌, List, ◌++◌}
 use Rattle.cf_base.specs.Event.{Event, End, Ended, Ticks, Depth, Undefined}
 use Rattle.cf_base.specs.World.{World, Ran, Went, Stops, shown, Outcome}
 

@@ -5,6 +5,7 @@ pub mod Failures
 pub mod Held
 pub mod Integers
 pub mod Place
+pub mod Promotion
 pub mod Rose
 pub mod Rule
 pub mod Stream

@@ -1,13 +1,13 @@
 -- The world of a run, and how one step leads on to the next. The meanings of the source and of the small C are written in these words.
-use Rattle.std.specs.Prelude.{ℕ, zero, suc, ◌-◌, List, [], ◌∷◌, ◌++◌, ℤ, Option, Some, None}
+use Rattle.std.specs.Prelude.{ℕ, zero, suc, List, [], ◌∷◌, ◌++◌, ℤ, Option, Some, None}
 use Rattle.cf_base.specs.Event.{Event, In, End, Ended, Ticks, Depth}
 
 -- what both meanings have in common at a moment of a run
 pub record World : Type 0 where
-  pub ticks : ℕ          -- left
-  pub input : List ℕ     -- bytes left
-  pub heap : ℕ           -- bytes of the heap limit that no live charge takes
-  pub trace : List Event -- so far, oldest first
+  pub ticks : ℕ  -- left
+  pub input : List ℕ  -- bytes left
+  pub heap : ℕ  -- bytes of the heap limit that no live charge takes
+  pub trace : List Event  -- so far, oldest first
 
 -- a run goes on with a value in a world, or has ended with its whole trace
 pub data Ran (A : Type 0) : Type 0 where

@@ -8,6 +8,7 @@
 mod arith;
 mod boxed;
 mod clean;
+mod compared;
 mod failures;
 mod files;
 mod held;

@@ -1,0 +1,4 @@
+pub mod Lists
+pub mod PlacedLaws
+pub mod RuleLaws
+pub mod UseLaws

@@ -1,0 +1,14 @@
+//! Writes a unit of the small C as a text.
+//!
+//! `print` writes one space between tokens of a line, and a newline behind the first line and behind each
+//! `;`, `{` and `}`. Brackets stand only where the tree needs them. `specs/` has the text as a fold.
+#![tactic(auto)]
+
+mod expression;
+mod laws;
+mod lines;
+mod statement;
+mod unit;
+
+pub use laws::returned_text_is_its_text;
+pub use unit::print;

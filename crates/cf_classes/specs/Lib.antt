@@ -1,0 +1,11 @@
+pub mod ClassTable
+pub mod Description
+pub mod Layout
+pub mod LinkName
+pub mod Lookup
+pub mod Overrider
+pub mod OwnedName
+pub mod Signature
+pub mod Special
+pub mod Subobject
+pub mod TypeTree

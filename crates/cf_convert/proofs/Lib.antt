@@ -1,0 +1,3 @@
+pub mod ConversionExamples
+pub mod Known
+pub mod Steps

@@ -1,0 +1,53 @@
+ghost use Rattle.std.specs.Prelude.{◌≡◌, ℕ, ◌<◌, length};
+ghost use Rattle.cf_types.specs.Table.{NamesBelow};
+ghost use Rattle.cf_convert.specs.Converts as converts;
+
+use cf_types::{Ty, TyId, Types};
+
+/// The type of this number, which names types of the table alone.
+#[tactic(auto, using(crate::proofs::Known::names_more))]
+pub(crate) fn type_at(types: &Types, id: TyId) -> &Ty
+    requires { id < length types.now.types }
+    ensures value { result.now ≡ converts.type_at types.now id }
+    ensures known { NamesBelow (length types.now.types) result.now }
+{
+    types.get(id)
+}
+
+/// Whether the type is const.
+pub(crate) fn is_const(types: &Types, id: TyId) -> bool
+    requires { id < length types.now.types }
+    ensures { result ≡ converts.is_const types.now id }
+{
+    matches!(type_at(types, id), Ty::Const(_))
+}
+
+/// The type without a const of its own.
+pub(crate) fn bare(types: &Types, id: TyId) -> TyId
+    requires { id < length types.now.types }
+    ensures value { result ≡ converts.bare types.now id }
+    ensures known { result < length types.now.types }
+{
+    match type_at(types, id) {
+        Ty::Const(inside) => *inside,
+        _ => id,
+    }
+}
+
+/// The type of the value that an object of this type has: of an array or a function a pointer.
+pub(crate) fn decayed(id: TyId, ty: &Ty) -> Ty
+    ensures { result ≡ converts.decayed id ty.now }
+{
+    match ty {
+        Ty::Array(element, _) => Ty::Ptr(*element),
+        Ty::Fun(_) => Ty::Ptr(id),
+        other => *other,
+    }
+}
+
+/// Whether the constant 0 is a value of the type.
+pub(crate) fn takes_null(ty: &Ty) -> bool
+    ensures { result ≡ converts.takes_null ty.now }
+{
+    matches!(ty, Ty::Ptr(_) | Ty::MemData(_, _) | Ty::MemFun(_, _))
+}

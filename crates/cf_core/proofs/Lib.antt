@@ -1,0 +1,10 @@
+mod ActRows
+mod ClassRows
+mod ClassViewRows
+mod ControlRows
+mod FileRows
+mod NodeRows
+mod ObjectRows
+mod Sample
+mod ScalarRows
+mod SubobjectRows

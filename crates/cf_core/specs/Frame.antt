@@ -1,0 +1,95 @@
+-- The frame bound of a function, in bytes: no less than what its C parameters and locals take at any place.
+use Rattle.std.specs.Prelude.{ℕ, ◌+◌, ◌*◌, ◌/◌, max, Bool, true, false, List, [], ◌∷◌, ◌++◌, map, sum, length}
+use Rattle.std.specs.List.{flat_map}
+use Rattle.cf_core.specs.declared.operators.LoopForm.TheVariants as form
+use Rattle.cf_core.specs.Types.{SourceType, parameters, is_class}
+use Rattle.cf_core.specs.Classes.{Class}
+use Rattle.cf_core.specs.Core.{Core, Cores, MaybeCore, Parts, none, more, absent, given, no_parts, part, Function, Static, temporary, call, virtual_call, pointer_call, build, list, blank, full, declare, once, branch, loop, switch, give, parts}
+use Rattle.cf_core.specs.Size.{size}
+use Rattle.cf_core.specs.Nodes.{nodes}
+
+abbrev pub up_to_eight : ℕ → ℕ
+up_to_eight n = (n + 7) / 8 * 8
+
+abbrev pub bytes_of : List Class → SourceType → ℕ
+bytes_of classes t = up_to_eight (size classes t)
+
+-- the class objects among parameters
+abbrev pub class_bytes : List Class → List SourceType → List ℕ
+class_bytes classes [] = []
+class_bytes classes (t ∷ ts) = (if_class (is_class t) (bytes_of classes t)) ++ class_bytes classes ts
+  where
+    if_class : Bool → ℕ → List ℕ
+    if_class true n = n ∷ []
+    if_class false n = []
+
+-- the class objects that a node makes as temporaries and by-value parameters
+abbrev pub made_by : List Class → Core → List ℕ
+made_by classes (temporary t e) = class_bytes classes (t ∷ [])
+made_by classes (call n t object args) = class_bytes classes (parameters t)
+made_by classes (virtual_call f t e args) = class_bytes classes (parameters t)
+made_by classes (pointer_call object e t args) = class_bytes classes (parameters t)
+made_by classes (build n t args) = class_bytes classes (parameters t)
+made_by classes e = []
+
+-- the cost of a full expression: 32 for each node, and the class objects that it makes
+abbrev pub expression_cost : List Class → Core → ℕ
+expression_cost classes blank = 0
+expression_cost classes e = 32 * length (nodes e) + sum (flat_map (made_by classes) (nodes e))
+
+abbrev pub maybe_cost : List Class → MaybeCore → ℕ
+maybe_cost classes absent = 0
+maybe_cost classes (given e) = expression_cost classes e
+
+abbrev mutual
+  -- the greatest cost of an initialiser's full expressions: each element of a list is one by itself
+  pub initialiser_cost : Core → List Class → ℕ
+  initialiser_cost (list es rest) classes = max (initialiser_costs es classes) (initialiser_cost rest classes)
+  initialiser_cost e classes = expression_cost classes e
+
+  pub initialiser_costs : Cores → List Class → ℕ
+  initialiser_costs none classes = 0
+  initialiser_costs (more e es) classes = max (initialiser_cost e classes) (initialiser_costs es classes)
+
+-- the full expressions of one node of a statement
+abbrev pub node_cost : List Class → Core → ℕ
+node_cost classes (full e) = expression_cost classes e
+node_cost classes (declare i t e) = initialiser_cost e classes
+node_cost classes (once n e) = initialiser_cost e classes
+node_cost classes (branch c a b) = expression_cost classes c
+node_cost classes (loop f c e s) = max (maybe_cost classes c) (maybe_cost classes e)
+node_cost classes (switch e es) = expression_cost classes e
+node_cost classes (give absent) = 0
+node_cost classes (give (given e)) = initialiser_cost e classes
+node_cost classes (parts ps s) = parts_cost ps
+  where
+    parts_cost : Parts → ℕ
+    parts_cost no_parts = 0
+    parts_cost (part w e rest) = max (initialiser_cost e classes) (parts_cost rest)
+node_cost classes e = 0
+
+abbrev pub greatest : List ℕ → ℕ
+greatest [] = 0
+greatest (n ∷ ns) = max n (greatest ns)
+
+-- 8 for each `for`, `do` and `switch`
+abbrev pub loop_bytes : Core → ℕ
+loop_bytes (loop form.For c e s) = 8
+loop_bytes (loop form.Do c e s) = 8
+loop_bytes (switch e es) = 8
+loop_bytes e = 0
+
+abbrev pub slot : List Class → SourceType → ℕ
+slot classes t = 24 + bytes_of classes t
+
+-- 64, what parameters and locals take with 24 more each, 8 for each of those statements, and the costliest full expression
+abbrev pub frame_bound : List Class → Function → ℕ
+frame_bound classes f =
+    64
+    + sum (map (slot classes) (parameters f.type ++ f.locals))
+    + sum (map loop_bytes (nodes f.body))
+    + greatest (map (node_cost classes) (nodes f.body))
+
+-- that of a file's initialising function, over the initialisers of its static objects
+abbrev pub initialiser_bound : List Class → List Static → ℕ
+initialiser_bound classes statics = 64 + greatest (map (λ (x : Static). initialiser_cost x.start classes) statics)

@@ -1,0 +1,58 @@
+-- The core of a file as plain data, and the meaning of files.
+use Rattle.std.specs.Prelude.{ℕ, false, List, Option, map}
+use Rattle.cf_base.specs.World.{Outcome}
+use Rattle.cf_core.specs.declared.unit.CoreFn.{CoreFn}
+use Rattle.cf_core.specs.declared.unit.CoreStatic.{CoreStatic}
+use Rattle.cf_core.specs.declared.unit.CoreUnit.{CoreUnit}
+use Rattle.cf_core.specs.declared.unit.Role.{Role as UnitRole}
+use Rattle.cf_core.specs.declared.unit.Role.TheVariants as role
+use Rattle.cf_core.specs.Types.{gives}
+use Rattle.cf_core.specs.Core.{Role, plain_function, member_function, constructor, destructor, Function, Static, CoreFile}
+use Rattle.cf_core.specs.FromTypes.{Tables, type_of, taking, class_code}
+use Rattle.cf_core.specs.FromClasses.{signature_of, classes_in}
+use Rattle.cf_core.specs.View.{core_of}
+use Rattle.cf_core.specs.Joined.{program_of}
+use Rattle.cf_core.specs.Program.{Mean}
+
+abbrev pub tables_of : CoreUnit → Tables
+tables_of unit = record { types = unit.types; classes = unit.classes }
+
+abbrev pub role_of : Tables → UnitRole → Role
+role_of tables role.Plain = plain_function
+role_of tables (role.Member c) = member_function (class_code tables.classes c)
+role_of tables (role.Constructor c) = constructor (class_code tables.classes c)
+role_of tables (role.Destructor c) = destructor (class_code tables.classes c)
+
+abbrev pub function_of : Tables → CoreFn → Function
+function_of tables f = record {
+  name = f.name;
+  role = role_of tables f.role;
+  type = taking (map (type_of tables) f.params) (gives (type_of tables f.result) false);
+  locals = map (type_of tables) f.locals;
+  body = core_of tables (signature_of tables) f.body;
+  is_shared = f.is_shared;
+  is_local = f.is_local;
+}
+
+abbrev pub static_of : Tables → CoreStatic → Static
+static_of tables x = record {
+  name = x.name;
+  type = type_of tables x.ty;
+  start = core_of tables (signature_of tables) x.start;
+  is_constant = x.is_constant;
+  is_shared = x.is_shared;
+  is_local = x.is_local;
+}
+
+abbrev pub file_of : CoreUnit → CoreFile
+file_of unit =
+    let tables = tables_of unit in
+    record {
+      classes = classes_in tables unit.classes.defined;
+      functions = map (function_of tables) unit.functions;
+      statics = map (static_of tables) unit.statics;
+    }
+
+-- The meaning of files, in the order of the command line: from an input, a heap limit, a depth limit and a bound of ticks.
+abbrev pub units_mean : List CoreUnit → List ℕ → ℕ → ℕ → ℕ → Option Outcome
+units_mean units input heap depth n = Mean (program_of (map file_of units)) input heap depth n

@@ -1,0 +1,5 @@
+pub mod Agrees
+pub mod Mean
+pub mod Plain
+pub mod Rules
+pub mod Translate

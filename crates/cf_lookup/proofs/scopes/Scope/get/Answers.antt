@@ -1,0 +1,10 @@
+use Rattle.std.proofs.Common.{nat_eq, ap, ◌∙◌}
+use Rattle.std.specs.Cmp.Lexicographic.{pointwise}
+use Rattle.cf_lookup.specs.Scope.{in_scope}
+use Rattle.cf_lookup.proofs.Finding.{lookup-seen}
+use Rattle.cf_lookup.proofs.scopes.Scope.get.Goals as goal
+
+pub returns : goal.returns
+returns c =
+    c.copied.ensures ∙ c.get.ensures.value ∙ lookup-seen (λ v. v.items) (pointwise nat_eq c.args.name.now) c.self.inside.names.entries
+    ∙ ap (in_scope c.args.name.now) c.self.view_is

@@ -1,0 +1,22 @@
+-- Scopes of names (3.2).
+use Rattle.std.specs.Prelude.{ℕ, Bool, nat_eq, List, [], ◌∷◌, ◌++◌, Option, None, Some}
+use Rattle.std.specs.Cmp.Lexicographic.{pointwise}
+use Rattle.std.specs.Map.{lookup}
+use Rattle.std.specs.Option.{option_or}
+
+-- the open scopes: those around, from the file's own inwards, and the innermost; each has names with their entities, in order of declaration
+pub record OpenScopes : Type 0 where
+  pub outer : List (List (List ℕ × ℕ))
+  pub inner : List (List ℕ × ℕ)
+
+-- what a scope declares the name as
+abbrev pub in_scope : List ℕ → List (List ℕ × ℕ) → Option ℕ
+in_scope name scope = lookup (pointwise nat_eq name) scope
+
+-- a name stands for what the innermost scope that has it declares it as
+abbrev pub found_in : List ℕ → List (List (List ℕ × ℕ)) → Option ℕ
+found_in name [] = None
+found_in name (scope ∷ inner) = option_or (found_in name inner) (in_scope name scope)
+
+abbrev pub found : List ℕ → OpenScopes → Option ℕ
+found name scopes = found_in name (scopes.outer ++ scopes.inner ∷ [])

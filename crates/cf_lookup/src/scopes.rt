@@ -1,0 +1,169 @@
+ghost use Rattle.std.specs.Prelude.{◌≡◌, ℕ, ◌<◌, ◌≤◌, ◌-◌, List, [], ◌∷◌, ◌++◌, length, take, IsTrue, None, IfOk, OnOk, OnErr, is_none, if◌then◌else◌};
+ghost use Rattle.cf_lookup.specs.Scope.{found, found_in, in_scope};
+
+use cf_base::Memory;
+use indexmap::IndexMap;
+use std::alloc::Global;
+use std::marker::Model;
+use std::mem;
+
+/// Something that a name stands for, by its number in a table of the caller's.
+#[derive(Clone, Copy, Debug, PartialEq, Eq, Hash)]
+pub struct EntityId {
+    number: u32,
+}
+
+impl Model for EntityId {
+    ghost use Rattle.std.specs.Prelude.{ℕ};
+
+    ghost Value = { ℕ };
+
+    ghost view = { λ id. id.number };
+
+    ghost inverse = { λ n. record { number = n } };
+}
+
+impl EntityId {
+    /// The entity of this number.
+    pub fn new(number: u32) -> EntityId
+        ensures { result ≡ number }
+    {
+        EntityId { number }
+    }
+
+    /// Its number.
+    pub fn number(self) -> u32
+        ensures { result ≡ self }
+    {
+        self.number
+    }
+}
+
+/// The names that one scope declares.
+#[derive(Drop)]
+struct Scope {
+    names: IndexMap<Vec<u8>, EntityId>,
+}
+
+impl Model for Scope {
+    ghost use Rattle.std.specs.Prelude.{List, ℕ, map};
+
+    ghost Value = { List (List ℕ × ℕ) };
+
+    ghost view = { λ s. map (λ e. (e.0.items, e.1)) s.names.entries };
+}
+
+impl Scope {
+    fn new(alloc: Global) -> Scope
+        ensures { result ≡ [] }
+    {
+        Scope {
+            names: IndexMap::new(alloc),
+        }
+    }
+
+    fn get(&self, name: &[u8]) -> Option<EntityId>
+        ensures { result ≡ in_scope name.now self.now }
+    {
+        self.names.get(name).copied()
+    }
+
+    /// Adds a name that the scope does not have.
+    fn add(&mut self, alloc: Global, name: &[u8], entity: EntityId) -> Result<(), Memory>
+        requires { in_scope name.now self.old ≡ None }
+        ensures ok { OnOk result (self.new ≡ self.old ++ (name.now, entity) ∷ []) }
+        ensures err { OnErr result (self.new ≡ self.old) }
+    {
+        let name = Vec::from_slice(alloc, name)?;
+        self.names.insert(name, entity)?;
+        Ok(())
+    }
+}
+
+/// The open scopes of a file (3.2).
+#[derive(Drop)]
+pub struct Scopes {
+    alloc: Global,
+    outer: Vec<Scope>,
+    inner: Scope,
+}
+
+impl Model for Scopes {
+    ghost use Rattle.cf_lookup.specs.Scope.{OpenScopes};
+
+    ghost Value = { OpenScopes };
+
+    ghost view = { λ s. record { outer = s.outer.items; inner = s.inner } };
+}
+
+impl Scopes {
+    /// The file's scope alone, without names.
+    pub fn new(alloc: Global) -> Scopes
+        ensures outer { result.outer ≡ [] }
+        ensures inner { result.inner ≡ [] }
+    {
+        Scopes {
+            alloc,
+            outer: Vec::new(alloc),
+            inner: Scope::new(alloc),
+        }
+    }
+
+    /// Opens a scope inside the innermost.
+    pub fn enter(&mut self) -> Result<(), Memory>
+        ensures outer { OnOk result (self.new.outer ≡ self.old.outer ++ self.old.inner ∷ []) }
+        ensures inner { OnOk result (self.new.inner ≡ []) }
+        ensures err { OnErr result (self.new ≡ self.old) }
+    {
+        self.outer.reserve(1)?;
+        let around = mem::replace(&mut self.inner, Scope::new(self.alloc));
+        self.outer.push(around).unwrap();
+        Ok(())
+    }
+
+    /// Closes the innermost scope.
+    pub fn leave(&mut self)
+        requires { 0 < length self.old.outer }
+        ensures { self.old.outer ≡ self.new.outer ++ self.new.inner ∷ [] }
+    {
+        self.inner = self.outer.pop().unwrap();
+    }
+
+    /// Declares a name in the innermost scope, and tells whether it was new there. A name that the scope has stays as it is.
+    pub fn declare(&mut self, name: &[u8], entity: EntityId) -> Result<bool, Memory>
+        ensures fresh { IfOk result (λ fresh. fresh ≡ is_none (in_scope name.now self.old.inner)) }
+        ensures declared { IfOk result (λ fresh. self.new.inner ≡ self.old.inner ++ (if fresh then (name.now, entity) ∷ [] else [])) }
+        ensures outer { self.new.outer ≡ self.old.outer }
+        ensures err { OnErr result (self.new ≡ self.old) }
+    {
+        if self.inner.get(name).is_some() {
+            return Ok(false);
+        }
+        self.inner.add(self.alloc, name, entity)?;
+        Ok(true)
+    }
+
+    /// What the innermost scope that has the name declares it as.
+    pub fn find(&self, name: &[u8]) -> Option<EntityId>
+        ensures { result ≡ found name.now self.now }
+    {
+        self.inner
+            .get(name)
+            .or(find_in(self.outer.as_slice(), name))
+    }
+}
+
+/// What the last of these scopes that has the name declares it as.
+fn find_in(scopes: &[Scope], name: &[u8]) -> Option<EntityId>
+    ensures { result ≡ found_in name.now scopes.now }
+{
+    let mut around = scopes.len();
+    while around > 0 {
+        around -= 1;
+        let entity = scopes[around].get(name);
+        if entity.is_some() {
+            return entity;
+        }
+    }
+    None
+}

@@ -1,0 +1,10 @@
+pub mod Cut
+pub mod First
+pub mod Lower
+pub mod Lowered
+pub mod Mean
+pub mod Parse
+pub mod Read
+pub mod Spells
+pub mod Symbol
+pub mod Tokens

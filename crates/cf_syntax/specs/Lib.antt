@@ -1,0 +1,11 @@
+pub mod Grammar
+pub mod Language
+pub mod Longest
+pub mod Named
+pub mod Names
+pub mod NamesData
+pub mod Operators
+pub mod Parse
+pub mod Reading
+pub mod Specified
+pub mod Words

@@ -1,0 +1,76 @@
+//! Names of scopes and classes looked up.
+
+ghost use Rattle.std.specs.Prelude.{◌≡◌, bytes_eq};
+ghost use Rattle.cf_syntax.specs.Names.{kind_of, in_class_to, in_scope, newest};
+
+use crate::type_names::{ClassNames, Entry, NameKind, Scope};
+
+/// Whether two names are the same bytes.
+fn is_same(a: &[u8], b: &[u8]) -> bool
+    ensures { result ≡ bytes_eq a.now b.now }
+{
+    a == b
+}
+
+/// What the newest of these entries says of a name.
+pub fn kind_among(entries: &[Entry], name: &[u8]) -> Option<NameKind>
+    ensures { result ≡ kind_of entries.now name.now }
+{
+    let mut left = entries.len();
+    while left > 0 {
+        left -= 1;
+        let entry = &entries[left];
+        if is_same(entry.name.as_slice(), name) {
+            return Some(entry.kind);
+        }
+    }
+    None
+}
+
+/// What a class says of a name, or its bases, at most `depth` classes above one another.
+pub fn kind_in_class(
+    classes: &[ClassNames],
+    depth: usize,
+    class: u32,
+    name: &[u8],
+) -> Option<NameKind>
+    ensures { result ≡ in_class_to depth classes.now name.now class }
+{
+    if depth == 0 {
+        return None;
+    }
+    let found = classes.get(class as usize)?;
+    if let Some(kind) = kind_among(found.entries.as_slice(), name) {
+        return Some(kind);
+    }
+    for base in found.bases.as_slice() {
+        if let Some(kind) = kind_in_class(classes, depth - 1, *base, name) {
+            return Some(kind);
+        }
+    }
+    None
+}
+
+/// What one open scope says of a name.
+pub fn kind_in_scope(classes: &[ClassNames], scope: &Scope, name: &[u8]) -> Option<NameKind>
+    ensures { result ≡ in_scope classes.now name.now scope.now }
+{
+    match scope {
+        Scope::Block(entries) => kind_among(entries.as_slice(), name),
+        Scope::Class(class) => kind_in_class(classes, classes.len(), *class, name),
+    }
+}
+
+/// What the innermost of these scopes that has the name says of it.
+pub fn kind_in_scopes(classes: &[ClassNames], scopes: &[Scope], name: &[u8]) -> Option<NameKind>
+    ensures { result ≡ newest (in_scope classes.now name.now) scopes.now }
+{
+    let mut left = scopes.len();
+    while left > 0 {
+        left -= 1;
+        if let Some(kind) = kind_in_scope(classes, &scopes[left], name) {
+            return Some(kind);
+        }
+    }
+    None
+}

@@ -1,0 +1,216 @@
+ghost use Rattle.std.specs.Prelude.{◌≡◌, ℕ, ◌<◌, [], length, slice_index, slice_set, true, false, IfOk, OnOk, OnErr};
+ghost use Rattle.cf_syntax.specs.Names.{no_names, find, find_in, find_here, find_in_file, with_class, with_bases, with_scope, without_scope, declared, is_defined, grown, class_at};
+ghost use Rattle.cf_syntax.specs.declared.type_names.Scope.TheVariants.{Block, Class};
+
+use crate::lookup::{kind_among, kind_in_class, kind_in_scope, kind_in_scopes};
+use cf_base::{Bytes, Items, Memory};
+use std::alloc::Global;
+use std::marker::Model;
+
+/// What a name stands for while a file is read.
+#[derive(Clone, Copy, Debug, PartialEq, Eq)]
+pub enum NameKind {
+    /// No type.
+    Value,
+    /// A type that is no class.
+    Plain,
+    /// The class of this number.
+    OfClass(u32),
+}
+
+/// A name with what it stands for.
+#[derive(Drop)]
+pub struct Entry {
+    pub name: Bytes,
+    pub kind: NameKind,
+}
+
+/// A class: its own names, the oldest first, and its bases once it is defined.
+#[derive(Drop)]
+pub struct ClassNames {
+    pub entries: Items<Entry>,
+    pub bases: Items<u32>,
+    pub is_defined: bool,
+}
+
+/// An open scope inside the file's.
+#[derive(Drop)]
+pub enum Scope {
+    /// A scope with names of its own, the oldest first.
+    Block(Items<Entry>),
+    /// The scope of the class of this number.
+    Class(u32),
+}
+
+/// The names that are types, in the scopes that are open while a file is read (3.2).
+#[derive(Drop)]
+pub struct TypeNames {
+    alloc: Global,
+    classes: Vec<ClassNames>,
+    file: Items<Entry>,
+    inner: Vec<Scope>,
+}
+
+impl Model for TypeNames {
+    ghost use Rattle.cf_syntax.specs.NamesData.{Names};
+
+    ghost Value = { Names };
+
+    ghost view = { λ a. record { classes = a.classes.items; file = a.file; inner = a.inner.items } };
+}
+
+impl TypeNames {
+    /// The file's scope alone, with no names in it. It takes no memory.
+    pub fn new(alloc: Global) -> TypeNames
+        ensures { result ≡ no_names }
+    {
+        TypeNames {
+            alloc,
+            classes: Vec::new(alloc),
+            file: Items::new(alloc),
+            inner: Vec::new(alloc),
+        }
+    }
+
+    /// The number of a new class, without names and bases, that isn't defined.
+    pub fn new_class(&mut self) -> Result<u32, Memory>
+        ensures given { IfOk result (λ class. class ≡ length self.old.classes) }
+        ensures ok { OnOk result (self.new ≡ with_class self.old) }
+        ensures err { OnErr result (self.new ≡ self.old) }
+    {
+        let Ok(number) = u32::try_from(self.classes.len()) else {
+            return Err(Memory);
+        };
+        self.classes.push(ClassNames {
+            entries: Items::new(self.alloc),
+            bases: Items::new(self.alloc),
+            is_defined: false,
+        })?;
+        Ok(number)
+    }
+
+    /// Sets the bases of a class, which is defined from now on.
+    pub fn bases(&mut self, class: u32, bases: &[u32]) -> Result<(), Memory>
+        requires given { class < length self.old.classes }
+        requires open { is_defined self.old class ≡ false }
+        requires bases_defined { (i : ℕ) → i < length bases.now → is_defined self.old (slice_index bases.now i) ≡ true }
+        ensures ok { OnOk result (self.new ≡ with_bases self.old class bases.now) }
+        ensures err { OnErr result (self.new ≡ self.old) }
+    {
+        let bases = Items::from_slice(self.alloc, bases)?;
+        let found = &mut self.classes[class as usize];
+        found.bases = bases;
+        found.is_defined = true;
+        Ok(())
+    }
+
+    /// Whether the bases of a class were set.
+    pub fn is_defined(&self, class: u32) -> bool
+        ensures { result ≡ is_defined self.now class }
+    {
+        match self.classes.get(class as usize) {
+            Some(found) => found.is_defined,
+            None => false,
+        }
+    }
+
+    /// Opens a scope.
+    pub fn enter(&mut self) -> Result<(), Memory>
+        ensures ok { OnOk result (self.new ≡ with_scope self.old (Block [])) }
+        ensures err { OnErr result (self.new ≡ self.old) }
+    {
+        self.inner.push(Scope::Block(Items::new(self.alloc)))?;
+        Ok(())
+    }
+
+    /// Opens the scope of a class.
+    pub fn enter_class(&mut self, class: u32) -> Result<(), Memory>
+        requires { class < length self.old.classes }
+        ensures ok { OnOk result (self.new ≡ with_scope self.old (Class class)) }
+        ensures err { OnErr result (self.new ≡ self.old) }
+    {
+        self.inner.push(Scope::Class(class))?;
+        Ok(())
+    }
+
+    /// Closes the innermost scope. The names of a class stay.
+    pub fn leave(&mut self)
+        requires { 0 < length self.old.inner }
+        ensures { self.new ≡ without_scope self.old }
+    {
+        let _ = self.inner.pop();
+    }
+
+    /// Sets a name in the innermost scope.
+    pub fn declare(&mut self, name: &[u8], kind: NameKind) -> Result<(), Memory>
+        ensures ok { OnOk result (self.new ≡ declared self.old name.now kind) }
+        ensures err { OnErr result (self.new ≡ self.old) }
+    {
+        let name = Bytes::from_slice(self.alloc, name)?;
+        let entry = Entry { name, kind };
+        let count = self.inner.len();
+        if count == 0 {
+            return self.file.push(entry);
+        }
+        match &mut self.inner[count - 1] {
+            Scope::Block(entries) => entries.push(entry),
+            Scope::Class(class) => add_to_class(&mut self.classes, *class, entry),
+        }
+    }
+
+    /// What the innermost open scope that has the name says of it.
+    pub fn find(&self, name: &[u8]) -> Option<NameKind>
+        ensures { result ≡ find self.now name.now }
+    {
+        match kind_in_scopes(&self.classes, &self.inner, name) {
+            Some(kind) => Some(kind),
+            None => kind_among(self.file.as_slice(), name),
+        }
+    }
+
+    /// What the file's scope says of a name.
+    pub fn find_in_file(&self, name: &[u8]) -> Option<NameKind>
+        ensures { result ≡ find_in_file self.now name.now }
+    {
+        kind_among(self.file.as_slice(), name)
+    }
+
+    /// What a class, or else its bases in order and depth first, says of a name.
+    pub fn find_in(&self, class: u32, name: &[u8]) -> Option<NameKind>
+        requires { class < length self.now.classes }
+        ensures { result ≡ find_in self.now class name.now }
+    {
+        kind_in_class(&self.classes, self.classes.len(), class, name)
+    }
+
+    /// What the innermost open scope says of a name.
+    pub fn find_here(&self, name: &[u8]) -> Option<NameKind>
+        ensures { result ≡ find_here self.now name.now }
+    {
+        let count = self.inner.len();
+        if count == 0 {
+            return kind_among(self.file.as_slice(), name);
+        }
+        kind_in_scope(&self.classes, &self.inner[count - 1], name)
+    }
+}
+
+/// Adds an entry to the class of this number.
+fn add_to_class(classes: &mut Vec<ClassNames>, class: u32, entry: Entry) -> Result<(), Memory>
+    ensures ok { OnOk result (classes.new.items ≡ slice_set classes.old.items class (grown (class_at classes.old.items class) entry)) }
+    ensures err { OnErr result (classes.new.items ≡ classes.old.items) }
+{
+    let index = class as usize;
+    if index >= classes.len() {
+        return Ok(());
+    }
+    add_entry(&mut classes[index], entry)
+}
+
+/// Adds an entry to a class.
+fn add_entry(class: &mut ClassNames, entry: Entry) -> Result<(), Memory>
+    ensures ok { OnOk result (class.new ≡ grown class.old entry) }
+    ensures err { OnErr result (class.new ≡ class.old) }
+{
+    class.entries.push(entry)
+}

@@ -1,0 +1,17 @@
+pub mod Chain
+pub mod Character
+pub mod Class
+pub mod Constant
+pub mod Cutting
+pub mod Front
+pub mod Gap
+pub mod Keywords
+pub mod Laws
+pub mod Lex
+pub mod Literal
+pub mod Name
+pub mod Number
+pub mod Piece
+pub mod Signs
+pub mod Symbol
+pub mod Table

@@ -1,0 +1,4 @@
+pub mod Computed
+pub mod Equality
+pub mod Places
+pub mod Tables
