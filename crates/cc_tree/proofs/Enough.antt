@@ -81,10 +81,10 @@ module _ (p : List Function) (k : ℕ) (a b h i : Again) (again : AlikeBelow k a
       → Alike n (run_function run f vs depth m w) (run_function run' f vs depth m w)
   alike-function n run run' f vs depth m w same =
       alike-then n (run (block f.body) (bind_all (parameter_names f.prototype.parameters) m.next no_names) depth (born_with vs m) w)
-        (run' (block f.body) (bind_all (parameter_names f.prototype.parameters) m.next no_names) depth (born_with vs m) w)
-        (λ flow w. Went (returned (ending f.prototype.parameters m.next flow)) w) (λ flow w. Went (returned (ending f.prototype.parameters m.next flow)) w)
-        (same (block f.body) (bind_all (parameter_names f.prototype.parameters) m.next no_names) (born_with vs m))
-        (λ flow v le. record { same = refl; left = le })
+      (run' (block f.body) (bind_all (parameter_names f.prototype.parameters) m.next no_names) depth (born_with vs m) w)
+      (λ flow w. Went (returned (ending f.prototype.parameters m.next flow)) w) (λ flow w. Went (returned (ending f.prototype.parameters m.next flow)) w)
+      (same (block f.body) (bind_all (parameter_names f.prototype.parameters) m.next no_names) (born_with vs m))
+      (λ flow v le. record { same = refl; left = le })
 
   alike-helper : (inside : Bool) (f : Function) (vs : List ℤ) (depth : ℕ) (m : Memory) (w : World) → w.ticks ≤ k
       → Alike w.ticks (enter_helper inside h f vs depth m w) (enter_helper inside i f vs depth m w)
@@ -102,14 +102,14 @@ module _ (p : List Function) (k : ℕ) (a b h i : Again) (again : AlikeBelow k a
   alike-enter inside None vs depth m w le = record { same = refl; left = tt }
   alike-enter inside (Some f) vs depth m w le =
       alike-if w.ticks (has_arity f vs) _ _ _ _
-        (alike-if w.ticks (is_helper f.prototype.name) _ _ _ _ (alike-helper inside f vs depth m w le) (alike-entered f vs depth m w le))
-        (record { same = refl; left = tt })
+      (alike-if w.ticks (is_helper f.prototype.name) _ _ _ _ (alike-helper inside f vs depth m w le) (alike-entered f vs depth m w le))
+      (record { same = refl; left = tt })
 
   alike-called : (inside : Bool) (name : List ℕ) (vs : List ℤ) (depth : ℕ) (m : Memory) (w : World) → w.ticks ≤ k
       → Alike w.ticks (called a h p inside name vs depth m w) (called b i p inside name vs depth m w)
   alike-called inside name vs depth m w le =
       alike-if w.ticks (is_putchar name) _ _ _ _ (alike-put vs m w)
-        (alike-if w.ticks (is_main name) _ _ _ _ (record { same = refl; left = tt }) (alike-enter inside (function_named p name) vs depth m w le))
+      (alike-if w.ticks (is_main name) _ _ _ _ (record { same = refl; left = tt }) (alike-enter inside (function_named p name) vs depth m w le))
 
   alike-back : (n : ℕ) (back : Option ℕ) (r : Returned) (w : World) → w.ticks ≤ n → Alike n (go_back back r w) (go_back back r w)
   alike-back n None r w le = record { same = refl; left = le }
@@ -117,10 +117,10 @@ module _ (p : List Function) (k : ℕ) (a b h i : Again) (again : AlikeBelow k a
 
   alike-call : (inside : Bool) (name : List ℕ) (place : Option Place) (es : List Expression) (scope : Scope) (depth : ℕ) (m : Memory) (w : World) → w.ticks ≤ k
       → Alike w.ticks (call_to (λ vs m w. called a h p inside name vs depth m w) place es scope m w)
-          (call_to (λ vs m w. called b i p inside name vs depth m w) place es scope m w)
+      (call_to (λ vs m w. called b i p inside name vs depth m w) place es scope m w)
   alike-call inside name place es scope depth m w le = alike-tried w.ticks (target_of place scope) w _ _ (λ back. alike-tried w.ticks (values es scope m) w _ _ (λ vs.
       alike-then w.ticks (called a h p inside name vs depth m w) (called b i p inside name vs depth m w) _ _ (alike-called inside name vs depth m w le)
-        (λ r v le'. alike-back w.ticks back r v le')))
+      (λ r v le'. alike-back w.ticks back r v le')))
 
   mutual
     pub alike-does : (inside : Bool) (s : Statement) (scope : Scope) (depth : ℕ) (m : Memory) (w : World) → w.ticks ≤ k
@@ -134,23 +134,23 @@ module _ (p : List Function) (k : ℕ) (a b h i : Again) (again : AlikeBelow k a
         alike-choice w.ticks z _ _ _ _ (alike-body inside c scope depth m w le) (alike-body inside other scope depth m w le))
     alike-does inside (loop c) scope depth m w le = alike-spend w _ _ (λ v less.
         alike-then v.ticks (does_body a h p inside c scope depth m v) (does_body b i p inside c scope depth m v) _ _ (alike-body inside c scope depth m v (omega arith))
-          (alike-turning v.ticks _ _ (λ m u fewer. alike-weaker u.ticks v.ticks _ _ fewer (again inside (loop c) scope depth m u (omega arith)))))
+        (alike-turning v.ticks _ _ (λ m u fewer. alike-weaker u.ticks v.ticks _ _ fewer (again inside (loop c) scope depth m u (omega arith)))))
     alike-does inside (give e) scope depth m w le = alike-tried w.ticks (give_value e scope m) w _ _ (λ v. record { same = refl; left = omega arith })
 
     pub alike-body : (inside : Bool) (c : Body) (scope : Scope) (depth : ℕ) (m : Memory) (w : World) → w.ticks ≤ k
         → Alike w.ticks (does_body a h p inside c scope depth m w) (does_body b i p inside c scope depth m w)
     alike-body inside (body locals all) scope depth m w le =
         alike-then w.ticks (does_all a h p inside all (bind_all (local_names locals) m.next scope) depth (born_all locals m) w)
-          (does_all b i p inside all (bind_all (local_names locals) m.next scope) depth (born_all locals m) w) _ _
-          (alike-all inside all (bind_all (local_names locals) m.next scope) depth (born_all locals m) w le)
-          (λ flow v le. record { same = refl; left = le })
+        (does_all b i p inside all (bind_all (local_names locals) m.next scope) depth (born_all locals m) w) _ _
+        (alike-all inside all (bind_all (local_names locals) m.next scope) depth (born_all locals m) w le)
+        (λ flow v le. record { same = refl; left = le })
 
     pub alike-all : (inside : Bool) (all : Statements) (scope : Scope) (depth : ℕ) (m : Memory) (w : World) → w.ticks ≤ k
         → Alike w.ticks (does_all a h p inside all scope depth m w) (does_all b i p inside all scope depth m w)
     alike-all inside done scope depth m w le = record { same = refl; left = omega arith }
     alike-all inside (followed s rest) scope depth m w le =
         alike-then w.ticks (does a h p inside s scope depth m w) (does b i p inside s scope depth m w) _ _ (alike-does inside s scope depth m w le)
-          (alike-falling w.ticks _ _ (λ m v le'. alike-weaker v.ticks w.ticks _ _ le' (alike-all inside rest scope depth m v (omega arith))))
+        (alike-falling w.ticks _ _ (λ m v le'. alike-weaker v.ticks w.ticks _ _ le' (alike-all inside rest scope depth m v (omega arith))))
 
 -- the body of a helper is alike where what it enters is
 helps-alike : (p : List Function) (k : ℕ) (a b : Again) → AlikeBelow k a b → (inside : Bool) → AlikeBelow (suc k) (helps_in a p inside) (helps_in b p inside)
@@ -162,7 +162,7 @@ pub runs-alike : (p : List Function) (n : ℕ) → AlikeBelow n (runs p n) (runs
 runs-alike p zero inside s scope depth m w less = absurd (omega arith)
 runs-alike p (suc n) inside s scope depth m w less =
     alike-does p n (runs p n) (runs p (suc n)) (helps_in (runs p n) p inside) (helps_in (runs p (suc n)) p inside) (runs-alike p n)
-      (helps-alike p n (runs p n) (runs p (suc n)) (runs-alike p n) inside) inside s scope depth m w (omega arith)
+    (helps-alike p n (runs p n) (runs p (suc n)) (runs-alike p n) inside) inside s scope depth m w (omega arith)
 
 -- at fewer ticks than the bound, a statement behind a spent tick runs as any other
 pub runs_again : (p : List Function) (n : ℕ) (inside : Bool) (s : Statement) (scope : Scope) (depth : ℕ) (m : Memory) (w : World) → w.ticks < n

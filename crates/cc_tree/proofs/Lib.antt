@@ -1,3 +1,4 @@
 pub mod Enough
+pub mod Growth
 mod Tried
 pub mod Views

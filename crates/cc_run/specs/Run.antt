@@ -1,0 +1,83 @@
+-- What a run of a program leaves on its input, its output and its trace.
+use Rattle.std.specs.Prelude.{◌≡◌, ℕ, Bool, true, false, if◌then◌else◌, List, [], ◌∷◌, ◌++◌, IsTrue, Option, Result, Ok, Err}
+use Rattle.cf_base.specs.declared.memory.Memory.{Memory}
+use Rattle.cf_base.specs.Rose.{Rose}
+use Rattle.cf_base.specs.Stream.{Stream, IsFront}
+use Rattle.cf_base.specs.Event.{Event, In, Ended, Ticks, Depth, Undefined, in_bytes, out_bytes, event_lines}
+use Rattle.cf_base.specs.World.{Outcome}
+use Rattle.cc_tree.specs.declared.unit.CProgram.{CProgram}
+use Rattle.cc_tree.specs.declared.outcome.Act.{Act}
+use Rattle.cc_tree.specs.declared.outcome.End.{End}
+use Rattle.cc_tree.specs.declared.outcome.End.TheVariants as ended
+use Rattle.cc_run.specs.Answer.{act_number}
+use Rattle.cc_tree.specs.Mean.{c_mean}
+use Rattle.cc_run.specs.declared.types.Limits.{Limits}
+use Rattle.cc_run.specs.declared.types.Ran.{Ran}
+
+-- the streams of a run
+pub record Streams : Type 0 where
+  pub input : Stream
+  pub out : Stream
+  pub trace : Stream
+
+abbrev pub streams : Stream → Stream → Stream → Streams
+streams input out trace = record { input = input; out = out; trace = trace }
+
+-- the outcome that the program means within these limits
+abbrev pub meant : CProgram → Limits → List ℕ → Outcome
+meant program limits input = c_mean program input limits.heap limits.depth limits.ticks
+
+abbrev pub number_of : Act → ℕ
+number_of a = act_number a
+
+-- These events were carried out: their bytes were taken from the input and put on the output, and their lines stand on the trace where they are
+-- shown. `input` is what the input held.
+pub record Carried (show : Bool) (events : List Event) (input : List ℕ) (old new : Streams) : Type 0 where
+  pub held : IsTrue old.input.told → old.input.bytes ≡ input
+  pub taken : IsTrue old.input.told → input ≡ in_bytes events ++ new.input.bytes
+  pub put : IsTrue new.out.told → new.out.bytes ≡ old.out.bytes ++ out_bytes events
+  pub shown : IsTrue new.trace.told → new.trace.bytes ≡ old.trace.bytes ++ (if show then event_lines events else [])
+
+-- no call on these streams failed
+pub record SameCounts (old new : Streams) : Type 0 where
+  pub input : new.input.faults ≡ old.input.faults
+  pub out : new.out.faults ≡ old.out.faults
+  pub trace : new.trace.faults ≡ old.trace.faults
+
+-- the run came to the end that is meant
+pub record Whole (program : CProgram) (limits : Limits) (show : Bool) (old new : Streams) (end : Outcome → Type 0) : Type 0 where
+  pub input : List ℕ
+  pub carried : Carried show (meant program limits input).trace input old new
+  pub ends : end (meant program limits input)
+  pub counts : SameCounts old new
+
+-- a front of the events that are meant was carried out
+pub record Front (program : CProgram) (limits : Limits) (show : Bool) (old new : Streams) : Type 0 where
+  pub input : List ℕ
+  pub events : List Event
+  pub carried : Carried show events input old new
+  pub front : IsFront events (meant program limits input).trace
+
+-- a call on the input failed, and none on the sinks
+pub record InputFailed (program : CProgram) (limits : Limits) (show : Bool) (old new : Streams) : Type 0 where
+  pub front : Front program limits show old new
+  pub rose : Rose old.input.faults new.input.faults
+  pub out : new.out.faults ≡ old.out.faults
+  pub trace : new.trace.faults ≡ old.trace.faults
+
+-- a call on the output failed
+pub record OutputFailed (program : CProgram) (limits : Limits) (show : Bool) (old new : Streams) : Type 0 where
+  pub front : Front program limits show old new
+  pub rose : Rose old.out.faults new.out.faults
+
+abbrev pub LeavesAt : CProgram → Limits → Bool → Streams → Streams → End → Type 0
+LeavesAt program limits show old new (ended.Ended status) = Whole program limits show old new (λ c. c.end ≡ Ended status)
+LeavesAt program limits show old new ended.Ticks = Whole program limits show old new (λ c. c.end ≡ Ticks)
+LeavesAt program limits show old new ended.Depth = Whole program limits show old new (λ c. c.end ≡ Depth)
+LeavesAt program limits show old new (ended.Undefined act) = Whole program limits show old new (λ c. c.end ≡ Undefined (number_of act))
+LeavesAt program limits show old new ended.SourceFault = InputFailed program limits show old new
+LeavesAt program limits show old new ended.SinkFault = OutputFailed program limits show old new
+
+abbrev pub Leaves : CProgram → Limits → Bool → Streams → Streams → Result Ran Memory → Type 0
+Leaves program limits show old new (Ok ran) = LeavesAt program limits show old new ran.end
+Leaves program limits show old new (Err error) = Front program limits show old new × SameCounts old new
