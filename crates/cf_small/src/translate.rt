@@ -12,7 +12,8 @@ use std::alloc::Global;
 /// The unit of the small C whose program runs as the source means.
 pub fn lower(alloc: Global, unit: &SourceUnit) -> Result<CUnit, Memory>
     requires { IsSound unit.now }
-    ensures { IfOk result (Keeps unit.now) }
+    ensures keeps { IfOk result (Keeps unit.now) }
+    ensures form { IfOk result (λ c. c ≡ lowered unit.now) }
 {
     made(alloc, unit)
 }

@@ -5,7 +5,7 @@ use Rattle.cf_small.specs.Lowered.{Keeps}
 use Rattle.cf_small.proofs.Agreement.{keeps}
 use Rattle.cf_small.proofs.translate.lower.Goals as goal
 
-pub returns : goal.returns
-returns c =
+pub returns-clause-keeps : goal.returns-clause-keeps
+returns-clause-keeps c =
     let unit = c.args.unit.now in
     IfOk-weaker c.made.result (λ x. x ≡ lowered unit) (Keeps unit) (λ x e. subst (Keeps unit) (sym e) (keeps unit c.requires)) c.made.ensures

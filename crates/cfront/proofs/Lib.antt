@@ -1,0 +1,6 @@
+pub mod Causes
+pub mod MadePrograms
+pub mod Pieces
+pub mod Runs
+pub mod WordLists
+pub mod Readings

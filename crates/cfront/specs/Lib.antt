@@ -1,0 +1,9 @@
+pub mod Answer
+pub mod Cause
+pub mod LastLine
+pub mod Outside
+pub mod Position
+pub mod Run
+pub mod Steps
+pub mod Translated
+pub mod Words

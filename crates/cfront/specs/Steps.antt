@@ -1,0 +1,91 @@
+-- What the steps from a file to its program leave.
+use Rattle.std.specs.Prelude.{◌≡◌, ℕ, List, [], ◌∷◌, Result, Ok, Err, Some, IsTrue}
+use Rattle.cf_base.specs.Disk.{Disk, SameElsewhere, Rises}
+use Rattle.cc_tree.specs.declared.unit.CProgram.{CProgram}
+use Rattle.cf_small.specs.declared.tree.SourceUnit.{SourceUnit}
+use Rattle.cf_small.specs.First.{First}
+use Rattle.cf_small.specs.Lowered.{IsSound}
+use Rattle.cfront.specs.declared.outcome.Outcome.{Outcome}
+use Rattle.cfront.specs.declared.outcome.Outcome.TheVariants as answer
+use Rattle.cfront.specs.declared.answer.Answer.{Answer}
+use Rattle.cfront.specs.declared.answer.Stop.{Stop}
+use Rattle.cfront.specs.declared.answer.Stop.TheVariants as stop
+use Rattle.cc_run.specs.declared.types.Limits.{Limits}
+use Rattle.cc_tree.specs.declared.unit.CUnit.{CUnit}
+use Rattle.cc_tree.specs.Link.{link}
+use Rattle.cfront.specs.Answer.{WordsCause, WordsLeft}
+use Rattle.cfront.specs.Cause.{FileCause, RefusedAt, DiskCountsStand, Made, GoCause, LeftByMemory}
+use Rattle.cfront.specs.Outside.{Outside}
+use Rattle.cfront.specs.Words.{text_name}
+use Rattle.cfront.specs.Translated.{WasRead}
+
+-- nothing on the disk changed
+pub record DiskStands (old new : Disk) : Type 0 where
+  pub told : IsTrue old.told → IsTrue new.told
+  pub content : new.content ≡ old.content
+  pub counts : DiskCountsStand old new
+
+-- the bytes of a file, or why there are none
+abbrev pub ReadLeaves : {T : Type 0} → (T → List ℕ) → List ℕ → Disk → Disk → Result T Stop → Type 0
+ReadLeaves view file old new (Ok bytes) = WasRead file old (view bytes) × DiskStands old new
+ReadLeaves view file old new (Err (stop.Answer a)) = FileCause file old new a.position a.outcome
+ReadLeaves view file old new (Err stop.Memory) = DiskStands old new
+
+-- the unit of some bytes, or the rule that they break
+abbrev pub AcceptLeaves : List ℕ → Result SourceUnit Stop → Type 0
+AcceptLeaves bytes (Ok unit) = First bytes (Ok unit) × IsSound unit
+AcceptLeaves bytes (Err (stop.Answer a)) = RefusedAt bytes a.position a.outcome
+AcceptLeaves bytes (Err stop.Memory) = bytes ≡ bytes
+
+-- bytes were written under a name
+pub record WasWritten (name bytes : List ℕ) (old new : Disk) : Type 0 where
+  pub here : IsTrue old.told → new.content name ≡ Some bytes
+  pub elsewhere : IsTrue old.told → SameElsewhere name old.content new.content
+  pub counts : DiskCountsStand old new
+
+-- the write failed, and the answer is that
+pub record WriteFault (name : List ℕ) (old new : Disk) (outcome : Outcome) : Type 0 where
+  pub rises : Rises name old.write_faults new.write_faults
+  pub answered : outcome ≡ answer.FileFault
+  pub elsewhere : IsTrue old.told → SameElsewhere name old.content new.content
+  pub reads : new.read_faults ≡ old.read_faults
+
+-- no file but that of the text was touched, and no call failed
+pub record OnlyText (name : List ℕ) (old new : Disk) : Type 0 where
+  pub elsewhere : IsTrue old.told → SameElsewhere name old.content new.content
+  pub counts : DiskCountsStand old new
+
+abbrev pub WriteLeaves : {T : Type 0} → List ℕ → List ℕ → Disk → Disk → Result T Stop → Type 0
+WriteLeaves name bytes old new (Ok value) = WasWritten name bytes old new
+WriteLeaves name bytes old new (Err (stop.Answer a)) = WriteFault name old new a.outcome
+WriteLeaves name bytes old new (Err stop.Memory) = OnlyText name old new
+
+-- why there is no program, or want of memory
+abbrev pub StopLeaves : List ℕ → Disk → Disk → Stop → Type 0
+StopLeaves file old new (stop.Answer a) = FileCause file old new a.position a.outcome
+StopLeaves file old new stop.Memory = OnlyText (text_name file) old new
+
+abbrev pub TranslateLeaves : List ℕ → Disk → Disk → Result CProgram Stop → Type 0
+TranslateLeaves file old new (Ok program) = Made file old new program
+TranslateLeaves file old new (Err e) = StopLeaves file old new e
+
+-- the program that a unit links to by itself
+abbrev pub LinkLeaves : CUnit → Result CProgram Stop → Type 0
+LinkLeaves unit (Ok program) = link (unit ∷ []) ≡ Ok program
+LinkLeaves unit (Err (stop.Answer a)) = ⊥
+LinkLeaves unit (Err stop.Memory) = unit ≡ unit
+
+-- the unit that a text is read as, which is this one
+abbrev pub ReadLeavesUnit : CUnit → Result CUnit Stop → Type 0
+ReadLeavesUnit unit (Ok again) = again ≡ unit
+ReadLeavesUnit unit (Err (stop.Answer a)) = ⊥
+ReadLeavesUnit unit (Err stop.Memory) = unit ≡ unit
+
+-- an answer before its last line
+abbrev pub GoLeaves : {M : Type 0} → List ℕ → Limits → Outside → Outside → Result Answer M → Type 0
+GoLeaves file limits old new (Ok a) = GoCause file limits old new a.position a.outcome
+GoLeaves file limits old new (Err memory) = LeftByMemory file limits old new
+
+abbrev pub WordsLeave : {M : Type 0} → List (List ℕ) → Limits → Outside → Outside → Result Answer M → Type 0
+WordsLeave words limits old new (Ok a) = WordsCause words limits old new a.position a.outcome
+WordsLeave words limits old new (Err memory) = WordsLeft words limits old new

@@ -1,0 +1,65 @@
+ghost use Rattle.std.specs.Prelude.{◌≡◌};
+ghost use Rattle.cf_base.specs.Integers.{bits_of};
+ghost use Rattle.cfront.specs.LastLine.{status_of, exit_status};
+
+use cc_tree::Act;
+use cf_base::{Limit, Memory, Rule};
+
+/// The answer of a job. A `file` counts the FILEs of the job from 1.
+#[derive(Clone, Copy, Debug, PartialEq, Eq)]
+pub enum Outcome {
+    /// The program ended with this status.
+    Ended { status: i32 },
+    /// No tick was left.
+    Ticks,
+    /// No level of depth was left.
+    Depth,
+    /// An act of the program has no meaning.
+    Undefined { act: Act },
+    /// The words are no job.
+    Usage,
+    /// The file breaks this rule, at this byte place.
+    Refused { file: u32, rule: Rule, at: u32 },
+    /// A limit is passed, of a file or of the job.
+    Limit { file: Option<u32>, limit: Limit },
+    /// A call on the files failed.
+    FileFault,
+    /// A call on the input failed.
+    SourceFault,
+    /// A call on a sink failed.
+    SinkFault,
+}
+
+/// The status that the program ends with.
+pub fn status(answer: &Result<Outcome, Memory>) -> u8
+    ensures { result ≡ exit_status answer.now }
+{
+    match answer {
+        Ok(outcome) => status_of_outcome(*outcome),
+        Err(Memory) => 109,
+    }
+}
+
+fn status_of_outcome(outcome: Outcome) -> u8
+    ensures { result ≡ status_of outcome }
+{
+    match outcome {
+        Outcome::Ended { status } => low_byte(status),
+        Outcome::Usage => 101,
+        Outcome::Refused { .. } => 102,
+        Outcome::FileFault => 104,
+        Outcome::SourceFault => 105,
+        Outcome::SinkFault => 106,
+        Outcome::Ticks => 107,
+        Outcome::Depth => 108,
+        Outcome::Undefined { .. } => 110,
+        Outcome::Limit { .. } => 113,
+    }
+}
+
+/// The status modulo 256.
+fn low_byte(status: i32) -> u8
+    ensures { result ≡ bits_of 8 status }
+{
+    status.rem_euclid(256) as u8
+}
