@@ -28,7 +28,7 @@ uses_left p all i d within =
 
 pub uses_of_if : (p : List ℕ → Bool) (e : CExpression) (b : CBody) (other : Option CBody)
     → find p (uses_of (statement_of (statement.If e b other)))
-      ≡ option_or (find p (uses_of_body (body_of b))) (find p (uses_of_body (else_of (option_map body_of other))))
+    ≡ option_or (find p (uses_of_body (body_of b))) (find p (uses_of_body (else_of (option_map body_of other))))
 uses_of_if p e b other =
     ap (λ s. find p (uses_of s)) (statement_of-If e b other)
     ∙ find-append p (uses_of_body (body_of b)) (uses_of_body (else_of (option_map body_of other)))
@@ -42,7 +42,7 @@ pub found_in_body : (p : List ℕ → Bool) (b : CBody) (all : List CStatement) 
 found_in_body p b all i s name whole within at kept found =
     let here : find p (uses_of (statement_of (get_or all i s))) ≡ Some name = ap (λ t. find p (uses_of (statement_of t))) (sym at) ∙ sym found in
     sym (ap (find p) (body_uses b) ∙ ap (λ l. find p (uses_in l)) (sym whole) ∙ kept ∙ uses_left p all i s within
-      ∙ ap (λ o. option_or o (find p (uses_in (drop (i + 1) all)))) here)
+    ∙ ap (λ o. option_or o (find p (uses_in (drop (i + 1) all)))) here)
 
 pub past_statement : (p : List ℕ → Bool) (all : List CStatement) (i : ℕ) (s : CStatement) → i < length all → s ≡ get_or all i s
     → find p (uses_in all) ≡ find p (uses_in (drop i all)) → None ≡ find p (uses_of (statement_of s))

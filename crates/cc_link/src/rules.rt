@@ -33,10 +33,8 @@ fn any_clashes(before: &[Placed<'_>], placed: &Placed<'_>) -> bool
 }
 
 fn defined_before(before: &[Placed<'_>], placed: &Placed<'_>) -> bool
-    ensures {
-        result ≡ (is_defined (placed_of placed.now).item
-          && list_any (λ other. defines_name (its_name (placed_of placed.now).item) (placed_of other).item) before.now)
-    }
+    ensures { result ≡ (is_defined (placed_of placed.now).item
+        && list_any (λ other. defines_name (its_name (placed_of placed.now).item) (placed_of other).item) before.now) }
 {
     is_definition(placed.item) && any_defines(before, name_of(placed.item))
 }
@@ -65,19 +63,15 @@ fn second_definition<'a>(before: &[Placed<'_>], placed: &Placed<'a>) -> Option<&
 
 /// Whether two items give one name two types.
 fn differ_in_type(a: &Placed<'_>, b: &Placed<'_>) -> bool
-    ensures {
-        result ≡ (bytes_eq (its_name (placed_of a.now).item) (its_name (placed_of b.now).item)
-          && not (equal_types (its_prototype (placed_of a.now).item) (its_prototype (placed_of b.now).item)))
-    }
+    ensures { result ≡ (bytes_eq (its_name (placed_of a.now).item) (its_name (placed_of b.now).item)
+        && not (equal_types (its_prototype (placed_of a.now).item) (its_prototype (placed_of b.now).item))) }
 {
     name_of(a.item) == name_of(b.item) && !same_type(prototype_of(a.item), prototype_of(b.item))
 }
 
 fn any_differs(before: &[Placed<'_>], placed: &Placed<'_>) -> bool
-    ensures {
-        result ≡ list_any (λ other. bytes_eq (its_name (placed_of other).item) (its_name (placed_of placed.now).item)
-          && not (equal_types (its_prototype (placed_of other).item) (its_prototype (placed_of placed.now).item))) before.now
-    }
+    ensures { result ≡ list_any (λ other. bytes_eq (its_name (placed_of other).item) (its_name (placed_of placed.now).item)
+        && not (equal_types (its_prototype (placed_of other).item) (its_prototype (placed_of placed.now).item))) before.now }
 {
     before.iter().any(|other| differ_in_type(other, placed))
 }
@@ -90,11 +84,13 @@ fn other_type<'a>(before: &[Placed<'_>], placed: &Placed<'a>) -> Option<&'a [u8]
 }
 
 /// A broken rule, where there is a name that it is about.
-fn broken<'a>(rule: u8, name: Option<&'a [u8]>, otherwise: Option<BrokenRule<'a>>) -> Option<BrokenRule<'a>>
-    ensures {
-        (rest : Option Refusal) → or_else (option_map refusal_of result) rest
-          ≡ broken_or rule (option_copied name.entry) (or_else (option_map refusal_of otherwise.entry) rest)
-    }
+fn broken<'a>(
+    rule: u8,
+    name: Option<&'a [u8]>,
+    otherwise: Option<BrokenRule<'a>>,
+) -> Option<BrokenRule<'a>>
+    ensures { (rest : Option Refusal) → or_else (option_map refusal_of result) rest
+        ≡ broken_or rule (option_copied name.entry) (or_else (option_map refusal_of otherwise.entry) rest) }
 {
     match name {
         Some(name) => Some(BrokenRule { rule, name }),
@@ -103,13 +99,15 @@ fn broken<'a>(rule: u8, name: Option<&'a [u8]>, otherwise: Option<BrokenRule<'a>
 }
 
 /// The first rule that an item breaks, of 1, 2 and 5.
-fn broken_at<'a>(all: &[Placed<'_>], before: &[Placed<'_>], placed: &Placed<'a>) -> Option<BrokenRule<'a>>
-    ensures {
-        (rest : Option Refusal) → or_else (option_map refusal_of result) rest
-          ≡ broken_or 1 (undefined_name (map placed_of all.now) (placed_of placed.now).item)
-              (broken_or 2 (defined_again (map placed_of before.now) (placed_of placed.now))
-                (broken_or 5 (typed_otherwise (map placed_of before.now) (placed_of placed.now)) rest))
-    }
+fn broken_at<'a>(
+    all: &[Placed<'_>],
+    before: &[Placed<'_>],
+    placed: &Placed<'a>,
+) -> Option<BrokenRule<'a>>
+    ensures { (rest : Option Refusal) → or_else (option_map refusal_of result) rest
+        ≡ broken_or 1 (undefined_name (map placed_of all.now) (placed_of placed.now).item)
+        (broken_or 2 (defined_again (map placed_of before.now) (placed_of placed.now))
+        (broken_or 5 (typed_otherwise (map placed_of before.now) (placed_of placed.now)) rest)) }
 {
     let fifth = broken(5, other_type(before, placed), None);
     let second = broken(2, second_definition(before, placed), fifth);

@@ -2,7 +2,9 @@ ghost use Rattle.std.specs.Prelude.{◌≡◌, IfOk};
 ghost use Rattle.cc_tree.specs.Link.{added_main as the_main};
 ghost use Rattle.cc_link.specs.Start.{status_call as calls, status_return as gives, main_head as head};
 
-use cc_tree::{CBody, CExpression, CFunction, CItem, CLocal, CPlace, CPrototype, CStatement, CType};
+use cc_tree::{
+    CBody, CExpression, CFunction, CItem, CLocal, CPlace, CPrototype, CStatement, CType,
+};
 use cf_base::{Boxed, Items, Memory, Name};
 use std::alloc::Global;
 

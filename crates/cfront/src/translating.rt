@@ -90,7 +90,12 @@ fn printed(alloc: Global, unit: &SourceUnit, tree: &CUnit) -> Result<Vec<u8>, Me
 }
 
 /// The unit that a text is read as.
-fn read_back(alloc: Global, text: &[u8], unit: &SourceUnit, tree: &CUnit) -> Result<CUnit, ReadFault>
+fn read_back(
+    alloc: Global,
+    text: &[u8],
+    unit: &SourceUnit,
+    tree: &CUnit,
+) -> Result<CUnit, ReadFault>
     requires sound { IsSound unit.now }
     requires form { tree.now ≡ lowered unit.now }
     requires written { text.now ≡ unit_text tree.now }
@@ -118,7 +123,12 @@ fn read_again(alloc: Global, text: &[u8], unit: &SourceUnit, tree: &CUnit) -> Re
 }
 
 /// The program that the text of a unit, read again, links to.
-fn read_and_linked(alloc: Global, text: &[u8], unit: &SourceUnit, tree: &CUnit) -> Result<CProgram, Stop>
+fn read_and_linked(
+    alloc: Global,
+    text: &[u8],
+    unit: &SourceUnit,
+    tree: &CUnit,
+) -> Result<CProgram, Stop>
     requires sound { IsSound unit.now }
     requires form { tree.now ≡ lowered unit.now }
     requires written { text.now ≡ unit_text tree.now }

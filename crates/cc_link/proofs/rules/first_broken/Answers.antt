@@ -6,12 +6,12 @@ use Rattle.cc_link.proofs.rules.first_broken.Goals as goal
 pub returns-in-Some : goal.returns-in-Some
 returns-in-Some c =
     broken_here c.args.all.now (take c.loop-index.index c.args.all.now) c.loop-index.index c.index-all-index.result (refusal_of c.in-Some.rule)
-      c.loop-index-test.true c.index-all-index.is refl c.loop-index.invariant c.in-Some.ensures
+    c.loop-index-test.true c.index-all-index.is refl c.loop-index.invariant c.in-Some.ensures
 
 pub loop-index-preserved : goal.loop-index-preserved
 loop-index-preserved c =
     broken_later c.args.all.now (take c.loop-index.index c.args.all.now) c.loop-index.index c.index-all-index.result
-      c.loop-index-test.true c.index-all-index.is refl c.loop-index.invariant c.in_default.ensures
+    c.loop-index-test.true c.index-all-index.is refl c.loop-index.invariant c.in_default.ensures
 
 pub returns : goal.returns
 returns c = broken_nowhere c.args.all.now c.loop-index.index c.loop-index-test.false c.loop-index.invariant
