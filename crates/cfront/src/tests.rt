@@ -1,10 +1,12 @@
 //! Jobs over the objects in memory: what each answers, and what stands on the sinks.
 
+ghost use Rattle.std.specs.Prelude.{◌≤◌, ◌^◌};
+
 use crate::go::go_with;
 use crate::outcome::{Outcome, status};
 use crate::top::{DEFAULT_LIMITS, cfront};
 use cc_run::Limits;
-use cf_base::{Bound, Limit, MemFiles, MemSink, MemSource, Rule};
+use cf_base::{Bound, Limit, MemFiles, MemSink, MemSource, Memory, Rule};
 use std::alloc::{AllocError, Global};
 use std::process::Abort;
 use std::test::Fail;
@@ -216,25 +218,31 @@ fn long_file_passes_the_limit(rt: HostRuntime) -> Result<(), Fail> {
     check(&rt, alloc, &job, want, "a.C: limit Bytes 1048576\n")
 }
 
+/// What `go` answers on the file that returns 7, within so many ticks.
+fn answer_within(alloc: Global, ticks: u64) -> Result<Result<Outcome, Memory>, Fail>
+    requires { ticks ≤ 2 ^ 40 }
+{
+    let limits = Limits {
+        ticks,
+        ..DEFAULT_LIMITS
+    };
+    let mut files = file(alloc, SEVEN, NONE_FAILS)?;
+    let mut input = MemSource::new(Vec::new(alloc), Vec::new(alloc));
+    let mut out = MemSink::new(alloc, 100, Vec::new(alloc))?;
+    let mut err = MemSink::new(alloc, 100, Vec::new(alloc))?;
+    let mut names = Vec::new(alloc);
+    names.push(String::from_str(alloc, "a.C")?)?;
+    let answer = go_with(
+        alloc, limits, false, None, &names, &mut files, &mut input, &mut out, &mut err,
+    );
+    Ok(answer)
+}
+
 #[test]
 fn no_tick_is_too_few(rt: HostRuntime) -> Result<(), Fail> {
     let alloc = rt.alloc();
-    for (ticks, want) in [(0, Outcome::Ticks), (1, Outcome::Ended { status: 7 })] {
-        let limits = Limits {
-            ticks,
-            ..DEFAULT_LIMITS
-        };
-        let mut files = file(alloc, SEVEN, NONE_FAILS)?;
-        let mut input = MemSource::new(Vec::new(alloc), Vec::new(alloc));
-        let mut out = MemSink::new(alloc, 100, Vec::new(alloc))?;
-        let mut err = MemSink::new(alloc, 100, Vec::new(alloc))?;
-        let names = texts(alloc, &["a.C"])?;
-        assert_eq!(rt; names.len(), 1);
-        let answer = go_with(
-            alloc, limits, false, None, &names, &mut files, &mut input, &mut out, &mut err,
-        );
-        assert!(rt; answer == Ok(want));
-    }
+    assert!(rt; answer_within(alloc, 0)? == Ok(Outcome::Ticks));
+    assert!(rt; answer_within(alloc, 1)? == Ok(Outcome::Ended { status: 7 }));
     Ok(())
 }
 
