@@ -14,12 +14,14 @@ use Rattle.cfront.specs.Words.{IsGo, files_of}
 -- the answer stays, and its line stands on `err`
 pub record LineStands (line : List ℕ) (before after : Outcome) (old new : Stream) : Type 0 where
   pub same : after ≡ before
+  pub told : IsTrue new.told → IsTrue old.told
   pub bytes : IsTrue new.told → new.bytes ≡ old.bytes ++ line
   pub faults : new.faults ≡ old.faults
 
 -- `err` failed: the answer is that, whatever it was before, and a front of its line stands
 pub record LineFailed (line : List ℕ) (before after : Outcome) (old new : Stream) : Type 0 where
   pub fault : after ≡ answer.SinkFault
+  pub told : IsTrue new.told → IsTrue old.told
   pub bytes : IsTrue new.told → AddsFront line old.bytes new.bytes
   pub rose : Rose old.faults new.faults
 

@@ -1,5 +1,10 @@
 -- What the words behind the program's name ask for.
 use Rattle.std.specs.Prelude.{◌≡◌, ℕ, Bool, true, false, not, ◌==◌, List, [], ◌∷◌, ◌++◌, codes, drop, IsTrue}
+use Rattle.cc_run.specs.declared.types.Limits.{Limits}
+
+-- the limits of a run that no option changes: ticks, entered functions, bytes of heap
+abbrev pub default_limits : Limits
+default_limits = record { ticks = 10000000; depth = 1024; heap = 1048576 }
 
 -- not empty, and no option
 abbrev pub is_file_name : List ℕ → Bool

@@ -2,6 +2,7 @@ ghost use Rattle.std.specs.Prelude.{◌≡◌, map, string_bytes};
 ghost use Rattle.cfront.specs.Answer.{Keeps};
 ghost use Rattle.cfront.specs.Outside.{outside};
 ghost use Rattle.cfront.specs.Steps.{WordsLeave};
+ghost use Rattle.cfront.specs.Words.{default_limits};
 
 use crate::answer::Answer;
 use crate::go::gone;
@@ -28,7 +29,7 @@ pub fn cfront<F: Files, I: Source, O: Sink, E: Sink>(
     out: &mut O,
     err: &mut E,
 ) -> Result<Outcome, Memory>
-    ensures { Keeps (map string_bytes words.now.items) DEFAULT_LIMITS
+    ensures { Keeps (map string_bytes words.now.items) default_limits
         (outside (F.disk files.old) (I.stream input.old) (O.stream out.old) (E.stream err.old))
         (outside (F.disk files.new) (I.stream input.new) (O.stream out.new) (E.stream err.new)) result }
 {
@@ -47,7 +48,7 @@ fn answered<F: Files, I: Source, O: Sink, E: Sink>(
     out: &mut O,
     err: &mut E,
 ) -> Result<Answer, Memory>
-    ensures { WordsLeave (map string_bytes words.now.items) DEFAULT_LIMITS
+    ensures { WordsLeave (map string_bytes words.now.items) default_limits
         (outside (F.disk files.old) (I.stream input.old) (O.stream out.old) (E.stream err.old))
         (outside (F.disk files.new) (I.stream input.new) (O.stream out.new) (E.stream err.new)) result }
 {
