@@ -142,3 +142,10 @@ base_before_void = refl
 -- const comes before the nearer base
 const_before_nearer_base : is_better classes 2 (ToBase (Base 0 ∷ Base 0 ∷ []) ∷ []) (ToBase (Base 0 ∷ []) ∷ AddConst ∷ []) ≡ true
 const_before_nearer_base = refl
+
+-- a class by value against a reference to its base: only the first reads the lvalue
+nearer_base_by_value : is_better classes 2 (Read ∷ ToBase (Base 0 ∷ []) ∷ []) (ToBase (Base 0 ∷ Base 0 ∷ []) ∷ []) ≡ true
+nearer_base_by_value = refl
+
+further_base_by_value : is_better classes 2 (Read ∷ ToBase (Base 0 ∷ Base 0 ∷ []) ∷ []) (ToBase (Base 0 ∷ []) ∷ []) ≡ false
+further_base_by_value = refl

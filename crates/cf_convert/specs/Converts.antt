@@ -193,12 +193,18 @@ adds_const (s ∷ ss) = adds_const ss
 abbrev is_base_of : List (ℕ × ClassDef) → ℕ → ℕ → Bool
 is_base_of defs b c = option_map_or (λ p. true) (base_path defs c b) false
 
--- where a conversion goes to: a base of the value's class c; for a pointer to a member, the class of the target, whose base is c
-abbrev nearer : List (ℕ × ClassDef) → ℕ → List ConvStep → List ConvStep → Bool
-nearer defs c (ToBase p ∷ ss) (ToBase q ∷ ts) = is_base_of defs (class_at defs c q) (class_at defs c p)
-nearer defs c (ToBase p ∷ ss) (ToVoid ∷ ts) = true
-nearer defs c (s ∷ ss) (t ∷ ts) = nearer defs c ss ts
-nearer defs c ss ts = false
+-- the base or the `void*` that a conversion goes to
+abbrev aim : List ConvStep → Option ConvStep
+aim [] = None
+aim (ToBase p ∷ ss) = Some (ToBase p)
+aim (ToVoid ∷ ss) = Some ToVoid
+aim (s ∷ ss) = aim ss
+
+-- of two aims of a value of class c, the base that is derived from the other is nearer, and any base is nearer than `void*`
+abbrev is_nearer : List (ℕ × ClassDef) → ℕ → Option ConvStep → Option ConvStep → Bool
+is_nearer defs c (Some (ToBase p)) (Some (ToBase q)) = is_base_of defs (class_at defs c q) (class_at defs c p)
+is_nearer defs c (Some (ToBase p)) (Some ToVoid) = true
+is_nearer defs c a b = false
 
 -- a lower rank; then less const; then the nearer base, and any base before `void*`
 abbrev pub is_better : List (ℕ × ClassDef) → ℕ → List ConvStep → List ConvStep → Bool
@@ -206,7 +212,7 @@ is_better defs c x y =
     if nat_lt (rank x) (rank y) then true
     else (if nat_lt (rank y) (rank x) then false
     else (if not (adds_const x) && adds_const y then true
-    else (if adds_const x && not (adds_const y) then false else nearer defs c x y)))
+    else (if adds_const x && not (adds_const y) then false else is_nearer defs c (aim x) (aim y))))
 
 -- for pointers to members of one class, with the classes of their targets, the class nearer to the value's is better
 abbrev pub is_better_member : List (ℕ × ClassDef) → ℕ → ℕ → Bool
