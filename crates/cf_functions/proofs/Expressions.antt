@@ -16,7 +16,7 @@ use Rattle.cf_functions.specs.declared.tree.Operator.TheVariants as operator
 use Rattle.cf_functions.specs.Plain.{Expression, number, local, call, binary, Expressions, none, more, Function}
 use Rattle.cf_functions.specs.Mean.{Again, Locals, value_in, Callee, Puts, Defined, Missing, callee, count, arith_of, value, values, called, enter, used, computed, link_name_of, putchar_name, no_result, put, first_of}
 use Rattle.cf_functions.specs.Translate.{place, held, set, held_from, slot_of, read_local, flat, flats, value_call, top, tops}
-use Rattle.cf_functions.proofs.Growth.{GrowsAgain, grows-falling, grows-does_all, grows-go_back}
+use Rattle.cc_tree.proofs.Growth.{GrowsAgain, grows-falling, grows-does_all, grows-back}
 use Rattle.cf_functions.proofs.Blocks.{Steady, steady, steady-through, steady-less, steady-written, written, write_live, put_same}
 use Rattle.cf_functions.proofs.Steps.{run_all, all_join, all_one, FallsAs, sim-falls, sim-map, sim-at, Scoped, Living, living, Stored, stored, names_of, ReadsAs, reads, set_number, set_held, set_binary, HeldFrom, values_held}
 
@@ -91,7 +91,7 @@ module _ (again : Again) (c_again helps : m.Again) (fs : List Function) (p : Lis
   -- the result of a call into variable k
   store_sim : (k : ℕ) (n : Memory) → k < total → Living base total n → (o : Option ℤ) (r : Returned) (w : World) → Back n o r
       → Sim (FallsAs (Gets base k n)) (used o w) (m.go_back (Some (base + k)) r w)
-  store_sim k n h l None r w back = sim-undefined (FallsAs (Gets base k n)) no_result w.trace _ (grows-go_back (Some (base + k)) r w)
+  store_sim k n h l None r w back = sim-undefined (FallsAs (Gets base k n)) no_result w.trace _ (grows-back (Some (base + k)) r w)
   store_sim k n h l (Some v) r w back =
       let room = l.room in
       let next = back.steady.next in
@@ -125,10 +125,10 @@ module _ (again : Again) (c_again helps : m.Again) (fs : List Function) (p : Lis
       → Sim (FallsAs (Gets base k n)) (and_then (called again cal vs d w) used) (run (value_call cal k (length vs) ∷ []) d n w)
   value_call_sim x k j Puts is vs e d n w h room l held =
       sim-at _ _ _ (call_is putchar_name k vs d n w h room held)
-      (sim-then _ _ _ _ (put_sim vs (e ∙ puts x j is) d n w) (λ o r w back. store_sim k n h l o r w back) (λ r w. grows-go_back (Some (base + k)) r w))
+      (sim-then _ _ _ _ (put_sim vs (e ∙ puts x j is) d n w) (λ o r w back. store_sim k n h l o r w back) (λ r w. grows-back (Some (base + k)) r w))
   value_call_sim x k j (Defined f) is vs e d n w h room l held =
       sim-at _ _ _ (call_is (link_name_of f) k vs d n w h room held)
-      (sim-then _ _ _ _ (calls x j f is vs e d n w) (λ o r w back. store_sim k n h l o r w back) (λ r w. grows-go_back (Some (base + k)) r w))
+      (sim-then _ _ _ _ (calls x j f is vs e d n w) (λ o r w back. store_sim k n h l o r w back) (λ r w. grows-back (Some (base + k)) r w))
   value_call_sim x k j Missing is vs e d n w h room l held =
       sim-at _ _ _ (all_one c_again helps p (set k (c.number (pos 0))) sc d n w ∙ set_number c_again helps p sc base total scoped k (pos 0) d n w h l)
       (sim-went (FallsAs (Gets base k n)) (pos 0) _ w (record { memory = written (base + k) (Some (pos 0)) n; is = refl; holds = gets_written base k n (pos 0) }))

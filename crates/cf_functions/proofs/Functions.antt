@@ -19,7 +19,7 @@ use Rattle.cc_tree.specs.Mean.{Scope, Returned, tried, found, bind_all, no_names
 use Rattle.cf_functions.specs.Plain.{Expression, loop, Statements, done, followed, Function}
 use Rattle.cf_functions.specs.Mean.{Again, Locals, bind, Puts, Defined, callee, defined, is_called, enter, link_name_of, link_name, putchar_name, main_name, Flow, Falls, Returns, falling, does, does_all, result_of, result_at_end, used, runs, start, mean, no_result}
 use Rattle.cf_functions.specs.Translate.{slots_from, codes_of, turn, plain_body, in_scope, finish, locals_of, locals_count, parameters_of, lowered, variables, is_sound, has_main, added_main, program, top_of, top_of_all}
-use Rattle.cf_functions.proofs.Growth.{GrowsAgain, grows-falling, grows-does_all, grows-runs, grows-helps_in, grows-go_back, grows-tried, went}
+use Rattle.cc_tree.proofs.Growth.{GrowsAgain, grows-falling, grows-does_all, grows-runs, grows-helps, grows-back, grows-tried, went}
 use Rattle.cf_functions.proofs.Blocks.{Steady, steady-through, steady-born_with, steady-born_all, steady-died_all, next-born_with, write_live}
 use Rattle.cf_functions.proofs.Steps.{run_all, all_join, all_one, sim-at, Scoped, Living, Stored, stored, names_of, length-names_of}
 use Rattle.cf_functions.proofs.Expressions.{Back}
@@ -320,7 +320,7 @@ abbrev helpers : List c.Function → ℕ → m.Again
 helpers p n = m.helps_in (m.runs p n) p false
 
 grows-helpers : (p : List c.Function) (n : ℕ) → GrowsAgain (helpers p n)
-grows-helpers p n = grows-helps_in (m.runs p n) (grows-runs p n) p false
+grows-helpers p n = grows-helps p (m.runs p n) (grows-runs p n) false
 
 simulated : (fs : List Function) → list_all is_sound fs ≡ true → (n : ℕ) → Simulated fs n
 simulated fs sound zero = record {
@@ -358,7 +358,7 @@ rest_splits again helps p d (Stops end t) = refl
 grows-rest : (again helps : m.Again) → GrowsAgain again → GrowsAgain helps → (p : List c.Function) (d : ℕ) (b : Returned) (w : World) → Adds w.trace (rest_of_main again helps p d (Went b w))
 grows-rest again helps gr gh p d b w =
     let all = c.followed (c.give (Some (c.load (c.named (codes "status"))))) c.done in
-    adds-then {A = Returned} w.trace _ _ (adds-then {A = m.Flow} w.trace _ _ (adds-then {A = m.Flow} w.trace _ _ (adds-then {A = m.Flow} w.trace _ _ (grows-go_back (Some 0) b w)
+    adds-then {A = Returned} w.trace _ _ (adds-then {A = m.Flow} w.trace _ _ (adds-then {A = m.Flow} w.trace _ _ (adds-then {A = m.Flow} w.trace _ _ (grows-back (Some 0) b w)
     (λ fl w. grows-falling (λ o w. m.does_all again helps p false all status_scope d o w) (λ o w. grows-does_all again helps gr gh p false all status_scope d o w) fl w))
     (λ fl w. went (m.ending status 0 fl) w)) (λ fl w. went (m.returned (m.ending {A = CParameter} [] 0 fl)) w)) (λ r w. grows-tried (m.used r.result) w _ (λ v. went v w))
 

@@ -2,7 +2,6 @@ pub mod Blocks
 pub mod Entry
 pub mod Expressions
 pub mod Functions
-pub mod Growth
 pub mod Items
 pub mod LinkNames
 pub mod Linking

@@ -15,7 +15,7 @@ use Rattle.cc_tree.specs.Mean.{Scope, Returned, tried, found, turning}
 use Rattle.cf_functions.specs.Plain.{Expression, Statement, declare, assign, perform, give, choose, loop, block, Statements, done, followed, names_after, Function}
 use Rattle.cf_functions.specs.Mean.{Again, Locals, with_value, leave, leaving, in_block, Callee, Puts, Defined, Missing, callee, count, value, called, enter, link_name_of, putchar_name, choice, Flow, Falls, Returns, falling, does, does_all}
 use Rattle.cf_functions.specs.Translate.{held, set, held_from, slot_of, store_local, flat, flats, plain_call, code, codes_of, turn, plain_body, count_after, top, top_of, top_of_all}
-use Rattle.cf_functions.proofs.Growth.{GrowsAgain, grows-turning, went}
+use Rattle.cc_tree.proofs.Growth.{GrowsAgain, grows-turning, went}
 use Rattle.cf_functions.proofs.Blocks.{Steady, steady, steady-through, steady-less, steady-written, written, put_same, put_other}
 use Rattle.cf_functions.proofs.Steps.{run_all, all_join, all_one, FallsAs, sim-falls, sim-at, Scoped, Living, living, Stored, stored, names_of, length-names_of, set_held, value_held, HeldFrom, values_held}
 use Rattle.cf_functions.proofs.Expressions.{Back, Gets, GetsAll, max_left, max_right, top-above, tops-above, flat_sim, flats_sim, grows-run, falls-run, put_sim}
