@@ -21,6 +21,10 @@ bytes_differ xs ys ne = go (bytes_eq xs ys) refl
     go true e = absurd (ne (same_bytes xs ys e))
     go false e = refl
 
+pub all_of : (a b : Bool) → a ≡ true → b ≡ true → (a && b) ≡ true
+all_of true b e f = f
+all_of false b e f = e
+
 pub both : (a b : Bool) → (a && b) ≡ true → (a ≡ true) × (b ≡ true)
 both true b e = (refl, e)
 both false b e = absurd (cc)

@@ -12,12 +12,8 @@ use Rattle.cc_tokens.specs.Mark.{mark_text, words}
 use Rattle.cc_tree.specs.Valid.{is_name, is_in, differ, is_library, library}
 use Rattle.cf_functions.specs.Mean.{ints, parameter_code, link_name, main_name, putchar_name}
 use Rattle.cf_functions.specs.Translate.{slot, slots_from}
-use Rattle.cf_functions.proofs.LinkNames.{bytes_same, bytes_differ, both, eq_or, main_or, link-main, link-other, tail, lacks, no_underscore}
+use Rattle.cf_functions.proofs.LinkNames.{bytes_same, bytes_differ, both, all_of, eq_or, main_or, link-main, link-other, tail, lacks, no_underscore}
 use Rattle.cf_functions.proofs.Entry.{slots_differ}
-
-pub all_of : (a b : Bool) → a ≡ true → b ≡ true → (a && b) ≡ true
-all_of true b e f = f
-all_of false b e f = e
 
 pub neither : (a b : Bool) → a ≡ false → b ≡ false → (a || b) ≡ false
 neither false b e f = f

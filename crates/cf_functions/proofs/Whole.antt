@@ -10,7 +10,7 @@ use Rattle.cf_functions.specs.Rules.{is_in, differ, function_names, is_plain_mai
 use Rattle.cf_functions.specs.Translate.{is_sound, has_main}
 use Rattle.cf_functions.specs.Agrees.{is_function_of_text, Keeps}
 use Rattle.cf_functions.proofs.LinkNames.{both}
-use Rattle.cf_functions.proofs.Names.{all_of}
+use Rattle.cf_functions.proofs.LinkNames.{all_of}
 use Rattle.cf_functions.proofs.Functions.{agrees}
 use Rattle.cf_functions.proofs.Items.{items_valid}
 use Rattle.cf_functions.proofs.Linking.{links}
