@@ -1,4 +1,5 @@
 pub mod Agreement
 pub mod IntegerRows
 pub mod Tables
+pub mod Tests
 pub mod Times

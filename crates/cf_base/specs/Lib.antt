@@ -5,9 +5,11 @@ pub mod Failures
 pub mod Held
 pub mod Integers
 pub mod Place
+pub mod Plan
 pub mod Promotion
 pub mod Rose
 pub mod Rule
+pub mod Space
 pub mod Stream
 pub mod World
 pub mod formers

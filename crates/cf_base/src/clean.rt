@@ -1,6 +1,7 @@
 ghost use Rattle.std.specs.Prelude.{◌≡◌, [], IfOk, true, drop};
 ghost use Rattle.cf_base.specs.Disk.{disk_without_faults};
 ghost use Rattle.cf_base.specs.Held.{held_or_empty};
+ghost use Rattle.cf_base.specs.Space.{empty_space};
 ghost use Rattle.cf_base.specs.Stream.{stream_without_faults};
 
 use crate::files::{Files, ReadErr, WriteErr};
@@ -84,9 +85,16 @@ impl CleanSource {
 }
 
 impl Sink for CleanSink {
-    ghost stream = { λ s. record { told = s.is_whole; bytes = s.room; faults = 0 } };
+    ghost use Rattle.std.specs.Prelude.{◌&&◌, Ok};
+    ghost use Rattle.cf_base.specs.Space.{fits, with_piece};
 
-    fn put(&mut self, piece: &[u8]) -> Result<(), Failed> {
+    ghost stream = { λ s. record { told = s.is_whole; bytes = s.room.bytes; faults = 0 } };
+
+    fn put(&mut self, piece: &[u8]) -> Result<(), Failed>
+        ensures answer { result ≡ Ok tt }
+        ensures room { self.new.room ≡ with_piece piece.now self.old.room }
+        ensures whole { self.new.is_whole ≡ self.old.is_whole && fits piece.now self.old.room }
+    {
         if !self.room.add(piece) {
             self.is_whole = false;
         }
@@ -101,7 +109,8 @@ impl Sink for CleanSink {
 impl CleanSink {
     /// Room for `cap` bytes.
     pub fn new(alloc: Global, cap: u32) -> Result<CleanSink, Memory>
-        ensures { IfOk result (λ sink. ⟦<CleanSink as Sink>⟧.stream sink ≡ stream_without_faults []) }
+        ensures stream { IfOk result (λ sink. ⟦<CleanSink as Sink>⟧.stream sink ≡ stream_without_faults []) }
+        ensures room { IfOk result (λ sink. sink.room ≡ empty_space cap) }
     {
         let room = Room::new(alloc, cap)?;
         Ok(CleanSink {

@@ -14,11 +14,22 @@ pub struct MemSink {
 }
 
 impl Sink for MemSink {
-    ghost use Rattle.std.specs.Prelude.{true};
+    ghost use Rattle.std.specs.Prelude.{◌≡◌, true, not, ◌&&◌, if◌then◌else◌, is_ok};
+    ghost use Rattle.cf_base.specs.Plan.{fails_next, one_later};
+    ghost use Rattle.cf_base.specs.Rose.{CountsFaults};
+    ghost use Rattle.cf_base.specs.Space.{fits, with_piece};
+    ghost use Rattle.cf_base.specs.Stream.{Puts};
 
-    ghost stream = { λ s. record { told = true; bytes = s.room; faults = s.faults } };
+    ghost stream = { λ s. record { told = true; bytes = s.room.bytes; faults = s.faults } };
 
-    fn put(&mut self, piece: &[u8]) -> Result<(), Failed> {
+    /// Fails exactly where that is planned or the piece passes the room.
+    fn put(&mut self, piece: &[u8]) -> Result<(), Failed>
+        ensures bytes { Puts piece.now self.old.room.bytes self.new.room.bytes result }
+        ensures faults { CountsFaults self.old.faults self.new.faults result }
+        ensures answer { is_ok result ≡ not (fails_next self.old.planned) && fits piece.now self.old.room }
+        ensures room { self.new.room ≡ (if fails_next self.old.planned then self.old.room else with_piece piece.now self.old.room) }
+        ensures plan { self.new.planned ≡ one_later self.old.planned }
+    {
         if self.planned.fails_next() || !self.room.add(piece) {
             self.faults = self.faults.saturating_add(1);
             return Err(Failed);
@@ -26,7 +37,13 @@ impl Sink for MemSink {
         Ok(())
     }
 
-    fn flush(&mut self) -> Result<(), Failed> {
+    /// Fails exactly where that is planned.
+    fn flush(&mut self) -> Result<(), Failed>
+        ensures faults { CountsFaults self.old.faults self.new.faults result }
+        ensures answer { is_ok result ≡ not (fails_next self.old.planned) }
+        ensures room { self.new.room ≡ self.old.room }
+        ensures plan { self.new.planned ≡ one_later self.old.planned }
+    {
         if self.planned.fails_next() {
             self.faults = self.faults.saturating_add(1);
             return Err(Failed);
@@ -37,11 +54,15 @@ impl Sink for MemSink {
 
 impl MemSink {
     ghost use Rattle.std.specs.Prelude.{◌≡◌, [], IfOk};
+    ghost use Rattle.cf_base.specs.Plan.{plan_of};
+    ghost use Rattle.cf_base.specs.Space.{empty_space};
     ghost use Rattle.cf_base.specs.Stream.{stream_without_faults};
 
     /// Room for `cap` bytes; `fail` has the numbers, from 1, of the calls that fail.
     pub fn new(alloc: Global, cap: u32, fail: Vec<u32>) -> Result<MemSink, Memory>
-        ensures { IfOk result (λ sink. ⟦<MemSink as Sink>⟧.stream sink ≡ stream_without_faults []) }
+        ensures stream { IfOk result (λ sink. ⟦<MemSink as Sink>⟧.stream sink ≡ stream_without_faults []) }
+        ensures room { IfOk result (λ sink. sink.room ≡ empty_space cap) }
+        ensures plan { IfOk result (λ sink. sink.planned ≡ plan_of fail.items) }
     {
         let room = Room::new(alloc, cap)?;
         Ok(MemSink {

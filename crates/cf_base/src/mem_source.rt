@@ -12,11 +12,20 @@ pub struct MemSource {
 }
 
 impl Source for MemSource {
-    ghost use Rattle.std.specs.Prelude.{true, drop};
+    ghost use Rattle.std.specs.Prelude.{◌≡◌, true, drop, not, is_ok};
+    ghost use Rattle.cf_base.specs.Plan.{fails_next, one_later};
+    ghost use Rattle.cf_base.specs.Rose.{CountsFaults};
+    ghost use Rattle.cf_base.specs.Stream.{Gives};
 
     ghost stream = { λ s. record { told = true; bytes = drop s.taken s.bytes.items; faults = s.faults } };
 
-    fn next(&mut self) -> Result<Option<u8>, Failed> {
+    /// Fails exactly where that is planned.
+    fn next(&mut self) -> Result<Option<u8>, Failed>
+        ensures bytes { Gives (drop self.old.taken self.old.bytes.items) (drop self.new.taken self.new.bytes.items) result }
+        ensures faults { CountsFaults self.old.faults self.new.faults result }
+        ensures answer { is_ok result ≡ not (fails_next self.old.planned) }
+        ensures plan { self.new.planned ≡ one_later self.old.planned }
+    {
         if self.planned.fails_next() {
             self.faults = self.faults.saturating_add(1);
             return Err(Failed);
@@ -33,11 +42,13 @@ impl Source for MemSource {
 
 impl MemSource {
     ghost use Rattle.std.specs.Prelude.{◌≡◌};
+    ghost use Rattle.cf_base.specs.Plan.{plan_of};
     ghost use Rattle.cf_base.specs.Stream.{stream_without_faults};
 
     /// `fail` has the numbers, from 1, of the calls that fail.
     pub fn new(bytes: Vec<u8>, fail: Vec<u32>) -> MemSource
-        ensures { ⟦<MemSource as Source>⟧.stream result ≡ stream_without_faults bytes.items }
+        ensures stream { ⟦<MemSource as Source>⟧.stream result ≡ stream_without_faults bytes.items }
+        ensures plan { result.planned ≡ plan_of fail.items }
     {
         MemSource {
             bytes,

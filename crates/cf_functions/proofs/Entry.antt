@@ -12,7 +12,8 @@ use Rattle.cf_functions.specs.Mean.{Locals, bind as bind_locals}
 use Rattle.cf_functions.specs.Translate.{slot, slots_from, parameters_of, locals_of, in_scope}
 use Rattle.cf_functions.proofs.Blocks.{steady-born, steady-born_all, next-born_all, born_all-lives, put_same}
 use Rattle.cf_functions.proofs.Steps.{Scoped, Living, Stored, stored, names_of}
-use Rattle.cf_functions.proofs.LinkNames.{bytes_same, bytes_differ, lt_or, eq_or}
+use Rattle.cf_base.proofs.Tests.{bytes_same, bytes_differ}
+use Rattle.cf_functions.proofs.LinkNames.{lt_or, eq_or}
 
 pub slots_differ : (i j : ℕ) → i < 2 ^ 64 → j < 2 ^ 64 → slot i ≡ slot j → i ≡ j
 slots_differ i j hi hj e =

@@ -24,7 +24,8 @@ use Rattle.cf_functions.proofs.Blocks.{Steady, steady-through, steady-born_with,
 use Rattle.cf_functions.proofs.Steps.{run_all, all_join, all_one, sim-at, Scoped, Living, Stored, stored, names_of, length-names_of}
 use Rattle.cf_functions.proofs.Expressions.{Back}
 use Rattle.cf_functions.proofs.Statements.{Flows, Reaches, does_sim, all_sim}
-use Rattle.cf_functions.proofs.LinkNames.{same_bytes, bytes_same, bytes_differ, both, link_tells, link_is_no_putchar, link_is_no_main, link_is_no_helper}
+use Rattle.cf_base.proofs.Tests.{same_bytes, bytes_same, bytes_differ, both}
+use Rattle.cf_functions.proofs.LinkNames.{link_tells, link_is_no_putchar, link_is_no_main, link_is_no_helper}
 use Rattle.cf_functions.proofs.Entry.{entry_scoped, stored_bind, names-bind, length-in_scope, entry_living}
 
 -- ---- what a call reaches

@@ -16,7 +16,8 @@ use Rattle.cf_functions.specs.Plain.{Function}
 use Rattle.cf_functions.specs.Mean.{link_name, link_name_of, putchar_name, main_name}
 use Rattle.cf_functions.specs.Rules.{File, is_in, differ, function_names, may_call, arity_fits, functions_well, first_unknown, unknown_in_all, all_well, once_all, file_of, keeps_names, first_unknown_of}
 use Rattle.cf_functions.specs.Translate.{slot, slots_from, parameters_of, locals_of, locals_count, lowered, items, putchar, variables, is_sound, in_scope, finish, codes_of, top_of_all}
-use Rattle.cf_functions.proofs.LinkNames.{all_of, same_bytes, bytes_same, bytes_differ, both, link_tells, lt_or, main_or, link-main, link-other, tail, link_is_no_putchar, link_is_no_main, link_is_no_helper}
+use Rattle.cf_base.proofs.Tests.{all_of, same_bytes, bytes_same, bytes_differ, both}
+use Rattle.cf_functions.proofs.LinkNames.{link_tells, lt_or, main_or, link-main, link-other, tail, link_is_no_putchar, link_is_no_main, link_is_no_helper}
 use Rattle.cf_functions.proofs.Names.{neither, slots_are_names, slots_are_different, slot_is_name, slot_in, in_append, link_is_name, link_is_no_library, link_not_in, putchar_not_in, not_in_append, no_F, lacks_F, split_link}
 use Rattle.cf_functions.proofs.Entry.{names_are, parameter_names_from, length-in_scope}
 use Rattle.cf_functions.proofs.Functions.{sound_parts, called_tells}

@@ -6,28 +6,8 @@ use Rattle.std.proofs.lemmas.Bool.{eqb-true, eq-eqb}
 use Rattle.std.proofs.lemmas.Bool.Decides.{leb_tells, eqb_tells}
 use Rattle.std.proofs.lemmas.List.{length-append}
 use Rattle.std.proofs.lemmas.Slice.Eq.{bytes_eq-Decides}
+use Rattle.cf_base.proofs.Tests.{same_bytes, bytes_differ, both}
 use Rattle.cf_functions.specs.Mean.{ints, parameter_code, link_name, main_name}
-
-pub same_bytes : (xs ys : List ℕ) → bytes_eq xs ys ≡ true → xs ≡ ys
-same_bytes xs ys e = (bytes_eq-Decides xs ys).0 e
-
-pub bytes_same : (xs ys : List ℕ) → xs ≡ ys → bytes_eq xs ys ≡ true
-bytes_same xs ys e = (bytes_eq-Decides xs ys).1 e
-
-pub bytes_differ : (xs ys : List ℕ) → (xs ≡ ys → ⊥) → bytes_eq xs ys ≡ false
-bytes_differ xs ys ne = go (bytes_eq xs ys) refl
-  where
-    go : (t : Bool) → bytes_eq xs ys ≡ t → t ≡ false
-    go true e = absurd (ne (same_bytes xs ys e))
-    go false e = refl
-
-pub all_of : (a b : Bool) → a ≡ true → b ≡ true → (a && b) ≡ true
-all_of true b e f = f
-all_of false b e f = e
-
-pub both : (a b : Bool) → (a && b) ≡ true → (a ≡ true) × (b ≡ true)
-both true b e = (refl, e)
-both false b e = absurd (cc)
 
 heads : (a b : ℕ) (xs ys : List ℕ) → a ∷ xs ≡ b ∷ ys → a ≡ b
 heads a b xs ys e = cc

@@ -10,7 +10,8 @@ use Rattle.cf_functions.specs.Plain.{Expression, number, local, call, binary, Ex
 use Rattle.cf_functions.specs.Mean.{Callee, Puts, Defined, Missing, callee, is_called, count, arith_of, link_name_of, putchar_name, main_name}
 use Rattle.cf_functions.specs.Translate.{slot_of, store_local, held, set, value_call, plain_call, flat, flats, code, codes_of, turn, plain_body, finish, in_scope, lowered, items, putchar}
 use Rattle.cf_functions.specs.Rules.{is_in, differ, function_names}
-use Rattle.cf_functions.proofs.LinkNames.{bytes_same, bytes_differ, both, link_tells, link_is_no_putchar}
+use Rattle.cf_base.proofs.Tests.{bytes_same, bytes_differ, both}
+use Rattle.cf_functions.proofs.LinkNames.{link_tells, link_is_no_putchar}
 use Rattle.cf_functions.proofs.Names.{neither}
 use Rattle.cf_functions.proofs.Functions.{callee_defined}
 use Rattle.cf_functions.proofs.Items.{or_parts, not_parts, fresh, fresh_more, all_fresh}

@@ -12,7 +12,8 @@ use Rattle.cc_tokens.specs.Mark.{mark_text, words}
 use Rattle.cc_tree.specs.Valid.{is_name, is_in, differ, is_library, library}
 use Rattle.cf_functions.specs.Mean.{ints, parameter_code, link_name, main_name, putchar_name}
 use Rattle.cf_functions.specs.Translate.{slot, slots_from}
-use Rattle.cf_functions.proofs.LinkNames.{bytes_same, bytes_differ, both, all_of, eq_or, main_or, link-main, link-other, tail, lacks, no_underscore}
+use Rattle.cf_base.proofs.Tests.{bytes_same, bytes_differ, both, all_of}
+use Rattle.cf_functions.proofs.LinkNames.{eq_or, main_or, link-main, link-other, tail, lacks, no_underscore}
 use Rattle.cf_functions.proofs.Entry.{slots_differ}
 
 pub neither : (a b : Bool) → a ≡ false → b ≡ false → (a || b) ≡ false

@@ -16,7 +16,7 @@ use Rattle.cf_functions.specs.Mean.{Callee, Puts, Defined, Missing, callee, defi
 use Rattle.cf_functions.specs.Rules.{File, is_in, is_function, may_call, arity_fits, used_well, all_used_well, well, all_well, unknown, unknowns, unknown_in, unknown_in_all, first, int_max, function_names}
 use Rattle.cf_functions.specs.Translate.{place, held, set, held_from, slot_of, read_local, store_local, value_call, plain_call, flat, flats, code, codes_of, turn, plain_body, count_after, top, tops, top_of, top_of_all}
 use Rattle.cf_functions.proofs.Expressions.{max_left, max_right, top-above, tops-above}
-use Rattle.cf_functions.proofs.LinkNames.{both, all_of}
+use Rattle.cf_base.proofs.Tests.{both, all_of}
 use Rattle.cf_functions.proofs.Functions.{callee_defined, callee_puts, find_holds}
 
 -- the first of two is nothing

@@ -9,8 +9,7 @@ use Rattle.cf_functions.specs.Mean.{is_called, main_name, putchar_name}
 use Rattle.cf_functions.specs.Rules.{is_in, differ, function_names, is_plain_main, is_function, file_of, locals_of, functions_well, keeps_names, first_unknown_of}
 use Rattle.cf_functions.specs.Translate.{is_sound, has_main}
 use Rattle.cf_functions.specs.Agrees.{is_function_of_text, Keeps}
-use Rattle.cf_functions.proofs.LinkNames.{both}
-use Rattle.cf_functions.proofs.LinkNames.{all_of}
+use Rattle.cf_base.proofs.Tests.{both, all_of}
 use Rattle.cf_functions.proofs.Functions.{agrees}
 use Rattle.cf_functions.proofs.Items.{items_valid}
 use Rattle.cf_functions.proofs.Linking.{links}
