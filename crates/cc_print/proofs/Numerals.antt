@@ -58,3 +58,7 @@ decimal_is_numeral n fits =
 
 pub decimal_is_digits : (n : ℕ) → n < 2 ^ 64 → list_all is_ascii_digit (decimal n) ≡ true
 decimal_is_digits n fits = (digits n fits).all
+
+-- with any bytes behind them
+pub decimal_begins : (n : ℕ) (bs : List ℕ) → n < 2 ^ 64 → begins is_ascii_digit (decimal n ++ bs) ≡ true
+decimal_begins n bs fits = let d = digits n fits in begins_front is_ascii_digit is_ascii_digit (decimal n) bs d.first ∙ d.first
