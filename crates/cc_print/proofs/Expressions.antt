@@ -1,7 +1,6 @@
 -- What is printed for an expression is a text of it.
-use Rattle.std.proofs.Common.{◌≡◌, ℕ, zero, suc, ◌+◌, ◌-◌, ◌<◌, ◌≤◌, ◌^◌, nat_lt, Bool, true, false, List, [], ◌∷◌, ◌++◌, ℤ, pos, negsuc, neg_ℤ, Option, Some, None, map, refl, ap, sym, subst, ◌∙◌, append-nil, append_assoc, arith}
+use Rattle.std.proofs.Common.{◌≡◌, ℕ, zero, suc, ◌+◌, ◌-◌, ◌<◌, ◌≤◌, ◌^◌, nat_lt, Bool, true, false, List, [], ◌∷◌, ◌++◌, ℤ, pos, negsuc, neg_ℤ, Some, map, refl, ap, sym, subst, ◌∙◌, append-nil, append_assoc, arith}
 use Rattle.std.specs.Prelude.{decimal}
-use Rattle.std.specs.Str.Parse.{digits_value}
 use Rattle.std.specs.Fmt.{signed_decimal}
 use Rattle.std.proofs.lemmas.Fmt.{decimal_is_IsNumeral}
 use Rattle.std.proofs.lemmas.Bool.{and_parts, false≢true}
@@ -10,43 +9,26 @@ use Rattle.cf_base.specs.declared.kind.Kind.TheVariants.{Int}
 use Rattle.cf_base.specs.Integers.{fits}
 use Rattle.cf_base.specs.declared.arith.Arith.{Arith}
 use Rattle.cf_base.specs.declared.arith.Arith.TheVariants as op
-use Rattle.cc_tokens.specs.declared.mark.Mark.{Mark}
 use Rattle.cc_tokens.specs.declared.mark.Mark.TheVariants as mark
 use Rattle.cc_tokens.specs.declared.token.Token.{Token}
 use Rattle.cc_tokens.specs.declared.token.Token.TheVariants as token
 use Rattle.cc_tree.specs.declared.expression.CPlace.{CPlace}
 use Rattle.cc_tree.specs.declared.expression.CPlace.TheVariants as place
-use Rattle.cc_tree.specs.declared.expression.CExpression.{CExpression, roll-CExpression, fold-roll-CExpression, ind-CExpression}
+use Rattle.cc_tree.specs.declared.expression.CExpression.{CExpression, roll-CExpression, ind-CExpression}
 use Rattle.cc_tree.specs.declared.expression.CExpression.TheFolds.{map-CExpression}
 use Rattle.cc_tree.specs.declared.expression.CExpression.TheOpen.{CExpression-F}
 use Rattle.cc_tree.specs.declared.expression.CExpression.TheVariants as tree
 use Rattle.cc_tree.specs.declared.expression.CExpression.TheVariants.{rolls-Int, rolls-Load, rolls-Binary}
-use Rattle.cc_tree.specs.Plain.{Expression, expression_of, place_of}
+use Rattle.cc_tree.specs.Plain.{expression_of, place_of}
 use Rattle.cc_tree.specs.Valid.{Known, is_name, is_in, is_written, valid_place, valid_expression, valid_expressions}
 use Rattle.cc_tree.specs.Spells as g
 use Rattle.cc_tree.specs.Spells.{SpellsPlace, SpellsExpression, SpellsSome, SpellsArguments, joins, loosest, sign}
 use Rattle.cc_tree.proofs.Views.{expression_of-Int, expression_of-Load, expression_of-Binary}
-use Rattle.cc_print.specs.Lines.{printed_mark, printed_if, spaced, after_commas}
-use Rattle.cc_print.specs.Printed.{sign_of, level_of, place_text, expression_text, expression_step, whole_text, arguments_text}
-use Rattle.cc_print.proofs.Cuts.{Cuts, cuts-none, cuts-append, cuts-mark, cuts-name, cuts-constant, constant_tokens}
-use Rattle.cc_print.proofs.Written.{Written, written_as}
-
--- ---- the text of each expression
-
-text-Int : (z : ℤ) (l : ℕ) → expression_text (tree.Int z) l ≡ spaced (signed_decimal z)
-text-Int z l = ap (λ e. expression_text e l) (sym (rolls-Int z)) ∙ ap (λ f. f l) (fold-roll-CExpression (ℕ → List ℕ) expression_step (CExpression-F.Int z))
-
-text-Load : (p : CPlace) (l : ℕ) → expression_text (tree.Load p) l ≡ place_text p
-text-Load p l = ap (λ e. expression_text e l) (sym (rolls-Load p)) ∙ ap (λ f. f l) (fold-roll-CExpression (ℕ → List ℕ) expression_step (CExpression-F.Load p))
-
--- two operands and the operator between them, in brackets or not
-abbrev bracketed : Bool → List ℕ → List ℕ → List ℕ → List ℕ
-bracketed needed ls s rs = printed_if needed mark.LeftParen ++ (ls ++ (s ++ (rs ++ printed_if needed mark.RightParen)))
-
-text-Binary : (o : Arith) (a b : CExpression) (l : ℕ) → expression_text (tree.Binary o a b) l
-    ≡ bracketed (nat_lt l (level_of o)) (expression_text a (level_of o)) (printed_mark (sign_of o)) (expression_text b (level_of o - 1))
-text-Binary o a b l =
-    ap (λ e. expression_text e l) (sym (rolls-Binary o a b)) ∙ ap (λ f. f l) (fold-roll-CExpression (ℕ → List ℕ) expression_step (CExpression-F.Binary o a b))
+use Rattle.cc_print.specs.Lines.{printed_mark, spaced, after_commas}
+use Rattle.cc_print.specs.Printed.{sign_of, level_of, place_text, expression_text, whole_text, arguments_text}
+use Rattle.cc_print.proofs.Texts.{bracketed, expression_text-Int, expression_text-Load, expression_text-Binary}
+use Rattle.cc_print.proofs.Cuts.{cuts-none, cuts-append, cuts-mark, cuts-name, cuts-constant, constant_tokens}
+use Rattle.cc_print.proofs.TextOf.{TextOf, text_of_same}
 
 -- ---- levels
 
@@ -57,13 +39,13 @@ looser e xs m (suc n) l is s =
     let next : suc (m + n) ≡ l = omega arith in
     subst (λ k. SpellsExpression k e xs) next (g.SpellsExpression.tighter (m + n) e xs (looser e xs m n (m + n) refl s))
 
-written_looser : (e : CExpression) (m l : ℕ) (bytes : List ℕ) → m ≤ l → Written (SpellsExpression m e) bytes → Written (SpellsExpression l e) bytes
-written_looser e m l bytes le w = record { tokens = w.tokens; cut = w.cut; spells = looser e w.tokens m (l - m) l (omega arith) w.spells }
+printed_looser : (e : CExpression) (m l : ℕ) (bytes : List ℕ) → m ≤ l → TextOf (SpellsExpression m e) bytes → TextOf (SpellsExpression l e) bytes
+printed_looser e m l bytes le w = record { tokens = w.tokens; cut = w.cut; spells = looser e w.tokens m (l - m) l (omega arith) w.spells }
 
 -- ---- operands
 
-pub written_place : (p : CPlace) (k : Known) → valid_place (place_of p) k ≡ true → Written (SpellsPlace p) (place_text p)
-written_place (place.Name name) k valid = record {
+pub printed_place : (p : CPlace) (k : Known) → valid_place (place_of p) k ≡ true → TextOf (SpellsPlace p) (place_text p)
+printed_place (place.Name name) k valid = record {
   tokens = token.Name name ∷ [];
   cut = cuts-name name (and_parts (is_name name) (is_in k.names name) valid).0;
   spells = g.SpellsPlace.name name;
@@ -78,19 +60,19 @@ spelled_constant (negsuc n) fit =
     subst (λ m. SpellsExpression 0 (tree.Int (neg_ℤ (pos m))) (token.Dash ∷ token.Signed (decimal (suc n)) ∷ [])) (decimal_is_IsNumeral (suc n) (omega arith)).1
     (g.SpellsExpression.negative (decimal (suc n)))
 
-written_constant : (z : ℤ) → fits Int z ≡ true → Written (SpellsExpression 0 (tree.Int z)) (spaced (signed_decimal z))
-written_constant z fit = record { tokens = constant_tokens z; cut = cuts-constant z fit; spells = spelled_constant z fit }
+printed_constant : (z : ℤ) → fits Int z ≡ true → TextOf (SpellsExpression 0 (tree.Int z)) (spaced (signed_decimal z))
+printed_constant z fit = record { tokens = constant_tokens z; cut = cuts-constant z fit; spells = spelled_constant z fit }
 
-written_load : (p : CPlace) (k : Known) → valid_place (place_of p) k ≡ true → Written (SpellsExpression 0 (tree.Load p)) (place_text p)
-written_load p k valid =
-    let w = written_place p k valid in
+printed_load : (p : CPlace) (k : Known) → valid_place (place_of p) k ≡ true → TextOf (SpellsExpression 0 (tree.Load p)) (place_text p)
+printed_load p k valid =
+    let w = printed_place p k valid in
     record { tokens = w.tokens; cut = w.cut; spells = g.SpellsExpression.load p w.tokens w.spells }
 
 -- ---- operators
 
 joined_at : (l : ℕ) (o : Arith) (a b : CExpression) (ls rs : List ℕ) → joins (token.Mark (sign_of o)) ≡ Some (suc l, o)
-    → Written (SpellsExpression (suc l) a) ls → Written (SpellsExpression l b) rs
-    → Written (SpellsExpression (suc l) (tree.Binary o a b)) (ls ++ (printed_mark (sign_of o) ++ rs))
+    → TextOf (SpellsExpression (suc l) a) ls → TextOf (SpellsExpression l b) rs
+    → TextOf (SpellsExpression (suc l) (tree.Binary o a b)) (ls ++ (printed_mark (sign_of o) ++ rs))
 joined_at l o a b ls rs is wa wb = record {
   tokens = wa.tokens ++ (token.Mark (sign_of o) ∷ wb.tokens);
   cut = cuts-append wa.cut (cuts-append (cuts-mark (sign_of o)) wb.cut);
@@ -99,8 +81,8 @@ joined_at l o a b ls rs is wa wb = record {
 
 -- at the operator's own level no brackets are needed
 joined : (o : Arith) (a b : CExpression) (ls rs : List ℕ) → is_written o ≡ true
-    → Written (SpellsExpression (level_of o) a) ls → Written (SpellsExpression (level_of o - 1) b) rs
-    → Written (SpellsExpression (level_of o) (tree.Binary o a b)) (ls ++ (printed_mark (sign_of o) ++ rs))
+    → TextOf (SpellsExpression (level_of o) a) ls → TextOf (SpellsExpression (level_of o - 1) b) rs
+    → TextOf (SpellsExpression (level_of o) (tree.Binary o a b)) (ls ++ (printed_mark (sign_of o) ++ rs))
 joined op.Add a b ls rs is wa wb = joined_at 1 op.Add a b ls rs refl wa wb
 joined op.Subtract a b ls rs is wa wb = joined_at 1 op.Subtract a b ls rs refl wa wb
 joined op.Less a b ls rs is wa wb = joined_at 3 op.Less a b ls rs refl wa wb
@@ -111,8 +93,8 @@ level_within : (o : Arith) → level_of o ≤ loosest
 level_within op.Add = omega arith
 level_within o = omega arith
 
-in_brackets : (e : CExpression) (ls s rs : List ℕ) → Written (SpellsExpression loosest e) (ls ++ (s ++ rs)) → Written (SpellsExpression 0 e) (bracketed true ls s rs)
-in_brackets e ls s rs w = written_as _ _ (ap (λ r. printed_mark mark.LeftParen ++ r) (inner ls s rs)) (record {
+in_brackets : (e : CExpression) (ls s rs : List ℕ) → TextOf (SpellsExpression loosest e) (ls ++ (s ++ rs)) → TextOf (SpellsExpression 0 e) (bracketed true ls s rs)
+in_brackets e ls s rs w = text_of_same _ _ (ap (λ r. printed_mark mark.LeftParen ++ r) (inner ls s rs)) (record {
   tokens = sign mark.LeftParen ++ (w.tokens ++ sign mark.RightParen);
   cut = cuts-append (cuts-mark mark.LeftParen) (cuts-append w.cut (cuts-mark mark.RightParen));
   spells = g.SpellsExpression.brackets e w.tokens w.spells;
@@ -122,69 +104,69 @@ in_brackets e ls s rs w = written_as _ _ (ap (λ r. printed_mark mark.LeftParen 
     inner ls s rs = sym (append_assoc ls (s ++ rs) (printed_mark mark.RightParen) ∙ ap (λ r. ls ++ r) (append_assoc s rs (printed_mark mark.RightParen)))
 
 -- at any level, with the brackets that are needed there
-written_operation : (o : Arith) (e : CExpression) (ls s rs : List ℕ) (l : ℕ) (needed : Bool) → nat_lt l (level_of o) ≡ needed
-    → Written (SpellsExpression (level_of o) e) (ls ++ (s ++ rs)) → Written (SpellsExpression l e) (bracketed needed ls s rs)
-written_operation o e ls s rs l true is w =
-    written_looser e 0 l (bracketed true ls s rs) (omega arith) (in_brackets e ls s rs (written_looser e (level_of o) loosest (ls ++ (s ++ rs)) (level_within o) w))
-written_operation o e ls s rs l false is w =
+printed_operation : (o : Arith) (e : CExpression) (ls s rs : List ℕ) (l : ℕ) (needed : Bool) → nat_lt l (level_of o) ≡ needed
+    → TextOf (SpellsExpression (level_of o) e) (ls ++ (s ++ rs)) → TextOf (SpellsExpression l e) (bracketed needed ls s rs)
+printed_operation o e ls s rs l true is w =
+    printed_looser e 0 l (bracketed true ls s rs) (omega arith) (in_brackets e ls s rs (printed_looser e (level_of o) loosest (ls ++ (s ++ rs)) (level_within o) w))
+printed_operation o e ls s rs l false is w =
     let le : level_of o ≤ l = grind (arith, nat_tests) in
-    written_as _ _ (ap (λ r. ls ++ (s ++ r)) (append-nil rs)) (written_looser e (level_of o) l (ls ++ (s ++ rs)) le w)
+    text_of_same _ _ (ap (λ r. ls ++ (s ++ r)) (append-nil rs)) (printed_looser e (level_of o) l (ls ++ (s ++ rs)) le w)
 
 -- ---- expressions
 
-abbrev pub IsWritten : CExpression → Type 0
-IsWritten e = (k : Known) → valid_expression (expression_of e) k ≡ true → (l : ℕ) → Written (SpellsExpression l e) (expression_text e l)
+abbrev pub IsPrinted : CExpression → Type 0
+IsPrinted e = (k : Known) → valid_expression (expression_of e) k ≡ true → (l : ℕ) → TextOf (SpellsExpression l e) (expression_text e l)
 
-written-Int : (z : ℤ) → IsWritten (tree.Int z)
-written-Int z k valid l =
+printed-Int : (z : ℤ) → IsPrinted (tree.Int z)
+printed-Int z k valid l =
     let fit : fits Int z ≡ true = ap (λ v. valid_expression v k) (sym (expression_of-Int z)) ∙ valid in
-    written_as _ _ (text-Int z l) (written_looser (tree.Int z) 0 l (spaced (signed_decimal z)) (omega arith) (written_constant z fit))
+    text_of_same _ _ (expression_text-Int z l) (printed_looser (tree.Int z) 0 l (spaced (signed_decimal z)) (omega arith) (printed_constant z fit))
 
-written-Load : (p : CPlace) → IsWritten (tree.Load p)
-written-Load p k valid l =
+printed-Load : (p : CPlace) → IsPrinted (tree.Load p)
+printed-Load p k valid l =
     let in_scope : valid_place (place_of p) k ≡ true = ap (λ v. valid_expression v k) (sym (expression_of-Load p)) ∙ valid in
-    written_as _ _ (text-Load p l) (written_looser (tree.Load p) 0 l (place_text p) (omega arith) (written_load p k in_scope))
+    text_of_same _ _ (expression_text-Load p l) (printed_looser (tree.Load p) 0 l (place_text p) (omega arith) (printed_load p k in_scope))
 
-written-Binary : (o : Arith) (a b : CExpression) → IsWritten a → IsWritten b → IsWritten (tree.Binary o a b)
-written-Binary o a b ha hb k valid l =
+printed-Binary : (o : Arith) (a b : CExpression) → IsPrinted a → IsPrinted b → IsPrinted (tree.Binary o a b)
+printed-Binary o a b ha hb k valid l =
     let parts = and_parts (is_written o) _ (ap (λ v. valid_expression v k) (sym (expression_of-Binary o a b)) ∙ valid) in
     let operands = and_parts (valid_expression (expression_of a) k) (valid_expression (expression_of b) k) parts.1 in
-    written_as _ _ (text-Binary o a b l)
-    (written_operation o (tree.Binary o a b) (expression_text a (level_of o)) (printed_mark (sign_of o)) (expression_text b (level_of o - 1)) l (nat_lt l (level_of o)) refl
+    text_of_same _ _ (expression_text-Binary o a b l)
+    (printed_operation o (tree.Binary o a b) (expression_text a (level_of o)) (printed_mark (sign_of o)) (expression_text b (level_of o - 1)) l (nat_lt l (level_of o)) refl
     (joined o a b _ _ parts.0 (ha k operands.0 (level_of o)) (hb k operands.1 (level_of o - 1))))
 
-layer : (y : CExpression-F ((e : CExpression) × IsWritten e)) → IsWritten (roll-CExpression (map-CExpression _ _ (λ c. c.0) y))
-layer (CExpression-F.Int z) = subst IsWritten (sym (rolls-Int z)) (written-Int z)
-layer (CExpression-F.Load p) = subst IsWritten (sym (rolls-Load p)) (written-Load p)
-layer (CExpression-F.Binary o a b) = subst IsWritten (sym (rolls-Binary o a.0 b.0)) (written-Binary o a.0 b.0 a.1 b.1)
+layer : (y : CExpression-F ((e : CExpression) × IsPrinted e)) → IsPrinted (roll-CExpression (map-CExpression _ _ (λ c. c.0) y))
+layer (CExpression-F.Int z) = subst IsPrinted (sym (rolls-Int z)) (printed-Int z)
+layer (CExpression-F.Load p) = subst IsPrinted (sym (rolls-Load p)) (printed-Load p)
+layer (CExpression-F.Binary o a b) = subst IsPrinted (sym (rolls-Binary o a.0 b.0)) (printed-Binary o a.0 b.0 a.1 b.1)
 
-pub written_expression : (e : CExpression) → IsWritten e
-written_expression = ind-CExpression IsWritten (λ x y is. subst (λ z. IsWritten (roll-CExpression z)) is (layer y))
+pub printed_expression : (e : CExpression) → IsPrinted e
+printed_expression = ind-CExpression IsPrinted (λ x y is. subst (λ z. IsPrinted (roll-CExpression z)) is (layer y))
 
-pub written_whole : (e : CExpression) (k : Known) → valid_expression (expression_of e) k ≡ true → Written (SpellsExpression loosest e) (whole_text e)
-written_whole e k valid = written_expression e k valid loosest
+pub printed_whole : (e : CExpression) (k : Known) → valid_expression (expression_of e) k ≡ true → TextOf (SpellsExpression loosest e) (whole_text e)
+printed_whole e k valid = printed_expression e k valid loosest
 
 -- ---- arguments
 
-written_some : (e : CExpression) (es : List CExpression) (k : Known) → valid_expressions (map expression_of (e ∷ es)) k ≡ true
-    → Written (SpellsSome (e ∷ es)) (whole_text e ++ after_commas (map whole_text es))
-written_some e [] k valid =
+printed_some : (e : CExpression) (es : List CExpression) (k : Known) → valid_expressions (map expression_of (e ∷ es)) k ≡ true
+    → TextOf (SpellsSome (e ∷ es)) (whole_text e ++ after_commas (map whole_text es))
+printed_some e [] k valid =
     let parts = and_parts (valid_expression (expression_of e) k) true valid in
-    let w = written_whole e k parts.0 in
-    written_as _ _ (append-nil (whole_text e)) (record { tokens = w.tokens; cut = w.cut; spells = g.SpellsSome.last e w.tokens w.spells })
-written_some e (f ∷ es) k valid =
+    let w = printed_whole e k parts.0 in
+    text_of_same _ _ (append-nil (whole_text e)) (record { tokens = w.tokens; cut = w.cut; spells = g.SpellsSome.last e w.tokens w.spells })
+printed_some e (f ∷ es) k valid =
     let parts = and_parts (valid_expression (expression_of e) k) (valid_expressions (map expression_of (f ∷ es)) k) valid in
-    let w = written_whole e k parts.0 in
-    let others = written_some f es k parts.1 in
+    let w = printed_whole e k parts.0 in
+    let others = printed_some f es k parts.1 in
     record {
       tokens = w.tokens ++ (token.Mark mark.Comma ∷ others.tokens);
       cut = cuts-append w.cut (cuts-append (cuts-mark mark.Comma) others.cut);
       spells = g.SpellsSome.more e w.tokens (f ∷ es) others.tokens w.spells others.spells;
     }
 
-pub written_arguments : (es : List CExpression) (k : Known) → valid_expressions (map expression_of es) k ≡ true
-    → Written (SpellsArguments es) (arguments_text es)
-written_arguments [] k valid = record { tokens = []; cut = cuts-none; spells = g.SpellsArguments.none }
-written_arguments (e ∷ es) k valid =
-    let w = written_some e es k valid in
+pub printed_arguments : (es : List CExpression) (k : Known) → valid_expressions (map expression_of es) k ≡ true
+    → TextOf (SpellsArguments es) (arguments_text es)
+printed_arguments [] k valid = record { tokens = []; cut = cuts-none; spells = g.SpellsArguments.none }
+printed_arguments (e ∷ es) k valid =
+    let w = printed_some e es k valid in
     record { tokens = w.tokens; cut = w.cut; spells = g.SpellsArguments.some (e ∷ es) w.tokens w.spells }

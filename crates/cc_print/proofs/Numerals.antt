@@ -1,6 +1,6 @@
 -- The digits of a number are a numeral of the small C.
-use Rattle.std.proofs.Common.{◌≡◌, ℕ, zero, suc, ◌+◌, ◌/◌, ◌%◌, ◌<◌, ◌≤◌, ◌^◌, Bool, true, false, List, [], ◌∷◌, ◌++◌, refl, ap, sym, ◌∙◌, arith, length}
-use Rattle.std.specs.Prelude.{decimal, not, ◌&&◌, ◌||◌, ◌==◌}
+use Rattle.std.proofs.Common.{◌≡◌, ℕ, zero, suc, ◌+◌, ◌/◌, ◌%◌, ◌<◌, ◌≤◌, ◌^◌, Bool, true, false, List, [], ◌∷◌, ◌++◌, refl, ap, ◌∙◌, arith}
+use Rattle.std.specs.Prelude.{decimal, ◌==◌}
 use Rattle.std.specs.Char.{is_ascii_digit}
 use Rattle.std.specs.List.{list_all}
 use Rattle.std.proofs.lemmas.Bool.Decides.{nat_tests}
@@ -55,9 +55,6 @@ pub decimal_is_numeral : (n : ℕ) → n < 2 ^ 64 → is_numeral (decimal n) ≡
 decimal_is_numeral n fits =
     let d = digits n fits in
     rw (d.first, d.all, plain n fits) refl
-
-pub decimal_is_digits : (n : ℕ) → n < 2 ^ 64 → list_all is_ascii_digit (decimal n) ≡ true
-decimal_is_digits n fits = (digits n fits).all
 
 -- with any bytes behind them
 pub decimal_begins : (n : ℕ) (bs : List ℕ) → n < 2 ^ 64 → begins is_ascii_digit (decimal n ++ bs) ≡ true

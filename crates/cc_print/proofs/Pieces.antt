@@ -1,14 +1,14 @@
 -- One more piece behind those that are printed.
-use Rattle.std.proofs.Common.{◌≡◌, ℕ, ◌+◌, ◌<◌, nat_lt, true, List, [], ◌∷◌, ◌++◌, map, take, get_or, length, refl, ap, sym, ◌∙◌, append_assoc, arith}
+use Rattle.std.proofs.Common.{◌≡◌, ℕ, ◌+◌, ◌<◌, nat_lt, true, List, [], ◌∷◌, ◌++◌, map, take, get_or, length, refl, ap, ◌∙◌, append_assoc, arith}
 use Rattle.std.proofs.lemmas.List.{take_more, map-append, length-map, length-take, append-nil}
+use Rattle.std.proofs.lemmas.List.Folds.{concat-append}
 use Rattle.std.proofs.lemmas.Bool.Decides.{nat_tests}
 use Rattle.std.specs.List.{concat}
 use Rattle.cc_tokens.specs.declared.mark.Mark.TheVariants as mark
 use Rattle.cc_print.specs.Lines.{printed_mark, printed_if, after_commas, with_commas}
 
 concat_push : (ps : List (List ℕ)) (p : List ℕ) → concat (ps ++ p ∷ []) ≡ concat ps ++ p
-concat_push [] p = append-nil p
-concat_push (q ∷ ps) p = ap (λ r. q ++ r) (concat_push ps p) ∙ sym (append_assoc q (concat ps) p)
+concat_push ps p = concat-append ps (p ∷ []) ∙ ap (λ r. concat ps ++ r) (append-nil p)
 
 after_commas_push : (ps : List (List ℕ)) (p : List ℕ) → after_commas (ps ++ p ∷ []) ≡ after_commas ps ++ (printed_mark mark.Comma ++ p)
 after_commas_push [] p = ap (λ r. printed_mark mark.Comma ++ r) (append-nil p)

@@ -1,16 +1,10 @@
 //! What the printed text is.
 
-ghost use Rattle.std.specs.Prelude.{ℕ, ◌≤◌, ◌≡◌, true};
+ghost use Rattle.std.specs.Prelude.{◌≡◌, true};
 ghost use Rattle.cc_tree.specs.declared.unit.CUnit.{CUnit};
-ghost use Rattle.cc_tree.specs.Valid.{valid_unit};
 ghost use Rattle.cc_tree.specs.Text.{Text};
+ghost use Rattle.cc_tree.specs.Valid.{valid_unit};
 ghost use Rattle.cc_print.specs.Printed.{unit_text};
-ghost use Rattle.cc_print.specs.Returning.{returning};
-
-/// The printed text of `int __main(void) { return N; }` is a text of that unit.
-pub fn returned_text_is_its_text()
-    ensures { (n : ℕ) → n ≤ 2147483647 → Text (unit_text (returning n)) (returning n) }
-{}
 
 /// The text that is printed for a valid unit is a text of that unit.
 pub fn printed_text_is_its_text()

@@ -10,5 +10,5 @@ mod lines;
 mod statement;
 mod unit;
 
-pub use laws::{printed_text_is_its_text, returned_text_is_its_text};
+pub use laws::printed_text_is_its_text;
 pub use unit::print;
