@@ -38,7 +38,7 @@ printed-Loop b hb k valid =
     text_of_same _ _ (statement_text-Loop b) (record {
       tokens = token.Mark mark.For ∷ token.Mark mark.LeftParen ∷ token.Mark mark.Semicolon ∷ token.Mark mark.Semicolon ∷ token.Mark mark.RightParen ∷ w.tokens;
       cut = cuts-append (cuts-append (cuts-mark mark.For) (cuts-append (cuts-mark mark.LeftParen) (cuts-append (cuts-mark mark.Semicolon)
-      (cuts-append (cuts-mark mark.Semicolon) (cuts-mark mark.RightParen))))) w.cut;
+          (cuts-append (cuts-mark mark.Semicolon) (cuts-mark mark.RightParen))))) w.cut;
       spells = g.SpellsStatement.loops b w.tokens w.spells;
     })
 
@@ -66,7 +66,7 @@ printed_choice e b (Some c) k valid wb wc =
     text_of_same _ _ (condition_joined e (body_text b ++ (printed_mark mark.Else ++ body_text c))) (record {
       tokens = token.Mark mark.If ∷ token.Mark mark.LeftParen ∷ (test.tokens ++ (token.Mark mark.RightParen ∷ (wb.tokens ++ (token.Mark mark.Else ∷ other.tokens))));
       cut = cuts-append (cuts-mark mark.If) (cuts-append (cuts-mark mark.LeftParen) (cuts-append test.cut (cuts-append (cuts-mark mark.RightParen)
-      (cuts-append wb.cut (cuts-append (cuts-mark mark.Else) other.cut)))));
+          (cuts-append wb.cut (cuts-append (cuts-mark mark.Else) other.cut)))));
       spells = g.SpellsStatement.if_else e test.tokens b wb.tokens c other.tokens test.spells wb.spells other.spells;
     })
 
@@ -106,6 +106,7 @@ printed_made_body locals all k valid =
 
 -- ---- the induction
 
+-- a statement, once the bodies in it are printed so
 layer : (y : CStatement-F ((s : CStatement) × IsPrinted s) ((b : CBody) × IsBodyPrinted b))
     → IsPrinted (roll-CStatement (map-CStatement _ _ _ _ (λ c. c.0) (λ c. c.0) y))
 layer (CStatement-F.Assign p e) = subst IsPrinted (sym (rolls-Assign p e)) (printed-Assign p e)
@@ -117,6 +118,7 @@ layer (CStatement-F.If e b (Some c)) = subst IsPrinted (sym (rolls-If e b.0 (Som
 layer (CStatement-F.Loop b) = subst IsPrinted (sym (rolls-Loop b.0)) (printed-Loop b.0 b.1)
 layer (CStatement-F.Return e) = subst IsPrinted (sym (rolls-Return e)) (printed-Return e)
 
+-- a body, once its statements are printed so
 body_layer : (y : CBody-F ((s : CStatement) × IsPrinted s) ((b : CBody) × IsBodyPrinted b))
     → IsBodyPrinted (roll-CBody (map-CBody _ _ _ _ (λ c. c.0) (λ c. c.0) y))
 body_layer y = printed_made_body y.locals y.statements

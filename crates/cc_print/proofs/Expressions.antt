@@ -93,6 +93,7 @@ level_within : (o : Arith) → level_of o ≤ loosest
 level_within op.Add = omega arith
 level_within o = omega arith
 
+-- an expression in brackets is an operand
 in_brackets : (e : CExpression) (ls s rs : List ℕ) → TextOf (SpellsExpression loosest e) (ls ++ (s ++ rs)) → TextOf (SpellsExpression 0 e) (bracketed true ls s rs)
 in_brackets e ls s rs w = text_of_same _ _ (ap (λ r. printed_mark mark.LeftParen ++ r) (inner ls s rs)) (record {
   tokens = sign mark.LeftParen ++ (w.tokens ++ sign mark.RightParen);
@@ -114,7 +115,8 @@ printed_operation o e ls s rs l false is w =
 
 -- ---- expressions
 
-abbrev pub IsPrinted : CExpression → Type 0
+-- at every level, what is printed for it where it is valid is a text of it
+abbrev IsPrinted : CExpression → Type 0
 IsPrinted e = (k : Known) → valid_expression (expression_of e) k ≡ true → (l : ℕ) → TextOf (SpellsExpression l e) (expression_text e l)
 
 printed-Int : (z : ℤ) → IsPrinted (tree.Int z)
@@ -135,6 +137,7 @@ printed-Binary o a b ha hb k valid l =
     (printed_operation o (tree.Binary o a b) (expression_text a (level_of o)) (printed_mark (sign_of o)) (expression_text b (level_of o - 1)) l (nat_lt l (level_of o)) refl
     (joined o a b _ _ parts.0 (ha k operands.0 (level_of o)) (hb k operands.1 (level_of o - 1))))
 
+-- an expression, once its operands are printed so
 layer : (y : CExpression-F ((e : CExpression) × IsPrinted e)) → IsPrinted (roll-CExpression (map-CExpression _ _ (λ c. c.0) y))
 layer (CExpression-F.Int z) = subst IsPrinted (sym (rolls-Int z)) (printed-Int z)
 layer (CExpression-F.Load p) = subst IsPrinted (sym (rolls-Load p)) (printed-Load p)

@@ -47,8 +47,9 @@ printed_locals (l ∷ locals) valid =
     one : (l : CLocal) (bs : List ℕ) → local_text l ++ bs ≡ type_text l.ty ++ (spaced l.name ++ (printed_mark mark.Semicolon ++ bs))
     one l bs = append_assoc (type_text l.ty) (spaced l.name ++ printed_mark mark.Semicolon) bs ∙ ap (λ r. type_text l.ty ++ r) (append_assoc (spaced l.name) (printed_mark mark.Semicolon) bs)
 
--- ---- statements without bodies
+-- ---- statements without bodies in them
 
+-- what is printed for it where it is valid is a text of it
 abbrev pub IsPrinted : CStatement → Type 0
 IsPrinted s = (k : Known) → valid_statement (statement_of s) k ≡ true → TextOf (SpellsStatement s) (statement_text s)
 
@@ -89,7 +90,7 @@ printed_call None name es k valid =
     record {
       tokens = token.Name name ∷ token.Mark mark.LeftParen ∷ (given.tokens ++ (token.Mark mark.RightParen ∷ sign mark.Semicolon));
       cut = cuts-append (cuts-name name valid.named) (cuts-append (cuts-mark mark.LeftParen)
-      (cuts-append given.cut (cuts-append (cuts-mark mark.RightParen) (cuts-mark mark.Semicolon))));
+          (cuts-append given.cut (cuts-append (cuts-mark mark.RightParen) (cuts-mark mark.Semicolon))));
       spells = g.SpellsStatement.call name es given.tokens given.spells;
     }
 printed_call (Some p) name es k valid =
@@ -98,7 +99,7 @@ printed_call (Some p) name es k valid =
     text_of_same _ _ (append_assoc (place_text p) (printed_mark mark.Assign) (call_text name es)) (record {
       tokens = to.tokens ++ (token.Mark mark.Assign ∷ token.Name name ∷ token.Mark mark.LeftParen ∷ (given.tokens ++ (token.Mark mark.RightParen ∷ sign mark.Semicolon)));
       cut = cuts-append to.cut (cuts-append (cuts-mark mark.Assign) (cuts-append (cuts-name name valid.named) (cuts-append (cuts-mark mark.LeftParen)
-      (cuts-append given.cut (cuts-append (cuts-mark mark.RightParen) (cuts-mark mark.Semicolon))))));
+          (cuts-append given.cut (cuts-append (cuts-mark mark.RightParen) (cuts-mark mark.Semicolon))))));
       spells = g.SpellsStatement.call_to p to.tokens name es given.tokens to.spells given.spells;
     })
 
