@@ -1,0 +1,5 @@
+pub mod IsParsed
+pub mod Nesting
+pub mod Parse
+pub mod Rules
+pub mod Spells

@@ -1,0 +1,15 @@
+//! Reads the tokens of a file of functions over int into its tree.
+//!
+//! `specs/Spells` is the grammar and `specs/Nesting` how many brackets are open; `parse` reads exactly the lists of tokens
+//! that spell a program, with at most 64 open brackets. It goes down from functions to blocks, statements and
+//! expressions, and reads each token once.
+#![tactic(auto)]
+
+mod cursor;
+mod expression;
+mod function;
+mod nesting;
+mod reader;
+mod statement;
+
+pub use reader::parse;
