@@ -11,10 +11,10 @@ use Rattle.cf_functions_tokens.specs.declared.token.Token.{Token}
 use Rattle.cf_functions_tokens.specs.declared.token.Token.TheVariants as token
 use Rattle.cf_functions_parse.specs.Spells.{operator_of, loosest, SpellsExpression, SpellsArguments, SpellsSome}
 use Rattle.cf_functions_parse.specs.Spells as g
-use Rattle.cf_functions_parse.specs.Parse.{Parse, fail, sees_number, behind, of_level, operator_at}
+use Rattle.cf_functions_parse.specs.Parse.{Parse, sees_number, behind, of_level, operator_at}
 use Rattle.cf_functions_parse.specs.Rules.{items, brackets, called, named, constant, word, primary_behind, primary, joins, more_operands, binary, expression}
 use Rattle.cf_functions_parse.proofs.Took.{some_is, no_some, Took, Sound, Both, Is, Ended, Made, Taken, named_token, weaker, sound_fail, sound_pure, sound_then, sound_number, sound_identifier, sound_made, sound_ended, sound_if, sound_sees, sound_led}
-use Rattle.cf_functions_parse.proofs.Items.{Follow, none, next, Listed, sound_items}
+use Rattle.cf_functions_parse.proofs.Items.{Follow, none, next, sound_items}
 use Rattle.cf_functions_parse.proofs.Steps.{next_operand}
 
 -- ---- operators

@@ -1,5 +1,5 @@
 -- What reads as functions is spelled as them.
-use Rattle.std.proofs.Common.{◌≡◌, ℕ, zero, suc, List, [], ◌∷◌, ◌++◌, Option, Some, None, refl, sym, ap, subst, ◌∙◌, append_assoc, append-nil, length}
+use Rattle.std.proofs.Common.{◌≡◌, ℕ, zero, suc, List, [], ◌∷◌, ◌++◌, Some, refl, sym, ap, subst, ◌∙◌, append_assoc, append-nil, length}
 use Rattle.cf_functions.specs.declared.tree.Statement.{Statement}
 use Rattle.cf_functions.specs.declared.tree.Function.{Function}
 use Rattle.cf_functions.specs.declared.tree.Program.{Program}
@@ -8,7 +8,7 @@ use Rattle.cf_functions_tokens.specs.declared.token.Token.{Token}
 use Rattle.cf_functions_tokens.specs.declared.token.Token.TheVariants as token
 use Rattle.cf_functions_parse.specs.Spells.{sign, SpellsSomeParameters, SpellsParameters, SpellsBlock, SpellsFunction, SpellsFunctions, Spells}
 use Rattle.cf_functions_parse.specs.Spells as g
-use Rattle.cf_functions_parse.specs.Parse.{Parse, pure, ◌>>=◌, is_ended, end}
+use Rattle.cf_functions_parse.specs.Parse.{pure, ◌>>=◌, is_ended, end}
 use Rattle.cf_functions_parse.specs.Rules.{items, parameter, head, function, body, more_functions, all_functions, program}
 use Rattle.cf_functions_parse.proofs.Took.{no_some, at_some, bind_some, Sound, Both, Is, Ended, Made, Taken, named_token, weaker, sound_pure, sound_then, sound_expect, sound_identifier, sound_made, sound_if}
 use Rattle.cf_functions_parse.proofs.Items.{Follow, none, next, sound_items}

@@ -1,5 +1,5 @@
 -- What reads as statements is spelled as them.
-use Rattle.std.proofs.Common.{◌≡◌, ℕ, zero, suc, List, [], ◌∷◌, ◌++◌, Option, Some, None, refl, sym, ap, subst, ◌∙◌, append_assoc, append-nil, length}
+use Rattle.std.proofs.Common.{◌≡◌, ℕ, zero, suc, List, [], ◌∷◌, ◌++◌, sym, ◌∙◌, append_assoc, append-nil, length}
 use Rattle.cf_functions.specs.declared.tree.Expression.{Expression}
 use Rattle.cf_functions.specs.declared.tree.Statement.{Statement}
 use Rattle.cf_functions.specs.declared.tree.Statement.TheVariants as statement_tree
@@ -9,7 +9,7 @@ use Rattle.cf_functions_tokens.specs.declared.token.Token.{Token}
 use Rattle.cf_functions_tokens.specs.declared.token.Token.TheVariants as token
 use Rattle.cf_functions_parse.specs.Spells.{sign, SpellsBlock, SpellsStatement, SpellsStatements}
 use Rattle.cf_functions_parse.specs.Spells as g
-use Rattle.cf_functions_parse.specs.Parse.{Parse, fail, sees}
+use Rattle.cf_functions_parse.specs.Parse.{Parse, sees}
 use Rattle.cf_functions_parse.specs.Rules.{expression, value, assigned, declaration, assignment, performed, named_behind, named_statement, word_statement, returned, condition, block, otherwise, conditional, repeated, inner, statement_behind, statement, more_statements, body}
 use Rattle.cf_functions_parse.proofs.Took.{Sound, Both, Is, Ended, Made, Taken, named_token, weaker, sound_fail, sound_pure, sound_then, sound_expect, sound_identifier, sound_made, sound_ended, sound_if, sound_sees, sound_led}
 use Rattle.cf_functions_parse.proofs.SoundExpressions.{Whole, Arguments, sound_arguments, sound_expression}

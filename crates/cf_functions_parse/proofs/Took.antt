@@ -7,7 +7,7 @@ use Rattle.cf_functions_tokens.specs.declared.token.Symbol.{Symbol}
 use Rattle.cf_functions_tokens.specs.declared.token.Token.{Token}
 use Rattle.cf_functions_tokens.specs.declared.token.Token.TheVariants as token
 use Rattle.cf_functions_tokens.specs.Symbol.{same_symbol}
-use Rattle.cf_functions_parse.specs.Parse.{Parse, and_then, ◌>>=◌, pure, fail, sees, behind, symbol_at, led_by, expect, number, identifier, end}
+use Rattle.cf_functions_parse.specs.Parse.{Parse, and_then, ◌>>=◌, pure, fail, sees, behind, symbol_at, led_by, expect, number, identifier}
 use Rattle.cf_functions_parse.specs.Spells.{sign}
 
 pub some_is : {A : Type 0} (a b : A) → Some a ≡ Some b → a ≡ b

@@ -9,7 +9,6 @@ use Rattle.cf_functions.specs.declared.tree.Function.{Function}
 use Rattle.cf_functions.specs.declared.tree.Program.{Program}
 use Rattle.cf_functions_tokens.specs.declared.token.Symbol.{Symbol}
 use Rattle.cf_functions_tokens.specs.declared.token.Symbol.TheVariants as symbol
-use Rattle.cf_functions_tokens.specs.declared.token.Token.{Token}
 use Rattle.cf_functions_parse.specs.Spells.{loosest}
 use Rattle.cf_functions_parse.specs.Parse.{Parse, ◌>>=◌, pure, fail, sees, sees_number, is_ended, behind, symbol_at, led_by, operator_at, expect, number, identifier, end}
 

@@ -8,8 +8,13 @@
 mod cursor;
 mod expression;
 mod function;
+mod laws;
 mod nesting;
 mod reader;
 mod statement;
 
+#[cfg(test)]
+mod tests;
+
+pub use laws::token_list_has_one_tree;
 pub use reader::parse;
