@@ -43,13 +43,7 @@ fn of_level(level: usize, found: Option<(usize, Operator)>) -> Option<Operator>
     ensures { result ≡ spec.of_level level found }
 {
     match found {
-        Some((at, op)) => {
-            if at == level {
-                Some(op)
-            } else {
-                None
-            }
-        }
+        Some((at, op)) => { if at == level { Some(op) } else { None } }
         None => None,
     }
 }

@@ -16,7 +16,11 @@ const LOOSEST: usize = 3;
 
 /// An expression within `depth` others.
 #[cycle(rules)]
-pub fn expression(alloc: Global, depth: usize, c: &mut Cursor<'_>) -> Result<Boxed<Expression>, Fault>
+pub fn expression(
+    alloc: Global,
+    depth: usize,
+    c: &mut Cursor<'_>,
+) -> Result<Boxed<Expression>, Fault>
     ensures { Reads (rule.expression depth c.old) result c.new }
 {
     if depth == 0 {
@@ -27,7 +31,12 @@ pub fn expression(alloc: Global, depth: usize, c: &mut Cursor<'_>) -> Result<Box
 
 /// Operands with the operators of the levels below this between them.
 #[cycle(rules)]
-fn binary(alloc: Global, depth: usize, level: usize, c: &mut Cursor<'_>) -> Result<Boxed<Expression>, Fault>
+fn binary(
+    alloc: Global,
+    depth: usize,
+    level: usize,
+    c: &mut Cursor<'_>,
+) -> Result<Boxed<Expression>, Fault>
     ensures { Reads (rule.binary (rule.primary (rule.expression depth)) level c.old) result c.new }
 {
     if level == 0 {
@@ -39,7 +48,13 @@ fn binary(alloc: Global, depth: usize, level: usize, c: &mut Cursor<'_>) -> Resu
 
 /// The operators of this level behind its first operand. They associate to the left.
 #[cycle(rules)]
-fn more_operands(alloc: Global, depth: usize, level: usize, first: Boxed<Expression>, c: &mut Cursor<'_>) -> Result<Boxed<Expression>, Fault>
+fn more_operands(
+    alloc: Global,
+    depth: usize,
+    level: usize,
+    first: Boxed<Expression>,
+    c: &mut Cursor<'_>,
+) -> Result<Boxed<Expression>, Fault>
     ensures { Reads (rule.rest_of_operands (rule.binary (rule.primary (rule.expression depth)) level) level first c.old) result c.new }
 {
     let mut a = first;
@@ -112,7 +127,13 @@ fn word(alloc: Global, depth: usize, c: &mut Cursor<'_>) -> Result<Boxed<Express
 
 #[cycle(rules)]
 #[tactic(auto, unfolding(crate::specs::Rules::called))]
-fn called(alloc: Global, depth: usize, at: u32, name: Name, c: &mut Cursor<'_>) -> Result<Boxed<Expression>, Fault>
+fn called(
+    alloc: Global,
+    depth: usize,
+    at: u32,
+    name: Name,
+    c: &mut Cursor<'_>,
+) -> Result<Boxed<Expression>, Fault>
     ensures { Reads (rule.called (rule.expression depth) at name c.old) result c.new }
 {
     let all = arguments(alloc, depth, c)?;
@@ -122,7 +143,11 @@ fn called(alloc: Global, depth: usize, at: u32, name: Name, c: &mut Cursor<'_>) 
 /// What stands between the brackets of a call, and the closing one.
 #[cycle(rules)]
 #[tactic(auto, unfolding(crate::specs::Rules::items))]
-pub fn arguments(alloc: Global, depth: usize, c: &mut Cursor<'_>) -> Result<Items<Expression>, Fault>
+pub fn arguments(
+    alloc: Global,
+    depth: usize,
+    c: &mut Cursor<'_>,
+) -> Result<Items<Expression>, Fault>
     ensures { Reads (rule.items (rule.expression depth) c.old) result c.new }
 {
     if c.sees(Symbol::Close) {
@@ -134,7 +159,11 @@ pub fn arguments(alloc: Global, depth: usize, c: &mut Cursor<'_>) -> Result<Item
 
 #[cycle(rules)]
 #[tactic(auto, unfolding(crate::specs::Rules::some_items))]
-fn some_arguments(alloc: Global, depth: usize, c: &mut Cursor<'_>) -> Result<Items<Expression>, Fault>
+fn some_arguments(
+    alloc: Global,
+    depth: usize,
+    c: &mut Cursor<'_>,
+) -> Result<Items<Expression>, Fault>
     ensures { Reads (rule.some_items (rule.expression depth) c.old) result c.new }
 {
     let first = expression(alloc, depth, c)?;
@@ -146,7 +175,12 @@ fn some_arguments(alloc: Global, depth: usize, c: &mut Cursor<'_>) -> Result<Ite
 }
 
 #[cycle(rules)]
-fn more_arguments(alloc: Global, depth: usize, before: Items<Expression>, c: &mut Cursor<'_>) -> Result<Items<Expression>, Fault>
+fn more_arguments(
+    alloc: Global,
+    depth: usize,
+    before: Items<Expression>,
+    c: &mut Cursor<'_>,
+) -> Result<Items<Expression>, Fault>
     ensures { Reads (rule.rest_of_items (rule.expression depth) before c.old) result c.new }
 {
     let mut found = before;

@@ -22,7 +22,11 @@ fn parameter(alloc: Global, c: &mut Cursor<'_>) -> Result<Name, Fault>
 }
 
 /// The parameters behind the first.
-fn more_parameters(alloc: Global, before: Items<Name>, c: &mut Cursor<'_>) -> Result<Items<Name>, Fault>
+fn more_parameters(
+    alloc: Global,
+    before: Items<Name>,
+    c: &mut Cursor<'_>,
+) -> Result<Items<Name>, Fault>
     ensures { Reads (rule.rest_of_items rule.parameter before c.old) result c.new }
 {
     let mut found = before;

@@ -12,7 +12,6 @@ mod laws;
 mod nesting;
 mod reader;
 mod statement;
-
 #[cfg(test)]
 mod tests;
 

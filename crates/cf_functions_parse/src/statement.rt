@@ -40,7 +40,13 @@ fn declaration(alloc: Global, depth: usize, c: &mut Cursor<'_>) -> Result<Boxed<
 }
 
 #[tactic(auto, unfolding(crate::specs::Rules::assignment))]
-fn assignment(alloc: Global, depth: usize, at: u32, name: Name, c: &mut Cursor<'_>) -> Result<Boxed<Statement>, Fault>
+fn assignment(
+    alloc: Global,
+    depth: usize,
+    at: u32,
+    name: Name,
+    c: &mut Cursor<'_>,
+) -> Result<Boxed<Statement>, Fault>
     ensures { Reads (rule.assignment (rule.expression depth) at name c.old) result c.new }
 {
     let e = value(alloc, depth, c)?;
@@ -49,7 +55,13 @@ fn assignment(alloc: Global, depth: usize, at: u32, name: Name, c: &mut Cursor<'
 
 /// A call whose value is not used.
 #[tactic(auto, unfolding(crate::specs::Rules::performed))]
-fn performed(alloc: Global, depth: usize, at: u32, name: Name, c: &mut Cursor<'_>) -> Result<Boxed<Statement>, Fault>
+fn performed(
+    alloc: Global,
+    depth: usize,
+    at: u32,
+    name: Name,
+    c: &mut Cursor<'_>,
+) -> Result<Boxed<Statement>, Fault>
     ensures { Reads (rule.performed (rule.expression depth) at name c.old) result c.new }
 {
     let all = arguments(alloc, depth, c)?;
@@ -58,7 +70,13 @@ fn performed(alloc: Global, depth: usize, at: u32, name: Name, c: &mut Cursor<'_
 }
 
 #[tactic(auto, unfolding(crate::specs::Rules::named_statement))]
-fn named(alloc: Global, depth: usize, at: u32, name: Name, c: &mut Cursor<'_>) -> Result<Boxed<Statement>, Fault>
+fn named(
+    alloc: Global,
+    depth: usize,
+    at: u32,
+    name: Name,
+    c: &mut Cursor<'_>,
+) -> Result<Boxed<Statement>, Fault>
     ensures { Reads (rule.named_statement (rule.expression depth) at name c.old) result c.new }
 {
     match c.symbol() {

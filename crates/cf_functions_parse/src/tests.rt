@@ -55,8 +55,14 @@ fn texts_and_what_is_none(rt: HostRuntime) {
     let rows: [(&[u8], Option<usize>); 17] = [
         (b"", Some(0)),
         (b"int main() { return 0; }", Some(1)),
-        (b"int f(int a, int b) {} int g() {{} int a = f(1, 2); a = g(); f(a);}", Some(2)),
-        (b"int f() { if (1) {} else { while (a < 2) { a = a + 1; } } if (2) {} }", Some(1)),
+        (
+            b"int f(int a, int b) {} int g() {{} int a = f(1, 2); a = g(); f(a);}",
+            Some(2),
+        ),
+        (
+            b"int f() { if (1) {} else { while (a < 2) { a = a + 1; } } if (2) {} }",
+            Some(1),
+        ),
         (b"int f() { if (1) {} else if (2) {} }", None),
         (b"int f() { if (1) return 2; }", None),
         (b"int f() { return 1 }", None),
@@ -93,7 +99,9 @@ fn operators_and_their_levels(rt: HostRuntime) {
 
 /// A function that returns 1 within this many round brackets.
 fn nested(alloc: Global, depth: usize) -> Result<Items<u8>, Fail> {
-    let mut text = Items::from_slice(alloc, b"int f() { return ").ok().ok_or("memory")?;
+    let mut text = Items::from_slice(alloc, b"int f() { return ")
+        .ok()
+        .ok_or("memory")?;
     for _turn in 0..depth {
         text.push(b'(').ok().ok_or("memory")?;
     }

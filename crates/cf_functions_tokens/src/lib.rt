@@ -7,6 +7,8 @@
 mod fault;
 mod laws;
 mod lex;
+#[cfg(test)]
+mod tests;
 mod token;
 
 pub use fault::{Fault, outside_profile};
