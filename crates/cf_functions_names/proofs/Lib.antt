@@ -1,0 +1,3 @@
+mod DifferLaws
+mod ListLaws
+mod WalkLaws

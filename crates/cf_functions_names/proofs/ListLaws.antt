@@ -1,0 +1,73 @@
+-- Names in order, and what is left of lists in loops.
+use Rattle.std.proofs.Common.{◌≡◌, ℕ, suc, ◌+◌, ◌-◌, ◌<◌, ◌≤◌, Bool, true, false, ◌&&◌, ◌||◌, List, [], ◌∷◌, ◌++◌, length, map, take, drop, get_or, refl, ap, sym, ◌∙◌, drop-cons, add-one, arith, append_assoc, append-nil}
+use Rattle.std.specs.Prelude.{reverse, bytes_eq}
+use Rattle.std.specs.Borrow.{Bor}
+use Rattle.std.specs.List.{list_any, list_all}
+use Rattle.std.proofs.Math.Seq.{drop-append_seam}
+use Rattle.std.proofs.lemmas.List.{reverse-append, length-reverse, take-append-drop, length-drop, take-map}
+use Rattle.std.proofs.lemmas.List.Folds.{list_all-append}
+use Rattle.std.proofs.lemmas.List.Sorted.{IsPermutation-reverse, list_any-IsPermutation}
+use Rattle.std.proofs.lemmas.Grind.{reverse_onto}
+use Rattle.cf_functions.specs.Rules.{is_in}
+use Rattle.cf_functions_names.specs.Lists.{last_first, behind}
+
+-- what is left from an index on: its item, and the rest
+pub left_is : {A : Type 0} (xs : List A) (i : ℕ) (d : A) → i < length xs → d ≡ get_or xs i d → drop i xs ≡ d ∷ drop (i + 1) xs
+left_is xs i d within is = drop-cons xs i d within ∙ ap (λ x. x ∷ drop (suc i) xs) (sym is) ∙ ap (λ k. d ∷ drop k xs) (sym (add-one i))
+
+reverse-take : {A : Type 0} (xs : List A) (n : ℕ) → n ≤ length xs → reverse (take n xs) ≡ drop (length (reverse xs) - n) (reverse xs)
+reverse-take xs n within =
+    let parts : reverse (drop n xs) ++ reverse (take n xs) ≡ reverse xs = sym (reverse-append (take n xs) (drop n xs)) ∙ ap reverse (take-append-drop n xs) in
+    let long : length (reverse (drop n xs)) ≡ length (reverse xs) - n = length-reverse (drop n xs) ∙ length-drop n xs ∙ ap (λ k. k - n) (sym (length-reverse xs)) in
+    sym (drop-append_seam (reverse (drop n xs)) (reverse (take n xs))) ∙ ap (drop (length (reverse (drop n xs)))) parts ∙ ap (λ k. drop k (reverse xs)) long
+
+-- the first names, the last one first
+pub last_first-take : (xs : List (Bor (List ℕ))) (n : ℕ) → n ≤ length (last_first xs) → last_first (take n xs) ≡ drop (length (last_first xs) - n) (last_first xs)
+last_first-take xs n within = ap reverse (sym (take-map (λ x. x.now) n xs)) ∙ reverse-take (map (λ x. x.now) xs) n (omega (arith, within, length-reverse (map (λ x. x.now) xs)))
+
+any_map : {A B : Type 0} (p : B → Bool) (f : A → B) (xs : List A) → list_any (λ x. p (f x)) xs ≡ list_any p (map f xs)
+any_map p f [] = refl
+any_map p f (x ∷ xs) = ap (λ b. p (f x) || b) (any_map p f xs)
+
+-- a name stands in memory where it stands in the list
+pub any-last_first : (xs : List (Bor (List ℕ))) (name : List ℕ) → list_any (λ x. bytes_eq x.now name) xs ≡ is_in (last_first xs) name
+any-last_first xs name =
+    any_map (λ y. bytes_eq y name) (λ x. x.now) xs
+    ∙ list_any-IsPermutation (λ y. bytes_eq y name) (map (λ x. x.now) xs) (last_first xs) (IsPermutation-reverse (map (λ x. x.now) xs))
+
+pub all_map : {A B : Type 0} (p : B → Bool) (f : A → B) (xs : List A) → list_all (λ x. p (f x)) xs ≡ list_all p (map f xs)
+all_map p f [] = refl
+all_map p f (x ∷ xs) = ap (λ b. p (f x) && b) (all_map p f xs)
+
+pub all-reverse : {A : Type 0} (p : A → Bool) (xs : List A) → list_all p (reverse xs) ≡ list_all p xs
+all-reverse p [] = refl
+all-reverse p (x ∷ xs) =
+    ap (list_all p) (reverse_onto xs x []) ∙ list_all-append p (reverse xs) (x ∷ []) ∙ ap (λ b. b && (p x && true)) (all-reverse p xs)
+    ∙ swapped (list_all p xs) (p x)
+  where
+    swapped : (a b : Bool) → (a && (b && true)) ≡ (b && a)
+    swapped true true = refl
+    swapped true false = refl
+    swapped false true = refl
+    swapped false false = refl
+
+-- all names in memory pass a test that those of the list pass
+pub all-last_first : (p : List ℕ → Bool) (xs : List (Bor (List ℕ))) (names : List (List ℕ)) → last_first xs ≡ reverse names → list_all (λ x. p x.now) xs ≡ list_all p names
+all-last_first p xs names is =
+    all_map p (λ x. x.now) xs ∙ sym (all-reverse p (map (λ x. x.now) xs)) ∙ ap (list_all p) is ∙ all-reverse p names
+
+pub behind-append : (xs ys names : List (List ℕ)) → behind (xs ++ ys) names ≡ behind ys (behind xs names)
+behind-append [] ys names = refl
+behind-append (x ∷ xs) ys names = behind-append xs ys (x ∷ names)
+
+behind-onto : (xs names : List (List ℕ)) → behind xs names ≡ reverse xs ++ names
+behind-onto [] names = refl
+behind-onto (x ∷ xs) names =
+    behind-onto xs (x ∷ names) ∙ sym (ap (λ l. l ++ names) (reverse_onto xs x []) ∙ append_assoc (reverse xs) (x ∷ []) names)
+
+pub behind-reverse : (xs : List (List ℕ)) → behind xs [] ≡ reverse xs
+behind-reverse xs = behind-onto xs [] ∙ append-nil (reverse xs)
+
+-- a name stands in a list whichever way round
+pub in-reverse : (names : List (List ℕ)) (x : List ℕ) → is_in (reverse names) x ≡ is_in names x
+in-reverse names x = sym (list_any-IsPermutation (λ y. bytes_eq y x) names (reverse names) (IsPermutation-reverse names))

@@ -1,0 +1,182 @@
+ghost use Rattle.std.specs.Prelude.{◌≡◌, ◌&&◌, ◌||◌, not, map, IfOk, length, if◌then◌else◌, Some, None, bytes_eq, ◌==◌, codes, take};
+ghost use Rattle.std.specs.List.{list_all};
+ghost use Rattle.cf_functions.specs.Plain.{function_of};
+ghost use Rattle.cf_functions.specs.Mean.{main_name};
+ghost use Rattle.cf_functions.specs.Rules as spec;
+ghost use Rattle.cf_functions_names.specs.Lists.{distinct};
+ghost use Rattle.cf_functions_names.specs.Walk.{file_at, known_at, plain};
+
+use crate::locals::all_locals;
+use crate::names::{Names, is};
+use cf_base::Memory;
+use cf_functions::Function;
+use std::alloc::Global;
+use std::marker::Model;
+
+/// The functions of a file, whose names are different, with what is known of all of them.
+#[derive(Drop)]
+pub struct File<'a> {
+    functions: &'a [Function],
+    names: Names<'a>,
+    locals: Names<'a>,
+}
+
+impl<'a> Model for File<'a> {
+    ghost use Rattle.std.specs.Prelude.{◌≡◌, List, reverse, true};
+    ghost use Rattle.cf_functions.specs.declared.tree.Function.{Function};
+    ghost use Rattle.cf_functions.specs.Rules.{differ, function_names, locals_of};
+    ghost use Rattle.cf_functions.specs.contracts.tree.Statement as statement;
+    ghost use Rattle.std.specs.Coded.{codes};
+    ghost use Rattle.cf_functions_names.specs.Walk.{plain};
+
+    ghost Value = { List Function };
+
+    ghost coded = { Prim.hlevel (codes, statement.the_row.coded) };
+
+    ghost view = { λ f. f.functions.now };
+
+    ghost invariant = { λ f. (f.names ≡ function_names (plain f.functions.now)) × (f.locals ≡ reverse (locals_of (plain f.functions.now))) };
+}
+
+impl<'a> File<'a> {
+    /// The functions with what is known of them, if their names are different.
+    pub fn new(alloc: Global, functions: &'a [Function]) -> Result<Option<File<'a>>, Memory>
+        ensures { IfOk result (λ file. file ≡ (if spec.differ (spec.function_names (plain functions.now)) then Some functions.now else None)) }
+    {
+        match function_names(alloc, functions)? {
+            None => Ok(None),
+            Some(names) => {
+                let locals = all_locals(alloc, functions)?;
+                Ok(Some(File {
+                    functions,
+                    names,
+                    locals,
+                }))
+            }
+        }
+    }
+
+    pub fn functions(&self) -> &'a [Function]
+        ensures { result.now ≡ self.now }
+    {
+        self.functions
+    }
+
+    /// Whether it is the name of a function.
+    pub fn is_function(&self, name: &[u8]) -> bool
+        ensures { result ≡ spec.is_function (file_at self.now) name.now }
+    {
+        is(name, b"putchar") || self.is_named(name)
+    }
+
+    fn is_named(&self, name: &[u8]) -> bool
+        ensures { result ≡ spec.is_in (spec.function_names (plain self.now)) name.now }
+    {
+        self.names.has(name)
+    }
+
+    fn is_local(&self, name: &[u8]) -> bool
+        ensures { result ≡ spec.is_in (spec.locals_of (plain self.now)) name.now }
+    {
+        self.locals.has(name)
+    }
+
+    /// Whether this name may be called with as many arguments where the first functions are known.
+    pub fn may_call(&self, known: usize, name: &[u8], count: usize) -> bool
+        ensures { result ≡ spec.may_call (file_at self.now) (known_at known self.now) name.now count }
+    {
+        !self.is_local(name) && (!is(name, b"main") && self.arity_fits(known, name, count))
+    }
+
+    fn arity_fits(&self, known: usize, name: &[u8], count: usize) -> bool
+        ensures { result ≡ spec.arity_fits (known_at known self.now) name.now count }
+    {
+        if is(name, b"putchar") {
+            count == 1
+        } else {
+            all_take(first_of(self.functions, known), name, count)
+        }
+    }
+
+    /// Whether no function is `putchar`, and one is `main`, without parameters.
+    pub fn has_main(&self) -> bool
+        ensures { result ≡ (not (spec.is_in (spec.function_names (plain self.now)) (codes "putchar"))
+            && (spec.is_in (spec.function_names (plain self.now)) main_name && list_all spec.is_plain_main (plain self.now))) }
+    {
+        !self.is_named(b"putchar") && (self.is_named(b"main") && self.all_plain())
+    }
+
+    fn all_plain(&self) -> bool
+        ensures { result ≡ list_all spec.is_plain_main (plain self.now) }
+    {
+        all_plain(self.functions)
+    }
+
+    /// Whether no parameter or local has the name of a function.
+    pub fn locals_are_none(&self) -> bool
+        ensures { result ≡ list_all (λ x. not (spec.is_function (file_at self.now) x)) (spec.locals_of (plain self.now)) }
+    {
+        self.all_differ(self.locals.as_slice())
+    }
+
+    fn all_differ(&self, names: &[&[u8]]) -> bool
+        ensures { result ≡ list_all (λ x. not (spec.is_function (file_at self.now) x.now)) names.now }
+    {
+        names.iter().all(|name| !self.is_function(name))
+    }
+}
+
+/// Whether the function has another name, or as many parameters.
+fn takes(function: &Function, name: &[u8], count: usize) -> bool
+    ensures { result ≡ (not (bytes_eq (function_of function.now).name name.now) || (length (function_of function.now).parameters == count)) }
+{
+    !is(function.name.as_slice(), name) || function.parameters.len() == count
+}
+
+fn all_take(functions: &[Function], name: &[u8], count: usize) -> bool
+    ensures { result ≡ list_all (λ f. not (bytes_eq (function_of f).name name.now) || (length (function_of f).parameters == count)) functions.now }
+{
+    functions
+        .iter()
+        .all(|function| takes(function, name, count))
+}
+
+/// The first functions, at most as many.
+fn first_of(functions: &[Function], count: usize) -> &[Function]
+    ensures { result.now ≡ take count functions.now }
+{
+    if count < functions.len() {
+        &functions[..count]
+    } else {
+        functions
+    }
+}
+
+fn all_plain(functions: &[Function]) -> bool
+    ensures { result ≡ list_all (λ f. spec.is_plain_main (function_of f)) functions.now }
+{
+    functions.iter().all(|function| is_plain_main(function))
+}
+
+fn is_plain_main(function: &Function) -> bool
+    ensures { result ≡ spec.is_plain_main (function_of function.now) }
+{
+    !is(function.name.as_slice(), b"main") || function.parameters.len() == 0
+}
+
+/// The names of functions in their order, if they are different.
+fn function_names<'a>(alloc: Global, all: &'a [Function]) -> Result<Option<Names<'a>>, Memory>
+    ensures { IfOk result (λ found. found ≡ distinct (spec.function_names (plain all.now))) }
+{
+    let mut names = Names::new(alloc);
+    let mut left = all.len();
+    while left > 0 {
+        left -= 1;
+        let name = all[left].name.as_slice();
+        if names.has(name) {
+            return Ok(None);
+        }
+        names.add(name)?;
+    }
+    Ok(Some(names))
+}
