@@ -1,3 +1,5 @@
+mod CountLaws
 mod DifferLaws
+mod HeadLaws
 mod ListLaws
 mod WalkLaws

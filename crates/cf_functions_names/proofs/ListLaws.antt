@@ -4,7 +4,7 @@ use Rattle.std.specs.Prelude.{reverse, bytes_eq}
 use Rattle.std.specs.Borrow.{Bor}
 use Rattle.std.specs.List.{list_any, list_all}
 use Rattle.std.proofs.Math.Seq.{drop-append_seam}
-use Rattle.std.proofs.lemmas.List.{reverse-append, length-reverse, take-append-drop, length-drop, take-map}
+use Rattle.std.proofs.lemmas.List.{reverse-append, length-reverse, take-append-drop, length-drop, drop-drop, take-map}
 use Rattle.std.proofs.lemmas.List.Folds.{list_all-append}
 use Rattle.std.proofs.lemmas.List.Sorted.{IsPermutation-reverse, list_any-IsPermutation}
 use Rattle.std.proofs.lemmas.Grind.{reverse_onto}
@@ -71,3 +71,11 @@ behind-reverse xs = behind-onto xs [] ∙ append-nil (reverse xs)
 -- a name stands in a list whichever way round
 pub in-reverse : (names : List (List ℕ)) (x : List ℕ) → is_in (reverse names) x ≡ is_in names x
 in-reverse names x = sym (list_any-IsPermutation (λ y. bytes_eq y x) names (reverse names) (IsPermutation-reverse names))
+
+-- one name less at the end
+pub cut_next : (names l new : List (List ℕ)) → length l ≤ length names → 0 < length l → l ≡ drop (length names - length l) names → new ≡ drop 1 l
+    → (length new ≡ length l - 1) × (new ≡ drop (length names - length new) names)
+cut_next names l new within some left less =
+    let shorter : length new ≡ length l - 1 = ap length less ∙ length-drop 1 l in
+    let more : (length names - length l) + 1 ≡ length names - length new = omega arith in
+    (shorter, less ∙ ap (drop 1) left ∙ drop-drop 1 (length names - length l) names ∙ ap (λ k. drop k names) more)

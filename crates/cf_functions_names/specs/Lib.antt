@@ -1,3 +1,4 @@
 pub mod Checks
+pub mod Heads
 pub mod Lists
 pub mod Walk

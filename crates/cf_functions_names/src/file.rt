@@ -1,4 +1,4 @@
-ghost use Rattle.std.specs.Prelude.{◌≡◌, ◌&&◌, ◌||◌, not, map, IfOk, length, if◌then◌else◌, Some, None, bytes_eq, ◌==◌, codes, take};
+ghost use Rattle.std.specs.Prelude.{◌≡◌, ◌&&◌, not, IfOk, if◌then◌else◌, Some, None, codes};
 ghost use Rattle.std.specs.List.{list_all};
 ghost use Rattle.cf_functions.specs.Plain.{function_of};
 ghost use Rattle.cf_functions.specs.Mean.{main_name};
@@ -6,11 +6,13 @@ ghost use Rattle.cf_functions.specs.Rules as spec;
 ghost use Rattle.cf_functions_names.specs.Lists.{distinct};
 ghost use Rattle.cf_functions_names.specs.Walk.{file_at, known_at, plain};
 
+use crate::heads::{Head, fits, heads};
 use crate::locals::all_locals;
 use crate::names::{Names, is};
 use cf_base::Memory;
 use cf_functions::Function;
 use std::alloc::Global;
+use std::collections::HashMap;
 use std::marker::Model;
 
 /// The functions of a file, whose names are different, with what is known of all of them.
@@ -19,15 +21,17 @@ pub struct File<'a> {
     functions: &'a [Function],
     names: Names<'a>,
     locals: Names<'a>,
+    heads: HashMap<&'a [u8], Head>,
 }
 
 impl<'a> Model for File<'a> {
-    ghost use Rattle.std.specs.Prelude.{◌≡◌, List, reverse, true};
-    ghost use Rattle.cf_functions.specs.declared.tree.Function.{Function};
-    ghost use Rattle.cf_functions.specs.Rules.{differ, function_names, locals_of};
-    ghost use Rattle.cf_functions.specs.contracts.tree.Statement as statement;
+    ghost use Rattle.std.specs.Prelude.{List};
     ghost use Rattle.std.specs.Coded.{codes};
-    ghost use Rattle.cf_functions_names.specs.Walk.{plain};
+    ghost use Rattle.std.specs.HashMap.{get};
+    ghost use Rattle.cf_functions.specs.declared.tree.Function.{Function};
+    ghost use Rattle.cf_functions.specs.contracts.tree.Statement as statement;
+    ghost use Rattle.cf_functions_names.specs.Lists.{same_name};
+    ghost use Rattle.cf_functions_names.specs.Walk.{Knows};
 
     ghost Value = { List Function };
 
@@ -35,7 +39,7 @@ impl<'a> Model for File<'a> {
 
     ghost view = { λ f. f.functions.now };
 
-    ghost invariant = { λ f. (f.names ≡ function_names (plain f.functions.now)) × (f.locals ≡ reverse (locals_of (plain f.functions.now))) };
+    ghost invariant = { λ f. Knows f.functions.now f.names f.locals (get same_name f.heads) };
 }
 
 impl<'a> File<'a> {
@@ -47,10 +51,12 @@ impl<'a> File<'a> {
             None => Ok(None),
             Some(names) => {
                 let locals = all_locals(alloc, functions)?;
+                let heads = heads(alloc, functions)?;
                 Ok(Some(File {
                     functions,
                     names,
                     locals,
+                    heads,
                 }))
             }
         }
@@ -94,7 +100,7 @@ impl<'a> File<'a> {
         if is(name, b"putchar") {
             count == 1
         } else {
-            all_take(first_of(self.functions, known), name, count)
+            fits(self.heads.get(name).copied(), known, count)
         }
     }
 
@@ -123,32 +129,6 @@ impl<'a> File<'a> {
         ensures { result ≡ list_all (λ x. not (spec.is_function (file_at self.now) x.now)) names.now }
     {
         names.iter().all(|name| !self.is_function(name))
-    }
-}
-
-/// Whether the function has another name, or as many parameters.
-fn takes(function: &Function, name: &[u8], count: usize) -> bool
-    ensures { result ≡ (not (bytes_eq (function_of function.now).name name.now) || (length (function_of function.now).parameters == count)) }
-{
-    !is(function.name.as_slice(), name) || function.parameters.len() == count
-}
-
-fn all_take(functions: &[Function], name: &[u8], count: usize) -> bool
-    ensures { result ≡ list_all (λ f. not (bytes_eq (function_of f).name name.now) || (length (function_of f).parameters == count)) functions.now }
-{
-    functions
-        .iter()
-        .all(|function| takes(function, name, count))
-}
-
-/// The first functions, at most as many.
-fn first_of(functions: &[Function], count: usize) -> &[Function]
-    ensures { result.now ≡ take count functions.now }
-{
-    if count < functions.len() {
-        &functions[..count]
-    } else {
-        functions
     }
 }
 

@@ -2,6 +2,7 @@ ghost use Rattle.std.specs.Prelude.{◌≡◌, ◌≤◌, IfOk};
 ghost use Rattle.cf_functions.specs.Plain.{functions_of};
 ghost use Rattle.cf_functions.specs.Rules as spec;
 ghost use Rattle.cf_functions_names.specs.Checks.{Checks};
+ghost use Rattle.cf_functions_names.specs.Walk.{keeps_others as rules_kept, plain};
 ghost use Rattle.cf_functions_names.specs.declared.fault.NameFault.TheVariants as fault;
 
 use crate::fault::NameFault;
@@ -18,13 +19,18 @@ fn keeps_names(alloc: Global, program: &Program) -> Result<bool, Memory>
 {
     match File::new(alloc, program.functions.as_slice())? {
         None => Ok(false),
-        Some(file) => {
-            if file.has_main() && file.locals_are_none() {
-                functions_well(alloc, &file)
-            } else {
-                Ok(false)
-            }
-        }
+        Some(file) => keeps_others(alloc, &file),
+    }
+}
+
+/// The same where the functions have different names.
+fn keeps_others(alloc: Global, file: &File<'_>) -> Result<bool, Memory>
+    ensures { IfOk result (λ kept. kept ≡ rules_kept (plain file.now)) }
+{
+    if file.has_main() && file.locals_are_none() {
+        functions_well(alloc, file)
+    } else {
+        Ok(false)
     }
 }
 

@@ -1,5 +1,5 @@
-use Rattle.std.proofs.Common.{rules, ◌∙◌, ap, sym, refl, arith}
-use Rattle.cf_functions.specs.Rules.{is_in, function_names}
+use Rattle.std.proofs.Common.{rules, arith}
+use Rattle.cf_functions.specs.Rules.{function_names}
 use Rattle.cf_functions.specs.declared.tree.Function as tree
 use Rattle.cf_functions_names.specs.Walk.{plain}
 use Rattle.cf_functions_names.proofs.DifferLaws.{twice, names-cons, names-rest}

@@ -1,7 +1,3 @@
-use Rattle.std.proofs.Common.{rules, ◌∙◌, ap, sym, map}
-use Rattle.cf_functions.specs.Plain.{statement_of, in_order}
-use Rattle.cf_functions.specs.Rules.{declared}
-use Rattle.cf_functions_names.specs.Lists.{behind}
 use Rattle.cf_functions_names.proofs.WalkLaws.{declared_next, declared_two}
 use Rattle.cf_functions_names.proofs.locals.+declared.Goals as goal
 

@@ -1,8 +1,7 @@
-use Rattle.std.proofs.Common.{◌∙◌, ap, sym, map, []}
+use Rattle.std.proofs.Common.{[]}
 use Rattle.cf_functions.specs.Rules.{locals_of}
 use Rattle.cf_functions_names.specs.Lists.{behind}
 use Rattle.cf_functions_names.specs.Walk.{plain}
-use Rattle.cf_functions_names.proofs.ListLaws.{behind-reverse}
 use Rattle.cf_functions_names.proofs.WalkLaws.{locals_next}
 use Rattle.cf_functions_names.proofs.locals.all_locals.Goals as goal
 

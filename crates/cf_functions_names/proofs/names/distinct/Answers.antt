@@ -1,5 +1,4 @@
-use Rattle.std.proofs.Common.{rules, ◌∙◌, ap, sym, refl, arith}
-use Rattle.cf_functions.specs.Rules.{is_in}
+use Rattle.std.proofs.Common.{rules, refl, arith}
 use Rattle.cf_functions_names.proofs.DifferLaws.{twice}
 use Rattle.cf_functions_names.proofs.names.distinct.Goals as goal
 

@@ -1,4 +1,4 @@
-use Rattle.std.proofs.Common.{◌∙◌, ap, map}
+use Rattle.std.proofs.Common.{◌∙◌, ap}
 use Rattle.std.specs.List.{list_all}
 use Rattle.cf_functions.specs.Plain.{function_of}
 use Rattle.cf_functions.specs.Rules.{is_plain_main}

@@ -1,4 +1,4 @@
-use Rattle.std.proofs.Common.{◌∙◌, ap, not, reverse, sym}
+use Rattle.std.proofs.Common.{◌∙◌, ap, not, reverse}
 use Rattle.cf_functions.specs.Rules.{is_function, locals_of}
 use Rattle.cf_functions_names.specs.Walk.{plain, file_at}
 use Rattle.cf_functions_names.proofs.ListLaws.{all-last_first}
@@ -9,4 +9,4 @@ returns c =
     let names = locals_of (plain c.args.self.now) in
     c.all_differ.ensures
     ∙ all-last_first (λ x. not (is_function (file_at c.args.self.now) x)) c.as_slice.result.now names
-    (c.as_slice.ensures ∙ c.self.invariant.1 ∙ ap (λ fs. reverse (locals_of (plain fs))) c.self.view_is)
+    (c.as_slice.ensures ∙ c.self.invariant.locals ∙ ap (λ fs. reverse (locals_of (plain fs))) c.self.view_is)

@@ -1,10 +1,12 @@
-use Rattle.std.proofs.Common.{◌≤◌, ◌-◌, ◌∙◌, ap, sym, subst, length, drop, List, ℕ}
-use Rattle.cf_functions_names.specs.Lists.{last_first}
-use Rattle.cf_functions_names.proofs.ListLaws.{last_first-take}
+use Rattle.std.proofs.Common.{arith}
+use Rattle.cf_functions_names.proofs.ListLaws.{cut_next}
 use Rattle.cf_functions_names.proofs.names.Names.cut.Goals as goal
 
-pub returns : goal.returns
-returns c =
-    ap last_first c.truncate.ensures.items
-    ∙ last_first-take c.self.inside.list.items c.args.len (subst (λ (l : List (List ℕ)). c.args.len ≤ length l) (sym c.self.view_is) c.requires)
-    ∙ ap (λ l. drop (length l - c.args.len) l) c.self.view_is
+pub loop-self-preserved : goal.loop-self-preserved
+loop-self-preserved c =
+    let last = cut_next c.args.self.now c.loop-self.self c.remove_last.new.self c.loop-self.invariant.longer (omega arith) c.loop-self.invariant.left c.remove_last.ensures in
+    record {
+      enough = omega (arith, last.0, c.len.ensures, c.loop-self-test.true);
+      longer = omega (arith, last.0, c.loop-self.invariant.longer);
+      left = last.1;
+    }
