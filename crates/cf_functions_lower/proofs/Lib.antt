@@ -1,4 +1,7 @@
 pub mod Lists
 pub mod Pieces
 pub mod Sources
+pub mod StatementLaws
+pub mod UnitLaws
+pub mod ValueLaws
 pub mod ScopeLaws

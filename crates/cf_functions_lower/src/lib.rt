@@ -6,9 +6,15 @@
 //! the functions and the unit.
 #![tactic(auto)]
 
+mod body;
 mod callee;
+mod count;
 mod file;
 mod names;
 mod parts;
 mod scope;
+mod statements;
+mod unit;
 mod values;
+
+pub use unit::translate;

@@ -83,7 +83,7 @@ pub fn plain_call(alloc: Global, code: &mut Items<CStatement>, callee: Callee<'_
 
 /// Adds the statements that put the value of an expression into a variable. They write no variable below it.
 #[cycle(values)]
-pub fn value(file: &File<'_>, scope: &Scope<'_>, code: &mut Items<CStatement>, e: &Expression, into: usize) -> Result<(), Memory>
+pub fn value(file: &File<'_>, scope: &Scope<'_>, e: &Expression, into: usize, code: &mut Items<CStatement>) -> Result<(), Memory>
     ensures { OnOk result (plain code.new ≡ plain code.old ++ flat (functions_in file.now) scope.now (expression_of e.now) into) }
 {
     match e {
@@ -91,13 +91,13 @@ pub fn value(file: &File<'_>, scope: &Scope<'_>, code: &mut Items<CStatement>, e
         Expression::Local(_, name) => set_local(file.alloc(), code, into, scope.slot(name.as_slice())),
         Expression::Call(_, name, arguments) => {
             let count = arguments.len();
-            values(file, scope, code, arguments, into)?;
+            values(file, scope, arguments, into, code)?;
             value_call(file.alloc(), code, file.reached(name.as_slice(), count), into, count)
         }
         Expression::Binary(op, a, b) => {
             let right = next(into)?;
-            value(file, scope, code, a.get(), into)?;
-            value(file, scope, code, b.get(), right)?;
+            value(file, scope, a.get(), into, code)?;
+            value(file, scope, b.get(), right, code)?;
             set_operation(file.alloc(), code, *op, into, right)
         }
     }
@@ -105,12 +105,12 @@ pub fn value(file: &File<'_>, scope: &Scope<'_>, code: &mut Items<CStatement>, e
 
 /// Adds the statements that put the values of arguments into a variable and those after it.
 #[cycle(values)]
-pub fn values(file: &File<'_>, scope: &Scope<'_>, code: &mut Items<CStatement>, all: &Items<Expression>, first: usize) -> Result<(), Memory>
+pub fn values(file: &File<'_>, scope: &Scope<'_>, all: &Items<Expression>, first: usize, code: &mut Items<CStatement>) -> Result<(), Memory>
     ensures { OnOk result (plain code.new ≡ plain code.old ++ flats (functions_in file.now) scope.now (expressions_of all.now) first) }
 {
     let mut into = first;
     for e in all.as_slice() {
-        value(file, scope, code, e, into)?;
+        value(file, scope, e, into, code)?;
         into = next(into)?;
     }
     Ok(())
