@@ -1,4 +1,4 @@
-use Rattle.std.proofs.Common.{◌≡◌, ◌++◌, ◌^◌, nat_lt, true, map, drop, take}
+use Rattle.std.proofs.Common.{◌≡◌, ◌++◌, ◌^◌, nat_lt, map, drop}
 use Rattle.std.specs.List.{list_all}
 use Rattle.cc_tree.specs.Plain.{items_of, defines}
 use Rattle.cf_functions.specs.Plain.{Function}
@@ -8,7 +8,8 @@ use Rattle.cf_functions_lower.proofs.unit.translate.Given as goal
 
 abbrev pub invariant-loop-one : goal.invariant-loop-one
 invariant-loop-one l = record {
-  items : items_of l.items ++ map (λ f. defines (lowered (functions_known l.one-items) f)) (functions_known (drop l.one-index l.one-items))
-      ≡ items (functions_known l.one-items);
-  counted : list_all (λ (f : Function). nat_lt (variables f) (2 ^ 64)) (functions_known (take l.one-index l.one-items)) ≡ true;
+  items : items_of l.items ++ map (λ f. defines (lowered (functions_known l.functions) f)) (functions_known (drop l.one-index l.functions))
+      ≡ items (functions_known l.functions);
+  counted : list_all (λ (f : Function). nat_lt (variables f) (2 ^ 64)) (functions_known (drop l.one-index l.functions))
+      ≡ list_all (λ (f : Function). nat_lt (variables f) (2 ^ 64)) (functions_known l.functions);
 }
