@@ -1,5 +1,5 @@
 -- Laws of lists that the loops need.
-use Rattle.std.proofs.Common.{◌≡◌, ℕ, suc, ◌+◌, ◌-◌, ◌<◌, ◌≤◌, Bool, true, false, cond, List, [], ◌∷◌, ◌++◌, length, map, drop, take, get_or, Option, Some, None, refl, ap, sym, ◌∙◌, append_assoc, arith}
+use Rattle.std.proofs.Common.{◌≡◌, ℕ, suc, ◌+◌, ◌-◌, ◌<◌, ◌≤◌, Bool, true, false, cond, List, ◌++◌, length, map, drop, take, get_or, Some, None, ap, sym, ◌∙◌, append_assoc, arith}
 use Rattle.std.specs.Prelude.{find, reverse}
 use Rattle.std.proofs.lemmas.List.{at_drop_more, at_drop_all, take-append-drop, reverse-append, drop_at, length-reverse, length-drop}
 

@@ -1,5 +1,5 @@
 -- The locals in scope, held the oldest first.
-use Rattle.std.proofs.Common.{◌≡◌, ℕ, suc, ◌+◌, ◌-◌, ◌<◌, ◌≤◌, Bool, true, false, cond, List, [], ◌∷◌, ◌++◌, length, map, drop, take, get_or, Option, Some, None, refl, ap, sym, ◌∙◌, bytes_eq, arith}
+use Rattle.std.proofs.Common.{◌≡◌, ℕ, ◌+◌, ◌-◌, ◌<◌, ◌≤◌, cond, List, [], ◌∷◌, ◌++◌, length, map, drop, take, get_or, Some, ap, sym, ◌∙◌, bytes_eq, arith}
 use Rattle.std.specs.Prelude.{reverse}
 use Rattle.std.proofs.lemmas.List.{take_more, map-append, reverse-append, length-reverse, length-map, length-take, take-map}
 use Rattle.cf_functions.specs.Translate.{slot_of}

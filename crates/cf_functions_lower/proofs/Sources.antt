@@ -12,7 +12,7 @@ use Rattle.cf_functions.specs.declared.tree.Statement.{fold-roll-Statement}
 use Rattle.cf_functions.specs.declared.tree.Statement.TheOpen.{Statement-F}
 use Rattle.cf_functions.specs.declared.tree.Statement.TheVariants as statement
 use Rattle.cf_functions.specs.declared.tree.Statement.TheVariants.{rolls-Declare, rolls-Assign, rolls-Call, rolls-Return, rolls-If, rolls-While, rolls-Block}
-use Rattle.cf_functions.specs.Plain.{Expression, number, local, call, binary, arguments, expression_of, expression_step, expressions_of, Statement, declare, assign, perform, give, choose, loop, block, in_order, statement_of, statement_step}
+use Rattle.cf_functions.specs.Plain.{Expression, number, local, call, binary, expression_of, expression_step, expressions_of, Statement, declare, assign, perform, give, choose, loop, block, in_order, statement_of, statement_step}
 use Rattle.cf_functions.specs.Mean.{count}
 
 pub expression_of-Number : (n : ℕ) → expression_of (tree.Number n) ≡ number n

@@ -1,9 +1,9 @@
 -- What the code of the translation handles, as the definitions have it.
-use Rattle.std.specs.Prelude.{ℕ, List, [], ◌∷◌, ◌++◌, map, Option, Some, None}
+use Rattle.std.specs.Prelude.{ℕ, List, map, Option, Some, None}
 use Rattle.cc_tree.specs.declared.statement.CStatement.{CStatement}
 use Rattle.cc_tree.specs.Plain as c
 use Rattle.cf_functions.specs.declared.tree.Function as tree
-use Rattle.cf_functions.specs.Plain.{Function, function_of, Statement, Statements, done, followed, in_order, statement_of}
+use Rattle.cf_functions.specs.Plain.{Function, function_of, Statements, in_order, statement_of}
 use Rattle.cf_functions.specs.declared.tree.Statement as tree_s
 use Rattle.cf_functions.specs.Mean.{Callee, Puts, Defined, Missing, link_name_of, putchar_name}
 use Rattle.cf_functions_lower.specs.declared.file.File as code_f

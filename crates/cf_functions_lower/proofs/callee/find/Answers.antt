@@ -1,4 +1,4 @@
-use Rattle.std.proofs.Common.{◌≡◌, ap, sym, ◌∙◌}
+use Rattle.std.proofs.Common.{ap, sym}
 use Rattle.cf_functions.specs.Mean.{is_called, defined}
 use Rattle.cf_functions.specs.Plain.{function_of}
 use Rattle.cf_functions_lower.proofs.Lists.{found_at, not_found_at, found_nowhere}

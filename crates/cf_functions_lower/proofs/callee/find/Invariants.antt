@@ -1,4 +1,4 @@
-use Rattle.std.proofs.Common.{◌≡◌, drop, map}
+use Rattle.std.proofs.Common.{◌≡◌, drop}
 use Rattle.std.specs.Prelude.{find}
 use Rattle.cf_functions.specs.Mean.{is_called}
 use Rattle.cf_functions_lower.specs.Code.{functions_known}
