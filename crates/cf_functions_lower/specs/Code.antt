@@ -6,7 +6,6 @@ use Rattle.cf_functions.specs.declared.tree.Function as tree
 use Rattle.cf_functions.specs.Plain.{Function, function_of, Statements, in_order, statement_of}
 use Rattle.cf_functions.specs.declared.tree.Statement as tree_s
 use Rattle.cf_functions.specs.Mean.{Callee, Puts, Defined, Missing, link_name_of, putchar_name}
-use Rattle.cf_functions_lower.specs.declared.file.File as code_f
 use Rattle.cf_functions_lower.specs.declared.callee.Callee as code
 use Rattle.cf_functions_lower.specs.declared.callee.Callee.TheVariants as callee
 
@@ -27,9 +26,6 @@ name_called Missing = None
 
 abbrev pub functions_known : List tree.Function → List Function
 functions_known fs = map function_of fs
-
-abbrev pub functions_in : code_f.File → List Function
-functions_in file = functions_known file.functions.now
 
 abbrev pub statements_of : List tree_s.Statement → Statements
 statements_of all = in_order (map statement_of all)

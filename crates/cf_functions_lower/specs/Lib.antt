@@ -1,2 +1,4 @@
 pub mod Code
+pub mod Files
+pub mod Table
 pub mod Translated

@@ -1,7 +1,7 @@
 //! What a call reaches.
 
 ghost use Rattle.std.specs.Prelude.{◌≡◌, bytes_eq, find, IfOk};
-ghost use Rattle.cf_functions.specs.Mean.{callee as its_callee, defined, putchar_name, is_called as its_call};
+ghost use Rattle.cf_functions.specs.Mean.{defined, putchar_name, is_called as its_call};
 ghost use Rattle.cf_functions.specs.Plain.{function_of};
 ghost use Rattle.cf_functions_lower.specs.Code.{callee_of, functions_known, name_called};
 
@@ -26,13 +26,14 @@ fn is_called(name: &[u8], count: usize, function: &Function) -> bool
     function.name.as_slice() == name && function.parameters.len() == count
 }
 
-fn is_putchar(name: &[u8]) -> bool
+pub fn is_putchar(name: &[u8]) -> bool
     ensures { result ≡ bytes_eq name.now putchar_name }
 {
     name == b"putchar".as_slice()
 }
 
-fn find<'a>(functions: &'a [Function], name: &[u8], count: usize) -> Callee<'a>
+/// The first of the functions that has this name and so many parameters.
+pub fn find<'a>(functions: &'a [Function], name: &[u8], count: usize) -> Callee<'a>
     ensures { callee_of result ≡ defined (find (its_call name.now count) (functions_known functions.now)) }
 {
     for function in functions {
@@ -41,17 +42,6 @@ fn find<'a>(functions: &'a [Function], name: &[u8], count: usize) -> Callee<'a>
         }
     }
     Callee::Missing
-}
-
-/// What a call of this name with so many arguments reaches.
-pub fn reached<'a>(functions: &'a [Function], name: &[u8], count: usize) -> Callee<'a>
-    ensures { callee_of result ≡ its_callee (functions_known functions.now) name.now count }
-{
-    if is_putchar(name) && count == 1 {
-        Callee::Puts
-    } else {
-        find(functions, name, count)
-    }
 }
 
 /// The name by which the small C calls it, unless nothing is reached.

@@ -1,25 +1,42 @@
 //! The file that is translated.
 
-ghost use Rattle.std.specs.Prelude.{◌≡◌};
-ghost use Rattle.cf_functions.specs.Mean.{callee as its_callee};
-ghost use Rattle.cf_functions_lower.specs.Code.{callee_of, functions_in, functions_known};
+ghost use Rattle.std.specs.Prelude.{◌≡◌, ◌<◌, length, drop, find, IfOk};
+ghost use Rattle.cf_functions.specs.Mean.{callee as its_callee, defined, is_called};
+ghost use Rattle.cf_functions_lower.specs.Code.{callee_of, functions_known};
+ghost use Rattle.cf_functions_lower.specs.Table.{IsTableOf};
 
-use crate::callee::{Callee, reached};
+use crate::callee::{Callee, find, is_putchar};
+use crate::places::{Places, places_of};
+use cf_base::Memory;
 use cf_functions::Function;
 use std::alloc::Global;
+
+fn from_place<'a>(functions: &'a [Function], place: usize) -> &'a [Function]
+    requires { place < length functions.now }
+    ensures { result.now ≡ drop place functions.now }
+{
+    &functions[place..]
+}
 
 /// The functions of a file, in order.
 #[derive(Drop)]
 pub struct File<'a> {
     alloc: Global,
     functions: &'a [Function],
+    places: Places<'a>,
+    ghost is_table: { IsTableOf functions.now places },
 }
 
 impl<'a> File<'a> {
-    pub fn new(alloc: Global, functions: &'a [Function]) -> File<'a>
-        ensures { functions_in result ≡ functions_known functions.now }
+    pub fn new(alloc: Global, functions: &'a [Function]) -> Result<File<'a>, Memory>
+        ensures { IfOk result (λ file. functions_known file.functions.now ≡ functions_known functions.now) }
     {
-        File { alloc, functions }
+        let places = places_of(alloc, functions)?;
+        Ok(File {
+            alloc,
+            functions,
+            places,
+        })
     }
 
     /// Where trees are put.
@@ -27,10 +44,24 @@ impl<'a> File<'a> {
         self.alloc
     }
 
+    /// The function of this name with so many parameters.
+    fn function(&self, name: &[u8], count: usize) -> Callee<'a>
+        ensures { callee_of result ≡ defined (find (is_called name.now count) (functions_known self.now.functions.now)) }
+    {
+        match self.places.get(name) {
+            None => Callee::Missing,
+            Some(place) => find(from_place(self.functions, place), name, count),
+        }
+    }
+
     /// What a call of this name with so many arguments reaches.
     pub fn reached(&self, name: &[u8], count: usize) -> Callee<'a>
-        ensures { callee_of result ≡ its_callee (functions_in self.now) name.now count }
+        ensures { callee_of result ≡ its_callee (functions_known self.now.functions.now) name.now count }
     {
-        reached(self.functions, name, count)
+        if is_putchar(name) && count == 1 {
+            Callee::Puts
+        } else {
+            self.function(name, count)
+        }
     }
 }

@@ -12,6 +12,7 @@ mod count;
 mod file;
 mod names;
 mod parts;
+mod places;
 mod scope;
 mod statements;
 mod unit;

@@ -5,7 +5,8 @@ ghost use Rattle.cc_tree.specs.Plain.{body_of};
 ghost use Rattle.cf_functions.specs.Plain.{expression_of, expressions_of, statement_of, names_after};
 ghost use Rattle.cf_functions.specs.Plain as source;
 ghost use Rattle.cf_functions.specs.Translate.{flat, turn as its_turn, slot_of, store_local as its_store, plain_body as its_body, code as code_of, codes_of};
-ghost use Rattle.cf_functions_lower.specs.Code.{plain, functions_in, statements_of};
+ghost use Rattle.cf_functions_lower.specs.Code.{plain, statements_of};
+ghost use Rattle.cf_functions_lower.specs.Files.{functions_in};
 
 use crate::body::{plain_body, put_choice, put_loop, put_return, put_test};
 use crate::file::File;

@@ -6,7 +6,8 @@ ghost use Rattle.cc_tree.specs.declared.types.CType.TheVariants.{Int};
 ghost use Rattle.cf_functions.specs.Plain.{function_of, functions_of};
 ghost use Rattle.cf_functions.specs.Mean.{link_name_of};
 ghost use Rattle.cf_functions.specs.Translate.{codes_of, finish as its_end, in_scope, lowered, locals_of, parameters_of, putchar as its_putchar, top_of_all, variables};
-ghost use Rattle.cf_functions_lower.specs.Code.{functions_in, functions_known, plain, statements_of};
+ghost use Rattle.cf_functions_lower.specs.Code.{functions_known, plain, statements_of};
+ghost use Rattle.cf_functions_lower.specs.Files.{functions_in};
 ghost use Rattle.cf_functions_lower.specs.Translated.{IsTranslated};
 
 use crate::count::top_of_statements;
@@ -129,7 +130,7 @@ pub fn translate(alloc: Global, program: &Program) -> Result<CUnit, Memory>
     ensures { IfOk result (λ unit. IsTranslated (functions_of program.now) unit) }
 {
     let functions = program.functions.as_slice();
-    let file = File::new(alloc, functions);
+    let file = File::new(alloc, functions)?;
     let mut items = Items::new(alloc);
     items.push(CItem::Prototype(putchar(alloc)?))?;
     for one in functions {

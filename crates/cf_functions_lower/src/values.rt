@@ -5,7 +5,8 @@ ghost use Rattle.cc_tree.specs.Plain.{number as constant, binary as operation};
 ghost use Rattle.cf_functions.specs.Plain.{expression_of, expressions_of};
 ghost use Rattle.cf_functions.specs.Mean.{arith_of as its_arith};
 ghost use Rattle.cf_functions.specs.Translate.{flat, flats, held as its_load, set as its_assignment, read_local, value_call as its_value_call, plain_call as its_plain_call};
-ghost use Rattle.cf_functions_lower.specs.Code.{plain, callee_of, functions_in};
+ghost use Rattle.cf_functions_lower.specs.Code.{plain, callee_of};
+ghost use Rattle.cf_functions_lower.specs.Files.{functions_in};
 
 use crate::callee::{Callee, called_name};
 use crate::file::File;

@@ -1,6 +1,7 @@
 use Rattle.std.proofs.lemmas.Result.{on_ok_weaker}
 use Rattle.cf_functions.specs.Plain.{assign, perform, expression_of, expressions_of, statement_of}
-use Rattle.cf_functions_lower.specs.Code.{plain, functions_in}
+use Rattle.cf_functions_lower.specs.Code.{plain}
+use Rattle.cf_functions_lower.specs.Files.{functions_in}
 use Rattle.cf_functions_lower.proofs.StatementLaws.{is_assignment, is_call, same_code, chosen, one_statement, inside_after}
 use Rattle.cf_functions_lower.proofs.statements.+statements.Goals as goal
 

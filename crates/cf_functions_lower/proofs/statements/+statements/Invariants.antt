@@ -1,6 +1,7 @@
 use Rattle.std.proofs.Common.{◌≡◌, ◌++◌, drop}
 use Rattle.cf_functions.specs.Translate.{codes_of}
-use Rattle.cf_functions_lower.specs.Code.{plain, functions_in, statements_of}
+use Rattle.cf_functions_lower.specs.Code.{plain, statements_of}
+use Rattle.cf_functions_lower.specs.Files.{functions_in}
 use Rattle.cf_functions_lower.proofs.StatementLaws.{Inside}
 use Rattle.cf_functions_lower.proofs.statements.+statements.Given as goal
 

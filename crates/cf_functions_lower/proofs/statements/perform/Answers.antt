@@ -1,5 +1,6 @@
 use Rattle.std.proofs.lemmas.Result.{on_ok_weaker}
-use Rattle.cf_functions_lower.specs.Code.{plain, callee_of, functions_in}
+use Rattle.cf_functions_lower.specs.Code.{plain, callee_of}
+use Rattle.cf_functions_lower.specs.Files.{functions_in}
 use Rattle.cf_functions_lower.proofs.StatementLaws.{performed}
 use Rattle.cf_functions_lower.proofs.statements.perform.Goals as goal
 

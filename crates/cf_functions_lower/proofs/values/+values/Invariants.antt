@@ -1,7 +1,8 @@
 use Rattle.std.proofs.Common.{◌≡◌, ◌++◌, drop}
 use Rattle.cf_functions.specs.Plain.{expressions_of}
 use Rattle.cf_functions.specs.Translate.{flats}
-use Rattle.cf_functions_lower.specs.Code.{plain, functions_in}
+use Rattle.cf_functions_lower.specs.Code.{plain}
+use Rattle.cf_functions_lower.specs.Files.{functions_in}
 use Rattle.cf_functions_lower.proofs.values.+values.Given as goal
 
 abbrev pub invariant-values-loop-e : goal.invariant-values-loop-e
