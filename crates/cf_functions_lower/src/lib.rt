@@ -19,3 +19,6 @@ mod unit;
 mod values;
 
 pub use unit::translate;
+
+#[cfg(test)]
+mod tests;
