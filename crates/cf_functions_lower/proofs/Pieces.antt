@@ -15,7 +15,7 @@ pub one_load : (xs ys : List CExpression) (e : CExpression) (whole : _) (at afte
     → after ≡ suc at → map expression_of xs ++ held_from at (n - k) ≡ whole → map expression_of ys ++ held_from after (n - (k + 1)) ≡ whole
 one_load xs ys e whole at after n k within p is step q =
     let new : map expression_of ys ≡ map expression_of xs ++ (held at ∷ []) =
-        ap (map expression_of) p ∙ map-append expression_of xs (e ∷ []) ∙ ap (λ x. map expression_of xs ++ x ∷ []) is in
+    ap (map expression_of) p ∙ map-append expression_of xs (e ∷ []) ∙ ap (λ x. map expression_of xs ++ x ∷ []) is in
     ap (λ a. map expression_of ys ++ held_from a (n - (k + 1))) step
     ∙ moved (map expression_of xs) (map expression_of ys) (held at ∷ []) (held_from (suc at) (n - (k + 1))) whole new
     (ap (λ m. map expression_of xs ++ held_from at m) (sym (left_suc n k within)) ∙ q)

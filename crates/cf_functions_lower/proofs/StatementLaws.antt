@@ -46,8 +46,8 @@ pub one_statement : (fs : List Function) (all : List raw_s.Statement) (i : ℕ) 
     → x ++ codes_of fs names (statements_of (drop i all)) ≡ whole → y ++ codes_of fs now (statements_of (drop (i + 1) all)) ≡ whole
 one_statement fs all i s names now x y whole within at p after q =
     let rest : codes_of fs names (statements_of (drop i all)) ≡ code fs names (statement_of s) ++ codes_of fs (names_after (statement_of s) names) (statements_of (drop (i + 1) all)) =
-        at_drop_more (λ ss. codes_of fs names (statements_of ss)) all i s within
-        ∙ ap (λ (t : raw_s.Statement). code fs names (statement_of t) ++ codes_of fs (names_after (statement_of t) names) (statements_of (drop (i + 1) all))) (sym at) in
+    at_drop_more (λ ss. codes_of fs names (statements_of ss)) all i s within
+    ∙ ap (λ (t : raw_s.Statement). code fs names (statement_of t) ++ codes_of fs (names_after (statement_of t) names) (statements_of (drop (i + 1) all))) (sym at) in
     ap (λ ns. y ++ codes_of fs ns (statements_of (drop (i + 1) all))) after
     ∙ moved x y (code fs names (statement_of s)) (codes_of fs (names_after (statement_of s) names) (statements_of (drop (i + 1) all))) whole p
     (ap (λ r. x ++ r) (sym rest) ∙ q)
@@ -99,6 +99,6 @@ chosen fs names inner s e held_e all rest k b other w x y is inside first p firs
     ∙ ap (λ d. w ++ (flat fs names (expression_of d) (length names) ++ (c.choose (held (length names)) (c.body_of b) (c.body_of other) ∷ []))) inside
     ∙ ap (λ d. w ++ (flat fs names (expression_of e) (length names) ++ (c.choose (held (length names)) d (c.body_of other) ∷ []))) first_body
     ∙ ap (λ d. w ++ (flat fs names (expression_of e) (length names)
-        ++ (c.choose (held (length names)) (plain_body (codes_of fs names (statements_of all))) d ∷ [])))
-        (second_body ∙ ap (λ ns. plain_body (codes_of fs ns (statements_of rest))) restored)
+    ++ (c.choose (held (length names)) (plain_body (codes_of fs names (statements_of all))) d ∷ [])))
+    (second_body ∙ ap (λ ns. plain_body (codes_of fs ns (statements_of rest))) restored)
     ∙ ap (λ d. w ++ code fs names d) (sym (ap statement_of is ∙ statement_of-If e all rest))

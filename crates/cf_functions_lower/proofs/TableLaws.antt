@@ -3,16 +3,20 @@ use Rattle.std.proofs.Common.{◌≡◌, ℕ, suc, ◌+◌, ◌<◌, Bool, true,
 use Rattle.std.specs.Prelude.{find, if◌then◌else◌}
 use Rattle.std.specs.Str.{bytes_eq}
 use Rattle.std.specs.Map.{lookup}
+use Rattle.std.specs.Cmp.Lexicographic.{same_text}
 use Rattle.std.proofs.lemmas.Cmp.{nat_list_eq_equiv}
 use Rattle.indexmap.specs.IndexMap.{insert_entry}
 use Rattle.cf_functions.specs.declared.tree.Function as tree
 use Rattle.cf_functions.specs.Plain.{Function, function_of}
 use Rattle.cf_functions.specs.Mean.{is_called}
 use Rattle.cf_functions_lower.specs.Code.{functions_known}
-use Rattle.cf_functions_lower.specs.Table.{first_from}
+use Rattle.cf_functions_lower.specs.Table.{first_from, joined}
 
 pub same_either_way : (x y : List ℕ) → bytes_eq x y ≡ bytes_eq y x
 same_either_way x y = nat_list_eq_equiv.symm x y
+
+pub same_bytes : (x y : List ℕ) → bytes_eq x y ≡ true → x ≡ y
+same_bytes x y e = same_text x y (sym e)
 
 of_equal : (x k e : List ℕ) → bytes_eq k e ≡ true → bytes_eq x e ≡ bytes_eq x k
 of_equal x k e same = same_either_way x e ∙ sym (nat_list_eq_equiv.congr k e x same) ∙ same_either_way k x
@@ -34,23 +38,32 @@ module _ {K V : Type 0} (view : K → List ℕ) (x : List ℕ) (k : K) (v : V) w
   lookup_inserted (e ∷ es) =
       by (bytes_eq (view k) (view e.0))
       ∙ ap (λ r. cond (bytes_eq (view k) (view e.0)) (cond (bytes_eq x (view e.0)) (Some v) (lookup (λ e. bytes_eq x (view e)) es)) (cond (bytes_eq x (view e.0)) (Some e.1) r))
-          (lookup_inserted es)
+      (lookup_inserted es)
       ∙ one_of_two (bytes_eq (view k) (view e.0)) (bytes_eq x (view k)) (bytes_eq x (view e.0)) (Some v) (Some e.1) (lookup (λ e. bytes_eq x (view e)) es)
-          (of_equal x (view k) (view e.0)) (of_other x (view k) (view e.0))
+      (of_equal x (view k) (view e.0)) (of_other x (view k) (view e.0))
     where
       by : (b : Bool) → lookup (λ e. bytes_eq x (view e)) (if b then (e.0, v) ∷ es else e ∷ insert_entry (λ a b. bytes_eq (view a) (view b)) es k v)
           ≡ cond b (cond (bytes_eq x (view e.0)) (Some v) (lookup (λ e. bytes_eq x (view e)) es))
-              (cond (bytes_eq x (view e.0)) (Some e.1) (lookup (λ e. bytes_eq x (view e)) (insert_entry (λ a b. bytes_eq (view a) (view b)) es k v)))
+          (cond (bytes_eq x (view e.0)) (Some e.1) (lookup (λ e. bytes_eq x (view e)) (insert_entry (λ a b. bytes_eq (view a) (view b)) es k v)))
       by true = refl
       by false = refl
 
 -- what the table has after an insertion
-pub put_in : (name : List ℕ) (key : Bor (List ℕ)) (place : ℕ) (es after : List (Bor (List ℕ) × ℕ))
-    → after ≡ insert_entry (λ a b. bytes_eq a.now b.now) es key place
-    → lookup (λ k. bytes_eq name k.now) after ≡ (if bytes_eq name key.now then Some place else lookup (λ k. bytes_eq name k.now) es)
-put_in name key place es after is =
-    ap (λ es. lookup (λ (k : Bor (List ℕ)). bytes_eq name k.now) es) is
-    ∙ lookup_inserted (λ (k : Bor (List ℕ)). k.now) name key place es
+pub put_in : (name : List ℕ) (key : Bor (List ℕ)) (number : Option ℕ) (es after : List (Bor (List ℕ) × Option ℕ))
+    → after ≡ insert_entry (λ a b. bytes_eq a.now b.now) es key number
+    → joined (lookup (λ k. bytes_eq name k.now) after) ≡ (if bytes_eq name key.now then number else joined (lookup (λ k. bytes_eq name k.now) es))
+put_in name key number es after is =
+    ap (λ es. joined (lookup (λ (k : Bor (List ℕ)). bytes_eq name k.now) es)) is
+    ∙ ap joined (lookup_inserted (λ (k : Bor (List ℕ)). k.now) name key number es)
+    ∙ by (bytes_eq name key.now) (lookup (λ (k : Bor (List ℕ)). bytes_eq name k.now) es)
+  where
+    by : (b : Bool) (o : Option (Option ℕ)) → joined (cond b (Some number) o) ≡ (if b then number else joined o)
+    by true o = refl
+    by false o = refl
+
+pub kept_in : (name : List ℕ) (es after : List (Bor (List ℕ) × Option ℕ)) → after ≡ es
+    → joined (lookup (λ k. bytes_eq name k.now) after) ≡ joined (lookup (λ k. bytes_eq name k.now) es)
+kept_in name es after same = ap (λ es. joined (lookup (λ (k : Bor (List ℕ)). bytes_eq name k.now) es)) same
 
 -- ---- the first function of a name
 

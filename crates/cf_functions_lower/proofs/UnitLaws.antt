@@ -35,11 +35,11 @@ pub one_function : (fs : List Function) (all : List tree.Function) (i : ℕ) (f 
     → c.items_of ys ++ map (λ g. c.defines (lowered fs g)) (functions_known (drop (i + 1) all)) ≡ whole
 one_function fs all i f made xs ys whole within at is p q =
     let new : c.items_of ys ≡ c.items_of xs ++ (c.defines (lowered fs (function_of f)) ∷ []) =
-        ap c.items_of p ∙ map-append c.item_of xs (item.Function made ∷ []) ∙ ap (λ d. c.items_of xs ++ (c.defines d ∷ [])) is in
+    ap c.items_of p ∙ map-append c.item_of xs (item.Function made ∷ []) ∙ ap (λ d. c.items_of xs ++ (c.defines d ∷ [])) is in
     let rest : map (λ g. c.defines (lowered fs g)) (functions_known (drop i all))
-        ≡ c.defines (lowered fs (function_of f)) ∷ map (λ g. c.defines (lowered fs g)) (functions_known (drop (i + 1) all)) =
-        at_drop_more (λ gs. map (λ g. c.defines (lowered fs g)) (functions_known gs)) all i f within
-        ∙ ap (λ (g : tree.Function). c.defines (lowered fs (function_of g)) ∷ map (λ g. c.defines (lowered fs g)) (functions_known (drop (i + 1) all))) (sym at) in
+    ≡ c.defines (lowered fs (function_of f)) ∷ map (λ g. c.defines (lowered fs g)) (functions_known (drop (i + 1) all)) =
+    at_drop_more (λ gs. map (λ g. c.defines (lowered fs g)) (functions_known gs)) all i f within
+    ∙ ap (λ (g : tree.Function). c.defines (lowered fs (function_of g)) ∷ map (λ g. c.defines (lowered fs g)) (functions_known (drop (i + 1) all))) (sym at) in
     moved (c.items_of xs) (c.items_of ys) (c.defines (lowered fs (function_of f)) ∷ []) (map (λ g. c.defines (lowered fs g)) (functions_known (drop (i + 1) all)))
     whole new (ap (λ r. c.items_of xs ++ r) (sym rest) ∙ q)
 

@@ -1,4 +1,5 @@
 pub mod Code
 pub mod Files
+pub mod Newest
 pub mod Table
 pub mod Translated

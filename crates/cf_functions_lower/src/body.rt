@@ -33,7 +33,13 @@ fn break_body(alloc: Global) -> Result<Boxed<CBody>, Memory>
 }
 
 /// `if (x) chosen else other`, with the variable of this number.
-pub fn put_choice(alloc: Global, code: &mut Items<CStatement>, number: usize, chosen: Boxed<CBody>, other: Boxed<CBody>) -> Result<(), Memory>
+pub fn put_choice(
+    alloc: Global,
+    code: &mut Items<CStatement>,
+    number: usize,
+    chosen: Boxed<CBody>,
+    other: Boxed<CBody>,
+) -> Result<(), Memory>
     ensures { OnOk result (plain code.new ≡ plain code.old ++ its_choice (its_load number) (body_of chosen) (body_of other) ∷ []) }
 {
     let tested = Boxed::new(alloc, held(alloc, number)?)?;

@@ -50,9 +50,11 @@ pub fn called_name(alloc: Global, callee: Callee<'_>) -> Result<Option<Name>, Me
 {
     match callee {
         Callee::Puts => Ok(Some(Name::from_slice(alloc, b"putchar")?)),
-        Callee::Defined(function) => Ok(
-            Some(link_name(alloc, function.name.as_slice(), function.parameters.len())?),
-        ),
+        Callee::Defined(function) => Ok(Some(link_name(
+            alloc,
+            function.name.as_slice(),
+            function.parameters.len(),
+        )?)),
         Callee::Missing => Ok(None),
     }
 }

@@ -61,12 +61,13 @@ fn top_of_statement(one: &Statement, count: usize) -> Result<usize, Memory>
         Statement::Assign(_, _, e) => top(e.get(), count),
         Statement::Call(_, _, arguments) => tops(arguments, count),
         Statement::Return(e) => top(e.get(), count),
-        Statement::If(e, chosen, other) => Ok(
+        Statement::If(e, chosen, other) => Ok(max(
+            top(e.get(), count)?,
             max(
-                top(e.get(), count)?,
-                max(top_of_statements(chosen, count)?, top_of_statements(other, count)?),
+                top_of_statements(chosen, count)?,
+                top_of_statements(other, count)?,
             ),
-        ),
+        )),
         Statement::While(e, body) => Ok(max(top(e.get(), count)?, top_of_statements(body, count)?)),
         Statement::Block(all) => top_of_statements(all, count),
     }

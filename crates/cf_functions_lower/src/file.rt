@@ -6,7 +6,8 @@ ghost use Rattle.cf_functions_lower.specs.Code.{callee_of, functions_known};
 ghost use Rattle.cf_functions_lower.specs.Table.{IsTableOf};
 
 use crate::callee::{Callee, find, is_putchar};
-use crate::places::{Places, places_of};
+use crate::numbers::Numbers;
+use crate::places::places_of;
 use cf_base::Memory;
 use cf_functions::Function;
 use std::alloc::Global;
@@ -23,7 +24,7 @@ fn from_place<'a>(functions: &'a [Function], place: usize) -> &'a [Function]
 pub struct File<'a> {
     alloc: Global,
     functions: &'a [Function],
-    places: Places<'a>,
+    places: Numbers<'a>,
     ghost is_table: { IsTableOf functions.now places },
 }
 

@@ -3,28 +3,28 @@
 ghost use Rattle.std.specs.Prelude.{◌≡◌, ◌-◌, [], ◌∷◌, length, drop, OnOk};
 ghost use Rattle.cf_functions.specs.Translate.{slot_of};
 
+use crate::local::Local;
+use crate::numbers::Numbers;
 use cf_base::Memory;
 use std::alloc::Global;
 use std::marker::Model;
-
-/// A local in scope.
-#[derive(Clone, Copy)]
-struct Local<'a> {
-    name: &'a [u8],
-}
 
 /// The names of the locals in scope. Contracts see them the newest first.
 #[derive(Drop)]
 pub struct Scope<'a> {
     locals: Vec<Local<'a>>,
+    newest: Numbers<'a>,
 }
 
 impl<'a> Model for Scope<'a> {
-    ghost use Rattle.std.specs.Prelude.{List, ℕ, map, reverse};
+    ghost use Rattle.std.specs.Prelude.{List, ℕ};
+    ghost use Rattle.cf_functions_lower.specs.Newest.{names_of, IsNewest};
 
     ghost Value = { List (List ℕ) };
 
-    ghost view = { λ s. reverse (map (λ l. l.name.now) s.locals.items) };
+    ghost view = { λ s. names_of s.locals.items };
+
+    ghost invariant = { λ s. IsNewest s.locals.items s.newest };
 }
 
 impl<'a> Scope<'a> {
@@ -34,6 +34,7 @@ impl<'a> Scope<'a> {
     {
         Scope {
             locals: Vec::new(alloc),
+            newest: Numbers::new(alloc),
         }
     }
 
@@ -48,28 +49,31 @@ impl<'a> Scope<'a> {
     pub fn declare(&mut self, name: &'a [u8]) -> Result<(), Memory>
         ensures { OnOk result (self.new ≡ name.now ∷ self.old) }
     {
-        self.locals.push(Local { name })?;
+        let hidden = self.newest.get(name);
+        let number = self.locals.len();
+        self.locals.reserve(1)?;
+        self.newest.put(name, Some(number))?;
+        self.locals.push(Local { name, hidden }).unwrap();
         Ok(())
     }
 
     /// Ends all locals but so many, the oldest.
-    pub fn leave(&mut self, count: usize)
-        ensures { self.new ≡ drop (length self.old - count) self.old }
+    pub fn leave(&mut self, count: usize) -> Result<(), Memory>
+        ensures { OnOk result (self.new ≡ drop (length self.old - count) self.old) }
     {
-        self.locals.truncate(count);
+        while self.locals.len() > count {
+            let last = self.locals.len() - 1;
+            let local = self.locals[last];
+            self.newest.put(local.name, local.hidden)?;
+            self.locals.truncate(last);
+        }
+        Ok(())
     }
 
     /// The number of the newest local of this name.
     pub fn slot(&self, name: &[u8]) -> Option<usize>
         ensures { result ≡ slot_of self.now name.now }
     {
-        let mut above = self.locals.len();
-        while above > 0 {
-            above -= 1;
-            if self.locals[above].name == name {
-                return Some(above);
-            }
-        }
-        None
+        self.newest.get(name)
     }
 }

@@ -19,7 +19,12 @@ use cf_functions::{Expression, Statement};
 use std::alloc::Global;
 
 /// The value of a variable into a local, if there is one.
-fn store_local(alloc: Global, code: &mut Items<CStatement>, slot: Option<usize>, from: usize) -> Result<(), Memory>
+fn store_local(
+    alloc: Global,
+    code: &mut Items<CStatement>,
+    slot: Option<usize>,
+    from: usize,
+) -> Result<(), Memory>
     ensures { OnOk result (plain code.new ≡ plain code.old ++ its_store slot from) }
 {
     match slot {
@@ -28,7 +33,13 @@ fn store_local(alloc: Global, code: &mut Items<CStatement>, slot: Option<usize>,
     }
 }
 
-fn assign(file: &File<'_>, scope: &Scope<'_>, name: &[u8], e: &Expression, code: &mut Items<CStatement>) -> Result<(), Memory>
+fn assign(
+    file: &File<'_>,
+    scope: &Scope<'_>,
+    name: &[u8],
+    e: &Expression,
+    code: &mut Items<CStatement>,
+) -> Result<(), Memory>
     ensures { (at : ℕ) → OnOk result (plain code.new ≡ plain code.old ++ code_of (functions_in file.now) scope.now (source.assign at name.now (expression_of e.now))) }
 {
     let into = scope.len();
@@ -36,7 +47,13 @@ fn assign(file: &File<'_>, scope: &Scope<'_>, name: &[u8], e: &Expression, code:
     store_local(file.alloc(), code, scope.slot(name), into)
 }
 
-fn perform(file: &File<'_>, scope: &Scope<'_>, name: &[u8], arguments: &Items<Expression>, code: &mut Items<CStatement>) -> Result<(), Memory>
+fn perform(
+    file: &File<'_>,
+    scope: &Scope<'_>,
+    name: &[u8],
+    arguments: &Items<Expression>,
+    code: &mut Items<CStatement>,
+) -> Result<(), Memory>
     ensures { (at : ℕ) → OnOk result (plain code.new ≡ plain code.old ++ code_of (functions_in file.now) scope.now (source.perform at name.now (expressions_of arguments.now))) }
 {
     let first = scope.len();
@@ -45,7 +62,12 @@ fn perform(file: &File<'_>, scope: &Scope<'_>, name: &[u8], arguments: &Items<Ex
     plain_call(file.alloc(), code, file.reached(name, count), first, count)
 }
 
-fn give(file: &File<'_>, scope: &Scope<'_>, e: &Expression, code: &mut Items<CStatement>) -> Result<(), Memory>
+fn give(
+    file: &File<'_>,
+    scope: &Scope<'_>,
+    e: &Expression,
+    code: &mut Items<CStatement>,
+) -> Result<(), Memory>
     ensures { OnOk result (plain code.new ≡ plain code.old ++ code_of (functions_in file.now) scope.now (source.give (expression_of e.now))) }
 {
     let into = scope.len();
@@ -55,7 +77,12 @@ fn give(file: &File<'_>, scope: &Scope<'_>, e: &Expression, code: &mut Items<CSt
 
 /// One turn of a loop: the condition, which may end the loop, then the body.
 #[cycle(statements)]
-fn turn<'a>(file: &File<'_>, scope: &mut Scope<'a>, body: &'a Items<Statement>, e: &'a Expression) -> Result<Boxed<CBody>, Memory>
+fn turn<'a>(
+    file: &File<'_>,
+    scope: &mut Scope<'a>,
+    body: &'a Items<Statement>,
+    e: &'a Expression,
+) -> Result<Boxed<CBody>, Memory>
     ensures code { IfOk result (λ made. body_of made ≡ its_body (its_turn (functions_in file.now) scope.old (expression_of e.now) (codes_of (functions_in file.now) scope.old (statements_of body.now)))) }
     ensures scope { OnOk result (scope.new ≡ scope.old) }
 {
@@ -68,7 +95,11 @@ fn turn<'a>(file: &File<'_>, scope: &mut Scope<'a>, body: &'a Items<Statement>, 
 }
 
 #[cycle(statements)]
-fn block<'a>(file: &File<'_>, scope: &mut Scope<'a>, all: &'a Items<Statement>) -> Result<Boxed<CBody>, Memory>
+fn block<'a>(
+    file: &File<'_>,
+    scope: &mut Scope<'a>,
+    all: &'a Items<Statement>,
+) -> Result<Boxed<CBody>, Memory>
     ensures code { IfOk result (λ made. body_of made ≡ its_body (codes_of (functions_in file.now) scope.old (statements_of all.now))) }
     ensures scope { OnOk result (scope.new ≡ scope.old) }
 {
@@ -78,7 +109,12 @@ fn block<'a>(file: &File<'_>, scope: &mut Scope<'a>, all: &'a Items<Statement>) 
 }
 
 #[cycle(statements)]
-fn statement<'a>(file: &File<'_>, scope: &mut Scope<'a>, one: &'a Statement, code: &mut Items<CStatement>) -> Result<(), Memory>
+fn statement<'a>(
+    file: &File<'_>,
+    scope: &mut Scope<'a>,
+    one: &'a Statement,
+    code: &mut Items<CStatement>,
+) -> Result<(), Memory>
     ensures code { OnOk result (plain code.new ≡ plain code.old ++ code_of (functions_in file.now) scope.old (statement_of one.now)) }
     ensures scope { OnOk result (scope.new ≡ names_after (statement_of one.now) scope.old) }
 {
@@ -88,7 +124,13 @@ fn statement<'a>(file: &File<'_>, scope: &mut Scope<'a>, one: &'a Statement, cod
             scope.declare(name.as_slice())
         }
         Statement::Assign(_, name, e) => assign(file, scope, name.as_slice(), e.get(), code),
-        Statement::Call(_, name, arguments) => perform(file, scope, name.as_slice(), arguments, code),
+        Statement::Call(_, name, arguments) => perform(
+            file,
+            scope,
+            name.as_slice(),
+            arguments,
+            code,
+        ),
         Statement::Return(e) => give(file, scope, e.get(), code),
         Statement::If(e, chosen, other) => {
             let tested = scope.len();
@@ -107,7 +149,12 @@ fn statement<'a>(file: &File<'_>, scope: &mut Scope<'a>, one: &'a Statement, cod
 
 /// Adds the statements of a block, and ends its locals.
 #[cycle(statements)]
-pub fn statements<'a>(file: &File<'_>, scope: &mut Scope<'a>, all: &'a Items<Statement>, code: &mut Items<CStatement>) -> Result<(), Memory>
+pub fn statements<'a>(
+    file: &File<'_>,
+    scope: &mut Scope<'a>,
+    all: &'a Items<Statement>,
+    code: &mut Items<CStatement>,
+) -> Result<(), Memory>
     ensures code { OnOk result (plain code.new ≡ plain code.old ++ codes_of (functions_in file.now) scope.old (statements_of all.now)) }
     ensures scope { OnOk result (scope.new ≡ scope.old) }
 {
@@ -115,6 +162,5 @@ pub fn statements<'a>(file: &File<'_>, scope: &mut Scope<'a>, all: &'a Items<Sta
     for one in all.as_slice() {
         statement(file, scope, one, code)?;
     }
-    scope.leave(before);
-    Ok(())
+    scope.leave(before)
 }

@@ -96,12 +96,22 @@ fn printed(alloc: Global, program: &Program) -> Result<Vec<u8>, Memory> {
 fn recursion(alloc: Global) -> Result<Vec<u8>, Memory> {
     let mut chosen = Items::new(alloc);
     chosen.push(Statement::Return(number(alloc, 1)?))?;
-    let less = binary(alloc, Operator::Subtract, local(alloc, b"n")?, number(alloc, 1)?)?;
+    let less = binary(
+        alloc,
+        Operator::Subtract,
+        local(alloc, b"n")?,
+        number(alloc, 1)?,
+    )?;
     let again = call(alloc, b"f", one(alloc, less)?)?;
     let sum = binary(alloc, Operator::Add, local(alloc, b"n")?, again)?;
     let mut other = Items::new(alloc);
     other.push(Statement::Return(sum))?;
-    let test = binary(alloc, Operator::Equal, local(alloc, b"n")?, number(alloc, 0)?)?;
+    let test = binary(
+        alloc,
+        Operator::Equal,
+        local(alloc, b"n")?,
+        number(alloc, 0)?,
+    )?;
     let mut body = Items::new(alloc);
     body.push(Statement::If(test, chosen, other))?;
     let mut program = Program {
@@ -123,7 +133,12 @@ fn scopes(alloc: Global) -> Result<Vec<u8>, Memory> {
     assign(alloc, &mut inner, b"x", number(alloc, 3)?)?;
     let mut turn = Items::new(alloc);
     declare(alloc, &mut turn, b"y", local(alloc, b"x")?)?;
-    let less = binary(alloc, Operator::Subtract, local(alloc, b"y")?, number(alloc, 2)?)?;
+    let less = binary(
+        alloc,
+        Operator::Subtract,
+        local(alloc, b"y")?,
+        number(alloc, 2)?,
+    )?;
     assign(alloc, &mut turn, b"x", less)?;
     let more = binary(alloc, Operator::Add, local(alloc, b"x")?, number(alloc, 1)?)?;
     let test = binary(alloc, Operator::Less, number(alloc, 0)?, more)?;
@@ -146,12 +161,22 @@ fn calls(alloc: Global) -> Result<Vec<u8>, Memory> {
     };
     let mut body = Items::new(alloc);
     body.push(Statement::Return(local(alloc, b"a")?))?;
-    function(alloc, &mut program, b"g", &[b"a".as_slice(), b"b".as_slice()], body)?;
+    function(
+        alloc,
+        &mut program,
+        b"g",
+        &[b"a".as_slice(), b"b".as_slice()],
+        body,
+    )?;
     let mut main = Items::new(alloc);
     let name = Name::from_slice(alloc, b"putchar")?;
     main.push(Statement::Call(0, name, one(alloc, number(alloc, 65)?)?))?;
     let put = call(alloc, b"putchar", one(alloc, number(alloc, 66)?)?)?;
-    let inner = call(alloc, b"g", two(alloc, number(alloc, 1)?, number(alloc, 2)?)?)?;
+    let inner = call(
+        alloc,
+        b"g",
+        two(alloc, number(alloc, 1)?, number(alloc, 2)?)?,
+    )?;
     let outer = call(alloc, b"g", two(alloc, put, inner)?)?;
     main.push(Statement::Return(outer))?;
     function(alloc, &mut program, b"main", &[], main)?;

@@ -29,16 +29,31 @@ fn arith_of(op: Operator) -> Arith
 }
 
 /// The value of an int, and `Memory` for a number that is none, which no token stands for.
-fn set_number(alloc: Global, code: &mut Items<CStatement>, into: usize, number: u32) -> Result<(), Memory>
+fn set_number(
+    alloc: Global,
+    code: &mut Items<CStatement>,
+    into: usize,
+    number: u32,
+) -> Result<(), Memory>
     ensures { OnOk result (plain code.new ≡ plain code.old ++ its_assignment into (constant (pos number)) ∷ []) }
 {
     let Ok(value) = i32::try_from(number) else {
         return Err(Memory);
     };
-    set(alloc, code, into, Boxed::new(alloc, CExpression::Int(value))?)
+    set(
+        alloc,
+        code,
+        into,
+        Boxed::new(alloc, CExpression::Int(value))?,
+    )
 }
 
-fn set_local(alloc: Global, code: &mut Items<CStatement>, into: usize, slot: Option<usize>) -> Result<(), Memory>
+fn set_local(
+    alloc: Global,
+    code: &mut Items<CStatement>,
+    into: usize,
+    slot: Option<usize>,
+) -> Result<(), Memory>
     ensures { OnOk result (plain code.new ≡ plain code.old ++ its_assignment into (read_local slot) ∷ []) }
 {
     match slot {
@@ -48,29 +63,55 @@ fn set_local(alloc: Global, code: &mut Items<CStatement>, into: usize, slot: Opt
 }
 
 /// The operation on a variable and the one after it, into the first.
-fn set_operation(alloc: Global, code: &mut Items<CStatement>, op: Operator, into: usize, right: usize) -> Result<(), Memory>
+fn set_operation(
+    alloc: Global,
+    code: &mut Items<CStatement>,
+    op: Operator,
+    into: usize,
+    right: usize,
+) -> Result<(), Memory>
     ensures { OnOk result (plain code.new ≡ plain code.old ++ its_assignment into (operation (its_arith op) (its_load into) (its_load right)) ∷ []) }
 {
     let a = Boxed::new(alloc, held(alloc, into)?)?;
     let b = Boxed::new(alloc, held(alloc, right)?)?;
-    set(alloc, code, into, Boxed::new(alloc, CExpression::Binary(arith_of(op), a, b))?)
+    set(
+        alloc,
+        code,
+        into,
+        Boxed::new(alloc, CExpression::Binary(arith_of(op), a, b))?,
+    )
 }
 
 /// The value of a call into the first of the variables that hold its arguments.
-fn value_call(alloc: Global, code: &mut Items<CStatement>, callee: Callee<'_>, first: usize, count: usize) -> Result<(), Memory>
+fn value_call(
+    alloc: Global,
+    code: &mut Items<CStatement>,
+    callee: Callee<'_>,
+    first: usize,
+    count: usize,
+) -> Result<(), Memory>
     ensures { OnOk result (plain code.new ≡ plain code.old ++ its_value_call (callee_of callee.entry) first count ∷ []) }
 {
     match called_name(alloc, callee)? {
         None => set_number(alloc, code, first, 0),
         Some(name) => {
             let arguments = held_from(alloc, first, count)?;
-            put(code, CStatement::Call(Some(place(alloc, first)?), name, arguments))
+            put(
+                code,
+                CStatement::Call(Some(place(alloc, first)?), name, arguments),
+            )
         }
     }
 }
 
 /// A call whose value is not used.
-pub fn plain_call(alloc: Global, code: &mut Items<CStatement>, callee: Callee<'_>, first: usize, count: usize) -> Result<(), Memory>
+pub fn plain_call(
+    alloc: Global,
+    code: &mut Items<CStatement>,
+    callee: Callee<'_>,
+    first: usize,
+    count: usize,
+) -> Result<(), Memory>
     ensures { OnOk result (plain code.new ≡ plain code.old ++ its_plain_call (callee_of callee.entry) first count) }
 {
     match called_name(alloc, callee)? {
@@ -84,16 +125,33 @@ pub fn plain_call(alloc: Global, code: &mut Items<CStatement>, callee: Callee<'_
 
 /// Adds the statements that put the value of an expression into a variable. They write no variable below it.
 #[cycle(values)]
-pub fn value(file: &File<'_>, scope: &Scope<'_>, e: &Expression, into: usize, code: &mut Items<CStatement>) -> Result<(), Memory>
+pub fn value(
+    file: &File<'_>,
+    scope: &Scope<'_>,
+    e: &Expression,
+    into: usize,
+    code: &mut Items<CStatement>,
+) -> Result<(), Memory>
     ensures { OnOk result (plain code.new ≡ plain code.old ++ flat (functions_in file.now) scope.now (expression_of e.now) into) }
 {
     match e {
         Expression::Number(number) => set_number(file.alloc(), code, into, *number),
-        Expression::Local(_, name) => set_local(file.alloc(), code, into, scope.slot(name.as_slice())),
+        Expression::Local(_, name) => set_local(
+            file.alloc(),
+            code,
+            into,
+            scope.slot(name.as_slice()),
+        ),
         Expression::Call(_, name, arguments) => {
             let count = arguments.len();
             values(file, scope, arguments, into, code)?;
-            value_call(file.alloc(), code, file.reached(name.as_slice(), count), into, count)
+            value_call(
+                file.alloc(),
+                code,
+                file.reached(name.as_slice(), count),
+                into,
+                count,
+            )
         }
         Expression::Binary(op, a, b) => {
             let right = next(into)?;
@@ -106,7 +164,13 @@ pub fn value(file: &File<'_>, scope: &Scope<'_>, e: &Expression, into: usize, co
 
 /// Adds the statements that put the values of arguments into a variable and those after it.
 #[cycle(values)]
-pub fn values(file: &File<'_>, scope: &Scope<'_>, all: &Items<Expression>, first: usize, code: &mut Items<CStatement>) -> Result<(), Memory>
+pub fn values(
+    file: &File<'_>,
+    scope: &Scope<'_>,
+    all: &Items<Expression>,
+    first: usize,
+    code: &mut Items<CStatement>,
+) -> Result<(), Memory>
     ensures { OnOk result (plain code.new ≡ plain code.old ++ flats (functions_in file.now) scope.now (expressions_of all.now) first) }
 {
     let mut into = first;
