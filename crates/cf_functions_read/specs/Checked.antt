@@ -1,0 +1,19 @@
+-- What is left of a program whose names are checked.
+use Rattle.std.specs.Prelude.{◌≡◌, true, None, Result, Ok, Err, ◌⊎◌}
+use Rattle.cf_functions.specs.declared.tree.Program.{Program}
+use Rattle.cf_functions.specs.Plain.{functions_of}
+use Rattle.cf_functions.specs.Rules.{keeps_names, first_unknown_of}
+use Rattle.cf_functions_tokens.specs.declared.fault.Fault.{Fault}
+use Rattle.cf_functions_tokens.specs.declared.fault.Fault.TheVariants as fault
+use Rattle.cf_functions_names.specs.Checks.{BreaksNames, UsesUnknown}
+
+pub record Kept (p q : Program) : Type 0 where
+  pub same : q ≡ p
+  pub names : keeps_names (functions_of p) ≡ true
+  pub declared : first_unknown_of (functions_of p) ≡ None
+
+-- the same program, or what is wrong with its names, unless memory fails
+abbrev pub Checked : Program → Result Program Fault → Type 0
+Checked p (Ok q) = Kept p q
+Checked p (Err (fault.Broken b)) = BreaksNames (functions_of p) b ⊎ UsesUnknown (functions_of p) b
+Checked p (Err fault.Memory) = Unit {0}
