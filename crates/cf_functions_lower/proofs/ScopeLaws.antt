@@ -1,5 +1,5 @@
 -- The locals in scope, held the oldest first.
-use Rattle.std.proofs.Common.{◌≡◌, ℕ, ◌+◌, ◌-◌, ◌<◌, ◌≤◌, Bool, true, false, if◌then◌else◌, List, [], ◌∷◌, ◌++◌, length, map, drop, take, get_or, Some, None, min, refl, ap, sym, ◌∙◌, subst, arith, length-append}
+use Rattle.std.proofs.Common.{◌≡◌, ℕ, ◌+◌, ◌-◌, ◌<◌, ◌≤◌, Bool, true, false, if◌then◌else◌, List, [], ◌∷◌, ◌++◌, length, map, drop, take, get_or, Some, min, refl, ap, sym, ◌∙◌, subst, arith, length-append}
 use Rattle.std.specs.Prelude.{reverse}
 use Rattle.std.specs.Str.{bytes_eq}
 use Rattle.std.proofs.lemmas.List.{take_more, take_all, take-take, take-append-le, get_or-take, get_or_append_left, get_or-append_right, map-append, reverse-append, length-reverse, length-map, length-take, take-map}
@@ -95,16 +95,6 @@ module _ (locals after : List Local) (old new : Numbers) (l : Local) (last : ℕ
     has = λ x. has_less x ∙ ap (λ ls. slot_of (names_of ls) x) (sym cut);
     hides = subst (λ ls. (k : ℕ) → k < length ls → (m : Local) → m ≡ get_or ls k m → m.hidden ≡ slot_of (names_of (take k ls)) m.name.now) (sym cut) hides_less;
   }
-
-pub none_declared : (numbers : Numbers) → ((x : List ℕ) → number_in numbers x ≡ None) → IsNewest [] numbers
-none_declared numbers none = record { has = none; hides = λ k within l at. absurd (omega arith) }
-
-pub unchanged : (locals after : List Local) (old new : Numbers) → IsNewest locals old → after ≡ locals → ((x : List ℕ) → number_in new x ≡ number_in old x)
-    → IsNewest after new
-unchanged locals after old new is same put = record {
-  has = λ x. put x ∙ is.has x ∙ ap (λ ls. slot_of (names_of ls) x) (sym same);
-  hides = subst (λ ls. (k : ℕ) → k < length ls → (m : Local) → m ≡ get_or ls k m → m.hidden ≡ slot_of (names_of (take k ls)) m.name.now) (sym same) is.hides;
-}
 
 pub kept_less : (locals after : List Local) (whole : List Local) (count last : ℕ) → after ≡ take last locals → count ≤ last → take count locals ≡ whole
     → take count after ≡ whole

@@ -12,14 +12,8 @@ use Rattle.cf_functions.specs.declared.tree.Statement.{fold-roll-Statement}
 use Rattle.cf_functions.specs.declared.tree.Statement.TheOpen.{Statement-F}
 use Rattle.cf_functions.specs.declared.tree.Statement.TheVariants as statement
 use Rattle.cf_functions.specs.declared.tree.Statement.TheVariants.{rolls-Declare, rolls-Assign, rolls-Call, rolls-Return, rolls-If, rolls-While, rolls-Block}
-use Rattle.cf_functions.specs.Plain.{Expression, number, local, call, binary, expression_of, expression_step, expressions_of, Statement, declare, assign, perform, give, choose, loop, block, in_order, statement_of, statement_step}
+use Rattle.cf_functions.specs.Plain.{Expression, call, binary, expression_of, expression_step, expressions_of, Statement, assign, perform, choose, in_order, statement_of, statement_step}
 use Rattle.cf_functions.specs.Mean.{count}
-
-pub expression_of-Number : (n : ℕ) → expression_of (tree.Number n) ≡ number n
-expression_of-Number n = ap expression_of (sym (rolls-Number n)) ∙ fold-roll-Expression Expression expression_step (Expression-F.Number n)
-
-pub expression_of-Local : (at : ℕ) (name : List ℕ) → expression_of (tree.Local at name) ≡ local at name
-expression_of-Local at name = ap expression_of (sym (rolls-Local at name)) ∙ fold-roll-Expression Expression expression_step (Expression-F.Local at name)
 
 pub expression_of-Call : (at : ℕ) (name : List ℕ) (es : List raw.Expression) → expression_of (tree.Call at name es) ≡ call at name (expressions_of es)
 expression_of-Call at name es =
@@ -33,10 +27,6 @@ pub count_arguments : (es : List raw.Expression) → count (expressions_of es) �
 count_arguments [] = refl
 count_arguments (e ∷ es) = ap suc (count_arguments es)
 
-pub statement_of-Declare : (at : ℕ) (name : List ℕ) (e : raw.Expression) → statement_of (statement.Declare at name e) ≡ declare at name (expression_of e)
-statement_of-Declare at name e =
-    ap statement_of (sym (rolls-Declare at name e)) ∙ fold-roll-Statement Statement statement_step (Statement-F.Declare at name e)
-
 pub statement_of-Assign : (at : ℕ) (name : List ℕ) (e : raw.Expression) → statement_of (statement.Assign at name e) ≡ assign at name (expression_of e)
 statement_of-Assign at name e =
     ap statement_of (sym (rolls-Assign at name e)) ∙ fold-roll-Statement Statement statement_step (Statement-F.Assign at name e)
@@ -45,18 +35,7 @@ pub statement_of-Call : (at : ℕ) (name : List ℕ) (es : List raw.Expression) 
 statement_of-Call at name es =
     ap statement_of (sym (rolls-Call at name es)) ∙ fold-roll-Statement Statement statement_step (Statement-F.Call at name es)
 
-pub statement_of-Return : (e : raw.Expression) → statement_of (statement.Return e) ≡ give (expression_of e)
-statement_of-Return e = ap statement_of (sym (rolls-Return e)) ∙ fold-roll-Statement Statement statement_step (Statement-F.Return e)
-
 pub statement_of-If : (e : raw.Expression) (chosen other : List raw_s.Statement)
     → statement_of (statement.If e chosen other) ≡ choose (expression_of e) (in_order (map statement_of chosen)) (in_order (map statement_of other))
 statement_of-If e chosen other =
     ap statement_of (sym (rolls-If e chosen other)) ∙ fold-roll-Statement Statement statement_step (Statement-F.If e chosen other)
-
-pub statement_of-While : (e : raw.Expression) (body : List raw_s.Statement)
-    → statement_of (statement.While e body) ≡ loop (expression_of e) (in_order (map statement_of body))
-statement_of-While e body =
-    ap statement_of (sym (rolls-While e body)) ∙ fold-roll-Statement Statement statement_step (Statement-F.While e body)
-
-pub statement_of-Block : (body : List raw_s.Statement) → statement_of (statement.Block body) ≡ block (in_order (map statement_of body))
-statement_of-Block body = ap statement_of (sym (rolls-Block body)) ∙ fold-roll-Statement Statement statement_step (Statement-F.Block body)

@@ -1,6 +1,6 @@
 -- The statements that a statement is written as, from those of its parts.
-use Rattle.std.proofs.Common.{◌≡◌, ℕ, ◌+◌, ◌-◌, ◌<◌, ◌≤◌, List, [], ◌∷◌, ◌++◌, length, drop, get_or, Some, refl, ap, sym, ◌∙◌, arith, length-append}
-use Rattle.std.proofs.lemmas.List.{at_drop_more, at_drop_all, drop_at, append-nil}
+use Rattle.std.proofs.Common.{◌≡◌, ℕ, ◌+◌, ◌-◌, ◌<◌, List, [], ◌∷◌, ◌++◌, length, drop, get_or, Some, ap, sym, ◌∙◌, arith, length-append}
+use Rattle.std.proofs.lemmas.List.{at_drop_more, drop_at}
 use Rattle.cc_tree.specs.Plain as c
 use Rattle.cf_functions.specs.declared.tree.Expression as raw
 use Rattle.cf_functions.specs.declared.tree.Statement as raw_s
@@ -20,9 +20,6 @@ use Rattle.cf_functions_lower.proofs.Sources.{count_arguments, statement_of-Assi
 pub record Inside (names before : List (List ℕ)) : Type 0 where
   pub added : List (List ℕ)
   pub is : names ≡ added ++ before
-
-pub inside_itself : (names : List (List ℕ)) → Inside names names
-inside_itself names = record { added = []; is = refl }
 
 pub inside_after : (s : Statement) (names before now : List (List ℕ)) → now ≡ names_after s names → Inside names before → Inside now before
 inside_after (declare at x e) names before now q h = record { added = x ∷ h.added; is = q ∙ ap (λ ns. x ∷ ns) h.is }
@@ -51,11 +48,6 @@ one_statement fs all i s names now x y whole within at p after q =
     ap (λ ns. y ++ codes_of fs ns (statements_of (drop (i + 1) all))) after
     ∙ moved x y (code fs names (statement_of s)) (codes_of fs (names_after (statement_of s) names) (statements_of (drop (i + 1) all))) whole p
     (ap (λ r. x ++ r) (sym rest) ∙ q)
-
-pub no_statement : (fs : List Function) (all : List raw_s.Statement) (i : ℕ) (names : List (List ℕ)) (x whole : List c.Statement)
-    → length all ≤ i → x ++ codes_of fs names (statements_of (drop i all)) ≡ whole → x ≡ whole
-no_statement fs all i names x whole past q =
-    sym (append-nil x) ∙ ap (λ r. x ++ r) (sym (at_drop_all (λ ss. codes_of fs names (statements_of ss)) all i past)) ∙ q
 
 -- a call whose value is not used
 pub performed : (fs : List Function) (names : List (List ℕ)) (at : ℕ) (name : List ℕ) (es : List raw.Expression) (k n : ℕ) (to : Callee)

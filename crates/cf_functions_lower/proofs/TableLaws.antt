@@ -61,10 +61,6 @@ put_in name key number es after is =
     by true o = refl
     by false o = refl
 
-pub kept_in : (name : List ℕ) (es after : List (Bor (List ℕ) × Option ℕ)) → after ≡ es
-    → joined (lookup (λ k. bytes_eq name k.now) after) ≡ joined (lookup (λ k. bytes_eq name k.now) es)
-kept_in name es after same = ap (λ es. joined (lookup (λ (k : Bor (List ℕ)). bytes_eq name k.now) es)) same
-
 -- ---- the first function of a name
 
 not_called : (name : List ℕ) (n : ℕ) (f : Function) → bytes_eq name f.name ≡ false → is_called name n f ≡ false

@@ -13,6 +13,7 @@ use Rattle.cf_functions_lower.specs.declared.callee.Callee.TheVariants as callee
 abbrev pub plain : List CStatement → List c.Statement
 plain all = map c.statement_of all
 
+-- what a call reaches
 abbrev pub callee_of : code.Callee → Callee
 callee_of callee.Puts = Puts
 callee_of (callee.Defined f) = Defined (function_of f.now)
@@ -24,8 +25,10 @@ name_called Puts = Some putchar_name
 name_called (Defined f) = Some (link_name_of f)
 name_called Missing = None
 
+-- functions as plain data
 abbrev pub functions_known : List tree.Function → List Function
 functions_known fs = map function_of fs
 
+-- statements in order, as plain data
 abbrev pub statements_of : List tree_s.Statement → Statements
 statements_of all = in_order (map statement_of all)

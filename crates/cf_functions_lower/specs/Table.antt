@@ -5,6 +5,7 @@ use Rattle.std.specs.Map.{lookup}
 use Rattle.cf_functions.specs.declared.tree.Function as tree
 use Rattle.cf_functions_lower.specs.declared.numbers.Numbers as code
 
+-- a name that the table has may have no number
 abbrev pub joined : Option (Option ℕ) → Option ℕ
 joined None = None
 joined (Some number) = number

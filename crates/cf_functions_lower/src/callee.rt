@@ -26,6 +26,7 @@ fn is_called(name: &[u8], count: usize, function: &Function) -> bool
     function.name.as_slice() == name && function.parameters.len() == count
 }
 
+/// Whether it is the name of the library function that a file may call.
 pub fn is_putchar(name: &[u8]) -> bool
     ensures { result ≡ bytes_eq name.now putchar_name }
 {

@@ -23,6 +23,7 @@ fn top(e: &Expression, into: usize) -> Result<usize, Memory>
     }
 }
 
+/// The same of arguments, whose values go into this variable and those after it.
 #[cycle(values)]
 fn tops(all: &Items<Expression>, first: usize) -> Result<usize, Memory>
     ensures { IfOk result (λ count. count ≡ their_top (expressions_of all.now) first) }

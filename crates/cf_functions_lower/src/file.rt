@@ -12,6 +12,7 @@ use cf_base::Memory;
 use cf_functions::Function;
 use std::alloc::Global;
 
+/// The functions from a place on.
 fn from_place<'a>(functions: &'a [Function], place: usize) -> &'a [Function]
     requires { place < length functions.now }
     ensures { result.now ≡ drop place functions.now }
@@ -19,7 +20,7 @@ fn from_place<'a>(functions: &'a [Function], place: usize) -> &'a [Function]
     &functions[place..]
 }
 
-/// The functions of a file, in order.
+/// The functions of a file, in order, with the place of the first of each name.
 #[derive(Drop)]
 pub struct File<'a> {
     alloc: Global,
@@ -29,6 +30,7 @@ pub struct File<'a> {
 }
 
 impl<'a> File<'a> {
+    /// The file with these functions.
     pub fn new(alloc: Global, functions: &'a [Function]) -> Result<File<'a>, Memory>
         ensures { IfOk result (λ file. functions_known file.functions.now ≡ functions_known functions.now) }
     {
@@ -45,7 +47,8 @@ impl<'a> File<'a> {
         self.alloc
     }
 
-    /// The function of this name with so many parameters.
+    /// The function of this name with so many parameters. Where functions have different names, the first one that is
+    /// tried is it, unless there is none.
     fn function(&self, name: &[u8], count: usize) -> Callee<'a>
         ensures { callee_of result ≡ defined (find (is_called name.now count) (functions_known self.now.functions.now)) }
     {

@@ -33,6 +33,7 @@ fn store_local(
     }
 }
 
+/// `name = e;`
 fn assign(
     file: &File<'_>,
     scope: &Scope<'_>,
@@ -47,6 +48,7 @@ fn assign(
     store_local(file.alloc(), code, scope.slot(name), into)
 }
 
+/// `name(arguments);`
 fn perform(
     file: &File<'_>,
     scope: &Scope<'_>,
@@ -62,6 +64,7 @@ fn perform(
     plain_call(file.alloc(), code, file.reached(name, count), first, count)
 }
 
+/// `return e;`
 fn give(
     file: &File<'_>,
     scope: &Scope<'_>,
@@ -94,6 +97,7 @@ fn turn<'a>(
     plain_body(file.alloc(), code)
 }
 
+/// The body of a branch.
 #[cycle(statements)]
 fn block<'a>(
     file: &File<'_>,
@@ -108,6 +112,7 @@ fn block<'a>(
     plain_body(file.alloc(), code)
 }
 
+/// Adds the statements that a statement is written as.
 #[cycle(statements)]
 fn statement<'a>(
     file: &File<'_>,

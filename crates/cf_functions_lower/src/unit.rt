@@ -84,6 +84,7 @@ fn function_code(file: &File<'_>, function: &Function) -> Result<Items<CStatemen
     Ok(code)
 }
 
+/// The head of a function.
 fn prototype(alloc: Global, function: &Function) -> Result<CPrototype, Memory>
     ensures result_type { IfOk result (λ made. made.result ≡ Some Int) }
     ensures name { IfOk result (λ made. made.name ≡ link_name_of (function_of function.now)) }
@@ -125,7 +126,8 @@ fn putchar(alloc: Global) -> Result<CPrototype, Memory>
     })
 }
 
-/// The unit of the small C that a file is written as.
+/// The unit of the small C that a file is written as. `Memory` where memory ends; and where a constant is no int (2.5.1)
+/// or a function needs 2 ^ 64 variables, which no text comes to.
 pub fn translate(alloc: Global, program: &Program) -> Result<CUnit, Memory>
     ensures { IfOk result (λ unit. IsTranslated (functions_of program.now) unit) }
 {

@@ -28,7 +28,8 @@ fn arith_of(op: Operator) -> Arith
     }
 }
 
-/// The value of an int, and `Memory` for a number that is none, which no token stands for.
+/// A constant into a variable. A number above 2147483647, which no token of a text stands for (2.5.1), is answered as
+/// if memory had ended.
 fn set_number(
     alloc: Global,
     code: &mut Items<CStatement>,
@@ -48,6 +49,7 @@ fn set_number(
     )
 }
 
+/// The value of a local into a variable, and 0 where no local has the name.
 fn set_local(
     alloc: Global,
     code: &mut Items<CStatement>,
