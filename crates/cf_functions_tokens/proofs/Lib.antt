@@ -1,3 +1,2 @@
-pub mod CutLaws
-pub mod CutSteps
-pub mod NumberLemmas
+pub mod Front
+pub mod Spellings

@@ -1,6 +1,5 @@
-pub mod Cut
-pub mod IsCut
-pub mod Keywords
+pub mod Gives
 pub mod Outside
 pub mod Symbol
-pub mod Tokens
+pub mod Taken
+pub mod Terminals

@@ -1,15 +1,18 @@
 ghost use Rattle.std.specs.Prelude.{◌≡◌};
 ghost use Rattle.cf_functions_tokens.specs.Outside.{outside};
 
-use cf_base::{Broken, Memory, Rule};
+use cf_base::{Broken, Limit, Memory, Rule};
 use thiserror::Error;
 
 /// Why a file gives no tokens or no tree.
 #[derive(Debug, Drop, Error)]
 pub enum Fault {
     /// The file breaks a rule, at a byte place.
-    #[error("a rule is broken")]
+    #[error("rule {} broken at byte {}", .0.rule.number(), .0.at)]
     Broken(Broken),
+    /// The file passes a limit.
+    #[error("limit {:?} {} passed", .0.bound, .0.most)]
+    Limit(Limit),
     #[error("out of memory")]
     Memory,
 }

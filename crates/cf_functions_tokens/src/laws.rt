@@ -1,8 +1,6 @@
-ghost use Rattle.std.specs.Prelude.{◌≡◌, ℕ, List};
-ghost use Rattle.cf_functions_tokens.specs.declared.token.Token.{Token};
-ghost use Rattle.cf_functions_tokens.specs.Tokens.{Lexes};
+ghost use Rattle.cf_functions_tokens.specs.Terminals.{AreSpelled};
 
-/// A law: a text has at most one list of tokens.
-pub fn text_has_one_token_list()
-    ensures { (text : List ℕ) → (ts us : List Token) → Lexes 0 text ts → Lexes 0 text us → ts ≡ us }
+/// A law and no code: a keyword or a sign is taken as the terminal that is spelled as it is.
+pub fn terminals_are_spelled()
+    ensures { AreSpelled }
 {}

@@ -1,17 +1,17 @@
-//! The tokens of a text of functions over int.
+//! The tokens of functions over int.
 //!
-//! A text is cut into keywords, punctuators, numbers and identifiers, with blanks between them. `specs/` has how each
-//! token is spelled and how a text is cut (`Tokens`); `tokens` cuts one.
+//! `cf_tokens` cuts a file of the whole language. `taken` gives the same tokens in the words of the smaller grammar, each by
+//! itself, where all of them are words of it: `specs/Taken` says which.
 #![tactic(auto)]
 
 mod fault;
 mod laws;
-mod lex;
+mod taking;
 #[cfg(test)]
 mod tests;
 mod token;
 
 pub use fault::{Fault, outside_profile};
-pub use laws::text_has_one_token_list;
-pub use lex::tokens;
+pub use laws::terminals_are_spelled;
+pub use taking::taken;
 pub use token::{Symbol, Token};
