@@ -10,13 +10,14 @@ use Rattle.cf_functions_tokens.specs.declared.fault.Fault.{Fault}
 use Rattle.cf_functions_tokens.specs.declared.fault.Fault.TheVariants as fault
 use Rattle.cf_functions_tokens.specs.declared.token.Symbol.TheVariants as symbol
 use Rattle.cf_functions_tokens.specs.declared.token.Token.{Token}
-use Rattle.cf_functions_tokens.specs.Cut.{FailsAs}
+use Rattle.cf_functions_tokens.specs.Gives.{FailsAs}
 use Rattle.cf_functions_parse.specs.Parse.{Parse, and_then, ◌>>=◌, pure, sees, is_ended, behind, operator_at, expect}
 use Rattle.cf_functions_parse.specs.Rules.{more_items, joins, rest_of_operands, more_operands, binary, expression, primary, statement, more_statements, all_statements, body, function, more_functions}
 
 -- where one reading has no value, another has none
 pub fails_on : {A B : Type 0} (a : Option A) (b : Option B) (f : Fault) → (a ≡ None → b ≡ None) → FailsAs a f → FailsAs b f
 fails_on a b (fault.Broken k) h p = (h p.0, p.1)
+fails_on a b (fault.Limit limit) h p = p
 fails_on a b fault.Memory h p = tt
 
 -- ---- lists with commas

@@ -19,6 +19,7 @@ no_program ts p none t = no_some (p, []) (sym none ∙ complete_program p ts t.s
 pub exact : (ts new : List Token) (r : Result Program Fault) → nesting ts ≤ nesting_limit → Reads (program (length ts) ts) r new → IsParsed ts r
 exact ts new (Ok p) nested read = record { spells = sound_program (length ts) ts (p, new) read; nested = nested }
 exact ts new (Err (fault.Broken b)) nested fails = record { none = λ p. no_program ts p fails.0; rule = fails.1 }
+exact ts new (Err (fault.Limit limit)) nested fails = fails
 exact ts new (Err fault.Memory) nested free = tt
 
 -- a list of tokens spells at most one program

@@ -19,8 +19,9 @@ pub record IsNoText (ts : List Token) (b : Broken) : Type 0 where
   pub none : (p : Program) → IsText p ts → ⊥
   pub rule : b ≡ outside
 
--- the program whose text the tokens are, or that there is none, unless memory fails
+-- the program whose text the tokens are, or that there is none, unless memory fails; no limit is passed here
 abbrev pub IsParsed : List Token → Result Program Fault → Type 0
 IsParsed ts (Ok p) = IsText p ts
 IsParsed ts (Err (fault.Broken b)) = IsNoText ts b
+IsParsed ts (Err (fault.Limit limit)) = ⊥
 IsParsed ts (Err fault.Memory) = Unit {0}

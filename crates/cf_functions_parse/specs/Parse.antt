@@ -5,7 +5,7 @@ use Rattle.cf_functions_tokens.specs.declared.fault.Fault.{Fault}
 use Rattle.cf_functions_tokens.specs.declared.token.Symbol.{Symbol}
 use Rattle.cf_functions_tokens.specs.declared.token.Token.{Token}
 use Rattle.cf_functions_tokens.specs.declared.token.Token.TheVariants as token
-use Rattle.cf_functions_tokens.specs.Cut.{FailsAs}
+use Rattle.cf_functions_tokens.specs.Gives.{FailsAs}
 use Rattle.cf_functions_tokens.specs.Symbol.{same_symbol}
 use Rattle.cf_functions_parse.specs.Spells.{operator_of}
 

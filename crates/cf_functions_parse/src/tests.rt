@@ -1,15 +1,13 @@
 use crate::parse;
 use cf_base::Items;
 use cf_functions::{Expression, Operator, Program, Statement};
-use cf_functions_tokens::tokens;
+use cf_functions_tokens::taken;
 use std::alloc::Global;
 use std::test::Fail;
 
 fn read(alloc: Global, text: &[u8]) -> Option<Program> {
-    if text.len() > 1048576 {
-        return None;
-    }
-    let list = tokens(alloc, text).ok()?;
+    let listed = cf_tokens::tokens(alloc, text).ok()?;
+    let list = taken(alloc, listed.as_slice()).ok()?;
     parse(alloc, list.as_slice()).ok()
 }
 
