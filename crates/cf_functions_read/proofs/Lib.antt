@@ -1,2 +1,4 @@
 mod Answer
+mod Identifiers
+mod Names
 mod Reading

@@ -12,8 +12,9 @@ pub record Kept (p q : Program) : Type 0 where
   pub names : keeps_names (functions_of p) ≡ true
   pub declared : first_unknown_of (functions_of p) ≡ None
 
--- the same program, or what is wrong with its names, unless memory fails
+-- the same program, or what is wrong with its names, unless memory fails; no limit is passed here
 abbrev pub Checked : Program → Result Program Fault → Type 0
 Checked p (Ok q) = Kept p q
 Checked p (Err (fault.Broken b)) = BreaksNames (functions_of p) b ⊎ UsesUnknown (functions_of p) b
+Checked p (Err (fault.Limit limit)) = ⊥
 Checked p (Err fault.Memory) = Unit {0}

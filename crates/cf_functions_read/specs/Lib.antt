@@ -1,2 +1,4 @@
 pub mod Checked
 pub mod First
+pub mod IsRead
+pub mod Words

@@ -1,7 +1,8 @@
 //! Reads a file of functions over int.
 //!
-//! The bytes are cut into tokens, the tokens are read into a tree, and the names of the tree are checked. `specs/First`
-//! says what a file is: a program, or the one rule that it breaks, at one place.
+//! The bytes are cut into the tokens of the whole language, each is taken as a token of functions over int, the tokens are read
+//! into a tree, and the names of the tree are checked. `specs/First` says what a file is: a program, or the one rule that it
+//! breaks, at one place, or the limit that it passes.
 #![tactic(auto)]
 
 mod laws;

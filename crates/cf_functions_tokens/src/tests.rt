@@ -43,7 +43,11 @@ fn shown(alloc: Global, text: &[u8]) -> Result<String, Fail> {
             }
             Ok(out)
         }
-        Err(Fault::Broken(broken)) => Ok(format!(in alloc; "K{}@{}", broken.rule.number(), broken.at)?),
+        Err(Fault::Broken(broken)) => Ok(format!(in alloc;
+            "K{}@{}",
+            broken.rule.number(),
+            broken.at
+        )?),
         Err(Fault::Limit(_)) => Err(Fail::from("limit")),
         Err(Fault::Memory) => Err(Fail::from("out of memory")),
     }
