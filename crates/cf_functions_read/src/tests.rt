@@ -3,15 +3,22 @@ use std::alloc::Global;
 use std::process::Abort;
 use std::test::Fail;
 
-/// What a file is: `ok` where it is a program, and else its rule and place, or its limit.
-fn answer(alloc: Global, bytes: &[u8]) -> Result<String, Fail> {
-    match read(alloc, bytes) {
-        Ok(_) => Ok(String::from_str(alloc, "ok")?),
-        Err(Fault::Broken(broken)) => {
+/// A file's rule and place, or its limit, as text.
+fn refusal(alloc: Global, fault: &Fault) -> Result<String, Fail> {
+    match fault {
+        Fault::Broken(broken) => {
             Ok(format!(in alloc; "K{}@{}", broken.rule.number(), broken.at)?)
         }
-        Err(Fault::Limit(limit)) => Ok(format!(in alloc; "{:?} {}", limit.bound, limit.most)?),
-        Err(Fault::Memory) => Err(Fail::from("out of memory")),
+        Fault::Limit(limit) => Ok(format!(in alloc; "{:?} {}", limit.bound, limit.most)?),
+        Fault::Memory => Err(Fail::from("out of memory")),
+    }
+}
+
+/// What a file is: `ok` where it is a program, and else why it is none.
+fn answer(alloc: Global, bytes: &[u8]) -> Result<String, Fail> {
+    match read(alloc, bytes) {
+        Ok(_program) => Ok(format!(in alloc; "ok")?),
+        Err(fault) => refusal(alloc, &fault),
     }
 }
 
