@@ -37,9 +37,9 @@ fn checked(alloc: Global, program: Program) -> Result<Program, Fault>
 
 /// The program that a file spells, or why it spells none.
 ///
-/// The first rule of K1 to K5 and K7 that its lexical form breaks comes first, at its place, and so do the limits of bytes and of
-/// tokens. A file that spells no program, or breaks a rule of names, breaks K48 at its first byte. Then a name that is not
-/// declared breaks K10, at the first such (3.2). The names of a program's functions are identifiers.
+/// The lexical form comes first: the limit of bytes, then the first of K1 to K5 and K7 in text order, then the limit of tokens. A
+/// file with tokens that spell no program, or whose program breaks a rule of names, breaks K48 at its first byte. Then a name that
+/// is not declared breaks K10, at the first such (3.2). The names of a program's functions are identifiers.
 pub fn read(alloc: Global, bytes: &[u8]) -> Result<Program, Fault>
     ensures { IsRead bytes.now result }
 {
