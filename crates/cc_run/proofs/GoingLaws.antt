@@ -143,6 +143,7 @@ going-whole s now a b count e g h = record {
   quiet = g.quiet;
   ends = λ input heap. subst (HasEnd e g.events) (sym (g.same input heap))
       (h.same (suc s.ticks) (outside input heap g.events) (let k : now.ticks ≤ s.ticks = g.ticks in omega arith));
+  told = g.told;
   put = g.put;
   faults = g.faults;
   counted = g.counted;
@@ -153,6 +154,7 @@ going-some s now a b count g = record {
   events = g.events;
   quiet = g.quiet;
   front = λ input heap. subst (λ (c : Outcome). IsFront g.events c.trace) (sym (g.same input heap)) (grows-total (suc s.ticks) now (outside input heap g.events));
+  told = g.told;
   put = g.put;
 }
 
@@ -170,6 +172,7 @@ with-byte s now a b c count g f put = let some : WentSome (ahead s) a c = record
   front = λ input heap. subst (λ (d : Outcome). IsFront (g.events ++ Out f.byte ∷ []) d.trace)
       (sym (g.same input heap ∙ f.same (suc s.ticks) (outside input heap g.events) (let k : now.ticks ≤ s.ticks = g.ticks in omega arith)))
       (grows-total (suc s.ticks) f.new (outside input heap (g.events ++ Out f.byte ∷ [])));
+  told = λ t. g.told (f.told t);
   put = λ t. put t ∙ ap (λ l. l ++ f.byte ∷ []) (g.put (f.told t)) ∙ append_assoc a.bytes (out_bytes g.events) (f.byte ∷ [])
       ∙ ap (λ l. a.bytes ++ l) (sym (out_bytes-append g.events (Out f.byte ∷ [])));
 } in record { some = some; rose = subst (λ k. Rose k c.faults) g.faults f.rose; counted = g.counted ∙ counted-on g.events (Some (Out f.byte)) }
@@ -182,6 +185,7 @@ without-byte s now a b c count g f put = let some = going-some s now a b count g
     events = g.events;
     quiet = g.quiet;
     front = some.front;
+    told = λ t. g.told (f.told t);
     put = λ t. put t ∙ g.put (f.told t);
   };
   rose = subst (λ k. Rose k c.faults) g.faults f.rose;
@@ -263,11 +267,11 @@ going-memory s now a b c count g e =
 
 -- A whole program.
 pub some-none : (meant : List ℕ → ℕ → Outcome) (a : Stream) → WentSome meant a a × (a.faults ≡ a.faults)
-some-none meant a = (record { events = []; quiet = refl; front = λ input heap. record { rest = (meant input heap).trace; joined = refl }; put = λ t. sym (append-nil a.bytes) }, refl)
+some-none meant a = (record { events = []; quiet = refl; front = λ input heap. record { rest = (meant input heap).trace; joined = refl }; told = λ t. t; put = λ t. sym (append-nil a.bytes) }, refl)
 
 pub whole-not : (program : CProgram) (limits : Limits) (a : Stream) → StartsNot program limits
     → WentWhole (λ input heap. c_mean program input heap limits.depth limits.ticks) a a 0 (end.Undefined act.A9)
-whole-not program limits a h = record { events = []; quiet = refl; ends = h.same; put = λ t. sym (append-nil a.bytes); faults = refl; counted = refl }
+whole-not program limits a h = record { events = []; quiet = refl; ends = h.same; told = λ t. t; put = λ t. sym (append-nil a.bytes); faults = refl; counted = refl }
 
 whole-from : (M N : List ℕ → ℕ → Outcome) (a b : Stream) (count : ℕ) (e : EndOf) → ((input : List ℕ) (heap : ℕ) → M input heap ≡ N input heap)
     → WentWhole N a b count e → WentWhole M a b count e
@@ -275,6 +279,7 @@ whole-from M N a b count e same h = record {
   events = h.events;
   quiet = h.quiet;
   ends = λ input heap. subst (HasEnd e h.events) (sym (same input heap)) (h.ends input heap);
+  told = h.told;
   put = h.put;
   faults = h.faults;
   counted = h.counted;
@@ -285,6 +290,7 @@ some-from M N a b same h = record {
   events = h.events;
   quiet = h.quiet;
   front = λ input heap. subst (λ (c : Outcome). IsFront h.events c.trace) (sym (same input heap)) (h.front input heap);
+  told = h.told;
   put = h.put;
 }
 
@@ -307,13 +313,14 @@ goes-from M N a b (Ok ran) same h = at-from M N a b ran.entered ran.end same h
 goes-from M N a b (Err memory) same h = (some-from M N a b same h.0, h.1)
 
 -- The streams of a run of which the input and the trace stay as they are.
-carried : (events : List Event) (i a b t : Stream) → in_bytes events ≡ [] → (IsTrue b.told → b.bytes ≡ a.bytes ++ out_bytes events)
+carried : (events : List Event) (i a b t : Stream) → in_bytes events ≡ [] → (IsTrue b.told → IsTrue a.told) → (IsTrue b.told → b.bytes ≡ a.bytes ++ out_bytes events)
     → Carried false events i.bytes (streams i a t) (streams i b t)
-carried events i a b t quiet put = record {
-  held = λ told. refl;
-  taken = λ told. ap (λ l. l ++ i.bytes) (sym quiet);
+carried events i a b t quiet told put = record {
+  held = λ x. refl;
+  taken = λ x. ap (λ l. l ++ i.bytes) (sym quiet);
   put = put;
-  shown = λ told. sym (append-nil t.bytes);
+  shown = λ x. sym (append-nil t.bytes);
+  told = record { input = λ x. x; out = told; trace = λ x. x };
 }
 
 leaves-whole : (program : CProgram) (limits : Limits) (i a b t : Stream) (count : ℕ) (e : EndOf) (z : End)
@@ -325,7 +332,7 @@ leaves-whole program limits i a b t count e z is h =
     let trace : (c_mean program i.bytes limits.heap limits.depth limits.ticks).trace ≡ h.events = ap (λ (x : Outcome). x.trace) c in
     record {
       input = i.bytes;
-      carried = subst (λ (events : List Event). Carried false events i.bytes (streams i a t) (streams i b t)) (sym trace) (carried h.events i a b t h.quiet h.put);
+      carried = subst (λ (events : List Event). Carried false events i.bytes (streams i a t) (streams i b t)) (sym trace) (carried h.events i a b t h.quiet h.told h.put);
       ends = ap (λ (x : Outcome). x.end) c;
       counted = h.counted ∙ ap entered_count (sym trace);
       counts = record { input = refl; out = h.faults; trace = refl };
@@ -333,7 +340,7 @@ leaves-whole program limits i a b t count e z is h =
 
 leaves-some : (program : CProgram) (limits : Limits) (i a b t : Stream) → WentSome (λ input heap. c_mean program input heap limits.depth limits.ticks) a b
     → Front program limits false (streams i a t) (streams i b t)
-leaves-some program limits i a b t h = record { input = i.bytes; events = h.events; carried = carried h.events i a b t h.quiet h.put; front = h.front i.bytes limits.heap }
+leaves-some program limits i a b t h = record { input = i.bytes; events = h.events; carried = carried h.events i a b t h.quiet h.told h.put; front = h.front i.bytes limits.heap }
 
 leaves-at : (program : CProgram) (limits : Limits) (i a b t : Stream) (count : ℕ) (e : EndOf)
     → GoesAt (λ input heap. c_mean program input heap limits.depth limits.ticks) a b count e

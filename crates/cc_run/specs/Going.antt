@@ -29,6 +29,7 @@ pub record WentWhole (meant : List ℕ → ℕ → Outcome) (old new : Stream) (
   pub events : List Event
   pub quiet : in_bytes events ≡ []
   pub ends : (input : List ℕ) (heap : ℕ) → HasEnd e events (meant input heap)
+  pub told : IsTrue new.told → IsTrue old.told
   pub put : IsTrue new.told → new.bytes ≡ old.bytes ++ out_bytes events
   pub faults : new.faults ≡ old.faults
   pub counted : count ≡ entered_count events
@@ -38,6 +39,7 @@ pub record WentSome (meant : List ℕ → ℕ → Outcome) (old new : Stream) : 
   pub events : List Event
   pub quiet : in_bytes events ≡ []
   pub front : (input : List ℕ) (heap : ℕ) → IsFront events (meant input heap).trace
+  pub told : IsTrue new.told → IsTrue old.told
   pub put : IsTrue new.told → new.bytes ≡ old.bytes ++ out_bytes events
 
 -- a byte was not put

@@ -30,6 +30,12 @@ meant program limits input = c_mean program input limits.heap limits.depth limit
 abbrev pub number_of : Act → ℕ
 number_of a = act_number a
 
+-- A source that told its bytes still tells them, and a sink that tells its bytes told them before.
+pub record StillTold (old new : Streams) : Type 0 where
+  pub input : IsTrue old.input.told → IsTrue new.input.told
+  pub out : IsTrue new.out.told → IsTrue old.out.told
+  pub trace : IsTrue new.trace.told → IsTrue old.trace.told
+
 -- These events were carried out: their bytes were taken from the input and put on the output, and their lines stand on the trace where they are
 -- shown. `input` is what the input held.
 pub record Carried (show : Bool) (events : List Event) (input : List ℕ) (old new : Streams) : Type 0 where
@@ -37,6 +43,7 @@ pub record Carried (show : Bool) (events : List Event) (input : List ℕ) (old n
   pub taken : IsTrue old.input.told → input ≡ in_bytes events ++ new.input.bytes
   pub put : IsTrue new.out.told → new.out.bytes ≡ old.out.bytes ++ out_bytes events
   pub shown : IsTrue new.trace.told → new.trace.bytes ≡ old.trace.bytes ++ (if show then event_lines events else [])
+  pub told : StillTold old new
 
 -- how many functions these events enter, as a number of 64 bits that stays at its greatest
 abbrev pub entered_count : List Event → ℕ
