@@ -14,14 +14,18 @@ use Rattle.cc_run.specs.declared.types.Limits.{Limits}
 use Rattle.cc_tree.specs.declared.unit.CUnit.{CUnit}
 use Rattle.cc_tree.specs.Link.{link}
 use Rattle.cfront.specs.Answer.{WordsCause, WordsLeft}
-use Rattle.cfront.specs.Cause.{FileCause, RefusedAt, DiskCountsStand, Made, GoCause, LeftByMemory}
+use Rattle.cfront.specs.Cause.{FileCause, RefusedAt, DiskCountsStand, Made, GoCause, TextLeft, LeftByMemory}
 use Rattle.cfront.specs.Outside.{Outside}
 use Rattle.cfront.specs.Words.{text_name}
 use Rattle.cfront.specs.Translated.{WasRead}
 
+-- what the disk holds is told as before
+abbrev pub DiskTold : Disk → Disk → Type 0
+DiskTold old new = IsTrue old.told → IsTrue new.told
+
 -- nothing on the disk changed
 pub record DiskStands (old new : Disk) : Type 0 where
-  pub told : IsTrue old.told → IsTrue new.told
+  pub told : DiskTold old new
   pub content : new.content ≡ old.content
   pub counts : DiskCountsStand old new
 
@@ -50,20 +54,26 @@ pub record WriteFault (name : List ℕ) (old new : Disk) (outcome : Outcome) : T
   pub elsewhere : IsTrue old.told → SameElsewhere name old.content new.content
   pub reads : new.read_faults ≡ old.read_faults
 
--- no file but that of the text was touched, and no call failed
-pub record OnlyText (name : List ℕ) (old new : Disk) : Type 0 where
-  pub elsewhere : IsTrue old.told → SameElsewhere name old.content new.content
+-- nothing was written, and no call failed
+pub record NotWritten (old new : Disk) : Type 0 where
+  pub content : IsTrue old.told → new.content ≡ old.content
+  pub counts : DiskCountsStand old new
+
+-- memory was wanting: no file but that of the text was touched, and no call failed
+pub record MemoryLeft (file : List ℕ) (old new : Disk) : Type 0 where
+  pub text : TextLeft file old new
+  pub elsewhere : IsTrue old.told → SameElsewhere (text_name file) old.content new.content
   pub counts : DiskCountsStand old new
 
 abbrev pub WriteLeaves : {T : Type 0} → List ℕ → List ℕ → Disk → Disk → Result T Stop → Type 0
 WriteLeaves name bytes old new (Ok value) = WasWritten name bytes old new
 WriteLeaves name bytes old new (Err (stop.Answer a)) = WriteFault name old new a.outcome
-WriteLeaves name bytes old new (Err stop.Memory) = OnlyText name old new
+WriteLeaves name bytes old new (Err stop.Memory) = NotWritten old new
 
 -- why there is no program, or want of memory
 abbrev pub StopLeaves : List ℕ → Disk → Disk → Stop → Type 0
 StopLeaves file old new (stop.Answer a) = FileCause file old new a.position a.outcome
-StopLeaves file old new stop.Memory = OnlyText (text_name file) old new
+StopLeaves file old new stop.Memory = MemoryLeft file old new
 
 abbrev pub TranslateLeaves : List ℕ → Disk → Disk → Result CProgram Stop → Type 0
 TranslateLeaves file old new (Ok program) = Made file old new program

@@ -5,7 +5,7 @@ ghost use Rattle.cf_small.specs.Lower.{lowered};
 ghost use Rattle.cf_small.specs.Lowered.{IsSound};
 ghost use Rattle.cc_print.specs.Printed.{unit_text};
 ghost use Rattle.cc_read.specs.Read.{IsUnit};
-ghost use Rattle.cfront.specs.Steps.{ReadLeaves, AcceptLeaves, WriteLeaves, LinkLeaves, ReadLeavesUnit, TranslateLeaves};
+ghost use Rattle.cfront.specs.Steps.{DiskTold, ReadLeaves, AcceptLeaves, WriteLeaves, LinkLeaves, ReadLeavesUnit, TranslateLeaves};
 
 use crate::answer::{Answer, Stop};
 use crate::outcome::Outcome;
@@ -23,7 +23,8 @@ const MAX_BYTES: u32 = 1 << 20;
 
 /// The bytes of a source file.
 pub fn source_bytes<F: Files>(files: &mut F, file: &str) -> Result<Vec<u8>, Stop>
-    ensures { ReadLeaves (λ bytes. bytes.items) file.now (F.disk files.old) (F.disk files.new) result }
+    ensures leaves { ReadLeaves (λ bytes. bytes.items) file.now (F.disk files.old) (F.disk files.new) result }
+    ensures told { DiskTold (F.disk files.old) (F.disk files.new) }
 {
     match files.read(file, MAX_BYTES) {
         Ok(bytes) => Ok(bytes),
@@ -56,7 +57,8 @@ pub fn accepted(alloc: Global, bytes: &[u8]) -> Result<SourceUnit, Stop>
 
 /// Writes a text under a name.
 pub fn written<F: Files>(files: &mut F, name: &str, text: &[u8]) -> Result<(), Stop>
-    ensures { WriteLeaves name.now text.now (F.disk files.old) (F.disk files.new) result }
+    ensures leaves { WriteLeaves name.now text.now (F.disk files.old) (F.disk files.new) result }
+    ensures told { DiskTold (F.disk files.old) (F.disk files.new) }
 {
     match files.write(name, text) {
         Ok(()) => Ok(()),
@@ -141,7 +143,8 @@ fn read_and_linked(
 
 /// Writes the text of a file beside it, and gives the program that this text, read again, links to.
 pub fn translated<F: Files>(alloc: Global, file: &str, files: &mut F) -> Result<CProgram, Stop>
-    ensures { TranslateLeaves file.now (F.disk files.old) (F.disk files.new) result }
+    ensures leaves { TranslateLeaves file.now (F.disk files.old) (F.disk files.new) result }
+    ensures told { DiskTold (F.disk files.old) (F.disk files.new) }
 {
     let bytes = source_bytes(files, file)?;
     let unit = accepted(alloc, &bytes)?;
