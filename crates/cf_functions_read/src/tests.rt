@@ -6,10 +6,10 @@ fn broken(alloc: Global, bytes: &[u8]) -> Option<(u8, u32)> {
     if bytes.len() > 1048576 {
         return None;
     }
-    match read(alloc, bytes) {
-        Ok(_) => Some((0, 0)),
-        Err(Fault::Broken(broken)) => Some((broken.rule.number(), broken.at)),
-        Err(Fault::Memory) => None,
+    match read(alloc, bytes).err() {
+        None => Some((0, 0)),
+        Some(Fault::Broken(broken)) => Some((broken.rule.number(), broken.at)),
+        Some(Fault::Memory) => None,
     }
 }
 
