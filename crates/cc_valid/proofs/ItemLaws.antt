@@ -1,6 +1,6 @@
 -- The items of a unit, one by one.
 use Rattle.std.proofs.Common.{◌≡◌, ℕ, ◌+◌, ◌<◌, Bool, true, false, not, ◌&&◌, List, [], ◌∷◌, ◌++◌, length, map, drop, get_or, refl, ap, sym, ◌∙◌}
-use Rattle.cf_names.proofs.ListLaws.{left_is}
+use Rattle.cf_name_list.proofs.ListLaws.{left_is}
 use Rattle.cc_tree.specs.declared.unit.CItem.{CItem}
 use Rattle.cc_tree.specs.declared.unit.CPrototype.{CPrototype}
 use Rattle.cc_tree.specs.Plain.{Item, declares, defines, item_of, items_of, prototype_of}

@@ -3,8 +3,8 @@ use Rattle.std.proofs.Common.{◌≡◌, ℕ, zero, suc, ◌+◌, ◌-◌, ◌<�
 use Rattle.std.specs.Borrow.{Bor}
 use Rattle.std.specs.List.{list_all}
 use Rattle.std.proofs.lemmas.List.{drop-map, get_or_default}
-use Rattle.cf_names.proofs.Differ.{twice}
-use Rattle.cf_names.proofs.ListLaws.{left_is}
+use Rattle.cf_name_list.proofs.Differ.{twice}
+use Rattle.cf_name_list.proofs.ListLaws.{left_is}
 use Rattle.cc_tree.specs.Valid.{is_name, is_in, differ}
 use Rattle.cc_valid.specs.Lists.{seen}
 

@@ -12,7 +12,7 @@ use crate::statements::valid_body;
 use crate::words::{is_helper, is_library};
 use cc_tree::{CFunction, CItem, CUnit};
 use cf_base::Memory;
-use cf_names::Names;
+use cf_name_list::Names;
 use std::alloc::Global;
 
 /// The greatest version and one more.

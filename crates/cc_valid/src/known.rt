@@ -1,6 +1,6 @@
 use crate::declared::Declared;
 use cc_tree::CType;
-use cf_names::Names;
+use cf_name_list::Names;
 
 /// What is known at a statement.
 #[derive(Drop)]

@@ -7,7 +7,7 @@ ghost use Rattle.cc_valid.specs.Lists.{seen};
 use crate::words::is_name;
 use cc_tree::{CLocal, CParameter};
 use cf_base::Memory;
-use cf_names::Names;
+use cf_name_list::Names;
 use std::alloc::Global;
 
 /// The names of locals, in order.

@@ -1,7 +1,7 @@
 -- Names that stand twice, found from the last one on.
 use Rattle.std.proofs.Common.{◌≡◌, ℕ, ◌-◌, ◌<◌, ◌≤◌, true, false, List, ◌∷◌, length, drop, get_or, Option, Some, None, if◌then◌else◌, refl, ap, sym, ◌∙◌}
 use Rattle.std.proofs.lemmas.List.{drop-map}
-use Rattle.cf_names.proofs.Differ as names
+use Rattle.cf_name_list.proofs.Differ as names
 use Rattle.cf_functions.specs.declared.tree.Function as tree
 use Rattle.cf_functions.specs.Plain.{Function, function_of}
 use Rattle.cf_functions.specs.Rules.{is_in, differ, function_names}

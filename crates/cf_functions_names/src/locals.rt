@@ -6,7 +6,7 @@ ghost use Rattle.cf_functions_names.specs.Walk.{plain};
 
 use cf_base::{Items, Memory, Name};
 use cf_functions::{Function, Statement};
-use cf_names::Names;
+use cf_name_list::Names;
 use std::alloc::Global;
 
 /// Adds the names that a statement declares, in order.

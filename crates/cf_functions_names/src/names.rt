@@ -2,7 +2,7 @@ ghost use Rattle.std.specs.Prelude.{◌≡◌, IfOk, bytes_eq};
 ghost use Rattle.cf_functions_names.specs.Lists.{distinct};
 
 use cf_base::{Memory, Name};
-use cf_names::Names;
+use cf_name_list::Names;
 use std::alloc::Global;
 
 /// Whether two names are the same.

@@ -4,7 +4,7 @@ ghost use Rattle.cf_functions.specs.Rules as spec;
 
 use cf_base::{Items, Memory};
 use cf_functions::Statement;
-use cf_names::Names;
+use cf_name_list::Names;
 use std::alloc::Global;
 
 /// Whether no name is declared twice in a block, where these are declared before the statement, which may add its own.

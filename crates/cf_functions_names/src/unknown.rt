@@ -5,7 +5,7 @@ ghost use Rattle.cf_functions.specs.Rules as spec;
 use crate::names::is;
 use cf_base::{Items, Memory, Name};
 use cf_functions::{Expression, Function, Program, Statement};
-use cf_names::Names;
+use cf_name_list::Names;
 use std::alloc::Global;
 
 /// The place of the first name in an expression that is not declared, where these functions and locals are in scope.

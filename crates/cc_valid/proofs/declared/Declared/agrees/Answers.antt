@@ -3,7 +3,7 @@ use Rattle.std.specs.Prelude.{bytes_eq}
 use Rattle.std.specs.List.{list_all}
 use Rattle.cc_tree.specs.declared.unit.CPrototype.{CPrototype}
 use Rattle.cc_tree.specs.Valid.{same_type}
-use Rattle.cf_names.proofs.ListLaws.{all_map}
+use Rattle.cf_name_list.proofs.ListLaws.{all_map}
 use Rattle.cc_valid.proofs.declared.Declared.agrees.Goals as goal
 
 pub returns : goal.returns

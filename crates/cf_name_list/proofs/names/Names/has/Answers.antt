@@ -1,9 +1,9 @@
 use Rattle.std.proofs.Common.{ap, sym, ◌∙◌}
 use Rattle.std.specs.Prelude.{nat_lt}
-use Rattle.cf_names.specs.Names.{is_in}
-use Rattle.cf_names.specs.Names.{last_first}
-use Rattle.cf_names.proofs.CountLaws.{is_in-count}
-use Rattle.cf_names.proofs.names.Names.has.Goals as goal
+use Rattle.cf_name_list.specs.Names.{is_in}
+use Rattle.cf_name_list.specs.Names.{last_first}
+use Rattle.cf_name_list.proofs.CountLaws.{is_in-count}
+use Rattle.cf_name_list.proofs.names.Names.has.Goals as goal
 
 pub returns : goal.returns
 returns c =

@@ -1,6 +1,6 @@
 use Rattle.std.proofs.Common.{rules, ◌≡◌, ◌<◌, [], ◌∷◌, ◌++◌, sym, subst}
-use Rattle.cf_names.proofs.CountLaws.{last-counts}
-use Rattle.cf_names.proofs.names.Names.remove_last.Goals as goal
+use Rattle.cf_name_list.proofs.CountLaws.{last-counts}
+use Rattle.cf_name_list.proofs.names.Names.remove_last.Goals as goal
 
 pub lower-requires : goal.lower-requires
 lower-requires c =

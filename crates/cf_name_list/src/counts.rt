@@ -1,6 +1,6 @@
 ghost use Rattle.std.specs.Prelude.{◌≡◌, ℕ, List, ◌+◌, ◌-◌, ◌<◌, ◌^◌, OnOk, OnErr, if◌then◌else◌};
 ghost use Rattle.std.specs.Borrow.{Bor};
-ghost use Rattle.cf_names.specs.Names.{same_name, counted};
+ghost use Rattle.cf_name_list.specs.Names.{same_name, counted};
 
 use cf_base::Memory;
 use std::collections::HashMap;

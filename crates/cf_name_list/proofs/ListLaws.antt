@@ -7,7 +7,7 @@ use Rattle.std.proofs.lemmas.List.{length-drop, drop-drop}
 use Rattle.std.proofs.lemmas.List.Folds.{list_all-append}
 use Rattle.std.proofs.lemmas.List.Sorted.{IsPermutation-reverse, list_any-IsPermutation}
 use Rattle.std.proofs.lemmas.Grind.{reverse_onto}
-use Rattle.cf_names.specs.Names.{is_in, last_first}
+use Rattle.cf_name_list.specs.Names.{is_in, last_first}
 
 -- what is left from an index on: its item, and the rest
 pub left_is : {A : Type 0} (xs : List A) (i : ℕ) (d : A) → i < length xs → d ≡ get_or xs i d → drop i xs ≡ d ∷ drop (i + 1) xs

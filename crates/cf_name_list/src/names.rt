@@ -1,5 +1,5 @@
 ghost use Rattle.std.specs.Prelude.{◌≡◌, ◌∷◌, ◌<◌, ◌≤◌, ◌-◌, [], drop, length, OnOk};
-ghost use Rattle.cf_names.specs.Names.{is_in, last_first};
+ghost use Rattle.cf_name_list.specs.Names.{is_in, last_first};
 
 use crate::counts::{count, lower, raise};
 use cf_base::Memory;
@@ -17,7 +17,7 @@ pub struct Names<'a> {
 impl<'a> Model for Names<'a> {
     ghost use Rattle.std.specs.Prelude.{◌≡◌, List, ℕ};
     ghost use Rattle.std.specs.Borrow.{Bor};
-    ghost use Rattle.cf_names.specs.Names.{last_first, counted, count_of};
+    ghost use Rattle.cf_name_list.specs.Names.{last_first, counted, count_of};
 
     ghost Value = { List (List ℕ) };
 

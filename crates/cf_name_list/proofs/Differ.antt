@@ -1,7 +1,7 @@
 -- Names that stand twice, found from the last one on.
 use Rattle.std.proofs.Common.{◌≡◌, ℕ, zero, suc, ◌+◌, ◌-◌, ◌<◌, ◌≤◌, Bool, true, false, not, ◌&&◌, List, [], ◌∷◌, length, drop, get_or, refl, ap, sym, ◌∙◌, arith}
-use Rattle.cf_names.specs.Names.{is_in}
-use Rattle.cf_names.proofs.ListLaws.{left_is}
+use Rattle.cf_name_list.specs.Names.{is_in}
+use Rattle.cf_name_list.proofs.ListLaws.{left_is}
 
 and_right : (a b : Bool) → (a && b) ≡ true → b ≡ true
 and_right true b e = e

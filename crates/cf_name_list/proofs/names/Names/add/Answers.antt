@@ -1,7 +1,7 @@
 use Rattle.std.proofs.Common.{rules, ◌<◌, ◌^◌, length, arith}
-use Rattle.cf_names.specs.Names.{last_first}
-use Rattle.cf_names.proofs.CountLaws.{count-le, length-last_first}
-use Rattle.cf_names.proofs.names.Names.add.Goals as goal
+use Rattle.cf_name_list.specs.Names.{last_first}
+use Rattle.cf_name_list.proofs.CountLaws.{count-le, length-last_first}
+use Rattle.cf_name_list.proofs.names.Names.add.Goals as goal
 
 pub raise-requires : goal.raise-requires
 raise-requires c =

@@ -1,6 +1,6 @@
 use Rattle.std.proofs.Common.{arith}
-use Rattle.cf_names.proofs.ListLaws.{cut_next}
-use Rattle.cf_names.proofs.names.Names.cut.Goals as goal
+use Rattle.cf_name_list.proofs.ListLaws.{cut_next}
+use Rattle.cf_name_list.proofs.names.Names.cut.Goals as goal
 
 pub loop-self-preserved : goal.loop-self-preserved
 loop-self-preserved c =

@@ -5,8 +5,8 @@ use Rattle.std.specs.Borrow.{Bor}
 use Rattle.std.proofs.lemmas.List.{length-reverse, length-map, reverse-append, map-append}
 use Rattle.std.proofs.lemmas.Bool.Decides.{nat_tests}
 use Rattle.std.proofs.lemmas.Cmp.{nat_list_eq_equiv}
-use Rattle.cf_names.specs.Names.{is_in}
-use Rattle.cf_names.specs.Names.{count_of, last_first}
+use Rattle.cf_name_list.specs.Names.{is_in}
+use Rattle.cf_name_list.specs.Names.{count_of, last_first}
 
 pub is_in-count : (names : List (List ℕ)) (x : List ℕ) → is_in names x ≡ nat_lt 0 (count_of x names)
 is_in-count [] x = refl
