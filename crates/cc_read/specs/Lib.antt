@@ -1,2 +1,6 @@
-pub mod Number
+pub mod Parse
+pub mod ParseExpression
+pub mod ParseStatement
+pub mod ParseUnit
+pub mod FirstLine
 pub mod Read

@@ -1,16 +1,15 @@
 ghost use Rattle.std.specs.Prelude.{◌≡◌};
 ghost use Rattle.cc_read.specs.declared.error.ReadErr.TheVariants as error;
 
-use cf_base::{Limit, Memory};
+use cf_base::Memory;
 
-/// Why a text is not read.
+/// Why a text is not read. It tells no place, no rule and no limit, since nothing reads them yet.
 #[derive(Clone, Copy, Debug, PartialEq, Eq)]
 pub enum ReadErr {
-    /// No unit has this text. The place is the first byte so far.
-    NotC { at: u32 },
-    /// The unit breaks a rule of validity, at a byte place.
-    Invalid { rule: u8, at: u32 },
-    Limit(Limit),
+    /// No unit has this text.
+    NotC,
+    /// No valid unit has this text: the unit that is read breaks a rule of validity, or a constant is no int.
+    Invalid,
     Memory,
 }
 
