@@ -1,5 +1,5 @@
 -- How the code reads from a list of tokens: what it takes, and what is left behind.
-use Rattle.std.specs.Prelude.{◌≡◌, ℕ, Bool, true, false, if◌then◌else◌, List, [], ◌∷◌, Option, Some, None, Result, Ok, Err}
+use Rattle.std.specs.Prelude.{◌≡◌, ℕ, zero, suc, Bool, true, false, if◌then◌else◌, List, [], ◌∷◌, ◌++◌, length, not, Option, Some, None, Result, Ok, Err}
 use Rattle.cc_tokens.specs.declared.mark.Mark.{Mark}
 use Rattle.cc_tokens.specs.declared.mark.Mark.TheVariants as mark
 use Rattle.cc_tokens.specs.declared.token.Token.{Token}
@@ -66,13 +66,32 @@ sees_call (token.Name name ∷ ts) = sees mark.LeftParen ts
 sees_call (token.Signed digits ∷ ts) = false
 sees_call (token.Unsigned digits ∷ ts) = false
 
+abbrev pub sees_not : Mark → List Token → Bool
+sees_not m ts = not (sees m ts)
+
 abbrev pub is_end : List Token → Bool
 is_end [] = true
 is_end (t ∷ ts) = false
 
+abbrev pub goes_on : List Token → Bool
+goes_on ts = not (is_end ts)
+
 -- where the sign or word comes next it is taken, and the first goes on; else the second
 abbrev pub if_next : {A : Type 0} → Mark → Parse A → Parse A → Parse A
 if_next m p q = λ ts. if sees m ts then p (behind ts) else q ts
+
+-- one thing after another, as long as the test of the tokens lets it go on; the number bounds the turns, and each turn takes a token
+unfoldable pub many : {A : Type 0} → (List Token → Bool) → Parse A → ℕ → List A → Parse (List A)
+many goes one zero found = pure found
+many goes one (suc n) found = λ ts. if goes ts then (one >>= (λ x. many goes one n (found ++ x ∷ []))) ts else Ok (found, ts)
+
+-- the turns that the tokens are enough for
+abbrev pub all_of : {A : Type 0} → (List Token → Bool) → Parse A → List A → Parse (List A)
+all_of goes one found = λ ts. many goes one (length ts) found ts
+
+-- the same behind the next token
+abbrev pub past : {A : Type 0} → Parse A → Parse A
+past p = λ ts. p (behind ts)
 
 unfoldable pub expect : Mark → Parse (Unit {0})
 expect m ts = if sees m ts then Ok (tt, behind ts) else Err error.NotC

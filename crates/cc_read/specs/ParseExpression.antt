@@ -13,7 +13,7 @@ use Rattle.cc_tree.specs.declared.expression.CExpression.TheVariants as tree
 use Rattle.cc_tree.specs.Spells.{joins, loosest}
 use Rattle.cc_read.specs.declared.error.ReadErr.{ReadErr}
 use Rattle.cc_read.specs.declared.error.ReadErr.TheVariants as error
-use Rattle.cc_read.specs.Parse.{Parse, and_then, ◌>>=◌, pure, refuse, if_next, sees, sees_dash, behind, expect}
+use Rattle.cc_read.specs.Parse.{Parse, and_then, ◌>>=◌, pure, refuse, if_next, many, all_of, past, sees, sees_dash, behind, expect}
 
 -- the constant, where it is one that there may be
 abbrev pub only : (ℤ → Bool) → ℤ → Option ℤ
@@ -84,12 +84,11 @@ unfoldable pub expression : (ℤ → Bool) → ℕ → Parse CExpression
 expression fit zero = refuse
 expression fit (suc n) = binary (primary fit (expression fit n)) loosest
 
-unfoldable pub more_arguments : Parse CExpression → ℕ → List CExpression → Parse (List CExpression)
-more_arguments ex zero found = pure found
-more_arguments ex (suc n) found = if_next mark.Comma (ex >>= (λ e. more_arguments ex n (found ++ e ∷ []))) (pure found)
+abbrev pub more_arguments : Parse CExpression → List CExpression → Parse (List CExpression)
+more_arguments ex found = all_of (sees mark.Comma) (past ex) found
 
 unfoldable pub some_arguments : Parse CExpression → Parse (List CExpression)
-some_arguments ex = ex >>= (λ e ts. more_arguments ex (length ts) (e ∷ []) ts)
+some_arguments ex = ex >>= (λ e. more_arguments ex (e ∷ []))
 
 unfoldable pub arguments : Parse CExpression → Parse (List CExpression)
 arguments ex = λ ts. if sees mark.RightParen ts then Ok ([], ts) else some_arguments ex ts

@@ -13,7 +13,7 @@ use Rattle.cc_tree.specs.declared.statement.CStatement.{CStatement}
 use Rattle.cc_tree.specs.declared.statement.CStatement.TheVariants as statement
 use Rattle.cc_tree.specs.Build.{made_body}
 use Rattle.cc_read.specs.declared.error.ReadErr.{ReadErr}
-use Rattle.cc_read.specs.Parse.{Parse, and_then, ◌>>=◌, pure, refuse, if_next, sees, sees_call, behind, expect, name}
+use Rattle.cc_read.specs.Parse.{Parse, and_then, ◌>>=◌, pure, refuse, if_next, many, all_of, sees, sees_not, sees_call, behind, expect, name}
 use Rattle.cc_read.specs.ParseExpression.{arguments, expression}
 
 unfoldable pub type_name : Parse CType
@@ -28,9 +28,8 @@ local = do
   _ ← expect mark.Semicolon
   pure (record { ty = t; name = word })
 
-unfoldable pub locals : ℕ → List CLocal → Parse (List CLocal)
-locals zero found = pure found
-locals (suc n) found = λ ts. if sees mark.Int ts then (local >>= (λ l. locals n (found ++ l ∷ []))) ts else Ok (found, ts)
+abbrev pub locals : Parse (List CLocal)
+locals = all_of (sees mark.Int) local []
 
 -- behind the name of a function
 unfoldable pub call : Parse CExpression → Option CPlace → List ℕ → Parse CStatement
@@ -110,16 +109,14 @@ unfoldable pub statement_by : Parse CExpression → Parse CBody → Parse CState
 statement_by ex bo =
     if_next mark.Break leaves (if_next mark.If (conditional ex bo) (if_next mark.For (forever bo) (if_next mark.Return (returned ex) (plain ex bo))))
 
-unfoldable pub statements_by : Parse CStatement → ℕ → List CStatement → Parse (List CStatement)
-statements_by st zero found = pure found
-statements_by st (suc n) found = λ ts.
-    if sees mark.RightBrace ts then Ok (found, ts) else (st >>= (λ s. statements_by st n (found ++ s ∷ []))) ts
+abbrev pub statements_by : Parse CStatement → Parse (List CStatement)
+statements_by st = all_of (sees_not mark.RightBrace) st []
 
 unfoldable pub body_by : Parse CStatement → Parse CBody
 body_by st = do
   _ ← expect mark.LeftBrace
-  ls ← (λ ts. locals (length ts) [] ts)
-  all ← (λ ts. statements_by st (length ts) [] ts)
+  ls ← locals
+  all ← statements_by st
   _ ← expect mark.RightBrace
   pure (made_body ls all)
 

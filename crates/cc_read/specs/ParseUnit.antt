@@ -8,7 +8,7 @@ use Rattle.cc_tree.specs.declared.unit.CPrototype.{CPrototype}
 use Rattle.cc_tree.specs.declared.unit.CItem.{CItem}
 use Rattle.cc_tree.specs.declared.unit.CItem.TheVariants as item
 use Rattle.cc_read.specs.declared.error.ReadErr.{ReadErr}
-use Rattle.cc_read.specs.Parse.{Parse, and_then, ◌>>=◌, pure, if_next, sees, is_end, behind, expect, name, end}
+use Rattle.cc_read.specs.Parse.{Parse, and_then, ◌>>=◌, pure, if_next, many, all_of, past, sees, goes_on, behind, expect, name, end}
 use Rattle.cc_read.specs.ParseStatement.{type_name, body}
 
 unfoldable pub result_type : Parse (Option CType)
@@ -20,12 +20,11 @@ parameter = do
   word ← name
   pure (record { ty = t; name = word })
 
-unfoldable pub more_parameters : ℕ → List CParameter → Parse (List CParameter)
-more_parameters zero found = pure found
-more_parameters (suc n) found = if_next mark.Comma (parameter >>= (λ p. more_parameters n (found ++ p ∷ []))) (pure found)
+abbrev pub more_parameters : List CParameter → Parse (List CParameter)
+more_parameters found = all_of (sees mark.Comma) (past parameter) found
 
 unfoldable pub some_parameters : Parse (List CParameter)
-some_parameters = parameter >>= (λ p ts. more_parameters (length ts) (p ∷ []) ts)
+some_parameters = parameter >>= (λ p. more_parameters (p ∷ []))
 
 unfoldable pub signature : Parse (List CParameter)
 signature = if_next mark.Void (pure []) some_parameters
@@ -57,13 +56,12 @@ declares fit = prototype >>= (λ p. if_next mark.Semicolon (pure (item.Prototype
 unfoldable pub item_by : (ℤ → Bool) → Parse CItem
 item_by fit = if_next mark.Extern declaration (declares fit)
 
-unfoldable pub items : (ℤ → Bool) → ℕ → List CItem → Parse (List CItem)
-items fit zero found = pure found
-items fit (suc n) found = λ ts. if is_end ts then Ok (found, ts) else (item_by fit >>= (λ i. items fit n (found ++ i ∷ []))) ts
+abbrev pub items : (ℤ → Bool) → Parse (List CItem)
+items fit = all_of goes_on (item_by fit) []
 
 -- all tokens
 unfoldable pub whole : (ℤ → Bool) → Parse (List CItem)
 whole fit = do
-  is ← (λ ts. items fit (length ts) [] ts)
+  is ← items fit
   _ ← end
   pure is

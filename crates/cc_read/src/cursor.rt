@@ -1,6 +1,6 @@
 //! The tokens that are left, and the steps that every rule is made of.
 
-ghost use Rattle.std.specs.Prelude.{◌≡◌, ◌≤◌, ◌<◌, length};
+ghost use Rattle.std.specs.Prelude.{◌≡◌, ◌≤◌, ◌<◌, [], length};
 ghost use Rattle.cc_tree.specs.Spells as spells;
 ghost use Rattle.cc_read.specs.Parse as spec;
 ghost use Rattle.cc_read.specs.Parse.{Reads};

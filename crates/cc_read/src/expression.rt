@@ -166,7 +166,7 @@ fn more_arguments(
     first: Items<CExpression>,
     c: &mut Cursor<'_>,
 ) -> Result<Items<CExpression>, ReadErr>
-    ensures { Reads (spec.more_arguments (spec.expression ints depth) (length c.old) first c.old) result c.new }
+    ensures { Reads (spec.more_arguments (spec.expression ints depth) first c.old) result c.new }
 {
     let mut found = first;
     for _turn in 0..c.len() {

@@ -88,7 +88,7 @@ fn version_of(digits: &[u8]) -> Option<u32>
 
 /// What stands behind a newline.
 fn line_end(text: &[u8]) -> Option<&[u8]>
-    ensures { option_map (λ rest. rest.now) result ≡ spec.line_end text.now }
+    ensures { option_map (λ r. r.now) result ≡ spec.line_end text.now }
 {
     match text {
         [b'\n', rest @ ..] => Some(rest),
@@ -97,7 +97,7 @@ fn line_end(text: &[u8]) -> Option<&[u8]>
 }
 
 fn with_rest(version: Option<u32>, rest: Option<&[u8]>) -> Option<(u32, &[u8])>
-    ensures { option_map (λ p. (p.0, p.1.now)) result ≡ spec.with_rest version (option_map (λ rest. rest.now) rest) }
+    ensures { option_map (λ p. (p.0, p.1.now)) result ≡ spec.with_rest version (option_map (λ r. r.now) rest.entry) }
 {
     match (version, rest) {
         (Some(version), Some(rest)) => Some((version, rest)),

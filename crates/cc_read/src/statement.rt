@@ -33,7 +33,7 @@ fn local(alloc: Global, c: &mut Cursor<'_>) -> Result<CLocal, ReadErr>
 }
 
 fn locals(alloc: Global, c: &mut Cursor<'_>) -> Result<Items<CLocal>, ReadErr>
-    ensures { Reads (spec.locals (length c.old) [] c.old) result c.new }
+    ensures { Reads (spec.locals c.old) result c.new }
 {
     let mut found = Items::new(alloc);
     for _turn in 0..c.len() {
@@ -243,7 +243,7 @@ fn statements(
     depth: usize,
     c: &mut Cursor<'_>,
 ) -> Result<Items<CStatement>, ReadErr>
-    ensures { Reads (spec.statements_by (spec.statement_by (expressions.expression ints depth) (spec.body ints depth)) (length c.old) [] c.old) result c.new }
+    ensures { Reads (spec.statements_by (spec.statement_by (expressions.expression ints depth) (spec.body ints depth)) c.old) result c.new }
 {
     let mut found = Items::new(alloc);
     for _turn in 0..c.len() {

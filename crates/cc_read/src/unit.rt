@@ -38,7 +38,7 @@ fn more_parameters(
     first: Items<CParameter>,
     c: &mut Cursor<'_>,
 ) -> Result<Items<CParameter>, ReadErr>
-    ensures { Reads (spec.more_parameters (length c.old) first c.old) result c.new }
+    ensures { Reads (spec.more_parameters first c.old) result c.new }
 {
     let mut found = first;
     for _turn in 0..c.len() {
@@ -145,7 +145,7 @@ fn item(alloc: Global, c: &mut Cursor<'_>) -> Result<CItem, ReadErr>
 }
 
 fn items(alloc: Global, c: &mut Cursor<'_>) -> Result<Items<CItem>, ReadErr>
-    ensures { Reads (spec.items ints (length c.old) [] c.old) result c.new }
+    ensures { Reads (spec.items ints c.old) result c.new }
 {
     let mut found = Items::new(alloc);
     for _turn in 0..c.len() {
