@@ -1,5 +1,5 @@
 -- One step of each loop and of each recursion of the reader.
-use Rattle.std.proofs.Common.{◌≡◌, ℕ, zero, suc, ◌+◌, Bool, true, false, ℤ, List, [], ◌∷◌, ◌++◌, length, Option, Some, None, Result, Ok, Err, refl, ap, sym, ◌∙◌, subst}
+use Rattle.std.proofs.Common.{◌≡◌, ℕ, zero, suc, ◌+◌, ◌-◌, ◌<◌, ◌≤◌, arith, Bool, true, false, ℤ, List, [], ◌∷◌, ◌++◌, length, Option, Some, None, Result, Ok, Err, refl, ap, sym, ◌∙◌, subst}
 use Rattle.cf_base.specs.declared.arith.Arith.{Arith}
 use Rattle.cc_tokens.specs.declared.token.Token.{Token}
 use Rattle.cc_tree.specs.declared.expression.CExpression.{CExpression}
@@ -110,3 +110,64 @@ body_step fit zero k ts e = absurd (cc)
 body_step fit (suc n) k ts e =
     let same : n ≡ k = cc in
     ap (λ m. body_by (statement_by (expression fit m) (body fit m)) ts) same
+
+-- ---- the loops of the code, by what holds at the head of each turn
+
+module _ {A : Type 0} (goes : List Token → Bool) (one : Parse A) (first start found : List A) (all ts : List Token) (last turn len : ℕ)
+    (so_far : many goes one (last - turn) found ts ≡ many goes one last first all) (same : last ≡ len) (begins : first ≡ start) where
+  ends : many goes one last first all ≡ Ok (found, ts) → many goes one len start all ≡ Ok (found, ts)
+  ends e = subst (λ n. many goes one n start all ≡ Ok (found, ts)) same (subst (λ f. many goes one last f all ≡ Ok (found, ts)) begins e)
+
+  pub loop_stops : goes ts ≡ false → many goes one len start all ≡ Ok (found, ts)
+  loop_stops halts = ends (sym so_far ∙ many_stops goes one (last - turn) found ts halts)
+
+  pub loop_ends : last ≤ turn → many goes one len start all ≡ Ok (found, ts)
+  loop_ends over =
+      let none : last - turn ≡ zero = omega arith in
+      ends (sym so_far ∙ many_zero goes one (last - turn) found ts none)
+
+  pub loop_fails : (err : ReadErr) → turn < last → goes ts ≡ true → Fails (one ts) err → Fails (many goes one len start all) err
+  loop_fails err more turns fails =
+      let some : last - turn ≡ suc (last - (turn + 1)) = omega arith in
+      subst (λ n. Fails (many goes one n start all) err) same (subst (λ f. Fails (many goes one last f all) err) begins
+      (subst (λ r. Fails r err) so_far (many_fails goes one (last - turn) (last - (turn + 1)) found ts err some turns fails)))
+
+  pub loop_next : (x : A) (mid : List Token) (next : List A) → turn < last → goes ts ≡ true → one ts ≡ Ok (x, mid) → next ≡ found ++ x ∷ []
+      → many goes one (last - (turn + 1)) next mid ≡ many goes one last first all
+  loop_next x mid next more turns read is =
+      let some : last - turn ≡ suc (last - (turn + 1)) = omega arith in
+      ap (λ l. many goes one (last - (turn + 1)) l mid) is ∙ sym (many_next goes one (last - turn) (last - (turn + 1)) found ts mid x some turns read) ∙ so_far
+
+module _ (tighter : Parse CExpression) (level : ℕ) (first found : CExpression) (all ts : List Token) (last turn len : ℕ)
+    (so_far : more_operands tighter level (last - turn) found ts ≡ more_operands tighter level last first all) (same : last ≡ len) where
+  pub operands_stop_loop : operator_above level ts ≡ None → more_operands tighter level len first all ≡ Ok (found, ts)
+  operands_stop_loop halts =
+      subst (λ n. more_operands tighter level n first all ≡ Ok (found, ts)) same (sym so_far ∙ operands_stop tighter level (last - turn) found ts halts)
+
+  pub operands_end_loop : last ≤ turn → more_operands tighter level len first all ≡ Ok (found, ts)
+  operands_end_loop over =
+      let none : last - turn ≡ zero = omega arith in
+      subst (λ n. more_operands tighter level n first all ≡ Ok (found, ts)) same (sym so_far ∙ operands_zero tighter level (last - turn) found ts none)
+
+  pub operands_fail_loop : (op : Arith) (err : ReadErr) → turn < last → operator_above level ts ≡ Some op → Fails (tighter (behind ts)) err
+      → Fails (more_operands tighter level len first all) err
+  operands_fail_loop op err more turns fails =
+      let some : last - turn ≡ suc (last - (turn + 1)) = omega arith in
+      subst (λ n. Fails (more_operands tighter level n first all) err) same
+      (subst (λ r. Fails r err) so_far (operands_fail tighter level (last - turn) (last - (turn + 1)) found op ts err some turns fails))
+
+  pub operands_next_loop : (op : Arith) (b : CExpression) (mid : List Token) (next : CExpression) → turn < last → operator_above level ts ≡ Some op
+      → tighter (behind ts) ≡ Ok (b, mid) → next ≡ tree.Binary op found b
+      → more_operands tighter level (last - (turn + 1)) next mid ≡ more_operands tighter level last first all
+  operands_next_loop op b mid next more turns read is =
+      let some : last - turn ≡ suc (last - (turn + 1)) = omega arith in
+      ap (λ a. more_operands tighter level (last - (turn + 1)) a mid) is
+      ∙ sym (operands_next tighter level (last - turn) (last - (turn + 1)) found b op ts mid some turns read) ∙ so_far
+
+pub binary_reads : (prim : Parse CExpression) (n k : ℕ) (ts : List Token) (a : CExpression) (mid : List Token) → n ≡ suc k → binary prim k ts ≡ Ok (a, mid)
+    → binary prim n ts ≡ more_operands (binary prim k) k (length mid) a mid
+binary_reads prim n k ts a mid e read = binary_step prim n k ts e ∙ ap (λ r. and_then r (λ x us. more_operands (binary prim k) k (length us) x us)) read
+
+pub binary_fails : (prim : Parse CExpression) (n k : ℕ) (ts : List Token) (err : ReadErr) → n ≡ suc k → Fails (binary prim k ts) err → Fails (binary prim n ts) err
+binary_fails prim n k ts err e fails =
+    subst (λ r. Fails r err) (sym (binary_step prim n k ts e)) (fails_then (binary prim k ts) (λ x us. more_operands (binary prim k) k (length us) x us) err fails)
