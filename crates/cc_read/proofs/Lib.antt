@@ -4,3 +4,8 @@ pub mod Taken
 pub mod SoundExpression
 pub mod SoundStatement
 pub mod SoundUnit
+pub mod Unfit
+pub mod Gets
+pub mod CompleteExpression
+pub mod CompleteMany
+pub mod CompleteArguments
