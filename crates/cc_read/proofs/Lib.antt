@@ -9,3 +9,4 @@ pub mod Gets
 pub mod CompleteExpression
 pub mod CompleteMany
 pub mod CompleteArguments
+pub mod CompleteStatement
