@@ -10,3 +10,4 @@ pub mod CompleteExpression
 pub mod CompleteMany
 pub mod CompleteArguments
 pub mod CompleteStatement
+pub mod CompleteUnit

@@ -1,0 +1,188 @@
+-- The items of a unit that are spelled are read.
+use Rattle.std.proofs.Common.{◌≡◌, ℕ, zero, suc, ◌+◌, ◌-◌, ◌<◌, ◌≤◌, Bool, true, false, ℤ, List, [], ◌∷◌, ◌++◌, length, Option, Some, None, Result, Ok, Err, refl, ap, sym, ◌∙◌, subst, arith, append-nil, append_assoc, length-append}
+use Rattle.cc_tokens.specs.declared.mark.Mark.TheVariants as mark
+use Rattle.cc_tokens.specs.declared.token.Token.{Token}
+use Rattle.cc_tokens.specs.declared.token.Token.TheVariants as token
+use Rattle.cc_tokens.specs.Mark.{same_mark}
+use Rattle.cc_tree.specs.declared.types.CType.{CType}
+use Rattle.cc_tree.specs.declared.types.CType.TheVariants as ty
+use Rattle.cc_tree.specs.declared.statement.CBody.{CBody}
+use Rattle.cc_tree.specs.declared.unit.CParameter.{CParameter}
+use Rattle.cc_tree.specs.declared.unit.CPrototype.{CPrototype}
+use Rattle.cc_tree.specs.declared.unit.CItem.{CItem}
+use Rattle.cc_tree.specs.declared.unit.CItem.TheVariants as item
+use Rattle.cc_tree.specs.Spells.{SpellsType, SpellsBody, SpellsParameters, SpellsSignature, SpellsResult, SpellsPrototype, SpellsItem, SpellsItems, sign}
+use Rattle.cc_tree.specs.Spells as g
+use Rattle.cc_read.specs.declared.error.ReadErr.{ReadErr}
+use Rattle.cc_read.specs.Parse.{Parse, and_then, ◌>>=◌, pure, behind, sees, goes_on, if_next, many, past, expect, name, end}
+use Rattle.cc_read.specs.ParseStatement.{type_name, body}
+use Rattle.cc_read.specs.ParseUnit.{result_type, parameter, more_parameters, some_parameters, signature, prototype, declaration, definition, declares, item_by, items, whole}
+use Rattle.cc_read.proofs.Taken.{Many, none, more}
+use Rattle.cc_read.proofs.SoundExpression.{Behind, comma}
+use Rattle.cc_read.proofs.SoundUnit.{Parameter, declared}
+use Rattle.cc_read.proofs.Unfit.{OneOf, here, later, Unfit}
+use Rattle.cc_read.proofs.Gets.{Gets, got, unfit, gets_as, gets_then, gets_expect, gets_name, gets_else}
+use Rattle.cc_read.proofs.CompleteMany.{gets_worse, Begins, complete_many}
+use Rattle.cc_read.proofs.CompleteArguments.{begins_comma}
+use Rattle.cc_read.proofs.CompleteStatement.{none_of, complete_body}
+
+-- ---- prototypes
+
+gets_parameter : (p : CParameter) (xs : List Token) → Parameter p xs → (rest : List Token) → Gets (parameter (xs ++ rest)) p rest ⊥
+unfolding parameter type_name expect name same_mark
+gets_parameter _ _ (declared _ _ word g.SpellsType.int) rest = got refl
+
+gets_past : (p : CParameter) (xs : List Token) → Behind Parameter p xs → (rest : List Token) → Gets (past parameter (xs ++ rest)) p rest ⊥
+gets_past _ _ (comma p xs d) rest = gets_parameter p xs d rest
+
+-- the first parameter, and those behind it with their commas
+record Split (ps : List CParameter) (zs : List Token) : Type 0 where
+  first : CParameter
+  xs : List Token
+  others : List CParameter
+  ys : List Token
+  list_is : ps ≡ first ∷ others
+  parts : zs ≡ xs ++ ys
+  spelled : Parameter first xs
+  behind_it : Many (Behind Parameter) others ys
+
+split : {ps : List CParameter} {zs : List Token} → SpellsParameters ps zs → Split ps zs
+split (g.SpellsParameters.last t ts word s) =
+    record {
+      first = record { ty = t; name = word };
+      xs = ts ++ (token.Name word ∷ []);
+      others = [];
+      ys = [];
+      list_is = refl;
+      parts = sym (append-nil (ts ++ (token.Name word ∷ [])));
+      spelled = declared t ts word s;
+      behind_it = none;
+    }
+split (g.SpellsParameters.more t ts word all zs s d) =
+    let r = split d in
+    let m = more r.first (token.Mark mark.Comma ∷ r.xs) r.others r.ys (comma r.first r.xs r.spelled) r.behind_it in
+    record {
+      first = record { ty = t; name = word };
+      xs = ts ++ (token.Name word ∷ []);
+      others = all;
+      ys = token.Mark mark.Comma ∷ zs;
+      list_is = refl;
+      parts = sym (append_assoc ts (token.Name word ∷ []) (token.Mark mark.Comma ∷ zs));
+      spelled = declared t ts word s;
+      behind_it = subst (λ l. Many (Behind Parameter) l (token.Mark mark.Comma ∷ zs)) (sym r.list_is)
+          (subst (λ l. Many (Behind Parameter) (r.first ∷ r.others) (token.Mark mark.Comma ∷ l)) (sym r.parts) m);
+    }
+
+no_void : (p : CParameter) (xs : List Token) → Parameter p xs → (rest : List Token) → sees mark.Void (xs ++ rest) ≡ false
+unfolding same_mark
+no_void _ _ (declared _ _ word g.SpellsType.int) rest = refl
+
+gets_some : (p : CParameter) (xs : List Token) (others : List CParameter) (ys : List Token) → Parameter p xs → Many (Behind Parameter) others ys → (rest : List Token)
+    → Gets (signature ((xs ++ ys) ++ (token.Mark mark.RightParen ∷ rest))) (p ∷ others) (token.Mark mark.RightParen ∷ rest) ⊥
+unfolding signature some_parameters same_mark
+gets_some p xs others ys d m rest =
+    let close = token.Mark mark.RightParen ∷ rest in
+    let ts = xs ++ (ys ++ close) in
+    gets_as _ (signature ts) (p ∷ others) close _ (ap signature (append_assoc xs ys close))
+    (gets_else (sees mark.Void ts) _ _ (p ∷ others) close (no_void p xs d (ys ++ close))
+    (gets_then (parameter ts) (λ x us. many (sees mark.Comma) (past parameter) (length us) (x ∷ []) us) p (ys ++ close) (p ∷ others) close
+    (gets_parameter p xs d (ys ++ close)) (λ never. never)
+    (gets_worse _ _ close none_of
+    (complete_many (Behind Parameter) (sees mark.Comma) (past parameter) (λ x. ⊥) (λ us. Unit {0}) (length ys) (begins_comma Parameter (λ us. Unit {0}) (λ us. tt))
+      (λ x us b small vs f. gets_past x us b vs) m (omega arith) close tt refl (length (ys ++ close)) (omega (arith, length-append ys close)) (p ∷ [])))))
+
+gets_signature : {ps : List CParameter} {xs : List Token} → SpellsSignature ps xs → (rest : List Token)
+    → Gets (signature (xs ++ (token.Mark mark.RightParen ∷ rest))) ps (token.Mark mark.RightParen ∷ rest) ⊥
+unfolding signature same_mark
+gets_signature g.SpellsSignature.void rest = got refl
+gets_signature (g.SpellsSignature.some ps xs d) rest =
+    let s = split d in
+    let close = token.Mark mark.RightParen ∷ rest in
+    subst (λ l. Gets (signature (xs ++ close)) l close ⊥) (sym s.list_is)
+    (subst (λ l. Gets (signature (l ++ close)) (s.first ∷ s.others) close ⊥) (sym s.parts) (gets_some s.first s.xs s.others s.ys s.spelled s.behind_it rest))
+
+gets_result : {r : Option CType} {rs : List Token} → SpellsResult r rs → (rest : List Token) → Gets (result_type (rs ++ rest)) r rest ⊥
+unfolding result_type type_name expect same_mark
+gets_result g.SpellsResult.void rest = got refl
+gets_result (g.SpellsResult.some _ _ g.SpellsType.int) rest = got refl
+
+gets_prototype : {p : CPrototype} {xs : List Token} → SpellsPrototype p xs → (rest : List Token) → Gets (prototype (xs ++ rest)) p rest ⊥
+unfolding prototype
+gets_prototype (g.SpellsPrototype.prototype r rs word ps xs d s) rest =
+    let close = token.Mark mark.RightParen ∷ rest in
+    let head : CPrototype = record { result = r; name = word; parameters = ps } in
+    let us = token.Name word ∷ token.Mark mark.LeftParen ∷ (xs ++ close) in
+    let last = token.Mark mark.RightParen ∷ [] in
+    let parts : (rs ++ (token.Name word ∷ token.Mark mark.LeftParen ∷ (xs ++ last))) ++ rest ≡ rs ++ us =
+        append_assoc rs (token.Name word ∷ token.Mark mark.LeftParen ∷ (xs ++ last)) rest
+        ∙ ap (λ l. rs ++ (token.Name word ∷ token.Mark mark.LeftParen ∷ l)) (append_assoc xs last rest) in
+    gets_as _ _ head rest _ (ap prototype parts)
+    (gets_then (result_type (rs ++ us)) _ r us head rest (gets_result d us) (λ never. never)
+    (gets_name _ word (token.Mark mark.LeftParen ∷ (xs ++ close)) head rest
+    (gets_expect mark.LeftParen _ (xs ++ close) head rest
+    (gets_then (signature (xs ++ close)) _ ps close head rest (gets_signature s rest) (λ never. never)
+    (gets_expect mark.RightParen _ rest head rest (got refl))))))
+
+prototype_front : {p : CPrototype} {xs : List Token} → SpellsPrototype p xs → (rest : List Token) → sees mark.Extern (xs ++ rest) ≡ false
+unfolding same_mark
+prototype_front (g.SpellsPrototype.prototype _ _ word ps xs g.SpellsResult.void s) rest = refl
+prototype_front (g.SpellsPrototype.prototype _ _ word ps xs (g.SpellsResult.some _ _ g.SpellsType.int) s) rest = refl
+
+prototype_some : {p : CPrototype} {xs : List Token} → SpellsPrototype p xs → 0 < length xs
+prototype_some (g.SpellsPrototype.prototype _ _ word ps xs g.SpellsResult.void s) = omega arith
+prototype_some (g.SpellsPrototype.prototype _ _ word ps xs (g.SpellsResult.some _ _ g.SpellsType.int) s) = omega arith
+
+-- ---- items
+
+body_front : {b : CBody} {xs : List Token} → SpellsBody b xs → (rest : List Token) → sees mark.Semicolon (xs ++ rest) ≡ false
+unfolding same_mark
+body_front (g.SpellsBody.body ls xs all ys d f) rest = refl
+
+item_some : {i : CItem} {xs : List Token} → SpellsItem i xs → 0 < length xs
+item_some (g.SpellsItem.prototype p xs d) = omega (arith, prototype_some d, length-append xs (token.Mark mark.Semicolon ∷ []))
+item_some (g.SpellsItem.extern p xs d) = omega arith
+item_some (g.SpellsItem.function p xs b ys d f) = omega (arith, prototype_some d, length-append xs ys)
+
+goes_some : (xs rest : List Token) → 0 < length xs → goes_on (xs ++ rest) ≡ true
+goes_some [] rest some = absurd (omega (arith, some))
+goes_some (x ∷ xs) rest some = refl
+
+module _ (fit : ℤ → Bool) (u : Unfit fit) where
+  complete_item : {i : CItem} {xs : List Token} → SpellsItem i xs → (rest : List Token) → Gets (item_by fit (xs ++ rest)) i rest (u.item i)
+  unfolding item_by declaration declares definition same_mark
+  complete_item (g.SpellsItem.prototype p xs d) rest =
+      let tail = token.Mark mark.Semicolon ∷ rest in
+      let ts = xs ++ tail in
+      gets_as _ _ (item.Prototype p) rest _ (ap (item_by fit) (append_assoc xs (token.Mark mark.Semicolon ∷ []) rest))
+      (gets_else (sees mark.Extern ts) _ _ (item.Prototype p) rest (prototype_front d tail)
+      (gets_then (prototype ts) _ p tail (item.Prototype p) rest (gets_prototype d tail) (λ never. absurd never) (got refl)))
+  complete_item (g.SpellsItem.extern p xs d) rest =
+      let tail = token.Mark mark.Semicolon ∷ rest in
+      let ts = xs ++ tail in
+      gets_as _ (declaration ts) (item.Prototype p) rest _ (ap declaration (append_assoc xs (token.Mark mark.Semicolon ∷ []) rest))
+      (gets_then (prototype ts) _ p tail (item.Prototype p) rest (gets_prototype d tail) (λ never. absurd never)
+      (gets_expect mark.Semicolon _ rest (item.Prototype p) rest (got refl)))
+  complete_item (g.SpellsItem.function p xs b ys d f) rest =
+      let tail = ys ++ rest in
+      let ts = xs ++ tail in
+      let made = item.Function (record { prototype = p; body = b }) in
+      gets_as _ _ made rest _ (ap (item_by fit) (append_assoc xs ys rest))
+      (gets_else (sees mark.Extern ts) _ _ made rest (prototype_front d tail)
+      (gets_then (prototype ts) _ p tail made rest (gets_prototype d tail) (λ never. absurd never)
+      (gets_else (sees mark.Semicolon tail) _ _ made rest (body_front f rest)
+      (gets_then (body fit (length tail) tail) _ b rest made rest (complete_body fit u f (length tail) (omega (arith, length-append ys rest)) rest) (u.defined p b) (got refl)))))
+
+  many_items : {all : List CItem} {ys : List Token} → SpellsItems all ys → Many SpellsItem all ys
+  many_items g.SpellsItems.none = none
+  many_items (g.SpellsItems.more i xs all ys d f) = more i xs all ys d (many_items f)
+
+  complete_items : {all : List CItem} {ts : List Token} → SpellsItems all ts → Gets (items fit (ts ++ [])) all [] (OneOf u.item all)
+  complete_items {all} {ts} d =
+      complete_many SpellsItem goes_on (item_by fit) u.item (λ us. Unit {0}) (length ts)
+      (λ i xs s rest. record { some = item_some s; goes_there = goes_some xs rest (item_some s); follows = tt; })
+      (λ i xs s small rest f. complete_item s rest) (many_items d) (omega arith) [] tt refl (length (ts ++ [])) (omega (arith, length-append ts [])) []
+
+  pub complete_whole : {all : List CItem} {ts : List Token} → SpellsItems all ts → Gets (whole fit ts) all [] (OneOf u.item all)
+  unfolding whole end
+  complete_whole {all} {ts} d =
+      gets_then (items fit ts) _ all [] all [] (subst (λ l. Gets (items fit l) all [] (OneOf u.item all)) (append-nil ts) (complete_items d)) (λ o. o) (got refl)
