@@ -11,3 +11,4 @@ pub mod CompleteMany
 pub mod CompleteArguments
 pub mod CompleteStatement
 pub mod CompleteUnit
+pub mod Invalid
