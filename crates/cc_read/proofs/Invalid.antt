@@ -13,10 +13,9 @@ use Rattle.cc_tree.specs.declared.statement.CStatement.TheVariants as of
 use Rattle.cc_tree.specs.declared.unit.CPrototype.{CPrototype}
 use Rattle.cc_tree.specs.declared.unit.CItem.{CItem}
 use Rattle.cc_tree.specs.declared.unit.CItem.TheVariants as kind
-use Rattle.cc_tree.specs.declared.unit.CUnit.{CUnit}
 use Rattle.cc_tree.specs.Build.{made_body}
 use Rattle.cc_tree.specs.Plain.{Expression, Statement, Body, Item, Place, place_of, expression_of, statement_of, body_of, else_of, item_of, items_of, function_of, in_order, prototype_of}
-use Rattle.cc_tree.specs.Valid.{Known, valid_place, valid_places, valid_expression, valid_expressions, valid_statement, valid_statements, valid_body, valid_items, valid_prototype, valid_version, valid_unit, is_written, is_name, is_in, differ, may_call, valid_call, prototype_named, is_library}
+use Rattle.cc_tree.specs.Valid.{Known, valid_place, valid_places, valid_expression, valid_expressions, valid_statement, valid_statements, valid_body, valid_items, valid_prototype, is_written, is_name, is_in, differ, may_call, valid_call, prototype_named, is_library}
 use Rattle.cc_tree.specs.Mean.{local_names, parameter_names, is_helper}
 use Rattle.cc_tree.proofs.Views.{expression_of-Int, expression_of-Binary, statement_of-Assign, statement_of-Call, statement_of-Block, statement_of-If, statement_of-Loop, statement_of-Return, body_of-made_body}
 use Rattle.cc_read.specs.ParseExpression.{ints}
@@ -162,13 +161,10 @@ invalid = record {
   defined = bad_defined;
 }
 
-bad_items : {all : List CItem} → OneOf invalid.item all → (declared : List CPrototype) (defined : List (List ℕ)) → valid_items (items_of all) declared defined ≡ false
+pub bad_items : {all : List CItem} → OneOf invalid.item all → (declared : List CPrototype) (defined : List (List ℕ)) → valid_items (items_of all) declared defined ≡ false
 unfolding invalid
 bad_items (here i all bad) declared defined = bad (items_of all) declared defined
 bad_items (later (kind.Prototype p) all o) declared defined = right_false (valid_prototype declared p) _ (bad_items o (declared ++ p ∷ []) defined)
 bad_items (later (kind.Function f) all o) declared defined =
     right_false (valid_prototype declared f.prototype) _ (right_false (not (is_in defined f.prototype.name)) _ (right_false (not (is_library f.prototype.name)) _
     (right_false _ _ (bad_items o (declared ++ f.prototype ∷ []) (f.prototype.name ∷ defined)))))
-
-pub bad_unit : (unit : CUnit) → OneOf invalid.item unit.items → valid_unit unit ≡ false
-bad_unit unit o = right_false (valid_version unit.version) _ (bad_items o [] [])

@@ -12,3 +12,5 @@ pub mod CompleteArguments
 pub mod CompleteStatement
 pub mod CompleteUnit
 pub mod Invalid
+pub mod FirstLines
+pub mod ReadLaws

@@ -1,8 +1,13 @@
 -- What reading answers.
-use Rattle.std.specs.Prelude.{◌≡◌, ℕ, true, false, List, Result, Ok, Err}
+use Rattle.std.specs.Prelude.{◌≡◌, ℕ, true, false, List, [], Result, Ok, Err}
+use Rattle.cc_tokens.specs.declared.token.Token.{Token}
+use Rattle.cc_tokens.specs.Cut.{Cut}
+use Rattle.cc_tree.specs.declared.unit.CItem.{CItem}
 use Rattle.cc_tree.specs.declared.unit.CUnit.{CUnit}
+use Rattle.cc_tree.specs.Plain.{items_of}
+use Rattle.cc_tree.specs.Spells.{SpellsItems}
 use Rattle.cc_tree.specs.Text.{Text}
-use Rattle.cc_tree.specs.Valid.{valid_unit}
+use Rattle.cc_tree.specs.Valid.{valid_items, valid_unit}
 use Rattle.cc_read.specs.declared.error.ReadErr.{ReadErr}
 use Rattle.cc_read.specs.declared.error.ReadErr.TheVariants as error
 
@@ -18,3 +23,36 @@ IsRead text (Ok unit) = HasValid text unit
 IsRead text (Err error.NotC) = (unit : CUnit) → Text text unit → ⊥
 IsRead text (Err error.Invalid) = (unit : CUnit) → Text text unit → valid_unit unit ≡ false
 IsRead text (Err error.Memory) = Unit {0}
+
+-- ---- what the parts of reading ensure
+
+-- the tokens of a text
+abbrev pub Cuts : List ℕ → Result (List Token) ReadErr → Type 0
+Cuts text (Ok ts) = Cut text ts
+Cuts text (Err error.NotC) = (ts : List Token) → Cut text ts → ⊥
+Cuts text (Err error.Invalid) = ⊥
+Cuts text (Err error.Memory) = Unit {0}
+
+pub record Holds (text : List ℕ) (items : List CItem) : Type 0 where
+  pub tokens : List Token
+  pub cut : Cut text tokens
+  pub spelled : SpellsItems items tokens
+
+-- the items of a text without its first line
+abbrev pub ReadsItems : List ℕ → Result (List CItem) ReadErr → Type 0
+ReadsItems text (Ok items) = Holds text items
+ReadsItems text (Err error.NotC) = (items : List CItem) (ts : List Token) → Cut text ts → SpellsItems items ts → ⊥
+ReadsItems text (Err error.Invalid) =
+    (items : List CItem) (ts : List Token) → Cut text ts → SpellsItems items ts → valid_items (items_of items) [] [] ≡ false
+ReadsItems text (Err error.Memory) = Unit {0}
+
+pub record IsValid (unit found : CUnit) : Type 0 where
+  pub is : found ≡ unit
+  pub valid : valid_unit found ≡ true
+
+-- a unit where it is valid
+abbrev pub IsChecked : CUnit → Result CUnit ReadErr → Type 0
+IsChecked unit (Ok found) = IsValid unit found
+IsChecked unit (Err error.NotC) = ⊥
+IsChecked unit (Err error.Invalid) = valid_unit unit ≡ false
+IsChecked unit (Err error.Memory) = Unit {0}

@@ -1,0 +1,118 @@
+-- What reading answers: a text has at most one unit; the unit that is read has it; and a text that is refused has none, or none that is valid.
+use Rattle.std.proofs.Common.{◌≡◌, ℕ, Bool, true, false, ◌&&◌, ℤ, List, [], ◌∷◌, ◌++◌, Option, Some, None, Result, Ok, Err, refl, ap, sym, ◌∙◌, subst}
+use Rattle.cc_tokens.specs.declared.token.Token.{Token}
+use Rattle.cc_tokens.specs.Cut.{Cut}
+use Rattle.cc_tokens.proofs.Cuts.{one_cut}
+use Rattle.cc_tree.specs.declared.unit.CItem.{CItem}
+use Rattle.cc_tree.specs.declared.unit.CUnit.{CUnit}
+use Rattle.cc_tree.specs.Plain.{items_of}
+use Rattle.cc_tree.specs.Spells.{SpellsItems}
+use Rattle.cc_tree.specs.Text.{Text, FirstLine}
+use Rattle.cc_tree.specs.Valid.{valid_items, valid_unit}
+use Rattle.cc_read.specs.declared.error.ReadErr.{ReadErr}
+use Rattle.cc_read.specs.declared.error.ReadErr.TheVariants as error
+use Rattle.cc_read.specs.Parse.{Fails, Reads}
+use Rattle.cc_read.specs.ParseExpression.{ints}
+use Rattle.cc_read.specs.ParseUnit.{whole}
+use Rattle.cc_read.specs.FirstLine.{first_line}
+use Rattle.cc_read.specs.Read.{IsRead, HasValid, Cuts, ReadsItems, IsChecked}
+use Rattle.cc_read.proofs.Unfit.{OneOf}
+use Rattle.cc_read.proofs.Gets.{Gets, got, unfit}
+use Rattle.cc_read.proofs.SoundUnit.{whole_spelled}
+use Rattle.cc_read.proofs.CompleteStatement.{none_of}
+use Rattle.cc_read.proofs.CompleteUnit.{complete_whole}
+use Rattle.cc_read.proofs.Invalid.{nothing, invalid, bad_items}
+use Rattle.cc_read.proofs.FirstLines.{first_line_read, first_line_is}
+
+-- ---- one unit
+
+whole_read : (all : List CItem) (ts : List Token) → Gets (whole (λ z. true) ts) all [] (OneOf nothing.item all) → whole (λ z. true) ts ≡ Ok (all, [])
+unfolding nothing
+whole_read all ts (got e) = e
+whole_read all ts (unfit e o) = absurd (none_of o)
+
+pub one_list : (all others : List CItem) (ts : List Token) → SpellsItems all ts → SpellsItems others ts → all ≡ others
+one_list all others ts d f =
+    let same : ◌≡◌ {A = Result (List CItem × List Token) ReadErr} (Ok (all, [])) (Ok (others, [])) =
+        sym (whole_read all ts (complete_whole (λ z. true) nothing d)) ∙ whole_read others ts (complete_whole (λ z. true) nothing f) in
+    let pair : (all, []) ≡ (others, []) = cc in
+    ap (λ (p : List CItem × List Token). p.0) pair
+
+-- the version and the rest of a text are those that its first line is read as
+line_of : (text : List ℕ) (u : CUnit) (t : Text text u) → first_line text ≡ Some (u.version, t.rest)
+line_of text u t = ap first_line t.parts ∙ first_line_read u.version t.line t.rest t.first
+
+same_unit : (u v : CUnit) → u.version ≡ v.version → u.items ≡ v.items → u ≡ v
+same_unit u v e f = ap (λ n. record { version = n; items = u.items }) e ∙ ap (λ l. record { version = v.version; items = l }) f
+
+pub one_unit : (text : List ℕ) (u v : CUnit) → Text text u → Text text v → u ≡ v
+one_unit text u v s t =
+    let lines : Some (u.version, s.rest) ≡ Some (v.version, t.rest) = sym (line_of text u s) ∙ line_of text v t in
+    let pair : (u.version, s.rest) ≡ (v.version, t.rest) = cc in
+    let rest : s.rest ≡ t.rest = ap (λ (p : ℕ × List ℕ). p.1) pair in
+    let tokens : s.tokens ≡ t.tokens = one_cut s.cut t.tokens (subst (λ r. Cut r t.tokens) (sym rest) t.cut) in
+    same_unit u v (ap (λ (p : ℕ × List ℕ). p.0) pair) (one_list u.items v.items s.tokens s.spelled (subst (SpellsItems v.items) (sym tokens) t.spelled))
+
+-- ---- the items of a text
+
+no_ok : {A : Type 0} {P : Type 0} (d : ReadErr) (a : A) → ◌≡◌ {A = Result A ReadErr} (Ok a) (Err d) → P
+no_ok d a e = absurd (cc)
+
+never_refused : (ts : List Token) (all : List CItem) → Gets (whole ints ts) all [] (OneOf invalid.item all) → whole ints ts ≡ Err error.NotC → ⊥
+never_refused ts all (got e) f = no_ok error.NotC (all, []) (sym e ∙ f)
+never_refused ts all (unfit e o) f =
+    let same : ◌≡◌ {A = Result (List CItem × List Token) ReadErr} (Err error.Invalid) (Err error.NotC) = sym e ∙ f in
+    absurd (cc)
+
+not_valid : (ts : List Token) (all : List CItem) → Gets (whole ints ts) all [] (OneOf invalid.item all) → whole ints ts ≡ Err error.Invalid → valid_items (items_of all) [] [] ≡ false
+not_valid ts all (got e) f = no_ok error.Invalid (all, []) (sym e ∙ f)
+not_valid ts all (unfit e o) f = bad_items o [] []
+
+pub items_read : (text : List ℕ) (ts new : List Token) (r : Result (List CItem) ReadErr) → Cut text ts → Reads (whole ints ts) r new → ReadsItems text r
+items_read text ts new (Ok all) cut read = record { tokens = ts; cut = cut; spelled = whole_spelled ints ts (all, new) read; }
+items_read text ts new (Err error.NotC) cut read = λ all us c s.
+    let same : us ≡ ts = one_cut c ts cut in
+    never_refused ts all (complete_whole ints invalid (subst (SpellsItems all) same s)) read
+items_read text ts new (Err error.Invalid) cut read = λ all us c s.
+    let same : us ≡ ts = one_cut c ts cut in
+    not_valid ts all (complete_whole ints invalid (subst (SpellsItems all) same s)) read
+items_read text ts new (Err error.Memory) cut read = tt
+
+-- where the text is cut into no tokens
+pub no_tokens : (text : List ℕ) (e : ReadErr) → Cuts text (Err e) → ReadsItems text (Err e)
+no_tokens text error.NotC h = λ all us c s. h us c
+no_tokens text error.Invalid h = absurd h
+no_tokens text error.Memory h = tt
+
+-- ---- the answer
+
+pub no_line : (text : List ℕ) → first_line text ≡ None → IsRead text (Err error.NotC)
+no_line text e = λ u t. let none : None ≡ Some (u.version, t.rest) = sym e ∙ line_of text u t in absurd (cc)
+
+right_false : (a b : Bool) → b ≡ false → (a && b) ≡ false
+right_false true b e = e
+right_false false b e = refl
+
+-- what is read of the rest, behind the first line
+module _ (text rest : List ℕ) (version : ℕ) (line : first_line text ≡ Some (version, rest)) where
+  same_rest : (u : CUnit) (t : Text text u) → (u.version ≡ version) × (t.rest ≡ rest)
+  same_rest u t =
+      let both : Some (u.version, t.rest) ≡ Some (version, rest) = sym (line_of text u t) ∙ line in
+      let pair : (u.version, t.rest) ≡ (version, rest) = cc in
+      (ap (λ (p : ℕ × List ℕ). p.0) pair, ap (λ (p : ℕ × List ℕ). p.1) pair)
+
+  pub no_items : (e : ReadErr) → ReadsItems rest (Err e) → IsRead text (Err e)
+  no_items error.NotC h = λ u t. h u.items t.tokens (subst (λ r. Cut r t.tokens) (same_rest u t).1 t.cut) t.spelled
+  no_items error.Invalid h = λ u t. right_false _ _ (h u.items t.tokens (subst (λ r. Cut r t.tokens) (same_rest u t).1 t.cut) t.spelled)
+  no_items error.Memory h = tt
+
+  text_of : (all : List CItem) → ReadsItems rest (Ok all) → Text text (record { version = version; items = all })
+  text_of all h =
+      let l = first_line_is text (version, rest) line in
+      record { line = l.line; rest = rest; tokens = h.tokens; first = l.first; cut = h.cut; spelled = h.spelled; parts = l.parts; }
+
+  pub answers : (all : List CItem) (r : Result CUnit ReadErr) → ReadsItems rest (Ok all) → IsChecked (record { version = version; items = all }) r → IsRead text r
+  answers all (Ok u) h c = subst (HasValid text) (sym c.is) (record { has_text = text_of all h; is_valid = c.valid; })
+  answers all (Err error.NotC) h c = absurd c
+  answers all (Err error.Invalid) h c = λ u t. subst (λ v. valid_unit v ≡ false) (one_unit text (record { version = version; items = all }) u (text_of all h) t) c
+  answers all (Err error.Memory) h c = tt
