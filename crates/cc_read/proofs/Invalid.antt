@@ -24,7 +24,7 @@ use Rattle.cc_read.proofs.CompleteStatement.{none_of}
 
 -- ---- each constant may be there
 
-pub nothing : Unfit (λ z. true)
+unfoldable pub nothing : Unfit (λ z. true)
 nothing = record {
   expression = λ x. ⊥;
   statement = λ s. ⊥;

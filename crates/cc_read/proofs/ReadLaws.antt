@@ -86,8 +86,11 @@ no_tokens text error.Memory h = tt
 
 -- ---- the answer
 
+no_some : {A P : Type 0} (a : A) → ◌≡◌ {A = Option A} None (Some a) → P
+no_some a e = absurd (cc)
+
 pub no_line : (text : List ℕ) → first_line text ≡ None → IsRead text (Err error.NotC)
-no_line text e = λ u t. let none : None ≡ Some (u.version, t.rest) = sym e ∙ line_of text u t in absurd (cc)
+no_line text e = λ u t. no_some (u.version, t.rest) (sym e ∙ line_of text u t)
 
 right_false : (a b : Bool) → b ≡ false → (a && b) ≡ false
 right_false true b e = e
@@ -112,7 +115,7 @@ module _ (text rest : List ℕ) (version : ℕ) (line : first_line text ≡ Some
       record { line = l.line; rest = rest; tokens = h.tokens; first = l.first; cut = h.cut; spelled = h.spelled; parts = l.parts; }
 
   pub answers : (all : List CItem) (r : Result CUnit ReadErr) → ReadsItems rest (Ok all) → IsChecked (record { version = version; items = all }) r → IsRead text r
-  answers all (Ok u) h c = subst (HasValid text) (sym c.is) (record { has_text = text_of all h; is_valid = c.valid; })
+  answers all (Ok u) h c = subst (HasValid text) (sym c.is) (record { has_text = text_of all h; is_valid = subst (λ v. valid_unit v ≡ true) c.is c.valid; })
   answers all (Err error.NotC) h c = absurd c
   answers all (Err error.Invalid) h c = λ u t. subst (λ v. valid_unit v ≡ false) (one_unit text (record { version = version; items = all }) u (text_of all h) t) c
   answers all (Err error.Memory) h c = tt

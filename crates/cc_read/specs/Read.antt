@@ -1,6 +1,7 @@
 -- What reading answers.
 use Rattle.std.specs.Prelude.{◌≡◌, ℕ, true, false, List, [], Result, Ok, Err}
 use Rattle.cc_tokens.specs.declared.token.Token.{Token}
+use Rattle.cc_tokens.specs.declared.cut.TokenList.{TokenList}
 use Rattle.cc_tokens.specs.Cut.{Cut}
 use Rattle.cc_tree.specs.declared.unit.CItem.{CItem}
 use Rattle.cc_tree.specs.declared.unit.CUnit.{CUnit}
@@ -32,6 +33,10 @@ Cuts text (Ok ts) = Cut text ts
 Cuts text (Err error.NotC) = (ts : List Token) → Cut text ts → ⊥
 Cuts text (Err error.Invalid) = ⊥
 Cuts text (Err error.Memory) = Unit {0}
+
+abbrev pub CutsAll : List ℕ → Result TokenList ReadErr → Type 0
+CutsAll text (Ok found) = Cut text found.list.items
+CutsAll text (Err e) = Cuts text (Err e)
 
 pub record Holds (text : List ℕ) (items : List CItem) : Type 0 where
   pub tokens : List Token
