@@ -1,5 +1,5 @@
 -- Arguments that are spelled are read.
-use Rattle.std.proofs.Common.{◌≡◌, ℕ, zero, suc, ◌+◌, ◌-◌, ◌<◌, ◌≤◌, Bool, true, false, ℤ, List, [], ◌∷◌, ◌++◌, length, refl, ap, sym, ◌∙◌, subst, arith, append-nil, append_assoc, length-append}
+use Rattle.std.proofs.Common.{◌≡◌, ℕ, ◌<◌, ◌≤◌, Bool, ℤ, List, [], ◌∷◌, ◌++◌, length, refl, ap, sym, subst, arith, append-nil, append_assoc, length-append}
 use Rattle.cc_tokens.specs.declared.mark.Mark.TheVariants as mark
 use Rattle.cc_tokens.specs.declared.token.Token.{Token}
 use Rattle.cc_tokens.specs.declared.token.Token.TheVariants as token
@@ -7,12 +7,12 @@ use Rattle.cc_tokens.specs.Mark.{same_mark}
 use Rattle.cc_tree.specs.declared.expression.CExpression.{CExpression}
 use Rattle.cc_tree.specs.Spells.{SpellsExpression, SpellsSome, SpellsArguments, loosest}
 use Rattle.cc_tree.specs.Spells as g
-use Rattle.cc_read.specs.Parse.{Parse, and_then, ◌>>=◌, sees, many, past}
+use Rattle.cc_read.specs.Parse.{sees, many, past}
 use Rattle.cc_read.specs.ParseExpression.{expression, some_arguments, arguments}
 use Rattle.cc_read.proofs.Taken.{Many, none, more}
 use Rattle.cc_read.proofs.SoundExpression.{Behind, comma}
 use Rattle.cc_read.proofs.Unfit.{OneOf, here, later, Unfit}
-use Rattle.cc_read.proofs.Gets.{Gets, got, unfit, gets_as, gets_then, gets_else}
+use Rattle.cc_read.proofs.Gets.{Gets, got, gets_as, gets_then, gets_else}
 use Rattle.cc_read.proofs.CompleteMany.{gets_worse, Begins, follows_on, complete_many}
 use Rattle.cc_read.proofs.CompleteExpression.{front, Ends, ends_close, ends_comma, complete_expression}
 
@@ -32,7 +32,7 @@ record Split (es : List CExpression) (zs : List Token) : Type 0 where
 
 split : {es : List CExpression} {zs : List Token} → SpellsSome es zs → Split es zs
 split (g.SpellsSome.last e xs d) =
-    record { first = e; xs = xs; others = []; ys = []; list_is = refl; parts = sym (append-nil xs); spelled = d; behind_it = none; }
+    record { first = e; xs = xs; others = []; ys = []; list_is = refl; parts = sym (append-nil xs); spelled = d; behind_it = none }
 split (g.SpellsSome.more e xs es ys d f) =
     let s = split f in
     let m = more s.first (token.Mark mark.Comma ∷ s.xs) s.others s.ys (comma s.first s.xs s.spelled) s.behind_it in
@@ -51,7 +51,7 @@ split (g.SpellsSome.more e xs es ys d f) =
 pub begins_comma : {A : Type 0} (S : A → List Token → Type 0) (Follow : List Token → Type 0) → ((ts : List Token) → Follow (token.Mark mark.Comma ∷ ts))
     → (x : A) (xs : List Token) → Behind S x xs → (rest : List Token) → Begins (sees mark.Comma) Follow xs rest
 unfolding same_mark
-begins_comma S Follow f _ _ (comma x xs s) rest = record { some = omega arith; goes_there = refl; follows = f (xs ++ rest); }
+begins_comma S Follow f _ _ (comma x xs s) rest = record { some = omega arith; goes_there = refl; follows = f (xs ++ rest) }
 
 module _ (fit : ℤ → Bool) (u : Unfit fit) where
   step : (n : ℕ) (x : CExpression) (xs : List Token) → Behind Whole x xs → length xs ≤ n → (rest : List Token) → Ends rest
@@ -76,7 +76,7 @@ module _ (fit : ℤ → Bool) (u : Unfit fit) where
       (complete_expression fit u d n (omega (arith, small, lengths)) (ys ++ close) ends) (here e others)
       (gets_worse _ _ close (later e others)
       (complete_many (Behind Whole) (sees mark.Comma) (past ex) u.expression Ends n begins (step n) m (omega (arith, small, lengths)) close (ends_close rest) refl
-        (length (ys ++ close)) (omega (arith, lengths_on)) (e ∷ [])))))
+      (length (ys ++ close)) (omega (arith, lengths_on)) (e ∷ [])))))
 
   pub complete_arguments : {es : List CExpression} {xs : List Token} → SpellsArguments es xs → (n : ℕ) → length xs < n → (rest : List Token)
       → Gets (arguments (expression fit n) (xs ++ (token.Mark mark.RightParen ∷ rest))) es (token.Mark mark.RightParen ∷ rest) (OneOf u.expression es)

@@ -1,15 +1,13 @@
 -- An expression that is spelled is read, and so are arguments.
-use Rattle.std.proofs.Common.{◌≡◌, ℕ, zero, suc, ◌+◌, ◌-◌, ◌<◌, ◌≤◌, Bool, true, false, ℤ, pos, neg_ℤ, List, [], ◌∷◌, ◌++◌, length, Option, Some, None, Result, Ok, Err, refl, ap, sym, ◌∙◌, subst, arith, rules, append-nil, append_assoc, length-append}
+use Rattle.std.proofs.Common.{◌≡◌, ℕ, zero, suc, ◌+◌, ◌-◌, ◌<◌, ◌≤◌, Bool, true, false, ℤ, pos, neg_ℤ, List, [], ◌∷◌, ◌++◌, length, Some, None, Result, Err, refl, ap, sym, ◌∙◌, subst, arith, append_assoc, length-append}
 use Rattle.std.specs.Prelude.{if◌then◌else◌, ◌==◌}
 use Rattle.std.specs.Str.Parse.{digits_value}
 use Rattle.std.proofs.lemmas.Bool.Decides.{nat_tests}
 use Rattle.cf_base.specs.declared.arith.Arith.{Arith}
-use Rattle.cc_tokens.specs.declared.mark.Mark.{Mark}
 use Rattle.cc_tokens.specs.declared.mark.Mark.TheVariants as mark
 use Rattle.cc_tokens.specs.declared.token.Token.{Token}
 use Rattle.cc_tokens.specs.declared.token.Token.TheVariants as token
 use Rattle.cc_tokens.specs.Mark.{same_mark}
-use Rattle.cc_tree.specs.declared.expression.CPlace.{CPlace}
 use Rattle.cc_tree.specs.declared.expression.CPlace.TheVariants as place
 use Rattle.cc_tree.specs.declared.expression.CExpression.{CExpression}
 use Rattle.cc_tree.specs.declared.expression.CExpression.TheVariants as tree
@@ -17,13 +15,12 @@ use Rattle.cc_tree.specs.Spells.{SpellsExpression, SpellsPlace, SpellsSome, Spel
 use Rattle.cc_tree.specs.Spells as g
 use Rattle.cc_read.specs.declared.error.ReadErr.{ReadErr}
 use Rattle.cc_read.specs.declared.error.ReadErr.TheVariants as error
-use Rattle.cc_read.specs.Parse.{Parse, and_then, ◌>>=◌, pure, behind, sees, sees_dash, sees_call, if_next, many, past}
-use Rattle.cc_read.specs.ParseExpression.{only, constant, negative, operand, brackets, primary, above, operator_above, more_operands, binary, expression, more_arguments, some_arguments, arguments}
-use Rattle.cc_read.proofs.Taken.{sees_is, Many, none, more}
-use Rattle.cc_read.proofs.SoundExpression.{Behind, comma}
-use Rattle.cc_read.proofs.Steps.{binary_step, binary_reads, binary_fails, expression_step, operands_stop, operands_next, operands_fail}
-use Rattle.cc_read.proofs.Unfit.{OneOf, here, later, Unfit}
-use Rattle.cc_read.proofs.Gets.{Gets, got, unfit, gets_as, gets_then, gets_expect, gets_if, gets_else, gets_turn, gets_stop, found_on}
+use Rattle.cc_read.specs.Parse.{Parse, sees, sees_call}
+use Rattle.cc_read.specs.ParseExpression.{only, constant, negative, operand, brackets, primary, above, operator_above, more_operands, binary, expression}
+use Rattle.cc_read.proofs.Taken.{sees_is}
+use Rattle.cc_read.proofs.Steps.{binary_reads, binary_fails, expression_step, operands_stop, operands_next, operands_fail}
+use Rattle.cc_read.proofs.Unfit.{Unfit}
+use Rattle.cc_read.proofs.Gets.{Gets, got, unfit, gets_as, gets_then, gets_expect}
 
 -- ---- what an expression begins with
 
@@ -33,10 +30,10 @@ pub record Front (ts : List Token) : Type 0 where
 
 pub front : {level : ℕ} {x : CExpression} {xs : List Token} → SpellsExpression level x xs → (rest : List Token) → Front (xs ++ rest)
 unfolding same_mark
-front (g.SpellsExpression.int ds) rest = record { no_close = refl; no_semicolon = refl; }
-front (g.SpellsExpression.negative ds) rest = record { no_close = refl; no_semicolon = refl; }
-front (g.SpellsExpression.load _ _ (g.SpellsPlace.name word)) rest = record { no_close = refl; no_semicolon = refl; }
-front (g.SpellsExpression.brackets e xs d) rest = record { no_close = refl; no_semicolon = refl; }
+front (g.SpellsExpression.int ds) rest = record { no_close = refl; no_semicolon = refl }
+front (g.SpellsExpression.negative ds) rest = record { no_close = refl; no_semicolon = refl }
+front (g.SpellsExpression.load _ _ (g.SpellsPlace.name word)) rest = record { no_close = refl; no_semicolon = refl }
+front (g.SpellsExpression.brackets e xs d) rest = record { no_close = refl; no_semicolon = refl }
 front (g.SpellsExpression.tighter level e xs d) rest = front d rest
 front (g.SpellsExpression.joined level t op a b xs ys j d f) rest = subst Front (sym (append_assoc xs (t ∷ ys) rest)) (front d (t ∷ (ys ++ rest)))
 

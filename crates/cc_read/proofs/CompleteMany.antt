@@ -1,5 +1,5 @@
 -- Things that are spelled one after another are read one after another.
-use Rattle.std.proofs.Common.{◌≡◌, ℕ, zero, suc, ◌+◌, ◌-◌, ◌<◌, ◌≤◌, Bool, true, false, List, [], ◌∷◌, ◌++◌, length, refl, ap, sym, ◌∙◌, subst, arith, append_assoc, length-append}
+use Rattle.std.proofs.Common.{◌≡◌, ℕ, ◌-◌, ◌<◌, ◌≤◌, Bool, true, false, List, [], ◌∷◌, ◌++◌, length, ap, sym, subst, arith, append_assoc, length-append}
 use Rattle.cc_tokens.specs.declared.token.Token.{Token}
 use Rattle.cc_read.specs.Parse.{Parse, many}
 use Rattle.cc_read.proofs.Taken.{Many, none, more}

@@ -1,5 +1,5 @@
 -- Statements and bodies that are spelled are read.
-use Rattle.std.proofs.Common.{◌≡◌, ℕ, zero, suc, ◌+◌, ◌-◌, ◌<◌, ◌≤◌, Bool, true, false, ℤ, List, [], ◌∷◌, ◌++◌, length, Option, Some, None, Result, Ok, Err, refl, ap, sym, ◌∙◌, subst, arith, append-nil, append_assoc, length-append}
+use Rattle.std.proofs.Common.{◌≡◌, ℕ, suc, ◌-◌, ◌<◌, ◌≤◌, Bool, true, false, ℤ, List, [], ◌∷◌, ◌++◌, length, Option, Some, None, Ok, refl, ap, sym, ◌∙◌, subst, arith, append_assoc, length-append}
 use Rattle.std.specs.Prelude.{if◌then◌else◌}
 use Rattle.cc_tokens.specs.declared.mark.Mark.TheVariants as mark
 use Rattle.cc_tokens.specs.declared.token.Token.{Token}
@@ -16,16 +16,14 @@ use Rattle.cc_tree.specs.declared.statement.CStatement.TheVariants as statement
 use Rattle.cc_tree.specs.Build.{made_body}
 use Rattle.cc_tree.specs.Spells.{SpellsExpression, SpellsArguments, SpellsType, SpellsLocals, SpellsBody, SpellsStatements, SpellsStatement, loosest, sign}
 use Rattle.cc_tree.specs.Spells as g
-use Rattle.cc_read.specs.declared.error.ReadErr.{ReadErr}
-use Rattle.cc_read.specs.declared.error.ReadErr.TheVariants as error
-use Rattle.cc_read.specs.Parse.{Parse, and_then, ◌>>=◌, pure, behind, sees, sees_not, sees_call, if_next, many, expect, name}
+use Rattle.cc_read.specs.Parse.{Parse, and_then, pure, behind, sees, sees_not, sees_call, many, expect, name}
 use Rattle.cc_read.specs.ParseExpression.{expression, arguments}
 use Rattle.cc_read.specs.ParseStatement.{type_name, local, locals, call, call_to, assignment, stored, named, block, leaves, otherwise, conditional, forever, gives, returned, plain, statement_by, statements_by, body_by, body}
 use Rattle.cc_read.proofs.Taken.{Many, none, more}
 use Rattle.cc_read.proofs.SoundStatement.{Local, declared}
 use Rattle.cc_read.proofs.Steps.{body_step}
 use Rattle.cc_read.proofs.Unfit.{OneOf, here, later, Unfit}
-use Rattle.cc_read.proofs.Gets.{Gets, got, unfit, gets_as, gets_then, gets_expect, gets_else, gets_turn, gets_stop, found_on}
+use Rattle.cc_read.proofs.Gets.{Gets, got, gets_as, gets_then, gets_expect, gets_else, gets_turn, gets_stop, found_on}
 use Rattle.cc_read.proofs.CompleteMany.{gets_worse, Begins, complete_many}
 use Rattle.cc_read.proofs.CompleteExpression.{front, no_call, ends_close, ends_semicolon, complete_expression}
 use Rattle.cc_read.proofs.CompleteArguments.{complete_arguments}
@@ -45,7 +43,7 @@ gets_local _ _ (declared _ _ word g.SpellsType.int) rest = got refl
 
 begins_local : (l : CLocal) (xs : List Token) → Local l xs → (rest : List Token) → Begins (sees mark.Int) (λ ts. Unit {0}) xs rest
 unfolding same_mark
-begins_local _ _ (declared _ _ word g.SpellsType.int) rest = record { some = omega arith; goes_there = refl; follows = tt; }
+begins_local _ _ (declared _ _ word g.SpellsType.int) rest = record { some = omega arith; goes_there = refl; follows = tt }
 
 many_locals : {all : List CLocal} {ys : List Token} → SpellsLocals all ys → Many Local all ys
 many_locals g.SpellsLocals.none = none
@@ -57,7 +55,7 @@ complete_locals : {all : List CLocal} {ys : List Token} → SpellsLocals all ys 
 complete_locals {all} {ys} d rest halts =
     gets_worse _ all rest none_of
     (complete_many Local (sees mark.Int) local (λ l. ⊥) (λ ts. Unit {0}) (length ys) begins_local (λ l xs s small us f. gets_local l xs s us)
-      (many_locals d) (omega arith) rest tt halts (length (ys ++ rest)) (omega (arith, length-append ys rest)) [])
+    (many_locals d) (omega arith) rest tt halts (length (ys ++ rest)) (omega (arith, length-append ys rest)) [])
 
 -- ---- what a statement begins with
 
@@ -68,16 +66,16 @@ pub record Front (ts : List Token) : Type 0 where
 
 statement_front : {s : CStatement} {xs : List Token} → SpellsStatement s xs → (rest : List Token) → Front (xs ++ rest)
 unfolding same_mark
-statement_front (g.SpellsStatement.assign _ _ e xs (g.SpellsPlace.name w) d) rest = record { no_brace = refl; no_else = refl; no_int = refl; }
-statement_front (g.SpellsStatement.call word es xs d) rest = record { no_brace = refl; no_else = refl; no_int = refl; }
-statement_front (g.SpellsStatement.call_to _ _ word es xs (g.SpellsPlace.name w) d) rest = record { no_brace = refl; no_else = refl; no_int = refl; }
-statement_front (g.SpellsStatement.block _ _ (g.SpellsBody.body ls xs all ys d f)) rest = record { no_brace = refl; no_else = refl; no_int = refl; }
-statement_front g.SpellsStatement.leaves rest = record { no_brace = refl; no_else = refl; no_int = refl; }
-statement_front (g.SpellsStatement.if_only e xs b ys d f) rest = record { no_brace = refl; no_else = refl; no_int = refl; }
-statement_front (g.SpellsStatement.if_else e xs b ys c zs d f h) rest = record { no_brace = refl; no_else = refl; no_int = refl; }
-statement_front (g.SpellsStatement.loops b xs d) rest = record { no_brace = refl; no_else = refl; no_int = refl; }
-statement_front g.SpellsStatement.returns rest = record { no_brace = refl; no_else = refl; no_int = refl; }
-statement_front (g.SpellsStatement.gives e xs d) rest = record { no_brace = refl; no_else = refl; no_int = refl; }
+statement_front (g.SpellsStatement.assign _ _ e xs (g.SpellsPlace.name w) d) rest = record { no_brace = refl; no_else = refl; no_int = refl }
+statement_front (g.SpellsStatement.call word es xs d) rest = record { no_brace = refl; no_else = refl; no_int = refl }
+statement_front (g.SpellsStatement.call_to _ _ word es xs (g.SpellsPlace.name w) d) rest = record { no_brace = refl; no_else = refl; no_int = refl }
+statement_front (g.SpellsStatement.block _ _ (g.SpellsBody.body ls xs all ys d f)) rest = record { no_brace = refl; no_else = refl; no_int = refl }
+statement_front g.SpellsStatement.leaves rest = record { no_brace = refl; no_else = refl; no_int = refl }
+statement_front (g.SpellsStatement.if_only e xs b ys d f) rest = record { no_brace = refl; no_else = refl; no_int = refl }
+statement_front (g.SpellsStatement.if_else e xs b ys c zs d f h) rest = record { no_brace = refl; no_else = refl; no_int = refl }
+statement_front (g.SpellsStatement.loops b xs d) rest = record { no_brace = refl; no_else = refl; no_int = refl }
+statement_front g.SpellsStatement.returns rest = record { no_brace = refl; no_else = refl; no_int = refl }
+statement_front (g.SpellsStatement.gives e xs d) rest = record { no_brace = refl; no_else = refl; no_int = refl }
 
 statement_some : {s : CStatement} {xs : List Token} → SpellsStatement s xs → 0 < length xs
 statement_some (g.SpellsStatement.assign _ _ e xs (g.SpellsPlace.name w) d) = omega arith
@@ -176,7 +174,7 @@ module _ (fit : ℤ → Bool) (u : Unfit fit) where
       let ts = xs ++ tail in
       let whole = statement.Assign (place.Name w) e in
       gets_as _ _ whole rest _ (ap (λ l. one k (token.Name w ∷ token.Mark mark.Assign ∷ l)) (append_assoc xs (token.Mark mark.Semicolon ∷ []) rest)
-        ∙ at_stored (expression fit k) (body fit k) w ts)
+      ∙ at_stored (expression fit k) (body fit k) w ts)
       (gets_else (sees_call ts) _ _ whole rest (no_call d tail refl)
       (gets_then (expression fit k ts) _ e tail whole rest (complete_expression fit u d k small tail (ends_semicolon rest)) (u.assigned (place.Name w) e)
       (gets_expect mark.Semicolon _ rest whole rest (got refl))))
@@ -189,7 +187,7 @@ module _ (fit : ℤ → Bool) (u : Unfit fit) where
       let ts = xs ++ tail in
       let whole = statement.Return (Some e) in
       gets_as _ _ whole rest _ (ap (λ l. one k (token.Mark mark.Return ∷ l)) (append_assoc xs (token.Mark mark.Semicolon ∷ []) rest)
-        ∙ at_gives (expression fit k) (body fit k) ts (front d tail).no_semicolon)
+      ∙ at_gives (expression fit k) (body fit k) ts (front d tail).no_semicolon)
       (gets_then (expression fit k ts) _ e tail whole rest (complete_expression fit u d k small tail (ends_semicolon rest)) (u.given e)
       (gets_expect mark.Semicolon _ rest whole rest (got refl)))
 
@@ -303,8 +301,8 @@ module _ (fit : ℤ → Bool) (u : Unfit fit) where
         let inner = length-append ys (token.Mark mark.Else ∷ zs) in
         let tail = token.Mark mark.Else ∷ (zs ++ rest) in
         gets_as _ _ _ rest _ (ap (λ l. one k (token.Mark mark.If ∷ token.Mark mark.LeftParen ∷ l))
-          (append_assoc xs (token.Mark mark.RightParen ∷ (ys ++ (token.Mark mark.Else ∷ zs))) rest
-          ∙ ap (λ l. xs ++ (token.Mark mark.RightParen ∷ l)) (append_assoc ys (token.Mark mark.Else ∷ zs) rest)))
+        (append_assoc xs (token.Mark mark.RightParen ∷ (ys ++ (token.Mark mark.Else ∷ zs))) rest
+        ∙ ap (λ l. xs ++ (token.Mark mark.RightParen ∷ l)) (append_assoc ys (token.Mark mark.Else ∷ zs) rest)))
         (gets_if d k (omega (arith, small, outer, inner)) b (Some c) (ys ++ tail) tail rest (complete_body f k (omega (arith, small, outer, inner)) tail)
         (gets_other k c (zs ++ rest) rest (complete_body h k (omega (arith, small, outer, inner)) rest)) (u.other e b c))
     complete_statement (g.SpellsStatement.loops b xs d) k small rest no_else = gets_loop k b (xs ++ rest) rest (complete_body d k (omega (arith, small)) rest)

@@ -1,11 +1,10 @@
 -- The items of a unit that are spelled are read.
-use Rattle.std.proofs.Common.{◌≡◌, ℕ, zero, suc, ◌+◌, ◌-◌, ◌<◌, ◌≤◌, Bool, true, false, ℤ, List, [], ◌∷◌, ◌++◌, length, Option, Some, None, Result, Ok, Err, refl, ap, sym, ◌∙◌, subst, arith, append-nil, append_assoc, length-append}
+use Rattle.std.proofs.Common.{◌≡◌, ◌<◌, Bool, true, false, ℤ, List, [], ◌∷◌, ◌++◌, length, Option, refl, ap, sym, ◌∙◌, subst, arith, append-nil, append_assoc, length-append}
 use Rattle.cc_tokens.specs.declared.mark.Mark.TheVariants as mark
 use Rattle.cc_tokens.specs.declared.token.Token.{Token}
 use Rattle.cc_tokens.specs.declared.token.Token.TheVariants as token
 use Rattle.cc_tokens.specs.Mark.{same_mark}
 use Rattle.cc_tree.specs.declared.types.CType.{CType}
-use Rattle.cc_tree.specs.declared.types.CType.TheVariants as ty
 use Rattle.cc_tree.specs.declared.statement.CBody.{CBody}
 use Rattle.cc_tree.specs.declared.unit.CParameter.{CParameter}
 use Rattle.cc_tree.specs.declared.unit.CPrototype.{CPrototype}
@@ -13,16 +12,15 @@ use Rattle.cc_tree.specs.declared.unit.CItem.{CItem}
 use Rattle.cc_tree.specs.declared.unit.CItem.TheVariants as item
 use Rattle.cc_tree.specs.Spells.{SpellsType, SpellsBody, SpellsParameters, SpellsSignature, SpellsResult, SpellsPrototype, SpellsItem, SpellsItems, sign}
 use Rattle.cc_tree.specs.Spells as g
-use Rattle.cc_read.specs.declared.error.ReadErr.{ReadErr}
-use Rattle.cc_read.specs.Parse.{Parse, and_then, ◌>>=◌, pure, behind, sees, goes_on, if_next, many, past, expect, name, end}
+use Rattle.cc_read.specs.Parse.{sees, goes_on, many, past, expect, name, end}
 use Rattle.cc_read.specs.ParseStatement.{type_name, body}
-use Rattle.cc_read.specs.ParseUnit.{result_type, parameter, more_parameters, some_parameters, signature, prototype, declaration, definition, declares, item_by, items, whole}
+use Rattle.cc_read.specs.ParseUnit.{result_type, parameter, some_parameters, signature, prototype, declaration, definition, declares, item_by, items, whole}
 use Rattle.cc_read.proofs.Taken.{Many, none, more}
 use Rattle.cc_read.proofs.SoundExpression.{Behind, comma}
 use Rattle.cc_read.proofs.SoundUnit.{Parameter, declared}
-use Rattle.cc_read.proofs.Unfit.{OneOf, here, later, Unfit}
-use Rattle.cc_read.proofs.Gets.{Gets, got, unfit, gets_as, gets_then, gets_expect, gets_name, gets_else}
-use Rattle.cc_read.proofs.CompleteMany.{gets_worse, Begins, complete_many}
+use Rattle.cc_read.proofs.Unfit.{OneOf, Unfit}
+use Rattle.cc_read.proofs.Gets.{Gets, got, gets_as, gets_then, gets_expect, gets_name, gets_else}
+use Rattle.cc_read.proofs.CompleteMany.{gets_worse, complete_many}
 use Rattle.cc_read.proofs.CompleteArguments.{begins_comma}
 use Rattle.cc_read.proofs.CompleteStatement.{none_of, complete_body}
 
@@ -89,7 +87,7 @@ gets_some p xs others ys d m rest =
     (gets_parameter p xs d (ys ++ close)) (λ never. never)
     (gets_worse _ _ close none_of
     (complete_many (Behind Parameter) (sees mark.Comma) (past parameter) (λ x. ⊥) (λ us. Unit {0}) (length ys) (begins_comma Parameter (λ us. Unit {0}) (λ us. tt))
-      (λ x us b small vs f. gets_past x us b vs) m (omega arith) close tt refl (length (ys ++ close)) (omega (arith, length-append ys close)) (p ∷ [])))))
+    (λ x us b small vs f. gets_past x us b vs) m (omega arith) close tt refl (length (ys ++ close)) (omega (arith, length-append ys close)) (p ∷ [])))))
 
 gets_signature : {ps : List CParameter} {xs : List Token} → SpellsSignature ps xs → (rest : List Token)
     → Gets (signature (xs ++ (token.Mark mark.RightParen ∷ rest))) ps (token.Mark mark.RightParen ∷ rest) ⊥
@@ -114,8 +112,8 @@ gets_prototype (g.SpellsPrototype.prototype r rs word ps xs d s) rest =
     let us = token.Name word ∷ token.Mark mark.LeftParen ∷ (xs ++ close) in
     let last = token.Mark mark.RightParen ∷ [] in
     let parts : (rs ++ (token.Name word ∷ token.Mark mark.LeftParen ∷ (xs ++ last))) ++ rest ≡ rs ++ us =
-        append_assoc rs (token.Name word ∷ token.Mark mark.LeftParen ∷ (xs ++ last)) rest
-        ∙ ap (λ l. rs ++ (token.Name word ∷ token.Mark mark.LeftParen ∷ l)) (append_assoc xs last rest) in
+    append_assoc rs (token.Name word ∷ token.Mark mark.LeftParen ∷ (xs ++ last)) rest
+    ∙ ap (λ l. rs ++ (token.Name word ∷ token.Mark mark.LeftParen ∷ l)) (append_assoc xs last rest) in
     gets_as _ _ head rest _ (ap prototype parts)
     (gets_then (result_type (rs ++ us)) _ r us head rest (gets_result d us) (λ never. never)
     (gets_name _ word (token.Mark mark.LeftParen ∷ (xs ++ close)) head rest
@@ -179,7 +177,7 @@ module _ (fit : ℤ → Bool) (u : Unfit fit) where
   complete_items : {all : List CItem} {ts : List Token} → SpellsItems all ts → Gets (items fit (ts ++ [])) all [] (OneOf u.item all)
   complete_items {all} {ts} d =
       complete_many SpellsItem goes_on (item_by fit) u.item (λ us. Unit {0}) (length ts)
-      (λ i xs s rest. record { some = item_some s; goes_there = goes_some xs rest (item_some s); follows = tt; })
+      (λ i xs s rest. record { some = item_some s; goes_there = goes_some xs rest (item_some s); follows = tt })
       (λ i xs s small rest f. complete_item s rest) (many_items d) (omega arith) [] tt refl (length (ts ++ [])) (omega (arith, length-append ts [])) []
 
   pub complete_whole : {all : List CItem} {ts : List Token} → SpellsItems all ts → Gets (whole fit ts) all [] (OneOf u.item all)

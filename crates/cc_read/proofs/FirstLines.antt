@@ -1,6 +1,6 @@
 -- The first line that is read is one, and each first line is read.
-use Rattle.std.proofs.Common.{◌≡◌, ℕ, zero, suc, ◌+◌, ◌<◌, ◌≤◌, ◌^◌, Bool, true, false, not, ◌&&◌, List, [], ◌∷◌, ◌++◌, length, take, drop, Option, Some, None, refl, ap, sym, ◌∙◌, subst, arith, append-nil, append_assoc}
-use Rattle.std.specs.Prelude.{codes, decimal, All, IsTrue, ◌==◌, nat_eq, nat_lt, nat_le, if◌then◌else◌, cond, get_or}
+use Rattle.std.proofs.Common.{◌≡◌, ℕ, zero, suc, ◌+◌, ◌<◌, ◌≤◌, ◌^◌, Bool, true, false, not, ◌&&◌, List, [], ◌∷◌, ◌++◌, length, take, drop, Option, Some, None, refl, ap, sym, ◌∙◌, subst, arith, append_assoc}
+use Rattle.std.specs.Prelude.{codes, decimal, ◌==◌, nat_eq, nat_lt, nat_le, if◌then◌else◌, cond, get_or}
 use Rattle.std.specs.Char.{is_ascii_digit}
 use Rattle.std.specs.List.{list_all, prefix_len, starts_with}
 use Rattle.std.specs.Str.{all_ascii_digits}
@@ -15,7 +15,7 @@ use Rattle.std.proofs.lemmas.Str.Parse.{numerals_by_value, tells_all_ascii_digit
 use Rattle.std.proofs.Math.Seq.{drop-append_seam, take-append_seam}
 use Rattle.cc_tokens.specs.Token.{begins}
 use Rattle.cc_tokens.specs.Cut.{is_blank}
-use Rattle.cc_tokens.proofs.Runs.{run_all, run_stops, run_is}
+use Rattle.cc_tokens.proofs.Runs.{run_all, run_is}
 use Rattle.cc_tree.specs.Text.{FirstLine}
 use Rattle.cc_read.specs.FirstLine.{is_space, without, up_to_most, as_version, version_of, line_end, with_rest, from_digits, behind_words, from_words, first_line}
 
@@ -55,7 +55,7 @@ numeral n some small =
     let fits : n < 2 ^ 64 = omega arith in
     let all = digits_same (decimal n) ∙ digits_decimal (numerals_by_value _ tells_all_ascii_digits) n fits in
     let f = first_of (decimal n) all (first_decimal n (omega arith) fits) in
-    record { all = all; first = f.0; no_zero = f.1; value = (decimal_is_IsNumeral n fits).1; }
+    record { all = all; first = f.0; no_zero = f.1; value = (decimal_is_IsNumeral n fits).1 }
 
 version_there : (n : ℕ) (ds : List ℕ) → Numeral n ds → n < 10 ^ 9 → version_of ds ≡ Some n
 version_there n ds h small =
@@ -106,7 +106,7 @@ version_is n ds all e = go (begins is_ascii_digit ds) refl (begins (λ b. b == 4
         let l = lead ds g f in
         let small : digits_value 10 ds < 2 ^ 64 = omega (arith, v.0, v.1) in
         let is : ds ≡ decimal n = sym (decimal-digits_value (numerals_by_value _ tells_all_ascii_digits) ds (sym (digits_same ds) ∙ all) l.0 l.1 small) ∙ ap decimal v.0 in
-        record { is = is; from_one = some_value n ds is g; nine_digits = v.1; }
+        record { is = is; from_one = some_value n ds is g; nine_digits = v.1 }
 
 -- ---- a first line is read
 
@@ -227,10 +227,10 @@ module _ (text : List ℕ) (q : ℕ × List ℕ) where
       let spaces = take (prefix_len is_space end) end in
       let tail : end ≡ spaces ++ (10 ∷ q.1) = run_there is_space end ∙ ap (λ l. spaces ++ l) (line_end_is (without is_space end) q.1 ends) in
       let from_number : number ≡ decimal q.0 ++ (spaces ++ (10 ∷ q.1)) =
-          sym (take-append-drop (prefix_len is_ascii_digit number) number) ∙ ap (λ l. l ++ end) v.is ∙ ap (λ l. decimal q.0 ++ l) tail in
+      sym (take-append-drop (prefix_len is_ascii_digit number) number) ∙ ap (λ l. l ++ end) v.is ∙ ap (λ l. decimal q.0 ++ l) tail in
       let from_behind : behind ≡ gap ++ (decimal q.0 ++ (spaces ++ (10 ∷ q.1))) = run_there is_blank behind ∙ ap (λ l. gap ++ l) from_number in
       let from_start : text ≡ before ++ (codes "#pragma cfront" ++ (gap ++ (decimal q.0 ++ (spaces ++ (10 ∷ q.1))))) =
-          run_there is_blank text ∙ ap (λ l. before ++ l) (starts_words words starts ∙ ap (λ l. codes "#pragma cfront" ++ l) from_behind) in
+      run_there is_blank text ∙ ap (λ l. before ++ l) (starts_words words starts ∙ ap (λ l. codes "#pragma cfront" ++ l) from_behind) in
       record {
         line = before ++ (codes "#pragma cfront" ++ (gap ++ (decimal q.0 ++ (spaces ++ newline))));
         first = record {
@@ -256,6 +256,7 @@ module _ (text : List ℕ) (q : ℕ × List ℕ) where
           → (if t then from_digits (prefix_len is_ascii_digit number) number else None) ≡ Some q → Begun text q
       at starts false blank f = absurd (cc)
       at starts true blank f = let b = both_there (version_of digits) (line_end (without is_space end)) q f in made starts blank b.0 b.1
+
       go : (s : Bool) → starts_with nat_eq words (codes "#pragma cfront") ≡ s
           → (if s then (if begins is_blank behind then from_digits (prefix_len is_ascii_digit number) number else None) else None) ≡ Some q → Begun text q
       go false starts f = absurd (cc)

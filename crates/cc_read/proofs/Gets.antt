@@ -1,6 +1,6 @@
 -- What reading gives where the tokens are spelled by a tree: that tree and the tokens behind, or a refusal as invalid where the tree
 -- has a constant that there may not be.
-use Rattle.std.proofs.Common.{◌≡◌, ℕ, zero, suc, ◌+◌, ◌-◌, ◌<◌, ◌≤◌, Bool, true, false, List, [], ◌∷◌, ◌++◌, length, Option, Some, None, Result, Ok, Err, refl, ap, sym, ◌∙◌, subst, arith, rules, append-nil, append_assoc, length-append}
+use Rattle.std.proofs.Common.{◌≡◌, ℕ, suc, ◌-◌, ◌<◌, Bool, true, false, List, [], ◌∷◌, ◌++◌, Result, Ok, Err, refl, ap, sym, ◌∙◌, subst, arith, rules, append-nil, append_assoc}
 use Rattle.std.specs.Prelude.{if◌then◌else◌}
 use denote.Enum.Bare.{same_false}
 use Rattle.cc_tokens.specs.contracts.mark.Mark.{the_type}
@@ -10,9 +10,8 @@ use Rattle.cc_tokens.specs.declared.token.Token.TheVariants as token
 use Rattle.cc_tokens.specs.Mark.{same_mark}
 use Rattle.cc_read.specs.declared.error.ReadErr.{ReadErr}
 use Rattle.cc_read.specs.declared.error.ReadErr.TheVariants as error
-use Rattle.cc_read.specs.Parse.{Parse, and_then, ◌>>=◌, pure, behind, sees, if_next, many, expect, name}
+use Rattle.cc_read.specs.Parse.{Parse, and_then, ◌>>=◌, many, expect, name}
 use Rattle.cc_read.proofs.Steps.{many_stops, many_turn}
-use Rattle.cc_read.proofs.Unfit.{OneOf, here, later}
 
 pub data Gets {A : Type 0} (read : Result (A × List Token) ReadErr) (a : A) (rest : List Token) (Bad : Type 0) : Type 0 where
   got : read ≡ Ok (a, rest) → Gets read a rest Bad

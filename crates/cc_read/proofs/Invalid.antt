@@ -1,8 +1,6 @@
 -- A unit with a constant that is no int is not valid; and where each constant may be, no tree is unfit.
-use Rattle.std.proofs.Common.{◌≡◌, ℕ, Bool, true, false, not, ◌&&◌, ◌||◌, ℤ, List, [], ◌∷◌, ◌++◌, Option, Some, None, option_map, map, is_some, refl, ap, sym, ◌∙◌, subst}
+use Rattle.std.proofs.Common.{◌≡◌, ℕ, Bool, true, false, not, ◌&&◌, ℤ, List, [], ◌∷◌, ◌++◌, Option, Some, option_map, map, is_some, refl, ap, ◌∙◌}
 use Rattle.cf_base.specs.declared.arith.Arith.{Arith}
-use Rattle.cf_base.specs.declared.kind.Kind.TheVariants.{Int}
-use Rattle.cf_base.specs.Integers.{fits}
 use Rattle.cc_tree.specs.declared.expression.CPlace.{CPlace}
 use Rattle.cc_tree.specs.declared.expression.CExpression.{CExpression}
 use Rattle.cc_tree.specs.declared.expression.CExpression.TheVariants as tree
@@ -14,7 +12,7 @@ use Rattle.cc_tree.specs.declared.unit.CPrototype.{CPrototype}
 use Rattle.cc_tree.specs.declared.unit.CItem.{CItem}
 use Rattle.cc_tree.specs.declared.unit.CItem.TheVariants as kind
 use Rattle.cc_tree.specs.Build.{made_body}
-use Rattle.cc_tree.specs.Plain.{Expression, Statement, Body, Item, Place, place_of, expression_of, statement_of, body_of, else_of, item_of, items_of, function_of, in_order, prototype_of}
+use Rattle.cc_tree.specs.Plain.{Item, place_of, expression_of, statement_of, body_of, item_of, items_of, in_order}
 use Rattle.cc_tree.specs.Valid.{Known, valid_place, valid_places, valid_expression, valid_expressions, valid_statement, valid_statements, valid_body, valid_items, valid_prototype, is_written, is_name, is_in, differ, may_call, valid_call, prototype_named, is_library}
 use Rattle.cc_tree.specs.Mean.{local_names, parameter_names, is_helper}
 use Rattle.cc_tree.proofs.Views.{expression_of-Int, expression_of-Binary, statement_of-Assign, statement_of-Call, statement_of-Block, statement_of-If, statement_of-Loop, statement_of-Return, body_of-made_body}

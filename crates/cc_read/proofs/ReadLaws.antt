@@ -1,5 +1,5 @@
 -- What reading answers: a text has at most one unit; the unit that is read has it; and a text that is refused has none, or none that is valid.
-use Rattle.std.proofs.Common.{◌≡◌, ℕ, Bool, true, false, ◌&&◌, ℤ, List, [], ◌∷◌, ◌++◌, Option, Some, None, Result, Ok, Err, refl, ap, sym, ◌∙◌, subst}
+use Rattle.std.proofs.Common.{◌≡◌, ℕ, Bool, true, false, ◌&&◌, List, [], Option, Some, None, Result, Ok, Err, refl, ap, sym, ◌∙◌, subst}
 use Rattle.cc_tokens.specs.declared.token.Token.{Token}
 use Rattle.cc_tokens.specs.Cut.{Cut}
 use Rattle.cc_tokens.proofs.Cuts.{one_cut}
@@ -7,11 +7,11 @@ use Rattle.cc_tree.specs.declared.unit.CItem.{CItem}
 use Rattle.cc_tree.specs.declared.unit.CUnit.{CUnit}
 use Rattle.cc_tree.specs.Plain.{items_of}
 use Rattle.cc_tree.specs.Spells.{SpellsItems}
-use Rattle.cc_tree.specs.Text.{Text, FirstLine}
+use Rattle.cc_tree.specs.Text.{Text}
 use Rattle.cc_tree.specs.Valid.{valid_items, valid_unit}
 use Rattle.cc_read.specs.declared.error.ReadErr.{ReadErr}
 use Rattle.cc_read.specs.declared.error.ReadErr.TheVariants as error
-use Rattle.cc_read.specs.Parse.{Fails, Reads}
+use Rattle.cc_read.specs.Parse.{Reads}
 use Rattle.cc_read.specs.ParseExpression.{ints}
 use Rattle.cc_read.specs.ParseUnit.{whole}
 use Rattle.cc_read.specs.FirstLine.{first_line}
@@ -34,7 +34,7 @@ whole_read all ts (unfit e o) = absurd (none_of o)
 pub one_list : (all others : List CItem) (ts : List Token) → SpellsItems all ts → SpellsItems others ts → all ≡ others
 one_list all others ts d f =
     let same : ◌≡◌ {A = Result (List CItem × List Token) ReadErr} (Ok (all, [])) (Ok (others, [])) =
-        sym (whole_read all ts (complete_whole (λ z. true) nothing d)) ∙ whole_read others ts (complete_whole (λ z. true) nothing f) in
+    sym (whole_read all ts (complete_whole (λ z. true) nothing d)) ∙ whole_read others ts (complete_whole (λ z. true) nothing f) in
     let pair : (all, []) ≡ (others, []) = cc in
     ap (λ (p : List CItem × List Token). p.0) pair
 
@@ -69,7 +69,7 @@ not_valid ts all (got e) f = no_ok error.Invalid (all, []) (sym e ∙ f)
 not_valid ts all (unfit e o) f = bad_items o [] []
 
 pub items_read : (text : List ℕ) (ts new : List Token) (r : Result (List CItem) ReadErr) → Cut text ts → Reads (whole ints ts) r new → ReadsItems text r
-items_read text ts new (Ok all) cut read = record { tokens = ts; cut = cut; spelled = whole_spelled ints ts (all, new) read; }
+items_read text ts new (Ok all) cut read = record { tokens = ts; cut = cut; spelled = whole_spelled ints ts (all, new) read }
 items_read text ts new (Err error.NotC) cut read = λ all us c s.
     let same : us ≡ ts = one_cut c ts cut in
     never_refused ts all (complete_whole ints invalid (subst (SpellsItems all) same s)) read
@@ -112,10 +112,10 @@ module _ (text rest : List ℕ) (version : ℕ) (line : first_line text ≡ Some
   text_of : (all : List CItem) → ReadsItems rest (Ok all) → Text text (record { version = version; items = all })
   text_of all h =
       let l = first_line_is text (version, rest) line in
-      record { line = l.line; rest = rest; tokens = h.tokens; first = l.first; cut = h.cut; spelled = h.spelled; parts = l.parts; }
+      record { line = l.line; rest = rest; tokens = h.tokens; first = l.first; cut = h.cut; spelled = h.spelled; parts = l.parts }
 
   pub answers : (all : List CItem) (r : Result CUnit ReadErr) → ReadsItems rest (Ok all) → IsChecked (record { version = version; items = all }) r → IsRead text r
-  answers all (Ok u) h c = subst (HasValid text) (sym c.is) (record { has_text = text_of all h; is_valid = subst (λ v. valid_unit v ≡ true) c.is c.valid; })
+  answers all (Ok u) h c = subst (HasValid text) (sym c.is) (record { has_text = text_of all h; is_valid = subst (λ v. valid_unit v ≡ true) c.is c.valid })
   answers all (Err error.NotC) h c = absurd c
   answers all (Err error.Invalid) h c = λ u t. subst (λ v. valid_unit v ≡ false) (one_unit text (record { version = version; items = all }) u (text_of all h) t) c
   answers all (Err error.Memory) h c = tt

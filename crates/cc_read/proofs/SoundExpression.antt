@@ -1,5 +1,5 @@
 -- What is read as an expression or as arguments is spelled so.
-use Rattle.std.proofs.Common.{◌≡◌, ℕ, zero, suc, ◌+◌, Bool, true, false, ℤ, pos, neg_ℤ, List, [], ◌∷◌, ◌++◌, length, Option, Some, None, Result, Ok, Err, refl, ap, sym, ◌∙◌, subst, rules, arith, append-nil, append_assoc}
+use Rattle.std.proofs.Common.{◌≡◌, ℕ, zero, suc, ◌+◌, Bool, true, false, ℤ, pos, neg_ℤ, List, [], ◌∷◌, ◌++◌, length, Option, Some, None, Ok, refl, ap, sym, ◌∙◌, subst, arith, append-nil, append_assoc}
 use Rattle.std.specs.Prelude.{if◌then◌else◌, ◌==◌}
 use Rattle.std.specs.Str.Parse.{digits_value}
 use Rattle.std.proofs.lemmas.Bool.{eqb-true}
@@ -12,10 +12,9 @@ use Rattle.cc_tree.specs.declared.expression.CExpression.{CExpression}
 use Rattle.cc_tree.specs.declared.expression.CExpression.TheVariants as tree
 use Rattle.cc_tree.specs.Spells.{SpellsExpression, SpellsPlace, SpellsSome, SpellsArguments, joins, loosest}
 use Rattle.cc_tree.specs.Spells as g
-use Rattle.cc_read.specs.declared.error.ReadErr.{ReadErr}
 use Rattle.cc_read.specs.declared.error.ReadErr.TheVariants as error
-use Rattle.cc_read.specs.Parse.{Parse, and_then, ◌>>=◌, pure, refuse, behind, sees, sees_dash, if_next, many, past}
-use Rattle.cc_read.specs.ParseExpression.{only, constant, negative, operand, brackets, primary, above, operator_above, if_some, more_operands, binary, expression, more_arguments, some_arguments, arguments}
+use Rattle.cc_read.specs.Parse.{Parse, and_then, pure, behind, sees, sees_dash, past}
+use Rattle.cc_read.specs.ParseExpression.{only, constant, negative, operand, brackets, primary, above, operator_above, if_some, more_operands, binary, expression, some_arguments, arguments}
 use Rattle.cc_read.proofs.Taken.{ok_at, no_ok, bind_ok, sees_is, dash_is, Read, Sound, SoundIf, sound_pure, sound_refuse, sound_then, sound_expect, sound_if, sound_if_next, Many, none, more, sound_many}
 
 sound_constant : (T : CExpression → List Token → Type 0) (fit : ℤ → Bool) (z : ℤ) → T (tree.Int z) [] → Sound T (constant (only fit z))
@@ -33,10 +32,10 @@ sound_operand fit (token.Mark m ∷ ts) q e = no_ok error.NotC q e
 sound_operand fit (token.Dash ∷ ts) q e = no_ok error.NotC q e
 sound_operand fit (token.Name word ∷ ts) q e =
     ok_at (Read (SpellsExpression 0) (token.Name word ∷ ts)) (tree.Load (place.Name word), ts) q e
-    (record { front = token.Name word ∷ []; spells = g.SpellsExpression.load (place.Name word) (token.Name word ∷ []) (g.SpellsPlace.name word); parts = refl; })
+    (record { front = token.Name word ∷ []; spells = g.SpellsExpression.load (place.Name word) (token.Name word ∷ []) (g.SpellsPlace.name word); parts = refl })
 sound_operand fit (token.Signed ds ∷ ts) q e =
     let r = sound_constant (λ x ys. SpellsExpression 0 x (token.Signed ds ∷ ys)) fit (pos (digits_value 10 ds)) (g.SpellsExpression.int ds) ts q e in
-    record { front = token.Signed ds ∷ r.front; spells = r.spells; parts = ap (λ l. token.Signed ds ∷ l) r.parts; }
+    record { front = token.Signed ds ∷ r.front; spells = r.spells; parts = ap (λ l. token.Signed ds ∷ l) r.parts }
 sound_operand fit (token.Unsigned ds ∷ ts) q e = no_ok error.NotC q e
 
 sound_negative : (fit : ℤ → Bool) → Sound (λ x ys. SpellsExpression 0 x (token.Dash ∷ ys)) (negative fit)
@@ -47,20 +46,20 @@ sound_negative fit (token.Dash ∷ ts) q e = no_ok error.NotC q e
 sound_negative fit (token.Name word ∷ ts) q e = no_ok error.NotC q e
 sound_negative fit (token.Signed ds ∷ ts) q e =
     let r = sound_constant (λ x ys. SpellsExpression 0 x (token.Dash ∷ token.Signed ds ∷ ys)) fit (neg_ℤ (pos (digits_value 10 ds))) (g.SpellsExpression.negative ds) ts q e in
-    record { front = token.Signed ds ∷ r.front; spells = r.spells; parts = ap (λ l. token.Signed ds ∷ l) r.parts; }
+    record { front = token.Signed ds ∷ r.front; spells = r.spells; parts = ap (λ l. token.Signed ds ∷ l) r.parts }
 sound_negative fit (token.Unsigned ds ∷ ts) q e = no_ok error.NotC q e
 
 sound_dash : (fit : ℤ → Bool) → SoundIf sees_dash (SpellsExpression 0) (λ ts. negative fit (behind ts))
 sound_dash fit ts q is f =
     let r = sound_negative fit (behind ts) q f in
-    record { front = token.Dash ∷ r.front; spells = r.spells; parts = dash_is ts is ∙ ap (λ l. token.Dash ∷ l) r.parts; }
+    record { front = token.Dash ∷ r.front; spells = r.spells; parts = dash_is ts is ∙ ap (λ l. token.Dash ∷ l) r.parts }
 
 sound_primary : (fit : ℤ → Bool) (ex : Parse CExpression) → Sound (SpellsExpression loosest) ex → Sound (SpellsExpression 0) (primary fit ex)
 unfolding primary brackets
 sound_primary fit ex h =
     sound_if_next (SpellsExpression 0) mark.LeftParen (brackets ex) (λ ts. if sees_dash ts then negative fit (behind ts) else operand fit ts)
     (sound_then (SpellsExpression loosest) (λ x ys. SpellsExpression 0 x (token.Mark mark.LeftParen ∷ ys)) ex _ h
-      (λ x xs s. sound_expect _ mark.RightParen _ (sound_pure _ x (g.SpellsExpression.brackets x xs s))))
+    (λ x xs s. sound_expect _ mark.RightParen _ (sound_pure _ x (g.SpellsExpression.brackets x xs s))))
     (sound_if (SpellsExpression 0) sees_dash _ _ (sound_dash fit) (sound_operand fit))
 
 pub record Operator (level : ℕ) (op : Arith) (ts : List Token) : Type 0 where
@@ -81,7 +80,7 @@ above_is level (Some p) op e = go (p.0 == level + 1) refl e
 
 pub operator_is : (level : ℕ) (op : Arith) (ts : List Token) → operator_above level ts ≡ Some op → Operator level op ts
 operator_is level op [] e = absurd (cc)
-operator_is level op (t ∷ ts) e = record { front = t; is = refl; joins_there = above_is level (joins t) op e; }
+operator_is level op (t ∷ ts) e = record { front = t; is = refl; joins_there = above_is level (joins t) op e }
 
 sound_operands : (tighter : Parse CExpression) (level : ℕ) → Sound (SpellsExpression level) tighter → (n : ℕ) (a : CExpression) (xs : List Token)
     → SpellsExpression (suc level) a xs → Sound (λ b ys. SpellsExpression (suc level) b (xs ++ ys)) (more_operands tighter level n a)
@@ -127,7 +126,7 @@ pub data Behind {A : Type 0} (S : A → List Token → Type 0) : A → List Toke
 pub sound_past : {A : Type 0} (S : A → List Token → Type 0) (p : Parse A) → Sound S p → SoundIf (sees mark.Comma) (Behind S) (past p)
 sound_past S p h ts q is f =
     let r = h (behind ts) q f in
-    record { front = token.Mark mark.Comma ∷ r.front; spells = comma q.0 r.front r.spells; parts = sees_is mark.Comma ts is ∙ ap (λ l. token.Mark mark.Comma ∷ l) r.parts; }
+    record { front = token.Mark mark.Comma ∷ r.front; spells = comma q.0 r.front r.spells; parts = sees_is mark.Comma ts is ∙ ap (λ l. token.Mark mark.Comma ∷ l) r.parts }
 
 some_of : {all : List CExpression} {ys : List Token} → Many (Behind (SpellsExpression loosest)) all ys → (e : CExpression) (xs : List Token) → SpellsExpression loosest e xs
     → SpellsSome (e ∷ all) (xs ++ ys)
@@ -139,5 +138,5 @@ unfolding arguments some_arguments
 sound_arguments ex h =
     sound_if SpellsArguments (sees mark.RightParen) (pure []) (some_arguments ex) (λ ts q is f. sound_pure SpellsArguments [] g.SpellsArguments.none ts q f)
     (sound_then (SpellsExpression loosest) SpellsArguments ex _ h
-      (λ e xs s ts. sound_many (Behind (SpellsExpression loosest)) (λ all ys. SpellsArguments all (xs ++ ys)) (sees mark.Comma) (past ex) (sound_past _ ex h) (length ts) (e ∷ [])
-        (λ all ys m. g.SpellsArguments.some (e ∷ all) (xs ++ ys) (some_of m e xs s)) ts))
+    (λ e xs s ts. sound_many (Behind (SpellsExpression loosest)) (λ all ys. SpellsArguments all (xs ++ ys)) (sees mark.Comma) (past ex) (sound_past _ ex h) (length ts) (e ∷ [])
+    (λ all ys m. g.SpellsArguments.some (e ∷ all) (xs ++ ys) (some_of m e xs s)) ts))

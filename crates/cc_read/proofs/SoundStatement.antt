@@ -1,6 +1,5 @@
 -- What is read as a statement or as a body is spelled so.
-use Rattle.std.proofs.Common.{◌≡◌, ℕ, zero, suc, Bool, true, false, ℤ, List, [], ◌∷◌, ◌++◌, length, Option, Some, None, Result, Ok, Err, refl, ap, sym, ◌∙◌, subst, append-nil, append_assoc}
-use Rattle.std.specs.Prelude.{if◌then◌else◌}
+use Rattle.std.proofs.Common.{ℕ, zero, suc, Bool, ℤ, List, [], ◌∷◌, ◌++◌, length, Option, Some, None, sym, subst, append-nil, append_assoc}
 use Rattle.cc_tokens.specs.declared.mark.Mark.TheVariants as mark
 use Rattle.cc_tokens.specs.declared.token.Token.{Token}
 use Rattle.cc_tokens.specs.declared.token.Token.TheVariants as token
@@ -15,11 +14,10 @@ use Rattle.cc_tree.specs.declared.statement.CStatement.{CStatement}
 use Rattle.cc_tree.specs.declared.statement.CStatement.TheVariants as statement
 use Rattle.cc_tree.specs.Spells.{SpellsExpression, SpellsArguments, SpellsType, SpellsLocals, SpellsBody, SpellsStatements, SpellsStatement, loosest}
 use Rattle.cc_tree.specs.Spells as g
-use Rattle.cc_read.specs.declared.error.ReadErr.{ReadErr}
-use Rattle.cc_read.specs.Parse.{Parse, and_then, ◌>>=◌, pure, refuse, behind, sees, sees_not, sees_call, if_next, many}
+use Rattle.cc_read.specs.Parse.{Parse, ◌>>=◌, pure, sees, sees_not, sees_call}
 use Rattle.cc_read.specs.ParseExpression.{expression, arguments}
 use Rattle.cc_read.specs.ParseStatement.{type_name, local, locals, call, call_to, assignment, stored, named, block, leaves, otherwise, conditional, forever, gives, returned, plain, statement_by, statements_by, body_by, body}
-use Rattle.cc_read.proofs.Taken.{Read, Sound, SoundIf, sound_pure, sound_refuse, sound_then, sound_expect, sound_name, sound_if, sound_if_next, Many, none, more, sound_many}
+use Rattle.cc_read.proofs.Taken.{Sound, sound_pure, sound_refuse, sound_then, sound_expect, sound_name, sound_if, sound_if_next, Many, none, more, sound_many}
 use Rattle.cc_read.proofs.SoundExpression.{sound_expression, sound_arguments}
 
 abbrev Whole : CExpression → List Token → Type 0
@@ -62,7 +60,7 @@ module _ (ex : Parse CExpression) (h : Sound Whole ex) where
   unfolding stored call_to assignment
   sound_stored n = sound_expect _ mark.Assign _ (sound_if _ sees_call (call_to ex (place.Name n)) (assignment ex (place.Name n))
       (λ ts q is f. sound_name (λ s ys. SpellsStatement s (token.Name n ∷ token.Mark mark.Assign ∷ ys)) _
-        (λ word. sound_call _ (Some (place.Name n)) word (λ es xs a. g.SpellsStatement.call_to (place.Name n) (token.Name n ∷ []) word es xs (g.SpellsPlace.name n) a)) ts q f)
+      (λ word. sound_call _ (Some (place.Name n)) word (λ es xs a. g.SpellsStatement.call_to (place.Name n) (token.Name n ∷ []) word es xs (g.SpellsPlace.name n) a)) ts q f)
       (sound_then Whole _ ex _ h (λ e xs s. sound_expect _ mark.Semicolon _ (sound_pure _ _ (g.SpellsStatement.assign (place.Name n) (token.Name n ∷ []) e xs (g.SpellsPlace.name n) s)))))
 
   sound_named : Sound SpellsStatement (named ex)

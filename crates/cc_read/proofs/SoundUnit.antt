@@ -1,5 +1,5 @@
 -- What is read as the items of a unit is spelled so.
-use Rattle.std.proofs.Common.{◌≡◌, ℕ, zero, suc, Bool, true, false, ℤ, List, [], ◌∷◌, ◌++◌, length, Option, Some, None, Result, Ok, Err, refl, ap, sym, ◌∙◌, subst, append-nil, append_assoc}
+use Rattle.std.proofs.Common.{◌≡◌, ℕ, Bool, ℤ, List, [], ◌∷◌, ◌++◌, length, Some, None, Ok, ap, sym, ◌∙◌, subst, append-nil, append_assoc}
 use Rattle.cc_tokens.specs.declared.mark.Mark.TheVariants as mark
 use Rattle.cc_tokens.specs.declared.token.Token.{Token}
 use Rattle.cc_tokens.specs.declared.token.Token.TheVariants as token
@@ -10,11 +10,10 @@ use Rattle.cc_tree.specs.declared.unit.CItem.{CItem}
 use Rattle.cc_tree.specs.declared.unit.CItem.TheVariants as item
 use Rattle.cc_tree.specs.Spells.{SpellsType, SpellsBody, SpellsParameters, SpellsSignature, SpellsResult, SpellsPrototype, SpellsItem, SpellsItems}
 use Rattle.cc_tree.specs.Spells as g
-use Rattle.cc_read.specs.declared.error.ReadErr.{ReadErr}
-use Rattle.cc_read.specs.Parse.{Parse, and_then, ◌>>=◌, pure, behind, sees, goes_on, if_next, many, past, end}
+use Rattle.cc_read.specs.Parse.{◌>>=◌, pure, sees, goes_on, past, end}
 use Rattle.cc_read.specs.ParseStatement.{type_name, body}
-use Rattle.cc_read.specs.ParseUnit.{result_type, parameter, more_parameters, some_parameters, signature, prototype, declaration, definition, declares, item_by, items, whole}
-use Rattle.cc_read.proofs.Taken.{ok_at, bind_ok, end_ok, Read, Sound, SoundIf, sound_pure, sound_then, sound_expect, sound_name, sound_if_next, Many, none, more, sound_many}
+use Rattle.cc_read.specs.ParseUnit.{result_type, parameter, some_parameters, signature, prototype, declaration, definition, declares, item_by, items, whole}
+use Rattle.cc_read.proofs.Taken.{ok_at, bind_ok, end_ok, Sound, sound_pure, sound_then, sound_expect, sound_name, sound_if_next, Many, none, more, sound_many}
 use Rattle.cc_read.proofs.SoundExpression.{Behind, comma, sound_past}
 use Rattle.cc_read.proofs.SoundStatement.{sound_type, sound_body}
 
@@ -42,7 +41,7 @@ unfolding signature some_parameters
 sound_signature = sound_if_next SpellsSignature mark.Void (pure []) some_parameters (sound_pure _ [] g.SpellsSignature.void)
     (sound_then Parameter SpellsSignature parameter _ sound_parameter
     (λ p xs d ts. sound_many (Behind Parameter) (λ all ys. SpellsSignature all (xs ++ ys)) (sees mark.Comma) (past parameter) (sound_past Parameter parameter sound_parameter)
-      (length ts) (p ∷ []) (λ all ys m. g.SpellsSignature.some (p ∷ all) (xs ++ ys) (parameters_of m d)) ts))
+    (length ts) (p ∷ []) (λ all ys m. g.SpellsSignature.some (p ∷ all) (xs ++ ys) (parameters_of m d)) ts))
 
 sound_prototype : Sound SpellsPrototype prototype
 unfolding prototype

@@ -1,14 +1,13 @@
 -- One step of each loop and of each recursion of the reader.
-use Rattle.std.proofs.Common.{◌≡◌, ℕ, zero, suc, ◌+◌, ◌-◌, ◌<◌, ◌≤◌, arith, Bool, true, false, ℤ, List, [], ◌∷◌, ◌++◌, length, Option, Some, None, Result, Ok, Err, refl, ap, sym, ◌∙◌, subst}
+use Rattle.std.proofs.Common.{◌≡◌, ℕ, zero, suc, ◌+◌, ◌-◌, ◌<◌, ◌≤◌, arith, Bool, true, false, ℤ, List, [], ◌∷◌, ◌++◌, length, Some, None, Result, Ok, Err, refl, ap, sym, ◌∙◌, subst}
 use Rattle.cf_base.specs.declared.arith.Arith.{Arith}
 use Rattle.cc_tokens.specs.declared.token.Token.{Token}
 use Rattle.cc_tree.specs.declared.expression.CExpression.{CExpression}
 use Rattle.cc_tree.specs.declared.expression.CExpression.TheVariants as tree
-use Rattle.cc_tree.specs.declared.statement.CBody.{CBody}
 use Rattle.cc_tree.specs.Spells.{loosest}
 use Rattle.cc_read.specs.declared.error.ReadErr.{ReadErr}
 use Rattle.cc_read.specs.declared.error.ReadErr.TheVariants as error
-use Rattle.cc_read.specs.Parse.{Parse, and_then, ◌>>=◌, Fails, Reads, many, behind}
+use Rattle.cc_read.specs.Parse.{Parse, and_then, Fails, many, behind}
 use Rattle.cc_read.specs.ParseExpression.{primary, binary, expression, more_operands, operator_above}
 use Rattle.cc_read.specs.ParseStatement.{statement_by, body_by, body}
 

@@ -1,10 +1,9 @@
 -- What reading has taken: reading is sound for a way of spelling where what it takes spells what it gives.
-use Rattle.std.proofs.Common.{◌≡◌, ℕ, zero, suc, Bool, true, false, List, [], ◌∷◌, ◌++◌, length, Option, Some, None, Result, Ok, Err, refl, ap, sym, ◌∙◌, subst, rules, append-nil, append_assoc}
+use Rattle.std.proofs.Common.{◌≡◌, ℕ, zero, suc, Bool, true, false, List, [], ◌∷◌, ◌++◌, Result, Ok, Err, refl, ap, sym, ◌∙◌, subst, append-nil, append_assoc}
 use Rattle.std.specs.Prelude.{if◌then◌else◌}
 use Rattle.cc_tokens.specs.declared.mark.Mark.{Mark}
 use Rattle.cc_tokens.specs.declared.token.Token.{Token}
 use Rattle.cc_tokens.specs.declared.token.Token.TheVariants as token
-use Rattle.cc_tokens.specs.Mark.{same_mark}
 use Rattle.cc_tokens.proofs.Marks.{same_mark-true}
 use Rattle.cc_read.specs.declared.error.ReadErr.{ReadErr}
 use Rattle.cc_read.specs.declared.error.ReadErr.TheVariants as error
@@ -90,19 +89,19 @@ sound_then S T p f sound later ts q e =
     let (a, mid, read, e1) = bind_ok (p ts) f q e in
     let one = sound ts (a, mid) read in
     let two = later a one.front one.spells mid q e1 in
-    record { front = one.front ++ two.front; spells = two.spells; parts = join ts one.front mid two.front q.1 one.parts two.parts; }
+    record { front = one.front ++ two.front; spells = two.spells; parts = join ts one.front mid two.front q.1 one.parts two.parts }
 
 pub sound_expect : {B : Type 0} (T : B → List Token → Type 0) (m : Mark) (f : Unit {0} → Parse B) → Sound (λ b ys. T b (token.Mark m ∷ ys)) (f tt) → Sound T (expect m >>= f)
 sound_expect T m f later ts q e =
     let (a, mid, read, e1) = bind_ok (expect m ts) f q e in
     let two = later mid q e1 in
-    record { front = token.Mark m ∷ two.front; spells = two.spells; parts = join ts (token.Mark m ∷ []) mid two.front q.1 (expect_ok m ts (a, mid) read) two.parts; }
+    record { front = token.Mark m ∷ two.front; spells = two.spells; parts = join ts (token.Mark m ∷ []) mid two.front q.1 (expect_ok m ts (a, mid) read) two.parts }
 
 pub sound_name : {B : Type 0} (T : B → List Token → Type 0) (f : List ℕ → Parse B) → ((word : List ℕ) → Sound (λ b ys. T b (token.Name word ∷ ys)) (f word)) → Sound T (name >>= f)
 sound_name T f later ts q e =
     let (word, mid, read, e1) = bind_ok (name ts) f q e in
     let two = later word mid q e1 in
-    record { front = token.Name word ∷ two.front; spells = two.spells; parts = join ts (token.Name word ∷ []) mid two.front q.1 (name_ok ts (word, mid) read) two.parts; }
+    record { front = token.Name word ∷ two.front; spells = two.spells; parts = join ts (token.Name word ∷ []) mid two.front q.1 (name_ok ts (word, mid) read) two.parts }
 
 pub sound_if : {A : Type 0} (S : A → List Token → Type 0) (test : List Token → Bool) (p r : Parse A) → SoundIf test S p → Sound S r → Sound S (λ ts. if test ts then p ts else r ts)
 sound_if S test p r sp sr ts q e = go (test ts) refl e
@@ -114,7 +113,7 @@ sound_if S test p r sp sr ts q e = go (test ts) refl e
 pub sound_if_next : {A : Type 0} (S : A → List Token → Type 0) (m : Mark) (p r : Parse A) → Sound (λ b ys. S b (token.Mark m ∷ ys)) p → Sound S r → Sound S (if_next m p r)
 sound_if_next S m p r sp sr = sound_if S (sees m) (λ ts. p (behind ts)) r
     (λ ts q is f. let two = sp (behind ts) q f in
-    record { front = token.Mark m ∷ two.front; spells = two.spells; parts = join ts (token.Mark m ∷ []) (behind ts) two.front q.1 (sees_is m ts is) two.parts; }) sr
+    record { front = token.Mark m ∷ two.front; spells = two.spells; parts = join ts (token.Mark m ∷ []) (behind ts) two.front q.1 (sees_is m ts is) two.parts }) sr
 
 -- ---- loops
 
@@ -129,11 +128,11 @@ unfolding many
 sound_many S T goes one sound zero found close ts q e = sound_pure T found (subst (λ l. T l []) (append-nil found) (close [] [] none)) ts q e
 sound_many S T goes one sound (suc n) found close ts q e = sound_if T goes (one >>= (λ x. many goes one n (found ++ x ∷ []))) (pure found)
     (λ us r is f.
-      let (a, mid, read, e1) = bind_ok (one us) (λ x. many goes one n (found ++ x ∷ [])) r f in
-      let first = sound us (a, mid) is read in
-      let later = sound_many S (λ b ys. T b (first.front ++ ys)) goes one sound n (found ++ a ∷ [])
-        (λ all ys m. subst (λ l. T l (first.front ++ ys)) (sym (append_assoc found (a ∷ []) all)) (close (a ∷ all) (first.front ++ ys) (more a first.front all ys first.spells m)))
-        mid r e1 in
-      record { front = first.front ++ later.front; spells = later.spells; parts = join us first.front mid later.front r.1 first.parts later.parts; })
+    let (a, mid, read, e1) = bind_ok (one us) (λ x. many goes one n (found ++ x ∷ [])) r f in
+    let first = sound us (a, mid) is read in
+    let later = sound_many S (λ b ys. T b (first.front ++ ys)) goes one sound n (found ++ a ∷ [])
+    (λ all ys m. subst (λ l. T l (first.front ++ ys)) (sym (append_assoc found (a ∷ []) all)) (close (a ∷ all) (first.front ++ ys) (more a first.front all ys first.spells m)))
+    mid r e1 in
+    record { front = first.front ++ later.front; spells = later.spells; parts = join us first.front mid later.front r.1 first.parts later.parts })
     (sound_pure T found (subst (λ l. T l []) (append-nil found) (close [] [] none)))
     ts q e

@@ -1,5 +1,5 @@
 -- What is known of trees with a constant that there may not be. The answer for such a text is a refusal as invalid.
-use Rattle.std.proofs.Common.{◌≡◌, ℕ, Bool, false, ℤ, List, [], ◌∷◌, ◌++◌, Option, Some, None}
+use Rattle.std.proofs.Common.{◌≡◌, ℕ, Bool, false, ℤ, List, ◌∷◌, Option, Some}
 use Rattle.cf_base.specs.declared.arith.Arith.{Arith}
 use Rattle.cc_tree.specs.declared.expression.CPlace.{CPlace}
 use Rattle.cc_tree.specs.declared.expression.CExpression.{CExpression}

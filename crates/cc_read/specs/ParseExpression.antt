@@ -1,5 +1,5 @@
 -- How the code reads an expression and arguments. `fit` tells which constants there may be: a text with another is refused as invalid.
-use Rattle.std.specs.Prelude.{◌≡◌, ℕ, zero, suc, Bool, true, false, if◌then◌else◌, ◌==◌, ◌+◌, List, [], ◌∷◌, ◌++◌, length, ℤ, pos, neg_ℤ, Option, Some, None, Result, Ok, Err}
+use Rattle.std.specs.Prelude.{ℕ, zero, suc, Bool, if◌then◌else◌, ◌==◌, ◌+◌, List, [], ◌∷◌, length, ℤ, pos, neg_ℤ, Option, Some, None, Ok, Err}
 use Rattle.std.specs.Str.Parse.{digits_value}
 use Rattle.cf_base.specs.declared.arith.Arith.{Arith}
 use Rattle.cf_base.specs.declared.kind.Kind.TheVariants.{Int}
@@ -11,9 +11,8 @@ use Rattle.cc_tree.specs.declared.expression.CPlace.TheVariants as place
 use Rattle.cc_tree.specs.declared.expression.CExpression.{CExpression}
 use Rattle.cc_tree.specs.declared.expression.CExpression.TheVariants as tree
 use Rattle.cc_tree.specs.Spells.{joins, loosest}
-use Rattle.cc_read.specs.declared.error.ReadErr.{ReadErr}
 use Rattle.cc_read.specs.declared.error.ReadErr.TheVariants as error
-use Rattle.cc_read.specs.Parse.{Parse, and_then, ◌>>=◌, pure, refuse, if_next, many, all_of, past, sees, sees_dash, behind, expect}
+use Rattle.cc_read.specs.Parse.{Parse, ◌>>=◌, pure, refuse, if_next, all_of, past, sees, sees_dash, behind, expect}
 
 -- the constant, where it is one that there may be
 abbrev pub only : (ℤ → Bool) → ℤ → Option ℤ

@@ -1,7 +1,6 @@
 -- How the code reads statements and bodies.
-use Rattle.std.specs.Prelude.{◌≡◌, ℕ, zero, suc, Bool, true, false, if◌then◌else◌, List, [], ◌∷◌, ◌++◌, length, ℤ, Option, Some, None, Result, Ok, Err}
+use Rattle.std.specs.Prelude.{ℕ, zero, suc, Bool, if◌then◌else◌, List, [], ℤ, Option, Some, None}
 use Rattle.cc_tokens.specs.declared.mark.Mark.TheVariants as mark
-use Rattle.cc_tokens.specs.declared.token.Token.{Token}
 use Rattle.cc_tree.specs.declared.types.CType.{CType}
 use Rattle.cc_tree.specs.declared.types.CType.TheVariants as ty
 use Rattle.cc_tree.specs.declared.expression.CPlace.{CPlace}
@@ -12,8 +11,7 @@ use Rattle.cc_tree.specs.declared.statement.CBody.{CBody}
 use Rattle.cc_tree.specs.declared.statement.CStatement.{CStatement}
 use Rattle.cc_tree.specs.declared.statement.CStatement.TheVariants as statement
 use Rattle.cc_tree.specs.Build.{made_body}
-use Rattle.cc_read.specs.declared.error.ReadErr.{ReadErr}
-use Rattle.cc_read.specs.Parse.{Parse, and_then, ◌>>=◌, pure, refuse, if_next, many, all_of, sees, sees_not, sees_call, behind, expect, name}
+use Rattle.cc_read.specs.Parse.{Parse, ◌>>=◌, pure, refuse, if_next, all_of, sees, sees_not, sees_call, expect, name}
 use Rattle.cc_read.specs.ParseExpression.{arguments, expression}
 
 unfoldable pub type_name : Parse CType

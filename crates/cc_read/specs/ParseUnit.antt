@@ -1,14 +1,12 @@
 -- How the code reads prototypes and items.
-use Rattle.std.specs.Prelude.{◌≡◌, ℕ, zero, suc, Bool, true, false, if◌then◌else◌, List, [], ◌∷◌, ◌++◌, length, ℤ, Option, Some, None, Result, Ok, Err}
+use Rattle.std.specs.Prelude.{Bool, List, [], ◌∷◌, length, ℤ, Option, Some, None}
 use Rattle.cc_tokens.specs.declared.mark.Mark.TheVariants as mark
-use Rattle.cc_tokens.specs.declared.token.Token.{Token}
 use Rattle.cc_tree.specs.declared.types.CType.{CType}
 use Rattle.cc_tree.specs.declared.unit.CParameter.{CParameter}
 use Rattle.cc_tree.specs.declared.unit.CPrototype.{CPrototype}
 use Rattle.cc_tree.specs.declared.unit.CItem.{CItem}
 use Rattle.cc_tree.specs.declared.unit.CItem.TheVariants as item
-use Rattle.cc_read.specs.declared.error.ReadErr.{ReadErr}
-use Rattle.cc_read.specs.Parse.{Parse, and_then, ◌>>=◌, pure, if_next, many, all_of, past, sees, goes_on, behind, expect, name, end}
+use Rattle.cc_read.specs.Parse.{Parse, ◌>>=◌, pure, if_next, all_of, past, sees, goes_on, expect, name, end}
 use Rattle.cc_read.specs.ParseStatement.{type_name, body}
 
 unfoldable pub result_type : Parse (Option CType)

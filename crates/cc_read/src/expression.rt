@@ -88,11 +88,7 @@ fn joined(
 
 #[cycle(expression)]
 #[tactic(auto, unfolding(crate::specs::ParseExpression::primary))]
-fn primary(
-    alloc: Global,
-    depth: usize,
-    c: &mut Cursor<'_>,
-) -> Result<Boxed<CExpression>, ReadErr>
+fn primary(alloc: Global, depth: usize, c: &mut Cursor<'_>) -> Result<Boxed<CExpression>, ReadErr>
     ensures { Reads (spec.primary ints (spec.expression ints depth) c.old) result c.new }
 {
     if c.sees(Mark::LeftParen) {
@@ -109,11 +105,7 @@ fn primary(
 /// What stands behind an opening bracket.
 #[cycle(expression)]
 #[tactic(auto, unfolding(crate::specs::ParseExpression::brackets))]
-fn brackets(
-    alloc: Global,
-    depth: usize,
-    c: &mut Cursor<'_>,
-) -> Result<Boxed<CExpression>, ReadErr>
+fn brackets(alloc: Global, depth: usize, c: &mut Cursor<'_>) -> Result<Boxed<CExpression>, ReadErr>
     ensures { Reads (spec.brackets (spec.expression ints depth) c.old) result c.new }
 {
     let inner = expression(alloc, depth, c)?;
@@ -149,10 +141,7 @@ fn some_arguments(
     more_arguments(alloc, depth, found, c)
 }
 
-fn only_item(
-    alloc: Global,
-    item: Boxed<CExpression>,
-) -> Result<Items<CExpression>, ReadErr>
+fn only_item(alloc: Global, item: Boxed<CExpression>) -> Result<Items<CExpression>, ReadErr>
     ensures { Reads (Ok (item ∷ [], [])) result [] }
 {
     let mut found = Items::new(alloc);

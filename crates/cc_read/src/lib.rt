@@ -10,6 +10,8 @@ mod expression;
 mod first_line;
 mod reader;
 mod statement;
+#[cfg(test)]
+mod tests;
 mod unit;
 mod value;
 

@@ -238,11 +238,7 @@ fn statement(alloc: Global, depth: usize, c: &mut Cursor<'_>) -> Result<CStateme
 }
 
 #[cycle(body)]
-fn statements(
-    alloc: Global,
-    depth: usize,
-    c: &mut Cursor<'_>,
-) -> Result<Items<CStatement>, ReadErr>
+fn statements(alloc: Global, depth: usize, c: &mut Cursor<'_>) -> Result<Items<CStatement>, ReadErr>
     ensures { Reads (spec.statements_by (spec.statement_by (expressions.expression ints depth) (spec.body ints depth)) c.old) result c.new }
 {
     let mut found = Items::new(alloc);

@@ -1,8 +1,8 @@
-use Rattle.std.proofs.Common.{◌≡◌, suc, zero, ◌+◌, ◌-◌, length, ◌∙◌, sym, refl, ap, subst, arith, rules}
+use Rattle.std.proofs.Common.{◌-◌, subst, arith, rules}
 use Rattle.std.proofs.lemmas.Result.{err_from_is_err_and}
-use Rattle.cc_read.specs.Parse.{Reads, Fails}
-use Rattle.cc_read.specs.ParseExpression.{ints, primary, binary, expression, more_operands}
-use Rattle.cc_read.proofs.Steps.{fails_then, binary_zero, binary_reads, binary_fails, expression_zero, expression_step, operands_end_loop, operands_stop_loop, operands_fail_loop, operands_next_loop}
+use Rattle.cc_read.specs.Parse.{Fails}
+use Rattle.cc_read.specs.ParseExpression.{ints, primary, binary, expression}
+use Rattle.cc_read.proofs.Steps.{binary_zero, binary_reads, binary_fails, expression_zero, expression_step, operands_end_loop, operands_stop_loop, operands_fail_loop, operands_next_loop}
 use Rattle.cc_read.proofs.expression.+expression.Goals as goal
 
 pub binary-returns-then-level-eq0 : goal.binary-returns-then-level-eq0

@@ -1,4 +1,4 @@
-use Rattle.std.proofs.Common.{sym, ◌∙◌}
+use Rattle.std.proofs.Common.{sym}
 use Rattle.std.proofs.lemmas.Result.{err_from_is_err_and}
 use Rattle.cc_read.proofs.ReadLaws.{no_line, no_items, answers}
 use Rattle.cc_read.proofs.reader.read.Goals as goal
