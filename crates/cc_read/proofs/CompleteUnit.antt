@@ -1,5 +1,5 @@
 -- The items of a unit that are spelled are read.
-use Rattle.std.proofs.Common.{◌≡◌, ◌<◌, Bool, true, false, ℤ, List, [], ◌∷◌, ◌++◌, length, Option, refl, ap, sym, ◌∙◌, subst, arith, append-nil, append_assoc, length-append}
+use Rattle.std.proofs.Common.{suc, ◌≡◌, ◌<◌, Bool, true, false, ℤ, List, [], ◌∷◌, ◌++◌, length, Option, refl, ap, sym, ◌∙◌, subst, arith, append-nil, append_assoc, length-append}
 use Rattle.cc_tokens.specs.declared.mark.Mark.TheVariants as mark
 use Rattle.cc_tokens.specs.declared.token.Token.{Token}
 use Rattle.cc_tokens.specs.declared.token.Token.TheVariants as token
@@ -16,12 +16,11 @@ use Rattle.cc_read.specs.Parse.{sees, goes_on, many, past, expect, name, end}
 use Rattle.cc_read.specs.ParseStatement.{type_name, body}
 use Rattle.cc_read.specs.ParseUnit.{result_type, parameter, some_parameters, signature, prototype, declaration, definition, declares, item_by, items, whole}
 use Rattle.cc_read.proofs.Taken.{Many, none, more}
-use Rattle.cc_read.proofs.SoundExpression.{Behind, comma}
 use Rattle.cc_read.proofs.SoundUnit.{Parameter, declared}
 use Rattle.cc_read.proofs.Unfit.{OneOf, Unfit}
 use Rattle.cc_read.proofs.Gets.{Gets, got, gets_as, gets_then, gets_expect, gets_name, gets_else}
 use Rattle.cc_read.proofs.CompleteMany.{gets_worse, complete_many}
-use Rattle.cc_read.proofs.CompleteArguments.{begins_comma}
+use Rattle.cc_read.proofs.CompleteSeparated.{Split, split_one, split_more, complete_separated}
 use Rattle.cc_read.proofs.CompleteStatement.{none_of, complete_body}
 
 -- ---- prototypes
@@ -30,74 +29,26 @@ gets_parameter : (p : CParameter) (xs : List Token) → Parameter p xs → (rest
 unfolding parameter type_name expect name same_mark
 gets_parameter _ _ (declared _ _ word g.SpellsType.int) rest = got refl
 
-gets_past : (p : CParameter) (xs : List Token) → Behind Parameter p xs → (rest : List Token) → Gets (past parameter (xs ++ rest)) p rest ⊥
-gets_past _ _ (comma p xs d) rest = gets_parameter p xs d rest
-
--- the first parameter, and those behind it with their commas
-record Split (ps : List CParameter) (zs : List Token) : Type 0 where
-  first : CParameter
-  xs : List Token
-  others : List CParameter
-  ys : List Token
-  list_is : ps ≡ first ∷ others
-  parts : zs ≡ xs ++ ys
-  spelled : Parameter first xs
-  behind_it : Many (Behind Parameter) others ys
-
-split : {ps : List CParameter} {zs : List Token} → SpellsParameters ps zs → Split ps zs
-split (g.SpellsParameters.last t ts word s) =
-    record {
-      first = record { ty = t; name = word };
-      xs = ts ++ (token.Name word ∷ []);
-      others = [];
-      ys = [];
-      list_is = refl;
-      parts = sym (append-nil (ts ++ (token.Name word ∷ [])));
-      spelled = declared t ts word s;
-      behind_it = none;
-    }
+split : {ps : List CParameter} {zs : List Token} → SpellsParameters ps zs → Split Parameter ps zs
+split (g.SpellsParameters.last t ts word s) = split_one Parameter (record { ty = t; name = word }) (ts ++ (token.Name word ∷ [])) (declared t ts word s)
 split (g.SpellsParameters.more t ts word all zs s d) =
-    let r = split d in
-    let m = more r.first (token.Mark mark.Comma ∷ r.xs) r.others r.ys (comma r.first r.xs r.spelled) r.behind_it in
-    record {
-      first = record { ty = t; name = word };
-      xs = ts ++ (token.Name word ∷ []);
-      others = all;
-      ys = token.Mark mark.Comma ∷ zs;
-      list_is = refl;
-      parts = sym (append_assoc ts (token.Name word ∷ []) (token.Mark mark.Comma ∷ zs));
-      spelled = declared t ts word s;
-      behind_it = subst (λ l. Many (Behind Parameter) l (token.Mark mark.Comma ∷ zs)) (sym r.list_is)
-          (subst (λ l. Many (Behind Parameter) (r.first ∷ r.others) (token.Mark mark.Comma ∷ l)) (sym r.parts) m);
-    }
+    subst (Split Parameter (record { ty = t; name = word } ∷ all)) (append_assoc ts (token.Name word ∷ []) (token.Mark mark.Comma ∷ zs))
+    (split_more Parameter (record { ty = t; name = word }) (ts ++ (token.Name word ∷ [])) all zs (declared t ts word s) (split d))
 
-no_void : (p : CParameter) (xs : List Token) → Parameter p xs → (rest : List Token) → sees mark.Void (xs ++ rest) ≡ false
+no_void : {ps : List CParameter} {xs : List Token} → SpellsParameters ps xs → (rest : List Token) → sees mark.Void (xs ++ rest) ≡ false
 unfolding same_mark
-no_void _ _ (declared _ _ word g.SpellsType.int) rest = refl
-
-gets_some : (p : CParameter) (xs : List Token) (others : List CParameter) (ys : List Token) → Parameter p xs → Many (Behind Parameter) others ys → (rest : List Token)
-    → Gets (signature ((xs ++ ys) ++ (token.Mark mark.RightParen ∷ rest))) (p ∷ others) (token.Mark mark.RightParen ∷ rest) ⊥
-unfolding signature some_parameters same_mark
-gets_some p xs others ys d m rest =
-    let close = token.Mark mark.RightParen ∷ rest in
-    let ts = xs ++ (ys ++ close) in
-    gets_as _ (signature ts) (p ∷ others) close _ (ap signature (append_assoc xs ys close))
-    (gets_else (sees mark.Void ts) _ _ (p ∷ others) close (no_void p xs d (ys ++ close))
-    (gets_then (parameter ts) (λ x us. many (sees mark.Comma) (past parameter) (length us) (x ∷ []) us) p (ys ++ close) (p ∷ others) close
-    (gets_parameter p xs d (ys ++ close)) (λ never. never)
-    (gets_worse _ _ close none_of
-    (complete_many (Behind Parameter) (sees mark.Comma) (past parameter) (λ x. ⊥) (λ us. Unit {0}) (length ys) (begins_comma Parameter (λ us. Unit {0}) (λ us. tt))
-    (λ x us b small vs f. gets_past x us b vs) m (omega arith) close tt refl (length (ys ++ close)) (omega (arith, length-append ys close)) (p ∷ [])))))
+no_void (g.SpellsParameters.last _ _ word g.SpellsType.int) rest = refl
+no_void (g.SpellsParameters.more _ _ word all xs g.SpellsType.int d) rest = refl
 
 gets_signature : {ps : List CParameter} {xs : List Token} → SpellsSignature ps xs → (rest : List Token)
     → Gets (signature (xs ++ (token.Mark mark.RightParen ∷ rest))) ps (token.Mark mark.RightParen ∷ rest) ⊥
-unfolding signature same_mark
+unfolding signature some_parameters same_mark
 gets_signature g.SpellsSignature.void rest = got refl
 gets_signature (g.SpellsSignature.some ps xs d) rest =
-    let s = split d in
     let close = token.Mark mark.RightParen ∷ rest in
-    subst (λ l. Gets (signature (xs ++ close)) l close ⊥) (sym s.list_is)
-    (subst (λ l. Gets (signature (l ++ close)) (s.first ∷ s.others) close ⊥) (sym s.parts) (gets_some s.first s.xs s.others s.ys s.spelled s.behind_it rest))
+    gets_else (sees mark.Void (xs ++ close)) _ _ ps close (no_void d close)
+    (gets_worse _ ps close none_of
+    (complete_separated Parameter parameter (λ p. ⊥) (λ ts. Unit {0}) (suc (length xs)) (λ ts. tt) (λ p us s short vs f. gets_parameter p us s vs) (split d) (omega arith) close tt refl))
 
 gets_result : {r : Option CType} {rs : List Token} → SpellsResult r rs → (rest : List Token) → Gets (result_type (rs ++ rest)) r rest ⊥
 unfolding result_type type_name expect same_mark

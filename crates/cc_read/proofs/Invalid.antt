@@ -48,7 +48,7 @@ nothing = record {
 left_false : (a b : Bool) → a ≡ false → (a && b) ≡ false
 left_false a b e = ap (λ c. c && b) e
 
-right_false : (a b : Bool) → b ≡ false → (a && b) ≡ false
+pub right_false : (a b : Bool) → b ≡ false → (a && b) ≡ false
 right_false true b e = e
 right_false false b e = refl
 

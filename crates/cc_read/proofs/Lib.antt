@@ -8,6 +8,7 @@ pub mod Unfit
 pub mod Gets
 pub mod CompleteExpression
 pub mod CompleteMany
+pub mod CompleteSeparated
 pub mod CompleteArguments
 pub mod CompleteStatement
 pub mod CompleteUnit

@@ -1,5 +1,6 @@
 -- What reading answers: a text has at most one unit; the unit that is read has it; and a text that is refused has none, or none that is valid.
 use Rattle.std.proofs.Common.{◌≡◌, ℕ, Bool, true, false, ◌&&◌, List, [], Option, Some, None, Result, Ok, Err, refl, ap, sym, ◌∙◌, subst}
+use Rattle.std.proofs.lemmas.Bool.{false≢true}
 use Rattle.cc_tokens.specs.declared.token.Token.{Token}
 use Rattle.cc_tokens.specs.Cut.{Cut}
 use Rattle.cc_tokens.proofs.Cuts.{one_cut}
@@ -15,13 +16,13 @@ use Rattle.cc_read.specs.Parse.{Reads}
 use Rattle.cc_read.specs.ParseExpression.{ints}
 use Rattle.cc_read.specs.ParseUnit.{whole}
 use Rattle.cc_read.specs.FirstLine.{first_line}
-use Rattle.cc_read.specs.Read.{IsRead, HasValid, Cuts, ReadsItems, IsChecked}
+use Rattle.cc_read.specs.Read.{IsRead, HasValid, IsUnit, Cuts, ReadsItems, IsChecked}
 use Rattle.cc_read.proofs.Unfit.{OneOf}
 use Rattle.cc_read.proofs.Gets.{Gets, got, unfit}
 use Rattle.cc_read.proofs.SoundUnit.{whole_spelled}
 use Rattle.cc_read.proofs.CompleteStatement.{none_of}
 use Rattle.cc_read.proofs.CompleteUnit.{complete_whole}
-use Rattle.cc_read.proofs.Invalid.{nothing, invalid, bad_items}
+use Rattle.cc_read.proofs.Invalid.{nothing, invalid, bad_items, right_false}
 use Rattle.cc_read.proofs.FirstLines.{first_line_read, first_line_is}
 
 -- ---- one unit
@@ -92,10 +93,6 @@ no_some a e = absurd (cc)
 pub no_line : (text : List ℕ) → first_line text ≡ None → IsRead text (Err error.NotC)
 no_line text e = λ u t. no_some (u.version, t.rest) (sym e ∙ line_of text u t)
 
-right_false : (a b : Bool) → b ≡ false → (a && b) ≡ false
-right_false true b e = e
-right_false false b e = refl
-
 -- what is read of the rest, behind the first line
 module _ (text rest : List ℕ) (version : ℕ) (line : first_line text ≡ Some (version, rest)) where
   same_rest : (u : CUnit) (t : Text text u) → (u.version ≡ version) × (t.rest ≡ rest)
@@ -119,3 +116,10 @@ module _ (text rest : List ℕ) (version : ℕ) (line : first_line text ≡ Some
   answers all (Err error.NotC) h c = absurd c
   answers all (Err error.Invalid) h c = λ u t. subst (λ v. valid_unit v ≡ false) (one_unit text (record { version = version; items = all }) u (text_of all h) t) c
   answers all (Err error.Memory) h c = tt
+
+-- a text of a valid unit is read as that unit
+pub valid_is_read : (text : List ℕ) (unit : CUnit) (r : Result CUnit ReadErr) → Text text unit → valid_unit unit ≡ true → IsRead text r → IsUnit unit r
+valid_is_read text unit (Ok found) t valid h = one_unit text found unit h.has_text t
+valid_is_read text unit (Err error.NotC) t valid h = h unit t
+valid_is_read text unit (Err error.Invalid) t valid h = absurd (false≢true (sym (h unit t) ∙ valid))
+valid_is_read text unit (Err error.Memory) t valid h = tt

@@ -25,6 +25,13 @@ IsRead text (Err error.NotC) = (unit : CUnit) → Text text unit → ⊥
 IsRead text (Err error.Invalid) = (unit : CUnit) → Text text unit → valid_unit unit ≡ false
 IsRead text (Err error.Memory) = Unit {0}
 
+-- the answer is this unit, unless memory fails
+abbrev pub IsUnit : CUnit → Result CUnit ReadErr → Type 0
+IsUnit unit (Ok found) = found ≡ unit
+IsUnit unit (Err error.NotC) = ⊥
+IsUnit unit (Err error.Invalid) = ⊥
+IsUnit unit (Err error.Memory) = Unit {0}
+
 -- ---- what the parts of reading ensure
 
 -- the tokens of a text

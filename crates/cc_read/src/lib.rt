@@ -8,6 +8,7 @@ mod cursor;
 mod error;
 mod expression;
 mod first_line;
+mod laws;
 mod reader;
 mod statement;
 #[cfg(test)]
@@ -16,4 +17,5 @@ mod unit;
 mod value;
 
 pub use error::ReadErr;
-pub use reader::{read, text_has_one_unit};
+pub use laws::{text_has_one_unit, text_of_a_valid_unit_is_read};
+pub use reader::read;

@@ -1,8 +1,5 @@
 //! Reading a text.
 
-ghost use Rattle.std.specs.Prelude.{◌≡◌, ℕ, List};
-ghost use Rattle.cc_tree.specs.declared.unit.CUnit.{CUnit};
-ghost use Rattle.cc_tree.specs.Text.{Text};
 ghost use Rattle.cc_read.specs.Read.{IsRead, CutsAll, ReadsItems, IsChecked};
 
 use crate::cursor::Cursor;
@@ -47,6 +44,8 @@ fn checked(alloc: Global, unit: CUnit) -> Result<CUnit, ReadErr>
 }
 
 /// The unit of a text.
+///
+/// `NotC` where no unit has the text, `Invalid` where no valid unit has it, `Memory` where memory fails.
 pub fn read(alloc: Global, text: &[u8]) -> Result<CUnit, ReadErr>
     ensures { IsRead text.now result }
 {
@@ -58,8 +57,3 @@ pub fn read(alloc: Global, text: &[u8]) -> Result<CUnit, ReadErr>
         }
     }
 }
-
-/// A law: two units that have one text are equal.
-pub fn text_has_one_unit()
-    ensures { (text : List ℕ) (u v : CUnit) → Text text u → Text text v → u ≡ v }
-{}
