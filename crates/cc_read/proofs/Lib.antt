@@ -12,6 +12,7 @@ pub mod CompleteSeparated
 pub mod CompleteArguments
 pub mod CompleteStatement
 pub mod CompleteUnit
+pub mod Alike
 pub mod Invalid
 pub mod FirstLines
 pub mod ReadLaws

@@ -9,14 +9,16 @@ use Rattle.cc_tree.specs.declared.unit.CUnit.{CUnit}
 use Rattle.cc_tree.specs.Plain.{items_of}
 use Rattle.cc_tree.specs.Spells.{SpellsItems}
 use Rattle.cc_tree.specs.Text.{Text}
-use Rattle.cc_tree.specs.Valid.{valid_items, valid_unit}
+use Rattle.cc_tree.specs.Valid.{valid_items, valid_version, valid_unit}
 use Rattle.cc_read.specs.declared.error.ReadErr.{ReadErr}
 use Rattle.cc_read.specs.declared.error.ReadErr.TheVariants as error
-use Rattle.cc_read.specs.Parse.{Reads}
+use Rattle.cc_read.specs.Parse.{Reads, ReadsWhole}
 use Rattle.cc_read.specs.ParseExpression.{ints}
 use Rattle.cc_read.specs.ParseUnit.{whole}
 use Rattle.cc_read.specs.FirstLine.{first_line}
-use Rattle.cc_read.specs.Read.{IsRead, HasValid, IsUnit, Cuts, ReadsItems, IsChecked}
+use Rattle.cc_read.specs.Read.{IsRead, HasValid, IsUnit, Cuts, ReadsItems, SpelledBy, told, IsChecked}
+use Rattle.cc_read.specs.Shrunk.{shrunk}
+use Rattle.cc_read.proofs.Alike.{Alike, both, neither, alike_whole}
 use Rattle.cc_read.proofs.Unfit.{OneOf}
 use Rattle.cc_read.proofs.Gets.{Gets, got, unfit}
 use Rattle.cc_read.proofs.SoundUnit.{whole_spelled}
@@ -69,15 +71,36 @@ not_valid : (ts : List Token) (all : List CItem) → Gets (whole ints ts) all []
 not_valid ts all (got e) f = no_ok error.Invalid (all, []) (sym e ∙ f)
 not_valid ts all (unfit e o) f = bad_items o [] []
 
-pub items_read : (text : List ℕ) (ts new : List Token) (r : Result (List CItem) ReadErr) → Cut text ts → Reads (whole ints ts) r new → ReadsItems text r
-items_read text ts new (Ok all) cut read = record { tokens = ts; cut = cut; spelled = whole_spelled ints ts (all, new) read }
-items_read text ts new (Err error.NotC) cut read = λ all us c s.
-    let same : us ≡ ts = one_cut c ts cut in
-    never_refused ts all (complete_whole ints invalid (subst (SpellsItems all) same s)) read
-items_read text ts new (Err error.Invalid) cut read = λ all us c s.
-    let same : us ≡ ts = one_cut c ts cut in
-    not_valid ts all (complete_whole ints invalid (subst (SpellsItems all) same s)) read
-items_read text ts new (Err error.Memory) cut read = tt
+invalid_is_other : {P : Type 0} → ◌≡◌ {A = Result (List CItem × List Token) ReadErr} (Err error.NotC) (Err error.Invalid) → P
+invalid_is_other e = absurd (cc)
+
+read_alike : (ts : List Token) → Alike (whole (λ z. true) ts) (whole ints (shrunk ts)) → whole ints ts ≡ Err error.Invalid → (r : Result (List CItem) ReadErr) (new : List Token)
+    → Reads (whole ints (shrunk ts)) r new → SpelledBy ts (told r)
+read_alike ts (both all others rest e f) large (Ok found) new read =
+    let spelled = whole_spelled (λ z. true) ts (all, rest) e in
+    (all, spelled, not_valid ts all (complete_whole ints invalid spelled) large)
+read_alike ts (both all others rest e f) large (Err error.NotC) new read = no_ok error.NotC (others, shrunk rest) (sym f ∙ read)
+read_alike ts (both all others rest e f) large (Err error.Invalid) new read = no_ok error.Invalid (others, shrunk rest) (sym f ∙ read)
+read_alike ts (both all others rest e f) large (Err error.Memory) new read = tt
+read_alike ts (neither e f) large (Ok found) new read = no_ok error.NotC (found, new) (sym read ∙ f)
+read_alike ts (neither e f) large (Err error.NotC) new read = λ all s. no_ok error.NotC (all, []) (sym (whole_read all ts (complete_whole (λ z. true) nothing s)) ∙ e)
+read_alike ts (neither e f) large (Err error.Invalid) new read = invalid_is_other (sym f ∙ read)
+read_alike ts (neither e f) large (Err error.Memory) new read = tt
+
+pub read_again : (ts : List Token) (r : Result (List CItem) ReadErr) → whole ints ts ≡ Err error.Invalid → ReadsWhole (whole ints (shrunk ts)) r → SpelledBy ts (told r)
+read_again ts r large h = read_alike ts (alike_whole ts) large r h.0 h.1
+
+pub read_once : (ts : List Token) (all : List CItem) → ReadsWhole (whole ints ts) (Ok all) → SpelledBy ts (Ok all)
+read_once ts all h = whole_spelled ints ts (all, h.0) h.1
+
+pub refused_once : (ts : List Token) → ReadsWhole (whole ints ts) (Err error.NotC) → SpelledBy ts (Err error.NotC)
+refused_once ts h = λ all s. never_refused ts all (complete_whole ints invalid s) h.1
+
+pub items_read : (text : List ℕ) (ts : List Token) (r : Result (List CItem) ReadErr) → Cut text ts → SpelledBy ts r → ReadsItems text r
+items_read text ts (Ok all) cut h = record { tokens = ts; cut = cut; spelled = h; }
+items_read text ts (Err error.NotC) cut h = λ all us c s. h all (subst (SpellsItems all) (one_cut c ts cut) s)
+items_read text ts (Err error.Invalid) cut h = record { items = h.0; held = record { tokens = ts; cut = cut; spelled = h.1; }; not_valid = h.2; }
+items_read text ts (Err error.Memory) cut h = tt
 
 -- where the text is cut into no tokens
 pub no_tokens : (text : List ℕ) (e : ReadErr) → Cuts text (Err e) → ReadsItems text (Err e)
@@ -101,25 +124,29 @@ module _ (text rest : List ℕ) (version : ℕ) (line : first_line text ≡ Some
       let pair : (u.version, t.rest) ≡ (version, rest) = cc in
       (ap (λ (p : ℕ × List ℕ). p.0) pair, ap (λ (p : ℕ × List ℕ). p.1) pair)
 
-  pub no_items : (e : ReadErr) → ReadsItems rest (Err e) → IsRead text (Err e)
-  no_items error.NotC h = λ u t. h u.items t.tokens (subst (λ r. Cut r t.tokens) (same_rest u t).1 t.cut) t.spelled
-  no_items error.Invalid h = λ u t. right_false _ _ (h u.items t.tokens (subst (λ r. Cut r t.tokens) (same_rest u t).1 t.cut) t.spelled)
-  no_items error.Memory h = tt
+  abbrev unit_of : List CItem → CUnit
+  unit_of all = record { version = version; items = all }
 
-  text_of : (all : List CItem) → ReadsItems rest (Ok all) → Text text (record { version = version; items = all })
+  text_of : (all : List CItem) → ReadsItems rest (Ok all) → Text text (unit_of all)
   text_of all h =
       let l = first_line_is text (version, rest) line in
       record { line = l.line; rest = rest; tokens = h.tokens; first = l.first; cut = h.cut; spelled = h.spelled; parts = l.parts }
 
-  pub answers : (all : List CItem) (r : Result CUnit ReadErr) → ReadsItems rest (Ok all) → IsChecked (record { version = version; items = all }) r → IsRead text r
+  pub no_items : (e : ReadErr) → ReadsItems rest (Err e) → IsRead text (Err e)
+  no_items error.NotC h = λ u t. h u.items t.tokens (subst (λ r. Cut r t.tokens) (same_rest u t).1 t.cut) t.spelled
+  no_items error.Invalid h = record { unit = unit_of h.items; has_text = text_of h.items h.held; not_valid = right_false (valid_version version) _ h.not_valid; }
+  no_items error.Memory h = tt
+
+  pub answers : (all : List CItem) (r : Result CUnit ReadErr) → ReadsItems rest (Ok all) → IsChecked (unit_of all) r → IsRead text r
   answers all (Ok u) h c = subst (HasValid text) (sym c.is) (record { has_text = text_of all h; is_valid = subst (λ v. valid_unit v ≡ true) c.is c.valid })
   answers all (Err error.NotC) h c = absurd c
-  answers all (Err error.Invalid) h c = λ u t. subst (λ v. valid_unit v ≡ false) (one_unit text (record { version = version; items = all }) u (text_of all h) t) c
+  answers all (Err error.Invalid) h c = record { unit = unit_of all; has_text = text_of all h; not_valid = c; }
   answers all (Err error.Memory) h c = tt
 
 -- a text of a valid unit is read as that unit
 pub valid_is_read : (text : List ℕ) (unit : CUnit) (r : Result CUnit ReadErr) → Text text unit → valid_unit unit ≡ true → IsRead text r → IsUnit unit r
 valid_is_read text unit (Ok found) t valid h = one_unit text found unit h.has_text t
 valid_is_read text unit (Err error.NotC) t valid h = h unit t
-valid_is_read text unit (Err error.Invalid) t valid h = absurd (false≢true (sym (h unit t) ∙ valid))
+valid_is_read text unit (Err error.Invalid) t valid h =
+    absurd (false≢true (sym h.not_valid ∙ ap valid_unit (one_unit text h.unit unit h.has_text t) ∙ valid))
 valid_is_read text unit (Err error.Memory) t valid h = tt

@@ -36,6 +36,10 @@ abbrev pub Reads : {A : Type 0} → Result (A × List Token) ReadErr → Result 
 Reads read (Ok a) new = read ≡ Ok (a, new)
 Reads read (Err e) new = Fails read e
 
+-- the same, whatever is left
+abbrev pub ReadsWhole : {A : Type 0} → Result (A × List Token) ReadErr → Result A ReadErr → Type 0
+ReadsWhole read r = (new : List Token) × Reads read r new
+
 abbrev pub behind : List Token → List Token
 behind [] = []
 behind (t ∷ ts) = ts

@@ -17,12 +17,18 @@ pub record HasValid (text : List ℕ) (unit : CUnit) : Type 0 where
   pub has_text : Text text unit
   pub is_valid : valid_unit unit ≡ true
 
+-- a unit that has this text and is not valid; no other unit has it
+pub record HasInvalid (text : List ℕ) : Type 0 where
+  pub unit : CUnit
+  pub has_text : Text text unit
+  pub not_valid : valid_unit unit ≡ false
+
 -- The unit that is read has this text and is valid. A text that is refused as no text is the text of no unit, and one that is refused
--- as invalid is the text of no valid unit. Nothing is said where memory fails.
+-- as invalid is the text of a unit that is not valid. Nothing is said where memory fails.
 abbrev pub IsRead : List ℕ → Result CUnit ReadErr → Type 0
 IsRead text (Ok unit) = HasValid text unit
 IsRead text (Err error.NotC) = (unit : CUnit) → Text text unit → ⊥
-IsRead text (Err error.Invalid) = (unit : CUnit) → Text text unit → valid_unit unit ≡ false
+IsRead text (Err error.Invalid) = HasInvalid text
 IsRead text (Err error.Memory) = Unit {0}
 
 -- the answer is this unit, unless memory fails
@@ -50,13 +56,29 @@ pub record Holds (text : List ℕ) (items : List CItem) : Type 0 where
   pub cut : Cut text tokens
   pub spelled : SpellsItems items tokens
 
+pub record HoldsInvalid (text : List ℕ) : Type 0 where
+  pub items : List CItem
+  pub held : Holds text items
+  pub not_valid : valid_items (items_of items) [] [] ≡ false
+
 -- the items of a text without its first line
 abbrev pub ReadsItems : List ℕ → Result (List CItem) ReadErr → Type 0
 ReadsItems text (Ok items) = Holds text items
 ReadsItems text (Err error.NotC) = (items : List CItem) (ts : List Token) → Cut text ts → SpellsItems items ts → ⊥
-ReadsItems text (Err error.Invalid) =
-    (items : List CItem) (ts : List Token) → Cut text ts → SpellsItems items ts → valid_items (items_of items) [] [] ≡ false
+ReadsItems text (Err error.Invalid) = HoldsInvalid text
 ReadsItems text (Err error.Memory) = Unit {0}
+
+-- the items that tokens spell
+abbrev pub SpelledBy : List Token → Result (List CItem) ReadErr → Type 0
+SpelledBy ts (Ok items) = SpellsItems items ts
+SpelledBy ts (Err error.NotC) = (items : List CItem) → SpellsItems items ts → ⊥
+SpelledBy ts (Err error.Invalid) = (items : List CItem) × SpellsItems items ts × (valid_items (items_of items) [] [] ≡ false)
+SpelledBy ts (Err error.Memory) = Unit {0}
+
+-- What is told by reading again with 0 in place of each constant that is no int: what is read then is not valid as it stands.
+abbrev pub told : Result (List CItem) ReadErr → Result (List CItem) ReadErr
+told (Ok items) = Err error.Invalid
+told (Err e) = Err e
 
 pub record IsValid (unit found : CUnit) : Type 0 where
   pub is : found ≡ unit

@@ -10,6 +10,7 @@ mod expression;
 mod first_line;
 mod laws;
 mod reader;
+mod shrunk;
 mod statement;
 #[cfg(test)]
 mod tests;
