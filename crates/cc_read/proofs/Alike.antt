@@ -1,10 +1,9 @@
 -- Reading goes alike with 0 in place of each constant that is no int, since no step of reading asks for the value of a constant.
-use Rattle.std.proofs.Common.{◌≡◌, ℕ, zero, suc, ◌+◌, Bool, true, false, not, ℤ, pos, negsuc, neg_ℤ, List, [], ◌∷◌, ◌++◌, length, map, Option, Some, None, Result, Ok, Err, refl, ap, sym, ◌∙◌, subst, arith}
+use Rattle.std.proofs.Common.{◌≡◌, ℕ, zero, suc, Bool, true, false, not, ℤ, pos, neg_ℤ, List, [], ◌∷◌, ◌++◌, length, Option, Some, None, Result, Ok, Err, refl, ap, sym, ◌∙◌, subst, arith}
 use Rattle.std.specs.Prelude.{if◌then◌else◌, codes}
 use Rattle.std.specs.Str.Parse.{digits_value}
 use Rattle.std.proofs.lemmas.Bool.Decides.{nat_tests}
 use Rattle.std.proofs.lemmas.List.{length-map}
-use Rattle.cf_base.specs.declared.arith.Arith.{Arith}
 use Rattle.cc_tokens.specs.declared.mark.Mark.{Mark}
 use Rattle.cc_tokens.specs.declared.mark.Mark.TheVariants as mark
 use Rattle.cc_tokens.specs.declared.token.Token.{Token}
@@ -21,7 +20,7 @@ use Rattle.cc_tree.specs.declared.unit.CItem.TheVariants as kind
 use Rattle.cc_tree.specs.Spells.{joins, loosest}
 use Rattle.cc_read.specs.declared.error.ReadErr.{ReadErr}
 use Rattle.cc_read.specs.declared.error.ReadErr.TheVariants as error
-use Rattle.cc_read.specs.Parse.{Parse, and_then, ◌>>=◌, pure, refuse, behind, sees, sees_not, sees_dash, sees_call, is_end, goes_on, if_next, many, all_of, past, expect, name, end}
+use Rattle.cc_read.specs.Parse.{Parse, and_then, ◌>>=◌, pure, refuse, behind, sees, sees_not, sees_dash, sees_call, goes_on, if_next, many, all_of, past, expect, name, end}
 use Rattle.cc_read.specs.ParseExpression.{only, ints, constant, negative, operand, brackets, primary, above, operator_above, if_some, more_operands, binary, expression, some_arguments, arguments}
 use Rattle.cc_read.specs.ParseStatement.{type_name, local, locals, call, call_to, assignment, stored, named, block, leaves, otherwise, conditional, forever, gives, returned, plain, statement_by, statements_by, body_by, body}
 use Rattle.cc_read.specs.ParseUnit.{result_type, parameter, some_parameters, signature, prototype, declaration, definition, declares, item_by, items, whole}
@@ -200,7 +199,7 @@ alike_operands p q h level zero a b ts = alike_pure a b ts
 alike_operands p q h level (suc n) a b ts =
     alike_some (operator_above level ts) (operator_above level (shrunk ts)) _ _ _ _ (operator_shrunk level ts)
     (λ op. alike_past (p >>= (λ c. more_operands p level n (tree.Binary op a c))) (q >>= (λ c. more_operands q level n (tree.Binary op b c)))
-      (alike_bind p q _ _ h (λ c d. alike_operands p q h level n (tree.Binary op a c) (tree.Binary op b d))) ts)
+    (alike_bind p q _ _ h (λ c d. alike_operands p q h level n (tree.Binary op a c) (tree.Binary op b d))) ts)
     (alike_pure a b ts)
 
 alike_binary : (p q : Parse CExpression) → AlikeParse p q → (level : ℕ) → AlikeParse (binary p level) (binary q level)
@@ -208,7 +207,7 @@ unfolding binary
 alike_binary p q h zero ts = h ts
 alike_binary p q h (suc level) ts = alike_bind (binary p level) (binary q level) _ _ (alike_binary p q h level)
     (λ a b us. subst (λ n. Alike (more_operands (binary p level) level (length us) a us) (more_operands (binary q level) level n b (shrunk us))) (sym (length-map us shrink))
-      (alike_operands (binary p level) (binary q level) (alike_binary p q h level) level (length us) a b us)) ts
+    (alike_operands (binary p level) (binary q level) (alike_binary p q h level) level (length us) a b us)) ts
 
 alike_expression : (n : ℕ) → AlikeParse (expression any n) (expression ints n)
 unfolding expression

@@ -1,5 +1,5 @@
 -- Arguments that are spelled are read.
-use Rattle.std.proofs.Common.{◌≡◌, ℕ, ◌<◌, Bool, false, ℤ, List, [], ◌∷◌, ◌++◌, length, refl, sym, subst, append_assoc}
+use Rattle.std.proofs.Common.{ℕ, ◌<◌, Bool, ℤ, List, ◌∷◌, ◌++◌, length, refl, sym, subst, append_assoc}
 use Rattle.cc_tokens.specs.declared.mark.Mark.TheVariants as mark
 use Rattle.cc_tokens.specs.declared.token.Token.{Token}
 use Rattle.cc_tokens.specs.declared.token.Token.TheVariants as token

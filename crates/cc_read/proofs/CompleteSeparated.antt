@@ -1,10 +1,10 @@
 -- Things that are spelled with commas between them are read.
-use Rattle.std.proofs.Common.{◌≡◌, ℕ, suc, ◌+◌, ◌-◌, ◌<◌, ◌≤◌, Bool, true, false, List, [], ◌∷◌, ◌++◌, length, refl, ap, sym, subst, arith, append-nil, append_assoc, length-append}
+use Rattle.std.proofs.Common.{◌≡◌, ℕ, ◌<◌, ◌≤◌, false, List, [], ◌∷◌, ◌++◌, length, refl, ap, sym, subst, arith, append-nil, append_assoc, length-append}
 use Rattle.cc_tokens.specs.declared.mark.Mark.TheVariants as mark
 use Rattle.cc_tokens.specs.declared.token.Token.{Token}
 use Rattle.cc_tokens.specs.declared.token.Token.TheVariants as token
 use Rattle.cc_tokens.specs.Mark.{same_mark}
-use Rattle.cc_read.specs.Parse.{Parse, and_then, ◌>>=◌, sees, many, all_of, past}
+use Rattle.cc_read.specs.Parse.{Parse, ◌>>=◌, sees, many, all_of, past}
 use Rattle.cc_read.proofs.Taken.{Many, none, more}
 use Rattle.cc_read.proofs.SoundExpression.{Behind, comma}
 use Rattle.cc_read.proofs.Unfit.{OneOf, here, later}

@@ -1,5 +1,5 @@
 -- The items of a unit that are spelled are read.
-use Rattle.std.proofs.Common.{suc, ◌≡◌, ◌<◌, Bool, true, false, ℤ, List, [], ◌∷◌, ◌++◌, length, Option, refl, ap, sym, ◌∙◌, subst, arith, append-nil, append_assoc, length-append}
+use Rattle.std.proofs.Common.{suc, ◌≡◌, ◌<◌, Bool, true, false, ℤ, List, [], ◌∷◌, ◌++◌, length, Option, refl, ap, ◌∙◌, subst, arith, append-nil, append_assoc, length-append}
 use Rattle.cc_tokens.specs.declared.mark.Mark.TheVariants as mark
 use Rattle.cc_tokens.specs.declared.token.Token.{Token}
 use Rattle.cc_tokens.specs.declared.token.Token.TheVariants as token
@@ -12,7 +12,7 @@ use Rattle.cc_tree.specs.declared.unit.CItem.{CItem}
 use Rattle.cc_tree.specs.declared.unit.CItem.TheVariants as item
 use Rattle.cc_tree.specs.Spells.{SpellsType, SpellsBody, SpellsParameters, SpellsSignature, SpellsResult, SpellsPrototype, SpellsItem, SpellsItems, sign}
 use Rattle.cc_tree.specs.Spells as g
-use Rattle.cc_read.specs.Parse.{sees, goes_on, many, past, expect, name, end}
+use Rattle.cc_read.specs.Parse.{sees, goes_on, expect, name, end}
 use Rattle.cc_read.specs.ParseStatement.{type_name, body}
 use Rattle.cc_read.specs.ParseUnit.{result_type, parameter, some_parameters, signature, prototype, declaration, definition, declares, item_by, items, whole}
 use Rattle.cc_read.proofs.Taken.{Many, none, more}

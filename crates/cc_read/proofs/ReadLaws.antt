@@ -1,5 +1,5 @@
 -- What reading answers: a text has at most one unit; the unit that is read has it; and a text that is refused has none, or none that is valid.
-use Rattle.std.proofs.Common.{◌≡◌, ℕ, Bool, true, false, ◌&&◌, List, [], Option, Some, None, Result, Ok, Err, refl, ap, sym, ◌∙◌, subst}
+use Rattle.std.proofs.Common.{◌≡◌, ℕ, true, false, List, [], Option, Some, None, Result, Ok, Err, ap, sym, ◌∙◌, subst}
 use Rattle.std.proofs.lemmas.Bool.{false≢true}
 use Rattle.cc_tokens.specs.declared.token.Token.{Token}
 use Rattle.cc_tokens.specs.Cut.{Cut}
@@ -97,9 +97,9 @@ pub refused_once : (ts : List Token) → ReadsWhole (whole ints ts) (Err error.N
 refused_once ts h = λ all s. never_refused ts all (complete_whole ints invalid s) h.1
 
 pub items_read : (text : List ℕ) (ts : List Token) (r : Result (List CItem) ReadErr) → Cut text ts → SpelledBy ts r → ReadsItems text r
-items_read text ts (Ok all) cut h = record { tokens = ts; cut = cut; spelled = h; }
+items_read text ts (Ok all) cut h = record { tokens = ts; cut = cut; spelled = h }
 items_read text ts (Err error.NotC) cut h = λ all us c s. h all (subst (SpellsItems all) (one_cut c ts cut) s)
-items_read text ts (Err error.Invalid) cut h = record { items = h.0; held = record { tokens = ts; cut = cut; spelled = h.1; }; not_valid = h.2; }
+items_read text ts (Err error.Invalid) cut h = record { items = h.0; held = record { tokens = ts; cut = cut; spelled = h.1 }; not_valid = h.2 }
 items_read text ts (Err error.Memory) cut h = tt
 
 -- where the text is cut into no tokens
@@ -134,13 +134,13 @@ module _ (text rest : List ℕ) (version : ℕ) (line : first_line text ≡ Some
 
   pub no_items : (e : ReadErr) → ReadsItems rest (Err e) → IsRead text (Err e)
   no_items error.NotC h = λ u t. h u.items t.tokens (subst (λ r. Cut r t.tokens) (same_rest u t).1 t.cut) t.spelled
-  no_items error.Invalid h = record { unit = unit_of h.items; has_text = text_of h.items h.held; not_valid = right_false (valid_version version) _ h.not_valid; }
+  no_items error.Invalid h = record { unit = unit_of h.items; has_text = text_of h.items h.held; not_valid = right_false (valid_version version) _ h.not_valid }
   no_items error.Memory h = tt
 
   pub answers : (all : List CItem) (r : Result CUnit ReadErr) → ReadsItems rest (Ok all) → IsChecked (unit_of all) r → IsRead text r
   answers all (Ok u) h c = subst (HasValid text) (sym c.is) (record { has_text = text_of all h; is_valid = subst (λ v. valid_unit v ≡ true) c.is c.valid })
   answers all (Err error.NotC) h c = absurd c
-  answers all (Err error.Invalid) h c = record { unit = unit_of all; has_text = text_of all h; not_valid = c; }
+  answers all (Err error.Invalid) h c = record { unit = unit_of all; has_text = text_of all h; not_valid = c }
   answers all (Err error.Memory) h c = tt
 
 -- a text of a valid unit is read as that unit

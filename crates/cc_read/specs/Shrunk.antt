@@ -1,5 +1,5 @@
 -- Tokens with 0 in place of each constant that is no int. They spell a unit where the tokens themselves do.
-use Rattle.std.specs.Prelude.{ℕ, Bool, if◌then◌else◌, List, map, codes, pos}
+use Rattle.std.specs.Prelude.{ℕ, if◌then◌else◌, List, map, codes, pos}
 use Rattle.std.specs.Str.Parse.{digits_value}
 use Rattle.cc_tokens.specs.declared.token.Token.{Token}
 use Rattle.cc_tokens.specs.declared.token.Token.TheVariants as token

@@ -8,8 +8,9 @@ use cf_base::Memory;
 pub enum ReadErr {
     /// No unit has this text.
     NotC,
-    /// No valid unit has this text: the unit that is read breaks a rule of validity, or a constant is no int.
+    /// The unit that has this text breaks a rule of validity.
     Invalid,
+    /// Memory was wanting, which tells nothing of the text.
     Memory,
 }
 

@@ -1,7 +1,8 @@
 //! Reads a text of the small C into its unit.
 //!
 //! The first line gives the version, `cc_tokens` cuts what stands behind it, and recursive descent reads the
-//! items of these tokens. `specs/` has what each function reads as a function on lists, and what `read` answers.
+//! items of these tokens. Where a constant is no int, the tokens are read again with 0 in its place, to tell whether the
+//! text is one of a unit at all. `specs/` has what each function reads as a function on lists, and what `read` answers.
 #![tactic(auto)]
 
 mod cursor;

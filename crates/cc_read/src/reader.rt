@@ -82,7 +82,7 @@ fn checked(alloc: Global, unit: CUnit) -> Result<CUnit, ReadErr>
 
 /// The unit of a text.
 ///
-/// `NotC` where no unit has the text, `Invalid` where no valid unit has it, `Memory` where memory fails.
+/// `NotC` where no unit has the text, `Invalid` where the unit that has it is not valid, `Memory` where memory fails.
 pub fn read(alloc: Global, text: &[u8]) -> Result<CUnit, ReadErr>
     ensures { IsRead text.now result }
 {

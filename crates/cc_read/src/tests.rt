@@ -59,6 +59,7 @@ fn other_texts_are_refused(rt: HostRuntime) -> Result<(), Fail> {
         "#pragma cfront 1\nint f(void){return 1+g(2);}",
         "#pragma cfront 1\nint f(int a){return - a;}",
         "#pragma cfront 1\nint f(void){return 1 @ 2;}",
+        "#pragma cfront 1\nint f(void){return 99999999999;",
     ] {
         assert_eq!(rt; count(alloc, text), Err(ReadErr::NotC), "{text}");
     }
