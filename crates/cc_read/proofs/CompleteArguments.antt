@@ -9,13 +9,11 @@ use Rattle.cc_tree.specs.Spells.{SpellsExpression, SpellsSome, SpellsArguments, 
 use Rattle.cc_tree.specs.Spells as g
 use Rattle.cc_read.specs.Parse.{sees}
 use Rattle.cc_read.specs.ParseExpression.{expression, some_arguments, arguments}
+use Rattle.cc_read.proofs.SoundExpression.{Whole}
 use Rattle.cc_read.proofs.Unfit.{OneOf, Unfit}
 use Rattle.cc_read.proofs.Gets.{Gets, got, gets_else}
 use Rattle.cc_read.proofs.CompleteExpression.{Front, front, Ends, ends_close, ends_comma, complete_expression}
 use Rattle.cc_read.proofs.CompleteSeparated.{Split, split_one, split_more, complete_separated}
-
-abbrev Whole : CExpression → List Token → Type 0
-Whole = SpellsExpression loosest
 
 split : {es : List CExpression} {zs : List Token} → SpellsSome es zs → Split Whole es zs
 split (g.SpellsSome.last e xs d) = split_one Whole e xs d

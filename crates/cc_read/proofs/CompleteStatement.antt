@@ -22,14 +22,12 @@ use Rattle.cc_read.specs.ParseStatement.{type_name, local, locals, call, call_to
 use Rattle.cc_read.proofs.Taken.{Many, none, more}
 use Rattle.cc_read.proofs.SoundStatement.{Local, declared}
 use Rattle.cc_read.proofs.Steps.{body_step}
+use Rattle.cc_read.proofs.SoundExpression.{Whole}
 use Rattle.cc_read.proofs.Unfit.{OneOf, here, later, Unfit}
 use Rattle.cc_read.proofs.Gets.{Gets, got, gets_as, gets_then, gets_expect, gets_else, gets_turn, gets_stop, found_on}
 use Rattle.cc_read.proofs.CompleteMany.{gets_worse, Begins, complete_many}
 use Rattle.cc_read.proofs.CompleteExpression.{front, no_call, ends_close, ends_semicolon, complete_expression}
 use Rattle.cc_read.proofs.CompleteArguments.{complete_arguments}
-
-abbrev Whole : CExpression → List Token → Type 0
-Whole = SpellsExpression loosest
 
 -- ---- locals
 

@@ -20,6 +20,7 @@ use Rattle.cc_read.specs.Read.{IsRead, HasValid, IsUnit, Cuts, ReadsItems, Spell
 use Rattle.cc_read.specs.Shrunk.{shrunk}
 use Rattle.cc_read.proofs.Alike.{Alike, both, neither, alike_whole}
 use Rattle.cc_read.proofs.Unfit.{OneOf}
+use Rattle.cc_read.proofs.Taken.{no_ok}
 use Rattle.cc_read.proofs.Gets.{Gets, got, unfit}
 use Rattle.cc_read.proofs.SoundUnit.{whole_spelled}
 use Rattle.cc_read.proofs.CompleteStatement.{none_of}
@@ -58,17 +59,14 @@ one_unit text u v s t =
 
 -- ---- the items of a text
 
-no_ok : {A : Type 0} {P : Type 0} (d : ReadErr) (a : A) → ◌≡◌ {A = Result A ReadErr} (Ok a) (Err d) → P
-no_ok d a e = absurd (cc)
-
 never_refused : (ts : List Token) (all : List CItem) → Gets (whole ints ts) all [] (OneOf invalid.item all) → whole ints ts ≡ Err error.NotC → ⊥
-never_refused ts all (got e) f = no_ok error.NotC (all, []) (sym e ∙ f)
+never_refused ts all (got e) f = no_ok error.NotC (all, []) (sym f ∙ e)
 never_refused ts all (unfit e o) f =
     let same : ◌≡◌ {A = Result (List CItem × List Token) ReadErr} (Err error.Invalid) (Err error.NotC) = sym e ∙ f in
     absurd (cc)
 
 not_valid : (ts : List Token) (all : List CItem) → Gets (whole ints ts) all [] (OneOf invalid.item all) → whole ints ts ≡ Err error.Invalid → valid_items (items_of all) [] [] ≡ false
-not_valid ts all (got e) f = no_ok error.Invalid (all, []) (sym e ∙ f)
+not_valid ts all (got e) f = no_ok error.Invalid (all, []) (sym f ∙ e)
 not_valid ts all (unfit e o) f = bad_items o [] []
 
 invalid_is_other : {P : Type 0} → ◌≡◌ {A = Result (List CItem × List Token) ReadErr} (Err error.NotC) (Err error.Invalid) → P
@@ -79,11 +77,11 @@ read_alike : (ts : List Token) → Alike (whole (λ z. true) ts) (whole ints (sh
 read_alike ts (both all others rest e f) large (Ok found) new read =
     let spelled = whole_spelled (λ z. true) ts (all, rest) e in
     (all, spelled, not_valid ts all (complete_whole ints invalid spelled) large)
-read_alike ts (both all others rest e f) large (Err error.NotC) new read = no_ok error.NotC (others, shrunk rest) (sym f ∙ read)
-read_alike ts (both all others rest e f) large (Err error.Invalid) new read = no_ok error.Invalid (others, shrunk rest) (sym f ∙ read)
+read_alike ts (both all others rest e f) large (Err error.NotC) new read = no_ok error.NotC (others, shrunk rest) (sym read ∙ f)
+read_alike ts (both all others rest e f) large (Err error.Invalid) new read = no_ok error.Invalid (others, shrunk rest) (sym read ∙ f)
 read_alike ts (both all others rest e f) large (Err error.Memory) new read = tt
-read_alike ts (neither e f) large (Ok found) new read = no_ok error.NotC (found, new) (sym read ∙ f)
-read_alike ts (neither e f) large (Err error.NotC) new read = λ all s. no_ok error.NotC (all, []) (sym (whole_read all ts (complete_whole (λ z. true) nothing s)) ∙ e)
+read_alike ts (neither e f) large (Ok found) new read = no_ok error.NotC (found, new) (sym f ∙ read)
+read_alike ts (neither e f) large (Err error.NotC) new read = λ all s. no_ok error.NotC (all, []) (sym e ∙ whole_read all ts (complete_whole (λ z. true) nothing s))
 read_alike ts (neither e f) large (Err error.Invalid) new read = invalid_is_other (sym f ∙ read)
 read_alike ts (neither e f) large (Err error.Memory) new read = tt
 

@@ -17,6 +17,10 @@ use Rattle.cc_read.specs.Parse.{Parse, and_then, pure, behind, sees, sees_dash, 
 use Rattle.cc_read.specs.ParseExpression.{only, constant, negative, operand, brackets, primary, above, operator_above, if_some, more_operands, binary, expression, some_arguments, arguments}
 use Rattle.cc_read.proofs.Taken.{ok_at, no_ok, bind_ok, sees_is, dash_is, Read, Sound, SoundIf, sound_pure, sound_refuse, sound_then, sound_expect, sound_if, sound_if_next, Many, none, more, sound_many}
 
+-- an expression of any level
+abbrev pub Whole : CExpression → List Token → Type 0
+Whole = SpellsExpression loosest
+
 sound_constant : (T : CExpression → List Token → Type 0) (fit : ℤ → Bool) (z : ℤ) → T (tree.Int z) [] → Sound T (constant (only fit z))
 unfolding constant
 sound_constant T fit z t ts q e = go (fit z) e

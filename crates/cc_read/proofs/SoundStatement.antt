@@ -18,10 +18,7 @@ use Rattle.cc_read.specs.Parse.{Parse, ◌>>=◌, pure, sees, sees_not, sees_cal
 use Rattle.cc_read.specs.ParseExpression.{expression, arguments}
 use Rattle.cc_read.specs.ParseStatement.{type_name, local, locals, call, call_to, assignment, stored, named, block, leaves, otherwise, conditional, forever, gives, returned, plain, statement_by, statements_by, body_by, body}
 use Rattle.cc_read.proofs.Taken.{Sound, sound_pure, sound_refuse, sound_then, sound_expect, sound_name, sound_if, sound_if_next, Many, none, more, sound_many}
-use Rattle.cc_read.proofs.SoundExpression.{sound_expression, sound_arguments}
-
-abbrev Whole : CExpression → List Token → Type 0
-Whole = SpellsExpression loosest
+use Rattle.cc_read.proofs.SoundExpression.{Whole, sound_expression, sound_arguments}
 
 pub sound_type : Sound SpellsType type_name
 unfolding type_name
