@@ -1,2 +1,3 @@
 mod Answer
 mod Reading
+pub mod Identifiers
