@@ -5,8 +5,9 @@ use Rattle.cf_base.specs.Stream.{Stream}
 use Rattle.cc_tree.specs.declared.unit.CProgram.{CProgram}
 use Rattle.cc_run.specs.declared.types.Limits.{Limits}
 use Rattle.cc_run.specs.Run.{streams, StillTold, Front, SameCounts}
-use Rattle.cf_small.specs.declared.tree.SourceUnit.{SourceUnit}
-use Rattle.cf_small.specs.First.{First}
+use Rattle.cf_functions.specs.declared.tree.Program.{Program}
+use Rattle.cf_functions_read.specs.First.{First, accepted}
+use Rattle.cf_functions_read.proofs.Identifiers.{names_are_identifiers}
 use Rattle.cfront.specs.declared.outcome.Outcome.{Outcome}
 use Rattle.cfront.specs.declared.outcome.Outcome.TheVariants as answer
 use Rattle.cfront.specs.declared.position.Position.{Position}
@@ -17,13 +18,21 @@ use Rattle.cfront.specs.Cause.{FileCause, read_failed, too_long, refused, write_
 use Rattle.cfront.specs.LastLine.{last_line}
 use Rattle.cfront.specs.Outside.{Outside, outside, streams_of, CountsStand, StreamsStand, KeepTelling}
 use Rattle.cfront.specs.Run.{RunsTo, RanTo}
-use Rattle.cfront.specs.Steps.{AcceptLeaves, WriteLeaves, DiskStands, DiskTold, StopLeaves, NotWritten, MemoryLeft}
+use Rattle.cfront.specs.Steps.{IsSound, AcceptLeaves, WriteLeaves, DiskStands, DiskTold, StopLeaves, NotWritten, MemoryLeft}
 use Rattle.cfront.specs.Translated.{WasRead}
 use Rattle.cfront.specs.Words.{text_name}
 
 -- memory was wanting before anything was written
 pub stands : (file : List ℕ) (old new : Disk) → DiskStands old new → MemoryLeft file old new
 stands file old new d = record { text = unwritten (λ told. d.content); elsewhere = λ told other differs. rw d.content refl; counts = d.counts }
+
+-- what was accepted can be translated
+pub accepted_sound : (bytes : List ℕ) (source : Program) → First bytes (Ok source) → IsSound source
+accepted_sound bytes source (accepted _ file names known) = record {
+  names = names;
+  known = known;
+  named = names_are_identifiers bytes source (accepted source file names known);
+}
 
 -- the file was read, and refused
 pub accept_stops : (file bytes : List ℕ) (old new : Disk) (e : Stop) → WasRead file old bytes → DiskStands old new
@@ -41,19 +50,19 @@ counts_after : (a b c : Disk) → DiskCountsStand a b → DiskCountsStand b c �
 counts_after a b c first second = record { reads = second.reads ∙ first.reads; writes = second.writes ∙ first.writes }
 
 -- the file was read and accepted, and its text not written
-pub write_stops : (file bytes text : List ℕ) (unit : SourceUnit) (old mid new : Disk) (e : Stop) → WasRead file old bytes → DiskStands old mid
-    → First bytes (Ok unit) → WriteLeaves {T = Unit {0}} (text_name file) text mid new (Err e) → StopLeaves file old new e
-write_stops file bytes text unit old mid new (stop.Answer a) read d spelled w = write_failed (record {
+pub write_stops : (file bytes text : List ℕ) (source : Program) (old mid new : Disk) (e : Stop) → WasRead file old bytes → DiskStands old mid
+    → First bytes (Ok source) → WriteLeaves {T = Unit {0}} (text_name file) text mid new (Err e) → StopLeaves file old new e
+write_stops file bytes text source old mid new (stop.Answer a) read d spelled w = write_failed (record {
   bytes = bytes;
   read = read;
-  unit = unit;
+  source = source;
   accepted = spelled;
   rises = rw (← d.counts.writes) w.rises;
   answered = w.answered;
   elsewhere = λ told. rw (← d.content) (w.elsewhere (d.told told));
   reads = w.reads ∙ d.counts.reads;
 })
-write_stops file bytes text unit old mid new stop.Memory read d spelled w = record {
+write_stops file bytes text source old mid new stop.Memory read d spelled w = record {
   text = unwritten (λ told. w.content (d.told told) ∙ d.content);
   elsewhere = λ told other differs. rw (w.content (d.told told), d.content) refl;
   counts = counts_after old mid new d.counts w.counts;

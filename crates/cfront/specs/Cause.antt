@@ -5,8 +5,8 @@ use Rattle.cf_base.specs.Disk.{Disk, Names, Rises, SameElsewhere}
 use Rattle.cc_tree.specs.declared.unit.CProgram.{CProgram}
 use Rattle.cc_run.specs.declared.types.Limits.{Limits}
 use Rattle.cc_run.specs.Run.{Front}
-use Rattle.cf_small.specs.declared.tree.SourceUnit.{SourceUnit}
-use Rattle.cf_small.specs.First.{First}
+use Rattle.cf_functions.specs.declared.tree.Program.{Program}
+use Rattle.cf_functions_read.specs.First.{First}
 use Rattle.cfront.specs.declared.outcome.Outcome.{Outcome}
 use Rattle.cfront.specs.declared.outcome.Outcome.TheVariants as answer
 use Rattle.cfront.specs.declared.position.Position.{Position}
@@ -55,8 +55,8 @@ pub record ReadFailed (file : List ℕ) (old new : Disk) (outcome : Outcome) : T
 pub record WriteFailed (file : List ℕ) (old new : Disk) (outcome : Outcome) : Type 0 where
   pub bytes : List ℕ
   pub read : WasRead file old bytes
-  pub unit : SourceUnit
-  pub accepted : First bytes (Ok unit)
+  pub source : Program
+  pub accepted : First bytes (Ok source)
   pub rises : Rises (text_name file) old.write_faults new.write_faults
   pub answered : outcome ≡ answer.FileFault
   pub elsewhere : IsTrue old.told → SameElsewhere (text_name file) old.content new.content
