@@ -23,8 +23,8 @@ fn whole_texts_are_read(rt: HostRuntime) -> Result<(), Fail> {
             Ok(2),
         ),
         (
-            "#pragma cfront 1\nint f(int a){int b;b=a;{b=f(a,1);}if(a){b=2;}else{f(b);}for(;;){break;}return b;}",
-            Ok(1),
+            "#pragma cfront 1\nint g(int a,int b);int f(int a){int b;b=a;{b=g(a,1);}if(a){b=2;}else{f(b);}for(;;){break;}return b;}",
+            Ok(2),
         ),
         (
             "#pragma cfront 1\nint f(void){return 2147483647==-2147483648;}",
