@@ -1,2 +1,3 @@
 mod ItemLaws
 mod NameLaws
+mod TableLaws

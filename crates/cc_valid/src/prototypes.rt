@@ -1,5 +1,7 @@
-ghost use Rattle.std.specs.Prelude.{◌≡◌, ◌||◌, bytes_eq, codes, IfOk};
+ghost use Rattle.std.specs.Prelude.{◌≡◌, ◌||◌, bytes_eq, codes, true, IfOk};
+ghost use Rattle.std.specs.List.{list_all};
 ghost use Rattle.cc_tree.specs.Valid as spec;
+ghost use Rattle.cc_valid.specs.Lists.{agrees_with};
 
 use crate::declared::Declared;
 use crate::lists::{good_names, parameter_names};
@@ -69,7 +71,8 @@ pub fn valid_prototype(
     declared: &Declared<'_>,
     p: &CPrototype,
 ) -> Result<bool, Memory>
-    ensures { IfOk result (λ valid. valid ≡ spec.valid_prototype declared.now p.now) }
+    ensures valid { IfOk result (λ valid. valid ≡ spec.valid_prototype declared.now p.now) }
+    ensures agrees { IfOk result (λ valid. valid ≡ true → list_all (agrees_with p.now) declared.now ≡ true) }
 {
     if !is_name(p.name.as_slice()) {
         return Ok(false);

@@ -1,13 +1,16 @@
-use Rattle.std.proofs.Common.{◌||◌, not, ◌∙◌, ap}
-use Rattle.std.specs.Prelude.{bytes_eq}
-use Rattle.std.specs.List.{list_all}
-use Rattle.cc_tree.specs.declared.unit.CPrototype.{CPrototype}
-use Rattle.cc_tree.specs.Valid.{same_type}
-use Rattle.cf_name_list.proofs.ListLaws.{all_map}
+use Rattle.std.proofs.Common.{◌∙◌, ap, sym}
+use Rattle.cc_tree.specs.Valid.{prototype_named}
+use Rattle.cc_valid.proofs.TableLaws.{agrees_first, all_by_first}
 use Rattle.cc_valid.proofs.declared.Declared.agrees.Goals as goal
 
-pub returns : goal.returns
-returns c =
-    let agrees = λ (q : CPrototype). not (bytes_eq q.name c.args.prototype.now.name) || same_type q c.args.prototype.now in
-    c.all_agree.ensures ∙ ap (list_all (λ q. agrees q.now)) c.as_slice.ensures.value ∙ all_map agrees (λ q. q.now) c.self.inside.list.items
-    ∙ ap (list_all agrees) c.self.view_is
+pub returns-in-None : goal.returns-in-None
+returns-in-None c =
+    let p = c.args.prototype.now in
+    ap (λ o. agrees_first o p) c.in-None.ensures.first ∙ ap (λ n. agrees_first (prototype_named c.args.self.now n) p) c.as_slice.ensures
+    ∙ sym (all_by_first c.args.self.now p c.in-None.ensures.types)
+
+pub returns-in-Some : goal.returns-in-Some
+returns-in-Some c =
+    let p = c.args.prototype.now in
+    c.same_type.ensures ∙ ap (λ o. agrees_first o p) c.in-Some.ensures.first ∙ ap (λ n. agrees_first (prototype_named c.args.self.now n) p) c.as_slice.ensures
+    ∙ sym (all_by_first c.args.self.now p c.in-Some.ensures.types)
