@@ -1,16 +1,16 @@
 ghost use Rattle.std.specs.Prelude.{◌≡◌};
 ghost use Rattle.cc_read.specs.declared.error.ReadErr.TheVariants as error;
 
-use cf_base::{Limit, Memory};
+use cf_base::Memory;
 
-/// Why a text is not read.
+/// Why a text is not read. It tells no place, no rule and no limit, since nothing reads them yet.
 #[derive(Clone, Copy, Debug, PartialEq, Eq)]
 pub enum ReadErr {
-    /// No unit has this text. The place is the first byte so far.
-    NotC { at: u32 },
-    /// The unit breaks a rule of validity, at a byte place.
-    Invalid { rule: u8, at: u32 },
-    Limit(Limit),
+    /// No unit has this text.
+    NotC,
+    /// The unit that has this text breaks a rule of validity.
+    Invalid,
+    /// Memory was wanting, which tells nothing of the text.
     Memory,
 }
 

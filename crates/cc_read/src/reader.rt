@@ -1,61 +1,96 @@
-ghost use Rattle.std.specs.Prelude.{◌≡◌, ◌≤◌, Some, IfOk};
-ghost use Rattle.cc_print.specs.Printed.{unit_text};
-ghost use Rattle.cc_print.specs.Returning.{returning as returns};
-ghost use Rattle.cc_read.specs.Number.{number_in as the_number};
-ghost use Rattle.cc_read.specs.Read.{ReadsReturned, ReadsAs};
+//! Reading a text.
 
+ghost use Rattle.std.specs.Prelude.{◌≡◌, Err};
+ghost use Rattle.cc_read.specs.declared.error.ReadErr.TheVariants as error;
+ghost use Rattle.cc_read.specs.ParseExpression.{ints};
+ghost use Rattle.cc_read.specs.ParseUnit.{whole as all_items};
+ghost use Rattle.cc_read.specs.Parse.{ReadsWhole};
+ghost use Rattle.cc_read.specs.Read.{IsRead, CutsAll, ReadsItems, SpelledBy, IsChecked};
+
+use crate::cursor::Cursor;
 use crate::error::ReadErr;
-use crate::number::number_in;
-use cc_print::print;
-use cc_tree::{CBody, CExpression, CFunction, CItem, CPrototype, CStatement, CType, CUnit};
-use cf_base::{Boxed, Items, Memory, Name};
+use crate::first_line::first_line;
+use crate::shrunk::shrunk;
+use crate::unit::whole;
+use cc_tokens::{CutError, Token, TokenList, tokens};
+use cc_tree::{CItem, CUnit};
+use cc_valid::is_valid;
+use cf_base::Items;
 use std::alloc::Global;
 
-/// `int __main(void) { return NUMBER; }`
-fn returning(alloc: Global, number: u32) -> Result<CUnit, Memory>
-    requires { number ≤ 2147483647 }
-    ensures { IfOk result (λ unit. unit ≡ returns number) }
+/// The tokens of a text without its first line.
+fn cut(alloc: Global, text: &[u8]) -> Result<TokenList, ReadErr>
+    ensures { CutsAll text.now result }
 {
-    let value = Boxed::new(alloc, CExpression::Int(number as i32))?;
-    let mut statements = Items::new(alloc);
-    statements.push(CStatement::Return(Some(value)))?;
-    let name = Name::from_slice(alloc, b"__main")?;
-    let mut items = Items::new(alloc);
-    items.push(CItem::Function(CFunction {
-        prototype: CPrototype {
-            result: Some(CType::Int),
-            name,
-            parameters: Items::new(alloc),
-        },
-        body: CBody {
-            locals: Items::new(alloc),
-            statements,
-        },
-    }))?;
-    Ok(CUnit { version: 1, items })
-}
-
-/// The unit that returns the number, where the text is what it prints.
-fn read_as(alloc: Global, text: &[u8], number: u32) -> Result<CUnit, ReadErr>
-    requires { number ≤ 2147483647 }
-    ensures { ReadsAs text.now number result }
-{
-    let unit = returning(alloc, number)?;
-    let printed = print(alloc, &unit)?;
-    if printed.as_slice() == text {
-        Ok(unit)
-    } else {
-        Err(ReadErr::NotC { at: 0 })
+    match tokens(alloc, text) {
+        Ok(found) => Ok(found),
+        Err(CutError::Stray { .. }) => Err(ReadErr::NotC),
+        Err(CutError::OutOfMemory) => Err(ReadErr::Memory),
     }
 }
 
-/// The unit of a text. What is read is the text that the unit prints; the text that a unit prints which returns a number is read.
-pub fn read(alloc: Global, text: &[u8]) -> Result<CUnit, ReadErr>
-    ensures printed { IfOk result (λ unit. text.now ≡ unit_text unit) }
-    ensures returned { ReadsReturned text.now result }
+/// All items that tokens spell, where each constant is an int.
+fn items_once(alloc: Global, tokens: &[Token]) -> Result<Items<CItem>, ReadErr>
+    ensures { ReadsWhole (all_items ints tokens.now) result }
 {
-    match number_in(text) {
-        Some(number) => read_as(alloc, text, number),
-        None => Err(ReadErr::NotC { at: 0 }),
+    let mut c = Cursor::new(tokens);
+    whole(alloc, &mut c)
+}
+
+/// Why tokens with a constant that is no int are refused: they are read again with other constants.
+fn refusal(alloc: Global, tokens: &[Token]) -> Result<Items<CItem>, ReadErr>
+    requires { all_items ints tokens.now ≡ Err error.Invalid }
+    ensures { SpelledBy tokens.now result }
+{
+    let small = shrunk(alloc, tokens)?;
+    match items_once(alloc, small.as_slice()) {
+        Ok(_) => Err(ReadErr::Invalid),
+        Err(e) => Err(e),
+    }
+}
+
+/// The items that tokens spell.
+fn items_of_tokens(alloc: Global, tokens: &[Token]) -> Result<Items<CItem>, ReadErr>
+    ensures { SpelledBy tokens.now result }
+{
+    match items_once(alloc, tokens) {
+        Ok(found) => Ok(found),
+        Err(ReadErr::NotC) => Err(ReadErr::NotC),
+        Err(ReadErr::Invalid) => refusal(alloc, tokens),
+        Err(ReadErr::Memory) => Err(ReadErr::Memory),
+    }
+}
+
+/// The items of a text without its first line.
+fn items_of(alloc: Global, text: &[u8]) -> Result<Items<CItem>, ReadErr>
+    ensures { ReadsItems text.now result }
+{
+    let tokens = cut(alloc, text)?;
+    items_of_tokens(alloc, tokens.list.as_slice())
+}
+
+/// The same unit, where it is valid.
+fn checked(alloc: Global, unit: CUnit) -> Result<CUnit, ReadErr>
+    ensures { IsChecked unit result }
+{
+    if is_valid(alloc, &unit)? {
+        Ok(unit)
+    } else {
+        Err(ReadErr::Invalid)
+    }
+}
+
+/// The unit of a text.
+///
+/// `NotC` where no unit has the text, `Invalid` where the unit that has it is not valid, `Memory` where memory fails.
+pub fn read(alloc: Global, text: &[u8]) -> Result<CUnit, ReadErr>
+    ensures { IsRead text.now result }
+{
+    match first_line(text) {
+        None => Err(ReadErr::NotC),
+        Some((version, rest)) => {
+            let items = items_of(alloc, rest)?;
+            checked(alloc, CUnit { version, items })
+        }
     }
 }

@@ -1,9 +1,10 @@
 //! The values of constants.
 
-ghost use Rattle.std.specs.Prelude.{◌≡◌, ◌≤◌};
+ghost use Rattle.std.specs.Prelude.{◌≡◌, ◌≤◌, pos, neg_ℤ};
 ghost use Rattle.std.specs.Char as char_spec;
 ghost use Rattle.std.specs.Str.Parse.{digits_value};
-ghost use Rattle.cc_read.specs.Number.{up_to_most};
+ghost use Rattle.cc_read.specs.FirstLine.{up_to_most};
+ghost use Rattle.cc_read.specs.ParseExpression.{only, ints};
 
 fn digit_value(byte: u8) -> u8
     ensures value { result ≡ char_spec.digit_value byte }
@@ -17,14 +18,14 @@ fn digit_value(byte: u8) -> u8
     }
 }
 
-/// The value of digits, where it is an int.
+/// The value of digits, up to the greatest magnitude of an int.
 pub fn value_of(digits: &[u8]) -> Option<u32>
     ensures { result ≡ up_to_most (digits_value 10 digits.now) }
 {
     let mut rest = digits;
     let mut value = 0u64;
     while let [byte, behind @ ..] = rest {
-        if value > 0x7fff_ffff {
+        if value > 0x8000_0000 {
             return None;
         }
         value = value * 10 + u64::from(digit_value(*byte));
@@ -36,9 +37,36 @@ pub fn value_of(digits: &[u8]) -> Option<u32>
 fn limited(value: u64) -> Option<u32>
     ensures { result ≡ up_to_most value }
 {
-    if value <= 0x7fff_ffff {
+    if value <= 0x8000_0000 {
         Some(value as u32)
     } else {
         None
     }
+}
+
+/// The int that digits write.
+pub fn positive(digits: &[u8]) -> Option<i32>
+    ensures { result ≡ only ints (pos (digits_value 10 digits.now)) }
+{
+    match value_of(digits) {
+        Some(value) if value < 0x8000_0000 => Some(value as i32),
+        _ => None,
+    }
+}
+
+/// The int that digits write with a `-` before them.
+pub fn negative(digits: &[u8]) -> Option<i32>
+    ensures { result ≡ only ints (neg_ℤ (pos (digits_value 10 digits.now))) }
+{
+    match value_of(digits) {
+        Some(value) => Some(negated(value)),
+        None => None,
+    }
+}
+
+fn negated(value: u32) -> i32
+    requires { value ≤ 2147483648 }
+    ensures { result ≡ neg_ℤ (pos value) }
+{
+    (0 - i64::from(value)) as i32
 }

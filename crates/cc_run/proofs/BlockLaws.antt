@@ -1,8 +1,8 @@
 -- Lists of blocks as memories.
-use Rattle.std.proofs.Common.{◌≡◌, ℕ, zero, suc, ◌+◌, ◌-◌, ◌<◌, ◌≤◌, Bool, true, false, List, [], ◌∷◌, ◌++◌, length, drop, get_or, ℤ, Option, Some, None, slice_get, slice_set, length-append, refl, ap, sym, ◌∙◌, arith, cond}
+use Rattle.std.proofs.Common.{◌≡◌, ℕ, zero, suc, ◌+◌, ◌-◌, ◌<◌, List, [], ◌∷◌, ◌++◌, length, drop, get_or, ℤ, Some, None, length-append, refl, ap, sym, ◌∙◌, arith}
 use Rattle.std.proofs.Math.Seq.{drop-cons}
 use Rattle.std.proofs.lemmas.Bool.Decides.{nat_tests}
-use Rattle.cc_tree.specs.Memory.{Memory, Block, born, born_with, died, gone, died_all, born_all, put_block}
+use Rattle.cc_tree.specs.Memory.{Memory, Block, born, born_with, died, died_all, born_all, put_block}
 use Rattle.cc_run.specs.declared.blocks.Cell.{Cell}
 use Rattle.cc_run.specs.Blocks.{memory_of, block_in, cell_of, added, ended_from}
 

@@ -1,14 +1,14 @@
 -- What a call keeps, as facts about states.
-use Rattle.std.proofs.Common.{◌≡◌, ℕ, zero, suc, ◌<◌, ◌≤◌, ◌-◌, ◌==◌, Bool, true, false, List, [], ◌∷◌, ◌++◌, length, map, ℤ, pos, Option, Some, None, Result, Ok, Err, Bor, refl, ap, sym, ◌∙◌, arith, cond}
+use Rattle.std.proofs.Common.{◌≡◌, ℕ, zero, suc, ◌-◌, ◌==◌, Bool, true, false, List, [], ◌∷◌, length, ℤ, Option, Some, None, Result, Ok, Err, refl, ap, sym, ◌∙◌, arith, cond}
 use Rattle.std.proofs.lemmas.Bool.Decides.{nat_tests}
-use Rattle.cf_base.specs.Event.{Event, Enter, Out, End, Ticks, Depth, Undefined}
-use Rattle.cf_base.specs.World.{World, Ran, Went, Stops, and_then, spend, spend_of, deeper, show}
+use Rattle.cf_base.specs.Event.{Enter, Ticks, Depth, Undefined}
+use Rattle.cf_base.specs.World.{World, Ran, Went, Stops, and_then, deeper, show}
 use Rattle.cc_tree.specs.declared.outcome.Act.{Act}
 use Rattle.cc_tree.specs.declared.outcome.Act.TheVariants as act
 use Rattle.cc_tree.specs.declared.outcome.End.TheVariants as end
 use Rattle.cc_tree.specs.Plain.{Place, Expression, block, call, Statements, followed, Function}
 use Rattle.cc_tree.specs.Memory.{Memory, born_with}
-use Rattle.cc_tree.specs.Mean.{Scope, no_names, bind_all, parameter_names, Flow, Returned, tried, falling, ending, returned, helps_in, runs, run_function, go_back, is_helper, is_main, is_putchar, has_arity, put, called, enter, enter_helper, enter_function, function_named, values, target_of, call_to}
+use Rattle.cc_tree.specs.Mean.{no_names, bind_all, parameter_names, Flow, Returned, tried, falling, ending, returned, helps_in, runs, run_function, go_back, is_helper, is_main, is_putchar, has_arity, put, called, enter, enter_helper, enter_function, function_named, values, target_of}
 use Rattle.cc_tree.proofs.Enough.{runs_again}
 use Rattle.cc_run.specs.declared.mark.Level.{Level}
 use Rattle.cc_run.specs.declared.state.State.{State}
@@ -17,7 +17,7 @@ use Rattle.cc_run.specs.declared.state.Stop.{Stop}
 use Rattle.cc_run.specs.declared.state.Stop.TheVariants as stop
 use Rattle.cc_run.specs.Blocks.{memory_of}
 use Rattle.cc_run.specs.Names.{scope_of}
-use Rattle.cc_run.specs.State.{program_of, run_all, whole, Outside, noted, world_of, total, begun, back_to, going_back, calling, entering, putting}
+use Rattle.cc_run.specs.State.{program_of, run_all, whole, Outside, noted, world_of, total, begun, back_to, calling, entering, putting}
 use Rattle.cc_run.specs.Steps.{IsAt, Comes, StepsOn, EndsAs, BeginsCall}
 use Rattle.cc_run.proofs.Resume.{whole-stops, total-at}
 use Rattle.cc_run.proofs.StepLaws.{going_back-ends, spent-none, spent-one}

@@ -1,18 +1,18 @@
 -- How the run of a whole program goes, as facts about states and streams.
-use Rattle.std.proofs.Common.{◌≡◌, ℕ, suc, ◌<◌, ◌≤◌, Bool, true, false, List, [], ◌∷◌, ◌++◌, IsTrue, ℤ, Option, Some, None, Result, Ok, Err, Bor, refl, ap, sym, ◌∙◌, arith, subst, append_assoc, append-nil, codes, inl, inr, ◌⊎◌}
+use Rattle.std.proofs.Common.{◌≡◌, ℕ, suc, ◌+◌, ◌-◌, ◌^◌, min, ◌≤◌, Bool, true, false, List, [], ◌∷◌, ◌++◌, IsTrue, ℤ, Option, Some, None, Result, Ok, Err, Bor, refl, ap, sym, ◌∙◌, arith, subst, append_assoc, append-nil, codes, inl, inr, ◌⊎◌}
 use Rattle.cf_base.specs.Rose.{Rose}
 use Rattle.cf_base.specs.Stream.{Stream, IsFront, AddsFront}
-use Rattle.cf_base.specs.Event.{Event, Enter, In, Out, End, Ended, Ticks, Depth, Undefined, in_bytes, out_bytes}
+use Rattle.cf_base.specs.Event.{Event, Enter, In, Out, End, Ended, Ticks, Depth, Undefined, in_bytes, out_bytes, entered}
 use Rattle.cf_base.specs.World.{World, Ran, Went, Stops, and_then, shown, outcome, Outcome, world_at}
-use Rattle.cf_base.specs.Agree.{Begins, Adds}
-use Rattle.cf_base.proofs.Agreement.{begins-refl, adds-then}
+use Rattle.cf_base.specs.Agree.{Adds}
+use Rattle.cf_base.proofs.Agreement.{adds-then}
 use Rattle.cc_tree.specs.declared.unit.CParameter.{CParameter}
 use Rattle.cc_tree.specs.declared.unit.CProgram.{CProgram}
 use Rattle.cc_tree.specs.declared.outcome.End.{End as EndOf}
 use Rattle.cc_tree.specs.declared.outcome.End.TheVariants as end
 use Rattle.cc_tree.specs.Plain.{Function, block}
 use Rattle.cc_tree.specs.Memory.{Memory, no_memory}
-use Rattle.cc_tree.specs.Mean.{Scope, no_names, bind_all, parameter_names, Flow, Returned, tried, used, returned, ending, runs, helps_in, run_function, function_named, mean_of, start, c_mean, go_back}
+use Rattle.cc_tree.specs.Mean.{Scope, no_names, bind_all, parameter_names, Flow, Returned, tried, used, returned, ending, runs, helps_in, function_named, start, c_mean}
 use Rattle.cc_tree.proofs.Enough.{runs_again}
 use Rattle.cc_tree.proofs.Growth.{went, grows-runs, grows-helps, grows-does_all, grows-falling, grows-turning, grows-back, grows-tried}
 use Rattle.cc_run.specs.declared.mark.Mark.{Mark}
@@ -24,16 +24,14 @@ use Rattle.cc_run.specs.declared.state.State.{State}
 use Rattle.cc_run.specs.declared.types.Limits.{Limits}
 use Rattle.cc_run.specs.Blocks.{memory_of}
 use Rattle.cc_run.specs.Names.{layer, scope_of, place_number}
-use Rattle.cc_run.specs.State.{program_of, statements_of, run_all, run_body, run_doing, after, resume, finish, whole, Outside, noted, world_of, total}
+use Rattle.cc_run.specs.State.{program_of, statements_of, run_all, run_body, run_doing, after, resume, finish, Outside, noted, world_of, total}
 use Rattle.cc_run.specs.Steps.{HasEnd, StepsOn, EndsAs, Opens}
 use Rattle.cf_base.specs.declared.memory.Memory.{Memory as Mem}
 use Rattle.cc_tree.specs.declared.outcome.Act.TheVariants as act
 use Rattle.cc_run.specs.declared.types.Ran.{Ran as RunEnd}
 use Rattle.cc_run.specs.Answer.{act_number}
-use Rattle.cc_run.specs.Run.{streams, Carried, Whole, Front, LeavesAt, Leaves}
-use Rattle.cc_run.specs.Going.{outside, ahead, WentWhole, WentSome, GoesAt, GoesAs, Runs, StartsIn, StartsNot, events_of, Moves, Fails, TurnsAt, Going}
-use Rattle.cc_run.proofs.Marks.{scope_over-push}
-use Rattle.cc_run.proofs.Resume.{whole-push}
+use Rattle.cc_run.specs.Run.{streams, Carried, Whole, Front, LeavesAt, Leaves, entered_count}
+use Rattle.cc_run.specs.Going.{outside, ahead, WentWhole, WentSome, WentFailed, GoesAt, GoesAs, Runs, StartsIn, StartsNot, events_of, entered_after, Moves, Fails, TurnsAt, Going}
 
 -- A run's trace only grows.
 grows-all : (p : List Function) (n : ℕ) (level : Level) (all : _) (scope : Scope) (m : Memory) (w : World) → Adds w.trace (run_all p n level all scope m w)
@@ -86,15 +84,46 @@ in_bytes-append (In None ∷ xs) ys = in_bytes-append xs ys
 in_bytes-append (In (Some byte) ∷ xs) ys = ap (λ l. byte ∷ l) (in_bytes-append xs ys)
 in_bytes-append (Out byte ∷ xs) ys = in_bytes-append xs ys
 
+entered-append : (xs ys : List Event) → entered (xs ++ ys) ≡ entered xs + entered ys
+entered-append [] ys = let h : entered ys ≡ 0 + entered ys = omega arith in h
+entered-append (Enter name ∷ xs) ys = ap (λ n. 1 + n) (entered-append xs ys) ∙ let h : 1 + (entered xs + entered ys) ≡ (1 + entered xs) + entered ys = omega arith in h
+entered-append (In byte ∷ xs) ys = entered-append xs ys
+entered-append (Out byte ∷ xs) ys = entered-append xs ys
+
+-- so many more functions are entered
+entered_more : (events more : List Event) (n : ℕ) → entered more ≡ n → entered_count (events ++ more) ≡ min (entered events + n) (2 ^ 64 - 1)
+entered_more events more n so = ap (λ k. min k (2 ^ 64 - 1)) (entered-append events more ∙ ap (λ k. entered events + k) so)
+
+one_more : (a : ℕ) → min (min a (2 ^ 64 - 1) + 1) (2 ^ 64 - 1) ≡ min (a + 1) (2 ^ 64 - 1)
+one_more a = omega arith
+
+none_more : (a : ℕ) → min a (2 ^ 64 - 1) ≡ min (a + 0) (2 ^ 64 - 1)
+none_more a = omega arith
+
+counted-on : (events : List Event) (e : Option Event) → entered_after e (entered_count events) ≡ entered_count (events ++ events_of e)
+counted-on events None = none_more (entered events) ∙ sym (entered_more events [] 0 refl)
+counted-on events (Some (Enter name)) = one_more (entered events) ∙ sym (entered_more events (Enter name ∷ []) 1 refl)
+counted-on events (Some (In byte)) = none_more (entered events) ∙ sym (entered_more events (In byte ∷ []) 0 refl)
+counted-on events (Some (Out byte)) = none_more (entered events) ∙ sym (entered_more events (Out byte ∷ []) 0 refl)
+
 noted-outside : (input : List ℕ) (heap : ℕ) (events : List Event) (e : Option Event) → noted e (outside input heap events) ≡ outside input heap (events ++ events_of e)
 noted-outside input heap events None = ap (outside input heap) (sym (append-nil events))
 noted-outside input heap events (Some e) = refl
 
-pub going-starts : (s : State) (a : Stream) → Going s s a a
-going-starts s a = record { events = []; quiet = refl; same = λ input heap. refl; ticks = omega arith; told = λ t. t; put = λ t. sym (append-nil a.bytes); faults = refl }
+pub going-starts : (s : State) (a : Stream) → Going s s a a 0
+going-starts s a = record {
+  events = [];
+  quiet = refl;
+  same = λ input heap. refl;
+  ticks = omega arith;
+  told = λ t. t;
+  put = λ t. sym (append-nil a.bytes);
+  faults = refl;
+  counted = refl;
+}
 
-pub going-moves : (s now new : State) (a b c : Stream) → Going s now a b → Moves now new b c → Going s new a c
-going-moves s now new a b c g m = record {
+pub going-moves : (s now new : State) (a b c : Stream) (count next : ℕ) → Going s now a b count → Moves now new b c count next → Going s new a c next
+going-moves s now new a b c count next g m = record {
   events = g.events ++ events_of m.event;
   quiet = in_bytes-append g.events (events_of m.event) ∙ ap (λ l. l ++ in_bytes (events_of m.event)) g.quiet ∙ m.quiet;
   same = λ input heap. g.same input heap ∙ m.same (suc s.ticks) (outside input heap g.events) (let h : now.ticks ≤ s.ticks = g.ticks in omega arith)
@@ -104,23 +133,28 @@ going-moves s now new a b c g m = record {
   put = λ t. m.put t ∙ ap (λ l. l ++ out_bytes (events_of m.event)) (g.put (m.told t))
       ∙ append_assoc a.bytes (out_bytes g.events) (out_bytes (events_of m.event)) ∙ ap (λ l. a.bytes ++ l) (sym (out_bytes-append g.events (events_of m.event)));
   faults = m.faults ∙ g.faults;
+  counted = m.counted ∙ ap (entered_after m.event) g.counted ∙ counted-on g.events m.event;
 }
 
-pub going-whole : (s now : State) (a b : Stream) (e : EndOf) → Going s now a b → EndsAs (λ n o. total n now o) e now → WentWhole (ahead s) a b e
-going-whole s now a b e g h = record {
+pub going-whole : (s now : State) (a b : Stream) (count : ℕ) (e : EndOf) → Going s now a b count → EndsAs (λ n o. total n now o) e now
+    → WentWhole (ahead s) a b count e
+going-whole s now a b count e g h = record {
   events = g.events;
   quiet = g.quiet;
   ends = λ input heap. subst (HasEnd e g.events) (sym (g.same input heap))
       (h.same (suc s.ticks) (outside input heap g.events) (let k : now.ticks ≤ s.ticks = g.ticks in omega arith));
+  told = g.told;
   put = g.put;
   faults = g.faults;
+  counted = g.counted;
 }
 
-pub going-some : (s now : State) (a b : Stream) → Going s now a b → WentSome (ahead s) a b
-going-some s now a b g = record {
+pub going-some : (s now : State) (a b : Stream) (count : ℕ) → Going s now a b count → WentSome (ahead s) a b
+going-some s now a b count g = record {
   events = g.events;
   quiet = g.quiet;
   front = λ input heap. subst (λ (c : Outcome). IsFront g.events c.trace) (sym (g.same input heap)) (grows-total (suc s.ticks) now (outside input heap g.events));
+  told = g.told;
   put = g.put;
 }
 
@@ -130,39 +164,47 @@ front-of-one byte [] rest e = inl refl
 front-of-one byte (x ∷ []) rest e = inr (cc)
 front-of-one byte (x ∷ (y ∷ front)) rest e = absurd (cc)
 
-with-byte : (s now : State) (a b c : Stream) → Going s now a b → (f : Fails now b c) → (IsTrue c.told → c.bytes ≡ b.bytes ++ f.byte ∷ []) → WentSome (ahead s) a c
-with-byte s now a b c g f put = record {
+with-byte : (s now : State) (a b c : Stream) (count : ℕ) → Going s now a b count → (f : Fails now b c) → (IsTrue c.told → c.bytes ≡ b.bytes ++ f.byte ∷ [])
+    → WentFailed (ahead s) a c count
+with-byte s now a b c count g f put = let some : WentSome (ahead s) a c = record {
   events = g.events ++ Out f.byte ∷ [];
   quiet = in_bytes-append g.events (Out f.byte ∷ []) ∙ ap (λ l. l ++ []) g.quiet;
   front = λ input heap. subst (λ (d : Outcome). IsFront (g.events ++ Out f.byte ∷ []) d.trace)
       (sym (g.same input heap ∙ f.same (suc s.ticks) (outside input heap g.events) (let k : now.ticks ≤ s.ticks = g.ticks in omega arith)))
       (grows-total (suc s.ticks) f.new (outside input heap (g.events ++ Out f.byte ∷ [])));
+  told = λ t. g.told (f.told t);
   put = λ t. put t ∙ ap (λ l. l ++ f.byte ∷ []) (g.put (f.told t)) ∙ append_assoc a.bytes (out_bytes g.events) (f.byte ∷ [])
       ∙ ap (λ l. a.bytes ++ l) (sym (out_bytes-append g.events (Out f.byte ∷ [])));
-}
+} in record { some = some; rose = subst (λ k. Rose k c.faults) g.faults f.rose; counted = g.counted ∙ counted-on g.events (Some (Out f.byte)) }
 
-without-byte : (s now : State) (a b c : Stream) → Going s now a b → (f : Fails now b c) → (IsTrue c.told → c.bytes ≡ b.bytes) → WentSome (ahead s) a c
+without-byte : (s now : State) (a b c : Stream) (count : ℕ) → Going s now a b count → (f : Fails now b c) → (IsTrue c.told → c.bytes ≡ b.bytes)
+    → WentFailed (ahead s) a c count
 unfolding going-some
-without-byte s now a b c g f put = let some = going-some s now a b g in record {
-  events = g.events;
-  quiet = g.quiet;
-  front = some.front;
-  put = λ t. put t ∙ g.put (f.told t);
+without-byte s now a b c count g f put = let some = going-some s now a b count g in record {
+  some = record {
+    events = g.events;
+    quiet = g.quiet;
+    front = some.front;
+    told = λ t. g.told (f.told t);
+    put = λ t. put t ∙ g.put (f.told t);
+  };
+  rose = subst (λ k. Rose k c.faults) g.faults f.rose;
+  counted = g.counted;
 }
 
 told_cases : (t : Bool) → (IsTrue t → ⊥) ⊎ IsTrue t
 told_cases true = inr refl
 told_cases false = let silent : IsTrue false → ⊥ = λ x. cc in inl silent
 
-pub going-fails : (s now : State) (a b c : Stream) → Going s now a b → Fails now b c → WentSome (ahead s) a c
-going-fails s now a b c g f = go (told_cases c.told)
+pub going-fails : (s now : State) (a b c : Stream) (count : ℕ) → Going s now a b count → Fails now b c → WentFailed (ahead s) a c count
+going-fails s now a b c count g f = go (told_cases c.told)
   where
-    parts : (x : AddsFront (f.byte ∷ []) b.bytes c.bytes) → (x.front ≡ []) ⊎ (x.front ≡ f.byte ∷ []) → WentSome (ahead s) a c
-    parts x (inl none) = without-byte s now a b c g f (λ t. x.added ∙ ap (λ l. b.bytes ++ l) none ∙ append-nil b.bytes)
-    parts x (inr one) = with-byte s now a b c g f (λ t. x.added ∙ ap (λ l. b.bytes ++ l) one)
+    parts : (x : AddsFront (f.byte ∷ []) b.bytes c.bytes) → (x.front ≡ []) ⊎ (x.front ≡ f.byte ∷ []) → WentFailed (ahead s) a c count
+    parts x (inl none) = without-byte s now a b c count g f (λ t. x.added ∙ ap (λ l. b.bytes ++ l) none ∙ append-nil b.bytes)
+    parts x (inr one) = with-byte s now a b c count g f (λ t. x.added ∙ ap (λ l. b.bytes ++ l) one)
 
-    go : (IsTrue c.told → ⊥) ⊎ IsTrue c.told → WentSome (ahead s) a c
-    go (inl silent) = without-byte s now a b c g f (λ t. absurd (silent t))
+    go : (IsTrue c.told → ⊥) ⊎ IsTrue c.told → WentFailed (ahead s) a c count
+    go (inl silent) = without-byte s now a b c count g f (λ t. absurd (silent t))
     go (inr t) = let x = f.put t in parts x (front-of-one f.byte x.front x.is_front.rest x.is_front.joined)
 
 -- What `main` begins with.
@@ -202,34 +244,45 @@ turns-ends end.SourceFault s a h = absurd (h.same (suc s.ticks) (outside [] 0 []
 turns-ends end.SinkFault s a h = absurd (h.same (suc s.ticks) (outside [] 0 []) (omega arith))
 
 -- What the end of the loop comes to.
-pub going-ends : (e : EndOf) (s now : State) (a b c : Stream) → Going s now a b → TurnsAt now b c e → GoesAt (ahead s) a c e
-going-ends (end.Ended status) s now a b c g h = subst (λ (x : Stream). WentWhole (ahead s) a x (end.Ended status)) (sym h.1) (going-whole s now a b (end.Ended status) g h.0)
-going-ends end.Ticks s now a b c g h = subst (λ (x : Stream). WentWhole (ahead s) a x end.Ticks) (sym h.1) (going-whole s now a b end.Ticks g h.0)
-going-ends end.Depth s now a b c g h = subst (λ (x : Stream). WentWhole (ahead s) a x end.Depth) (sym h.1) (going-whole s now a b end.Depth g h.0)
-going-ends (end.Undefined act) s now a b c g h =
-    subst (λ (x : Stream). WentWhole (ahead s) a x (end.Undefined act)) (sym h.1) (going-whole s now a b (end.Undefined act) g h.0)
-going-ends end.SourceFault s now a b c g h = absurd h
-going-ends end.SinkFault s now a b c g h = (going-fails s now a b c g h, subst (λ k. Rose k c.faults) g.faults h.rose)
+pub going-ends : (e : EndOf) (s now : State) (a b c : Stream) (count next : ℕ) → Going s now a b count → TurnsAt now b c e → next ≡ count
+    → GoesAt (ahead s) a c next e
+going-ends (end.Ended status) s now a b c count next g h same =
+    subst (λ (x : Stream). WentWhole (ahead s) a x next (end.Ended status)) (sym h.1)
+    (subst (λ n. WentWhole (ahead s) a b n (end.Ended status)) (sym same) (going-whole s now a b count (end.Ended status) g h.0))
+going-ends end.Ticks s now a b c count next g h same =
+    subst (λ (x : Stream). WentWhole (ahead s) a x next end.Ticks) (sym h.1)
+    (subst (λ n. WentWhole (ahead s) a b n end.Ticks) (sym same) (going-whole s now a b count end.Ticks g h.0))
+going-ends end.Depth s now a b c count next g h same =
+    subst (λ (x : Stream). WentWhole (ahead s) a x next end.Depth) (sym h.1)
+    (subst (λ n. WentWhole (ahead s) a b n end.Depth) (sym same) (going-whole s now a b count end.Depth g h.0))
+going-ends (end.Undefined act) s now a b c count next g h same =
+    subst (λ (x : Stream). WentWhole (ahead s) a x next (end.Undefined act)) (sym h.1)
+    (subst (λ n. WentWhole (ahead s) a b n (end.Undefined act)) (sym same) (going-whole s now a b count (end.Undefined act) g h.0))
+going-ends end.SourceFault s now a b c count next g h same = absurd h
+going-ends end.SinkFault s now a b c count next g h same = subst (λ n. WentFailed (ahead s) a c n) (sym same) (going-fails s now a b c count g h)
 
-pub going-memory : (s now : State) (a b c : Stream) → Going s now a b → c ≡ b → WentSome (ahead s) a c × (c.faults ≡ a.faults)
-going-memory s now a b c g e =
-    (subst (λ (x : Stream). WentSome (ahead s) a x) (sym e) (going-some s now a b g), ap (λ (x : Stream). x.faults) e ∙ g.faults)
+pub going-memory : (s now : State) (a b c : Stream) (count : ℕ) → Going s now a b count → c ≡ b → WentSome (ahead s) a c × (c.faults ≡ a.faults)
+going-memory s now a b c count g e =
+    (subst (λ (x : Stream). WentSome (ahead s) a x) (sym e) (going-some s now a b count g), ap (λ (x : Stream). x.faults) e ∙ g.faults)
 
 -- A whole program.
 pub some-none : (meant : List ℕ → ℕ → Outcome) (a : Stream) → WentSome meant a a × (a.faults ≡ a.faults)
-some-none meant a = (record { events = []; quiet = refl; front = λ input heap. record { rest = (meant input heap).trace; joined = refl }; put = λ t. sym (append-nil a.bytes) }, refl)
+some-none meant a = (record { events = []; quiet = refl; front = λ input heap. record { rest = (meant input heap).trace; joined = refl }; told = λ t. t; put = λ t. sym (append-nil a.bytes) }, refl)
 
 pub whole-not : (program : CProgram) (limits : Limits) (a : Stream) → StartsNot program limits
-    → WentWhole (λ input heap. c_mean program input heap limits.depth limits.ticks) a a (end.Undefined act.A9)
-whole-not program limits a h = record { events = []; quiet = refl; ends = h.same; put = λ t. sym (append-nil a.bytes); faults = refl }
+    → WentWhole (λ input heap. c_mean program input heap limits.depth limits.ticks) a a 0 (end.Undefined act.A9)
+whole-not program limits a h = record { events = []; quiet = refl; ends = h.same; told = λ t. t; put = λ t. sym (append-nil a.bytes); faults = refl; counted = refl }
 
-whole-from : (M N : List ℕ → ℕ → Outcome) (a b : Stream) (e : EndOf) → ((input : List ℕ) (heap : ℕ) → M input heap ≡ N input heap) → WentWhole N a b e → WentWhole M a b e
-whole-from M N a b e same h = record {
+whole-from : (M N : List ℕ → ℕ → Outcome) (a b : Stream) (count : ℕ) (e : EndOf) → ((input : List ℕ) (heap : ℕ) → M input heap ≡ N input heap)
+    → WentWhole N a b count e → WentWhole M a b count e
+whole-from M N a b count e same h = record {
   events = h.events;
   quiet = h.quiet;
   ends = λ input heap. subst (HasEnd e h.events) (sym (same input heap)) (h.ends input heap);
+  told = h.told;
   put = h.put;
   faults = h.faults;
+  counted = h.counted;
 }
 
 some-from : (M N : List ℕ → ℕ → Outcome) (a b : Stream) → ((input : List ℕ) (heap : ℕ) → M input heap ≡ N input heap) → WentSome N a b → WentSome M a b
@@ -237,64 +290,79 @@ some-from M N a b same h = record {
   events = h.events;
   quiet = h.quiet;
   front = λ input heap. subst (λ (c : Outcome). IsFront h.events c.trace) (sym (same input heap)) (h.front input heap);
+  told = h.told;
   put = h.put;
 }
 
-at-from : (M N : List ℕ → ℕ → Outcome) (a b : Stream) (e : EndOf) → ((input : List ℕ) (heap : ℕ) → M input heap ≡ N input heap) → GoesAt N a b e → GoesAt M a b e
-at-from M N a b (end.Ended status) same h = whole-from M N a b (end.Ended status) same h
-at-from M N a b end.Ticks same h = whole-from M N a b end.Ticks same h
-at-from M N a b end.Depth same h = whole-from M N a b end.Depth same h
-at-from M N a b (end.Undefined act) same h = whole-from M N a b (end.Undefined act) same h
-at-from M N a b end.SourceFault same h = absurd h
-at-from M N a b end.SinkFault same h = (some-from M N a b same h.0, h.1)
+failed-from : (M N : List ℕ → ℕ → Outcome) (a b : Stream) (count : ℕ) → ((input : List ℕ) (heap : ℕ) → M input heap ≡ N input heap)
+    → WentFailed N a b count → WentFailed M a b count
+unfolding some-from
+failed-from M N a b count same h = record { some = some-from M N a b same h.some; rose = h.rose; counted = h.counted }
+
+at-from : (M N : List ℕ → ℕ → Outcome) (a b : Stream) (count : ℕ) (e : EndOf) → ((input : List ℕ) (heap : ℕ) → M input heap ≡ N input heap)
+    → GoesAt N a b count e → GoesAt M a b count e
+at-from M N a b count (end.Ended status) same h = whole-from M N a b count (end.Ended status) same h
+at-from M N a b count end.Ticks same h = whole-from M N a b count end.Ticks same h
+at-from M N a b count end.Depth same h = whole-from M N a b count end.Depth same h
+at-from M N a b count (end.Undefined act) same h = whole-from M N a b count (end.Undefined act) same h
+at-from M N a b count end.SourceFault same h = absurd h
+at-from M N a b count end.SinkFault same h = failed-from M N a b count same h
 
 pub goes-from : (M N : List ℕ → ℕ → Outcome) (a b : Stream) (r : Result RunEnd Mem) → ((input : List ℕ) (heap : ℕ) → M input heap ≡ N input heap) → GoesAs N a b r → GoesAs M a b r
-goes-from M N a b (Ok ran) same h = at-from M N a b ran.end same h
+goes-from M N a b (Ok ran) same h = at-from M N a b ran.entered ran.end same h
 goes-from M N a b (Err memory) same h = (some-from M N a b same h.0, h.1)
 
 -- The streams of a run of which the input and the trace stay as they are.
-carried : (events : List Event) (i a b t : Stream) → in_bytes events ≡ [] → (IsTrue b.told → b.bytes ≡ a.bytes ++ out_bytes events)
+carried : (events : List Event) (i a b t : Stream) → in_bytes events ≡ [] → (IsTrue b.told → IsTrue a.told) → (IsTrue b.told → b.bytes ≡ a.bytes ++ out_bytes events)
     → Carried false events i.bytes (streams i a t) (streams i b t)
-carried events i a b t quiet put = record {
-  held = λ told. refl;
-  taken = λ told. ap (λ l. l ++ i.bytes) (sym quiet);
+carried events i a b t quiet told put = record {
+  held = λ x. refl;
+  taken = λ x. ap (λ l. l ++ i.bytes) (sym quiet);
   put = put;
-  shown = λ told. sym (append-nil t.bytes);
+  shown = λ x. sym (append-nil t.bytes);
+  told = record { input = λ x. x; out = told; trace = λ x. x };
 }
 
-leaves-whole : (program : CProgram) (limits : Limits) (i a b t : Stream) (e : EndOf) (z : End)
+leaves-whole : (program : CProgram) (limits : Limits) (i a b t : Stream) (count : ℕ) (e : EndOf) (z : End)
     → ((events : List Event) (c : Outcome) → HasEnd e events c → c ≡ record { end = z; trace = events })
-    → WentWhole (λ input heap. c_mean program input heap limits.depth limits.ticks) a b e → Whole program limits false (streams i a t) (streams i b t) (λ c. c.end ≡ z)
-leaves-whole program limits i a b t e z is h =
+    → WentWhole (λ input heap. c_mean program input heap limits.depth limits.ticks) a b count e
+    → Whole program limits false (streams i a t) (streams i b t) count (λ c. c.end ≡ z)
+leaves-whole program limits i a b t count e z is h =
     let c = is h.events (c_mean program i.bytes limits.heap limits.depth limits.ticks) (h.ends i.bytes limits.heap) in
+    let trace : (c_mean program i.bytes limits.heap limits.depth limits.ticks).trace ≡ h.events = ap (λ (x : Outcome). x.trace) c in
     record {
       input = i.bytes;
-      carried = subst (λ (events : List Event). Carried false events i.bytes (streams i a t) (streams i b t)) (sym (ap (λ (x : Outcome). x.trace) c)) (carried h.events i a b t h.quiet h.put);
+      carried = subst (λ (events : List Event). Carried false events i.bytes (streams i a t) (streams i b t)) (sym trace) (carried h.events i a b t h.quiet h.told h.put);
       ends = ap (λ (x : Outcome). x.end) c;
+      counted = h.counted ∙ ap entered_count (sym trace);
       counts = record { input = refl; out = h.faults; trace = refl };
     }
 
 leaves-some : (program : CProgram) (limits : Limits) (i a b t : Stream) → WentSome (λ input heap. c_mean program input heap limits.depth limits.ticks) a b
     → Front program limits false (streams i a t) (streams i b t)
-leaves-some program limits i a b t h = record { input = i.bytes; events = h.events; carried = carried h.events i a b t h.quiet h.put; front = h.front i.bytes limits.heap }
+leaves-some program limits i a b t h = record { input = i.bytes; events = h.events; carried = carried h.events i a b t h.quiet h.told h.put; front = h.front i.bytes limits.heap }
 
-leaves-at : (program : CProgram) (limits : Limits) (i a b t : Stream) (e : EndOf) → GoesAt (λ input heap. c_mean program input heap limits.depth limits.ticks) a b e
-    → LeavesAt program limits false (streams i a t) (streams i b t) e
-leaves-at program limits i a b t (end.Ended status) h = leaves-whole program limits i a b t (end.Ended status) (Ended status) (λ events c e. e) h
-leaves-at program limits i a b t end.Ticks h = leaves-whole program limits i a b t end.Ticks Ticks (λ events c e. e) h
-leaves-at program limits i a b t end.Depth h = leaves-whole program limits i a b t end.Depth Depth (λ events c e. e) h
-leaves-at program limits i a b t (end.Undefined act) h = leaves-whole program limits i a b t (end.Undefined act) (Undefined (act_number act)) (λ events c e. e) h
-leaves-at program limits i a b t end.SourceFault h = absurd h
-leaves-at program limits i a b t end.SinkFault h = record { front = leaves-some program limits i a b t h.0; rose = h.1 }
+leaves-at : (program : CProgram) (limits : Limits) (i a b t : Stream) (count : ℕ) (e : EndOf)
+    → GoesAt (λ input heap. c_mean program input heap limits.depth limits.ticks) a b count e
+    → LeavesAt program limits false (streams i a t) (streams i b t) count e
+unfolding leaves-some
+leaves-at program limits i a b t count (end.Ended status) h = leaves-whole program limits i a b t count (end.Ended status) (Ended status) (λ events c e. e) h
+leaves-at program limits i a b t count end.Ticks h = leaves-whole program limits i a b t count end.Ticks Ticks (λ events c e. e) h
+leaves-at program limits i a b t count end.Depth h = leaves-whole program limits i a b t count end.Depth Depth (λ events c e. e) h
+leaves-at program limits i a b t count (end.Undefined act) h =
+    leaves-whole program limits i a b t count (end.Undefined act) (Undefined (act_number act)) (λ events c e. e) h
+leaves-at program limits i a b t count end.SourceFault h = absurd h
+leaves-at program limits i a b t count end.SinkFault h = record { front = leaves-some program limits i a b t h.some; counted = h.counted; rose = h.rose }
 
 pub leaves : (program : CProgram) (limits : Limits) (i a b t : Stream) (r : Result RunEnd Mem) → Runs program limits a b r
     → Leaves program limits false (streams i a t) (streams i b t) r
-leaves program limits i a b t (Ok ran) h = leaves-at program limits i a b t ran.end h
+leaves program limits i a b t (Ok ran) h = leaves-at program limits i a b t ran.entered ran.end h
 leaves program limits i a b t (Err memory) h = (leaves-some program limits i a b t h.0, record { input = refl; out = h.1; trace = refl })
 
 -- One step and what it shows.
-pub moves-quietly : (old new : State) (a : Stream) (name : List ℕ) → StepsOn (λ n o. total n old o) (Some (Enter name)) old new → Moves old new a a
-moves-quietly old new a name h = record {
+pub moves-quietly : (old new : State) (a : Stream) (before now : ℕ) (name : List ℕ) → StepsOn (λ n o. total n old o) (Some (Enter name)) old new
+    → now ≡ min (before + 1) (2 ^ 64 - 1) → Moves old new a a before now
+moves-quietly old new a before now name h counted = record {
   event = Some (Enter name);
   quiet = refl;
   same = h.same;
@@ -302,11 +370,21 @@ moves-quietly old new a name h = record {
   told = λ t. t;
   put = λ t. sym (append-nil a.bytes);
   faults = refl;
+  counted = counted;
 }
 
-pub moves-put : (old new : State) (a b : Stream) (byte : ℕ) → StepsOn (λ n o. total n old o) (Some (Out byte)) old new
-    → (IsTrue b.told → IsTrue a.told) → (IsTrue b.told → b.bytes ≡ a.bytes ++ byte ∷ []) → b.faults ≡ a.faults → Moves old new a b
-moves-put old new a b byte h told put faults = record { event = Some (Out byte); quiet = refl; same = h.same; ticks = h.ticks; told = told; put = put; faults = faults }
+pub moves-put : (old new : State) (a b : Stream) (count byte : ℕ) → StepsOn (λ n o. total n old o) (Some (Out byte)) old new
+    → (IsTrue b.told → IsTrue a.told) → (IsTrue b.told → b.bytes ≡ a.bytes ++ byte ∷ []) → b.faults ≡ a.faults → Moves old new a b count count
+moves-put old new a b count byte h told put faults = record {
+  event = Some (Out byte);
+  quiet = refl;
+  same = h.same;
+  ticks = h.ticks;
+  told = told;
+  put = put;
+  faults = faults;
+  counted = refl;
+}
 
 pub fails-put : (old new : State) (a b : Stream) (byte : ℕ) → StepsOn (λ n o. total n old o) (Some (Out byte)) old new
     → (IsTrue b.told → IsTrue a.told) → (IsTrue b.told → AddsFront (byte ∷ []) a.bytes b.bytes) → Rose a.faults b.faults → Fails old a b

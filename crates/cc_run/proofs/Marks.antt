@@ -1,5 +1,5 @@
 -- Names on the stack of marks.
-use Rattle.std.proofs.Common.{◌≡◌, ℕ, suc, ◌+◌, ◌-◌, ◌<◌, ◌≤◌, Bool, true, false, if◌then◌else◌, List, [], ◌∷◌, ◌++◌, length, take, drop, get_or, map, Option, Some, None, bytes_eq, refl, ap, sym, ◌∙◌, arith, cond, subst}
+use Rattle.std.proofs.Common.{◌≡◌, ℕ, suc, ◌+◌, ◌-◌, ◌<◌, ◌≤◌, Bool, true, false, List, [], ◌∷◌, ◌++◌, length, take, drop, get_or, map, Option, Some, None, bytes_eq, refl, ap, sym, ◌∙◌, arith, cond}
 use Rattle.std.proofs.Math.Seq.{take-suc, drop-cons}
 use Rattle.cc_tree.specs.Mean.{Scope, no_names, bind, bind_all}
 use Rattle.cc_run.specs.declared.mark.Mark.{Mark}

@@ -1,15 +1,14 @@
 -- How marks and statements resume a run.
-use Rattle.std.proofs.Common.{◌≡◌, ℕ, zero, suc, ◌<◌, ◌≤◌, ◌-◌, Bool, true, false, List, [], ◌∷◌, ◌++◌, length, map, ℤ, pos, negsuc, Option, Some, None, Result, Ok, Err, Bor, refl, ap, sym, ◌∙◌, arith, subst}
-use Rattle.cf_base.specs.Event.{Event, Enter, End, Ended, Ticks, Depth, Undefined}
-use Rattle.cf_base.specs.World.{World, Ran, Went, Stops, and_then, spend, spend_of, deeper, show, Outcome, outcome}
+use Rattle.std.proofs.Common.{◌≡◌, ℕ, List, [], ◌∷◌, ◌++◌, length, Result, Ok, Err, Bor, refl, ap, sym, ◌∙◌}
+use Rattle.cf_base.specs.Event.{Event, End, Undefined}
+use Rattle.cf_base.specs.World.{World, Ran, Stops, and_then}
 use Rattle.cc_tree.specs.declared.statement.CLocal.{CLocal}
 use Rattle.cc_tree.specs.declared.statement.CStatement.{CStatement}
 use Rattle.cc_tree.specs.declared.statement.CStatement.TheFolds.{fold_out-CBody}
 use Rattle.cc_tree.specs.declared.statement.CBody.{CBody, out-CBody}
-use Rattle.cc_tree.specs.Plain.{Statement, loop, block, Statements, followed, Body, body, body_of, statement_step, body_step, Function}
-use Rattle.cc_tree.specs.Memory.{Memory, born_with}
-use Rattle.cc_tree.specs.Mean.{Scope, no_names, bind_all, local_names, parameter_names, Flow, Falls, Breaks, Returns, Returned, tried, falling, turning, ending, returned, does, does_all, helps_in, runs, run_function, go_back, is_helper}
-use Rattle.cc_tree.proofs.Enough.{runs_again}
+use Rattle.cc_tree.specs.Plain.{Statement, Statements, Body, body, body_of, statement_step, body_step, Function}
+use Rattle.cc_tree.specs.Memory.{Memory}
+use Rattle.cc_tree.specs.Mean.{Scope, no_names, bind_all, local_names, Flow, tried}
 use Rattle.cc_run.specs.declared.mark.Mark.{Mark}
 use Rattle.cc_run.specs.declared.mark.Mark.TheVariants as mark
 use Rattle.cc_run.specs.declared.mark.Level.{Level}

@@ -1,18 +1,16 @@
 -- What each step of the runner keeps, as facts about states.
-use Rattle.std.proofs.Common.{◌≡◌, ℕ, zero, suc, ◌<◌, ◌≤◌, ◌-◌, ◌==◌, Bool, true, false, List, [], ◌∷◌, ◌++◌, length, map, ℤ, pos, negsuc, Option, Some, None, Result, Ok, Err, Bor, refl, ap, sym, ◌∙◌, arith, subst, cond, option_map}
-use Rattle.cf_base.specs.declared.kind.Kind.TheVariants.{UChar}
-use Rattle.cf_base.specs.Integers.{bits_of, convert}
-use Rattle.cf_base.specs.Event.{Event, Enter, Out, End, Ended, Ticks, Depth, Undefined}
-use Rattle.cf_base.specs.World.{World, Ran, Went, Stops, and_then, spend, spend_of, deeper, show, Outcome, outcome}
+use Rattle.std.proofs.Common.{◌≡◌, ℕ, zero, suc, ◌≤◌, ◌-◌, List, [], ◌∷◌, ◌++◌, length, ℤ, pos, negsuc, Option, Some, None, Result, Ok, Err, Bor, refl, ap, sym, ◌∙◌, arith, subst}
+use Rattle.cf_base.specs.Integers.{bits_of}
+use Rattle.cf_base.specs.Event.{Event, Out, Ticks, Undefined}
+use Rattle.cf_base.specs.World.{World, Ran, Went, Stops, and_then, spend_of, show, Outcome}
 use Rattle.cc_tree.specs.declared.statement.CStatement.{CStatement}
 use Rattle.cc_tree.specs.declared.statement.CBody.{CBody}
 use Rattle.cc_tree.specs.declared.unit.CParameter.{CParameter}
 use Rattle.cc_tree.specs.declared.outcome.Act.{Act}
-use Rattle.cc_tree.specs.declared.outcome.Act.TheVariants as act
 use Rattle.cc_tree.specs.declared.outcome.End.TheVariants as end
-use Rattle.cc_tree.specs.Plain.{Place, Expression, Statement, assign, call, block, choose, loop, give, Statements, followed, Body, body_of, Function}
-use Rattle.cc_tree.specs.Memory.{Memory, Block, write, born_with, died_all}
-use Rattle.cc_tree.specs.Mean.{Scope, no_names, bind_all, parameter_names, Flow, Falls, Breaks, Returns, Returned, tried, falling, turning, ending, returned, does, does_all, helps_in, runs, run_function, go_back, is_helper, is_main, is_putchar, has_arity, put, called, enter, enter_function, function_named, refused, value, values, block_at, assigned_to, give_value, choice, target_of}
+use Rattle.cc_tree.specs.Plain.{Place, Expression, assign, block, choose, loop, give, Statements, followed, Body, body_of, Function}
+use Rattle.cc_tree.specs.Memory.{Memory, write, born_with, died_all}
+use Rattle.cc_tree.specs.Mean.{Scope, no_names, bind_all, parameter_names, Flow, Falls, Returns, Returned, tried, falling, turning, ending, returned, runs, go_back, put, value, block_at, assigned_to, give_value, choice}
 use Rattle.cc_tree.proofs.Enough.{runs_again}
 use Rattle.cc_run.specs.declared.mark.Mark.{Mark}
 use Rattle.cc_run.specs.declared.mark.Mark.TheVariants as mark
@@ -24,8 +22,8 @@ use Rattle.cc_run.specs.declared.state.State.{State}
 use Rattle.cc_run.specs.Answer.{act_number}
 use Rattle.cc_run.specs.Blocks.{memory_of, number_of, ended_from}
 use Rattle.cc_run.proofs.BlockLaws.{died_all-ended}
-use Rattle.cc_run.specs.Names.{layer, scope_over, scope_of, place_number}
-use Rattle.cc_run.specs.State.{program_of, statements_of, run_all, run_body, after, resume, finish, whole, run_doing, flow_of, Outside, noted, world_of, total, popped, begun, back_to, going_back, calling, entering, putting}
+use Rattle.cc_run.specs.Names.{scope_of, place_number}
+use Rattle.cc_run.specs.State.{program_of, statements_of, run_all, run_body, after, whole, run_doing, flow_of, Outside, noted, world_of, total, popped, back_to, going_back, putting}
 use Rattle.cc_tree.specs.declared.outcome.End.{End as EndOf}
 use Rattle.cc_run.specs.declared.state.Step.{Step}
 use Rattle.cc_run.specs.declared.state.Step.TheVariants as step

@@ -1,5 +1,5 @@
 -- Answers of the code as answers of the meaning, which knows an act by its number.
-use Rattle.std.specs.Prelude.{◌≡◌, ℕ, ℤ, Result, Ok, Err}
+use Rattle.std.specs.Prelude.{◌≡◌, ℕ, Result, Ok, Err}
 use Rattle.cc_tree.specs.declared.outcome.Act.{Act}
 use Rattle.cc_tree.specs.declared.outcome.Act.TheVariants as act
 use Rattle.cc_run.specs.declared.state.Stop.{Stop}

@@ -1,5 +1,5 @@
 -- A list of blocks as a memory.
-use Rattle.std.specs.Prelude.{ℕ, zero, suc, ◌+◌, Bool, if◌then◌else◌, List, length, ℤ, Option, Some, None, slice_get}
+use Rattle.std.specs.Prelude.{ℕ, zero, suc, ◌+◌, if◌then◌else◌, List, length, ℤ, Option, Some, None, slice_get}
 use Rattle.cc_tree.specs.Memory.{Memory, Block, gone, born, died}
 use Rattle.cc_run.specs.declared.blocks.Cell.{Cell}
 use Rattle.cc_run.specs.declared.mark.BlockNumber.{BlockNumber}

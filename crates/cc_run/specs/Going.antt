@@ -1,9 +1,9 @@
 -- How the run of a whole program goes.
-use Rattle.std.specs.Prelude.{◌≡◌, ℕ, suc, ◌<◌, ◌≤◌, List, [], ◌∷◌, ◌++◌, IsTrue, codes, Option, Some, None, Result, Ok, Err}
+use Rattle.std.specs.Prelude.{◌≡◌, ℕ, suc, ◌+◌, ◌-◌, ◌^◌, min, ◌<◌, ◌≤◌, List, [], ◌∷◌, ◌++◌, IsTrue, Option, Some, None, Result, Ok, Err}
 use Rattle.cf_base.specs.declared.memory.Memory.{Memory}
 use Rattle.cf_base.specs.Rose.{Rose}
 use Rattle.cf_base.specs.Stream.{Stream, IsFront, AddsFront}
-use Rattle.cf_base.specs.Event.{Event, Out, in_bytes, out_bytes, Undefined}
+use Rattle.cf_base.specs.Event.{Event, Enter, In, Out, in_bytes, out_bytes, Undefined}
 use Rattle.cf_base.specs.World.{Outcome}
 use Rattle.cc_tree.specs.declared.unit.CProgram.{CProgram}
 use Rattle.cc_tree.specs.declared.outcome.End.{End}
@@ -13,6 +13,7 @@ use Rattle.cc_run.specs.declared.types.Limits.{Limits}
 use Rattle.cc_run.specs.declared.types.Ran.{Ran}
 use Rattle.cc_run.specs.declared.state.State.{State}
 use Rattle.cc_run.specs.State.{Outside, noted, total}
+use Rattle.cc_run.specs.Run.{entered_count}
 use Rattle.cc_run.specs.Steps.{HasEnd, EndsAs}
 
 -- what stands outside as a run begins
@@ -23,31 +24,40 @@ outside input heap trace = record { input = input; heap = heap; trace = trace }
 abbrev pub ahead : State → List ℕ → ℕ → Outcome
 ahead s input heap = total (suc s.ticks) s (outside input heap [])
 
--- a run that means this came to its end
-pub record WentWhole (meant : List ℕ → ℕ → Outcome) (old new : Stream) (e : End) : Type 0 where
+-- a run that means this came to its end, with so many functions entered
+pub record WentWhole (meant : List ℕ → ℕ → Outcome) (old new : Stream) (count : ℕ) (e : End) : Type 0 where
   pub events : List Event
   pub quiet : in_bytes events ≡ []
   pub ends : (input : List ℕ) (heap : ℕ) → HasEnd e events (meant input heap)
+  pub told : IsTrue new.told → IsTrue old.told
   pub put : IsTrue new.told → new.bytes ≡ old.bytes ++ out_bytes events
   pub faults : new.faults ≡ old.faults
+  pub counted : count ≡ entered_count events
 
 -- a front of its events was carried out
 pub record WentSome (meant : List ℕ → ℕ → Outcome) (old new : Stream) : Type 0 where
   pub events : List Event
   pub quiet : in_bytes events ≡ []
   pub front : (input : List ℕ) (heap : ℕ) → IsFront events (meant input heap).trace
+  pub told : IsTrue new.told → IsTrue old.told
   pub put : IsTrue new.told → new.bytes ≡ old.bytes ++ out_bytes events
 
-abbrev pub GoesAt : (List ℕ → ℕ → Outcome) → Stream → Stream → End → Type 0
-GoesAt meant old new (end.Ended status) = WentWhole meant old new (end.Ended status)
-GoesAt meant old new end.Ticks = WentWhole meant old new end.Ticks
-GoesAt meant old new end.Depth = WentWhole meant old new end.Depth
-GoesAt meant old new (end.Undefined act) = WentWhole meant old new (end.Undefined act)
-GoesAt meant old new end.SourceFault = ⊥
-GoesAt meant old new end.SinkFault = WentSome meant old new × Rose old.faults new.faults
+-- a byte was not put
+pub record WentFailed (meant : List ℕ → ℕ → Outcome) (old new : Stream) (count : ℕ) : Type 0 where
+  pub some : WentSome meant old new
+  pub rose : Rose old.faults new.faults
+  pub counted : count ≡ entered_count some.events
+
+abbrev pub GoesAt : (List ℕ → ℕ → Outcome) → Stream → Stream → ℕ → End → Type 0
+GoesAt meant old new count (end.Ended status) = WentWhole meant old new count (end.Ended status)
+GoesAt meant old new count end.Ticks = WentWhole meant old new count end.Ticks
+GoesAt meant old new count end.Depth = WentWhole meant old new count end.Depth
+GoesAt meant old new count (end.Undefined act) = WentWhole meant old new count (end.Undefined act)
+GoesAt meant old new count end.SourceFault = ⊥
+GoesAt meant old new count end.SinkFault = WentFailed meant old new count
 
 abbrev pub GoesAs : (List ℕ → ℕ → Outcome) → Stream → Stream → Result Ran Memory → Type 0
-GoesAs meant old new (Ok ran) = GoesAt meant old new ran.end
+GoesAs meant old new (Ok ran) = GoesAt meant old new ran.entered ran.end
 GoesAs meant old new (Err memory) = WentSome meant old new × (new.faults ≡ old.faults)
 
 abbrev pub Goes : State → Stream → Stream → Result Ran Memory → Type 0
@@ -70,8 +80,15 @@ abbrev pub events_of : Option Event → List Event
 events_of None = []
 events_of (Some e) = e ∷ []
 
--- one step, and what it shows
-pub record Moves (old new : State) (a b : Stream) : Type 0 where
+-- so many functions were entered once this event was shown
+abbrev pub entered_after : Option Event → ℕ → ℕ
+entered_after None before = before
+entered_after (Some (Enter name)) before = min (before + 1) (2 ^ 64 - 1)
+entered_after (Some (In byte)) before = before
+entered_after (Some (Out byte)) before = before
+
+-- one step, and what it shows; so many functions were entered before it, and after it
+pub record Moves (old new : State) (a b : Stream) (before now : ℕ) : Type 0 where
   pub event : Option Event
   pub quiet : in_bytes (events_of event) ≡ []
   pub same : (n : ℕ) (o : Outside) → old.ticks < n → total n old o ≡ total n new (noted event o)
@@ -79,6 +96,7 @@ pub record Moves (old new : State) (a b : Stream) : Type 0 where
   pub told : IsTrue b.told → IsTrue a.told
   pub put : IsTrue b.told → b.bytes ≡ a.bytes ++ out_bytes (events_of event)
   pub faults : b.faults ≡ a.faults
+  pub counted : now ≡ entered_after event before
 
 -- a byte was not put
 pub record Fails (old : State) (a b : Stream) : Type 0 where
@@ -97,13 +115,13 @@ TurnsAt old a b (end.Undefined act) = EndsAs (λ n o. total n old o) (end.Undefi
 TurnsAt old a b end.SourceFault = ⊥
 TurnsAt old a b end.SinkFault = Fails old a b
 
-abbrev pub Turns : State → State → Stream → Stream → Result (Option End) Memory → Type 0
-Turns old new a b (Ok None) = Moves old new a b
-Turns old new a b (Ok (Some e)) = TurnsAt old a b e
-Turns old new a b (Err memory) = b ≡ a
+abbrev pub Turns : State → State → Stream → Stream → ℕ → ℕ → Result (Option End) Memory → Type 0
+Turns old new a b before now (Ok None) = Moves old new a b before now
+Turns old new a b before now (Ok (Some e)) = TurnsAt old a b e × (now ≡ before)
+Turns old new a b before now (Err memory) = b ≡ a
 
--- what has been carried out, and what lies ahead
-pub record Going (s now : State) (old new : Stream) : Type 0 where
+-- what has been carried out, with so many functions entered, and what lies ahead
+pub record Going (s now : State) (old new : Stream) (count : ℕ) : Type 0 where
   pub events : List Event
   pub quiet : in_bytes events ≡ []
   pub same : (input : List ℕ) (heap : ℕ) → ahead s input heap ≡ total (suc s.ticks) now (outside input heap events)
@@ -111,3 +129,4 @@ pub record Going (s now : State) (old new : Stream) : Type 0 where
   pub told : IsTrue new.told → IsTrue old.told
   pub put : IsTrue new.told → new.bytes ≡ old.bytes ++ out_bytes events
   pub faults : new.faults ≡ old.faults
+  pub counted : count ≡ entered_count events

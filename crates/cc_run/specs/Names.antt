@@ -1,5 +1,5 @@
 -- The names in scope, by the marks on the stack.
-use Rattle.std.specs.Prelude.{ℕ, suc, ◌+◌, Bool, if◌then◌else◌, List, [], ◌∷◌, Option, Some, None, Result, Ok, Err, bytes_eq}
+use Rattle.std.specs.Prelude.{ℕ, suc, ◌+◌, if◌then◌else◌, List, [], ◌∷◌, Option, Some, None, Result, Ok, Err, bytes_eq}
 use Rattle.cc_tree.specs.Mean.{Scope, no_names, bind_all, local_names, parameter_names}
 use Rattle.cc_run.specs.declared.mark.Mark.{Mark}
 use Rattle.cc_run.specs.declared.mark.Mark.TheVariants as mark

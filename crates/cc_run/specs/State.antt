@@ -1,20 +1,19 @@
 -- What a state of the runner means: the rest of the run.
-use Rattle.std.specs.Prelude.{ℕ, suc, Bool, List, [], ◌∷◌, ◌++◌, ℤ, Option, Some, None, map}
+use Rattle.std.specs.Prelude.{ℕ, List, [], ◌∷◌, ◌++◌, ℤ, Option, Some, None, map}
 use Rattle.cf_base.specs.Event.{Event}
-use Rattle.cf_base.specs.World.{World, Ran, Went, Stops, and_then, Outcome, outcome}
+use Rattle.cf_base.specs.World.{World, Ran, Went, and_then, Outcome, outcome}
 use Rattle.cc_tree.specs.declared.statement.CStatement.{CStatement}
 use Rattle.cc_tree.specs.declared.unit.CProgram.{CProgram}
-use Rattle.cc_tree.specs.Plain.{Statement, loop, Statements, in_order, statement_of, Body, body_of, Function, items_of, functions_of}
+use Rattle.cc_tree.specs.Plain.{loop, Statements, in_order, statement_of, Body, body_of, Function, items_of, functions_of}
 use Rattle.cc_tree.specs.Memory.{Memory}
 use Rattle.cc_tree.specs.Mean.{Scope, no_names, Flow, Falls, Breaks, Returns, Returned, falling, turning, ending, returned, used, tried, go_back, run_function, called, enter, put, does, does_body, does_all, helps_in, runs}
 use Rattle.cc_run.specs.declared.mark.Mark.{Mark}
 use Rattle.cc_run.specs.declared.mark.Mark.TheVariants as mark
 use Rattle.cc_run.specs.declared.mark.Level.{Level}
-use Rattle.cc_run.specs.declared.mark.BlockNumber.{BlockNumber}
 use Rattle.cc_run.specs.declared.mark.Doing.{Doing}
 use Rattle.cc_run.specs.declared.mark.Doing.TheVariants as doing
 use Rattle.cc_run.specs.declared.state.State.{State}
-use Rattle.cc_run.specs.Blocks.{memory_of, number_of}
+use Rattle.cc_run.specs.Blocks.{memory_of}
 use Rattle.cc_run.specs.Names.{layer, scope_of, place_number}
 
 abbrev pub statements_of : List CStatement → Statements

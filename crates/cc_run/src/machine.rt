@@ -124,7 +124,7 @@ fn turn<O: Sink>(
     out: &mut O,
     entered: &mut u64,
 ) -> Result<Option<End>, Memory>
-    ensures { Turns state.old state.new (O.stream out.old) (O.stream out.new) result }
+    ensures { Turns state.old state.new (O.stream out.old) (O.stream out.new) entered.old entered.new result }
 {
     match state.step() {
         Err(Stop::Memory) => Err(Memory),

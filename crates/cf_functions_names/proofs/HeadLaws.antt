@@ -10,9 +10,9 @@ use Rattle.cf_functions.specs.Plain.{Function}
 use Rattle.cf_functions.specs.Rules.{is_in, differ, function_names}
 use Rattle.cf_functions_names.specs.declared.heads.Head.{Head}
 use Rattle.cf_functions_names.specs.Heads.{head_from, head_fits}
-use Rattle.cf_functions_names.specs.Lists.{same_name}
+use Rattle.cf_name_list.specs.Names.{same_name}
 use Rattle.cf_functions_names.specs.Walk.{plain}
-use Rattle.cf_functions_names.proofs.ListLaws.{left_is}
+use Rattle.cf_name_list.proofs.ListLaws.{left_is}
 
 abbrev pub takes : List ℕ → ℕ → Function → Bool
 takes x n f = not (bytes_eq f.name x) || (length f.parameters == n)

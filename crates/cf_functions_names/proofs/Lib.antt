@@ -1,5 +1,4 @@
-mod CountLaws
+mod BehindLaws
 mod DifferLaws
 mod HeadLaws
-mod ListLaws
 mod WalkLaws

@@ -10,7 +10,8 @@ use Rattle.cf_functions.specs.Plain.{Expressions, more, arguments, expression_of
 use Rattle.cf_functions.specs.Rules.{declared, declared_all, locals_of}
 use Rattle.cf_functions_names.specs.Lists.{behind}
 use Rattle.cf_functions_names.specs.Walk.{plain}
-use Rattle.cf_functions_names.proofs.ListLaws.{left_is, behind-append}
+use Rattle.cf_name_list.proofs.ListLaws.{left_is}
+use Rattle.cf_functions_names.proofs.BehindLaws.{behind-append}
 
 pub count-arguments : (es : List tree_e.Expression) → count (expressions_of es) ≡ length es
 count-arguments [] = refl

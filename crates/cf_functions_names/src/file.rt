@@ -8,9 +8,10 @@ ghost use Rattle.cf_functions_names.specs.Walk.{file_at, known_at, plain};
 
 use crate::heads::{Head, fits, heads};
 use crate::locals::all_locals;
-use crate::names::{Names, is};
+use crate::names::is;
 use cf_base::Memory;
 use cf_functions::Function;
+use cf_name_list::Names;
 use std::alloc::Global;
 use std::collections::HashMap;
 use std::marker::Model;
@@ -30,7 +31,7 @@ impl<'a> Model for File<'a> {
     ghost use Rattle.std.specs.HashMap.{get};
     ghost use Rattle.cf_functions.specs.declared.tree.Function.{Function};
     ghost use Rattle.cf_functions.specs.contracts.tree.Statement as statement;
-    ghost use Rattle.cf_functions_names.specs.Lists.{same_name};
+    ghost use Rattle.cf_name_list.specs.Names.{same_name};
     ghost use Rattle.cf_functions_names.specs.Walk.{Knows};
 
     ghost Value = { List Function };

@@ -2,7 +2,7 @@ ghost use Rattle.std.specs.Prelude.{◌≡◌, ℕ, List, Option, IfOk};
 ghost use Rattle.std.specs.Borrow.{Bor};
 ghost use Rattle.std.specs.HashMap.{get};
 ghost use Rattle.cf_functions_names.specs.Heads.{head_from, head_fits};
-ghost use Rattle.cf_functions_names.specs.Lists.{same_name};
+ghost use Rattle.cf_name_list.specs.Names.{same_name};
 ghost use Rattle.cf_functions_names.specs.Walk.{plain};
 
 use cf_base::Memory;

@@ -4,7 +4,6 @@
 //! so the time for a name does not grow with the file.
 #![tactic(auto)]
 
-mod counts;
 mod fault;
 mod file;
 mod heads;

@@ -4,9 +4,9 @@ ghost use Rattle.cf_functions.specs.Rules.{declared, declared_all, locals_of};
 ghost use Rattle.cf_functions_names.specs.Lists.{behind};
 ghost use Rattle.cf_functions_names.specs.Walk.{plain};
 
-use crate::names::Names;
 use cf_base::{Items, Memory, Name};
 use cf_functions::{Function, Statement};
+use cf_name_list::Names;
 use std::alloc::Global;
 
 /// Adds the names that a statement declares, in order.

@@ -2,9 +2,9 @@ ghost use Rattle.std.specs.Prelude.{◌≡◌, [], map, true, IfOk};
 ghost use Rattle.cf_functions.specs.Plain.{statement_of, in_order, names_after};
 ghost use Rattle.cf_functions.specs.Rules as spec;
 
-use crate::names::Names;
 use cf_base::{Items, Memory};
 use cf_functions::Statement;
+use cf_name_list::Names;
 use std::alloc::Global;
 
 /// Whether no name is declared twice in a block, where these are declared before the statement, which may add its own.

@@ -2,9 +2,10 @@ ghost use Rattle.std.specs.Prelude.{◌≡◌, ◌||◌, [], map, Some, None, If
 ghost use Rattle.cf_functions.specs.Plain.{expression_of, expressions_of, statement_of, in_order, names_after, function_of, functions_of};
 ghost use Rattle.cf_functions.specs.Rules as spec;
 
-use crate::names::{Names, is};
+use crate::names::is;
 use cf_base::{Items, Memory, Name};
 use cf_functions::{Expression, Function, Program, Statement};
+use cf_name_list::Names;
 use std::alloc::Global;
 
 /// The place of the first name in an expression that is not declared, where these functions and locals are in scope.

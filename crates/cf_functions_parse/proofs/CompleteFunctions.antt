@@ -9,8 +9,8 @@ use Rattle.cf_functions_tokens.specs.declared.token.Token.TheVariants as token
 use Rattle.cf_functions_parse.specs.Spells.{SpellsSomeParameters, SpellsParameters, SpellsFunction, SpellsFunctions, Spells}
 use Rattle.cf_functions_parse.specs.Spells as g
 use Rattle.cf_functions_parse.specs.Parse.{sees, is_ended, expect, identifier, end}
-use Rattle.cf_functions_parse.specs.Rules.{items, some_items, block, body, parameter, head, function, more_functions, all_functions, program}
-use Rattle.cf_functions_parse.proofs.Steps.{functions_stop, functions_go}
+use Rattle.cf_functions_parse.specs.Rules.{items, some_items, block, body, parameter, head, function, more_until, all_until, program}
+use Rattle.cf_functions_parse.proofs.Steps.{until_stop, until_go}
 use Rattle.cf_functions_parse.proofs.Again.{then_again, items_from, last_again, next_again, some_last, some_next, none_again, all_again}
 use Rattle.cf_functions_parse.proofs.CompleteStatements.{complete_block}
 
@@ -78,21 +78,21 @@ begins _ _ (g.function at name names xs all ys p q) = record { some = omega arit
 
 -- with turns enough
 complete_functions : (all : List Function) (xs : List Token) → SpellsFunctions all xs → (depth : ℕ) → length xs ≤ depth → (m : ℕ) → length xs ≤ m
-    → (found : List Function) → more_functions depth m found xs ≡ Some (found ++ all, [])
-complete_functions _ _ g.none depth fits m enough found = functions_stop depth m found [] refl ∙ ap (λ l. Some (l, [])) (sym (append-nil found))
+    → (found : List Function) → more_until is_ended (function depth) m found xs ≡ Some (found ++ all, [])
+complete_functions _ _ g.none depth fits m enough found = until_stop is_ended (function depth) m found [] refl ∙ ap (λ l. Some (l, [])) (sym (append-nil found))
 complete_functions _ _ (g.more f xs all ys p others) depth fits m enough found =
     let long = length-append xs ys in
     let n = m - 1 in
     let first = begins f xs p in
     let m_is : m ≡ suc n = omega (arith, enough, long, first.some) in
     let read = complete_function f xs p depth (omega (arith, fits, long)) ys in
-    sym (functions_go depth m n found (found ++ f ∷ []) (xs ++ ys) ys f _ refl m_is (first.goes ys) read refl)
+    sym (until_go is_ended (function depth) m n found (found ++ f ∷ []) (xs ++ ys) ys f _ refl m_is (first.goes ys) read refl)
     ∙ complete_functions all ys others depth (omega (arith, fits, long)) n (omega (arith, enough, long, first.some)) (found ++ f ∷ [])
     ∙ ap (λ l. Some (l, [])) (append_assoc found (f ∷ []) all)
 
-program_again : (depth : ℕ) (ts : List Token) (p : Program) → all_functions depth ts ≡ Some (p.functions, []) → program depth ts ≡ Some (p, [])
+program_again : (depth : ℕ) (ts : List Token) (p : Program) → all_until is_ended (function depth) ts ≡ Some (p.functions, []) → program depth ts ≡ Some (p, [])
 unfolding program end
-program_again depth ts p read = then_again (all_functions depth) _ ts [] p.functions _ read refl
+program_again depth ts p read = then_again (all_until is_ended (function depth)) _ ts [] p.functions _ read refl
 
 -- what spells a program reads as it
 pub complete_program : (p : Program) (ts : List Token) → Spells p ts → program (length ts) ts ≡ Some (p, [])

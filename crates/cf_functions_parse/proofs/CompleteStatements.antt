@@ -9,8 +9,8 @@ use Rattle.cf_functions_tokens.specs.declared.token.Token.TheVariants as token
 use Rattle.cf_functions_parse.specs.Spells.{loosest, sign, SpellsExpression, SpellsBlock, SpellsStatements, SpellsStatement, declare, assign, give, if_only, if_else, repeat, inner}
 use Rattle.cf_functions_parse.specs.Spells as g
 use Rattle.cf_functions_parse.specs.Parse.{sees}
-use Rattle.cf_functions_parse.specs.Rules.{expression, items, value, condition, block, body, statement, more_statements, all_statements}
-use Rattle.cf_functions_parse.proofs.Steps.{statements_stop, statements_go, body_suc}
+use Rattle.cf_functions_parse.specs.Rules.{expression, items, value, condition, block, body, statement, more_until}
+use Rattle.cf_functions_parse.proofs.Steps.{until_stop, until_go, statements_within, body_suc}
 use Rattle.cf_functions_parse.proofs.Fronts.{at_close, at_semicolon}
 use Rattle.cf_functions_parse.proofs.Again.{ended_again, with_sign}
 use Rattle.cf_functions_parse.proofs.StatementsAgain.{value_again, condition_again, declare_again, assign_again, perform_again, give_again, block_again, no_else_again, else_again, if_again, while_again, inner_again}
@@ -49,7 +49,7 @@ Reads_statement s xs = (k : ℕ) → length xs ≤ k → (rest : List Token) →
 -- with turns enough
 abbrev Reads_statements : List Statement → List Token → Type 0
 Reads_statements all xs = (k : ℕ) → length xs ≤ k → (m : ℕ) → length xs ≤ m → (found : List Statement) (rest : List Token)
-    → more_statements (statement (expression k) (body k)) m found (xs ++ (token.Symbol symbol.CloseBlock ∷ rest)) ≡ Some (found ++ all, token.Symbol symbol.CloseBlock ∷ rest)
+    → more_until (sees symbol.CloseBlock) (statement (expression k) (body k)) m found (xs ++ (token.Symbol symbol.CloseBlock ∷ rest)) ≡ Some (found ++ all, token.Symbol symbol.CloseBlock ∷ rest)
 
 -- ---- expressions in statements
 
@@ -111,7 +111,7 @@ body_read all xs c k fits rest =
     let n = k - 1 in
     let ts = xs ++ (token.Symbol symbol.CloseBlock ∷ rest) in
     ap (body k) (with_sign symbol.CloseBlock xs rest) ∙ sym (body_suc k n ts (omega (arith, fits)))
-    ∙ ended_again symbol.CloseBlock (all_statements (statement (expression n) (body n))) (λ all. all) ts rest all refl
+    ∙ ended_again symbol.CloseBlock (statements_within n) (λ all. all) ts rest all refl
     (c n (omega (arith, fits, long)) (length ts) (omega (arith, length-append xs (token.Symbol symbol.CloseBlock ∷ rest))) [] rest)
 
 one_read : (s : Statement) (xs : List Token) (all : List Statement) (ys : List Token) → SpellsStatement s xs → SpellsStatements all ys
@@ -125,8 +125,8 @@ one_read s xs all ys p q c d k fits m enough found rest =
     let m_is : m ≡ suc n = omega (arith, enough, long, first.some) in
     let read = c k (omega (arith, fits, long)) us (no_else_behind all ys q rest) in
     let others = d k (omega (arith, fits, long)) n (omega (arith, enough, long, first.some)) (found ++ s ∷ []) rest in
-    ap (more_statements one m found) (append_assoc xs ys (token.Symbol symbol.CloseBlock ∷ rest))
-    ∙ sym (statements_go one m n found (found ++ s ∷ []) (xs ++ us) us s _ refl m_is (first.no_close us) read refl)
+    ap (more_until (sees symbol.CloseBlock) one m found) (append_assoc xs ys (token.Symbol symbol.CloseBlock ∷ rest))
+    ∙ sym (until_go (sees symbol.CloseBlock) one m n found (found ++ s ∷ []) (xs ++ us) us s _ refl m_is (first.no_close us) read refl)
     ∙ others ∙ ap (λ l. Some (l, token.Symbol symbol.CloseBlock ∷ rest)) (append_assoc found (s ∷ []) all)
 
 mutual
@@ -136,7 +136,7 @@ mutual
 
   complete_statements : (all : List Statement) (xs : List Token) → SpellsStatements all xs → Reads_statements all xs
   complete_statements _ _ g.none = λ k fits m enough found rest.
-      statements_stop (statement (expression k) (body k)) m found (token.Symbol symbol.CloseBlock ∷ rest) refl
+      until_stop (sees symbol.CloseBlock) (statement (expression k) (body k)) m found (token.Symbol symbol.CloseBlock ∷ rest) refl
       ∙ ap (λ l. Some (l, token.Symbol symbol.CloseBlock ∷ rest)) (sym (append-nil found))
   complete_statements _ _ (g.more s xs all ys p q) = one_read s xs all ys p q (complete_statement s xs p) (complete_statements all ys q)
 

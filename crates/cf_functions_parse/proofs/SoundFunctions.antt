@@ -1,5 +1,5 @@
 -- What reads as functions is spelled as them.
-use Rattle.std.proofs.Common.{◌≡◌, ℕ, zero, suc, List, [], ◌∷◌, ◌++◌, Some, refl, sym, ap, subst, ◌∙◌, append_assoc, append-nil, length}
+use Rattle.std.proofs.Common.{◌≡◌, ℕ, List, [], ◌∷◌, ◌++◌, Some, refl, sym, ap, subst, ◌∙◌, append_assoc, append-nil, length}
 use Rattle.cf_functions.specs.declared.tree.Statement.{Statement}
 use Rattle.cf_functions.specs.declared.tree.Function.{Function}
 use Rattle.cf_functions.specs.declared.tree.Program.{Program}
@@ -9,9 +9,9 @@ use Rattle.cf_functions_tokens.specs.declared.token.Token.TheVariants as token
 use Rattle.cf_functions_parse.specs.Spells.{sign, SpellsSomeParameters, SpellsParameters, SpellsBlock, SpellsFunction, SpellsFunctions, Spells}
 use Rattle.cf_functions_parse.specs.Spells as g
 use Rattle.cf_functions_parse.specs.Parse.{pure, ◌>>=◌, is_ended, end}
-use Rattle.cf_functions_parse.specs.Rules.{items, parameter, head, function, body, more_functions, all_functions, program}
-use Rattle.cf_functions_parse.proofs.Took.{no_some, at_some, bind_some, Sound, Both, Is, Ended, Made, Taken, named_token, weaker, sound_pure, sound_then, sound_expect, sound_identifier, sound_made, sound_if}
-use Rattle.cf_functions_parse.proofs.Items.{Follow, none, next, sound_items}
+use Rattle.cf_functions_parse.specs.Rules.{items, parameter, head, function, body, all_until, program}
+use Rattle.cf_functions_parse.proofs.Took.{no_some, at_some, bind_some, Sound, Both, Ended, Made, Taken, named_token, weaker, sound_then, sound_expect, sound_identifier, sound_made}
+use Rattle.cf_functions_parse.proofs.Items.{Follow, none, next, sound_items, sound_until}
 use Rattle.cf_functions_parse.proofs.SoundStatements.{sound_block, sound_body}
 
 pub record Parameter (name : List ℕ) (us : List Token) : Type 0 where
@@ -62,29 +62,6 @@ unfolding function
 sound_function depth =
     weaker built_function (sound_then sound_parameter (λ name. sound_then sound_head (λ parameters. sound_made (sound_block (body depth) (sound_body depth)))))
 
--- what was found before, and the functions that follow
-pub record MoreFunctions (found all : List Function) (us : List Token) : Type 0 where
-  pub new : List Function
-  pub spells : SpellsFunctions new us
-  pub is : all ≡ found ++ new
-
-no_function : (found all : List Function) (us : List Token) → Is found all us → MoreFunctions found all us
-no_function found all us i = rw (i.same, i.none) (record { new = []; spells = g.none; is = sym (append-nil found) })
-
-one_function : (found all : List Function) (us : List Token) → Both SpellsFunction (λ f. MoreFunctions (found ++ f ∷ [])) all us → MoreFunctions found all us
-one_function found all us b = rw (b.parts) (record {
-  new = b.first ∷ b.two.new;
-  spells = g.more b.first b.front b.two.new b.back b.one b.two.spells;
-  is = b.two.is ∙ append_assoc found (b.first ∷ []) b.two.new;
-})
-
-sound_functions : (depth m : ℕ) (found : List Function) → Sound (MoreFunctions found) (more_functions depth m found)
-unfolding more_functions
-sound_functions depth zero found = weaker (no_function found) (sound_pure found)
-sound_functions depth (suc n) found =
-    sound_if is_ended (weaker (no_function found) (sound_pure found))
-    (weaker (one_function found) (sound_then (sound_function depth) (λ f. sound_functions depth n (found ++ f ∷ []))))
-
 end_some : (ts : List Token) (q : Unit {0} × List Token) → end ts ≡ Some q → ts ≡ []
 unfolding end
 end_some [] q e = refl
@@ -97,9 +74,9 @@ made_program all = record { functions = all }
 pub sound_program : (depth : ℕ) (ts : List Token) (q : Program × List Token) → program depth ts ≡ Some q → Spells q.0 ts
 unfolding program
 sound_program depth ts q e =
-    let (all, us, e1, e2) = bind_some (all_functions depth ts) (λ all. end >>= (λ x. pure (made_program all))) q e in
+    let (all, us, e1, e2) = bind_some (all_until is_ended (function depth) ts) (λ all. end >>= (λ x. pure (made_program all))) q e in
     let (x, vs, e3, e4) = bind_some (end us) (λ x. pure (made_program all)) q e2 in
-    let t = sound_functions depth (length ts) [] ts (all, us) e1 in
+    let t = sound_until SpellsFunction (function depth) (sound_function depth) SpellsFunctions g.none g.more is_ended (length ts) [] ts (all, us) e1 in
     let parts : ts ≡ t.front = t.parts ∙ ap (λ k. t.front ++ k) (end_some us (x, vs) e3) ∙ append-nil t.front in
     let spells : SpellsFunctions all t.front = subst (λ fs. SpellsFunctions fs t.front) (sym t.spells.is) t.spells.spells in
     at_some (λ p. Spells p.0 ts) (made_program all, vs) q e4 (subst (SpellsFunctions all) (sym parts) spells)

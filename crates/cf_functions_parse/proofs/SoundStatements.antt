@@ -1,5 +1,5 @@
 -- What reads as statements is spelled as them.
-use Rattle.std.proofs.Common.{◌≡◌, ℕ, zero, suc, List, [], ◌∷◌, ◌++◌, sym, ◌∙◌, append_assoc, append-nil, length}
+use Rattle.std.proofs.Common.{ℕ, zero, suc, List, [], ◌∷◌, ◌++◌, append_assoc, append-nil, length}
 use Rattle.cf_functions.specs.declared.tree.Expression.{Expression}
 use Rattle.cf_functions.specs.declared.tree.Statement.{Statement}
 use Rattle.cf_functions.specs.declared.tree.Statement.TheVariants as statement_tree
@@ -10,8 +10,9 @@ use Rattle.cf_functions_tokens.specs.declared.token.Token.TheVariants as token
 use Rattle.cf_functions_parse.specs.Spells.{sign, SpellsBlock, SpellsStatement, SpellsStatements}
 use Rattle.cf_functions_parse.specs.Spells as g
 use Rattle.cf_functions_parse.specs.Parse.{Parse, sees}
-use Rattle.cf_functions_parse.specs.Rules.{expression, value, assigned, declaration, assignment, performed, named_behind, named_statement, word_statement, returned, condition, block, otherwise, conditional, repeated, inner, statement_behind, statement, more_statements, body}
-use Rattle.cf_functions_parse.proofs.Took.{Sound, Both, Is, Ended, Made, Taken, named_token, weaker, sound_fail, sound_pure, sound_then, sound_expect, sound_identifier, sound_made, sound_ended, sound_if, sound_sees, sound_led}
+use Rattle.cf_functions_parse.specs.Rules.{expression, value, assigned, declaration, assignment, performed, named_behind, named_statement, word_statement, returned, condition, block, otherwise, conditional, repeated, inner, statement_behind, statement, body}
+use Rattle.cf_functions_parse.proofs.Took.{Sound, Both, Is, Ended, Made, Taken, named_token, weaker, sound_fail, sound_pure, sound_then, sound_expect, sound_identifier, sound_made, sound_ended, sound_sees, sound_led}
+use Rattle.cf_functions_parse.proofs.Items.{Added, sound_until}
 use Rattle.cf_functions_parse.proofs.SoundExpressions.{Whole, Arguments, sound_arguments, sound_expression}
 
 -- behind a symbol, with it a statement
@@ -37,12 +38,6 @@ Body all us = SpellsBlock all (token.Symbol symbol.OpenBlock ∷ us)
 pub data Otherwise : List Statement → List Token → Type 0 where
   nothing : Otherwise [] []
   other : (all : List Statement) (zs : List Token) → SpellsBlock all zs → Otherwise all (token.Symbol symbol.Else ∷ zs)
-
--- what was found before, and the statements that follow
-pub record MoreStatements (found all : List Statement) (us : List Token) : Type 0 where
-  pub new : List Statement
-  pub spells : SpellsStatements new us
-  pub is : all ≡ found ++ new
 
 -- ---- blocks
 
@@ -168,29 +163,13 @@ module _ (ex : Parse Expression) (sound : Sound Whole ex) where
 
 -- ---- statements, one after another
 
-no_statement : (found all : List Statement) (us : List Token) → Is found all us → MoreStatements found all us
-no_statement found all us i = rw (i.same, i.none) (record { new = []; spells = g.none; is = sym (append-nil found) })
-
-one_statement : (found all : List Statement) (us : List Token) → Both SpellsStatement (λ s. MoreStatements (found ++ s ∷ [])) all us → MoreStatements found all us
-one_statement found all us b = rw (b.parts) (record {
-  new = b.first ∷ b.two.new;
-  spells = g.more b.first b.front b.two.new b.back b.one b.two.spells;
-  is = b.two.is ∙ append_assoc found (b.first ∷ []) b.two.new;
-})
-
-pub sound_statements : (one : Parse Statement) → Sound SpellsStatement one → (m : ℕ) (found : List Statement) → Sound (MoreStatements found) (more_statements one m found)
-unfolding more_statements
-sound_statements one sound zero found = weaker (no_statement found) (sound_pure found)
-sound_statements one sound (suc n) found =
-    sound_if (sees symbol.CloseBlock) (weaker (no_statement found) (sound_pure found))
-    (weaker (one_statement found) (sound_then sound (λ s. sound_statements one sound n (found ++ s ∷ []))))
-
-built_body : (all : List Statement) (us : List Token) → Ended symbol.CloseBlock (λ all. all) (MoreStatements []) all us → Body all us
+built_body : (all : List Statement) (us : List Token) → Ended symbol.CloseBlock (λ all. all) (Added SpellsStatements []) all us → Body all us
 built_body all us b = rw (b.is, b.parts, b.one.is) (g.block b.one.new b.front b.one.spells)
 
 pub sound_body : (depth : ℕ) → Sound Body (body depth)
 unfolding body
 sound_body zero = sound_fail Body
 sound_body (suc n) =
-    weaker built_body (sound_ended (λ ts. sound_statements (statement (expression n) (body n))
-    (sound_statement (expression n) (sound_expression n) (body n) (sound_body n)) (length ts) [] ts))
+    let one = sound_statement (expression n) (sound_expression n) (body n) (sound_body n) in
+    weaker built_body (sound_ended (λ ts.
+    sound_until SpellsStatement (statement (expression n) (body n)) one SpellsStatements g.none g.more (sees symbol.CloseBlock) (length ts) [] ts))

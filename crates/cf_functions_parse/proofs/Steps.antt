@@ -1,24 +1,17 @@
 -- One turn of each loop of the reader.
-use Rattle.std.proofs.Common.{◌≡◌, ℕ, zero, suc, true, false, List, [], ◌∷◌, ◌++◌, Option, Some, None, refl, sym, ap, ◌∙◌}
+use Rattle.std.proofs.Common.{◌≡◌, ℕ, zero, suc, Bool, true, false, List, [], ◌∷◌, ◌++◌, Option, Some, None, refl, sym, ap, ◌∙◌}
 use Rattle.std.specs.Prelude.{if◌then◌else◌}
 use Rattle.cf_functions.specs.declared.tree.Operator.{Operator}
 use Rattle.cf_functions.specs.declared.tree.Expression.{Expression}
 use Rattle.cf_functions.specs.declared.tree.Expression.TheVariants as tree
 use Rattle.cf_functions.specs.declared.tree.Statement.{Statement}
-use Rattle.cf_functions.specs.declared.tree.Function.{Function}
 use Rattle.cf_functions_tokens.specs.declared.fault.Fault.{Fault}
-use Rattle.cf_functions_tokens.specs.declared.fault.Fault.TheVariants as fault
 use Rattle.cf_functions_tokens.specs.declared.token.Symbol.TheVariants as symbol
 use Rattle.cf_functions_tokens.specs.declared.token.Token.{Token}
 use Rattle.cf_functions_tokens.specs.Gives.{FailsAs}
-use Rattle.cf_functions_parse.specs.Parse.{Parse, and_then, ◌>>=◌, pure, sees, is_ended, behind, operator_at, expect}
-use Rattle.cf_functions_parse.specs.Rules.{more_items, joins, rest_of_operands, more_operands, binary, expression, primary, statement, more_statements, all_statements, body, function, more_functions}
-
--- where one reading has no value, another has none
-pub fails_on : {A B : Type 0} (a : Option A) (b : Option B) (f : Fault) → (a ≡ None → b ≡ None) → FailsAs a f → FailsAs b f
-fails_on a b (fault.Broken k) h p = (h p.0, p.1)
-fails_on a b (fault.Limit limit) h p = p
-fails_on a b fault.Memory h p = tt
+use Rattle.cf_functions_tokens.proofs.Fails.{fails_on}
+use Rattle.cf_functions_parse.specs.Parse.{Parse, and_then, ◌>>=◌, pure, sees, behind, operator_at, expect}
+use Rattle.cf_functions_parse.specs.Rules.{more_items, joins, rest_of_operands, more_operands, binary, expression, primary, statement, more_until, all_until, body}
 
 -- ---- lists with commas
 
@@ -110,41 +103,45 @@ pub expression_suc : (depth n : ℕ) (ts : List Token) → depth ≡ suc n → b
 unfolding expression
 expression_suc depth n ts is = ap (λ k. expression k ts) (sym is)
 
--- ---- statements
+-- ---- one after another
 
-module _ (one : Parse Statement) where
-  pub statements_out : (m : ℕ) (found : List Statement) (ts : List Token) → m ≡ zero → more_statements one m found ts ≡ Some (found, ts)
-  unfolding more_statements
-  statements_out m found ts none = ap (λ k. more_statements one k found ts) none
+module _ {A : Type 0} (ends : List Token → Bool) (item : Parse A) where
+  pub until_out : (m : ℕ) (found : List A) (ts : List Token) → m ≡ zero → more_until ends item m found ts ≡ Some (found, ts)
+  unfolding more_until
+  until_out m found ts none = ap (λ k. more_until ends item k found ts) none
 
-  pub statements_stop : (m : ℕ) (found : List Statement) (ts : List Token) → sees symbol.CloseBlock ts ≡ true → more_statements one m found ts ≡ Some (found, ts)
-  unfolding more_statements
-  statements_stop zero found ts stop = refl
-  statements_stop (suc n) found ts stop =
-      ap (λ t. if t then Some (found, ts) else (one >>= (λ s. more_statements one n (found ++ s ∷ []))) ts) stop
+  pub until_stop : (m : ℕ) (found : List A) (ts : List Token) → ends ts ≡ true → more_until ends item m found ts ≡ Some (found, ts)
+  unfolding more_until
+  until_stop zero found ts stop = refl
+  until_stop (suc n) found ts stop = ap (λ t. if t then Some (found, ts) else (item >>= (λ a. more_until ends item n (found ++ a ∷ []))) ts) stop
 
-  pub statements_step : (n : ℕ) (found : List Statement) (ts : List Token) → sees symbol.CloseBlock ts ≡ false
-      → more_statements one (suc n) found ts ≡ and_then (one ts) (λ s. more_statements one n (found ++ s ∷ []))
-  unfolding more_statements
-  statements_step n found ts goes = ap (λ t. if t then Some (found, ts) else (one >>= (λ s. more_statements one n (found ++ s ∷ []))) ts) goes
+  pub until_step : (n : ℕ) (found : List A) (ts : List Token) → ends ts ≡ false
+      → more_until ends item (suc n) found ts ≡ and_then (item ts) (λ a. more_until ends item n (found ++ a ∷ []))
+  unfolding more_until
+  until_step n found ts goes = ap (λ t. if t then Some (found, ts) else (item >>= (λ a. more_until ends item n (found ++ a ∷ []))) ts) goes
 
-  pub statements_go : (m n : ℕ) (found now : List Statement) (ts new : List Token) (s : Statement) (whole : Option (List Statement × List Token))
-      → more_statements one m found ts ≡ whole → m ≡ suc n → sees symbol.CloseBlock ts ≡ false → one ts ≡ Some (s, new) → now ≡ found ++ s ∷ []
-      → more_statements one n now new ≡ whole
-  statements_go m n found now ts new s whole same m_is goes read now_is =
-      ap (λ f. more_statements one n f new) now_is
-      ∙ ap (λ o. and_then o (λ s. more_statements one n (found ++ s ∷ []))) (sym read)
-      ∙ sym (statements_step n found ts goes) ∙ ap (λ k. more_statements one k found ts) (sym m_is) ∙ same
+  pub until_go : (m n : ℕ) (found now : List A) (ts new : List Token) (a : A) (whole : Option (List A × List Token))
+      → more_until ends item m found ts ≡ whole → m ≡ suc n → ends ts ≡ false → item ts ≡ Some (a, new) → now ≡ found ++ a ∷ []
+      → more_until ends item n now new ≡ whole
+  until_go m n found now ts new a whole same m_is goes read now_is =
+      ap (λ f. more_until ends item n f new) now_is
+      ∙ ap (λ o. and_then o (λ a. more_until ends item n (found ++ a ∷ []))) (sym read)
+      ∙ sym (until_step n found ts goes) ∙ ap (λ k. more_until ends item k found ts) (sym m_is) ∙ same
 
-  pub statements_fail : (m n : ℕ) (found : List Statement) (ts : List Token) (whole : Option (List Statement × List Token)) (f : Fault)
-      → more_statements one m found ts ≡ whole → m ≡ suc n → sees symbol.CloseBlock ts ≡ false → FailsAs (one ts) f → FailsAs whole f
-  statements_fail m n found ts whole f same m_is goes =
-      fails_on (one ts) whole f (λ none. sym same ∙ ap (λ k. more_statements one k found ts) m_is ∙ statements_step n found ts goes
-      ∙ ap (λ o. and_then o (λ s. more_statements one n (found ++ s ∷ []))) none)
+  pub until_fail : (m n : ℕ) (found : List A) (ts : List Token) (whole : Option (List A × List Token)) (f : Fault)
+      → more_until ends item m found ts ≡ whole → m ≡ suc n → ends ts ≡ false → FailsAs (item ts) f → FailsAs whole f
+  until_fail m n found ts whole f same m_is goes =
+      fails_on (item ts) whole f (λ none. sym same ∙ ap (λ k. more_until ends item k found ts) m_is ∙ until_step n found ts goes
+      ∙ ap (λ o. and_then o (λ a. more_until ends item n (found ++ a ∷ []))) none)
+
+-- ---- blocks
+
+abbrev pub statements_within : ℕ → Parse (List Statement)
+statements_within n = all_until (sees symbol.CloseBlock) (statement (expression n) (body n))
 
 -- what stands behind `{`, where the number is no 0
 abbrev pub body_within : ℕ → Parse (List Statement)
-body_within n = all_statements (statement (expression n) (body n)) >>= (λ all. expect symbol.CloseBlock >>= (λ _. pure all))
+body_within n = statements_within n >>= (λ all. expect symbol.CloseBlock >>= (λ _. pure all))
 
 pub body_zero : (depth : ℕ) (ts : List Token) → depth ≡ zero → body depth ts ≡ None
 unfolding body
@@ -154,48 +151,16 @@ pub body_suc : (depth n : ℕ) (ts : List Token) → depth ≡ suc n → body_wi
 unfolding body
 body_suc depth n ts is = ap (λ k. body k ts) (sym is)
 
-pub body_none : (depth n : ℕ) (ts : List Token) → depth ≡ suc n → all_statements (statement (expression n) (body n)) ts ≡ None → body depth ts ≡ None
+pub body_none : (depth n : ℕ) (ts : List Token) → depth ≡ suc n → statements_within n ts ≡ None → body depth ts ≡ None
 body_none depth n ts is none =
     sym (body_suc depth n ts is) ∙ ap (λ o. and_then o (λ all. expect symbol.CloseBlock >>= (λ _. pure all))) none
 
-pub body_open : (depth n : ℕ) (ts us : List Token) (all : List Statement) → depth ≡ suc n → all_statements (statement (expression n) (body n)) ts ≡ Some (all, us)
+pub body_open : (depth n : ℕ) (ts us : List Token) (all : List Statement) → depth ≡ suc n → statements_within n ts ≡ Some (all, us)
     → expect symbol.CloseBlock us ≡ None → body depth ts ≡ None
 body_open depth n ts us all is read none =
     sym (body_suc depth n ts is) ∙ ap (λ o. and_then o (λ all. expect symbol.CloseBlock >>= (λ _. pure all))) read ∙ ap (λ o. and_then o (λ _. pure all)) none
 
 pub body_read : (depth n : ℕ) (ts us new : List Token) (all : List Statement) (x : Unit {0}) → depth ≡ suc n
-    → all_statements (statement (expression n) (body n)) ts ≡ Some (all, us) → expect symbol.CloseBlock us ≡ Some (x, new) → body depth ts ≡ Some (all, new)
+    → statements_within n ts ≡ Some (all, us) → expect symbol.CloseBlock us ≡ Some (x, new) → body depth ts ≡ Some (all, new)
 body_read depth n ts us new all x is read closed =
     sym (body_suc depth n ts is) ∙ ap (λ o. and_then o (λ all. expect symbol.CloseBlock >>= (λ _. pure all))) read ∙ ap (λ o. and_then o (λ _. pure all)) closed
-
--- ---- functions
-
-module _ (depth : ℕ) where
-  pub functions_out : (m : ℕ) (found : List Function) (ts : List Token) → m ≡ zero → more_functions depth m found ts ≡ Some (found, ts)
-  unfolding more_functions
-  functions_out m found ts none = ap (λ k. more_functions depth k found ts) none
-
-  pub functions_stop : (m : ℕ) (found : List Function) (ts : List Token) → is_ended ts ≡ true → more_functions depth m found ts ≡ Some (found, ts)
-  unfolding more_functions
-  functions_stop zero found ts stop = refl
-  functions_stop (suc n) found ts stop =
-      ap (λ t. if t then Some (found, ts) else (function depth >>= (λ f. more_functions depth n (found ++ f ∷ []))) ts) stop
-
-  pub functions_step : (n : ℕ) (found : List Function) (ts : List Token) → is_ended ts ≡ false
-      → more_functions depth (suc n) found ts ≡ and_then (function depth ts) (λ f. more_functions depth n (found ++ f ∷ []))
-  unfolding more_functions
-  functions_step n found ts goes = ap (λ t. if t then Some (found, ts) else (function depth >>= (λ f. more_functions depth n (found ++ f ∷ []))) ts) goes
-
-  pub functions_go : (m n : ℕ) (found now : List Function) (ts new : List Token) (f : Function) (whole : Option (List Function × List Token))
-      → more_functions depth m found ts ≡ whole → m ≡ suc n → is_ended ts ≡ false → function depth ts ≡ Some (f, new) → now ≡ found ++ f ∷ []
-      → more_functions depth n now new ≡ whole
-  functions_go m n found now ts new f whole same m_is goes read now_is =
-      ap (λ k. more_functions depth n k new) now_is
-      ∙ ap (λ o. and_then o (λ f. more_functions depth n (found ++ f ∷ []))) (sym read)
-      ∙ sym (functions_step n found ts goes) ∙ ap (λ k. more_functions depth k found ts) (sym m_is) ∙ same
-
-  pub functions_fail : (m n : ℕ) (found : List Function) (ts : List Token) (whole : Option (List Function × List Token)) (e : Fault)
-      → more_functions depth m found ts ≡ whole → m ≡ suc n → is_ended ts ≡ false → FailsAs (function depth ts) e → FailsAs whole e
-  functions_fail m n found ts whole e same m_is goes =
-      fails_on (function depth ts) whole e (λ none. sym same ∙ ap (λ k. more_functions depth k found ts) m_is ∙ functions_step n found ts goes
-      ∙ ap (λ o. and_then o (λ f. more_functions depth n (found ++ f ∷ []))) none)

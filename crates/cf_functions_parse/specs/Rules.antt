@@ -1,5 +1,5 @@
 -- The way in which the code reads each production.
-use Rattle.std.specs.Prelude.{ℕ, zero, suc, if◌then◌else◌, List, [], ◌∷◌, ◌++◌, length, Option, Some, None}
+use Rattle.std.specs.Prelude.{ℕ, Bool, zero, suc, if◌then◌else◌, List, [], ◌∷◌, ◌++◌, length, Option, Some, None}
 use Rattle.cf_functions.specs.declared.tree.Operator.{Operator}
 use Rattle.cf_functions.specs.declared.tree.Expression.{Expression}
 use Rattle.cf_functions.specs.declared.tree.Expression.TheVariants as tree
@@ -9,6 +9,7 @@ use Rattle.cf_functions.specs.declared.tree.Function.{Function}
 use Rattle.cf_functions.specs.declared.tree.Program.{Program}
 use Rattle.cf_functions_tokens.specs.declared.token.Symbol.{Symbol}
 use Rattle.cf_functions_tokens.specs.declared.token.Symbol.TheVariants as symbol
+use Rattle.cf_functions_tokens.specs.declared.token.Token.{Token}
 use Rattle.cf_functions_parse.specs.Spells.{loosest}
 use Rattle.cf_functions_parse.specs.Parse.{Parse, ◌>>=◌, pure, fail, sees, sees_number, is_ended, behind, symbol_at, led_by, operator_at, expect, number, identifier, end}
 
@@ -32,6 +33,16 @@ some_items item = do
 -- what stands before a closing bracket, and that bracket
 unfoldable pub items : {A : Type 0} → Parse A → Parse (List A)
 items item = λ ts. if sees symbol.Close ts then Some ([], behind ts) else some_items item ts
+
+-- ---- one after another
+
+-- the items up to where a test holds; the number bounds the turns, and each turn takes a token
+unfoldable pub more_until : {A : Type 0} → (List Token → Bool) → Parse A → ℕ → List A → Parse (List A)
+more_until ends item zero found = pure found
+more_until ends item (suc n) found = λ ts. if ends ts then Some (found, ts) else (item >>= (λ a. more_until ends item n (found ++ a ∷ []))) ts
+
+abbrev pub all_until : {A : Type 0} → (List Token → Bool) → Parse A → Parse (List A)
+all_until ends item ts = more_until ends item (length ts) [] ts
 
 -- ---- expressions
 
@@ -181,20 +192,11 @@ word_statement ex = do
 unfoldable pub statement : Parse Expression → Parse (List Statement) → Parse Statement
 statement ex body = λ ts. led_by (symbol_at ts) (statement_behind ex body) (word_statement ex) ts
 
--- up to `}`; the number bounds the turns, and each turn takes a token
-unfoldable pub more_statements : Parse Statement → ℕ → List Statement → Parse (List Statement)
-more_statements one zero found = pure found
-more_statements one (suc n) found =
-    λ ts. if sees symbol.CloseBlock ts then Some (found, ts) else (one >>= (λ s. more_statements one n (found ++ s ∷ []))) ts
-
-abbrev pub all_statements : Parse Statement → Parse (List Statement)
-all_statements one ts = more_statements one (length ts) [] ts
-
 -- behind `{`, with the closing bracket
 unfoldable pub body : ℕ → Parse (List Statement)
 body zero = fail
 body (suc n) = do
-  all ← all_statements (statement (expression n) (body n))
+  all ← all_until (sees symbol.CloseBlock) (statement (expression n) (body n))
   _ ← expect symbol.CloseBlock
   pure all
 
@@ -219,17 +221,8 @@ function depth = do
   all ← block (body depth)
   pure (record { name = name; parameters = parameters; body = all })
 
--- the number bounds the turns, and each turn takes a token
-unfoldable pub more_functions : ℕ → ℕ → List Function → Parse (List Function)
-more_functions depth zero found = pure found
-more_functions depth (suc n) found =
-    λ ts. if is_ended ts then Some (found, ts) else (function depth >>= (λ f. more_functions depth n (found ++ f ∷ []))) ts
-
-abbrev pub all_functions : ℕ → Parse (List Function)
-all_functions depth ts = more_functions depth (length ts) [] ts
-
 unfoldable pub program : ℕ → Parse Program
 program depth = do
-  all ← all_functions depth
+  all ← all_until is_ended (function depth)
   _ ← end
   pure (record { functions = all })

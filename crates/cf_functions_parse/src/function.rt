@@ -1,7 +1,7 @@
 //! Functions, and the file that they make.
 
 ghost use Rattle.std.specs.Prelude.{◌≡◌, ◌≤◌, length};
-ghost use Rattle.cf_functions_parse.specs.Parse.{Reads};
+ghost use Rattle.cf_functions_parse.specs.Parse.{Reads, is_ended};
 ghost use Rattle.cf_functions_parse.specs.Rules as rule;
 
 use crate::cursor::Cursor;
@@ -88,7 +88,7 @@ fn function(alloc: Global, depth: usize, c: &mut Cursor<'_>) -> Result<Function,
 }
 
 fn functions(alloc: Global, depth: usize, c: &mut Cursor<'_>) -> Result<Items<Function>, Fault>
-    ensures { Reads (rule.all_functions depth c.old) result c.new }
+    ensures { Reads (rule.all_until is_ended (rule.function depth) c.old) result c.new }
 {
     let mut found = Items::new(alloc);
     for _turn in 0..c.len() {

@@ -2,7 +2,8 @@
 //!
 //! `specs/Spells` is the grammar and `specs/Nesting` how many brackets are open; `parse` reads exactly the lists of tokens
 //! that spell a program, with at most 64 open brackets. It goes down from functions to blocks, statements and
-//! expressions, and reads each token once.
+//! expressions, and reads each token once. Its calls nest as deep as brackets do; the tree that it gives is also as deep as
+//! operators of one level stand in a row.
 #![tactic(auto)]
 
 mod cursor;

@@ -1,7 +1,8 @@
 //! Statements and blocks (chapter 6).
 
 ghost use Rattle.std.specs.Prelude.{◌≡◌, ◌≤◌, length};
-ghost use Rattle.cf_functions_parse.specs.Parse.{Reads};
+ghost use Rattle.cf_functions_tokens.specs.declared.token.Symbol.TheVariants as symbol;
+ghost use Rattle.cf_functions_parse.specs.Parse.{Reads, sees};
 ghost use Rattle.cf_functions_parse.specs.Rules as rule;
 
 use crate::cursor::Cursor;
@@ -197,7 +198,7 @@ fn statement(alloc: Global, depth: usize, c: &mut Cursor<'_>) -> Result<Boxed<St
 /// The statements up to `}`.
 #[cycle(blocks)]
 fn statements(alloc: Global, depth: usize, c: &mut Cursor<'_>) -> Result<Items<Statement>, Fault>
-    ensures { Reads (rule.all_statements (rule.statement (rule.expression depth) (rule.body depth)) c.old) result c.new }
+    ensures { Reads (rule.all_until (sees symbol.CloseBlock) (rule.statement (rule.expression depth) (rule.body depth)) c.old) result c.new }
 {
     let mut found = Items::new(alloc);
     for _turn in 0..c.len() {

@@ -1,4 +1,4 @@
 mod Answer
-mod Identifiers
+pub mod Identifiers
 mod Names
 mod Reading

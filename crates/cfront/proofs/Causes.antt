@@ -4,26 +4,35 @@ use Rattle.cf_base.specs.Disk.{Disk, SameElsewhere}
 use Rattle.cf_base.specs.Stream.{Stream}
 use Rattle.cc_tree.specs.declared.unit.CProgram.{CProgram}
 use Rattle.cc_run.specs.declared.types.Limits.{Limits}
-use Rattle.cc_run.specs.Run.{streams, Front, SameCounts}
-use Rattle.cf_small.specs.declared.tree.SourceUnit.{SourceUnit}
-use Rattle.cf_small.specs.First.{First}
+use Rattle.cc_run.specs.Run.{streams, StillTold, Front, SameCounts}
+use Rattle.cf_functions.specs.declared.tree.Program.{Program}
+use Rattle.cf_functions_read.specs.First.{First, accepted}
+use Rattle.cf_functions_read.proofs.Identifiers.{names_are_identifiers}
 use Rattle.cfront.specs.declared.outcome.Outcome.{Outcome}
 use Rattle.cfront.specs.declared.outcome.Outcome.TheVariants as answer
 use Rattle.cfront.specs.declared.position.Position.{Position}
 use Rattle.cfront.specs.declared.answer.Stop.{Stop}
 use Rattle.cfront.specs.declared.answer.Stop.TheVariants as stop
 use Rattle.cfront.specs.Answer.{Causes, Answers, EndsWith, LineStands, LineFailed, is_fault, WordsCause, NoJob, GoJob}
-use Rattle.cfront.specs.Cause.{FileCause, read_failed, too_long, refused, write_failed, Stopped, Ran, GoCause, Made, Begun, LeftByMemory, DiskCountsStand, FirstRefused, WriteFailed}
+use Rattle.cfront.specs.Cause.{FileCause, read_failed, too_long, refused, write_failed, Stopped, Ran, GoCause, Made, Begun, TextLeft, unwritten, text_stands, LeftByMemory, DiskCountsStand, FirstRefused, WriteFailed}
 use Rattle.cfront.specs.LastLine.{last_line}
-use Rattle.cfront.specs.Outside.{Outside, outside, streams_of, CountsStand, StreamsStand}
-use Rattle.cfront.specs.Run.{RunsTo}
-use Rattle.cfront.specs.Steps.{AcceptLeaves, WriteLeaves, DiskStands, StopLeaves, OnlyText}
+use Rattle.cfront.specs.Outside.{Outside, outside, streams_of, CountsStand, StreamsStand, KeepTelling}
+use Rattle.cfront.specs.Run.{RunsTo, RanTo}
+use Rattle.cfront.specs.Steps.{IsSound, AcceptLeaves, WriteLeaves, DiskStands, DiskTold, StopLeaves, NotWritten, MemoryLeft}
 use Rattle.cfront.specs.Translated.{WasRead}
 use Rattle.cfront.specs.Words.{text_name}
 
--- a disk that stands has only the text touched
-pub stands : (name : List ℕ) (old new : Disk) → DiskStands old new → OnlyText name old new
-stands name old new d = record { elsewhere = λ told other differs. rw d.content refl; counts = d.counts }
+-- memory was wanting before anything was written
+pub stands : (file : List ℕ) (old new : Disk) → DiskStands old new → MemoryLeft file old new
+stands file old new d = record { text = unwritten (λ told. d.content); elsewhere = λ told other differs. rw d.content refl; counts = d.counts }
+
+-- what was accepted can be translated
+pub accepted_sound : (bytes : List ℕ) (source : Program) → First bytes (Ok source) → IsSound source
+accepted_sound bytes source (accepted _ file names known) = record {
+  names = names;
+  known = known;
+  named = names_are_identifiers bytes source (accepted source file names known);
+}
 
 -- the file was read, and refused
 pub accept_stops : (file bytes : List ℕ) (old new : Disk) (e : Stop) → WasRead file old bytes → DiskStands old new
@@ -35,32 +44,33 @@ accept_stops file bytes old new (stop.Answer a) read d at = refused (record {
   content = d.content;
   counts = d.counts;
 })
-accept_stops file bytes old new stop.Memory read d at = stands (text_name file) old new d
+accept_stops file bytes old new stop.Memory read d at = stands file old new d
 
 counts_after : (a b c : Disk) → DiskCountsStand a b → DiskCountsStand b c → DiskCountsStand a c
 counts_after a b c first second = record { reads = second.reads ∙ first.reads; writes = second.writes ∙ first.writes }
 
 -- the file was read and accepted, and its text not written
-pub write_stops : (file bytes text : List ℕ) (unit : SourceUnit) (old mid new : Disk) (e : Stop) → WasRead file old bytes → DiskStands old mid
-    → First bytes (Ok unit) → WriteLeaves {T = Unit {0}} (text_name file) text mid new (Err e) → StopLeaves file old new e
-write_stops file bytes text unit old mid new (stop.Answer a) read d spelled w = write_failed (record {
+pub write_stops : (file bytes text : List ℕ) (source : Program) (old mid new : Disk) (e : Stop) → WasRead file old bytes → DiskStands old mid
+    → First bytes (Ok source) → WriteLeaves {T = Unit {0}} (text_name file) text mid new (Err e) → StopLeaves file old new e
+write_stops file bytes text source old mid new (stop.Answer a) read d spelled w = write_failed (record {
   bytes = bytes;
   read = read;
-  unit = unit;
+  source = source;
   accepted = spelled;
   rises = rw (← d.counts.writes) w.rises;
   answered = w.answered;
   elsewhere = λ told. rw (← d.content) (w.elsewhere (d.told told));
   reads = w.reads ∙ d.counts.reads;
 })
-write_stops file bytes text unit old mid new stop.Memory read d spelled w = record {
-  elsewhere = λ told. rw (← d.content) (w.elsewhere (d.told told));
+write_stops file bytes text source old mid new stop.Memory read d spelled w = record {
+  text = unwritten (λ told. w.content (d.told told) ∙ d.content);
+  elsewhere = λ told other differs. rw (w.content (d.told told), d.content) refl;
   counts = counts_after old mid new d.counts w.counts;
 }
 
 -- the causes of an answer of `go`
 pub ran_so : (file : List ℕ) (limits : Limits) (old new : Outside) (position : Position) (outcome : Outcome) (program : CProgram)
-    → Made file old.files new.files program → RunsTo program limits (streams_of old) (streams_of new) outcome
+    → Made file old.files new.files program → RanTo program limits (streams_of old) (streams_of new) outcome
     → GoCause file limits old new position outcome
 ran_so file limits old new position outcome program made runs = inr (record { program = program; made = made; runs = runs })
 
@@ -80,28 +90,30 @@ module _ (file : List ℕ) (limits : Limits) (old new : Disk) (input out err inp
       → Front program limits false (streams input out err) (streams input' out' err') × SameCounts (streams input out err) (streams input' out' err')
       → LeftByMemory file limits (outside old input out err) (outside new input' out' err')
   run_by_memory program made left = record {
+    text = text_stands program made.translated;
     elsewhere = made.elsewhere;
     counts = all_counts made.counts left.1;
     streams = inr (record { program = program; translated = made.translated; front = left.0 });
   }
 
-  run_counts : (program : CProgram) (outcome : Outcome) → Made file old new program
-      → RunsTo program limits (streams input out err) (streams input' out' err') outcome → is_fault outcome ≡ false
+  run_counts : (program : CProgram) (entered : ℕ) (outcome : Outcome) → Made file old new program
+      → RunsTo program limits (streams input out err) (streams input' out' err') entered outcome → is_fault outcome ≡ false
       → CountsStand (outside old input out err) (outside new input' out' err')
-  run_counts program (answer.Ended status) made runs no_fault = all_counts made.counts runs.counts
-  run_counts program answer.Ticks made runs no_fault = all_counts made.counts runs.counts
-  run_counts program answer.Depth made runs no_fault = all_counts made.counts runs.counts
-  run_counts program (answer.Undefined act) made runs no_fault = all_counts made.counts runs.counts
-  run_counts program answer.Usage made runs no_fault = absurd runs
-  run_counts program (answer.Refused number rule at) made runs no_fault = absurd runs
-  run_counts program (answer.Limit number limit) made runs no_fault = absurd runs
-  run_counts program answer.FileFault made runs no_fault = absurd runs
-  run_counts program answer.SourceFault made runs no_fault = cc
-  run_counts program answer.SinkFault made runs no_fault = cc
+  run_counts program entered (answer.Ended status) made runs no_fault = all_counts made.counts runs.counts
+  run_counts program entered answer.Ticks made runs no_fault = all_counts made.counts runs.counts
+  run_counts program entered answer.Depth made runs no_fault = all_counts made.counts runs.counts
+  run_counts program entered (answer.Undefined act) made runs no_fault = all_counts made.counts runs.counts
+  run_counts program entered answer.Usage made runs no_fault = absurd runs
+  run_counts program entered (answer.Refused number rule at) made runs no_fault = absurd runs
+  run_counts program entered (answer.Limit number limit) made runs no_fault = absurd runs
+  run_counts program entered answer.FileFault made runs no_fault = absurd runs
+  run_counts program entered answer.SourceFault made runs no_fault = cc
+  run_counts program entered answer.SinkFault made runs no_fault = cc
 
   -- before the run memory was wanting
-  pub stopped_by_memory : OnlyText (text_name file) old new → LeftByMemory file limits (outside old input out err) (outside new input out err)
+  pub stopped_by_memory : MemoryLeft file old new → LeftByMemory file limits (outside old input out err) (outside new input out err)
   stopped_by_memory left = record {
+    text = left.text;
     elsewhere = left.elsewhere;
     counts = record { reads = left.counts.reads; writes = left.counts.writes; input = refl; out = refl; err = refl };
     streams = inl (record { input = refl; out = refl; err = refl });
@@ -123,7 +135,7 @@ pub go_counts : (file : List ℕ) (limits : Limits) (old new : Outside) (positio
     → GoCause file limits old new position outcome → is_fault outcome ≡ false → CountsStand old new
 go_counts file limits old new position outcome (inl stopped) no_fault = stop_counts file old new position outcome stopped.cause stopped.streams no_fault
 go_counts file limits old new position outcome (inr ran) no_fault =
-    run_counts file limits old.files new.files old.input old.out old.err new.input new.out new.err ran.program outcome ran.made ran.runs no_fault
+    run_counts file limits old.files new.files old.input old.out old.err new.input new.out new.err ran.program ran.runs.entered outcome ran.made ran.runs.runs no_fault
 
 same_counts : (old new : Outside) → new ≡ old → CountsStand old new
 same_counts old new same = rw same (record { reads = refl; writes = refl; input = refl; out = refl; err = refl })
@@ -146,17 +158,27 @@ line_counts line old files input out mid last before outcome counts (inl stands)
 line_counts line old files input out mid last before outcome counts (inr failed) no_fault =
     let k : false ≡ true = sym (fault_is outcome answer.SinkFault failed.fault no_fault) in cc
 
+line_tells : (line : List ℕ) (before outcome : Outcome) (mid last : Stream) → EndsWith line before outcome mid last → IsTrue last.told → IsTrue mid.told
+line_tells line before outcome mid last (inl stands) t = stands.told t
+line_tells line before outcome mid last (inr failed) t = failed.told t
+
+-- files and streams keep telling
+pub keep_telling : (files files' : Disk) (input out err input' out' err' : Stream) → DiskTold files files' → StillTold (streams input out err) (streams input' out' err')
+    → KeepTelling (outside files input out err) (outside files' input' out' err')
+keep_telling files files' input out err input' out' err' disk t = record { files = disk; input = t.input; out = t.out; err = t.trace }
+
 -- an answer with its cause, and then its last line
 pub answers : (cause : Causes) (names : List (List ℕ)) (old : Outside) (files : Disk) (input out mid last : Stream) (position : Position)
     (before outcome : Outcome) → cause old (outside files input out mid) position before
     → (is_fault before ≡ false → CountsStand old (outside files input out mid))
-    → EndsWith (last_line names position before) before outcome mid last
+    → EndsWith (last_line names position before) before outcome mid last → KeepTelling old (outside files input out mid)
     → Answers cause names old (outside files input out last) outcome
-answers cause names old files input out mid last position before outcome caused counts line = record {
+answers cause names old files input out mid last position before outcome caused counts line told = record {
   before = before;
   position = position;
   err = mid;
   caused = caused;
   line = line;
   counts = line_counts (last_line names position before) old files input out mid last before outcome counts line;
+  told = record { files = told.files; input = told.input; out = told.out; err = λ t. told.err (line_tells _ before outcome mid last line t) };
 }

@@ -1,6 +1,7 @@
 pub mod Causes
 pub mod MadePrograms
 pub mod Pieces
-pub mod Runs
-pub mod WordLists
 pub mod Readings
+pub mod Runs
+pub mod Units
+pub mod WordLists

@@ -1,30 +1,37 @@
--- The text of a translated unit, read again.
-use Rattle.std.proofs.Common.{◌≡◌, ◌∙◌, ℕ, ◌≤◌, List, [], ◌∷◌, refl, ap, sym, subst, Result, Ok, Err, IsOk}
+-- The text of a unit, read again.
+use Rattle.std.proofs.Common.{◌≡◌, ◌∙◌, ℕ, List, [], ◌∷◌, refl, ap, sym, subst, true, Result, Ok, Err, IsOk, IsTrue}
+use Rattle.cf_base.specs.World.{Outcome}
 use Rattle.cc_tree.specs.declared.unit.CUnit.{CUnit}
 use Rattle.cc_tree.specs.declared.unit.CProgram.{CProgram}
+use Rattle.cc_tree.specs.CMean.{AreTexts, none, more, CMean}
 use Rattle.cc_tree.specs.Link.{link}
-use Rattle.cc_print.specs.Printed.{unit_text}
-use Rattle.cc_print.specs.Returning.{returning}
-use Rattle.cc_read.specs.declared.error.ReadErr.{ReadErr}
-use Rattle.cc_read.specs.Read.{IsUnit, ReadsReturned}
-use Rattle.cf_small.specs.declared.tree.SourceUnit.{SourceUnit}
-use Rattle.cf_small.specs.Lower.{lowered}
-use Rattle.cf_small.specs.Lowered.{IsSound}
+use Rattle.cc_tree.specs.Mean.{c_mean}
+use Rattle.cc_tree.specs.Text.{Text}
 use Rattle.cfront.specs.declared.answer.Stop.{Stop}
 use Rattle.cfront.specs.Steps.{LinkLeaves}
-
-pub lowered_returns : (unit : SourceUnit) → lowered unit ≡ returning unit.result
-unfolding lowered
-lowered_returns unit = refl
-
-pub read_is : (unit : SourceUnit) (tree : CUnit) (text : List ℕ) (result : Result CUnit ReadErr) → IsSound unit → tree ≡ lowered unit
-    → text ≡ unit_text tree → ReadsReturned text result → IsUnit tree result
-read_is unit tree text result sound form written reads =
-    let same : tree ≡ returning unit.result = form ∙ lowered_returns unit in
-    subst (λ t. IsUnit t result) (sym same) (reads unit.result sound (written ∙ ap unit_text same))
 
 pub links_again : (again tree : CUnit) → again ≡ tree → IsOk (link (tree ∷ [])) → IsOk (link (again ∷ []))
 links_again again tree same links = subst (λ t. IsOk (link (t ∷ []))) (sym same) links
 
 pub linked_again : (again tree : CUnit) (result : Result CProgram Stop) → again ≡ tree → LinkLeaves again result → LinkLeaves tree result
 linked_again again tree result same links = subst (λ t. LinkLeaves t result) same links
+
+-- a text has one unit
+abbrev pub OneUnit : Type 0
+OneUnit = (text : List ℕ) (u v : CUnit) → Text text u → Text text v → u ≡ v
+
+no_more : (units : List CUnit) → AreTexts [] units → units ≡ []
+no_more units none = refl
+
+only_unit : OneUnit → (text : List ℕ) (unit : CUnit) → Text text unit → (units : List CUnit) → AreTexts (text ∷ []) units → units ≡ unit ∷ []
+only_unit one text unit spelled units (more _ u _ us s v rest) = ap (λ us. u ∷ us) (no_more us rest) ∙ ap (λ u. u ∷ []) (one text u unit s spelled)
+
+same_program : (a b : CProgram) (units : List CUnit) (unit : CUnit) → units ≡ unit ∷ [] → link units ≡ Ok a → link (unit ∷ []) ≡ Ok b → a ≡ b
+same_program a b units unit same first second =
+    let whole = sym first ∙ ap link same ∙ second in cc
+
+-- what a text of this unit means is what the program means that the unit links to
+pub means_program : OneUnit → (text : List ℕ) (unit : CUnit) (program : CProgram) → Text text unit → link (unit ∷ []) ≡ Ok program
+    → (input : List ℕ) (heap depth n : ℕ) (c : Outcome) → CMean (text ∷ []) input heap depth n c → c ≡ c_mean program input heap depth n
+means_program one text unit program spelled linked input heap depth n c m =
+    m.runs ∙ ap (λ p. c_mean p input heap depth n) (same_program m.program program m.units unit (only_unit one text unit spelled m.units m.read) m.linked linked)

@@ -8,7 +8,7 @@ use Rattle.cfront.specs.declared.outcome.Outcome.TheVariants as answer
 use Rattle.cfront.specs.declared.position.Position.{Position}
 use Rattle.cfront.specs.Cause.{GoCause, LeftByMemory}
 use Rattle.cfront.specs.LastLine.{last_line, file_name}
-use Rattle.cfront.specs.Outside.{Outside, CountsStand, with_err}
+use Rattle.cfront.specs.Outside.{Outside, CountsStand, KeepTelling, with_err}
 use Rattle.cfront.specs.Words.{IsGo, files_of}
 
 -- the answer stays, and its line stands on `err`
@@ -46,11 +46,12 @@ pub record Answers (cause : Causes) (names : List (List ℕ)) (old new : Outside
   pub caused : cause old (with_err new err) position before
   pub line : EndsWith (last_line names position before) before outcome err new.err
   pub counts : is_fault outcome ≡ false → CountsStand old new
+  pub told : KeepTelling old new
 
 -- what `go` on the first of these names leaves
 abbrev pub GoKeeps : {M : Type 0} → List (List ℕ) → Limits → Outside → Outside → Result Outcome M → Type 0
 GoKeeps names limits old new (Ok outcome) = Answers (GoCause (file_name names 1) limits) names old new outcome
-GoKeeps names limits old new (Err memory) = LeftByMemory (file_name names 1) limits old new
+GoKeeps names limits old new (Err memory) = LeftByMemory (file_name names 1) limits old new × KeepTelling old new
 
 -- no job fits the words, and nothing changed
 pub record NoJob (words : List (List ℕ)) (old new : Outside) (outcome : Outcome) : Type 0 where
@@ -74,4 +75,4 @@ pub record WordsLeft (words : List (List ℕ)) (limits : Limits) (old new : Outs
 
 abbrev pub Keeps : {M : Type 0} → List (List ℕ) → Limits → Outside → Outside → Result Outcome M → Type 0
 Keeps words limits old new (Ok outcome) = Answers (WordsCause words limits) (files_of words) old new outcome
-Keeps words limits old new (Err memory) = WordsLeft words limits old new
+Keeps words limits old new (Err memory) = WordsLeft words limits old new × KeepTelling old new

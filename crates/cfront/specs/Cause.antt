@@ -5,14 +5,14 @@ use Rattle.cf_base.specs.Disk.{Disk, Names, Rises, SameElsewhere}
 use Rattle.cc_tree.specs.declared.unit.CProgram.{CProgram}
 use Rattle.cc_run.specs.declared.types.Limits.{Limits}
 use Rattle.cc_run.specs.Run.{Front}
-use Rattle.cf_small.specs.declared.tree.SourceUnit.{SourceUnit}
-use Rattle.cf_small.specs.First.{First}
+use Rattle.cf_functions.specs.declared.tree.Program.{Program}
+use Rattle.cf_functions_read.specs.First.{First}
 use Rattle.cfront.specs.declared.outcome.Outcome.{Outcome}
 use Rattle.cfront.specs.declared.outcome.Outcome.TheVariants as answer
 use Rattle.cfront.specs.declared.position.Position.{Position}
 use Rattle.cfront.specs.Outside.{Outside, StreamsStand, CountsStand, streams_of}
 use Rattle.cfront.specs.Position.{position_of}
-use Rattle.cfront.specs.Run.{RunsTo}
+use Rattle.cfront.specs.Run.{RanTo}
 use Rattle.cfront.specs.Translated.{WasRead, Translated, most_bytes}
 use Rattle.cfront.specs.Words.{text_name}
 
@@ -55,8 +55,8 @@ pub record ReadFailed (file : List ℕ) (old new : Disk) (outcome : Outcome) : T
 pub record WriteFailed (file : List ℕ) (old new : Disk) (outcome : Outcome) : Type 0 where
   pub bytes : List ℕ
   pub read : WasRead file old bytes
-  pub unit : SourceUnit
-  pub accepted : First bytes (Ok unit)
+  pub source : Program
+  pub accepted : First bytes (Ok source)
   pub rises : Rises (text_name file) old.write_faults new.write_faults
   pub answered : outcome ≡ answer.FileFault
   pub elsewhere : IsTrue old.told → SameElsewhere (text_name file) old.content new.content
@@ -84,7 +84,7 @@ pub record Made (file : List ℕ) (old new : Disk) (program : CProgram) : Type 0
 pub record Ran (file : List ℕ) (limits : Limits) (old new : Outside) (outcome : Outcome) : Type 0 where
   pub program : CProgram
   pub made : Made file old.files new.files program
-  pub runs : RunsTo program limits (streams_of old) (streams_of new) outcome
+  pub runs : RanTo program limits (streams_of old) (streams_of new) outcome
 
 abbrev pub GoCause : List ℕ → Limits → Outside → Outside → Position → Outcome → Type 0
 GoCause file limits old new position outcome = Stopped file old new position outcome ⊎ Ran file limits old new outcome
@@ -95,8 +95,14 @@ pub record Begun (file : List ℕ) (limits : Limits) (old new : Outside) : Type 
   pub translated : Translated file old.files new.files program
   pub front : Front program limits false (streams_of old) (streams_of new)
 
+-- no file was written, or the text of the accepted file stands
+pub data TextLeft (file : List ℕ) (old new : Disk) : Type 0 where
+  unwritten : (IsTrue old.told → new.content ≡ old.content) → TextLeft file old new
+  text_stands : (program : CProgram) → Translated file old new program → TextLeft file old new
+
 -- What stands after want of memory.
 pub record LeftByMemory (file : List ℕ) (limits : Limits) (old new : Outside) : Type 0 where
+  pub text : TextLeft file old.files new.files
   pub elsewhere : IsTrue old.files.told → SameElsewhere (text_name file) old.files.content new.files.content
   pub counts : CountsStand old new
   pub streams : StreamsStand old new ⊎ Begun file limits old new

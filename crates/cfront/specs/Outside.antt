@@ -1,6 +1,6 @@
 -- What lies outside the program: files, the input, and two sinks.
-use Rattle.std.specs.Prelude.{◌≡◌, ◌≢◌, ℕ, List, IsTrue}
-use Rattle.cf_base.specs.Disk.{Disk, SameElsewhere}
+use Rattle.std.specs.Prelude.{◌≡◌, IsTrue}
+use Rattle.cf_base.specs.Disk.{Disk}
 use Rattle.cf_base.specs.Stream.{Stream}
 use Rattle.cc_run.specs.Run.{Streams, streams}
 
@@ -26,6 +26,13 @@ pub record StreamsStand (old new : Outside) : Type 0 where
   pub input : new.input ≡ old.input
   pub out : new.out ≡ old.out
   pub err : new.err ≡ old.err
+
+-- What was told stays told: what the files hold, and what the input has left; and a sink that tells its bytes told them before.
+pub record KeepTelling (old new : Outside) : Type 0 where
+  pub files : IsTrue old.files.told → IsTrue new.files.told
+  pub input : IsTrue old.input.told → IsTrue new.input.told
+  pub out : IsTrue new.out.told → IsTrue old.out.told
+  pub err : IsTrue new.err.told → IsTrue old.err.told
 
 -- no call on the outside failed
 pub record CountsStand (old new : Outside) : Type 0 where

@@ -1,5 +1,5 @@
 -- How a run of a program answers.
-use Rattle.std.specs.Prelude.{◌≡◌, List, false, IsTrue, Result, Ok, Err}
+use Rattle.std.specs.Prelude.{◌≡◌, ℕ, List, false, IsTrue, Result, Ok, Err}
 use Rattle.cf_base.specs.Rose.{Rose}
 use Rattle.cf_base.specs.Stream.{Stream}
 use Rattle.cc_tree.specs.declared.unit.CProgram.{CProgram}
@@ -19,21 +19,25 @@ outcome_of (ended.Undefined act) = answer.Undefined act
 outcome_of ended.SourceFault = answer.SourceFault
 outcome_of ended.SinkFault = answer.SinkFault
 
--- What a run leaves on the streams, by its answer. The output is flushed behind the run, so that it may fail then too.
-abbrev pub RunsTo : CProgram → Limits → Streams → Streams → Outcome → Type 0
-RunsTo program limits old new (answer.Ended status) = LeavesAt program limits false old new (ended.Ended status)
-RunsTo program limits old new answer.Ticks = LeavesAt program limits false old new ended.Ticks
-RunsTo program limits old new answer.Depth = LeavesAt program limits false old new ended.Depth
-RunsTo program limits old new (answer.Undefined act) = LeavesAt program limits false old new (ended.Undefined act)
-RunsTo program limits old new answer.Usage = ⊥
-RunsTo program limits old new (answer.Refused file rule at) = ⊥
-RunsTo program limits old new (answer.Limit file limit) = ⊥
-RunsTo program limits old new answer.FileFault = ⊥
-RunsTo program limits old new answer.SourceFault = LeavesAt program limits false old new ended.SourceFault
-RunsTo program limits old new answer.SinkFault = OutputFailed program limits false old new
+-- What a run in which so many functions were entered leaves on the streams, by its answer. The output is flushed behind the run, so that it may fail then too.
+abbrev pub RunsTo : CProgram → Limits → Streams → Streams → ℕ → Outcome → Type 0
+RunsTo program limits old new entered (answer.Ended status) = LeavesAt program limits false old new entered (ended.Ended status)
+RunsTo program limits old new entered answer.Ticks = LeavesAt program limits false old new entered ended.Ticks
+RunsTo program limits old new entered answer.Depth = LeavesAt program limits false old new entered ended.Depth
+RunsTo program limits old new entered (answer.Undefined act) = LeavesAt program limits false old new entered (ended.Undefined act)
+RunsTo program limits old new entered answer.Usage = ⊥
+RunsTo program limits old new entered (answer.Refused file rule at) = ⊥
+RunsTo program limits old new entered (answer.Limit file limit) = ⊥
+RunsTo program limits old new entered answer.FileFault = ⊥
+RunsTo program limits old new entered answer.SourceFault = LeavesAt program limits false old new entered ended.SourceFault
+RunsTo program limits old new entered answer.SinkFault = OutputFailed program limits false old new entered
+
+pub record RanTo (program : CProgram) (limits : Limits) (old new : Streams) (outcome : Outcome) : Type 0 where
+  pub entered : ℕ
+  pub runs : RunsTo program limits old new entered outcome
 
 abbrev pub RunLeaves : {M : Type 0} → CProgram → Limits → Streams → Streams → Result Outcome M → Type 0
-RunLeaves program limits old new (Ok outcome) = RunsTo program limits old new outcome
+RunLeaves program limits old new (Ok outcome) = RanTo program limits old new outcome
 RunLeaves program limits old new (Err memory) = Front program limits false old new × SameCounts old new
 
 -- the flush behind a run was done, and the run's answer stays

@@ -1,10 +1,15 @@
 -- What the steps from a file to its program leave.
-use Rattle.std.specs.Prelude.{◌≡◌, ℕ, List, [], ◌∷◌, Result, Ok, Err, Some, IsTrue}
+use Rattle.std.specs.Prelude.{◌≡◌, ℕ, List, [], ◌∷◌, Result, Ok, Err, Some, None, true, IsTrue}
+use Rattle.std.specs.List.{list_all}
+use Rattle.cf_base.specs.Agree.{Agree}
 use Rattle.cf_base.specs.Disk.{Disk, SameElsewhere, Rises}
 use Rattle.cc_tree.specs.declared.unit.CProgram.{CProgram}
-use Rattle.cf_small.specs.declared.tree.SourceUnit.{SourceUnit}
-use Rattle.cf_small.specs.First.{First}
-use Rattle.cf_small.specs.Lowered.{IsSound}
+use Rattle.cf_functions.specs.declared.tree.Program.{Program}
+use Rattle.cf_functions.specs.Plain.{functions_of}
+use Rattle.cf_functions.specs.Mean.{mean}
+use Rattle.cf_functions.specs.Rules.{keeps_names, first_unknown_of}
+use Rattle.cf_functions_read.specs.First.{First}
+use Rattle.cf_functions_read.specs.Words.{is_named}
 use Rattle.cfront.specs.declared.outcome.Outcome.{Outcome}
 use Rattle.cfront.specs.declared.outcome.Outcome.TheVariants as answer
 use Rattle.cfront.specs.declared.answer.Answer.{Answer}
@@ -13,15 +18,21 @@ use Rattle.cfront.specs.declared.answer.Stop.TheVariants as stop
 use Rattle.cc_run.specs.declared.types.Limits.{Limits}
 use Rattle.cc_tree.specs.declared.unit.CUnit.{CUnit}
 use Rattle.cc_tree.specs.Link.{link}
+use Rattle.cc_tree.specs.Mean.{c_mean}
+use Rattle.cc_tree.specs.Valid.{valid_unit}
 use Rattle.cfront.specs.Answer.{WordsCause, WordsLeft}
-use Rattle.cfront.specs.Cause.{FileCause, RefusedAt, DiskCountsStand, Made, GoCause, LeftByMemory}
+use Rattle.cfront.specs.Cause.{FileCause, RefusedAt, DiskCountsStand, Made, GoCause, TextLeft, LeftByMemory}
 use Rattle.cfront.specs.Outside.{Outside}
 use Rattle.cfront.specs.Words.{text_name}
 use Rattle.cfront.specs.Translated.{WasRead}
 
+-- what the disk holds is told as before
+abbrev pub DiskTold : Disk → Disk → Type 0
+DiskTold old new = IsTrue old.told → IsTrue new.told
+
 -- nothing on the disk changed
 pub record DiskStands (old new : Disk) : Type 0 where
-  pub told : IsTrue old.told → IsTrue new.told
+  pub told : DiskTold old new
   pub content : new.content ≡ old.content
   pub counts : DiskCountsStand old new
 
@@ -31,11 +42,24 @@ ReadLeaves view file old new (Ok bytes) = WasRead file old (view bytes) × DiskS
 ReadLeaves view file old new (Err (stop.Answer a)) = FileCause file old new a.position a.outcome
 ReadLeaves view file old new (Err stop.Memory) = DiskStands old new
 
--- the unit of some bytes, or the rule that they break
-abbrev pub AcceptLeaves : List ℕ → Result SourceUnit Stop → Type 0
-AcceptLeaves bytes (Ok unit) = First bytes (Ok unit) × IsSound unit
+-- the program of some bytes, or the rule that they break
+abbrev pub AcceptLeaves : List ℕ → Result Program Stop → Type 0
+AcceptLeaves bytes (Ok source) = First bytes (Ok source)
 AcceptLeaves bytes (Err (stop.Answer a)) = RefusedAt bytes a.position a.outcome
 AcceptLeaves bytes (Err stop.Memory) = bytes ≡ bytes
+
+-- what reading gives, and translation asks
+pub record IsSound (source : Program) : Type 0 where
+  pub names : keeps_names (functions_of source) ≡ true
+  pub known : first_unknown_of (functions_of source) ≡ None
+  pub named : list_all is_named (functions_of source) ≡ true
+
+-- The unit is valid, it links to a program, and that program's runs agree with the source's, whatever the input and the limits.
+pub record KeepsMeaning (source : Program) (unit : CUnit) : Type 0 where
+  pub valid : valid_unit unit ≡ true
+  pub program : CProgram
+  pub links : link (unit ∷ []) ≡ Ok program
+  pub agrees : (input : List ℕ) (heap depth n : ℕ) → Agree (mean (functions_of source) input heap depth n) (c_mean program input heap depth n)
 
 -- bytes were written under a name
 pub record WasWritten (name bytes : List ℕ) (old new : Disk) : Type 0 where
@@ -50,20 +74,26 @@ pub record WriteFault (name : List ℕ) (old new : Disk) (outcome : Outcome) : T
   pub elsewhere : IsTrue old.told → SameElsewhere name old.content new.content
   pub reads : new.read_faults ≡ old.read_faults
 
--- no file but that of the text was touched, and no call failed
-pub record OnlyText (name : List ℕ) (old new : Disk) : Type 0 where
-  pub elsewhere : IsTrue old.told → SameElsewhere name old.content new.content
+-- nothing was written, and no call failed
+pub record NotWritten (old new : Disk) : Type 0 where
+  pub content : IsTrue old.told → new.content ≡ old.content
+  pub counts : DiskCountsStand old new
+
+-- memory was wanting: no file but that of the text was touched, and no call failed
+pub record MemoryLeft (file : List ℕ) (old new : Disk) : Type 0 where
+  pub text : TextLeft file old new
+  pub elsewhere : IsTrue old.told → SameElsewhere (text_name file) old.content new.content
   pub counts : DiskCountsStand old new
 
 abbrev pub WriteLeaves : {T : Type 0} → List ℕ → List ℕ → Disk → Disk → Result T Stop → Type 0
 WriteLeaves name bytes old new (Ok value) = WasWritten name bytes old new
 WriteLeaves name bytes old new (Err (stop.Answer a)) = WriteFault name old new a.outcome
-WriteLeaves name bytes old new (Err stop.Memory) = OnlyText name old new
+WriteLeaves name bytes old new (Err stop.Memory) = NotWritten old new
 
 -- why there is no program, or want of memory
 abbrev pub StopLeaves : List ℕ → Disk → Disk → Stop → Type 0
 StopLeaves file old new (stop.Answer a) = FileCause file old new a.position a.outcome
-StopLeaves file old new stop.Memory = OnlyText (text_name file) old new
+StopLeaves file old new stop.Memory = MemoryLeft file old new
 
 abbrev pub TranslateLeaves : List ℕ → Disk → Disk → Result CProgram Stop → Type 0
 TranslateLeaves file old new (Ok program) = Made file old new program

@@ -1,16 +1,16 @@
 -- What stands between a source file and the program that is run.
-use Rattle.std.specs.Prelude.{◌≡◌, ℕ, ◌≤◌, ◌^◌, List, [], ◌∷◌, Some, Ok, true, IsTrue, length}
+use Rattle.std.specs.Prelude.{◌≡◌, ℕ, ◌≤◌, ◌^◌, List, [], ◌∷◌, Some, Ok, IsTrue, length}
 use Rattle.cf_base.specs.Agree.{Agree}
 use Rattle.cf_base.specs.Disk.{Disk}
+use Rattle.cf_base.specs.World.{Outcome}
 use Rattle.cc_tree.specs.declared.unit.CUnit.{CUnit}
 use Rattle.cc_tree.specs.declared.unit.CProgram.{CProgram}
-use Rattle.cc_tree.specs.Text.{Text}
-use Rattle.cc_tree.specs.Valid.{valid_unit}
 use Rattle.cc_tree.specs.Link.{link}
-use Rattle.cc_tree.specs.Mean.{c_mean}
-use Rattle.cf_small.specs.declared.tree.SourceUnit.{SourceUnit}
-use Rattle.cf_small.specs.First.{First}
-use Rattle.cf_small.specs.Mean.{mean}
+use Rattle.cc_tree.specs.CMean.{AreTexts, CMean}
+use Rattle.cf_functions.specs.declared.tree.Program.{Program}
+use Rattle.cf_functions.specs.Plain.{functions_of}
+use Rattle.cf_functions.specs.Mean.{mean}
+use Rattle.cf_functions_read.specs.First.{First}
 use Rattle.cfront.specs.Words.{text_name}
 
 -- the most bytes of a source file
@@ -22,21 +22,21 @@ pub record WasRead (file : List ℕ) (files : Disk) (bytes : List ℕ) : Type 0 
   pub holds : IsTrue files.told → files.content file ≡ Some bytes
   pub short : length bytes ≤ most_bytes
 
--- A text of a unit: read again it is a valid tree, which alone links to this program; for every input, heap limit, depth limit and
--- bound of ticks the program runs as the unit means, up to the first act without a meaning.
-pub record IsTextOf (unit : SourceUnit) (text : List ℕ) (program : CProgram) : Type 0 where
-  pub tree : CUnit
-  pub spelled : Text text tree
-  pub valid : valid_unit tree ≡ true
-  pub linked : link (tree ∷ []) ≡ Ok program
-  pub agrees : (input : List ℕ) (heap depth n : ℕ) → Agree (mean unit input heap depth n) (c_mean program input heap depth n)
+-- A text of a source: it is the text of a valid unit, which alone links to this program; and for every input, heap limit, depth limit and
+-- bound of ticks, what the text means agrees with what the source means, up to the source's first act without a meaning.
+pub record IsTextOf (source : Program) (text : List ℕ) (program : CProgram) : Type 0 where
+  pub unit : CUnit
+  pub read : AreTexts (text ∷ []) (unit ∷ [])
+  pub linked : link (unit ∷ []) ≡ Ok program
+  pub agrees : (input : List ℕ) (heap depth n : ℕ) (c : Outcome) → CMean (text ∷ []) input heap depth n c
+      → Agree (mean (functions_of source) input heap depth n) c
 
--- The file was read and accepted, and a text of its unit stands beside it.
+-- The file was read and accepted, and a text of what it spells stands beside it.
 pub record Translated (file : List ℕ) (old new : Disk) (program : CProgram) : Type 0 where
   pub bytes : List ℕ
   pub read : WasRead file old bytes
-  pub unit : SourceUnit
-  pub accepted : First bytes (Ok unit)
+  pub source : Program
+  pub accepted : First bytes (Ok source)
   pub text : List ℕ
   pub written : IsTrue old.told → new.content (text_name file) ≡ Some text
-  pub text_of : IsTextOf unit text program
+  pub text_of : IsTextOf source text program

@@ -1,7 +1,7 @@
 ghost use Rattle.std.specs.Prelude.{◌≡◌, ◌≤◌, ◌<◌, ◌^◌, None, false, length, map, string_bytes, vec_len};
 ghost use Rattle.cfront.specs.Answer.{GoKeeps};
 ghost use Rattle.cfront.specs.LastLine.{file_name};
-ghost use Rattle.cfront.specs.Outside.{outside};
+ghost use Rattle.cfront.specs.Outside.{outside, KeepTelling};
 ghost use Rattle.cfront.specs.Steps.{GoLeaves};
 
 use crate::answer::{Answer, Stop};
@@ -23,8 +23,10 @@ pub fn gone<F: Files, I: Source, O: Sink, E: Sink>(
     out: &mut O,
     err: &mut E,
 ) -> Result<Answer, Memory>
-    ensures { GoLeaves file.now limits (outside (F.disk files.old) (I.stream input.old) (O.stream out.old) (E.stream err.old))
+    ensures leaves { GoLeaves file.now limits (outside (F.disk files.old) (I.stream input.old) (O.stream out.old) (E.stream err.old))
         (outside (F.disk files.new) (I.stream input.new) (O.stream out.new) (E.stream err.new)) result }
+    ensures told { KeepTelling (outside (F.disk files.old) (I.stream input.old) (O.stream out.old) (E.stream err.old))
+        (outside (F.disk files.new) (I.stream input.new) (O.stream out.new) (E.stream err.new)) }
 {
     match translated(alloc, file, files) {
         Ok(program) => match run_program(alloc, &program, limits, input, out, err) {

@@ -1,5 +1,5 @@
 ghost use Rattle.std.specs.Prelude.{◌≡◌, ◌⊎◌};
-ghost use Rattle.cc_run.specs.Run.{streams};
+ghost use Rattle.cc_run.specs.Run.{streams, StillTold};
 ghost use Rattle.cfront.specs.Run.{outcome_of, RunLeaves, FlushDone, FlushFailed};
 
 use crate::outcome::Outcome;
@@ -17,8 +17,10 @@ pub fn run_program<I: Source, O: Sink, E: Sink>(
     out: &mut O,
     err: &mut E,
 ) -> Result<Outcome, Memory>
-    ensures { RunLeaves program.now limits (streams (I.stream input.old) (O.stream out.old) (E.stream err.old))
+    ensures leaves { RunLeaves program.now limits (streams (I.stream input.old) (O.stream out.old) (E.stream err.old))
         (streams (I.stream input.new) (O.stream out.new) (E.stream err.new)) result }
+    ensures told { StillTold (streams (I.stream input.old) (O.stream out.old) (E.stream err.old))
+        (streams (I.stream input.new) (O.stream out.new) (E.stream err.new)) }
 {
     let machine = match Machine::new(alloc, program, limits) {
         Ok(machine) => machine,

@@ -6,6 +6,7 @@ use crate::go::go_with;
 use crate::outcome::{Outcome, status};
 use crate::top::{DEFAULT_LIMITS, cfront};
 use cc_run::Limits;
+use cc_tree::Act;
 use cf_base::{Bound, Limit, MemFiles, MemSink, MemSource, Memory, Rule};
 use std::alloc::{AllocError, Global};
 use std::process::Abort;
@@ -54,12 +55,13 @@ struct Job<'a> {
     failing: Failing,
 }
 
-/// Does a job, and checks its answer and the line on `err`.
-fn check(
+/// Does a job, and checks its answer, its output and the line on `err`.
+fn check_output(
     rt: &impl Abort,
     alloc: Global,
     job: &Job<'_>,
     want: Outcome,
+    output: &str,
     line: &str,
 ) -> Result<(), Fail> {
     let failing = job.failing;
@@ -71,8 +73,47 @@ fn check(
     let answer = cfront(alloc, &words, &mut files, &mut input, &mut out, &mut err);
     assert!(rt; answer == Ok(want), "{line}");
     assert_eq!(rt; err.bytes(), line.as_bytes());
-    assert_eq!(rt; out.bytes(), b"".as_slice());
+    assert_eq!(rt; out.bytes(), output.as_bytes());
     Ok(())
+}
+
+/// Does a job without output, and checks its answer and the line on `err`.
+fn check(
+    rt: &impl Abort,
+    alloc: Global,
+    job: &Job<'_>,
+    want: Outcome,
+    line: &str,
+) -> Result<(), Fail> {
+    check_output(rt, alloc, job, want, "", line)
+}
+
+/// Does `go` on a file with this text, and checks its answer, its output and the line on `err`.
+fn check_text(
+    rt: &impl Abort,
+    alloc: Global,
+    text: &[u8],
+    want: Outcome,
+    output: &str,
+    line: &str,
+) -> Result<(), Fail> {
+    let job = Job {
+        words: &["go", "a.C"],
+        text,
+        failing: NONE_FAILS,
+    };
+    check_output(rt, alloc, &job, want, output, line)
+}
+
+fn refused(number: u8, at: u32) -> Outcome
+    requires from_one { 1 ≤ number }
+    requires to_last { number ≤ 48 }
+{
+    Outcome::Refused {
+        file: 1,
+        rule: Rule::new(number),
+        at,
+    }
 }
 
 fn go_seven(failing: Failing) -> Job<'static> {
@@ -118,24 +159,121 @@ fn other_words_are_usage(rt: HostRuntime) -> Result<(), Fail> {
 }
 
 #[test]
-fn another_form_is_outside(rt: HostRuntime) -> Result<(), Fail> {
-    let want = Outcome::Refused {
-        file: 1,
-        rule: Rule::new(48),
-        at: 0,
-    };
-    let job = Job {
-        words: &["go", "a.C"],
-        text: b"\n\nint main(){return 7;}//",
-        failing: NONE_FAILS,
-    };
-    check(
+fn comment_is_outside(rt: HostRuntime) -> Result<(), Fail> {
+    let line = "a.C:1:1: K48 outside the profile\n";
+    check_text(
         &rt,
         rt.alloc(),
-        &job,
-        want,
-        "a.C:1:1: K48 outside the profile\n",
+        b"\n\nint main(){return 7;}//",
+        refused(48, 0),
+        "",
+        line,
     )
+}
+
+#[test]
+fn undeclared_name(rt: HostRuntime) -> Result<(), Fail> {
+    let line = "a.C:1:19: K10 (3.2) undeclared name\n";
+    check_text(
+        &rt,
+        rt.alloc(),
+        b"int main(){return x;}",
+        refused(10, 18),
+        "",
+        line,
+    )
+}
+
+#[test]
+fn forward_call_is_undeclared(rt: HostRuntime) -> Result<(), Fail> {
+    let line = "a.C:2:8: K10 (3.2) undeclared name\n";
+    check_text(
+        &rt,
+        rt.alloc(),
+        b"int main(){\nreturn f(1);}int f(int n){return n;}",
+        refused(10, 19),
+        "",
+        line,
+    )
+}
+
+#[test]
+fn overflow_after_output(rt: HostRuntime) -> Result<(), Fail> {
+    let want = Outcome::Undefined { act: Act::A1 };
+    check_text(
+        &rt,
+        rt.alloc(),
+        b"int main(){putchar(97);return 2147483647+1;}",
+        want,
+        "a",
+        "cfront: undefined act A1\n",
+    )
+}
+
+#[test]
+fn value_of_a_function_that_gave_none(rt: HostRuntime) -> Result<(), Fail> {
+    let want = Outcome::Undefined { act: Act::A11 };
+    check_text(
+        &rt,
+        rt.alloc(),
+        b"int f(){}int main(){f();return f();}",
+        want,
+        "",
+        "cfront: undefined act A11\n",
+    )
+}
+
+#[test]
+fn recursion_is_too_deep(rt: HostRuntime) -> Result<(), Fail> {
+    let text = b"int f(int n){return f(n);}int main(){return f(0);}";
+    check_text(
+        &rt,
+        rt.alloc(),
+        text,
+        Outcome::Depth,
+        "",
+        "cfront: too deep\n",
+    )
+}
+
+#[test]
+fn brackets_matter(rt: HostRuntime) -> Result<(), Fail> {
+    let text = b"int main(){int a=9;int b=4;int c=3;return a-(b-c);}";
+    let want = Outcome::Ended { status: 8 };
+    check_text(&rt, rt.alloc(), text, want, "", "cfront: ended 8\n")
+}
+
+#[test]
+fn sum_with_output(rt: HostRuntime) -> Result<(), Fail> {
+    let text =
+        b"int f(int n){int s=0;while(0<n){s=s+n;n=n-1;}return s;}int main(){putchar(65);return f(4);}";
+    let want = Outcome::Ended { status: 10 };
+    check_text(&rt, rt.alloc(), text, want, "A", "cfront: ended 10\n")
+}
+
+/// A `main` that returns 7 in so many brackets.
+fn nested(alloc: Global, brackets: u32) -> Result<Vec<u8>, AllocError> {
+    let mut text = Vec::from_slice(alloc, b"int main(){return ")?;
+    for _ in 0..brackets {
+        text.push(b'(')?;
+    }
+    text.push(b'7')?;
+    for _ in 0..brackets {
+        text.push(b')')?;
+    }
+    text.extend_from_slice(b";}")?;
+    Ok(text)
+}
+
+#[test]
+fn nesting(rt: HostRuntime) -> Result<(), Fail> {
+    let alloc = rt.alloc();
+    let most = nested(alloc, 63)?;
+    let want = Outcome::Ended { status: 7 };
+    check_text(&rt, alloc, &most, want, "", "cfront: ended 7\n")?;
+    let more = nested(alloc, 64)?;
+    let line = "a.C:1:1: K48 outside the profile\n";
+    check_text(&rt, alloc, &more, refused(48, 0), "", line)
 }
 
 #[test]
@@ -174,29 +312,52 @@ fn each_call_on_files_fails_in_turn(rt: HostRuntime) -> Result<(), Fail> {
 }
 
 #[test]
-fn a_failing_flush_is_a_sink_fault(rt: HostRuntime) -> Result<(), Fail> {
-    let failing = Failing {
-        files: 0,
-        out: 1,
-        err: 0,
-    };
-    check(
-        &rt,
-        rt.alloc(),
-        &go_seven(failing),
-        Outcome::SinkFault,
-        "cfront: sink fault\n",
-    )
+fn each_call_on_out_fails_in_turn(rt: HostRuntime) -> Result<(), Fail> {
+    for (number, output) in [(1, ""), (2, "A"), (3, "AB")] {
+        let job = Job {
+            words: &["go", "a.C"],
+            text: b"int main(){putchar(65);putchar(66);return 0;}",
+            failing: Failing {
+                files: 0,
+                out: number,
+                err: 0,
+            },
+        };
+        check_output(
+            &rt,
+            rt.alloc(),
+            &job,
+            Outcome::SinkFault,
+            output,
+            "cfront: sink fault\n",
+        )?;
+    }
+    Ok(())
 }
 
+/// The line is put in twelve pieces, the first nine of which are empty here.
 #[test]
-fn a_failing_last_line_is_a_sink_fault(rt: HostRuntime) -> Result<(), Fail> {
-    let failing = Failing {
-        files: 0,
-        out: 0,
-        err: 1,
-    };
-    check(&rt, rt.alloc(), &go_seven(failing), Outcome::SinkFault, "")
+fn each_call_on_err_fails_in_turn(rt: HostRuntime) -> Result<(), Fail> {
+    for (number, front) in [
+        (1, ""),
+        (10, ""),
+        (11, "cfront: ended "),
+        (12, "cfront: ended 7"),
+    ] {
+        let failing = Failing {
+            files: 0,
+            out: 0,
+            err: number,
+        };
+        check(
+            &rt,
+            rt.alloc(),
+            &go_seven(failing),
+            Outcome::SinkFault,
+            front,
+        )?;
+    }
+    Ok(())
 }
 
 #[test]
@@ -218,15 +379,22 @@ fn long_file_passes_the_limit(rt: HostRuntime) -> Result<(), Fail> {
     check(&rt, alloc, &job, want, "a.C: limit Bytes 1048576\n")
 }
 
-/// What `go` answers on the file that returns 7, within so many ticks.
-fn answer_within(alloc: Global, ticks: u64) -> Result<Result<Outcome, Memory>, Fail>
+/// What `go` answers on a file with this text, within so many ticks, and what it leaves on `err`.
+fn check_within(
+    rt: &impl Abort,
+    alloc: Global,
+    text: &[u8],
+    ticks: u64,
+    want: Outcome,
+    line: &str,
+) -> Result<(), Fail>
     requires { ticks ≤ 2 ^ 40 }
 {
     let limits = Limits {
         ticks,
         ..DEFAULT_LIMITS
     };
-    let mut files = file(alloc, SEVEN, NONE_FAILS)?;
+    let mut files = file(alloc, text, NONE_FAILS)?;
     let mut input = MemSource::new(Vec::new(alloc), Vec::new(alloc));
     let mut out = MemSink::new(alloc, 100, Vec::new(alloc))?;
     let mut err = MemSink::new(alloc, 100, Vec::new(alloc))?;
@@ -235,15 +403,27 @@ fn answer_within(alloc: Global, ticks: u64) -> Result<Result<Outcome, Memory>, F
     let answer = go_with(
         alloc, limits, false, None, &names, &mut files, &mut input, &mut out, &mut err,
     );
-    Ok(answer)
+    assert!(rt; answer == Ok(want), "{line}");
+    assert_eq!(rt; err.bytes(), line.as_bytes());
+    Ok(())
 }
 
 #[test]
-fn no_tick_is_too_few(rt: HostRuntime) -> Result<(), Fail> {
+fn ticks_run_out(rt: HostRuntime) -> Result<(), Fail> {
     let alloc = rt.alloc();
-    assert!(rt; answer_within(alloc, 0)? == Ok(Outcome::Ticks));
-    assert!(rt; answer_within(alloc, 1)? == Ok(Outcome::Ended { status: 7 }));
-    Ok(())
+    let out_of_ticks = "cfront: out of ticks\n";
+    let ended = Outcome::Ended { status: 7 };
+    check_within(&rt, alloc, SEVEN, 0, Outcome::Ticks, out_of_ticks)?;
+    check_within(&rt, alloc, SEVEN, 1, ended, "cfront: ended 7\n")?;
+    let loop_without_end = b"int main(){while(0==0){}}";
+    check_within(
+        &rt,
+        alloc,
+        loop_without_end,
+        1000,
+        Outcome::Ticks,
+        out_of_ticks,
+    )
 }
 
 #[test]
@@ -261,4 +441,7 @@ fn statuses(rt: HostRuntime) {
     assert_eq!(rt; status(&Ok(Outcome::Usage)), 101);
     assert_eq!(rt; status(&Ok(Outcome::FileFault)), 104);
     assert_eq!(rt; status(&Ok(Outcome::Ticks)), 107);
+    assert_eq!(rt; status(&Ok(Outcome::Depth)), 108);
+    assert_eq!(rt; status(&Ok(Outcome::Undefined { act: Act::A1 })), 110);
+    assert_eq!(rt; status(&Err(Memory)), 109);
 }

@@ -1,6 +1,6 @@
 ghost use Rattle.std.specs.Prelude.{◌≡◌, map, string_bytes};
 ghost use Rattle.cfront.specs.Answer.{Keeps};
-ghost use Rattle.cfront.specs.Outside.{outside};
+ghost use Rattle.cfront.specs.Outside.{outside, KeepTelling};
 ghost use Rattle.cfront.specs.Steps.{WordsLeave};
 ghost use Rattle.cfront.specs.Words.{default_limits};
 
@@ -48,9 +48,11 @@ fn answered<F: Files, I: Source, O: Sink, E: Sink>(
     out: &mut O,
     err: &mut E,
 ) -> Result<Answer, Memory>
-    ensures { WordsLeave (map string_bytes words.now.items) default_limits
+    ensures leaves { WordsLeave (map string_bytes words.now.items) default_limits
         (outside (F.disk files.old) (I.stream input.old) (O.stream out.old) (E.stream err.old))
         (outside (F.disk files.new) (I.stream input.new) (O.stream out.new) (E.stream err.new)) result }
+    ensures told { KeepTelling (outside (F.disk files.old) (I.stream input.old) (O.stream out.old) (E.stream err.old))
+        (outside (F.disk files.new) (I.stream input.new) (O.stream out.new) (E.stream err.new)) }
 {
     match go_file(words) {
         Some(file) => gone(alloc, DEFAULT_LIMITS, file.as_str(), files, input, out, err),

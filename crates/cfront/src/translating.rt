@@ -1,21 +1,20 @@
-ghost use Rattle.std.specs.Prelude.{◌≡◌, ◌≤◌, ◌∷◌, [], IfOk, IsOk, length};
+ghost use Rattle.std.specs.Prelude.{◌≡◌, ◌≤◌, ◌∷◌, [], true, IfOk, IsOk, length};
 ghost use Rattle.cc_tree.specs.Link.{link};
 ghost use Rattle.cc_tree.specs.Text.{Text};
-ghost use Rattle.cf_small.specs.Lower.{lowered};
-ghost use Rattle.cf_small.specs.Lowered.{IsSound};
-ghost use Rattle.cc_print.specs.Printed.{unit_text};
-ghost use Rattle.cc_read.specs.Read.{IsUnit};
-ghost use Rattle.cfront.specs.Steps.{ReadLeaves, AcceptLeaves, WriteLeaves, LinkLeaves, ReadLeavesUnit, TranslateLeaves};
+ghost use Rattle.cc_tree.specs.Valid.{valid_unit};
+ghost use Rattle.cfront.specs.Steps.{DiskTold, ReadLeaves, AcceptLeaves, WriteLeaves, LinkLeaves, ReadLeavesUnit, TranslateLeaves, IsSound, KeepsMeaning};
 
 use crate::answer::{Answer, Stop};
 use crate::outcome::Outcome;
 use crate::position::Position;
 use crate::words::text_name_of;
 use cc_link::LinkErr;
-use cc_read::ReadErr as ReadFault;
+use cc_print::{print, printed_text_is_its_text};
+use cc_read::{ReadErr as ReadFault, text_has_one_unit, text_of_a_valid_unit_is_read};
 use cc_tree::{CProgram, CUnit};
 use cf_base::{Bound, Broken, Files, Limit, Memory, ReadErr, WriteErr};
-use cf_small::{Fault, SourceUnit};
+use cf_functions::Program;
+use cf_functions_read::Fault;
 use std::alloc::Global;
 
 /// The most bytes of a source file.
@@ -23,7 +22,8 @@ const MAX_BYTES: u32 = 1 << 20;
 
 /// The bytes of a source file.
 pub fn source_bytes<F: Files>(files: &mut F, file: &str) -> Result<Vec<u8>, Stop>
-    ensures { ReadLeaves (λ bytes. bytes.items) file.now (F.disk files.old) (F.disk files.new) result }
+    ensures leaves { ReadLeaves (λ bytes. bytes.items) file.now (F.disk files.old) (F.disk files.new) result }
+    ensures told { DiskTold (F.disk files.old) (F.disk files.new) }
 {
     match files.read(file, MAX_BYTES) {
         Ok(bytes) => Ok(bytes),
@@ -39,13 +39,13 @@ pub fn source_bytes<F: Files>(files: &mut F, file: &str) -> Result<Vec<u8>, Stop
     }
 }
 
-/// The unit that these bytes spell.
-pub fn accepted(alloc: Global, bytes: &[u8]) -> Result<SourceUnit, Stop>
+/// The program that these bytes spell.
+pub fn accepted(alloc: Global, bytes: &[u8]) -> Result<Program, Stop>
     requires { length bytes.now ≤ 1048576 }
     ensures { AcceptLeaves bytes.now result }
 {
-    match cf_small::read(alloc, bytes) {
-        Ok(unit) => Ok(unit),
+    match cf_functions_read::read(alloc, bytes) {
+        Ok(source) => Ok(source),
         Err(Fault::Broken(Broken { rule, at })) => Err(Stop::Answer(Answer {
             outcome: Outcome::Refused { file: 1, rule, at },
             position: Position::at(bytes, at),
@@ -54,9 +54,18 @@ pub fn accepted(alloc: Global, bytes: &[u8]) -> Result<SourceUnit, Stop>
     }
 }
 
+/// The unit that an accepted program is written as.
+fn lowered(alloc: Global, source: &Program) -> Result<CUnit, Memory>
+    requires { IsSound source.now }
+    ensures { IfOk result (λ unit. KeepsMeaning source.now unit) }
+{
+    cf_functions_lower::translate(alloc, source)
+}
+
 /// Writes a text under a name.
 pub fn written<F: Files>(files: &mut F, name: &str, text: &[u8]) -> Result<(), Stop>
-    ensures { WriteLeaves name.now text.now (F.disk files.old) (F.disk files.new) result }
+    ensures leaves { WriteLeaves name.now text.now (F.disk files.old) (F.disk files.new) result }
+    ensures told { DiskTold (F.disk files.old) (F.disk files.new) }
 {
     match files.write(name, text) {
         Ok(()) => Ok(()),
@@ -79,75 +88,53 @@ fn linked(alloc: Global, unit: CUnit) -> Result<CProgram, Stop>
     }
 }
 
-/// The text of a unit that a source unit was translated to.
-fn printed(alloc: Global, unit: &SourceUnit, tree: &CUnit) -> Result<Vec<u8>, Memory>
-    requires sound { IsSound unit.now }
-    requires form { tree.now ≡ lowered unit.now }
-    ensures spelled { IfOk result (λ text. Text text.items tree.now) }
-    ensures bytes { IfOk result (λ text. text.items ≡ unit_text tree.now) }
+/// A text of a valid unit.
+fn printed(alloc: Global, unit: &CUnit) -> Result<Vec<u8>, Memory>
+    requires { valid_unit unit.now ≡ true }
+    ensures { IfOk result (λ text. Text text.items unit.now) }
 {
-    cc_print::print(alloc, tree)
+    printed_text_is_its_text();
+    print(alloc, unit)
 }
 
-/// The unit that a text is read as.
-fn read_back(
-    alloc: Global,
-    text: &[u8],
-    unit: &SourceUnit,
-    tree: &CUnit,
-) -> Result<CUnit, ReadFault>
-    requires sound { IsSound unit.now }
-    requires form { tree.now ≡ lowered unit.now }
-    requires written { text.now ≡ unit_text tree.now }
-    ensures { IsUnit tree.now result }
+/// The unit that a text of a valid unit is read as, which is that unit.
+fn read_again(alloc: Global, text: &[u8], unit: &CUnit) -> Result<CUnit, Stop>
+    requires valid { valid_unit unit.now ≡ true }
+    requires written { Text text.now unit.now }
+    ensures { ReadLeavesUnit unit.now result }
 {
     let _ = unit;
-    let _ = tree;
-    cc_read::read(alloc, text)
-}
-
-/// The unit that a text is read as, which is the unit that was printed.
-fn read_again(alloc: Global, text: &[u8], unit: &SourceUnit, tree: &CUnit) -> Result<CUnit, Stop>
-    requires sound { IsSound unit.now }
-    requires form { tree.now ≡ lowered unit.now }
-    requires written { text.now ≡ unit_text tree.now }
-    ensures { ReadLeavesUnit tree.now result }
-{
-    match read_back(alloc, text, unit, tree) {
+    text_of_a_valid_unit_is_read();
+    match cc_read::read(alloc, text) {
         Ok(again) => Ok(again),
         Err(ReadFault::Memory) => Err(Stop::Memory),
-        Err(ReadFault::NotC { .. }) => unreachable!(),
-        Err(ReadFault::Invalid { .. }) => unreachable!(),
-        Err(ReadFault::Limit(_)) => unreachable!(),
+        Err(ReadFault::NotC) => unreachable!(),
+        Err(ReadFault::Invalid) => unreachable!(),
     }
 }
 
-/// The program that the text of a unit, read again, links to.
-fn read_and_linked(
-    alloc: Global,
-    text: &[u8],
-    unit: &SourceUnit,
-    tree: &CUnit,
-) -> Result<CProgram, Stop>
-    requires sound { IsSound unit.now }
-    requires form { tree.now ≡ lowered unit.now }
-    requires written { text.now ≡ unit_text tree.now }
-    requires links { IsOk (link (tree.now ∷ [])) }
-    ensures { LinkLeaves tree.now result }
+/// The program that a text of a unit, read again, links to.
+fn read_and_linked(alloc: Global, text: &[u8], unit: &CUnit) -> Result<CProgram, Stop>
+    requires valid { valid_unit unit.now ≡ true }
+    requires written { Text text.now unit.now }
+    requires links { IsOk (link (unit.now ∷ [])) }
+    ensures { LinkLeaves unit.now result }
 {
-    let again = read_again(alloc, text, unit, tree)?;
+    let again = read_again(alloc, text, unit)?;
     linked(alloc, again)
 }
 
 /// Writes the text of a file beside it, and gives the program that this text, read again, links to.
 pub fn translated<F: Files>(alloc: Global, file: &str, files: &mut F) -> Result<CProgram, Stop>
-    ensures { TranslateLeaves file.now (F.disk files.old) (F.disk files.new) result }
+    ensures leaves { TranslateLeaves file.now (F.disk files.old) (F.disk files.new) result }
+    ensures told { DiskTold (F.disk files.old) (F.disk files.new) }
 {
+    text_has_one_unit();
     let bytes = source_bytes(files, file)?;
-    let unit = accepted(alloc, &bytes)?;
-    let tree = cf_small::lower(alloc, &unit)?;
-    let text = printed(alloc, &unit, &tree)?;
+    let source = accepted(alloc, &bytes)?;
+    let unit = lowered(alloc, &source)?;
+    let text = printed(alloc, &unit)?;
     let name = text_name_of(alloc, file)?;
     written(files, name.as_str(), &text)?;
-    read_and_linked(alloc, &text, &unit, &tree)
+    read_and_linked(alloc, &text, &unit)
 }

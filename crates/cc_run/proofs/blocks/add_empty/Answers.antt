@@ -1,4 +1,4 @@
-use Rattle.std.proofs.Common.{◌≡◌, ◌∙◌, ◌+◌, ◌-◌, sym, ap, None, false, true}
+use Rattle.std.proofs.Common.{◌∙◌, ◌+◌, ◌-◌, sym, ap, None, true}
 use Rattle.cc_run.specs.Blocks.{memory_of, added}
 use Rattle.cc_run.proofs.BlockLaws.{memory-push, added-step}
 use Rattle.cc_run.proofs.blocks.add_empty.Goals as goal

@@ -1,7 +1,6 @@
-use Rattle.std.proofs.Common.{◌≡◌, ◌∙◌, ◌+◌, sym, ap, drop, get_or, Some, true, ◌++◌, ◌∷◌, [], ℤ, pos, rules, FitsSigned, w32, to_z, of_z, to_z-of_z, List, refl}
+use Rattle.std.proofs.Common.{◌∙◌, ◌+◌, sym, ap, drop, get_or, Some, true, ◌++◌, ◌∷◌, [], ℤ, pos, rules, FitsSigned, w32, to_z-of_z, refl}
 use Rattle.cc_tree.specs.Memory.{born_with}
 use Rattle.cc_run.specs.Blocks.{memory_of}
-use Rattle.cc_run.specs.declared.blocks.Cell.{Cell}
 use Rattle.cc_run.proofs.BlockLaws.{memory-push, born_with-step}
 use Rattle.cc_run.proofs.blocks.add_values.Goals as goal
 

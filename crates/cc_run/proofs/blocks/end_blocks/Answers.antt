@@ -1,4 +1,4 @@
-use Rattle.std.proofs.Common.{◌≡◌, ◌∙◌, ◌+◌, ◌-◌, sym, ap}
+use Rattle.std.proofs.Common.{◌∙◌, ◌+◌, ◌-◌, sym, ap}
 use Rattle.cc_run.specs.Blocks.{memory_of, ended_from}
 use Rattle.cc_run.proofs.BlockLaws.{ended_from-step}
 use Rattle.cc_run.proofs.blocks.end_blocks.Goals as goal

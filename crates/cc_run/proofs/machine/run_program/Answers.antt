@@ -1,4 +1,4 @@
-use Rattle.std.proofs.Common.{◌≡◌, ◌∙◌, Result, Ok, Option, ap, subst}
+use Rattle.std.proofs.Common.{◌∙◌, Result, Ok, Option, ap, subst}
 use Rattle.std.specs.Prelude.{IfOk}
 use Rattle.cf_base.specs.declared.memory.Memory.{Memory}
 use Rattle.cc_tree.specs.Mean.{c_mean}

@@ -1,6 +1,5 @@
-use Rattle.std.proofs.Common.{◌≡◌, ◌∙◌, List, [], ◌∷◌, ◌++◌, ℕ, ap, sym, subst, false}
+use Rattle.std.proofs.Common.{◌∙◌, List, [], ◌∷◌, ◌++◌, ℕ, ap, sym, subst, false}
 use Rattle.cc_tree.specs.Plain.{function_of, body_of}
-use Rattle.cc_tree.specs.Memory.{Memory}
 use Rattle.cc_tree.specs.Mean.{function_named}
 use Rattle.cc_run.specs.declared.mark.Mark.{Mark}
 use Rattle.cc_run.specs.declared.mark.Mark.TheVariants as mark

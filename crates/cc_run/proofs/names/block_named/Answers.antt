@@ -1,4 +1,4 @@
-use Rattle.std.proofs.Common.{◌≡◌, ◌-◌, ◌≤◌, ap, ◌∙◌, sym, take, length, arith}
+use Rattle.std.proofs.Common.{◌-◌, ◌≤◌, ap, ◌∙◌, sym, take, length, arith}
 use Rattle.cc_run.specs.Names.{look_in, scope_of}
 use Rattle.cc_run.proofs.Marks.{below_mark}
 use Rattle.cc_run.proofs.names.block_named.Goals as goal

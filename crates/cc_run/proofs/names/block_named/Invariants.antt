@@ -1,4 +1,4 @@
-use Rattle.std.proofs.Common.{◌≡◌, ℕ, ◌≤◌, length, take}
+use Rattle.std.proofs.Common.{◌≡◌, ◌≤◌, length, take}
 use Rattle.cc_run.specs.Names.{scope_of}
 use Rattle.cc_run.proofs.names.block_named.Given as goal
 

@@ -1,5 +1,5 @@
-use Rattle.std.proofs.Common.{◌≡◌, ap, ◌∙◌, sym}
-use Rattle.cc_tree.specs.Mean.{local_names, parameter_names, Scope}
+use Rattle.std.proofs.Common.{ap, ◌∙◌, sym}
+use Rattle.cc_tree.specs.Mean.{local_names, parameter_names}
 use Rattle.cc_run.specs.Names.{layer, located}
 use Rattle.cc_run.proofs.Marks.{bind_all-last}
 use Rattle.cc_run.proofs.names.look_on.Goals as goal

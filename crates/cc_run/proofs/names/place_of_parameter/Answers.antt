@@ -1,4 +1,4 @@
-use Rattle.std.proofs.Common.{◌≡◌, ℕ, true, false, ◌∙◌, ap, sym, bytes_eq, cond, Some}
+use Rattle.std.proofs.Common.{◌∙◌, ap, sym, bytes_eq, cond, Some}
 use Rattle.cc_run.proofs.Marks.{last_place-step}
 use Rattle.cc_run.proofs.names.place_of_parameter.Goals as goal
 use Rattle.cc_run.proofs.names.place_of_parameter.Goals.{then-eq, else-eq}

@@ -2,7 +2,7 @@ use Rattle.std.proofs.Common.{◌≡◌, ◌≤◌, ℕ, List, length, drop}
 use Rattle.std.specs.Borrow.{Bor}
 use Rattle.std.specs.HashMap.{get}
 use Rattle.cf_functions_names.specs.Heads.{head_from}
-use Rattle.cf_functions_names.specs.Lists.{same_name}
+use Rattle.cf_name_list.specs.Names.{same_name}
 use Rattle.cf_functions_names.specs.Walk.{plain}
 use Rattle.cf_functions_names.proofs.heads.heads.Given as goal
 

@@ -3,7 +3,8 @@ use Rattle.std.proofs.lemmas.Result.{err_from_is_err_and}
 use Rattle.cf_functions_tokens.specs.declared.token.Symbol.TheVariants as symbol
 use Rattle.cf_functions_parse.specs.Parse.{Reads, sees}
 use Rattle.cf_functions_parse.specs.Rules.{expression, primary, binary}
-use Rattle.cf_functions_parse.proofs.Steps.{fails_on, items_out, items_stop, items_go, items_fail, operands_out, operands_stop, operands_go, operands_fail, binary_is, binary_none, binary_zero, expression_zero, expression_suc}
+use Rattle.cf_functions_tokens.proofs.Fails.{fails_on}
+use Rattle.cf_functions_parse.proofs.Steps.{items_out, items_stop, items_go, items_fail, operands_out, operands_stop, operands_go, operands_fail, binary_is, binary_none, binary_zero, expression_zero, expression_suc}
 use Rattle.cf_functions_parse.proofs.expression.+rules.Goals as goal
 
 pub binary-returns-then-level-eq0 : goal.binary-returns-then-level-eq0

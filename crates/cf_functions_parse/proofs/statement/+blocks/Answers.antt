@@ -3,7 +3,8 @@ use Rattle.std.proofs.lemmas.Result.{err_from_is_err_and}
 use Rattle.cf_functions_tokens.specs.declared.token.Symbol.TheVariants as symbol
 use Rattle.cf_functions_parse.specs.Parse.{sees}
 use Rattle.cf_functions_parse.specs.Rules.{expression, statement, body}
-use Rattle.cf_functions_parse.proofs.Steps.{fails_on, statements_out, statements_stop, statements_go, statements_fail, body_zero, body_none, body_open, body_read}
+use Rattle.cf_functions_tokens.proofs.Fails.{fails_on}
+use Rattle.cf_functions_parse.proofs.Steps.{until_out, until_stop, until_go, until_fail, body_zero, body_none, body_open, body_read}
 use Rattle.cf_functions_parse.proofs.statement.+blocks.Goals as goal
 
 pub body-returns-then-depth-eq0 : goal.body-returns-then-depth-eq0
@@ -31,24 +32,24 @@ pub statements-returns-then-sees : goal.statements-returns-then-sees
 statements-returns-then-sees t c =
     let stop : sees symbol.CloseBlock c.loop-turn.c ≡ true = search rules in
     sym c.loop-turn.invariant
-    ∙ statements_stop (statement (expression c.args.depth) (body c.args.depth)) (length c.args.c.now - c.loop-turn._turn) c.loop-turn.found c.loop-turn.c stop
+    ∙ until_stop (sees symbol.CloseBlock) (statement (expression c.args.depth) (body c.args.depth)) (length c.args.c.now - c.loop-turn._turn) c.loop-turn.found c.loop-turn.c stop
 
 pub statements-returns-in_err-s : goal.statements-returns-in_err-s
 statements-returns-in_err-s t c =
     let p = err_from_is_err_and c.from_residual.result c.from_residual.ensures.1 in
     let goes : sees symbol.CloseBlock c.loop-turn.c ≡ false = search rules in
     let n = length c.args.c.now - (c.loop-turn._turn + 1) in
-    rw (p.1, p.2) (statements_fail (statement (expression c.args.depth) (body c.args.depth)) (length c.args.c.now - c.loop-turn._turn) n
+    rw (p.1, p.2) (until_fail (sees symbol.CloseBlock) (statement (expression c.args.depth) (body c.args.depth)) (length c.args.c.now - c.loop-turn._turn) n
     c.loop-turn.found c.loop-turn.c _ _ c.loop-turn.invariant (omega arith) goes c.in_err-s.ensures)
 
 pub statements-loop-turn-preserved : goal.statements-loop-turn-preserved
 statements-loop-turn-preserved t c =
     let goes : sees symbol.CloseBlock c.loop-turn.c ≡ false = search rules in
     let n = length c.args.c.now - (c.loop-turn._turn + 1) in
-    statements_go (statement (expression c.args.depth) (body c.args.depth)) (length c.args.c.now - c.loop-turn._turn) n c.loop-turn.found c.push.new.self
+    until_go (sees symbol.CloseBlock) (statement (expression c.args.depth) (body c.args.depth)) (length c.args.c.now - c.loop-turn._turn) n c.loop-turn.found c.push.new.self
     c.loop-turn.c c.statement.new.c c.in_ok-s.s _ c.loop-turn.invariant (omega arith) goes c.in_ok-s.ensures (search rules)
 
 pub statements-returns : goal.statements-returns
 statements-returns t c =
     sym c.loop-turn.invariant
-    ∙ statements_out (statement (expression c.args.depth) (body c.args.depth)) (length c.args.c.now - c.loop-turn._turn) c.loop-turn.found c.loop-turn.c (omega arith)
+    ∙ until_out (sees symbol.CloseBlock) (statement (expression c.args.depth) (body c.args.depth)) (length c.args.c.now - c.loop-turn._turn) c.loop-turn.found c.loop-turn.c (omega arith)

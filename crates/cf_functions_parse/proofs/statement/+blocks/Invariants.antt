@@ -1,5 +1,7 @@
 use Rattle.std.proofs.Common.{◌≡◌, [], ◌+◌, ◌-◌, ◌*◌, length}
-use Rattle.cf_functions_parse.specs.Rules.{expression, statement, body, more_statements}
+use Rattle.cf_functions_tokens.specs.declared.token.Symbol.TheVariants as symbol
+use Rattle.cf_functions_parse.specs.Parse.{sees}
+use Rattle.cf_functions_parse.specs.Rules.{expression, statement, body, more_until}
 use Rattle.cf_functions_parse.proofs.statement.+blocks.Given as goal
 
 abbrev pub decreases-body : goal.decreases-body
@@ -28,5 +30,5 @@ decreases-statements l = 10 * l.depth + 5
 
 abbrev pub invariant-statements-loop-turn : goal.invariant-statements-loop-turn
 invariant-statements-loop-turn l =
-    more_statements (statement (expression l.depth) (body l.depth)) (length l.initial.c - l._turn) l.found l.c
-    ≡ more_statements (statement (expression l.depth) (body l.depth)) (length l.initial.c) [] l.initial.c
+    more_until (sees symbol.CloseBlock) (statement (expression l.depth) (body l.depth)) (length l.initial.c - l._turn) l.found l.c
+    ≡ more_until (sees symbol.CloseBlock) (statement (expression l.depth) (body l.depth)) (length l.initial.c) [] l.initial.c

@@ -16,7 +16,7 @@ returns-in-Ok g c =
     (outside (g.F.Files.disk c.gone.new.files) (g.I.Source.stream c.gone.new.input) (g.O.Sink.stream c.gone.new.out) (g.E.Sink.stream c.gone.new.err))
     c.in-Ok.answer.position c.in-Ok.answer.outcome in
     let same : c.as_slice-names.result.now ≡ c.args.names.now.items = c.as_slice-names.ensures.value in
-    let caused = subst Q (c.first_name.ensures ∙ ap (λ names. file_name (map string_bytes names) 1) same) c.in-Ok.ensures in
-    answers _ _ _ _ _ _ (g.E.Sink.stream c.gone.new.err) _ c.in-Ok.answer.position c.in-Ok.answer.outcome _ caused
+    let caused = subst Q (c.first_name.ensures ∙ ap (λ names. file_name (map string_bytes names) 1) same) c.in-Ok.ensures.leaves in
+    answers _ _ _ _ _ _ (g.E.Sink.stream c.gone.new.err) (g.E.Sink.stream c.finished.new.err) c.in-Ok.answer.position c.in-Ok.answer.outcome _ caused
     (go_counts (file_name (map string_bytes c.args.names.now.items) 1) c.args.limits _ _ c.in-Ok.answer.position c.in-Ok.answer.outcome caused)
-    (subst P (ap (map string_bytes) same) c.finished.ensures)
+    (subst P (ap (map string_bytes) same) c.finished.ensures) c.in-Ok.ensures.told

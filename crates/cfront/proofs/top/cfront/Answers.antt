@@ -10,6 +10,6 @@ pub returns-in-Ok : goal.returns-in-Ok
 returns-in-Ok g c =
     let P : List (List ℕ) → Type 0 = λ names. EndsWith (last_line names c.in-Ok.answer.position c.in-Ok.answer.outcome) c.in-Ok.answer.outcome
     c.finished.result (g.E.Sink.stream c.answered.new.err) (g.E.Sink.stream c.finished.new.err) in
-    answers _ _ _ _ _ _ (g.E.Sink.stream c.answered.new.err) _ c.in-Ok.answer.position c.in-Ok.answer.outcome _ c.in-Ok.ensures
-    (words_counts (map string_bytes c.args.words.now.items) default_limits _ _ c.in-Ok.answer.position c.in-Ok.answer.outcome c.in-Ok.ensures)
-    (subst P c.file_names.ensures c.finished.ensures)
+    answers _ _ _ _ _ _ (g.E.Sink.stream c.answered.new.err) (g.E.Sink.stream c.finished.new.err) c.in-Ok.answer.position c.in-Ok.answer.outcome _ c.in-Ok.ensures.leaves
+    (words_counts (map string_bytes c.args.words.now.items) default_limits _ _ c.in-Ok.answer.position c.in-Ok.answer.outcome c.in-Ok.ensures.leaves)
+    (subst P c.file_names.ensures c.finished.ensures) c.in-Ok.ensures.told

@@ -1,4 +1,4 @@
-use Rattle.std.proofs.Common.{◌≡◌, Bool, sym, subst}
+use Rattle.std.proofs.Common.{Bool, sym, subst}
 use Rattle.cc_run.specs.Run.{Leaves, streams}
 use Rattle.cc_run.proofs.GoingLaws.{leaves}
 use Rattle.cc_run.proofs.machine.Machine.run.Goals as goal

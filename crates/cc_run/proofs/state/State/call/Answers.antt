@@ -1,4 +1,4 @@
-use Rattle.std.proofs.Common.{◌≡◌, ◌∙◌, List, map, option_map, Result, Ok, Err, ℕ, ℤ, ap, sym, refl, subst}
+use Rattle.std.proofs.Common.{◌∙◌, List, map, option_map, Ok, ap, sym, refl, subst}
 use Rattle.cc_tree.specs.Plain.{place_of, expression_of}
 use Rattle.cc_tree.specs.Mean.{target_of, values}
 use Rattle.cc_run.specs.declared.mark.Mark.{Mark}
@@ -6,7 +6,7 @@ use Rattle.cc_run.specs.declared.blocks.Cell.{Cell}
 use Rattle.cc_run.specs.Answer.{StopsAt}
 use Rattle.cc_run.specs.Blocks.{memory_of}
 use Rattle.cc_run.specs.Names.{scope_of, place_number}
-use Rattle.cc_run.specs.State.{statements_of, total, calling}
+use Rattle.cc_run.specs.State.{statements_of, total}
 use Rattle.cc_run.proofs.StepLaws.{comes-from}
 use Rattle.cc_run.proofs.CallLaws.{call-ends-target, call-stops, call-goes}
 use Rattle.cc_run.proofs.state.State.call.Goals as goal

@@ -1,4 +1,4 @@
-use Rattle.std.proofs.Common.{◌≡◌, ◌∙◌, List, ℕ, ap, sym, refl, bytes_eq}
+use Rattle.std.proofs.Common.{◌∙◌, ap, sym, refl, bytes_eq}
 use Rattle.cc_tree.specs.Plain.{function_of}
 use Rattle.cc_run.specs.Names.{place_number}
 use Rattle.cc_run.specs.State.{statements_of, calling, putting, entering}

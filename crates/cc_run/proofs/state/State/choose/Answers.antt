@@ -1,4 +1,4 @@
-use Rattle.std.proofs.Common.{rules, FitsSigned, w32, to_z, of_z, to_z-of_z, ◌≡◌, List, subst, sym, ap, ◌∙◌, option_map, pos, Result, Ok, Err, ℕ, ℤ, Option, Some, [], ◌∷◌, ◌++◌}
+use Rattle.std.proofs.Common.{rules, FitsSigned, w32, to_z, of_z, to_z-of_z, ◌≡◌, List, subst, sym, ap, ◌∙◌, option_map, pos, Ok, Option, [], ◌∷◌, ◌++◌}
 use Rattle.cc_run.specs.declared.mark.Mark.TheVariants as mark
 use Rattle.cc_tree.specs.declared.statement.CBody.{CBody}
 use Rattle.cc_tree.specs.Plain.{body_of, expression_of, else_of, Body}

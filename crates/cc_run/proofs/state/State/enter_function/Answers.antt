@@ -1,11 +1,11 @@
-use Rattle.std.proofs.Common.{◌≡◌, ◌∙◌, ◌-◌, List, ℕ, Some, ap, sym, subst, refl}
+use Rattle.std.proofs.Common.{◌∙◌, ◌-◌, List, ℕ, Some, ap, sym, subst, refl}
 use Rattle.cf_base.specs.Event.{Enter}
 use Rattle.cc_tree.specs.Plain.{function_of}
 use Rattle.cc_tree.specs.Mean.{is_helper}
 use Rattle.cc_run.specs.Names.{place_number}
 use Rattle.cc_run.specs.State.{statements_of, entering}
 use Rattle.cc_run.specs.Steps.{StepsOn}
-use Rattle.cc_run.proofs.CallLaws.{enter-arity, enter-nested, enter-helper, enter-ticks, enter-depth, enter-goes}
+use Rattle.cc_run.proofs.CallLaws.{enter-arity, enter-nested, enter-ticks, enter-depth, enter-goes}
 use Rattle.cc_run.proofs.state.State.enter_function.Goals as goal
 
 pub returns-then-len-found : goal.returns-then-len-found

@@ -1,4 +1,4 @@
-use Rattle.std.proofs.Common.{◌≡◌, Ok, refl, ap, ◌∙◌, List, [], ◌∷◌, ◌++◌}
+use Rattle.std.proofs.Common.{Ok, refl, ap, ◌∙◌, [], ◌∷◌, ◌++◌}
 use Rattle.cc_run.specs.declared.mark.Mark.{Mark}
 use Rattle.cc_run.specs.declared.mark.Mark.TheVariants as mark
 use Rattle.cc_run.specs.State.{total, popped}

@@ -1,6 +1,5 @@
-use Rattle.std.proofs.Common.{rules, ◌≡◌, List, [], ◌∷◌, ◌++◌, ℤ, pos, Some, ap, sym, ◌∙◌, refl, FitsSigned, w32, to_z-of_z}
+use Rattle.std.proofs.Common.{rules, List, [], ◌∷◌, ◌++◌, ℤ, Some, ap, ◌∙◌, refl, FitsSigned, w32, to_z-of_z}
 use Rattle.cf_base.specs.Integers.{bits_of}
-use Rattle.cc_tree.specs.Memory.{Memory}
 use Rattle.cc_tree.specs.Mean.{put}
 use Rattle.cc_tree.specs.declared.outcome.Act.TheVariants as act
 use Rattle.cc_run.specs.declared.mark.Mark.{Mark}

@@ -3,7 +3,7 @@ use Rattle.std.specs.List.{list_all}
 use Rattle.cf_functions.specs.Plain.{function_of}
 use Rattle.cf_functions.specs.Rules.{is_plain_main}
 use Rattle.cf_functions_names.specs.Walk.{plain}
-use Rattle.cf_functions_names.proofs.ListLaws.{all_map}
+use Rattle.cf_name_list.proofs.ListLaws.{all_map}
 use Rattle.cf_functions_names.proofs.file.File.all_plain.Goals as goal
 
 pub returns : goal.returns

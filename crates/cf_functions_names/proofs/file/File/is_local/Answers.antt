@@ -1,7 +1,7 @@
 use Rattle.std.proofs.Common.{◌∙◌, ap}
 use Rattle.cf_functions.specs.Rules.{is_in, locals_of}
 use Rattle.cf_functions_names.specs.Walk.{plain}
-use Rattle.cf_functions_names.proofs.ListLaws.{in-reverse}
+use Rattle.cf_name_list.proofs.ListLaws.{in-reverse}
 use Rattle.cf_functions_names.proofs.file.File.is_local.Goals as goal
 
 pub returns : goal.returns

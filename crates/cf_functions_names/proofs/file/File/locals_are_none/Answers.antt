@@ -1,7 +1,7 @@
 use Rattle.std.proofs.Common.{◌∙◌, ap, not, reverse}
 use Rattle.cf_functions.specs.Rules.{is_function, locals_of}
 use Rattle.cf_functions_names.specs.Walk.{plain, file_at}
-use Rattle.cf_functions_names.proofs.ListLaws.{all-last_first}
+use Rattle.cf_name_list.proofs.ListLaws.{all-last_first}
 use Rattle.cf_functions_names.proofs.file.File.locals_are_none.Goals as goal
 
 pub returns : goal.returns

@@ -1,0 +1,25 @@
+use Rattle.std.proofs.Common.{◌≡◌, refl, subst, arith, rules, Ok}
+use Rattle.std.proofs.lemmas.Result.{err_from_is_err_and}
+use Rattle.cc_tokens.specs.declared.mark.Mark.TheVariants as mark
+use Rattle.cc_read.specs.Parse.{past, sees, Fails}
+use Rattle.cc_read.specs.ParseExpression.{ints, expression}
+use Rattle.cc_read.proofs.Steps.{loop_stops, loop_ends, loop_fails, loop_next}
+use Rattle.cc_read.proofs.expression.more_arguments.Goals as goal
+
+pub returns-then-not-sees : goal.returns-then-not-sees
+returns-then-not-sees c = loop_stops (sees mark.Comma) (past (expression ints c.args.depth)) _ _ _ _ _ _ _ _ c.loop-turn.invariant c.len-turn-end.ensures refl (search rules)
+
+pub returns-in_err-next : goal.returns-in_err-next
+returns-in_err-next c =
+    let p = err_from_is_err_and c.from_residual.result c.from_residual.ensures.1 in
+    rw (p.1, p.2)
+    (loop_fails (sees mark.Comma) (past (expression ints c.args.depth)) _ _ _ _ _ _ _ _ c.loop-turn.invariant c.len-turn-end.ensures refl _ (omega arith) (search rules)
+    (subst (λ l. Fails (expression ints c.args.depth l) c.in_err-next.field-0.0) c.skip.ensures c.in_err-next.ensures))
+
+pub loop-turn-preserved : goal.loop-turn-preserved
+loop-turn-preserved c =
+    loop_next (sees mark.Comma) (past (expression ints c.args.depth)) _ _ _ _ _ _ _ _ c.loop-turn.invariant c.len-turn-end.ensures refl c.in_ok-next.next _ _ (omega arith) (search rules)
+    (subst (λ l. expression ints c.args.depth l ≡ Ok (c.in_ok-next.next, c.expression.new.c)) c.skip.ensures c.in_ok-next.ensures) (search rules)
+
+pub returns : goal.returns
+returns c = loop_ends (sees mark.Comma) (past (expression ints c.args.depth)) _ _ _ _ _ _ _ _ c.loop-turn.invariant c.len-turn-end.ensures refl (omega arith)

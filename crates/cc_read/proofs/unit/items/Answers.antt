@@ -1,0 +1,24 @@
+use Rattle.std.proofs.Common.{arith, rules}
+use Rattle.std.proofs.lemmas.Result.{err_from_is_err_and}
+use Rattle.cc_read.specs.Parse.{goes_on}
+use Rattle.cc_read.specs.ParseExpression.{ints}
+use Rattle.cc_read.specs.ParseUnit.{item_by}
+use Rattle.cc_read.proofs.Steps.{loop_stops, loop_ends, loop_fails, loop_next}
+use Rattle.cc_read.proofs.unit.items.Goals as goal
+
+pub returns-then-is_end : goal.returns-then-is_end
+returns-then-is_end c = loop_stops goes_on (item_by ints) _ _ _ _ _ _ _ _ c.loop-turn.invariant c.len-turn-end.ensures c.new-found.ensures (search rules)
+
+pub returns-in_err-item : goal.returns-in_err-item
+returns-in_err-item c =
+    let p = err_from_is_err_and c.from_residual.result c.from_residual.ensures.1 in
+    rw (p.1, p.2)
+    (loop_fails goes_on (item_by ints) _ _ _ _ _ _ _ _ c.loop-turn.invariant c.len-turn-end.ensures c.new-found.ensures _ (omega arith) (search rules) c.in_err-item.ensures)
+
+pub loop-turn-preserved : goal.loop-turn-preserved
+loop-turn-preserved c =
+    loop_next goes_on (item_by ints) _ _ _ _ _ _ _ _ c.loop-turn.invariant c.len-turn-end.ensures c.new-found.ensures _ _ _ (omega arith) (search rules)
+    c.in_ok-item.ensures (search rules)
+
+pub returns : goal.returns
+returns c = loop_ends goes_on (item_by ints) _ _ _ _ _ _ _ _ c.loop-turn.invariant c.len-turn-end.ensures c.new-found.ensures (omega arith)

@@ -1,0 +1,3 @@
+mod ItemLaws
+mod NameLaws
+mod TableLaws

@@ -1,0 +1,3 @@
+mod CountLaws
+pub mod Differ
+pub mod ListLaws
