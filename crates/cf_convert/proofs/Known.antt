@@ -1,5 +1,5 @@
 -- Types of a table name types of the table.
-use Rattle.std.proofs.Common.{ℕ, ◌<◌, ◌≤◌, arith}
+use Rattle.std.proofs.Common.{ℕ, ◌≤◌, arith}
 use Rattle.cf_types.specs.declared.ty.Ty.{Ty}
 use Rattle.cf_types.specs.declared.ty.Ty.TheVariants as ty
 use Rattle.cf_types.specs.Table.{NamesBelow}

@@ -1,3 +1,4 @@
+pub mod Constness
 pub mod ConversionExamples
 pub mod Known
 pub mod Steps

@@ -1,9 +1,9 @@
 -- Steps that are added to those so far.
-use Rattle.std.proofs.Common.{◌≡◌, ℕ, ◌≤◌, max, Bool, true, false, ◌&&◌, ◌==◌, if◌then◌else◌, List, [], ◌∷◌, ◌++◌, Option, None, Some, Result, IfOk, refl, sym, ap, subst, arith, append_assoc}
+use Rattle.std.proofs.Common.{◌≡◌, ◌≤◌, Bool, true, false, ◌&&◌, if◌then◌else◌, List, [], ◌∷◌, ◌++◌, Option, None, Some, Result, IfOk, refl, ap, subst, arith, append_assoc}
 use Rattle.std.specs.Option.{option_map}
 use Rattle.cf_convert.specs.declared.conv.ConvStep.{ConvStep}
 use Rattle.cf_convert.specs.declared.conv.ConvStep.TheVariants.{AddConst}
-use Rattle.cf_convert.specs.Converts.{with_const, same_then, rank, step_rank}
+use Rattle.cf_convert.specs.Converts.{with_const, same_then, rank}
 
 -- a conversion's rank is at least 1
 pub rank_some : (ss : List ConvStep) → 1 ≤ rank ss

@@ -1,7 +1,7 @@
 -- Implicit conversions without a user's function (4, 13.2).
-use Rattle.std.specs.Prelude.{ℕ, Bool, true, false, not, ◌==◌, ◌&&◌, ◌||◌, nat_lt, max, if◌then◌else◌, List, [], ◌∷◌, ◌++◌, Option, None, Some, slice_get, unwrap_or}
+use Rattle.std.specs.Prelude.{ℕ, Bool, true, false, ◌==◌, ◌&&◌, max, if◌then◌else◌, List, [], ◌∷◌, ◌++◌, Option, None, Some}
 use Rattle.std.specs.List.{find, list_any}
-use Rattle.std.specs.Option.{option_map, option_map_or, option_or}
+use Rattle.std.specs.Option.{option_map, option_or}
 use Rattle.cf_base.specs.declared.kind.Kind.{Kind}
 use Rattle.cf_base.specs.declared.kind.Kind.TheVariants as kind
 use Rattle.cf_base.specs.contracts.kind.KindPartialEq.TheImpl.{ghosts}
@@ -13,29 +13,11 @@ use Rattle.cf_classes.specs.declared.path.Step.{Step}
 use Rattle.cf_classes.specs.declared.path.Step.TheVariants.{Base, VBase}
 use Rattle.cf_classes.specs.declared.class.ClassDef.{ClassDef}
 use Rattle.cf_classes.specs.Subobject.{paths, class_at}
+use Rattle.cf_convert.specs.Constness.{type_at, is_const, bare, is_alike}
 use Rattle.cf_convert.specs.declared.conv.Val.{Val}
 use Rattle.cf_convert.specs.declared.conv.Conv.{Conv}
 use Rattle.cf_convert.specs.declared.conv.ConvStep.{ConvStep}
 use Rattle.cf_convert.specs.declared.conv.ConvStep.TheVariants.{Read, Decay, AddConst, Promote, Integer, Null, ToVoid, ToBase, ToMember}
-
--- a type by its number
-abbrev pub type_at : Table → ℕ → Ty
-type_at types t = unwrap_or (slice_get types.types t) ty.Void
-
-abbrev const_ty : Ty → Bool
-const_ty (ty.Const t) = true
-const_ty other = false
-
-abbrev pub is_const : Table → ℕ → Bool
-is_const types t = const_ty (type_at types t)
-
-abbrev inside_const : ℕ → Ty → ℕ
-inside_const t (ty.Const u) = u
-inside_const t other = t
-
--- the type without a const of its own
-abbrev pub bare : Table → ℕ → ℕ
-bare types t = inside_const t (type_at types t)
 
 -- the first path to a base of this class
 abbrev leads_to : List (ℕ × ClassDef) → ℕ → ℕ → List Step → Bool
@@ -82,15 +64,13 @@ with_const true true steps = steps
 with_const false false steps = steps
 with_const false true steps = option_map (λ s. s ++ AddConst ∷ []) steps
 
--- what a pointer leads to, without const, to what another does
+-- what a pointer leads to, but for const, to what another does
 abbrev pub pointee : Table → List (ℕ × ClassDef) → ℕ → ℕ → Option (List ConvStep)
-pointee types defs t u = if t == u then Some [] else pointed defs (type_at types t) (type_at types u)
+pointee types defs t u = if is_alike types t u then Some [] else pointed defs (type_at types (bare types t)) (type_at types (bare types u))
 
 -- a pointer to t to a pointer to u
 abbrev pub to_pointer : Table → List (ℕ × ClassDef) → ℕ → ℕ → Option (List ConvStep)
-to_pointer types defs t u =
-    with_const (is_const types t) (is_const types u)
-    (if bare types t == bare types u then Some [] else pointed defs (type_at types (bare types t)) (type_at types (bare types u)))
+to_pointer types defs t u = with_const (is_const types t) (is_const types u) (pointee types defs t u)
 
 abbrev pub same_then : Bool → Option (List ConvStep) → Option (List ConvStep)
 same_then true steps = steps
@@ -107,7 +87,7 @@ value_steps types defs (ty.Enum e) (ty.Enum f) = if e == f then Some [] else Non
 value_steps types defs (ty.Class c) (ty.Class d) = to_class defs c d
 value_steps types defs (ty.Ptr t) (ty.Ptr u) = to_pointer types defs t u
 value_steps types defs (ty.MemData c t) (ty.MemData d u) =
-    with_const (is_const types t) (is_const types u) (same_then (bare types t == bare types u) (class_of_member defs c d))
+    with_const (is_const types t) (is_const types u) (same_then (is_alike types t u) (class_of_member defs c d))
 value_steps types defs (ty.MemFun c f) (ty.MemFun d g) = same_then (f == g) (class_of_member defs c d)
 value_steps types defs t u = None
 
@@ -136,22 +116,33 @@ to_value types defs v u =
     let target = type_at types u in
     option_map (λ s. first_step v.lvalue from ++ s) (if v.zero && takes_null target then Some (Null ∷ []) else value_steps types defs (decayed t from) target)
 
--- what a reference is bound to without a temporary: an lvalue of the class or of one derived from it, or of the same type
+-- what a reference is bound to without a temporary: an lvalue of the same type but for const, or of a class derived from it
+abbrev referred_class : List (ℕ × ClassDef) → Ty → Ty → Option (List ConvStep)
+referred_class defs (ty.Class c) (ty.Class d) = to_base (base_path defs c d)
+referred_class defs a b = None
+
 abbrev pub referred : Table → List (ℕ × ClassDef) → ℕ → ℕ → Option (List ConvStep)
-referred types defs t u = if t == u then Some [] else referred_class (type_at types t) (type_at types u)
-  where
-    referred_class : Ty → Ty → Option (List ConvStep)
-    referred_class (ty.Class c) (ty.Class d) = to_base (base_path defs c d)
-    referred_class a b = None
+referred types defs t u = if is_alike types t u then Some [] else referred_class defs (type_at types (bare types t)) (type_at types (bare types u))
 
 abbrev pub binds : Table → List (ℕ × ClassDef) → Val → ℕ → Option (List ConvStep)
-binds types defs v u =
-    if v.lvalue then with_const (is_const types v.ty) (is_const types u) (referred types defs (bare types v.ty) (bare types u)) else None
+binds types defs v u = if v.lvalue then with_const (is_const types v.ty) (is_const types u) (referred types defs v.ty u) else None
+
+abbrev pub is_add_const : ConvStep → Bool
+is_add_const AddConst = true
+is_add_const other = false
+
+-- whether const is added
+abbrev pub adds_const : List ConvStep → Bool
+adds_const steps = list_any is_add_const steps
+
+-- const is added for the temporary too, and once in all
+abbrev pub through_temporary : List ConvStep → List ConvStep
+through_temporary steps = if adds_const steps then steps else steps ++ AddConst ∷ []
 
 -- else a temporary is made, for a reference to const alone
 abbrev pub to_reference : Table → List (ℕ × ClassDef) → Val → ℕ → Option (List ConvStep)
 to_reference types defs v u =
-    option_or (binds types defs v u) (if is_const types u then option_map (λ s. s ++ AddConst ∷ []) (to_value types defs v (bare types u)) else None)
+    option_or (binds types defs v u) (if is_const types u then option_map through_temporary (to_value types defs v (bare types u)) else None)
 
 abbrev to_type : Table → List (ℕ × ClassDef) → Val → ℕ → Ty → Option (List ConvStep)
 to_type types defs v to (ty.Ref u) = to_reference types defs v u
@@ -183,37 +174,3 @@ conversion steps = record { rank = rank steps; steps = steps }
 -- the conversion of ranks 1 to 3 of a value to a type
 abbrev pub converts : Table → List (ℕ × ClassDef) → Val → ℕ → Option Conv
 converts types defs v to = option_map conversion (steps types defs v to)
-
--- Which of two conversions of one value is better (13.2).
-abbrev adds_const : List ConvStep → Bool
-adds_const [] = false
-adds_const (AddConst ∷ ss) = true
-adds_const (s ∷ ss) = adds_const ss
-
-abbrev is_base_of : List (ℕ × ClassDef) → ℕ → ℕ → Bool
-is_base_of defs b c = option_map_or (λ p. true) (base_path defs c b) false
-
--- the base or the `void*` that a conversion goes to
-abbrev aim : List ConvStep → Option ConvStep
-aim [] = None
-aim (ToBase p ∷ ss) = Some (ToBase p)
-aim (ToVoid ∷ ss) = Some ToVoid
-aim (s ∷ ss) = aim ss
-
--- of two aims of a value of class c, the base that is derived from the other is nearer, and any base is nearer than `void*`
-abbrev is_nearer : List (ℕ × ClassDef) → ℕ → Option ConvStep → Option ConvStep → Bool
-is_nearer defs c (Some (ToBase p)) (Some (ToBase q)) = is_base_of defs (class_at defs c q) (class_at defs c p)
-is_nearer defs c (Some (ToBase p)) (Some ToVoid) = true
-is_nearer defs c a b = false
-
--- a lower rank; then less const; then the nearer base, and any base before `void*`
-abbrev pub is_better : List (ℕ × ClassDef) → ℕ → List ConvStep → List ConvStep → Bool
-is_better defs c x y =
-    if nat_lt (rank x) (rank y) then true
-    else (if nat_lt (rank y) (rank x) then false
-    else (if not (adds_const x) && adds_const y then true
-    else (if adds_const x && not (adds_const y) then false else is_nearer defs c (aim x) (aim y))))
-
--- for pointers to members of one class, with the classes of their targets, the class nearer to the value's is better
-abbrev pub is_better_member : List (ℕ × ClassDef) → ℕ → ℕ → Bool
-is_better_member defs d e = is_base_of defs d e

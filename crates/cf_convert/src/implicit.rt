@@ -6,7 +6,7 @@ ghost use Rattle.cf_convert.specs.Converts as converts;
 ghost use Rattle.cf_convert.specs.DataMember.{data_member_steps};
 
 use crate::conv::{Conv, ConvStep, Val};
-use crate::types::{bare, decayed, is_const, takes_null, type_at};
+use crate::types::{bare, decayed, is_alike, is_const, takes_null, type_at};
 use cf_base::{Items, Kind, Memory};
 use cf_classes::Classes;
 use cf_types::{ClassId, FunId, Ty, TyId, Types, promote};
@@ -84,19 +84,68 @@ fn to_reference(
     requires to_known { to < length types.now.types }
     ensures { IfOk result (λ steps. steps ≡ converts.to_reference types.now [] from.now to) }
 {
-    let adds_const = is_const(types, to);
-    if from.lvalue && bare(types, from.ty) == bare(types, to) {
+    match bound(alloc, types, from, to)? {
+        Some(steps) => Ok(Some(steps)),
+        None => {
+            if is_const(types, to) {
+                let steps = to_value(alloc, types, from, bare(types, to))?;
+                through_temporary(steps)
+            } else {
+                Ok(None)
+            }
+        }
+    }
+}
+
+/// To a reference to this type, without a temporary.
+fn bound(
+    alloc: Global,
+    types: &Types,
+    from: &Val,
+    to: TyId,
+) -> Result<Option<Items<ConvStep>>, Memory>
+    requires from_known { from.now.ty < length types.now.types }
+    requires to_known { to < length types.now.types }
+    ensures { IfOk result (λ steps. steps ≡ converts.binds types.now [] from.now to) }
+{
+    if from.lvalue && is_alike(types, from.ty, to) {
         with_const(
             Some(Items::new(alloc)),
             is_const(types, from.ty),
-            adds_const,
+            is_const(types, to),
         )
-    } else if adds_const {
-        let steps = to_value(alloc, types, from, bare(types, to))?;
-        with_const(steps, false, true)
     } else {
         Ok(None)
     }
+}
+
+/// Const is added for a temporary, and once in all.
+fn through_temporary(steps: Option<Items<ConvStep>>) -> Result<Option<Items<ConvStep>>, Memory>
+    ensures { IfOk result (λ r. r ≡ option_map converts.through_temporary steps) }
+{
+    match steps {
+        Some(steps) => {
+            if adds_const(steps.as_slice()) {
+                Ok(Some(steps))
+            } else {
+                followed_by(steps, ConvStep::AddConst)
+            }
+        }
+        None => Ok(None),
+    }
+}
+
+/// Whether const is added.
+fn adds_const(steps: &[ConvStep]) -> bool
+    ensures { result ≡ converts.adds_const steps.now }
+{
+    steps.iter().any(is_add_const)
+}
+
+fn is_add_const(step: &ConvStep) -> bool
+    ensures { result ≡ converts.is_add_const step.now }
+{
+    matches!(step, ConvStep::AddConst)
 }
 
 /// The steps and one more.
@@ -271,7 +320,7 @@ fn to_data_member(
     requires to_known { to < length types.now.types }
     ensures { IfOk result (λ r. r ≡ option_map (λ s. steps ++ s) (data_member_steps types.now is_same_class from to)) }
 {
-    let is_same_type = bare(types, from).number() == bare(types, to).number();
+    let is_same_type = is_alike(types, from, to);
     let steps = unchanged_if(steps, is_same_class && is_same_type)?;
     with_const(steps, is_const(types, from), is_const(types, to))
 }
@@ -313,11 +362,11 @@ fn to_pointer(
     requires to_known { to < length types.now.types }
     ensures { IfOk result (λ r. r ≡ option_map (λ s. steps ++ s) (converts.to_pointer types.now [] from to)) }
 {
-    let steps = pointee(types, steps, bare(types, from), bare(types, to))?;
+    let steps = pointee(types, steps, from, to)?;
     with_const(steps, is_const(types, from), is_const(types, to))
 }
 
-/// What a pointer leads to, without const, to what another does.
+/// What a pointer leads to, but for const, to what another does.
 fn pointee(
     types: &Types,
     steps: Items<ConvStep>,
@@ -328,10 +377,12 @@ fn pointee(
     requires to_known { to < length types.now.types }
     ensures { IfOk result (λ r. r ≡ option_map (λ s. steps ++ s) (converts.pointee types.now [] from to)) }
 {
-    if from.number() == to.number() {
+    if is_alike(types, from, to) {
         Ok(Some(steps))
     } else {
-        pointed(steps, type_at(types, from), type_at(types, to))
+        let source = type_at(types, bare(types, from));
+        let target = type_at(types, bare(types, to));
+        pointed(steps, source, target)
     }
 }
 

@@ -1,5 +1,6 @@
 ghost use Rattle.std.specs.Prelude.{◌≡◌, ℕ, ◌<◌, length};
 ghost use Rattle.cf_types.specs.Table.{NamesBelow};
+ghost use Rattle.cf_convert.specs.Constness as constness;
 ghost use Rattle.cf_convert.specs.Converts as converts;
 
 use cf_types::{Ty, TyId, Types};
@@ -8,24 +9,46 @@ use cf_types::{Ty, TyId, Types};
 #[tactic(auto, using(crate::proofs::Known::names_more))]
 pub(crate) fn type_at(types: &Types, id: TyId) -> &Ty
     requires { id < length types.now.types }
-    ensures value { result.now ≡ converts.type_at types.now id }
+    ensures value { result.now ≡ constness.type_at types.now id }
     ensures known { NamesBelow (length types.now.types) result.now }
 {
     types.get(id)
 }
 
-/// Whether the type is const.
+/// Whether objects of the type are const; const of an array is that of its elements (7.1.6).
 pub(crate) fn is_const(types: &Types, id: TyId) -> bool
     requires { id < length types.now.types }
-    ensures { result ≡ converts.is_const types.now id }
+    ensures { result ≡ constness.is_const types.now id }
 {
-    matches!(type_at(types, id), Ty::Const(_))
+    match types.get(id) {
+        Ty::Const(_) => true,
+        Ty::Array(element, _) => is_const(types, *element),
+        _ => false,
+    }
 }
 
-/// The type without a const of its own.
+/// Whether two types are the same but for const on them or, where they are arrays, on their elements.
+pub(crate) fn is_alike(types: &Types, id: TyId, other: TyId) -> bool
+    requires first { id < length types.now.types }
+    requires second { other < length types.now.types }
+    ensures { result ≡ constness.is_alike types.now id other }
+{
+    match types.get(id) {
+        Ty::Const(inside) => is_alike(types, *inside, other),
+        Ty::Array(element, count) => match type_at(types, bare(types, other)) {
+            Ty::Array(element_2, count_2) => {
+                *count == *count_2 && is_alike(types, *element, *element_2)
+            }
+            _ => false,
+        },
+        _ => id == bare(types, other),
+    }
+}
+
+/// The type without a const that stands on it.
 pub(crate) fn bare(types: &Types, id: TyId) -> TyId
     requires { id < length types.now.types }
-    ensures value { result ≡ converts.bare types.now id }
+    ensures value { result ≡ constness.bare types.now id }
     ensures known { result < length types.now.types }
 {
     match type_at(types, id) {

@@ -1,5 +1,5 @@
 -- The table of types stays one as it grows.
-use Rattle.std.proofs.Common.{◌≡◌, ℕ, ◌<◌, ◌≤◌, ◌+◌, ◌^◌, inl, inr, List, [], ◌∷◌, ◌++◌, length, Some, slice_get, get_or, position, if◌then◌else◌, Bool, true, false, refl, sym, ap, ◌∙◌, subst, All, arith, length-append}
+use Rattle.std.proofs.Common.{◌≡◌, ℕ, ◌<◌, ◌≤◌, ◌+◌, ◌^◌, inl, inr, List, [], ◌∷◌, ◌++◌, length, Some, slice_get, get_or, position, if◌then◌else◌, Bool, true, false, refl, sym, ap, ◌∙◌, subst, All, Option, None, IsTrue, true≢false, arith, length-append}
 use Rattle.std.proofs.lemmas.Option.{slice_get-get_or, slice_get_within}
 use Rattle.std.proofs.lemmas.List.Quantifiers.{position-Some}
 use Rattle.std.specs.List.{list_any}
@@ -8,7 +8,7 @@ use Rattle.indexmap.specs.IndexSet.{insert_key}
 use Rattle.cf_types.specs.declared.ty.Ty.{Ty}
 use Rattle.cf_types.specs.declared.ty.Ty.TheVariants as ty
 use Rattle.cf_types.specs.declared.ty.Fun.{Fun}
-use Rattle.cf_types.specs.Table.{Table, IsTable, Names, NamesBelow, parts, parts_of_fun, fun_in, fun_parts, HasOnce, Enters}
+use Rattle.cf_types.specs.Table.{Table, IsTable, Names, NamesBelow, parts, parts_of_fun, fun_in, fun_parts, HasOnce, Enters, AreParameters, passes, passing, is_normal, is_parameter, takes_const}
 use Rattle.cf_types.proofs.Places.{get-left, get-front, get-last, get-snoc, HasOnce-snoc, Enters-old, Enters-new, absent_from_any}
 
 -- a list that was not full has grown by an item that it did not have
@@ -45,7 +45,31 @@ Names-longer funs u i v h = record {
   fun_known = λ k d w. omega (arith, h.fun_known k d w, length-append funs (u ∷ []));
 }
 
-module _ (t : Table) (u : Ty) (old : IsTable t) (names : Names t.funs (length t.types) (length t.funs) u) where
+-- a type passes a test in a longer table too
+passes-longer : (test : Ty → Bool) (types : List Ty) (u : Ty) (t : ℕ) → IsTrue (passes test types t) → IsTrue (passes test (types ++ u ∷ []) t)
+passes-longer test types u t h = by (slice_get types t) refl h
+  where
+    by : (o : Option Ty) → slice_get types t ≡ o → IsTrue (passing test o) → IsTrue (passes test (types ++ u ∷ []) t)
+    by None e k = absurd (true≢false (sym k))
+    by (Some v) e k = ap (passing test) (get-left types (u ∷ []) t v e) ∙ k
+
+normal-longer : (types : List Ty) (u v : Ty) → IsTrue (is_normal types v) → IsTrue (is_normal (types ++ u ∷ []) v)
+normal-longer types u (ty.Const t) h = passes-longer takes_const types u t h
+normal-longer types u ty.Void h = refl
+normal-longer types u (ty.Int k) h = refl
+normal-longer types u (ty.Enum e) h = refl
+normal-longer types u (ty.Class c) h = refl
+normal-longer types u (ty.Ptr t) h = refl
+normal-longer types u (ty.Ref t) h = refl
+normal-longer types u (ty.Array t n) h = refl
+normal-longer types u (ty.Fun f) h = refl
+normal-longer types u (ty.MemData c t) h = refl
+normal-longer types u (ty.MemFun c f) h = refl
+
+parameters-longer : (types : List Ty) (u : Ty) (params : List ℕ) → AreParameters types params → AreParameters (types ++ u ∷ []) params
+parameters-longer types u params h = λ k d w. passes-longer is_parameter types u (get_or params k d) (h k d w)
+
+module _ (t : Table) (u : Ty) (old : IsTable t) (normal : IsTrue (is_normal t.types u)) (names : Names t.funs (length t.types) (length t.funs) u) where
   with_type : ((i : ℕ) → slice_get t.types i ≡ Some u → ⊥) → length t.types < 2 ^ 32 → IsTable (record { types = t.types ++ u ∷ []; funs = t.funs })
   with_type absent room = record {
     earlier = λ i v h. elim (get-snoc t.types u i v h) [
@@ -53,6 +77,11 @@ module _ (t : Table) (u : Ty) (old : IsTable t) (names : Names t.funs (length t.
       | inr b ↦ let P = λ (n : ℕ). λ (w : Ty). Names t.funs n (length t.funs) w in subst (λ n. P n v) (sym b.0) (subst (P (length t.types)) b.1 names)
     ];
     known = λ f fun h k d w. omega (arith, old.known f fun h k d w, length-append t.types (u ∷ []));
+    normal = λ i v h. elim (get-snoc t.types u i v h) [
+      | inl a ↦ normal-longer t.types u v (old.normal i v a)
+      | inr b ↦ subst (λ w. IsTrue (is_normal (t.types ++ u ∷ []) w)) b.1 (normal-longer t.types u u normal)
+    ];
+    parameters = λ f fun h. parameters-longer t.types u fun.params (old.parameters f fun h);
     one_number = HasOnce-snoc t.types u absent old.one_number;
     one_fun_number = old.one_fun_number;
     types_fit = omega (arith, length-append t.types (u ∷ []));
@@ -68,13 +97,18 @@ module _ (t : Table) (u : Ty) (old : IsTable t) (names : Names t.funs (length t.
         (with_type (absent_before t.types new u i enters grown) (room_before t.types new u grown fits))
   ]
 
-module _ (t : Table) (u : Fun) (old : IsTable t) (names : All (λ p. p < length t.types) (fun_parts u)) where
+module _ (t : Table) (u : Fun) (old : IsTable t) (names : All (λ p. p < length t.types) (fun_parts u)) (params : AreParameters t.types u.params) where
   with_fun : ((i : ℕ) → slice_get t.funs i ≡ Some u → ⊥) → length t.funs < 2 ^ 32 → IsTable (record { types = t.types; funs = t.funs ++ u ∷ [] })
   with_fun absent room = record {
     earlier = λ i v h. Names-longer t.funs u i v (old.earlier i v h);
     known = λ f fun h. elim (get-snoc t.funs u f fun h) [
       | inl a ↦ old.known f fun a
       | inr b ↦ subst (λ v. All (λ p. p < length t.types) (fun_parts v)) b.1 names
+    ];
+    normal = old.normal;
+    parameters = λ f fun h. elim (get-snoc t.funs u f fun h) [
+      | inl a ↦ old.parameters f fun a
+      | inr b ↦ subst (λ (v : Fun). AreParameters t.types v.params) b.1 params
     ];
     one_number = old.one_number;
     one_fun_number = HasOnce-snoc t.funs u absent old.one_fun_number;

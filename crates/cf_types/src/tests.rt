@@ -35,3 +35,15 @@ fn function_types_are_kept(rt: HostRuntime) -> Result<(), Fail> {
     assert_eq!(rt; types.get_fun(id).result, result);
     Ok(())
 }
+
+#[test]
+fn const_stands_where_it_may(rt: HostRuntime) -> Result<(), Fail> {
+    let mut types = Types::new(rt.alloc());
+    let int = types.intern(Ty::Int(Kind::Int)).ok().ok_or("memory")?;
+    assert!(rt; types.takes_const(int) && types.is_parameter(int));
+    let constant = types.intern(Ty::Const(int)).ok().ok_or("memory")?;
+    assert!(rt; !types.takes_const(constant) && !types.is_parameter(constant));
+    let array = types.intern(Ty::Array(constant, 3)).ok().ok_or("memory")?;
+    assert!(rt; !types.takes_const(array) && !types.is_parameter(array));
+    Ok(())
+}

@@ -1,5 +1,7 @@
 ghost use Rattle.std.specs.Prelude.{◌≡◌, ℕ, ◌+◌, ◌<◌, ◌≤◌, ◌^◌, List, [], ◌∷◌, ◌++◌, length, slice_get, Some, Contains, All, IfOk, OnOk, OnErr, true};
-ghost use Rattle.cf_types.specs.Table.{Names, NamesBelow, Enters, HasOnce, fun_parts};
+ghost use Rattle.std.specs.Bool.{IsTrue};
+ghost use Rattle.cf_types.specs.Table.{Names, NamesBelow, Enters, HasOnce, fun_parts, AreParameters, is_normal, passes};
+ghost use Rattle.cf_types.specs.Table as table;
 
 use crate::ids::{FunId, TyId};
 use crate::ty::{Fun, Ty};
@@ -55,9 +57,33 @@ impl Types {
         &self.funs.as_slice()[id.number() as usize]
     }
 
-    /// The number of a type, which the table has afterwards.
+    /// Whether const may stand on the type of this number: not on a const, an array, a reference or a function (7.1.6).
+    pub fn takes_const(&self, id: TyId) -> bool
+        requires { id < length self.now.types }
+        ensures { result ≡ passes table.takes_const self.now.types id }
+    {
+        !matches!(
+            self.get(id),
+            Ty::Ref(_) | Ty::Array(_, _) | Ty::Fun(_) | Ty::Const(_)
+        )
+    }
+
+    /// Whether a parameter has the type of this number in the type of its function: it is not const itself, and no array, function or `void`
+    /// (8.2.5).
+    pub fn is_parameter(&self, id: TyId) -> bool
+        requires { id < length self.now.types }
+        ensures { result ≡ passes table.is_parameter self.now.types id }
+    {
+        !matches!(
+            self.get(id),
+            Ty::Void | Ty::Array(_, _) | Ty::Fun(_) | Ty::Const(_)
+        )
+    }
+
+    /// The number of a type, which the table has afterwards. Const stands in it only where it may.
     pub fn intern(&mut self, ty: Ty) -> Result<TyId, Memory>
         requires known { Names self.old.funs (length self.old.types) (length self.old.funs) ty }
+        requires normal { IsTrue (is_normal self.old.types ty) }
         ensures ok { IfOk result (Enters self.old.types self.new.types ty) }
         ensures funs { self.new.funs ≡ self.old.funs }
         ensures err { OnErr result (self.new ≡ self.old) }
@@ -66,9 +92,10 @@ impl Types {
         Ok(TyId::new(place))
     }
 
-    /// The number of a function type, which the table has afterwards.
+    /// The number of a function type, which the table has afterwards. Its parameters have their types as the type of a function has them.
     pub fn intern_fun(&mut self, fun: Fun) -> Result<FunId, Memory>
         requires known { All (λ t. t < length self.old.types) (fun_parts fun) }
+        requires parameters { AreParameters self.old.types fun.params }
         ensures ok { IfOk result (Enters self.old.funs self.new.funs fun) }
         ensures types { self.new.types ≡ self.old.types }
         ensures err { OnErr result (self.new ≡ self.old) }
