@@ -1,14 +1,13 @@
 -- Small classes on which the definitions are tried by evaluation.
-use Rattle.std.proofs.Common.{ℕ, Bool, true, false, List, [], ◌∷◌, Option, None, codes}
+use Rattle.std.proofs.Common.{ℕ, true, false, List, [], ◌∷◌, codes}
 use Rattle.cf_base.specs.declared.kind.Kind.TheVariants as kind
-use Rattle.cf_types.specs.declared.ty.Ty.{Ty}
 use Rattle.cf_types.specs.declared.ty.Ty.TheVariants as ty
-use Rattle.cf_types.specs.declared.ty.Fun.{Fun}
 use Rattle.cf_types.specs.Table.{Table}
 use Rattle.cf_classes.specs.declared.class.ClassDef.{ClassDef}
 use Rattle.cf_classes.specs.declared.class.BaseDef.{BaseDef}
 use Rattle.cf_classes.specs.declared.class.MemberDef.{MemberDef}
 use Rattle.cf_classes.specs.declared.class.What.TheVariants as what
+use Rattle.cf_classes.specs.Signature.{Signature}
 use Rattle.cf_classes.specs.declared.class.Access.TheVariants as access
 
 -- the types by number: 0 char, 1 int, 2 void, 3 `int()`, 4 `const char`, 5 `const char*`, 6 `int() const`, 7 to 10 the classes 0 to 3, 11 `const int`, 12 an array of three of class 0
@@ -44,8 +43,18 @@ plain name = record (field name 3) { what = what.Function; is_inline = true }
 abbrev pub virtual_function : List ℕ → MemberDef
 virtual_function name = record (plain name) { is_virtual = true }
 
+abbrev pub pure_function : List ℕ → MemberDef
+pure_function name = record (virtual_function name) { is_pure = true; is_inline = false }
+
+-- the signature of a function of type `int()`
+abbrev pub function_named : List ℕ → Signature
+function_named name = record { name = name; params = []; is_const = false }
+
 abbrev pub destructor : MemberDef
 destructor = record (plain (codes "__dt")) { what = what.Destructor }
+
+abbrev pub virtual_destructor : MemberDef
+virtual_destructor = record destructor { is_virtual = true }
 
 abbrev pub constructor : MemberDef
 constructor = record (plain (codes "__ct")) { what = what.Constructor }

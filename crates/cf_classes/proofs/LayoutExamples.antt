@@ -1,15 +1,14 @@
 -- Sizes and offsets of small classes, by evaluation.
 use Rattle.std.proofs.Common.{◌≡◌, ℕ, List, [], ◌∷◌, refl, codes}
-use Rattle.cf_classes.specs.declared.path.Step.{Step}
-use Rattle.cf_classes.specs.declared.path.Step.TheVariants.{Base, VBase}
+use Rattle.cf_classes.specs.declared.path.Step.TheVariants.{Base}
 use Rattle.cf_classes.specs.declared.class.ClassDef.{ClassDef}
-use Rattle.cf_classes.specs.Layout.{layout, extent, offset, Placed, BasePart, TablePointer, BasePointer, Field, VirtualPart}
+use Rattle.cf_classes.specs.Layout.{layout, extent, offset, BasePart, TablePointer, BasePointer, Field, VirtualPart}
 use Rattle.cf_classes.specs.Overrider as override
 use Rattle.cf_classes.specs.Overrider.{over}
-use Rattle.cf_classes.proofs.Examples.{types, field, plain, virtual_function, from, virtual_from, struct_of}
+use Rattle.cf_classes.proofs.Examples.{types, field, function_named, plain, virtual_function, from, virtual_from, struct_of}
 
 -- `struct A{char c;virtual int f();};struct B{int b;};struct C:A,B{char d;};`
-abbrev two_bases : List (ℕ × ClassDef)
+abbrev pub two_bases : List (ℕ × ClassDef)
 two_bases =
     (2, struct_of (from 0 ∷ from 1 ∷ []) (field (codes "d") 0 ∷ [])) ∷ (1, struct_of [] (field (codes "b") 1 ∷ []))
     ∷ (0, struct_of [] (field (codes "c") 0 ∷ virtual_function (codes "f") ∷ [])) ∷ []
@@ -41,7 +40,7 @@ size_of_small_virtual_base : extent types ((1, struct_of (virtual_from 0 ∷ [])
 size_of_small_virtual_base = refl
 
 -- `struct A{virtual int f();int a;};struct B{virtual int g();int b;};struct C:A,B{int c;int g();};`
-abbrev two_tables : List (ℕ × ClassDef)
+abbrev pub two_tables : List (ℕ × ClassDef)
 two_tables =
     (2, struct_of (from 0 ∷ from 1 ∷ []) (field (codes "c") 1 ∷ plain (codes "g") ∷ [])) ∷ (1, struct_of [] (virtual_function (codes "g") ∷ field (codes "b") 1 ∷ []))
     ∷ (0, struct_of [] (virtual_function (codes "f") ∷ field (codes "a") 1 ∷ [])) ∷ []
@@ -53,7 +52,7 @@ second_base_at_eight : offset types two_tables 2 (Base 1 ∷ []) ≡ 8
 second_base_at_eight = refl
 
 -- the function of the second base is overridden by the whole object's
-second_base_overridden : over types two_tables 2 (Base 1 ∷ []) (virtual_function (codes "g")) ≡ override.One [] (record { class = 2; index = 1 })
+second_base_overridden : over types two_tables 2 (Base 1 ∷ []) (function_named (codes "g")) ≡ override.One [] (record { class = 2; index = 1 })
 second_base_overridden = refl
 
 -- an empty class has 1 byte, and an array of three 3

@@ -1,6 +1,10 @@
+pub mod Decode
+pub mod EntityExamples
 pub mod Examples
 pub mod LayoutExamples
 pub mod LookupExamples
 pub mod NameExamples
+pub mod OverriderExamples
+pub mod SlotExamples
 pub mod TypeSizes
 pub mod Trees

@@ -1,14 +1,12 @@
 -- Paths, lookup, overriders and special functions of small classes, by evaluation.
-use Rattle.std.proofs.Common.{◌≡◌, ℕ, Bool, true, false, List, [], ◌∷◌, refl, codes}
-use Rattle.cf_classes.specs.declared.path.Step.{Step}
+use Rattle.std.proofs.Common.{◌≡◌, false, [], ◌∷◌, refl, codes}
 use Rattle.cf_classes.specs.declared.path.Step.TheVariants.{Base, VBase}
-use Rattle.cf_classes.specs.declared.class.ClassDef.{ClassDef}
-use Rattle.cf_classes.specs.Subobject.{paths, virtual_bases}
-use Rattle.cf_classes.specs.Lookup.{Look, One, Nothing, Many, found}
+use Rattle.cf_classes.specs.Subobject.{paths}
+use Rattle.cf_classes.specs.Lookup.{One, Nothing, Many, found}
 use Rattle.cf_classes.specs.Overrider as override
 use Rattle.cf_classes.specs.Overrider.{over, has_table, owns_table}
-use Rattle.cf_classes.specs.Special.{specials, Specials, Declared, Generated, Trivial, Absent}
-use Rattle.cf_classes.proofs.Examples.{types, field, static_field, plain, virtual_function, destructor, constructor, from, virtual_from, struct_of, diamond, two_parts}
+use Rattle.cf_classes.specs.Special.{specials, Generated, Trivial, Absent}
+use Rattle.cf_classes.proofs.Examples.{types, field, static_field, function_named, plain, virtual_function, destructor, constructor, from, struct_of, diamond, two_parts}
 
 -- all routes to a virtual base are one path
 diamond_has_four_paths : paths (diamond [] [] [] []) 3 ≡ [] ∷ (Base 0 ∷ []) ∷ (Base 1 ∷ []) ∷ (VBase 0 ∷ []) ∷ []
@@ -49,15 +47,15 @@ overloaded : found ((0, struct_of [] (plain (codes "f") ∷ field (codes "x") 1 
 overloaded = refl
 
 -- the function in A overrides that of V, also for an object of class D
-sister_overrides : over types (diamond (virtual_function (codes "f") ∷ []) (plain (codes "f") ∷ []) [] []) 3 (VBase 0 ∷ []) (virtual_function (codes "f")) ≡ override.One (Base 0 ∷ []) (record { class = 1; index = 0 })
+sister_overrides : over types (diamond (virtual_function (codes "f") ∷ []) (plain (codes "f") ∷ []) [] []) 3 (VBase 0 ∷ []) (function_named (codes "f")) ≡ override.One (Base 0 ∷ []) (record { class = 1; index = 0 })
 sister_overrides = refl
 
 -- two overriders, neither of which is in a base of the other's class
-no_final_overrider : over types (diamond (virtual_function (codes "f") ∷ []) (plain (codes "f") ∷ []) (plain (codes "f") ∷ []) []) 3 (VBase 0 ∷ []) (virtual_function (codes "f")) ≡ override.Many
+no_final_overrider : over types (diamond (virtual_function (codes "f") ∷ []) (plain (codes "f") ∷ []) (plain (codes "f") ∷ []) []) 3 (VBase 0 ∷ []) (function_named (codes "f")) ≡ override.Many
 no_final_overrider = refl
 
 -- unless D has one of its own
-own_overrider : over types (diamond (virtual_function (codes "f") ∷ []) (plain (codes "f") ∷ []) (plain (codes "f") ∷ []) (plain (codes "f") ∷ [])) 3 (VBase 0 ∷ []) (virtual_function (codes "f")) ≡ override.One [] (record { class = 3; index = 0 })
+own_overrider : over types (diamond (virtual_function (codes "f") ∷ []) (plain (codes "f") ∷ []) (plain (codes "f") ∷ []) (plain (codes "f") ∷ [])) 3 (VBase 0 ∷ []) (function_named (codes "f")) ≡ override.One [] (record { class = 3; index = 0 })
 own_overrider = refl
 
 -- a function that overrides that of a virtual base needs no table pointer of its class

@@ -1,14 +1,12 @@
 -- Link names and descriptions, by evaluation.
-use Rattle.std.proofs.Common.{◌≡◌, ℕ, Bool, true, false, List, [], ◌∷◌, ◌++◌, Some, None, refl, codes}
+use Rattle.std.proofs.Common.{◌≡◌, ℕ, true, false, List, [], ◌∷◌, Some, None, refl, codes}
 use Rattle.std.specs.Fmt.{digits}
 use Rattle.cf_base.specs.declared.kind.Kind.TheVariants as kind
-use Rattle.cf_classes.specs.declared.label.Label.{Label}
-use Rattle.cf_classes.specs.declared.class.ClassDef.{ClassDef}
 use Rattle.cf_classes.specs.ClassTable.{ClassTable}
-use Rattle.cf_classes.specs.LinkName.{Code, Codes, Integer, Named, Pointer, Const, none, more, link_name, Entity, Main, Plain, Variable, Constructor, Operator, Conversion, code, code_of, as_parameter, scope_code}
+use Rattle.cf_classes.specs.LinkName.{Codes, Integer, Named, Pointer, Const, none, more, link_name, Entity, Main, Plain, Variable, Constructor, Operator, Conversion, code, code_of}
 use Rattle.cf_classes.specs.Description.{description}
 use Rattle.cf_classes.specs.OwnedName.{tables_name, literal_name, local_static_name}
-use Rattle.cf_classes.proofs.Examples.{types, field, plain, virtual_function, from, virtual_from, struct_of}
+use Rattle.cf_classes.proofs.Examples.{types, field, plain, virtual_function, virtual_from, struct_of}
 
 abbrev global : List ℕ → Codes → Entity
 global name params = record { scope = []; what = Plain name; params = params; is_const = false; is_static = false }

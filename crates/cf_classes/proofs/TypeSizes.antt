@@ -1,5 +1,5 @@
 -- Sizes of types, while no class has a definition.
-use Rattle.std.proofs.Common.{◌≡◌, ℕ, zero, suc, ◌<◌, ◌≤◌, ◌*◌, ◌^◌, ◌==◌, Bool, true, false, nat_le, List, [], Option, None, Some, slice_get, refl, sym, ap, ◌∙◌, if◌then◌else◌, arith, true≢false, lit≤, ◌/◌}
+use Rattle.std.proofs.Common.{◌≡◌, ℕ, zero, suc, ◌<◌, ◌≤◌, ◌*◌, ◌^◌, ◌==◌, Bool, true, false, nat_le, [], Option, None, Some, slice_get, refl, sym, ap, ◌∙◌, if◌then◌else◌, arith, lit≤, ◌/◌}
 use Rattle.cf_base.specs.declared.kind.Kind.{Kind}
 use Rattle.cf_base.specs.declared.kind.Kind.TheVariants as kind
 use Rattle.cf_base.specs.Integers.{width}

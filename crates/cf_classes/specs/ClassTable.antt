@@ -1,5 +1,5 @@
 -- The classes and enumerations of a file.
-use Rattle.std.specs.Prelude.{ℕ, Bool, true, false, ◌==◌, nat_eq, List, [], ◌∷◌, reverse, Option, None, Some, slice_get}
+use Rattle.std.specs.Prelude.{ℕ, true, false, ◌==◌, nat_eq, List, [], ◌∷◌, reverse, Option}
 use Rattle.std.specs.Map.{lookup}
 use Rattle.std.specs.Option.{option_map_or}
 use Rattle.cf_classes.specs.declared.label.Label.{Label}

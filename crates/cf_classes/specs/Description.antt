@@ -1,18 +1,17 @@
 -- The description of a class, which two files must have alike.
-use Rattle.std.specs.Prelude.{ℕ, Bool, true, false, if◌then◌else◌, List, [], ◌∷◌, ◌++◌, codes, decimal}
+use Rattle.std.specs.Prelude.{ℕ, Bool, true, if◌then◌else◌, List, [], ◌++◌, codes}
 use Rattle.std.specs.List.{flat_map}
 use Rattle.std.specs.Fmt.{signed_decimal}
 use Rattle.cf_types.specs.Table.{Table}
 use Rattle.cf_classes.specs.declared.class.Access.{Access}
 use Rattle.cf_classes.specs.declared.class.Access.TheVariants as access
-use Rattle.cf_classes.specs.declared.class.ClassDef.{ClassDef}
 use Rattle.cf_classes.specs.declared.class.BaseDef.{BaseDef}
 use Rattle.cf_classes.specs.declared.class.MemberDef.{MemberDef}
 use Rattle.cf_classes.specs.declared.class.What.{What}
 use Rattle.cf_classes.specs.declared.class.What.TheVariants as what
-use Rattle.cf_classes.specs.ClassTable.{ClassTable, latest_first, bases_of, members_of, definition}
+use Rattle.cf_classes.specs.ClassTable.{ClassTable, latest_first, bases_of, members_of}
 use Rattle.cf_classes.specs.LinkName.{code, code_of, class_names, scope_code}
-use Rattle.cf_classes.specs.Signature.{virtuals, overrides, may_override}
+use Rattle.cf_classes.specs.Signature.{inherited_virtuals, overrides}
 
 -- u public, o protected, p private
 abbrev access_code : Access → List ℕ
@@ -50,6 +49,6 @@ member_text types classes virtual m =
 abbrev pub description : Table → ClassTable → ℕ → List ℕ
 description types classes c =
     let defs = latest_first classes in
-    let inherited = flat_map (λ b. virtuals types defs b.class) (bases_of defs c) in
+    let inherited = inherited_virtuals types defs c in
     flat_map (base_text classes) (bases_of defs c)
     ++ flat_map (λ m. member_text types classes (if m.is_virtual then true else overrides types inherited m) m) (members_of defs c)

@@ -1,8 +1,6 @@
 -- Sizes, alignments and offsets, in bytes.
 use Rattle.std.specs.Prelude.{ℕ, ◌+◌, ◌-◌, ◌*◌, ◌/◌, ◌^◌, Bool, true, false, not, nat_le, is_some, ◌==◌, min, max, if◌then◌else◌, List, [], ◌∷◌, ◌++◌, map, filter, fold, Option, None, Some, slice_get}
-use Rattle.std.specs.List.{flat_map}
 use Rattle.std.specs.Option.{option_map_or}
-use Rattle.cf_base.specs.declared.kind.Kind.{Kind}
 use Rattle.cf_base.specs.Integers.{width}
 use Rattle.cf_types.specs.declared.ty.Ty.{Ty}
 use Rattle.cf_types.specs.declared.ty.Ty.TheVariants as ty

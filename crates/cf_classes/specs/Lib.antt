@@ -1,11 +1,14 @@
 pub mod ClassTable
 pub mod Description
+pub mod Entity
+pub mod Fit
 pub mod Layout
 pub mod LinkName
 pub mod Lookup
 pub mod Overrider
 pub mod OwnedName
 pub mod Signature
+pub mod Slots
 pub mod Special
 pub mod Subobject
 pub mod TypeTree

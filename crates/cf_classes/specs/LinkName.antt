@@ -1,5 +1,5 @@
 -- Link names: the name of an entity in the written C says its scope, its name and the types of its parameters.
-use Rattle.std.specs.Prelude.{ℕ, ◌+◌, ◌-◌, Bool, true, false, ◌==◌, ◌||◌, nat_eq, if◌then◌else◌, List, [], ◌∷◌, ◌++◌, length, map, reverse, codes, decimal, Option, None, Some, slice_get}
+use Rattle.std.specs.Prelude.{ℕ, ◌-◌, Bool, true, false, ◌==◌, nat_eq, if◌then◌else◌, List, [], ◌∷◌, ◌++◌, length, map, reverse, codes, decimal, Option, None, Some, slice_get}
 use Rattle.std.specs.Cmp.Lexicographic.{pointwise}
 use Rattle.std.specs.List.{flat_map, list_any}
 use Rattle.std.specs.Option.{option_map_or}
@@ -10,9 +10,6 @@ use Rattle.cf_types.specs.declared.ty.Ty.TheVariants as ty
 use Rattle.cf_types.specs.declared.ty.Fun.{Fun}
 use Rattle.cf_types.specs.Table.{Table}
 use Rattle.cf_classes.specs.declared.label.Label.{Label}
-use Rattle.cf_classes.specs.declared.class.MemberDef.{MemberDef}
-use Rattle.cf_classes.specs.declared.class.What.{What}
-use Rattle.cf_classes.specs.declared.class.What.TheVariants as what
 use Rattle.cf_classes.specs.ClassTable.{ClassTable}
 use Rattle.cf_classes.specs.TypeTree.{of_type}
 
@@ -131,18 +128,24 @@ called (Conversion t) e = function (codes "__op" ++ code t) e
 abbrev pub link_name : Entity → List ℕ
 link_name e = called e.what e
 
+-- the name at the end of those that lead to the class around it; without a name there are none
+abbrev named_in : List (List ℕ) → List ℕ → List (List ℕ)
+named_in outer [] = []
+named_in outer (b ∷ bs) = outer ++ (b ∷ bs) ∷ []
+
 -- the names that lead to a class, from the outside: an outer class is declared before what it holds
 abbrev names_from : List Label → ℕ → List (List ℕ)
 names_from [] c = []
-names_from (l ∷ older) c = elim (c == length older) as (λ _. List (List ℕ)) [ true ↦ option_map_or (names_from older) l.outer [] ++ l.name ∷ [] | false ↦ names_from older c ]
+names_from (l ∷ older) c = elim (c == length older) as (λ _. List (List ℕ)) [ true ↦ named_in (option_map_or (names_from older) l.outer []) l.name | false ↦ names_from older c ]
 
 abbrev pub class_names : ClassTable → ℕ → List (List ℕ)
 class_names classes c = names_from (reverse classes.labels) c
 
 abbrev enum_names_of : ClassTable → Option Label → List (List ℕ)
 enum_names_of classes None = []
-enum_names_of classes (Some l) = option_map_or (class_names classes) l.outer [] ++ l.name ∷ []
+enum_names_of classes (Some l) = named_in (option_map_or (class_names classes) l.outer []) l.name
 
+-- an unnamed enumeration has none, so its code is empty
 abbrev pub enum_names : ClassTable → ℕ → List (List ℕ)
 enum_names classes e = enum_names_of classes (slice_get classes.enums e)
 

@@ -1,5 +1,5 @@
 -- Which of the four special member functions a class has, and which generated ones are needed (12.1, 12.4, 12.8).
-use Rattle.std.specs.Prelude.{ℕ, ◌+◌, Bool, true, false, not, ◌==◌, ◌&&◌, ◌||◌, nat_eq, nat_le, if◌then◌else◌, List, [], ◌∷◌, ◌++◌, length, map, filter, codes, Option, None, Some, slice_get}
+use Rattle.std.specs.Prelude.{ℕ, ◌+◌, Bool, true, false, not, ◌==◌, ◌&&◌, ◌||◌, nat_eq, nat_le, if◌then◌else◌, List, [], ◌∷◌, ◌++◌, length, map, filter, codes, Option, Some, slice_get}
 use Rattle.std.specs.Cmp.Lexicographic.{pointwise}
 use Rattle.std.specs.List.{list_any, filter_map}
 use Rattle.cf_types.specs.declared.ty.Ty.{Ty}
@@ -9,7 +9,6 @@ use Rattle.cf_classes.specs.declared.class.ClassDef.{ClassDef}
 use Rattle.cf_classes.specs.declared.class.MemberDef.{MemberDef}
 use Rattle.cf_classes.specs.declared.class.What.{What}
 use Rattle.cf_classes.specs.declared.class.What.TheVariants as what
-use Rattle.cf_classes.specs.ClassTable.{made}
 use Rattle.cf_classes.specs.Subobject.{virtual_bases}
 use Rattle.cf_classes.specs.Signature.{member_params, virtuals}
 use Rattle.cf_classes.specs.TypeTree.{class_in, is_fixed}

@@ -1,4 +1,4 @@
-use Rattle.std.proofs.Common.{◌≡◌, ℕ, Option, Some, None, [], ap, sym, ◌∙◌}
+use Rattle.std.proofs.Common.{◌≡◌, Some, None, [], ap, sym, ◌∙◌}
 use Rattle.std.specs.Option.{option_map}
 use Rattle.cf_classes.specs.declared.sizes.Elements.{Elements}
 use Rattle.cf_classes.specs.Layout.{extent, accepted_size, array_bytes, repeated_in}
