@@ -2,3 +2,4 @@ pub mod Constness
 pub mod ConversionExamples
 pub mod Known
 pub mod Steps
+pub mod UserConversionExamples
