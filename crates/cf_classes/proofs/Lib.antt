@@ -1,6 +1,7 @@
 pub mod Decode
 pub mod EntityExamples
 pub mod Examples
+pub mod FitExamples
 pub mod LayoutExamples
 pub mod LookupExamples
 pub mod NameExamples
