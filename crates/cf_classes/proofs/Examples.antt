@@ -10,13 +10,15 @@ use Rattle.cf_classes.specs.declared.class.What.TheVariants as what
 use Rattle.cf_classes.specs.Signature.{Signature}
 use Rattle.cf_classes.specs.declared.class.Access.TheVariants as access
 
--- the types by number: 0 char, 1 int, 2 void, 3 `int()`, 4 `const char`, 5 `const char*`, 6 `int() const`, 7 to 10 the classes 0 to 3, 11 `const int`, 12 an array of three of class 0
+-- the types by number: 0 char, 1 int, 2 void, 3 `int()`, 4 `const char`, 5 `const char*`, 6 `int() const`, 7 to 10 the classes 0 to 3, 11 `const int`, 12 an array of three of class 0,
+-- 13 and 14 the enumerations 0 and 1, 15 a pointer to the second, 16 `C0&`, 17 a function of an int, 18 a function of a `C0&`
 abbrev pub types : Table
 types = record {
   types =
       ty.Int kind.Char ∷ ty.Int kind.Int ∷ ty.Void ∷ ty.Fun 0 ∷ ty.Const 0 ∷ ty.Ptr 4 ∷ ty.Fun 1 ∷ ty.Class 0 ∷ ty.Class 1 ∷ ty.Class 2 ∷ ty.Class 3
-      ∷ ty.Const 1 ∷ ty.Array 7 3 ∷ [];
-  funs = record { result = 1; params = []; is_const = false } ∷ record { result = 1; params = []; is_const = true } ∷ [];
+      ∷ ty.Const 1 ∷ ty.Array 7 3 ∷ ty.Enum 0 ∷ ty.Enum 1 ∷ ty.Ptr 14 ∷ ty.Ref 7 ∷ ty.Fun 2 ∷ ty.Fun 3 ∷ [];
+  funs = record { result = 1; params = []; is_const = false } ∷ record { result = 1; params = []; is_const = true }
+      ∷ record { result = 1; params = 1 ∷ []; is_const = false } ∷ record { result = 1; params = 16 ∷ []; is_const = false } ∷ [];
 }
 
 abbrev pub field : List ℕ → ℕ → MemberDef

@@ -1,11 +1,12 @@
 -- Paths, lookup, overriders and special functions of small classes, by evaluation.
-use Rattle.std.proofs.Common.{◌≡◌, false, [], ◌∷◌, refl, codes}
+use Rattle.std.proofs.Common.{ℕ, ◌≡◌, false, [], ◌∷◌, refl, codes}
 use Rattle.cf_classes.specs.declared.path.Step.TheVariants.{Base, VBase}
+use Rattle.cf_classes.specs.declared.class.MemberDef.{MemberDef}
 use Rattle.cf_classes.specs.Subobject.{paths}
 use Rattle.cf_classes.specs.Lookup.{One, Nothing, Many, found}
 use Rattle.cf_classes.specs.Overrider as override
 use Rattle.cf_classes.specs.Overrider.{over, has_table, owns_table}
-use Rattle.cf_classes.specs.Special.{specials, Generated, Trivial, Absent}
+use Rattle.cf_classes.specs.Special.{Declared, specials, Generated, Trivial, Absent}
 use Rattle.cf_classes.proofs.Examples.{types, field, static_field, function_named, plain, virtual_function, destructor, constructor, from, struct_of, diamond, two_parts}
 
 -- all routes to a virtual base are one path
@@ -81,3 +82,24 @@ virtual_functions = refl
 -- so do virtual bases, and a declared constructor is the default one where it takes no argument
 virtual_base : specials types (diamond (constructor ∷ []) [] [] []) 3 ≡ record { constructor = Generated; destructor = Trivial; copy = Generated; assign = Generated }
 virtual_base = refl
+
+-- `operator=(int)` leaves the copying assignment generated, and `operator=(C0&)` does not
+abbrev assignment_from : ℕ → MemberDef
+assignment_from t = record (plain (codes "__as")) { ty = t }
+
+assignment_from_int : specials types ((0, struct_of [] (assignment_from 17 ∷ [])) ∷ []) 0 ≡ record { constructor = Trivial; destructor = Trivial; copy = Trivial; assign = Trivial }
+assignment_from_int = refl
+
+assignment_from_itself : specials types ((0, struct_of [] (assignment_from 18 ∷ [])) ∷ []) 0 ≡ record { constructor = Trivial; destructor = Trivial; copy = Trivial; assign = Declared }
+assignment_from_itself = refl
+
+-- a constructor that takes the class itself is a copy constructor; it leaves no default constructor
+abbrev copying : MemberDef
+copying = record constructor { ty = 18 }
+
+copy_constructor : specials types ((0, struct_of [] (copying ∷ [])) ∷ []) 0 ≡ record { constructor = Absent; destructor = Trivial; copy = Declared; assign = Trivial }
+copy_constructor = refl
+
+-- a virtual base without a default constructor leaves none to the classes below it, though those between them declare one
+indirect_virtual_base : specials types (diamond (copying ∷ []) (constructor ∷ []) (constructor ∷ []) []) 3 ≡ record { constructor = Absent; destructor = Trivial; copy = Generated; assign = Generated }
+indirect_virtual_base = refl

@@ -1,7 +1,8 @@
 -- Link names and descriptions, by evaluation.
-use Rattle.std.proofs.Common.{◌≡◌, ℕ, true, false, List, [], ◌∷◌, Some, None, refl, codes}
+use Rattle.std.proofs.Common.{◌≡◌, ℕ, true, false, List, [], ◌∷◌, Some, None, negsuc, refl, codes}
 use Rattle.std.specs.Fmt.{digits}
 use Rattle.cf_base.specs.declared.kind.Kind.TheVariants as kind
+use Rattle.cf_classes.specs.declared.class.What.TheVariants as what
 use Rattle.cf_classes.specs.ClassTable.{ClassTable}
 use Rattle.cf_classes.specs.LinkName.{Codes, Integer, Named, Pointer, Const, none, more, link_name, Entity, Main, Plain, Variable, Constructor, Operator, Conversion, code, code_of}
 use Rattle.cf_classes.specs.Description.{description}
@@ -89,3 +90,22 @@ second_literal_of_main = refl
 first_static_of_a_function : local_static_name (codes "s") 1 (codes "g__Fv") ≡ codes "s__L1__g__Fv"
 unfolding digits
 first_static_of_a_function = refl
+
+-- an unnamed enumeration has an empty code, in the type of its constant and of a data member
+abbrev with_enums : ClassTable
+with_enums = record {
+  labels = record { name = codes "A"; outer = None } ∷ [];
+  enums = record { name = codes "E"; outer = Some 0 } ∷ record { name = []; outer = Some 0 } ∷ [];
+  defined = (
+    0,
+    struct_of []
+        (record (field (codes "E") 13) { what = what.Alias } ∷ record (field (codes "X") 14) { what = what.Enumerator (negsuc 0) } ∷ field (codes "e") 13 ∷ field (codes "u") 14
+        ∷ field (codes "p") 15
+        ∷ []),
+  )
+      ∷ [];
+}
+
+unnamed_enumeration : description types with_enums 0 ≡ codes "utE:Q2_1A1E;ue-1X:;ude:Q2_1A1E;udu:;udp:P;"
+unfolding digits
+unnamed_enumeration = refl

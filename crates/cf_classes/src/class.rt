@@ -27,11 +27,11 @@ pub enum What {
     Destructor,
     /// A conversion function (12.3.2).
     Convert,
-    /// A class or an enumeration that is declared here; of a class its number.
+    /// A class that is declared here.
     Nested(ClassId),
     /// A constant of an enumeration that is declared here, with its value.
     Enumerator(i64),
-    /// A name that `typedef` gives to a type.
+    /// A name of a type that `typedef` gives, or that of an enumeration that is declared here.
     Alias,
 }
 

@@ -3,7 +3,7 @@ use Rattle.std.proofs.Common.{◌≡◌, ℕ, true, false, List, [], ◌∷◌, 
 use Rattle.cf_base.specs.declared.kind.Kind.TheVariants as kind
 use Rattle.cf_types.specs.declared.ty.Ty.TheVariants as ty
 use Rattle.cf_types.specs.Table.{Table}
-use Rattle.cf_classes.specs.declared.path.Step.TheVariants.{Base}
+use Rattle.cf_classes.specs.declared.path.Step.TheVariants.{Base, VBase}
 use Rattle.cf_classes.specs.declared.class.Access.TheVariants as access
 use Rattle.cf_classes.specs.declared.class.ClassDef.{ClassDef}
 use Rattle.cf_convert.specs.declared.conv.Val.{Val}
@@ -199,6 +199,18 @@ reference_to_const_base = refl
 
 member_of_const : steps types classes (result 23) 39 ≡ Some (AddConst ∷ [])
 member_of_const = refl
+
+-- but not where the base is virtual
+abbrev virtually : List (ℕ × ClassDef)
+virtually =
+    (2, record { is_struct = true; bases = record { class = 0; is_virtual = true; access = access.Public } ∷ []; members = []; friends = [] })
+    ∷ (0, record { is_struct = true; bases = []; members = []; friends = [] }) ∷ []
+
+no_member_of_virtual_base : steps types virtually (result 23) 24 ≡ None
+no_member_of_virtual_base = refl
+
+pointer_to_virtual_base : steps types virtually (result 21) 19 ≡ Some (ToBase (VBase 0 ∷ []) ∷ [])
+pointer_to_virtual_base = refl
 
 -- promotion is better than another conversion, no const than const, the nearer base than the further, and any base than `void*`; each with the type
 -- that is gone to
