@@ -1,3 +1,4 @@
+pub mod ClassTables
 pub mod Decode
 pub mod EntityExamples
 pub mod Examples

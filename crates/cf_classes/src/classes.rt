@@ -12,7 +12,7 @@ use indexmap::IndexMap;
 use std::alloc::Global;
 use std::marker::Model;
 
-/// The classes and enumerations of a file.
+/// The classes and enumerations of a file. A class is declared before what stands in it, and defined after its bases.
 #[derive(Drop)]
 pub struct Classes {
     labels: Vec<Label>,
@@ -22,10 +22,13 @@ pub struct Classes {
 
 impl Model for Classes {
     ghost use Rattle.cf_classes.specs.ClassTable.{ClassTable};
+    ghost use Rattle.cf_classes.specs.Fit.{IsClassTable};
 
     ghost Value = { ClassTable };
 
     ghost view = { λ c. record { labels = c.labels.items; enums = c.enums.items; defined = c.defined.entries } };
+
+    ghost invariant = { λ c. IsClassTable (record { labels = c.labels.items; enums = c.enums.items; defined = c.defined.entries }) };
 }
 
 impl Classes {
@@ -64,7 +67,8 @@ impl Classes {
         ensures defined { self.new.defined ≡ self.old.defined }
         ensures err { OnErr result (self.new ≡ self.old) }
     {
-        add_label(&mut self.enums, label)
+        let number = add_label(&mut self.enums, label)?;
+        Ok(number)
     }
 
     /// What a class is called.
