@@ -9,40 +9,40 @@ use Rattle.cf_classes.specs.LinkName.{Code, Void, Integer, Named, Pointer, Refer
 use Rattle.cf_classes.specs.Entity.{is_well_formed}
 
 -- a value that is read at the front, and what stands behind it
-abbrev Read : Type 0 → Type 0
+abbrev pub Read : Type 0 → Type 0
 Read A = Option (A × List ℕ)
 
-abbrev then_read : {A B : Type 0} → Read A → (A → List ℕ → Read B) → Read B
+abbrev pub then_read : {A B : Type 0} → Read A → (A → List ℕ → Read B) → Read B
 then_read None go = None
 then_read (Some r) go = go r.0 r.1
 
 -- these bytes at the front are passed over
-abbrev behind : {A : Type 0} → List ℕ → List ℕ → (List ℕ → Read A) → Read A
+abbrev pub behind : {A : Type 0} → List ℕ → List ℕ → (List ℕ → Read A) → Read A
 behind mark text go = if starts_with nat_eq text mark then go (drop (length mark) text) else None
 
-abbrev number_from : ℕ → List ℕ → ℕ × List ℕ
+abbrev pub number_from : ℕ → List ℕ → ℕ × List ℕ
 number_from n [] = (n, [])
 number_from n (b ∷ bs) = if is_digit b then number_from (n * 10 + (b - 48)) bs else (n, b ∷ bs)
 
-abbrev number : List ℕ → Read ℕ
+abbrev pub number : List ℕ → Read ℕ
 number [] = None
 number (b ∷ bs) = if is_digit b then Some (number_from 0 (b ∷ bs)) else None
 
-abbrev counted : List ℕ → Read (List ℕ)
+abbrev pub counted : List ℕ → Read (List ℕ)
 counted text = then_read (number text) (λ n rest. if nat_le n (length rest) then Some (take n rest, drop n rest) else None)
 
-abbrev counted_names : ℕ → List ℕ → Read (List (List ℕ))
+abbrev pub counted_names : ℕ → List ℕ → Read (List (List ℕ))
 counted_names zero text = Some ([], text)
 counted_names (suc n) text = then_read (counted text) (λ name rest. then_read (counted_names n rest) (λ names rest. Some (name ∷ names, rest)))
 
 -- the names that lead to a class
-abbrev scope : List ℕ → Read (List (List ℕ))
+abbrev pub scope : List ℕ → Read (List (List ℕ))
 scope [] = None
 scope (b ∷ bs) =
     if b == 81 then then_read (number bs) (λ n rest. behind (codes "_") rest (counted_names n))
     else then_read (counted (b ∷ bs)) (λ name rest. Some (name ∷ [], rest))
 
-abbrev map_read : {A B : Type 0} → (A → B) → Read A → Read B
+abbrev pub map_read : {A B : Type 0} → (A → B) → Read A → Read B
 map_read f r = then_read r (λ a rest. Some (f a, rest))
 
 abbrev unsigned : List ℕ → Read Code
@@ -53,7 +53,7 @@ unsigned (b ∷ bs) =
 
 -- one type, and types up to a `_`; each type takes a byte, so as many steps as bytes are enough
 abbrev mutual
-  type_at : ℕ → List ℕ → Read Code
+  pub type_at : ℕ → List ℕ → Read Code
   type_at zero text = None
   type_at (suc n) [] = None
   type_at (suc n) (b ∷ bs) =
@@ -67,12 +67,12 @@ abbrev mutual
       else if b == 77 then then_read (scope bs) (λ names rest. map_read (Member names) (type_at n rest))
       else map_read Named (scope (b ∷ bs))
 
-  function_at : ℕ → Bool → List ℕ → Read Code
+  pub function_at : ℕ → Bool → List ℕ → Read Code
   function_at zero is_const text = None
   function_at (suc n) is_const text = then_read (types_at n text) (λ params rest. behind (codes "_") rest (λ rest. map_read (Function is_const params) (type_at n rest)))
 
   -- the types at the front, up to what is none
-  types_at : ℕ → List ℕ → Read Codes
+  pub types_at : ℕ → List ℕ → Read Codes
   types_at zero text = None
   types_at (suc n) [] = Some (none, [])
   types_at (suc n) (b ∷ bs) =

@@ -6,7 +6,9 @@ pub mod FitExamples
 pub mod LayoutExamples
 pub mod LookupExamples
 pub mod NameExamples
+pub mod OneCode
 pub mod OverriderExamples
+pub mod ReadNames
 pub mod SlotExamples
 pub mod TypeSizes
 pub mod Trees

@@ -1,5 +1,5 @@
 -- Which entities have link names, and which entity a link name stands for.
-use Rattle.std.specs.Prelude.{◌≡◌, ℕ, Bool, true, false, not, ◌&&◌, ◌||◌, nat_eq, nat_lt, is_none, List, [], ◌∷◌, codes, Option, None, Some, IsTrue}
+use Rattle.std.specs.Prelude.{◌≡◌, ℕ, Bool, true, false, not, ◌&&◌, ◌||◌, nat_eq, nat_lt, is_none, List, [], ◌∷◌, codes, Option, None, Some, IsTrue, length, ◌^◌}
 use Rattle.std.specs.Cmp.Lexicographic.{pointwise}
 use Rattle.std.specs.List.{list_all}
 use Rattle.cf_tokens.specs.Class.{is_letter, is_digit}
@@ -10,9 +10,9 @@ abbrev begins_name : List ℕ → Bool
 begins_name [] = false
 begins_name (b ∷ bs) = is_letter b
 
--- an identifier without `__`, of any length (2.3)
+-- an identifier without `__`, of any length that memory holds (2.3)
 abbrev pub is_identifier : List ℕ → Bool
-is_identifier name = begins_name name && list_all (λ b. is_letter b || is_digit b) name && not (has_double name) && is_none (keyword_of name)
+is_identifier name = nat_lt (length name) (2 ^ 64) && begins_name name && list_all (λ b. is_letter b || is_digit b) name && not (has_double name) && is_none (keyword_of name)
 
 abbrev nonempty : List (List ℕ) → Bool
 nonempty [] = false
@@ -23,7 +23,7 @@ are_names names = list_all is_identifier names
 
 -- the names that lead to a class or enumeration
 abbrev leads : List (List ℕ) → Bool
-leads names = nonempty names && are_names names
+leads names = nonempty names && nat_lt (length names) (2 ^ 64) && are_names names
 
 -- const of a const, of an array, of a reference and of a function is written otherwise
 abbrev pub takes_const : Code → Bool
@@ -33,7 +33,7 @@ takes_const (Reference t) = false
 takes_const (Function c ps r) = false
 takes_const other = true
 
--- whether a code is that of a type
+-- whether a code is that of a type; a count of elements has 32 bits
 abbrev mutual
   pub is_type : Code → Bool
   is_type Void = true
@@ -42,7 +42,7 @@ abbrev mutual
   is_type (Pointer t) = is_type t
   is_type (Reference t) = is_type t
   is_type (Const t) = takes_const t && is_type t
-  is_type (Array n t) = is_type t
+  is_type (Array n t) = nat_lt n (2 ^ 32) && is_type t
   is_type (Function c ps r) = are_types ps && is_type r
   is_type (Member names t) = leads names && is_type t
 
@@ -87,7 +87,7 @@ fits (Conversion t) e = nonempty e.scope && no_parameters e.params && is_type t
 -- an entity that has a link name; const and static are not both set, and each needs a scope
 abbrev pub is_well_formed : Entity → Bool
 is_well_formed e =
-    are_names e.scope && are_parameters e.params && fits e.what e && not (e.is_const && e.is_static) && (nonempty e.scope || not (e.is_const || e.is_static))
+    nat_lt (length e.scope) (2 ^ 64) && are_names e.scope && are_parameters e.params && fits e.what e && not (e.is_const && e.is_static) && (nonempty e.scope || not (e.is_const || e.is_static))
 
 -- what a link name stands for: the well-formed entity that has it, or none where there is none
 abbrev pub Decodes : List ℕ → Option Entity → Type 0
