@@ -1,11 +1,11 @@
 -- A plain program that takes a link name apart, on which the definition of decoding is tried.
-use Rattle.std.proofs.Common.{ℕ, zero, suc, ◌+◌, ◌-◌, ◌*◌, Bool, true, false, ◌==◌, ◌&&◌, nat_eq, nat_le, if◌then◌else◌, List, [], ◌∷◌, ◌++◌, length, take, drop, Option, None, Some, codes}
+use Rattle.std.proofs.Common.{ℕ, zero, suc, ◌+◌, ◌-◌, ◌*◌, Bool, true, false, ◌==◌, ◌&&◌, not, nat_eq, nat_le, if◌then◌else◌, List, [], ◌∷◌, length, take, drop, Option, None, Some, codes}
 use Rattle.std.specs.Cmp.Lexicographic.{pointwise}
 use Rattle.std.specs.List.{starts_with}
 use Rattle.std.specs.Option.{option_map}
 use Rattle.cf_base.specs.declared.kind.Kind.TheVariants as kind
 use Rattle.cf_tokens.specs.Class.{is_digit}
-use Rattle.cf_classes.specs.LinkName.{Code, Void, Integer, Named, Pointer, Reference, Const, Array, Function, Member, Codes, none, more, Called, Main, Variable, Plain, Operator, Constructor, Destructor, Conversion, Entity, link_name, known_names, operator_codes}
+use Rattle.cf_classes.specs.LinkName.{Code, Void, Integer, Named, Pointer, Reference, Const, Array, Function, Member, Codes, none, more, Called, Main, Variable, Plain, Operator, Constructor, Destructor, Conversion, Entity, link_name, operator_codes}
 use Rattle.cf_classes.specs.Entity.{is_well_formed}
 
 -- a value that is read at the front, and what stands behind it
@@ -78,85 +78,95 @@ abbrev mutual
   types_at (suc n) (b ∷ bs) =
       if b == 95 then Some (none, b ∷ bs) else then_read (type_at n (b ∷ bs)) (λ t rest. map_read (more t) (types_at n rest))
 
-abbrev whole : {A : Type 0} → Read A → Option A
+abbrev pub whole : {A : Type 0} → Read A → Option A
 whole None = None
 whole (Some (a, [])) = Some a
 whole (Some (a, b ∷ bs)) = None
 
-abbrev entity : List (List ℕ) → Called → Bool → Bool → Codes → Entity
+abbrev pub entity : List (List ℕ) → Called → Bool → Bool → Codes → Entity
 entity names what is_const is_static params = record { scope = names; what = what; params = params; is_const = is_const; is_static = is_static }
 
--- a function's parameters behind its `F`, `v` for none
-abbrev parameters : List ℕ → Option Codes
-parameters text = if pointwise nat_eq text (codes "v") then Some none else whole (types_at (length text + 1) text)
+-- a function's parameters, `v` for none
+abbrev pub parameters_at : ℕ → List ℕ → Option Codes
+parameters_at n text = if pointwise nat_eq text (codes "v") then Some none else whole (types_at n text)
 
-abbrev function_behind : List (List ℕ) → Called → Bool → Bool → List ℕ → Option Entity
-function_behind names what is_const is_static text =
-    if starts_with nat_eq text (codes "F") then option_map (entity names what is_const is_static) (parameters (drop 1 text)) else None
+-- behind a function's class: C or S, F and the parameters
+abbrev pub behind_flag : ℕ → List (List ℕ) → Called → Bool → Bool → List ℕ → Option Entity
+behind_flag n names what is_const is_static text =
+    if starts_with nat_eq text (codes "F") then option_map (entity names what is_const is_static) (parameters_at n (drop 1 text)) else None
 
-abbrev function_in : List (List ℕ) → Called → List ℕ → Option Entity
-function_in names what [] = None
-function_in names what (b ∷ bs) =
-    if b == 67 then function_behind names what true false bs else if b == 83 then function_behind names what false true bs
-    else function_behind names what false false (b ∷ bs)
+abbrev pub function_behind : ℕ → List (List ℕ) → Called → List ℕ → Option Entity
+function_behind n names what [] = None
+function_behind n names what (b ∷ bs) =
+    if b == 67 then behind_flag n names what true false bs
+    else if b == 83 then behind_flag n names what false true bs
+    else behind_flag n names what false false (b ∷ bs)
 
 -- behind the `__` that ends a name: a class and nothing, or a class or none and a function
-abbrev in_class : (Entity → Option Entity) → Called → Called → Read (List (List ℕ)) → List ℕ → Option Entity
-in_class object what variable None text = function_in [] what text
-in_class object what variable (Some (names, [])) text = object (entity names variable false true none)
-in_class object what variable (Some (names, b ∷ bs)) text = function_in names what (b ∷ bs)
+abbrev pub in_scope : ℕ → (List (List ℕ) → Option Entity) → Called → Read (List (List ℕ)) → List ℕ → Option Entity
+in_scope n object what None text = function_behind n [] what text
+in_scope n object what (Some (names, [])) text = object names
+in_scope n object what (Some (names, b ∷ bs)) text = function_behind n names what (b ∷ bs)
 
-abbrev named : List ℕ → List ℕ → Option Entity
-named name text = in_class Some (Plain name) (Variable name) (scope text) text
+abbrev pub special : ℕ → Called → List ℕ → Option Entity
+special n what text = in_scope n (λ names. None) what (scope text) text
 
-abbrev special : Called → List ℕ → Option Entity
-special what text = if starts_with nat_eq text (codes "__") then in_class (λ e. None) what what (scope (drop 2 text)) (drop 2 text) else None
+abbrev pub static_member : List ℕ → List (List ℕ) → Option Entity
+static_member name names = Some (entity names (Variable name) false true none)
 
--- the name before the last two of the first `_` that stand together
-abbrev cut : List ℕ → List ℕ → Option Entity
-cut name [] = None
-cut name (b ∷ []) = None
-cut name (b ∷ c ∷ []) = None
-cut name (b ∷ c ∷ d ∷ bs) =
-    if ((b == 95) && (c == 95)) && (if d == 95 then false else true) then named name (d ∷ bs) else cut (name ++ b ∷ []) (c ∷ d ∷ bs)
-
-abbrev operator_from : ℕ → List (List ℕ) → List ℕ → Option Entity
-operator_from i [] text = None
-operator_from i (code ∷ rest) text =
-    if starts_with nat_eq text (code ++ codes "__") then special (Operator i) (drop (length code) text) else operator_from (i + 1) rest text
-
-abbrev conversion : Read Code → Option Entity
-conversion None = None
-conversion (Some r) = special (Conversion r.0) r.1
-
--- behind a `__` at the front
-abbrev prefixed : List ℕ → Option Entity
-prefixed text =
-    if pointwise nat_eq text (codes "main") then Some (entity [] Main false false none)
-    else if starts_with nat_eq text (codes "ct__") then special Constructor (drop 2 text)
-    else if starts_with nat_eq text (codes "dt__") then special Destructor (drop 2 text)
-    else if starts_with nat_eq text (codes "op") then conversion (type_at (length text) (drop 2 text))
-    else operator_from 0 operator_codes text
-
-abbrev global : List ℕ → Entity
+abbrev pub global : List ℕ → Entity
 global name = entity [] (Variable name) false false none
 
-abbrev has_cut : List ℕ → Bool
-has_cut [] = false
-has_cut (b ∷ bs) = if starts_with nat_eq (b ∷ bs) (codes "__") then true else has_cut bs
+abbrev pub named : ℕ → List ℕ → List ℕ → Option Entity
+named n name text = if pointwise nat_eq text (codes "g") then Some (global name) else in_scope n (static_member name) (Plain name) (scope text) text
 
-abbrev known_in : List (List ℕ) → List ℕ → Option Entity
-known_in [] text = None
-known_in (name ∷ rest) text = if pointwise nat_eq text (name ++ codes "__g") then Some (global name) else known_in rest text
+-- whether `__` stands here, and no third `_`
+abbrev pub is_mark : List ℕ → Bool
+is_mark text = starts_with nat_eq text (codes "__") && not (starts_with nat_eq (drop 2 text) (codes "_"))
 
-abbrev or_else : Option Entity → Option Entity → Option Entity
-or_else (Some e) other = Some e
-or_else None other = other
+abbrev pub with_front : ℕ → Option (List ℕ × List ℕ) → Option (List ℕ × List ℕ)
+with_front b None = None
+with_front b (Some r) = Some (b ∷ r.0, r.1)
 
-abbrev candidate : List ℕ → Option Entity
-candidate text =
-    or_else (known_in known_names text)
-    (if starts_with nat_eq text (codes "__") then or_else (prefixed (drop 2 text)) (cut [] text) else (if has_cut text then cut [] text else Some (global text)))
+-- what stands before the first such mark, and behind it
+abbrev pub cut : List ℕ → Option (List ℕ × List ℕ)
+cut [] = None
+cut (b ∷ bs) = if is_mark (b ∷ bs) then Some ([], drop 1 bs) else with_front b (cut bs)
+
+abbrev operator_from : ℕ → List (List ℕ) → List ℕ → Option Called
+operator_from i [] name = None
+operator_from i (code ∷ rest) name = if pointwise nat_eq name code then Some (Operator i) else operator_from (i + 1) rest name
+
+abbrev pub called : List ℕ → Option Called
+called name =
+    if pointwise nat_eq name (codes "ct") then Some Constructor
+    else if pointwise nat_eq name (codes "dt") then Some Destructor
+    else operator_from 0 operator_codes name
+
+abbrev pub special_called : ℕ → Option Called → List ℕ → Option Entity
+special_called n None text = None
+special_called n (Some what) text = special n what text
+
+abbrev pub prefixed_cut : ℕ → List ℕ → Option (List ℕ × List ℕ) → Option Entity
+prefixed_cut n text None = if pointwise nat_eq text (codes "main") then Some (entity [] Main false false none) else None
+prefixed_cut n text (Some r) = special_called n (called r.0) r.1
+
+abbrev pub conversion : ℕ → Read Code → Option Entity
+conversion n None = None
+conversion n (Some r) = if starts_with nat_eq r.1 (codes "__") then special n (Conversion r.0) (drop 2 r.1) else None
+
+-- behind a `__` at the front
+abbrev pub prefixed : ℕ → List ℕ → Option Entity
+prefixed n text = if starts_with nat_eq text (codes "op") then conversion n (type_at n (drop 2 text)) else prefixed_cut n text (cut text)
+
+abbrev pub entity_cut : ℕ → List ℕ → Option (List ℕ × List ℕ) → Option Entity
+entity_cut n text None = Some (global text)
+entity_cut n text (Some ([], rest)) = prefixed n rest
+entity_cut n text (Some (b ∷ bs, rest)) = named n (b ∷ bs) rest
+
+-- the entity of a link name, with this many steps
+abbrev pub entity_at : ℕ → List ℕ → Option Entity
+entity_at n text = entity_cut n text (cut text)
 
 abbrev checked : List ℕ → Option Entity → Option Entity
 checked text None = None
@@ -164,4 +174,4 @@ checked text (Some e) = if is_well_formed e && pointwise nat_eq (link_name e) te
 
 -- the entity of a link name, if it is one
 abbrev pub decode : List ℕ → Option Entity
-decode text = checked text (candidate text)
+decode text = checked text (entity_at (length text * 3 + 1) text)

@@ -1,5 +1,5 @@
 -- A class table in order, and types that fit it.
-use Rattle.std.proofs.Common.{◌≡◌, ℕ, zero, suc, ◌+◌, ◌<◌, ◌≤◌, List, [], ◌∷◌, length, take, ◌^◌, None, Some, slice_get, All, IsTrue, refl, subst, codes, arith, lit≤}
+use Rattle.std.proofs.Common.{◌≡◌, ℕ, zero, suc, ◌<◌, ◌≤◌, [], ◌∷◌, length, take, ◌^◌, None, Some, All, IsTrue, refl, subst, codes, arith, lit≤}
 use Rattle.std.specs.Option.{ForSome}
 use Rattle.std.specs.List.{filter_map}
 use Rattle.cf_base.specs.declared.kind.Kind.TheVariants as kind
@@ -14,21 +14,8 @@ use Rattle.cf_classes.specs.TypeTree.{class_in}
 use Rattle.cf_classes.specs.Special.{fields_of}
 use Rattle.cf_classes.specs.Layout.{layout}
 use Rattle.cf_classes.specs.Fit.{Fit, IsClassTable, Extends, IsOnce, is_among, class_of_type, enum_of_type, types_named}
+use Rattle.cf_classes.proofs.Each.{each}
 use Rattle.cf_classes.proofs.Examples.{field, from, struct_of}
-
--- something that holds of each item of a list, with its place
-abbrev Each : {A : Type 0} → (ℕ → A → Type 0) → ℕ → List A → Type 0
-Each P n [] = Unit {0}
-Each P n (x ∷ xs) = P n x × Each P (n + 1) xs
-
-module _ {A : Type 0} where
-  each_at : (P : ℕ → A → Type 0) (n : ℕ) (xs : List A) → Each P n xs → (i : ℕ) (x : A) → slice_get xs i ≡ Some x → P (n + i) x
-  each_at P n [] h i x e = cc
-  each_at P n (y ∷ ys) h zero x e = let same : y ≡ x = cc in subst (λ k. P k x) (omega arith) (subst (P n) same h.0)
-  each_at P n (y ∷ ys) h (suc i) x e = subst (λ k. P k x) (omega arith) (each_at P (n + 1) ys h.1 i x e)
-
-each : {A : Type 0} (P : ℕ → A → Type 0) (xs : List A) → Each P 0 xs → (i : ℕ) (x : A) → slice_get xs i ≡ Some x → P i x
-each P xs h i x e = subst (λ k. P k x) (omega arith) (each_at P 0 xs h i x e)
 
 module _ {A : Type 0} (P : A → Type 0) where
   of_none : All P []
@@ -94,7 +81,7 @@ extends_at i d = Extends classes (take i classes.defined) d.0 d.1
 in_order : IsClassTable classes
 in_order = record {
   labels_in_order = each outer_below classes.labels ((λ x e. cc), ((λ x e. cc), tt));
-  enums_inside = each_at (λ i l. outer_below (length classes.labels) l) 0 classes.enums ((λ x e. let same : 0 ≡ x = cc in subst (λ n. n < length classes.labels) same (lit≤ tt)), tt);
+  enums_inside = each (λ i l. outer_below (length classes.labels) l) classes.enums ((λ x e. let same : 0 ≡ x = cc in subst (λ n. n < length classes.labels) same (lit≤ tt)), tt);
   in_order = each extends_at classes.defined (first_extends, (second_extends, tt));
 }
 

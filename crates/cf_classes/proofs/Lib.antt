@@ -1,5 +1,6 @@
 pub mod ClassTables
 pub mod Decode
+pub mod Each
 pub mod EntityExamples
 pub mod Examples
 pub mod FitExamples
@@ -7,6 +8,8 @@ pub mod LayoutExamples
 pub mod LookupExamples
 pub mod NameExamples
 pub mod OneCode
+pub mod OneEntity
+pub mod Operators
 pub mod OverriderExamples
 pub mod ReadNames
 pub mod SlotExamples

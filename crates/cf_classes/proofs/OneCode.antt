@@ -6,7 +6,7 @@ use Rattle.std.proofs.lemmas.Bool.Decides.{nat_tests}
 use Rattle.cf_base.specs.declared.kind.Kind.{Kind}
 use Rattle.cf_base.specs.declared.kind.Kind.TheVariants as kind
 use Rattle.cf_classes.specs.LinkName.{Code, Void, Integer, Named, Pointer, Reference, Const, Array, Function, Member, Codes, none, more, code, code_all, kind_code, scope_code, counted}
-use Rattle.cf_classes.specs.Entity.{is_identifier, takes_const, is_type, are_types}
+use Rattle.cf_classes.specs.Entity.{is_identifier, takes_const, is_parameter, is_type, are_types}
 use Rattle.cf_classes.proofs.Decode.{then_read, behind, map_read, scope, type_at, function_at, types_at}
 use Rattle.cf_classes.proofs.ReadNames.{and_left, and_right, name_of, by_digit, number-read, digits_of, scope-read, between}
 
@@ -28,14 +28,15 @@ abbrev mutual
   sizes (more t ts) = size t + sizes ts + 1
 
 -- the first byte of a code: no `_`, and `F` for a function type alone
-record First (t : Code) : Type 0 where
-  byte : ℕ
-  rest : List ℕ
-  is : code t ≡ byte ∷ rest
-  no_mark : (byte == 95) ≡ false
-  no_function : takes_const t ≡ true → nat_eq 70 byte ≡ false
+pub record First (t : Code) : Type 0 where
+  pub byte : ℕ
+  pub rest : List ℕ
+  pub is : code t ≡ byte ∷ rest
+  pub no_mark : (byte == 95) ≡ false
+  pub no_void : is_parameter t ≡ true → nat_eq byte 118 ≡ false
+  pub no_function : takes_const t ≡ true → nat_eq 70 byte ≡ false
 
-first_named : (names : List (List ℕ)) → is_type (Named names) ≡ true → First (Named names)
+pub first_named : (names : List (List ℕ)) → is_type (Named names) ≡ true → First (Named names)
 first_named [] h = absurd (true≢false (sym h))
 first_named (n ∷ []) h =
     let d = digits_of (length n) (name_of n (and_left (is_identifier n) true h)).fits in
@@ -44,32 +45,33 @@ first_named (n ∷ []) h =
       rest = d.behind ++ n;
       is = ap (λ l. l ++ n) d.is;
       no_mark = by_digit (λ b. (b == 95) ≡ false) refl refl refl refl refl refl refl refl refl refl d.first d.digit;
+      no_void = λ _. by_digit (λ b. nat_eq b 118 ≡ false) refl refl refl refl refl refl refl refl refl refl d.first d.digit;
       no_function = λ _. by_digit (λ b. nat_eq 70 b ≡ false) refl refl refl refl refl refl refl refl refl refl d.first d.digit;
     }
-first_named (n ∷ m ∷ ms) h = record { byte = 81; rest = _; is = refl; no_mark = refl; no_function = λ _. refl }
+first_named (n ∷ m ∷ ms) h = record { byte = 81; rest = _; is = refl; no_mark = refl; no_void = λ _. refl; no_function = λ _. refl }
 
 first_integer : (k : Kind) → First (Integer k)
-first_integer kind.Char = record { byte = 99; rest = []; is = refl; no_mark = refl; no_function = λ _. refl }
-first_integer kind.SChar = record { byte = 83; rest = 99 ∷ []; is = refl; no_mark = refl; no_function = λ _. refl }
-first_integer kind.UChar = record { byte = 85; rest = 99 ∷ []; is = refl; no_mark = refl; no_function = λ _. refl }
-first_integer kind.Short = record { byte = 115; rest = []; is = refl; no_mark = refl; no_function = λ _. refl }
-first_integer kind.UShort = record { byte = 85; rest = 115 ∷ []; is = refl; no_mark = refl; no_function = λ _. refl }
-first_integer kind.Int = record { byte = 105; rest = []; is = refl; no_mark = refl; no_function = λ _. refl }
-first_integer kind.UInt = record { byte = 85; rest = 105 ∷ []; is = refl; no_mark = refl; no_function = λ _. refl }
-first_integer kind.Long = record { byte = 108; rest = []; is = refl; no_mark = refl; no_function = λ _. refl }
-first_integer kind.ULong = record { byte = 85; rest = 108 ∷ []; is = refl; no_mark = refl; no_function = λ _. refl }
+first_integer kind.Char = record { byte = 99; rest = []; is = refl; no_mark = refl; no_void = λ _. refl; no_function = λ _. refl }
+first_integer kind.SChar = record { byte = 83; rest = 99 ∷ []; is = refl; no_mark = refl; no_void = λ _. refl; no_function = λ _. refl }
+first_integer kind.UChar = record { byte = 85; rest = 99 ∷ []; is = refl; no_mark = refl; no_void = λ _. refl; no_function = λ _. refl }
+first_integer kind.Short = record { byte = 115; rest = []; is = refl; no_mark = refl; no_void = λ _. refl; no_function = λ _. refl }
+first_integer kind.UShort = record { byte = 85; rest = 115 ∷ []; is = refl; no_mark = refl; no_void = λ _. refl; no_function = λ _. refl }
+first_integer kind.Int = record { byte = 105; rest = []; is = refl; no_mark = refl; no_void = λ _. refl; no_function = λ _. refl }
+first_integer kind.UInt = record { byte = 85; rest = 105 ∷ []; is = refl; no_mark = refl; no_void = λ _. refl; no_function = λ _. refl }
+first_integer kind.Long = record { byte = 108; rest = []; is = refl; no_mark = refl; no_void = λ _. refl; no_function = λ _. refl }
+first_integer kind.ULong = record { byte = 85; rest = 108 ∷ []; is = refl; no_mark = refl; no_void = λ _. refl; no_function = λ _. refl }
 
-first : (t : Code) → is_type t ≡ true → First t
-first Void h = record { byte = 118; rest = []; is = refl; no_mark = refl; no_function = λ _. refl }
+pub first : (t : Code) → is_type t ≡ true → First t
+first Void h = record { byte = 118; rest = []; is = refl; no_mark = refl; no_void = λ e. absurd (true≢false (sym e)); no_function = λ _. refl }
 first (Integer k) h = first_integer k
 first (Named names) h = first_named names h
-first (Pointer t) h = record { byte = 80; rest = code t; is = refl; no_mark = refl; no_function = λ _. refl }
-first (Reference t) h = record { byte = 82; rest = code t; is = refl; no_mark = refl; no_function = λ _. refl }
-first (Const t) h = record { byte = 67; rest = code t; is = refl; no_mark = refl; no_function = λ _. refl }
-first (Array n t) h = record { byte = 65; rest = (decimal n ++ 95 ∷ []) ++ code t; is = refl; no_mark = refl; no_function = λ _. refl }
-first (Function true ps r) h = record { byte = 67; rest = 70 ∷ ((code_all ps ++ 95 ∷ []) ++ code r); is = refl; no_mark = refl; no_function = λ _. refl }
-first (Function false ps r) h = record { byte = 70; rest = (code_all ps ++ 95 ∷ []) ++ code r; is = refl; no_mark = refl; no_function = λ e. absurd (true≢false (sym e)) }
-first (Member names t) h = record { byte = 77; rest = scope_code names ++ code t; is = refl; no_mark = refl; no_function = λ _. refl }
+first (Pointer t) h = record { byte = 80; rest = code t; is = refl; no_mark = refl; no_void = λ _. refl; no_function = λ _. refl }
+first (Reference t) h = record { byte = 82; rest = code t; is = refl; no_mark = refl; no_void = λ _. refl; no_function = λ _. refl }
+first (Const t) h = record { byte = 67; rest = code t; is = refl; no_mark = refl; no_void = λ _. refl; no_function = λ _. refl }
+first (Array n t) h = record { byte = 65; rest = (decimal n ++ 95 ∷ []) ++ code t; is = refl; no_mark = refl; no_void = λ _. refl; no_function = λ _. refl }
+first (Function true ps r) h = record { byte = 67; rest = 70 ∷ ((code_all ps ++ 95 ∷ []) ++ code r); is = refl; no_mark = refl; no_void = λ _. refl; no_function = λ _. refl }
+first (Function false ps r) h = record { byte = 70; rest = (code_all ps ++ 95 ∷ []) ++ code r; is = refl; no_mark = refl; no_void = λ _. refl; no_function = λ e. absurd (true≢false (sym e)) }
+first (Member names t) h = record { byte = 77; rest = scope_code names ++ code t; is = refl; no_mark = refl; no_void = λ _. refl; no_function = λ _. refl }
 
 -- a class's code begins with a digit or `Q`, and what begins so is read as one
 class_at : (n : ℕ) (names : List (List ℕ)) (r : List ℕ) → is_type (Named names) ≡ true → type_at (suc n) (scope_code names ++ r) ≡ map_read Named (scope (scope_code names ++ r))
@@ -82,7 +84,7 @@ class_at n (x ∷ []) r h =
 class_at n (x ∷ y ∷ ys) r h = refl
 
 -- the names of a type that is a class
-names_read : (names : List (List ℕ)) (r : List ℕ) → is_type (Named names) ≡ true → scope (scope_code names ++ r) ≡ Some (names, r)
+pub names_read : (names : List (List ℕ)) (r : List ℕ) → is_type (Named names) ≡ true → scope (scope_code names ++ r) ≡ Some (names, r)
 names_read [] r h = absurd (true≢false (sym h))
 names_read (x ∷ xs) r h =
     let short = nat_lt (length (x ∷ xs)) (2 ^ 64) in

@@ -14,15 +14,15 @@ begins_name (b ∷ bs) = is_letter b
 abbrev pub is_identifier : List ℕ → Bool
 is_identifier name = nat_lt (length name) (2 ^ 64) && begins_name name && list_all (λ b. is_letter b || is_digit b) name && not (has_double name) && is_none (keyword_of name)
 
-abbrev nonempty : List (List ℕ) → Bool
+abbrev pub nonempty : List (List ℕ) → Bool
 nonempty [] = false
 nonempty (x ∷ xs) = true
 
-abbrev are_names : List (List ℕ) → Bool
+abbrev pub are_names : List (List ℕ) → Bool
 are_names names = list_all is_identifier names
 
 -- the names that lead to a class or enumeration
-abbrev leads : List (List ℕ) → Bool
+abbrev pub leads : List (List ℕ) → Bool
 leads names = nonempty names && nat_lt (length names) (2 ^ 64) && are_names names
 
 -- const of a const, of an array, of a reference and of a function is written otherwise
@@ -62,20 +62,20 @@ abbrev pub are_parameters : Codes → Bool
 are_parameters none = true
 are_parameters (more t ts) = is_parameter t && is_type t && are_parameters ts
 
-abbrev no_parameters : Codes → Bool
+abbrev pub no_parameters : Codes → Bool
 no_parameters none = true
 no_parameters (more t ts) = false
 
 -- a function outside classes may not be called `main`: that one is an entity of its own
-abbrev is_main : List ℕ → Bool
+abbrev pub is_main : List ℕ → Bool
 is_main name = pointwise nat_eq name (codes "main")
 
-abbrev same : Bool → Bool → Bool
+abbrev pub same : Bool → Bool → Bool
 same true b = b
 same false b = not b
 
 -- what each kind of entity asks
-abbrev fits : Called → Entity → Bool
+abbrev pub fits : Called → Entity → Bool
 fits Main e = not (nonempty e.scope) && no_parameters e.params && not e.is_const && not e.is_static
 fits (Variable name) e = is_identifier name && no_parameters e.params && not e.is_const && same e.is_static (nonempty e.scope)
 fits (Plain name) e = is_identifier name && (nonempty e.scope || not (is_main name))

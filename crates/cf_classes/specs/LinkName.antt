@@ -92,7 +92,7 @@ operator_codes =
     ∷ codes "pp" ∷ codes "mm" ∷ codes "as" ∷ codes "rf" ∷ codes "rm" ∷ codes "cl" ∷ codes "vc" ∷ codes "cm" ∷ codes "apl" ∷ codes "ami"
     ∷ codes "amu" ∷ codes "adv" ∷ codes "amd" ∷ codes "als" ∷ codes "ars" ∷ codes "aad" ∷ codes "aor" ∷ codes "aer" ∷ []
 
-abbrev item : List (List ℕ) → ℕ → List ℕ
+abbrev pub item : List (List ℕ) → ℕ → List ℕ
 item [] i = []
 item (x ∷ xs) i = if i == 0 then x else item xs (i - 1)
 
@@ -107,7 +107,7 @@ abbrev variable : List (List ℕ) → List ℕ → List ℕ
 variable [] name = global_variable name
 variable (outer ∷ inner) name = name ++ codes "__" ++ scope_code (outer ∷ inner)
 
-abbrev parameters : Codes → List ℕ
+abbrev pub parameters : Codes → List ℕ
 parameters none = codes "v"
 parameters (more t ts) = code_all (more t ts)
 
