@@ -6,7 +6,7 @@ use Rattle.cf_tokens.specs.Table.{index_in}
 use Rattle.cf_base.specs.declared.kind.Kind.TheVariants as kind
 use Rattle.cf_classes.specs.LinkName.{Code, Integer, Named, Pointer, Reference, Const, Array, Function, Member, Codes, none, more, Called, Main, Variable, Plain, Operator, Constructor, Conversion, Entity}
 use Rattle.cf_classes.specs.Entity.{Decodes, is_identifier}
-use Rattle.cf_classes.proofs.Decode.{decode}
+use Rattle.cf_classes.specs.Decode.{decode}
 
 abbrev of : List (List ℕ) → Called → Codes → Entity
 of scope what params = record { scope = scope; what = what; params = params; is_const = false; is_static = false }

@@ -1,5 +1,4 @@
 pub mod ClassTables
-pub mod Decode
 pub mod Each
 pub mod EntityExamples
 pub mod Examples
@@ -8,6 +7,7 @@ pub mod LayoutExamples
 pub mod LookupExamples
 pub mod NameExamples
 pub mod OneCode
+pub mod Decoded
 pub mod OneEntity
 pub mod Operators
 pub mod OverriderExamples

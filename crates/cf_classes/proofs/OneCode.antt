@@ -7,7 +7,7 @@ use Rattle.cf_base.specs.declared.kind.Kind.{Kind}
 use Rattle.cf_base.specs.declared.kind.Kind.TheVariants as kind
 use Rattle.cf_classes.specs.LinkName.{Code, Void, Integer, Named, Pointer, Reference, Const, Array, Function, Member, Codes, none, more, code, code_all, kind_code, scope_code, counted}
 use Rattle.cf_classes.specs.Entity.{is_identifier, takes_const, is_parameter, is_type, are_types}
-use Rattle.cf_classes.proofs.Decode.{then_read, behind, map_read, scope, type_at, function_at, types_at}
+use Rattle.cf_classes.specs.Decode.{then_read, behind, map_read, scope, type_at, function_at, types_at}
 use Rattle.cf_classes.proofs.ReadNames.{and_left, and_right, name_of, by_digit, number-read, digits_of, scope-read, between}
 
 -- how many steps are enough

@@ -8,7 +8,7 @@ use Rattle.std.proofs.lemmas.Bool.Decides.{nat_tests}
 use Rattle.cf_tokens.specs.Name.{has_double}
 use Rattle.cf_classes.specs.LinkName.{Code, Codes, none, more, code, code_all, Called, Main, Variable, Plain, Operator, Constructor, Destructor, Conversion, Entity, link_name, operator_codes, item, parameters, scope_code, known_names, Named}
 use Rattle.cf_classes.specs.Entity.{is_identifier, is_type, are_types, is_parameter, are_parameters, is_well_formed, nonempty, are_names, no_parameters, fits, same}
-use Rattle.cf_classes.proofs.Decode.{whole, entity, parameters_at, function_behind, in_scope, special, static_member, global, named, is_mark, with_front, cut, called, special_called, prefixed_cut, conversion, entity_cut, entity_at, types_at, type_at, scope}
+use Rattle.cf_classes.specs.Decode.{whole, entity, parameters_at, function_behind, in_scope, special, static_member, global, named, is_mark, with_front, cut, called, special_called, prefixed_cut, conversion, entity_cut, entity_at, types_at, type_at, scope}
 use Rattle.cf_classes.proofs.Operators.{operator_code}
 use Rattle.cf_classes.proofs.ReadNames.{and_left, and_right, by_digit, digits_of, name_of}
 use Rattle.cf_classes.proofs.OneCode.{first, names_read, size, sizes, type-read, types-read, nothing}
@@ -74,7 +74,7 @@ abbrev behind_scope : Bool → Bool → Codes → List ℕ
 behind_scope c s ps = (if c then codes "C" else []) ++ ((if s then codes "S" else []) ++ (70 ∷ parameters ps))
 
 -- parameters are read back
-types_of : (ps : Codes) → are_parameters ps ≡ true → are_types ps ≡ true
+pub types_of : (ps : Codes) → are_parameters ps ≡ true → are_types ps ≡ true
 types_of none h = refl
 types_of (more t ts) h =
     let front = and_left _ (are_parameters ts) h in
@@ -250,14 +250,14 @@ module _ (n : ℕ) (names : List (List ℕ)) (c s : Bool) (ps : Codes) (sc : Sco
       ∙ special-read (Conversion t)
 
 -- how many steps are enough
-abbrev called_size : Called → ℕ
+abbrev pub called_size : Called → ℕ
 called_size (Conversion t) = size t
 called_size other = 0
 
-abbrev entity_size : Entity → ℕ
+abbrev pub entity_size : Entity → ℕ
 entity_size e = called_size e.what + sizes e.params
 
-no_parameters_is : (ps : Codes) → no_parameters ps ≡ true → ps ≡ none
+pub no_parameters_is : (ps : Codes) → no_parameters ps ≡ true → ps ≡ none
 no_parameters_is none h = refl
 no_parameters_is (more t ts) h = absurd (true≢false (sym h))
 
@@ -310,7 +310,7 @@ entity-read e n h w =
     by_kind n e.scope e.is_const e.is_static e.params (record { short = and_left _ _ around; all = and_right _ _ around }) (not_true (e.is_const && e.is_static) (and_right _ _ kinds))
     (and_right _ _ parts) e.what (and_right _ _ front) w
 
-some_same : (a b : Entity) → Some a ≡ Some b → a ≡ b
+pub some_same : (a b : Entity) → Some a ≡ Some b → a ≡ b
 some_same a b h = cc
 
 -- so different entities have different link names

@@ -5,7 +5,7 @@ use Rattle.std.proofs.lemmas.Bool.Decides.{nat_tests}
 use Rattle.std.specs.List.{starts_with}
 use Rattle.cf_tokens.specs.Name.{has_double}
 use Rattle.cf_classes.specs.LinkName.{Operator, operator_codes, item}
-use Rattle.cf_classes.proofs.Decode.{is_mark, called}
+use Rattle.cf_classes.specs.Decode.{is_mark, called}
 use Rattle.cf_classes.proofs.Each.{Each, each}
 
 -- of the operator of this number: its code stands between marks, is no conversion's and has none of its own, and is this operator's alone

@@ -9,7 +9,7 @@ use Rattle.cf_tokens.specs.Class.{is_digit, is_letter}
 use Rattle.cf_classes.specs.LinkName as name
 use Rattle.cf_classes.specs.LinkName.{scope_code}
 use Rattle.cf_classes.specs.Entity.{is_identifier}
-use Rattle.cf_classes.proofs.Decode.{number_from, number, counted, counted_names, scope, then_read, behind}
+use Rattle.cf_classes.specs.Decode.{number_from, number, counted, counted_names, scope, then_read, behind}
 
 -- two tests that both hold
 pub and_left : (a b : Bool) → (a && b) ≡ true → a ≡ true

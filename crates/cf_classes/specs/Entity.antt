@@ -93,3 +93,7 @@ is_well_formed e =
 abbrev pub Decodes : List ℕ → Option Entity → Type 0
 Decodes name (Some e) = IsTrue (is_well_formed e) × (link_name e ≡ name)
 Decodes name None = (e : Entity) → IsTrue (is_well_formed e) → link_name e ≡ name → ⊥
+
+-- entities that differ have link names that differ
+abbrev pub AreApart : Type 0
+AreApart = (e f : Entity) → IsTrue (is_well_formed e) → IsTrue (is_well_formed f) → link_name e ≡ link_name f → e ≡ f

@@ -1,4 +1,5 @@
 pub mod ClassTable
+pub mod Decode
 pub mod Description
 pub mod Entity
 pub mod Fit

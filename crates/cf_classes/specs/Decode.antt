@@ -1,12 +1,12 @@
--- A plain program that takes a link name apart, on which the definition of decoding is tried.
-use Rattle.std.proofs.Common.{ℕ, zero, suc, ◌+◌, ◌-◌, ◌*◌, Bool, true, false, ◌==◌, ◌&&◌, not, nat_eq, nat_le, if◌then◌else◌, List, [], ◌∷◌, length, take, drop, Option, None, Some, codes}
+-- How a link name is taken apart into the entity that it stands for.
+use Rattle.std.specs.Prelude.{ℕ, zero, suc, ◌+◌, ◌-◌, ◌*◌, Bool, true, false, ◌==◌, ◌&&◌, not, nat_eq, nat_le, if◌then◌else◌, List, [], ◌∷◌, length, take, drop, Option, None, Some, codes}
 use Rattle.std.specs.Cmp.Lexicographic.{pointwise}
 use Rattle.std.specs.List.{starts_with}
 use Rattle.std.specs.Option.{option_map}
 use Rattle.cf_base.specs.declared.kind.Kind.TheVariants as kind
 use Rattle.cf_tokens.specs.Class.{is_digit}
 use Rattle.cf_classes.specs.LinkName.{Code, Void, Integer, Named, Pointer, Reference, Const, Array, Function, Member, Codes, none, more, Called, Main, Variable, Plain, Operator, Constructor, Destructor, Conversion, Entity, link_name, operator_codes}
-use Rattle.cf_classes.specs.Entity.{is_well_formed}
+use Rattle.cf_classes.specs.Entity.{is_well_formed, Decodes}
 
 -- a value that is read at the front, and what stands behind it
 abbrev pub Read : Type 0 → Type 0
@@ -168,10 +168,14 @@ entity_cut n text (Some (b ∷ bs, rest)) = named n (b ∷ bs) rest
 abbrev pub entity_at : ℕ → List ℕ → Option Entity
 entity_at n text = entity_cut n text (cut text)
 
-abbrev checked : List ℕ → Option Entity → Option Entity
+abbrev pub checked : List ℕ → Option Entity → Option Entity
 checked text None = None
 checked text (Some e) = if is_well_formed e && pointwise nat_eq (link_name e) text then Some e else None
 
 -- the entity of a link name, if it is one
 abbrev pub decode : List ℕ → Option Entity
 decode text = checked text (entity_at (length text * 3 + 1) text)
+
+-- this is the entity that has the name, if there is one
+abbrev pub IsDecoding : Type 0
+IsDecoding = (name : List ℕ) → Decodes name (decode name)
