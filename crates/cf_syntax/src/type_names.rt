@@ -177,7 +177,6 @@ impl TypeNames {
 
     /// What a class, or else its bases in order and depth first, says of a name.
     pub fn find_in(&self, class: u32, name: &[u8]) -> Option<NameKind>
-        requires { class < length self.now.classes }
         ensures { result ≡ find_in self.now class name.now }
     {
         kind_in_class(&self.classes, self.classes.len(), class, name)

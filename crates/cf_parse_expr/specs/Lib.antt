@@ -1,0 +1,4 @@
+pub mod Nests
+pub mod Reads
+pub mod Scopes
+pub mod Rules
