@@ -1,4 +1,5 @@
 pub mod Nests
 pub mod Reads
-pub mod Scopes
+pub mod Named
+pub mod Specified
 pub mod Rules

@@ -1,6 +1,6 @@
 //! The tokens that are left.
 
-ghost use Rattle.std.specs.Prelude.{◌≡◌, ◌≤◌, length, drop};
+ghost use Rattle.std.specs.Prelude.{◌≡◌, length, drop, is_some};
 ghost use Rattle.std.specs.Option.{option_copied};
 ghost use Rattle.cf_syntax.specs.Words.{code, front, place, ident_of, ident_at};
 ghost use Rattle.cf_syntax.specs.Parse.{word};
@@ -104,6 +104,16 @@ impl<'a> Cursor<'a> {
         match self.rest {
             [token, ..] => ident_of(&token.word),
             [] => None,
+        }
+    }
+
+    /// Whether the third token is an identifier.
+    pub fn third_is_ident(&self) -> bool
+        ensures { result ≡ is_some (ident_at (drop 2 self.now)) }
+    {
+        match self.rest {
+            [_, _, token, ..] => ident_of(&token.word).is_some(),
+            [_, _] | [_] | [] => false,
         }
     }
 

@@ -3,6 +3,7 @@
 
 mod cursor;
 mod grammar;
+mod names;
 mod scopes;
 mod stop;
 mod words;
