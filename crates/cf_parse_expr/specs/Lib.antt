@@ -1,5 +1,14 @@
-pub mod Nests
-pub mod Reads
+pub mod Answers
+pub mod Arguments
+pub mod Binaries
+pub mod Declarators
+pub mod Inner
+pub mod Leaves
 pub mod Named
+pub mod Nests
+pub mod Nodes
+pub mod Operands
+pub mod Params
+pub mod Reads
 pub mod Specified
-pub mod Rules
+pub mod Unaries

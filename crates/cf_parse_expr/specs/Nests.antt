@@ -9,7 +9,7 @@ use Rattle.cf_parse_expr.specs.declared.grammar.Node.{Node}
 use Rattle.cf_parse_expr.specs.declared.grammar.Wanted.{Wanted}
 use Rattle.cf_parse_expr.specs.declared.stop.Stop.{Stop}
 use Rattle.cf_parse_expr.specs.Reads.{Reads}
-use Rattle.cf_parse_expr.specs.Rules.{inner}
+use Rattle.cf_parse_expr.specs.Inner.{inner}
 
 pub record Nests (depth : ℕ) (pre : Global → ℕ → Wanted → Bor Names → MutBor (List Token) → Type 0)
     (post : Global → ℕ → Wanted → Bor Names → MutBor (List Token) → Result Node Stop → MutBor (List Token) → Type 0) : Type 0 where

@@ -107,6 +107,16 @@ impl<'a> Cursor<'a> {
         }
     }
 
+    /// The identifier behind the next token, if one stands there.
+    pub fn second_ident(&self) -> Option<&'a [u8]>
+        ensures { option_copied result ≡ ident_at (drop 1 self.now) }
+    {
+        match self.rest {
+            [_, token, ..] => ident_of(&token.word),
+            [_] | [] => None,
+        }
+    }
+
     /// Whether the third token is an identifier.
     pub fn third_is_ident(&self) -> bool
         ensures { result ≡ is_some (ident_at (drop 2 self.now)) }

@@ -4,6 +4,7 @@ ghost use Rattle.std.specs.Prelude.{◌≡◌, ◌++◌, length, IfOk, OnOk, Som
 ghost use Rattle.std.specs.Option.{option_map};
 ghost use Rattle.cf_syntax.specs.Named.{inside, kind_at, grown, unqualified, path_of, class_of, no_names};
 ghost use Rattle.cf_parse_expr.specs.Reads.{Reads, Always};
+ghost use Rattle.cf_parse_expr.specs.Leaves.{a_type_path, a_pointer, all_pointers};
 ghost use Rattle.cf_parse_expr.specs.Named as spec;
 
 use crate::cursor::Cursor;
@@ -151,7 +152,7 @@ fn unqualified(alloc: Global, from_file: bool) -> Qualifiers
 
 /// The classes that qualify a name, with the `::` before them.
 #[tactic(auto, unfolding(crate::specs::Named::qualifiers_at))]
-pub fn qualifiers(
+pub(crate) fn qualifiers(
     alloc: Global,
     names: &Scopes<'_>,
     c: &mut Cursor<'_>,
@@ -185,7 +186,11 @@ fn path_of(alloc: Global, at: u32, q: Qualifiers, name: &[u8]) -> Result<Path, M
 
 /// A type's name with its qualifiers.
 #[tactic(auto, unfolding(crate::specs::Named::path_at))]
-pub fn type_path(alloc: Global, names: &Scopes<'_>, c: &mut Cursor<'_>) -> Result<Path, Stop>
+pub(crate) fn type_path_read(
+    alloc: Global,
+    names: &Scopes<'_>,
+    c: &mut Cursor<'_>,
+) -> Result<Path, Stop>
     ensures { Reads (spec.path_at names.now c.old) result c.new }
 {
     let at = c.place();
@@ -285,7 +290,7 @@ fn has_none(names: &Items<Bytes>) -> bool
 
 /// An operator of a declarator: `*`, `&` or `A::*`.
 #[tactic(auto, unfolding(crate::specs::Named::pointer_at))]
-pub fn one_pointer(alloc: Global, names: &Scopes<'_>, c: &mut Cursor<'_>) -> Result<Pointer, Stop>
+fn pointer_read(alloc: Global, names: &Scopes<'_>, c: &mut Cursor<'_>) -> Result<Pointer, Stop>
     ensures { Reads (spec.pointer_at names.now c.old) result c.new }
 {
     let at = c.place();
@@ -303,7 +308,7 @@ pub fn one_pointer(alloc: Global, names: &Scopes<'_>, c: &mut Cursor<'_>) -> Res
 
 /// The operators of a declarator, as many as there are.
 #[tactic(auto, unfolding(crate::specs::Named::pointers_at))]
-pub fn pointers(
+pub(crate) fn pointers_read(
     alloc: Global,
     names: &Scopes<'_>,
     c: &mut Cursor<'_>,
@@ -313,7 +318,7 @@ pub fn pointers(
     let mut all = Items::new(alloc);
     for _turn in 0..c.len() {
         let before = c.rest();
-        match one_pointer(alloc, names, c) {
+        match pointer_read(alloc, names, c) {
             Ok(p) => all.push(p)?,
             Err(Stop::Nothing) => {
                 c.set(before);
@@ -323,4 +328,29 @@ pub fn pointers(
         }
     }
     Ok(all)
+}
+
+/// A type's name with its qualifiers (7.1.6).
+pub fn type_path(alloc: Global, names: &Scopes<'_>, c: &mut Cursor<'_>) -> Result<Path, Stop>
+    ensures { Reads (a_type_path names.now c.old) result c.new }
+{
+    type_path_read(alloc, names, c)
+}
+
+/// An operator of a declarator: `*`, `&` or `A::*` (8.2.1 to 8.2.3).
+pub fn one_pointer(alloc: Global, names: &Scopes<'_>, c: &mut Cursor<'_>) -> Result<Pointer, Stop>
+    ensures { Reads (a_pointer names.now c.old) result c.new }
+{
+    pointer_read(alloc, names, c)
+}
+
+/// The operators of a declarator, as many as there are.
+pub fn pointers(
+    alloc: Global,
+    names: &Scopes<'_>,
+    c: &mut Cursor<'_>,
+) -> Result<Items<Pointer>, Memory>
+    ensures { Always (all_pointers names.now c.old) result c.new }
+{
+    pointers_read(alloc, names, c)
 }

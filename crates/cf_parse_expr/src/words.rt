@@ -1,5 +1,10 @@
 //! The words of tokens by number: signs by their own numbers, keywords from 64 on, and then the other kinds.
 
+ghost use Rattle.std.specs.Prelude.{◌≡◌};
+ghost use Rattle.cf_syntax.specs.Grammar.{begins};
+
+use crate::cursor::Cursor;
+
 /// `(`
 pub const LEFT_PAREN: u16 = 0;
 /// `)`
@@ -38,3 +43,20 @@ pub const NEW: u16 = 88;
 pub const OPERATOR: u16 = 89;
 /// `sizeof`
 pub const SIZEOF: u16 = 97;
+/// The number of `this` among the keywords.
+pub const THIS: u8 = 38;
+
+/// Whether one of these words comes next.
+pub fn begins(words: &[u16], c: &Cursor<'_>) -> bool
+    ensures { result ≡ begins words.now c.now }
+{
+    let front = c.front();
+    let mut rest = words;
+    while let [first, behind @ ..] = rest {
+        if front == *first {
+            return true;
+        }
+        rest = behind;
+    }
+    false
+}

@@ -1,17 +1,9 @@
-use Rattle.std.proofs.Common.{◌≡◌, Some, None, rules}
-use Rattle.cf_parse_expr.specs.Named.{pointer_turn, pointers_at}
-use Rattle.cf_parse_expr.proofs.Loops.{goes-on, ends-there, ends-all}
+use Rattle.std.proofs.Common.{subst}
+use Rattle.cf_parse_expr.specs.Leaves.{all_pointers}
+use Rattle.cf_parse_expr.specs.Reads.{Always}
+use Rattle.cf_parse_expr.proofs.Leaves.{pointers-is}
 use Rattle.cf_parse_expr.proofs.names.pointers.Goals as goal
 
-pub returns-in-Err-Nothing : goal.returns-in-Err-Nothing
-unfolding pointers_at pointer_turn
-returns-in-Err-Nothing c =
-    let over : pointer_turn c.args.names.now c.loop-turn.all c.loop-turn.c ≡ None = search rules in
-    let e = ends-there (pointer_turn c.args.names.now) c.len-turn-end.result c.loop-turn._turn c.loop-turn.all c.loop-turn.c _ c.loop-turn-test.true over c.loop-turn.invariant in
-    search rules
-
-pub loop-turn-preserved : goal.loop-turn-preserved
-unfolding pointer_turn
-loop-turn-preserved c =
-    let step : pointer_turn c.args.names.now c.loop-turn.all c.loop-turn.c ≡ Some (c.push.new.self, c.one_pointer.new.c) = search rules in
-    goes-on (pointer_turn c.args.names.now) c.len-turn-end.result c.loop-turn._turn c.loop-turn.all c.push.new.self c.loop-turn.c c.one_pointer.new.c _ c.loop-turn-test.true step c.loop-turn.invariant
+pub returns : goal.returns
+unfolding all_pointers
+returns c = subst (λ r. Always r c.pointers_read.result c.pointers_read.new.c) (pointers-is c.args.names.now c.args.c.now) c.pointers_read.ensures

@@ -1,0 +1,50 @@
+ghost use Rattle.std.specs.Prelude.{◌≡◌, ◌<◌, ◌^◌, length};
+ghost use Rattle.cf_parse_expr.specs.Answers.{end_of, place_at, outside};
+
+use cf_base::{Broken, Rule};
+use cf_tokens::Token;
+use thiserror::Error;
+
+/// Why no phrase is read at a place.
+#[derive(Clone, Copy, Debug, PartialEq, Eq, Error)]
+pub enum ExprFault {
+    /// None begins there: the rule that tokens are in the grammar is broken.
+    #[error("rule {} broken at byte {}", .0.rule.number(), .0.at)]
+    Broken(Broken),
+    /// Want of memory.
+    #[error("out of memory")]
+    Memory,
+}
+
+/// The end of the last token in bytes, and 0 where there is none.
+fn end_of(tokens: &[Token]) -> u32
+    requires { end_of tokens.now < 2 ^ 32 }
+    ensures { result ≡ end_of tokens.now }
+{
+    match tokens.last() {
+        Some(last) => last.at + last.len,
+        None => 0,
+    }
+}
+
+/// The place of the token of this number, and the end of the last one where there are not so many.
+fn place_at(tokens: &[Token], at: usize) -> u32
+    requires { end_of tokens.now < 2 ^ 32 }
+    ensures { result ≡ place_at tokens.now at }
+{
+    match tokens.get(at) {
+        Some(token) => token.at,
+        None => end_of(tokens),
+    }
+}
+
+/// The tokens from this number on are outside the grammar.
+pub fn outside_at(tokens: &[Token], at: usize) -> Broken
+    requires { end_of tokens.now < 2 ^ 32 }
+    ensures { result ≡ outside (place_at tokens.now at) }
+{
+    Broken {
+        rule: Rule::new(6),
+        at: place_at(tokens, at),
+    }
+}
