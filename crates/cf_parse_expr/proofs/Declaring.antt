@@ -95,8 +95,10 @@ module _ (r : Readers) (names : Names) where
   abbrev with-const : ℕ × List Param → Bool → ℕ × List Param × Bool
   with-const all is_const = (all.0, all.1, is_const)
 
-  some-const : (all : ℕ × List Param) (b : Bool) (us vs : List Token)
-      → true ≡ is_some (cond b (Some (with-const all true, us)) (Some (with-const all false, vs)))
+  abbrev by-const : ℕ × List Param → Bool → List Token → List Token → Option ((ℕ × List Param × Bool) × List Token)
+  by-const all b us vs = cond b (Some (with-const all true, us)) (Some (with-const all false, vs))
+
+  some-const : (all : ℕ × List Param) (b : Bool) (us vs : List Token) → true ≡ is_some (by-const all b us vs)
   some-const all true us vs = refl
   some-const all false us vs = refl
 
