@@ -1,6 +1,6 @@
 //! The tokens that are left.
 
-ghost use Rattle.std.specs.Prelude.{◌≡◌, length, drop, is_some};
+ghost use Rattle.std.specs.Prelude.{◌≡◌, suc, length, drop, is_some};
 ghost use Rattle.std.specs.Option.{option_copied};
 ghost use Rattle.cf_syntax.specs.Words.{code, front, place, ident_of, ident_at};
 ghost use Rattle.cf_syntax.specs.Parse.{word};
@@ -51,6 +51,13 @@ impl<'a> Cursor<'a> {
         ensures { result ≡ length self.now }
     {
         self.rest.len()
+    }
+
+    /// One more than how many tokens are left: a depth that no phrase passes.
+    pub fn depth(&self) -> usize
+        ensures { result ≡ suc (length self.now) }
+    {
+        one_more(self.rest)
     }
 
     /// The tokens that are left.
@@ -162,6 +169,13 @@ impl<'a> Cursor<'a> {
             [] => Err(Stop::Nothing),
         }
     }
+}
+
+/// One more than the number of the tokens.
+fn one_more(tokens: &[Token]) -> usize
+    ensures { result ≡ suc (length tokens.now) }
+{
+    tokens.len() + 1
 }
 
 /// The name that a word is, if it is an identifier.

@@ -18,7 +18,7 @@ use std::alloc::Global;
 pub fn commas(alloc: Global, names: &Scopes<'_>, c: &mut Cursor<'_>) -> Result<Boxed<Expr>, Stop>
     ensures { TakesLongest (SpellsCommas names.now) c.old result c.new }
 {
-    let depth = c.len() + 1;
+    let depth = c.depth();
     Grammar {
         alloc,
         depth,
@@ -31,7 +31,7 @@ pub fn commas(alloc: Global, names: &Scopes<'_>, c: &mut Cursor<'_>) -> Result<B
 pub fn assign(alloc: Global, names: &Scopes<'_>, c: &mut Cursor<'_>) -> Result<Boxed<Expr>, Stop>
     ensures { TakesLongest (SpellsAssign names.now) c.old result c.new }
 {
-    let depth = c.len() + 1;
+    let depth = c.depth();
     Grammar {
         alloc,
         depth,
@@ -44,7 +44,7 @@ pub fn assign(alloc: Global, names: &Scopes<'_>, c: &mut Cursor<'_>) -> Result<B
 pub fn condition(alloc: Global, names: &Scopes<'_>, c: &mut Cursor<'_>) -> Result<Boxed<Expr>, Stop>
     ensures { TakesLongest (SpellsCondition names.now) c.old result c.new }
 {
-    let depth = c.len() + 1;
+    let depth = c.depth();
     Grammar {
         alloc,
         depth,
@@ -57,7 +57,7 @@ pub fn condition(alloc: Global, names: &Scopes<'_>, c: &mut Cursor<'_>) -> Resul
 pub fn declarator(alloc: Global, names: &Scopes<'_>, c: &mut Cursor<'_>) -> Result<(Boxed<DeclTree>, Items<u32>), Stop>
     ensures { TakesLongest (SpellsDeclarator names.now) c.old result c.new }
 {
-    let depth = c.len() + 1;
+    let depth = c.depth();
     Grammar {
         alloc,
         depth,
@@ -70,7 +70,7 @@ pub fn declarator(alloc: Global, names: &Scopes<'_>, c: &mut Cursor<'_>) -> Resu
 pub fn params(alloc: Global, names: &Scopes<'_>, c: &mut Cursor<'_>) -> Result<Items<Param>, Stop>
     ensures { TakesLongest (SpellsParams names.now) c.old result c.new }
 {
-    let depth = c.len() + 1;
+    let depth = c.depth();
     Grammar {
         alloc,
         depth,
@@ -83,7 +83,7 @@ pub fn params(alloc: Global, names: &Scopes<'_>, c: &mut Cursor<'_>) -> Result<I
 pub fn type_id(alloc: Global, names: &Scopes<'_>, c: &mut Cursor<'_>) -> Result<Boxed<TypeId>, Stop>
     ensures { TakesLongest (SpellsTypeId names.now) c.old result c.new }
 {
-    let depth = c.len() + 1;
+    let depth = c.depth();
     Grammar {
         alloc,
         depth,

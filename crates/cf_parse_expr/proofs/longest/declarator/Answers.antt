@@ -1,4 +1,3 @@
-use Rattle.std.proofs.Common.{◌≡◌, ◌+◌, suc, length, arith}
 use Rattle.cf_syntax.specs.declared.reading.DeclaratorKind.TheVariants as kind
 use Rattle.cf_syntax.specs.Grammar.{inside}
 use Rattle.cf_syntax.specs.Reading.{readers}
@@ -10,6 +9,5 @@ use Rattle.cf_parse_expr.proofs.longest.declarator.Goals as goal
 pub returns : goal.returns
 returns c =
     let names = c.args.names.now in
-    let deep : c.len.result + 1 ≡ suc (length c.args.c.now) = omega (arith, c.len.ensures) in
-    takes behind_declarator (λ n. (readers n).declarator kind.Named names) (λ n. (inside n).declarator kind.Named names) (λ n. (all-good n).declarator kind.Named names) (c.len.result + 1) c.args.c.now deep
+    takes behind_declarator (λ n. (readers n).declarator kind.Named names) (λ n. (inside n).declarator kind.Named names) (λ n. (all-good n).declarator kind.Named names) c.depth-depth.result c.args.c.now c.depth-depth.ensures
     c.inner_declarator.result c.inner_declarator.new.c c.inner_declarator.ensures

@@ -1,4 +1,3 @@
-use Rattle.std.proofs.Common.{◌≡◌, ◌+◌, suc, length, arith}
 use Rattle.cf_syntax.specs.Grammar.{inside}
 use Rattle.cf_syntax.specs.Reading.{readers}
 use Rattle.cf_syntax.proofs.Inner.{behind_declarator}
@@ -9,6 +8,5 @@ use Rattle.cf_parse_expr.proofs.longest.type_id.Goals as goal
 pub returns : goal.returns
 returns c =
     let names = c.args.names.now in
-    let deep : c.len.result + 1 ≡ suc (length c.args.c.now) = omega (arith, c.len.ensures) in
-    takes behind_declarator (λ n. (readers n).type_id names) (λ n. (inside n).type_id names) (λ n. (all-good n).type_id names) (c.len.result + 1) c.args.c.now deep
+    takes behind_declarator (λ n. (readers n).type_id names) (λ n. (inside n).type_id names) (λ n. (all-good n).type_id names) c.depth-depth.result c.args.c.now c.depth-depth.ensures
     c.inner_type_id.result c.inner_type_id.new.c c.inner_type_id.ensures
