@@ -17,7 +17,11 @@ use std::alloc::Global;
 impl<F: Fn(Global, usize, Wanted, &Scopes<'_>, &mut Cursor<'_>) -> Result<Node, Stop>> Grammar<F> {
     /// A comma with an expression behind it, and the comma's place.
     #[tactic(auto, unfolding(crate::specs::Arguments::next_assign))]
-    pub fn next_assign(&self, names: &Scopes<'_>, c: &mut Cursor<'_>) -> Result<(u32, Boxed<Expr>), Stop>
+    pub fn next_assign(
+        &self,
+        names: &Scopes<'_>,
+        c: &mut Cursor<'_>,
+    ) -> Result<(u32, Boxed<Expr>), Stop>
         requires { Nests self.now.depth (F.pre self.now.inside) (F.post self.now.inside) }
         ensures { Reads (spec.next_assign (readers self.now.depth) names.now c.old) result c.new }
     {
@@ -27,7 +31,12 @@ impl<F: Fn(Global, usize, Wanted, &Scopes<'_>, &mut Cursor<'_>) -> Result<Node, 
     }
 
     /// Expressions behind commas, as many as there are, behind these.
-    pub fn more_assigns(&self, names: &Scopes<'_>, c: &mut Cursor<'_>, first: Items<Expr>) -> Result<Items<Expr>, Memory>
+    pub fn more_assigns(
+        &self,
+        names: &Scopes<'_>,
+        c: &mut Cursor<'_>,
+        first: Items<Expr>,
+    ) -> Result<Items<Expr>, Memory>
         requires { Nests self.now.depth (F.pre self.now.inside) (F.post self.now.inside) }
         ensures { Always (spec.more_assigns (readers self.now.depth) names.now first c.old) result c.new }
     {
@@ -58,7 +67,12 @@ impl<F: Fn(Global, usize, Wanted, &Scopes<'_>, &mut Cursor<'_>) -> Result<Node, 
     }
 
     #[tactic(auto, unfolding(crate::specs::Arguments::arguments_behind))]
-    fn arguments_behind(&self, names: &Scopes<'_>, c: &mut Cursor<'_>, at: u32) -> Result<(u32, Items<Expr>), Stop>
+    fn arguments_behind(
+        &self,
+        names: &Scopes<'_>,
+        c: &mut Cursor<'_>,
+        at: u32,
+    ) -> Result<(u32, Items<Expr>), Stop>
         requires { Nests self.now.depth (F.pre self.now.inside) (F.post self.now.inside) }
         ensures { Reads (spec.arguments_behind (readers self.now.depth) names.now at c.old) result c.new }
     {
@@ -73,7 +87,11 @@ impl<F: Fn(Global, usize, Wanted, &Scopes<'_>, &mut Cursor<'_>) -> Result<Node, 
 
     /// Arguments in brackets (5.2.2), and the bracket's place.
     #[tactic(auto, unfolding(crate::specs::Arguments::arguments))]
-    pub fn arguments(&self, names: &Scopes<'_>, c: &mut Cursor<'_>) -> Result<(u32, Items<Expr>), Stop>
+    pub fn arguments(
+        &self,
+        names: &Scopes<'_>,
+        c: &mut Cursor<'_>,
+    ) -> Result<(u32, Items<Expr>), Stop>
         requires { Nests self.now.depth (F.pre self.now.inside) (F.post self.now.inside) }
         ensures { Reads (spec.arguments (readers self.now.depth) names.now c.old) result c.new }
     {
@@ -83,7 +101,11 @@ impl<F: Fn(Global, usize, Wanted, &Scopes<'_>, &mut Cursor<'_>) -> Result<Node, 
 
     /// A type in brackets (8.1), and the bracket's place.
     #[tactic(auto, unfolding(crate::specs::Arguments::type_in_brackets))]
-    pub fn type_in_brackets(&self, names: &Scopes<'_>, c: &mut Cursor<'_>) -> Result<(u32, Boxed<TypeId>), Stop>
+    pub fn type_in_brackets(
+        &self,
+        names: &Scopes<'_>,
+        c: &mut Cursor<'_>,
+    ) -> Result<(u32, Boxed<TypeId>), Stop>
         requires { Nests self.now.depth (F.pre self.now.inside) (F.post self.now.inside) }
         ensures { Reads (spec.type_in_brackets (readers self.now.depth) names.now c.old) result c.new }
     {
@@ -95,7 +117,11 @@ impl<F: Fn(Global, usize, Wanted, &Scopes<'_>, &mut Cursor<'_>) -> Result<Node, 
 
     /// Parameters in brackets (8.2.5), and the bracket's place.
     #[tactic(auto, unfolding(crate::specs::Arguments::params_in_brackets))]
-    pub fn params_in_brackets(&self, names: &Scopes<'_>, c: &mut Cursor<'_>) -> Result<(u32, Items<Param>), Stop>
+    pub fn params_in_brackets(
+        &self,
+        names: &Scopes<'_>,
+        c: &mut Cursor<'_>,
+    ) -> Result<(u32, Items<Param>), Stop>
         requires { Nests self.now.depth (F.pre self.now.inside) (F.post self.now.inside) }
         ensures { Reads (spec.params_in_brackets (readers self.now.depth) names.now c.old) result c.new }
     {

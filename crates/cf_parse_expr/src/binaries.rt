@@ -29,7 +29,12 @@ impl<F: Fn(Global, usize, Wanted, &Scopes<'_>, &mut Cursor<'_>) -> Result<Node, 
     /// An operator of a level with its right operand.
     #[tactic(auto, unfolding(crate::specs::Binaries::right_side))]
     #[cycle(levels)]
-    fn right_side(&self, names: &Scopes<'_>, c: &mut Cursor<'_>, level: u8) -> Result<((u32, BinaryOp), Boxed<Expr>), Stop>
+    fn right_side(
+        &self,
+        names: &Scopes<'_>,
+        c: &mut Cursor<'_>,
+        level: u8,
+    ) -> Result<((u32, BinaryOp), Boxed<Expr>), Stop>
         requires { Nests self.now.depth (F.pre self.now.inside) (F.post self.now.inside) }
         ensures { Reads (spec.right_side (readers self.now.depth) names.now level (spec.joined_from (readers self.now.depth) names.now level) c.old) result c.new }
     {
@@ -40,7 +45,13 @@ impl<F: Fn(Global, usize, Wanted, &Scopes<'_>, &mut Cursor<'_>) -> Result<Node, 
     }
 
     #[cycle(levels)]
-    fn more_binary(&self, names: &Scopes<'_>, c: &mut Cursor<'_>, level: u8, first: Boxed<Expr>) -> Result<Boxed<Expr>, Memory>
+    fn more_binary(
+        &self,
+        names: &Scopes<'_>,
+        c: &mut Cursor<'_>,
+        level: u8,
+        first: Boxed<Expr>,
+    ) -> Result<Boxed<Expr>, Memory>
         requires { Nests self.now.depth (F.pre self.now.inside) (F.post self.now.inside) }
         ensures { Always (spec.more_binary (readers self.now.depth) names.now level (spec.joined_from (readers self.now.depth) names.now level) first c.old) result c.new }
     {
@@ -62,7 +73,13 @@ impl<F: Fn(Global, usize, Wanted, &Scopes<'_>, &mut Cursor<'_>) -> Result<Node, 
     /// The same with the operators of one more level.
     #[tactic(auto, unfolding(crate::specs::Binaries::joined_next))]
     #[cycle(levels)]
-    fn joined_next(&self, names: &Scopes<'_>, c: &mut Cursor<'_>, level: u8, first: Boxed<Expr>) -> Result<Boxed<Expr>, Stop>
+    fn joined_next(
+        &self,
+        names: &Scopes<'_>,
+        c: &mut Cursor<'_>,
+        level: u8,
+        first: Boxed<Expr>,
+    ) -> Result<Boxed<Expr>, Stop>
         requires { Nests self.now.depth (F.pre self.now.inside) (F.post self.now.inside) }
         ensures { Reads (spec.joined_next (readers self.now.depth) names.now level first c.old) result c.new }
     {
@@ -72,7 +89,13 @@ impl<F: Fn(Global, usize, Wanted, &Scopes<'_>, &mut Cursor<'_>) -> Result<Node, 
 
     /// A binary expression of so many levels, from its first operand on.
     #[cycle(levels)]
-    fn joined_from(&self, names: &Scopes<'_>, c: &mut Cursor<'_>, level: u8, first: Boxed<Expr>) -> Result<Boxed<Expr>, Stop>
+    fn joined_from(
+        &self,
+        names: &Scopes<'_>,
+        c: &mut Cursor<'_>,
+        level: u8,
+        first: Boxed<Expr>,
+    ) -> Result<Boxed<Expr>, Stop>
         requires { Nests self.now.depth (F.pre self.now.inside) (F.post self.now.inside) }
         ensures { Reads (spec.joined_from (readers self.now.depth) names.now level first c.old) result c.new }
     {
@@ -83,7 +106,11 @@ impl<F: Fn(Global, usize, Wanted, &Scopes<'_>, &mut Cursor<'_>) -> Result<Node, 
     }
 
     #[tactic(auto, unfolding(crate::specs::Binaries::choice))]
-    fn choice(&self, names: &Scopes<'_>, c: &mut Cursor<'_>) -> Result<(u32, Boxed<Expr>, Boxed<Expr>), Stop>
+    fn choice(
+        &self,
+        names: &Scopes<'_>,
+        c: &mut Cursor<'_>,
+    ) -> Result<(u32, Boxed<Expr>, Boxed<Expr>), Stop>
         requires { Nests self.now.depth (F.pre self.now.inside) (F.post self.now.inside) }
         ensures { Reads (spec.choice (readers self.now.depth) names.now c.old) result c.new }
     {
@@ -95,7 +122,12 @@ impl<F: Fn(Global, usize, Wanted, &Scopes<'_>, &mut Cursor<'_>) -> Result<Node, 
     }
 
     #[tactic(auto, unfolding(crate::specs::Binaries::chosen))]
-    fn chosen(&self, names: &Scopes<'_>, c: &mut Cursor<'_>, condition: Boxed<Expr>) -> Result<Boxed<Expr>, Stop>
+    fn chosen(
+        &self,
+        names: &Scopes<'_>,
+        c: &mut Cursor<'_>,
+        condition: Boxed<Expr>,
+    ) -> Result<Boxed<Expr>, Stop>
         requires { Nests self.now.depth (F.pre self.now.inside) (F.post self.now.inside) }
         ensures { Reads (spec.chosen (readers self.now.depth) names.now condition c.old) result c.new }
     {
@@ -112,7 +144,12 @@ impl<F: Fn(Global, usize, Wanted, &Scopes<'_>, &mut Cursor<'_>) -> Result<Node, 
 
     /// A conditional expression from its first operand on.
     #[tactic(auto, unfolding(crate::specs::Binaries::condition_from))]
-    fn condition_from(&self, names: &Scopes<'_>, c: &mut Cursor<'_>, first: Boxed<Expr>) -> Result<Boxed<Expr>, Stop>
+    fn condition_from(
+        &self,
+        names: &Scopes<'_>,
+        c: &mut Cursor<'_>,
+        first: Boxed<Expr>,
+    ) -> Result<Boxed<Expr>, Stop>
         requires { Nests self.now.depth (F.pre self.now.inside) (F.post self.now.inside) }
         ensures { Reads (spec.condition_from (readers self.now.depth) names.now first c.old) result c.new }
     {
@@ -131,7 +168,11 @@ impl<F: Fn(Global, usize, Wanted, &Scopes<'_>, &mut Cursor<'_>) -> Result<Node, 
     }
 
     #[tactic(auto, unfolding(crate::specs::Binaries::assigned))]
-    fn assigned(&self, names: &Scopes<'_>, c: &mut Cursor<'_>) -> Result<((u32, AssignOp), Boxed<Expr>), Stop>
+    fn assigned(
+        &self,
+        names: &Scopes<'_>,
+        c: &mut Cursor<'_>,
+    ) -> Result<((u32, AssignOp), Boxed<Expr>), Stop>
         requires { Nests self.now.depth (F.pre self.now.inside) (F.post self.now.inside) }
         ensures { Reads (spec.assigned (readers self.now.depth) names.now c.old) result c.new }
     {
@@ -141,7 +182,12 @@ impl<F: Fn(Global, usize, Wanted, &Scopes<'_>, &mut Cursor<'_>) -> Result<Node, 
     }
 
     #[tactic(auto, unfolding(crate::specs::Binaries::assigns))]
-    fn assigns(&self, names: &Scopes<'_>, c: &mut Cursor<'_>, left: Boxed<Expr>) -> Result<Boxed<Expr>, Stop>
+    fn assigns(
+        &self,
+        names: &Scopes<'_>,
+        c: &mut Cursor<'_>,
+        left: Boxed<Expr>,
+    ) -> Result<Boxed<Expr>, Stop>
         requires { Nests self.now.depth (F.pre self.now.inside) (F.post self.now.inside) }
         ensures { Reads (spec.assigns (readers self.now.depth) names.now left c.old) result c.new }
     {
@@ -157,7 +203,12 @@ impl<F: Fn(Global, usize, Wanted, &Scopes<'_>, &mut Cursor<'_>) -> Result<Node, 
     }
 
     #[tactic(auto, unfolding(crate::specs::Binaries::assign_from))]
-    fn assign_from(&self, names: &Scopes<'_>, c: &mut Cursor<'_>, first: Boxed<Expr>) -> Result<Boxed<Expr>, Stop>
+    fn assign_from(
+        &self,
+        names: &Scopes<'_>,
+        c: &mut Cursor<'_>,
+        first: Boxed<Expr>,
+    ) -> Result<Boxed<Expr>, Stop>
         requires { Nests self.now.depth (F.pre self.now.inside) (F.post self.now.inside) }
         ensures { Reads (spec.assign_from (readers self.now.depth) names.now first c.old) result c.new }
     {
@@ -190,7 +241,14 @@ impl<F: Fn(Global, usize, Wanted, &Scopes<'_>, &mut Cursor<'_>) -> Result<Node, 
     }
 
     #[tactic(auto, unfolding(crate::specs::Binaries::rest_of_list))]
-    fn rest_of_list(&self, names: &Scopes<'_>, c: &mut Cursor<'_>, first: Boxed<Expr>, at: u32, second: Boxed<Expr>) -> Result<Boxed<Expr>, Memory>
+    fn rest_of_list(
+        &self,
+        names: &Scopes<'_>,
+        c: &mut Cursor<'_>,
+        first: Boxed<Expr>,
+        at: u32,
+        second: Boxed<Expr>,
+    ) -> Result<Boxed<Expr>, Memory>
         requires { Nests self.now.depth (F.pre self.now.inside) (F.post self.now.inside) }
         ensures { Always (spec.rest_of_list (readers self.now.depth) names.now first (at, second) c.old) result c.new }
     {

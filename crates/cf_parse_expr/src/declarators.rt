@@ -98,7 +98,12 @@ fn maybe_named(
 impl<F: Fn(Global, usize, Wanted, &Scopes<'_>, &mut Cursor<'_>) -> Result<Node, Stop>> Grammar<F> {
     /// A declarator in brackets.
     #[tactic(auto, unfolding(crate::specs::Declarators::bracketed_head))]
-    fn bracketed_head(&self, names: &Scopes<'_>, c: &mut Cursor<'_>, kind: DeclaratorKind) -> Result<(Boxed<DeclTree>, Items<u32>), Stop>
+    fn bracketed_head(
+        &self,
+        names: &Scopes<'_>,
+        c: &mut Cursor<'_>,
+        kind: DeclaratorKind,
+    ) -> Result<(Boxed<DeclTree>, Items<u32>), Stop>
         requires { Nests self.now.depth (F.pre self.now.inside) (F.post self.now.inside) }
         ensures { Reads (spec.bracketed_head (readers self.now.depth) kind names.now c.old) result c.new }
     {
@@ -109,7 +114,11 @@ impl<F: Fn(Global, usize, Wanted, &Scopes<'_>, &mut Cursor<'_>) -> Result<Node, 
     }
 
     #[tactic(auto, unfolding(crate::specs::Declarators::array_bound))]
-    fn array_bound(&self, names: &Scopes<'_>, c: &mut Cursor<'_>) -> Result<Option<Boxed<Expr>>, Stop>
+    fn array_bound(
+        &self,
+        names: &Scopes<'_>,
+        c: &mut Cursor<'_>,
+    ) -> Result<Option<Boxed<Expr>>, Stop>
         requires { Nests self.now.depth (F.pre self.now.inside) (F.post self.now.inside) }
         ensures { Reads (spec.array_bound (readers self.now.depth) names.now c.old) result c.new }
     {
@@ -124,7 +133,11 @@ impl<F: Fn(Global, usize, Wanted, &Scopes<'_>, &mut Cursor<'_>) -> Result<Node, 
 
     /// The bound of an array, or none, in brackets (8.2.4), and the bracket's place.
     #[tactic(auto, unfolding(crate::specs::Declarators::array_behind))]
-    fn array_behind(&self, names: &Scopes<'_>, c: &mut Cursor<'_>) -> Result<(u32, Option<Boxed<Expr>>), Stop>
+    fn array_behind(
+        &self,
+        names: &Scopes<'_>,
+        c: &mut Cursor<'_>,
+    ) -> Result<(u32, Option<Boxed<Expr>>), Stop>
         requires { Nests self.now.depth (F.pre self.now.inside) (F.post self.now.inside) }
         ensures { Reads (spec.array_behind (readers self.now.depth) names.now c.old) result c.new }
     {
@@ -135,7 +148,11 @@ impl<F: Fn(Global, usize, Wanted, &Scopes<'_>, &mut Cursor<'_>) -> Result<Node, 
 
     /// Parameters in brackets, and whether `const` follows (8.2.5).
     #[tactic(auto, unfolding(crate::specs::Declarators::parameters_behind))]
-    fn parameters_behind(&self, names: &Scopes<'_>, c: &mut Cursor<'_>) -> Result<(u32, Items<Param>, bool), Stop>
+    fn parameters_behind(
+        &self,
+        names: &Scopes<'_>,
+        c: &mut Cursor<'_>,
+    ) -> Result<(u32, Items<Param>, bool), Stop>
         requires { Nests self.now.depth (F.pre self.now.inside) (F.post self.now.inside) }
         ensures { Reads (spec.parameters_behind (readers self.now.depth) names.now c.old) result c.new }
     {
@@ -160,7 +177,13 @@ impl<F: Fn(Global, usize, Wanted, &Scopes<'_>, &mut Cursor<'_>) -> Result<Node, 
         Ok(DeclaratorSuffix::Function(at, all, is_const))
     }
 
-    fn tree_turns(&self, names: &Scopes<'_>, c: &mut Cursor<'_>, turns: usize, first: Boxed<DeclTree>) -> Result<Boxed<DeclTree>, Memory>
+    fn tree_turns(
+        &self,
+        names: &Scopes<'_>,
+        c: &mut Cursor<'_>,
+        turns: usize,
+        first: Boxed<DeclTree>,
+    ) -> Result<Boxed<DeclTree>, Memory>
         requires { Nests self.now.depth (F.pre self.now.inside) (F.post self.now.inside) }
         ensures { Always (spec.tree_turns (readers self.now.depth) names.now turns first c.old) result c.new }
     {
@@ -181,7 +204,13 @@ impl<F: Fn(Global, usize, Wanted, &Scopes<'_>, &mut Cursor<'_>) -> Result<Node, 
 
     /// What stands behind a name, in the scopes of the classes that qualify it.
     #[tactic(auto, unfolding(crate::specs::Declarators::declarator_turns))]
-    fn declarator_turns(&self, names: &Scopes<'_>, c: &mut Cursor<'_>, turns: usize, d: (Boxed<DeclTree>, Items<u32>)) -> Result<(Boxed<DeclTree>, Items<u32>), Memory>
+    fn declarator_turns(
+        &self,
+        names: &Scopes<'_>,
+        c: &mut Cursor<'_>,
+        turns: usize,
+        d: (Boxed<DeclTree>, Items<u32>),
+    ) -> Result<(Boxed<DeclTree>, Items<u32>), Memory>
         requires { Nests self.now.depth (F.pre self.now.inside) (F.post self.now.inside) }
         ensures { Always (spec.declarator_turns (readers self.now.depth) names.now turns d c.old) result c.new }
     {
@@ -192,7 +221,12 @@ impl<F: Fn(Global, usize, Wanted, &Scopes<'_>, &mut Cursor<'_>) -> Result<Node, 
     }
 
     #[tactic(auto, unfolding(crate::specs::Declarators::all_turns))]
-    fn all_turns(&self, names: &Scopes<'_>, c: &mut Cursor<'_>, d: (Boxed<DeclTree>, Items<u32>)) -> Result<(Boxed<DeclTree>, Items<u32>), Memory>
+    fn all_turns(
+        &self,
+        names: &Scopes<'_>,
+        c: &mut Cursor<'_>,
+        d: (Boxed<DeclTree>, Items<u32>),
+    ) -> Result<(Boxed<DeclTree>, Items<u32>), Memory>
         requires { Nests self.now.depth (F.pre self.now.inside) (F.post self.now.inside) }
         ensures { Always (spec.all_turns (readers self.now.depth) names.now d c.old) result c.new }
     {
@@ -201,7 +235,12 @@ impl<F: Fn(Global, usize, Wanted, &Scopes<'_>, &mut Cursor<'_>) -> Result<Node, 
     }
 
     #[tactic(auto, unfolding(crate::specs::Declarators::bracketed_direct))]
-    fn bracketed_direct(&self, names: &Scopes<'_>, c: &mut Cursor<'_>, kind: DeclaratorKind) -> Result<(Boxed<DeclTree>, Items<u32>), Stop>
+    fn bracketed_direct(
+        &self,
+        names: &Scopes<'_>,
+        c: &mut Cursor<'_>,
+        kind: DeclaratorKind,
+    ) -> Result<(Boxed<DeclTree>, Items<u32>), Stop>
         requires { Nests self.now.depth (F.pre self.now.inside) (F.post self.now.inside) }
         ensures { Reads (spec.bracketed_direct (readers self.now.depth) kind names.now c.old) result c.new }
     {
@@ -216,7 +255,15 @@ impl<F: Fn(Global, usize, Wanted, &Scopes<'_>, &mut Cursor<'_>) -> Result<Node, 
         }
     }
 
-    fn function_direct(&self, names: &Scopes<'_>, c: &mut Cursor<'_>, turns: usize, at: u32, all: Items<Param>, is_const: bool) -> Result<(Boxed<DeclTree>, Items<u32>), Memory>
+    fn function_direct(
+        &self,
+        names: &Scopes<'_>,
+        c: &mut Cursor<'_>,
+        turns: usize,
+        at: u32,
+        all: Items<Param>,
+        is_const: bool,
+    ) -> Result<(Boxed<DeclTree>, Items<u32>), Memory>
         requires { Nests self.now.depth (F.pre self.now.inside) (F.post self.now.inside) }
         ensures { Always (spec.declarator_turns (readers self.now.depth) names.now turns (decl.Function at decl.Unnamed all is_const, []) c.old) result c.new }
     {
@@ -227,7 +274,12 @@ impl<F: Fn(Global, usize, Wanted, &Scopes<'_>, &mut Cursor<'_>) -> Result<Node, 
 
     /// Brackets before which no name stands: those of parameters, of a declarator, or of neither.
     #[tactic(auto, unfolding(crate::specs::Declarators::paren_direct))]
-    fn paren_direct(&self, names: &Scopes<'_>, c: &mut Cursor<'_>, kind: DeclaratorKind) -> Result<(Boxed<DeclTree>, Items<u32>), Stop>
+    fn paren_direct(
+        &self,
+        names: &Scopes<'_>,
+        c: &mut Cursor<'_>,
+        kind: DeclaratorKind,
+    ) -> Result<(Boxed<DeclTree>, Items<u32>), Stop>
         requires { Nests self.now.depth (F.pre self.now.inside) (F.post self.now.inside) }
         ensures { Reads (spec.paren_direct (readers self.now.depth) kind names.now c.old) result c.new }
     {
@@ -246,7 +298,11 @@ impl<F: Fn(Global, usize, Wanted, &Scopes<'_>, &mut Cursor<'_>) -> Result<Node, 
     }
 
     #[tactic(auto, unfolding(crate::specs::Declarators::named_direct))]
-    fn named_direct(&self, names: &Scopes<'_>, c: &mut Cursor<'_>) -> Result<(Boxed<DeclTree>, Items<u32>), Stop>
+    fn named_direct(
+        &self,
+        names: &Scopes<'_>,
+        c: &mut Cursor<'_>,
+    ) -> Result<(Boxed<DeclTree>, Items<u32>), Stop>
         requires { Nests self.now.depth (F.pre self.now.inside) (F.post self.now.inside) }
         ensures { Reads (spec.named_direct (readers self.now.depth) names.now c.old) result c.new }
     {
@@ -259,7 +315,11 @@ impl<F: Fn(Global, usize, Wanted, &Scopes<'_>, &mut Cursor<'_>) -> Result<Node, 
     }
 
     #[tactic(auto, unfolding(crate::specs::Declarators::abstract_direct))]
-    fn abstract_direct(&self, names: &Scopes<'_>, c: &mut Cursor<'_>) -> Result<(Boxed<DeclTree>, Items<u32>), Stop>
+    fn abstract_direct(
+        &self,
+        names: &Scopes<'_>,
+        c: &mut Cursor<'_>,
+    ) -> Result<(Boxed<DeclTree>, Items<u32>), Stop>
         requires { Nests self.now.depth (F.pre self.now.inside) (F.post self.now.inside) }
         ensures { Reads (spec.abstract_direct (readers self.now.depth) names.now c.old) result c.new }
     {
@@ -271,7 +331,11 @@ impl<F: Fn(Global, usize, Wanted, &Scopes<'_>, &mut Cursor<'_>) -> Result<Node, 
     }
 
     #[tactic(auto, unfolding(crate::specs::Declarators::either_direct))]
-    fn either_direct(&self, names: &Scopes<'_>, c: &mut Cursor<'_>) -> Result<(Boxed<DeclTree>, Items<u32>), Stop>
+    fn either_direct(
+        &self,
+        names: &Scopes<'_>,
+        c: &mut Cursor<'_>,
+    ) -> Result<(Boxed<DeclTree>, Items<u32>), Stop>
         requires { Nests self.now.depth (F.pre self.now.inside) (F.post self.now.inside) }
         ensures { Reads (spec.either_direct (readers self.now.depth) names.now c.old) result c.new }
     {
@@ -284,7 +348,12 @@ impl<F: Fn(Global, usize, Wanted, &Scopes<'_>, &mut Cursor<'_>) -> Result<Node, 
 
     /// A declarator without operators before it.
     #[tactic(auto, unfolding(crate::specs::Declarators::direct))]
-    fn direct(&self, names: &Scopes<'_>, c: &mut Cursor<'_>, kind: DeclaratorKind) -> Result<(Boxed<DeclTree>, Items<u32>), Stop>
+    fn direct(
+        &self,
+        names: &Scopes<'_>,
+        c: &mut Cursor<'_>,
+        kind: DeclaratorKind,
+    ) -> Result<(Boxed<DeclTree>, Items<u32>), Stop>
         requires { Nests self.now.depth (F.pre self.now.inside) (F.post self.now.inside) }
         ensures { Reads (spec.direct (readers self.now.depth) kind names.now c.old) result c.new }
     {
@@ -296,7 +365,13 @@ impl<F: Fn(Global, usize, Wanted, &Scopes<'_>, &mut Cursor<'_>) -> Result<Node, 
     }
 
     #[tactic(auto, unfolding(crate::specs::Declarators::pointed))]
-    fn pointed(&self, names: &Scopes<'_>, c: &mut Cursor<'_>, kind: DeclaratorKind, p: Pointer) -> Result<(Boxed<DeclTree>, Items<u32>), Stop>
+    fn pointed(
+        &self,
+        names: &Scopes<'_>,
+        c: &mut Cursor<'_>,
+        kind: DeclaratorKind,
+        p: Pointer,
+    ) -> Result<(Boxed<DeclTree>, Items<u32>), Stop>
         requires { Nests self.now.depth (F.pre self.now.inside) (F.post self.now.inside) }
         ensures { Reads (spec.pointed (readers self.now.depth) kind names.now p c.old) result c.new }
     {
@@ -306,7 +381,12 @@ impl<F: Fn(Global, usize, Wanted, &Scopes<'_>, &mut Cursor<'_>) -> Result<Node, 
 
     /// A declarator (8).
     #[tactic(auto, unfolding(crate::specs::Declarators::declarator))]
-    pub fn declarator(&self, names: &Scopes<'_>, c: &mut Cursor<'_>, kind: DeclaratorKind) -> Result<(Boxed<DeclTree>, Items<u32>), Stop>
+    pub fn declarator(
+        &self,
+        names: &Scopes<'_>,
+        c: &mut Cursor<'_>,
+        kind: DeclaratorKind,
+    ) -> Result<(Boxed<DeclTree>, Items<u32>), Stop>
         requires { Nests self.now.depth (F.pre self.now.inside) (F.post self.now.inside) }
         ensures { Reads (spec.declarator (readers self.now.depth) kind names.now c.old) result c.new }
     {

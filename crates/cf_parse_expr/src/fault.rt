@@ -1,4 +1,4 @@
-ghost use Rattle.std.specs.Prelude.{◌≡◌, ◌<◌, ◌^◌, length};
+ghost use Rattle.std.specs.Prelude.{◌≡◌, ◌<◌, ◌^◌, ◌↔◌, IsTrue};
 ghost use Rattle.cf_parse_expr.specs.Answers.{end_of, place_at, outside};
 
 use cf_base::{Broken, Rule};
@@ -24,6 +24,16 @@ fn end_of(tokens: &[Token]) -> u32
     match tokens.last() {
         Some(last) => last.at + last.len,
         None => 0,
+    }
+}
+
+/// Whether the last token ends at a place that a number of a place can hold.
+pub fn ends_in_range(tokens: &[Token]) -> bool
+    ensures { IsTrue result ↔ (end_of tokens.now < 2 ^ 32) }
+{
+    match tokens.last() {
+        Some(last) => u64::from(last.at) + u64::from(last.len) < 1 << 32,
+        None => true,
     }
 }
 

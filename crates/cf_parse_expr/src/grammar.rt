@@ -64,7 +64,11 @@ impl<F: Fn(Global, usize, Wanted, &Scopes<'_>, &mut Cursor<'_>) -> Result<Node, 
         }
     }
 
-    pub fn inner_condition(&self, names: &Scopes<'_>, c: &mut Cursor<'_>) -> Result<Boxed<Expr>, Stop>
+    pub fn inner_condition(
+        &self,
+        names: &Scopes<'_>,
+        c: &mut Cursor<'_>,
+    ) -> Result<Boxed<Expr>, Stop>
         requires { Nests self.now.depth (F.pre self.now.inside) (F.post self.now.inside) }
         ensures { Reads ((readers self.now.depth).condition names.now c.old) result c.new }
     {
@@ -94,7 +98,11 @@ impl<F: Fn(Global, usize, Wanted, &Scopes<'_>, &mut Cursor<'_>) -> Result<Node, 
         }
     }
 
-    pub fn inner_type_id(&self, names: &Scopes<'_>, c: &mut Cursor<'_>) -> Result<Boxed<TypeId>, Stop>
+    pub fn inner_type_id(
+        &self,
+        names: &Scopes<'_>,
+        c: &mut Cursor<'_>,
+    ) -> Result<Boxed<TypeId>, Stop>
         requires { Nests self.now.depth (F.pre self.now.inside) (F.post self.now.inside) }
         ensures { Reads ((readers self.now.depth).type_id names.now c.old) result c.new }
     {

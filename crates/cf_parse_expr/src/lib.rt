@@ -26,6 +26,9 @@ mod stop;
 mod unaries;
 mod words;
 
-pub use fault::ExprFault;
+pub use fault::{ExprFault, ends_in_range};
 pub use level::Level;
 pub use place::{declarator, expr, params, type_id};
+
+#[cfg(test)]
+mod tests;

@@ -54,7 +54,11 @@ pub fn condition(alloc: Global, names: &Scopes<'_>, c: &mut Cursor<'_>) -> Resul
 }
 
 /// A declarator with a name (8), and the numbers of the classes that qualify it.
-pub fn declarator(alloc: Global, names: &Scopes<'_>, c: &mut Cursor<'_>) -> Result<(Boxed<DeclTree>, Items<u32>), Stop>
+pub fn declarator(
+    alloc: Global,
+    names: &Scopes<'_>,
+    c: &mut Cursor<'_>,
+) -> Result<(Boxed<DeclTree>, Items<u32>), Stop>
     ensures { TakesLongest (SpellsDeclarator names.now) c.old result c.new }
 {
     let depth = c.depth();

@@ -65,11 +65,7 @@ fn ahead<'a>(names: &Scopes<'_>, asked: Asked, c: &Cursor<'a>) -> Option<(&'a [u
 
 /// The same where an identifier stands behind both.
 #[tactic(auto, unfolding(crate::specs::Named::ahead_of_ident))]
-fn ahead_of_ident<'a>(
-    names: &Scopes<'_>,
-    asked: Asked,
-    c: &Cursor<'a>,
-) -> Option<(&'a [u8], Asked)>
+fn ahead_of_ident<'a>(names: &Scopes<'_>, asked: Asked, c: &Cursor<'a>) -> Option<(&'a [u8], Asked)>
     ensures { option_map (λ p. (p.0.now, p.1)) result ≡ spec.ahead_of_ident names.now asked c.now }
 {
     if c.third_is_ident() {
@@ -146,7 +142,11 @@ fn unqualified(alloc: Global, from_file: bool) -> Qualifiers
         from_file,
         names: Items::new(alloc),
         classes: Items::new(alloc),
-        asked: if from_file { Asked::File } else { Asked::Scopes },
+        asked: if from_file {
+            Asked::File
+        } else {
+            Asked::Scopes
+        },
     }
 }
 

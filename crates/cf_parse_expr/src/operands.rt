@@ -15,9 +15,7 @@ use crate::operators::step_operator;
 use crate::scopes::Scopes;
 use crate::specifiers::{basic_of, name};
 use crate::stop::Stop;
-use crate::words::{
-    ARROW, DOT, LEFT_BRACKET, LEFT_PAREN, RIGHT_BRACKET, RIGHT_PAREN, THIS, TILDE,
-};
+use crate::words::{ARROW, DOT, LEFT_BRACKET, LEFT_PAREN, RIGHT_BRACKET, RIGHT_PAREN, THIS, TILDE};
 use cf_base::{Boxed, Bytes, Memory};
 use cf_syntax::{BasicType, Expr, Path, Suffix};
 use cf_tokens::Word;
@@ -151,7 +149,12 @@ impl<F: Fn(Global, usize, Wanted, &Scopes<'_>, &mut Cursor<'_>) -> Result<Node, 
 
     /// A type's name with arguments (5.2.3).
     #[tactic(auto, unfolding(crate::specs::Operands::path_call))]
-    fn path_call(&self, names: &Scopes<'_>, c: &mut Cursor<'_>, path: Path) -> Result<Boxed<Expr>, Stop>
+    fn path_call(
+        &self,
+        names: &Scopes<'_>,
+        c: &mut Cursor<'_>,
+        path: Path,
+    ) -> Result<Boxed<Expr>, Stop>
         requires { Nests self.now.depth (F.pre self.now.inside) (F.post self.now.inside) }
         ensures { Reads (spec.path_call (readers self.now.depth) names.now path c.old) result c.new }
     {
@@ -267,7 +270,12 @@ impl<F: Fn(Global, usize, Wanted, &Scopes<'_>, &mut Cursor<'_>) -> Result<Node, 
         }
     }
 
-    fn more_behind(&self, names: &Scopes<'_>, c: &mut Cursor<'_>, first: Boxed<Expr>) -> Result<Boxed<Expr>, Memory>
+    fn more_behind(
+        &self,
+        names: &Scopes<'_>,
+        c: &mut Cursor<'_>,
+        first: Boxed<Expr>,
+    ) -> Result<Boxed<Expr>, Memory>
         requires { Nests self.now.depth (F.pre self.now.inside) (F.post self.now.inside) }
         ensures { Always (spec.more_behind (readers self.now.depth) names.now first c.old) result c.new }
     {

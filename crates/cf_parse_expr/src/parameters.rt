@@ -67,7 +67,11 @@ impl<F: Fn(Global, usize, Wanted, &Scopes<'_>, &mut Cursor<'_>) -> Result<Node, 
 
     /// A default argument (8.2.6), at its `=`.
     #[tactic(auto, unfolding(crate::specs::Params::default_behind))]
-    fn default_behind(&self, names: &Scopes<'_>, c: &mut Cursor<'_>) -> Result<(u32, Boxed<Expr>), Stop>
+    fn default_behind(
+        &self,
+        names: &Scopes<'_>,
+        c: &mut Cursor<'_>,
+    ) -> Result<(u32, Boxed<Expr>), Stop>
         requires { Nests self.now.depth (F.pre self.now.inside) (F.post self.now.inside) }
         ensures { Reads (spec.default_behind (readers self.now.depth) names.now c.old) result c.new }
     {
@@ -110,7 +114,12 @@ impl<F: Fn(Global, usize, Wanted, &Scopes<'_>, &mut Cursor<'_>) -> Result<Node, 
         self.one_param(names, c)
     }
 
-    fn more_params(&self, names: &Scopes<'_>, c: &mut Cursor<'_>, first: Items<Param>) -> Result<Items<Param>, Memory>
+    fn more_params(
+        &self,
+        names: &Scopes<'_>,
+        c: &mut Cursor<'_>,
+        first: Items<Param>,
+    ) -> Result<Items<Param>, Memory>
         requires { Nests self.now.depth (F.pre self.now.inside) (F.post self.now.inside) }
         ensures { Always (spec.more_params (readers self.now.depth) names.now first c.old) result c.new }
     {

@@ -123,7 +123,11 @@ impl<F: Fn(Global, usize, Wanted, &Scopes<'_>, &mut Cursor<'_>) -> Result<Node, 
 
     /// The arguments of a `new`, and whether there are brackets for them.
     #[tactic(auto, unfolding(crate::specs::Unaries::initialised))]
-    fn initialised(&self, names: &Scopes<'_>, c: &mut Cursor<'_>) -> Result<(bool, Items<Expr>), Stop>
+    fn initialised(
+        &self,
+        names: &Scopes<'_>,
+        c: &mut Cursor<'_>,
+    ) -> Result<(bool, Items<Expr>), Stop>
         requires { Nests self.now.depth (F.pre self.now.inside) (F.post self.now.inside) }
         ensures { Reads (spec.initialised (readers self.now.depth) names.now c.old) result c.new }
     {
@@ -139,17 +143,32 @@ impl<F: Fn(Global, usize, Wanted, &Scopes<'_>, &mut Cursor<'_>) -> Result<Node, 
     }
 
     #[tactic(auto, unfolding(crate::specs::Unaries::new_bracketed))]
-    fn new_bracketed(&self, names: &Scopes<'_>, c: &mut Cursor<'_>, at: u32, file: bool) -> Result<Boxed<Expr>, Stop>
+    fn new_bracketed(
+        &self,
+        names: &Scopes<'_>,
+        c: &mut Cursor<'_>,
+        at: u32,
+        file: bool,
+    ) -> Result<Boxed<Expr>, Stop>
         requires { Nests self.now.depth (F.pre self.now.inside) (F.post self.now.inside) }
         ensures { Reads (spec.new_bracketed (readers self.now.depth) names.now at file c.old) result c.new }
     {
         let (_, t) = self.type_in_brackets(names, c)?;
         let (has_arguments, all) = self.initialised(names, c)?;
-        Ok(Boxed::new(self.alloc, Expr::NewBracketed(at, file, t, has_arguments, all))?)
+        Ok(Boxed::new(
+            self.alloc,
+            Expr::NewBracketed(at, file, t, has_arguments, all),
+        )?)
     }
 
     #[tactic(auto, unfolding(crate::specs::Unaries::new_plain))]
-    fn new_plain(&self, names: &Scopes<'_>, c: &mut Cursor<'_>, at: u32, file: bool) -> Result<Boxed<Expr>, Stop>
+    fn new_plain(
+        &self,
+        names: &Scopes<'_>,
+        c: &mut Cursor<'_>,
+        at: u32,
+        file: bool,
+    ) -> Result<Boxed<Expr>, Stop>
         requires { Nests self.now.depth (F.pre self.now.inside) (F.post self.now.inside) }
         ensures { Reads (spec.new_plain (readers self.now.depth) names.now at file c.old) result c.new }
     {
@@ -157,12 +176,21 @@ impl<F: Fn(Global, usize, Wanted, &Scopes<'_>, &mut Cursor<'_>) -> Result<Node, 
         let ps = pointers(self.alloc, names, c)?;
         let bounds = self.bounds(names, c)?;
         let (has_arguments, all) = self.initialised(names, c)?;
-        Ok(Boxed::new(self.alloc, Expr::New(at, file, list, ps, bounds, has_arguments, all))?)
+        Ok(Boxed::new(
+            self.alloc,
+            Expr::New(at, file, list, ps, bounds, has_arguments, all),
+        )?)
     }
 
     /// What stands behind `new` (5.3.3).
     #[tactic(auto, unfolding(crate::specs::Unaries::new_type))]
-    fn new_type(&self, names: &Scopes<'_>, c: &mut Cursor<'_>, file: bool, at: u32) -> Result<Boxed<Expr>, Stop>
+    fn new_type(
+        &self,
+        names: &Scopes<'_>,
+        c: &mut Cursor<'_>,
+        file: bool,
+        at: u32,
+    ) -> Result<Boxed<Expr>, Stop>
         requires { Nests self.now.depth (F.pre self.now.inside) (F.post self.now.inside) }
         ensures { Reads (spec.new_type (readers self.now.depth) names.now file at c.old) result c.new }
     {
@@ -175,7 +203,12 @@ impl<F: Fn(Global, usize, Wanted, &Scopes<'_>, &mut Cursor<'_>) -> Result<Node, 
 
     /// `delete` with its operand (5.3.4).
     #[tactic(auto, unfolding(crate::specs::Unaries::deleted))]
-    fn deleted(&self, names: &Scopes<'_>, c: &mut Cursor<'_>, file: bool) -> Result<Boxed<Expr>, Stop>
+    fn deleted(
+        &self,
+        names: &Scopes<'_>,
+        c: &mut Cursor<'_>,
+        file: bool,
+    ) -> Result<Boxed<Expr>, Stop>
         requires { Nests self.now.depth (F.pre self.now.inside) (F.post self.now.inside) }
         ensures { Reads (spec.deleted (readers self.now.depth) names.now file c.old) result c.new }
     {
@@ -186,7 +219,12 @@ impl<F: Fn(Global, usize, Wanted, &Scopes<'_>, &mut Cursor<'_>) -> Result<Node, 
     }
 
     #[tactic(auto, unfolding(crate::specs::Unaries::allocation))]
-    fn allocation(&self, names: &Scopes<'_>, c: &mut Cursor<'_>, file: bool) -> Result<Boxed<Expr>, Stop>
+    fn allocation(
+        &self,
+        names: &Scopes<'_>,
+        c: &mut Cursor<'_>,
+        file: bool,
+    ) -> Result<Boxed<Expr>, Stop>
         requires { Nests self.now.depth (F.pre self.now.inside) (F.post self.now.inside) }
         ensures { Reads (spec.allocation (readers self.now.depth) names.now file c.old) result c.new }
     {
@@ -256,7 +294,13 @@ impl<F: Fn(Global, usize, Wanted, &Scopes<'_>, &mut Cursor<'_>) -> Result<Node, 
 
     /// The operand of a cast to this type, with the cast.
     #[tactic(auto, unfolding(crate::specs::Unaries::cast_operand))]
-    pub fn cast_operand(&self, names: &Scopes<'_>, c: &mut Cursor<'_>, at: u32, t: Boxed<TypeId>) -> Result<Boxed<Expr>, Stop>
+    pub fn cast_operand(
+        &self,
+        names: &Scopes<'_>,
+        c: &mut Cursor<'_>,
+        at: u32,
+        t: Boxed<TypeId>,
+    ) -> Result<Boxed<Expr>, Stop>
         requires { Nests self.now.depth (F.pre self.now.inside) (F.post self.now.inside) }
         ensures { Reads (spec.cast_operand (readers self.now.depth) names.now (at, t) c.old) result c.new }
     {

@@ -14,5 +14,5 @@ pub returns : goal.returns
 returns t c =
     let one : suc (c.args.depth - 1) ≡ c.args.depth = omega arith in
     let same = node-is (c.args.depth - 1) c.args.wanted c.args.names.now c.args.c.now
-        ∙ ap (λ n. inner (readers n) c.args.wanted c.args.names.now c.args.c.now) one in
+    ∙ ap (λ n. inner (readers n) c.args.wanted c.args.names.now c.args.c.now) one in
     subst (λ o. Reads o c.node.result c.node.new.c) same c.node.ensures
