@@ -1,4 +1,4 @@
-ghost use Rattle.std.specs.Prelude.{◌≡◌, ◌<◌, ◌^◌, ◌↔◌, IsTrue};
+ghost use Rattle.std.specs.Prelude.{◌≡◌, ◌+◌, ◌<◌, ◌^◌, ◌↔◌, IsTrue};
 ghost use Rattle.cf_parse_expr.specs.Answers.{end_of, place_at, outside};
 
 use cf_base::{Broken, Rule};
@@ -27,12 +27,19 @@ fn end_of(tokens: &[Token]) -> u32
     }
 }
 
+/// Whether so many bytes from a place on end at a place that a number of a place can hold.
+fn fits(at: u32, len: u32) -> bool
+    ensures { IsTrue result ↔ (at + len < 2 ^ 32) }
+{
+    u64::from(at) + u64::from(len) < 1 << 32
+}
+
 /// Whether the last token ends at a place that a number of a place can hold.
 pub fn ends_in_range(tokens: &[Token]) -> bool
     ensures { IsTrue result ↔ (end_of tokens.now < 2 ^ 32) }
 {
     match tokens.last() {
-        Some(last) => u64::from(last.at) + u64::from(last.len) < 1 << 32,
+        Some(last) => fits(last.at, last.len),
         None => true,
     }
 }

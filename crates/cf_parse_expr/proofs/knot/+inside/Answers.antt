@@ -1,4 +1,4 @@
-use Rattle.std.proofs.Common.{◌≡◌, ℕ, zero, suc, ◌-◌, subst, sym, ◌∙◌, ap, arith}
+use Rattle.std.proofs.Common.{◌≡◌, suc, ◌-◌, subst, ◌∙◌, ap, arith}
 use Rattle.cf_syntax.specs.Reading.{readers}
 use Rattle.cf_parse_expr.specs.Reads.{Reads}
 use Rattle.cf_parse_expr.specs.Inner.{inner}

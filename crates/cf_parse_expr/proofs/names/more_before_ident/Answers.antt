@@ -1,4 +1,4 @@
-use Rattle.std.proofs.Common.{◌≡◌, Some, None, rules}
+use Rattle.std.proofs.Common.{◌≡◌, Some, rules}
 use Rattle.cf_syntax.specs.Named.{before_ident}
 use Rattle.cf_parse_expr.specs.Named.{ahead_of_ident, more_before_ident}
 use Rattle.cf_parse_expr.proofs.Loops.{goes-on, ends-there, ends-all}

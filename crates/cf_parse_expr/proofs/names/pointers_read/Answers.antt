@@ -1,6 +1,6 @@
 use Rattle.std.proofs.Common.{◌≡◌, Some, None, rules}
 use Rattle.cf_parse_expr.specs.Named.{pointer_turn, pointers_at}
-use Rattle.cf_parse_expr.proofs.Loops.{goes-on, ends-there, ends-all}
+use Rattle.cf_parse_expr.proofs.Loops.{goes-on, ends-there}
 use Rattle.cf_parse_expr.proofs.names.pointers_read.Goals as goal
 
 pub returns-in-Err-Nothing : goal.returns-in-Err-Nothing

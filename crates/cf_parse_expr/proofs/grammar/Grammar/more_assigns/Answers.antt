@@ -1,4 +1,4 @@
-use Rattle.std.proofs.Common.{◌≡◌, Some, None, length, [], rules}
+use Rattle.std.proofs.Common.{◌≡◌, Some, None, length, rules}
 use Rattle.cf_syntax.specs.Parse.{loop}
 use Rattle.cf_syntax.specs.Reading.{readers}
 use Rattle.cf_parse_expr.specs.Arguments.{assign_turn, more_assigns}

@@ -1,4 +1,4 @@
-use Rattle.std.proofs.Common.{◌≡◌, ◌-◌, length, []}
+use Rattle.std.proofs.Common.{◌≡◌, ◌-◌, length}
 use Rattle.cf_syntax.specs.Parse.{loop}
 use Rattle.cf_syntax.specs.Reading.{readers}
 use Rattle.cf_parse_expr.specs.Params.{param_turn}

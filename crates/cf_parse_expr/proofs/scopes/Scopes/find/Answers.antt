@@ -1,4 +1,4 @@
-use Rattle.std.proofs.Common.{◌≡◌, ℕ, Some, None, sym, ◌∙◌, ap}
+use Rattle.std.proofs.Common.{ℕ, Some, None, sym, ◌∙◌, ap}
 use Rattle.cf_syntax.specs.Names.{find, find_in, newest}
 use Rattle.cf_parse_expr.proofs.Opened.{found-opened}
 use Rattle.cf_parse_expr.proofs.scopes.Scopes.find.Goals as goal
