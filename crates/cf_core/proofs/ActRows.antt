@@ -12,25 +12,25 @@ use Rattle.cf_core.specs.Core.{Core, within, none, absent, given, no_parts, part
 use Rattle.cf_core.proofs.Sample.{int, function_type, function_of, listed, in_block, main_of, program, static_of, returns, num, value_of, set, called, built, base_of, plain_class, built_class, virtual_function, nonvirtual_function, pure_function, constructor_of, method_of, Shown, run}
 
 -- the end of a run of these statements as `main`, over these classes and functions
-abbrev ends_of : List Class → List Function → List Core → Option Shown
+abbrev pub ends_of : List Class → List Function → List Core → Option Shown
 ends_of cs fs ss = run (program cs (main_of ss ∷ fs) (static_of (codes "a") (array int 3) ∷ static_of (codes "b") (array int 3) ∷ [])) 40
 
-abbrev act : ℕ → Option Shown
+abbrev pub act : ℕ → Option Shown
 act u = Some (record { end = Undefined u; out = [] })
 
-abbrev status : ℕ → Option Shown
+abbrev pub status : ℕ → Option Shown
 status z = Some (record { end = Ended (pos z); out = [] })
 
-abbrev int_pointer : SourceType
+abbrev pub int_pointer : SourceType
 int_pointer = pointer int
 
-abbrev array_a : Core
+abbrev pub array_a : Core
 array_a = decay (static_object (codes "a") (array int 3))
 
 abbrev array_b : Core
 array_b = decay (static_object (codes "b") (array int 3))
 
-abbrev plus : Core → ℕ → Core
+abbrev pub plus : Core → ℕ → Core
 plus p n = pointer_operate ptr.Add p (num n)
 
 -- int*p=0;return *p;
@@ -74,16 +74,27 @@ difference_in_one_array = refl
 difference_of_two_arrays : ends_of [] [] (full (pointer_operate ptr.Difference array_a array_b) ∷ []) ≡ act 6
 difference_of_two_arrays = refl
 
+-- int*p=new int[3];delete[]p;p-p;: the difference is a use of what isn't alive
+difference_in_a_dead_array : ends_of [] [] (declare 0 int_pointer (new_array int (num 3) blank) ∷ full (delete_array int (value_of 0)) ∷ full (pointer_operate ptr.Difference (value_of 0) (value_of 0)) ∷ []) ≡ act 5
+difference_in_a_dead_array = refl
+
 -- new int[-1]
 negative_count : ends_of [] [] (full (new_array int (unary sign.Negate Int (num 1)) blank) ∷ []) ≡ act 6
 negative_count = refl
 
 -- struct A{};struct B:A{};A a;B*p=(B*)&a; and B b;A*q=&b;B*r=(B*)q;
-abbrev two_classes : List Class
+abbrev pub two_classes : List Class
 two_classes = plain_class (codes "1A") [] (int ∷ []) ∷ plain_class (codes "1B") (base_of (codes "1A") ∷ []) (int ∷ []) ∷ []
 
 no_object_of_the_class : ends_of two_classes [] (declare 0 (class (codes "1A")) blank ∷ full (down (codes "1B") (base 0 ∷ []) (address (local 0))) ∷ []) ≡ act 8
 no_object_of_the_class = refl
+
+-- B b;A*q=&b;q+1 and q+0: a base part is no array of its own
+step_from_a_base_part : ends_of two_classes [] (declare 0 (class (codes "1B")) blank ∷ full (plus (up (base 0 ∷ []) (address (local 0))) 1) ∷ []) ≡ act 6
+step_from_a_base_part = refl
+
+no_step_from_a_base_part : ends_of two_classes [] (declare 0 (class (codes "1B")) blank ∷ full (plus (up (base 0 ∷ []) (address (local 0))) 0) ∷ returns (num 0) ∷ []) ≡ status 0
+no_step_from_a_base_part = refl
 
 down_and_up : ends_of two_classes [] (declare 0 (class (codes "1B")) blank ∷ set (member (local 0) 0) (num 3) ∷ returns (read (member (dereference (down (codes "1B") (base 0 ∷ []) (up (base 0 ∷ []) (address (local 0))))) 0)) ∷ []) ≡ status 3
 down_and_up = refl

@@ -156,7 +156,7 @@ pair_type = class (codes "1P")
 
 class_result_is_built_in_place :
     run (program (plain_class (codes "1P") [] (int ∷ int ∷ []) ∷ [])
-    (function_of (codes "f__Fi") (int ∷ []) pair_type (in_block (declare 1 pair_type blank ∷ set (member (local 1) 0) (value_of 0) ∷ set (member (local 1) 1) (add (value_of 0) (num 1)) ∷ returns (copy pair_type (local 1)) ∷ []))
+    (function_of (codes "f__Fi") (int ∷ []) pair_type (in_block (declare 1 pair_type blank ∷ set (member (local 1) 0) (value_of 0) ∷ set (member (local 1) 1) (add (value_of 0) (num 1)) ∷ returns (copy pair_type (local 1) none) ∷ []))
     ∷ main_of (declare 0 pair_type (called (codes "f__Fi") (int ∷ []) pair_type (num 3 ∷ []))
     ∷ returns (add (operate op.Multiply Int (read (member (local 0) 0)) (num 10)) (read (member (local 0) 1))) ∷ []) ∷ []) []) 10
     ≡ Some (record { end = Ended (pos 34); out = [] })

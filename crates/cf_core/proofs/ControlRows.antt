@@ -11,7 +11,7 @@ use Rattle.cf_core.specs.Classes.{Class}
 use Rattle.cf_core.specs.Subobjects.{base, virtual}
 use Rattle.cf_core.specs.Core.{Core, field, within, none, absent, given, no_parts, part, Function, text, this, local, member, read, address, dereference, decay, index, up, function, operate, logical_and, logical_or, pointer_operate, update, step, assign, arithmetic, temporary, virtual_call, pointer_call, new, delete, copy, list, zeros, blank, full, declare, once, branch, loop, switch, case_label, leave, continue, static_object}
 use Rattle.cf_core.specs.Calls.{Program}
-use Rattle.cf_core.proofs.Sample.{int, function_type, function_of, listed, in_block, main_of, program, static_of, returns, num, add, put_code, put_digit, value_of, set, called, built, referred, base_of, virtual_base_of, plain_class, built_class, virtual_function, nonvirtual_function, constructor_of, destructor_of, method_of, run}
+use Rattle.cf_core.proofs.Sample.{int, function_type, function_of, listed, in_block, main_of, program, static_of, returns, num, add, put_code, put_digit, value_of, set, called, built, referred, base_of, virtual_base_of, plain_class, built_class, copying, virtual_function, nonvirtual_function, constructor_of, destructor_of, method_of, run}
 
 abbrev less : Core → Core → Core
 less a b = operate op.Less Int a b
@@ -168,7 +168,7 @@ P = class (codes "1P")
 
 abbrev copied : Core → Program
 copied value = program (plain_class (codes "1P") [] (int ∷ int ∷ []) ∷ [])
-    (main_of (declare 0 P blank ∷ set (member (local 0) 0) (num 1) ∷ declare 1 P (copy P (local 0)) ∷ declare 2 P blank ∷ full (assign P (local 2) (local 1)) ∷ returns value ∷ []) ∷ []) []
+    (main_of (declare 0 P blank ∷ set (member (local 0) 0) (num 1) ∷ declare 1 P (copy P (local 0) none) ∷ declare 2 P blank ∷ full (assign P (local 2) (local 1) none) ∷ returns value ∷ []) ∷ []) []
 
 copy_moves_values : run (copied (read (member (local 2) 0))) 10 ≡ Some (record { end = Ended (pos 1); out = [] })
 copy_moves_values = refl
@@ -183,13 +183,13 @@ K = class (codes "1K")
 
 abbrev arrays_in_members : Program
 arrays_in_members = program
-    (record (built_class (codes "1K") [] (int ∷ []) [] None) { copy = Some (codes "__ct__1KFRC1K") }
-    ∷ record (built_class (codes "1H") [] (array K 2 ∷ []) [] None) { copy = Some (codes "__ct__1HFRC1H") } ∷ [])
+    (record (built_class (codes "1K") [] (int ∷ []) [] None) { copy = copying (codes "1K") (codes "__ct__1KFRC1K") [] }
+    ∷ record (built_class (codes "1H") [] (array K 2 ∷ []) [] None) { copy = copying (codes "1H") (codes "__ct__1HFRC1H") [] } ∷ [])
     (constructor_of (codes "1K") (codes "__ct__1KFi") (int ∷ []) no_parts (set (member this 0) (value_of 0) ∷ [])
     ∷ constructor_of (codes "1K") (codes "__ct__1KFRC1K") (reference (const K) ∷ []) no_parts (set (member this 0) (read (member (local 0) 0)) ∷ put_code 107 ∷ [])
     ∷ constructor_of (codes "1H") (codes "__ct__1HFv") [] (part (field 0) (list (listed (built (codes "__ct__1KFi") (int ∷ []) (num 3 ∷ []) ∷ built (codes "__ct__1KFi") (int ∷ []) (num 4 ∷ []) ∷ [])) blank) no_parts) []
-    ∷ constructor_of (codes "1H") (codes "__ct__1HFRC1H") (reference (const (class (codes "1H"))) ∷ []) (part (field 0) (copy (array K 2) (member (local 0) 0)) no_parts) []
-    ∷ main_of (declare 0 (class (codes "1H")) (built (codes "__ct__1HFv") [] []) ∷ declare 1 (class (codes "1H")) (copy (class (codes "1H")) (local 0))
+    ∷ constructor_of (codes "1H") (codes "__ct__1HFRC1H") (reference (const (class (codes "1H"))) ∷ []) (part (field 0) (copy (array K 2) (member (local 0) 0) none) no_parts) []
+    ∷ main_of (declare 0 (class (codes "1H")) (built (codes "__ct__1HFv") [] []) ∷ declare 1 (class (codes "1H")) (copy (class (codes "1H")) (local 0) none)
     ∷ returns (read (member (index (decay (member (local 1) 0)) (num 1)) 0)) ∷ []) ∷ []) []
 
 elements_are_copied : run arrays_in_members 11 ≡ Some (record { end = Ended (pos 4); out = codes "kk" })

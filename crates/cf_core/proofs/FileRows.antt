@@ -1,14 +1,16 @@
 -- Files joined, what stands in the way of joining, frame bounds and functions named without dispatch, tried on small files.
 use Rattle.std.proofs.Common.{◌≡◌, ℕ, ◌+◌, ◌*◌, List, [], ◌∷◌, refl}
-use Rattle.std.specs.Prelude.{pos, Option, Some, true, false, codes}
+use Rattle.std.specs.Prelude.{◌++◌, map, pos, Option, Some, true, false, codes}
 use Rattle.std.specs.Fmt.{digits}
-use Rattle.cf_base.specs.declared.kind.Kind.TheVariants.{Char}
+use Rattle.cf_base.specs.declared.kind.Kind.TheVariants.{Char, Int}
+use Rattle.cf_base.specs.declared.arith.Arith.TheVariants as op
 use Rattle.cf_base.specs.Event.{Enter, Ended, Undefined}
-use Rattle.cf_core.specs.Types.{Name, SourceType, void, integer, class, pointer, array}
+use Rattle.cf_core.specs.Types.{Name, SourceType, void, integer, class, pointer, array, const}
 use Rattle.cf_core.specs.Classes.{Class}
-use Rattle.cf_core.specs.Core.{Core, Function, Static, CoreFile, no_parts, none, this, local, member, read, static_object, virtual_call, delete, temporary, declare, blank, full, once}
+use Rattle.cf_core.specs.Core.{Core, Function, Static, CoreFile, no_parts, none, this, local, member, read, static_object, virtual_call, delete, temporary, declare, blank, full, once, text, decay, convert, dereference, operate}
 use Rattle.cf_core.specs.Program.{Mean}
 use Rattle.cf_core.specs.Joined.{program_of}
+use Rattle.cf_core.specs.Join.{Definition, definitions}
 use Rattle.cf_core.specs.Frame.{frame_bound}
 use Rattle.cf_core.specs.Named.{Named}
 use Rattle.cf_core.proofs.Sample.{int, function_type, function_of, main_of, in_block, static_of, returns, num, add, put, value_of, set, called, built, base_of, built_class, virtual_function, nonvirtual_function, constructor_of, destructor_of, Shown, shown_of}
@@ -91,6 +93,33 @@ declared_otherwise_than_defined :
     ∷ file_of [] [] (constant (codes "x") (pointer (integer Char)) (num 0) ∷ []) ∷ []) 10
     ≡ Some (record { end = Undefined 9; out = [] })
 declared_otherwise_than_defined = refl
+
+-- int f(){static const char*s="x";return *s;}int g(){static const char*t="y";return *t;}int main(){return f()-g();}: each function has its literal 1
+abbrev char_pointer : SourceType
+char_pointer = pointer (const (integer Char))
+
+abbrev local_constant : Name → Name → List ℕ → Static
+local_constant f name bytes = record (constant name char_pointer (decay (text 1 bytes))) { owner = Some f }
+
+abbrev first_char : Name → Core
+first_char name = convert int (read (dereference (read (static_object name char_pointer))))
+
+literals_of_local_statics :
+    run_files
+    (file_of []
+    (function_of (codes "f__Fv") [] int (in_block (returns (first_char (codes "s__L1__f__Fv")) ∷ []))
+    ∷ function_of (codes "g__Fv") [] int (in_block (returns (first_char (codes "t__L1__g__Fv")) ∷ []))
+    ∷ main_of (returns (operate op.Subtract Int (called (codes "g__Fv") [] int []) (called (codes "f__Fv") [] int [])) ∷ []) ∷ [])
+    (local_constant (codes "f__Fv") (codes "s__L1__f__Fv") (codes "x" ++ 0 ∷ []) ∷ local_constant (codes "g__Fv") (codes "t__L1__g__Fv") (codes "y" ++ 0 ∷ []) ∷ [])
+    ∷ []) 10
+    ≡ Some (record { end = Ended (pos 1); out = [] })
+literals_of_local_statics = refl
+
+literal_of_a_local_static_is_defined :
+    map (λ (d : Definition). d.name) (definitions (file_of [] [] (local_constant (codes "f__Fv") (codes "s__L1__f__Fv") [] ∷ []) ∷ []))
+    ≡ codes "s__L1__f__Fv" ∷ codes "__s1__f__Fv" ∷ []
+unfolding digits
+literal_of_a_local_static_is_defined = refl
 
 -- Frame bounds: char b[8200];return 7; is 64 and 24 + 8200 and 32
 array_in_a_frame :

@@ -2,7 +2,10 @@ mod ActRows
 mod ClassRows
 mod ClassViewRows
 mod ControlRows
+mod CopyRows
+mod DeclarationRows
 mod FileRows
+mod IllTypedRows
 mod NodeRows
 mod ObjectRows
 mod Sample

@@ -115,7 +115,7 @@ constants_come_first :
       functions = main_of (returns (read (static_object (codes "x") int)) ∷ [])
           ∷ function_of (codes "f__Fv") [] int (in_block (returns (add (read (static_object (codes "y") int)) (num 1)) ∷ [])) ∷ [];
       statics = static_of (codes "x") int ∷ static_of (codes "y") int ∷ [];
-      constants = function_of (codes "__sti__u2") [] void (in_block (once (codes "y") (num 3) ∷ [])) ∷ [];
+      constants = record { function = codes "__sti__u2"; object = codes "y"; start = num 3 } ∷ [];
       initialisers = function_of (codes "__sti__u1") [] void (in_block (once (codes "x") (called (codes "f__Fv") [] int []) ∷ [])) ∷ [];
     }) 10
     ≡ Some (record { end = Ended (pos 4); out = [] })

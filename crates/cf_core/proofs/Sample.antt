@@ -1,14 +1,16 @@
 -- Words for the small programs that the definitions are tried on.
 use Rattle.std.proofs.Common.{ℕ, List, [], ◌∷◌}
 use Rattle.std.specs.Prelude.{pos, Option, Some, None, true, false, codes}
+use Rattle.std.specs.List.{flat_map}
 use Rattle.cf_base.specs.declared.kind.Kind.TheVariants.{Int}
 use Rattle.cf_base.specs.declared.arith.Arith.TheVariants as op
 use Rattle.cf_base.specs.Event.{out_bytes, End}
 use Rattle.cf_base.specs.World.{Outcome}
-use Rattle.cf_core.specs.Types.{Name, SourceType, void, integer, takes, gives}
-use Rattle.cf_core.specs.Classes.{Base, Class, MemberFunction}
-use Rattle.cf_core.specs.Core.{Core, Cores, none, more, absent, given, Role, plain_function, member_function, constructor, destructor, Function, Static, number, local, read, operate, call, build, full, block, give, parts, bind, no_temporary, Parts, store, blank}
+use Rattle.cf_core.specs.Types.{Name, SourceType, void, integer, class, reference, const, takes, gives}
+use Rattle.cf_core.specs.Classes.{Base, Class, MemberFunction, Special}
+use Rattle.cf_core.specs.Core.{Core, Cores, none, more, absent, given, Role, plain_function, member_function, constructor, destructor, Function, Static, number, local, read, operate, call, build, full, block, give, parts, bind, no_temporary, local_temporary, declare, Parts, store, blank}
 use Rattle.cf_core.specs.Calls.{Program}
+use Rattle.cf_core.specs.Nodes.{nodes}
 use Rattle.cf_core.specs.Program.{Mean}
 
 abbrev pub int : SourceType
@@ -19,12 +21,18 @@ abbrev pub function_type : List SourceType → SourceType → SourceType
 function_type [] t = gives t false
 function_type (p ∷ ps) t = takes p (function_type ps t)
 
+-- the types of what a node declares
+abbrev pub declared_types : Core → List SourceType
+declared_types (declare i t e) = t ∷ []
+declared_types (bind (local_temporary i t) e) = t ∷ []
+declared_types e = []
+
 abbrev pub function_as : Role → Name → List SourceType → SourceType → Core → Function
 function_as role name ps t s = record {
   name = name;
   role = role;
   type = function_type ps t;
-  locals = [];
+  locals = flat_map declared_types (nodes s);
   body = s;
   is_shared = false;
   is_local = false;
@@ -51,6 +59,7 @@ static_of name t = record {
   name = name;
   type = t;
   start = blank;
+  owner = None;
   is_constant = true;
   is_shared = false;
   is_local = false;
@@ -124,6 +133,10 @@ built_class c bs fs ms d = record {
   assignment = None;
   description = [];
 }
+
+-- a copy constructor, with the types of its further parameters
+abbrev pub copying : Name → Name → List SourceType → Option Special
+copying c name ts = Some (record { name = name; type = function_type (reference (const (class c)) ∷ ts) void })
 
 abbrev pub virtual_function : Name → Name → MemberFunction
 virtual_function signature name = record { signature = signature; name = name; is_virtual = true; is_pure = false }

@@ -1,17 +1,20 @@
--- Reading and writing scalars, and what each is undefined on.
-use Rattle.std.specs.Prelude.{not, List, ◌++◌, ℤ, Some}
-use Rattle.cf_core.specs.Types.{SourceType}
-use Rattle.cf_core.specs.Classes.{Class}
-use Rattle.cf_core.specs.Places.{Route, Place, type_at, is_inside, is_reference}
-use Rattle.cf_core.specs.Store.{Value, Nothing, Built, Number, Null, At, Code, DataMember, FunctionMember, Object, hold, hold_all, all_alive, zero_of, is_usable, is_constant_place}
-use Rattle.cf_core.specs.Run.{State, Act, ◌>>=◌, ◌>>◌, gives, malformed, undefined, state, need, some_or, when, object_changed, null_used, not_alive, outside_array, no_value, write_to_const, no_result}
+-- Reading and writing scalars, and what each is undefined on. A core whose parts have other types than their node takes is malformed.
+use Rattle.std.specs.Prelude.{ℕ, ◌&&◌, not, nat_lt, is_some, length, slice_get, List, ◌++◌, ℤ, Some, Bool}
+use Rattle.cf_core.specs.Types.{SourceType, is_array, same_but_const}
+use Rattle.cf_core.specs.Classes.{Class, fields_of}
+use Rattle.cf_core.specs.Subobjects.{Path, class_at}
+use Rattle.cf_core.specs.Core.{field}
+use Rattle.cf_core.specs.Places.{Route, Place, inner, type_at, is_inside, is_reference, is_scalar, class_of}
+use Rattle.cf_core.specs.Store.{Value, Nothing, Missing, Built, Number, Null, At, Code, DataMember, FunctionMember, Object, hold, hold_all, all_alive, zero_of, is_usable, is_constant_place}
+use Rattle.cf_core.specs.Run.{State, Act, ◌>>=◌, ◌>>◌, gives, malformed, undefined, state, need, valid, some_or, when, object_changed, null_used, not_alive, outside_array, no_value, write_to_const, no_result}
 
 abbrev pub place_type : List Class → State → Place → SourceType
 place_type classes s p = type_at classes (s.object p.object).type p.route
 
 -- a value that is used: the use of one that a function ended without is undefined (6.6.3)
 abbrev pub used : Value → Act Value
-used Nothing = undefined no_result
+used Nothing = malformed
+used Missing = undefined no_result
 used Built = malformed
 used (Number z) = gives (Number z)
 used Null = gives Null
@@ -23,10 +26,9 @@ used (FunctionMember path t) = gives (FunctionMember path t)
 abbrev pub using : Act Value → Act Value
 using act = act >>= used
 
--- the place that a value is, or that a pointer points to; null points to none (5.3)
+-- the place that an lvalue is
 abbrev pub place_of : Value → Act Place
 place_of (At p) = gives p
-place_of Null = undefined null_used
 place_of v = malformed
 
 abbrev pub number_of : Value → Act ℤ
@@ -50,9 +52,33 @@ name_part classes p = do
   s ← state
   need (is_inside classes (s.object p.object).type p.route) outside_array
 
+-- a data member of a place of its class
+abbrev pub name_field : List Class → ℕ → Place → Act Place
+name_field classes i p = do
+  s ← state
+  valid (nat_lt i (length (fields_of classes (class_of (place_type classes s p)))))
+  name_part classes p
+  gives (inner (field i) p)
+
+-- whether the class of a place has this path
+abbrev pub has_path : List Class → State → Place → Path → Bool
+has_path classes s p path = is_some (class_at classes (class_of (place_type classes s p)) path)
+
+-- a place of this type, otherwise than in const
+abbrev pub place_has : List Class → SourceType → Place → Act (Unit {0})
+place_has classes t p = do
+  s ← state
+  valid (same_but_const (place_type classes s p) t)
+
+abbrev pub names_scalar : List Class → Place → Act (Unit {0})
+names_scalar classes p = do
+  s ← state
+  valid (is_scalar (place_type classes s p))
+
 -- the value that a scalar holds (4.1)
 abbrev pub read_place : List Class → Place → Act Value
 read_place classes p = do
+  names_scalar classes p
   use_place classes p
   s ← state
   some_or ((s.object p.object).held p.route) (undefined no_value)
@@ -64,6 +90,7 @@ first_value p v = object_changed p.object (hold p.route (Some v))
 -- a value is written to a scalar that may be changed (5.17, 7.1.6)
 abbrev pub write_place : List Class → Place → Value → Act (Unit {0})
 write_place classes p v = do
+  names_scalar classes p
   use_place classes p
   s ← state
   need (not (is_constant_place classes (s.object p.object) p.route)) write_to_const

@@ -1,5 +1,5 @@
 -- The order in which an object is built and destroyed (12.6.2), its active part (12.7), and the function that a virtual call runs (10.2).
-use Rattle.std.specs.Prelude.{ℕ, suc, Bool, true, false, not, if◌then◌else◌, List, [], ◌∷◌, ◌++◌, Option, map, find}
+use Rattle.std.specs.Prelude.{ℕ, suc, Bool, true, false, not, if◌then◌else◌, List, [], ◌∷◌, ◌++◌, Option, Some, None, map, find, slice_get, nat_lt, length, bytes_eq}
 use Rattle.std.specs.List.{list_any}
 use Rattle.cf_core.specs.Types.{Name, SourceType, class}
 use Rattle.cf_core.specs.Classes.{Base, Class, bases_of, fields_of}
@@ -7,8 +7,8 @@ use Rattle.cf_core.specs.Subobjects.{base, virtual, Path, path_eq, joined, Subob
 use Rattle.cf_core.specs.Core.{Part, item, past, field, within}
 use Rattle.cf_core.specs.Places.{Route, Place, inner, whole, path_in, along, type_at, class_of}
 use Rattle.cf_core.specs.Store.{Life, unbuilt, in_construction, alive, in_destruction, dead, life_at, is_dead, set_life, Value, Null, At, Object}
-use Rattle.cf_core.specs.Run.{State, Act, ◌>>=◌, ◌>>◌, gives, malformed, undefined, state, done, need, some_or, object_changed, not_alive, outside_active, pure_call}
-use Rattle.cf_core.specs.Access.{name_part}
+use Rattle.cf_core.specs.Run.{State, Act, ◌>>=◌, ◌>>◌, gives, malformed, undefined, state, done, need, valid, some_or, object_changed, not_alive, outside_active, pure_call}
+use Rattle.cf_core.specs.Access.{name_part, has_path}
 
 -- a base or data member, and its type
 pub record BuiltPart : Type 0 where
@@ -41,6 +41,18 @@ part_place (within s) p = record p { route = along (s ∷ []) p.route }
 part_place (item i) p = inner (item i) p
 part_place past p = inner past p
 part_place (field i) p = inner (field i) p
+
+-- whether an object of this type has the part to build
+abbrev pub has_part : List Class → SourceType → Part → Bool
+has_part classes t (within (base i)) = is_direct (slice_get (bases_of classes (class_of t)) i)
+  where
+    is_direct : Option Base → Bool
+    is_direct None = false
+    is_direct (Some b) = not b.is_virtual
+has_part classes t (within (virtual v)) = list_any (bytes_eq v) (virtual_bases classes (class_of t))
+has_part classes t (field i) = nat_lt i (length (fields_of classes (class_of t)))
+has_part classes t (item i) = false
+has_part classes t past = false
 
 abbrev pub is_empty : Path → Bool
 is_empty [] = true
@@ -127,6 +139,8 @@ through_virtual classes p (virtual c ∷ path) = active_part classes p >> done
 abbrev pub up_value : List Class → Path → Value → Act Value
 up_value classes path Null = gives Null
 up_value classes path (At p) = do
+  s ← state
+  valid (has_path classes s p path)
   through_virtual classes p path
   gives (At (record p { route = along path p.route }))
 up_value classes path v = malformed

@@ -1,23 +1,29 @@
 -- Entering functions, and destroying and copying objects by the functions of their classes (5.2.2, 12.4, 12.8).
-use Rattle.std.specs.Prelude.{ℕ, Bool, true, false, ◌&&◌, ◌||◌, not, List, [], ◌∷◌, pos, negsuc, Option, Some, None, find, slice_get, is_some, codes, bytes_eq}
+use Rattle.std.specs.Prelude.{ℕ, ◌+◌, length, if◌then◌else◌, Bool, true, false, ◌&&◌, ◌||◌, not, List, [], ◌∷◌, pos, negsuc, Option, Some, None, find, slice_get, is_some, codes, bytes_eq}
 use Rattle.cf_base.specs.Event.{Enter, Out}
 use Rattle.cf_base.specs.World.{Went, spend, deeper, show, next_byte}
 use Rattle.cf_base.specs.Integers.{bits_of}
-use Rattle.cf_core.specs.Types.{Name, SourceType, void, parameters, is_class, class, reference, array, const, same_but_const}
-use Rattle.cf_core.specs.Classes.{Class, MemberFunction, class_named, destructor_in, copy_in, assignment_in, declared}
+use Rattle.cf_core.specs.Types.{Name, SourceType, void, parameters, result, is_class, is_void, class, reference, array, const, same_but_const}
+use Rattle.cf_core.specs.Classes.{Class, MemberFunction, Special, class_named, destructor_in, copy_in, assignment_in, declared}
 use Rattle.cf_core.specs.Core.{Core, item, Function, Static}
 use Rattle.cf_core.specs.Places.{Route, Place, inner, whole, class_of, route_eq}
-use Rattle.cf_core.specs.Store.{Value, Nothing, Number, Null, At, Object, new_object, hold, is_settled, life_at, is_dead, Storage, automatic, free_store}
-use Rattle.cf_core.specs.Run.{State, Frame, Gives, Act, ◌>>=◌, ◌>>◌, gives, malformed, exits, undefined, state, changed, done, tick, need, some_or, when, for_each, for_each_back, for_all, object_changed, born, declared_object, gone, with_frame, frame_changed, give_heap, not_alive, cast_from_void, wrong_delete, delete_through_base}
+use Rattle.cf_core.specs.Store.{Value, Nothing, Missing, Number, Null, At, Object, new_object, hold, is_settled, life_at, is_dead, Storage, automatic, free_store}
+use Rattle.cf_core.specs.Run.{State, Frame, Gives, Act, ◌>>=◌, ◌>>◌, gives, malformed, exits, undefined, state, changed, done, tick, need, some_or, when, for_each, for_each_back, for_all, object_changed, born, declared_object, gone, with_frame, frame_changed, lists_temporary, give_heap, not_alive, cast_from_void, wrong_delete, delete_through_base}
 use Rattle.cf_core.specs.Access.{copy_first, copy_over}
 use Rattle.cf_core.specs.Building.{BuiltPart, part_place, is_whole, whole_life}
+
+-- A static object with a constant initialiser, and the function whose literals are meant in it.
+pub record Setting : Type 0 where
+  pub function : Name
+  pub object : Name
+  pub start : Core
 
 -- a program: the files joined by link names
 pub record Program : Type 0 where
   pub classes : List Class
   pub functions : List Function
   pub statics : List Static
-  pub constants : List Function  -- of each file, what sets its static objects with constant initialisers
+  pub constants : List Setting  -- what sets the static objects with constant initialisers, file by file
   pub initialisers : List Function  -- of each file that has them, what initialises its static objects that need more, in order
 
 -- how a statement ends
@@ -77,9 +83,10 @@ run_library name args = do
 
 -- Functions of the program.
 
-abbrev pub frame_of : Name → List ℕ → Option Place → Option Place → ℕ → Frame
-frame_of name args this result depth = record {
+abbrev pub frame_of : Name → ℕ → List ℕ → Option Place → Option Place → ℕ → Frame
+frame_of name count args this result depth = record {
   function = name;
+  count = count;
   this = this;
   result = result;
   depth = depth;
@@ -88,19 +95,31 @@ frame_of name args this result depth = record {
   temporaries = [];
 }
 
--- the value with which a body ended; a body has given one, or ended without
-abbrev pub returned : Flow → Value
-returned Falls = Nothing
-returned Breaks = Nothing
-returned Continues = Nothing
-returned (Returns v) = v
+-- how many parameters and locals a function has
+abbrev pub local_count : Function → ℕ
+local_count f = length (parameters f.type) + length f.locals
+
+-- what a function of this result type gives where it ended without a value; the place of a class object was flowed past before (6.6.3)
+abbrev pub without_value : SourceType → Value
+without_value t = if is_void t then Nothing else Missing
+
+abbrev pub given_value : SourceType → Value → Value
+given_value t Nothing = without_value t
+given_value t v = v
+
+-- the value with which a body of a function of this result type ended
+abbrev pub returned : SourceType → Flow → Act Value
+returned t Falls = gives (without_value t)
+returned t Breaks = malformed
+returned t Continues = malformed
+returned t (Returns v) = gives (given_value t v)
 
 -- A function is entered: one tick is spent, then one level of depth, then it shows. The frame of its caller stands again afterwards.
 abbrev pub enter : Again → Function → List ℕ → Option Place → Option Place → Act Value
-enter again f args this result = λ s w.
+enter again f args this into = λ s w.
     spend w (λ w. deeper s.frame.depth w (λ depth.
-    (again (body f args) >>= (λ flow. changed (with_frame s.frame) >> gives (returned flow)))
-    (with_frame (frame_of f.name args this result depth) s) (show (Enter f.name) w)))
+    (again (body f args) >>= (λ flow. changed (with_frame s.frame) >> returned (result f.type) flow))
+    (with_frame (frame_of f.name (local_count f) args this into depth) s) (show (Enter f.name) w)))
 
 abbrev pub enter_found : Again → Option Function → List ℕ → Option Place → Option Place → Act Value
 enter_found again None args this result = malformed
@@ -197,56 +216,75 @@ has_assignment classes (array t n) = has_assignment classes t
 has_assignment classes (const t) = has_assignment classes t
 has_assignment classes t = false
 
+-- the objects of further parameters of these types
+abbrev pub Further : Type 0
+Further = List SourceType → Act (List ℕ)
+
+abbrev pub behind_first : List SourceType → List SourceType
+behind_first [] = []
+behind_first (t ∷ ts) = ts
+
 -- the reference that a copy constructor or an assignment takes
 abbrev pub reference_to : SourceType → Place → Object
 reference_to t p = hold [] (Some (At p)) (new_object (reference t) automatic)
 
-abbrev pub copy_by : Again → Program → Option Name → SourceType → Place → Place → Act (Unit {0})
-copy_by again P None t from to = copy_first P.classes from to
-copy_by again P (Some f) t from to = born (reference_to t from) >>= (λ o. run_named again P f (o ∷ []) (Some to) None >> done)
-
--- A place is built as a copy of another: by the class's copy constructor or memberwise; elements in order, one tick each where a function copies them.
-abbrev pub copy_to : Again → Program → SourceType → Place → Place → Act (Unit {0})
-copy_to again P (class c) from to = copy_by again P (copy_in (class_named P.classes c)) (class c) from to
-copy_to again P (array t n) from to =
-    when (has_copy P.classes t)
-    (for_each 0 n (λ i. tick >> copy_to again P t (inner (item i) from) (inner (item i) to)))
-    (copy_first P.classes from to)
-copy_to again P (const t) from to = copy_to again P t from to
-copy_to again P t from to = copy_first P.classes from to
-
-abbrev pub first_parameter : Option Function → SourceType
-first_parameter None = void
-first_parameter (Some f) = first (parameters f.type)
-  where
-    first : List SourceType → SourceType
-    first [] = void
-    first (t ∷ ts) = t
-
--- the parameter of an assignment: a reference, or an object that is built as a copy
-abbrev pub assigned_from : Again → Program → Bool → SourceType → Place → Act ℕ
-assigned_from again P true t from = do
-  o ← declared_object t
-  copy_to again P t from (root o)
-  gives o
-assigned_from again P false t from = born (reference_to t from)
-
-abbrev pub assign_by : Again → Program → Option Name → SourceType → Place → Place → Act (Unit {0})
-assign_by again P None t from to = copy_over P.classes from to
-assign_by again P (Some f) t from to = do
-  o ← assigned_from again P (is_class (first_parameter (function_named P f))) t from
-  run_named again P f (o ∷ []) (Some to) None
+-- a copy constructor takes a reference to the other object, and its further parameters are built by their default arguments (8.2.6)
+abbrev pub copy_by : Again → Program → Further → Option Special → SourceType → Place → Place → Act (Unit {0})
+copy_by again P further None t from to = copy_first P.classes from to
+copy_by again P further (Some f) t from to = do
+  o ← born (reference_to t from)
+  os ← further (behind_first (parameters f.type))
+  run_named again P f.name (o ∷ os) (Some to) None
   done
 
--- a place is assigned from another, by the class's assignment or memberwise, elements in order
-abbrev pub assign_to : Again → Program → SourceType → Place → Place → Act (Unit {0})
-assign_to again P (class c) from to = assign_by again P (assignment_in (class_named P.classes c)) (class c) from to
-assign_to again P (array t n) from to =
+-- A place is built as a copy of another: by the class's copy constructor or memberwise; elements in order, each a full expression and
+-- a tick where a function copies them.
+abbrev pub copy_to : Again → Program → Further → SourceType → Place → Place → Act (Unit {0})
+copy_to again P further (class c) from to = copy_by again P further (copy_in (class_named P.classes c)) (class c) from to
+copy_to again P further (array t n) from to =
+    when (has_copy P.classes t)
+    (for_each 0 n (λ i. tick >> full_expression again P (copy_to again P further t (inner (item i) from) (inner (item i) to))))
+    (copy_first P.classes from to)
+copy_to again P further (const t) from to = copy_to again P further t from to
+copy_to again P further t from to = copy_first P.classes from to
+
+abbrev pub first_of : List SourceType → SourceType
+first_of [] = void
+first_of (t ∷ ts) = t
+
+-- the parameter of an assignment: a reference, or an object that is built as a copy
+abbrev pub assigned_from : Again → Program → Further → Bool → SourceType → Place → Act ℕ
+assigned_from again P further true t from = do
+  o ← declared_object t
+  copy_to again P further t from (root o)
+  gives o
+assigned_from again P further false t from = born (reference_to t from)
+
+-- An assignment whose result is a class object gives a temporary, which nothing uses (12.2).
+abbrev pub run_assignment : Again → Program → Name → List ℕ → Place → SourceType → Act (Unit {0})
+run_assignment again P f args to t =
+    when (is_class t) (do
+      o ← declared_object t
+      run_named again P f args (Some to) (Some (root o))
+      frame_changed (lists_temporary o))
+    (run_named again P f args (Some to) None >> done)
+
+abbrev pub assign_by : Again → Program → Further → Option Special → SourceType → Place → Place → Act (Unit {0})
+assign_by again P further None t from to = copy_over P.classes from to
+assign_by again P further (Some f) t from to = do
+  o ← assigned_from again P further (is_class (first_of (parameters f.type))) t from
+  run_assignment again P f.name (o ∷ []) to (result f.type)
+
+-- A place is assigned from another, by the class's assignment or memberwise; elements in order, each a full expression where a function
+-- assigns them.
+abbrev pub assign_to : Again → Program → Further → SourceType → Place → Place → Act (Unit {0})
+assign_to again P further (class c) from to = assign_by again P further (assignment_in (class_named P.classes c)) (class c) from to
+assign_to again P further (array t n) from to =
     when (has_assignment P.classes t)
-    (for_each 0 n (λ i. assign_to again P t (inner (item i) from) (inner (item i) to)))
+    (for_each 0 n (λ i. full_expression again P (assign_to again P further t (inner (item i) from) (inner (item i) to))))
     (copy_over P.classes from to)
-assign_to again P (const t) from to = assign_to again P t from to
-assign_to again P t from to = copy_over P.classes from to
+assign_to again P further (const t) from to = assign_to again P further t from to
+assign_to again P further t from to = copy_over P.classes from to
 
 -- The free store (5.3.4).
 

@@ -1,5 +1,5 @@
 -- The classes of a program, as far as its meaning depends on them (9, 10, 12).
-use Rattle.std.specs.Prelude.{ℕ, Bool, false, List, [], Option, Some, None, bytes_eq, find}
+use Rattle.std.specs.Prelude.{ℕ, Bool, false, List, [], Option, Some, None, bytes_eq, find, ◌∷◌}
 use Rattle.cf_core.specs.Types.{Name, SourceType, void}
 
 pub record Base : Type 0 where
@@ -13,6 +13,11 @@ pub record MemberFunction : Type 0 where
   pub is_virtual : Bool  -- by its own word or since it overrides (10.2)
   pub is_pure : Bool
 
+-- a copy constructor or a copying assignment: its link name and its type
+pub record Special : Type 0 where
+  pub name : Name
+  pub type : SourceType
+
 -- A class that is defined. A function that is absent here is trivial: it isn't declared, and no generated one is needed (12.1, 12.4, 12.8).
 pub record Class : Type 0 where
   pub code : Name  -- its link code
@@ -21,8 +26,8 @@ pub record Class : Type 0 where
   pub functions : List MemberFunction
   pub is_built : Bool  -- whether a constructor builds its objects
   pub destructor : Option Name
-  pub copy : Option Name  -- the copy constructor
-  pub assignment : Option Name  -- the copying assignment
+  pub copy : Option Special  -- the copy constructor: of several the one that takes a reference to const, and then the first (12.8)
+  pub assignment : Option Special  -- the copying assignment, chosen in the same way
   pub description : List ℕ  -- the text of its bases and members, which files must have alike
 
 abbrev pub class_named : List Class → Name → Option Class
@@ -59,13 +64,17 @@ abbrev pub destructor_in : Option Class → Option Name
 destructor_in None = None
 destructor_in (Some c) = c.destructor
 
-abbrev pub copy_in : Option Class → Option Name
+abbrev pub copy_in : Option Class → Option Special
 copy_in None = None
 copy_in (Some c) = c.copy
 
-abbrev pub assignment_in : Option Class → Option Name
+abbrev pub assignment_in : Option Class → Option Special
 assignment_in None = None
 assignment_in (Some c) = c.assignment
+
+abbrev pub special_names : Option Special → List Name
+special_names None = []
+special_names (Some f) = f.name ∷ []
 
 -- the type of this entry of a list
 abbrev pub type_in : Option SourceType → SourceType

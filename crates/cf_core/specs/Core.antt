@@ -1,6 +1,6 @@
 -- The core as plain data, for definitions by cases: the tree of a function's body or of an initialiser. Functions, objects and classes go
 -- by link names and codes, types by their structure, and the places of the text are left out.
-use Rattle.std.specs.Prelude.{ℕ, Bool, List, ℤ}
+use Rattle.std.specs.Prelude.{ℕ, Bool, List, ℤ, Option}
 use Rattle.cf_base.specs.declared.kind.Kind.{Kind}
 use Rattle.cf_base.specs.declared.arith.Arith.{Arith}
 use Rattle.cf_core.specs.declared.operators.UnaryOperator.{UnaryOperator}
@@ -67,7 +67,9 @@ mutual
     store : Core → Core → Core  -- a value to a scalar place (5.17)
     update : Core → Change → Core → Core  -- (5.17)
     step : Bool → Change → Core → Core  -- `++` and `--`; where true the value before is given (5.2.5, 5.3)
-    assign : SourceType → Core → Core → Core  -- a class or array to a place, memberwise or by its own assignment (12.8)
+    -- a class or array to a place, memberwise or by its own assignment (12.8); where that takes an object and not a reference, the object is
+    -- built by the copy constructor, with these default arguments behind the first
+    assign : SourceType → Core → Core → Cores → Core
     temporary : SourceType → Core → Core  -- a temporary, built by an initialiser (12.2)
     call : Name → SourceType → MaybeCore → Cores → Core  -- of a function of this type, on an object (5.2.2)
     virtual_call : Name → SourceType → Core → Cores → Core  -- of the function of this signature (10.2)
@@ -78,7 +80,8 @@ mutual
     delete_array : SourceType → Core → Core
     -- initialisers of a place (8.4, 12.6); a value is one too
     build : Name → SourceType → Cores → Core  -- by this constructor
-    copy : SourceType → Core → Core  -- from another place of this type, memberwise or by its copy constructor (12.8)
+    -- from another place of this type, memberwise or by its copy constructor, with these default arguments behind the first (12.8, 8.2.6)
+    copy : SourceType → Core → Cores → Core
     each : Core → Core  -- every element by this initialiser
     list : Cores → Core → Core  -- elements or members in order, and each one more by the last initialiser (8.4.1)
     string : List ℕ → Core  -- a char array by these bytes, and 0 behind (8.4.2)
@@ -88,6 +91,7 @@ mutual
     -- statements (6)
     full : Core → Core  -- an expression statement (6.2)
     block : Cores → Core  -- (6.3)
+    sequence : Cores → Core  -- statements in order, in the scope at hand, as a `for` with a declaration makes them (6.5.3)
     declare : ℕ → SourceType → Core → Core  -- a local, and its initialiser (6.7)
     once : Name → Core → Core  -- a static object's initialiser, run when it is first reached (6.7)
     branch : Core → Core → MaybeCore → Core  -- `if` (6.4.1)
@@ -133,6 +137,7 @@ pub record Static : Type 0 where
   pub name : Name
   pub type : SourceType
   pub start : Core  -- its initialiser; `blank` for a local static that isn't constant, whose initialiser stands in its function
+  pub owner : Option Name  -- the function whose local it is: the literals of its initialiser are numbered there (2.5.4, 6.7)
   pub is_constant : Bool  -- whether it takes effect before any function is entered
   pub is_shared : Bool
   pub is_local : Bool

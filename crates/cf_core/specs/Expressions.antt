@@ -1,16 +1,16 @@
 -- The meaning of expressions and initialisers (5, 8.4, 12).
-use Rattle.std.specs.Prelude.{ℕ, suc, ◌-◌, true, false, ◌&&◌, not, if◌then◌else◌, List, [], ◌∷◌, pos, Option, Some, None}
-use Rattle.cf_core.specs.Types.{SourceType, is_class, array, parameters, plain, element}
-use Rattle.cf_core.specs.Core.{Core, Cores, MaybeCore, item, field, no_temporary, local_temporary, static_temporary, none, more, absent, given, number, text, this, local, static_object, function, member, read, address, dereference, decay, index, convert, up, down, from_void, to_member, data_pointer, function_pointer, through, operate, unary, logical_not, logical_and, logical_or, pointer_operate, conditional, comma, store, update, step, assign, temporary, call, virtual_call, pointer_call, new, new_array, delete, delete_array, build, copy, each, list, string, bind, zeros, blank}
+use Rattle.std.specs.Prelude.{ℕ, suc, ◌-◌, nat_le, length, true, false, ◌&&◌, ◌||◌, not, if◌then◌else◌, List, [], ◌∷◌, pos, Option, Some, None}
+use Rattle.cf_core.specs.Types.{SourceType, is_class, is_array, array, parameters, plain, element}
+use Rattle.cf_core.specs.Core.{Core, Cores, MaybeCore, item, no_temporary, local_temporary, static_temporary, none, more, absent, given, number, text, this, local, static_object, function, member, read, address, dereference, decay, index, convert, up, down, from_void, to_member, data_pointer, function_pointer, through, operate, unary, logical_not, logical_and, logical_or, pointer_operate, conditional, comma, store, update, step, assign, temporary, call, virtual_call, pointer_call, new, new_array, delete, delete_array, build, copy, each, list, string, bind, zeros, blank}
 use Rattle.cf_core.specs.Places.{Place, inner}
 use Rattle.cf_core.specs.Store.{Value, Nothing, Built, Number, At, Code, DataMember, FunctionMember}
-use Rattle.cf_core.specs.Run.{Act, ◌>>=◌, ◌>>◌, gives, malformed, state, done, some_or, when, for_each, declared_object, frame_changed, lists_in_scope, lists_temporary}
-use Rattle.cf_core.specs.Access.{place_type, using, placed, name_part, read_place, write_place, followed, fill_zeros}
+use Rattle.cf_core.specs.Run.{Act, ◌>>=◌, ◌>>◌, gives, malformed, state, done, some_or, valid, when, for_each, declared_object, frame_changed, lists_in_scope, lists_temporary}
+use Rattle.cf_core.specs.Access.{place_type, place_has, using, placed, name_field, read_place, write_place, followed, fill_zeros}
 use Rattle.cf_core.specs.Pointers.{truth_value, pointer_op, from_void_value, down_value}
 use Rattle.cf_core.specs.Building.{dispatch, up_value}
 use Rattle.cf_core.specs.Calls.{Program, Again, root, run_named, name_function, full_expression, finish_static, copy_to, assign_to, delete_value}
 use Rattle.cf_core.specs.Scalars.{truth_of, converted_value, operated, signed, changed_value, indexed, decayed, pointed_to, to_derived, through_pointer}
-use Rattle.cf_core.specs.Objects.{result_place, local_place, static_type, static_place, same_type, literal_object, new_local, settled, built_at, write_bytes, element_part, element_count, is_array, begin_list, end_list, costs_tick, one_tick, count_of, new_storage, count, run_pointer}
+use Rattle.cf_core.specs.Objects.{result_place, local_place, static_type, static_place, same_type, literal_object, new_local, settled, built_at, write_bytes, element_part, element_count, begin_list, end_list, costs_tick, one_tick, count_of, new_storage, count, run_pointer}
 
 module _ (again : Again) (P : Program) where
   abbrev mutual
@@ -23,10 +23,7 @@ module _ (again : Again) (P : Program) where
     value (local i) into = local_place i >>= followed P.classes
     value (static_object name t) into = same_type P name t >> static_place P name >>= followed P.classes
     value (function name t) into = name_function P name t >> gives (Code name)
-    value (member e i) into = do
-      p ← placed (value e None)
-      name_part P.classes p
-      followed P.classes (inner (field i) p)
+    value (member e i) into = placed (value e None) >>= name_field P.classes i >>= followed P.classes
     value (read e) into = placed (value e None) >>= read_place P.classes
     value (address e) into = using (value e None)
     value (dereference e) into = using (value e None) >>= pointed_to
@@ -84,10 +81,12 @@ module _ (again : Again) (P : Program) where
       z ← changed_value P.classes change x (Number (pos 1))
       write_place P.classes p z
       gives (if is_postfix then x else At p)
-    value (assign t a b) into = do
+    value (assign t a b es) into = do
       to ← placed (value a None)
+      place_has P.classes t to
       from ← placed (value b None)
-      assign_to again P t from to
+      place_has P.classes t from
+      assign_to again P (λ ts. arguments ts es) t from to
       gives (At to)
     value (temporary t e) into = do
       o ← declared_object t
@@ -122,15 +121,18 @@ module _ (again : Again) (P : Program) where
       os ← arguments (parameters t) args
       run_named again P name os (Some p) None
       gives Built
-    value (copy t e) into = do
+    value (copy t e es) into = do
       to ← built_at into
+      place_has P.classes t to
       from ← placed (value e None)
-      copy_to again P t from to
+      place_has P.classes t from
+      copy_to again P (λ ts. arguments ts es) t from to
       gives Built
     value (each e) into = do
       p ← built_at into
       s ← state
       let t = place_type P.classes s p
+      valid (is_array t)
       for_each 0 (element_count P.classes t) (λ i.
           one_tick (costs_tick e P.classes (element (plain t)))
           >> settled P.classes (inner (item i) p) (full_expression again P (value e (Some (inner (item i) p)))))
@@ -140,6 +142,7 @@ module _ (again : Again) (P : Program) where
       s ← state
       let t = place_type P.classes s p
       let n = element_count P.classes t
+      valid ((is_array t || is_class t) && nat_le (count es) n)
       when (is_class t) (begin_list p) done
       elements es 0 p t
       for_each (count es) (n - count es) (λ i.
@@ -150,6 +153,9 @@ module _ (again : Again) (P : Program) where
       gives Built
     value (string bytes) into = do
       p ← built_at into
+      s ← state
+      let t = place_type P.classes s p
+      valid (is_array t && nat_le (length bytes) (element_count P.classes t))
       fill_zeros P.classes p
       write_bytes p 0 bytes
       gives Built
@@ -170,7 +176,7 @@ module _ (again : Again) (P : Program) where
 
     -- a comma's expressions in order; the value is the last one's (5.18)
     pub last_value : Cores → Act Value
-    last_value none = gives Nothing
+    last_value none = malformed
     last_value (more e none) = value e None
     last_value (more e (more f rest)) = value e None >> last_value (more f rest)
 
@@ -180,8 +186,9 @@ module _ (again : Again) (P : Program) where
 
     -- each parameter is built as its argument is evaluated (5.2.2)
     pub arguments : List SourceType → Cores → Act (List ℕ)
-    arguments ts none = gives []
+    arguments [] none = gives []
     arguments [] (more e es) = malformed
+    arguments (t ∷ ts) none = malformed
     arguments (t ∷ ts) (more e es) = do
       o ← declared_object t
       settled P.classes (root o) (value e (Some (root o)))

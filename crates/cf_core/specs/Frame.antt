@@ -1,10 +1,10 @@
 -- The frame bound of a function, in bytes: no less than what its C parameters and locals take at any place.
-use Rattle.std.specs.Prelude.{ℕ, ◌+◌, ◌*◌, ◌/◌, max, Bool, true, false, List, [], ◌∷◌, ◌++◌, map, sum, length}
+use Rattle.std.specs.Prelude.{ℕ, ◌+◌, ◌*◌, ◌/◌, max, Option, Some, None, Bool, true, false, List, [], ◌∷◌, ◌++◌, map, sum, length}
 use Rattle.std.specs.List.{flat_map}
 use Rattle.cf_core.specs.declared.operators.LoopForm.TheVariants as form
-use Rattle.cf_core.specs.Types.{SourceType, parameters, is_class}
-use Rattle.cf_core.specs.Classes.{Class}
-use Rattle.cf_core.specs.Core.{Core, Cores, MaybeCore, Parts, none, more, absent, given, no_parts, part, Function, Static, temporary, call, virtual_call, pointer_call, build, list, blank, full, declare, once, branch, loop, switch, give, parts}
+use Rattle.cf_core.specs.Types.{SourceType, class, array, const, parameters, result, is_class}
+use Rattle.cf_core.specs.Classes.{Class, Special, class_named, copy_in, assignment_in}
+use Rattle.cf_core.specs.Core.{Core, Cores, MaybeCore, Parts, none, more, absent, given, no_parts, part, Function, Static, temporary, call, virtual_call, pointer_call, build, copy, assign, list, blank, full, declare, once, branch, loop, switch, give, parts}
 use Rattle.cf_core.specs.Size.{size}
 use Rattle.cf_core.specs.Nodes.{nodes}
 
@@ -23,6 +23,29 @@ class_bytes classes (t ∷ ts) = (if_class (is_class t) (bytes_of classes t)) ++
     if_class true n = n ∷ []
     if_class false n = []
 
+abbrev pub types_of_special : Option Special → List SourceType
+types_of_special None = []
+types_of_special (Some f) = parameters f.type
+
+-- the parameters of the copy constructor that copies an object of this type, or each element of an array
+abbrev pub copied_by : List Class → SourceType → List SourceType
+copied_by classes (class c) = types_of_special (copy_in (class_named classes c))
+copied_by classes (array t n) = copied_by classes t
+copied_by classes (const t) = copied_by classes t
+copied_by classes t = []
+
+-- The parameter of the assignment that assigns it; where that is an object, the parameters of its copy constructor too. A result that
+-- is an object is a temporary.
+abbrev pub assigned_by : List Class → SourceType → List SourceType
+assigned_by classes (class c) = made_in (assignment_in (class_named classes c))
+  where
+    made_in : Option Special → List SourceType
+    made_in None = []
+    made_in (Some f) = result f.type ∷ parameters f.type ++ copied_by classes (class c)
+assigned_by classes (array t n) = assigned_by classes t
+assigned_by classes (const t) = assigned_by classes t
+assigned_by classes t = []
+
 -- the class objects that a node makes as temporaries and by-value parameters
 abbrev pub made_by : List Class → Core → List ℕ
 made_by classes (temporary t e) = class_bytes classes (t ∷ [])
@@ -30,6 +53,8 @@ made_by classes (call n t object args) = class_bytes classes (parameters t)
 made_by classes (virtual_call f t e args) = class_bytes classes (parameters t)
 made_by classes (pointer_call object e t args) = class_bytes classes (parameters t)
 made_by classes (build n t args) = class_bytes classes (parameters t)
+made_by classes (copy t e es) = class_bytes classes (copied_by classes t)
+made_by classes (assign t a b es) = class_bytes classes (assigned_by classes t)
 made_by classes e = []
 
 -- the cost of a full expression: 32 for each node, and the class objects that it makes

@@ -12,8 +12,8 @@ use Rattle.cf_classes.specs.Description.{description}
 use Rattle.cf_classes.specs.LinkName.{Code, Function as FunctionCode, Codes, none as no_codes, more as more_codes, code_all, code_of}
 use Rattle.cf_classes.specs.Signature.{may_override, overrides, virtuals}
 use Rattle.cf_classes.specs.Special.{Made, Declared, Generated, Trivial, Absent, specials, fields_of}
-use Rattle.cf_core.specs.Types.{Name, SourceType, reference, parameters}
-use Rattle.cf_core.specs.Classes.{Base, MemberFunction, Class}
+use Rattle.cf_core.specs.Types.{Name, SourceType, void, class, reference, takes, gives, const, parameters}
+use Rattle.cf_core.specs.Classes.{Base, MemberFunction, Special, Class}
 use Rattle.cf_core.specs.Places.{class_of}
 use Rattle.cf_core.specs.FromTypes.{Tables, type_of, class_code}
 
@@ -35,9 +35,9 @@ name_in_scope tables scope m = function_name m.name scope m.is_static (code_of t
 abbrev pub destructor_name : Name → Name
 destructor_name scope = codes "__dt__" ++ scope ++ codes "Fv"
 
--- a special function whose parameter is a reference to a const object of the class
-abbrev pub taking_itself : Name → Name → Name
-taking_itself name scope = name ++ codes "__" ++ scope ++ codes "FRC" ++ scope
+-- a generated function whose parameter is a reference to a const object of the class
+abbrev pub taking_itself : Name → Name → SourceType → Special
+taking_itself name scope t = record { name = name ++ codes "__" ++ scope ++ codes "FRC" ++ scope; type = takes (reference (const (class scope))) (gives t false) }
 
 abbrev pub signature_in : Tables → Option MemberDef → Name
 signature_in tables None = destructor_name []
@@ -72,16 +72,33 @@ is_copy tables c m = is_constructor m.what && is_reference_to c (parameters (typ
 abbrev pub is_assignment : Tables → Name → MemberDef → Bool
 is_assignment tables c m = not m.is_static && bytes_eq m.name (codes "__as") && takes_its_class c (parameters (type_of tables m.ty))
 
+-- Of several the one that takes a reference to const comes first, and then the first that is declared.
+
+abbrev pub takes_const : List SourceType → Bool
+takes_const (reference (const t) ∷ ts) = true
+takes_const ts = false
+
+abbrev pub first_or : Option MemberDef → Option MemberDef → Option MemberDef
+first_or None other = other
+first_or (Some m) other = Some m
+
+abbrev pub preferred : Tables → List MemberDef → Option MemberDef
+preferred tables ms = first_or (find (λ (m : MemberDef). takes_const (parameters (type_of tables m.ty))) ms) (slice_get ms 0)
+
+abbrev pub found_special : Tables → Name → Option MemberDef → Option Special
+found_special tables scope None = None
+found_special tables scope (Some m) = Some (record { name = name_in_scope tables scope m; type = type_of tables m.ty })
+
 abbrev pub found_name : Tables → Name → Option MemberDef → Option Name
 found_name tables scope None = None
 found_name tables scope (Some m) = Some (name_in_scope tables scope m)
 
--- the link name of a special function that is declared or needed
-abbrev pub special_name : Made → Option Name → Name → Option Name
-special_name Declared declared generated = declared
-special_name Generated declared generated = Some generated
-special_name Trivial declared generated = None
-special_name Absent declared generated = None
+-- a special function that is declared or needed
+abbrev pub special_of : {A : Type 0} → Made → Option A → A → Option A
+special_of Declared declared generated = declared
+special_of Generated declared generated = Some generated
+special_of Trivial declared generated = None
+special_of Absent declared generated = None
 
 abbrev pub is_needed : Made → Bool
 is_needed Declared = false
@@ -126,9 +143,9 @@ class_in tables c def =
           map (function_in tables scope inherited) (filter may_override def.members)
           ++ (if is_needed has.destructor then generated_destructor scope inherited ∷ [] else []);
       is_built = list_any (λ (m : MemberDef). is_constructor m.what) def.members || is_needed has.constructor;
-      destructor = special_name has.destructor (found_name tables scope (find (λ (m : MemberDef). is_destructor m.what) def.members)) (destructor_name scope);
-      copy = special_name has.copy (found_name tables scope (find (is_copy tables scope) def.members)) (taking_itself (codes "__ct") scope);
-      assignment = special_name has.assign (found_name tables scope (find (is_assignment tables scope) def.members)) (taking_itself (codes "__as") scope);
+      destructor = special_of has.destructor (found_name tables scope (find (λ (m : MemberDef). is_destructor m.what) def.members)) (destructor_name scope);
+      copy = special_of has.copy (found_special tables scope (preferred tables (filter (is_copy tables scope) def.members))) (taking_itself (codes "__ct") scope void);
+      assignment = special_of has.assign (found_special tables scope (preferred tables (filter (is_assignment tables scope) def.members))) (taking_itself (codes "__as") scope (reference (class scope)));
       description = description tables.types tables.classes c;
     }
 

@@ -39,6 +39,7 @@ static_of tables x = record {
   name = x.name;
   type = type_of tables x.ty;
   start = core_of tables (signature_of tables) x.start;
+  owner = x.owner;
   is_constant = x.is_constant;
   is_shared = x.is_shared;
   is_local = x.is_local;

@@ -1,8 +1,8 @@
 -- What stands in the way of joining files: names without a definition or with several, and definitions and types that differ.
-use Rattle.std.specs.Prelude.{◌≡◌, ◌≢◌, ℕ, suc, Bool, true, false, ◌&&◌, if◌then◌else◌, List, [], ◌∷◌, ◌++◌, Option, Some, None, codes, decimal, map, filter, Contains, slice_get, option_to_list}
+use Rattle.std.specs.Prelude.{◌≡◌, ◌≢◌, ℕ, suc, Bool, true, false, ◌&&◌, if◌then◌else◌, List, [], ◌∷◌, ◌++◌, Option, Some, None, codes, decimal, map, filter, Contains, slice_get}
 use Rattle.std.specs.List.{flat_map}
 use Rattle.cf_core.specs.Types.{Name, SourceType, class, array, const, parameters}
-use Rattle.cf_core.specs.Classes.{Class, MemberFunction, class_named, functions_in, copy_in}
+use Rattle.cf_core.specs.Classes.{Class, MemberFunction, class_named, functions_in, copy_in, special_names}
 use Rattle.cf_core.specs.Subobjects.{Subobject, subobjects, Overrider, final_overrider}
 use Rattle.cf_core.specs.Core.{Core, Target, direct, dispatched, Function, Static, CoreFile, text, static_object, function, function_pointer, call, build, copy}
 use Rattle.cf_core.specs.Calls.{is_library}
@@ -35,14 +35,19 @@ abbrev pub function_definitions : (Name → Name) → Function → List Definiti
 function_definitions r f =
     record { name = r f.name; is_shared = f.is_shared; thing = a_function f } ∷ flat_map (literal_at (r f.name) f.is_shared) (nodes f.body)
 
-abbrev pub object_definition : (Name → Name) → Static → Definition
-object_definition r x = record { name = r x.name; is_shared = x.is_shared; thing = an_object x }
+-- the literals of a local object's initialiser are those of its function
+abbrev pub literals_of : Option Name → (Name → Name) → Static → List Definition
+literals_of None r x = []
+literals_of (Some f) r x = flat_map (literal_at (r f) x.is_shared) (nodes x.start)
+
+abbrev pub object_definitions : (Name → Name) → Static → List Definition
+object_definitions r x = record { name = r x.name; is_shared = x.is_shared; thing = an_object x } ∷ literals_of x.owner r x
 
 -- What is local to a file is defined under its name there; inside a core it keeps its link name, so that files' cores can be compared.
 abbrev pub definitions_in : ℕ → CoreFile → List Definition
 definitions_in k file =
     let r = name_in k (local_names file) in
-    flat_map (function_definitions r) file.functions ++ map (object_definition r) file.statics
+    flat_map (function_definitions r) file.functions ++ flat_map (object_definitions r) file.statics
 
 abbrev pub definitions_from : ℕ → List CoreFile → List Definition
 definitions_from k [] = []
@@ -54,7 +59,7 @@ definitions files = definitions_from 1 files
 -- Uses.
 
 abbrev pub copies : List Class → SourceType → List Name
-copies classes (class c) = option_to_list (copy_in (class_named classes c))
+copies classes (class c) = special_names (copy_in (class_named classes c))
 copies classes (array t n) = copies classes t
 copies classes (const t) = copies classes t
 copies classes t = []
@@ -68,7 +73,7 @@ abbrev pub uses_at : List Class → Core → List Name
 uses_at classes (static_object n t) = n ∷ []
 uses_at classes (function n t) = n ∷ []
 uses_at classes (function_pointer t) = named_target t
-uses_at classes (copy t e) = copies classes t
+uses_at classes (copy t e es) = copies classes t
 uses_at classes e = used_by classes e
 
 abbrev pub overrider_name : Option Overrider → List Name

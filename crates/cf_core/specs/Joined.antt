@@ -1,10 +1,10 @@
 -- The files of a program joined by link names.
-use Rattle.std.specs.Prelude.{ℕ, suc, Bool, true, false, ◌&&◌, not, if◌then◌else◌, List, [], ◌∷◌, ◌++◌, codes, decimal, map, filter, bytes_eq}
+use Rattle.std.specs.Prelude.{ℕ, suc, Bool, true, false, ◌&&◌, not, if◌then◌else◌, List, [], ◌∷◌, ◌++◌, None, Some, codes, decimal, map, filter, bytes_eq, Option, option_map}
 use Rattle.std.specs.List.{list_any}
 use Rattle.cf_core.specs.Types.{Name, void, gives}
 use Rattle.cf_core.specs.Classes.{Class}
-use Rattle.cf_core.specs.Core.{Core, Cores, MaybeCore, Parts, Target, direct, dispatched, Holder, no_temporary, local_temporary, static_temporary, none, more, absent, given, no_parts, part, plain_function, Function, Static, CoreFile, number, text, this, local, static_object, function, member, read, address, dereference, decay, index, convert, up, down, from_void, to_member, data_pointer, function_pointer, through, operate, unary, logical_not, logical_and, logical_or, pointer_operate, conditional, comma, store, update, step, assign, temporary, call, virtual_call, pointer_call, new, new_array, delete, delete_array, build, copy, each, list, string, bind, zeros, blank, full, block, declare, once, branch, loop, switch, case_label, default_label, leave, continue, give, parts}
-use Rattle.cf_core.specs.Calls.{Program}
+use Rattle.cf_core.specs.Core.{Core, Cores, MaybeCore, Parts, Target, direct, dispatched, Holder, no_temporary, local_temporary, static_temporary, none, more, absent, given, no_parts, part, plain_function, Function, Static, CoreFile, number, text, this, local, static_object, function, member, read, address, dereference, decay, index, convert, up, down, from_void, to_member, data_pointer, function_pointer, through, operate, unary, logical_not, logical_and, logical_or, pointer_operate, conditional, comma, store, update, step, assign, temporary, call, virtual_call, pointer_call, new, new_array, delete, delete_array, build, copy, each, list, string, bind, zeros, blank, full, block, sequence, declare, once, branch, loop, switch, case_label, default_label, leave, continue, give, parts}
+use Rattle.cf_core.specs.Calls.{Setting, Program}
 
 -- The names of functions and objects are replaced.
 
@@ -51,7 +51,7 @@ module _ (r : Name → Name) where
     renamed (store a b) = store (renamed a) (renamed b)
     renamed (update a change b) = update (renamed a) change (renamed b)
     renamed (step is_postfix change e) = step is_postfix change (renamed e)
-    renamed (assign t a b) = assign t (renamed a) (renamed b)
+    renamed (assign t a b es) = assign t (renamed a) (renamed b) (renamed_all es)
     renamed (temporary t e) = temporary t (renamed e)
     renamed (call n t object es) = call (r n) t (renamed_maybe object) (renamed_all es)
     renamed (virtual_call f t e es) = virtual_call f t (renamed e) (renamed_all es)
@@ -61,7 +61,7 @@ module _ (r : Name → Name) where
     renamed (delete t e) = delete t (renamed e)
     renamed (delete_array t e) = delete_array t (renamed e)
     renamed (build n t es) = build (r n) t (renamed_all es)
-    renamed (copy t e) = copy t (renamed e)
+    renamed (copy t e es) = copy t (renamed e) (renamed_all es)
     renamed (each e) = each (renamed e)
     renamed (list es rest) = list (renamed_all es) (renamed rest)
     renamed (string bytes) = string bytes
@@ -70,6 +70,7 @@ module _ (r : Name → Name) where
     renamed blank = blank
     renamed (full e) = full (renamed e)
     renamed (block es) = block (renamed_all es)
+    renamed (sequence es) = sequence (renamed_all es)
     renamed (declare i t e) = declare i t (renamed e)
     renamed (once n e) = once (r n) (renamed e)
     renamed (branch c a b) = branch (renamed c) (renamed a) (renamed_maybe b)
@@ -111,7 +112,7 @@ abbrev pub function_in_file : (Name → Name) → Function → Function
 function_in_file r f = record f { name = r f.name; body = renamed r f.body }
 
 abbrev pub static_in_file : (Name → Name) → Static → Static
-static_in_file r x = record x { name = r x.name; start = renamed r x.start }
+static_in_file r x = record x { name = r x.name; start = renamed r x.start; owner = option_map r x.owner }
 
 -- a file with the names of its local things replaced
 abbrev pub own_names : ℕ → CoreFile → CoreFile
@@ -158,8 +159,16 @@ file_initialiser name (x ∷ rest) = record {
   is_local = false;
 } ∷ []
 
+-- A constant initialiser takes effect in its function, or in the file's initialising function where the object is no local.
+abbrev pub owner_or : Name → Option Name → Name
+owner_or name None = name
+owner_or name (Some f) = f
+
 abbrev pub sets_constant : Static → Bool
 sets_constant x = x.is_constant && not (is_nothing x.start)
+
+abbrev pub constant_setting : Name → Static → Setting
+constant_setting name x = record { function = owner_or name x.owner; object = x.name; start = x.start }
 
 -- the program so far, and a further file with its number
 abbrev pub with_file : Program → ℕ → CoreFile → Program
@@ -170,7 +179,7 @@ with_file P k file =
       classes = P.classes ++ new_classes P.classes file.classes;
       functions = P.functions ++ new_functions P.functions file.functions;
       statics = P.statics ++ statics;
-      constants = P.constants ++ file_initialiser name (filter sets_constant statics);
+      constants = P.constants ++ map (constant_setting name) (filter sets_constant statics);
       initialisers = P.initialisers ++ file_initialiser name (filter (λ (x : Static). not x.is_constant) statics);
     }
 

@@ -2,7 +2,7 @@
 use Rattle.std.specs.Prelude.{Bool, true, ◌&&◌, if◌then◌else◌, List, [], ◌∷◌, ◌++◌, filter, bytes_eq, option_to_list}
 use Rattle.std.specs.List.{flat_map, list_any}
 use Rattle.cf_core.specs.Types.{Name, SourceType, class, array, const, parameters}
-use Rattle.cf_core.specs.Classes.{Class, MemberFunction, class_named, destructor_in, assignment_in}
+use Rattle.cf_core.specs.Classes.{Class, MemberFunction, class_named, destructor_in, assignment_in, special_names}
 use Rattle.cf_core.specs.Core.{Core, local_temporary, Role, plain_function, member_function, constructor, destructor, Function, call, build, temporary, declare, bind, delete, delete_array, assign}
 use Rattle.cf_core.specs.Building.{BuiltPart, building}
 use Rattle.cf_core.specs.Calls.{has_virtual_destructor}
@@ -16,7 +16,7 @@ destructors classes (const t) = destructors classes t
 destructors classes t = []
 
 abbrev pub assignments : List Class → SourceType → List Name
-assignments classes (class c) = option_to_list (assignment_in (class_named classes c))
+assignments classes (class c) = special_names (assignment_in (class_named classes c))
 assignments classes (array t n) = assignments classes t
 assignments classes (const t) = assignments classes t
 assignments classes t = []
@@ -30,7 +30,7 @@ used_by classes (declare i t e) = destructors classes t
 used_by classes (bind (local_temporary i t) e) = destructors classes t
 used_by classes (delete t e) = if has_virtual_destructor classes t then [] else destructors classes t
 used_by classes (delete_array t e) = destructors classes t
-used_by classes (assign t a b) = assignments classes t
+used_by classes (assign t a b es) = assignments classes t
 used_by classes e = []
 
 abbrev pub part_destructors : List Class → List BuiltPart → List Name

@@ -1,6 +1,6 @@
 -- Every node of a core, each before its parts.
 use Rattle.std.specs.Prelude.{List, [], ◌∷◌, ◌++◌}
-use Rattle.cf_core.specs.Core.{Core, Cores, MaybeCore, Parts, none, more, absent, given, no_parts, part, number, text, this, local, static_object, function, member, read, address, dereference, decay, index, convert, up, down, from_void, to_member, data_pointer, function_pointer, through, operate, unary, logical_not, logical_and, logical_or, pointer_operate, conditional, comma, store, update, step, assign, temporary, call, virtual_call, pointer_call, new, new_array, delete, delete_array, build, copy, each, list, string, bind, zeros, blank, full, block, declare, once, branch, loop, switch, case_label, default_label, leave, continue, give, parts}
+use Rattle.cf_core.specs.Core.{Core, Cores, MaybeCore, Parts, none, more, absent, given, no_parts, part, number, text, this, local, static_object, function, member, read, address, dereference, decay, index, convert, up, down, from_void, to_member, data_pointer, function_pointer, through, operate, unary, logical_not, logical_and, logical_or, pointer_operate, conditional, comma, store, update, step, assign, temporary, call, virtual_call, pointer_call, new, new_array, delete, delete_array, build, copy, each, list, string, bind, zeros, blank, full, block, sequence, declare, once, branch, loop, switch, case_label, default_label, leave, continue, give, parts}
 
 abbrev mutual
   pub nodes : Core → List Core
@@ -35,7 +35,7 @@ abbrev mutual
   nodes (store a b) = store a b ∷ nodes a ++ nodes b
   nodes (update a change b) = update a change b ∷ nodes a ++ nodes b
   nodes (step is_postfix change e) = step is_postfix change e ∷ nodes e
-  nodes (assign t a b) = assign t a b ∷ nodes a ++ nodes b
+  nodes (assign t a b es) = assign t a b es ∷ nodes a ++ nodes b ++ nodes_all es
   nodes (temporary t e) = temporary t e ∷ nodes e
   nodes (call n t object es) = call n t object es ∷ nodes_maybe object ++ nodes_all es
   nodes (virtual_call f t e es) = virtual_call f t e es ∷ nodes e ++ nodes_all es
@@ -45,7 +45,7 @@ abbrev mutual
   nodes (delete t e) = delete t e ∷ nodes e
   nodes (delete_array t e) = delete_array t e ∷ nodes e
   nodes (build n t es) = build n t es ∷ nodes_all es
-  nodes (copy t e) = copy t e ∷ nodes e
+  nodes (copy t e es) = copy t e es ∷ nodes e ++ nodes_all es
   nodes (each e) = each e ∷ nodes e
   nodes (list es rest) = list es rest ∷ nodes_all es ++ nodes rest
   nodes (string bytes) = string bytes ∷ []
@@ -54,6 +54,7 @@ abbrev mutual
   nodes blank = blank ∷ []
   nodes (full e) = full e ∷ nodes e
   nodes (block es) = block es ∷ nodes_all es
+  nodes (sequence es) = sequence es ∷ nodes_all es
   nodes (declare i t e) = declare i t e ∷ nodes e
   nodes (once n e) = once n e ∷ nodes e
   nodes (branch c a b) = branch c a b ∷ nodes c ++ nodes a ++ nodes_maybe b

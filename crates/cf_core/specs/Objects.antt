@@ -1,23 +1,25 @@
 -- The objects that names and literals stand for, initialised places, storage of the free store, and calls through pointers.
-use Rattle.std.specs.Prelude.{if◌then◌else◌, ℕ, suc, ◌+◌, Bool, true, false, ◌&&◌, ◌||◌, ◌==◌, List, [], ◌∷◌, pos, negsuc, Option, Some, None, find, position, slice_get, option_map, length, bytes_eq}
+use Rattle.std.specs.Prelude.{if◌then◌else◌, ℕ, suc, ◌+◌, nat_lt, Bool, true, false, ◌&&◌, ◌||◌, ◌==◌, List, [], ◌∷◌, pos, negsuc, Option, Some, None, find, position, slice_get, option_map, length, bytes_eq}
 use Rattle.std.specs.List.{list_any}
 use Rattle.cf_base.specs.declared.kind.Kind.TheVariants.{Char}
 use Rattle.cf_base.specs.Integers.{convert as converted}
-use Rattle.cf_core.specs.Types.{is_class, result, Name, SourceType, void, integer, array, const, plain, element, same_but_const}
+use Rattle.cf_core.specs.Types.{is_class, is_array, result, Name, SourceType, void, integer, array, const, plain, element, same_but_const}
 use Rattle.cf_core.specs.Classes.{Class, fields_of}
 use Rattle.cf_core.specs.Core.{Core, Cores, Part, item, field, Target, direct, dispatched, none, more, Static, build, copy, each, list}
 use Rattle.cf_core.specs.Places.{Route, Place, inner, along, is_scalar, class_of}
 use Rattle.cf_core.specs.Store.{Value, Built, Number, Null, Code, FunctionMember, Object, new_object, in_construction, alive, set_life, literal, free_store}
 use Rattle.cf_core.specs.Size.{size}
-use Rattle.cf_core.specs.Run.{object_changed, Literal, Act, ◌>>=◌, ◌>>◌, gives, malformed, undefined, state, changed, done, tick, need, some_or, when, born, declared_object, frame_changed, lists_local, take_heap, null_used, outside_array, cast_from_void}
+use Rattle.cf_core.specs.Run.{object_changed, Literal, Act, ◌>>=◌, ◌>>◌, gives, malformed, undefined, state, changed, done, tick, need, some_or, valid, when, born, declared_object, frame_changed, lists_local, take_heap, null_used, not_alive, outside_array, cast_from_void}
 use Rattle.cf_core.specs.Access.{place_type, used, first_value}
 use Rattle.cf_core.specs.Building.{dispatch}
 use Rattle.cf_core.specs.Calls.{Program, Again, root, run_named, has_copy}
 
+-- A parameter or local; one whose declaration was not reached is no object that is alive (6.7).
 abbrev pub local_place : ℕ → Act Place
 local_place i = do
   s ← state
-  o ← some_or (s.frame.locals i) malformed
+  valid (nat_lt i s.frame.count)
+  o ← some_or (s.frame.locals i) (undefined not_alive)
   gives (root o)
 
 abbrev pub static_number : Program → Name → Option ℕ
@@ -64,13 +66,10 @@ literal_object j bytes = do
     changed (λ s. record s { literals = record { function = f; number = j; object = o } ∷ s.literals })
     gives o)
 
--- whether a local's object stands already in the scope at hand, as after a label passed its declaration
-abbrev pub stands : Option ℕ → List ℕ → Bool
-stands None scope = false
-stands (Some o) scope = list_any (λ (x : ℕ). x == o) scope
-
 abbrev pub new_local : ℕ → SourceType → Act ℕ
 new_local i t = do
+  s ← state
+  valid (nat_lt i s.frame.count)
   o ← declared_object t
   frame_changed (lists_local i o)
   gives o
@@ -80,7 +79,7 @@ abbrev pub settle : List Class → Place → Value → Act (Unit {0})
 settle classes p Built = done
 settle classes p v = do
   s ← state
-  when (is_scalar (place_type classes s p)) (used v >>= first_value p) done
+  when (is_scalar (place_type classes s p)) (used v >>= first_value p) malformed
 
 abbrev pub settled : List Class → Place → Act Value → Act (Unit {0})
 settled classes p act = act >>= settle classes p
@@ -115,16 +114,11 @@ begin_list p = object_changed p.object (set_life p.route (in_construction [] ([]
 abbrev pub end_list : Place → Act (Unit {0})
 end_list p = object_changed p.object (set_life p.route alive)
 
-abbrev pub is_array : SourceType → Bool
-is_array (array t n) = true
-is_array (const t) = is_array t
-is_array t = false
-
 -- Whether an element of this type is built or copied by a function, as this initialiser builds it: it costs a tick.
 abbrev mutual
   pub costs_tick : Core → List Class → SourceType → Bool
   costs_tick (build name t args) classes u = true
-  costs_tick (copy t e) classes u = has_copy classes t
+  costs_tick (copy t e es) classes u = has_copy classes t
   costs_tick (each e) classes u = costs_tick e classes (element (plain u))
   costs_tick (list es rest) classes u = is_array u && (any_costs es classes (element (plain u)) || costs_tick rest classes (element (plain u)))
   costs_tick e classes u = false

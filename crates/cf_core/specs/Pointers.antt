@@ -7,11 +7,12 @@ use Rattle.cf_core.specs.Classes.{Class}
 use Rattle.cf_core.specs.Subobjects.{Path, path_eq}
 use Rattle.cf_core.specs.Core.{item, past, field, within, Target, direct, dispatched}
 use Rattle.cf_core.specs.Places.{Route, Place, route_eq, place_eq, is_beyond, type_at, is_inside, bound, without, class_of}
-use Rattle.cf_core.specs.Store.{Value, Number, Null, At, Code, DataMember, is_dead}
-use Rattle.cf_core.specs.Run.{State, Act, ◌>>=◌, ◌>>◌, gives, malformed, undefined, state, need, some_or, null_used, outside_array, cast_down, cast_from_void, compared}
+use Rattle.cf_core.specs.Store.{Value, Number, Null, At, Code, DataMember, FunctionMember, is_dead}
+use Rattle.cf_core.specs.Run.{State, Act, ◌>>=◌, ◌>>◌, gives, malformed, undefined, state, need, some_or, null_used, not_alive, outside_array, cast_down, cast_from_void, compared}
 use Rattle.cf_core.specs.Access.{place_type}
 
--- An element of an array: the array, and which element. An object that is none counts as the one element of an array, and `past` as its end.
+-- An element of an array: the array, and which element. An object that is none counts as the one element of an array, and `past` as its end;
+-- a base part counts as one without an end.
 pub record Element : Type 0 where
   pub array : Route
   pub index : ℕ
@@ -31,8 +32,13 @@ lone_route π (suc i) = past ∷ π
 abbrev pub route_of : Element → ℕ → Route
 route_of e i = elim e.is_lone [ true ↦ lone_route e.array i | false ↦ item i ∷ e.array ]
 
+-- A base part of an object is no array of its own: a pointer to it leaves its object with each step (5.7).
+abbrev pub lone_bound : Route → ℕ
+lone_bound (within s ∷ π) = 0
+lone_bound π = 1
+
 abbrev pub bound_of : List Class → SourceType → Element → ℕ
-bound_of classes t e = elim e.is_lone [ true ↦ 1 | false ↦ bound (type_at classes t e.array) ]
+bound_of classes t e = elim e.is_lone [ true ↦ lone_bound e.array | false ↦ bound (type_at classes t e.array) ]
 
 -- the number that is so many further, or none where it is negative
 abbrev pub further : ℕ → ℤ → Option ℕ
@@ -88,13 +94,16 @@ truth_value true = Number (pos 1)
 truth_value false = Number (pos 0)
 
 -- the number of elements from the second to the first
-abbrev pub difference_of : Value → Value → Act Value
-difference_of (At p) (At q) = do
+abbrev pub difference_of : List Class → Value → Value → Act Value
+difference_of classes (At p) (At q) = do
+  s ← state
+  need (both_stand classes s p q) not_alive
   need (same_array p q) outside_array
   gives (Number (pos (element_of p.route).index -ℤ pos (element_of q.route).index))
-difference_of Null w = undefined null_used
-difference_of (At p) Null = undefined null_used
-difference_of v w = malformed
+difference_of classes Null Null = undefined null_used
+difference_of classes Null (At q) = undefined null_used
+difference_of classes (At p) Null = undefined null_used
+difference_of classes v w = malformed
 
 -- the order of two elements of one array (5.9)
 abbrev pub ordered : List Class → (ℕ → ℕ → Bool) → Value → Value → Act Value
@@ -103,7 +112,8 @@ ordered classes less (At p) (At q) = do
   need (both_stand classes s p q) compared
   need (same_array p q) compared
   gives (truth_value (less (element_of p.route).index (element_of q.route).index))
-ordered classes less Null w = undefined null_used
+ordered classes less Null Null = undefined null_used
+ordered classes less Null (At q) = undefined null_used
 ordered classes less (At p) Null = undefined null_used
 ordered classes less v w = malformed
 
@@ -131,6 +141,14 @@ target_eq (direct f) (direct g) = bytes_eq f g
 target_eq (dispatched f) (dispatched g) = bytes_eq f g
 target_eq t u = false
 
+-- what isn't null differs from null; a number is compared with a number alone
+abbrev pub unlike_null : Value → Act Bool
+unlike_null (At p) = gives false
+unlike_null (Code f) = gives false
+unlike_null (DataMember path i) = gives false
+unlike_null (FunctionMember path t) = gives false
+unlike_null v = malformed
+
 -- whether two pointers are equal (5.10)
 abbrev pub equal_values : List Class → Value → Value → Act Bool
 equal_values classes (At p) (At q) = do
@@ -139,8 +157,8 @@ equal_values classes (At p) (At q) = do
   need (comparable classes s p q) compared
   gives (place_eq p q)
 equal_values classes Null Null = gives true
-equal_values classes Null w = gives false
-equal_values classes v Null = gives false
+equal_values classes Null w = unlike_null w
+equal_values classes v Null = unlike_null v
 equal_values classes (Code f) (Code g) = gives (bytes_eq f g)
 equal_values classes (DataMember path i) (DataMember route j) = gives (path_eq path route && (i == j))
 equal_values classes v w = malformed
@@ -148,7 +166,7 @@ equal_values classes v w = malformed
 abbrev pub pointer_op : List Class → PointerOperator → Value → Value → Act Value
 pointer_op classes op.Add v w = sum_of classes v w
 pointer_op classes op.Subtract v w = moved_back classes v w
-pointer_op classes op.Difference v w = difference_of v w
+pointer_op classes op.Difference v w = difference_of classes v w
 pointer_op classes op.Less v w = ordered classes nat_lt v w
 pointer_op classes op.Greater v w = ordered classes (λ i j. nat_lt j i) v w
 pointer_op classes op.LessEqual v w = ordered classes nat_le v w

@@ -6,11 +6,11 @@ use Rattle.cf_core.specs.Types.{is_class, void, result}
 use Rattle.cf_core.specs.Classes.{Class}
 use Rattle.cf_core.specs.Core.{Role, constructor, destructor, Function, Static}
 use Rattle.cf_core.specs.Places.{Place, path_in}
-use Rattle.cf_core.specs.Store.{Value, Nothing, Number, in_destruction, Object, zeroed_object, automatic, permanent, literal, free_store}
+use Rattle.cf_core.specs.Store.{Value, Missing, Number, in_destruction, Object, zeroed_object, automatic, permanent, literal, free_store}
 use Rattle.cf_core.specs.Run.{State, Frame, Did, Gives, Exits, Malformed, Act, ◌>>=◌, ◌>>◌, gives, malformed, undefined, state, done, for_all, frame_changed, gone, no_result}
 use Rattle.cf_core.specs.Building.{building, is_whole, whole_life, sets_life, constructing, constructed, destroyed}
-use Rattle.cf_core.specs.Calls.{Program, Flow, Falls, Returns, Task, body, turn, Again, frame_of, returned, enter, run_named, root, destroy, end_object, destroy_parts, in_scope}
-use Rattle.cf_core.specs.Statements.{does}
+use Rattle.cf_core.specs.Calls.{Setting, Program, Flow, Falls, Task, body, turn, Again, frame_of, enter, run_named, root, destroy, end_object, destroy_parts, in_scope}
+use Rattle.cf_core.specs.Statements.{does, initialises}
 
 -- A constructor or destructor is entered: its part is the active one.
 abbrev pub begins : List Class → Role → Option Place → Act (Unit {0})
@@ -45,7 +45,7 @@ run_body again P f args = do
   unbuilds again P f.role before.frame.this
   for_all (reverse args) (end_object again P)
   ends P.classes f.role before.frame.this before
-  gives (Returns (returned flow))
+  gives flow
 
 abbrev pub perform : Again → Program → Task → Act Flow
 perform again P (body f args) = run_body again P f args
@@ -59,7 +59,7 @@ runs P (suc n) task s w = perform (runs P n) P task s w
 -- The whole run.
 
 abbrev pub no_frame : ℕ → Frame
-no_frame depth = frame_of [] [] None None depth
+no_frame depth = frame_of [] 0 [] None None depth
 
 abbrev pub static_object_of : List Class → Option Static → Object
 static_object_of classes None = zeroed_object classes void
@@ -81,22 +81,21 @@ first_state P depth = record {
 }
 
 -- constant initialisers take effect without a function being entered (8.4)
-abbrev pub set_constants : Again → Program → Function → Act (Unit {0})
-set_constants again P f = do
-  frame_changed (λ g. record g { function = f.name })
-  does again P f.body
-  done
+abbrev pub set_constant : Again → Program → Setting → Act (Unit {0})
+set_constant again P x = do
+  frame_changed (λ g. record g { function = x.function })
+  initialises again P x.object x.start
 
 -- flow off the end of `main` gives status 0
 abbrev pub status_of : Value → Act ℤ
 status_of (Number z) = gives z
-status_of Nothing = gives (pos 0)
+status_of Missing = gives (pos 0)
 status_of v = malformed
 
 -- Then come the other static objects, file by file, and then `main`; its return is `exit`.
 abbrev pub main_run : Again → Program → Act ℤ
 main_run again P = do
-  for_all P.constants (set_constants again P)
+  for_all P.constants (set_constant again P)
   for_all P.initialisers (λ f. enter again f [] None None >> done)
   v ← run_named again P (codes "__main") [] None None
   status_of v

@@ -49,10 +49,11 @@ no_result = 16
 -- a function that was entered and hasn't ended
 pub record Frame : Type 0 where
   pub function : Name
+  pub count : ℕ  -- of its parameters and locals
   pub this : Option Place
   pub result : Option Place  -- where a result of class type is built
   pub depth : ℕ  -- how many more functions may be entered
-  pub locals : ℕ → Option ℕ  -- the object of each parameter and local that stands
+  pub locals : ℕ → Option ℕ  -- the object of each parameter, and of each local whose declaration was reached
   pub scope : List ℕ  -- the objects declared in the innermost open scope, the newest first
   pub temporaries : List ℕ  -- of the full expression at hand, the newest first
 
@@ -126,6 +127,11 @@ shows event = λ s w. Went (Gives tt s) (show event w)
 abbrev pub need : Bool → ℕ → Act (Unit {0})
 need true act = done
 need false act = undefined act
+
+-- where the test fails, the core is none that elaboration makes
+abbrev pub valid : Bool → Act (Unit {0})
+valid true = done
+valid false = malformed
 
 abbrev pub some_or : {A : Type 0} → Option A → Act A → Act A
 some_or None act = act

@@ -7,33 +7,43 @@ use Rattle.cf_base.specs.declared.arith.Arith.TheVariants as arith
 use Rattle.cf_base.specs.Integers.{int_op, convert as converted}
 use Rattle.cf_core.specs.declared.operators.UnaryOperator.{UnaryOperator}
 use Rattle.cf_core.specs.declared.operators.UnaryOperator.TheVariants as sign
-use Rattle.cf_core.specs.Types.{SourceType, void, integer, enumeration, const}
+use Rattle.cf_core.specs.Types.{SourceType, void, integer, enumeration, pointer, data_member, function_member, const, is_array}
 use Rattle.cf_core.specs.Classes.{Class}
 use Rattle.cf_core.specs.Subobjects.{Path}
-use Rattle.cf_core.specs.Core.{item, field, Change, arithmetic, moved}
+use Rattle.cf_core.specs.Core.{item, Change, arithmetic, moved}
 use Rattle.cf_core.specs.Places.{Place, inner, along}
-use Rattle.cf_core.specs.Store.{Value, Nothing, Built, Number, Null, At, Code, DataMember, FunctionMember}
-use Rattle.cf_core.specs.Run.{Act, ◌>>=◌, ◌>>◌, gives, malformed, undefined, ok_or_act, null_used, no_result}
-use Rattle.cf_core.specs.Access.{used, number_of, name_part}
+use Rattle.cf_core.specs.Store.{Value, Nothing, Missing, Built, Number, Null, At, Code, DataMember, FunctionMember}
+use Rattle.cf_core.specs.Run.{Act, ◌>>=◌, ◌>>◌, gives, malformed, undefined, state, valid, ok_or_act, null_used, no_result}
+use Rattle.cf_core.specs.Access.{used, number_of, place_type, name_part, name_field, has_path}
 use Rattle.cf_core.specs.Pointers.{moved_value}
 
 -- whether a value counts as true: a number that isn't 0, a pointer that isn't null
 abbrev pub truth_of : Value → Act Bool
-truth_of Nothing = undefined no_result
+truth_of Nothing = malformed
+truth_of Missing = undefined no_result
 truth_of Built = malformed
 truth_of (Number (pos zero)) = gives false
 truth_of (Number z) = gives true
 truth_of Null = gives false
 truth_of v = gives true
 
+-- a pointer stays what it is, and 0 is a null pointer (4.6, 4.8)
+abbrev pub as_pointer : Value → Act Value
+as_pointer (Number (pos zero)) = gives Null
+as_pointer (Number z) = malformed
+as_pointer v = gives v
+
 -- a conversion to this type (4): an integer modulo its width, 0 to a null pointer, anything to void
 abbrev pub converted_value : SourceType → Value → Act Value
+converted_value void Built = malformed
 converted_value void v = gives Nothing
 converted_value (integer k) v = used v >>= number_of >>= (λ z. gives (Number (converted k z)))
 converted_value (enumeration e) v = used v >>= number_of >>= (λ z. gives (Number (converted Int z)))
 converted_value (const t) v = converted_value t v
-converted_value t (Number (pos zero)) = gives Null
-converted_value t v = used v
+converted_value (pointer t) v = used v >>= as_pointer
+converted_value (data_member c t) v = used v >>= as_pointer
+converted_value (function_member c t) v = used v >>= as_pointer
+converted_value t v = malformed
 
 abbrev pub operated : Arith → Kind → Value → Value → Act Value
 operated op k (Number x) (Number y) = ok_or_act (int_op op k x y) >>= (λ z. gives (Number z))
@@ -69,7 +79,11 @@ indexed classes v w = moved_by classes v w
 
 -- the first element of an array; a function stays itself (4.6)
 abbrev pub decayed : List Class → Value → Act Value
-decayed classes (At p) = name_part classes p >> gives (At (inner (item 0) p))
+decayed classes (At p) = do
+  s ← state
+  valid (is_array (place_type classes s p))
+  name_part classes p
+  gives (At (inner (item 0) p))
 decayed classes (Code f) = gives (Code f)
 decayed classes v = malformed
 
@@ -90,6 +104,10 @@ to_derived path v = malformed
 -- the data member of a place that a pointer names (5.5)
 abbrev pub through_pointer : List Class → Place → Value → Act Value
 through_pointer classes p Null = undefined null_used
-through_pointer classes p (DataMember r i) =
-    name_part classes p >> gives (At (inner (field i) (record p { route = along r p.route })))
+through_pointer classes p (DataMember r i) = do
+  s ← state
+  valid (has_path classes s p r)
+  name_part classes p
+  q ← name_field classes i (record p { route = along r p.route })
+  gives (At q)
 through_pointer classes p v = malformed

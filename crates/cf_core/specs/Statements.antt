@@ -1,18 +1,18 @@
 -- The meaning of statements and of constructors' initialisers (6, 12.6.2).
-use Rattle.std.specs.Prelude.{ℕ, Bool, true, false, ◌&&◌, ◌||◌, not, List, [], ◌∷◌, ℤ, int_le, Some, None, bytes_eq}
+use Rattle.std.specs.Prelude.{ℕ, Bool, true, false, ◌&&◌, ◌||◌, not, ◌∷◌, ℤ, int_le, Some, None, bytes_eq}
 use Rattle.std.specs.List.{list_any}
 use Rattle.cf_core.specs.declared.operators.LoopForm.{LoopForm}
 use Rattle.cf_core.specs.declared.operators.LoopForm.TheVariants as form
 use Rattle.cf_core.specs.Types.{Name, SourceType}
 use Rattle.cf_core.specs.Subobjects.{virtual}
-use Rattle.cf_core.specs.Core.{Core, Cores, MaybeCore, Parts, Part, within, none, more, absent, given, no_parts, part, blank, full, block, declare, once, branch, loop, switch, case_label, default_label, leave, continue, give, parts}
-use Rattle.cf_core.specs.Store.{Value, Nothing}
-use Rattle.cf_core.specs.Run.{Act, ◌>>=◌, ◌>>◌, gives, malformed, state, changed, done, tick, some_or, when, for_all, frame_changed, lists_in_scope}
-use Rattle.cf_core.specs.Access.{using, number_of}
-use Rattle.cf_core.specs.Building.{part_place, is_whole}
+use Rattle.cf_core.specs.Core.{Core, Cores, MaybeCore, Parts, Part, within, none, more, absent, given, no_parts, part, blank, full, block, sequence, declare, once, branch, loop, switch, case_label, default_label, leave, continue, give, parts}
+use Rattle.cf_core.specs.Store.{Value, Nothing, Built}
+use Rattle.cf_core.specs.Run.{Act, ◌>>=◌, ◌>>◌, gives, malformed, state, changed, done, tick, some_or, valid, when, frame_changed, lists_in_scope}
+use Rattle.cf_core.specs.Access.{place_type, using, number_of}
+use Rattle.cf_core.specs.Building.{part_place, has_part, is_whole}
 use Rattle.cf_core.specs.Calls.{Program, Flow, Falls, Breaks, Continues, Returns, turn, Again, root, full_expression, in_scope, finish_static}
 use Rattle.cf_core.specs.Scalars.{truth_of}
-use Rattle.cf_core.specs.Objects.{static_type, static_place, stands, new_local, settled}
+use Rattle.cf_core.specs.Objects.{static_type, static_place, new_local, settled}
 use Rattle.cf_core.specs.Expressions.{value}
 
 -- whether there is such a label (6.4.2)
@@ -21,18 +21,22 @@ has_case z none = false
 has_case z (more (case_label y) rest) = (int_le y z && int_le z y) || has_case z rest
 has_case z (more e rest) = has_case z rest
 
-pub record Passed : Type 0 where
-  pub number : ℕ
-  pub type : SourceType
+abbrev pub has_default : Cores → Bool
+has_default none = false
+has_default (more default_label rest) = true
+has_default (more e rest) = has_default rest
 
--- the locals of a switch's own block that a label may pass: those without an initialiser (6.7)
-abbrev pub passed : Cores → List Passed
-passed none = []
-passed (more (declare i t blank) rest) = record { number = i; type = t } ∷ passed rest
-passed (more e rest) = passed rest
+-- A label declares the locals of a switch's own block that it passes, in order: those without an initialiser (6.7).
+abbrev mutual
+  pub passes : Core → Act (Unit {0})
+  passes (declare i t blank) = new_local i t >>= (λ o. frame_changed (lists_in_scope o))
+  passes (declare i t e) = malformed
+  passes (sequence es) = passes_all es
+  passes e = done
 
-abbrev pub declare_passed : Passed → Act (Unit {0})
-declare_passed x = new_local x.number x.type >>= (λ o. frame_changed (lists_in_scope o))
+  pub passes_all : Cores → Act (Unit {0})
+  passes_all none = done
+  passes_all (more e es) = passes e >> passes_all es
 
 -- a statement is followed by the next where it falls through
 abbrev pub falling : Act Flow → Flow → Act Flow
@@ -69,13 +73,14 @@ module _ (again : Again) (P : Program) where
     s ← state
     elim s.frame.result [
       | None ↦ full_expression again P (using (value again P e None))
-      | Some p ↦ settled P.classes p (full_expression again P (value again P e (Some p))) >> gives Nothing
+      | Some p ↦ settled P.classes p (full_expression again P (value again P e (Some p))) >> gives Built
     ]
 
   abbrev pub builds_part : Part → Core → Act (Unit {0})
   builds_part w e = do
     s ← state
     object ← some_or s.frame.this malformed
+    valid (has_part P.classes (place_type P.classes s object) w)
     let p = part_place w object
     settled P.classes p (full_expression again P (value again P e (Some p)))
 
@@ -119,10 +124,7 @@ module _ (again : Again) (P : Program) where
     pub does : Core → Act Flow
     does (full e) = full_expression again P (value again P e None) >> gives Falls
     does (block es) = in_scope again P (does_all es)
-    does (declare i t blank) = do
-      s ← state
-      when (stands (s.frame.locals i) s.frame.scope) done (declares i t blank)
-      gives Falls
+    does (sequence es) = does_all es
     does (declare i t e) = declares i t e >> gives Falls
     does (once name e) = do
       s ← state
@@ -138,7 +140,7 @@ module _ (again : Again) (P : Program) where
           (in_scope again P (does s) >>= turning (holds c >>= (λ t. when t (again (turn (loop f c e s))) (gives Falls))))
     does (switch e es) = do
       z ← full_expression again P (using (value again P e None)) >>= number_of
-      in_scope again P (for_all (passed es) declare_passed >> when (has_case z es) (from_case z es) (from_default es)) >>= leaving
+      in_scope again P (when (has_case z es) (from_case z es) (when (has_default es) (from_default es) (gives Falls))) >>= leaving
     does (case_label z) = gives Falls
     does default_label = gives Falls
     does leave = gives Breaks
@@ -156,13 +158,13 @@ module _ (again : Again) (P : Program) where
     does_all none = gives Falls
     does_all (more s rest) = does s >>= falling (does_all rest)
 
-    -- the statements behind a label
+    -- the statements behind a label, once it has passed those before it
     pub from_case : ℤ → Cores → Act Flow
     from_case z none = gives Falls
     from_case z (more (case_label y) rest) = when (int_le y z && int_le z y) (does_all rest) (from_case z rest)
-    from_case z (more s rest) = from_case z rest
+    from_case z (more s rest) = passes s >> from_case z rest
 
     pub from_default : Cores → Act Flow
     from_default none = gives Falls
     from_default (more default_label rest) = does_all rest
-    from_default (more s rest) = from_default rest
+    from_default (more s rest) = passes s >> from_default rest

@@ -8,7 +8,8 @@ use Rattle.cf_core.specs.Places.{Route, Place, beyond, is_beyond, route_eq, type
 
 -- What an expression gives. A place stands for an lvalue and for a pointer to it alike.
 pub data Value : Type 0 where
-  Nothing : Value  -- of type void, or of a function that ended without a value
+  Nothing : Value  -- of type void
+  Missing : Value  -- of a function that ended without the value that it should give (6.6.3)
   Built : Value  -- of an initialiser that has built the place that it was given
   Number : ℤ → Value  -- of an integer type or an enumeration
   Null : Value  -- a null pointer or null pointer to member

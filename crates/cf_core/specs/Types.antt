@@ -94,6 +94,16 @@ abbrev pub element : SourceType → SourceType
 element (array t n) = t
 element t = t
 
+abbrev pub is_array : SourceType → Bool
+is_array (array t n) = true
+is_array (const t) = is_array t
+is_array t = false
+
+abbrev pub is_void : SourceType → Bool
+is_void void = true
+is_void (const t) = is_void t
+is_void t = false
+
 abbrev pub is_class : SourceType → Bool
 is_class (class c) = true
 is_class (const t) = is_class t

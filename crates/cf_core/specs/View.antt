@@ -13,7 +13,7 @@ use Rattle.cf_core.specs.declared.node.Holder.TheVariants as holder
 use Rattle.cf_core.specs.declared.node.BuiltPart.{BuiltPart as NodePart}
 use Rattle.cf_core.specs.declared.node.BuiltPart.TheVariants as built
 use Rattle.cf_core.specs.Types.{Name}
-use Rattle.cf_core.specs.Core.{Core, Cores, MaybeCore, Parts, Part, field, within, Target, direct, dispatched, Change, arithmetic, moved, Holder, no_temporary, local_temporary, static_temporary, none, more, absent, given, no_parts, part, number, text, this, local, static_object, function, member, read, address, dereference, decay, index, convert, up, down, from_void, to_member, data_pointer, function_pointer, through, operate, unary, logical_not, logical_and, logical_or, pointer_operate, conditional, comma, store, update, step, assign, temporary, call, virtual_call, pointer_call, new, new_array, delete, delete_array, build, copy, each, list, string, bind, zeros, blank, full, block, declare, once, branch, loop, switch, case_label, default_label, leave, continue, give, parts}
+use Rattle.cf_core.specs.Core.{Core, Cores, MaybeCore, Parts, Part, field, within, Target, direct, dispatched, Change, arithmetic, moved, Holder, no_temporary, local_temporary, static_temporary, none, more, absent, given, no_parts, part, number, text, this, local, static_object, function, member, read, address, dereference, decay, index, convert, up, down, from_void, to_member, data_pointer, function_pointer, through, operate, unary, logical_not, logical_and, logical_or, pointer_operate, conditional, comma, store, update, step, assign, temporary, call, virtual_call, pointer_call, new, new_array, delete, delete_array, build, copy, each, list, string, bind, zeros, blank, full, block, sequence, declare, once, branch, loop, switch, case_label, default_label, leave, continue, give, parts}
 use Rattle.cf_core.specs.FromTypes.{Tables, type_of, class_code, step_of, path_of}
 
 abbrev pub listed : List Core → Cores
@@ -83,7 +83,7 @@ module _ (tables : Tables) (signature : MemberRef → Name) where
   core_step (Core-F.Store at a b) = store a b
   core_step (Core-F.Update at a c b) = update a (change_of c) b
   core_step (Core-F.Increment at is_postfix c e) = step is_postfix (change_of c) e
-  core_step (Core-F.Assign at t a b) = assign (type_of tables t) a b
+  core_step (Core-F.Assign at t a b es) = assign (type_of tables t) a b (listed es)
   core_step (Core-F.Temporary at t e) = temporary (type_of tables t) e
   core_step (Core-F.Call at f t object es) = call f (type_of tables t) (maybe object) (listed es)
   core_step (Core-F.VirtualCall at m t e es) = virtual_call (signature m) (type_of tables t) e (listed es)
@@ -93,7 +93,7 @@ module _ (tables : Tables) (signature : MemberRef → Name) where
   core_step (Core-F.Delete at t e) = delete (type_of tables t) e
   core_step (Core-F.DeleteArray at t e) = delete_array (type_of tables t) e
   core_step (Core-F.Build at f t es) = build f (type_of tables t) (listed es)
-  core_step (Core-F.Copy at t e) = copy (type_of tables t) e
+  core_step (Core-F.Copy at t e es) = copy (type_of tables t) e (listed es)
   core_step (Core-F.Each at e) = each e
   core_step (Core-F.List at es rest) = list (listed es) rest
   core_step (Core-F.Characters at bytes) = string bytes
@@ -102,6 +102,7 @@ module _ (tables : Tables) (signature : MemberRef → Name) where
   core_step (Core-F.Blank at) = blank
   core_step (Core-F.Full at e) = full e
   core_step (Core-F.Block at es) = block (listed es)
+  core_step (Core-F.Sequence at es) = sequence (listed es)
   core_step (Core-F.Declare at i t e) = declare i (type_of tables t) e
   core_step (Core-F.Once at n e) = once n e
   core_step (Core-F.If at c a b) = branch c a (maybe b)

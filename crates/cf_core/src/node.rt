@@ -230,12 +230,14 @@ pub enum Core {
         change: Change,
         place: Boxed<Core>,
     },
-    /// A class object or array to a place, memberwise or by its class's assignment (12.8).
+    /// A class object or array to a place, memberwise or by its class's assignment (12.8). Where that takes an object and not a
+    /// reference, the copy constructor builds it with these default arguments behind the first.
     Assign {
         at: u32,
         ty: TyId,
         to: Boxed<Core>,
         from: Boxed<Core>,
+        further: Items<Core>,
     },
     /// A temporary, built by an initialiser (12.2).
     Temporary {
@@ -299,11 +301,13 @@ pub enum Core {
         ty: TyId,
         arguments: Items<Core>,
     },
-    /// From another place of this type, memberwise or by its copy constructor (12.8).
+    /// From another place of this type, memberwise or by its copy constructor, with these default arguments behind the first
+    /// (12.8, 8.2.6).
     Copy {
         at: u32,
         ty: TyId,
         from: Boxed<Core>,
+        further: Items<Core>,
     },
     /// Every element of an array by one initialiser.
     Each {
@@ -342,6 +346,11 @@ pub enum Core {
         expression: Boxed<Core>,
     },
     Block {
+        at: u32,
+        statements: Items<Core>,
+    },
+    /// Statements in order, in the scope at hand: a declaration and its `for` (6.5.3).
+    Sequence {
         at: u32,
         statements: Items<Core>,
     },

@@ -60,6 +60,7 @@ impl Core {
             Core::Blank { at, .. } => *at,
             Core::Full { at, .. } => *at,
             Core::Block { at, .. } => *at,
+            Core::Sequence { at, .. } => *at,
             Core::Declare { at, .. } => *at,
             Core::Once { at, .. } => *at,
             Core::If { at, .. } => *at,

@@ -38,6 +38,8 @@ pub struct CoreStatic {
     pub ty: TyId,
     /// Its initialiser. A local static object that needs more than constants has none here: it stands in its function.
     pub start: Core,
+    /// The function whose local it is, by its link name: the literals of its initialiser are numbered there.
+    pub owner: Option<Name>,
     /// Whether it takes effect before any function is entered (8.4).
     pub is_constant: bool,
     pub is_shared: bool,
