@@ -73,7 +73,7 @@ diamond =
 abbrev V_by : ℕ → Core
 V_by n = built (codes "__ct__1VFi") (int ∷ []) (num n ∷ [])
 
-abbrev dispatch_during_construction : Program
+abbrev pub dispatch_during_construction : Program
 dispatch_during_construction = program diamond
     (constructor_of (codes "1V") (codes "__ct__1VFi") (int ∷ []) no_parts (set (member this 0) (value_of 0) ∷ [])
     ∷ method_of (codes "1V") (codes "f__1VFv") void (put_code 86 ∷ [])

@@ -181,7 +181,7 @@ copy_moves_no_value_too = refl
 abbrev K : SourceType
 K = class (codes "1K")
 
-abbrev arrays_in_members : Program
+abbrev pub arrays_in_members : Program
 arrays_in_members = program
     (record (built_class (codes "1K") [] (int ∷ []) [] None) { copy = copying (codes "1K") (codes "__ct__1KFRC1K") [] }
     ∷ record (built_class (codes "1H") [] (array K 2 ∷ []) [] None) { copy = copying (codes "1H") (codes "__ct__1HFRC1H") [] } ∷ [])

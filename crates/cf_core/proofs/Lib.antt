@@ -11,3 +11,4 @@ mod ObjectRows
 mod Sample
 mod ScalarRows
 mod SubobjectRows
+mod ValidRows

@@ -21,7 +21,7 @@ N = class (codes "1N")
 abbrev put_whether : Core
 put_whether = put (conditional (value_of 2) (num 49) (num 48))
 
-abbrev three_objects : Program
+abbrev pub three_objects : Program
 three_objects = program (plain_class (codes "1N") [] (array int 10 ∷ []) ∷ [])
     (main_of (declare 0 int blank ∷ declare 1 (pointer N) (convert (pointer N) (num 0)) ∷ declare 2 (pointer N) blank
     ∷ set (local 0) (num 0)
@@ -49,7 +49,7 @@ delete_through_virtual_destructor = refl
 abbrev T : SourceType
 T = class (codes "1T")
 
-abbrev array_of_three : Program
+abbrev pub array_of_three : Program
 array_of_three = program (built_class (codes "1T") [] [] (nonvirtual_function (codes "__dt__Fv") (codes "__dt__1TFv") ∷ []) (Some (codes "__dt__1TFv")) ∷ [])
     (constructor_of (codes "1T") (codes "__ct__1TFv") [] no_parts (put_code 43 ∷ []) ∷ destructor_of (codes "1T") (codes "__dt__1TFv") (put_code 45 ∷ [])
     ∷ main_of (declare 0 (pointer T) (new_array T (num 3) (each (built (codes "__ct__1TFv") [] [])))
@@ -62,7 +62,7 @@ no_tick_for_the_last_element : run array_of_three 12 ≡ Some (record { end = Ti
 no_tick_for_the_last_element = refl
 
 -- int main(){T a[2][2];return 0;}: main, six elements built at two levels, and as many destroyed
-abbrev array_of_arrays : Program
+abbrev pub array_of_arrays : Program
 array_of_arrays = program (built_class (codes "1T") [] [] (nonvirtual_function (codes "__dt__Fv") (codes "__dt__1TFv") ∷ []) (Some (codes "__dt__1TFv")) ∷ [])
     (constructor_of (codes "1T") (codes "__ct__1TFv") [] no_parts (put_code 43 ∷ []) ∷ destructor_of (codes "1T") (codes "__dt__1TFv") (put_code 45 ∷ [])
     ∷ main_of (declare 0 (array (array T 2) 2) (each (each (built (codes "__ct__1TFv") [] []))) ∷ returns (num 0) ∷ []) ∷ []) []
@@ -90,7 +90,7 @@ S = class (codes "1S")
 abbrev S_by : ℕ → Core
 S_by n = built (codes "__ct__1SFi") (int ∷ []) (num n ∷ [])
 
-abbrev three_statics : Program
+abbrev pub three_statics : Program
 three_statics = record {
   classes = built_class (codes "1S") [] (int ∷ []) (nonvirtual_function (codes "__dt__Fv") (codes "__dt__1SFv") ∷ []) (Some (codes "__dt__1SFv")) ∷ [];
   functions =

@@ -14,7 +14,7 @@ use Rattle.cf_core.specs.Program.{Mean}
 use Rattle.cf_core.proofs.Sample.{int, function_of, listed, in_block, main_of, program, static_of, returns, num, add, put, put_code, put_digit, value_of, set, called, referred, shown_of, run}
 
 -- int main(){return 7;}
-abbrev seven : Program
+abbrev pub seven : Program
 seven = program [] (main_of (returns (num 7) ∷ []) ∷ []) []
 
 returns_seven : Mean seven [] 0 1 1 ≡ Some (record { end = Ended (pos 7); trace = Enter (codes "__main") ∷ [] })
@@ -32,7 +32,7 @@ endless_loop : run (program [] (main_of (loop form.For absent absent (full blank
 endless_loop = refl
 
 -- int f(){return f();}int main(){return f();}
-abbrev deep : Program
+abbrev pub deep : Program
 deep = program []
     (function_of (codes "f__Fv") [] int (in_block (returns (called (codes "f__Fv") [] int []) ∷ []))
     ∷ main_of (returns (called (codes "f__Fv") [] int []) ∷ []) ∷ []) []
@@ -41,7 +41,7 @@ too_deep : Mean deep [] 0 3 100 ≡ Some (record { end = Depth; trace = Enter (c
 too_deep = refl
 
 -- int g(int a){putchar('0'+a);return a;}int f(int a,int b){return a+b;}int main(){return f(g(1),g(2));}
-abbrev arguments_in_order : Program
+abbrev pub arguments_in_order : Program
 arguments_in_order = program []
     (function_of (codes "g__Fi") (int ∷ []) int (in_block (put_digit (value_of 0) ∷ returns (value_of 0) ∷ []))
     ∷ function_of (codes "f__Fii") (int ∷ int ∷ []) int (in_block (returns (add (value_of 0) (value_of 1)) ∷ []))
@@ -59,7 +59,7 @@ overflow_after_output :
 overflow_after_output = refl
 
 -- int main(){int c;while((c=getchar())!=-1)putchar(c);return 0;}
-abbrev echo : Program
+abbrev pub echo : Program
 echo = program [] (main_of (declare 0 int blank
     ∷ loop form.While (given (operate op.NotEqual Int (read (store (local 0) (called (codes "getchar") [] int []))) (unary sign.Negate Int (num 1)))) absent (put (value_of 0))
     ∷ returns (num 0) ∷ []) ∷ []) []
@@ -132,7 +132,7 @@ exit_ends_the_run :
 exit_ends_the_run = refl
 
 -- int main(){int i=0;int s=0;do{s+=i;i++;}while(i<5);return s;} with main and five turns
-abbrev sum_to_four : Program
+abbrev pub sum_to_four : Program
 sum_to_four = program [] (main_of (declare 0 int (num 0) ∷ declare 1 int (num 0)
     ∷ loop form.Do (given (operate op.Less Int (value_of 0) (num 5))) absent
     (in_block (full (update (local 1) (arithmetic op.Add Int Int) (value_of 0)) ∷ full (step true (arithmetic op.Add Int Int) (local 0)) ∷ []))

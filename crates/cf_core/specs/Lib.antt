@@ -24,5 +24,8 @@ pub mod Size
 pub mod Statements
 pub mod Store
 pub mod Subobjects
+pub mod Typed
 pub mod Types
+pub mod Typing
+pub mod Valid
 pub mod View
