@@ -1,6 +1,6 @@
 -- Validity of cores, tried on the programs of the other rows and on cores with a fault.
 use Rattle.std.proofs.Common.{◌≡◌, Bool, true, false, List, [], ◌∷◌, refl}
-use Rattle.std.specs.Prelude.{pos, None, codes}
+use Rattle.std.specs.Prelude.{pos, Some, None, codes}
 use Rattle.cf_base.specs.declared.kind.Kind.TheVariants.{Int, UInt, Char}
 use Rattle.cf_base.specs.declared.arith.Arith.TheVariants as op
 use Rattle.cf_core.specs.declared.operators.PointerOperator.TheVariants as ptr
@@ -9,6 +9,15 @@ use Rattle.cf_core.specs.Classes.{Class}
 use Rattle.cf_core.specs.Subobjects.{base}
 use Rattle.cf_core.specs.Core.{Core, Parts, field, direct, local_temporary, within, none, given, absent, no_parts, part, number, local, member, this, read, address, dereference, decay, convert, up, down, from_void, to_member, data_pointer, function_pointer, through, operate, pointer_operate, conditional, store, temporary, pointer_call, new, delete, list, string, bind, zeros, blank, full, sequence, declare, branch, switch, case_label, default_label, leave, continue}
 use Rattle.cf_core.specs.Calls.{Program}
+use Rattle.cf_types.specs.declared.ty.Ty.TheVariants as ty
+use Rattle.cf_core.specs.declared.node.Core.{roll-Core}
+use Rattle.cf_core.specs.declared.node.Core.TheOpen.{Core-F}
+use Rattle.cf_core.specs.declared.node.Core.TheFolds.{fold-roll-Core}
+use Rattle.cf_core.specs.declared.unit.Role.TheVariants as role
+use Rattle.cf_core.specs.View.{Started, core_step, started_step}
+use Rattle.cf_core.specs.Numbers.{known_step, known_part}
+use Rattle.cf_core.specs.FromClasses.{signature_of}
+use Rattle.cf_core.specs.FromUnit.{Unit, IsValid, tables_of}
 use Rattle.cf_core.specs.Valid.{valid_file}
 use Rattle.cf_core.proofs.Sample.{int, function_type, function_of, listed, in_block, main_of, returns, num, add, value_of, set, called, built, referred, base_of, plain_class, built_class, constructor_of, virtual_function}
 use Rattle.cf_core.proofs.ActRows.{int_pointer, two_classes}
@@ -141,3 +150,28 @@ parts_in_order = refl
 
 parts_out_of_order : with_parts (part (field 0) (num 1) (part (within (base 0)) blank no_parts)) ≡ false
 parts_out_of_order = refl
+
+-- int main(){return 7;} as elaboration makes it
+abbrev seven_unit : Unit
+seven_unit = record {
+  types = record { types = ty.Int Int ∷ []; funs = [] };
+  classes = record { labels = []; enums = []; defined = [] };
+  functions = record {
+    name = codes "__main";
+    role = role.Plain;
+    result = 0;
+    params = [];
+    locals = [];
+    body = roll-Core (Core-F.Block 10 (roll-Core (Core-F.Return 11 (Some (roll-Core (Core-F.Number 18 (pos 7))))) ∷ []));
+    is_shared = false;
+    is_local = false;
+  } ∷ [];
+  statics = [];
+}
+
+seven_unit_is_valid : IsValid seven_unit
+seven_unit_is_valid = record {
+  functions = simp (fold-roll-Core Bool Bool (known_step (tables_of seven_unit)) (known_part (tables_of seven_unit)));
+  statics = refl;
+  file = simp (fold-roll-Core Core Started (core_step (tables_of seven_unit) (signature_of (tables_of seven_unit))) (started_step (tables_of seven_unit) (signature_of (tables_of seven_unit))));
+}

@@ -1,9 +1,11 @@
 -- The core of a file as plain data, and the meaning of files.
-use Rattle.std.specs.Prelude.{ℕ, false, List, Option, map}
+use Rattle.std.specs.Prelude.{◌≡◌, ℕ, false, true, List, Option, map}
+use Rattle.std.specs.List.{list_all}
 use Rattle.cf_base.specs.World.{Outcome}
 use Rattle.cf_core.specs.declared.unit.CoreFn.{CoreFn}
 use Rattle.cf_core.specs.declared.unit.CoreStatic.{CoreStatic}
-use Rattle.cf_core.specs.declared.unit.CoreUnit.{CoreUnit}
+use Rattle.cf_types.specs.Table.{Table}
+use Rattle.cf_classes.specs.ClassTable.{ClassTable}
 use Rattle.cf_core.specs.declared.unit.Role.{Role as UnitRole}
 use Rattle.cf_core.specs.declared.unit.Role.TheVariants as role
 use Rattle.cf_core.specs.Types.{gives}
@@ -13,8 +15,17 @@ use Rattle.cf_core.specs.FromClasses.{signature_of, classes_in}
 use Rattle.cf_core.specs.View.{core_of}
 use Rattle.cf_core.specs.Joined.{program_of}
 use Rattle.cf_core.specs.Program.{Mean}
+use Rattle.cf_core.specs.Numbers.{function_known, static_known}
+use Rattle.cf_core.specs.Valid.{valid_file}
 
-abbrev pub tables_of : CoreUnit → Tables
+-- the core of a file, with its tables
+pub record Unit : Type 0 where
+  pub types : Table
+  pub classes : ClassTable
+  pub functions : List CoreFn
+  pub statics : List CoreStatic
+
+abbrev pub tables_of : Unit → Tables
 tables_of unit = record { types = unit.types; classes = unit.classes }
 
 abbrev pub role_of : Tables → UnitRole → Role
@@ -45,7 +56,7 @@ static_of tables x = record {
   is_local = x.is_local;
 }
 
-abbrev pub file_of : CoreUnit → CoreFile
+abbrev pub file_of : Unit → CoreFile
 file_of unit =
     let tables = tables_of unit in
     record {
@@ -54,6 +65,12 @@ file_of unit =
       statics = map (static_of tables) unit.statics;
     }
 
+-- Only valid cores exist: each number is there in the tables, and the file is valid.
+pub record IsValid (unit : Unit) : Type 0 where
+  pub functions : list_all (function_known (tables_of unit)) unit.functions ≡ true
+  pub statics : list_all (static_known (tables_of unit)) unit.statics ≡ true
+  pub file : valid_file (file_of unit) ≡ true
+
 -- The meaning of files, in the order of the command line: from an input, a heap limit, a depth limit and a bound of ticks.
-abbrev pub units_mean : List CoreUnit → List ℕ → ℕ → ℕ → ℕ → Option Outcome
+abbrev pub units_mean : List Unit → List ℕ → ℕ → ℕ → ℕ → Option Outcome
 units_mean units input heap depth n = Mean (program_of (map file_of units)) input heap depth n

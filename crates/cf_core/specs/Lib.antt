@@ -14,6 +14,7 @@ pub mod Joined
 pub mod Named
 pub mod NodePlace
 pub mod Nodes
+pub mod Numbers
 pub mod Objects
 pub mod Places
 pub mod Pointers

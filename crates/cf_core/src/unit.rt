@@ -1,7 +1,10 @@
+ghost use Rattle.std.specs.Prelude.{◌≡◌};
+
 use crate::node::Core;
 use cf_base::{Items, Name};
 use cf_classes::Classes;
 use cf_types::{ClassId, TyId, Types};
+use std::marker::Model;
 
 /// What kind of function it is.
 #[derive(Clone, Copy, Debug, PartialEq, Eq)]
@@ -46,13 +49,75 @@ pub struct CoreStatic {
     pub is_local: bool,
 }
 
-/// The core of a file.
+/// The core of a file, which is valid: every node has parts of the number and types that it takes, each number in it is there in the
+/// tables, and no two functions or static objects have one link name.
 #[derive(Drop)]
 pub struct CoreUnit {
-    pub types: Types,
-    pub classes: Classes,
+    types: Types,
+    classes: Classes,
+    functions: Items<CoreFn>,
+    statics: Items<CoreStatic>,
+}
+
+impl Model for CoreUnit {
+    ghost use Rattle.cf_core.specs.FromUnit.{Unit, IsValid};
+    ghost use Rattle.cf_core.specs.contracts.node.Core as core;
+    ghost use Rattle.std.specs.Coded.{codes};
+
+    ghost Value = { Unit };
+
+    ghost coded = { Prim.hlevel (codes, core.the_row.coded) };
+
+    ghost view = { λ u. record { types = u.types; classes = u.classes; functions = u.functions; statics = u.statics } };
+
+    ghost invariant = { λ u. IsValid (record { types = u.types; classes = u.classes; functions = u.functions; statics = u.statics }) };
+}
+
+impl CoreUnit {
+    ghost use Rattle.cf_core.specs.FromUnit.{IsValid};
+
+    /// The core of these parts, if it is valid.
+    pub fn new(
+        types: Types,
+        classes: Classes,
+        functions: Items<CoreFn>,
+        statics: Items<CoreStatic>,
+    ) -> CoreUnit
+        requires valid { IsValid (record { types = types; classes = classes; functions = functions; statics = statics }) }
+        ensures { result ≡ record { types = types; classes = classes; functions = functions; statics = statics } }
+    {
+        CoreUnit {
+            types,
+            classes,
+            functions,
+            statics,
+        }
+    }
+
+    pub fn types(&self) -> &Types
+        ensures { result.now ≡ self.now.types }
+    {
+        &self.types
+    }
+
+    pub fn classes(&self) -> &Classes
+        ensures { result.now ≡ self.now.classes }
+    {
+        &self.classes
+    }
+
+    /// In order of definition. The core is valid.
+    pub fn functions(&self) -> &[CoreFn]
+        ensures functions { result.now ≡ self.now.functions }
+        ensures valid { IsValid self.now }
+    {
+        self.functions.as_slice()
+    }
+
     /// In order of definition.
-    pub functions: Items<CoreFn>,
-    /// In order of definition.
-    pub statics: Items<CoreStatic>,
+    pub fn statics(&self) -> &[CoreStatic]
+        ensures { result.now ≡ self.now.statics }
+    {
+        self.statics.as_slice()
+    }
 }
