@@ -3,9 +3,10 @@ use Rattle.std.proofs.Common.{◌≡◌, [], ◌∷◌, refl}
 use Rattle.std.specs.Prelude.{None, codes}
 use Rattle.cf_core.specs.declared.operators.PointerOperator.TheVariants as ptr
 use Rattle.cf_core.specs.Types.{integer, void, class, pointer, array, reference}
-use Rattle.cf_base.specs.declared.kind.Kind.TheVariants.{Char}
+use Rattle.cf_base.specs.declared.kind.Kind.TheVariants.{Char, Int}
+use Rattle.cf_base.specs.declared.arith.Arith.TheVariants as op
 use Rattle.cf_core.specs.Subobjects.{base}
-use Rattle.cf_core.specs.Core.{given, absent, none, local, member, read, address, decay, dereference, convert, up, pointer_operate, call, list, string, zeros, blank, full, declare, leave, text}
+use Rattle.cf_core.specs.Core.{given, absent, none, local, member, read, address, decay, dereference, convert, up, pointer_operate, operate, call, list, string, zeros, blank, full, declare, leave, text}
 use Rattle.cf_core.proofs.Sample.{int, function_type, function_of, listed, in_block, returns, num, value_of, set, called}
 use Rattle.cf_core.proofs.ActRows.{ends_of, int_pointer, two_classes, act}
 
@@ -55,3 +56,6 @@ too_few_arguments = refl
 
 break_without_a_loop : ends_of [] [] (leave ∷ []) ≡ None
 break_without_a_loop = refl
+
+operand_of_another_type : ends_of [] [] (returns (operate op.Add Int (num 4294967295) (num 1)) ∷ []) ≡ None
+operand_of_another_type = refl

@@ -143,3 +143,10 @@ do_loop = refl
 
 do_loop_needs_six_ticks : run sum_to_four 5 ≡ Some (record { end = Ticks; out = [] })
 do_loop_needs_six_ticks = refl
+
+-- unsigned a=5;return ~a==4294967290;
+complement_of_an_unsigned :
+    run (program [] (main_of (declare 0 (integer UInt) (convert (integer UInt) (num 5))
+    ∷ returns (operate op.Equal UInt (unary sign.Complement UInt (value_of 0)) (num 4294967290)) ∷ []) ∷ []) []) 10
+    ≡ Some (record { end = Ended (pos 1); out = [] })
+complement_of_an_unsigned = refl

@@ -1,10 +1,11 @@
 -- What operators and conversions give (4, 5).
-use Rattle.std.specs.Prelude.{zero, suc, Bool, true, false, List, ◌++◌, pos, negsuc}
+use Rattle.std.specs.Prelude.{zero, suc, Bool, true, false, List, ◌++◌, pos, negsuc, ◌&&◌, ◌||◌}
 use Rattle.cf_base.specs.declared.kind.Kind.{Kind}
 use Rattle.cf_base.specs.declared.kind.Kind.TheVariants.{Int}
 use Rattle.cf_base.specs.declared.arith.Arith.{Arith}
 use Rattle.cf_base.specs.declared.arith.Arith.TheVariants as arith
-use Rattle.cf_base.specs.Integers.{int_op, convert as converted}
+use Rattle.cf_base.specs.Integers.{fits, int_op, convert as converted}
+use Rattle.cf_types.specs.Operators.{is_shift}
 use Rattle.cf_core.specs.declared.operators.UnaryOperator.{UnaryOperator}
 use Rattle.cf_core.specs.declared.operators.UnaryOperator.TheVariants as sign
 use Rattle.cf_core.specs.Types.{SourceType, void, integer, enumeration, pointer, data_member, function_member, const, is_array}
@@ -45,14 +46,18 @@ converted_value (data_member c t) v = used v >>= as_pointer
 converted_value (function_member c t) v = used v >>= as_pointer
 converted_value t v = malformed
 
+-- both operands are values of the type, but for the count of a shift, which is of any type (5.8)
 abbrev pub operated : Arith → Kind → Value → Value → Act Value
-operated op k (Number x) (Number y) = ok_or_act (int_op op k x y) >>= (λ z. gives (Number z))
+operated op k (Number x) (Number y) = do
+  valid (fits k x && (is_shift op || fits k y))
+  z ← ok_or_act (int_op op k x y)
+  gives (Number z)
 operated op k v w = malformed
 
 -- `-` takes from 0, `~` turns every bit (5.3)
 abbrev pub signed : UnaryOperator → Kind → Value → Act Value
 signed sign.Negate k v = operated arith.Subtract k (Number (pos 0)) v
-signed sign.Complement k v = operated arith.Xor k v (Number (negsuc 0))
+signed sign.Complement k v = operated arith.Xor k v (Number (converted k (negsuc 0)))
 
 abbrev pub minus : Value → Value
 minus (Number (pos zero)) = Number (pos zero)

@@ -5,6 +5,7 @@ use Rattle.cf_base.specs.declared.kind.Kind.TheVariants.{Int, ULong}
 use Rattle.cf_base.specs.declared.arith.Arith.{Arith}
 use Rattle.cf_base.specs.declared.arith.Arith.TheVariants as arith
 use Rattle.cf_base.specs.Integers.{fits}
+use Rattle.cf_types.specs.Operators.{is_shift}
 use Rattle.cf_core.specs.declared.operators.PointerOperator.{PointerOperator}
 use Rattle.cf_core.specs.declared.operators.PointerOperator.TheVariants as ptr
 use Rattle.cf_core.specs.Types.{Name, SourceType, void, integer, enumeration, class, pointer, reference, takes, gives, data_member, function_member, const, plain, same_but_const, parameters, is_class, is_void}
@@ -153,11 +154,6 @@ is_comparison arith.GreaterEqual = true
 is_comparison arith.Equal = true
 is_comparison arith.NotEqual = true
 is_comparison op = false
-
-abbrev pub is_shift : Arith → Bool
-is_shift arith.ShiftLeft = true
-is_shift arith.ShiftRight = true
-is_shift op = false
 
 abbrev pub operated_type : Arith → Kind → SourceType
 operated_type op k = if is_comparison op then integer Int else integer k
