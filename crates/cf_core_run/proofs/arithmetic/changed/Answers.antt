@@ -1,0 +1,25 @@
+use Rattle.std.proofs.Common.{◌≡◌, ℤ, Ok, Err, None, Result, ap, sym, subst, ◌∙◌, w64, to_z, of_z, FitsSigned}
+use Rattle.std.proofs.Math.Facts.{to_z-of_z}
+use Rattle.std.specs.Result.{result_ok}
+use Rattle.cf_base.specs.Integers.{int_op, convert}
+use Rattle.cf_core.specs.Store.{Number}
+use Rattle.cf_core.specs.Run.{Gives}
+use Rattle.cf_core.specs.Scalars.{operated, signed}
+use Rattle.cf_base.specs.World.{Went}
+use Rattle.cf_core_run.specs.Answer.{Told}
+use Rattle.cf_core_run.specs.Store.{value_of}
+use Rattle.cf_core_run.specs.Acts.{act_of}
+use Rattle.cf_core_run.proofs.Acts.{no-value}
+use Rattle.cf_core_run.proofs.Steps.{operated-at, changed-stops, changed-goes}
+use Rattle.cf_core_run.proofs.arithmetic.changed.Goals as goal
+
+pub returns-in-Err : goal.returns-in-Err
+returns-in-Err c = λ s w.
+    changed-stops c.args.op c.args.at c.args.to c.args.x (value_of c.args.y) c.in-Err.stop c.operated.result s w c.in-Err.is
+    (subst (λ x. Told Number c.operated.result s w (operated c.args.op c.args.at (Number x) (value_of c.args.y) s w)) c.convert.ensures (c.operated.ensures s w))
+
+pub returns-in-Ok : goal.returns-in-Ok
+returns-in-Ok c = λ s w.
+    changed-goes c.args.op c.args.at c.args.to c.args.x c.in-Ok.value (value_of c.args.y) c.operated.result s w c.in-Ok.is
+    (subst (λ x. Told Number c.operated.result s w (operated c.args.op c.args.at (Number x) (value_of c.args.y) s w)) c.convert.ensures (c.operated.ensures s w))
+    ∙ ap (λ x. Went (Gives (Number x) s) w) (sym c.convert-in-Ok.ensures)

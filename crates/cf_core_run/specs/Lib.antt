@@ -1,0 +1,4 @@
+pub mod Acts
+pub mod Answer
+pub mod Built
+pub mod Store

@@ -1,0 +1,59 @@
+-- The runner's objects and entered function, as the meaning sees them.
+use Rattle.std.specs.Prelude.{ℕ, Bool, true, false, if◌then◌else◌, List, [], ◌∷◌, length, ℤ, Option, Some, None, slice_get}
+use Rattle.cf_core.specs.Types.{SourceType, void, integer}
+use Rattle.cf_core.specs.Places.{Route, Place, route_eq}
+use Rattle.cf_core.specs.Store.{Value, Nothing, Missing, Number, At, Object, automatic, zeroed_object}
+use Rattle.cf_core.specs.Run.{State, Frame}
+use Rattle.cf_core.specs.Calls.{root}
+use Rattle.cf_core_run.specs.declared.store.Cell.{Cell}
+use Rattle.cf_core_run.specs.declared.store.Local.{Local}
+use Rattle.cf_core_run.specs.declared.store.Local.TheVariants as local
+use Rattle.cf_core_run.specs.declared.store.Entered.{Entered}
+use Rattle.cf_core_run.specs.declared.answer.Value.{Value as Given}
+use Rattle.cf_core_run.specs.declared.answer.Value.TheVariants as given
+
+-- what an integer object holds
+abbrev pub held_of : Option ℤ → Route → Option Value
+held_of None π = None
+held_of (Some z) π = if route_eq π [] then Some (Number z) else None
+
+abbrev pub object_of : Option Cell → Object
+object_of None = zeroed_object [] void
+object_of (Some c) = record { type = integer c.kind; held = held_of c.held; life = λ π. None; storage = automatic; is_gone = c.is_gone }
+
+abbrev pub objects_of : List Cell → ℕ → Object
+objects_of cells o = object_of (slice_get cells o)
+
+-- the object of a local that was reached
+abbrev pub reached_object : Option Local → Option ℕ
+reached_object None = None
+reached_object (Some local.NotReached) = None
+reached_object (Some (local.Object o)) = Some o
+
+abbrev pub frame_of : Entered → Frame
+frame_of e = record {
+  function = e.name.now;
+  count = length e.locals.items;
+  this = None;
+  result = None;
+  depth = e.depth;
+  locals = λ i. reached_object (slice_get e.locals.items i);
+  scope = e.scope.items;
+  temporaries = [];
+}
+
+abbrev pub state_of : Entered → List Cell → State
+state_of e cells = record {
+  next = length cells;
+  object = objects_of cells;
+  literals = [];
+  reached = [];
+  finished = [];
+  frame = frame_of e;
+}
+
+abbrev pub value_of : Given → Value
+value_of given.Nothing = Nothing
+value_of given.Missing = Missing
+value_of (given.Number z) = Number z
+value_of (given.At o) = At (root o)
