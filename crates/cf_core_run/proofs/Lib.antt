@@ -1,2 +1,5 @@
 mod Acts
+mod Chain
+mod KnownLaws
 mod Steps
+mod TypeLaws

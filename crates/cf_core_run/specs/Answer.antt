@@ -1,8 +1,10 @@
 -- What an answer of the runner says of a run of the meaning.
-use Rattle.std.specs.Prelude.{◌≡◌, ℕ, Result, Ok, Err}
+use Rattle.std.specs.Prelude.{◌≡◌, ℕ, List, Result, Ok, Err}
 use Rattle.cf_base.specs.Event.{Undefined}
 use Rattle.cf_base.specs.World.{World, Ran, Went, Stops}
-use Rattle.cf_core.specs.Run.{State, Did, Gives, Malformed}
+use Rattle.cf_core.specs.Core.{Function}
+use Rattle.cf_core.specs.Calls.{Again}
+use Rattle.cf_core.specs.Run.{State, Act, Did, Gives, Malformed}
 use Rattle.cf_core_run.specs.declared.answer.Stop.{Stop}
 use Rattle.cf_core_run.specs.declared.answer.Stop.TheVariants as stop
 
@@ -17,3 +19,11 @@ Stopped stop.Memory w r = Unit {0}
 abbrev pub Told : {A B : Type 0} → (A → B) → Result A Stop → State → World → Ran (Did B) → Type 0
 Told view (Ok a) s w r = r ≡ Went (Gives (view a) s) w
 Told view (Err e) s w r = Stopped e w r
+
+-- what a part of a core means, whatever the functions are and however they run on
+abbrev pub Meaning : Type 0 → Type 0
+Meaning B = Again → List Function → Act B
+
+-- what the runner has answered is what is meant, from the old state to the new one
+pub record Comes {A B : Type 0} (view : A → B) (result : Result A Stop) (meant : Meaning B) (old new : State) : Type 0 where
+  pub told : (again : Again) (fs : List Function) (w : World) → Told view result new w (meant again fs old w)

@@ -1,10 +1,10 @@
 -- The program that a file's core makes alone, and its nodes as plain data.
-use Rattle.std.specs.Prelude.{ℕ, Bool, List, [], map}
+use Rattle.std.specs.Prelude.{Bool, List, [], None}
 use Rattle.cf_core.specs.declared.node.Core.{Core as Node}
 use Rattle.cf_core.specs.Core.{Core, Function}
 use Rattle.cf_core.specs.Calls.{Program}
 use Rattle.cf_core.specs.FromClasses.{signature_of}
-use Rattle.cf_core.specs.FromUnit.{Unit, tables_of, function_of}
+use Rattle.cf_core.specs.FromUnit.{Unit, tables_of}
 use Rattle.cf_core.specs.Numbers.{are_known}
 use Rattle.cf_core.specs.View.{core_of}
 

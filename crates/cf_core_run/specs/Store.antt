@@ -1,5 +1,5 @@
 -- The runner's objects and entered function, as the meaning sees them.
-use Rattle.std.specs.Prelude.{ℕ, Bool, true, false, if◌then◌else◌, List, [], ◌∷◌, length, ℤ, Option, Some, None, slice_get}
+use Rattle.std.specs.Prelude.{ℕ, Bool, true, false, if◌then◌else◌, List, [], ◌∷◌, length, ℤ, Option, Some, None, slice_get, Result, Ok, Err}
 use Rattle.cf_core.specs.Types.{SourceType, void, integer}
 use Rattle.cf_core.specs.Places.{Route, Place, route_eq}
 use Rattle.cf_core.specs.Store.{Value, Nothing, Missing, Number, At, Object, automatic, zeroed_object}
@@ -9,6 +9,7 @@ use Rattle.cf_core_run.specs.declared.store.Cell.{Cell}
 use Rattle.cf_core_run.specs.declared.store.Local.{Local}
 use Rattle.cf_core_run.specs.declared.store.Local.TheVariants as local
 use Rattle.cf_core_run.specs.declared.store.Entered.{Entered}
+use Rattle.cf_core_run.specs.declared.answer.Stop.{Stop}
 use Rattle.cf_core_run.specs.declared.answer.Value.{Value as Given}
 use Rattle.cf_core_run.specs.declared.answer.Value.TheVariants as given
 
@@ -57,3 +58,7 @@ value_of given.Nothing = Nothing
 value_of given.Missing = Missing
 value_of (given.Number z) = Number z
 value_of (given.At o) = At (root o)
+
+abbrev pub as_number : Result ℤ Stop → Result Given Stop
+as_number (Err e) = Err e
+as_number (Ok z) = Ok (given.Number z)

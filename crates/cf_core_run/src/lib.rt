@@ -5,8 +5,11 @@
 
 mod answer;
 mod arithmetic;
+mod expressions;
 mod integer;
+mod results;
 mod store;
+mod types;
 
 pub use answer::{Stop, Value};
 pub use integer::Integer;

@@ -1,14 +1,17 @@
-ghost use Rattle.std.specs.Prelude.{◌≡◌, Ok, OnOk, OnErr, IfErr, [], length, suc};
+ghost use Rattle.std.specs.Prelude.{◌≡◌, List, None, Ok, OnOk, OnErr, IfErr, [], length, suc};
 ghost use Rattle.cf_base.specs.World.{World};
 ghost use Rattle.cf_core.specs.Run.{object_changed, declared_object, gone};
 ghost use Rattle.cf_core.specs.Types.{integer};
 ghost use Rattle.cf_core.specs.Store.{Number};
 ghost use Rattle.cf_core.specs.Access.{read_place, write_place, first_value};
 ghost use Rattle.cf_core.specs.Calls.{root};
-ghost use Rattle.cf_core_run.specs.Store.{state_of};
-ghost use Rattle.cf_core_run.specs.Answer.{Told};
+ghost use Rattle.cf_core_run.specs.Store.{state_of, value_of};
+ghost use Rattle.cf_core_run.specs.Meant.{valued};
+ghost use Rattle.cf_core.specs.Core as plain_core;
 
-use crate::answer::Stop;
+ghost use Rattle.cf_core_run.specs.Answer.{Told, Comes};
+
+use crate::answer::{Stop, Value};
 use crate::integer::Integer;
 use cf_base::Kind;
 
@@ -41,8 +44,8 @@ pub struct Entered<'a> {
 }
 
 /// The value that an object holds.
-pub fn read(entered: &Entered<'_>, cells: &[Cell], at: usize) -> Result<Integer, Stop>
-    ensures { (w : World) → Told Number result (state_of entered.now cells.now) w (read_place [] (root at) (state_of entered.now cells.now) w) }
+pub fn read(entered: &Entered<'_>, cells: &Vec<Cell>, at: usize) -> Result<Integer, Stop>
+    ensures { (w : World) → Told Number result (state_of entered.now cells.now.items) w (read_place [] (root at) (state_of entered.now cells.now.items) w) }
 {
     let _ = entered;
     match cells.get(at) {
@@ -78,5 +81,17 @@ pub fn write(entered: &Entered<'_>, cells: &mut Vec<Cell>, at: usize, value: Int
             };
             Ok(())
         }
+    }
+}
+
+/// A parameter or local.
+pub fn local_at(number: u32, entered: &Entered<'_>, cells: &[Cell]) -> Result<Value, Stop>
+    ensures { Comes value_of result (valued (plain_core.local number)) (state_of entered.now cells.now) (state_of entered.now cells.now) }
+{
+    let _ = cells;
+    match entered.locals.get(number as usize) {
+        None => Err(Stop::Malformed),
+        Some(Local::NotReached) => Err(Stop::Act(5)),
+        Some(Local::Object(at)) => Ok(Value::At(*at)),
     }
 }
