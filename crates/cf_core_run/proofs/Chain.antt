@@ -1,15 +1,16 @@
 -- How the answer on the first part of an expression leads to one on the whole.
-use Rattle.std.proofs.Common.{◌≡◌, ℤ, Result, Ok, Err, refl, ap, sym, subst, ◌∙◌, List}
-use Rattle.cf_base.specs.World.{World}
+use Rattle.std.proofs.Common.{◌≡◌, ℤ, Bool, true, false, Result, Ok, Err, refl, ap, sym, subst, ◌∙◌, List}
+use Rattle.cf_base.specs.World.{World, Went}
 use Rattle.cf_core.specs.Core.{Core, Function}
 use Rattle.cf_core.specs.Calls.{Again}
-use Rattle.cf_core.specs.Run.{State, Act}
+use Rattle.cf_core.specs.Run.{State, Act, Gives}
+use Rattle.cf_core.specs.Pointers.{truth_value}
 use Rattle.cf_core.specs.Store.{Value, Number}
 use Rattle.cf_core_run.specs.declared.answer.Stop.{Stop}
 use Rattle.cf_core_run.specs.declared.answer.Value.{Value as Given}
 use Rattle.cf_core_run.specs.Answer.{Told, Stopped, Meaning, Comes}
 use Rattle.cf_core_run.specs.Store.{value_of, as_number}
-use Rattle.cf_core_run.specs.Meant.{leading, alone, valued}
+use Rattle.cf_core_run.specs.Meant.{leading, alone, valued, tested, truth_given, after_and, after_or, after_test}
 use Rattle.cf_core_run.proofs.Steps.{stops-then, goes-then}
 
 -- the first part stops
@@ -49,3 +50,26 @@ as-value r answer m s t is h = subst (λ (a : Result Given Stop). Comes value_of
 -- a node by what it is as plain data
 pub at-node : (r : Result Given Stop) (p q : Core) (old new : State) → q ≡ p → Comes value_of r (valued p) old new → Comes value_of r (valued q) old new
 at-node r p q old new is h = subst (λ (p : Core). Comes value_of r (valued p) old new) (sym is) h
+
+-- the branch that is taken
+
+pub and-goes : (b : Core) (x : Bool) (r : Result Given Stop) (s t : State) → x ≡ true → Comes value_of r (leading (tested b) truth_given) s t → Comes value_of r (after_and b x) s t
+and-goes b x r s t is h = subst (λ x. Comes value_of r (after_and b x) s t) (sym is) (record { told = h.told })
+
+pub or-goes : (b : Core) (x : Bool) (r : Result Given Stop) (s t : State) → x ≡ false → Comes value_of r (leading (tested b) truth_given) s t → Comes value_of r (after_or b x) s t
+or-goes b x r s t is h = subst (λ x. Comes value_of r (after_or b x) s t) (sym is) (record { told = h.told })
+
+pub truth-is : (b : Bool) (v : Given) (s : State) → value_of v ≡ truth_value b → Comes value_of (Ok v) (truth_given b) s s
+truth-is b v s is = record { told = λ again fs w. ap (λ v. Went (Gives v s) w) (sym is) }
+
+pub and-skips : (b : Core) (x : Bool) (v : Given) (s : State) → x ≡ false → value_of v ≡ truth_value false → Comes value_of (Ok v) (after_and b x) s s
+and-skips b x v s is e = subst (λ x. Comes value_of (Ok v) (after_and b x) s s) (sym is) (record { told = (truth-is false v s e).told })
+
+pub or-skips : (b : Core) (x : Bool) (v : Given) (s : State) → x ≡ true → value_of v ≡ truth_value true → Comes value_of (Ok v) (after_or b x) s s
+or-skips b x v s is e = subst (λ x. Comes value_of (Ok v) (after_or b x) s s) (sym is) (record { told = (truth-is true v s e).told })
+
+pub yes-goes : (a b : Core) (x : Bool) (r : Result Given Stop) (s t : State) → x ≡ true → Comes value_of r (valued a) s t → Comes value_of r (after_test a b x) s t
+yes-goes a b x r s t is h = subst (λ x. Comes value_of r (after_test a b x) s t) (sym is) (record { told = h.told })
+
+pub no-goes : (a b : Core) (x : Bool) (r : Result Given Stop) (s t : State) → x ≡ false → Comes value_of r (valued b) s t → Comes value_of r (after_test a b x) s t
+no-goes a b x r s t is h = subst (λ x. Comes value_of r (after_test a b x) s t) (sym is) (record { told = h.told })

@@ -3,16 +3,21 @@ ghost use Rattle.cf_core.specs.Calls.{root};
 ghost use Rattle.cf_core.specs.Core as plain_core;
 ghost use Rattle.cf_core_run.specs.Answer.{Comes};
 ghost use Rattle.cf_core_run.specs.Built.{plain, known};
-ghost use Rattle.cf_core_run.specs.Meant.{valued, operand_of, place_at, tested, after_left, after_place};
+ghost use Rattle.cf_core_run.specs.Meant.{valued, operand_of, place_at, tested, leading, truth_given};
+ghost use Rattle.cf_core.specs.FromTypes.{type_of};
+ghost use Rattle.cf_core.specs.FromUnit.{tables_of};
+ghost use Rattle.cf_core.specs.Numbers.{has_type};
 ghost use Rattle.cf_core_run.specs.Store.{state_of, value_of};
 
 use crate::answer::{Stop, Value};
 use crate::arithmetic::{operated, signed, truth, used};
 use crate::integer::Integer;
-use crate::results::{number, object, put, truth_number};
+use crate::results::{change_by, converted_to, number, object, put, step_by, truth_number};
+use crate::types::type_at;
 use crate::store::{Cell, Entered, local_at, read, write};
 use cf_base::{Arith, Kind};
 use cf_core::{Core, CoreUnit, UnaryOperator};
+use cf_types::TyId;
 
 /// The value of an expression without calls.
 #[cycle(values)]
@@ -29,6 +34,27 @@ pub fn value(
         Core::Number { value, .. } => Ok(Value::Number(Integer::new(*value))),
         Core::Local { number, .. } => local_at(*number, entered, cells),
         Core::Read { place, .. } => read_value(place.get(), unit, entered, cells),
+        Core::Unary {
+            op, kind, operand, ..
+        } => sign(*op, *kind, operand.get(), unit, entered, cells),
+        Core::Not { operand, .. } => negate(operand.get(), unit, entered, cells),
+        Core::Convert { ty, operand, .. } => convert(*ty, operand.get(), unit, entered, cells),
+        _ => pair(e, unit, entered, cells),
+    }
+}
+
+/// The value of a node with operands, or of one that changes an object.
+#[cycle(values)]
+fn pair(
+    e: &Core,
+    unit: &CoreUnit,
+    entered: &Entered<'_>,
+    cells: &mut Vec<Cell>,
+) -> Result<Value, Stop>
+    requires { known unit.now e.now ≡ true }
+    ensures { Comes value_of result (valued (plain unit.now e.now)) (state_of entered.now cells.old.items) (state_of entered.now cells.new.items) }
+{
+    match e {
         Core::Operate {
             op,
             kind,
@@ -42,10 +68,6 @@ pub fn value(
                 Ok(y) => number(operated(*op, *kind, x, y)),
             },
         },
-        Core::Unary {
-            op, kind, operand, ..
-        } => sign(*op, *kind, operand.get(), unit, entered, cells),
-        Core::Not { operand, .. } => negate(operand.get(), unit, entered, cells),
         Core::Store {
             place: left, value, ..
         } => match place(left.get(), unit, entered, cells) {
@@ -54,6 +76,60 @@ pub fn value(
                 Err(stop) => Err(stop),
                 Ok(v) => put(v, entered, cells, at),
             },
+        },
+        Core::Update {
+            place: left,
+            change,
+            value,
+            ..
+        } => match place(left.get(), unit, entered, cells) {
+            Err(stop) => Err(stop),
+            Ok(object) => match operand(value.get(), unit, entered, cells) {
+                Err(stop) => Err(stop),
+                Ok(y) => change_by(*change, y, entered, cells, object),
+            },
+        },
+        Core::Increment {
+            is_postfix,
+            change,
+            place: left,
+            ..
+        } => match place(left.get(), unit, entered, cells) {
+            Err(stop) => Err(stop),
+            Ok(object) => step_by(*is_postfix, *change, entered, cells, object),
+        },
+        _ => choice(e, unit, entered, cells),
+    }
+}
+
+/// The value of a node that evaluates some of its parts alone.
+#[cycle(values)]
+fn choice(
+    e: &Core,
+    unit: &CoreUnit,
+    entered: &Entered<'_>,
+    cells: &mut Vec<Cell>,
+) -> Result<Value, Stop>
+    requires { known unit.now e.now ≡ true }
+    ensures { Comes value_of result (valued (plain unit.now e.now)) (state_of entered.now cells.old.items) (state_of entered.now cells.new.items) }
+{
+    match e {
+        Core::And { left, right, .. } => match test(left.get(), unit, entered, cells) {
+            Err(stop) => Err(stop),
+            Ok(true) => tested_number(right.get(), unit, entered, cells),
+            Ok(false) => Ok(truth_number(false)),
+        },
+        Core::Or { left, right, .. } => match test(left.get(), unit, entered, cells) {
+            Err(stop) => Err(stop),
+            Ok(true) => Ok(truth_number(true)),
+            Ok(false) => tested_number(right.get(), unit, entered, cells),
+        },
+        Core::Conditional {
+            condition, yes, no, ..
+        } => match test(condition.get(), unit, entered, cells) {
+            Err(stop) => Err(stop),
+            Ok(true) => value(yes.get(), unit, entered, cells),
+            Ok(false) => value(no.get(), unit, entered, cells),
         },
         _ => Err(Stop::NotBuilt),
     }
@@ -160,5 +236,41 @@ fn negate(
     match test(e, unit, entered, cells) {
         Err(stop) => Err(stop),
         Ok(holds) => Ok(truth_number(!holds)),
+    }
+}
+
+/// Whether an expression counts as true, as 1 or 0.
+#[cycle(values)]
+fn tested_number(
+    e: &Core,
+    unit: &CoreUnit,
+    entered: &Entered<'_>,
+    cells: &mut Vec<Cell>,
+) -> Result<Value, Stop>
+    requires { known unit.now e.now ≡ true }
+    ensures { Comes value_of result (leading (tested (plain unit.now e.now)) truth_given) (state_of entered.now cells.old.items) (state_of entered.now cells.new.items) }
+{
+    match test(e, unit, entered, cells) {
+        Err(stop) => Err(stop),
+        Ok(holds) => Ok(truth_number(holds)),
+    }
+}
+
+/// A conversion to an integer type or to void.
+#[cycle(values)]
+fn convert(
+    ty: TyId,
+    e: &Core,
+    unit: &CoreUnit,
+    entered: &Entered<'_>,
+    cells: &mut Vec<Cell>,
+) -> Result<Value, Stop>
+    requires ty { has_type (tables_of unit.now) ty ≡ true }
+    requires operand { known unit.now e.now ≡ true }
+    ensures { Comes value_of result (valued (plain_core.convert (type_of (tables_of unit.now) ty) (plain unit.now e.now))) (state_of entered.now cells.old.items) (state_of entered.now cells.new.items) }
+{
+    match value(e, unit, entered, cells) {
+        Err(stop) => Err(stop),
+        Ok(v) => converted_to(type_at(unit, ty), v),
     }
 }
