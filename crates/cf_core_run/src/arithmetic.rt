@@ -45,13 +45,7 @@ fn act_of(op: Arith, right: Integer) -> u8
     ensures { result ≡ its_act op right }
 {
     match op {
-        Arith::Divide | Arith::Remainder => {
-            if right.get() == 0 {
-                2
-            } else {
-                1
-            }
-        }
+        Arith::Divide | Arith::Remainder => { if right.get() == 0 { 2 } else { 1 } }
         Arith::ShiftLeft | Arith::ShiftRight => 3,
         _ => 1,
     }
@@ -122,12 +116,7 @@ pub fn signed(op: UnaryOperator, kind: Kind, v: Value) -> Result<Integer, Stop>
     ensures { (s : State) (w : World) → Told Number result s w (scalars.signed op kind (value_of v) s w) }
 {
     match op {
-        UnaryOperator::Negate => operated(
-            Arith::Subtract,
-            kind,
-            Value::Number(Integer::new(0)),
-            v,
-        ),
+        UnaryOperator::Negate => operated(Arith::Subtract, kind, Value::Number(Integer::new(0)), v),
         UnaryOperator::Complement => {
             let ones = convert(Integer::new(-1), kind);
             operated(Arith::Xor, kind, v, Value::Number(ones))

@@ -13,8 +13,8 @@ use crate::answer::{Stop, Value};
 use crate::arithmetic::{operated, signed, truth, used};
 use crate::integer::Integer;
 use crate::results::{change_by, converted_to, number, object, put, step_by, truth_number};
-use crate::types::type_at;
 use crate::store::{Cell, Entered, local_at, read, write};
+use crate::types::type_at;
 use cf_base::{Arith, Kind};
 use cf_core::{Core, CoreUnit, UnaryOperator};
 use cf_types::TyId;
@@ -35,7 +35,10 @@ pub fn value(
         Core::Local { number, .. } => local_at(*number, entered, cells),
         Core::Read { place, .. } => read_value(place.get(), unit, entered, cells),
         Core::Unary {
-            op, kind, operand, ..
+            op,
+            kind,
+            operand,
+            ..
         } => sign(*op, *kind, operand.get(), unit, entered, cells),
         Core::Not { operand, .. } => negate(operand.get(), unit, entered, cells),
         Core::Convert { ty, operand, .. } => convert(*ty, operand.get(), unit, entered, cells),
@@ -69,7 +72,9 @@ fn pair(
             },
         },
         Core::Store {
-            place: left, value, ..
+            place: left,
+            value,
+            ..
         } => match place(left.get(), unit, entered, cells) {
             Err(stop) => Err(stop),
             Ok(at) => match operand(value.get(), unit, entered, cells) {
@@ -125,7 +130,10 @@ fn choice(
             Ok(false) => tested_number(right.get(), unit, entered, cells),
         },
         Core::Conditional {
-            condition, yes, no, ..
+            condition,
+            yes,
+            no,
+            ..
         } => match test(condition.get(), unit, entered, cells) {
             Err(stop) => Err(stop),
             Ok(true) => value(yes.get(), unit, entered, cells),

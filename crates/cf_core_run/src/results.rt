@@ -71,7 +71,13 @@ struct Operation {
 }
 
 /// An object is changed in place by a right operand.
-fn change_object(by: Operation, y: Value, entered: &Entered<'_>, cells: &mut Vec<Cell>, at: usize) -> Result<Value, Stop>
+fn change_object(
+    by: Operation,
+    y: Value,
+    entered: &Entered<'_>,
+    cells: &mut Vec<Cell>,
+    at: usize,
+) -> Result<Value, Stop>
     ensures { (w : World) → Told value_of result (state_of entered.now cells.new.items) w (changed_at (arithmetic by.op by.at by.to) (root at) (value_of y) (state_of entered.now cells.old.items) w) }
 {
     match read(entered, cells, at) {
@@ -84,7 +90,13 @@ fn change_object(by: Operation, y: Value, entered: &Entered<'_>, cells: &mut Vec
 }
 
 /// An object is changed by one.
-fn step_object(is_postfix: bool, by: Operation, entered: &Entered<'_>, cells: &mut Vec<Cell>, at: usize) -> Result<Value, Stop>
+fn step_object(
+    is_postfix: bool,
+    by: Operation,
+    entered: &Entered<'_>,
+    cells: &mut Vec<Cell>,
+    at: usize,
+) -> Result<Value, Stop>
     ensures { (w : World) → Told value_of result (state_of entered.now cells.new.items) w (stepped_at is_postfix (arithmetic by.op by.at by.to) (root at) (state_of entered.now cells.old.items) w) }
 {
     match read(entered, cells, at) {
@@ -93,29 +105,57 @@ fn step_object(is_postfix: bool, by: Operation, entered: &Entered<'_>, cells: &m
             Err(stop) => Err(stop),
             Ok(z) => match write(entered, cells, at, z) {
                 Err(stop) => Err(stop),
-                Ok(()) => Ok(if is_postfix { Value::Number(x) } else { Value::At(at) }),
+                Ok(()) => Ok(if is_postfix {
+                    Value::Number(x)
+                } else {
+                    Value::At(at)
+                }),
             },
         },
     }
 }
 
 /// An object is changed in place by a right operand; pointers are not built yet.
-pub fn change_by(change: Change, y: Value, entered: &Entered<'_>, cells: &mut Vec<Cell>, at: usize) -> Result<Value, Stop>
+pub fn change_by(
+    change: Change,
+    y: Value,
+    entered: &Entered<'_>,
+    cells: &mut Vec<Cell>,
+    at: usize,
+) -> Result<Value, Stop>
     ensures { (w : World) → Told value_of result (state_of entered.now cells.new.items) w (changed_at (change_of change) (root at) (value_of y) (state_of entered.now cells.old.items) w) }
 {
     match change {
         Change::Moved { .. } => Err(Stop::NotBuilt),
-        Change::Arithmetic { op, at: kind, to } => change_object(Operation { op, at: kind, to }, y, entered, cells, at),
+        Change::Arithmetic { op, at: kind, to } => change_object(
+            Operation { op, at: kind, to },
+            y,
+            entered,
+            cells,
+            at,
+        ),
     }
 }
 
 /// An object is changed by one; pointers are not built yet.
-pub fn step_by(is_postfix: bool, change: Change, entered: &Entered<'_>, cells: &mut Vec<Cell>, at: usize) -> Result<Value, Stop>
+pub fn step_by(
+    is_postfix: bool,
+    change: Change,
+    entered: &Entered<'_>,
+    cells: &mut Vec<Cell>,
+    at: usize,
+) -> Result<Value, Stop>
     ensures { (w : World) → Told value_of result (state_of entered.now cells.new.items) w (stepped_at is_postfix (change_of change) (root at) (state_of entered.now cells.old.items) w) }
 {
     match change {
         Change::Moved { .. } => Err(Stop::NotBuilt),
-        Change::Arithmetic { op, at: kind, to } => step_object(is_postfix, Operation { op, at: kind, to }, entered, cells, at),
+        Change::Arithmetic { op, at: kind, to } => step_object(
+            is_postfix,
+            Operation { op, at: kind, to },
+            entered,
+            cells,
+            at,
+        ),
     }
 }
 

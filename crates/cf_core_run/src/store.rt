@@ -8,7 +8,6 @@ ghost use Rattle.cf_core.specs.Calls.{root};
 ghost use Rattle.cf_core_run.specs.Store.{state_of, value_of};
 ghost use Rattle.cf_core_run.specs.Meant.{valued};
 ghost use Rattle.cf_core.specs.Core as plain_core;
-
 ghost use Rattle.cf_core_run.specs.Answer.{Told, Comes};
 
 use crate::answer::{Stop, Value};
@@ -63,7 +62,12 @@ pub fn read(entered: &Entered<'_>, cells: &Vec<Cell>, at: usize) -> Result<Integ
 }
 
 /// A value is written to an object.
-pub fn write(entered: &Entered<'_>, cells: &mut Vec<Cell>, at: usize, value: Integer) -> Result<(), Stop>
+pub fn write(
+    entered: &Entered<'_>,
+    cells: &mut Vec<Cell>,
+    at: usize,
+    value: Integer,
+) -> Result<(), Stop>
     ensures { (w : World) → Told (λ u. tt) result (state_of entered.now cells.new.items) w (write_place [] (root at) (Number value) (state_of entered.now cells.old.items) w) }
 {
     let _ = entered;

@@ -102,35 +102,35 @@ pair-returns-in-Ok-operand-2 t c =
 
 pub choice-returns-in-Err : goal.choice-returns-in-Err
 choice-returns-in-Err t c =
-    at-node _ _ _ _ _ (plain-And c.args.unit.now c.args.e.now c.in-And.at c.get.result.now  c.in-And.right (c.in-And.is ∙ ap (λ a. node.And c.in-And.at a  c.in-And.right) (sym c.get.ensures)))
+    at-node _ _ _ _ _ (plain-And c.args.unit.now c.args.e.now c.in-And.at c.get.result.now c.in-And.right (c.in-And.is ∙ ap (λ a. node.And c.in-And.at a c.in-And.right) (sym c.get.ensures)))
     (first-stops (λ b. b) value_of _ c.in-Err.stop (tested (plain c.args.unit.now c.get.result.now)) (after_and (plain c.args.unit.now c.in-And.right)) _ _ c.in-Err.is c.test.ensures)
 
 pub choice-returns-in-Ok-true : goal.choice-returns-in-Ok-true
 choice-returns-in-Ok-true t c =
-    at-node _ _ _ _ _ (plain-And c.args.unit.now c.args.e.now c.in-And.at c.get.result.now  c.get-in-Ok-true.result.now (c.in-And.is ∙ ap (λ a. node.And c.in-And.at a  c.in-And.right) (sym c.get.ensures) ∙ ap (λ b. node.And c.in-And.at c.get.result.now  b) (sym c.get-in-Ok-true.ensures)))
+    at-node _ _ _ _ _ (plain-And c.args.unit.now c.args.e.now c.in-And.at c.get.result.now c.get-in-Ok-true.result.now (c.in-And.is ∙ ap (λ a. node.And c.in-And.at a c.in-And.right) (sym c.get.ensures) ∙ ap (λ b. node.And c.in-And.at c.get.result.now b) (sym c.get-in-Ok-true.ensures)))
     (first-gives (λ b. b) value_of _ c.in-Ok-true.field-0 _ (tested (plain c.args.unit.now c.get.result.now)) (after_and (plain c.args.unit.now c.get-in-Ok-true.result.now)) _ _ _ c.in-Ok-true.is c.test.ensures
     (and-goes (plain c.args.unit.now c.get-in-Ok-true.result.now) _ _ _ _ c.in-Ok-true.field-0-test c.tested_number.ensures))
 
 pub choice-returns-in-Ok-false : goal.choice-returns-in-Ok-false
 choice-returns-in-Ok-false t c =
-    at-node _ _ _ _ _ (plain-And c.args.unit.now c.args.e.now c.in-And.at c.get.result.now  c.in-And.right (c.in-And.is ∙ ap (λ a. node.And c.in-And.at a  c.in-And.right) (sym c.get.ensures)))
+    at-node _ _ _ _ _ (plain-And c.args.unit.now c.args.e.now c.in-And.at c.get.result.now c.in-And.right (c.in-And.is ∙ ap (λ a. node.And c.in-And.at a c.in-And.right) (sym c.get.ensures)))
     (first-gives (λ b. b) value_of _ c.in-Ok-false.field-0 _ (tested (plain c.args.unit.now c.get.result.now)) (after_and (plain c.args.unit.now c.in-And.right)) _ _ _ c.in-Ok-false.is c.test.ensures
     (and-skips (plain c.args.unit.now c.in-And.right) _ _ _ c.in-Ok-false.field-0-test c.truth_number.ensures))
 
 pub choice-returns-in-Err-test : goal.choice-returns-in-Err-test
 choice-returns-in-Err-test t c =
-    at-node _ _ _ _ _ (plain-Or c.args.unit.now c.args.e.now c.in-Or.at c.get-in-Or.result.now  c.in-Or.right (c.in-Or.is ∙ ap (λ a. node.Or c.in-Or.at a  c.in-Or.right) (sym c.get-in-Or.ensures)))
+    at-node _ _ _ _ _ (plain-Or c.args.unit.now c.args.e.now c.in-Or.at c.get-in-Or.result.now c.in-Or.right (c.in-Or.is ∙ ap (λ a. node.Or c.in-Or.at a c.in-Or.right) (sym c.get-in-Or.ensures)))
     (first-stops (λ b. b) value_of _ c.in-Err-test.stop (tested (plain c.args.unit.now c.get-in-Or.result.now)) (after_or (plain c.args.unit.now c.in-Or.right)) _ _ c.in-Err-test.is c.test-in-Or.ensures)
 
 pub choice-returns-in-Ok-true-test : goal.choice-returns-in-Ok-true-test
 choice-returns-in-Ok-true-test t c =
-    at-node _ _ _ _ _ (plain-Or c.args.unit.now c.args.e.now c.in-Or.at c.get-in-Or.result.now  c.in-Or.right (c.in-Or.is ∙ ap (λ a. node.Or c.in-Or.at a  c.in-Or.right) (sym c.get-in-Or.ensures)))
+    at-node _ _ _ _ _ (plain-Or c.args.unit.now c.args.e.now c.in-Or.at c.get-in-Or.result.now c.in-Or.right (c.in-Or.is ∙ ap (λ a. node.Or c.in-Or.at a c.in-Or.right) (sym c.get-in-Or.ensures)))
     (first-gives (λ b. b) value_of _ c.in-Ok-true-test.field-0 _ (tested (plain c.args.unit.now c.get-in-Or.result.now)) (after_or (plain c.args.unit.now c.in-Or.right)) _ _ _ c.in-Ok-true-test.is c.test-in-Or.ensures
     (or-skips (plain c.args.unit.now c.in-Or.right) _ _ _ c.in-Ok-true-test.field-0-test c.truth_number-in-Ok-true-test.ensures))
 
 pub choice-returns-in-Ok-false-test : goal.choice-returns-in-Ok-false-test
 choice-returns-in-Ok-false-test t c =
-    at-node _ _ _ _ _ (plain-Or c.args.unit.now c.args.e.now c.in-Or.at c.get-in-Or.result.now  c.get-in-Ok-false-test.result.now (c.in-Or.is ∙ ap (λ a. node.Or c.in-Or.at a  c.in-Or.right) (sym c.get-in-Or.ensures) ∙ ap (λ b. node.Or c.in-Or.at c.get-in-Or.result.now  b) (sym c.get-in-Ok-false-test.ensures)))
+    at-node _ _ _ _ _ (plain-Or c.args.unit.now c.args.e.now c.in-Or.at c.get-in-Or.result.now c.get-in-Ok-false-test.result.now (c.in-Or.is ∙ ap (λ a. node.Or c.in-Or.at a c.in-Or.right) (sym c.get-in-Or.ensures) ∙ ap (λ b. node.Or c.in-Or.at c.get-in-Or.result.now b) (sym c.get-in-Ok-false-test.ensures)))
     (first-gives (λ b. b) value_of _ c.in-Ok-false-test.field-0 _ (tested (plain c.args.unit.now c.get-in-Or.result.now)) (after_or (plain c.args.unit.now c.get-in-Ok-false-test.result.now)) _ _ _ c.in-Ok-false-test.is c.test-in-Or.ensures
     (or-goes (plain c.args.unit.now c.get-in-Ok-false-test.result.now) _ _ _ _ c.in-Ok-false-test.field-0-test c.tested_number-in-Ok-false-test.ensures))
 
