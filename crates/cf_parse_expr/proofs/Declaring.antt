@@ -11,7 +11,7 @@ use Rattle.cf_syntax.specs.declared.reading.DeclaratorKind.TheVariants as kind
 use Rattle.cf_syntax.specs.NamesData.{Names}
 use Rattle.cf_syntax.specs.Named.{opened, one_pointer, const_behind}
 use Rattle.cf_syntax.specs.Grammar.{sees, begins, name_words}
-use Rattle.cf_syntax.specs.Parse.{Parse, pure, none, with_rest, then, choose, option, or_stop, turn, loop, repeat}
+use Rattle.cf_syntax.specs.Parse.{pure, with_rest, or_stop, turn, loop, repeat}
 use Rattle.cf_syntax.specs.Reading.{Readers}
 use Rattle.cf_syntax.specs.Reading as whole
 use Rattle.cf_syntax.specs.Words.{front, left_paren, left_bracket, const_word}

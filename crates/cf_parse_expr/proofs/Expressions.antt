@@ -1,5 +1,5 @@
 -- Expressions read step by step are those that the grammar's readings read.
-use Rattle.std.proofs.Common.{◌≡◌, ℕ, zero, suc, cond, List, length, Option, Some, None, is_some, refl, ◌∙◌, ap}
+use Rattle.std.proofs.Common.{◌≡◌, ℕ, zero, suc, cond, List, length, Option, refl, ◌∙◌, ap}
 use Rattle.cf_tokens.specs.declared.token.Token.{Token}
 use Rattle.cf_syntax.specs.declared.expression.Expr.{Expr}
 use Rattle.cf_syntax.specs.declared.expression.Expr.TheVariants as tree

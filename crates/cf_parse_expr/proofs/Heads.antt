@@ -1,5 +1,5 @@
 -- Whether an operator comes next is whether one is found.
-use Rattle.std.proofs.Common.{◌≡◌, ℕ, Bool, true, false, cond, List, [], ◌∷◌, Option, Some, None, nat_eq, is_some, refl}
+use Rattle.std.proofs.Common.{◌≡◌, ℕ, Bool, true, false, cond, List, [], ◌∷◌, Option, Some, nat_eq, is_some, refl}
 use Rattle.cf_tokens.specs.declared.token.Token.{Token}
 use Rattle.cf_syntax.specs.Operators.{operator_of, heads}
 use Rattle.cf_syntax.specs.Words.{front}

@@ -1,5 +1,5 @@
 -- What stands inside to a depth is what stands at a place one depth further out.
-use Rattle.std.proofs.Common.{◌≡◌, ℕ, zero, suc, List, Option, None, refl, ap}
+use Rattle.std.proofs.Common.{◌≡◌, ℕ, zero, suc, List, None, refl, ap}
 use Rattle.cf_tokens.specs.declared.token.Token.{Token}
 use Rattle.cf_syntax.specs.NamesData.{Names}
 use Rattle.cf_syntax.specs.Parse.{pure, with_rest}

@@ -1,23 +1,21 @@
 -- Names, specifiers and operators read step by step are those of the grammar.
-use Rattle.std.proofs.Common.{◌≡◌, ℕ, zero, suc, Bool, true, false, cond, List, [], ◌∷◌, ◌++◌, length, drop, Option, Some, None, nat_eq, is_some, refl, sym, ◌∙◌, ap}
+use Rattle.std.proofs.Common.{◌≡◌, ℕ, Bool, true, false, cond, List, [], ◌∷◌, ◌++◌, length, drop, Option, Some, None, nat_eq, refl, ◌∙◌, ap}
 use Rattle.cf_tokens.specs.declared.token.Token.{Token}
 use Rattle.cf_syntax.specs.declared.asked.Asked.{Asked}
-use Rattle.cf_syntax.specs.declared.name.Last.{Last}
 use Rattle.cf_syntax.specs.declared.name.Last.TheVariants as last
 use Rattle.cf_syntax.specs.declared.name.Path.{Path}
 use Rattle.cf_syntax.specs.declared.reading.Qualifiers.{Qualifiers}
 use Rattle.cf_syntax.specs.declared.reading.Specifiers.{Specifiers}
 use Rattle.cf_syntax.specs.declared.specifier.BasicType.{BasicType}
 use Rattle.cf_syntax.specs.declared.specifier.ClassKey.{ClassKey}
-use Rattle.cf_syntax.specs.declared.specifier.Pointer.{Pointer}
 use Rattle.cf_syntax.specs.declared.specifier.Pointer.TheVariants as pointer
 use Rattle.cf_syntax.specs.declared.specifier.Storage.{Storage}
 use Rattle.cf_syntax.specs.declared.specifier.TypeSpecifier.{TypeSpecifier}
 use Rattle.cf_syntax.specs.declared.specifier.TypeSpecifier.TheVariants as specifier
 use Rattle.cf_syntax.specs.NamesData.{Names}
 use Rattle.cf_syntax.specs.Words.{front, place, ident_at, scope, star, ampersand, const_word, tilde, operator_word, left_paren, left_bracket, right_paren, right_bracket}
-use Rattle.cf_syntax.specs.Parse.{Parse, pure, with_rest, then, loop, repeat, turn, word}
-use Rattle.cf_syntax.specs.Named.{inside, inside_of, kind_at, last_type, type_path, last_ident, ident_path, const_behind, to_member, one_pointer, pointers, qualifiers, no_names}
+use Rattle.cf_syntax.specs.Parse.{Parse, pure, with_rest, loop, word}
+use Rattle.cf_syntax.specs.Named.{inside, inside_of, kind_at, last_type, type_path, ident_path, const_behind, to_member, one_pointer, pointers, qualifiers, no_names}
 use Rattle.cf_syntax.specs.Specified as whole
 use Rattle.cf_parse_expr.specs.Named as steps
 use Rattle.cf_parse_expr.specs.Specified as parts

@@ -1,5 +1,5 @@
 -- What is read is the longest phrase of the grammar, and where nothing is read none begins.
-use Rattle.std.proofs.Common.{◌≡◌, ℕ, suc, inl, inr, ◌⊎◌, List, length, Option, Some, None, Result, Ok, Err, subst}
+use Rattle.std.proofs.Common.{◌≡◌, ℕ, suc, inl, inr, List, length, Some, Result, Ok, Err, subst}
 use Rattle.cf_tokens.specs.declared.token.Token.{Token}
 use Rattle.cf_syntax.specs.Language.{Language}
 use Rattle.cf_syntax.specs.Parse.{Parse}

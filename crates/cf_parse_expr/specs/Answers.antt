@@ -1,9 +1,8 @@
 -- The longest phrase that begins at a place, or that none begins there.
-use Rattle.std.specs.Prelude.{◌≡◌, ℕ, ◌+◌, ◌-◌, List, [], ◌∷◌, length, drop, slice_get, Option, Some, None, Result, Ok, Err}
+use Rattle.std.specs.Prelude.{◌≡◌, ℕ, ◌+◌, ◌-◌, List, length, drop, slice_get, Option, Some, None, Result, Ok, Err}
 use denote.Ref.{Bor}
 use Rattle.cf_base.specs.declared.rule.Broken.{Broken}
 use Rattle.cf_tokens.specs.declared.token.Token.{Token}
-use Rattle.cf_syntax.specs.declared.declarator.DeclTree.{DeclTree}
 use Rattle.cf_syntax.specs.declared.expression.Expr.{Expr}
 use Rattle.cf_syntax.specs.NamesData.{Names}
 use Rattle.cf_syntax.specs.Language.{Language}

@@ -1,6 +1,5 @@
 -- Binary, conditional and assigning expressions (5.5 to 5.18), read step by step.
-use Rattle.std.specs.Prelude.{ℕ, zero, suc, List, [], ◌∷◌, length, is_some}
-use Rattle.cf_tokens.specs.declared.token.Token.{Token}
+use Rattle.std.specs.Prelude.{ℕ, zero, suc, [], ◌∷◌, length, is_some}
 use Rattle.cf_syntax.specs.declared.expression.Expr.{Expr}
 use Rattle.cf_syntax.specs.declared.expression.Expr.TheVariants as tree
 use Rattle.cf_syntax.specs.declared.operator.AssignOp.{AssignOp}

@@ -1,6 +1,5 @@
 -- Declarators (8), read step by step.
 use Rattle.std.specs.Prelude.{ℕ, ◌-◌, Bool, List, [], length, Option, Some, None, is_some}
-use Rattle.cf_tokens.specs.declared.token.Token.{Token}
 use Rattle.cf_syntax.specs.declared.declarator.DeclTree.{DeclTree}
 use Rattle.cf_syntax.specs.declared.declarator.DeclTree.TheVariants as decl
 use Rattle.cf_syntax.specs.declared.declarator.Param.{Param}

@@ -1,5 +1,4 @@
 -- What stands inside a production, by what is wanted there.
-use Rattle.std.specs.Prelude.{List}
 use Rattle.cf_syntax.specs.NamesData.{Names}
 use Rattle.cf_syntax.specs.Parse.{Parse, then, pure}
 use Rattle.cf_syntax.specs.Reading.{Readers}

@@ -1,6 +1,5 @@
 -- The readings of whole names, specifiers and operators by words that stay shut, so that a rule is seen as its parts.
 use Rattle.std.specs.Prelude.{ℕ, Bool, List}
-use Rattle.cf_tokens.specs.declared.token.Token.{Token}
 use Rattle.cf_syntax.specs.declared.expression.Expr.{Expr}
 use Rattle.cf_syntax.specs.declared.name.Name.{Name}
 use Rattle.cf_syntax.specs.declared.name.Path.{Path}

@@ -1,5 +1,5 @@
 -- A function value that reads what stands inside a production, to a depth.
-use Rattle.std.specs.Prelude.{ℕ, List, Option, Result}
+use Rattle.std.specs.Prelude.{ℕ, List, Result}
 use Rattle.std.specs.declared.alloc.Global.{Global}
 use denote.Ref.{MutBor, Bor}
 use Rattle.cf_tokens.specs.declared.token.Token.{Token}

@@ -1,5 +1,4 @@
 -- What stands at a place, by what is wanted there, one depth further out than `inner`.
-use Rattle.std.specs.Prelude.{List}
 use Rattle.cf_syntax.specs.NamesData.{Names}
 use Rattle.cf_syntax.specs.Parse.{Parse, then, pure}
 use Rattle.cf_syntax.specs.Reading.{Readers}

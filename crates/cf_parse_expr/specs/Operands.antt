@@ -1,9 +1,7 @@
 -- Operands and what stands behind them (5.1, 5.2), read step by step.
-use Rattle.std.specs.Prelude.{ℕ, List, length, is_some}
-use Rattle.cf_tokens.specs.declared.token.Token.{Token}
+use Rattle.std.specs.Prelude.{length, is_some}
 use Rattle.cf_syntax.specs.declared.expression.Expr.{Expr}
 use Rattle.cf_syntax.specs.declared.expression.Expr.TheVariants as tree
-use Rattle.cf_syntax.specs.declared.name.Name.{Name}
 use Rattle.cf_syntax.specs.declared.name.Path.{Path}
 use Rattle.cf_syntax.specs.declared.reading.Suffix.{Suffix}
 use Rattle.cf_syntax.specs.declared.reading.Suffix.TheVariants as suffix

@@ -1,6 +1,5 @@
 -- Parameters and types in brackets (8.1, 8.2.5), read step by step.
 use Rattle.std.specs.Prelude.{ℕ, List, [], ◌∷◌, ◌++◌, length}
-use Rattle.cf_tokens.specs.declared.token.Token.{Token}
 use Rattle.cf_syntax.specs.declared.declarator.Param.{Param}
 use Rattle.cf_syntax.specs.declared.declarator.TypeId.{TypeId}
 use Rattle.cf_syntax.specs.declared.expression.Expr.{Expr}

@@ -1,6 +1,5 @@
 -- Unary expressions and casts (5.3, 5.4), read step by step.
 use Rattle.std.specs.Prelude.{ℕ, Bool, true, false, List, [], ◌∷◌, ◌++◌, length, is_some}
-use Rattle.cf_tokens.specs.declared.token.Token.{Token}
 use Rattle.cf_syntax.specs.declared.declarator.TypeId.{TypeId}
 use Rattle.cf_syntax.specs.declared.expression.Expr.{Expr}
 use Rattle.cf_syntax.specs.declared.expression.Expr.TheVariants as tree

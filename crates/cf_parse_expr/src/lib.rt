@@ -29,3 +29,6 @@ mod words;
 pub use fault::{ExprFault, ends_in_range};
 pub use level::Level;
 pub use place::{declarator, expr, params, type_id};
+
+#[cfg(test)]
+mod tests;
