@@ -7,14 +7,17 @@ use Rattle.cc_run.specs.declared.types.Limits.{Limits}
 use Rattle.cc_run.specs.Run.{streams, StillTold, Front, SameCounts}
 use Rattle.cf_functions.specs.declared.tree.Program.{Program}
 use Rattle.cf_functions_read.specs.First.{First, accepted}
-use Rattle.cf_functions_read.proofs.Identifiers.{names_are_identifiers}
+use Rattle.cf_functions_read.specs.IsRead.{IsAccepted}
+use Rattle.cf_functions_read.specs.Words.{is_named}
+use Rattle.cf_functions.specs.Plain.{functions_of}
+use Rattle.std.specs.List.{list_all}
 use Rattle.cfront.specs.declared.outcome.Outcome.{Outcome}
 use Rattle.cfront.specs.declared.outcome.Outcome.TheVariants as answer
 use Rattle.cfront.specs.declared.position.Position.{Position}
 use Rattle.cfront.specs.declared.answer.Stop.{Stop}
 use Rattle.cfront.specs.declared.answer.Stop.TheVariants as stop
 use Rattle.cfront.specs.Answer.{Causes, Answers, EndsWith, LineStands, LineFailed, is_fault, WordsCause, NoJob, GoJob}
-use Rattle.cfront.specs.Cause.{FileCause, read_failed, too_long, refused, write_failed, Stopped, Ran, GoCause, Made, Begun, TextLeft, unwritten, text_stands, LeftByMemory, DiskCountsStand, FirstRefused, WriteFailed}
+use Rattle.cfront.specs.Cause.{FileCause, read_failed, too_long, limited, refused, write_failed, Stopped, Ran, GoCause, Made, Begun, TextLeft, unwritten, text_stands, LeftByMemory, DiskCountsStand, FirstRefused, WriteFailed}
 use Rattle.cfront.specs.LastLine.{last_line}
 use Rattle.cfront.specs.Outside.{Outside, outside, streams_of, CountsStand, StreamsStand, KeepTelling}
 use Rattle.cfront.specs.Run.{RunsTo, RanTo}
@@ -27,20 +30,26 @@ pub stands : (file : List ℕ) (old new : Disk) → DiskStands old new → Memor
 stands file old new d = record { text = unwritten (λ told. d.content); elsewhere = λ told other differs. rw d.content refl; counts = d.counts }
 
 -- what was accepted can be translated
-pub accepted_sound : (bytes : List ℕ) (source : Program) → First bytes (Ok source) → IsSound source
-accepted_sound bytes source (accepted _ file names known) = record {
-  names = names;
-  known = known;
-  named = names_are_identifiers bytes source (accepted source file names known);
-}
+first_sound : (bytes : List ℕ) (source : Program) → First bytes (Ok source) → list_all is_named (functions_of source) ≡ true → IsSound source
+first_sound bytes source (accepted _ file names known) named = record { names = names; known = known; named = named }
+
+pub accepted_sound : (bytes : List ℕ) (source : Program) → IsAccepted bytes source → IsSound source
+accepted_sound bytes source a = first_sound bytes source a.first a.named
 
 -- the file was read, and refused
 pub accept_stops : (file bytes : List ℕ) (old new : Disk) (e : Stop) → WasRead file old bytes → DiskStands old new
     → AcceptLeaves bytes (Err e) → StopLeaves file old new e
-accept_stops file bytes old new (stop.Answer a) read d at = refused (record {
+accept_stops file bytes old new (stop.Answer a) read d (inl at) = refused (record {
   bytes = bytes;
   read = read;
   refused = at;
+  content = d.content;
+  counts = d.counts;
+})
+accept_stops file bytes old new (stop.Answer a) read d (inr by) = limited (record {
+  bytes = bytes;
+  read = read;
+  limited = by;
   content = d.content;
   counts = d.counts;
 })
@@ -126,6 +135,8 @@ pub stop_counts : (file : List ℕ) (old new : Outside) (position : Position) (o
     → FileCause file old.files new.files position outcome → StreamsStand old new → is_fault outcome ≡ false → CountsStand old new
 stop_counts file old new position outcome (read_failed r) s no_fault = let k : false ≡ true = sym (fault_is outcome answer.FileFault r.answered no_fault) in cc
 stop_counts file old new position outcome (too_long r) s no_fault =
+    record { reads = r.counts.reads; writes = r.counts.writes; input = rw s.input refl; out = rw s.out refl; err = rw s.err refl }
+stop_counts file old new position outcome (limited r) s no_fault =
     record { reads = r.counts.reads; writes = r.counts.writes; input = rw s.input refl; out = rw s.out refl; err = rw s.err refl }
 stop_counts file old new position outcome (refused r) s no_fault =
     record { reads = r.counts.reads; writes = r.counts.writes; input = rw s.input refl; out = rw s.out refl; err = rw s.err refl }

@@ -1,12 +1,13 @@
 -- The one cause of each answer of `go FILE`, before its last line.
 use Rattle.std.specs.Prelude.{◌≡◌, ◌⊎◌, ℕ, ◌<◌, List, Option, Some, None, IsTrue, IsSomeAnd, length, false, Ok, Err}
 use Rattle.cf_base.specs.declared.limit.Bound.TheVariants as bound
+use Rattle.cf_base.specs.declared.limit.Limit.{Limit}
 use Rattle.cf_base.specs.Disk.{Disk, Names, Rises, SameElsewhere}
 use Rattle.cc_tree.specs.declared.unit.CProgram.{CProgram}
 use Rattle.cc_run.specs.declared.types.Limits.{Limits}
 use Rattle.cc_run.specs.Run.{Front}
 use Rattle.cf_functions.specs.declared.tree.Program.{Program}
-use Rattle.cf_functions_read.specs.First.{First}
+use Rattle.cf_functions_read.specs.First.{First, breaks, passes}
 use Rattle.cfront.specs.declared.outcome.Outcome.{Outcome}
 use Rattle.cfront.specs.declared.outcome.Outcome.TheVariants as answer
 use Rattle.cfront.specs.declared.position.Position.{Position}
@@ -25,9 +26,23 @@ pub record DiskCountsStand (old new : Disk) : Type 0 where
 pub record RefusedAt (bytes : List ℕ) (position : Position) (outcome : Outcome) : Type 0 where
   pub rule : ℕ
   pub at : ℕ
-  pub refused : First bytes (Err (record { rule = rule; at = at }))
+  pub refused : First bytes (Err (breaks (record { rule = rule; at = at })))
   pub stands_at : position ≡ position_of bytes at
   pub answered : outcome ≡ answer.Refused 1 rule at
+
+-- these bytes pass a limit
+pub record LimitedBy (bytes : List ℕ) (outcome : Outcome) : Type 0 where
+  pub limit : Limit
+  pub passed : First bytes (Err (passes limit))
+  pub answered : outcome ≡ answer.Limit (Some 1) limit
+
+-- The first file passes a limit. Nothing was written.
+pub record FirstLimited (file : List ℕ) (old new : Disk) (outcome : Outcome) : Type 0 where
+  pub bytes : List ℕ
+  pub read : WasRead file old bytes
+  pub limited : LimitedBy bytes outcome
+  pub content : new.content ≡ old.content
+  pub counts : DiskCountsStand old new
 
 -- The first file is refused. Nothing was written.
 pub record FirstRefused (file : List ℕ) (old new : Disk) (position : Position) (outcome : Outcome) : Type 0 where
@@ -66,6 +81,7 @@ pub record WriteFailed (file : List ℕ) (old new : Disk) (outcome : Outcome) : 
 pub data FileCause (file : List ℕ) (old new : Disk) (position : Position) (outcome : Outcome) : Type 0 where
   read_failed : ReadFailed file old new outcome → FileCause file old new position outcome
   too_long : FirstTooLong file old new outcome → FileCause file old new position outcome
+  limited : FirstLimited file old new outcome → FileCause file old new position outcome
   refused : FirstRefused file old new position outcome → FileCause file old new position outcome
   write_failed : WriteFailed file old new outcome → FileCause file old new position outcome
 

@@ -1,5 +1,5 @@
 -- What the steps from a file to its program leave.
-use Rattle.std.specs.Prelude.{◌≡◌, ℕ, List, [], ◌∷◌, Result, Ok, Err, Some, None, true, IsTrue}
+use Rattle.std.specs.Prelude.{◌≡◌, ◌⊎◌, ℕ, List, [], ◌∷◌, Result, Ok, Err, Some, None, true, IsTrue}
 use Rattle.std.specs.List.{list_all}
 use Rattle.cf_base.specs.Agree.{Agree}
 use Rattle.cf_base.specs.Disk.{Disk, SameElsewhere, Rises}
@@ -8,7 +8,7 @@ use Rattle.cf_functions.specs.declared.tree.Program.{Program}
 use Rattle.cf_functions.specs.Plain.{functions_of}
 use Rattle.cf_functions.specs.Mean.{mean}
 use Rattle.cf_functions.specs.Rules.{keeps_names, first_unknown_of}
-use Rattle.cf_functions_read.specs.First.{First}
+use Rattle.cf_functions_read.specs.IsRead.{IsAccepted}
 use Rattle.cf_functions_read.specs.Words.{is_named}
 use Rattle.cfront.specs.declared.outcome.Outcome.{Outcome}
 use Rattle.cfront.specs.declared.outcome.Outcome.TheVariants as answer
@@ -21,7 +21,7 @@ use Rattle.cc_tree.specs.Link.{link}
 use Rattle.cc_tree.specs.Mean.{c_mean}
 use Rattle.cc_tree.specs.Valid.{valid_unit}
 use Rattle.cfront.specs.Answer.{WordsCause, WordsLeft}
-use Rattle.cfront.specs.Cause.{FileCause, RefusedAt, DiskCountsStand, Made, GoCause, TextLeft, LeftByMemory}
+use Rattle.cfront.specs.Cause.{FileCause, RefusedAt, LimitedBy, DiskCountsStand, Made, GoCause, TextLeft, LeftByMemory}
 use Rattle.cfront.specs.Outside.{Outside}
 use Rattle.cfront.specs.Words.{text_name}
 use Rattle.cfront.specs.Translated.{WasRead}
@@ -42,10 +42,10 @@ ReadLeaves view file old new (Ok bytes) = WasRead file old (view bytes) × DiskS
 ReadLeaves view file old new (Err (stop.Answer a)) = FileCause file old new a.position a.outcome
 ReadLeaves view file old new (Err stop.Memory) = DiskStands old new
 
--- the program of some bytes, or the rule that they break
+-- the program of some bytes, or the rule that they break, or the limit that they pass
 abbrev pub AcceptLeaves : List ℕ → Result Program Stop → Type 0
-AcceptLeaves bytes (Ok source) = First bytes (Ok source)
-AcceptLeaves bytes (Err (stop.Answer a)) = RefusedAt bytes a.position a.outcome
+AcceptLeaves bytes (Ok source) = IsAccepted bytes source
+AcceptLeaves bytes (Err (stop.Answer a)) = RefusedAt bytes a.position a.outcome ⊎ LimitedBy bytes a.outcome
 AcceptLeaves bytes (Err stop.Memory) = bytes ≡ bytes
 
 -- what reading gives, and translation asks

@@ -159,12 +159,37 @@ fn other_words_are_usage(rt: HostRuntime) -> Result<(), Fail> {
 }
 
 #[test]
-fn comment_is_outside(rt: HostRuntime) -> Result<(), Fail> {
+fn comment_is_skipped(rt: HostRuntime) -> Result<(), Fail> {
+    let want = Outcome::Ended { status: 31 };
+    let text = b"int main(){return 0x1F;} // end";
+    check_text(&rt, rt.alloc(), text, want, "", "cfront: ended 31\n")
+}
+
+#[test]
+fn line_markers_are_skipped(rt: HostRuntime) -> Result<(), Fail> {
+    let want = Outcome::Ended { status: 1 };
+    let text = b"#line 4 \"y.c\"\nint main(){return 1;}";
+    check_text(&rt, rt.alloc(), text, want, "", "cfront: ended 1\n")
+}
+
+#[test]
+fn lexical_faults_come_first(rt: HostRuntime) -> Result<(), Fail> {
+    let alloc = rt.alloc();
+    let directive = b"#define X\nint main(){return 1;}";
+    let line = "a.C:1:1: K7 (16) directive\n";
+    check_text(&rt, alloc, directive, refused(7, 0), "", line)?;
+    let comment = b"int main(){return x;}\n /* no end";
+    let line = "a.C:2:2: K2 (2.2) comment without end\n";
+    check_text(&rt, alloc, comment, refused(2, 23), "", line)
+}
+
+#[test]
+fn another_constant_is_outside(rt: HostRuntime) -> Result<(), Fail> {
     let line = "a.C:1:1: K48 outside the profile\n";
     check_text(
         &rt,
         rt.alloc(),
-        b"\n\nint main(){return 7;}//",
+        b"int main(){return 1u;}",
         refused(48, 0),
         "",
         line,

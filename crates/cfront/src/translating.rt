@@ -50,6 +50,10 @@ pub fn accepted(alloc: Global, bytes: &[u8]) -> Result<Program, Stop>
             outcome: Outcome::Refused { file: 1, rule, at },
             position: Position::at(bytes, at),
         })),
+        Err(Fault::Limit(limit)) => Err(Stop::Answer(Answer::plain(Outcome::Limit {
+            file: Some(1),
+            limit,
+        }))),
         Err(Fault::Memory) => Err(Stop::Memory),
     }
 }
