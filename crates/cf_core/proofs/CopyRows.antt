@@ -1,11 +1,11 @@
 -- Copies and assignments by functions of several forms, and what each run shows.
-use Rattle.std.proofs.Common.{◌≡◌, ℕ, List, [], ◌∷◌, refl}
+use Rattle.std.proofs.Common.{◌≡◌, List, [], ◌∷◌, refl}
 use Rattle.std.specs.Prelude.{pos, Some, None, codes}
 use Rattle.cf_base.specs.Event.{Ended}
-use Rattle.cf_core.specs.Types.{SourceType, void, class, array, reference, const}
+use Rattle.cf_core.specs.Types.{SourceType, class, array, reference, const}
 use Rattle.cf_core.specs.Classes.{Class}
 use Rattle.cf_core.specs.Core.{Core, none, no_parts, Function, this, local, member, read, decay, index, temporary, assign, each, copy, blank, full, declare}
-use Rattle.cf_core.proofs.Sample.{int, function_type, listed, main_of, program, returns, num, add, put_code, put_digit, value_of, set, built, plain_class, built_class, copying, nonvirtual_function, constructor_of, destructor_of, method_of, function_as, in_block, run}
+use Rattle.cf_core.proofs.Sample.{int, function_type, listed, main_of, program, returns, num, add, put_code, put_digit, value_of, set, built, plain_class, built_class, copying, nonvirtual_function, constructor_of, destructor_of, function_as, in_block, run}
 use Rattle.cf_core.specs.Core as plain
 
 abbrev T : SourceType

@@ -8,7 +8,7 @@ use Rattle.cf_core.specs.declared.operators.LoopForm.TheVariants as form
 use Rattle.cf_core.specs.Types.{SourceType, class}
 use Rattle.cf_core.specs.Classes.{Class}
 use Rattle.cf_core.specs.Core.{Core, absent, given, no_parts, Function, this, local, member, read, operate, step, arithmetic, blank, full, sequence, declare, branch, loop, switch, case_label, leave}
-use Rattle.cf_core.proofs.Sample.{int, listed, in_block, main_of, program, returns, num, put_code, put_digit, value_of, set, built, plain_class, built_class, nonvirtual_function, constructor_of, destructor_of, Shown, run}
+use Rattle.cf_core.proofs.Sample.{int, listed, main_of, program, returns, num, put_code, put_digit, value_of, set, built, plain_class, built_class, nonvirtual_function, constructor_of, destructor_of, Shown, run}
 
 -- struct D{int v;~D(){putchar('d');putchar('0'+v);}}; and struct T{int v;T(int a){v=a;putchar('c');putchar('0'+a);}~T(){..}};
 abbrev D : SourceType

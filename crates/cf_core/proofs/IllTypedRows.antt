@@ -2,12 +2,12 @@
 use Rattle.std.proofs.Common.{◌≡◌, [], ◌∷◌, refl}
 use Rattle.std.specs.Prelude.{None, codes}
 use Rattle.cf_core.specs.declared.operators.PointerOperator.TheVariants as ptr
-use Rattle.cf_core.specs.Types.{integer, void, class, pointer, array, reference}
+use Rattle.cf_core.specs.Types.{integer, void, class, array}
 use Rattle.cf_base.specs.declared.kind.Kind.TheVariants.{Char, Int}
 use Rattle.cf_base.specs.declared.arith.Arith.TheVariants as op
 use Rattle.cf_core.specs.Subobjects.{base}
-use Rattle.cf_core.specs.Core.{given, absent, none, local, member, read, address, decay, dereference, convert, up, pointer_operate, operate, call, list, string, zeros, blank, full, declare, leave, text}
-use Rattle.cf_core.proofs.Sample.{int, function_type, function_of, listed, in_block, returns, num, value_of, set, called}
+use Rattle.cf_core.specs.Core.{absent, none, local, member, read, decay, convert, up, pointer_operate, operate, call, list, string, zeros, blank, full, declare, leave}
+use Rattle.cf_core.proofs.Sample.{int, function_type, function_of, listed, in_block, returns, num, set, called}
 use Rattle.cf_core.proofs.ActRows.{ends_of, int_pointer, two_classes, act}
 
 class_is_read : ends_of two_classes [] (declare 0 (class (codes "1A")) blank ∷ full (read (local 0)) ∷ []) ≡ None

@@ -1,13 +1,13 @@
 -- Validity of cores, tried on the programs of the other rows and on cores with a fault.
-use Rattle.std.proofs.Common.{◌≡◌, Bool, true, false, List, [], ◌∷◌, refl}
+use Rattle.std.proofs.Common.{◌≡◌, Bool, true, false, List, [], ◌∷◌, refl, Option}
 use Rattle.std.specs.Prelude.{pos, Some, None, codes}
 use Rattle.cf_base.specs.declared.kind.Kind.TheVariants.{Int, UInt, Char}
 use Rattle.cf_base.specs.declared.arith.Arith.TheVariants as op
 use Rattle.cf_core.specs.declared.operators.PointerOperator.TheVariants as ptr
-use Rattle.cf_core.specs.Types.{integer, void, class, pointer, reference, array, const, data_member, function_member}
+use Rattle.cf_core.specs.Types.{integer, void, class, pointer, reference, array, const, data_member, function_member, Name}
 use Rattle.cf_core.specs.Classes.{Class}
 use Rattle.cf_core.specs.Subobjects.{base}
-use Rattle.cf_core.specs.Core.{Core, Parts, field, direct, local_temporary, within, none, given, absent, no_parts, part, number, local, member, this, read, address, dereference, decay, convert, up, down, from_void, to_member, data_pointer, function_pointer, through, operate, pointer_operate, conditional, store, temporary, pointer_call, new, delete, list, string, bind, zeros, blank, full, sequence, declare, branch, switch, case_label, default_label, leave, continue}
+use Rattle.cf_core.specs.Core.{Core, Parts, field, direct, local_temporary, within, no_parts, part, local, member, read, address, dereference, convert, up, down, from_void, to_member, data_pointer, function_pointer, through, operate, pointer_operate, conditional, new, delete, list, string, bind, zeros, blank, full, sequence, declare, switch, case_label, default_label, leave, once, no_temporary}
 use Rattle.cf_core.specs.Calls.{Program}
 use Rattle.cf_types.specs.declared.ty.Ty.TheVariants as ty
 use Rattle.cf_core.specs.declared.node.Core.{roll-Core}
@@ -19,7 +19,7 @@ use Rattle.cf_core.specs.Numbers.{known_step, known_part}
 use Rattle.cf_core.specs.FromClasses.{signature_of}
 use Rattle.cf_core.specs.FromUnit.{Unit, IsValid, tables_of}
 use Rattle.cf_core.specs.Valid.{valid_file}
-use Rattle.cf_core.proofs.Sample.{int, function_type, function_of, listed, in_block, main_of, returns, num, add, value_of, set, called, built, referred, base_of, plain_class, built_class, constructor_of, virtual_function}
+use Rattle.cf_core.proofs.Sample.{int, function_type, function_of, listed, in_block, main_of, returns, num, value_of, called, base_of, plain_class, built_class, constructor_of, static_of}
 use Rattle.cf_core.proofs.ActRows.{int_pointer, two_classes}
 use Rattle.cf_core.proofs.ClassRows.{dispatch_during_construction}
 use Rattle.cf_core.proofs.ControlRows.{arrays_in_members}
@@ -150,6 +150,23 @@ parts_in_order = refl
 
 parts_out_of_order : with_parts (part (field 0) (num 1) (part (within (base 0)) blank no_parts)) ≡ false
 parts_out_of_order = refl
+
+-- int main(){static int&r=f();return r;}: the initialiser stands in the function, and a file-level reference has one
+abbrev with_reference : Option Name → Bool
+with_reference f = valid_file (record {
+  classes = [];
+  functions = main_of (once (codes "r__L1__main") (bind no_temporary (called (codes "f__Fv") [] (reference int) [])) ∷ []) ∷ [];
+  statics = record (static_of (codes "r__L1__main") (reference int)) { owner = f; is_constant = false } ∷ [];
+})
+
+local_reference : with_reference (Some (codes "__main")) ≡ true
+local_reference = refl
+
+reference_without_an_initialiser : with_reference None ≡ false
+reference_without_an_initialiser = refl
+
+local_of_no_function : with_reference (Some (codes "g__Fv")) ≡ false
+local_of_no_function = refl
 
 -- int main(){return 7;} as elaboration makes it
 abbrev seven_unit : Unit

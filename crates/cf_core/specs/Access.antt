@@ -1,6 +1,6 @@
 -- Reading and writing scalars, and what each is undefined on. A core whose parts have other types than their node takes is malformed.
-use Rattle.std.specs.Prelude.{ℕ, ◌&&◌, not, nat_lt, is_some, length, slice_get, List, ◌++◌, ℤ, Some, Bool}
-use Rattle.cf_core.specs.Types.{SourceType, is_array, same_but_const}
+use Rattle.std.specs.Prelude.{ℕ, not, nat_lt, is_some, length, List, ◌++◌, ℤ, Some, Bool}
+use Rattle.cf_core.specs.Types.{SourceType, same_but_const}
 use Rattle.cf_core.specs.Classes.{Class, fields_of}
 use Rattle.cf_core.specs.Subobjects.{Path, class_at}
 use Rattle.cf_core.specs.Core.{field}

@@ -3,7 +3,7 @@ use Rattle.std.specs.Prelude.{ℕ, suc, ◌-◌, nat_le, length, true, false, �
 use Rattle.cf_core.specs.Types.{SourceType, is_class, is_array, array, parameters, plain, element}
 use Rattle.cf_core.specs.Core.{Core, Cores, MaybeCore, item, no_temporary, local_temporary, static_temporary, none, more, absent, given, number, text, this, local, static_object, function, member, read, address, dereference, decay, index, convert, up, down, from_void, to_member, data_pointer, function_pointer, through, operate, unary, logical_not, logical_and, logical_or, pointer_operate, conditional, comma, store, update, step, assign, temporary, call, virtual_call, pointer_call, new, new_array, delete, delete_array, build, copy, each, list, string, bind, zeros, blank}
 use Rattle.cf_core.specs.Places.{Place, inner}
-use Rattle.cf_core.specs.Store.{Value, Nothing, Built, Number, At, Code, DataMember, FunctionMember}
+use Rattle.cf_core.specs.Store.{Value, Built, Number, At, Code, DataMember, FunctionMember}
 use Rattle.cf_core.specs.Run.{Act, ◌>>=◌, ◌>>◌, gives, malformed, state, done, some_or, valid, when, for_each, declared_object, frame_changed, lists_in_scope, lists_temporary}
 use Rattle.cf_core.specs.Access.{place_type, place_has, using, placed, name_field, read_place, write_place, followed, fill_zeros}
 use Rattle.cf_core.specs.Pointers.{truth_value, pointer_op, from_void_value, down_value}

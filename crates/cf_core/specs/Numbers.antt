@@ -1,5 +1,5 @@
 -- Whether the numbers of types and classes in a file's core are there in its tables.
-use Rattle.std.specs.Prelude.{ℕ, Bool, true, ◌&&◌, nat_lt, List, [], ◌∷◌, Option, Some, None, length, slice_get, ◌+◌}
+use Rattle.std.specs.Prelude.{ℕ, Bool, true, ◌&&◌, nat_lt, List, Option, Some, None, length, ◌+◌}
 use Rattle.std.specs.List.{list_all}
 use Rattle.cf_classes.specs.declared.class.MemberRef.{MemberRef}
 use Rattle.cf_classes.specs.declared.path.Step.{Step as PathStep}

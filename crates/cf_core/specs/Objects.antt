@@ -1,6 +1,5 @@
 -- The objects that names and literals stand for, initialised places, storage of the free store, and calls through pointers.
 use Rattle.std.specs.Prelude.{if◌then◌else◌, ℕ, suc, ◌+◌, nat_lt, Bool, true, false, ◌&&◌, ◌||◌, ◌==◌, List, [], ◌∷◌, pos, negsuc, Option, Some, None, find, position, slice_get, option_map, length, bytes_eq}
-use Rattle.std.specs.List.{list_any}
 use Rattle.cf_base.specs.declared.kind.Kind.TheVariants.{Char}
 use Rattle.cf_base.specs.Integers.{convert as converted}
 use Rattle.cf_core.specs.Types.{is_class, is_array, result, Name, SourceType, void, integer, array, const, plain, element, same_but_const}

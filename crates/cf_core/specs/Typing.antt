@@ -8,9 +8,9 @@ use Rattle.cf_base.specs.Integers.{fits}
 use Rattle.cf_types.specs.Operators.{is_shift}
 use Rattle.cf_core.specs.declared.operators.PointerOperator.{PointerOperator}
 use Rattle.cf_core.specs.declared.operators.PointerOperator.TheVariants as ptr
-use Rattle.cf_core.specs.Types.{Name, SourceType, void, integer, enumeration, class, pointer, reference, takes, gives, data_member, function_member, const, plain, same_but_const, parameters, is_class, is_void}
+use Rattle.cf_core.specs.Types.{Name, SourceType, void, integer, enumeration, class, pointer, reference, takes, gives, data_member, function_member, const, plain, same_but_const, is_class, is_void}
 use Rattle.cf_core.specs.Classes.{Class}
-use Rattle.cf_core.specs.Core.{Change, arithmetic, moved, number, this, function, member, call, each}
+use Rattle.cf_core.specs.Core.{Change, arithmetic, moved}
 use Rattle.cf_core.specs.Places.{is_scalar}
 
 -- what the nodes of a function may name
@@ -125,9 +125,6 @@ is_expression x = is_some x.place || is_some x.type || is_integer x
 abbrev pub pointed : Option SourceType → Option SourceType
 pointed (Some (pointer t)) = Some t
 pointed t = None
-
-abbrev pub is_pointer : Typing → Bool
-is_pointer x = is_some (pointed x.type)
 
 -- a pointer to an object
 abbrev pub points_to_object : Typing → Bool

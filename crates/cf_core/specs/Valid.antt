@@ -1,6 +1,6 @@
 -- Validity of the core of a file: every node has parts of the number and types that it takes, what is numbered or named is there, and
 -- no two functions or objects have one link name. Elaboration makes no other cores.
-use Rattle.std.specs.Prelude.{ℕ, suc, Bool, true, false, ◌&&◌, ◌||◌, not, nat_le, List, [], ◌∷◌, ◌++◌, ℤ, int_le, Option, Some, None, slice_get, is_some, length, map, filter, find, codes, bytes_eq}
+use Rattle.std.specs.Prelude.{ℕ, Bool, true, false, ◌&&◌, ◌||◌, not, nat_le, List, [], ◌∷◌, ◌++◌, Option, Some, None, slice_get, is_some, length, map, find, codes, bytes_eq}
 use Rattle.std.specs.List.{list_any, list_all}
 use Rattle.cf_core.specs.Types.{Name, SourceType, void, integer, enumeration, class, pointer, reference, array, takes, gives, data_member, function_member, const, parameters, result, is_void}
 use Rattle.cf_core.specs.Classes.{Base, MemberFunction, Class, class_named, functions_in}
@@ -10,6 +10,7 @@ use Rattle.cf_core.specs.Places.{part_eq}
 use Rattle.cf_core.specs.Building.{BuiltPart, building}
 use Rattle.cf_core.specs.Statements.{has_case, has_default}
 use Rattle.cf_core.specs.Typing.{Scope, Typing, is_function, is_integer, is_condition, is_expression, same_type}
+use Rattle.cf_core.specs.Joined.{is_nothing}
 use Rattle.cf_core.specs.Typed.{typing}
 
 -- Types and classes.
@@ -55,15 +56,6 @@ overriders_exist classes c =
     (subobjects classes c)
 
 -- Statements.
-
--- the values of the labels of a switch
-abbrev pub case_values : Cores → List ℤ
-case_values none = []
-case_values (more (case_label z) rest) = z ∷ case_values rest
-case_values (more e rest) = case_values rest
-
-abbrev pub int_same : ℤ → ℤ → Bool
-int_same y z = int_le y z && int_le z y
 
 -- no label twice (6.4.2)
 abbrev pub labels_differ : Cores → Bool
@@ -202,10 +194,12 @@ abbrev pub owner_fits : CoreFile → Option Name → Bool
 owner_fits file None = true
 owner_fits file (Some name) = list_any (λ (f : Function). bytes_eq f.name name) file.functions
 
+-- The initialiser of a local object may stand in its function (6.7).
 abbrev pub static_fits : CoreFile → Static → Bool
 static_fits file x =
     is_complete file.classes x.type
-    && (typing (record { classes = file.classes; locals = []; this = None }) x.start).start x.type
+    && ((is_some x.owner && is_nothing x.start)
+    || (typing (record { classes = file.classes; locals = []; this = None }) x.start).start x.type)
     && owner_fits file x.owner
 
 -- The core of a file is valid.

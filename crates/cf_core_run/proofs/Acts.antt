@@ -1,12 +1,12 @@
 -- Where an operator gives no value, it is the act of its kind.
-use Rattle.std.proofs.Common.{◌≡◌, ℕ, zero, suc, Bool, true, false, if◌then◌else◌, ℤ, pos, negsuc, Option, Some, None, Result, Ok, Err, refl, nat_lt}
+use Rattle.std.proofs.Common.{◌≡◌, ℕ, zero, suc, Bool, true, false, if◌then◌else◌, ℤ, pos, negsuc, None, Ok, Err, refl, nat_lt}
 use Rattle.std.specs.Result.{result_ok}
 use Rattle.std.specs.Prelude.{◌&&◌, ◌||◌, ◌*ℤ◌, ◌+ℤ◌, ◌-ℤ◌, int_lt, int_le, int_div}
 use Rattle.cf_base.specs.declared.kind.Kind.{Kind}
 use Rattle.cf_base.specs.declared.arith.Arith.{Arith}
 use Rattle.cf_base.specs.declared.arith.Arith.TheVariants as op
-use Rattle.cf_base.specs.Integers.{int_op, ranged, truth, quotient, shifted, left_by, right_by, fits, is_signed, convert, width, overflow, shift_count}
-use Rattle.cf_core_run.specs.Acts.{act_of, divided}
+use Rattle.cf_base.specs.Integers.{int_op, ranged, truth, shifted, left_by, right_by, fits, is_signed, convert, width, overflow, shift_count}
+use Rattle.cf_core_run.specs.Acts.{act_of}
 
 kept : (b c : Bool) (y z : ℤ) → result_ok (if b then Ok z else (if c then Err overflow else Ok y)) ≡ None
     → (if b then Ok z else (if c then Err overflow else Ok y)) ≡ Err overflow

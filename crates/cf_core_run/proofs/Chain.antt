@@ -1,5 +1,5 @@
 -- How the answer on the first part of an expression leads to one on the whole.
-use Rattle.std.proofs.Common.{◌≡◌, ℤ, Bool, true, false, Result, Ok, Err, refl, ap, sym, subst, ◌∙◌, List}
+use Rattle.std.proofs.Common.{◌≡◌, ℤ, Bool, true, false, Result, Ok, Err, ap, sym, subst, List}
 use Rattle.cf_base.specs.World.{World, Went}
 use Rattle.cf_core.specs.Core.{Core, Function}
 use Rattle.cf_core.specs.Calls.{Again}
@@ -8,7 +8,7 @@ use Rattle.cf_core.specs.Pointers.{truth_value}
 use Rattle.cf_core.specs.Store.{Value, Number}
 use Rattle.cf_core_run.specs.declared.answer.Stop.{Stop}
 use Rattle.cf_core_run.specs.declared.answer.Value.{Value as Given}
-use Rattle.cf_core_run.specs.Answer.{Told, Stopped, Meaning, Comes}
+use Rattle.cf_core_run.specs.Answer.{Told, Meaning, Comes}
 use Rattle.cf_core_run.specs.Store.{value_of, as_number}
 use Rattle.cf_core_run.specs.Meant.{leading, alone, valued, tested, truth_given, after_and, after_or, after_test}
 use Rattle.cf_core_run.proofs.Steps.{stops-then, goes-then}

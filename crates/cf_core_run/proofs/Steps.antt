@@ -1,5 +1,5 @@
 -- How an answer on the first part of an act leads to one on the whole.
-use Rattle.std.proofs.Common.{◌≡◌, ℕ, ℤ, Result, Ok, Err, refl, ap, sym, subst, ◌∙◌, List, []}
+use Rattle.std.proofs.Common.{◌≡◌, ℤ, Result, Ok, Err, ap, sym, subst, []}
 use Rattle.cf_base.specs.declared.kind.Kind.{Kind}
 use Rattle.cf_base.specs.declared.arith.Arith.{Arith}
 use Rattle.cf_base.specs.World.{World, Ran, Went, and_then}
@@ -8,7 +8,7 @@ use Rattle.cf_core.specs.Run.{State, Did, Gives, Act, ◌>>=◌, onward, gives}
 use Rattle.cf_core.specs.Store.{Value, Number}
 use Rattle.cf_core.specs.Access.{number_of}
 use Rattle.cf_core.specs.Core.{arithmetic}
-use Rattle.cf_core.specs.Scalars.{operated, changed_value, signed}
+use Rattle.cf_core.specs.Scalars.{operated, changed_value}
 use Rattle.cf_core_run.specs.declared.answer.Stop.{Stop}
 use Rattle.cf_core_run.specs.declared.answer.Stop.TheVariants as stop
 use Rattle.cf_core_run.specs.declared.answer.Value.{Value as Given}

@@ -1,5 +1,5 @@
 -- What an answer of the runner says of a run of the meaning.
-use Rattle.std.specs.Prelude.{◌≡◌, ℕ, List, Result, Ok, Err}
+use Rattle.std.specs.Prelude.{◌≡◌, List, Result, Ok, Err}
 use Rattle.cf_base.specs.Event.{Undefined}
 use Rattle.cf_base.specs.World.{World, Ran, Went, Stops}
 use Rattle.cf_core.specs.Core.{Function}

@@ -1,5 +1,5 @@
 -- The program that a file's core makes alone, and its nodes as plain data.
-use Rattle.std.specs.Prelude.{Bool, List, [], None}
+use Rattle.std.specs.Prelude.{Bool, List, []}
 use Rattle.cf_core.specs.declared.node.Core.{Core as Node}
 use Rattle.cf_core.specs.Core.{Core, Function}
 use Rattle.cf_core.specs.Calls.{Program}

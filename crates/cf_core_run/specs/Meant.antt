@@ -1,17 +1,15 @@
 -- What parts of expressions mean, and what is left of an expression once its first parts are evaluated.
-use Rattle.std.specs.Prelude.{ℕ, Bool, true, false, not, if◌then◌else◌, List, [], pos, None, ℤ}
+use Rattle.std.specs.Prelude.{Bool, true, false, if◌then◌else◌, [], pos, None}
 use Rattle.cf_base.specs.declared.kind.Kind.{Kind}
 use Rattle.cf_base.specs.declared.arith.Arith.{Arith}
-use Rattle.cf_core.specs.Types.{SourceType}
 use Rattle.cf_core.specs.Core.{Core, Cores, Change}
 use Rattle.cf_core.specs.Places.{Place}
 use Rattle.cf_core.specs.Store.{Value, Number, At}
 use Rattle.cf_core.specs.Run.{Act, ◌>>=◌, ◌>>◌, gives, when}
-use Rattle.cf_core.specs.Access.{using, placed, used, place_of, read_place, write_place}
+use Rattle.cf_core.specs.Access.{using, placed, read_place, write_place}
 use Rattle.cf_core.specs.Pointers.{truth_value}
-use Rattle.cf_core.specs.Scalars.{truth_of, operated, signed, changed_value, converted_value}
+use Rattle.cf_core.specs.Scalars.{truth_of, operated, changed_value}
 use Rattle.cf_core.specs.Expressions.{value, last_value}
-use Rattle.cf_core.specs.declared.operators.UnaryOperator.{UnaryOperator}
 use Rattle.cf_core_run.specs.Built.{program_of}
 use Rattle.cf_core_run.specs.Answer.{Meaning}
 

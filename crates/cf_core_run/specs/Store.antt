@@ -1,7 +1,7 @@
 -- The runner's objects and entered function, as the meaning sees them.
-use Rattle.std.specs.Prelude.{ℕ, Bool, true, false, if◌then◌else◌, List, [], ◌∷◌, length, ℤ, Option, Some, None, slice_get, Result, Ok, Err}
-use Rattle.cf_core.specs.Types.{SourceType, void, integer}
-use Rattle.cf_core.specs.Places.{Route, Place, route_eq}
+use Rattle.std.specs.Prelude.{ℕ, if◌then◌else◌, List, [], length, ℤ, Option, Some, None, slice_get, Result, Ok, Err}
+use Rattle.cf_core.specs.Types.{void, integer}
+use Rattle.cf_core.specs.Places.{Route, route_eq}
 use Rattle.cf_core.specs.Store.{Value, Nothing, Missing, Number, At, Object, automatic, zeroed_object}
 use Rattle.cf_core.specs.Run.{State, Frame}
 use Rattle.cf_core.specs.Calls.{root}

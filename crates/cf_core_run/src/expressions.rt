@@ -46,7 +46,7 @@ pub fn value(
     }
 }
 
-/// The value of a node with operands, or of one that changes an object.
+/// The value of a node with two operands.
 #[cycle(values)]
 fn pair(
     e: &Core,
@@ -82,6 +82,22 @@ fn pair(
                 Ok(v) => put(v, entered, cells, at),
             },
         },
+        _ => change(e, unit, entered, cells),
+    }
+}
+
+/// The value of a node that changes an object by what stands in it.
+#[cycle(values)]
+fn change(
+    e: &Core,
+    unit: &CoreUnit,
+    entered: &Entered<'_>,
+    cells: &mut Vec<Cell>,
+) -> Result<Value, Stop>
+    requires { known unit.now e.now ≡ true }
+    ensures { Comes value_of result (valued (plain unit.now e.now)) (state_of entered.now cells.old.items) (state_of entered.now cells.new.items) }
+{
+    match e {
         Core::Update {
             place: left,
             change,

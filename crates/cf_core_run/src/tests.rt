@@ -1,11 +1,11 @@
 use crate::{Cell, Entered, Integer, Local, Stop, Value, value};
-use cf_base::{Boxed, Items, Kind};
+use cf_base::{Items, Kind};
 use cf_classes::Classes;
 use cf_core::{Core, CoreUnit};
 use cf_types::Types;
 use std::test::Fail;
 
-/// `a = 7` where `a` is the first of two locals, of which the second was not reached.
+/// The first of two locals has an object, the second was not reached, and there is no third.
 #[test]
 fn values_of_locals(rt: HostRuntime) -> Result<(), Fail> {
     let alloc = rt.alloc();
@@ -33,19 +33,16 @@ fn values_of_locals(rt: HostRuntime) -> Result<(), Fail> {
         })
         .ok()
         .ok_or("memory")?;
-    let place = Boxed::new(alloc, Core::Local { at: 0, number: 0 })
-        .ok()
-        .ok_or("memory")?;
-    let seven = Boxed::new(alloc, Core::Number { at: 4, value: 7 })
-        .ok()
-        .ok_or("memory")?;
-    let set = Core::Store {
-        at: 2,
-        place,
-        value: seven,
-    };
-    assert_eq!(rt; value(&set, &unit, &entered, &mut cells), Ok(Value::At(0)));
-    assert_eq!(rt; cells[0].held, Some(Integer::new(7)));
+    let first = Core::Local { at: 0, number: 0 };
+    assert_eq!(rt;
+        value(&first, &unit, &entered, &mut cells),
+        Ok(Value::At(0))
+    );
+    let seven = Core::Number { at: 0, value: 7 };
+    assert_eq!(rt;
+        value(&seven, &unit, &entered, &mut cells),
+        Ok(Value::Number(Integer::new(7)))
+    );
     let other = Core::Local { at: 0, number: 1 };
     assert_eq!(rt;
         value(&other, &unit, &entered, &mut cells),

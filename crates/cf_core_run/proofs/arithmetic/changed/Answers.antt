@@ -1,16 +1,11 @@
-use Rattle.std.proofs.Common.{◌≡◌, ℤ, Ok, Err, None, Result, ap, sym, subst, ◌∙◌, w64, to_z, of_z, FitsSigned}
-use Rattle.std.proofs.Math.Facts.{to_z-of_z}
-use Rattle.std.specs.Result.{result_ok}
-use Rattle.cf_base.specs.Integers.{int_op, convert}
+use Rattle.std.proofs.Common.{ap, sym, subst, ◌∙◌}
 use Rattle.cf_core.specs.Store.{Number}
 use Rattle.cf_core.specs.Run.{Gives}
-use Rattle.cf_core.specs.Scalars.{operated, signed}
+use Rattle.cf_core.specs.Scalars.{operated}
 use Rattle.cf_base.specs.World.{Went}
 use Rattle.cf_core_run.specs.Answer.{Told}
 use Rattle.cf_core_run.specs.Store.{value_of}
-use Rattle.cf_core_run.specs.Acts.{act_of}
-use Rattle.cf_core_run.proofs.Acts.{no-value}
-use Rattle.cf_core_run.proofs.Steps.{operated-at, changed-stops, changed-goes}
+use Rattle.cf_core_run.proofs.Steps.{changed-stops, changed-goes}
 use Rattle.cf_core_run.proofs.arithmetic.changed.Goals as goal
 
 pub returns-in-Err : goal.returns-in-Err

@@ -1,4 +1,4 @@
-use Rattle.std.proofs.Common.{◌≡◌, Ok, Err, ap, sym, arith, rules, ◌<◌, ◌∙◌}
+use Rattle.std.proofs.Common.{ap, sym, ◌∙◌}
 use Rattle.std.specs.Prelude.{not, []}
 use Rattle.cf_base.specs.World.{Went}
 use Rattle.cf_core.specs.Access.{used, place_of, read_place}
@@ -6,8 +6,8 @@ use Rattle.cf_core.specs.Calls.{root}
 use Rattle.cf_core.specs.Pointers.{truth_value}
 use Rattle.cf_core.specs.Run.{Gives, gives}
 use Rattle.cf_core.specs.Scalars.{operated, signed, truth_of, converted_value}
-use Rattle.cf_core.specs.Store.{Value, Number}
-use Rattle.cf_core_run.specs.Built.{plain, known}
+use Rattle.cf_core.specs.Store.{Number}
+use Rattle.cf_core_run.specs.Built.{plain}
 use Rattle.cf_core_run.specs.Meant.{valued, operand_of, place_at, tested, alone, after_left, after_place, put_value, after_and, after_or, after_test, truth_given, after_changed, changed_at, stepped_at}
 use Rattle.cf_core.specs.View.{change_of}
 use Rattle.cf_core.specs.FromTypes.{type_of}
@@ -164,31 +164,31 @@ pub tested_number-returns-in-Ok : goal.tested_number-returns-in-Ok
 tested_number-returns-in-Ok t c =
     first-gives (λ b. b) value_of _ c.in-Ok.holds _ (tested (plain c.args.unit.now c.args.e.now)) truth_given _ _ _ c.in-Ok.is c.test.ensures (truth-is _ _ _ c.truth_number.ensures)
 
-pub pair-returns-in-Err-place-2 : goal.pair-returns-in-Err-place-2
-pair-returns-in-Err-place-2 t c =
-    at-node _ _ _ _ _ (plain-Update c.args.unit.now c.args.e.now c.in-Update.at c.get-in-Update.result.now c.in-Update.change c.in-Update.value (c.in-Update.is ∙ ap (λ a. node.Update c.in-Update.at a c.in-Update.change c.in-Update.value) (sym c.get-in-Update.ensures)))
-    (first-stops root value_of _ c.in-Err-place-2.stop (place_at (plain c.args.unit.now c.get-in-Update.result.now)) (after_changed (change_of c.in-Update.change) (plain c.args.unit.now c.in-Update.value)) _ _ c.in-Err-place-2.is c.place-in-Update.ensures)
+pub change-returns-in-Err : goal.change-returns-in-Err
+change-returns-in-Err t c =
+    at-node _ _ _ _ _ (plain-Update c.args.unit.now c.args.e.now c.in-Update.at c.get.result.now c.in-Update.change c.in-Update.value (c.in-Update.is ∙ ap (λ a. node.Update c.in-Update.at a c.in-Update.change c.in-Update.value) (sym c.get.ensures)))
+    (first-stops root value_of _ c.in-Err.stop (place_at (plain c.args.unit.now c.get.result.now)) (after_changed (change_of c.in-Update.change) (plain c.args.unit.now c.in-Update.value)) _ _ c.in-Err.is c.place.ensures)
 
-pub pair-returns-in-Err-operand-3 : goal.pair-returns-in-Err-operand-3
-pair-returns-in-Err-operand-3 t c =
-    at-node _ _ _ _ _ (plain-Update c.args.unit.now c.args.e.now c.in-Update.at c.get-in-Update.result.now c.in-Update.change c.get-in-Ok-place-2.result.now (c.in-Update.is ∙ ap (λ a. node.Update c.in-Update.at a c.in-Update.change c.in-Update.value) (sym c.get-in-Update.ensures) ∙ ap (λ b. node.Update c.in-Update.at c.get-in-Update.result.now c.in-Update.change b) (sym c.get-in-Ok-place-2.ensures)))
-    (first-gives root value_of _ c.in-Ok-place-2.object _ (place_at (plain c.args.unit.now c.get-in-Update.result.now)) (after_changed (change_of c.in-Update.change) (plain c.args.unit.now c.get-in-Ok-place-2.result.now)) _ _ _ c.in-Ok-place-2.is c.place-in-Update.ensures
-    (first-stops value_of value_of _ c.in-Err-operand-3.stop (operand_of (plain c.args.unit.now c.get-in-Ok-place-2.result.now)) (λ y. alone (changed_at (change_of c.in-Update.change) (root c.in-Ok-place-2.object) y)) _ _ c.in-Err-operand-3.is c.operand-in-Ok-place-2.ensures))
+pub change-returns-in-Err-operand : goal.change-returns-in-Err-operand
+change-returns-in-Err-operand t c =
+    at-node _ _ _ _ _ (plain-Update c.args.unit.now c.args.e.now c.in-Update.at c.get.result.now c.in-Update.change c.get-in-Ok.result.now (c.in-Update.is ∙ ap (λ a. node.Update c.in-Update.at a c.in-Update.change c.in-Update.value) (sym c.get.ensures) ∙ ap (λ b. node.Update c.in-Update.at c.get.result.now c.in-Update.change b) (sym c.get-in-Ok.ensures)))
+    (first-gives root value_of _ c.in-Ok.object _ (place_at (plain c.args.unit.now c.get.result.now)) (after_changed (change_of c.in-Update.change) (plain c.args.unit.now c.get-in-Ok.result.now)) _ _ _ c.in-Ok.is c.place.ensures
+    (first-stops value_of value_of _ c.in-Err-operand.stop (operand_of (plain c.args.unit.now c.get-in-Ok.result.now)) (λ y. alone (changed_at (change_of c.in-Update.change) (root c.in-Ok.object) y)) _ _ c.in-Err-operand.is c.operand.ensures))
 
-pub pair-returns-in-Ok-operand-3 : goal.pair-returns-in-Ok-operand-3
-pair-returns-in-Ok-operand-3 t c =
-    at-node _ _ _ _ _ (plain-Update c.args.unit.now c.args.e.now c.in-Update.at c.get-in-Update.result.now c.in-Update.change c.get-in-Ok-place-2.result.now (c.in-Update.is ∙ ap (λ a. node.Update c.in-Update.at a c.in-Update.change c.in-Update.value) (sym c.get-in-Update.ensures) ∙ ap (λ b. node.Update c.in-Update.at c.get-in-Update.result.now c.in-Update.change b) (sym c.get-in-Ok-place-2.ensures)))
-    (first-gives root value_of _ c.in-Ok-place-2.object _ (place_at (plain c.args.unit.now c.get-in-Update.result.now)) (after_changed (change_of c.in-Update.change) (plain c.args.unit.now c.get-in-Ok-place-2.result.now)) _ _ _ c.in-Ok-place-2.is c.place-in-Update.ensures
-    (first-gives value_of value_of _ c.in-Ok-operand-3.y _ (operand_of (plain c.args.unit.now c.get-in-Ok-place-2.result.now)) (λ y. alone (changed_at (change_of c.in-Update.change) (root c.in-Ok-place-2.object) y)) _ _ _ c.in-Ok-operand-3.is c.operand-in-Ok-place-2.ensures
-    (by-step value_of _ (changed_at (change_of c.in-Update.change) (root c.in-Ok-place-2.object) (value_of c.in-Ok-operand-3.y)) _ _ c.change_by.ensures)))
+pub change-returns-in-Ok-operand : goal.change-returns-in-Ok-operand
+change-returns-in-Ok-operand t c =
+    at-node _ _ _ _ _ (plain-Update c.args.unit.now c.args.e.now c.in-Update.at c.get.result.now c.in-Update.change c.get-in-Ok.result.now (c.in-Update.is ∙ ap (λ a. node.Update c.in-Update.at a c.in-Update.change c.in-Update.value) (sym c.get.ensures) ∙ ap (λ b. node.Update c.in-Update.at c.get.result.now c.in-Update.change b) (sym c.get-in-Ok.ensures)))
+    (first-gives root value_of _ c.in-Ok.object _ (place_at (plain c.args.unit.now c.get.result.now)) (after_changed (change_of c.in-Update.change) (plain c.args.unit.now c.get-in-Ok.result.now)) _ _ _ c.in-Ok.is c.place.ensures
+    (first-gives value_of value_of _ c.in-Ok-operand.y _ (operand_of (plain c.args.unit.now c.get-in-Ok.result.now)) (λ y. alone (changed_at (change_of c.in-Update.change) (root c.in-Ok.object) y)) _ _ _ c.in-Ok-operand.is c.operand.ensures
+    (by-step value_of _ (changed_at (change_of c.in-Update.change) (root c.in-Ok.object) (value_of c.in-Ok-operand.y)) _ _ c.change_by.ensures)))
 
-pub pair-returns-in-Err-place-3 : goal.pair-returns-in-Err-place-3
-pair-returns-in-Err-place-3 t c =
+pub change-returns-in-Err-place : goal.change-returns-in-Err-place
+change-returns-in-Err-place t c =
     at-node _ _ _ _ _ (plain-Increment c.args.unit.now c.args.e.now c.in-Increment.at c.in-Increment.is_postfix c.in-Increment.change c.get-in-Increment.result.now (c.in-Increment.is ∙ ap (node.Increment c.in-Increment.at c.in-Increment.is_postfix c.in-Increment.change) (sym c.get-in-Increment.ensures)))
-    (first-stops root value_of _ c.in-Err-place-3.stop (place_at (plain c.args.unit.now c.get-in-Increment.result.now)) (λ p. alone (stepped_at c.in-Increment.is_postfix (change_of c.in-Increment.change) p)) _ _ c.in-Err-place-3.is c.place-in-Increment.ensures)
+    (first-stops root value_of _ c.in-Err-place.stop (place_at (plain c.args.unit.now c.get-in-Increment.result.now)) (λ p. alone (stepped_at c.in-Increment.is_postfix (change_of c.in-Increment.change) p)) _ _ c.in-Err-place.is c.place-in-Increment.ensures)
 
-pub pair-returns-in-Ok-place-3 : goal.pair-returns-in-Ok-place-3
-pair-returns-in-Ok-place-3 t c =
+pub change-returns-in-Ok-place : goal.change-returns-in-Ok-place
+change-returns-in-Ok-place t c =
     at-node _ _ _ _ _ (plain-Increment c.args.unit.now c.args.e.now c.in-Increment.at c.in-Increment.is_postfix c.in-Increment.change c.get-in-Increment.result.now (c.in-Increment.is ∙ ap (node.Increment c.in-Increment.at c.in-Increment.is_postfix c.in-Increment.change) (sym c.get-in-Increment.ensures)))
-    (first-gives root value_of _ c.in-Ok-place-3.object _ (place_at (plain c.args.unit.now c.get-in-Increment.result.now)) (λ p. alone (stepped_at c.in-Increment.is_postfix (change_of c.in-Increment.change) p)) _ _ _ c.in-Ok-place-3.is c.place-in-Increment.ensures
-    (by-step value_of _ (stepped_at c.in-Increment.is_postfix (change_of c.in-Increment.change) (root c.in-Ok-place-3.object)) _ _ c.step_by.ensures))
+    (first-gives root value_of _ c.in-Ok-place.object _ (place_at (plain c.args.unit.now c.get-in-Increment.result.now)) (λ p. alone (stepped_at c.in-Increment.is_postfix (change_of c.in-Increment.change) p)) _ _ _ c.in-Ok-place.is c.place-in-Increment.ensures
+    (by-step value_of _ (stepped_at c.in-Increment.is_postfix (change_of c.in-Increment.change) (root c.in-Ok-place.object)) _ _ c.step_by.ensures))
