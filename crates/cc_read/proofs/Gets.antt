@@ -33,7 +33,7 @@ same_mark-self m = go (same_mark m m) refl
   where
     go : (c : Bool) → same_mark m m ≡ c → c ≡ true
     go true e = refl
-    go false e = absurd (same_false the_type (search rules) m e refl)
+    go false e = absurd (same_false the_type m m e refl)
 
 pub gets_expect : {B : Type 0} {Bad : Type 0} (m : Mark) (f : Unit {0} → Parse B) (ts : List Token) (b : B) (rest : List Token) → Gets (f tt ts) b rest Bad
     → Gets ((expect m >>= f) (token.Mark m ∷ ts)) b rest Bad
