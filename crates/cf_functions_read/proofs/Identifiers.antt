@@ -19,7 +19,6 @@ use Rattle.cf_functions_tokens.specs.Taken as taken
 use Rattle.cf_functions_tokens.specs.Taken.{taken_of, word_token, token_of, number, int_max}
 use Rattle.cf_functions_tokens.specs.Terminals.{keyword_symbol, sign_symbol}
 use Rattle.cf_functions_parse.specs.Spells.{SpellsFunction, function, SpellsFunctions, none, more}
-use Rattle.cf_functions_read.specs.First.{First, accepted}
 use Rattle.cf_functions_read.specs.Words.{is_identifier, is_named}
 use Rattle.cf_functions_read.proofs.Names.{is_fine_word, is_fine_there, cut_fine}
 
@@ -125,6 +124,7 @@ functions_named fs ts (more f xs all ys one rest) e =
     let h = all_split xs ys e in
     all_of (is_named (function_of f)) _ (function_named f xs one h.0) (functions_named all ys rest h.1)
 
-pub names_are_identifiers : (bytes : List ℕ) (p : Program) → First bytes (Ok p) → list_all is_named (functions_of p) ≡ true
-names_are_identifiers bytes p (accepted _ file kept known) =
-    functions_named p.functions file.tokens file.text.spells (ap are_fine (sym file.taken) ∙ taken_fine file.listed (lexed_fine bytes file.listed file.lexical))
+pub names_are_identifiers : (bytes : List ℕ) (words : List language.Token) (ts : List Token) (p : Program) → Lex bytes (Ok words) → taken_of words ≡ Some ts
+    → SpellsFunctions p.functions ts → list_all is_named (functions_of p) ≡ true
+names_are_identifiers bytes words ts p lexical is spells =
+    functions_named p.functions ts spells (ap are_fine (sym is) ∙ taken_fine words (lexed_fine bytes words lexical))

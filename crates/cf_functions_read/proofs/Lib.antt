@@ -1,4 +1,4 @@
 mod Answer
-pub mod Identifiers
+mod Identifiers
 mod Names
 mod Reading

@@ -11,12 +11,13 @@ use Rattle.cf_functions_tokens.specs.Gives.{FailsAs}
 use Rattle.cf_functions_tokens.specs.Taken.{taken_of}
 use Rattle.cf_functions_parse.specs.IsParsed.{IsText, IsParsed}
 use Rattle.cf_functions_read.specs.Checked.{Checked}
-use Rattle.cf_functions_read.specs.First.{IsFile, First, Answers, breaks, breaks_form, passes_limit, is_no_text, breaks_names, uses_unknown, accepted}
-use Rattle.cf_functions_read.specs.Listed.{IsUncut}
+use Rattle.cf_functions_read.specs.First.{IsFile, First, breaks, breaks_form, passes_limit, is_no_text, breaks_names, uses_unknown, accepted}
+use Rattle.cf_functions_read.specs.IsRead.{IsUncut, IsRead}
 use Rattle.cf_functions_read.proofs.Answer.{one_list, one_taken}
+use Rattle.cf_functions_read.proofs.Identifiers.{names_are_identifiers}
 
 -- the bytes have no tokens of the language
-pub no_list : (bytes : List ℕ) (f : Fault) → IsUncut bytes f → Answers bytes (Err f)
+pub no_list : (bytes : List ℕ) (f : Fault) → IsUncut bytes f → IsRead bytes (Err f)
 no_list bytes (fault.Broken first) lexical = breaks_form first lexical
 no_list bytes (fault.Limit limit) lexical = passes_limit limit lexical
 no_list bytes fault.Memory free = tt
@@ -25,7 +26,7 @@ some_is_none : (ts : List Token) → ◌≡◌ {A = Option (List Token)} (Some t
 some_is_none ts e = cc
 
 -- these are no tokens of functions over int
-pub not_taken : (bytes : List ℕ) (listed : List language.Token) (f : Fault) → Lex bytes (Ok listed) → FailsAs (taken_of listed) f → Answers bytes (Err f)
+pub not_taken : (bytes : List ℕ) (listed : List language.Token) (f : Fault) → Lex bytes (Ok listed) → FailsAs (taken_of listed) f → IsRead bytes (Err f)
 not_taken bytes listed (fault.Broken b) lexical fails =
     subst (λ k. First bytes (Err (breaks k))) (sym fails.1)
     (is_no_text listed lexical (λ p file.
@@ -35,7 +36,7 @@ not_taken bytes listed fault.Memory lexical free = tt
 
 module _ (bytes : List ℕ) (listed : List language.Token) (ts : List Token) (lexical : Lex bytes (Ok listed)) (taken : taken_of listed ≡ Some ts) where
   -- the tokens have no tree
-  pub no_tree : (f : Fault) → IsParsed ts (Err f) → Answers bytes (Err f)
+  pub no_tree : (f : Fault) → IsParsed ts (Err f) → IsRead bytes (Err f)
   no_tree (fault.Broken b) n =
       subst (λ k. First bytes (Err (breaks k))) (sym n.rule)
       (is_no_text listed lexical (λ p file. n.none p (one_taken bytes listed ts p lexical taken file)))
@@ -47,9 +48,10 @@ module _ (bytes : List ℕ) (listed : List language.Token) (ts : List Token) (le
     is_file = record { listed = listed; lexical = lexical; tokens = ts; taken = taken; text = text }
 
     -- the tree's names are checked
-    pub checked : (r : Result Program Fault) → Checked p r → Answers bytes r
+    pub checked : (r : Result Program Fault) → Checked p r → IsRead bytes r
     checked (Ok q) kept =
-        subst (λ x. First bytes (Ok x)) (sym kept.same) (accepted p is_file kept.names kept.declared)
+        subst (λ x. IsRead bytes (Ok x)) (sym kept.same)
+        (record { first = accepted p is_file kept.names kept.declared; named = names_are_identifiers bytes listed ts p lexical taken text.spells })
     checked (Err (fault.Broken b)) (inl n) =
         subst (λ k. First bytes (Err (breaks k))) (sym n.at_first) (breaks_names p is_file n.broken)
     checked (Err (fault.Broken b)) (inr n) =

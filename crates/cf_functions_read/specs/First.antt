@@ -8,8 +8,6 @@ use Rattle.cf_tokens.specs.declared.token.Token as language
 use Rattle.cf_functions.specs.declared.tree.Program.{Program}
 use Rattle.cf_functions.specs.Plain.{functions_of}
 use Rattle.cf_functions.specs.Rules.{keeps_names, first_unknown_of}
-use Rattle.cf_functions_tokens.specs.declared.fault.Fault.{Fault}
-use Rattle.cf_functions_tokens.specs.declared.fault.Fault.TheVariants as fault
 use Rattle.cf_functions_tokens.specs.declared.token.Token.{Token}
 use Rattle.cf_functions_tokens.specs.Outside.{outside}
 use Rattle.cf_functions_tokens.specs.Taken.{taken_of}
@@ -43,10 +41,3 @@ pub data First (bytes : List ℕ) : Result Program Refusal → Type 0 where
   uses_unknown : (p : Program) (at : ℕ) → IsFile bytes p → keeps_names (functions_of p) ≡ true → first_unknown_of (functions_of p) ≡ Some at
       → First bytes (Err (breaks (undeclared at)))
   accepted : (p : Program) → IsFile bytes p → keeps_names (functions_of p) ≡ true → first_unknown_of (functions_of p) ≡ None → First bytes (Ok p)
-
--- the answer is what the file is, unless memory fails
-abbrev pub Answers : List ℕ → Result Program Fault → Type 0
-Answers bytes (Ok p) = First bytes (Ok p)
-Answers bytes (Err (fault.Broken b)) = First bytes (Err (breaks b))
-Answers bytes (Err (fault.Limit limit)) = First bytes (Err (passes limit))
-Answers bytes (Err fault.Memory) = Unit {0}

@@ -1,4 +1,4 @@
 pub mod Checked
 pub mod First
-pub mod Listed
+pub mod IsRead
 pub mod Words

@@ -3,8 +3,7 @@
 ghost use Rattle.std.specs.Prelude.{Ok, MatchResult};
 ghost use Rattle.cf_tokens.specs.Lex.{Lex};
 ghost use Rattle.cf_functions_read.specs.Checked.{Checked};
-ghost use Rattle.cf_functions_read.specs.First.{Answers};
-ghost use Rattle.cf_functions_read.specs.Listed.{IsUncut};
+ghost use Rattle.cf_functions_read.specs.IsRead.{IsUncut, IsRead};
 
 use cf_functions::Program;
 use cf_functions_names::{NameFault, check};
@@ -40,9 +39,9 @@ fn checked(alloc: Global, program: Program) -> Result<Program, Fault>
 ///
 /// The lexical form comes first: the limit of bytes, then the first of K1 to K5 and K7 in text order, then the limit of tokens. A
 /// file with tokens that spell no program, or whose program breaks a rule of names, breaks K48 at its first byte. Then a name that
-/// is not declared breaks K10, at the first such (3.2).
+/// is not declared breaks K10, at the first such (3.2). The names of a program's functions are identifiers.
 pub fn read(alloc: Global, bytes: &[u8]) -> Result<Program, Fault>
-    ensures { Answers bytes.now result }
+    ensures { IsRead bytes.now result }
 {
     let words = listed(alloc, bytes)?;
     let list = taken(alloc, words.as_slice())?;
