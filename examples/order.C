@@ -1,0 +1,10 @@
+int g(int a) {
+  putchar(48 + a);
+  return a;
+}
+int f(int a, int b) {
+  return a + b;
+}
+int main() {
+  return f(g(1), g(2));
+}
