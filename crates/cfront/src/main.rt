@@ -27,16 +27,29 @@ use cf_base::Memory;
 use std::process::ExitCode;
 use std::{env, io};
 
-fn main(rt: HostRuntime) -> io::Result<ExitCode> {
+/// The words behind the program's name. Words of which one is no UTF-8 are no job; no words stand for them.
+fn job_words(rt: &HostRuntime) -> Result<Vec<String>, Memory> {
     let alloc = rt.alloc();
-    let words: Vec<String> = env::args(&rt)?.skip(1).collect(alloc)?;
+    match env::args(rt) {
+        Ok(args) => Ok(args.skip(1).collect(alloc)?),
+        Err(error) if error.kind() == io::ErrorKind::OutOfMemory => Err(Memory),
+        Err(_) => Ok(Vec::new(alloc)),
+    }
+}
+
+fn main(rt: HostRuntime) -> ExitCode {
+    let alloc = rt.alloc();
     let mut files = DiskFiles::new(&rt, alloc);
     let mut input = StreamSource::new(rt.stdin());
     let mut out = StreamSink::new(rt.stdout());
     let mut err = StreamSink::new(rt.stderr());
-    let answer = cfront(alloc, &words, &mut files, &mut input, &mut out, &mut err);
-    if let Err(Memory) = answer {
-        eprintln!(rt; "cfront: out of memory")?;
+    let answer = match job_words(&rt) {
+        Ok(words) => cfront(alloc, &words, &mut files, &mut input, &mut out, &mut err),
+        Err(Memory) => Err(Memory),
+    };
+    if answer.is_err() {
+        // The status tells it, where this line can't be told.
+        let _ = eprintln!(rt; "cfront: out of memory");
     }
-    Ok(ExitCode::from(status(&answer)))
+    ExitCode::from(status(&answer))
 }

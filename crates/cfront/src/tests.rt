@@ -7,7 +7,7 @@ use crate::outcome::{Outcome, status};
 use crate::top::{DEFAULT_LIMITS, cfront};
 use cc_run::Limits;
 use cc_tree::Act;
-use cf_base::{Bound, Limit, MemFiles, MemSink, MemSource, Memory, Rule};
+use cf_base::{Bound, Files, Limit, MemFiles, MemSink, MemSource, Memory, Rule};
 use std::alloc::{AllocError, Global};
 use std::process::Abort;
 use std::test::Fail;
@@ -139,13 +139,16 @@ fn return_seven(rt: HostRuntime) -> Result<(), Fail> {
 #[test]
 fn other_words_are_usage(rt: HostRuntime) -> Result<(), Fail> {
     let line = "usage: cfront go|translate|layout|link|run|name|sample\n";
-    let lists: [&[&str]; 6] = [
+    let lists: [&[&str]; 9] = [
         &[],
         &["go"],
         &["go", "a.C", "b.C"],
         &["go", "-n"],
         &["go", ""],
         &["run", "a.C"],
+        &["go", "-n", "5", "-n", "6", "a.C"],
+        &["go", "a", "a.c"],
+        &["sample", "0"],
     ];
     for words in lists {
         let job = Job {
@@ -184,16 +187,28 @@ fn lexical_faults_come_first(rt: HostRuntime) -> Result<(), Fail> {
 }
 
 #[test]
-fn another_constant_is_outside(rt: HostRuntime) -> Result<(), Fail> {
+fn another_constant_and_an_empty_file_are_outside(rt: HostRuntime) -> Result<(), Fail> {
     let line = "a.C:1:1: K48 outside the profile\n";
-    check_text(
-        &rt,
-        rt.alloc(),
-        b"int main(){return 1u;}",
-        refused(48, 0),
-        "",
-        line,
-    )
+    let constant = b"int main(){return 1u;}";
+    check_text(&rt, rt.alloc(), constant, refused(48, 0), "", line)?;
+    check_text(&rt, rt.alloc(), b"", refused(48, 0), "", line)
+}
+
+#[test]
+fn text_stands_beside_the_file(rt: HostRuntime) -> Result<(), Fail> {
+    let alloc = rt.alloc();
+    let mut files = file(alloc, SEVEN, NONE_FAILS)?;
+    let mut input = MemSource::new(Vec::new(alloc), Vec::new(alloc));
+    let mut out = MemSink::new(alloc, 100, Vec::new(alloc))?;
+    let mut err = MemSink::new(alloc, 100, Vec::new(alloc))?;
+    let words = texts(alloc, &["go", "a.C"])?;
+    let answer = cfront(alloc, &words, &mut files, &mut input, &mut out, &mut err);
+    assert!(rt; answer == Ok(Outcome::Ended { status: 7 }));
+    let written = files.read("a.C.c", 1000);
+    assert!(rt; written.is_ok_and(|text| text.starts_with(b"#pragma cfront 1\n")));
+    let source = files.read("a.C", 1000);
+    assert!(rt; source.is_ok_and(|text| text.as_slice() == SEVEN));
+    Ok(())
 }
 
 #[test]
@@ -259,6 +274,14 @@ fn recursion_is_too_deep(rt: HostRuntime) -> Result<(), Fail> {
         "",
         "cfront: too deep\n",
     )
+}
+
+#[test]
+fn arguments_are_evaluated_left_to_right(rt: HostRuntime) -> Result<(), Fail> {
+    let text =
+        b"int g(int a){putchar(48+a);return a;}int f(int a,int b){return a+b;}int main(){return f(g(1),g(2));}";
+    let want = Outcome::Ended { status: 3 };
+    check_text(&rt, rt.alloc(), text, want, "12", "cfront: ended 3\n")
 }
 
 #[test]
