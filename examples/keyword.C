@@ -1,0 +1,4 @@
+float half;
+int main() {
+  return 0;
+}
