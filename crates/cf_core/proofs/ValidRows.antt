@@ -7,7 +7,7 @@ use Rattle.cf_core.specs.declared.operators.PointerOperator.TheVariants as ptr
 use Rattle.cf_core.specs.Types.{integer, void, class, pointer, reference, array, const, data_member, function_member, Name}
 use Rattle.cf_core.specs.Classes.{Class}
 use Rattle.cf_core.specs.Subobjects.{base}
-use Rattle.cf_core.specs.Core.{Core, Parts, field, direct, local_temporary, within, no_parts, part, local, member, read, address, dereference, convert, up, down, from_void, to_member, data_pointer, function_pointer, through, operate, pointer_operate, conditional, new, delete, list, string, bind, zeros, blank, full, sequence, declare, switch, case_label, default_label, leave, once, no_temporary}
+use Rattle.cf_core.specs.Core.{Core, Parts, Static, field, direct, local_temporary, static_temporary, assign, none, within, no_parts, part, local, member, read, address, dereference, convert, up, down, from_void, to_member, data_pointer, function_pointer, through, operate, pointer_operate, conditional, new, delete, list, string, bind, zeros, blank, full, sequence, declare, switch, case_label, default_label, leave, once, no_temporary}
 use Rattle.cf_core.specs.Calls.{Program}
 use Rattle.cf_types.specs.declared.ty.Ty.TheVariants as ty
 use Rattle.cf_core.specs.declared.node.Core.{roll-Core}
@@ -167,6 +167,40 @@ reference_without_an_initialiser = refl
 
 local_of_no_function : with_reference (Some (codes "g__Fv")) ≡ false
 local_of_no_function = refl
+
+-- const int&r=3; at the file: the temporary is a static object of the file
+abbrev with_temporary : List Static → Bool
+with_temporary ss = valid_file (record {
+  classes = [];
+  functions = [];
+  statics = record (static_of (codes "r") (reference (const int))) { start = bind (static_temporary (codes "r__t")) (num 3) } ∷ ss;
+})
+
+static_temporary_is_there : with_temporary (static_of (codes "r__t") (const int) ∷ []) ≡ true
+static_temporary_is_there = refl
+
+static_temporary_is_missing : with_temporary [] ≡ false
+static_temporary_is_missing = refl
+
+-- int a;int b;b=a; as a generated assignment does it: a scalar without a value is moved too
+scalar_of_a_generated_assignment : with_main [] (declare 0 int blank ∷ declare 1 int blank ∷ full (assign int (local 1) (local 0) none) ∷ []) ≡ true
+scalar_of_a_generated_assignment = refl
+
+-- int(*f)()=..;f==0; and f==f
+abbrev with_functions : Core → Bool
+with_functions e =
+    with_main [] (declare 0 (pointer (function_type [] int)) (convert (pointer (function_type [] int)) (num 0)) ∷ full (pointer_operate ptr.Equal (value_of 0) e) ∷ [])
+
+function_is_compared_with_null : with_functions (convert (pointer (function_type [] int)) (num 0)) ≡ true
+function_is_compared_with_null = refl
+
+functions_are_not_compared : with_functions (value_of 0) ≡ false
+functions_are_not_compared = refl
+
+-- int A::*m=&A::a;m<m; is none
+members_are_not_ordered :
+    with_main two_classes (declare 0 (data_member (codes "1A") int) (data_pointer 0) ∷ full (pointer_operate ptr.Less (value_of 0) (value_of 0)) ∷ []) ≡ false
+members_are_not_ordered = refl
 
 -- int main(){return 7;} as elaboration makes it
 abbrev seven_unit : Unit
