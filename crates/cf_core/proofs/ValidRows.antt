@@ -1,5 +1,5 @@
 -- Validity of cores, tried on the programs of the other rows and on cores with a fault.
-use Rattle.std.proofs.Common.{◌≡◌, Bool, true, false, List, [], ◌∷◌, refl, Option}
+use Rattle.std.proofs.Common.{◌≡◌, ℕ, zero, suc, ◌<◌, ◌≤◌, ◌^◌, Bool, true, false, List, [], ◌∷◌, refl, subst, Option, All, slice_get, lit≤, arith}
 use Rattle.std.specs.Prelude.{pos, Some, None, codes}
 use Rattle.cf_base.specs.declared.kind.Kind.TheVariants.{Int, UInt, Char}
 use Rattle.cf_base.specs.declared.arith.Arith.TheVariants as op
@@ -17,7 +17,11 @@ use Rattle.cf_core.specs.declared.unit.Role.TheVariants as role
 use Rattle.cf_core.specs.View.{Started, core_step, started_step}
 use Rattle.cf_core.specs.Numbers.{known_step, known_part}
 use Rattle.cf_core.specs.FromClasses.{signature_of}
-use Rattle.cf_core.specs.FromUnit.{Unit, IsValid, tables_of}
+use Rattle.cf_core.specs.FromUnit.{Unit, IsValid, WithinLimits, tables_of}
+use Rattle.cf_core.specs.FromTypes.{type_of}
+use Rattle.cf_core.specs.Size.{size}
+use Rattle.cf_classes.specs.Fit.{Fit, class_of_type, enum_of_type}
+use Rattle.cf_types.specs.declared.ty.Ty.{Ty}
 use Rattle.cf_core.specs.Valid.{valid_file}
 use Rattle.cf_core.proofs.Sample.{int, function_type, function_of, listed, in_block, main_of, returns, num, value_of, called, base_of, plain_class, built_class, constructor_of, static_of}
 use Rattle.cf_core.proofs.ActRows.{int_pointer, two_classes}
@@ -220,8 +224,34 @@ seven_unit = record {
   statics = [];
 }
 
+seven_types_fit : Fit seven_unit.types seven_unit.classes
+seven_types_fit = record {
+  classes_given = given;
+  enums_given = enums;
+  types_exist = λ i d h. cc;
+  fields_defined = λ i d h. cc;
+  sizes = λ i d h. cc;
+}
+  where
+    given : (i : ℕ) (t : Ty) → slice_get seven_unit.types.types i ≡ Some t → All (λ c. c < 0) (class_of_type t)
+    given zero t h = let e : ty.Int Int ≡ t = cc in subst (λ u. All (λ c. c < 0) (class_of_type u)) e (λ k d h. absurd (omega arith))
+    given (suc i) t h = cc
+
+    enums : (i : ℕ) (t : Ty) → slice_get seven_unit.types.types i ≡ Some t → All (λ e. e < 0) (enum_of_type t)
+    enums zero t h = let e : ty.Int Int ≡ t = cc in subst (λ u. All (λ e. e < 0) (enum_of_type u)) e (λ k d h. absurd (omega arith))
+    enums (suc i) t h = cc
+
+seven_within_limits : WithinLimits seven_unit
+seven_within_limits = record { sizes = sizes; functions = refl; statics = refl; descriptions = refl }
+  where
+    sizes : (t : ℕ) → t < 1 → size [] (type_of (tables_of seven_unit) t) ≤ 2 ^ 22
+    sizes zero h = lit≤ tt
+    sizes (suc t) h = absurd (omega arith)
+
 seven_unit_is_valid : IsValid seven_unit
 seven_unit_is_valid = record {
+  fit = seven_types_fit;
+  limits = seven_within_limits;
   functions = simp (fold-roll-Core Bool Bool (known_step (tables_of seven_unit)) (known_part (tables_of seven_unit)));
   statics = refl;
   file = simp (fold-roll-Core Core Started (core_step (tables_of seven_unit) (signature_of (tables_of seven_unit))) (started_step (tables_of seven_unit) (signature_of (tables_of seven_unit))));
