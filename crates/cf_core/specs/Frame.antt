@@ -18,11 +18,7 @@ bytes_of classes t = up_to_eight (size classes t)
 -- the class objects among parameters
 abbrev pub class_bytes : List Class → List SourceType → List ℕ
 class_bytes classes [] = []
-class_bytes classes (t ∷ ts) = (if_class (is_class t) (bytes_of classes t)) ++ class_bytes classes ts
-  where
-    if_class : Bool → ℕ → List ℕ
-    if_class true n = n ∷ []
-    if_class false n = []
+class_bytes classes (t ∷ ts) = (if is_class t then bytes_of classes t ∷ [] else []) ++ class_bytes classes ts
 
 abbrev pub types_of_special : Option Special → List SourceType
 types_of_special None = []
