@@ -1,15 +1,17 @@
 -- Small programs as plain statements, and what each run shows.
-use Rattle.std.proofs.Common.{◌≡◌, ℕ, List, [], ◌∷◌, ◌++◌, refl}
+use Rattle.std.proofs.Common.{◌≡◌, ℕ, Bool, List, [], ◌∷◌, ◌++◌, refl}
 use Rattle.std.specs.Prelude.{pos, Option, Some, None, true, false, codes}
 use Rattle.cf_base.specs.declared.kind.Kind.TheVariants.{Int}
 use Rattle.cf_base.specs.declared.arith.Arith.TheVariants as op
 use Rattle.cf_base.specs.Event.{Ended, Ticks, Undefined}
-use Rattle.cf_core.specs.Types.{Name, SourceType, class, void}
+use Rattle.cf_core.specs.Types.{Name, SourceType, class, pointer, void}
 use Rattle.cf_core.specs.Classes.{Class}
 use Rattle.cf_core.specs.Core.{Role, plain_function, constructor, destructor, arithmetic}
-use Rattle.cf_core.proofs.Sample.{int, function_type, Shown, shown_of, built_class, nonvirtual_function}
-use Rattle.cf_plain.specs.Plain.{Action, Plain, Plains, PlainFunction, nothing, more, act, set, branch, loop, leave, continue, give, number, this, local, member, read, operate, truth, store, declare, first, finish, call, build, changed}
+use Rattle.cf_core.proofs.Sample.{int, function_type, Shown, shown_of, built_class, nonvirtual_function, virtual_function}
+use Rattle.cf_plain.specs.Plain.{Action, Plain, Plains, PlainFunction, nothing, more, act, set, branch, loop, leave, continue, give, number, this, local, member, read, operate, truth, store, declare, first, finish, call, build, changed, is_reached, reach, finish_static, static_object, new, delete, dereference}
+use Rattle.cf_plain.specs.Named.{Named}
 use Rattle.cf_plain.specs.Program.{PlainProgram, PlainMean}
+use Rattle.cf_plain.specs.Valid.{valid_file}
 
 abbrev in_order : List Plain → Plains
 in_order [] = nothing
@@ -124,3 +126,59 @@ each_turn_spends_a_tick = refl
 -- int main(){int x;return x;}
 no_value : run (program [] (function_of (codes "__main") [] int (int ∷ []) (set 0 (declare 0 int) ∷ value_of 1 2 0 ++ give (Some 2) ∷ []) ∷ [])) 1 ≡ Some (record { end = Undefined 7; out = [] })
 no_value = refl
+
+-- int main(){static int n=g();return n;}int g(){return 4;}: the flag of a local static object
+abbrev with_static : PlainProgram
+with_static = record (program []
+    (function_of (codes "g__Fv") [] int [] (set 0 (number (pos 4)) ∷ give (Some 0) ∷ [])
+    ∷ function_of (codes "__main") [] int []
+    (set 0 (is_reached (codes "n")) ∷ branch 0 nothing (in_order (act (reach (codes "n")) ∷ set 1 (static_object (codes "n") int) ∷ set 2 (called (codes "g__Fv") [] []) ∷ act (first 1 2)
+    ∷ act (finish_static (codes "n")) ∷ []))
+    ∷ set 1 (static_object (codes "n") int) ∷ set 2 (read 1) ∷ give (Some 2) ∷ []) ∷ []))
+    { statics = record { name = codes "n"; type = int; locals = []; start = nothing; owner = Some (codes "__main"); is_constant = false; is_shared = false; is_local = false } ∷ [] }
+
+local_static : run with_static 2 ≡ Some (record { end = Ended (pos 4); out = [] })
+local_static = refl
+
+-- T*p=new T(5);delete p;return p->v; with the heap limit
+abbrev delete_and_use : PlainProgram
+delete_and_use = program loud
+    (function_of (codes "__main") [] int (pointer T ∷ int ∷ [])
+    (set 0 (declare 0 (pointer T)) ∷ set 1 (new T) ∷ set 2 (truth 1)
+    ∷ branch 2 (in_order (set 3 (number (pos 5)) ∷ int_local 4 1 3 ++ act (build (codes "__ct__1TFi") (function_type (int ∷ []) void) 1 (1 ∷ [])) ∷ [])) nothing
+    ∷ act (first 0 1) ∷ set 5 (local 0) ∷ set 6 (read 5) ∷ act (delete false T 6) ∷ set 7 (truth 6) ∷ branch 7 (in_order (set 8 (dereference 6) ∷ set 9 (member 8 0) ∷ set 10 (read 9) ∷ give (Some 10) ∷ [])) nothing
+    ∷ set 10 (number (pos 0)) ∷ give (Some 10) ∷ []) ∷ loud_functions)
+
+object_is_used_after_delete : run delete_and_use 9 ≡ Some (record { end = Undefined 5; out = codes "c5d5" })
+object_is_used_after_delete = refl
+
+null_where_the_heap_is_full : shown_of (PlainMean delete_and_use [] 11 9 9) ≡ Some (record { end = Ended (pos 0); out = [] })
+null_where_the_heap_is_full = refl
+
+-- Validity of these, and of a program with a fault.
+abbrev is_valid : PlainProgram → Bool
+is_valid Q = valid_file (record { classes = Q.classes; functions = Q.functions; statics = Q.statics })
+
+arguments_are_valid : is_valid arguments ≡ true
+arguments_are_valid = refl
+
+loop_is_valid : is_valid sum_to_four ≡ true
+loop_is_valid = refl
+
+static_is_valid : is_valid with_static ≡ true
+static_is_valid = refl
+
+break_without_a_loop : is_valid (program [] (function_of (codes "__main") [] int [] (leave ∷ []) ∷ [])) ≡ false
+break_without_a_loop = refl
+
+local_of_another_type : is_valid (program [] (function_of (codes "__main") [] int (int ∷ []) (act (declare 0 T) ∷ []) ∷ [])) ≡ false
+local_of_another_type = refl
+
+-- struct A{virtual ~A();}: what ends a local names its destructor, and deletes through a pointer don't
+abbrev A_class : List Class
+A_class = built_class (codes "1A") [] [] (virtual_function (codes "__dt__Fv") (codes "__dt__1AFv") ∷ []) (Some (codes "__dt__1AFv")) ∷ []
+
+destructors_named :
+    Named A_class (function_of (codes "f__Fv") [] void (class (codes "1A") ∷ []) (act (delete false (class (codes "1A")) 0) ∷ branch 1 (in_order (act (finish (class (codes "1A")) 0) ∷ [])) nothing ∷ []))
+    ≡ codes "__dt__1AFv" ∷ []
+destructors_named = refl
