@@ -1,6 +1,7 @@
 -- Small programs as plain statements, and what each run shows.
-use Rattle.std.proofs.Common.{◌≡◌, ℕ, Bool, List, [], ◌∷◌, ◌++◌, refl}
+use Rattle.std.proofs.Common.{◌≡◌, ℕ, Bool, map, List, [], ◌∷◌, ◌++◌, refl}
 use Rattle.std.specs.Prelude.{pos, Option, Some, None, true, false, codes}
+use Rattle.std.specs.Fmt.{digits}
 use Rattle.cf_base.specs.declared.kind.Kind.TheVariants.{Int}
 use Rattle.cf_base.specs.declared.arith.Arith.TheVariants as op
 use Rattle.cf_base.specs.Event.{Ended, Ticks, Undefined}
@@ -8,7 +9,8 @@ use Rattle.cf_core.specs.Types.{Name, SourceType, class, pointer, void}
 use Rattle.cf_core.specs.Classes.{Class}
 use Rattle.cf_core.specs.Core.{Role, plain_function, constructor, destructor, arithmetic}
 use Rattle.cf_core.proofs.Sample.{int, function_type, Shown, shown_of, built_class, nonvirtual_function, virtual_function}
-use Rattle.cf_plain.specs.Plain.{Action, Plain, Plains, PlainFunction, nothing, more, act, set, branch, loop, leave, continue, give, number, this, local, member, read, operate, truth, store, declare, first, finish, call, build, changed, is_reached, reach, finish_static, static_object, new, delete, dereference}
+use Rattle.cf_plain.specs.Plain.{Action, Plain, Plains, PlainFunction, nothing, more, act, set, branch, loop, leave, continue, give, number, this, local, member, read, operate, truth, store, declare, first, finish, call, build, changed, is_reached, reach, finish_static, static_object, new, delete, dereference, PlainStatic, PlainFile}
+use Rattle.cf_plain.specs.Joined.{files_mean}
 use Rattle.cf_plain.specs.Named.{Named}
 use Rattle.cf_plain.specs.Program.{PlainProgram, PlainMean}
 use Rattle.cf_plain.specs.Valid.{valid_file}
@@ -182,3 +184,34 @@ destructors_named :
     Named A_class (function_of (codes "f__Fv") [] void (class (codes "1A") ∷ []) (act (delete false (class (codes "1A")) 0) ∷ branch 1 (in_order (act (finish (class (codes "1A")) 0) ∷ [])) nothing ∷ []))
     ≡ codes "__dt__1AFv" ∷ []
 destructors_named = refl
+
+-- Two files, T t(1);  and  static int f(){return 2;}T s(2);int main(){return f();}: initialised in order, destroyed backwards, the local function under its file's name
+abbrev static_T : Name → ℕ → PlainStatic
+static_T name n = record {
+  name = name;
+  type = T;
+  locals = int ∷ [];
+  start = in_order (act (reach name) ∷ set 0 (static_object name T) ∷ set 1 (number (pos n)) ∷ int_local 2 0 1
+      ++ act (build (codes "__ct__1TFi") (function_type (int ∷ []) void) 0 (0 ∷ [])) ∷ act (finish_static name) ∷ []);
+  owner = None;
+  is_constant = false;
+  is_shared = false;
+  is_local = false;
+}
+
+abbrev shared_functions : List PlainFunction
+shared_functions = map (λ (f : PlainFunction). record f { is_shared = true }) loud_functions
+
+abbrev two_files : List PlainFile
+two_files =
+    record { classes = loud; functions = shared_functions; statics = static_T (codes "t") 1 ∷ [] }
+    ∷ record {
+      classes = loud;
+      functions = record (function_of (codes "f__Fv") [] int [] (set 0 (number (pos 2)) ∷ give (Some 0) ∷ [])) { is_local = true }
+          ∷ function_of (codes "__main") [] int [] (set 0 (called (codes "f__Fv") [] []) ∷ give (Some 0) ∷ []) ∷ shared_functions;
+      statics = static_T (codes "s") 2 ∷ [];
+    } ∷ []
+
+files_in_order : shown_of (files_mean two_files [] 0 9 20) ≡ Some (record { end = Ended (pos 2); out = codes "c1c2d2d1" })
+unfolding digits
+files_in_order = refl

@@ -1,4 +1,5 @@
 pub mod Acts
+pub mod Joined
 pub mod Named
 pub mod Numbers
 pub mod Plain
