@@ -53,3 +53,20 @@ copies_with_a_default_argument :
     ∷ returns (read (member (index (decay (local 1)) (num 1)) 0)) ∷ []) ∷ functions) []) 40
     ≡ Some (record { end = Ended (pos 7); out = codes "c3d3c3d3" })
 copies_with_a_default_argument = refl
+
+-- int a;int b;b=a; as a generated assignment does it: no act, also where there is no value
+scalar_without_a_value_is_assigned :
+    run (program [] (main_of (declare 0 int blank ∷ declare 1 int blank ∷ full (assign int (local 1) (local 0) none) ∷ returns (num 0) ∷ []) ∷ []) []) 9
+    ≡ Some (record { end = Ended (pos 0); out = [] })
+scalar_without_a_value_is_assigned = refl
+
+-- struct L{int v;L(int a){v=a;}};L x(4);L a[1][1]={{x}};return a[0][0].v; spends two ticks: no element is built by a function
+element_that_is_moved_costs_nothing :
+    run (program (built_class (codes "1L") [] (int ∷ []) [] None ∷ [])
+    (constructor_of (codes "1L") (codes "__ct__1LFi") (int ∷ []) no_parts (set (member this 0) (value_of 0) ∷ [])
+    ∷ main_of (declare 0 (class (codes "1L")) (built (codes "__ct__1LFi") (int ∷ []) (num 4 ∷ []))
+    ∷ declare 1 (array (array (class (codes "1L")) 1) 1)
+    (plain.list (listed (plain.list (listed (copy (class (codes "1L")) (local 0) none ∷ [])) (built (codes "__ct__1LFi") (int ∷ []) (num 5 ∷ [])) ∷ [])) blank)
+    ∷ returns (read (member (index (decay (index (decay (local 1)) (num 0))) (num 0)) 0)) ∷ []) ∷ []) []) 2
+    ≡ Some (record { end = Ended (pos 4); out = [] })
+element_that_is_moved_costs_nothing = refl

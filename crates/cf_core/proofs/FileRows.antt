@@ -7,13 +7,13 @@ use Rattle.cf_base.specs.declared.arith.Arith.TheVariants as op
 use Rattle.cf_base.specs.Event.{Enter, Ended, Undefined}
 use Rattle.cf_core.specs.Types.{Name, SourceType, void, integer, class, pointer, array, const}
 use Rattle.cf_core.specs.Classes.{Class}
-use Rattle.cf_core.specs.Core.{Core, Function, Static, CoreFile, no_parts, none, this, local, member, read, static_object, virtual_call, delete, temporary, declare, blank, full, once, text, decay, convert, dereference, operate}
+use Rattle.cf_core.specs.Core.{Core, Function, Static, CoreFile, no_parts, none, this, local, member, read, static_object, virtual_call, delete, temporary, declare, each, assign, blank, full, once, text, decay, convert, dereference, operate}
 use Rattle.cf_core.specs.Program.{Mean}
 use Rattle.cf_core.specs.Joined.{program_of}
-use Rattle.cf_core.specs.Join.{Definition, definitions}
-use Rattle.cf_core.specs.Frame.{frame_bound}
-use Rattle.cf_core.specs.Named.{Named}
-use Rattle.cf_core.proofs.Sample.{int, function_type, function_of, main_of, in_block, static_of, returns, num, add, put, value_of, set, called, built, base_of, built_class, virtual_function, nonvirtual_function, constructor_of, destructor_of, Shown, shown_of}
+use Rattle.cf_core.specs.Join.{Definition, definitions, uses_at}
+use Rattle.cf_core.specs.Frame.{frame_bound, initialiser_bound}
+use Rattle.cf_core.specs.Named.{Named, named_in}
+use Rattle.cf_core.proofs.Sample.{int, function_type, function_of, main_of, in_block, static_of, returns, num, add, put, value_of, set, called, built, copying, base_of, built_class, virtual_function, nonvirtual_function, constructor_of, destructor_of, Shown, shown_of}
 
 abbrev file_of : List Class → List Function → List Static → CoreFile
 file_of cs fs ss = record { classes = cs; functions = fs; statics = ss }
@@ -26,6 +26,9 @@ shared f = record f { is_shared = true }
 
 abbrev dynamic : Name → SourceType → Core → Static
 dynamic name t e = record (static_of name t) { start = e; is_constant = false }
+
+abbrev local_dynamic : Name → Name → SourceType → Static
+local_dynamic f name t = record (static_of name t) { owner = Some f; is_constant = false }
 
 abbrev constant : Name → SourceType → Core → Static
 constant name t e = record (static_of name t) { start = e }
@@ -55,10 +58,19 @@ two_files_with_statics :
     (S_constructor ∷ S_destructor
     ∷ function_of (codes "f__Fv") [] void (in_block (once (codes "s3__L1__f__Fv") (S_by 2) ∷ full (called (codes "exit") (int ∷ []) void (num 3 ∷ [])) ∷ []))
     ∷ main_of (declare 0 S (S_by 3) ∷ full (called (codes "f__Fv") [] void []) ∷ returns (num 0) ∷ []) ∷ [])
-    (dynamic (codes "s2") S (S_by 1) ∷ static_of (codes "s3__L1__f__Fv") S ∷ [])
+    (dynamic (codes "s2") S (S_by 1) ∷ local_dynamic (codes "f__Fv") (codes "s3__L1__f__Fv") S ∷ [])
     ∷ []) 30
     ≡ Some (record { end = Ended (pos 3); out = codes "abdcCBA" })
 two_files_with_statics = refl
+
+-- int f(){static int n=g();return n;}int g(){return 4;}int main(){return f();}: no file is initialised, so three functions are entered
+local_is_initialised_in_its_function :
+    Mean (program_of (file_of []
+    (function_of (codes "f__Fv") [] int (in_block (once (codes "n__L1__f__Fv") (called (codes "g__Fv") [] int []) ∷ returns (read (static_object (codes "n__L1__f__Fv") int)) ∷ []))
+    ∷ function_of (codes "g__Fv") [] int (in_block (returns (num 4) ∷ [])) ∷ main_of (returns (called (codes "f__Fv") [] int []) ∷ []) ∷ [])
+    (local_dynamic (codes "f__Fv") (codes "n__L1__f__Fv") int ∷ []) ∷ [])) [] 0 9 9
+    ≡ Some (record { end = Ended (pos 4); trace = Enter (codes "__main") ∷ Enter (codes "f__Fv") ∷ Enter (codes "g__Fv") ∷ [] })
+local_is_initialised_in_its_function = refl
 
 -- int f();int x=f();int main(){return x;} and int y=3;int f(){return y+1;}
 constants_of_all_files_come_first :
@@ -123,12 +135,42 @@ literal_of_a_local_static_is_defined = refl
 
 -- Frame bounds: char b[8200];return 7; is 64 and 24 + 8200 and 32
 array_in_a_frame :
-    frame_bound [] (record (main_of (declare 0 (array (integer Char) 8200) blank ∷ returns (num 7) ∷ [])) { locals = array (integer Char) 8200 ∷ [] }) ≡ 8320
+    frame_bound [] [] (record (main_of (declare 0 (array (integer Char) 8200) blank ∷ returns (num 7) ∷ [])) { locals = array (integer Char) 8200 ∷ [] }) ≡ 8320
 array_in_a_frame = refl
 
 -- a class temporary adds its size: T(1); has two nodes beside the constant, and 4 bytes rounded up to 8
-temporary_in_a_frame : frame_bound S_class (main_of (full (temporary S (S_by 1)) ∷ [])) ≡ 64 + (3 * 32 + 8)
+temporary_in_a_frame : frame_bound S_class [] (main_of (full (temporary S (S_by 1)) ∷ [])) ≡ 64 + (3 * 32 + 8)
 temporary_in_a_frame = refl
+
+-- S a[3]; each element's initialiser is a full expression of two nodes
+elements_in_a_frame : frame_bound S_class [] (main_of (declare 0 (array S 3) (each (S_by 1)) ∷ [])) ≡ 64 + (24 + 16) + 2 * 32
+elements_in_a_frame = refl
+
+-- the initialisers of static objects belong to the function whose locals they are, or to the file's initialising function
+abbrev two_constants : List Static
+two_constants = local_constant (codes "__main") (codes "s__L1____main") (120 ∷ 0 ∷ []) ∷ constant (codes "x") int (add (num 1) (num 2)) ∷ []
+
+local_static_in_a_frame : frame_bound [] two_constants (main_of []) ≡ 64 + 2 * 32
+local_static_in_a_frame = refl
+
+static_in_the_files_frame : initialiser_bound [] two_constants ≡ 64 + 3 * 32
+static_in_the_files_frame = refl
+
+-- Uses: struct A{virtual ~A();A(const A&);A operator=(A);}; an assignment by value builds a copy, and its result is a temporary
+abbrev assigned_by_value : List Class
+assigned_by_value =
+    record (built_class (codes "1A") [] [] (virtual_function (codes "__dt__Fv") (codes "__dt__1AFv") ∷ []) (Some (codes "__dt__1AFv"))) {
+      copy = copying (codes "1A") (codes "__ct__1AFRC1A") [];
+      assignment = Some (record { name = codes "__as__1AF1A"; type = function_type (class (codes "1A") ∷ []) (class (codes "1A")) });
+    } ∷ []
+
+assignment_by_value_uses_the_copy :
+    uses_at assigned_by_value (assign (class (codes "1A")) (local 0) (local 1) none)
+    ≡ codes "__as__1AF1A" ∷ codes "__dt__1AFv" ∷ codes "__ct__1AFRC1A" ∷ []
+assignment_by_value_uses_the_copy = refl
+
+result_of_an_assignment_is_destroyed_by_name : named_in assigned_by_value (assign (class (codes "1A")) (local 0) (local 1) none) ≡ codes "__dt__1AFv" ∷ []
+result_of_an_assignment_is_destroyed_by_name = refl
 
 -- Named: struct A{virtual ~A();};struct B:A{};: delete of an A* names no destructor, a local B names B's, and B's destructor names A's
 abbrev A_and_B : List Class

@@ -8,7 +8,7 @@ mod FileRows
 mod IllTypedRows
 mod NodeRows
 mod ObjectRows
-mod Sample
+pub mod Sample
 mod ScalarRows
 mod SubobjectRows
 mod ValidRows

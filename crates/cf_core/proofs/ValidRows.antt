@@ -1,5 +1,5 @@
 -- Validity of cores, tried on the programs of the other rows and on cores with a fault.
-use Rattle.std.proofs.Common.{◌≡◌, Bool, true, false, List, [], ◌∷◌, refl, Option}
+use Rattle.std.proofs.Common.{◌≡◌, ℕ, zero, suc, ◌<◌, ◌≤◌, ◌^◌, Bool, true, false, List, [], ◌∷◌, refl, subst, Option, All, slice_get, lit≤, arith}
 use Rattle.std.specs.Prelude.{pos, Some, None, codes}
 use Rattle.cf_base.specs.declared.kind.Kind.TheVariants.{Int, UInt, Char}
 use Rattle.cf_base.specs.declared.arith.Arith.TheVariants as op
@@ -7,7 +7,7 @@ use Rattle.cf_core.specs.declared.operators.PointerOperator.TheVariants as ptr
 use Rattle.cf_core.specs.Types.{integer, void, class, pointer, reference, array, const, data_member, function_member, Name}
 use Rattle.cf_core.specs.Classes.{Class}
 use Rattle.cf_core.specs.Subobjects.{base}
-use Rattle.cf_core.specs.Core.{Core, Parts, field, direct, local_temporary, within, no_parts, part, local, member, read, address, dereference, convert, up, down, from_void, to_member, data_pointer, function_pointer, through, operate, pointer_operate, conditional, new, delete, list, string, bind, zeros, blank, full, sequence, declare, switch, case_label, default_label, leave, once, no_temporary}
+use Rattle.cf_core.specs.Core.{Core, Parts, Static, field, direct, local_temporary, static_temporary, assign, none, within, no_parts, part, local, member, read, address, dereference, convert, up, down, from_void, to_member, data_pointer, function_pointer, through, operate, pointer_operate, conditional, new, delete, list, string, bind, zeros, blank, full, sequence, declare, switch, case_label, default_label, leave, once, no_temporary}
 use Rattle.cf_core.specs.Calls.{Program}
 use Rattle.cf_types.specs.declared.ty.Ty.TheVariants as ty
 use Rattle.cf_core.specs.declared.node.Core.{roll-Core}
@@ -17,7 +17,11 @@ use Rattle.cf_core.specs.declared.unit.Role.TheVariants as role
 use Rattle.cf_core.specs.View.{Started, core_step, started_step}
 use Rattle.cf_core.specs.Numbers.{known_step, known_part}
 use Rattle.cf_core.specs.FromClasses.{signature_of}
-use Rattle.cf_core.specs.FromUnit.{Unit, IsValid, tables_of}
+use Rattle.cf_core.specs.FromUnit.{Unit, IsValid, WithinLimits, tables_of}
+use Rattle.cf_core.specs.FromTypes.{type_of}
+use Rattle.cf_core.specs.Size.{size}
+use Rattle.cf_classes.specs.Fit.{Fit, class_of_type, enum_of_type}
+use Rattle.cf_types.specs.declared.ty.Ty.{Ty}
 use Rattle.cf_core.specs.Valid.{valid_file}
 use Rattle.cf_core.proofs.Sample.{int, function_type, function_of, listed, in_block, main_of, returns, num, value_of, called, base_of, plain_class, built_class, constructor_of, static_of}
 use Rattle.cf_core.proofs.ActRows.{int_pointer, two_classes}
@@ -168,6 +172,40 @@ reference_without_an_initialiser = refl
 local_of_no_function : with_reference (Some (codes "g__Fv")) ≡ false
 local_of_no_function = refl
 
+-- const int&r=3; at the file: the temporary is a static object of the file
+abbrev with_temporary : List Static → Bool
+with_temporary ss = valid_file (record {
+  classes = [];
+  functions = [];
+  statics = record (static_of (codes "r") (reference (const int))) { start = bind (static_temporary (codes "r__t")) (num 3) } ∷ ss;
+})
+
+static_temporary_is_there : with_temporary (static_of (codes "r__t") (const int) ∷ []) ≡ true
+static_temporary_is_there = refl
+
+static_temporary_is_missing : with_temporary [] ≡ false
+static_temporary_is_missing = refl
+
+-- int a;int b;b=a; as a generated assignment does it: a scalar without a value is moved too
+scalar_of_a_generated_assignment : with_main [] (declare 0 int blank ∷ declare 1 int blank ∷ full (assign int (local 1) (local 0) none) ∷ []) ≡ true
+scalar_of_a_generated_assignment = refl
+
+-- int(*f)()=..;f==0; and f==f
+abbrev with_functions : Core → Bool
+with_functions e =
+    with_main [] (declare 0 (pointer (function_type [] int)) (convert (pointer (function_type [] int)) (num 0)) ∷ full (pointer_operate ptr.Equal (value_of 0) e) ∷ [])
+
+function_is_compared_with_null : with_functions (convert (pointer (function_type [] int)) (num 0)) ≡ true
+function_is_compared_with_null = refl
+
+functions_are_not_compared : with_functions (value_of 0) ≡ false
+functions_are_not_compared = refl
+
+-- int A::*m=&A::a;m<m; is none
+members_are_not_ordered :
+    with_main two_classes (declare 0 (data_member (codes "1A") int) (data_pointer 0) ∷ full (pointer_operate ptr.Less (value_of 0) (value_of 0)) ∷ []) ≡ false
+members_are_not_ordered = refl
+
 -- int main(){return 7;} as elaboration makes it
 abbrev seven_unit : Unit
 seven_unit = record {
@@ -186,8 +224,34 @@ seven_unit = record {
   statics = [];
 }
 
+seven_types_fit : Fit seven_unit.types seven_unit.classes
+seven_types_fit = record {
+  classes_given = given;
+  enums_given = enums;
+  types_exist = λ i d h. cc;
+  fields_defined = λ i d h. cc;
+  sizes = λ i d h. cc;
+}
+  where
+    given : (i : ℕ) (t : Ty) → slice_get seven_unit.types.types i ≡ Some t → All (λ c. c < 0) (class_of_type t)
+    given zero t h = let e : ty.Int Int ≡ t = cc in subst (λ u. All (λ c. c < 0) (class_of_type u)) e (λ k d h. absurd (omega arith))
+    given (suc i) t h = cc
+
+    enums : (i : ℕ) (t : Ty) → slice_get seven_unit.types.types i ≡ Some t → All (λ e. e < 0) (enum_of_type t)
+    enums zero t h = let e : ty.Int Int ≡ t = cc in subst (λ u. All (λ e. e < 0) (enum_of_type u)) e (λ k d h. absurd (omega arith))
+    enums (suc i) t h = cc
+
+seven_within_limits : WithinLimits seven_unit
+seven_within_limits = record { sizes = sizes; functions = refl; statics = refl; descriptions = refl }
+  where
+    sizes : (t : ℕ) → t < 1 → size [] (type_of (tables_of seven_unit) t) ≤ 2 ^ 22
+    sizes zero h = lit≤ tt
+    sizes (suc t) h = absurd (omega arith)
+
 seven_unit_is_valid : IsValid seven_unit
 seven_unit_is_valid = record {
+  fit = seven_types_fit;
+  limits = seven_within_limits;
   functions = simp (fold-roll-Core Bool Bool (known_step (tables_of seven_unit)) (known_part (tables_of seven_unit)));
   statics = refl;
   file = simp (fold-roll-Core Core Started (core_step (tables_of seven_unit) (signature_of (tables_of seven_unit))) (started_step (tables_of seven_unit) (signature_of (tables_of seven_unit))));

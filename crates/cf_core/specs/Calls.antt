@@ -252,6 +252,10 @@ abbrev pub first_of : List SourceType → SourceType
 first_of [] = void
 first_of (t ∷ ts) = t
 
+-- whether an assignment takes an object and not a reference; a copy is built for it
+abbrev pub takes_object : Special → Bool
+takes_object f = is_class (first_of (parameters f.type))
+
 -- the parameter of an assignment: a reference, or an object that is built as a copy
 abbrev pub assigned_from : Again → Program → Further → Bool → SourceType → Place → Act ℕ
 assigned_from again P further true t from = do
@@ -272,7 +276,7 @@ run_assignment again P f args to t =
 abbrev pub assign_by : Again → Program → Further → Option Special → SourceType → Place → Place → Act (Unit {0})
 assign_by again P further None t from to = copy_over P.classes from to
 assign_by again P further (Some f) t from to = do
-  o ← assigned_from again P further (is_class (first_of (parameters f.type))) t from
+  o ← assigned_from again P further (takes_object f) t from
   run_assignment again P f.name (o ∷ []) to (result f.type)
 
 -- A place is assigned from another, by the class's assignment or memberwise; elements in order, each a full expression where a function

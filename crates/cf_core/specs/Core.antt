@@ -138,7 +138,8 @@ pub record Static : Type 0 where
   pub type : SourceType
   pub start : Core  -- its initialiser; `blank` for a local static that isn't constant, whose initialiser stands in its function
   pub owner : Option Name  -- the function whose local it is: the literals of its initialiser are numbered there (2.5.4, 6.7)
-  pub is_constant : Bool  -- whether it takes effect before any function is entered
+  -- whether it takes effect before any function is entered; a temporary that a static reference binds does nothing of its own, and counts here
+  pub is_constant : Bool
   pub is_shared : Bool
   pub is_local : Bool
 

@@ -1,14 +1,17 @@
 -- The core of a file as plain data, and the meaning of files.
-use Rattle.std.specs.Prelude.{◌≡◌, ℕ, false, true, List, Option, map}
+use Rattle.std.specs.Prelude.{◌≡◌, ℕ, ◌<◌, ◌≤◌, ◌^◌, nat_le, Bool, false, true, List, Option, map, length}
 use Rattle.std.specs.List.{list_all}
 use Rattle.cf_base.specs.World.{Outcome}
 use Rattle.cf_core.specs.declared.unit.CoreFn.{CoreFn}
 use Rattle.cf_core.specs.declared.unit.CoreStatic.{CoreStatic}
 use Rattle.cf_types.specs.Table.{Table}
 use Rattle.cf_classes.specs.ClassTable.{ClassTable}
+use Rattle.cf_classes.specs.Fit.{Fit}
 use Rattle.cf_core.specs.declared.unit.Role.{Role as UnitRole}
 use Rattle.cf_core.specs.declared.unit.Role.TheVariants as role
-use Rattle.cf_core.specs.Types.{gives}
+use Rattle.cf_core.specs.Types.{Name, gives}
+use Rattle.cf_core.specs.Classes.{Class}
+use Rattle.cf_core.specs.Size.{size}
 use Rattle.cf_core.specs.Core.{Role, plain_function, member_function, constructor, destructor, Function, Static, CoreFile}
 use Rattle.cf_core.specs.FromTypes.{Tables, type_of, taking, class_code}
 use Rattle.cf_core.specs.FromClasses.{signature_of, classes_in}
@@ -65,8 +68,20 @@ file_of unit =
       statics = map (static_of tables) unit.statics;
     }
 
--- Only valid cores exist: each number is there in the tables, and the file is valid.
+-- The limits: a type has at most 2 ^ 22 bytes, a link name and the description of a class at most 2 ^ 20.
+abbrev pub is_short : Name → Bool
+is_short name = nat_le (length name) (2 ^ 20)
+
+pub record WithinLimits (unit : Unit) : Type 0 where
+  pub sizes : (t : ℕ) → t < length unit.types.types → size (file_of unit).classes (type_of (tables_of unit) t) ≤ 2 ^ 22
+  pub functions : list_all (λ (f : CoreFn). is_short f.name) unit.functions ≡ true
+  pub statics : list_all (λ (x : CoreStatic). is_short x.name) unit.statics ≡ true
+  pub descriptions : list_all (λ (c : Class). is_short c.description) (file_of unit).classes ≡ true
+
+-- Only valid cores exist: types and classes fit and keep the limits, each number is there in the tables, and the file is valid.
 pub record IsValid (unit : Unit) : Type 0 where
+  pub fit : Fit unit.types unit.classes
+  pub limits : WithinLimits unit
   pub functions : list_all (function_known (tables_of unit)) unit.functions ≡ true
   pub statics : list_all (static_known (tables_of unit)) unit.statics ≡ true
   pub file : valid_file (file_of unit) ≡ true

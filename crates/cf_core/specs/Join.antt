@@ -2,10 +2,10 @@
 use Rattle.std.specs.Prelude.{◌≡◌, ◌≢◌, ℕ, suc, Bool, true, false, ◌&&◌, if◌then◌else◌, List, [], ◌∷◌, ◌++◌, Option, Some, None, codes, decimal, map, filter, Contains, slice_get}
 use Rattle.std.specs.List.{flat_map}
 use Rattle.cf_core.specs.Types.{Name, SourceType, class, array, const, parameters}
-use Rattle.cf_core.specs.Classes.{Class, MemberFunction, class_named, functions_in, copy_in, special_names}
+use Rattle.cf_core.specs.Classes.{Class, MemberFunction, Special, class_named, functions_in, copy_in, assignment_in, special_names}
 use Rattle.cf_core.specs.Subobjects.{Subobject, subobjects, Overrider, final_overrider}
-use Rattle.cf_core.specs.Core.{Core, Target, direct, dispatched, Function, Static, CoreFile, text, static_object, function, function_pointer, call, build, copy}
-use Rattle.cf_core.specs.Calls.{is_library}
+use Rattle.cf_core.specs.Core.{Core, Target, direct, dispatched, Function, Static, CoreFile, text, static_object, function, function_pointer, call, build, copy, assign}
+use Rattle.cf_core.specs.Calls.{is_library, takes_object}
 use Rattle.cf_core.specs.Nodes.{nodes}
 use Rattle.cf_core.specs.Named.{used_by, used_by_role, destructors}
 use Rattle.cf_core.specs.Joined.{own_names, name_in, local_names}
@@ -64,6 +64,17 @@ copies classes (array t n) = copies classes t
 copies classes (const t) = copies classes t
 copies classes t = []
 
+-- the copy constructor that builds the object which an assignment takes
+abbrev pub copies_for_assignment : List Class → SourceType → List Name
+copies_for_assignment classes (class c) = for_object (assignment_in (class_named classes c))
+  where
+    for_object : Option Special → List Name
+    for_object None = []
+    for_object (Some f) = if takes_object f then copies classes (class c) else []
+copies_for_assignment classes (array t n) = copies_for_assignment classes t
+copies_for_assignment classes (const t) = copies_for_assignment classes t
+copies_for_assignment classes t = []
+
 abbrev pub named_target : Target → List Name
 named_target (direct f) = f ∷ []
 named_target (dispatched f) = []
@@ -74,6 +85,7 @@ uses_at classes (static_object n t) = n ∷ []
 uses_at classes (function n t) = n ∷ []
 uses_at classes (function_pointer t) = named_target t
 uses_at classes (copy t e es) = copies classes t
+uses_at classes (assign t a b es) = used_by classes (assign t a b es) ++ copies_for_assignment classes t
 uses_at classes e = used_by classes e
 
 abbrev pub overrider_name : Option Overrider → List Name

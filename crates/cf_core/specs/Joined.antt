@@ -1,5 +1,5 @@
 -- The files of a program joined by link names.
-use Rattle.std.specs.Prelude.{ℕ, suc, Bool, true, false, ◌&&◌, not, if◌then◌else◌, List, [], ◌∷◌, ◌++◌, None, Some, codes, decimal, map, filter, bytes_eq, Option, option_map}
+use Rattle.std.specs.Prelude.{ℕ, suc, Bool, true, false, ◌&&◌, not, if◌then◌else◌, List, [], ◌∷◌, ◌++◌, None, Some, codes, decimal, map, filter, bytes_eq, Option, option_map, is_some}
 use Rattle.std.specs.List.{list_any}
 use Rattle.cf_core.specs.Types.{Name, void, gives}
 use Rattle.cf_core.specs.Classes.{Class}
@@ -167,6 +167,10 @@ owner_or name (Some f) = f
 abbrev pub sets_constant : Static → Bool
 sets_constant x = x.is_constant && not (is_nothing x.start)
 
+-- A local's own initialiser stands in its function, unless it is constant (6.7).
+abbrev pub needs_initialiser : Static → Bool
+needs_initialiser x = not x.is_constant && not (is_some x.owner)
+
 abbrev pub constant_setting : Name → Static → Setting
 constant_setting name x = record { function = owner_or name x.owner; object = x.name; start = x.start }
 
@@ -180,7 +184,7 @@ with_file P k file =
       functions = P.functions ++ new_functions P.functions file.functions;
       statics = P.statics ++ statics;
       constants = P.constants ++ map (constant_setting name) (filter sets_constant statics);
-      initialisers = P.initialisers ++ file_initialiser name (filter (λ (x : Static). not x.is_constant) statics);
+      initialisers = P.initialisers ++ file_initialiser name (filter needs_initialiser statics);
     }
 
 abbrev pub with_files : Program → ℕ → List CoreFile → Program

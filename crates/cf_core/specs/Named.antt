@@ -1,8 +1,8 @@
 -- The virtual functions that a function's core uses without dispatch (10.2, 12.4).
-use Rattle.std.specs.Prelude.{Bool, true, ◌&&◌, if◌then◌else◌, List, [], ◌∷◌, ◌++◌, filter, bytes_eq, option_to_list}
+use Rattle.std.specs.Prelude.{Bool, true, ◌&&◌, if◌then◌else◌, List, [], ◌∷◌, ◌++◌, filter, bytes_eq, option_to_list, Option, Some, None}
 use Rattle.std.specs.List.{flat_map, list_any}
-use Rattle.cf_core.specs.Types.{Name, SourceType, class, array, const, parameters}
-use Rattle.cf_core.specs.Classes.{Class, MemberFunction, class_named, destructor_in, assignment_in, special_names}
+use Rattle.cf_core.specs.Types.{Name, SourceType, class, array, const, parameters, result}
+use Rattle.cf_core.specs.Classes.{Class, MemberFunction, Special, class_named, destructor_in, assignment_in, special_names}
 use Rattle.cf_core.specs.Core.{Core, local_temporary, Role, plain_function, member_function, constructor, destructor, Function, call, build, temporary, declare, bind, delete, delete_array, assign}
 use Rattle.cf_core.specs.Building.{BuiltPart, building}
 use Rattle.cf_core.specs.Calls.{has_virtual_destructor}
@@ -21,6 +21,17 @@ assignments classes (array t n) = assignments classes t
 assignments classes (const t) = assignments classes t
 assignments classes t = []
 
+-- the destructor of the object that an assignment gives, which is a temporary
+abbrev pub assignment_results : List Class → SourceType → List Name
+assignment_results classes (class c) = of_result (assignment_in (class_named classes c))
+  where
+    of_result : Option Special → List Name
+    of_result None = []
+    of_result (Some f) = destructors classes (result f.type)
+assignment_results classes (array t n) = assignment_results classes t
+assignment_results classes (const t) = assignment_results classes t
+assignment_results classes t = []
+
 -- what one node uses: a function that it calls by name, the destructor of what it declares, makes or deletes, the assignment of what it assigns
 abbrev pub used_by : List Class → Core → List Name
 used_by classes (call name t object args) = name ∷ []
@@ -30,7 +41,7 @@ used_by classes (declare i t e) = destructors classes t
 used_by classes (bind (local_temporary i t) e) = destructors classes t
 used_by classes (delete t e) = if has_virtual_destructor classes t then [] else destructors classes t
 used_by classes (delete_array t e) = destructors classes t
-used_by classes (assign t a b es) = assignments classes t
+used_by classes (assign t a b es) = assignments classes t ++ assignment_results classes t
 used_by classes e = []
 
 abbrev pub part_destructors : List Class → List BuiltPart → List Name

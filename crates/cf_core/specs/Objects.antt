@@ -5,7 +5,7 @@ use Rattle.cf_base.specs.Integers.{convert as converted}
 use Rattle.cf_core.specs.Types.{is_class, is_array, result, Name, SourceType, void, integer, array, const, plain, element, same_but_const}
 use Rattle.cf_core.specs.Classes.{Class, fields_of}
 use Rattle.cf_core.specs.Core.{Core, Cores, Part, item, field, Target, direct, dispatched, none, more, Static, build, copy, each, list}
-use Rattle.cf_core.specs.Places.{Route, Place, inner, along, is_scalar, class_of}
+use Rattle.cf_core.specs.Places.{Route, Place, inner, along, bound, is_scalar, class_of}
 use Rattle.cf_core.specs.Store.{Value, Built, Number, Null, Code, FunctionMember, Object, new_object, in_construction, alive, set_life, literal, free_store}
 use Rattle.cf_core.specs.Size.{size}
 use Rattle.cf_core.specs.Run.{object_changed, Literal, Act, ◌>>=◌, ◌>>◌, gives, malformed, undefined, state, changed, done, tick, need, some_or, valid, when, born, declared_object, frame_changed, lists_local, take_heap, null_used, not_alive, outside_array, cast_from_void}
@@ -113,13 +113,18 @@ begin_list p = object_changed p.object (set_life p.route (in_construction [] ([]
 abbrev pub end_list : Place → Act (Unit {0})
 end_list p = object_changed p.object (set_life p.route alive)
 
+abbrev pub count : Cores → ℕ
+count none = 0
+count (more e rest) = suc (count rest)
+
 -- Whether an element of this type is built or copied by a function, as this initialiser builds it: it costs a tick.
 abbrev mutual
   pub costs_tick : Core → List Class → SourceType → Bool
   costs_tick (build name t args) classes u = true
   costs_tick (copy t e es) classes u = has_copy classes t
   costs_tick (each e) classes u = costs_tick e classes (element (plain u))
-  costs_tick (list es rest) classes u = is_array u && (any_costs es classes (element (plain u)) || costs_tick rest classes (element (plain u)))
+  costs_tick (list es rest) classes u =
+      is_array u && (any_costs es classes (element (plain u)) || (nat_lt (count es) (bound u) && costs_tick rest classes (element (plain u))))
   costs_tick e classes u = false
 
   pub any_costs : Cores → List Class → SourceType → Bool
@@ -141,10 +146,6 @@ new_storage P many t go = do
   let charge = size P.classes t + 8
   fits ← take_heap charge
   when fits (born (new_object t (free_store many charge)) >>= go) (gives Null)
-
-abbrev pub count : Cores → ℕ
-count none = 0
-count (more e rest) = suc (count rest)
 
 -- a call through a pointer, to a member function on an object; null is called after the arguments are there (5.2.2, 5.5)
 abbrev pub run_target : Again → Program → Target → Place → List ℕ → Option Place → Act Value

@@ -1,13 +1,13 @@
 -- What types the nodes of expressions and initialisers have, and what types their parts must have (5, 8.4, 12).
-use Rattle.std.specs.Prelude.{ℕ, Bool, true, false, ◌&&◌, ◌||◌, not, nat_le, if◌then◌else◌, List, [], ◌∷◌, pos, Option, Some, None, slice_get, is_some, length, bytes_eq}
+use Rattle.std.specs.Prelude.{ℕ, Bool, true, false, ◌&&◌, ◌||◌, not, nat_le, if◌then◌else◌, List, [], ◌∷◌, pos, Option, Some, None, slice_get, is_some, length, find, bytes_eq}
 use Rattle.cf_base.specs.declared.kind.Kind.TheVariants.{Char, SChar, UChar, Int}
 use Rattle.cf_core.specs.Types.{Name, SourceType, void, integer, class, pointer, reference, array, data_member, function_member, const, plain, same_but_const, parameters, result, is_class, is_void}
 use Rattle.cf_core.specs.Classes.{Special, MemberFunction, class_named, fields_of, declared, copy_in, assignment_in}
 use Rattle.cf_core.specs.Subobjects.{Path, class_at}
-use Rattle.cf_core.specs.Core.{Core, Cores, MaybeCore, Target, direct, dispatched, Change, Holder, no_temporary, local_temporary, static_temporary, none, more, absent, given, number, text, this, local, static_object, function, member, read, address, dereference, decay, index, convert, up, down, from_void, to_member, data_pointer, function_pointer, through, operate, unary, logical_not, logical_and, logical_or, pointer_operate, conditional, comma, store, update, step, assign, temporary, call, virtual_call, pointer_call, new, new_array, delete, delete_array, build, copy, each, list, string, bind, zeros, blank}
+use Rattle.cf_core.specs.Core.{Core, Cores, MaybeCore, Static, Target, direct, dispatched, Change, Holder, no_temporary, local_temporary, static_temporary, none, more, absent, given, number, text, this, local, static_object, function, member, read, address, dereference, decay, index, convert, up, down, from_void, to_member, data_pointer, function_pointer, through, operate, unary, logical_not, logical_and, logical_or, pointer_operate, conditional, comma, store, update, step, assign, temporary, call, virtual_call, pointer_call, new, new_array, delete, delete_array, build, copy, each, list, string, bind, zeros, blank}
 use Rattle.cf_core.specs.Places.{is_scalar, class_of}
-use Rattle.cf_core.specs.Calls.{behind_first, first_of}
-use Rattle.cf_core.specs.Typing.{Scope, Typing, no_typing, allowed, is_function, same_type, of_start, of_value, of_number, of_place, of_name, of_result, is_integer, is_condition, is_expression, pointed, points_to_object, is_class_place, operated_type, is_right_operand, pointer_operated, changes, either, converts}
+use Rattle.cf_core.specs.Calls.{behind_first, takes_object}
+use Rattle.cf_core.specs.Typing.{Scope, Typing, no_typing, allowed, is_function, same_type, of_start, of_value, null_if, is_zero, of_number, of_place, of_name, of_result, is_integer, is_condition, is_expression, pointed, points_to_object, is_class_place, operated_type, is_right_operand, pointer_operated, changes, either, converts}
 
 module _ (scope : Scope) where
   abbrev pub field_type : Name → ℕ → Option SourceType
@@ -133,16 +133,21 @@ module _ (scope : Scope) where
 
   abbrev pub by_value : Option Special → Bool
   by_value None = false
-  by_value (Some f) = is_class (first_of (parameters f.type))
+  by_value (Some f) = takes_object f
 
   abbrev pub assigns_with : SourceType → List Typing → Bool
   assigns_with t xs = if by_value (assignment_in (class_named scope.classes (built_type t))) then copies_with t xs else fit [] xs
+
+  -- the static object that a reference binds as a temporary (8.4.3)
+  abbrev pub holds_for : Option Static → SourceType → Bool
+  holds_for None t = false
+  holds_for (Some s) t = same_but_const s.type t
 
   -- what a reference binds
   abbrev pub binds : Holder → Typing → SourceType → Bool
   binds no_temporary x (reference t) = same_type x.place t
   binds (local_temporary i u) x (reference t) = same_but_const u t && same_type (slice_get scope.locals i) u && x.start u
-  binds (static_temporary name) x (reference t) = x.start t
+  binds (static_temporary name) x (reference t) = holds_for (find (λ (s : Static). bytes_eq s.name name) scope.statics) t && x.start t
   binds h x (const t) = binds h x t
   binds h x t = false
 
@@ -212,10 +217,11 @@ module _ (scope : Scope) where
   named_class None = no_typing
   named_class (Some c) = of_place (class c)
 
-  abbrev pub is_aggregate : SourceType → Bool
-  is_aggregate (array t n) = true
-  is_aggregate (const t) = is_aggregate t
-  is_aggregate t = is_class t
+  -- what is assigned memberwise or by its class's function: an object of any type, also one of a generated assignment's members (12.8)
+  abbrev pub is_assigned : SourceType → Bool
+  is_assigned (array t n) = true
+  is_assigned (const t) = is_assigned t
+  is_assigned t = is_class t || is_scalar t
 
   abbrev pub starts_class : (List Typing → Bool) → List Typing → SourceType → Bool
   starts_class fits_all xs t = is_class t && is_some (class_named scope.classes (class_of t)) && fits_all xs
@@ -239,7 +245,7 @@ module _ (scope : Scope) where
     typing (dereference e) = pointed_place (pointed (typing e).type)
     typing (decay e) = decayed_type (typing e).place
     typing (index a b) = indexed_type (typing a) (typing b)
-    typing (convert t e) = allowed (converts (plain t) (typing e)) (of_value (plain t))
+    typing (convert t e) = allowed (converts (plain t) (typing e)) (null_if (is_zero (typing e).number) (of_value (plain t)))
     typing (up path e) = moved_to (typing e) (λ c. class_at scope.classes c path)
     typing (down c path e) = moved_to (typing e) (derived_of c path)
     typing (from_void t e) = allowed (void_pointer (pointed (typing e).type)) (of_value (pointer t))
@@ -259,7 +265,7 @@ module _ (scope : Scope) where
     typing (update a change b) = changed_in_place (typing a).place (changes change (typing a).place (typing b))
     typing (step is_postfix change e) = stepped is_postfix change (typing e).place
     typing (assign t a b es) =
-        allowed (is_aggregate t && same_type (typing a).place t && same_type (typing b).place t && assigns_with t (typings es)) (of_place t)
+        allowed (is_assigned t && same_type (typing a).place t && same_type (typing b).place t && assigns_with t (typings es)) (of_place t)
     typing (temporary t e) = allowed ((typing e).start t) (of_place t)
     typing (call name t object es) =
         allowed (is_function t && on_object (typing_maybe object) && fit (parameters t) (typings es)) (of_result (result t))

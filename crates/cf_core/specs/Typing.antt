@@ -10,12 +10,13 @@ use Rattle.cf_core.specs.declared.operators.PointerOperator.{PointerOperator}
 use Rattle.cf_core.specs.declared.operators.PointerOperator.TheVariants as ptr
 use Rattle.cf_core.specs.Types.{Name, SourceType, void, integer, enumeration, class, pointer, reference, takes, gives, data_member, function_member, const, plain, same_but_const, is_class, is_void}
 use Rattle.cf_core.specs.Classes.{Class}
-use Rattle.cf_core.specs.Core.{Change, arithmetic, moved}
+use Rattle.cf_core.specs.Core.{Static, Change, arithmetic, moved}
 use Rattle.cf_core.specs.Places.{is_scalar}
 
 -- what the nodes of a function may name
 pub record Scope : Type 0 where
   pub classes : List Class
+  pub statics : List Static  -- the file's static objects
   pub locals : List SourceType  -- its parameters and then its locals
   pub this : Option Name  -- the class whose object a member function is called on
 
@@ -24,12 +25,13 @@ pub record Typing : Type 0 where
   pub place : Option SourceType  -- of the place that it is
   pub type : Option SourceType  -- of its value, where the node alone tells it
   pub number : Option ℤ  -- the integer constant that it is
+  pub is_null : Bool  -- whether it is the constant 0 as a pointer or pointer to member
   pub value : SourceType → Bool  -- whether it is a value of this type
   pub member : Name → Option SourceType  -- of the data member that it points to in this class
   pub start : SourceType → Bool  -- whether it initialises a place of this type
 
 abbrev pub no_typing : Typing
-no_typing = record { place = None; type = None; number = None; value = λ t. false; member = λ c. None; start = λ t. false }
+no_typing = record { place = None; type = None; number = None; is_null = false; value = λ t. false; member = λ c. None; start = λ t. false }
 
 abbrev pub allowed : Bool → Typing → Typing
 allowed true x = x
@@ -68,6 +70,10 @@ of_value t = record no_typing {
   member = member_in t;
   start = λ u. is_scalar u && same_but_const t u;
 }
+
+-- a conversion of the constant 0 gives a null pointer
+abbrev pub null_if : Bool → Typing → Typing
+null_if b x = record x { is_null = b }
 
 -- an integer constant is of each integer type that holds it
 abbrev pub holds_number : ℤ → SourceType → Bool
@@ -162,6 +168,16 @@ is_right_operand op k x = if is_shift op then is_integer x else x.value (integer
 abbrev pub pointers_alike : Typing → Typing → Bool
 pointers_alike x y = scalar_type x.type && not (integral_type x.type) && elim x.type [ None ↦ false | Some t ↦ y.value t ]
 
+-- a pointer to a function, or to a member function, is compared with 0 alone
+abbrev pub compares_with_null : Option SourceType → Bool
+compares_with_null None = false
+compares_with_null (Some (pointer t)) = is_function t
+compares_with_null (Some (function_member c t)) = true
+compares_with_null (Some t) = false
+
+abbrev pub may_be_equal : Typing → Typing → Bool
+may_be_equal x y = pointers_alike x y && (not (compares_with_null x.type) || x.is_null || y.is_null)
+
 abbrev pub pointer_operated : PointerOperator → Typing → Typing → Typing
 pointer_operated ptr.Add x y =
     if points_to_object x && is_integer y then moved_type x.type else (if is_integer x && points_to_object y then moved_type y.type else no_typing)
@@ -170,7 +186,9 @@ pointer_operated ptr.Add x y =
     moved_type None = no_typing
     moved_type (Some t) = of_value t
 pointer_operated ptr.Subtract x y = allowed (points_to_object x && is_integer y) (elim x.type [ None ↦ no_typing | Some t ↦ of_value t ])
-pointer_operated op x y = allowed (pointers_alike x y) (of_value (integer Int))
+pointer_operated ptr.Equal x y = allowed (may_be_equal x y) (of_value (integer Int))
+pointer_operated ptr.NotEqual x y = allowed (may_be_equal x y) (of_value (integer Int))
+pointer_operated op x y = allowed (points_to_object x && pointers_alike x y) (of_value (integer Int))
 
 -- the change of a scalar in place by an operand (5.17)
 abbrev pub changes : Change → Option SourceType → Typing → Bool

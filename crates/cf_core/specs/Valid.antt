@@ -96,7 +96,6 @@ constant_starts (Some s) x = x.start s.type
 -- what a function's statements may name and give
 pub record Body : Type 0 where
   pub scope : Scope
-  pub statics : List Static
   pub parameters : ℕ
   pub result : SourceType
   pub is_main : Bool
@@ -119,7 +118,7 @@ module _ (f : Body) where
     fits breaks continues (sequence es) = all_fit breaks continues es
     fits breaks continues (declare i t e) =
         nat_le f.parameters i && same_type (slice_get f.scope.locals i) t && is_complete f.scope.classes t && (typing f.scope e).start t
-    fits breaks continues (once name e) = constant_starts (find (λ (x : Static). bytes_eq x.name name) f.statics) (typing f.scope e)
+    fits breaks continues (once name e) = constant_starts (find (λ (x : Static). bytes_eq x.name name) f.scope.statics) (typing f.scope e)
     fits breaks continues (branch c a b) = is_condition (typing f.scope c) && fits breaks continues a && fits_maybe breaks continues b
     fits breaks continues (loop how c e s) = condition_fits c && expression_fits e && fits true true s
     fits breaks continues (switch e es) =
@@ -172,8 +171,7 @@ role_fits classes (Some c) = is_some (class_named classes c)
 
 abbrev pub body_of : CoreFile → Function → Body
 body_of file f = record {
-  scope = record { classes = file.classes; locals = parameters f.type ++ f.locals; this = class_of_role f.role };
-  statics = file.statics;
+  scope = record { classes = file.classes; statics = file.statics; locals = parameters f.type ++ f.locals; this = class_of_role f.role };
   parameters = length (parameters f.type);
   result = result f.type;
   is_main = bytes_eq f.name (codes "__main");
@@ -199,7 +197,7 @@ abbrev pub static_fits : CoreFile → Static → Bool
 static_fits file x =
     is_complete file.classes x.type
     && ((is_some x.owner && is_nothing x.start)
-    || (typing (record { classes = file.classes; locals = []; this = None }) x.start).start x.type)
+    || (typing (record { classes = file.classes; statics = file.statics; locals = []; this = None }) x.start).start x.type)
     && owner_fits file x.owner
 
 -- The core of a file is valid.

@@ -43,7 +43,8 @@ pub struct CoreStatic {
     pub start: Core,
     /// The function whose local it is, by its link name: the literals of its initialiser are numbered there.
     pub owner: Option<Name>,
-    /// Whether it takes effect before any function is entered (8.4).
+    /// Whether it takes effect before any function is entered (8.4). A temporary that a static reference binds is built by that
+    /// reference's initialiser: it has no initialiser of its own, and counts as constant.
     pub is_constant: bool,
     pub is_shared: bool,
     pub is_local: bool,
