@@ -1,0 +1,4 @@
+mod Acts
+mod Steps
+pub mod StoreLaws
+pub mod ThenLaws

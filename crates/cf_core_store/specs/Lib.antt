@@ -1,0 +1,5 @@
+pub mod Acts
+pub mod Answer
+pub mod Store
+pub mod Then
+pub mod Values

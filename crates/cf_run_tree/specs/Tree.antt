@@ -1,0 +1,98 @@
+-- What shapes, trees and programs are as types, cores and programs of the meaning. The numbers of types and enumerations are those of a file's tables.
+use Rattle.std.specs.Prelude.{ℕ, Bool, true, false, List, [], ◌∷◌, Option, None, map}
+use Rattle.cf_classes.specs.LinkName.{scope_code, enum_names}
+use Rattle.cf_core.specs.Types.{SourceType, void, integer, enumeration, pointer, reference, gives, const}
+use Rattle.cf_core.specs.FromTypes.{Tables, type_of, taking}
+use Rattle.cf_core.specs.Core.{Core, plain_function, Function, Change, arithmetic, no_temporary, absent, number, local, read, address, dereference, convert, operate, unary, logical_not, logical_and, logical_or, conditional, comma, store, update, step, call, bind, blank, full, block, sequence, declare, branch, loop, switch, case_label, default_label, leave, continue, give}
+use Rattle.cf_core.specs.View.{listed, maybe}
+use Rattle.cf_core.specs.Calls as meaning
+use Rattle.cf_run_tree.specs.declared.shape.Form.{Form}
+use Rattle.cf_run_tree.specs.declared.shape.Form.TheVariants as form
+use Rattle.cf_run_tree.specs.declared.shape.Shape.{Shape}
+use Rattle.cf_run_tree.specs.declared.node.Operation.{Operation}
+use Rattle.cf_run_tree.specs.declared.node.Unary.{Unary}
+use Rattle.cf_run_tree.specs.declared.node.Unary.TheVariants as one
+use Rattle.cf_run_tree.specs.declared.node.Binary.{Binary}
+use Rattle.cf_run_tree.specs.declared.node.Binary.TheVariants as two
+use Rattle.cf_run_tree.specs.declared.node.Node.{Node, fold-Node}
+use Rattle.cf_run_tree.specs.declared.node.Node.TheOpen.{Node-F}
+use Rattle.cf_run_tree.specs.declared.program.Signature.{Signature}
+use Rattle.cf_run_tree.specs.declared.program.RunFn.{RunFn}
+use Rattle.cf_run_tree.specs.declared.program.Program.{Program}
+
+abbrev pub change_of : Operation → Change
+change_of o = arithmetic o.op o.at o.to
+
+abbrev pub kept : Bool → SourceType → SourceType
+kept true t = const t
+kept false t = t
+
+module _ (tables : Tables) where
+  abbrev pub form_type : Form → SourceType
+  form_type form.Void = void
+  form_type (form.Integer k) = integer k
+  form_type (form.Enumeration e) = enumeration (scope_code (enum_names tables.classes e))
+  form_type (form.Pointer t) = pointer (type_of tables t)
+  form_type (form.Reference t) = reference (type_of tables t)
+
+  abbrev pub shape_type : Shape → SourceType
+  shape_type s = kept s.is_const (form_type s.form)
+
+  abbrev pub signature_type : Signature → SourceType
+  signature_type f = taking (map shape_type f.params) (gives (shape_type f.result) false)
+
+  abbrev pub applied : Unary → Core → Core
+  applied one.Read e = read e
+  applied one.Address e = address e
+  applied one.Dereference e = dereference e
+  applied (one.Convert s) e = convert (shape_type s) e
+  applied (one.Sign op k) e = unary op k e
+  applied one.Not e = logical_not e
+  applied (one.Increment is_postfix o) e = step is_postfix (change_of o) e
+
+  abbrev pub joined : Binary → Core → Core → Core
+  joined (two.Operate op k) a b = operate op k a b
+  joined two.Store a b = store a b
+  joined (two.Update o) a b = update a (change_of o) b
+
+  abbrev pub core_step : Node-F Core → Core
+  core_step (Node-F.Number z) = number z
+  core_step (Node-F.Local i) = local i
+  core_step (Node-F.Apply op e) = applied op e
+  core_step (Node-F.Join op a b) = joined op a b
+  core_step (Node-F.And a b) = logical_and a b
+  core_step (Node-F.Or a b) = logical_or a b
+  core_step (Node-F.Conditional c a b) = conditional c a b
+  core_step (Node-F.Comma es) = comma (listed es)
+  core_step (Node-F.Call name f es) = call name (signature_type f) absent (listed es)
+  core_step (Node-F.Bind e) = bind no_temporary e
+  core_step Node-F.Blank = blank
+  core_step (Node-F.Full e) = full e
+  core_step (Node-F.Block es) = block (listed es)
+  core_step (Node-F.Sequence es) = sequence (listed es)
+  core_step (Node-F.Declare i s e) = declare i (shape_type s) e
+  core_step (Node-F.If c a b) = branch c a (maybe b)
+  core_step (Node-F.Loop f c e s) = loop f (maybe c) (maybe e) s
+  core_step (Node-F.Switch e es) = switch e (listed es)
+  core_step (Node-F.Case z) = case_label z
+  core_step Node-F.Default = default_label
+  core_step Node-F.Break = leave
+  core_step Node-F.Continue = continue
+  core_step (Node-F.Return e) = give (maybe e)
+
+  abbrev pub core_of : Node → Core
+  core_of = fold-Node Core core_step
+
+  abbrev pub function_of : RunFn → Function
+  function_of f = record {
+    name = f.name;
+    role = plain_function;
+    type = signature_type f.signature;
+    locals = map shape_type f.locals;
+    body = core_of f.body;
+    is_shared = f.is_shared;
+    is_local = f.is_local;
+  }
+
+  abbrev pub program_of : Program → meaning.Program
+  program_of p = record { classes = []; functions = map function_of p.functions; statics = []; constants = []; initialisers = [] }

@@ -1,0 +1,11 @@
+//! The programs that the plain program runs: functions over scalars, whose trees have the forms that it knows. In `specs/` stands
+//! what each tree is as a core.
+#![tactic(auto)]
+
+mod node;
+mod program;
+mod shape;
+
+pub use node::{Binary, Node, Operation, Unary};
+pub use program::{Program, RunFn, Signature};
+pub use shape::{Form, Shape};

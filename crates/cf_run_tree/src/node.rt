@@ -1,0 +1,84 @@
+use crate::program::Signature;
+use crate::shape::Shape;
+use cf_base::{Arith, Boxed, Items, Kind, Name};
+use cf_core::{LoopForm, UnaryOperator};
+
+/// An operator at one integer type, and the type that its value goes back to (5.17).
+#[derive(Clone, Copy, Debug, PartialEq, Eq)]
+pub struct Operation {
+    pub op: Arith,
+    pub at: Kind,
+    pub to: Kind,
+}
+
+/// What is made of one operand.
+#[derive(Clone, Copy, Debug, PartialEq, Eq)]
+pub enum Unary {
+    /// The value of a scalar place (4.1).
+    Read,
+    /// A pointer to a place (5.3).
+    Address,
+    /// The place that a pointer points to (5.3).
+    Dereference,
+    /// To an integer type, an enumeration, from 0 to a pointer, or to void (4).
+    Convert(Shape),
+    Sign(UnaryOperator, Kind),
+    Not,
+    /// `++` and `--`; behind the operand, where true, they give the value before (5.2.5, 5.3).
+    Increment(bool, Operation),
+}
+
+/// What is made of two operands, the left one first.
+#[derive(Clone, Copy, Debug, PartialEq, Eq)]
+pub enum Binary {
+    /// On operands of a promoted type (5.6 to 5.13).
+    Operate(Arith, Kind),
+    /// A value to a scalar place (5.17).
+    Store,
+    /// `op=` (5.17).
+    Update(Operation),
+}
+
+/// An expression, an initialiser or a statement.
+#[derive(Drop)]
+pub enum Node {
+    // expressions (5)
+    Number(i64),
+    /// A parameter or local; parameters come first.
+    Local(u32),
+    Apply(Unary, Boxed<Node>),
+    Join(Binary, Boxed<Node>, Boxed<Node>),
+    And(Boxed<Node>, Boxed<Node>),
+    Or(Boxed<Node>, Boxed<Node>),
+    Conditional(Boxed<Node>, Boxed<Node>, Boxed<Node>),
+    Comma(Items<Node>),
+    /// Of a function by its link name, with the type that it is declared with (5.2.2).
+    Call(Name, Signature, Items<Node>),
+    // initialisers (8.4)
+    /// A reference, to a place (8.4.3).
+    Bind(Boxed<Node>),
+    /// Nothing is done.
+    Blank,
+    // statements (6)
+    Full(Boxed<Node>),
+    Block(Items<Node>),
+    /// Statements in the scope at hand (6.5.3).
+    Sequence(Items<Node>),
+    /// A local of this number, its type and its initialiser (6.7).
+    Declare(u32, Shape, Boxed<Node>),
+    If(Boxed<Node>, Boxed<Node>, Option<Boxed<Node>>),
+    /// The condition, the step and the body (6.5).
+    Loop(
+        LoopForm,
+        Option<Boxed<Node>>,
+        Option<Boxed<Node>>,
+        Boxed<Node>,
+    ),
+    /// The body holds the labels among its statements (6.4.2).
+    Switch(Boxed<Node>, Items<Node>),
+    Case(i64),
+    Default,
+    Break,
+    Continue,
+    Return(Option<Boxed<Node>>),
+}

@@ -1,0 +1,22 @@
+use cf_base::Kind;
+use cf_types::TyId;
+
+/// What a type is, const aside.
+#[derive(Clone, Copy, Debug, PartialEq, Eq)]
+pub enum Form {
+    Void,
+    Integer(Kind),
+    /// The enumeration of this number.
+    Enumeration(u32),
+    /// A pointer to this type.
+    Pointer(TyId),
+    /// A reference to this type.
+    Reference(TyId),
+}
+
+/// A type that is `void` or a scalar (3.6.1).
+#[derive(Clone, Copy, Debug, PartialEq, Eq)]
+pub struct Shape {
+    pub is_const: bool,
+    pub form: Form,
+}
