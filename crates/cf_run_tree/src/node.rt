@@ -68,12 +68,7 @@ pub enum Node {
     Declare(u32, Shape, Boxed<Node>),
     If(Boxed<Node>, Boxed<Node>, Option<Boxed<Node>>),
     /// The condition, the step and the body (6.5).
-    Loop(
-        LoopForm,
-        Option<Boxed<Node>>,
-        Option<Boxed<Node>>,
-        Boxed<Node>,
-    ),
+    Loop(LoopForm, Option<Boxed<Node>>, Option<Boxed<Node>>, Boxed<Node>),
     /// The body holds the labels among its statements (6.4.2).
     Switch(Boxed<Node>, Items<Node>),
     Case(i64),
