@@ -10,6 +10,7 @@ use Rattle.cf_core.specs.Classes.{Class}
 use Rattle.cf_core.specs.Core.{Role, plain_function, constructor, destructor, arithmetic}
 use Rattle.cf_core.proofs.Sample.{int, function_type, Shown, shown_of, built_class, nonvirtual_function, virtual_function}
 use Rattle.cf_plain.specs.Plain.{Action, Plain, Plains, PlainFunction, nothing, more, act, set, branch, loop, leave, continue, give, number, this, local, member, read, operate, truth, store, declare, first, finish, call, build, changed, is_reached, reach, finish_static, static_object, new, delete, dereference, PlainStatic, PlainFile}
+use Rattle.cf_plain.specs.Join.{defined_names, uses_in}
 use Rattle.cf_plain.specs.Joined.{files_mean}
 use Rattle.cf_plain.specs.Named.{Named}
 use Rattle.cf_plain.specs.Program.{PlainProgram, PlainMean}
@@ -215,3 +216,15 @@ two_files =
 files_in_order : shown_of (files_mean two_files [] 0 9 20) ≡ Some (record { end = Ended (pos 2); out = codes "c1c2d2d1" })
 unfolding digits
 files_in_order = refl
+
+files_define :
+    defined_names two_files
+    ≡ codes "__ct__1TFi" ∷ codes "__dt__1TFv" ∷ codes "t" ∷ codes "f__Fv__u2" ∷ codes "__main" ∷ codes "__ct__1TFi" ∷ codes "__dt__1TFv" ∷ codes "s" ∷ []
+unfolding digits
+files_define = refl
+
+-- struct A{virtual ~A();};A a; uses its destructor as an object and in its table
+destructor_is_used :
+    uses_in (record { classes = A_class; functions = []; statics = record (static_T (codes "a") 1) { type = class (codes "1A"); start = nothing } ∷ [] })
+    ≡ codes "__dt__1AFv" ∷ codes "__dt__1AFv" ∷ []
+destructor_is_used = refl

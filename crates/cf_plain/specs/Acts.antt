@@ -1,12 +1,12 @@
 -- What an action does and gives, in the words of the core's meaning.
-use Rattle.std.specs.Prelude.{ℕ, Bool, true, false, not, nat_le, length, List, [], ◌∷◌, ℤ, pos, zero, Option, Some, None, bytes_eq}
+use Rattle.std.specs.Prelude.{ℕ, true, false, not, nat_le, length, List, [], ◌∷◌, Option, Some, None, bytes_eq}
 use Rattle.std.specs.List.{list_any}
-use Rattle.cf_core.specs.Types.{Name, SourceType, is_array, array, is_class}
+use Rattle.cf_core.specs.Types.{is_array, array}
 use Rattle.cf_core.specs.Core.{item}
 use Rattle.cf_core.specs.Places.{Place, inner}
-use Rattle.cf_core.specs.Store.{Value, Nothing, Number, Null, At, Code, DataMember, FunctionMember}
-use Rattle.cf_core.specs.Run.{Act, ◌>>=◌, ◌>>◌, gives, malformed, state, changed, done, some_or, valid, object_changed, gone}
-use Rattle.cf_core.specs.Access.{place_type, place_has, used, place_of, number_of, name_field, read_place, write_place, followed, copy_first, copy_over, fill_zeros}
+use Rattle.cf_core.specs.Store.{Value, Nothing, Number, At, Code, DataMember, FunctionMember}
+use Rattle.cf_core.specs.Run.{Act, ◌>>=◌, ◌>>◌, gives, malformed, state, changed, some_or, valid, object_changed, gone}
+use Rattle.cf_core.specs.Access.{place_type, place_has, used, place_of, name_field, read_place, write_place, followed, copy_first, copy_over, fill_zeros}
 use Rattle.cf_core.specs.Pointers.{truth_value, pointer_op, from_void_value, down_value}
 use Rattle.cf_core.specs.Building.{dispatch, up_value, part_place, has_part}
 use Rattle.cf_core.specs.Calls.{Program, Again, root, run_named, name_function, finish_static as to_be_destroyed, destroy, delete_value}

@@ -1,9 +1,8 @@
 -- The plain units of a program joined by link names, as cores are.
-use Rattle.std.specs.Prelude.{ℕ, suc, Bool, false, not, ◌&&◌, if◌then◌else◌, List, [], ◌∷◌, ◌++◌, Option, Some, None, codes, map, filter, bytes_eq, is_some, option_map}
-use Rattle.std.specs.List.{list_any, flat_map}
+use Rattle.std.specs.Prelude.{ℕ, suc, Bool, false, not, ◌&&◌, List, [], ◌∷◌, ◌++◌, Option, codes, map, filter, bytes_eq, is_some, option_map}
+use Rattle.std.specs.List.{list_any}
 use Rattle.cf_base.specs.World.{Outcome}
 use Rattle.cf_core.specs.Types.{Name, SourceType, void, gives}
-use Rattle.cf_core.specs.Classes.{Class}
 use Rattle.cf_core.specs.Core.{plain_function}
 use Rattle.cf_core.specs.Joined.{renamed_target, in_file, name_in, new_classes, owner_or}
 use Rattle.cf_plain.specs.Plain.{Action, static_object, function, function_pointer, is_reached, reach, finish_static, call, build, Plain, Plains, PlainParts, act, set, branch, loop, switch, parts, nothing, more, no_parts, part, PlainFunction, PlainStatic, PlainFile}

@@ -1,4 +1,5 @@
 pub mod Acts
+pub mod Join
 pub mod Joined
 pub mod Named
 pub mod Numbers

@@ -1,5 +1,5 @@
 -- Whether the numbers of types and classes in a file's plain statements are there in its tables.
-use Rattle.std.specs.Prelude.{ℕ, Bool, true, false, ◌&&◌, List}
+use Rattle.std.specs.Prelude.{Bool, true, ◌&&◌, List}
 use Rattle.std.specs.List.{list_all}
 use Rattle.cf_core.specs.FromTypes.{Tables}
 use Rattle.cf_core.specs.Numbers.{has_type, has_class, has_member, has_step, has_target, has_part, role_known}

@@ -1,15 +1,14 @@
 -- The meaning of a program of plain units: its trace and end, from an input, a heap limit, a depth limit and a bound of ticks.
-use Rattle.std.specs.Prelude.{ℕ, suc, Bool, not, ◌&&◌, List, [], ◌∷◌, ◌++◌, Option, Some, None, codes, map, is_some}
-use Rattle.std.specs.List.{flat_map}
+use Rattle.std.specs.Prelude.{ℕ, suc, List, [], ◌++◌, Option, None, codes, map}
 use Rattle.cf_base.specs.World.{Outcome, and_then, world_at}
-use Rattle.cf_core.specs.Types.{Name, void, gives as giving}
+use Rattle.cf_core.specs.Types.{Name}
 use Rattle.cf_core.specs.Classes.{Class}
-use Rattle.cf_core.specs.Core.{Static, blank, plain_function}
+use Rattle.cf_core.specs.Core.{Static, blank}
 use Rattle.cf_core.specs.Run.{Act, ◌>>=◌, ◌>>◌, done, for_all, frame_changed}
 use Rattle.cf_core.specs.Calls.{Program, enter, run_named}
 use Rattle.cf_core.specs.Program.{first_state, status_of, run_outcome, ended_run}
 use Rattle.std.specs.Prelude.{ℤ}
-use Rattle.cf_plain.specs.Plain.{Plains, nothing, PlainFunction, PlainStatic}
+use Rattle.cf_plain.specs.Plain.{Plains, PlainFunction, PlainStatic}
 use Rattle.cf_plain.specs.Acts.{no_registers}
 use Rattle.cf_plain.specs.Running.{Again, calls, header, all, runs}
 

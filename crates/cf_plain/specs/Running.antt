@@ -1,11 +1,11 @@
 -- What plain statements and functions do.
-use Rattle.std.specs.Prelude.{ℕ, zero, suc, Bool, true, false, ◌&&◌, ◌||◌, not, List, [], ◌∷◌, ℤ, pos, int_le, Option, Some, None, find, bytes_eq}
+use Rattle.std.specs.Prelude.{ℕ, zero, suc, Bool, true, false, ◌&&◌, ◌||◌, not, List, ℤ, pos, int_le, Option, Some, None, find, bytes_eq}
 use Rattle.cf_base.specs.Event.{Ticks}
 use Rattle.cf_base.specs.World.{Stops}
 use Rattle.cf_core.specs.Types.{Name, is_class, result as result_type}
 use Rattle.cf_core.specs.Core.{Function, Part, within, blank}
 use Rattle.cf_core.specs.Store.{Value, Nothing}
-use Rattle.cf_core.specs.Run.{Act, ◌>>=◌, ◌>>◌, gives, malformed, state, done, tick, some_or, when}
+use Rattle.cf_core.specs.Run.{Act, ◌>>=◌, ◌>>◌, gives, malformed, state, tick, some_or, when}
 use Rattle.cf_core.specs.Access.{number_of}
 use Rattle.cf_core.specs.Building.{is_whole}
 use Rattle.cf_core.specs.Calls as core
@@ -13,7 +13,7 @@ use Rattle.cf_core.specs.Calls.{Program}
 use Rattle.cf_core.specs.Subobjects.{virtual}
 use Rattle.cf_core.specs.Program.{begins, ends, unbuilds, ended_well}
 use Rattle.cf_plain.specs.Plain.{Register, Plain, Plains, PlainParts, PlainFunction, act, set, branch, loop, switch, case_label, default_label, leave, continue, give, parts, nothing, more, no_parts, part}
-use Rattle.cf_plain.specs.Acts.{Registers, no_registers, held, used_in, acts}
+use Rattle.cf_plain.specs.Acts.{Registers, no_registers, used_in, acts}
 
 -- how a statement ends, and what the registers hold then
 pub data Flow : Type 0 where

@@ -1,10 +1,10 @@
 -- Validity of the plain statements of a file: what is numbered is there, locals have the types that they are used with, and each way out of a loop or
 -- switch stands in one.
-use Rattle.std.specs.Prelude.{ℕ, Bool, true, false, ◌&&◌, ◌||◌, not, nat_lt, ℤ, int_le, List, [], ◌∷◌, ◌++◌, map, length, Option, Some, None, slice_get, is_some, codes}
-use Rattle.std.specs.List.{list_any, list_all}
-use Rattle.cf_core.specs.Types.{Name, SourceType, type_eq, parameters, result as result_type}
+use Rattle.std.specs.Prelude.{ℕ, Bool, true, false, ◌&&◌, ◌||◌, not, nat_lt, List, [], ◌∷◌, ◌++◌, map, length, Option, Some, None, slice_get}
+use Rattle.std.specs.List.{list_all}
+use Rattle.cf_core.specs.Types.{SourceType, type_eq, parameters, result as result_type}
 use Rattle.cf_core.specs.Classes.{Class}
-use Rattle.cf_core.specs.Core.{Part, Role, plain_function, member_function, constructor, destructor}
+use Rattle.cf_core.specs.Core.{Role, constructor}
 use Rattle.cf_core.specs.Places.{part_eq}
 use Rattle.cf_core.specs.Building.{BuiltPart, building}
 use Rattle.cf_core.specs.Typing.{is_function}
