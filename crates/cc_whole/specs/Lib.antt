@@ -1,7 +1,15 @@
 pub mod Build
+pub mod Fault
+pub mod Known
+pub mod Landmarks
+pub mod Numbers
 pub mod Operators
 pub mod Plain
 pub mod Spells
 pub mod SpellsItems
 pub mod SpellsTypes
+pub mod Statements
 pub mod Text
+pub mod Typed
+pub mod Types
+pub mod Valid
