@@ -5,6 +5,7 @@ pub mod Landmarks
 pub mod Numbers
 pub mod Operators
 pub mod Plain
+pub mod Spellable
 pub mod Spells
 pub mod SpellsItems
 pub mod SpellsTypes
@@ -12,4 +13,6 @@ pub mod Statements
 pub mod Text
 pub mod Typed
 pub mod Types
+pub mod Uses
 pub mod Valid
+pub mod ValidUnit
