@@ -1,5 +1,5 @@
 -- The rules of validity, evaluated on small units.
-use Rattle.std.proofs.Common.{◌≡◌, ℕ, Bool, true, false, List, [], ◌∷◌, ℤ, pos, negsuc, Option, Some, None, refl, codes}
+use Rattle.std.proofs.Common.{◌≡◌, ℕ, Bool, true, false, List, [], ◌∷◌, pos, negsuc, Option, Some, None, refl, codes}
 use Rattle.cf_base.specs.declared.arith.Arith.TheVariants as op
 use Rattle.cc_whole.specs.declared.types.CType.{CType}
 use Rattle.cc_whole.specs.declared.types.CType.TheVariants as ty
@@ -7,12 +7,11 @@ use Rattle.cc_whole.specs.declared.types.CConstant.TheVariants as int
 use Rattle.cc_whole.specs.declared.types.CVariableType.{CVariableType}
 use Rattle.cc_whole.specs.declared.types.CVariableType.TheVariants as variable
 use Rattle.cc_whole.specs.declared.types.CLocalType.TheVariants as «local»
-use Rattle.cc_whole.specs.declared.expression.Prefix.TheVariants as prefix
 use Rattle.cc_whole.specs.declared.statement.CLocal.{CLocal}
 use Rattle.cc_whole.specs.declared.unit.CParameter.{CParameter}
 use Rattle.cc_whole.specs.declared.unit.CInitialiser.{CInitialiser}
 use Rattle.cc_whole.specs.declared.unit.CInitialiser.TheVariants as initialiser
-use Rattle.cc_whole.specs.Plain.{Place, named, pointed, Expression, constant, load, unary, cast, address, binary, Callee, by_name, by_pointer, Statement, assign, call, block, leave, next, choose, loop, select, give, Statements, done, followed, SwitchItems, closed, labelled, otherwise, stated, Body, body, in_order, Item, declares, declares_variable, defines, defines_variable}
+use Rattle.cc_whole.specs.Plain.{named, pointed, Expression, constant, load, cast, address, binary, by_name, by_pointer, Statement, assign, call, leave, next, choose, loop, select, give, done, followed, closed, labelled, otherwise, stated, body, in_order, Item, declares, declares_variable, defines, defines_variable}
 use Rattle.cc_whole.specs.Types.{same_type}
 use Rattle.cc_whole.specs.Fault.{Checks, fine, broken}
 use Rattle.cc_whole.specs.Valid.{first_fault}

@@ -34,7 +34,6 @@ checked_then (Ok a) next = next a
 checked_then (Err f) next = Err f
 
 infixr 1 ◌before◌
-
 -- one check, and then another
 abbrev pub ◌before◌ : {A : Type 0} → Checks → Checked A → Checked A
 ◌before◌ (Ok u) next = next

@@ -1,5 +1,5 @@
 -- What names mean, and what is known at a statement.
-use Rattle.std.specs.Prelude.{ℕ, Bool, not, ◌&&◌, ◌||◌, List, [], ◌∷◌, Option, Some, None, codes, nat_eq, bytes_eq, find, map, option_map}
+use Rattle.std.specs.Prelude.{ℕ, Bool, List, [], ◌∷◌, Option, codes, nat_eq, bytes_eq, find, map, option_map}
 use Rattle.std.specs.List.{list_any, starts_with}
 use Rattle.cc_whole.specs.declared.types.CType.{CType}
 use Rattle.cc_whole.specs.declared.types.CVariableType.{CVariableType}

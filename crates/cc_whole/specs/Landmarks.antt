@@ -12,7 +12,6 @@ use Rattle.cc_whole.specs.declared.unit.CPrototype.{CPrototype}
 use Rattle.cc_whole.specs.declared.unit.CPair.{CPair}
 use Rattle.cc_whole.specs.declared.unit.CInitialiser.{CInitialiser}
 use Rattle.cc_whole.specs.declared.unit.CInitialiser.TheVariants as initialiser
-use Rattle.cc_whole.specs.declared.unit.CVariable.{CVariable}
 use Rattle.cc_whole.specs.Plain.{Place, named, pointed, Expression, constant, load, unary, cast, address, binary, Callee, by_name, by_pointer, Statement, assign, call, block, leave, next, choose, loop, select, give, Statements, done, followed, SwitchItems, closed, labelled, otherwise, stated, Body, body, Item, declares, declares_variable, defines, defines_variable}
 use Rattle.cc_whole.specs.Types.{local_type}
 

@@ -1,12 +1,11 @@
 -- The trees that have a text: their names, strings and versions are ones that a text can have. A used name needs no word of its own here:
 -- rule V1 says that it is declared.
-use Rattle.std.specs.Prelude.{ℕ, ◌^◌, nat_lt, Bool, true, false, not, ◌&&◌, List, [], ◌∷◌, Option, Some, None}
+use Rattle.std.specs.Prelude.{ℕ, ◌^◌, nat_lt, Bool, true, false, ◌&&◌, List, [], ◌∷◌, Option, Some, None}
 use Rattle.std.specs.List.{list_all}
 use Rattle.cc_whole_tokens.specs.Token.{is_name}
 use Rattle.cc_whole.specs.declared.statement.CLocal.{CLocal}
 use Rattle.cc_whole.specs.declared.unit.CParameter.{CParameter}
 use Rattle.cc_whole.specs.declared.unit.CPrototype.{CPrototype}
-use Rattle.cc_whole.specs.declared.unit.CPair.{CPair}
 use Rattle.cc_whole.specs.declared.unit.CInitialiser.{CInitialiser}
 use Rattle.cc_whole.specs.declared.unit.CInitialiser.TheVariants as initialiser
 use Rattle.cc_whole.specs.Plain.{Statement, assign, call, block, leave, next, choose, loop, select, give, Statements, done, followed, SwitchItems, closed, labelled, otherwise, stated, Body, body, Item, declares, declares_variable, defines, defines_variable}

@@ -1,10 +1,9 @@
 -- The type of an expression, or its first fault: rules V1, V3, V10 and V11 of expressions and places.
-use Rattle.std.specs.Prelude.{ℕ, ◌+◌, Bool, true, false, not, ◌&&◌, ◌||◌, if◌then◌else◌, List, Option, Some, None, Ok, Err}
+use Rattle.std.specs.Prelude.{ℕ, Bool, false, not, ◌&&◌, ◌||◌, if◌then◌else◌, List, Option, Some, None, Ok}
 use Rattle.cf_base.specs.declared.arith.Arith.{Arith}
 use Rattle.cc_whole.specs.declared.types.CType.{CType}
 use Rattle.cc_whole.specs.declared.types.CType.TheVariants as ty
 use Rattle.cc_whole.specs.declared.types.CConstant.{CConstant}
-use Rattle.cc_whole.specs.declared.types.CVariableType.{CVariableType}
 use Rattle.cc_whole.specs.declared.expression.Prefix.{Prefix}
 use Rattle.cc_whole.specs.Plain.{Place, named, pointed, Expression, constant, load, unary, cast, address, binary}
 use Rattle.cc_whole.specs.Numbers.{value_of, constant_type, fits_constant, is_zero_value}

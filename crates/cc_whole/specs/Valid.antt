@@ -1,7 +1,5 @@
 -- The first fault of a unit, by rules V1 to V12, and which units and programs are valid.
-use Rattle.std.specs.Prelude.{ℕ, ◌+◌, ◌^◌, nat_lt, Bool, true, false, not, ◌&&◌, ◌||◌, ◌==◌, if◌then◌else◌, List, [], ◌∷◌, ◌++◌, Option, Some, None, Ok, Err, codes, length, bytes_eq, find, map}
-use Rattle.std.specs.List.{list_all, list_any}
-use Rattle.cc_whole_tokens.specs.Token.{is_name}
+use Rattle.std.specs.Prelude.{ℕ, ◌+◌, nat_lt, Bool, true, false, not, ◌&&◌, ◌||◌, if◌then◌else◌, List, [], ◌∷◌, ◌++◌, Option, Some, None, codes, length, bytes_eq}
 use Rattle.cc_whole.specs.declared.types.CType.{CType}
 use Rattle.cc_whole.specs.declared.types.CType.TheVariants as ty
 use Rattle.cc_whole.specs.declared.types.CSignature.{CSignature}

@@ -1,11 +1,11 @@
 -- Which units and programs are valid.
-use Rattle.std.specs.Prelude.{ℕ, Bool, true, false, not, ◌&&◌, ◌||◌, List, [], ◌∷◌, ◌++◌, Ok, Err, codes, bytes_eq}
+use Rattle.std.specs.Prelude.{ℕ, Bool, true, false, not, ◌&&◌, ◌||◌, List, Ok, Err, codes, bytes_eq}
 use Rattle.std.specs.List.{list_all, list_any}
 use Rattle.cc_whole.specs.declared.unit.CUnit.{CUnit}
 use Rattle.cc_whole.specs.declared.unit.CProgram.{CProgram}
-use Rattle.cc_whole.specs.Plain.{Function, Item, declares, declares_variable, defines, defines_variable, name_of, items_of}
-use Rattle.cc_whole.specs.Fault.{Checks, fine}
-use Rattle.cc_whole.specs.Known.{is_library, is_main}
+use Rattle.cc_whole.specs.Plain.{Item, declares, declares_variable, defines, defines_variable, name_of, items_of}
+use Rattle.cc_whole.specs.Fault.{Checks}
+use Rattle.cc_whole.specs.Known.{is_library}
 use Rattle.cc_whole.specs.Spellable.{spellable_items, spellable_version}
 use Rattle.cc_whole.specs.Uses.{uses_of_item}
 use Rattle.cc_whole.specs.Valid.{first_fault, is_definition}

@@ -1,7 +1,6 @@
 -- What linking makes of units: a program, or the first broken rule and a name.
-use Rattle.std.specs.Prelude.{◌≡◌, ℕ, suc, ◌+◌, ◌*◌, ◌/◌, ◌≤◌, ◌^◌, Bool, true, false, not, ◌&&◌, ◌||◌, ◌==◌, if◌then◌else◌, List, [], ◌∷◌, ◌++◌, Option, Some, None, option_map, Result, Ok, Err, codes, decimal, bytes_eq, find, map, Contains, IsTrue}
-use Rattle.std.specs.List.{list_all, list_any}
-use Rattle.cc_whole.specs.declared.types.CType.{CType}
+use Rattle.std.specs.Prelude.{◌≡◌, ℕ, Bool, true, false, not, ◌&&◌, ◌||◌, ◌==◌, if◌then◌else◌, List, [], ◌∷◌, ◌++◌, Option, Some, None, Result, Ok, Err, codes, decimal, bytes_eq, find, Contains, IsTrue}
+use Rattle.std.specs.List.{list_any}
 use Rattle.cc_whole.specs.declared.types.CType.TheVariants as ty
 use Rattle.cc_whole.specs.declared.types.CLocalType.TheVariants as «local»
 use Rattle.cc_whole.specs.declared.expression.CPlace.TheVariants as place
@@ -14,7 +13,7 @@ use Rattle.cc_whole.specs.declared.unit.CItem.TheVariants as item
 use Rattle.cc_whole.specs.declared.unit.CUnit.{CUnit}
 use Rattle.cc_whole.specs.declared.unit.CProgram.{CProgram}
 use Rattle.cc_whole.specs.Build.{made_body}
-use Rattle.cc_whole.specs.Plain.{item_of, name_of}
+use Rattle.cc_whole.specs.Plain.{item_of}
 use Rattle.cc_whole.specs.Known.{is_in, is_library}
 use Rattle.cc_whole.specs.Uses.{uses_of_item}
 use Rattle.cc_whole.specs.Valid.{agrees, named_by}

@@ -1,11 +1,10 @@
 -- Trees with other names for functions and variables of the unit. A name that a parameter or a local hides stays.
-use Rattle.std.specs.Prelude.{ℕ, Bool, true, false, if◌then◌else◌, List, [], ◌∷◌, ◌++◌, Option, Some, None, option_map, map}
+use Rattle.std.specs.Prelude.{ℕ, false, if◌then◌else◌, List, [], ◌∷◌, Option, Some, None, option_map, map}
 use Rattle.cc_whole.specs.declared.expression.CPlace.{CPlace, fold-CPlace}
 use Rattle.cc_whole.specs.declared.expression.CPlace.TheVariants as place
 use Rattle.cc_whole.specs.declared.expression.CExpression.{CExpression, fold-CExpression}
 use Rattle.cc_whole.specs.declared.expression.CExpression.TheOpen.{CExpression-F, CPlace-F}
 use Rattle.cc_whole.specs.declared.expression.CExpression.TheVariants as tree
-use Rattle.cc_whole.specs.declared.statement.CLocal.{CLocal}
 use Rattle.cc_whole.specs.declared.statement.CCallee.{CCallee}
 use Rattle.cc_whole.specs.declared.statement.CCallee.TheVariants as callee
 use Rattle.cc_whole.specs.declared.statement.CBody.{CBody, CBody-F, fold-CBody}
