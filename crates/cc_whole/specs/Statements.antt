@@ -11,21 +11,21 @@ use Rattle.cc_whole.specs.Numbers.{fits_constant, label_of, is_size}
 use Rattle.cc_whole.specs.Types.{same_type, is_integer, is_function_pointer, local_type, signature_of}
 use Rattle.cc_whole.specs.Landmarks.{marks, place_marks, target_marks, signature_marks, callee_marks, marks_before, local_marks, locals_marks, statement_marks, body_marks}
 use Rattle.cc_whole.specs.Fault.{Checked, Checks, fine, broken, holds, moved, checked_then, ◌before◌}
-use Rattle.cc_whole.specs.Known.{Meant, function, object, Known, lookup, locals_named, is_in, is_main, is_helper}
+use Rattle.cc_whole.specs.Known.{Meant, function, object, Named, Known, lookup, locals_named, is_in, is_main, is_helper}
 use Rattle.cc_whole.specs.Typed.{typed, typed_target, is_zero, fits_type}
 
 -- ---- assignments
 
 -- V4: both sides have one type, the constant 0 fitting pointers
-abbrev pub assigned : CType → Expression → Known → Checks
-assigned wanted e k = checked_then (typed e k) (λ t. holds (fits_type wanted t (is_zero e)) 4 0)
+abbrev pub assigned : CType → Expression → List Named → Checks
+assigned wanted e names = checked_then (typed e names) (λ t. holds (fits_type wanted t (is_zero e)) 4 0)
 
 -- ---- calls
 
 -- the type of the place that gets the result, if it is stored
-abbrev pub stored_in : Option Place → Known → Checked (Option CType)
-stored_in None k = Ok None
-stored_in (Some p) k = checked_then (typed_target p k) (λ t. Ok (Some t))
+abbrev pub stored_in : Option Place → List Named → Checked (Option CType)
+stored_in None names = Ok None
+stored_in (Some p) names = checked_then (typed_target p names) (λ t. Ok (Some t))
 
 -- V1: the name is declared before; V3: it is a function's
 abbrev pub called_name : Option Meant → Checked CSignature
@@ -33,9 +33,9 @@ called_name None = broken 1 0
 called_name (Some (function p)) = Ok (signature_of p)
 called_name (Some (object t)) = broken 3 0
 
-abbrev pub called_type : Callee → Known → Checked CSignature
-called_type (by_name name) k = called_name (lookup k.names name)
-called_type (by_pointer s e) k = Ok s
+abbrev pub called_type : Callee → List Named → Checked CSignature
+called_type (by_name name) names = called_name (lookup names name)
+called_type (by_pointer s e) names = Ok s
 
 -- a result of the type that is stored
 abbrev pub fits_stored : Option CType → Option CType → Bool
@@ -54,34 +54,34 @@ calls_main (by_name name) = is_main name
 calls_main (by_pointer s e) = false
 
 -- V3: what is called through is a pointer to a function
-abbrev pub called_pointer : Callee → Known → Checks
-called_pointer (by_name name) k = fine
-called_pointer (by_pointer s e) k =
-    moved (signature_marks s) (checked_then (typed e k) (λ t. holds (is_function_pointer t) 3 0))
+abbrev pub called_pointer : Callee → List Named → Checks
+called_pointer (by_name name) names = fine
+called_pointer (by_pointer s e) names =
+    moved (signature_marks s) (checked_then (typed e names) (λ t. holds (is_function_pointer t) 3 0))
 
 -- V5: the arguments have the types of the parameters
-abbrev pub arguments : List CType → List Expression → Known → Checks
-arguments [] es k = fine
-arguments (t ∷ ts) [] k = fine
-arguments (t ∷ ts) (e ∷ es) k =
-    checked_then (typed e k) (λ s. holds (same_type s t) 5 0 before moved (marks e) (arguments ts es k))
+abbrev pub arguments : List CType → List Expression → List Named → Checks
+arguments [] es names = fine
+arguments (t ∷ ts) [] names = fine
+arguments (t ∷ ts) (e ∷ es) names =
+    checked_then (typed e names) (λ s. holds (same_type s t) 5 0 before moved (marks e) (arguments ts es names))
 
 -- V4, the result is of the stored type, V5, there are as many arguments as parameters, V9 and V10 of a call
 abbrev pub calls : Option CType → CSignature → Callee → List Expression → Known → Checks
 calls stored s c es k =
     holds (fits_stored stored s.result) 4 0 before holds (length s.parameters == length es) 5 0
     before holds (not k.in_helper || helper_may_call c) 9 0 before holds (not (calls_main c)) 10 0
-    before called_pointer c k before moved (callee_marks c) (arguments s.parameters es k)
+    before called_pointer c k.names before moved (callee_marks c) (arguments s.parameters es k.names)
 
 abbrev pub called : Option Place → Callee → List Expression → Known → Checks
 called p c es k =
-    checked_then (stored_in p k) (λ stored. moved (target_marks p) (checked_then (called_type c k) (λ s. calls stored s c es k)))
+    checked_then (stored_in p k.names) (λ stored. moved (target_marks p) (checked_then (called_type c k.names) (λ s. calls stored s c es k)))
 
 -- ---- conditions, results, locals
 
 -- V3: a condition and the value of a `switch` are integers
-abbrev pub condition : Expression → Known → Checks
-condition e k = checked_then (typed e k) (λ t. holds (is_integer t) 3 0)
+abbrev pub condition : Expression → List Named → Checks
+condition e names = checked_then (typed e names) (λ t. holds (is_integer t) 3 0)
 
 abbrev pub fits_given : Option CType → CType → Bool → Bool
 fits_given None t zero = false
@@ -90,7 +90,7 @@ fits_given (Some wanted) t zero = fits_type wanted t zero
 -- V6, at `return`: there is a value of the result's type exactly where there is a result
 abbrev pub given : Option Expression → Known → Checks
 given None k = holds (is_none k.result) 6 0
-given (Some e) k = holds (is_some k.result) 6 0 before checked_then (moved 1 (typed e k)) (λ t. holds (fits_given k.result t (is_zero e)) 6 0)
+given (Some e) k = holds (is_some k.result) 6 0 before checked_then (moved 1 (typed e k.names)) (λ t. holds (fits_given k.result t (is_zero e)) 6 0)
 
 -- V11: an array has from 1 to 2 ^ 22 elements
 abbrev pub has_size : CVariableType → Bool
@@ -133,15 +133,15 @@ has_case cases n = list_any (λ other. other == n) cases
 abbrev mutual
   -- V7: `break` and `continue` stand inside
   pub checked : Statement → Known → Checks
-  checked (assign p e) k = checked_then (typed_target p k) (λ t. moved (place_marks p) (assigned t e k))
+  checked (assign p e) k = checked_then (typed_target p k.names) (λ t. moved (place_marks p) (assigned t e k.names))
   checked (call p c es) k = called p c es k
   checked (block b) k = checked_body b k
   checked leave k = holds k.may_break 7 0
   checked next k = holds k.in_loop 7 0
   checked (choose e b other) k =
-      moved 1 (condition e k) before moved (1 + marks e) (checked_body b k) before moved (1 + (marks e + body_marks b)) (checked_body other k)
+      moved 1 (condition e k.names) before moved (1 + marks e) (checked_body b k) before moved (1 + (marks e + body_marks b)) (checked_body other k)
   checked (loop b) k = moved 1 (checked_body b (in_a_loop k))
-  checked (select e items) k = moved 1 (condition e k) before moved (1 + marks e) (checked_switch items no_labels (in_a_switch k))
+  checked (select e items) k = moved 1 (condition e k.names) before moved (1 + marks e) (checked_switch items no_labels (in_a_switch k))
   checked (give e) k = given e k
 
   pub checked_statements : Statements → Known → Checks

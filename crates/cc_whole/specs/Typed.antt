@@ -10,7 +10,7 @@ use Rattle.cc_whole.specs.Numbers.{value_of, constant_type, fits_constant, is_ze
 use Rattle.cc_whole.specs.Types.{same_type, is_integer, is_pointer, binary_type, may_stand_left, prefix_type, value_type, stored_type}
 use Rattle.cc_whole.specs.Landmarks.{type_marks, marks}
 use Rattle.cc_whole.specs.Fault.{Checked, Checks, broken, holds, moved, checked_then, ◌before◌}
-use Rattle.cc_whole.specs.Known.{Meant, function, object, Known, lookup, is_main}
+use Rattle.cc_whole.specs.Known.{Meant, function, object, Named, lookup, is_main}
 
 -- the constant 0
 abbrev pub is_zero : Expression → Bool
@@ -58,20 +58,20 @@ abbrev pub left_fits : Arith → CType → Checks
 left_fits o s = holds (may_stand_left o s) 3 0
 
 abbrev mutual
-  pub typed : Expression → Known → Checked CType
-  typed (constant c) k = typed_constant c
-  typed (load p) k = typed_place p k
-  typed (unary o e) k = checked_then (typed e k) (typed_prefix o)
-  typed (cast t e) k = checked_then (moved (type_marks t) (typed e k)) (typed_cast t (is_zero e))
-  typed (address name) k = typed_address (lookup k.names name)
-  typed (binary o a b) k =
-      checked_then (typed a k) (λ s. left_fits o s before
-      checked_then (moved (marks a) (typed b k)) (λ t. fitted (marks a) (binary_type o s (is_zero a) t (is_zero b))))
+  pub typed : Expression → List Named → Checked CType
+  typed (constant c) names = typed_constant c
+  typed (load p) names = typed_place p names
+  typed (unary o e) names = checked_then (typed e names) (typed_prefix o)
+  typed (cast t e) names = checked_then (moved (type_marks t) (typed e names)) (typed_cast t (is_zero e))
+  typed (address name) names = typed_address (lookup names name)
+  typed (binary o a b) names =
+      checked_then (typed a names) (λ s. left_fits o s before
+      checked_then (moved (marks a) (typed b names)) (λ t. fitted (marks a) (binary_type o s (is_zero a) t (is_zero b))))
 
   -- the value that stands at a place
-  pub typed_place : Place → Known → Checked CType
-  typed_place (named name) k = typed_name name (lookup k.names name)
-  typed_place (pointed t e) k = checked_then (moved (type_marks t) (typed e k)) (typed_pointed t)
+  pub typed_place : Place → List Named → Checked CType
+  typed_place (named name) names = typed_name name (lookup names name)
+  typed_place (pointed t e) names = checked_then (moved (type_marks t) (typed e names)) (typed_pointed t)
 
 -- V3: the name of an array or a function is not assigned to
 abbrev pub target_name : Option Meant → Checked CType
@@ -80,9 +80,9 @@ target_name (Some (function p)) = broken 3 0
 target_name (Some (object t)) = fitted 0 (stored_type t)
 
 -- the type of what is stored at a place
-abbrev pub typed_target : Place → Known → Checked CType
-typed_target (named name) k = target_name (lookup k.names name)
-typed_target (pointed t e) k = typed_place (pointed t e) k
+abbrev pub typed_target : Place → List Named → Checked CType
+typed_target (named name) names = target_name (lookup names name)
+typed_target (pointed t e) names = typed_place (pointed t e) names
 
 -- a value of this type fits where one of that type is wanted, and the constant 0 where a pointer is
 abbrev pub fits_type : CType → CType → Bool → Bool

@@ -1,0 +1,4 @@
+mod CheckLaws
+mod ExpressionLaws
+mod ItemLaws
+mod StatementLaws
