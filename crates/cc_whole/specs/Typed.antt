@@ -1,5 +1,5 @@
 -- The type of an expression, or its first fault: rules V1, V3, V10 and V11 of expressions and places.
-use Rattle.std.specs.Prelude.{ℕ, Bool, false, not, ◌&&◌, ◌||◌, if◌then◌else◌, List, Option, Some, None, Ok}
+use Rattle.std.specs.Prelude.{ℕ, Bool, false, not, ◌&&◌, ◌||◌, List, Option, Some, None, Ok}
 use Rattle.cf_base.specs.declared.arith.Arith.{Arith}
 use Rattle.cc_whole.specs.declared.types.CType.{CType}
 use Rattle.cc_whole.specs.declared.types.CType.TheVariants as ty
@@ -33,7 +33,7 @@ typed_prefix o t = holds (is_integer t) 3 0 before Ok (prefix_type o t)
 
 -- an integer is cast to an integer type, and to a pointer type what has that type, and the constant 0
 abbrev pub may_cast : CType → CType → Bool → Bool
-may_cast t s zero = if is_integer t then is_integer s else (same_type s t || zero)
+may_cast t s zero = (is_integer t && is_integer s) || (not (is_integer t) && (same_type s t || zero))
 
 -- V3: a cast's operand, behind its type
 abbrev pub typed_cast : CType → Bool → CType → Checked CType

@@ -23,6 +23,10 @@ and-and : (a b c : Bool) → (a && (b && c)) ≡ ((a && b) && c)
 and-and true b c = refl
 and-and false b c = refl
 
+and-true : (a : Bool) → a ≡ (a && true)
+and-true true = refl
+and-true false = refl
+
 keeps-name : (names : List Named) (defined : List (List ℕ)) (d : Bool) (name : List ℕ) (m : Meant) (place : ℕ)
     → keeps (checked_name names defined d name m place) ≡ accepts_name names defined d name m
 keeps-name names defined d name m place =
@@ -60,7 +64,7 @@ keeps-pairs (p ∷ ps) names =
 
 keeps-start : (t : CVariableType) (names : List Named) (start : Option CInitialiser) → keeps (checked_start t names start) ≡ accepts_start t names start
 keeps-start t names None = refl
-keeps-start t names (Some (initialiser.Text bytes)) = keeps-holds (may_start t (initialiser.Text bytes)) 3 0
+keeps-start t names (Some (initialiser.Text bytes)) = keeps-holds (may_start t (initialiser.Text bytes)) 3 0 ∙ and-true (may_start t (initialiser.Text bytes))
 keeps-start t names (Some (initialiser.Pairs ps)) = keeps-behind (may_start t (initialiser.Pairs ps)) 3 0 _ _ (keeps-pairs ps names)
 
 keeps-variable : (names : List Named) (defined : List (List ℕ)) (d : Bool) (t : CVariableType) (name : List ℕ) (start : Option CInitialiser)

@@ -9,7 +9,7 @@ use Rattle.cc_whole.specs.declared.types.CSignature.{CSignature}
 use Rattle.cc_whole.specs.declared.types.CVariableType.{CVariableType}
 use Rattle.cc_whole.specs.declared.expression.Prefix.{Prefix}
 use Rattle.cc_whole.specs.declared.statement.CLocal.{CLocal}
-use Rattle.cc_whole.specs.Plain.{Place, named, pointed, Expression, constant, load, unary, cast, address, binary, Callee, by_name, by_pointer, Statement, assign, call, block, leave, next, choose, loop, select, give, Statements, done, followed, SwitchItems, closed, labelled, otherwise, stated, Body, body}
+use Rattle.cc_whole.specs.Plain.{Place, named, pointed, Expression, constant, load, unary, cast, address, binary, Callee, by_name, by_pointer, Statement, assign, call, block, leave, next, choose, loop, select, give, Statements, done, followed, SwitchItems, closed, labelled, otherwise, stated, Body, body, SwitchItem, label, default_label, inner}
 use Rattle.cc_whole.specs.Numbers.{constant_type, fits_constant, label_of}
 use Rattle.cc_whole.specs.Types.{same_type, is_integer, is_pointer, is_function_pointer, binary_type, may_stand_left, prefix_type, value_type, stored_type, local_type, signature_of}
 use Rattle.cc_whole.specs.Known.{Meant, function, object, Named, Known, lookup, is_in, is_main}
@@ -163,3 +163,16 @@ abbrev mutual
 
   pub accepts_body : Body → Known → Bool
   accepts_body (body locals all) k = accepts_locals locals [] && accepts_statements all (with_locals locals k)
+
+-- ---- one item of a `switch`
+
+abbrev pub accepts_switch_item : SwitchItem → Labels → Known → Bool
+accepts_switch_item (label c) ls k = accepts_case c ls
+accepts_switch_item default_label ls k = not ls.has_default
+accepts_switch_item (inner s) ls k = accepts s k
+
+-- the labels behind it
+abbrev pub labels_after : SwitchItem → Labels → Labels
+labels_after (label c) ls = with_case c ls
+labels_after default_label ls = with_default ls
+labels_after (inner s) ls = ls

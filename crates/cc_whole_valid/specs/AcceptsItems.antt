@@ -1,5 +1,7 @@
 -- What the code decides of items, without places: the same checks, in the same order.
-use Rattle.std.specs.Prelude.{ℕ, Bool, true, false, not, ◌&&◌, ◌||◌, List, [], ◌∷◌, Option, Some, None}
+use Rattle.std.specs.Prelude.{ℕ, nat_lt, Bool, true, false, not, ◌&&◌, ◌||◌, List, [], ◌∷◌, Option, Some, None}
+use Rattle.std.specs.List.{list_all}
+use Rattle.cc_whole_tokens.specs.Token.{is_name}
 use Rattle.cc_whole.specs.declared.types.CVariableType.{CVariableType}
 use Rattle.cc_whole.specs.declared.unit.CParameter.{CParameter}
 use Rattle.cc_whole.specs.declared.unit.CPrototype.{CPrototype}
@@ -7,7 +9,8 @@ use Rattle.cc_whole.specs.declared.unit.CPair.{CPair}
 use Rattle.cc_whole.specs.declared.unit.CInitialiser.{CInitialiser}
 use Rattle.cc_whole.specs.declared.unit.CInitialiser.TheVariants as initialiser
 use Rattle.cc_whole.specs.declared.unit.CVariable.{CVariable}
-use Rattle.cc_whole.specs.Plain.{Function, Item, declares, declares_variable, defines, defines_variable}
+use Rattle.cc_whole.specs.Spellable.{spellable}
+use Rattle.cc_whole.specs.Plain.{SwitchItem, label, default_label, inner, Function, Item, declares, declares_variable, defines, defines_variable}
 use Rattle.cc_whole.specs.Numbers.{fits_constant}
 use Rattle.cc_whole.specs.Known.{Meant, function, object, Named, lookup, is_in, is_main, is_library}
 use Rattle.cc_whole.specs.Statements.{has_size}
@@ -41,10 +44,13 @@ abbrev pub accepts_pairs : List CPair → List Named → Bool
 accepts_pairs [] names = true
 accepts_pairs (p ∷ ps) names = accepts_pair p names && accepts_pairs ps names
 
+abbrev pub starts_with_functions : CInitialiser → List Named → Bool
+starts_with_functions (initialiser.Text bytes) names = true
+starts_with_functions (initialiser.Pairs ps) names = accepts_pairs ps names
+
 abbrev pub accepts_start : CVariableType → List Named → Option CInitialiser → Bool
 accepts_start t names None = true
-accepts_start t names (Some (initialiser.Text bytes)) = may_start t (initialiser.Text bytes)
-accepts_start t names (Some (initialiser.Pairs ps)) = may_start t (initialiser.Pairs ps) && accepts_pairs ps names
+accepts_start t names (Some start) = may_start t start && starts_with_functions start names
 
 abbrev pub accepts_variable : List Named → List (List ℕ) → Bool → CVariableType → List ℕ → Option CInitialiser → Bool
 accepts_variable names defined is_definition t name start = accepts_name names defined is_definition name (object t) && (has_size t && holds_start t start)
@@ -68,3 +74,16 @@ accepts_item (defines_variable v) names defined = accepts_variable_definition v 
 abbrev pub accepts_items : List Item → List Named → List (List ℕ) → Bool
 accepts_items [] names defined = true
 accepts_items (i ∷ rest) names defined = accepts_item i names defined && accepts_items rest (named_by i ∷ names) (defined_after i defined)
+
+-- ---- texts
+
+abbrev pub spellable_switch_item : SwitchItem → Bool
+spellable_switch_item (label c) = true
+spellable_switch_item default_label = true
+spellable_switch_item (inner s) = spellable s
+
+abbrev pub good_parameters : List CParameter → Bool
+good_parameters parameters = list_all (λ (p : CParameter). is_name p.name) parameters
+
+abbrev pub are_bytes : List ℕ → Bool
+are_bytes bytes = list_all (λ b. nat_lt b 256) bytes
