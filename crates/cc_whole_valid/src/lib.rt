@@ -20,4 +20,4 @@ mod types;
 mod unit;
 mod variables;
 
-pub use unit::is_valid;
+pub use unit::{ValidUnit, is_valid, valid_items};

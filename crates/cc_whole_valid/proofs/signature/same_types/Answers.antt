@@ -1,4 +1,4 @@
-use Rattle.std.proofs.Common.{◌≡◌, ◌≢◌, length, sym, ◌∙◌, rules, arith, true≢false}
+use Rattle.std.proofs.Common.{◌≢◌, length, sym, ◌∙◌, rules, arith}
 use Rattle.std.proofs.lemmas.Grind.{common_steps}
 use Rattle.cc_whole_valid.specs.Memory.{type_at}
 use Rattle.cc_whole_valid.proofs.SignatureLaws.{other_lengths, differ_here, same_here}

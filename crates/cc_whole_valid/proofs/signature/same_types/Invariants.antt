@@ -1,4 +1,4 @@
-use Rattle.std.proofs.Common.{◌≡◌, length, drop}
+use Rattle.std.proofs.Common.{◌≡◌, drop}
 use Rattle.cc_whole.specs.Types.{same_types}
 use Rattle.cc_whole_valid.specs.Memory.{type_at}
 use Rattle.cc_whole_valid.proofs.signature.same_types.Given as goal

@@ -1,4 +1,4 @@
-use Rattle.std.proofs.Common.{◌≡◌, ◌≤◌, length, drop, ◌-◌, take, ap, sym, ◌∙◌, subst}
+use Rattle.std.proofs.Common.{◌≤◌, length, drop, ◌-◌, ap, sym, ◌∙◌, subst}
 use Rattle.cc_whole_valid.specs.Memory.{last_first}
 use Rattle.cc_whole_valid.proofs.ListLaws.{last_first-take}
 use Rattle.cc_whole_valid.proofs.scope.Scope.cut.Goals as goal
