@@ -1,5 +1,5 @@
 -- What the code decides of the names that are used: each passes a test, unless a parameter or a local hides it.
-use Rattle.std.specs.Prelude.{ℕ, Bool, true, ◌&&◌, ◌||◌, List, [], ◌∷◌, ◌++◌, Option, Some, None}
+use Rattle.std.specs.Prelude.{ℕ, Bool, true, ◌&&◌, ◌||◌, List, [], ◌∷◌, ◌++◌, Option, Some, None, codes}
 use Rattle.cc_whole.specs.declared.unit.CPair.{CPair}
 use Rattle.cc_whole.specs.declared.unit.CInitialiser.{CInitialiser}
 use Rattle.cc_whole.specs.declared.unit.CInitialiser.TheVariants as initialiser
@@ -105,3 +105,7 @@ good_item (defines_variable v) defined = good_start v.initialiser defined
 abbrev pub good_items : List Item → List (List ℕ) → Bool
 good_items [] defined = true
 good_items (i ∷ rest) defined = good_item i defined && good_items rest defined
+
+-- `main` is defined, and all that is used
+abbrev pub is_closed : List Item → Bool
+is_closed items = is_in (all_defined items []) (codes "main") && good_items items (all_defined items [])

@@ -1,7 +1,7 @@
 -- What a check finds, without its place, is made of what its parts find.
-use Rattle.std.proofs.Common.{◌≡◌, ℕ, Bool, true, false, ◌&&◌, if◌then◌else◌, Option, Some, None, Result, Ok, Err, refl, ap, ◌∙◌}
+use Rattle.std.proofs.Common.{◌≡◌, ℕ, Bool, true, false, ◌&&◌, if◌then◌else◌, Option, Some, None, Ok, Err, refl, ap, ◌∙◌}
 use Rattle.std.specs.Option.{option_and_then}
-use Rattle.cc_whole.specs.Fault.{Fault, Checked, Checks, holds, moved, checked_then, ◌before◌}
+use Rattle.cc_whole.specs.Fault.{Checked, Checks, holds, moved, checked_then, ◌before◌}
 use Rattle.cc_whole.specs.ValidUnit.{keeps}
 use Rattle.cc_whole_valid.specs.Accepts.{where_so, is_so}
 

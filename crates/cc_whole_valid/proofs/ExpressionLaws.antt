@@ -1,13 +1,13 @@
 -- The type that the code finds of an expression is the one of the definition.
-use Rattle.std.proofs.Common.{◌≡◌, ℕ, ◌+◌, Bool, true, false, not, if◌then◌else◌, List, Option, Some, None, Ok, Err, refl, ◌∙◌}
+use Rattle.std.proofs.Common.{◌≡◌, ℕ, Bool, true, false, not, if◌then◌else◌, List, Option, Some, None, refl, ◌∙◌}
 use Rattle.std.specs.Option.{option_and_then}
 use Rattle.cc_whole.specs.declared.types.CType.{CType}
 use Rattle.cc_whole.specs.declared.types.CType.TheVariants as ty
 use Rattle.cc_whole.specs.Plain.{Place, named, pointed, Expression, constant, load, unary, cast, address, binary}
 use Rattle.cc_whole.specs.Numbers.{constant_type, fits_constant}
-use Rattle.cc_whole.specs.Types.{is_integer, is_pointer, binary_type, may_stand_left, prefix_type, value_type, stored_type}
+use Rattle.cc_whole.specs.Types.{is_integer, is_pointer, binary_type, may_stand_left, prefix_type, stored_type}
 use Rattle.cc_whole.specs.Landmarks.{type_marks, marks}
-use Rattle.cc_whole.specs.Fault.{moved, checked_then, holds, ◌before◌}
+use Rattle.cc_whole.specs.Fault.{moved}
 use Rattle.cc_whole.specs.Known.{Meant, function, object, Named, lookup, is_main}
 use Rattle.cc_whole.specs.Typed.{is_zero, may_cast, typed, typed_place, typed_name, typed_prefix, typed_cast, typed_address, typed_pointed, fitted, target_name, typed_target}
 use Rattle.cc_whole_valid.specs.Accepts.{type_of, type_at, name_type, address_type, prefixed_type, cast_type, pointed_type, joined_type, target_of_name, target_type}

@@ -1,5 +1,5 @@
 -- What the code decides of items is that the definition finds no fault.
-use Rattle.std.proofs.Common.{◌≡◌, ℕ, ◌+◌, Bool, true, false, not, ◌&&◌, ◌||◌, List, [], ◌∷◌, ◌++◌, Option, Some, None, refl, ◌∙◌}
+use Rattle.std.proofs.Common.{◌≡◌, ℕ, ◌+◌, Bool, true, false, not, ◌&&◌, List, [], ◌∷◌, Option, Some, None, refl, ◌∙◌}
 use Rattle.cc_whole.specs.declared.types.CVariableType.{CVariableType}
 use Rattle.cc_whole.specs.declared.unit.CParameter.{CParameter}
 use Rattle.cc_whole.specs.declared.unit.CPrototype.{CPrototype}
@@ -12,10 +12,9 @@ use Rattle.cc_whole.specs.Landmarks.{type_marks, marks_before_name, marks_before
 use Rattle.cc_whole.specs.Fault.{moved, ◌before◌}
 use Rattle.cc_whole.specs.Known.{Meant, function, object, Named, lookup, is_in, is_main, is_library}
 use Rattle.cc_whole.specs.Statements.{has_size, checked_body}
-use Rattle.cc_whole.specs.Valid.{agrees, own_type, has_type, checked_name, checked_parameters, checked_prototype, inside, may_be_shared, checked_function, paired, checked_pairs, may_start, holds_start, checked_start, checked_variable, named_by, defined_after, checked_item, checked_items}
+use Rattle.cc_whole.specs.Valid.{agrees, own_type, has_type, checked_name, checked_parameters, checked_prototype, inside, checked_function, paired, checked_pairs, may_start, holds_start, checked_start, checked_variable, named_by, defined_after, checked_item, checked_items}
 use Rattle.cc_whole.specs.ValidUnit.{keeps}
-use Rattle.cc_whole_valid.specs.Accepts.{accepts_body}
-use Rattle.cc_whole_valid.specs.AcceptsItems.{accepts_name, accepts_parameters, accepts_prototype, accepts_function, accepts_paired, accepts_pair, accepts_pairs, accepts_start, accepts_variable, accepts_item, accepts_items}
+use Rattle.cc_whole_valid.specs.AcceptsItems.{accepts_name, accepts_parameters, accepts_prototype, accepts_function, accepts_paired, accepts_pairs, accepts_start, accepts_variable, accepts_item, accepts_items}
 use Rattle.cc_whole_valid.proofs.CheckLaws.{keeps-moved, keeps-holds, keeps-before, keeps-behind}
 use Rattle.cc_whole_valid.proofs.StatementLaws.{keeps-body}
 

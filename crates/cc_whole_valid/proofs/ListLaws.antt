@@ -1,8 +1,8 @@
 -- Lists that are read from one end.
-use Rattle.std.proofs.Common.{◌≡◌, ℕ, zero, suc, ◌+◌, ◌-◌, ◌<◌, ◌≤◌, Bool, true, false, List, [], ◌∷◌, ◌++◌, length, map, take, drop, get_or, reverse, Option, Some, None, slice_get, refl, ap, sym, ◌∙◌, arith, add-one}
+use Rattle.std.proofs.Common.{◌≡◌, ℕ, zero, suc, ◌+◌, ◌-◌, ◌<◌, ◌≤◌, Bool, true, false, List, [], ◌∷◌, ◌++◌, length, map, take, drop, get_or, reverse, Some, slice_get, refl, ap, sym, ◌∙◌, arith}
 use Rattle.std.specs.Prelude.{bytes_eq, find, option_map, if◌then◌else◌}
 use Rattle.std.proofs.lemmas.List.{length-reverse, length-map, length-drop, reverse-append, map-append, take-append-drop, take_more, drop_at}
-use Rattle.cc_whole.specs.Known.{Meant, Named, lookup}
+use Rattle.cc_whole.specs.Known.{Named, lookup}
 use Rattle.cc_whole_valid.specs.declared.scope.Entry.{Entry}
 use Rattle.cc_whole_valid.specs.Memory.{named_of, last_first}
 

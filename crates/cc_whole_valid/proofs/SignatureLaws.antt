@@ -1,9 +1,9 @@
 -- Types of parameters, one by one.
-use Rattle.std.proofs.Common.{◌≡◌, ◌≢◌, ℕ, suc, ◌+◌, ◌≤◌, Bool, true, false, ◌&&◌, List, [], ◌∷◌, length, map, drop, Some, slice_get, refl, ap, sym, ◌∙◌, arith}
-use Rattle.std.proofs.lemmas.List.{drop_all, drop-map}
+use Rattle.std.proofs.Common.{◌≡◌, ◌≢◌, ℕ, suc, ◌+◌, ◌≤◌, Bool, true, false, ◌&&◌, List, [], ◌∷◌, length, map, drop, Some, slice_get, refl, ap, sym, ◌∙◌}
+use Rattle.std.proofs.lemmas.List.{drop_all}
 use Rattle.cc_whole.specs.declared.types.CType.{CType}
 use Rattle.cc_whole.specs.declared.expression.CExpression.{CExpression}
-use Rattle.cc_whole.specs.Plain.{Expression, expression_of}
+use Rattle.cc_whole.specs.Plain.{expression_of}
 use Rattle.cc_whole.specs.Known.{Named}
 use Rattle.cc_whole.specs.Types.{same_type, same_types}
 use Rattle.cc_whole_valid.specs.Accepts.{accepts_argument, accepts_arguments}

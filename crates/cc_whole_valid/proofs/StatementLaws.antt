@@ -1,20 +1,19 @@
 -- What the code decides of statements is that the definition finds no fault.
-use Rattle.std.proofs.Common.{◌≡◌, ℕ, ◌+◌, Bool, true, false, not, ◌&&◌, ◌||◌, List, [], ◌∷◌, ◌++◌, Option, Some, None, Ok, Err, length, refl, ap, ◌∙◌}
+use Rattle.std.proofs.Common.{◌≡◌, ℕ, ◌+◌, Bool, true, false, not, ◌&&◌, ◌||◌, List, [], ◌∷◌, Option, Some, None, length, refl, ◌∙◌}
 use Rattle.std.specs.Prelude.{◌==◌, is_none, is_some}
-use Rattle.std.specs.Option.{option_and_then}
 use Rattle.cc_whole.specs.declared.types.CType.{CType}
 use Rattle.cc_whole.specs.declared.types.CSignature.{CSignature}
 use Rattle.cc_whole.specs.declared.statement.CLocal.{CLocal}
 use Rattle.cc_whole.specs.Plain.{Place, Expression, Callee, by_name, by_pointer, Statement, assign, call, block, leave, next, choose, loop, select, give, Statements, done, followed, SwitchItems, closed, labelled, otherwise, stated, Body, body}
 use Rattle.cc_whole.specs.Numbers.{fits_constant, label_of}
-use Rattle.cc_whole.specs.Types.{same_type, is_integer, is_function_pointer, local_type, signature_of}
+use Rattle.cc_whole.specs.Types.{same_type, is_integer, is_function_pointer, local_type}
 use Rattle.cc_whole.specs.Landmarks.{marks, place_marks, target_marks, signature_marks, callee_marks, marks_before, local_marks, locals_marks, statement_marks, body_marks}
 use Rattle.cc_whole.specs.Fault.{Checks, moved, checked_then, holds, ◌before◌}
 use Rattle.cc_whole.specs.Known.{Meant, function, object, Named, Known, lookup, is_in}
 use Rattle.cc_whole.specs.Typed.{is_zero, typed, typed_target, fits_type}
 use Rattle.cc_whole.specs.Statements.{assigned, stored_in, called_name, called_type, fits_stored, helper_may_call, calls_main, called_pointer, arguments, calls, called, condition, fits_given, given, has_size, checked_locals, in_a_loop, in_a_switch, with_locals, Labels, no_labels, has_case, checked, checked_statements, checked_switch, checked_body}
 use Rattle.cc_whole.specs.ValidUnit.{keeps}
-use Rattle.cc_whole_valid.specs.Accepts.{is_so, type_of, target_type, accepts_value, stored_at, signature_of_name, signature_called, accepts_pointer, accepts_argument, accepts_arguments, accepts_callee, accepts_call, accepts_called, accepts_condition, accepts_given, accepts_local, accepts_locals, accepts_case, with_case, with_default, accepts, accepts_statements, accepts_switch, accepts_body}
+use Rattle.cc_whole_valid.specs.Accepts.{is_so, type_of, target_type, accepts_value, stored_at, signature_of_name, signature_called, accepts_pointer, accepts_argument, accepts_arguments, accepts_call, accepts_called, accepts_condition, accepts_given, accepts_locals, with_case, with_default, accepts, accepts_statements, accepts_switch, accepts_body}
 use Rattle.cc_whole_valid.proofs.CheckLaws.{found, found-moved, found-then, keeps-moved, keeps-holds, keeps-before, keeps-behind, keeps-then}
 use Rattle.cc_whole_valid.proofs.ExpressionLaws.{found-typed, found-target}
 

@@ -1,5 +1,5 @@
 -- Items that have a text are valid where what the code decides holds of them.
-use Rattle.std.proofs.Common.{◌≡◌, Bool, true, ◌&&◌, List, [], ap, sym, ◌∙◌}
+use Rattle.std.proofs.Common.{◌≡◌, true, ◌&&◌, List, [], ap, sym, ◌∙◌}
 use Rattle.cc_whole.specs.Plain.{Item}
 use Rattle.cc_whole.specs.Spellable.{spellable_items}
 use Rattle.cc_whole.specs.ValidUnit.{keeps, valid_items}

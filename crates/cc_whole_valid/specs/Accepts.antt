@@ -1,12 +1,11 @@
 -- What the code decides, without places: the same checks, in the same order.
-use Rattle.std.specs.Prelude.{ℕ, ◌+◌, Bool, true, false, not, ◌&&◌, ◌||◌, ◌==◌, if◌then◌else◌, List, [], ◌∷◌, ◌++◌, Option, Some, None, is_none, is_some, length, bytes_eq}
+use Rattle.std.specs.Prelude.{ℕ, Bool, true, false, not, ◌&&◌, ◌||◌, ◌==◌, if◌then◌else◌, List, [], ◌∷◌, Option, Some, None, is_none, is_some, length}
 use Rattle.std.specs.Option.{option_and_then}
 use Rattle.cf_base.specs.declared.arith.Arith.{Arith}
 use Rattle.cc_whole.specs.declared.types.CType.{CType}
 use Rattle.cc_whole.specs.declared.types.CType.TheVariants as ty
 use Rattle.cc_whole.specs.declared.types.CConstant.{CConstant}
 use Rattle.cc_whole.specs.declared.types.CSignature.{CSignature}
-use Rattle.cc_whole.specs.declared.types.CVariableType.{CVariableType}
 use Rattle.cc_whole.specs.declared.expression.Prefix.{Prefix}
 use Rattle.cc_whole.specs.declared.statement.CLocal.{CLocal}
 use Rattle.cc_whole.specs.Plain.{Place, named, pointed, Expression, constant, load, unary, cast, address, binary, Callee, by_name, by_pointer, Statement, assign, call, block, leave, next, choose, loop, select, give, Statements, done, followed, SwitchItems, closed, labelled, otherwise, stated, Body, body, SwitchItem, label, default_label, inner}

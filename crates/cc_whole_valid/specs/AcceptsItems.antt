@@ -1,5 +1,5 @@
 -- What the code decides of items, without places: the same checks, in the same order.
-use Rattle.std.specs.Prelude.{ℕ, nat_lt, Bool, true, false, not, ◌&&◌, ◌||◌, List, [], ◌∷◌, Option, Some, None}
+use Rattle.std.specs.Prelude.{ℕ, nat_lt, Bool, true, false, not, ◌&&◌, List, [], ◌∷◌, Option, Some, None}
 use Rattle.std.specs.List.{list_all}
 use Rattle.cc_whole_tokens.specs.Token.{is_name}
 use Rattle.cc_whole.specs.declared.types.CVariableType.{CVariableType}

@@ -1,5 +1,5 @@
 -- Names in scope and what is known, as they stand in memory.
-use Rattle.std.specs.Prelude.{ℕ, Bool, List, Option, map, option_map, reverse}
+use Rattle.std.specs.Prelude.{List, Option, map, option_map, reverse}
 use Rattle.cc_whole.specs.declared.types.CSignature.{CSignature}
 use Rattle.cc_whole.specs.Types.{signature_of}
 use Rattle.cc_whole.specs.Known.{Meant, function, object, Named}

@@ -76,7 +76,8 @@ fn helper_may_call(callee: &CCallee) -> bool
     ensures { result ≡ checks.helper_may_call (callee_of callee.now) }
 {
     match callee {
-        CCallee::Name(name) => !is_helper(name.as_slice()) && !(name.as_slice() == b"atexit".as_slice()),
+        CCallee::Name(name) => !is_helper(name.as_slice())
+            && !(name.as_slice() == b"atexit".as_slice()),
         CCallee::Pointer(_, _) => false,
     }
 }

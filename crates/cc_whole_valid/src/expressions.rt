@@ -8,9 +8,7 @@ ghost use Rattle.cc_whole_valid.specs.Memory.{meant};
 
 use crate::constants::{constant_type, fits_constant, is_zero_constant};
 use crate::scope::{Entity, Scope};
-use crate::types::{
-    cast_type, joined_type, pointed_type, prefixed_type, stored_type, value_type,
-};
+use crate::types::{cast_type, joined_type, pointed_type, prefixed_type, stored_type, value_type};
 use cc_whole::{CConstant, CExpression, CPlace, CType};
 
 pub fn is_main(name: &[u8]) -> bool

@@ -85,10 +85,7 @@ pub fn add_locals<'a>(names: &mut Scope<'a>, locals: &'a [CLocal]) -> Result<(),
 }
 
 /// Puts parameters in front of the names in scope, in their order.
-pub fn add_parameters<'a>(
-    names: &mut Scope<'a>,
-    parameters: &'a [CParameter],
-) -> Result<(), Memory>
+pub fn add_parameters<'a>(names: &mut Scope<'a>, parameters: &'a [CParameter]) -> Result<(), Memory>
     ensures { OnOk result (names.new ≡ known.parameters_named parameters.now ++ names.old) }
 {
     let mut left = parameters.len();

@@ -3,7 +3,9 @@ ghost use Rattle.cc_whole.specs.Plain.{statement_of, body_of, else_of, in_order,
 ghost use Rattle.cc_whole.specs.Spellable as spec;
 ghost use Rattle.cc_whole_valid.specs.AcceptsItems as accepts;
 
-use cc_whole::{CBody, CInitialiser, CItem, CLocal, CParameter, CPrototype, CStatement, CSwitchItem};
+use cc_whole::{
+    CBody, CInitialiser, CItem, CLocal, CParameter, CPrototype, CStatement, CSwitchItem,
+};
 use cc_whole_tokens::is_name;
 use cf_base::{Boxed, Items};
 
@@ -87,7 +89,9 @@ fn spellable_switch_item(item: &CSwitchItem) -> bool
 fn good_parameters(parameters: &[CParameter]) -> bool
     ensures { result ≡ accepts.good_parameters parameters.now }
 {
-    parameters.iter().all(|parameter| is_name(parameter.name.as_slice()))
+    parameters
+        .iter()
+        .all(|parameter| is_name(parameter.name.as_slice()))
 }
 
 fn spellable_prototype(prototype: &CPrototype) -> bool

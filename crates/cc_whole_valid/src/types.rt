@@ -155,13 +155,7 @@ fn may_stand_left(op: Arith, a: CType) -> bool
 }
 
 /// The type of an operator's result at two operands, of each of which it is told whether it is the constant 0.
-pub fn joined_type(
-    op: Arith,
-    a: CType,
-    a_zero: bool,
-    b: CType,
-    b_zero: bool,
-) -> Option<CType>
+pub fn joined_type(op: Arith, a: CType, a_zero: bool, b: CType, b_zero: bool) -> Option<CType>
     ensures { result ≡ accepts.joined_type op a a_zero b b_zero }
 {
     if may_stand_left(op, a) {
