@@ -1,7 +1,7 @@
 -- What the code decides of used names is that each passes the definition's test.
 use Rattle.std.proofs.Common.{◌≡◌, ℕ, Bool, true, false, not, ◌&&◌, ◌||◌, if◌then◌else◌, List, [], ◌∷◌, ◌++◌, Option, Some, None, refl, ap, ◌∙◌, sym}
 use Rattle.std.specs.Prelude.{bytes_eq, codes}
-use Rattle.std.specs.List.{list_all, list_any}
+use Rattle.std.specs.List.{list_all}
 use Rattle.std.proofs.lemmas.List.Folds.{list_all-append}
 use Rattle.cc_whole.specs.declared.unit.CPair.{CPair}
 use Rattle.cc_whole.specs.declared.unit.CInitialiser.{CInitialiser}
@@ -10,7 +10,7 @@ use Rattle.cc_whole.specs.Plain.{Place, named, pointed, Expression, constant, lo
 use Rattle.cc_whole.specs.Known.{is_in, is_library}
 use Rattle.cc_whole.specs.Uses.{local_names, parameter_names, use_of, uses_of, uses_of_place, uses_of_all, uses_of_target, uses_of_callee, uses_of_given, uses_of_statement, uses_of_statements, uses_of_switch, uses_of_body, use_of_function, uses_of_pairs, uses_of_start, uses_of_item}
 use Rattle.cc_whole.specs.Valid.{is_definition, defined_after}
-use Rattle.cc_whole.specs.ValidUnit.{defines_name, defined_in, uses_defined, is_static, valid_items, valid_program_items}
+use Rattle.cc_whole.specs.ValidUnit.{defined_in, uses_defined, is_static, valid_items, valid_program_items}
 use Rattle.cc_whole_program.specs.Uses.{all_defined, is_there, good_name, good, good_place, good_all, good_target, good_callee, good_given, good_statement, good_statements, good_switch, good_body, good_function, good_pairs, good_start, good_item, good_items, is_closed}
 
 and-true : (a : Bool) → (a && true) ≡ a
