@@ -1,0 +1,5 @@
+pub mod Blocks
+pub mod Cells
+pub mod Lists
+pub mod Pointers
+pub mod Values

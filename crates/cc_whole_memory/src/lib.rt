@@ -1,0 +1,14 @@
+//! The memory of a run of the small C: numbered blocks of bytes, and what is stored, loaded and moved there.
+//!
+//! `specs/` has the definitions, on which the meaning of programs stands; `Store` is a memory as a list of blocks.
+#![tactic(auto)]
+
+mod act;
+mod cells;
+mod store;
+mod value;
+
+pub use act::Act;
+pub use cells::{load, pieces, place, put, Cell};
+pub use store::{Block, Storage, Store};
+pub use value::{as_scalar, bytes_of, size_of, zero_of, Pointer, Scalar, Value};
