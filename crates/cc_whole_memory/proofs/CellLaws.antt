@@ -1,7 +1,7 @@
 -- Lists of cells as cells by offset.
 use Rattle.std.proofs.Common.{◌≡◌, ℕ, zero, suc, ◌+◌, ◌-◌, ◌<◌, ◌≤◌, nat_lt, nat_le, Bool, true, false, ◌&&◌, ◌==◌, if◌then◌else◌, List, [], ◌∷◌, length, get_or, Option, Some, None, slice_get, refl, ap, sym, ◌∙◌, arith, slice_set, ◌⊎◌, ◌≢◌, inl, inr, length-set, subst}
 use Rattle.std.proofs.lemmas.Bool.Decides.{nat_tests}
-use Rattle.std.proofs.lemmas.Option.{slice_get_read}
+use Rattle.std.proofs.lemmas.Option.{slice_get_read, slice_get-get_or}
 use Rattle.cf_base.specs.declared.kind.Kind.{Kind}
 use Rattle.cf_base.specs.declared.kind.Kind.TheVariants.{Char, SChar, UChar, Short, UShort, Int, UInt, Long, ULong}
 use Rattle.cc_whole_memory.specs.declared.value.Value.{Value}
@@ -9,7 +9,7 @@ use Rattle.cc_whole_memory.specs.declared.value.Value.TheVariants as value
 use Rattle.cc_whole_memory.specs.declared.cells.Cell.{Cell}
 use Rattle.cc_whole_memory.specs.declared.cells.Cell.TheVariants as cell
 use Rattle.cc_whole_memory.specs.Values.{kind_bytes, size_of}
-use Rattle.cc_whole_memory.specs.Cells.{Cells, span, left, cleared, put}
+use Rattle.cc_whole_memory.specs.Cells.{Cells, span, left, cleared, put, whole}
 use Rattle.cc_whole_memory.specs.Lists.{cell_at, cell_of}
 
 pub cell_at-set : (xs : List Cell) (o : ℕ) (c : Cell) (i : ℕ) → o < length xs → cell_at (slice_set xs o c) i ≡ (if i == o then c else cell_at xs i)
@@ -131,7 +131,7 @@ same_or (suc i) (suc j) = next (same_or i j)
     next (inr ne) = inr (λ e. ne (omega (arith, e)))
 
 pub placed-set : (q k index : ℕ) (pieces old now : List Cell) (x : Cell) → PlacedTo q k pieces index old now → index < length pieces → q + index < length old
-    → x ≡ get_or pieces index x → PlacedTo q k pieces (index + 1) old (slice_set now (q + index) x)
+    → cell_at pieces index ≡ x → PlacedTo q k pieces (index + 1) old (slice_set now (q + index) x)
 placed-set q k index pieces old now x inv within inside is = record {
   length = length-set now (q + index) x ∙ inv.length;
   cells = λ i. cell_at-set now (q + index) x i inside_now ∙ step i;
@@ -140,7 +140,7 @@ placed-set q k index pieces old now x inv within inside is = record {
     inside_now : q + index < length now
     inside_now = let e = inv.length in omega (arith, e, inside)
     piece : cell_at pieces index ≡ x
-    piece = cell_at-read pieces index x within is
+    piece = is
     step : (i : ℕ) → (if i == q + index then x else cell_at now i)
         ≡ (if nat_le q i && nat_lt i (q + (index + 1)) then cell_at pieces (i - q) else cleared q k (cell_at old) i)
     step i = let here = inv.cells i in by_place (same_or i (q + index)) here
@@ -154,3 +154,27 @@ placed-set q k index pieces old now x inv within inside is = record {
             let f : cell_at pieces (i - q) ≡ x = ap (cell_at pieces) e ∙ piece in
             grind (arith, nat_tests, same, f)
         by_place (inr other) here = grind (arith, nat_tests, other, here)
+
+-- the first pieces of a move are found
+pub record FoundTo (cells : List Cell) (q k index : ℕ) (found : List Cell) : Type 0 where
+  pub length : length found ≡ 4
+  pub pieces : (j : ℕ) → j < index → cell_at found j ≡ whole k j (cell_at cells (q + j))
+
+pub found-set : (cells : List Cell) (q k index : ℕ) (found : List Cell) (x : Cell) → FoundTo cells q k index found → index < 4
+    → x ≡ whole k index (cell_at cells (q + index)) → FoundTo cells q k (index + 1) (slice_set found index x)
+found-set cells q k index found x inv within is = record {
+  length = length-set found index x ∙ inv.length;
+  pieces = λ j lt. cell_at-set found index x j inside ∙ step j lt (same_or j index);
+}
+  where
+    inside : index < length found
+    inside = let e = inv.length in omega (arith, e, within)
+    step : (j : ℕ) → j < index + 1 → (j ≡ index) ⊎ (j ≢ index) → (if j == index then x else cell_at found j) ≡ whole k j (cell_at cells (q + j))
+    step j lt (inl same) = let f : whole k j (cell_at cells (q + j)) ≡ x = ap (λ i. whole k i (cell_at cells (q + i))) same ∙ sym is in grind (arith, nat_tests, same, f)
+    step j lt (inr other) = let before : j < index = omega (arith, lt, other) in let f = inv.pieces j before in grind (arith, nat_tests, other, f)
+
+pub cell_at-indexed : (xs : List Cell) (i : ℕ) (d : Cell) → i < length xs → cell_at xs i ≡ get_or xs i d
+cell_at-indexed xs i d within = ap cell_of (slice_get-get_or xs i d within)
+
+pub found-none : (cells : List Cell) (q k : ℕ) (found : List Cell) → length found ≡ 4 → FoundTo cells q k 0 found
+found-none cells q k found length = record { length = length; pieces = λ j lt. absurd (omega (arith, lt)) }

@@ -69,14 +69,24 @@ different_blocks = 8
 abbrev pub not_allotted : ℕ
 not_allotted = 10
 
-abbrev pub inside : {A : Type 0} → ℕ → ℕ → Option Block → (Block → Result A ℕ) → Result A ℕ
-inside q n None go = Err not_live
-inside q n (Some x) go = if nat_le (q + n) x.size then go x else Err outside
+-- what a pointer points to: a block's number, an offset, and the block
+pub record Place : Type 0 where
+  pub number : ℕ
+  pub offset : ℕ
+  pub block : Block
 
--- n bytes that a pointer points to: their block's number, their offset, and the block
-abbrev pub bytes_at : {A : Type 0} → Pointer → ℕ → Memory → (ℕ → ℕ → Block → Result A ℕ) → Result A ℕ
-bytes_at pointer.Null n m go = Err null_used
-bytes_at (pointer.At b q) n m go = inside q n (m.block b) (go b q)
+abbrev pub inside : ℕ → ℕ → ℕ → Option Block → Result Place ℕ
+inside b q n None = Err not_live
+inside b q n (Some x) = if nat_le (q + n) x.size then Ok (record { number = b; offset = q; block = x }) else Err outside
+
+-- where n bytes stand that a pointer points to
+abbrev pub reached : Pointer → ℕ → Memory → Result Place ℕ
+reached pointer.Null n m = Err null_used
+reached (pointer.At b q) n m = inside b q n (m.block b)
+
+abbrev pub on_ok : {A B : Type 0} → Result A ℕ → (A → Result B ℕ) → Result B ℕ
+on_ok (Ok x) go = go x
+on_ok (Err act) go = Err act
 
 abbrev pub value_or_act : Option Value → Result Value ℕ
 value_or_act None = Err no_value
@@ -84,18 +94,20 @@ value_or_act (Some v) = Ok v
 
 -- a load of this type
 abbrev pub read : Scalar → Pointer → Memory → Result Value ℕ
-read t p m = bytes_at p (bytes_of t) m (λ b q x. value_or_act (load t x.cells q))
+read t p m = on_ok (reached p (bytes_of t) m) (λ at. value_or_act (load t at.block.cells at.offset))
 
-abbrev pub with_cells : ℕ → Block → Cells → Memory → Memory
-with_cells b x cells m = record m { block = put_block b (Some (record x { cells = cells })) m.block }
+-- a block gets these cells
+abbrev pub with_cells : Place → Cells → Memory → Memory
+with_cells at cells m = record m { block = put_block at.number (Some (record at.block { cells = cells })) m.block }
 
 -- a store
 abbrev pub write : Pointer → Value → Memory → Result Memory ℕ
-write p v m = bytes_at p (size_of v) m (λ b q x. Ok (with_cells b x (put v q x.cells) m))
+write p v m = on_ok (reached p (size_of v) m) (λ at. Ok (with_cells at (put v at.offset at.block.cells) m))
 
 -- what stands in n bytes is moved, no value included
 abbrev pub carry : ℕ → Pointer → Pointer → Memory → Result Memory ℕ
-carry n from to m = bytes_at from n m (λ b p x. bytes_at to n m (λ c q y. Ok (with_cells c y (carried n x.cells p y.cells q) m)))
+carry n from to m = on_ok (reached from n m) (λ x. on_ok (reached to n m)
+    (λ y. Ok (with_cells y (carried n x.block.cells x.offset y.block.cells y.offset) m)))
 
 -- The heap. What is left of its limit is counted in charges: of each block its size, and at least 8.
 abbrev pub charge : ℕ → ℕ

@@ -2,4 +2,5 @@ pub mod Blocks
 pub mod Cells
 pub mod Lists
 pub mod Pointers
+pub mod Store
 pub mod Values

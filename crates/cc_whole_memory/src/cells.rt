@@ -1,4 +1,4 @@
-ghost use Rattle.std.specs.Prelude.{◌≡◌, ◌+◌, ◌≤◌, ◌<◌, ◌^◌, length};
+ghost use Rattle.std.specs.Prelude.{◌≡◌, ℕ, ◌+◌, ◌≤◌, ◌<◌, ◌^◌, length};
 ghost use Rattle.cc_whole_memory.specs.Values as values;
 ghost use Rattle.cc_whole_memory.specs.Cells as standing;
 ghost use Rattle.cc_whole_memory.specs.Lists.{cell_at};
@@ -122,7 +122,8 @@ fn whole(cells: &[Cell], at: usize, count: u32, index: u32) -> Cell
 pub fn pieces(cells: &[Cell], at: usize, count: u32) -> [Cell; 4]
     requires inside { at + count ≤ length cells.now }
     requires few { count ≤ 4 }
-    ensures { (index : ℕ) → index < count → cell_at result index ≡ standing.whole count index (cell_at cells.now (at + index)) }
+    ensures length { length result ≡ 4 }
+    ensures pieces { (index : ℕ) → index < count → cell_at result index ≡ standing.whole count index (cell_at cells.now (at + index)) }
 {
     let mut found = [Cell::Gone; 4];
     for index in 0..count {
@@ -132,10 +133,10 @@ pub fn pieces(cells: &[Cell], at: usize, count: u32) -> [Cell; 4]
 }
 
 /// These cells are placed at an offset: every value that they overlap ends.
-pub fn place(cells: &mut Vec<Cell>, at: usize, pieces: [Cell; 4], count: u32)
+pub fn place(cells: &mut Vec<Cell>, at: usize, pieces: &[Cell], count: u32)
     requires inside { at + count ≤ length cells.old.items }
-    requires few { count ≤ 4 }
-    ensures cells { cell_at cells.new.items ≡ standing.placed count (cell_at pieces) at (cell_at cells.old.items) }
+    requires enough { count ≤ length pieces.now }
+    ensures cells { cell_at cells.new.items ≡ standing.placed count (cell_at pieces.now) at (cell_at cells.old.items) }
     ensures length { length cells.new.items ≡ length cells.old.items }
 {
     clear(cells, at, count);

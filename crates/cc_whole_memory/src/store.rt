@@ -1,5 +1,13 @@
-use crate::cells::Cell;
-use std::alloc::Global;
+ghost use Rattle.std.specs.Prelude.{◌≡◌, ◌+◌, ◌≤◌, ◌<◌, length, Ok, Err, OnOk, IfOk, IfErr};
+ghost use Rattle.cc_whole_memory.specs.Values as values;
+ghost use Rattle.cc_whole_memory.specs.Blocks as memory;
+ghost use Rattle.cc_whole_memory.specs.Blocks.{no_memory, born};
+ghost use Rattle.cc_whole_memory.specs.Store.{memory_of, answer, act_number, Reaches};
+
+use crate::act::Act;
+use crate::cells::{load, pieces, place, put, Cell};
+use crate::value::{bytes_of, size_of, Pointer, Scalar, Value};
+use std::alloc::{AllocError, Global};
 
 /// What a block is for.
 #[derive(Clone, Copy, Debug, PartialEq, Eq)]
@@ -24,5 +32,97 @@ pub struct Block {
 #[derive(Drop)]
 pub struct Store {
     alloc: Global,
-    pub blocks: Vec<Block>,
+    blocks: Vec<Block>,
+}
+
+/// What stands in a new block.
+fn first_cell(storage: Storage) -> Cell
+    ensures { result ≡ memory.first_cell storage }
+{
+    match storage {
+        Storage::Static => Cell::Zero,
+        Storage::Local => Cell::Gone,
+        Storage::Heap => Cell::Gone,
+    }
+}
+
+impl Store {
+    /// A memory without blocks.
+    pub fn new(alloc: Global) -> Store
+        ensures { memory_of result ≡ no_memory }
+    {
+        Store {
+            alloc,
+            blocks: Vec::new(alloc),
+        }
+    }
+
+    /// A new block of so many bytes, and its number.
+    pub fn give(&mut self, storage: Storage, size: u32) -> Result<usize, AllocError>
+        ensures number { IfOk result (λ b. b ≡ (memory_of self.old).next) }
+        ensures born { OnOk result (memory_of self.new ≡ born storage size (memory_of self.old)) }
+    {
+        let number = self.blocks.len();
+        let cells = vec![in self.alloc; first_cell(storage); size as usize]?;
+        self.blocks.push(Block {
+            is_live: true,
+            storage,
+            cells,
+        })?;
+        Ok(number)
+    }
+
+    /// A block ends.
+    pub fn end(&mut self, block: usize)
+        ensures { memory_of self.new ≡ memory.ended block (memory_of self.old) }
+    {
+        if block < self.blocks.len() {
+            self.blocks[block] = Block {
+                is_live: false,
+                storage: Storage::Local,
+                cells: Vec::new(self.alloc),
+            };
+        }
+    }
+
+    /// The block and the offset of so many bytes that a pointer points to.
+    fn reach(&self, at: Pointer, count: u32) -> Result<(usize, usize), Act>
+        ensures ok { IfOk result (λ r. Reaches at count self.now.blocks.items r.0 r.1) }
+        ensures err { IfErr result (λ act. memory.reached at count (memory_of self.now) ≡ Err (act_number act)) }
+    {
+        match at {
+            Pointer::Null => Err(Act::A4),
+            Pointer::At { block, offset } => match self.blocks.get(block) {
+                None => Err(Act::A5),
+                Some(held) => {
+                    if !held.is_live {
+                        Err(Act::A5)
+                    } else if offset as usize + count as usize <= held.cells.len() {
+                        Ok((block, offset as usize))
+                    } else {
+                        Err(Act::A6)
+                    }
+                }
+            },
+        }
+    }
+
+    /// The value of this type that a pointer points to.
+    pub fn read(&self, at: Pointer, scalar: Scalar) -> Result<Value, Act>
+        ensures { answer result ≡ memory.read scalar at (memory_of self.now) }
+    {
+        let (block, offset) = self.reach(at, bytes_of(scalar))?;
+        load(&self.blocks[block].cells, offset, scalar).ok_or(Act::A7)
+    }
+
+    /// A value is stored where a pointer points to.
+    pub fn write(&mut self, at: Pointer, value: Value) -> Result<(), Act>
+        ensures ok { OnOk result (memory.write at value (memory_of self.old) ≡ Ok (memory_of self.new)) }
+        ensures err { IfErr result (λ act. memory.write at value (memory_of self.old) ≡ Err (act_number act)) }
+        ensures same { IfErr result (λ _. memory_of self.new ≡ memory_of self.old) }
+    {
+        let (block, offset) = self.reach(at, size_of(value))?;
+        put(&mut self.blocks[block].cells, offset, value);
+        Ok(())
+    }
 }
