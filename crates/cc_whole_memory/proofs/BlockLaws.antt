@@ -1,5 +1,5 @@
 -- Lists of blocks as memories.
-use Rattle.std.proofs.Common.{◌≡◌, ℕ, zero, suc, ◌+◌, ◌<◌, nat_lt, Bool, true, false, ◌==◌, if◌then◌else◌, List, [], ◌∷◌, ◌++◌, length, get_or, replicate, Option, Some, None, slice_get, length-append, refl, nat_le, ◌≤◌, Result, Ok, Err, ap, sym, ◌∙◌, arith, subst}
+use Rattle.std.proofs.Common.{◌≡◌, ℕ, zero, suc, ◌+◌, ◌-◌, ◌<◌, nat_lt, ◌&&◌, Bool, true, false, ◌==◌, if◌then◌else◌, List, [], ◌∷◌, ◌++◌, length, get_or, replicate, Option, Some, None, slice_get, length-append, refl, nat_le, ◌≤◌, Result, Ok, Err, ap, sym, ◌∙◌, arith, subst}
 use Rattle.std.proofs.lemmas.Bool.Decides.{nat_tests}
 use Rattle.std.proofs.lemmas.List.{length-replicate}
 use Rattle.std.proofs.lemmas.Option.{slice_get_past, slice_get-get_or}
@@ -7,12 +7,12 @@ use Rattle.cc_whole_memory.specs.declared.cells.Cell.{Cell}
 use Rattle.cc_whole_memory.specs.declared.cells.Cell.TheVariants as cell
 use Rattle.cc_whole_memory.specs.declared.store.Block.{Block as Held}
 use Rattle.cc_whole_memory.specs.declared.store.Storage.{Storage}
-use Rattle.cc_whole_memory.specs.Cells.{Cells}
+use Rattle.cc_whole_memory.specs.Cells.{Cells, placed, cleared, taken}
 use Rattle.cc_whole_memory.specs.declared.value.Pointer.{Pointer}
 use Rattle.cc_whole_memory.specs.declared.value.Pointer.TheVariants as pointer
-use Rattle.cc_whole_memory.specs.Blocks.{Block, Memory, Place, put_block, first_cell, new_block, born, reached, inside}
+use Rattle.cc_whole_memory.specs.Blocks.{Block, Memory, Place, put_block, first_cell, new_block, born, reached, inside, on_ok, laid, carry, with_cells}
 use Rattle.cc_whole_memory.specs.Lists.{cell_at, cell_of}
-use Rattle.cc_whole_memory.specs.Store.{held_block, block_of, memory_in, Reaches}
+use Rattle.cc_whole_memory.specs.Store.{held_block, block_of, memory_in, Reaches, Takes}
 
 push_block : (xs : List Held) (x : Held) (b : ℕ)
     → block_of (slice_get (xs ++ x ∷ []) b) ≡ put_block (length xs) (block_of (Some x)) (λ c. block_of (slice_get xs c)) b
@@ -54,24 +54,44 @@ born-push xs x s n live storage cells =
 live_block : (blocks : List Held) (b : ℕ) (x : Held) → slice_get blocks b ≡ Some x → x.is_live ≡ true → block_of (slice_get blocks b) ≡ Some (held_block x)
 live_block blocks b x there live = ap block_of there ∙ ap (λ t. if t then Some (held_block x) else None) live
 
-fits-true : (q n size : ℕ) → q + n ≤ size → nat_le (q + n) size ≡ true
-fits-true q n size le = grind (arith, nat_tests)
-
-fits-false : (q n size : ℕ) → size < q + n → nat_le (q + n) size ≡ false
-fits-false q n size lt = grind (arith, nat_tests)
+within-size : (q n size : ℕ) → nat_le (q + n) size ≡ true → q + n ≤ size
+within-size q n size e = grind (arith, nat_tests, e)
 
 -- bytes inside a live block are reached
 pub reaches : (p : Pointer) (n : ℕ) (blocks : List Held) (b q : ℕ) (x : Held) → p ≡ pointer.At b q → slice_get blocks b ≡ Some x → x.is_live ≡ true
-    → q + n ≤ length x.cells.items → Reaches p n blocks b q
-reaches p n blocks b q x is there live within = record {
-  held = x; there = there; live = live; inside = within;
+    → nat_le (q + n) (length x.cells.items) ≡ true → Reaches p n blocks b q
+reaches p n blocks b q x is there live test = record {
+  held = x; there = there; live = live; inside = within-size q n (length x.cells.items) test;
   same = ap (λ a. reached a n (memory_in blocks)) is ∙ ap (inside b q n) (live_block blocks b x there live)
-      ∙ ap (λ t. if t then Ok (record { number = b; offset = q; block = held_block x }) else Err 6) (fits-true q n (length x.cells.items) within);
+      ∙ ap (λ t. if t then Ok (record { number = b; offset = q; block = held_block x }) else Err 6) test;
 }
 
 -- bytes outside a live block are not
 pub outside-live : (p : Pointer) (n : ℕ) (blocks : List Held) (b q : ℕ) (x : Held) → p ≡ pointer.At b q → slice_get blocks b ≡ Some x → x.is_live ≡ true
-    → length x.cells.items < q + n → reached p n (memory_in blocks) ≡ Err 6
-outside-live p n blocks b q x is there live past =
+    → nat_le (q + n) (length x.cells.items) ≡ false → reached p n (memory_in blocks) ≡ Err 6
+outside-live p n blocks b q x is there live test =
     ap (λ a. reached a n (memory_in blocks)) is ∙ ap (inside b q n) (live_block blocks b x there live)
-    ∙ ap (λ t. if t then Ok (record { number = b; offset = q; block = held_block x }) else Err 6) (fits-false q n (length x.cells.items) past)
+    ∙ ap (λ t. if t then Ok (record { number = b; offset = q; block = held_block x }) else Err 6) test
+
+-- only the pieces that are placed count
+pub placed-same : (k q : ℕ) (f g to : Cells) → ((j : ℕ) → j < k → f j ≡ g j) → placed k f q to ≡ placed k g q to
+placed-same k q f g to same = λ j i. path i j
+  where
+    by_test : (i : ℕ) (t : Bool) → (nat_le q i && nat_lt i (q + k)) ≡ t → (if t then f (i - q) else cleared q k to i) ≡ (if t then g (i - q) else cleared q k to i)
+    by_test i true e = let lt : i - q < k = grind (arith, nat_tests, e) in same (i - q) lt
+    by_test i false e = refl
+    path : (i : ℕ) → placed k f q to i ≡ placed k g q to i
+    path i = by_test i (nat_le q i && nat_lt i (q + k)) refl
+
+pub laid-same : (n : ℕ) (f g : Cells) (to : Pointer) (m : Memory) → ((j : ℕ) → j < n → f j ≡ g j) → laid n f to m ≡ laid n g to m
+laid-same n f g to m same = ap (on_ok (reached to n m)) (λ i at. Ok (with_cells at (placed-same n at.offset f g at.block.cells same i) m))
+
+-- a move of what was taken
+pub carry-taken : (n : ℕ) (from to : Pointer) (blocks : List Held) (found : List Cell) → Takes from n blocks found
+    → carry n from to (memory_in blocks) ≡ laid n (cell_at found) to (memory_in blocks)
+carry-taken n from to blocks found t =
+    ap (λ r. on_ok r (λ at. laid n (taken n at.block.cells at.offset) to (memory_in blocks))) t.same
+    ∙ laid-same n (taken n t.place.block.cells t.place.offset) (cell_at found) to (memory_in blocks) (λ j lt. sym (t.pieces j lt))
+
+pub carry-untaken : (n act : ℕ) (from to : Pointer) (blocks : List Held) → reached from n (memory_in blocks) ≡ Err act → carry n from to (memory_in blocks) ≡ Err act
+carry-untaken n act from to blocks e = ap (λ r. on_ok r (λ at. laid n (taken n at.block.cells at.offset) to (memory_in blocks))) e

@@ -9,13 +9,16 @@ use Rattle.cc_whole_memory.specs.declared.cells.Cell.TheVariants as cell
 use Rattle.cc_whole_memory.specs.declared.store.Storage.{Storage}
 use Rattle.cc_whole_memory.specs.declared.store.Storage.TheVariants as storage
 use Rattle.cc_whole_memory.specs.Values.{bytes_of, size_of}
-use Rattle.cc_whole_memory.specs.Cells.{Cells, put, load, carried}
+use Rattle.cc_whole_memory.specs.Cells.{Cells, put, load, taken, placed}
 
 -- a block: what it is for, how many bytes it has, and what stands in them
 pub record Block : Type 0 where
   pub storage : Storage
   pub size : ℕ
   pub cells : Cells
+
+abbrev pub size_of_block : Block → ℕ
+size_of_block x = x.size
 
 pub record Memory : Type 0 where
   pub next : ℕ  -- the number of the next block
@@ -104,10 +107,13 @@ with_cells at cells m = record m { block = put_block at.number (Some (record at.
 abbrev pub write : Pointer → Value → Memory → Result Memory ℕ
 write p v m = on_ok (reached p (size_of v) m) (λ at. Ok (with_cells at (put v at.offset at.block.cells) m))
 
+-- cells are placed at n bytes
+abbrev pub laid : ℕ → Cells → Pointer → Memory → Result Memory ℕ
+laid n found p m = on_ok (reached p n m) (λ at. Ok (with_cells at (placed n found at.offset at.block.cells) m))
+
 -- what stands in n bytes is moved, no value included
 abbrev pub carry : ℕ → Pointer → Pointer → Memory → Result Memory ℕ
-carry n from to m = on_ok (reached from n m) (λ x. on_ok (reached to n m)
-    (λ y. Ok (with_cells y (carried n x.block.cells x.offset y.block.cells y.offset) m)))
+carry n from to m = on_ok (reached from n m) (λ at. laid n (taken n at.block.cells at.offset) to m)
 
 -- The heap. What is left of its limit is counted in charges: of each block its size, and at least 8.
 abbrev pub charge : ℕ → ℕ

@@ -61,6 +61,6 @@ whole k j (cell.Stored v) = if nat_le (j + size_of v) k then cell.Stored v else 
 abbrev pub placed : ℕ → Cells → ℕ → Cells → Cells
 placed k pieces q to i = if nat_le q i && nat_lt i (q + k) then pieces (i - q) else cleared q k to i
 
--- k bytes from p on of one block are moved to q in another, or in the same one
-abbrev pub carried : ℕ → Cells → ℕ → Cells → ℕ → Cells
-carried k from p to q = placed k (λ j. whole k j (from (p + j))) q to
+-- what a move of k bytes from p on takes
+abbrev pub taken : ℕ → Cells → ℕ → Cells
+taken k from p j = whole k j (from (p + j))

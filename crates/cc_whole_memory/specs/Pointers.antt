@@ -21,6 +21,10 @@ abbrev pub moved : Pointer → ℤ → Memory → Result Pointer ℕ
 moved pointer.Null z m = Err null_used
 moved (pointer.At b q) z m = moved_in b (pos q +ℤ z) (m.block b)
 
+abbrev pub moved_back : Pointer → ℤ → Memory → Result Pointer ℕ
+moved_back pointer.Null z m = Err null_used
+moved_back (pointer.At b q) z m = moved_in b (pos q -ℤ z) (m.block b)
+
 abbrev pub if_live : {A : Type 0} → Option Block → Result A ℕ → Result A ℕ
 if_live None r = Err not_live
 if_live (Some x) r = r

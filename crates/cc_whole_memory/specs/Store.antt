@@ -1,11 +1,13 @@
 -- The runner's memory as a memory, and its answers as answers of the definitions, which know an act by its number.
-use Rattle.std.specs.Prelude.{ℕ, ◌+◌, ◌≡◌, ◌≤◌, Bool, true, false, if◌then◌else◌, List, length, Option, Some, None, Result, Ok, Err, slice_get}
+use Rattle.std.specs.Prelude.{ℕ, ◌+◌, ◌≡◌, ◌≤◌, ◌<◌, Bool, true, false, if◌then◌else◌, List, length, Option, Some, None, Result, Ok, Err, slice_get}
 use Rattle.cc_whole_memory.specs.declared.act.Act.{Act}
 use Rattle.cc_whole_memory.specs.declared.act.Act.TheVariants as act
 use Rattle.cc_whole_memory.specs.declared.store.Block.{Block as Held}
 use Rattle.cc_whole_memory.specs.declared.store.Store.{Store}
 use Rattle.cc_whole_memory.specs.declared.value.Pointer.{Pointer}
 use Rattle.cc_whole_memory.specs.Blocks.{Block, Memory, Place, reached}
+use Rattle.cc_whole_memory.specs.declared.cells.Cell.{Cell}
+use Rattle.cc_whole_memory.specs.Cells.{taken}
 use Rattle.cc_whole_memory.specs.Lists.{cell_at}
 
 abbrev pub held_block : Held → Block
@@ -45,3 +47,10 @@ pub record Reaches (p : Pointer) (n : ℕ) (blocks : List Held) (b q : ℕ) : Ty
   pub live : held.is_live ≡ true
   pub inside : q + n ≤ length held.cells.items
   pub same : reached p n (memory_in blocks) ≡ Ok (record { number = b; offset = q; block = held_block held })
+
+-- what a move of n bytes takes from where a pointer points to
+pub record Takes (p : Pointer) (n : ℕ) (blocks : List Held) (found : List Cell) : Type 0 where
+  pub place : Place
+  pub same : reached p n (memory_in blocks) ≡ Ok place
+  pub enough : n ≤ length found
+  pub pieces : (j : ℕ) → j < n → cell_at found j ≡ taken n place.block.cells place.offset j

@@ -1,8 +1,9 @@
-ghost use Rattle.std.specs.Prelude.{◌≡◌, ◌+◌, ◌≤◌, ◌<◌, length, Ok, Err, OnOk, IfOk, IfErr};
+ghost use Rattle.std.specs.Prelude.{◌≡◌, ◌+◌, ◌≤◌, ◌<◌, ◌^◌, nat_le, length, Ok, Err, OnOk, IfOk, IfErr, option_map};
 ghost use Rattle.cc_whole_memory.specs.Values as values;
 ghost use Rattle.cc_whole_memory.specs.Blocks as memory;
-ghost use Rattle.cc_whole_memory.specs.Blocks.{no_memory, born};
-ghost use Rattle.cc_whole_memory.specs.Store.{memory_of, answer, act_number, Reaches};
+ghost use Rattle.cc_whole_memory.specs.Blocks.{no_memory, born, size_of_block};
+ghost use Rattle.cc_whole_memory.specs.Lists.{cell_at};
+ghost use Rattle.cc_whole_memory.specs.Store.{memory_of, answer, act_number, Reaches, Takes};
 
 use crate::act::Act;
 use crate::cells::{load, pieces, place, put, Cell};
@@ -44,6 +45,14 @@ fn first_cell(storage: Storage) -> Cell
         Storage::Local => Cell::Gone,
         Storage::Heap => Cell::Gone,
     }
+}
+
+/// Whether so many bytes are inside a block of a size.
+fn fits(offset: usize, count: u32, size: usize) -> bool
+    requires { size < 2 ^ 63 }
+    ensures { result ≡ nat_le (offset + count) size }
+{
+    offset <= size && offset + count as usize <= size
 }
 
 impl Store {
@@ -97,10 +106,9 @@ impl Store {
                 Some(held) => {
                     if !held.is_live {
                         Err(Act::A5)
-                    } else if offset as usize + count as usize <= held.cells.len() {
-                        Ok((block, offset as usize))
                     } else {
-                        Err(Act::A6)
+                        let is_inside = fits(offset, count, held.cells.len());
+                        if is_inside { Ok((block, offset)) } else { Err(Act::A6) }
                     }
                 }
             },
@@ -124,5 +132,51 @@ impl Store {
         let (block, offset) = self.reach(at, size_of(value))?;
         put(&mut self.blocks[block].cells, offset, value);
         Ok(())
+    }
+
+    /// What a move of so many bytes, at most four, takes from where a pointer points to.
+    fn take(&self, from: Pointer, count: u32) -> Result<[Cell; 4], Act>
+        requires { count ≤ 4 }
+        ensures ok { IfOk result (λ found. Takes from count self.now.blocks.items found) }
+        ensures err { IfErr result (λ act. memory.reached from count (memory_of self.now) ≡ Err (act_number act)) }
+    {
+        let (block, offset) = self.reach(from, count)?;
+        Ok(pieces(&self.blocks[block].cells, offset, count))
+    }
+
+    /// Cells are placed where a pointer points to.
+    fn lay(&mut self, found: &[Cell], to: Pointer, count: u32) -> Result<(), Act>
+        requires { count ≤ length found.now }
+        ensures ok { OnOk result (memory.laid count (cell_at found.now) to (memory_of self.old) ≡ Ok (memory_of self.new)) }
+        ensures err { IfErr result (λ act. memory.laid count (cell_at found.now) to (memory_of self.old) ≡ Err (act_number act)) }
+        ensures same { IfErr result (λ _. memory_of self.new ≡ memory_of self.old) }
+    {
+        let (block, offset) = self.reach(to, count)?;
+        place(&mut self.blocks[block].cells, offset, found, count);
+        Ok(())
+    }
+
+    /// What stands in so many bytes, at most four, is moved, no value included.
+    pub fn carry(&mut self, from: Pointer, to: Pointer, count: u32) -> Result<(), Act>
+        requires { count ≤ 4 }
+        ensures ok { OnOk result (memory.carry count from to (memory_of self.old) ≡ Ok (memory_of self.new)) }
+        ensures err { IfErr result (λ act. memory.carry count from to (memory_of self.old) ≡ Err (act_number act)) }
+        ensures same { IfErr result (λ _. memory_of self.new ≡ memory_of self.old) }
+    {
+        let found = self.take(from, count)?;
+        self.lay(&found, to, count)?;
+        Ok(())
+    }
+
+    /// The size of the block of this number, if it lives.
+    pub fn size(&self, block: usize) -> Option<usize>
+        ensures { result ≡ option_map size_of_block ((memory_of self.now).block block) }
+    {
+        let held = self.blocks.get(block)?;
+        if held.is_live {
+            Some(held.cells.len())
+        } else {
+            None
+        }
     }
 }

@@ -9,7 +9,7 @@ use cf_types::convert_int;
 pub enum Pointer {
     Null,
     /// The byte at this offset of the block of this number, or the end of the block.
-    At { block: usize, offset: u32 },
+    At { block: usize, offset: usize },
 }
 
 /// A value.

@@ -1,0 +1,2 @@
+//! The meaning of programs of the whole small C, in `specs/`.
+#![tactic(auto)]
