@@ -1,0 +1,3 @@
+mod Small
+mod Tried
+mod TriedCalls
