@@ -10,8 +10,9 @@ use Rattle.cc_whole.specs.Plain.{Place, Expression, Callee as Called_by, by_name
 use Rattle.cc_whole_memory.specs.declared.value.Value.{Value}
 use Rattle.cc_whole_memory.specs.declared.value.Value.TheVariants as value
 use Rattle.cc_whole_memory.specs.Blocks.{Memory, on_ok}
+use Rattle.cc_whole_mean.specs.declared.named.Target.{Target}
 use Rattle.cc_whole_mean.specs.Scope.{Scope, bind_locals, bind_parameters}
-use Rattle.cc_whole_mean.specs.Values.{Target, ill_typed, is_true, value_of, values_of, target_of, stored, assigned, integer_of}
+use Rattle.cc_whole_mean.specs.Values.{ill_typed, is_true, value_of, values_of, target_of, stored, assigned, integer_of}
 use Rattle.cc_whole_mean.specs.Flow.{State, in_memory, Flow, Falls, Breaks, Continues, Returns, Exits, tried, falling, turning, switching, ending, born_locals, born_arguments, Called, Back, Gone, called_back}
 use Rattle.cc_whole_mean.specs.Callee.{Callee, own, built_in, wrong_type, is_helper, is_main, callee_named, callee_numbered, has_type, parameters_of}
 use Rattle.cc_whole_mean.specs.Library.{wrong, does_library}

@@ -4,12 +4,10 @@ use Rattle.cc_whole.specs.declared.statement.CLocal.{CLocal}
 use Rattle.cc_whole.specs.declared.unit.CParameter.{CParameter}
 use Rattle.cc_whole.specs.declared.unit.CVariable.{CVariable}
 use Rattle.cc_whole.specs.Plain.{Function}
-use Rattle.cc_whole_mean.specs.Types.{Shape, single, scalar_of, local_shape, variable_shape}
-
--- a variable by its block, or a function by its number
-pub data Named : Type 0 where
-  variable : ℕ → Shape → Named
-  function : ℕ → Named
+use Rattle.cc_whole_mean.specs.declared.named.Named.{Named}
+use Rattle.cc_whole_mean.specs.declared.named.Named.TheVariants.{Variable as variable, Function as function}
+use Rattle.cc_whole_mean.specs.declared.named.Shape.TheVariants.{Single as single}
+use Rattle.cc_whole_mean.specs.Types.{scalar_of, local_shape, variable_shape}
 
 abbrev pub Scope : Type 0
 Scope = List ℕ → Option Named

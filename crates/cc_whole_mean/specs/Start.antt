@@ -17,7 +17,9 @@ use Rattle.cc_whole_memory.specs.declared.value.Value.TheVariants as value
 use Rattle.cc_whole_memory.specs.declared.store.Storage.TheVariants as storage
 use Rattle.cc_whole_memory.specs.Blocks.{Memory, no_memory, born, on_ok, write}
 use Rattle.cc_whole_mean.specs.Types.{constant_value, variable_size}
-use Rattle.cc_whole_mean.specs.Scope.{Scope, Named, variable, function, no_names, bind_variables, bind_functions, library, function_names}
+use Rattle.cc_whole_mean.specs.declared.named.Named.{Named}
+use Rattle.cc_whole_mean.specs.declared.named.Named.TheVariants.{Variable as variable, Function as function}
+use Rattle.cc_whole_mean.specs.Scope.{Scope, no_names, bind_variables, bind_functions, library, function_names}
 use Rattle.cc_whole_mean.specs.Values.{ill_typed, numbered}
 use Rattle.cc_whole_mean.specs.Flow.{State, Called, Back, Gone, tried}
 use Rattle.cc_whole_mean.specs.Callee.{wrong_type, callee_numbered, function_named}

@@ -15,6 +15,8 @@ use Rattle.cc_whole_memory.specs.declared.value.Value.TheVariants as value
 use Rattle.cc_whole_memory.specs.declared.value.Scalar.{Scalar}
 use Rattle.cc_whole_memory.specs.declared.value.Scalar.TheVariants as scalar
 use Rattle.cc_whole_memory.specs.Values.{bytes_of}
+use Rattle.cc_whole_mean.specs.declared.named.Shape.{Shape}
+use Rattle.cc_whole_mean.specs.declared.named.Shape.TheVariants.{Single as single, Array as array}
 
 abbrev pub scalar_of : CType → Scalar
 scalar_of ty.Char = scalar.Integer kind.Char
@@ -38,11 +40,6 @@ count_of_number (negsuc n) = 0
 abbrev pub count_of : CConstant → ℕ
 count_of (constant.Signed z) = count_of_number z
 count_of (constant.Unsigned n) = n
-
--- a name that stands for a scalar, or for an array's address
-pub data Shape : Type 0 where
-  single : Scalar → Shape
-  array : Shape
 
 abbrev pub variable_shape : CVariableType → Shape
 variable_shape (variable.Scalar t) = single (scalar_of t)

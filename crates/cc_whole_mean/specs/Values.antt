@@ -18,8 +18,12 @@ use Rattle.cc_whole_memory.specs.declared.value.Scalar.TheVariants as scalar
 use Rattle.cc_whole_memory.specs.Values.{bytes_of, as_scalar}
 use Rattle.cc_whole_memory.specs.Blocks.{Memory, on_ok, no_value, read, write, carry}
 use Rattle.cc_whole_memory.specs.Pointers.{moved, moved_back, of_pointers, same_pointer}
-use Rattle.cc_whole_mean.specs.Types.{Shape, single, array, scalar_of, constant_value}
-use Rattle.cc_whole_mean.specs.Scope.{Scope, Named, variable, function}
+use Rattle.cc_whole_mean.specs.declared.named.Named.{Named}
+use Rattle.cc_whole_mean.specs.declared.named.Named.TheVariants.{Variable as variable, Function as function}
+use Rattle.cc_whole_mean.specs.declared.named.Shape.TheVariants.{Single as single, Array as array}
+use Rattle.cc_whole_mean.specs.declared.named.Target.{Target}
+use Rattle.cc_whole_mean.specs.Types.{scalar_of, constant_value}
+use Rattle.cc_whole_mean.specs.Scope.{Scope}
 
 -- A program that keeps the rules of validity uses no name that is not declared and no operand of another type than its operator takes.
 -- Where one does, no value of that kind stands there.
@@ -138,11 +142,6 @@ applied o (value.Function f) (value.Address p) m = Err ill_typed
 applied o (value.Function f) (value.Function g) m = by_equality o (f == g)
 
 -- Places and loads.
-
--- where a load or a store of a type is
-pub record Target : Type 0 where
-  pub pointer : Pointer
-  pub scalar : Scalar
 
 abbrev pub variable_target : Option Named → Result Target ℕ
 variable_target (Some (variable b (single t))) = Ok (record { pointer = pointer.At b 0; scalar = t })

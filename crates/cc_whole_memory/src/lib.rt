@@ -5,10 +5,12 @@
 
 mod act;
 mod cells;
+mod pointers;
 mod store;
 mod value;
 
 pub use act::Act;
 pub use cells::{load, pieces, place, put, Cell};
+pub use pointers::same_pointer;
 pub use store::{Block, Storage, Store};
 pub use value::{as_scalar, bytes_of, size_of, zero_of, Pointer, Scalar, Value};

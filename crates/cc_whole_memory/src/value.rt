@@ -19,7 +19,7 @@ pub enum Value {
     Number(Kind, i64),
     Address(Pointer),
     /// The function of this number, from 1; 0 is null.
-    Function(u32),
+    Function(usize),
 }
 
 /// A type that a load, a store or a move has.
