@@ -193,23 +193,36 @@ variable_source (Some (variable b array)) = None
 variable_source (Some (function f)) = None
 variable_source None = None
 
+-- the pointer that an expression is
+abbrev pub pointer_of : Expression → Scope → Memory → Result Pointer ℕ
+pointer_of e scope m = on_ok (value_of e scope m) (λ v. addressed v (λ p. Ok p))
+
 abbrev pub source_of : Expression → Scope → Memory → Option (Result Pointer ℕ)
 source_of (load (named name)) scope m = variable_source (scope name)
-source_of (load (pointed t e)) scope m = Some (on_ok (value_of e scope m) (λ v. addressed v (λ p. Ok p)))
+source_of (load (pointed t e)) scope m = Some (pointer_of e scope m)
 source_of (constant c) scope m = None
 source_of (unary o e) scope m = None
 source_of (cast t e) scope m = None
 source_of (address name) scope m = None
 source_of (binary o a b) scope m = None
 
-abbrev pub assigned_from : Option (Result Pointer ℕ) → Target → Expression → Scope → Memory → Result Memory ℕ
-assigned_from None at e scope m = on_ok (value_of e scope m) (λ v. stored at v m)
-assigned_from (Some from) at e scope m = on_ok from (λ p. carry (bytes_of at.scalar) p at.pointer m)
+abbrev pub carried_to : Result Pointer ℕ → Target → Memory → Result Memory ℕ
+carried_to from at m = on_ok from (λ p. carry (bytes_of at.scalar) p at.pointer m)
+
+abbrev pub given_to : Expression → Target → Scope → Memory → Result Memory ℕ
+given_to e at scope m = on_ok (value_of e scope m) (λ v. stored at v m)
+
+abbrev pub by_source : Option (Result Pointer ℕ) → Expression → Target → Scope → Memory → Result Memory ℕ
+by_source None e at scope m = given_to e at scope m
+by_source (Some from) e at scope m = carried_to from at m
+
+abbrev pub assigned_to : Target → Expression → Scope → Memory → Result Memory ℕ
+assigned_to at e scope m = by_source (source_of e scope m) e at scope m
 
 -- `place = expression;`: the place first. A right side that is one load, which then has the left side's type, moves what stands there, no
 -- value included; any other gives its value.
 abbrev pub assigned : Place → Expression → Scope → Memory → Result Memory ℕ
-assigned place e scope m = on_ok (target_of place scope m) (λ at. assigned_from (source_of e scope m) at e scope m)
+assigned place e scope m = on_ok (target_of place scope m) (λ at. assigned_to at e scope m)
 
 -- the value of a condition, or of a `switch`
 abbrev pub integer_of : Expression → Scope → Memory → Result ℤ ℕ
