@@ -20,6 +20,9 @@ pub record Block : Type 0 where
 abbrev pub size_of_block : Block → ℕ
 size_of_block x = x.size
 
+abbrev pub storage_of_block : Block → Storage
+storage_of_block x = x.storage
+
 pub record Memory : Type 0 where
   pub next : ℕ  -- the number of the next block
   pub block : ℕ → Option Block  -- none where no block of this number lives
@@ -140,12 +143,16 @@ is_heap storage.Static = false
 is_heap storage.Local = false
 is_heap storage.Heap = true
 
-abbrev pub freed_block : ℕ → ℕ → Option Block → ℕ → Memory → Result Freed ℕ
+-- how many bytes a live heap block has
+abbrev pub heap_size : Option Block → Option ℕ
+heap_size None = None
+heap_size (Some x) = if is_heap x.storage then Some x.size else None
+
+abbrev pub freed_block : ℕ → ℕ → Option ℕ → ℕ → Memory → Result Freed ℕ
 freed_block b q None heap m = Err not_allotted
-freed_block b q (Some x) heap m =
-    if is_heap x.storage && q == 0 then Ok (record { heap = heap + charge x.size; memory = ended b m }) else Err not_allotted
+freed_block b q (Some size) heap m = if q == 0 then Ok (record { heap = heap + charge size; memory = ended b m }) else Err not_allotted
 
 -- `free`: null is ignored
 abbrev pub freed : Pointer → ℕ → Memory → Result Freed ℕ
 freed pointer.Null heap m = Ok (record { heap = heap; memory = m })
-freed (pointer.At b q) heap m = freed_block b q (m.block b) heap m
+freed (pointer.At b q) heap m = freed_block b q (heap_size (m.block b)) heap m

@@ -5,6 +5,7 @@
 
 mod act;
 mod cells;
+mod heap;
 mod pointers;
 mod store;
 mod value;

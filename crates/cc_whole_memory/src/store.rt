@@ -1,7 +1,7 @@
-ghost use Rattle.std.specs.Prelude.{◌≡◌, ◌+◌, ◌≤◌, ◌<◌, ◌^◌, nat_le, length, Ok, Err, OnOk, IfOk, IfErr, option_map};
+ghost use Rattle.std.specs.Prelude.{◌≡◌, ◌+◌, ◌≤◌, ◌<◌, ◌^◌, nat_le, length, Ok, Err, OnOk, IfOk, IfErr, IfSome, option_map};
 ghost use Rattle.cc_whole_memory.specs.Values as values;
 ghost use Rattle.cc_whole_memory.specs.Blocks as memory;
-ghost use Rattle.cc_whole_memory.specs.Blocks.{no_memory, born, size_of_block};
+ghost use Rattle.cc_whole_memory.specs.Blocks.{no_memory, born, size_of_block, storage_of_block};
 ghost use Rattle.cc_whole_memory.specs.Lists.{cell_at};
 ghost use Rattle.cc_whole_memory.specs.Store.{memory_of, answer, act_number, Reaches, Takes};
 
@@ -170,11 +170,24 @@ impl Store {
 
     /// The size of the block of this number, if it lives.
     pub fn size(&self, block: usize) -> Option<usize>
-        ensures { result ≡ option_map size_of_block ((memory_of self.now).block block) }
+        ensures size { result ≡ option_map size_of_block ((memory_of self.now).block block) }
+        ensures small { IfSome result (λ size. size < 2 ^ 63) }
     {
         let held = self.blocks.get(block)?;
         if held.is_live {
             Some(held.cells.len())
+        } else {
+            None
+        }
+    }
+
+    /// What the block of this number is for, if it lives.
+    pub fn storage(&self, block: usize) -> Option<Storage>
+        ensures { result ≡ option_map storage_of_block ((memory_of self.now).block block) }
+    {
+        let held = self.blocks.get(block)?;
+        if held.is_live {
+            Some(held.storage)
         } else {
             None
         }

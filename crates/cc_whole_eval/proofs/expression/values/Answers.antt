@@ -16,7 +16,7 @@ loop-e-preserved g c =
     ∙ values-step c.loop-e.found.items c.args.all.now c.loop-e.e-index c.e-item.result c.in-Ok.v (g.N.Names.scope c.args.names.now) (memory_of c.args.store.now)
     c.loop-e-test.true c.e-item.is (sym c.value.ensures ∙ ap answer c.in-Ok.is)
     ∙ ap (λ f. behind f (values_of (map expression_of (drop (c.loop-e.e-index + 1) c.args.all.now)) (g.N.Names.scope c.args.names.now) (memory_of c.args.store.now)))
-    (sym c.in_ok-push.ensures.items)
+    (sym c.in_ok-push-in-Ok.ensures.items)
 
 pub returns-in-Err-clause-err : goal.returns-in-Err-clause-err
 returns-in-Err-clause-err g c =
