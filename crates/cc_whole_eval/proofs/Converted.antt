@@ -1,10 +1,10 @@
 -- A converted number is a value of its type.
-use Rattle.std.proofs.Common.{◌≡◌, ℕ, zero, suc, ◌+◌, ◌-◌, ◌*◌, ◌<◌, ◌≤◌, ◌^◌, ◌%◌, nat_lt, Bool, true, false, ◌||◌, subst, if◌then◌else◌, ℤ, pos, negsuc, IsTrue, refl, ap, sym, ◌∙◌, arith}
+use Rattle.std.proofs.Common.{◌≡◌, ℕ, suc, ◌-◌, ◌<◌, ◌^◌, nat_lt, Bool, true, false, ◌||◌, subst, if◌then◌else◌, ℤ, pos, negsuc, IsTrue, refl, sym, arith}
 use Rattle.std.proofs.lemmas.Bool.Decides.{nat_tests}
 use Rattle.std.proofs.lemmas.Nat.{mod_below, pow_pos}
 use Rattle.cf_base.specs.declared.kind.Kind.{Kind}
 use Rattle.cf_base.specs.declared.kind.Kind.TheVariants.{Char, SChar, UChar, Short, UShort, Int, UInt, Long, ULong}
-use Rattle.cf_base.specs.Integers.{width, is_signed, fits, fits_bits, bits_of, value_of_bits, convert}
+use Rattle.cf_base.specs.Integers.{fits, fits_bits, bits_of, convert}
 use Rattle.cf_base.specs.declared.arith.Arith.{Arith}
 use Rattle.cf_types.specs.Operators.{TakesOperands, is_shift}
 

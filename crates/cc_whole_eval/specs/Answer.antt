@@ -1,5 +1,5 @@
 -- What an evaluation that gives nothing says of the meaning.
-use Rattle.std.specs.Prelude.{◌≡◌, ℕ, Option, Some, None, Result, Ok, Err}
+use Rattle.std.specs.Prelude.{◌≡◌, ℕ, Option, Some, None, Result, Err}
 use Rattle.cc_whole_memory.specs.Store.{act_number, answer}
 use Rattle.cc_whole_memory.specs.declared.act.Act.{Act}
 use Rattle.cc_whole_memory.specs.declared.value.Pointer.{Pointer}

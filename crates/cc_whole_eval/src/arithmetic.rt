@@ -33,13 +33,7 @@ fn act_of(op: Arith, right: i64) -> Act
     ensures { act_number result ≡ its_act op right }
 {
     match op {
-        Arith::Divide | Arith::Remainder => {
-            if right == 0 {
-                Act::A2
-            } else {
-                Act::A1
-            }
-        }
+        Arith::Divide | Arith::Remainder => { if right == 0 { Act::A2 } else { Act::A1 } }
         Arith::ShiftLeft | Arith::ShiftRight => Act::A3,
         _ => Act::A1,
     }

@@ -10,7 +10,7 @@ use crate::operators::fitted;
 use crate::types::scalar_of;
 use cc_whole::{CExpression, CPlace};
 use cc_whole_mean::{Named, Shape, Target};
-use cc_whole_memory::{bytes_of, Act, Pointer, Store, Value};
+use cc_whole_memory::{Act, Pointer, Store, Value, bytes_of};
 
 fn variable_target(named: Option<Named>) -> Result<Target, Act>
     ensures { answer result ≡ values.variable_target named }
@@ -107,12 +107,7 @@ fn carry_to(from: Result<Pointer, Act>, at: Target, store: &mut Store) -> Result
 }
 
 /// A place gets the value of an expression.
-fn give_to<N: Names>(
-    e: &CExpression,
-    at: Target,
-    names: &N,
-    store: &mut Store,
-) -> Result<(), Act>
+fn give_to<N: Names>(e: &CExpression, at: Target, names: &N, store: &mut Store) -> Result<(), Act>
     ensures ok { OnOk result (values.given_to (expression_of e.now) at (N.scope names.now) (memory_of store.old) ≡ Ok (memory_of store.new)) }
     ensures err { IfErr result (λ act. values.given_to (expression_of e.now) at (N.scope names.now) (memory_of store.old) ≡ Err (act_number act)) }
 {
@@ -122,12 +117,7 @@ fn give_to<N: Names>(
 }
 
 /// A place that was found gets what an expression gives.
-fn assign_to<N: Names>(
-    e: &CExpression,
-    at: Target,
-    names: &N,
-    store: &mut Store,
-) -> Result<(), Act>
+fn assign_to<N: Names>(e: &CExpression, at: Target, names: &N, store: &mut Store) -> Result<(), Act>
     ensures ok { OnOk result (values.assigned_to at (expression_of e.now) (N.scope names.now) (memory_of store.old) ≡ Ok (memory_of store.new)) }
     ensures err { IfErr result (λ act. values.assigned_to at (expression_of e.now) (N.scope names.now) (memory_of store.old) ≡ Err (act_number act)) }
 {

@@ -7,7 +7,7 @@ ghost use Rattle.cc_whole_eval.specs.Answer.{StopsAt};
 use crate::arithmetic::prefixed;
 use crate::names::Names;
 use crate::operators::{applied, fitted};
-use crate::types::{constant_value, scalar_of, Stop};
+use crate::types::{Stop, constant_value, scalar_of};
 use cc_whole::{CExpression, CPlace};
 use cc_whole_mean::{Named, Shape};
 use cc_whole_memory::{Act, Pointer, Store, Value};
@@ -35,9 +35,7 @@ fn named_address(named: Option<Named>) -> Result<Value, Act>
     ensures { answer result ≡ values.named_address named }
 {
     match named {
-        Some(Named::Variable(block, _)) => {
-            Ok(Value::Address(Pointer::At { block, offset: 0 }))
-        }
+        Some(Named::Variable(block, _)) => { Ok(Value::Address(Pointer::At { block, offset: 0 })) }
         Some(Named::Function(_)) => Err(Act::A7),
         None => Err(Act::A7),
     }

@@ -13,4 +13,4 @@ mod types;
 pub use assignment::{assign, store_at, target};
 pub use expression::{integer, value, values};
 pub use names::Names;
-pub use types::{constant_value, scalar_of, Stop};
+pub use types::{Stop, constant_value, scalar_of};

@@ -3,7 +3,7 @@ ghost use Rattle.cc_whole_mean.specs.Values as values;
 ghost use Rattle.cc_whole_memory.specs.Store.{answer, memory_of};
 
 use crate::arithmetic::{is_true, of_numbers, truth_value};
-use cc_whole_memory::{as_scalar, same_pointer, Act, Pointer, Scalar, Store, Value};
+use cc_whole_memory::{Act, Pointer, Scalar, Store, Value, as_scalar, same_pointer};
 use cf_base::{Arith, Kind};
 
 /// Whether the value is the constant 0, which is null where a pointer is wanted.

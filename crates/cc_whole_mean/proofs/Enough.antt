@@ -1,20 +1,20 @@
 -- Where the ticks are fewer than the bound, one more changes nothing.
-use Rattle.std.proofs.Common.{◌≡◌, ℕ, zero, suc, ◌<◌, ◌≤◌, Bool, true, false, List, [], ◌∷◌, length, ℤ, pos, negsuc, Option, Some, None, Result, Ok, Err, refl, ap, sym, ◌∙◌, arith, cond, nat_lt, ◌==◌}
+use Rattle.std.proofs.Common.{◌≡◌, ℕ, zero, suc, ◌<◌, ◌≤◌, Bool, true, false, List, [], ◌∷◌, length, ℤ, pos, Option, Some, None, Result, Ok, Err, refl, ap, ◌∙◌, arith, cond, nat_lt, ◌==◌}
 use Rattle.cf_base.specs.Integers.{bits_of}
-use Rattle.cf_base.specs.Event.{Event, Enter, End, Ticks, Undefined}
+use Rattle.cf_base.specs.Event.{Enter}
 use Rattle.cf_base.specs.World.{World, Ran, Went, Stops, and_then, spend, spend_of, deeper, show, next_of}
 use Rattle.cc_whole.specs.Plain.{Place, Expression, Callee as Called_by, Statement, assign, call, block, leave, next, choose, loop, select, give, Statements, done, followed, SwitchItems, closed, labelled, otherwise, stated, Body, body, Function}
 use Rattle.cc_whole_memory.specs.declared.value.Value.{Value}
 use Rattle.cc_whole_memory.specs.declared.value.Value.TheVariants as value
-use Rattle.cc_whole_memory.specs.Blocks.{Memory, freed, on_ok}
+use Rattle.cc_whole_memory.specs.Blocks.{freed, on_ok}
 use Rattle.cc_whole_mean.specs.declared.named.Target.{Target}
 use Rattle.cc_whole_mean.specs.Scope.{Scope, bind_locals, bind_parameters}
 use Rattle.cc_whole_mean.specs.Values.{values_of, stored, assigned, integer_of, is_true}
-use Rattle.cc_whole_mean.specs.Flow.{State, in_memory, Flow, Falls, Breaks, Continues, Returns, Exits, tried, falling, turning, switching, ending, born_locals, born_arguments, Called, Back, Gone, called_back}
+use Rattle.cc_whole_mean.specs.Flow.{State, in_memory, Flow, Falls, Breaks, Continues, Returns, Exits, tried, falling, turning, ending, born_locals, born_arguments, Called, Back, Gone, called_back}
 use Rattle.cc_whole_mean.specs.Callee.{Callee, own, built_in, is_helper, is_main}
 use Rattle.cc_whole_mean.specs.Callee as callee
-use Rattle.cc_whole_mean.specs.Library.{does_library, of_number, of_pointer, of_function, of_none, of_one, register, back_int, byte_or_end, most_registered, wrong}
-use Rattle.cc_whole_mean.specs.Mean.{Program, Again, run_function, enter_helper, enter_function, enter, called_own, called, chosen, callee_of, targeted, used, store_result, go_back, call_to, given, constant_bits, wanted, is_wanted, does, does_body, does_all, does_from, does_items, refused, helps_in, runs}
+use Rattle.cc_whole_mean.specs.Library.{does_library, of_number, of_pointer, of_function, of_none, of_one, back_int, byte_or_end, most_registered, wrong}
+use Rattle.cc_whole_mean.specs.Mean.{Program, Again, run_function, enter_helper, enter_function, called_own, called, chosen, callee_of, targeted, used, go_back, call_to, given, wanted, is_wanted, does, does_body, does_all, does_from, does_items, refused, helps_in, runs}
 
 -- at most so many ticks are left where a run goes on
 abbrev pub Left : {A : Type 0} → ℕ → Ran A → Type 0

@@ -1,19 +1,17 @@
 -- Words for small programs.
-use Rattle.std.specs.Prelude.{ℕ, Bool, true, false, List, [], ◌∷◌, ◌++◌, ℤ, pos, negsuc, Option, Some, None, codes}
-use Rattle.cf_base.specs.declared.arith.Arith.{Arith}
+use Rattle.std.specs.Prelude.{ℕ, false, List, [], ◌∷◌, ℤ, pos, negsuc, Option, Some, None, codes}
 use Rattle.cf_base.specs.declared.arith.Arith.TheVariants as op
-use Rattle.cf_base.specs.Event.{Event, Enter, In, Out, Ended, Ticks, Depth, Undefined}
+use Rattle.cf_base.specs.Event.{Event, Ended, Undefined}
 use Rattle.cf_base.specs.World.{Outcome}
 use Rattle.cc_whole.specs.declared.types.CType.{CType}
 use Rattle.cc_whole.specs.declared.types.CType.TheVariants as ty
 use Rattle.cc_whole.specs.declared.types.CConstant.TheVariants as constants
 use Rattle.cc_whole.specs.declared.types.CLocalType.TheVariants as local
 use Rattle.cc_whole.specs.declared.types.CVariableType.{CVariableType}
-use Rattle.cc_whole.specs.declared.types.CVariableType.TheVariants as variable
 use Rattle.cc_whole.specs.declared.statement.CLocal.{CLocal}
 use Rattle.cc_whole.specs.declared.unit.CParameter.{CParameter}
 use Rattle.cc_whole.specs.declared.unit.CInitialiser.{CInitialiser}
-use Rattle.cc_whole.specs.Plain.{Place, named, pointed, Expression, constant, load, cast, address, binary, by_name, by_pointer, Statement, assign, call, block, give, in_order, Body, body, Item, defines, defines_variable}
+use Rattle.cc_whole.specs.Plain.{named, pointed, Expression, constant, load, cast, binary, by_name, Statement, assign, call, give, in_order, body, Item, defines, defines_variable}
 use Rattle.cc_whole_mean.specs.Start.{mean_of}
 
 abbrev pub int : ℕ → Expression

@@ -1,15 +1,14 @@
 -- The definitions, evaluated on small programs: values, acts of memory, moves.
-use Rattle.std.proofs.Common.{◌≡◌, ℕ, List, [], ◌∷◌, pos, negsuc, Some, None, refl, codes}
+use Rattle.std.proofs.Common.{◌≡◌, List, [], ◌∷◌, pos, negsuc, Some, None, refl, codes}
 use Rattle.cf_base.specs.declared.arith.Arith.TheVariants as op
-use Rattle.cf_base.specs.Event.{Out}
 use Rattle.cc_whole.specs.declared.types.CType.TheVariants as ty
 use Rattle.cc_whole.specs.declared.types.CConstant.TheVariants as constants
 use Rattle.cc_whole.specs.declared.types.CVariableType.TheVariants as variable
 use Rattle.cc_whole.specs.declared.expression.Prefix.TheVariants as prefix
 use Rattle.cc_whole.specs.declared.unit.CInitialiser.TheVariants as initialiser
 use Rattle.cf_base.specs.World.{Outcome}
-use Rattle.cc_whole.specs.Plain.{Statement, Item, unary, cast, address, binary, block, body, in_order, assign, pointed, named}
-use Rattle.cc_whole_mean.proofs.Small.{int, minus, uint, var, set, star, store, plus, less, same, null, ret, run, get, scalar, function, static, main, outcome_of, of_main, ends, ended, acts, act}
+use Rattle.cc_whole.specs.Plain.{Statement, Item, unary, cast, address, binary, block, body, in_order}
+use Rattle.cc_whole_mean.proofs.Small.{int, minus, uint, var, set, star, store, plus, less, same, null, ret, scalar, function, static, main, outcome_of, of_main, ends, ended, act}
 
 return_three : of_main (ret (int 3) ∷ []) ≡ ended 3
 return_three = refl

@@ -1,17 +1,15 @@
 -- The definitions, evaluated on small programs: calls, statements, the library, the end.
 use Rattle.std.proofs.Common.{◌≡◌, ℕ, List, [], ◌∷◌, pos, negsuc, Some, None, refl, codes}
 use Rattle.cf_base.specs.declared.arith.Arith.TheVariants as op
-use Rattle.cf_base.specs.Event.{Event, Enter, In, Out, Ticks, Depth}
+use Rattle.cf_base.specs.Event.{Enter, In, Out, Ticks, Depth}
 use Rattle.cf_base.specs.World.{Outcome}
 use Rattle.cc_whole.specs.declared.types.CType.{CType}
 use Rattle.cc_whole.specs.declared.types.CType.TheVariants as ty
 use Rattle.cc_whole.specs.declared.types.CConstant.TheVariants as constants
-use Rattle.cc_whole.specs.declared.types.CVariableType.TheVariants as variable
 use Rattle.cc_whole.specs.declared.unit.CParameter.{CParameter}
-use Rattle.cc_whole.specs.declared.unit.CInitialiser.TheVariants as initialiser
-use Rattle.cc_whole.specs.Plain.{Expression, Statement, Item, cast, address, binary, call, block, leave, next, choose, loop, select, give, body, in_order, SwitchItems, closed, labelled, otherwise, stated, by_name, by_pointer, pointed, named}
+use Rattle.cc_whole.specs.Plain.{Expression, Statement, Item, cast, binary, call, leave, next, choose, loop, select, body, in_order, SwitchItems, closed, labelled, otherwise, stated, by_pointer, pointed, named}
 use Rattle.cc_whole_mean.specs.Start.{mean_of}
-use Rattle.cc_whole_mean.proofs.Small.{int, minus, uint, var, set, star, store, plus, less, same, null, ret, run, get, function, static, main, usual_locals, outcome_of, of_main, ends, ended, acts, act}
+use Rattle.cc_whole_mean.proofs.Small.{int, minus, uint, var, set, star, store, plus, less, same, null, ret, run, get, function, main, outcome_of, of_main, ends, ended, acts, act}
 
 abbrev one : CType → List ℕ → List CParameter
 one t name = record { ty = t; name = name } ∷ []

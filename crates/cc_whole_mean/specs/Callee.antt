@@ -2,9 +2,7 @@
 use Rattle.std.specs.Prelude.{ℕ, zero, suc, ◌-◌, Bool, true, false, ◌&&◌, ◌==◌, if◌then◌else◌, List, [], ◌∷◌, length, Option, Some, None, Result, Ok, Err, bytes_eq, codes, find, map, slice_get, take}
 use Rattle.cc_whole.specs.declared.types.CType.{CType}
 use Rattle.cc_whole.specs.declared.types.CType.TheVariants as ty
-use Rattle.cc_whole.specs.declared.types.CSignature.{CSignature}
 use Rattle.cc_whole.specs.declared.unit.CParameter.{CParameter}
-use Rattle.cc_whole.specs.declared.unit.CPrototype.{CPrototype}
 use Rattle.cc_whole.specs.Plain.{Function}
 use Rattle.cc_whole_memory.specs.Blocks.{null_used}
 

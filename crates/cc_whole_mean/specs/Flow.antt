@@ -7,7 +7,7 @@ use Rattle.cc_whole_memory.specs.declared.store.Storage.TheVariants as storage
 use Rattle.cc_whole_memory.specs.Values.{size_of}
 use Rattle.cc_whole_memory.specs.declared.cells.Cell.TheVariants as cell
 use Rattle.cc_whole_memory.specs.Cells.{put}
-use Rattle.cc_whole_memory.specs.Blocks.{Memory, Block, put_block, born, ended}
+use Rattle.cc_whole_memory.specs.Blocks.{Memory, put_block, born, ended}
 use Rattle.cc_whole.specs.declared.statement.CLocal.{CLocal}
 use Rattle.cc_whole_mean.specs.Types.{local_size}
 

@@ -1,6 +1,5 @@
 -- What the library functions do. They are not entered: they spend no tick and no depth, and give no event but that of their byte.
-use Rattle.std.specs.Prelude.{ℕ, suc, ◌^◌, nat_lt, Bool, true, false, if◌then◌else◌, List, [], ◌∷◌, length, ℤ, pos, negsuc, Option, Some, None, Result, Ok, Err}
-use Rattle.cf_base.specs.declared.kind.Kind.{Kind}
+use Rattle.std.specs.Prelude.{ℕ, ◌^◌, nat_lt, Bool, true, false, if◌then◌else◌, List, [], ◌∷◌, length, ℤ, pos, negsuc, Option, Some, None}
 use Rattle.cf_base.specs.declared.kind.Kind.TheVariants as kind
 use Rattle.cf_base.specs.Integers.{bits_of}
 use Rattle.cf_base.specs.Event.{Out, Undefined}
@@ -8,7 +7,7 @@ use Rattle.cf_base.specs.World.{World, Ran, Went, Stops, show, next_byte}
 use Rattle.cc_whole_memory.specs.declared.value.Pointer.{Pointer}
 use Rattle.cc_whole_memory.specs.declared.value.Value.{Value}
 use Rattle.cc_whole_memory.specs.declared.value.Value.TheVariants as value
-use Rattle.cc_whole_memory.specs.Blocks.{Memory, Allotted, allotted, Freed, freed}
+use Rattle.cc_whole_memory.specs.Blocks.{Allotted, allotted, Freed, freed}
 use Rattle.cc_whole_mean.specs.Flow.{State, in_memory, Called, Back, Gone, tried}
 use Rattle.cc_whole_mean.specs.Callee.{Library, putchar, getchar, exit, malloc, free, atexit, wrong_type}
 

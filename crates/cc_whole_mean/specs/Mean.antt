@@ -1,5 +1,5 @@
 -- What statements do.
-use Rattle.std.specs.Prelude.{ℕ, zero, suc, Bool, true, false, ◌==◌, ◌&&◌, if◌then◌else◌, List, [], ◌∷◌, length, ℤ, Option, Some, None, Result, Ok, Err}
+use Rattle.std.specs.Prelude.{ℕ, zero, suc, Bool, true, false, ◌==◌, if◌then◌else◌, List, length, Option, Some, None, Result, Ok, Err}
 use Rattle.cf_base.specs.Integers.{bits_of}
 use Rattle.cf_base.specs.Event.{Enter, Undefined, Ticks}
 use Rattle.cf_base.specs.World.{World, Ran, Went, Stops, and_then, spend, deeper, show}
@@ -14,7 +14,7 @@ use Rattle.cc_whole_mean.specs.declared.named.Target.{Target}
 use Rattle.cc_whole_mean.specs.Scope.{Scope, bind_locals, bind_parameters}
 use Rattle.cc_whole_mean.specs.Values.{ill_typed, is_true, value_of, values_of, target_of, stored, assigned, integer_of}
 use Rattle.cc_whole_mean.specs.Flow.{State, in_memory, Flow, Falls, Breaks, Continues, Returns, Exits, tried, falling, turning, switching, ending, born_locals, born_arguments, Called, Back, Gone, called_back}
-use Rattle.cc_whole_mean.specs.Callee.{Callee, own, built_in, wrong_type, is_helper, is_main, callee_named, callee_numbered, has_type, parameters_of}
+use Rattle.cc_whole_mean.specs.Callee.{Callee, own, built_in, wrong_type, is_helper, is_main, callee_named, callee_numbered, has_type}
 use Rattle.cc_whole_mean.specs.Library.{wrong, does_library}
 
 -- the use of a result that was not returned

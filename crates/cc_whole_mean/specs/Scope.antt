@@ -1,5 +1,5 @@
 -- What the names in scope stand for.
-use Rattle.std.specs.Prelude.{ℕ, zero, suc, ◌+◌, if◌then◌else◌, List, [], ◌∷◌, Option, Some, None, bytes_eq, codes, map}
+use Rattle.std.specs.Prelude.{ℕ, suc, if◌then◌else◌, List, [], ◌∷◌, Option, Some, None, bytes_eq, codes, map}
 use Rattle.cc_whole.specs.declared.statement.CLocal.{CLocal}
 use Rattle.cc_whole.specs.declared.unit.CParameter.{CParameter}
 use Rattle.cc_whole.specs.declared.unit.CVariable.{CVariable}

@@ -1,5 +1,5 @@
 -- The meaning of a program: its trace and end, from an input, a heap limit, a depth limit and a bound of ticks.
-use Rattle.std.specs.Prelude.{ℕ, zero, suc, ◌+◌, ◌==◌, if◌then◌else◌, Bool, true, false, List, [], ◌∷◌, ◌++◌, ℤ, pos, Option, Some, None, Result, Ok, Err, codes}
+use Rattle.std.specs.Prelude.{ℕ, zero, suc, ◌+◌, ◌==◌, if◌then◌else◌, false, List, [], ◌∷◌, ◌++◌, ℤ, pos, Option, Some, None, Result, Ok, Err, codes}
 use Rattle.cf_base.specs.declared.kind.Kind.TheVariants as kind
 use Rattle.cf_base.specs.Integers.{convert}
 use Rattle.cf_base.specs.Event.{Undefined, Ticks}
@@ -20,9 +20,9 @@ use Rattle.cc_whole_mean.specs.Types.{constant_value, variable_size}
 use Rattle.cc_whole_mean.specs.declared.named.Named.{Named}
 use Rattle.cc_whole_mean.specs.declared.named.Named.TheVariants.{Variable as variable, Function as function}
 use Rattle.cc_whole_mean.specs.Scope.{Scope, no_names, bind_variables, bind_functions, library, function_names}
-use Rattle.cc_whole_mean.specs.Values.{ill_typed, numbered}
+use Rattle.cc_whole_mean.specs.Values.{numbered}
 use Rattle.cc_whole_mean.specs.Flow.{State, Called, Back, Gone, tried}
-use Rattle.cc_whole_mean.specs.Callee.{wrong_type, callee_numbered, function_named}
+use Rattle.cc_whole_mean.specs.Callee.{wrong_type, function_named}
 use Rattle.cc_whole_mean.specs.Mean.{Program, Again, run_function, called, callee_of, used, runs, helps_in}
 use Rattle.cc_whole_mean.specs.Mean as mean
 

@@ -1,6 +1,5 @@
 -- The types of the small C: what a load or a store of each is, and how many bytes a variable takes.
-use Rattle.std.specs.Prelude.{ℕ, ◌*◌, ℤ, pos, negsuc, zero, Option, Some, None}
-use Rattle.cf_base.specs.declared.kind.Kind.{Kind}
+use Rattle.std.specs.Prelude.{ℕ, ◌*◌, ℤ, pos, negsuc}
 use Rattle.cf_base.specs.declared.kind.Kind.TheVariants as kind
 use Rattle.cc_whole.specs.declared.types.CType.{CType}
 use Rattle.cc_whole.specs.declared.types.CType.TheVariants as ty

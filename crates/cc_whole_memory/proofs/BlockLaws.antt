@@ -1,8 +1,7 @@
 -- Lists of blocks as memories.
-use Rattle.std.proofs.Common.{◌≡◌, ℕ, zero, suc, ◌+◌, ◌-◌, ◌<◌, nat_lt, ◌&&◌, Bool, true, false, ◌==◌, if◌then◌else◌, List, [], ◌∷◌, ◌++◌, length, get_or, replicate, Option, Some, None, slice_get, length-append, refl, nat_le, ◌≤◌, Result, Ok, Err, ap, sym, ◌∙◌, arith, subst}
+use Rattle.std.proofs.Common.{◌≡◌, ℕ, zero, suc, ◌+◌, ◌-◌, ◌<◌, nat_lt, ◌&&◌, Bool, true, false, if◌then◌else◌, List, [], ◌∷◌, ◌++◌, length, replicate, Option, Some, None, slice_get, length-append, refl, nat_le, ◌≤◌, Ok, Err, ap, sym, ◌∙◌, arith}
 use Rattle.std.proofs.lemmas.Bool.Decides.{nat_tests}
 use Rattle.std.proofs.lemmas.List.{length-replicate}
-use Rattle.std.proofs.lemmas.Option.{slice_get_past, slice_get-get_or}
 use Rattle.cc_whole_memory.specs.declared.cells.Cell.{Cell}
 use Rattle.cc_whole_memory.specs.declared.cells.Cell.TheVariants as cell
 use Rattle.cc_whole_memory.specs.declared.store.Block.{Block as Held}
@@ -10,8 +9,8 @@ use Rattle.cc_whole_memory.specs.declared.store.Storage.{Storage}
 use Rattle.cc_whole_memory.specs.Cells.{Cells, placed, cleared, taken}
 use Rattle.cc_whole_memory.specs.declared.value.Pointer.{Pointer}
 use Rattle.cc_whole_memory.specs.declared.value.Pointer.TheVariants as pointer
-use Rattle.cc_whole_memory.specs.Blocks.{Block, Memory, Place, put_block, first_cell, new_block, born, reached, inside, on_ok, laid, carry, with_cells}
-use Rattle.cc_whole_memory.specs.Lists.{cell_at, cell_of}
+use Rattle.cc_whole_memory.specs.Blocks.{Block, Memory, put_block, first_cell, new_block, born, reached, inside, on_ok, laid, carry, with_cells}
+use Rattle.cc_whole_memory.specs.Lists.{cell_at}
 use Rattle.cc_whole_memory.specs.Store.{held_block, block_of, memory_in, Reaches, Takes}
 
 push_block : (xs : List Held) (x : Held) (b : ℕ)
@@ -61,7 +60,10 @@ within-size q n size e = grind (arith, nat_tests, e)
 pub reaches : (p : Pointer) (n : ℕ) (blocks : List Held) (b q : ℕ) (x : Held) → p ≡ pointer.At b q → slice_get blocks b ≡ Some x → x.is_live ≡ true
     → nat_le (q + n) (length x.cells.items) ≡ true → Reaches p n blocks b q
 reaches p n blocks b q x is there live test = record {
-  held = x; there = there; live = live; inside = within-size q n (length x.cells.items) test;
+  held = x;
+  there = there;
+  live = live;
+  inside = within-size q n (length x.cells.items) test;
   same = ap (λ a. reached a n (memory_in blocks)) is ∙ ap (inside b q n) (live_block blocks b x there live)
       ∙ ap (λ t. if t then Ok (record { number = b; offset = q; block = held_block x }) else Err 6) test;
 }
@@ -80,6 +82,7 @@ placed-same k q f g to same = λ j i. path i j
     by_test : (i : ℕ) (t : Bool) → (nat_le q i && nat_lt i (q + k)) ≡ t → (if t then f (i - q) else cleared q k to i) ≡ (if t then g (i - q) else cleared q k to i)
     by_test i true e = let lt : i - q < k = grind (arith, nat_tests, e) in same (i - q) lt
     by_test i false e = refl
+
     path : (i : ℕ) → placed k f q to i ≡ placed k g q to i
     path i = by_test i (nat_le q i && nat_lt i (q + k)) refl
 

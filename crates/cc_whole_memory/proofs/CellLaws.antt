@@ -1,5 +1,5 @@
 -- Lists of cells as cells by offset.
-use Rattle.std.proofs.Common.{◌≡◌, ℕ, zero, suc, ◌+◌, ◌-◌, ◌<◌, ◌≤◌, nat_lt, nat_le, Bool, true, false, ◌&&◌, ◌==◌, if◌then◌else◌, List, [], ◌∷◌, length, get_or, Option, Some, None, slice_get, refl, ap, sym, ◌∙◌, arith, slice_set, ◌⊎◌, ◌≢◌, inl, inr, length-set, subst}
+use Rattle.std.proofs.Common.{◌≡◌, ℕ, zero, suc, ◌+◌, ◌-◌, ◌<◌, ◌≤◌, nat_lt, nat_le, ◌&&◌, ◌==◌, if◌then◌else◌, List, [], ◌∷◌, length, get_or, refl, ap, sym, ◌∙◌, arith, slice_set, ◌⊎◌, ◌≢◌, inl, inr, length-set, subst}
 use Rattle.std.proofs.lemmas.Bool.Decides.{nat_tests}
 use Rattle.std.proofs.lemmas.Option.{slice_get_read, slice_get-get_or}
 use Rattle.cf_base.specs.declared.kind.Kind.{Kind}
@@ -78,8 +78,10 @@ cleared-more q k o old now inv from within = record {
   where
     within_now : o < length now
     within_now = let e = inv.length in omega (arith, e, within)
+
     there : cell_at now o ≡ cell_at old o
     there = inv.cells o ∙ grind (arith, nat_tests)
+
     step : (i : ℕ) → (if i == o then left q k o (cell_at now o) else cell_at now i)
         ≡ (if nat_le (q - 3) i && nat_lt i (o + 1) then left q k i (cell_at old i) else cell_at old i)
     step i = let here = inv.cells i in grind (arith, nat_tests, there, here, from)
@@ -139,8 +141,10 @@ placed-set q k index pieces old now x inv within inside is = record {
   where
     inside_now : q + index < length now
     inside_now = let e = inv.length in omega (arith, e, inside)
+
     piece : cell_at pieces index ≡ x
     piece = is
+
     step : (i : ℕ) → (if i == q + index then x else cell_at now i)
         ≡ (if nat_le q i && nat_lt i (q + (index + 1)) then cell_at pieces (i - q) else cleared q k (cell_at old) i)
     step i = let here = inv.cells i in by_place (same_or i (q + index)) here
@@ -169,6 +173,7 @@ found-set cells q k index found x inv within is = record {
   where
     inside : index < length found
     inside = let e = inv.length in omega (arith, e, within)
+
     step : (j : ℕ) → j < index + 1 → (j ≡ index) ⊎ (j ≢ index) → (if j == index then x else cell_at found j) ≡ whole k j (cell_at cells (q + j))
     step j lt (inl same) = let f : whole k j (cell_at cells (q + j)) ≡ x = ap (λ i. whole k i (cell_at cells (q + i))) same ∙ sym is in grind (arith, nat_tests, same, f)
     step j lt (inr other) = let before : j < index = omega (arith, lt, other) in let f = inv.pieces j before in grind (arith, nat_tests, other, f)

@@ -1,5 +1,5 @@
 -- The memory of a run: numbered blocks. No number comes twice, and nothing is left of a block that has ended.
-use Rattle.std.specs.Prelude.{ℕ, zero, suc, ◌+◌, ◌-◌, nat_lt, nat_le, Bool, true, false, ◌&&◌, ◌==◌, if◌then◌else◌, Option, Some, None, Result, Ok, Err}
+use Rattle.std.specs.Prelude.{ℕ, suc, ◌+◌, ◌-◌, nat_lt, nat_le, Bool, true, false, ◌==◌, if◌then◌else◌, Option, Some, None, Result, Ok, Err}
 use Rattle.cc_whole_memory.specs.declared.value.Pointer.{Pointer}
 use Rattle.cc_whole_memory.specs.declared.value.Pointer.TheVariants as pointer
 use Rattle.cc_whole_memory.specs.declared.value.Value.{Value}

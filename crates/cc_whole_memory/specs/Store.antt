@@ -1,5 +1,5 @@
 -- The runner's memory as a memory, and its answers as answers of the definitions, which know an act by its number.
-use Rattle.std.specs.Prelude.{ℕ, ◌+◌, ◌≡◌, ◌≤◌, ◌<◌, Bool, true, false, if◌then◌else◌, List, length, Option, Some, None, Result, Ok, Err, slice_get}
+use Rattle.std.specs.Prelude.{ℕ, ◌+◌, ◌≡◌, ◌≤◌, ◌<◌, true, if◌then◌else◌, List, length, Option, Some, None, Result, Ok, Err, slice_get}
 use Rattle.cc_whole_memory.specs.declared.act.Act.{Act}
 use Rattle.cc_whole_memory.specs.declared.act.Act.TheVariants as act
 use Rattle.cc_whole_memory.specs.declared.store.Block.{Block as Held}

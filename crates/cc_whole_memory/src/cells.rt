@@ -3,7 +3,7 @@ ghost use Rattle.cc_whole_memory.specs.Values as values;
 ghost use Rattle.cc_whole_memory.specs.Cells as standing;
 ghost use Rattle.cc_whole_memory.specs.Lists.{cell_at};
 
-use crate::value::{as_scalar, bytes_of, size_of, zero_of, Scalar, Value};
+use crate::value::{Scalar, Value, as_scalar, bytes_of, size_of, zero_of};
 
 /// What stands at an offset of a block.
 #[derive(Clone, Copy, Debug, PartialEq, Eq)]

@@ -11,7 +11,7 @@ mod store;
 mod value;
 
 pub use act::Act;
-pub use cells::{load, pieces, place, put, Cell};
+pub use cells::{Cell, load, pieces, place, put};
 pub use pointers::same_pointer;
 pub use store::{Block, Storage, Store};
-pub use value::{as_scalar, bytes_of, size_of, zero_of, Pointer, Scalar, Value};
+pub use value::{Pointer, Scalar, Value, as_scalar, bytes_of, size_of, zero_of};

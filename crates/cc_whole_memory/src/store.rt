@@ -6,8 +6,8 @@ ghost use Rattle.cc_whole_memory.specs.Lists.{cell_at};
 ghost use Rattle.cc_whole_memory.specs.Store.{memory_of, answer, act_number, Reaches, Takes};
 
 use crate::act::Act;
-use crate::cells::{load, pieces, place, put, Cell};
-use crate::value::{bytes_of, size_of, Pointer, Scalar, Value};
+use crate::cells::{Cell, load, pieces, place, put};
+use crate::value::{Pointer, Scalar, Value, bytes_of, size_of};
 use std::alloc::{AllocError, Global};
 
 /// What a block is for.
@@ -108,7 +108,11 @@ impl Store {
                         Err(Act::A5)
                     } else {
                         let is_inside = fits(offset, count, held.cells.len());
-                        if is_inside { Ok((block, offset)) } else { Err(Act::A6) }
+                        if is_inside {
+                            Ok((block, offset))
+                        } else {
+                            Err(Act::A6)
+                        }
                     }
                 }
             },

@@ -13,8 +13,8 @@ returns-in-None c =
     let a = to_z-of_z {w = w64} {z = c.args.a} fa in
     let b = to_z-of_z {w = w64} {z = c.args.b} fb in
     let none : result_ok (int_op c.args.op c.args.kind c.args.a c.args.b) ≡ None =
-        ap (λ x. result_ok (int_op c.args.op c.args.kind x c.args.b)) (sym a)
-        ∙ ap (λ y. result_ok (int_op c.args.op c.args.kind (to_z w64 (of_z w64 c.args.a)) y)) (sym b)
-        ∙ sym c.int_op.ensures ∙ c.in-None.is in
+    ap (λ x. result_ok (int_op c.args.op c.args.kind x c.args.b)) (sym a)
+    ∙ ap (λ y. result_ok (int_op c.args.op c.args.kind (to_z w64 (of_z w64 c.args.a)) y)) (sym b)
+    ∙ sym c.int_op.ensures ∙ c.in-None.is in
     let act : act_number c.act_of.result ≡ act_of c.args.op c.args.b = search rules in
     ap Err act ∙ sym (no-value c.args.op c.args.kind c.args.a c.args.b none)

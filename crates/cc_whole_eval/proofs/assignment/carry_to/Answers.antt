@@ -1,4 +1,4 @@
-use Rattle.std.proofs.Common.{◌≡◌, ◌≤◌, sym, subst}
+use Rattle.std.proofs.Common.{◌≤◌, sym, subst}
 use Rattle.cc_whole_eval.proofs.Sizes.{bytes-small}
 use Rattle.cc_whole_eval.proofs.assignment.carry_to.Goals as goal
 

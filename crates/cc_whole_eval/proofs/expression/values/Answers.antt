@@ -1,4 +1,4 @@
-use Rattle.std.proofs.Common.{◌≡◌, ◌∙◌, ◌+◌, ap, sym, map, drop}
+use Rattle.std.proofs.Common.{◌∙◌, ◌+◌, ap, sym, map, drop}
 use Rattle.cc_whole.specs.Plain.{expression_of}
 use Rattle.cc_whole_mean.specs.Values.{values_of}
 use Rattle.cc_whole_memory.specs.Store.{answer, act_number, memory_of}

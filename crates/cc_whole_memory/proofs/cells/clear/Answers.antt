@@ -1,4 +1,4 @@
-use Rattle.std.proofs.Common.{◌≡◌, ◌+◌, ◌-◌, ◌≤◌, arith, rules}
+use Rattle.std.proofs.Common.{◌-◌, ◌≤◌, rules}
 use Rattle.cc_whole_memory.proofs.CellLaws.{cleared-set}
 use Rattle.cc_whole_memory.proofs.cells.clear.Goals as goal
 

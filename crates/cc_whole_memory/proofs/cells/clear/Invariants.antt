@@ -1,4 +1,3 @@
-use Rattle.std.proofs.Common.{◌≡◌}
 use Rattle.cc_whole_memory.proofs.CellLaws.{ClearedTo}
 use Rattle.cc_whole_memory.proofs.cells.clear.Given as goal
 

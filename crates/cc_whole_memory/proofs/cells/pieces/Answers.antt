@@ -1,4 +1,4 @@
-use Rattle.std.proofs.Common.{◌≡◌, ◌+◌, ◌≤◌, ◌<◌, rules, arith, refl}
+use Rattle.std.proofs.Common.{◌<◌, arith, refl}
 use Rattle.cc_whole_memory.proofs.CellLaws.{found-none, found-set}
 use Rattle.cc_whole_memory.proofs.cells.pieces.Goals as goal
 

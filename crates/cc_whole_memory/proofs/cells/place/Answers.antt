@@ -1,6 +1,4 @@
-use Rattle.std.proofs.Common.{◌≡◌, ◌+◌, ◌≤◌, ◌<◌, length, rules, arith, get_or, sym, ◌∙◌}
-use Rattle.cc_whole_memory.specs.declared.cells.Cell.TheVariants as cell
-use Rattle.cc_whole_memory.specs.Lists.{cell_at}
+use Rattle.std.proofs.Common.{◌+◌, ◌<◌, length, arith}
 use Rattle.cc_whole_memory.proofs.CellLaws.{placed-none, placed-set, cell_at-indexed}
 use Rattle.cc_whole_memory.proofs.cells.place.Goals as goal
 

@@ -1,7 +1,4 @@
-use Rattle.std.proofs.Common.{◌≡◌, ◌∙◌, Ok}
-use Rattle.cc_whole_memory.specs.Blocks as memory
-use Rattle.cc_whole_memory.specs.Lists.{cell_at}
-use Rattle.cc_whole_memory.specs.Store.{memory_of}
+use Rattle.std.proofs.Common.{◌∙◌}
 use Rattle.cc_whole_memory.proofs.BlockLaws.{carry-taken}
 use Rattle.cc_whole_memory.proofs.store.Store.carry.Goals as goal
 

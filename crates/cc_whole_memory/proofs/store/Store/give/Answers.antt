@@ -1,4 +1,4 @@
-use Rattle.std.proofs.Common.{◌≡◌, refl, ap, ◌∙◌, replicate, true}
+use Rattle.std.proofs.Common.{refl, ap, ◌∙◌, replicate, true}
 use Rattle.cc_whole_memory.specs.Store.{memory_in}
 use Rattle.cc_whole_memory.proofs.BlockLaws.{born-push}
 use Rattle.cc_whole_memory.proofs.store.Store.give.Goals as goal
