@@ -15,6 +15,7 @@ use Rattle.cc_whole.specs.declared.statement.CCallee.TheVariants as callee
 use Rattle.cc_whole.specs.declared.statement.CBody.{CBody, CBody-F, fold-CBody}
 use Rattle.cc_whole.specs.declared.statement.CStatement.{CStatement, fold-CStatement}
 use Rattle.cc_whole.specs.declared.statement.CStatement.TheOpen.{CStatement-F, CSwitchItem-F}
+use Rattle.cc_whole.specs.declared.statement.CSwitchItem.{CSwitchItem, fold-CSwitchItem}
 use Rattle.cc_whole.specs.declared.unit.CPrototype.{CPrototype}
 use Rattle.cc_whole.specs.declared.unit.CFunction.{CFunction}
 use Rattle.cc_whole.specs.declared.unit.CVariable.{CVariable}
@@ -128,6 +129,9 @@ body_step b = body b.locals (in_order b.statements)
 
 abbrev pub statement_of : CStatement → Statement
 statement_of = fold-CStatement Statement SwitchItem Body statement_step switch_step body_step
+
+abbrev pub switch_item_of : CSwitchItem → SwitchItem
+switch_item_of = fold-CSwitchItem Statement SwitchItem Body statement_step switch_step body_step
 
 abbrev pub body_of : CBody → Body
 body_of = fold-CBody Statement SwitchItem Body statement_step switch_step body_step

@@ -3,7 +3,6 @@ use Rattle.std.specs.Prelude.{ℕ, Bool, true, false, List, [], ◌∷◌, ◌++
 use Rattle.cc_whole_tokens.specs.declared.mark.Mark.TheVariants as mark
 use Rattle.cc_whole_tokens.specs.declared.token.Token.{Token}
 use Rattle.cc_whole_tokens.specs.declared.token.Token.TheVariants as token
-use Rattle.cc_whole.specs.declared.types.CType.{CType}
 use Rattle.cc_whole.specs.declared.types.CConstant.{CConstant}
 use Rattle.cc_whole.specs.declared.types.CVariableType.{CVariableType}
 use Rattle.cc_whole.specs.declared.statement.CBody.{CBody}

@@ -1,5 +1,5 @@
 -- The grammar of the small C: which tokens spell constants, types and declarators. Each constructor is one production.
-use Rattle.std.specs.Prelude.{ℕ, List, [], ◌∷◌, ◌++◌, ℤ, pos, neg_ℤ, Option, Some, None}
+use Rattle.std.specs.Prelude.{ℕ, List, [], ◌∷◌, ◌++◌, pos, neg_ℤ, Option, Some, None}
 use Rattle.std.specs.Str.Parse.{digits_value}
 use Rattle.cc_whole_tokens.specs.declared.mark.Mark.{Mark}
 use Rattle.cc_whole_tokens.specs.declared.mark.Mark.TheVariants as mark

@@ -1,3 +1,6 @@
+ghost use Rattle.std.specs.Prelude.{◌≡◌};
+ghost use Rattle.cc_whole.specs.Types.{same_type};
+
 use cf_base::Items;
 
 /// A type of a value of the small C: of a parameter, a result, a load, a store or a cast.
@@ -19,6 +22,16 @@ pub enum CType {
     Pointer,
     /// `__f`, a pointer to a function, of 4 bytes.
     FunctionPointer,
+}
+
+impl CType {
+    /// Whether it is this type.
+    #[tactic(auto, unfolding(crate::specs::Types::same_type))]
+    pub fn is(self, other: CType) -> bool
+        ensures { result ≡ same_type self other }
+    {
+        self == other
+    }
 }
 
 /// An integer constant. The forms `0` and `-0` are one constant.
