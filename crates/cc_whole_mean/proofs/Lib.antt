@@ -1,0 +1,4 @@
+pub mod Enough
+mod Small
+mod Tried
+mod TriedCalls
