@@ -1,5 +1,5 @@
 -- Landmarks of parts.
-use Rattle.std.proofs.Common.{◌≡◌, ℕ, ◌+◌, List, [], ◌∷◌, ◌++◌, Option, Some, None, refl, ap, ◌∙◌, arith}
+use Rattle.std.proofs.Common.{◌≡◌, ℕ, ◌+◌, List, [], ◌∷◌, ◌++◌, Option, Some, None, refl, arith}
 use Rattle.cf_base.specs.declared.arith.Arith.{Arith}
 use Rattle.cc_whole_tokens.specs.declared.mark.Mark.{Mark}
 use Rattle.cc_whole_tokens.specs.declared.mark.Mark.TheVariants as mark
@@ -10,7 +10,6 @@ use Rattle.cc_whole.specs.declared.types.CType.TheVariants as ty
 use Rattle.cc_whole.specs.declared.types.CConstant.{CConstant}
 use Rattle.cc_whole.specs.declared.types.CSignature.{CSignature}
 use Rattle.cc_whole.specs.declared.types.CVariableType.{CVariableType}
-use Rattle.cc_whole.specs.declared.types.CVariableType.TheVariants as variable
 use Rattle.cc_whole.specs.declared.types.CLocalType.{CLocalType}
 use Rattle.cc_whole.specs.Operators.{operator_of, joins}
 use Rattle.cc_whole.specs.SpellsTypes as spells
@@ -85,9 +84,14 @@ count-types (t ∷ ts) = count-some t ts
 
 pub count-signature : (s : CSignature) → landmarks_in (signature_tokens s) ≡ signature_marks s
 count-signature s =
-    omega (arith, count-append (result_tokens s.result) (token.Mark mark.LeftParen ∷ token.Mark mark.Star ∷ token.Mark mark.RightParen ∷ token.Mark mark.LeftParen
-    ∷ (types_tokens s.parameters ++ (token.Mark mark.RightParen ∷ sign mark.RightParen))), count-result s.result,
-    count-append (types_tokens s.parameters) (token.Mark mark.RightParen ∷ sign mark.RightParen), count-types s.parameters)
+    omega (
+      arith,
+      count-append (result_tokens s.result) (token.Mark mark.LeftParen ∷ token.Mark mark.Star ∷ token.Mark mark.RightParen ∷ token.Mark mark.LeftParen
+          ∷ (types_tokens s.parameters ++ (token.Mark mark.RightParen ∷ sign mark.RightParen))),
+      count-result s.result,
+      count-append (types_tokens s.parameters) (token.Mark mark.RightParen ∷ sign mark.RightParen),
+      count-types s.parameters,
+    )
 
 count-array : (name : List ℕ) {c : CConstant} (cs : List Token) → SpellsConstant c cs → landmarks_in (array_tokens name cs) ≡ 2
 count-array name cs s = omega (arith, count-append cs (sign mark.RightBracket), count-constant s)

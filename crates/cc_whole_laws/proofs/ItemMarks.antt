@@ -1,5 +1,5 @@
 -- The tokens of an item have as many landmarks as the item.
-use Rattle.std.proofs.Common.{◌≡◌, ℕ, ◌+◌, Bool, true, false, List, [], ◌∷◌, ◌++◌, Option, Some, None, map, refl, ap, sym, ◌∙◌, arith}
+use Rattle.std.proofs.Common.{◌≡◌, ℕ, Bool, true, false, List, [], ◌∷◌, ◌++◌, Option, Some, None, refl, arith}
 use Rattle.cc_whole_tokens.specs.declared.mark.Mark.TheVariants as mark
 use Rattle.cc_whole_tokens.specs.declared.token.Token.{Token}
 use Rattle.cc_whole_tokens.specs.declared.token.Token.TheVariants as token
@@ -37,9 +37,15 @@ count-inside (p ∷ ps) = count-parameters p ps
 
 count-prototype : (p : CPrototype) → landmarks_in (prototype_tokens p) ≡ prototype_marks p
 count-prototype p =
-    omega (arith, count-append (static_tokens p.is_static) (result_tokens p.result ++ (token.Name p.name ∷ bracketed (parameters_tokens p.parameters))), count-static p.is_static,
-    count-append (result_tokens p.result) (token.Name p.name ∷ bracketed (parameters_tokens p.parameters)), count-result p.result, count-bracketed (parameters_tokens p.parameters),
-    count-inside p.parameters)
+    omega (
+      arith,
+      count-append (static_tokens p.is_static) (result_tokens p.result ++ (token.Name p.name ∷ bracketed (parameters_tokens p.parameters))),
+      count-static p.is_static,
+      count-append (result_tokens p.result) (token.Name p.name ∷ bracketed (parameters_tokens p.parameters)),
+      count-result p.result,
+      count-bracketed (parameters_tokens p.parameters),
+      count-inside p.parameters,
+    )
 
 count-function : (f : Option (List ℕ)) → landmarks_in (function_tokens f) ≡ 1
 count-function None = refl
@@ -47,8 +53,13 @@ count-function (Some name) = refl
 
 count-pair : {p : CPair} {xs : List Token} → SpellsPair p xs → landmarks_in xs ≡ 2
 count-pair (g.SpellsPair.pair c cs f d) =
-    omega (arith, count-append cs (token.Mark mark.Comma ∷ (function_tokens f ++ sign mark.RightBrace)), count-constant d,
-    count-append (function_tokens f) (sign mark.RightBrace), count-function f)
+    omega (
+      arith,
+      count-append cs (token.Mark mark.Comma ∷ (function_tokens f ++ sign mark.RightBrace)),
+      count-constant d,
+      count-append (function_tokens f) (sign mark.RightBrace),
+      count-function f,
+    )
 
 count-pairs : {ps : List CPair} {xs : List Token} → SpellsPairs ps xs → landmarks_in xs ≡ pairs_marks ps
 count-pairs (g.SpellsPairs.last p xs d) = omega (arith, count-pair d)
@@ -66,9 +77,17 @@ count-item (g.SpellsItem.extern_variable t name xs d) = omega (arith, count-appe
 count-item (g.SpellsItem.function is_shared p b ys d) =
     omega (arith, count-append (shared_tokens is_shared) (prototype_tokens p ++ ys), count-shared is_shared, count-append (prototype_tokens p) ys, count-prototype p, count-body d)
 count-item (g.SpellsItem.variable is_shared is_static t name xs start ys d e) =
-    omega (arith, count-append (shared_tokens is_shared) (static_tokens is_static ++ (xs ++ (ys ++ sign mark.Semicolon))), count-shared is_shared,
-    count-append (static_tokens is_static) (xs ++ (ys ++ sign mark.Semicolon)), count-static is_static, count-append xs (ys ++ sign mark.Semicolon), count-variable d,
-    count-append ys (sign mark.Semicolon), count-start e)
+    omega (
+      arith,
+      count-append (shared_tokens is_shared) (static_tokens is_static ++ (xs ++ (ys ++ sign mark.Semicolon))),
+      count-shared is_shared,
+      count-append (static_tokens is_static) (xs ++ (ys ++ sign mark.Semicolon)),
+      count-static is_static,
+      count-append xs (ys ++ sign mark.Semicolon),
+      count-variable d,
+      count-append ys (sign mark.Semicolon),
+      count-start e,
+    )
 
 pub count-items : {items : List CItem} {xs : List Token} → SpellsItems items xs → landmarks_in xs ≡ items_marks (items_of items)
 count-items g.SpellsItems.none = refl

@@ -1,5 +1,5 @@
 -- The tokens of a tree have as many landmarks as the tree.
-use Rattle.std.proofs.Common.{◌≡◌, ℕ, ◌+◌, List, [], ◌∷◌, ◌++◌, Option, Some, None, option_map, map, refl, ap, sym, ◌∙◌, arith}
+use Rattle.std.proofs.Common.{◌≡◌, ℕ, List, ◌∷◌, ◌++◌, Option, Some, None, option_map, map, refl, ap, sym, ◌∙◌, arith}
 use Rattle.cc_whole_tokens.specs.declared.mark.Mark.TheVariants as mark
 use Rattle.cc_whole_tokens.specs.declared.token.Token.{Token}
 use Rattle.cc_whole_tokens.specs.declared.token.Token.TheVariants as token
@@ -17,8 +17,8 @@ use Rattle.cc_whole.specs.SpellsTypes.{sign, type_tokens, signature_tokens}
 use Rattle.cc_whole.specs.Spells as g
 use Rattle.cc_whole.specs.Spells.{bracketed, SpellsPlace, SpellsExpression, SpellsSome, SpellsArguments, SpellsCallee, SpellsTarget, SpellsLocals, SpellsBody, SpellsStatements, SpellsStatement, SpellsSwitch}
 use Rattle.cc_whole.specs.Plain.{place_of, expression_of, callee_of, statement_of, switch_item_of, body_of, in_order, switch_in_order}
-use Rattle.cc_whole.specs.Landmarks.{type_marks, signature_marks, place_marks, marks, all_marks, target_marks, callee_marks, local_marks, locals_marks, statement_marks, statements_marks, switch_marks, body_marks}
-use Rattle.cc_whole_laws.specs.Landmark.{word_mark, landmark, landmarks_in}
+use Rattle.cc_whole.specs.Landmarks.{place_marks, marks, all_marks, target_marks, callee_marks, locals_marks, statement_marks, statements_marks, switch_marks, body_marks}
+use Rattle.cc_whole_laws.specs.Landmark.{word_mark, landmarks_in}
 use Rattle.cc_whole_laws.proofs.Counts.{count-append, count-bracketed, joins-sign, count-constant, count-type, count-signature, count-local}
 use Rattle.cc_whole_laws.proofs.Views.{of-Name, of-At, of-Constant, of-Load, of-Unary, of-Cast, of-AddressOf, of-Binary, of-Assign, of-Call, of-Block, of-Break, of-Continue, of-If, of-If-only, of-Loop, of-Switch, of-Return, of-Case, of-Default, of-Statement, of-made}
 
@@ -32,8 +32,15 @@ mutual
   count-place (g.SpellsPlace.name name) = sym (ap place_marks (of-Name name))
   count-place (g.SpellsPlace.pointed t e xs d) =
       (let c = count-expression d in
-      omega (arith, count-append (bracketed (type_tokens t ++ sign mark.Star)) (bracketed xs), count-bracketed (type_tokens t ++ sign mark.Star),
-      count-append (type_tokens t) (sign mark.Star), count-type t, count-bracketed xs, c)) ∙ sym (ap place_marks (of-At t e))
+      omega (
+        arith,
+        count-append (bracketed (type_tokens t ++ sign mark.Star)) (bracketed xs),
+        count-bracketed (type_tokens t ++ sign mark.Star),
+        count-append (type_tokens t) (sign mark.Star),
+        count-type t,
+        count-bracketed xs,
+        c,
+      )) ∙ sym (ap place_marks (of-At t e))
 
   pub count-expression : {level : ℕ} {e : CExpression} {xs : List Token} → SpellsExpression level e xs → landmarks_in xs ≡ marks (expression_of e)
   count-expression (g.SpellsExpression.number c xs d) = count-constant d ∙ sym (ap marks (of-Constant c))
@@ -83,8 +90,16 @@ mutual
       omega (arith, count-append ps (token.Mark mark.Assign ∷ (xs ++ sign mark.Semicolon)), count-append xs (sign mark.Semicolon), count-place c, count-expression d)
       ∙ sym (ap statement_marks (of-Assign p e))
   count-statement (g.SpellsStatement.calls p ps c cs es xs d f h) =
-      omega (arith, count-append ps (cs ++ (bracketed xs ++ sign mark.Semicolon)), count-append cs (bracketed xs ++ sign mark.Semicolon),
-      count-append (bracketed xs) (sign mark.Semicolon), count-bracketed xs, count-target d, count-callee f, count-arguments h)
+      omega (
+        arith,
+        count-append ps (cs ++ (bracketed xs ++ sign mark.Semicolon)),
+        count-append cs (bracketed xs ++ sign mark.Semicolon),
+        count-append (bracketed xs) (sign mark.Semicolon),
+        count-bracketed xs,
+        count-target d,
+        count-callee f,
+        count-arguments h,
+      )
       ∙ sym (ap statement_marks (of-Call p c es))
   count-statement (g.SpellsStatement.block b xs d) = count-body d ∙ sym (ap statement_marks (of-Block b))
   count-statement g.SpellsStatement.leaves = sym (ap statement_marks of-Break)
@@ -92,13 +107,26 @@ mutual
   count-statement (g.SpellsStatement.if_only e xs b ys c d) =
       omega (arith, count-append (bracketed xs) ys, count-bracketed xs, count-expression c, count-body d) ∙ sym (ap statement_marks (of-If-only e b))
   count-statement (g.SpellsStatement.if_else e xs b ys c zs d f h) =
-      omega (arith, count-append (bracketed xs) (ys ++ (token.Mark mark.Else ∷ zs)), count-bracketed xs, count-append ys (token.Mark mark.Else ∷ zs),
-      count-expression d, count-body f, count-body h) ∙ sym (ap statement_marks (of-If e b c))
+      omega (
+        arith,
+        count-append (bracketed xs) (ys ++ (token.Mark mark.Else ∷ zs)),
+        count-bracketed xs,
+        count-append ys (token.Mark mark.Else ∷ zs),
+        count-expression d,
+        count-body f,
+        count-body h,
+      ) ∙ sym (ap statement_marks (of-If e b c))
   count-statement (g.SpellsStatement.loops b xs d) =
       omega (arith, count-append (bracketed (token.Mark mark.Semicolon ∷ sign mark.Semicolon)) xs, count-body d) ∙ sym (ap statement_marks (of-Loop b))
   count-statement (g.SpellsStatement.switches e xs all ys c d) =
-      omega (arith, count-append (bracketed xs) (token.Mark mark.LeftBrace ∷ (ys ++ sign mark.RightBrace)), count-bracketed xs,
-      count-append ys (sign mark.RightBrace), count-expression c, count-switch d) ∙ sym (ap statement_marks (of-Switch e all))
+      omega (
+        arith,
+        count-append (bracketed xs) (token.Mark mark.LeftBrace ∷ (ys ++ sign mark.RightBrace)),
+        count-bracketed xs,
+        count-append ys (sign mark.RightBrace),
+        count-expression c,
+        count-switch d,
+      ) ∙ sym (ap statement_marks (of-Switch e all))
   count-statement g.SpellsStatement.returns = sym (ap statement_marks (of-Return None))
   count-statement (g.SpellsStatement.gives e xs d) =
       omega (arith, count-append xs (sign mark.Semicolon), count-expression d) ∙ sym (ap statement_marks (of-Return (Some e)))

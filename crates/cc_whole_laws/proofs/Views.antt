@@ -1,5 +1,5 @@
 -- What each tree is as plain data.
-use Rattle.std.proofs.Common.{◌≡◌, ℕ, List, [], ◌∷◌, Option, Some, None, option_map, map, refl, ap, sym, ◌∙◌}
+use Rattle.std.proofs.Common.{◌≡◌, ℕ, List, Option, Some, None, option_map, map, ap, sym, ◌∙◌}
 use Rattle.cf_base.specs.declared.arith.Arith.{Arith}
 use Rattle.cc_whole.specs.declared.types.CType.{CType}
 use Rattle.cc_whole.specs.declared.types.CConstant.{CConstant}
@@ -14,7 +14,7 @@ use Rattle.cc_whole.specs.declared.expression.CExpression.TheVariants as tree
 use Rattle.cc_whole.specs.declared.expression.CExpression.TheVariants.{rolls-Constant, rolls-Load, rolls-Unary, rolls-Cast, rolls-AddressOf, rolls-Binary}
 use Rattle.cc_whole.specs.declared.statement.CLocal.{CLocal}
 use Rattle.cc_whole.specs.declared.statement.CCallee.{CCallee}
-use Rattle.cc_whole.specs.declared.statement.CBody.{CBody, CBody-F}
+use Rattle.cc_whole.specs.declared.statement.CBody.{CBody}
 use Rattle.cc_whole.specs.declared.statement.CStatement.{CStatement}
 use Rattle.cc_whole.specs.declared.statement.CStatement.TheFolds.{fold-roll-CStatement, fold-roll-CSwitchItem, fold-roll-CBody}
 use Rattle.cc_whole.specs.declared.statement.CStatement.TheOpen.{CStatement-F, CSwitchItem-F}

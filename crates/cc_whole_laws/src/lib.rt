@@ -12,5 +12,4 @@ ghost use Rattle.cc_whole_laws.specs.Landmark.{landmarks_in, items_marks};
 /// The law that tokens which spell items have as many landmarks as the items' trees tell. It does nothing.
 pub fn texts_have_their_landmarks()
     ensures { (items : List CItem) (tokens : List Token) → SpellsItems items tokens → landmarks_in tokens ≡ items_marks (items_of items) }
-{
-}
+{}

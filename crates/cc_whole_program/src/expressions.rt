@@ -78,11 +78,7 @@ fn good_callee(defined: &Names<'_>, hidden: &Names<'_>, callee: &CCallee) -> boo
 }
 
 /// The same of what is returned.
-pub fn good_given(
-    defined: &Names<'_>,
-    hidden: &Names<'_>,
-    e: &Option<Boxed<CExpression>>,
-) -> bool
+pub fn good_given(defined: &Names<'_>, hidden: &Names<'_>, e: &Option<Boxed<CExpression>>) -> bool
     ensures { result ≡ spec.good_given (option_map expression_of e.now) defined.now hidden.now }
 {
     match e {

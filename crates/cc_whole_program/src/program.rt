@@ -61,11 +61,7 @@ fn hidden_by<'a>(alloc: Global, parameters: &'a [CParameter]) -> Result<Names<'a
 }
 
 /// Whether a function uses only what is defined, and library functions.
-fn good_definition(
-    alloc: Global,
-    defined: &Names<'_>,
-    f: &CFunction,
-) -> Result<bool, Memory>
+fn good_definition(alloc: Global, defined: &Names<'_>, f: &CFunction) -> Result<bool, Memory>
     ensures { IfOk result (λ ok. ok ≡ spec.good_body (body_of f.now.body) defined.now (parameter_names f.now.prototype.parameters)) }
 {
     let mut hidden = hidden_by(alloc, f.prototype.parameters.as_slice())?;
