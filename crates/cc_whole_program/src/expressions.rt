@@ -1,28 +1,11 @@
-ghost use Rattle.std.specs.Prelude.{◌≡◌, map, option_map, bytes_eq};
-ghost use Rattle.cc_whole.specs.Known as known;
+ghost use Rattle.std.specs.Prelude.{◌≡◌, map, option_map};
 ghost use Rattle.cc_whole.specs.Plain.{place_of, expression_of, callee_of};
 ghost use Rattle.cc_whole_program.specs.Uses as spec;
 
 use cc_whole::{CCallee, CExpression, CPlace};
+use cc_whole_valid::is_library;
 use cf_base::Boxed;
 use cf_name_list::Names;
-
-/// Whether two names are the same.
-fn is(name: &[u8], other: &[u8]) -> bool
-    ensures { result ≡ bytes_eq name.now other.now }
-{
-    name == other
-}
-
-/// Whether it is one of the six library functions.
-fn is_library(name: &[u8]) -> bool
-    ensures { result ≡ known.is_library name.now }
-{
-    is(b"putchar", name)
-        || (is(b"getchar", name)
-            || (is(b"exit", name)
-                || (is(b"malloc", name) || (is(b"free", name) || is(b"atexit", name)))))
-}
 
 /// Whether a name is one of the library functions, or defined.
 pub fn is_there(defined: &Names<'_>, name: &[u8]) -> bool

@@ -20,4 +20,5 @@ mod types;
 mod unit;
 mod variables;
 
+pub use names::is_library;
 pub use unit::{ValidUnit, is_valid, valid_items};
