@@ -1,5 +1,5 @@
 -- A place in a list, seen from further on.
-use Rattle.std.proofs.Common.{◌≡◌, ℕ, suc, ◌+◌, ◌-◌, List, [], ◌∷◌, length, slice_get}
+use Rattle.std.proofs.Common.{◌≡◌, ℕ, ◌-◌, List, length, slice_get}
 use Rattle.cc_whole.specs.Plain.{Function}
 
 -- the place in what is left of a list is a place in all of it

@@ -1,6 +1,8 @@
 -- What was found, as the meaning has it.
-use Rattle.std.specs.Prelude.{◌≡◌, ℕ, ◌-◌, List, length, Option, Some, None, Result, Ok, Err, slice_get}
+use Rattle.std.specs.Prelude.{◌≡◌, ℕ, ◌-◌, List, length, Some, None, Result, Ok, Err, slice_get, map}
 use Rattle.std.specs.Borrow.{Bor}
+use Rattle.cc_whole.specs.declared.types.CType.{CType}
+use Rattle.cc_whole.specs.declared.unit.CParameter.{CParameter}
 use Rattle.cc_whole.specs.declared.unit.CFunction.{CFunction}
 use Rattle.cc_whole.specs.Plain.{Function, function_of}
 use Rattle.cc_whole_memory.specs.declared.act.Act.{Act}
@@ -35,3 +37,6 @@ pub record IsBehind (fs : List Function) (index left : ℕ) : Type 0 where
 abbrev pub Finds : List Function → ℕ → Result (Bor CFunction) ℕ → Type 0
 Finds fs index (Ok f) = slice_get fs index ≡ Some (function_of f.now)
 Finds fs index (Err left) = IsBehind fs index left
+
+abbrev pub types_of : List CParameter → List CType
+types_of parameters = map (λ (x : CParameter). x.ty) parameters

@@ -3,7 +3,7 @@ ghost use Rattle.cc_whole.specs.Plain.{function_of, functions_of, items_of};
 ghost use Rattle.cc_whole_mean.specs.Callee.{function_named as its_function, callee_named as its_callee, callee_numbered as its_numbered};
 ghost use Rattle.cc_whole_callee.specs.View.{answer_of, Finds};
 
-use crate::library::{library_at, library_named, Library};
+use crate::library::{Library, library_at, library_named};
 use cc_whole::{CFunction, CItem, CProgram};
 use cc_whole_memory::Act;
 

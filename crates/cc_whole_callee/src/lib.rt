@@ -3,6 +3,8 @@
 
 mod find;
 mod library;
+mod signature;
 
-pub use find::{callee_named, callee_numbered, Callee};
+pub use find::{Callee, callee_named, callee_numbered};
 pub use library::Library;
+pub use signature::has_type;

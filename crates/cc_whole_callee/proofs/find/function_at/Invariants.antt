@@ -1,4 +1,4 @@
-use Rattle.std.proofs.Common.{◌≡◌, drop}
+use Rattle.std.proofs.Common.{drop}
 use Rattle.cc_whole.specs.Plain.{items_of, functions_of}
 use Rattle.cc_whole_callee.proofs.Places.{SamePlace}
 use Rattle.cc_whole_callee.proofs.find.function_at.Given as goal
