@@ -1,0 +1,4 @@
+pub mod Acts
+pub mod Converted
+pub mod Sizes
+pub mod ValueLaws

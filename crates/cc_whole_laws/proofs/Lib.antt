@@ -1,0 +1,4 @@
+pub mod Counts
+pub mod ItemMarks
+pub mod TreeMarks
+pub mod Views

@@ -1,0 +1,4 @@
+pub mod Link
+pub mod Placed
+pub mod Rename
+pub mod Static

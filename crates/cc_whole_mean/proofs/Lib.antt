@@ -1,0 +1,5 @@
+pub mod Enough
+pub mod Growth
+mod Small
+mod Tried
+mod TriedCalls

@@ -1,0 +1,3 @@
+pub mod Cut
+pub mod Mark
+pub mod Token

@@ -1,0 +1,7 @@
+mod CheckLaws
+mod ExpressionLaws
+mod ItemLaws
+mod ListLaws
+mod SignatureLaws
+mod StatementLaws
+mod UnitLaws
