@@ -4,6 +4,7 @@ pub mod Good
 pub mod Inner
 pub mod Keeps
 pub mod Newest
+pub mod Opening
 pub mod Operands
 pub mod Repeats
 mod Samples

@@ -1,5 +1,5 @@
 -- Readings of a few lists of tokens, computed.
-use Rattle.std.proofs.Common.{◌≡◌, ℕ, zero, suc, Bool, true, false, List, [], ◌∷◌, ◌++◌, length, Option, Some, None, refl}
+use Rattle.std.proofs.Common.{◌≡◌, ℕ, suc, true, false, List, [], ◌∷◌, length, Option, Some, None, refl}
 use Rattle.cf_tokens.specs.declared.token.Token.{Token}
 use Rattle.cf_tokens.specs.declared.token.Word.TheVariants as words
 use Rattle.cf_syntax.specs.declared.declarator.DeclTree.{DeclTree}

@@ -1,3 +1,5 @@
+pub mod Closing
+pub mod Entered
 pub mod Grammar
 pub mod Language
 pub mod Longest

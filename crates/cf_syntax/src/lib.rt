@@ -6,6 +6,7 @@
 #![tactic(auto)]
 
 mod asked;
+mod copied;
 mod declarator;
 mod expression;
 mod laws;

@@ -1,6 +1,7 @@
 //! Names of scopes and classes looked up.
 
-ghost use Rattle.std.specs.Prelude.{◌≡◌, bytes_eq};
+ghost use Rattle.std.specs.Prelude.{◌≡◌, bytes_eq, length};
+ghost use Rattle.cf_syntax.specs.Entered as spec;
 ghost use Rattle.cf_syntax.specs.Names.{kind_of, in_class_to, in_scope, newest};
 
 use crate::type_names::{ClassNames, Entry, NameKind, Scope};
@@ -73,4 +74,49 @@ pub fn kind_in_scopes(classes: &[ClassNames], scopes: &[Scope], name: &[u8]) -> 
         }
     }
     None
+}
+
+/// What a name is, if it is a type.
+pub fn if_type(kind: Option<NameKind>) -> Option<NameKind>
+    ensures { result ≡ spec.if_type kind }
+{
+    match kind {
+        Some(NameKind::Value) => None,
+        _ => kind,
+    }
+}
+
+/// What one open scope says of a name that is a type.
+fn type_in_scope(classes: &[ClassNames], scope: &Scope, name: &[u8]) -> Option<NameKind>
+    ensures { result ≡ spec.type_in classes.now name.now scope.now }
+{
+    if_type(kind_in_scope(classes, scope, name))
+}
+
+/// What the innermost of these scopes where the name is a type says of it.
+pub fn type_in_scopes(classes: &[ClassNames], scopes: &[Scope], name: &[u8]) -> Option<NameKind>
+    ensures { result ≡ newest (spec.type_in classes.now name.now) scopes.now }
+{
+    let mut left = scopes.len();
+    while left > 0 {
+        left -= 1;
+        if let Some(kind) = type_in_scope(classes, &scopes[left], name) {
+            return Some(kind);
+        }
+    }
+    None
+}
+
+/// How many of these scopes are left where those of classes at their end are left out.
+pub fn outside_classes(scopes: &[Scope]) -> usize
+    ensures { result ≡ spec.outside_in (length scopes.now) scopes.now }
+{
+    let mut left = scopes.len();
+    while left > 0 {
+        if let Scope::Block(_) = &scopes[left - 1] {
+            return left;
+        }
+        left -= 1;
+    }
+    0
 }

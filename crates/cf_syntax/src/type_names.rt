@@ -1,8 +1,15 @@
 ghost use Rattle.std.specs.Prelude.{◌≡◌, ℕ, ◌<◌, [], length, slice_index, slice_set, true, false, IfOk, OnOk, OnErr};
 ghost use Rattle.cf_syntax.specs.Names.{no_names, find, find_in, find_here, find_in_file, with_class, with_bases, with_scope, without_scope, declared, is_defined, grown, class_at};
+ghost use Rattle.cf_syntax.specs.Closing.{closed_to};
+ghost use Rattle.cf_syntax.specs.Entered.{entered_at, find_type, outside_classes};
+ghost use Rattle.cf_syntax.specs.Named.{opened};
 ghost use Rattle.cf_syntax.specs.declared.type_names.Scope.TheVariants.{Block, Class};
 
-use crate::lookup::{kind_among, kind_in_class, kind_in_scope, kind_in_scopes};
+use crate::copied;
+use crate::lookup::{
+    if_type, kind_among, kind_in_class, kind_in_scope, kind_in_scopes, outside_classes,
+    type_in_scopes,
+};
 use cf_base::{Bytes, Items, Memory};
 use std::alloc::Global;
 use std::marker::Model;
@@ -72,6 +79,18 @@ impl TypeNames {
         }
     }
 
+    /// The same names in a table of their own.
+    pub fn copy(&self) -> Result<TypeNames, Memory>
+        ensures { IfOk result (λ made. made ≡ self.now) }
+    {
+        Ok(TypeNames {
+            alloc: self.alloc,
+            classes: copied::classes(self.alloc, &self.classes)?,
+            file: copied::entries(self.alloc, self.file.as_slice())?,
+            inner: copied::scopes(self.alloc, &self.inner)?,
+        })
+    }
+
     /// The number of a new class, without names and bases, that isn't defined.
     pub fn new_class(&mut self) -> Result<u32, Memory>
         ensures given { IfOk result (λ class. class ≡ length self.old.classes) }
@@ -104,6 +123,21 @@ impl TypeNames {
         Ok(())
     }
 
+    /// Sets the bases of a class, which is defined from now on, where there is a class of this number.
+    pub fn define(&mut self, class: u32, bases: &[u32]) -> Result<(), Memory>
+        ensures ok { OnOk result (self.new ≡ with_bases self.old class bases.now) }
+        ensures err { OnErr result (self.new ≡ self.old) }
+    {
+        let bases = Items::from_slice(self.alloc, bases)?;
+        let index = class as usize;
+        if index < self.classes.len() {
+            let found = &mut self.classes[index];
+            found.bases = bases;
+            found.is_defined = true;
+        }
+        Ok(())
+    }
+
     /// Whether the bases of a class were set.
     pub fn is_defined(&self, class: u32) -> bool
         ensures { result ≡ is_defined self.now class }
@@ -133,6 +167,46 @@ impl TypeNames {
         Ok(())
     }
 
+    /// Opens the scope of the class of this number, which has no names where there is none.
+    pub fn open_class(&mut self, class: u32) -> Result<(), Memory>
+        ensures { OnOk result (self.new ≡ with_scope self.old (Class class)) }
+    {
+        self.inner.push(Scope::Class(class))?;
+        Ok(())
+    }
+
+    /// Opens the scopes of these classes, the last innermost.
+    #[tactic(auto, using(crate::proofs::Opening::opened_push))]
+    pub fn open_classes(&mut self, classes: &[u32]) -> Result<(), Memory>
+        ensures { OnOk result (self.new ≡ opened self.old classes.now) }
+    {
+        for class in classes {
+            self.open_class(*class)?;
+        }
+        Ok(())
+    }
+
+    /// The smallest open scope that isn't a class's, as so many open scopes: none is the file's (11.4).
+    pub fn outside_classes(&self) -> usize
+        ensures { result ≡ outside_classes self.now }
+    {
+        outside_classes(&self.inner)
+    }
+
+    /// How many scopes are open inside the file's.
+    pub fn open_scopes(&self) -> usize
+        ensures { result ≡ length self.now.inner }
+    {
+        self.inner.len()
+    }
+
+    /// Closes the innermost scopes until at most so many are open inside the file's.
+    pub fn leave_to(&mut self, count: usize)
+        ensures { self.new ≡ closed_to count self.old }
+    {
+        self.inner.truncate(count);
+    }
+
     /// Closes the innermost scope. The names of a class stay.
     pub fn leave(&mut self)
         requires { 0 < length self.old.inner }
@@ -158,6 +232,25 @@ impl TypeNames {
         }
     }
 
+    /// Sets a name in the last of so many open scopes, and in the file's where there is none.
+    pub fn declare_in(&mut self, count: usize, name: &[u8], kind: NameKind) -> Result<(), Memory>
+        ensures ok { OnOk result (self.new ≡ entered_at count self.old name.now kind) }
+        ensures err { OnErr result (self.new ≡ self.old) }
+    {
+        let name = Bytes::from_slice(self.alloc, name)?;
+        let entry = Entry { name, kind };
+        if count == 0 {
+            return self.file.push(entry);
+        }
+        if count > self.inner.len() {
+            return Ok(());
+        }
+        match &mut self.inner[count - 1] {
+            Scope::Block(entries) => entries.push(entry),
+            Scope::Class(class) => add_to_class(&mut self.classes, *class, entry),
+        }
+    }
+
     /// What the innermost open scope that has the name says of it.
     pub fn find(&self, name: &[u8]) -> Option<NameKind>
         ensures { result ≡ find self.now name.now }
@@ -165,6 +258,16 @@ impl TypeNames {
         match kind_in_scopes(&self.classes, &self.inner, name) {
             Some(kind) => Some(kind),
             None => kind_among(self.file.as_slice(), name),
+        }
+    }
+
+    /// What the innermost open scope where the name is a type says of it: other names don't hide it (9.1).
+    pub fn find_type(&self, name: &[u8]) -> Option<NameKind>
+        ensures { result ≡ find_type self.now name.now }
+    {
+        match type_in_scopes(&self.classes, &self.inner, name) {
+            Some(kind) => Some(kind),
+            None => if_type(kind_among(self.file.as_slice(), name)),
         }
     }
 

@@ -1,0 +1,45 @@
+//! Brackets by the numbers of their words.
+
+ghost use Rattle.std.specs.Prelude.{◌≡◌};
+ghost use Rattle.cf_unit.specs.Nesting as spec;
+
+use cf_parse_expr::words::{COMMA, LEFT_BRACKET, LEFT_PAREN, RIGHT_BRACKET, RIGHT_PAREN};
+
+/// `{`
+const LEFT_BRACE: u16 = 4;
+/// `}`
+pub const RIGHT_BRACE: u16 = 5;
+/// `;`
+const SEMICOLON: u16 = 6;
+/// `else`
+pub const ELSE: u16 = 77;
+
+/// Whether the word is an opening bracket.
+pub fn is_opening(word: u16) -> bool
+    ensures { result ≡ spec.is_opening word }
+{
+    word == LEFT_PAREN || (word == LEFT_BRACKET || word == LEFT_BRACE)
+}
+
+/// Whether the word is a closing bracket.
+pub fn is_closing(word: u16) -> bool
+    ensures { result ≡ spec.is_closing word }
+{
+    word == RIGHT_PAREN || (word == RIGHT_BRACKET || word == RIGHT_BRACE)
+}
+
+/// Whether the second word closes the first.
+pub fn is_partner(first: u16, second: u16) -> bool
+    ensures { result ≡ spec.is_partner first second }
+{
+    (first == LEFT_PAREN && second == RIGHT_PAREN)
+        || ((first == LEFT_BRACKET && second == RIGHT_BRACKET)
+            || (first == LEFT_BRACE && second == RIGHT_BRACE))
+}
+
+/// Whether the word resets the level in which it stands.
+pub fn resets(word: u16) -> bool
+    ensures { result ≡ spec.resets word }
+{
+    word == SEMICOLON || word == COMMA
+}

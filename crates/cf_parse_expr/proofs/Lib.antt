@@ -1,0 +1,11 @@
+pub mod Declaring
+pub mod Expressions
+pub mod Heads
+pub mod Knots
+pub mod Leaves
+pub mod Levels
+pub mod Loops
+pub mod Opened
+pub mod Qualifying
+pub mod Steps
+pub mod Taken

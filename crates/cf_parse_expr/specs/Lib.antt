@@ -1,0 +1,15 @@
+pub mod Answers
+pub mod Arguments
+pub mod Binaries
+pub mod Declarators
+pub mod Inner
+pub mod Leaves
+pub mod Named
+pub mod Nests
+pub mod Nodes
+pub mod Operands
+pub mod Params
+pub mod Reads
+pub mod Specified
+pub mod Unaries
+pub mod Whole

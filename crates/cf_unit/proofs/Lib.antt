@@ -1,0 +1,4 @@
+pub mod Exact
+mod Samples
+pub mod Spots
+pub mod Whole

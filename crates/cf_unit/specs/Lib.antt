@@ -1,0 +1,14 @@
+pub mod Answers
+pub mod Bodies
+pub mod Declarations
+pub mod Declares
+pub mod Enters
+pub mod Files
+pub mod Known
+pub mod Members
+pub mod Nesting
+pub mod Pieces
+pub mod Read
+pub mod Rule
+pub mod Statements
+pub mod Stuck
