@@ -1,0 +1,6 @@
+pub mod ClassRows
+pub mod ConversionRows
+pub mod CoreRows
+pub mod PlaceRows
+pub mod StatementRows
+pub mod Words

@@ -1,0 +1,158 @@
+-- Conditional expressions, assignments, commas (5.16 to 5.18).
+use Rattle.std.specs.Prelude.{ℕ, Bool, true, false, ◌==◌, ◌&&◌, if◌then◌else◌, List, [], ◌∷◌, map, ℤ, Option, None, Some}
+use Rattle.cf_base.specs.declared.kind.Kind.{Kind}
+use Rattle.cf_base.specs.declared.arith.Arith.{Arith}
+use Rattle.cf_base.specs.declared.arith.Arith.TheVariants as op
+use Rattle.cf_base.specs.Promotion.{usual}
+use Rattle.cf_types.specs.Operators.{is_shift}
+use Rattle.cf_convert.specs.Converts.{steps}
+use Rattle.cf_convert.specs.declared.conv.ConvStep.{ConvStep}
+use Rattle.cf_syntax.specs.declared.operator.AssignOp.{AssignOp}
+use Rattle.cf_syntax.specs.declared.operator.AssignOp.TheVariants as assign
+use Rattle.cf_core.specs.declared.node.Change.{Change}
+use Rattle.cf_core.specs.declared.node.Change.TheVariants as change
+use Rattle.cf_core.specs.declared.node.Core.TheVariants as node
+use Rattle.cf_elab.specs.UserFit.{fit}
+use Rattle.cf_elab.specs.ClassOperand.{truth}
+use Rattle.cf_elab.specs.Answer.{Elab, ◌>>=◌, ◌>>◌, gives, breaks, need, known}
+use Rattle.cf_elab.specs.Made.{of_kind}
+use Rattle.cf_elab.specs.Operand.{Value, val, defs, computed, place_of, plain, Sort, sort_of, arithmetic, void_sort, integral, enumeral, object_pointer}
+use Rattle.cf_elab.specs.Fit.{converted, to_kind}
+use Rattle.cf_elab.specs.Arithmetic.{is_nonzero}
+use Rattle.cf_elab.specs.Unary.{need_modifiable}
+use Rattle.cf_elab.specs.Cast.{takes_null}
+use Rattle.cf_elab.specs.Complete.{complete}
+
+-- ---- c ? a : b
+
+abbrev pub chosen : Option ℤ → Option ℤ → Option ℤ → Option ℤ
+chosen (Some c) (Some a) (Some b) = if is_nonzero c then Some a else Some b
+chosen c a b = None
+
+abbrev pub one_of : ℕ → Value → Value → Value → ℕ → Value
+one_of at c a b t =
+    record (computed at (node.Conditional at c.node a.node b.node) t) { number = chosen c.number a.number b.number; is_fixed = false }
+
+-- two lvalues of one type stay an lvalue of it
+abbrev pub one_place : ℕ → Value → Value → Value → Value
+one_place at c a b = place_of at (node.Conditional at c.node a.node b.node) a.type false
+
+abbrev pub both_arithmetic : ℕ → Value → Value → Value → Kind → Kind → Elab Value
+both_arithmetic at c x y k l = do
+  a ← to_kind (usual k l) x
+  b ← to_kind (usual k l) y
+  t ← of_kind (usual k l)
+  gives (one_of at c a b t)
+
+-- a pointer or pointer to member as the other's type
+abbrev pub one_type : ℕ → Value → Value → Value → Option (List ConvStep) → Option (List ConvStep) → Elab Value
+one_type at c x y (Some ss) other = do
+  a ← converted at y.type ss x
+  gives (one_of at c a y y.type)
+one_type at c x y None (Some ss) = do
+  b ← converted at x.type ss y
+  gives (one_of at c x b x.type)
+one_type at c x y None None = breaks 18 at
+
+abbrev pub alternatives : ℕ → Value → Value → Value → Sort → Sort → Option Kind → Option Kind → Elab Value
+alternatives at c x y s r (Some k) (Some l) = both_arithmetic at c x y k l
+alternatives at c x y void_sort void_sort None None = gives (one_of at c x y x.type)
+alternatives at c x y s r k l = do
+  env ← known
+  need (elim (takes_null s) [ true ↦ true | false ↦ takes_null r ]) 18 at
+  one_type at c x y (steps env.types (defs env) (val x) y.type) (steps env.types (defs env) (val y) x.type)
+
+-- Truth of the condition; then the two by their types, else K18
+abbrev pub conditional : ℕ → Value → Value → Value → Elab Value
+conditional at condition x y = do
+  c ← truth 13 at condition
+  if x.is_lvalue && y.is_lvalue && (x.type == y.type) then gives (one_place at c x y) else by_values c
+  where
+    by_values : Value → Elab Value
+    by_values c = do
+      a ← plain x
+      b ← plain y
+      env ← known
+      alternatives at c a b (sort_of env.types a.type) (sort_of env.types b.type) (arithmetic (sort_of env.types a.type)) (arithmetic (sort_of env.types b.type))
+
+-- ---- assignments
+
+-- K12, then Fit
+abbrev pub stored : ℕ → Value → Value → Elab Value
+stored at v x = do
+  need_modifiable at v
+  a ← fit at x v.type
+  gives (place_of at (node.Store at v.node a.node) v.type false)
+
+-- the operator of `op=`; `=` alone has none
+abbrev pub updating : AssignOp → Option Arith
+updating assign.Assign = None
+updating assign.Multiply = Some op.Multiply
+updating assign.Divide = Some op.Divide
+updating assign.Remainder = Some op.Remainder
+updating assign.Add = Some op.Add
+updating assign.Subtract = Some op.Subtract
+updating assign.ShiftLeft = Some op.ShiftLeft
+updating assign.ShiftRight = Some op.ShiftRight
+updating assign.BitAnd = Some op.And
+updating assign.BitXor = Some op.Xor
+updating assign.BitOr = Some op.Or
+
+abbrev pub updated : ℕ → Value → Change → Value → Elab Value
+updated at v c x = gives (place_of at (node.Update at v.node c x.node) v.type false)
+
+abbrev pub operand_kind : Arith → Kind → Kind → Kind
+operand_kind o k l = if is_shift o then l else usual k l
+
+abbrev pub operator_kind : Arith → Kind → Kind → Kind
+operator_kind o k l = if is_shift o then k else usual k l
+
+-- + and - move a pointer to a complete object
+abbrev pub moves : Arith → Option Bool
+moves op.Add = Some false
+moves op.Subtract = Some true
+moves other = None
+
+abbrev pub moved_pointer : ℕ → Value → ℕ → Kind → Value → Option Bool → Elab Value
+moved_pointer at v t l x None = breaks 18 at
+moved_pointer at v t l x (Some back) = do
+  env ← known
+  need (complete env t) 30 at
+  a ← to_kind l x
+  updated at v (change.Moved back) a
+
+-- as the binary operator, and back to the type of the place: an enumeration takes no integer
+abbrev pub combined : ℕ → Arith → Value → Value → Sort → Option Kind → Option Kind → Elab Value
+combined at o v x (integral k) (Some p) (Some l) = do
+  a ← to_kind (operand_kind o p l) x
+  updated at v (change.Arithmetic o (operator_kind o p l) k) a
+combined at o v x (enumeral e) (Some p) (Some l) = breaks 25 at
+combined at o v x (object_pointer t) None (Some l) = moved_pointer at v t l x (moves o)
+combined at o v x s p l = breaks 18 at
+
+abbrev pub update : ℕ → Arith → Value → Value → Elab Value
+update at o v y = do
+  need_modifiable at v
+  x ← plain y
+  env ← known
+  combined at o v x (sort_of env.types v.type) (arithmetic (sort_of env.types v.type)) (arithmetic (sort_of env.types x.type))
+
+abbrev pub by_operator : ℕ → Option Arith → Value → Value → Elab Value
+by_operator at None v x = stored at v x
+by_operator at (Some o) v x = update at o v x
+
+-- of a place that is no class object
+abbrev pub assignment : ℕ → AssignOp → Value → Value → Elab Value
+assignment at o v x = by_operator at (updating o) v x
+
+-- ---- commas
+
+-- each in order; the last is the value, and the others are not read
+abbrev pub last_of : Value → List Value → Value
+last_of v [] = v
+last_of v (x ∷ xs) = last_of x xs
+
+abbrev pub sequence : ℕ → List Value → Elab Value
+sequence at [] = breaks 18 at
+sequence at (v ∷ vs) =
+    gives (record (last_of v vs) { at = at; node = node.Comma at (map (λ (x : Value). x.node) (v ∷ vs)); number = None; is_fixed = false })
