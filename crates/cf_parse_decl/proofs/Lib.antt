@@ -1,0 +1,5 @@
+pub mod Beginnings
+pub mod Elements
+pub mod Inits
+pub mod Read
+pub mod Rows
