@@ -1,5 +1,7 @@
-mod Acts
-mod Chain
-mod KnownLaws
-mod Steps
-mod TypeLaws
+mod CallLaws
+mod Goes
+mod Laws
+mod Nodes
+mod ShapeLaws
+mod StatementLaws
+mod WholeLaws

@@ -1,6 +1,2 @@
-pub mod Acts
-pub mod Answer
-pub mod Built
-pub mod Meant
-pub mod Store
-pub mod Typed
+pub mod Going
+pub mod Whole

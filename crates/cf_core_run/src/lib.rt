@@ -1,21 +1,20 @@
-//! A plain program that runs cores as the manual's meaning says.
+//! A plain program that runs cores of scalars as the manual's meaning says: the end and the trace of a run are exactly those that the
+//! program means.
 //!
-//! So far it knows the expressions over integers that call nothing: constants, parameters and locals, reading, the operators on integers,
-//! `!`, `&&`, `||`, `?:`, `=`, `op=`, `++`, `--` and conversions to integer types and to void. Any other node is answered as not built.
-//! It keeps each object by its number, and never gives a number twice.
+//! The functions that were entered and have not ended, and what is left to do in each, stand in a list of marks, so the native stack
+//! does not grow with the depth of calls.
 #![tactic(auto)]
 
-mod answer;
-mod arithmetic;
+mod calls;
 mod expressions;
-mod integer;
-mod results;
-mod store;
+mod leaving;
+mod machine;
+mod mark;
+mod state;
+mod statements;
 #[cfg(test)]
 mod tests;
-mod types;
 
-pub use answer::{Stop, Value};
-pub use expressions::value;
-pub use integer::Integer;
-pub use store::{Cell, Entered, Local};
+pub use machine::run;
+pub use mark::{Calling, Doing, Flow, FlowMark, Mark, Repeated, TestMark, ValueMark};
+pub use state::{End, Event, Limits, Machine, Ran, RunEnd, Seen, Step};

@@ -1,0 +1,298 @@
+-- How a call passes its arguments, how a function is entered, and how it ends.
+use Rattle.std.proofs.Common.{◌≡◌, ◌∙◌, ℕ, zero, suc, ◌+◌, ◌-◌, Bool, true, false, if◌then◌else◌, List, [], ◌∷◌, ◌++◌, length, slice_get, codes, bytes_eq, Option, Some, None, Bor, refl, ap, sym, subst, map, reverse, replicate, arith, length-append}
+use Rattle.std.proofs.lemmas.List.{append-nil}
+use Rattle.std.proofs.Common.{append_assoc}
+use Rattle.std.specs.Global.{Global}
+use Rattle.std.specs.Prelude.{Vec}
+use Rattle.cf_base.specs.Event.{Enter, Ticks, Depth}
+use Rattle.cf_base.specs.World.{World, Ran, Went, spend_of, deeper, show}
+use Rattle.cf_core.specs.FromTypes.{Tables, taking}
+use Rattle.cf_core.specs.Types.{SourceType, parameters, result, is_class, gives as gives_type}
+use Rattle.cf_core.specs.Core.{more}
+use Rattle.cf_core.specs.Places.{Place}
+use Rattle.cf_core.specs.Store.{Value, Object, new_object, automatic}
+use Rattle.cf_core.specs.Run.{State, Frame, Did, Malformed, Act, ◌>>=◌, ◌>>◌, gives, malformed, some_or, when, upd, changed, with_frame, for_all}
+use Rattle.cf_core.specs.Objects.{settle, settled, result_place}
+use Rattle.cf_core.specs.Calls.{Flow, Falls, body, root, enter, returned, local_count, end_object, name_function}
+use Rattle.cf_core.specs.Calls as calls
+use Rattle.cf_core.specs.Expressions.{arguments}
+use Rattle.cf_core.specs.Program.{ended_well}
+use Rattle.cf_run_tree.specs.declared.node.Node.{Node}
+use Rattle.cf_run_tree.specs.declared.program.Program.{Program}
+use Rattle.cf_run_tree.specs.declared.program.RunFn.{RunFn}
+use Rattle.cf_run_tree.specs.declared.program.Signature.{Signature}
+use Rattle.cf_run_tree.specs.declared.shape.Form.{Form}
+use Rattle.cf_run_tree.specs.declared.shape.Form.TheVariants as form
+use Rattle.cf_run_tree.specs.declared.shape.Shape.{Shape}
+use Rattle.cf_run_tree.specs.Tree.{core_of, kept, form_type, shape_type, signature_type, function_of, program_of}
+use Rattle.cf_core_store.specs.declared.store.Entered.{Entered}
+use Rattle.cf_core_store.specs.declared.store.Cell.{Cell}
+use Rattle.cf_core_run.specs.declared.mark.Calling.{Calling}
+use Rattle.cf_core_run.specs.declared.mark.ValueMark.TheVariants as vm
+use Rattle.cf_core_run.specs.declared.mark.FlowMark.TheVariants as part
+use Rattle.cf_core_run.specs.declared.mark.Mark.{Mark}
+use Rattle.cf_core_run.specs.declared.mark.Mark.TheVariants as mark
+use Rattle.cf_core_run.specs.declared.mark.Doing.TheVariants as doing
+use Rattle.cf_core_run.specs.declared.state.Machine.{Machine}
+use Rattle.cf_core_store.specs.Store.{state_of, objects_of, object_of, frame_of, local_object}
+use Rattle.cf_core_store.specs.Then.{◌▷◌}
+use Rattle.cf_core_run.specs.Going.{on_value, on_flow, finish, from_value, from_flow, world_of, GoesOn, EndsAs, OpensScope, valued, performed, cores, scoped, again, called, passing, pass_next, starting, go_parameters, library_by}
+use Rattle.cf_core_store.proofs.ThenLaws.{then-assoc, then-same}
+use Rattle.cf_core_run.proofs.Laws.{pushed, value-stops}
+use Rattle.cf_core_run.proofs.Goes.{flow-pushed}
+use Rattle.cf_core_store.proofs.StoreLaws.{objects-push, length-push}
+
+taking-params : (ts : List SourceType) (r : SourceType) → parameters (taking ts (gives_type r false)) ≡ ts
+taking-params [] r = refl
+taking-params (t ∷ ts) r = ap (λ l. t ∷ l) (taking-params ts r)
+
+taking-result : (ts : List SourceType) (r : SourceType) → result (taking ts (gives_type r false)) ≡ r
+taking-result [] r = refl
+taking-result (t ∷ ts) r = taking-result ts r
+
+pub signature-params : (T : Tables) (f : Signature) → parameters (signature_type T f) ≡ map (shape_type T) f.params
+signature-params T f = taking-params (map (shape_type T) f.params) (shape_type T f.result)
+
+pub signature-result : (T : Tables) (f : Signature) → result (signature_type T f) ≡ shape_type T f.result
+signature-result T f = taking-result (map (shape_type T) f.params) (shape_type T f.result)
+
+class-form : (T : Tables) (b : Bool) (f : Form) → is_class (kept b (form_type T f)) ≡ false
+class-form T true form.Void = refl
+class-form T false form.Void = refl
+class-form T true (form.Integer k) = refl
+class-form T false (form.Integer k) = refl
+class-form T true (form.Enumeration n) = refl
+class-form T false (form.Enumeration n) = refl
+class-form T true (form.Pointer t) = refl
+class-form T false (form.Pointer t) = refl
+class-form T true (form.Reference t) = refl
+class-form T false (form.Reference t) = refl
+
+pub class-none : (T : Tables) (f : Signature) → is_class (result (signature_type T f)) ≡ false
+class-none T f = ap is_class (signature-result T f) ∙ class-form T f.result.is_const f.result.form
+
+-- the arguments of a call begin
+pub start-goes : (T : Tables) (p : Program) (k : ℕ) (name : List ℕ) (f : Signature) (es : List Node) (into : Option Place) (c : Calling) (s : State) (w : World)
+    → c.name.now ≡ name → c.params.now ≡ f.params → c.rest.now ≡ es → c.made.items ≡ []
+    → starting T p k name (signature_type T f) (cores T p es) into s w ≡ passing T p k c s w
+start-goes T p k name f es into c s w en ep er em =
+    ap (λ ts. (arguments (again T p k) (program_of T p) ts (cores T p es) >>= (λ os. calls.run_named (again T p k) (program_of T p) name os None (result_place (signature_type T f) into))) s w) (signature-params T f)
+    ∙ ap (λ b. (arguments (again T p k) (program_of T p) (map (shape_type T) f.params) (cores T p es) >>= (λ os. calls.run_named (again T p k) (program_of T p) name os None (if b then into else None))) s w) (class-none T f)
+    ∙ ap (λ (n : List ℕ). (arguments (again T p k) (program_of T p) (map (shape_type T) f.params) (cores T p es) >>= (λ os. called T p k n os)) s w) (sym en)
+    ∙ ap (λ (ps : List Shape). (arguments (again T p k) (program_of T p) (map (shape_type T) ps) (cores T p es) >>= (λ os. called T p k c.name.now os)) s w) (sym ep)
+    ∙ ap (λ (es : List Node). (arguments (again T p k) (program_of T p) (map (shape_type T) c.params.now) (cores T p es) >>= (λ os. called T p k c.name.now os)) s w) (sym er)
+    ∙ ap (λ (made : List ℕ). (arguments (again T p k) (program_of T p) (map (shape_type T) c.params.now) (cores T p c.rest.now) >>= (λ os. called T p k c.name.now (made ++ os))) s w) (sym em)
+
+-- all arguments are passed
+pub passing-end : (T : Tables) (p : Program) (k : ℕ) (c : Calling) (s : State) (w : World) → c.params.now ≡ [] → c.rest.now ≡ []
+    → passing T p k c s w ≡ called T p k c.name.now c.made.items s w
+passing-end T p k c s w ep er =
+    ap (λ (ps : List Shape). (arguments (again T p k) (program_of T p) (map (shape_type T) ps) (cores T p c.rest.now) >>= (λ os. called T p k c.name.now (c.made.items ++ os))) s w) ep
+    ∙ ap (λ (es : List Node). (arguments (again T p k) (program_of T p) [] (cores T p es) >>= (λ os. called T p k c.name.now (c.made.items ++ os))) s w) er
+    ∙ ap (λ os. called T p k c.name.now os s w) (append-nil c.made.items)
+
+pub passing-more : (T : Tables) (p : Program) (k : ℕ) (c : Calling) (e : Node) (es : List Node) (s : State) (w : World) → c.params.now ≡ [] → c.rest.now ≡ e ∷ es
+    → passing T p k c s w ≡ Went Malformed w
+passing-more T p k c e es s w ep er =
+    ap (λ (ps : List Shape). (arguments (again T p k) (program_of T p) (map (shape_type T) ps) (cores T p c.rest.now) >>= (λ os. called T p k c.name.now (c.made.items ++ os))) s w) ep
+    ∙ ap (λ (es : List Node). (arguments (again T p k) (program_of T p) [] (cores T p es) >>= (λ os. called T p k c.name.now (c.made.items ++ os))) s w) er
+
+pub passing-few : (T : Tables) (p : Program) (k : ℕ) (c : Calling) (t : Shape) (ts : List Shape) (s : State) (w : World) → c.params.now ≡ t ∷ ts → c.rest.now ≡ []
+    → passing T p k c s w ≡ Went Malformed w
+passing-few T p k c t ts s w ep er =
+    ap (λ (ps : List Shape). (arguments (again T p k) (program_of T p) (map (shape_type T) ps) (cores T p c.rest.now) >>= (λ os. called T p k c.name.now (c.made.items ++ os))) s w) ep
+    ∙ ap (λ (es : List Node). (arguments (again T p k) (program_of T p) (shape_type T t ∷ map (shape_type T) ts) (cores T p es) >>= (λ os. called T p k c.name.now (c.made.items ++ os))) s w) er
+
+pub passing-next : (T : Tables) (p : Program) (k : ℕ) (c left : Calling) (t : Shape) (e : Node) (s : State) (w : World) → c.params.now ≡ t ∷ left.params.now → c.rest.now ≡ e ∷ left.rest.now
+    → left.name.now ≡ c.name.now → left.made.items ≡ c.made.items → passing T p k c s w ≡ pass_next T p k left t e s w
+passing-next T p k c left t e s w ep er en em =
+    ap (λ (ps : List Shape). (arguments (again T p k) (program_of T p) (map (shape_type T) ps) (cores T p c.rest.now) >>= (λ os. called T p k c.name.now (c.made.items ++ os))) s w) ep
+    ∙ ap (λ (es : List Node). (arguments (again T p k) (program_of T p) (shape_type T t ∷ map (shape_type T) left.params.now) (cores T p es) >>= (λ os. called T p k c.name.now (c.made.items ++ os))) s w) er
+    ∙ ap (λ (n : List ℕ). (arguments (again T p k) (program_of T p) (shape_type T t ∷ map (shape_type T) left.params.now) (more (core_of T e) (cores T p left.rest.now)) >>= (λ os. called T p k n (c.made.items ++ os))) s w) (sym en)
+    ∙ ap (λ (made : List ℕ). (arguments (again T p k) (program_of T p) (shape_type T t ∷ map (shape_type T) left.params.now) (more (core_of T e) (cores T p left.rest.now)) >>= (λ os. called T p k left.name.now (made ++ os))) s w) (sym em)
+    ∙ behind (settled [] (root s.next) (valued T p k (core_of T e) (Some (root s.next)))
+    (record s { next = suc s.next; object = upd s.next (new_object (shape_type T t) automatic) s.object }) w)
+    (arguments (again T p k) (program_of T p) (map (shape_type T) left.params.now) (cores T p left.rest.now)) s.next (λ os. called T p k left.name.now (left.made.items ++ os))
+  where
+    behind : (r : Ran (Did (Unit {0}))) (A : Act (List ℕ)) (o : ℕ) (g : List ℕ → Act Value)
+        → ((r ▷ (λ u. A >>= (λ os. gives (o ∷ os)))) ▷ g) ≡ (r ▷ (λ u. A >>= (λ os. g (o ∷ os))))
+    behind r A o g = then-assoc r (λ u. A >>= (λ os. gives (o ∷ os))) g
+        ∙ then-same r (λ u. (A >>= (λ os. gives (o ∷ os))) >>= g) (λ u. A >>= (λ os. g (o ∷ os))) (λ u s w. then-assoc (A s w) (λ os. gives (o ∷ os)) g)
+
+pub pushed-state : (T : Tables) (e : Entered) (cells : List Cell) (t : Shape)
+    → (let s = state_of T e cells in record s { next = suc s.next; object = upd s.next (new_object (shape_type T t) automatic) s.object })
+    ≡ state_of T e (cells ++ record { shape = t; held = None; is_gone = false } ∷ [])
+pushed-state T e cells t =
+    let c : Cell = record { shape = t; held = None; is_gone = false } in
+    let mk : ℕ → (ℕ → Object) → State = λ n ob. record { next = n; object = ob; literals = []; reached = []; finished = []; frame = frame_of e } in
+    ap (λ n. mk n (upd (length cells) (object_of T (Some c)) (objects_of T cells))) (sym (length-push cells c))
+    ∙ ap (λ ob. mk (length (cells ++ c ∷ [])) ob) (sym (objects-push T cells c))
+
+next-goes-at : (p : Program) (old : Machine) (stack : Vec Mark Global) (cells : Vec Cell Global) (left : Calling) (t : Shape) (e : Bor Node)
+    → cells.items ≡ old.cells.items ++ record { shape = t; held = None; is_gone = false } ∷ []
+    → stack.items ≡ old.stack.items ++ mark.Value old.fuel (vm.Argument left (length old.cells.items)) ∷ []
+    → GoesOn p (λ T o. from_value T p old (pass_next T p old.fuel left t e.now) o) None
+    (record old { stack = stack; cells = cells; doing = doing.Evaluate e (Some (length old.cells.items)) })
+next-goes-at p old stack cells left t e ec es = record {
+  same = λ T o.
+      let n = length old.cells.items in
+      let w = world_of old.ticks o in
+      let V = valued T p old.fuel (core_of T e.now) (Some (root n)) in
+      let A = arguments (again T p old.fuel) (program_of T p) (map (shape_type T) left.params.now) (cores T p left.rest.now) >>= (λ os. called T p old.fuel left.name.now (left.made.items ++ n ∷ os)) in
+      ap (λ (s : State). finish T p o (on_value T p (reverse old.stack.items) ((V s w ▷ settle [] (root n)) ▷ (λ u. A)))) (pushed-state T old.entered old.cells.items t)
+      ∙ ap (λ (l : List Cell). finish T p o (on_value T p (reverse old.stack.items) ((V (state_of T old.entered l) w ▷ settle [] (root n)) ▷ (λ u. A)))) (sym ec)
+      ∙ ap (λ r. finish T p o (on_value T p (reverse old.stack.items) r)) (then-assoc (V (state_of T old.entered cells.items) w) (settle [] (root n)) (λ u. A))
+      ∙ sym (ap (λ (ms : List Mark). finish T p o (on_value T p (reverse ms) (V (state_of T old.entered cells.items) w))) es
+      ∙ ap (λ (ms : List Mark). finish T p o (on_value T p ms (V (state_of T old.entered cells.items) w))) (pushed old.stack.items (mark.Value old.fuel (vm.Argument left n))));
+}
+
+pub next-goes : (p : Program) (old : Machine) (stack : Vec Mark Global) (cells : Vec Cell Global) (left : Calling) (t : Shape) (e : Bor Node) (n : ℕ) → n ≡ length old.cells.items
+    → cells.items ≡ old.cells.items ++ record { shape = t; held = None; is_gone = false } ∷ []
+    → stack.items ≡ old.stack.items ++ mark.Value old.fuel (vm.Argument left n) ∷ []
+    → GoesOn p (λ T o. from_value T p old (pass_next T p old.fuel left t e.now) o) None (record old { stack = stack; cells = cells; doing = doing.Evaluate e (Some n) })
+next-goes p old stack cells left t e n is ec es =
+    subst (λ (n : ℕ). GoesOn p (λ T o. from_value T p old (pass_next T p old.fuel left t e.now) o) None (record old { stack = stack; cells = cells; doing = doing.Evaluate e (Some n) })) (sym is)
+    (next-goes-at p old stack cells left t e ec (es ∙ ap (λ (n : ℕ). old.stack.items ++ mark.Value old.fuel (vm.Argument left n) ∷ []) is))
+
+-- A function is entered.
+spends : {A : Type 0} (t : ℕ) (w : World) (go : World → Ran A) → (t ≡ 0 → ⊥) → spend_of t w go ≡ go (record w { ticks = t - 1 })
+spends zero w go h = absurd (h refl)
+spends (suc t) w go h = ap (λ n. go (record w { ticks = n })) (let e : t ≡ suc t - 1 = omega arith in e)
+
+deepens : {A : Type 0} (d : ℕ) (w : World) (go : ℕ → Ran A) → (d ≡ 0 → ⊥) → deeper d w go ≡ go (d - 1)
+deepens zero w go h = absurd (h refl)
+deepens (suc d) w go h = ap go (let e : d ≡ suc d - 1 = omega arith in e)
+
+-- what a call of a function is once its tick and its level of depth are spent
+abbrev entering : Tables → Program → ℕ → RunFn → List ℕ → State → ℕ → World → Ran (Did Value)
+entering T p k f args s depth w =
+    (again T p k (body (function_of T f) args) >>= (λ flow. changed (with_frame s.frame) >> returned (result (signature_type T f.signature)) flow))
+    (with_frame (calls.frame_of f.name (local_count (function_of T f)) args None None depth) s) (show (Enter f.name) w)
+
+pub enter-ticks : (p : Program) (m : Machine) (f : RunFn) (args : List ℕ) → m.ticks ≡ 0
+    → EndsAs (λ T o. from_value T p m (enter (again T p m.fuel) (function_of T f) args None None) o) Ticks
+enter-ticks p m f args h = record {
+  same = λ T o. ap (λ t. finish T p o (on_value T p (reverse m.stack.items)
+      (spend_of t (world_of m.ticks o) (λ w. deeper m.entered.depth w (λ depth. entering T p m.fuel f args (state_of T m.entered m.cells.items) depth w))))) h
+      ∙ ap (finish T p o) (value-stops T p (reverse m.stack.items) Ticks o.trace);
+}
+
+pub enter-depth : (p : Program) (m : Machine) (f : RunFn) (args : List ℕ) → (m.ticks ≡ 0 → ⊥) → m.entered.depth ≡ 0
+    → EndsAs (λ T o. from_value T p m (enter (again T p m.fuel) (function_of T f) args None None) o) Depth
+enter-depth p m f args h d = record {
+  same = λ T o. ap (λ r. finish T p o (on_value T p (reverse m.stack.items) r))
+      (spends m.ticks (world_of m.ticks o) (λ w. deeper m.entered.depth w (λ depth. entering T p m.fuel f args (state_of T m.entered m.cells.items) depth w)) h
+      ∙ ap (λ d. deeper d (record (world_of m.ticks o) { ticks = m.ticks - 1 }) (λ depth. entering T p m.fuel f args (state_of T m.entered m.cells.items) depth (record (world_of m.ticks o) { ticks = m.ticks - 1 }))) d)
+      ∙ ap (finish T p o) (value-stops T p (reverse m.stack.items) Depth o.trace);
+}
+
+some-behind : (args : List ℕ) (n i : ℕ) → local_object (slice_get (map Some args ++ replicate n None) i) ≡ slice_get args i
+some-behind [] zero i = refl
+some-behind [] (suc n) zero = refl
+some-behind [] (suc n) (suc i) = some-behind [] n i
+some-behind (x ∷ args) n zero = refl
+some-behind (x ∷ args) n (suc i) = some-behind args n i
+
+length-map : {A B : Type 0} (f : A → B) (xs : List A) → length (map f xs) ≡ length xs
+length-map f [] = refl
+length-map f (x ∷ xs) = ap suc (length-map f xs)
+
+length-nones : (n : ℕ) → (let xs : List (Option ℕ) = replicate n None in length xs) ≡ n
+length-nones zero = refl
+length-nones (suc n) = ap suc (length-nones n)
+
+pub entered-frame : (T : Tables) (f : RunFn) (args : List ℕ) (e : Entered) → e.name.now ≡ f.name → e.locals.items ≡ map Some args ++ replicate (length f.locals) None → e.scope.items ≡ []
+    → length args ≡ length f.signature.params → frame_of e ≡ calls.frame_of f.name (local_count (function_of T f)) args None None e.depth
+entered-frame T f args e en el es ea =
+    let mk : List ℕ → ℕ → (ℕ → Option ℕ) → List ℕ → Frame = λ n c l s. record { function = n; count = c; this = None; result = None; depth = e.depth; locals = l; scope = s; temporaries = [] } in
+    ap (λ (l : List (Option ℕ)). mk e.name.now (length l) (λ i. local_object (slice_get l i)) (reverse e.scope.items)) el
+    ∙ ap (λ n. mk n (length (map Some args ++ replicate (length f.locals) None)) (λ i. local_object (slice_get (map Some args ++ replicate (length f.locals) None) i)) (reverse e.scope.items)) en
+    ∙ ap (λ (s : List ℕ). mk f.name (length (map Some args ++ replicate (length f.locals) None)) (λ i. local_object (slice_get (map Some args ++ replicate (length f.locals) None) i)) (reverse s)) es
+    ∙ ap (λ c. mk f.name c (λ i. local_object (slice_get (map Some args ++ replicate (length f.locals) None) i)) []) counts
+    ∙ ap (λ (l : ℕ → Option ℕ). mk f.name (local_count (function_of T f)) l []) (λ j i. some-behind args (length f.locals) i j)
+  where
+    counts : length (map Some args ++ replicate (length f.locals) None) ≡ local_count (function_of T f)
+    counts = length-append (map Some args) (replicate (length f.locals) None)
+        ∙ ap (λ n. n + length (let xs : List (Option ℕ) = replicate (length f.locals) None in xs)) (length-map Some args ∙ ea ∙ sym (ap length (signature-params T f.signature) ∙ length-map (shape_type T) f.signature.params))
+        ∙ ap (λ n. length (parameters (signature_type T f.signature)) + n) (length-nones (length f.locals) ∙ sym (length-map (shape_type T) f.locals))
+
+pub enter-goes : (p : Program) (m : Machine) (f : Bor RunFn) (args : Vec ℕ Global) (e : Entered) (stack : Vec Mark Global) → (m.ticks ≡ 0 → ⊥) → (m.entered.depth ≡ 0 → ⊥)
+    → e.name.now ≡ f.now.name → e.locals.items ≡ map Some args.items ++ replicate (length f.now.locals) None → e.scope.items ≡ [] → length args.items ≡ length f.now.signature.params
+    → e.depth ≡ m.entered.depth - 1 → stack.items ≡ m.stack.items ++ mark.Back m.fuel f.now.signature.result m.entered ∷ []
+    → GoesOn p (λ T o. from_value T p m (enter (again T p m.fuel) (function_of T f.now) args.items None None) o) (Some (Enter f.now.name))
+    (record m { stack = stack; entered = e; ticks = m.ticks - 1; doing = doing.Body f args })
+enter-goes p m f args e stack ht hd en el es ea ed ei = record {
+  same = λ T o.
+      let S = state_of T m.entered m.cells.items in
+      let w : World = record (world_of m.ticks o) { ticks = m.ticks - 1 } in
+      let v : World = show (Enter f.now.name) w in
+      let R : State → Ran (Did Flow) = λ s. again T p m.fuel (body (function_of T f.now) args.items) s v in
+      ap (λ r. finish T p o (on_value T p (reverse m.stack.items) r))
+      (spends m.ticks (world_of m.ticks o) (λ w. deeper m.entered.depth w (λ depth. entering T p m.fuel f.now args.items S depth w)) ht
+      ∙ deepens m.entered.depth w (λ depth. entering T p m.fuel f.now args.items S depth w) hd
+      ∙ ap (λ depth. entering T p m.fuel f.now args.items S depth w) (sym ed)
+      ∙ ap (λ (fr : Frame). (R (with_frame fr S) ▷ (λ flow. changed (with_frame (frame_of m.entered)) >> returned (result (signature_type T f.now.signature)) flow))) (sym (entered-frame T f.now args.items e en el es ea))
+      ∙ ap (λ t. (R (state_of T e m.cells.items) ▷ (λ flow. changed (with_frame (frame_of m.entered)) >> returned t flow))) (signature-result T f.now.signature))
+      ∙ sym (ap (λ (ms : List Mark). finish T p o (on_flow T p (reverse ms) (R (state_of T e m.cells.items)))) ei
+      ∙ ap (λ (ms : List Mark). finish T p o (on_flow T p ms (R (state_of T e m.cells.items)))) (pushed m.stack.items (mark.Back m.fuel f.now.signature.result m.entered)));
+}
+
+-- The body of a function.
+pub body-starts : (T : Tables) (p : Program) (n : ℕ) (f : RunFn) (args : List ℕ) (s : State) (w : World)
+    → again T p (suc n) (body (function_of T f) args) s w ≡ (scoped T p n (performed T p n (core_of T f.body)) s w ▷ go_parameters T p n args)
+body-starts T p n f args s w =
+    then-same (scoped T p n (performed T p n (core_of T f.body)) s w) _ (go_parameters T p n args)
+    (λ flow s w. ap (λ b. (ended_well b flow >> (for_all (reverse args) (end_object (again T p n) (program_of T p)) >> gives flow)) s w) (class-none T f.signature))
+
+pub begin-goes : (p : Program) (m opened : Machine) (f : Bor RunFn) (args : Vec ℕ Global) (b : Bor Node) (stack : Vec Mark Global) → (m.fuel ≡ 0 → ⊥)
+    → stack.items ≡ m.stack.items ++ mark.Flow (m.fuel - 1) (part.Parameters args) ∷ [] → OpensScope (record m { fuel = m.fuel - 1; stack = stack }) opened → b.now ≡ f.now.body
+    → GoesOn p (λ T o. from_flow T p m (again T p m.fuel (body (function_of T f.now) args.items)) o) None (record opened { doing = doing.Perform b })
+begin-goes p m opened f args b stack hf ei opens is = record {
+  same = λ T o.
+      let k = m.fuel - 1 in
+      ap (λ n. from_flow T p m (again T p n (body (function_of T f.now) args.items)) o) (let h : m.fuel ≡ suc (m.fuel - 1) = omega (arith, hf) in h)
+      ∙ ap (λ r. finish T p o (on_flow T p (reverse m.stack.items) r)) (body-starts T p k f.now args.items (state_of T m.entered m.cells.items) (world_of m.ticks o))
+      ∙ sym (flow-pushed T p (record m { fuel = k }) stack k (part.Parameters args) (scoped T p k (performed T p k (core_of T f.now.body))) o ei)
+      ∙ opens.same T p (performed T p k (core_of T f.now.body)) o
+      ∙ ap (λ (n : Node). from_flow T p opened (performed T p k (core_of T n)) o) (sym is)
+      ∙ ap (λ k. from_flow T p opened (performed T p k (core_of T b.now)) o) (sym opens.fuel);
+}
+
+-- a parameter has its value, and the other arguments come
+pub argument-passes : (T : Tables) (p : Program) (k : ℕ) (c : Calling) (made : Vec ℕ Global) (object : ℕ) (s : State) (w : World) → made.items ≡ c.made.items ++ object ∷ []
+    → (arguments (again T p k) (program_of T p) (map (shape_type T) c.params.now) (cores T p c.rest.now) >>= (λ os. called T p k c.name.now (c.made.items ++ object ∷ os))) s w
+    ≡ passing T p k (record c { made = made }) s w
+argument-passes T p k c made object s w is =
+    then-same (arguments (again T p k) (program_of T p) (map (shape_type T) c.params.now) (cores T p c.rest.now) s w) (λ os. called T p k c.name.now (c.made.items ++ object ∷ os)) (λ os. called T p k c.name.now (made.items ++ os))
+    (λ os s w. ap (λ (l : List ℕ). called T p k c.name.now l s w) (sym (ap (λ (l : List ℕ). l ++ os) is ∙ append_assoc c.made.items (object ∷ []) os)))
+
+-- a function of the library is called
+pub library-goes : (T : Tables) (p : Program) (name args : List ℕ) (b : Bool) (s : State) (w : World) → bytes_eq name (codes "getchar") ≡ b
+    → calls.run_library name args s w ≡ library_by T p b name args s w
+library-goes T p name args b s w is =
+    ap (λ (b : Bool). let r : Act Value = elim b [
+      | true ↦ calls.get
+      | false ↦ some_or (calls.argument args s) malformed >>= (λ v. when (bytes_eq name (codes "putchar")) (calls.put v) (calls.leave_with v))
+    ] in r s w) is ∙ at b
+  where
+    at : (b : Bool) → (let r : Act Value = elim b [
+      | true ↦ calls.get
+      | false ↦ some_or (calls.argument args s) malformed >>= (λ v. when (bytes_eq name (codes "putchar")) (calls.put v) (calls.leave_with v))
+    ] in r s w) ≡ library_by T p b name args s w
+    at true = refl
+    at false = refl
+
+-- a function is called by its name
+pub called-library : (T : Tables) (p : Program) (k : ℕ) (name args : List ℕ) (s : State) (w : World) → calls.is_library name ≡ true
+    → called T p k name args s w ≡ calls.run_library name args s w
+called-library T p k name args s w is = ap (λ (b : Bool). let r : Act Value = elim b [
+  | true ↦ calls.run_library name args
+  | false ↦ calls.enter_found (again T p k) (calls.function_named (program_of T p) name) args None None
+] in r s w) is
+
+pub called-function : (T : Tables) (p : Program) (k : ℕ) (name args : List ℕ) (s : State) (w : World) → calls.is_library name ≡ false
+    → called T p k name args s w ≡ calls.enter_found (again T p k) (calls.function_named (program_of T p) name) args None None s w
+called-function T p k name args s w is = ap (λ (b : Bool). let r : Act Value = elim b [
+  | true ↦ calls.run_library name args
+  | false ↦ calls.enter_found (again T p k) (calls.function_named (program_of T p) name) args None None
+] in r s w) is

@@ -1,0 +1,101 @@
+-- What is put on the stack of marks, and what is taken off.
+use Rattle.std.proofs.Common.{◌≡◌, ◌∙◌, ℕ, List, [], ◌∷◌, ◌++◌, Some, None, Bor, refl, ap, sym, reverse}
+use Rattle.std.specs.Global.{Global}
+use Rattle.std.specs.Prelude.{Vec}
+use Rattle.cf_base.specs.World.{Went}
+use Rattle.cf_core.specs.FromTypes.{Tables}
+use Rattle.cf_core.specs.Store.{Value}
+use Rattle.cf_core.specs.Run.{Gives, Act, gives}
+use Rattle.cf_core.specs.Calls.{Flow, root}
+use Rattle.cf_run_tree.specs.declared.node.Node.{Node}
+use Rattle.cf_run_tree.specs.declared.program.Program.{Program}
+use Rattle.cf_run_tree.specs.Tree.{core_of}
+use Rattle.cf_core_store.specs.declared.store.Entered.{Entered}
+use Rattle.cf_core_run.specs.declared.mark.ValueMark.{ValueMark}
+use Rattle.cf_core_run.specs.declared.mark.TestMark.{TestMark}
+use Rattle.cf_core_run.specs.declared.mark.TestMark.TheVariants as test
+use Rattle.cf_core_run.specs.declared.mark.FlowMark.{FlowMark}
+use Rattle.cf_core_run.specs.declared.mark.FlowMark.TheVariants as part
+use Rattle.cf_core_run.specs.declared.mark.Mark.{Mark}
+use Rattle.cf_core_run.specs.declared.mark.Mark.TheVariants as mark
+use Rattle.cf_core_run.specs.declared.mark.Doing.TheVariants as doing
+use Rattle.cf_core_run.specs.declared.state.Machine.{Machine}
+use Rattle.cf_core_store.specs.Store.{state_of, frame_of}
+use Rattle.cf_core_store.specs.Then.{◌▷◌}
+use Rattle.cf_core_run.specs.Going.{on_value, on_flow, finish, from_value, from_flow, world_of, Outside, GoesOn, OpensScope, valued, go_value, go_test, go_flow, go_scope, go_declared}
+use Rattle.cf_core_run.proofs.Laws.{pushed}
+
+-- a part is evaluated first
+pub down-goes : (p : Program) (old : Machine) (stack : Vec Mark Global) (m : ValueMark) (n : Node) (e : Bor Node)
+    → stack.items ≡ old.stack.items ++ mark.Value old.fuel m ∷ [] → e.now ≡ n
+    → GoesOn p (λ T o. from_value T p old (λ s w. valued T p old.fuel (core_of T n) None s w ▷ go_value T p old.fuel m) o) None
+    (record old { stack = stack; doing = doing.Evaluate e None })
+down-goes p old stack m n e items is = record {
+  same = λ T o.
+      let S = state_of T old.entered old.cells.items in
+      let w = world_of old.ticks o in
+      sym (ap (λ (ms : List Mark). finish T p o (on_value T p (reverse ms) (valued T p old.fuel (core_of T e.now) None S w))) items
+      ∙ ap (λ (ms : List Mark). finish T p o (on_value T p ms (valued T p old.fuel (core_of T e.now) None S w))) (pushed old.stack.items (mark.Value old.fuel m))
+      ∙ ap (λ (n : Node). finish T p o (on_value T p (reverse old.stack.items) (valued T p old.fuel (core_of T n) None S w ▷ go_value T p old.fuel m))) is);
+}
+
+pub test-goes : (p : Program) (old : Machine) (stack : Vec Mark Global) (m : TestMark) (n : Node) (e : Bor Node)
+    → stack.items ≡ old.stack.items ++ mark.Test old.fuel m ∷ [] → e.now ≡ n
+    → GoesOn p (λ T o. from_flow T p old (λ s w. valued T p old.fuel (core_of T n) None s w ▷ go_test T p old.fuel m) o) None
+    (record old { stack = stack; doing = doing.Evaluate e None })
+test-goes p old stack m n e items is = record {
+  same = λ T o.
+      let S = state_of T old.entered old.cells.items in
+      let w = world_of old.ticks o in
+      sym (ap (λ (ms : List Mark). finish T p o (on_value T p (reverse ms) (valued T p old.fuel (core_of T e.now) None S w))) items
+      ∙ ap (λ (ms : List Mark). finish T p o (on_value T p ms (valued T p old.fuel (core_of T e.now) None S w))) (pushed old.stack.items (mark.Test old.fuel m))
+      ∙ ap (λ (n : Node). finish T p o (on_flow T p (reverse old.stack.items) (valued T p old.fuel (core_of T n) None S w ▷ go_test T p old.fuel m))) is);
+}
+
+pub initialise-goes : (p : Program) (old : Machine) (stack : Vec Mark Global) (object : ℕ) (n : Node) (e : Bor Node)
+    → stack.items ≡ old.stack.items ++ mark.Test old.fuel (test.Declared object) ∷ [] → e.now ≡ n
+    → GoesOn p (λ T o. from_flow T p old (λ s w. valued T p old.fuel (core_of T n) (Some (root object)) s w ▷ go_declared T p old.fuel object) o) None
+    (record old { stack = stack; doing = doing.Evaluate e (Some object) })
+initialise-goes p old stack object n e items is = record {
+  same = λ T o.
+      let S = state_of T old.entered old.cells.items in
+      let w = world_of old.ticks o in
+      sym (ap (λ (ms : List Mark). finish T p o (on_value T p (reverse ms) (valued T p old.fuel (core_of T e.now) (Some (root object)) S w))) items
+      ∙ ap (λ (ms : List Mark). finish T p o (on_value T p ms (valued T p old.fuel (core_of T e.now) (Some (root object)) S w))) (pushed old.stack.items (mark.Test old.fuel (test.Declared object)))
+      ∙ ap (λ (n : Node). finish T p o (on_flow T p (reverse old.stack.items) (valued T p old.fuel (core_of T n) (Some (root object)) S w ▷ go_declared T p old.fuel object))) is);
+}
+
+-- the newest mark gets a value, or the way in which a statement ended
+pub value-pops : (T : Tables) (p : Program) (old : Machine) (ms : List Mark) (m : Mark) (v : Value) (o : Outside) → old.stack.items ≡ ms ++ m ∷ []
+    → from_value T p old (gives v) o ≡ finish T p o (on_value T p (m ∷ reverse ms) (Went (Gives v (state_of T old.entered old.cells.items)) (world_of old.ticks o)))
+value-pops T p old ms m v o items =
+    ap (λ (ms : List Mark). finish T p o (on_value T p (reverse ms) (Went (Gives v (state_of T old.entered old.cells.items)) (world_of old.ticks o)))) items
+    ∙ ap (λ (ms : List Mark). finish T p o (on_value T p ms (Went (Gives v (state_of T old.entered old.cells.items)) (world_of old.ticks o)))) (pushed ms m)
+
+pub flow-pops : (T : Tables) (p : Program) (old : Machine) (ms : List Mark) (m : Mark) (flow : Flow) (o : Outside) → old.stack.items ≡ ms ++ m ∷ []
+    → from_flow T p old (gives flow) o ≡ finish T p o (on_flow T p (m ∷ reverse ms) (Went (Gives flow (state_of T old.entered old.cells.items)) (world_of old.ticks o)))
+flow-pops T p old ms m flow o items =
+    ap (λ (ms : List Mark). finish T p o (on_flow T p (reverse ms) (Went (Gives flow (state_of T old.entered old.cells.items)) (world_of old.ticks o)))) items
+    ∙ ap (λ (ms : List Mark). finish T p o (on_flow T p ms (Went (Gives flow (state_of T old.entered old.cells.items)) (world_of old.ticks o)))) (pushed ms m)
+
+-- a mark that waits for the end of a statement
+pub flow-pushed : (T : Tables) (p : Program) (old : Machine) (stack : Vec Mark Global) (k : ℕ) (m : FlowMark) (act : Act Flow) (o : Outside)
+    → stack.items ≡ old.stack.items ++ mark.Flow k m ∷ []
+    → from_flow T p (record old { stack = stack }) act o ≡ from_flow T p old (λ s w. act s w ▷ go_flow T p k m) o
+flow-pushed T p old stack k m act o items =
+    let S = state_of T old.entered old.cells.items in
+    let w = world_of old.ticks o in
+    ap (λ (ms : List Mark). finish T p o (on_flow T p (reverse ms) (act S w))) items
+    ∙ ap (λ (ms : List Mark). finish T p o (on_flow T p ms (act S w))) (pushed old.stack.items (mark.Flow k m))
+
+pub scope-opens : (old : Machine) (stack : Vec Mark Global) (scope : Vec ℕ Global) → stack.items ≡ old.stack.items ++ mark.Flow old.fuel (part.Scope old.entered.scope) ∷ [] → scope.items ≡ []
+    → OpensScope old (record old { stack = stack; entered = record old.entered { scope = scope } })
+scope-opens old stack scope items is = record {
+  same = λ T p act o.
+      let x : Entered = record old.entered { scope = scope } in
+      let w = world_of old.ticks o in
+      sym (flow-pushed T p (record old { entered = x }) stack old.fuel (part.Scope old.entered.scope) act o items
+      ∙ ap (λ (l : List ℕ). finish T p o (on_flow T p (reverse old.stack.items)
+      (act (record (state_of T old.entered old.cells.items) { frame = record (frame_of old.entered) { scope = reverse l } }) w ▷ go_scope T p old.fuel old.entered.scope.items))) is);
+  fuel = refl;
+}

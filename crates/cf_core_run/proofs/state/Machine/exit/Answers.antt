@@ -1,0 +1,32 @@
+use Rattle.std.proofs.Common.{◌∙◌, ap}
+use Rattle.cf_core.specs.Calls.{root}
+use Rattle.cf_core_store.specs.Store.{state_of, value_of}
+use Rattle.cf_core_run.proofs.Laws.{value-stopped}
+use Rattle.cf_core_store.specs.declared.answer.Value.{Value as Given}
+use Rattle.cf_core_store.specs.declared.answer.Stop.TheVariants as stop
+use Rattle.cf_core.specs.Calls as calls
+use Rattle.std.proofs.Common.{reverse}
+use Rattle.cf_core_run.specs.Going.{from_value, finish, world_of}
+use Rattle.cf_core_run.proofs.Laws.{value-exits}
+use Rattle.cf_core_run.proofs.state.Machine.exit.Goals as goal
+
+pub returns-in-Number : goal.returns-in-Number
+returns-in-Number c = λ p. record {
+  same = λ T o. ap (λ (v : Given). from_value T p c.args.self.now (calls.leave_with (value_of v)) o) c.in-Number.is
+      ∙ ap (finish T p o) (value-exits T p (reverse c.args.self.now.stack.items) c.in-Number.status (state_of T c.args.self.now.entered c.args.self.now.cells.items) (world_of c.args.self.now.ticks o));
+}
+
+pub returns-in-Nothing : goal.returns-in-Nothing
+returns-in-Nothing c = λ p. value-stopped p c.args.self.now (λ T. calls.leave_with (value_of c.args.v)) stop.Malformed (λ T w. ap (λ (v : Given). calls.leave_with (value_of v) (state_of T c.args.self.now.entered c.args.self.now.cells.items) w) c.in-Nothing.is)
+
+pub returns-in-Missing : goal.returns-in-Missing
+returns-in-Missing c = λ p. value-stopped p c.args.self.now (λ T. calls.leave_with (value_of c.args.v)) stop.Malformed (λ T w. ap (λ (v : Given). calls.leave_with (value_of v) (state_of T c.args.self.now.entered c.args.self.now.cells.items) w) c.in-Missing.is)
+
+pub returns-in-Built : goal.returns-in-Built
+returns-in-Built c = λ p. value-stopped p c.args.self.now (λ T. calls.leave_with (value_of c.args.v)) stop.Malformed (λ T w. ap (λ (v : Given). calls.leave_with (value_of v) (state_of T c.args.self.now.entered c.args.self.now.cells.items) w) c.in-Built.is)
+
+pub returns-in-Null : goal.returns-in-Null
+returns-in-Null c = λ p. value-stopped p c.args.self.now (λ T. calls.leave_with (value_of c.args.v)) stop.Malformed (λ T w. ap (λ (v : Given). calls.leave_with (value_of v) (state_of T c.args.self.now.entered c.args.self.now.cells.items) w) c.in-Null.is)
+
+pub returns-in-At : goal.returns-in-At
+returns-in-At c = λ p. value-stopped p c.args.self.now (λ T. calls.leave_with (value_of c.args.v)) stop.Malformed (λ T w. ap (λ (v : Given). calls.leave_with (value_of v) (state_of T c.args.self.now.entered c.args.self.now.cells.items) w) c.in-At.is)

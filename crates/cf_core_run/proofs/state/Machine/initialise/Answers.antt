@@ -1,0 +1,5 @@
+use Rattle.cf_core_run.proofs.Goes.{initialise-goes}
+use Rattle.cf_core_run.proofs.state.Machine.initialise.Goals as goal
+
+pub returns : goal.returns
+returns c = λ p. initialise-goes p c.args.self.now c.push.new.self c.args.object c.args.start.now c.get.result c.in_ok-push.ensures.items c.get.ensures

@@ -1,0 +1,35 @@
+use Rattle.std.proofs.Common.{ap}
+use Rattle.cf_core_run.specs.Going.{go_value}
+use Rattle.cf_core_store.specs.Store.{value_of}
+use Rattle.cf_core_run.proofs.Laws.{value-as}
+use Rattle.cf_core_run.specs.declared.mark.ValueMark.{ValueMark}
+use Rattle.cf_core_run.specs.declared.mark.ValueMark.TheVariants as vm
+use Rattle.cf_core_run.proofs.state.Machine.take_value.Goals as goal
+
+pub returns-in-Apply : goal.returns-in-Apply
+returns-in-Apply c = λ p. value-as p c.args.self.now (λ T. go_value T p c.args.self.now.fuel c.args.mark (value_of c.args.v)) (λ T. go_value T p c.args.self.now.fuel (vm.Apply c.in-Apply.op) (value_of c.args.v)) c.applied.result c.applied.new.self (c.applied.ensures p)
+    (λ T s w. ap (λ (x : ValueMark). go_value T p c.args.self.now.fuel x (value_of c.args.v) s w) c.in-Apply.is)
+
+pub returns-in-Right : goal.returns-in-Right
+returns-in-Right c = λ p. value-as p c.args.self.now (λ T. go_value T p c.args.self.now.fuel c.args.mark (value_of c.args.v)) (λ T. go_value T p c.args.self.now.fuel (vm.Right c.in-Right.op c.in-Right.b) (value_of c.args.v)) c.right.result c.right.new.self (c.right.ensures p)
+    (λ T s w. ap (λ (x : ValueMark). go_value T p c.args.self.now.fuel x (value_of c.args.v) s w) c.in-Right.is)
+
+pub returns-in-And : goal.returns-in-And
+returns-in-And c = λ p. value-as p c.args.self.now (λ T. go_value T p c.args.self.now.fuel c.args.mark (value_of c.args.v)) (λ T. go_value T p c.args.self.now.fuel (vm.And c.in-And.b) (value_of c.args.v)) c.and.result c.and.new.self (c.and.ensures p)
+    (λ T s w. ap (λ (x : ValueMark). go_value T p c.args.self.now.fuel x (value_of c.args.v) s w) c.in-And.is)
+
+pub returns-in-Or : goal.returns-in-Or
+returns-in-Or c = λ p. value-as p c.args.self.now (λ T. go_value T p c.args.self.now.fuel c.args.mark (value_of c.args.v)) (λ T. go_value T p c.args.self.now.fuel (vm.Or c.in-Or.b) (value_of c.args.v)) c.or.result c.or.new.self (c.or.ensures p)
+    (λ T s w. ap (λ (x : ValueMark). go_value T p c.args.self.now.fuel x (value_of c.args.v) s w) c.in-Or.is)
+
+pub returns-in-Choice : goal.returns-in-Choice
+returns-in-Choice c = λ p. value-as p c.args.self.now (λ T. go_value T p c.args.self.now.fuel c.args.mark (value_of c.args.v)) (λ T. go_value T p c.args.self.now.fuel (vm.Choice c.in-Choice.a c.in-Choice.b) (value_of c.args.v)) c.choice.result c.choice.new.self (c.choice.ensures p)
+    (λ T s w. ap (λ (x : ValueMark). go_value T p c.args.self.now.fuel x (value_of c.args.v) s w) c.in-Choice.is)
+
+pub returns-in-Comma : goal.returns-in-Comma
+returns-in-Comma c = λ p. value-as p c.args.self.now (λ T. go_value T p c.args.self.now.fuel c.args.mark (value_of c.args.v)) (λ T. go_value T p c.args.self.now.fuel (vm.Comma c.in-Comma.rest) (value_of c.args.v)) c.comma.result c.comma.new.self (c.comma.ensures p)
+    (λ T s w. ap (λ (x : ValueMark). go_value T p c.args.self.now.fuel x (value_of c.args.v) s w) c.in-Comma.is)
+
+pub returns-in-Argument : goal.returns-in-Argument
+returns-in-Argument c = λ p. value-as p c.args.self.now (λ T. go_value T p c.args.self.now.fuel c.args.mark (value_of c.args.v)) (λ T. go_value T p c.args.self.now.fuel (vm.Argument c.in-Argument.calling c.in-Argument.object) (value_of c.args.v)) c.argument.result c.argument.new.self (c.argument.ensures p)
+    (λ T s w. ap (λ (x : ValueMark). go_value T p c.args.self.now.fuel x (value_of c.args.v) s w) c.in-Argument.is)

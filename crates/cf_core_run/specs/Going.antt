@@ -1,0 +1,336 @@
+-- What a state of the runner means: the rest of the run.
+use Rattle.std.specs.Prelude.{◌≡◌, bytes_eq, codes, ℕ, suc, Bool, true, false, List, [], ◌∷◌, ◌++◌, reverse, map, option_map, ℤ, Option, Some, None, Result, Ok, Err}
+use Rattle.cf_base.specs.Event.{Event, Enter, In, Out, End, Ended, Ticks, Depth, Undefined}
+use Rattle.cf_base.specs.World.{World, Ran, and_then, Outcome}
+use Rattle.cf_core.specs.FromTypes.{Tables}
+use Rattle.cf_core.specs.Core.{Core, Cores, MaybeCore, loop}
+use Rattle.cf_core.specs.View.{listed, maybe}
+use Rattle.cf_core.specs.Places.{Place}
+use Rattle.cf_core.specs.Store.{Value}
+use Rattle.cf_core.specs.Pointers.{truth_value}
+use Rattle.cf_core.specs.Run.{Did, Act, ◌>>=◌, ◌>>◌, gives, malformed, state, changed, when, for_all, with_frame, frame_changed, lists_in_scope, declared_object, some_or}
+use Rattle.cf_core.specs.Access.{used, number_of}
+use Rattle.cf_core.specs.Scalars.{truth_of}
+use Rattle.cf_core.specs.Objects.{settle, settled, result_place}
+use Rattle.cf_core.specs.Types.{SourceType, parameters}
+use Rattle.cf_core.specs.Calls.{Flow, Falls, Breaks, Continues, Returns, body, turn, Again, root, get, run_named, enter, end_object, returned, in_scope}
+use Rattle.cf_core.specs.Expressions.{value, last_value, arguments}
+use Rattle.cf_core.specs.Statements.{does, does_maybe, does_all, falling, turning, tests_first, leaving, holds, step_and, has_case, has_default, from_case, from_default}
+use Rattle.cf_core.specs.Program.{runs, status_of, ended_run, run_outcome}
+use Rattle.cf_core.specs.Calls as calls
+use Rattle.cf_run_tree.specs.declared.node.Binary.{Binary}
+use Rattle.cf_run_tree.specs.declared.node.Node.{Node}
+use Rattle.cf_run_tree.specs.declared.program.Program.{Program}
+use Rattle.cf_run_tree.specs.declared.shape.Shape.{Shape}
+use Rattle.cf_run_tree.specs.Tree.{core_of, shape_type, function_of, program_of}
+use Rattle.cf_core_store.specs.declared.answer.Stop.{Stop}
+use Rattle.cf_core_store.specs.declared.answer.Stop.TheVariants as stop
+use Rattle.cf_core_store.specs.declared.store.Entered.{Entered}
+use Rattle.cf_core_store.specs.Then.{◌▷◌}
+use Rattle.cf_core_run.specs.declared.mark.Flow.{Flow as Way}
+use Rattle.cf_core_run.specs.declared.mark.Flow.TheVariants as way
+use Rattle.cf_core_run.specs.declared.mark.Calling.{Calling}
+use Rattle.cf_core_run.specs.declared.mark.Repeated.{Repeated}
+use Rattle.cf_core_run.specs.declared.mark.ValueMark.{ValueMark}
+use Rattle.cf_core_run.specs.declared.mark.ValueMark.TheVariants as on_value_mark
+use Rattle.cf_core_run.specs.declared.mark.TestMark.{TestMark}
+use Rattle.cf_core_run.specs.declared.mark.TestMark.TheVariants as test
+use Rattle.cf_core_run.specs.declared.mark.FlowMark.{FlowMark}
+use Rattle.cf_core_run.specs.declared.mark.FlowMark.TheVariants as part
+use Rattle.cf_core_run.specs.declared.mark.Mark.{Mark}
+use Rattle.cf_core_run.specs.declared.mark.Mark.TheVariants as mark
+use Rattle.cf_core_run.specs.declared.mark.Doing.{Doing}
+use Rattle.cf_core_run.specs.declared.mark.Doing.TheVariants as doing
+use Rattle.cf_core_run.specs.declared.state.Machine.{Machine}
+use Rattle.cf_core_run.specs.declared.state.Event.{Event as Seen}
+use Rattle.cf_core_run.specs.declared.state.Event.TheVariants as seen
+use Rattle.cf_core_run.specs.declared.state.RunEnd.{RunEnd}
+use Rattle.cf_core_run.specs.declared.state.RunEnd.TheVariants as ending
+use Rattle.cf_core_run.specs.declared.state.Step.{Step}
+use Rattle.cf_core_run.specs.declared.state.Step.TheVariants as step
+use Rattle.cf_core_store.specs.Store.{state_of, value_of, frame_of}
+use Rattle.cf_core_store.specs.Values.{ready, of_two, of_value}
+
+abbrev pub flow_of : Way → Flow
+flow_of way.Falls = Falls
+flow_of way.Breaks = Breaks
+flow_of way.Continues = Continues
+flow_of (way.Returns v) = Returns (value_of v)
+
+-- what the runner does not hold: the input left, the heap left, the trace so far, and the bound and depth that the run began with
+pub record Outside : Type 0 where
+  pub input : List ℕ
+  pub heap : ℕ
+  pub trace : List Event
+  pub bound : ℕ
+  pub depth : ℕ
+
+abbrev pub world_of : ℕ → Outside → World
+world_of ticks o = record { ticks = ticks; input = o.input; heap = o.heap; trace = o.trace }
+
+abbrev pub noted : Option Event → Outside → Outside
+noted None o = o
+noted (Some event) o = record o { trace = o.trace ++ event ∷ [] }
+
+module _ (T : Tables) (p : Program) where
+  abbrev pub core : Node → Core
+  core e = core_of T e
+
+  abbrev pub cores : List Node → Cores
+  cores es = listed (map (core_of T) es)
+
+  abbrev pub maybe_core : Option Node → MaybeCore
+  maybe_core e = maybe (option_map (core_of T) e)
+
+  abbrev pub loop_of : Repeated → Core
+  loop_of r = loop r.form (maybe_core r.condition.now) (maybe_core r.step.now) (core r.body.now)
+
+  -- functions and turns, so deep
+  abbrev pub again : ℕ → Again
+  again k = runs (program_of T p) k
+
+  abbrev pub valued : ℕ → Core → Option Place → Act Value
+  valued k e into = value (again k) (program_of T p) e into
+
+  abbrev pub performed : ℕ → Core → Act Flow
+  performed k s = does (again k) (program_of T p) s
+
+  abbrev pub performed_all : ℕ → Cores → Act Flow
+  performed_all k es = does_all (again k) (program_of T p) es
+
+  abbrev pub called : ℕ → List ℕ → List ℕ → Act Value
+  called k name os = run_named (again k) (program_of T p) name os None None
+
+  -- `putchar` or `exit` with a value, or with the first of these parameters
+  abbrev pub put_or_exit : List ℕ → Value → Act Value
+  put_or_exit name v = when (bytes_eq name (codes "putchar")) (calls.put v) (calls.leave_with v)
+
+  abbrev pub library_on : List ℕ → List ℕ → Act Value
+  library_on name args = state >>= (λ s. some_or (calls.argument args s) malformed >>= put_or_exit name)
+
+  -- `getchar`, where true, or another function of the library
+  abbrev pub library_by : Bool → List ℕ → List ℕ → Act Value
+  library_by true name args = get
+  library_by false name args = library_on name args
+
+  -- the other arguments of a call, and then the call
+  abbrev pub passing : ℕ → Calling → Act Value
+  passing k c = arguments (again k) (program_of T p) (map (shape_type T) c.params.now) (cores c.rest.now) >>= (λ os. called k c.name.now (c.made.items ++ os))
+
+  -- the arguments of a call of a function of this type, and then the call
+  abbrev pub starting : ℕ → List ℕ → SourceType → Cores → Option Place → Act Value
+  starting k name t es into =
+      arguments (again k) (program_of T p) (parameters t) es >>= (λ os. run_named (again k) (program_of T p) name os None (result_place t into))
+
+  -- a parameter of this type is built by its argument, and then the others
+  abbrev pub pass_next : ℕ → Calling → Shape → Node → Act Value
+  pass_next k c s e = do
+    o ← declared_object (shape_type T s)
+    settled [] (root o) (valued k (core_of T e) (Some (root o)))
+    os ← arguments (again k) (program_of T p) (map (shape_type T) c.params.now) (cores c.rest.now)
+    called k c.name.now (c.made.items ++ o ∷ os)
+
+  -- a full expression has ended with this
+  abbrev pub ended : {A : Type 0} → ℕ → A → Act A
+  ended k v = do
+    t ← state
+    for_all t.frame.temporaries (end_object (again k) (program_of T p))
+    frame_changed (λ f. record f { temporaries = [] })
+    gives v
+
+  abbrev pub condition : ℕ → Value → Act Bool
+  condition k v = truth_of v >>= ended k
+
+  abbrev pub scoped : ℕ → Act Flow → Act Flow
+  scoped k act = in_scope (again k) (program_of T p) act
+
+  -- after the body of a loop
+  abbrev pub turned : ℕ → Repeated → Bool → Act Flow
+  turned k r true = step_and (again k) (program_of T p) (maybe_core r.step.now) (again k (turn (loop_of r)))
+  turned k r false = holds (again k) (program_of T p) (maybe_core r.condition.now) >>= (λ t. when t (again k (turn (loop_of r))) (gives Falls))
+
+  abbrev pub body_turn : ℕ → Repeated → Act Flow
+  body_turn k r = scoped k (performed k (core r.body.now)) >>= turning (turned k r (tests_first r.form))
+
+  abbrev pub last_of : ℕ → List Node → Act Value
+  last_of k es = last_value (again k) (program_of T p) (cores es)
+
+  -- 1 if an expression counts as true, or 0
+  abbrev pub truth_by : ℕ → Node → Act Value
+  truth_by k b = valued k (core_of T b) None >>= truth_of >>= (λ y. gives (truth_value y))
+
+  abbrev pub go_and : ℕ → Node → Value → Act Value
+  go_and k b v =
+      truth_of v >>= (λ x. when x (truth_by k b) (gives (truth_value false)))
+
+  abbrev pub go_or : ℕ → Node → Value → Act Value
+  go_or k b v =
+      truth_of v >>= (λ x. when x (gives (truth_value true)) (truth_by k b))
+
+  abbrev pub go_choice : ℕ → Node → Node → Value → Act Value
+  go_choice k a b v = truth_of v >>= (λ x. when x (valued k (core_of T a) None) (valued k (core_of T b) None))
+
+  abbrev pub go_right : ℕ → Binary → Node → Value → Act Value
+  go_right k op b v = ready op v >>= (λ x. valued k (core_of T b) None >>= of_two op x)
+
+  abbrev pub go_argument : ℕ → Calling → ℕ → Value → Act Value
+  go_argument k c o v =
+      settle [] (root o) v
+      >> (arguments (again k) (program_of T p) (map (shape_type T) c.params.now) (cores c.rest.now)
+      >>= (λ os. called k c.name.now (c.made.items ++ o ∷ os)))
+
+  -- what a value leads to
+  abbrev pub go_value : ℕ → ValueMark → Value → Act Value
+  go_value k (on_value_mark.Apply a) v = of_value T a v
+  go_value k (on_value_mark.Right op b) v = go_right k op b.now v
+  go_value k (on_value_mark.And b) v = go_and k b.now v
+  go_value k (on_value_mark.Or b) v = go_or k b.now v
+  go_value k (on_value_mark.Choice a b) v = go_choice k a.now b.now v
+  go_value k (on_value_mark.Comma es) v = last_of k es.now
+  go_value k (on_value_mark.Argument c o) v = go_argument k c o v
+
+  -- the statements behind the label of a switch for this number
+  abbrev pub labelled : ℕ → ℤ → Cores → Act Flow
+  labelled k z es =
+      when (has_case z es) (from_case (again k) (program_of T p) z es)
+      (when (has_default es) (from_default (again k) (program_of T p) es) (gives Falls))
+
+  abbrev pub selected : ℕ → Cores → ℤ → Act Flow
+  selected k es z = scoped k (labelled k z es) >>= leaving
+
+  abbrev pub first_turn : ℕ → Repeated → Act Flow
+  first_turn k r = holds (again k) (program_of T p) (maybe_core r.condition.now) >>= (λ t. when t (body_turn k r) (gives Falls))
+
+  abbrev pub go_declared : ℕ → ℕ → Value → Act Flow
+  go_declared k o v = ended k v >>= settle [] (root o) >>= (λ u. frame_changed (lists_in_scope o) >> gives Falls)
+
+  abbrev pub go_scope : ℕ → List ℕ → Flow → Act Flow
+  go_scope k saved flow = do
+    t ← state
+    for_all t.frame.scope (end_object (again k) (program_of T p))
+    frame_changed (λ f. record f { scope = reverse saved })
+    gives flow
+
+  abbrev pub go_parameters : ℕ → List ℕ → Flow → Act Flow
+  go_parameters k args flow = for_all (reverse args) (end_object (again k) (program_of T p)) >> gives flow
+
+  -- what stands behind `else`
+  abbrev pub performed_other : ℕ → Option Node → Act Flow
+  performed_other k b = does_maybe (again k) (program_of T p) (maybe_core b)
+
+  abbrev pub go_if : ℕ → Node → Option Node → Value → Act Flow
+  go_if k a b v = condition k v >>= (λ t. when t (performed k (core_of T a)) (performed_other k b))
+
+  abbrev pub go_first : ℕ → Repeated → Value → Act Flow
+  go_first k r v = condition k v >>= (λ t. when t (body_turn k r) (gives Falls))
+
+  abbrev pub go_last : ℕ → Repeated → Value → Act Flow
+  go_last k r v = condition k v >>= (λ t. when t (again k (turn (loop_of r))) (gives Falls))
+
+  abbrev pub go_result : ℕ → Value → Act Flow
+  go_result k v = used v >>= ended k >>= (λ v. gives (Returns v))
+
+  abbrev pub go_test : ℕ → TestMark → Value → Act Flow
+  go_test k test.Statement v = ended k v >> gives Falls
+  go_test k (test.If a b) v = go_if k a.now b.now v
+  go_test k (test.First r) v = go_first k r v
+  go_test k (test.Last r) v = go_last k r v
+  go_test k (test.Stepped r) v = ended k v >> again k (turn (loop_of r))
+  go_test k (test.Declared o) v = go_declared k o v
+  go_test k test.Result v = go_result k v
+  go_test k (test.Switch es) v = used v >>= ended k >>= number_of >>= selected k (cores es.now)
+
+  abbrev pub go_flow : ℕ → FlowMark → Flow → Act Flow
+  go_flow k (part.Rest es) flow = falling (performed_all k (cores es.now)) flow
+  go_flow k (part.Scope saved) flow = go_scope k saved.items flow
+  go_flow k (part.Turn r) flow = turning (turned k r (tests_first r.form)) flow
+  go_flow k part.Leaving flow = leaving flow
+  go_flow k (part.Parameters args) flow = go_parameters k args.items flow
+
+  abbrev pub go_back : ℕ → Shape → Entered → Flow → Act Value
+  go_back k s e flow = changed (with_frame (frame_of e)) >> returned (shape_type T s) flow
+
+  -- what all marks make of a run that gives a value, or ends a statement; the newest mark first
+  abbrev mutual
+    pub on_value : List Mark → Ran (Did Value) → Ran (Did ℤ)
+    on_value [] r = r ▷ status_of
+    on_value (mark.Value k m ∷ ms) r = on_value ms (r ▷ go_value k m)
+    on_value (mark.Test k m ∷ ms) r = on_flow ms (r ▷ go_test k m)
+    on_value (mark.Flow k m ∷ ms) r = r ▷ (λ v. malformed)
+    on_value (mark.Back k s e ∷ ms) r = r ▷ (λ v. malformed)
+
+    pub on_flow : List Mark → Ran (Did Flow) → Ran (Did ℤ)
+    on_flow [] r = r ▷ (λ flow. malformed)
+    on_flow (mark.Value k m ∷ ms) r = r ▷ (λ flow. malformed)
+    on_flow (mark.Test k m ∷ ms) r = r ▷ (λ flow. malformed)
+    on_flow (mark.Flow k m ∷ ms) r = on_flow ms (r ▷ go_flow k m)
+    on_flow (mark.Back k s e ∷ ms) r = on_value ms (r ▷ go_back k s e)
+
+  abbrev pub finish : Outside → Ran (Did ℤ) → Option Outcome
+  finish o r = run_outcome (and_then r (ended_run (again o.bound) (program_of T p) o.depth (suc o.bound)))
+
+  -- the outcome where this act runs, and then what the marks say
+  abbrev pub from_value : Machine → Act Value → Outside → Option Outcome
+  from_value m act o = finish o (on_value (reverse m.stack.items) (act (state_of T m.entered m.cells.items) (world_of m.ticks o)))
+
+  abbrev pub from_flow : Machine → Act Flow → Outside → Option Outcome
+  from_flow m act o = finish o (on_flow (reverse m.stack.items) (act (state_of T m.entered m.cells.items) (world_of m.ticks o)))
+
+  abbrev pub from_doing : Doing → Machine → Outside → Option Outcome
+  from_doing (doing.Evaluate e into) m o = from_value m (valued m.fuel (core e.now) (option_map root into)) o
+  from_doing (doing.Gives v) m o = from_value m (gives (value_of v)) o
+  from_doing (doing.Passes c) m o = from_value m (passing m.fuel c) o
+  from_doing (doing.Enter f args) m o = from_value m (enter (again m.fuel) (function_of T f.now) args.items None None) o
+  from_doing (doing.Body f args) m o = from_flow m (again m.fuel (body (function_of T f.now) args.items)) o
+  from_doing (doing.Perform s) m o = from_flow m (performed m.fuel (core s.now)) o
+  from_doing (doing.Follow es) m o = from_flow m (performed_all m.fuel (cores es.now)) o
+  from_doing (doing.Repeat r) m o = from_flow m (again m.fuel (turn (loop_of r))) o
+  from_doing (doing.Ends flow) m o = from_flow m (gives (flow_of flow)) o
+  from_doing doing.Asks m o = from_value m get o
+
+  -- the outcome that lies ahead of a state
+  abbrev pub total : Machine → Outside → Option Outcome
+  total m o = from_doing m.doing m o
+
+-- what may lie ahead
+abbrev pub Ahead : Type 0
+Ahead = Tables → Outside → Option Outcome
+
+-- the run goes on from the new state, with this event added to its trace
+pub record GoesOn (p : Program) (ahead : Ahead) (event : Option Event) (new : Machine) : Type 0 where
+  pub same : (T : Tables) (o : Outside) → ahead T o ≡ total T p new (noted event o)
+
+-- the run ends here
+pub record EndsAs (ahead : Ahead) (end : End) : Type 0 where
+  pub same : (T : Tables) (o : Outside) → ahead T o ≡ Some (record { end = end; trace = o.trace })
+
+pub record HasNone (ahead : Ahead) : Type 0 where
+  pub same : (T : Tables) (o : Outside) → ahead T o ≡ None
+
+abbrev pub event_of : Seen → Event
+event_of (seen.Enter name) = Enter name.now
+event_of (seen.In byte) = In byte
+event_of (seen.Out byte) = Out byte
+
+abbrev pub end_of : RunEnd → End
+end_of (ending.Ended status) = Ended status
+end_of ending.Ticks = Ticks
+end_of ending.Depth = Depth
+
+abbrev pub StopsAt : Ahead → Stop → Type 0
+StopsAt ahead (stop.Act act) = EndsAs ahead (Undefined act)
+StopsAt ahead stop.Malformed = HasNone ahead
+StopsAt ahead stop.NotBuilt = Unit {0}
+StopsAt ahead stop.Memory = Unit {0}
+
+-- what a step comes to, where this lies ahead
+abbrev pub Comes : Program → Ahead → Result Step Stop → Machine → Type 0
+Comes p ahead (Ok step.On) new = GoesOn p ahead None new
+Comes p ahead (Ok (step.Shows s)) new = GoesOn p ahead (Some (event_of s)) new
+Comes p ahead (Ok (step.Ends e)) new = EndsAs ahead (end_of e)
+Comes p ahead (Err stop) new = StopsAt ahead stop
+
+-- a scope was opened: what runs in it comes next
+pub record OpensScope (old new : Machine) : Type 0 where
+  pub same : (T : Tables) (p : Program) (act : Act Flow) (o : Outside) → from_flow T p old (scoped T p old.fuel act) o ≡ from_flow T p new act o
+  pub fuel : new.fuel ≡ old.fuel

@@ -1,0 +1,397 @@
+ghost use Rattle.std.specs.Prelude.{◌≡◌, [], ◌∷◌, ◌++◌, map, replicate, Some, None, Option, option_map, IsTrue, IfOk};
+ghost use Rattle.std.specs.Option.{option_copied};
+ghost use Rattle.cf_base.specs.Integers.{bits_of};
+ghost use Rattle.cf_base.specs.World.{World};
+ghost use Rattle.cf_core.specs.Calls.{name_function, body, argument};
+ghost use Rattle.cf_core.specs.Calls as calls;
+ghost use Rattle.cf_core.specs.Core as cores;
+ghost use Rattle.cf_core.specs.FromTypes.{Tables};
+ghost use Rattle.cf_core.specs.Places.{Place};
+ghost use Rattle.cf_core.specs.Run.{State};
+ghost use Rattle.cf_run_tree.specs.Tree.{core_of, signature_type, function_of, program_of};
+ghost use Rattle.cf_core_store.specs.Answer.{Told};
+ghost use Rattle.cf_core_run.specs.Going.{Comes, from_value, from_flow, valued, passing, called, again, starting, OpensScope};
+ghost use Rattle.cf_core_run.specs.Going as going;
+ghost use Rattle.cf_core_store.specs.Store.{state_of, value_of, objects_of};
+
+use crate::mark::{Calling, Doing, FlowMark, Mark, ValueMark};
+use crate::state::{Event, Machine, RunEnd, Step};
+use cf_core_store::{Cell, Entered, Integer, Stop, Value};
+use cf_run_tree::{Node, Program, RunFn, Shape, Signature};
+use std::alloc::{AllocError, Global};
+use std::mem::replace;
+
+/// The function that a program defines by this name.
+fn function_named<'a>(program: &'a Program, name: &[u8]) -> Option<&'a RunFn>
+    ensures { (T : Tables) → option_map (function_of T) (option_copied result) ≡ calls.function_named (program_of T program.now) name.now }
+{
+    for f in program.functions.as_slice() {
+        if f.name.as_slice() == name {
+            return Some(f);
+        }
+    }
+    None
+}
+
+/// Whether it is a function of the library.
+fn is_library(name: &[u8]) -> bool
+    ensures { result ≡ calls.is_library name.now }
+{
+    name == b"putchar".as_slice() || name == b"getchar".as_slice() || name == b"exit".as_slice()
+}
+
+/// The byte that a number is modulo 256.
+fn byte_of(number: Integer) -> u8
+    ensures { result ≡ bits_of 8 number }
+{
+    let value = number.get();
+    if value < 0 {
+        255 - ((-(value + 1)) % 256) as u8
+    } else {
+        (value % 256) as u8
+    }
+}
+
+/// Whether two types are the same.
+fn same_shape(a: Shape, b: Shape) -> bool
+    ensures { IsTrue result → a ≡ b }
+{
+    a == b
+}
+
+/// Whether two lists of types are the same.
+fn same_shapes(a: &[Shape], b: &[Shape]) -> bool
+    ensures { IsTrue result → a.now ≡ b.now }
+{
+    match a.split_first() {
+        None => b.is_empty(),
+        Some((x, rest)) => match b.split_first() {
+            None => false,
+            Some((y, others)) => {
+                if same_shape(*x, *y) {
+                    same_shapes(rest, others)
+                } else {
+                    false
+                }
+            }
+        },
+    }
+}
+
+/// Whether two functions have one type.
+fn same_signature(a: &Signature, b: &Signature) -> bool
+    ensures { IsTrue result → a.now ≡ b.now }
+{
+    if same_shape(a.result, b.result) {
+        same_shapes(a.params.as_slice(), b.params.as_slice())
+    } else {
+        false
+    }
+}
+
+/// A function is named that a file declares with this type. Other types that are the same but for const are not built.
+fn declared_alike(program: &Program, name: &[u8], signature: &Signature) -> Result<(), Stop>
+    ensures { (T : Tables) (s : State) (w : World) → Told (λ u. tt) result s w (name_function (program_of T program.now) name.now (signature_type T signature.now) s w) }
+{
+    if is_library(name) {
+        return Ok(());
+    }
+    match function_named(program, name) {
+        None => Err(Stop::Malformed),
+        Some(f) => {
+            if same_signature(&f.signature, signature) {
+                Ok(())
+            } else {
+                Err(Stop::NotBuilt)
+            }
+        }
+    }
+}
+
+/// The objects of the parameters, and room for so many locals.
+fn locals_of(alloc: Global, made: &[usize], count: usize) -> Result<Vec<Option<usize>>, AllocError>
+    ensures { IfOk result (λ found. found.items ≡ map Some made.now ++ replicate count None) }
+{
+    let mut found = Vec::new(alloc);
+    for object in made {
+        found.push(Some(*object))?;
+    }
+    for _ in 0..count {
+        found.push(None)?;
+    }
+    Ok(found)
+}
+
+/// What stands in an object; one that is not there holds null.
+fn held_in(cells: &[Cell], object: usize) -> Option<Value>
+    ensures { (T : Tables) → option_map value_of result ≡ (objects_of T cells.now object).held [] }
+{
+    match cells.get(object) {
+        None => Some(Value::Null),
+        Some(cell) => cell.held,
+    }
+}
+
+impl<'a> Machine<'a> {
+    /// A function is called by its name.
+    pub fn call(
+        &mut self,
+        name: &'a [u8],
+        signature: &'a Signature,
+        all: &'a [Node],
+        program: &'a Program,
+    ) -> Result<Step<'a>, Stop>
+        ensures { (into : Option Place) → Comes program.now (λ T o. from_value T program.now self.old (valued T program.now self.old.fuel (cores.call name.now (signature_type T signature.now) cores.absent (going.cores T program.now all.now)) into) o) result self.new }
+    {
+        match declared_alike(program, name, signature) {
+            Err(stop) => Err(stop),
+            Ok(()) => self.start_call(name, signature, all),
+        }
+    }
+
+    /// The arguments of a call begin.
+    fn start_call(
+        &mut self,
+        name: &'a [u8],
+        signature: &'a Signature,
+        all: &'a [Node],
+    ) -> Result<Step<'a>, Stop>
+        ensures { (p : Program) (into : Option Place) → Comes p (λ T o. from_value T p self.old (starting T p self.old.fuel name.now (signature_type T signature.now) (going.cores T p all.now) into) o) result self.new }
+    {
+        self.doing = Doing::Passes(Calling {
+            name,
+            params: signature.params.as_slice(),
+            rest: all,
+            made: Vec::new(self.alloc),
+        });
+        Ok(Step::On)
+    }
+
+    /// The next argument of a call, or the call.
+    pub fn pass(&mut self, calling: Calling<'a>, program: &'a Program) -> Result<Step<'a>, Stop>
+        ensures { Comes program.now (λ T o. from_value T program.now self.old (passing T program.now self.old.fuel calling.entry) o) result self.new }
+    {
+        match calling.params.split_first() {
+            None => self.pass_none(calling, program),
+            Some((shape, params)) => self.pass_one(calling, *shape, params),
+        }
+    }
+
+    /// No parameter is left.
+    fn pass_none(&mut self, calling: Calling<'a>, program: &'a Program) -> Result<Step<'a>, Stop>
+        requires { calling.params.now ≡ [] }
+        ensures { Comes program.now (λ T o. from_value T program.now self.old (passing T program.now self.old.fuel calling.entry) o) result self.new }
+    {
+        match calling.rest.split_first() {
+            None => self.call_with(calling.name, calling.made, program),
+            Some(_) => Err(Stop::NotBuilt),
+        }
+    }
+
+    /// A parameter of this type is next.
+    fn pass_one(
+        &mut self,
+        calling: Calling<'a>,
+        shape: Shape,
+        params: &'a [Shape],
+    ) -> Result<Step<'a>, Stop>
+        requires { calling.params.now ≡ shape ∷ params.now }
+        ensures { (p : Program) → Comes p (λ T o. from_value T p self.old (passing T p self.old.fuel calling.entry) o) result self.new }
+    {
+        match calling.rest.split_first() {
+            None => Err(Stop::NotBuilt),
+            Some((first, rest)) => {
+                let left = Calling {
+                    name: calling.name,
+                    params,
+                    rest,
+                    made: calling.made,
+                };
+                self.pass_next(left, shape, first)
+            }
+        }
+    }
+
+    /// A parameter of this type is built by its argument.
+    fn pass_next(
+        &mut self,
+        left: Calling<'a>,
+        shape: Shape,
+        first: &'a Node,
+    ) -> Result<Step<'a>, Stop>
+        ensures { (p : Program) → Comes p (λ T o. from_value T p self.old (going.pass_next T p self.old.fuel left.entry shape first.now) o) result self.new }
+    {
+        let object = self.cells.len();
+        self.cells.push(Cell {
+            shape,
+            held: None,
+            is_gone: false,
+        })?;
+        self.stack
+            .push(Mark::Value(self.fuel, ValueMark::Argument(left, object)))?;
+        self.doing = Doing::Evaluate(first, Some(object));
+        Ok(Step::On)
+    }
+
+    /// A function is run with these objects as its parameters.
+    fn call_with(
+        &mut self,
+        name: &'a [u8],
+        made: Vec<usize>,
+        program: &'a Program,
+    ) -> Result<Step<'a>, Stop>
+        ensures { Comes program.now (λ T o. from_value T program.now self.old (called T program.now self.old.fuel name.now made.items) o) result self.new }
+    {
+        if is_library(name) {
+            self.call_library(name, made.as_slice())
+        } else {
+            self.call_function(name, made, program)
+        }
+    }
+
+    /// A function of the program is called.
+    fn call_function(
+        &mut self,
+        name: &[u8],
+        made: Vec<usize>,
+        program: &'a Program,
+    ) -> Result<Step<'a>, Stop>
+        ensures { Comes program.now (λ T o. from_value T program.now self.old (calls.enter_found (again T program.now self.old.fuel) (calls.function_named (program_of T program.now) name.now) made.items None None) o) result self.new }
+    {
+        match function_named(program, name) {
+            None => Err(Stop::Malformed),
+            Some(f) => {
+                self.doing = Doing::Enter(f, made);
+                Ok(Step::On)
+            }
+        }
+    }
+
+    /// A function of the library is called.
+    fn call_library(&mut self, name: &'a [u8], made: &[usize]) -> Result<Step<'a>, Stop>
+        ensures { (p : Program) → Comes p (λ T o. from_value T p self.old (calls.run_library name.now made.now) o) result self.new }
+    {
+        if name == b"getchar".as_slice() {
+            self.doing = Doing::Asks;
+            Ok(Step::On)
+        } else {
+            self.call_on(name, made)
+        }
+    }
+
+    /// `putchar` or `exit` is called.
+    fn call_on(&mut self, name: &'a [u8], made: &[usize]) -> Result<Step<'a>, Stop>
+        ensures { (p : Program) → Comes p (λ T o. from_value T p self.old (going.library_on T p name.now made.now) o) result self.new }
+    {
+        match self.first_argument(made) {
+            None => Err(Stop::Malformed),
+            Some(v) => self.put_or_exit(name, v),
+        }
+    }
+
+    fn put_or_exit(&mut self, name: &'a [u8], v: Value) -> Result<Step<'a>, Stop>
+        ensures { (p : Program) → Comes p (λ T o. from_value T p self.old (going.put_or_exit T p name.now (value_of v)) o) result self.new }
+    {
+        if name == b"putchar".as_slice() {
+            self.put(v)
+        } else {
+            self.exit(v)
+        }
+    }
+
+    /// The value of the first parameter.
+    fn first_argument(&self, made: &[usize]) -> Option<Value>
+        ensures { (T : Tables) → option_map value_of result ≡ argument made.now (state_of T self.now.entered self.now.cells.items) }
+    {
+        match made.first() {
+            None => None,
+            Some(object) => held_in(&self.cells, *object),
+        }
+    }
+
+    /// A byte is put, and given.
+    fn put(&mut self, v: Value) -> Result<Step<'a>, Stop>
+        ensures { (p : Program) → Comes p (λ T o. from_value T p self.old (calls.put (value_of v)) o) result self.new }
+    {
+        match v {
+            Value::Number(number) => {
+                let byte = byte_of(number);
+                self.doing = Doing::Gives(Value::Number(Integer::new(i64::from(byte))));
+                Ok(Step::Shows(Event::Out(byte)))
+            }
+            Value::Nothing => Err(Stop::Malformed),
+            Value::Missing => Err(Stop::Malformed),
+            Value::Built => Err(Stop::Malformed),
+            Value::Null => Err(Stop::Malformed),
+            Value::At(_) => Err(Stop::Malformed),
+        }
+    }
+
+    /// The run ends with a value as its status.
+    fn exit(&mut self, v: Value) -> Result<Step<'a>, Stop>
+        ensures { (p : Program) → Comes p (λ T o. from_value T p self.old (calls.leave_with (value_of v)) o) result self.new }
+    {
+        match v {
+            Value::Number(status) => Ok(Step::Ends(RunEnd::Ended(status))),
+            Value::Nothing => Err(Stop::Malformed),
+            Value::Missing => Err(Stop::Malformed),
+            Value::Built => Err(Stop::Malformed),
+            Value::Null => Err(Stop::Malformed),
+            Value::At(_) => Err(Stop::Malformed),
+        }
+    }
+
+    /// A function is entered: a tick and a level of depth are spent, and it shows.
+    pub fn enter(&mut self, f: &'a RunFn, made: Vec<usize>) -> Result<Step<'a>, Stop>
+        ensures { (p : Program) → Comes p (λ T o. from_value T p self.old (calls.enter (again T p self.old.fuel) (function_of T f.now) made.items None None) o) result self.new }
+    {
+        if self.ticks == 0 {
+            return Ok(Step::Ends(RunEnd::Ticks));
+        }
+        if self.entered.depth == 0 {
+            return Ok(Step::Ends(RunEnd::Depth));
+        }
+        if made.len() != f.signature.params.len() {
+            return Err(Stop::NotBuilt);
+        }
+        let name = f.name.as_slice();
+        let locals = locals_of(self.alloc, made.as_slice(), f.locals.len())?;
+        let entered = Entered {
+            name,
+            depth: self.entered.depth - 1,
+            locals,
+            scope: Vec::new(self.alloc),
+        };
+        let caller = replace(&mut self.entered, entered);
+        self.ticks -= 1;
+        self.stack
+            .push(Mark::Back(self.fuel, f.signature.result, caller))?;
+        self.doing = Doing::Body(f, made);
+        Ok(Step::Shows(Event::Enter(name)))
+    }
+
+    /// The body of a function begins.
+    pub fn begin_body(&mut self, f: &'a RunFn, made: Vec<usize>) -> Result<Step<'a>, Stop>
+        ensures { (p : Program) → Comes p (λ T o. from_flow T p self.old (again T p self.old.fuel (body (function_of T f.now) made.items)) o) result self.new }
+    {
+        if self.fuel == 0 {
+            return Ok(Step::Ends(RunEnd::Ticks));
+        }
+        self.fuel -= 1;
+        self.stack
+            .push(Mark::Flow(self.fuel, FlowMark::Parameters(made)))?;
+        self.open_scope()?;
+        self.doing = Doing::Perform(&f.body);
+        Ok(Step::On)
+    }
+
+    /// A scope is opened.
+    pub fn open_scope(&mut self) -> Result<(), AllocError>
+        ensures { IfOk result (λ u. OpensScope self.old self.new) }
+    {
+        let around = replace(&mut self.entered.scope, Vec::new(self.alloc));
+        self.stack
+            .push(Mark::Flow(self.fuel, FlowMark::Scope(around)))?;
+        Ok(())
+    }
+}

@@ -1,0 +1,245 @@
+ghost use Rattle.std.specs.Prelude.{◌≡◌, None, option_map, true, false};
+ghost use Rattle.cf_core.specs.Calls.{root};
+ghost use Rattle.cf_core.specs.Run.{gives, when};
+ghost use Rattle.cf_run_tree.specs.Tree.{core_of};
+ghost use Rattle.cf_core_store.specs.Then.{◌▷◌};
+ghost use Rattle.cf_core_run.specs.Going.{Comes, from_value, valued, go_value, go_and, go_or, go_choice, go_right, go_argument, last_of, truth_by};
+ghost use Rattle.cf_core_store.specs.Values.{named, of_value};
+ghost use Rattle.cf_core.specs.Pointers.{truth_value};
+ghost use Rattle.cf_core_store.specs.Store.{value_of};
+
+use crate::mark::{Calling, Doing, Mark, ValueMark};
+use crate::state::{Machine, Step};
+use cf_base::Boxed;
+use cf_core_store::{
+    Applied, Integer, Stop, Value, apply, local_value, ready, settle, truth, truth_number,
+};
+use cf_run_tree::{Binary, Node, Program};
+
+impl<'a> Machine<'a> {
+    /// An expression, or an initialiser of an object, begins.
+    pub fn begin(
+        &mut self,
+        e: &'a Node,
+        into: Option<usize>,
+        program: &'a Program,
+    ) -> Result<Step<'a>, Stop>
+        ensures { Comes program.now (λ T o. from_value T program.now self.old (valued T program.now self.old.fuel (core_of T e.now) (option_map root into)) o) result self.new }
+    {
+        match e {
+            Node::Number(value) => {
+                self.doing = Doing::Gives(Value::Number(Integer::new(*value)));
+                Ok(Step::On)
+            }
+            Node::Local(number) => self.name_local(*number),
+            Node::Apply(op, a) => self.down(ValueMark::Apply(Applied::One(*op)), a),
+            Node::Join(op, a, b) => self.down(ValueMark::Right(*op, b), a),
+            Node::And(a, b) => self.down(ValueMark::And(b), a),
+            Node::Or(a, b) => self.down(ValueMark::Or(b), a),
+            Node::Conditional(condition, a, b) => self.down(ValueMark::Choice(a, b), condition),
+            Node::Comma(all) => self.comma(all.as_slice()),
+            Node::Call(name, signature, all) => self.call(
+                name.as_slice(),
+                signature,
+                all.as_slice(),
+                program,
+            ),
+            Node::Bind(a) => {
+                self.doing = Doing::Evaluate(a.get(), None);
+                Ok(Step::On)
+            }
+            Node::Blank => {
+                self.doing = Doing::Gives(Value::Built);
+                Ok(Step::On)
+            }
+            _ => Err(Stop::NotBuilt),
+        }
+    }
+
+    /// A part is evaluated first, and the mark says what follows.
+    fn down(&mut self, mark: ValueMark<'a>, a: &'a Boxed<Node>) -> Result<Step<'a>, Stop>
+        ensures { (p : Program) → Comes p (λ T o. from_value T p self.old (λ s w. valued T p self.old.fuel (core_of T a.now) None s w ▷ go_value T p self.old.fuel mark.entry) o) result self.new }
+    {
+        self.stack.push(Mark::Value(self.fuel, mark))?;
+        self.doing = Doing::Evaluate(a.get(), None);
+        Ok(Step::On)
+    }
+
+    /// A part is evaluated, and nothing is left of what it is a part of.
+    fn turn_to(&mut self, a: &'a Boxed<Node>) -> Result<Step<'a>, Stop>
+        ensures { (p : Program) → Comes p (λ T o. from_value T p self.old (valued T p self.old.fuel (core_of T a.now) None) o) result self.new }
+    {
+        self.doing = Doing::Evaluate(a.get(), None);
+        Ok(Step::On)
+    }
+
+    /// A parameter or local is named.
+    fn name_local(&mut self, number: u32) -> Result<Step<'a>, Stop>
+        ensures { (p : Program) → Comes p (λ T o. from_value T p self.old (named number) o) result self.new }
+    {
+        match local_value(number, &self.entered, &self.cells) {
+            Err(stop) => Err(stop),
+            Ok(v) => {
+                self.doing = Doing::Gives(v);
+                Ok(Step::On)
+            }
+        }
+    }
+
+    /// The expressions of a comma, in order.
+    fn comma(&mut self, all: &'a [Node]) -> Result<Step<'a>, Stop>
+        ensures { (p : Program) → Comes p (λ T o. from_value T p self.old (last_of T p self.old.fuel all.now) o) result self.new }
+    {
+        match all.split_first() {
+            None => Err(Stop::Malformed),
+            Some((first, rest)) => match rest.split_first() {
+                None => self.evaluate(first),
+                Some(_) => self.comma_rest(first, rest),
+            },
+        }
+    }
+
+    /// An expression is next, and nothing is left of what it is a part of.
+    fn evaluate(&mut self, e: &'a Node) -> Result<Step<'a>, Stop>
+        ensures { (p : Program) → Comes p (λ T o. from_value T p self.old (valued T p self.old.fuel (core_of T e.now) None) o) result self.new }
+    {
+        self.doing = Doing::Evaluate(e, None);
+        Ok(Step::On)
+    }
+
+    /// An expression comes, and then the others of a comma.
+    fn comma_rest(&mut self, first: &'a Node, rest: &'a [Node]) -> Result<Step<'a>, Stop>
+        ensures { (p : Program) → Comes p (λ T o. from_value T p self.old (λ s w. valued T p self.old.fuel (core_of T first.now) None s w ▷ (λ v. last_of T p self.old.fuel rest.now)) o) result self.new }
+    {
+        self.stack
+            .push(Mark::Value(self.fuel, ValueMark::Comma(rest)))?;
+        self.doing = Doing::Evaluate(first, None);
+        Ok(Step::On)
+    }
+
+    /// The value of a part is there.
+    pub fn take_value(&mut self, mark: ValueMark<'a>, v: Value) -> Result<Step<'a>, Stop>
+        ensures { (p : Program) → Comes p (λ T o. from_value T p self.old (go_value T p self.old.fuel mark.entry (value_of v)) o) result self.new }
+    {
+        match mark {
+            ValueMark::Apply(op) => self.applied(op, v),
+            ValueMark::Right(op, b) => self.right(op, b, v),
+            ValueMark::And(b) => self.and(b, v),
+            ValueMark::Or(b) => self.or(b, v),
+            ValueMark::Choice(a, b) => self.choice(a, b, v),
+            ValueMark::Comma(rest) => self.comma(rest),
+            ValueMark::Argument(calling, object) => self.argument(calling, object, v),
+        }
+    }
+
+    /// The left operand of `&&` is there.
+    fn and(&mut self, b: &'a Boxed<Node>, v: Value) -> Result<Step<'a>, Stop>
+        ensures { (p : Program) → Comes p (λ T o. from_value T p self.old (go_and T p self.old.fuel b.now (value_of v)) o) result self.new }
+    {
+        match truth(v) {
+            Err(stop) => Err(stop),
+            Ok(holds) => self.and_on(holds, b),
+        }
+    }
+
+    fn and_on(&mut self, holds: bool, b: &'a Boxed<Node>) -> Result<Step<'a>, Stop>
+        ensures { (p : Program) → Comes p (λ T o. from_value T p self.old (when holds (truth_by T p self.old.fuel b.now) (gives (truth_value false))) o) result self.new }
+    {
+        if holds {
+            self.down(ValueMark::Apply(Applied::Truth), b)
+        } else {
+            self.gives_truth(false)
+        }
+    }
+
+    /// The left operand of `||` is there.
+    fn or(&mut self, b: &'a Boxed<Node>, v: Value) -> Result<Step<'a>, Stop>
+        ensures { (p : Program) → Comes p (λ T o. from_value T p self.old (go_or T p self.old.fuel b.now (value_of v)) o) result self.new }
+    {
+        match truth(v) {
+            Err(stop) => Err(stop),
+            Ok(holds) => self.or_on(holds, b),
+        }
+    }
+
+    fn or_on(&mut self, holds: bool, b: &'a Boxed<Node>) -> Result<Step<'a>, Stop>
+        ensures { (p : Program) → Comes p (λ T o. from_value T p self.old (when holds (gives (truth_value true)) (truth_by T p self.old.fuel b.now)) o) result self.new }
+    {
+        if holds {
+            self.gives_truth(true)
+        } else {
+            self.down(ValueMark::Apply(Applied::Truth), b)
+        }
+    }
+
+    /// The condition of `?:` is there.
+    fn choice(&mut self, a: &'a Boxed<Node>, b: &'a Boxed<Node>, v: Value) -> Result<Step<'a>, Stop>
+        ensures { (p : Program) → Comes p (λ T o. from_value T p self.old (go_choice T p self.old.fuel a.now b.now (value_of v)) o) result self.new }
+    {
+        match truth(v) {
+            Err(stop) => Err(stop),
+            Ok(holds) => self.choice_on(holds, a, b),
+        }
+    }
+
+    fn choice_on(
+        &mut self,
+        holds: bool,
+        a: &'a Boxed<Node>,
+        b: &'a Boxed<Node>,
+    ) -> Result<Step<'a>, Stop>
+        ensures { (p : Program) → Comes p (λ T o. from_value T p self.old (when holds (valued T p self.old.fuel (core_of T a.now) None) (valued T p self.old.fuel (core_of T b.now) None)) o) result self.new }
+    {
+        if holds {
+            self.turn_to(a)
+        } else {
+            self.turn_to(b)
+        }
+    }
+
+    /// 1 or 0 is given.
+    fn gives_truth(&mut self, holds: bool) -> Result<Step<'a>, Stop>
+        ensures { (p : Program) → Comes p (λ T o. from_value T p self.old (gives (truth_value holds)) o) result self.new }
+    {
+        self.doing = Doing::Gives(truth_number(holds));
+        Ok(Step::On)
+    }
+
+    /// Something is made of a value.
+    fn applied(&mut self, op: Applied, v: Value) -> Result<Step<'a>, Stop>
+        ensures { (p : Program) → Comes p (λ T o. from_value T p self.old (of_value T op (value_of v)) o) result self.new }
+    {
+        match apply(op, v, &self.entered, &mut self.cells) {
+            Err(stop) => Err(stop),
+            Ok(x) => {
+                self.doing = Doing::Gives(x);
+                Ok(Step::On)
+            }
+        }
+    }
+
+    /// The left operand is there.
+    fn right(&mut self, op: Binary, b: &'a Boxed<Node>, v: Value) -> Result<Step<'a>, Stop>
+        ensures { (p : Program) → Comes p (λ T o. from_value T p self.old (go_right T p self.old.fuel op b.now (value_of v)) o) result self.new }
+    {
+        match ready(op, v) {
+            Err(stop) => Err(stop),
+            Ok(x) => self.down(ValueMark::Apply(Applied::Two(op, x)), b),
+        }
+    }
+
+    /// An argument of a call is there.
+    fn argument(&mut self, calling: Calling<'a>, object: usize, v: Value) -> Result<Step<'a>, Stop>
+        ensures { (p : Program) → Comes p (λ T o. from_value T p self.old (go_argument T p self.old.fuel calling.entry object (value_of v)) o) result self.new }
+    {
+        match settle(&self.entered, &mut self.cells, object, v) {
+            Err(stop) => Err(stop),
+            Ok(()) => {
+                let mut calling = calling;
+                calling.made.push(object)?;
+                self.doing = Doing::Passes(calling);
+                Ok(Step::On)
+            }
+        }
+    }
+}

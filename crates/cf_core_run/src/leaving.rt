@@ -1,0 +1,314 @@
+ghost use Rattle.std.specs.Prelude.{◌≡◌, []};
+ghost use Rattle.cf_base.specs.World.{World};
+ghost use Rattle.cf_core.specs.Calls.{turn, Falls};
+ghost use Rattle.cf_core.specs.Calls as calls;
+ghost use Rattle.cf_core.specs.FromTypes.{Tables};
+ghost use Rattle.cf_core.specs.Run.{State, gives, when};
+ghost use Rattle.cf_core.specs.Statements.{falling, turning, leaving, tests_first};
+ghost use Rattle.cf_run_tree.specs.Tree.{core_of, shape_type};
+ghost use Rattle.cf_core_store.specs.Answer.{Told};
+ghost use Rattle.cf_run_tree.specs.declared.program.Program.{Program};
+ghost use Rattle.cf_core_run.specs.Going.{Comes, from_value, from_flow, performed, performed_all, performed_other, cores, turned, body_turn, again, loop_of, go_test, go_if, go_first, go_last, go_result, go_flow, go_back, go_declared, go_scope, go_parameters, flow_of};
+ghost use Rattle.cf_core_store.specs.Store.{value_of};
+
+use crate::mark::{Doing, Flow, FlowMark, Mark, Repeated, TestMark};
+use crate::state::{Machine, RunEnd, Step};
+use cf_base::Boxed;
+use cf_core_store::{Entered, Integer, Stop, Value, end_objects, end_scope, settle, truth, used};
+use cf_run_tree::{Form, Node, Shape};
+
+impl<'a> Machine<'a> {
+    /// A value is there: the newest mark says what follows.
+    pub fn take(&mut self, v: Value) -> Result<Step<'a>, Stop>
+        ensures { (p : Program) → Comes p (λ T o. from_value T p self.old (gives (value_of v)) o) result self.new }
+    {
+        match self.stack.pop() {
+            None => end_with(v),
+            Some(Mark::Value(fuel, mark)) => {
+                self.fuel = fuel;
+                self.take_value(mark, v)
+            }
+            Some(Mark::Test(fuel, mark)) => {
+                self.fuel = fuel;
+                self.take_test(mark, v)
+            }
+            Some(_) => Err(Stop::NotBuilt),
+        }
+    }
+
+    /// The value of a full expression is there.
+    fn take_test(&mut self, mark: TestMark<'a>, v: Value) -> Result<Step<'a>, Stop>
+        ensures { (p : Program) → Comes p (λ T o. from_flow T p self.old (go_test T p self.old.fuel mark.entry (value_of v)) o) result self.new }
+    {
+        match mark {
+            TestMark::Statement => self.ends(Flow::Falls),
+            TestMark::If(yes, no) => self.choose(yes, no, v),
+            TestMark::First(repeated) => self.tested_first(repeated, v),
+            TestMark::Last(repeated) => self.tested_last(repeated, v),
+            TestMark::Stepped(repeated) => self.repeat_next(repeated),
+            TestMark::Declared(object) => self.declared(object, v),
+            TestMark::Result => self.result(v),
+            TestMark::Switch(_) => Err(Stop::NotBuilt),
+        }
+    }
+
+    /// The condition of an `if` is there.
+    fn choose(
+        &mut self,
+        yes: &'a Boxed<Node>,
+        no: &'a Option<Boxed<Node>>,
+        v: Value,
+    ) -> Result<Step<'a>, Stop>
+        ensures { (p : Program) → Comes p (λ T o. from_flow T p self.old (go_if T p self.old.fuel yes.now no.now (value_of v)) o) result self.new }
+    {
+        match truth(v) {
+            Err(stop) => Err(stop),
+            Ok(holds) => self.choose_on(holds, yes, no),
+        }
+    }
+
+    fn choose_on(
+        &mut self,
+        holds: bool,
+        yes: &'a Boxed<Node>,
+        no: &'a Option<Boxed<Node>>,
+    ) -> Result<Step<'a>, Stop>
+        ensures { (p : Program) → Comes p (λ T o. from_flow T p self.old (when holds (performed T p self.old.fuel (core_of T yes.now)) (performed_other T p self.old.fuel no.now)) o) result self.new }
+    {
+        if holds {
+            self.perform_next(yes)
+        } else {
+            self.perform_other(no)
+        }
+    }
+
+    /// The condition before the body of a loop is there.
+    fn tested_first(&mut self, repeated: Repeated<'a>, v: Value) -> Result<Step<'a>, Stop>
+        ensures { (p : Program) → Comes p (λ T o. from_flow T p self.old (go_first T p self.old.fuel repeated.entry (value_of v)) o) result self.new }
+    {
+        match truth(v) {
+            Err(stop) => Err(stop),
+            Ok(holds) => self.first_on(holds, repeated),
+        }
+    }
+
+    fn first_on(&mut self, holds: bool, repeated: Repeated<'a>) -> Result<Step<'a>, Stop>
+        ensures { (p : Program) → Comes p (λ T o. from_flow T p self.old (when holds (body_turn T p self.old.fuel repeated.entry) (gives Falls)) o) result self.new }
+    {
+        if holds {
+            self.open_body(repeated)
+        } else {
+            self.ends(Flow::Falls)
+        }
+    }
+
+    /// The condition behind the body of a loop is there.
+    fn tested_last(&mut self, repeated: Repeated<'a>, v: Value) -> Result<Step<'a>, Stop>
+        ensures { (p : Program) → Comes p (λ T o. from_flow T p self.old (go_last T p self.old.fuel repeated.entry (value_of v)) o) result self.new }
+    {
+        match truth(v) {
+            Err(stop) => Err(stop),
+            Ok(holds) => self.last_on(holds, repeated),
+        }
+    }
+
+    fn last_on(&mut self, holds: bool, repeated: Repeated<'a>) -> Result<Step<'a>, Stop>
+        ensures { (p : Program) → Comes p (λ T o. from_flow T p self.old (when holds (again T p self.old.fuel (turn (loop_of T p repeated.entry))) (gives Falls)) o) result self.new }
+    {
+        if holds {
+            self.repeat_next(repeated)
+        } else {
+            self.ends(Flow::Falls)
+        }
+    }
+
+    /// The result of a function is there.
+    fn result(&mut self, v: Value) -> Result<Step<'a>, Stop>
+        ensures { (p : Program) → Comes p (λ T o. from_flow T p self.old (go_result T p self.old.fuel (value_of v)) o) result self.new }
+    {
+        match used(v) {
+            Err(stop) => Err(stop),
+            Ok(v) => self.ends(Flow::Returns(v)),
+        }
+    }
+
+    /// A statement is next.
+    fn perform_next(&mut self, s: &'a Boxed<Node>) -> Result<Step<'a>, Stop>
+        ensures { (p : Program) → Comes p (λ T o. from_flow T p self.old (performed T p self.old.fuel (core_of T s.now)) o) result self.new }
+    {
+        self.doing = Doing::Perform(s.get());
+        Ok(Step::On)
+    }
+
+    /// The statement behind `else`, if there is one.
+    fn perform_other(&mut self, no: &'a Option<Boxed<Node>>) -> Result<Step<'a>, Stop>
+        ensures { (p : Program) → Comes p (λ T o. from_flow T p self.old (performed_other T p self.old.fuel no.now) o) result self.new }
+    {
+        match no {
+            None => self.ends(Flow::Falls),
+            Some(s) => self.perform_next(s),
+        }
+    }
+
+    /// The next turn of a loop is next.
+    fn repeat_next(&mut self, repeated: Repeated<'a>) -> Result<Step<'a>, Stop>
+        ensures { (p : Program) → Comes p (λ T o. from_flow T p self.old (again T p self.old.fuel (turn (loop_of T p repeated.entry))) o) result self.new }
+    {
+        self.doing = Doing::Repeat(repeated);
+        Ok(Step::On)
+    }
+
+    /// A local has its value.
+    fn declared(&mut self, object: usize, v: Value) -> Result<Step<'a>, Stop>
+        ensures { (p : Program) → Comes p (λ T o. from_flow T p self.old (go_declared T p self.old.fuel object (value_of v)) o) result self.new }
+    {
+        match settle(&self.entered, &mut self.cells, object, v) {
+            Err(stop) => Err(stop),
+            Ok(()) => {
+                self.entered.scope.push(object)?;
+                self.ends(Flow::Falls)
+            }
+        }
+    }
+
+    /// A statement has ended: the newest mark says what follows.
+    pub fn leave(&mut self, flow: Flow) -> Result<Step<'a>, Stop>
+        ensures { (p : Program) → Comes p (λ T o. from_flow T p self.old (gives (flow_of flow)) o) result self.new }
+    {
+        match self.stack.pop() {
+            None => Err(Stop::Malformed),
+            Some(Mark::Flow(fuel, mark)) => {
+                self.fuel = fuel;
+                self.leave_part(mark, flow)
+            }
+            Some(Mark::Back(fuel, shape, entered)) => {
+                self.fuel = fuel;
+                self.go_back(shape, entered, flow)
+            }
+            Some(_) => Err(Stop::NotBuilt),
+        }
+    }
+
+    /// A part of a statement has ended.
+    fn leave_part(&mut self, mark: FlowMark<'a>, flow: Flow) -> Result<Step<'a>, Stop>
+        ensures { (p : Program) → Comes p (λ T o. from_flow T p self.old (go_flow T p self.old.fuel mark.entry (flow_of flow)) o) result self.new }
+    {
+        match mark {
+            FlowMark::Rest(rest) => self.go_on(rest, flow),
+            FlowMark::Scope(around) => self.close_scope(around, flow),
+            FlowMark::Turn(repeated) => self.turned(repeated, flow),
+            FlowMark::Leaving => self.left(flow),
+            FlowMark::Parameters(made) => self.end_parameters(made, flow),
+        }
+    }
+
+    /// The statements behind one that has ended.
+    fn go_on(&mut self, rest: &'a [Node], flow: Flow) -> Result<Step<'a>, Stop>
+        ensures { (p : Program) → Comes p (λ T o. from_flow T p self.old (falling (performed_all T p self.old.fuel (cores T p rest.now)) (flow_of flow)) o) result self.new }
+    {
+        match flow {
+            Flow::Falls => {
+                self.doing = Doing::Follow(rest);
+                Ok(Step::On)
+            }
+            Flow::Breaks => self.ends(flow),
+            Flow::Continues => self.ends(flow),
+            Flow::Returns(_) => self.ends(flow),
+        }
+    }
+
+    /// The body of a loop has ended.
+    fn turned(&mut self, repeated: Repeated<'a>, flow: Flow) -> Result<Step<'a>, Stop>
+        ensures { (p : Program) → Comes p (λ T o. from_flow T p self.old (turning (turned T p self.old.fuel repeated.entry (tests_first repeated.entry.form)) (flow_of flow)) o) result self.new }
+    {
+        match flow {
+            Flow::Falls => self.turn_on(repeated),
+            Flow::Continues => self.turn_on(repeated),
+            Flow::Breaks => self.ends(Flow::Falls),
+            Flow::Returns(_) => self.ends(flow),
+        }
+    }
+
+    /// A switch has ended.
+    fn left(&mut self, flow: Flow) -> Result<Step<'a>, Stop>
+        ensures { (p : Program) → Comes p (λ T o. from_flow T p self.old (leaving (flow_of flow)) o) result self.new }
+    {
+        match flow {
+            Flow::Breaks => self.ends(Flow::Falls),
+            Flow::Falls => self.ends(flow),
+            Flow::Continues => self.ends(flow),
+            Flow::Returns(_) => self.ends(flow),
+        }
+    }
+
+    /// The objects of a scope end.
+    fn close_scope(&mut self, around: Vec<usize>, flow: Flow) -> Result<Step<'a>, Stop>
+        ensures { (p : Program) → Comes p (λ T o. from_flow T p self.old (go_scope T p self.old.fuel around.items (flow_of flow)) o) result self.new }
+    {
+        match end_scope(&self.entered, &mut self.cells) {
+            Err(stop) => Err(stop),
+            Ok(()) => {
+                self.entered.scope = around;
+                self.ends(flow)
+            }
+        }
+    }
+
+    /// The parameters of a function end.
+    fn end_parameters(&mut self, made: Vec<usize>, flow: Flow) -> Result<Step<'a>, Stop>
+        ensures { (p : Program) → Comes p (λ T o. from_flow T p self.old (go_parameters T p self.old.fuel made.items (flow_of flow)) o) result self.new }
+    {
+        match end_objects(&self.entered, &mut self.cells, made.as_slice()) {
+            Err(stop) => Err(stop),
+            Ok(()) => self.ends(flow),
+        }
+    }
+
+    /// A function has ended, and the one that called it goes on.
+    fn go_back(&mut self, shape: Shape, entered: Entered<'a>, flow: Flow) -> Result<Step<'a>, Stop>
+        ensures { (p : Program) → Comes p (λ T o. from_value T p self.old (go_back T p self.old.fuel shape entered.entry (flow_of flow)) o) result self.new }
+    {
+        self.entered = entered;
+        match returned(shape, flow) {
+            Err(stop) => Err(stop),
+            Ok(v) => {
+                self.doing = Doing::Gives(v);
+                Ok(Step::On)
+            }
+        }
+    }
+}
+
+/// The value with which a function of this result type ended.
+fn returned(shape: Shape, flow: Flow) -> Result<Value, Stop>
+    ensures { (T : Tables) (s : State) (w : World) → Told value_of result s w (calls.returned (shape_type T shape) (flow_of flow) s w) }
+{
+    match flow {
+        Flow::Falls => Ok(without_value(shape)),
+        Flow::Returns(Value::Nothing) => Ok(without_value(shape)),
+        Flow::Returns(v) => Ok(v),
+        Flow::Breaks => Err(Stop::Malformed),
+        Flow::Continues => Err(Stop::Malformed),
+    }
+}
+
+/// What a function of this type gives where it ended without a value.
+fn without_value(shape: Shape) -> Value
+    ensures { (T : Tables) → value_of result ≡ calls.without_value (shape_type T shape) }
+{
+    match shape.form {
+        Form::Void => Value::Nothing,
+        _ => Value::Missing,
+    }
+}
+
+/// The first function has ended with a value, whose number is the status.
+fn end_with<'a>(v: Value) -> Result<Step<'a>, Stop>
+    ensures { (p : Program) (m : Machine) → m.stack.items ≡ [] → Comes p (λ T o. from_value T p m (gives (value_of v)) o) result m }
+{
+    match v {
+        Value::Number(status) => Ok(Step::Ends(RunEnd::Ended(status))),
+        Value::Missing => Ok(Step::Ends(RunEnd::Ended(Integer::new(0)))),
+        _ => Err(Stop::Malformed),
+    }
+}

@@ -1,0 +1,165 @@
+ghost use Rattle.std.specs.Prelude.{◌≡◌};
+ghost use Rattle.cf_core_run.specs.Going.{Comes, total, end_of as its_run_end};
+ghost use Rattle.cf_core_run.specs.declared.mark.Doing.TheVariants as doing;
+ghost use Rattle.cf_core_run.specs.Whole.{Starts, Reads, Turns, Runs, end_of as its_end};
+
+use crate::mark::{Calling, Doing};
+use crate::state::{End, Event, Limits, Machine, Ran, RunEnd, Seen, Step};
+use cf_core_store::{Entered, Integer, Stop, Value};
+use cf_run_tree::Program;
+use std::alloc::Global;
+use std::mem::replace;
+
+impl<'a> Machine<'a> {
+    /// One step of the run. While a byte is awaited nothing is done.
+    pub fn step(&mut self, program: &'a Program) -> Result<Step<'a>, Stop>
+        ensures { Comes program.now (λ T o. total T program.now self.old o) result self.new }
+    {
+        let doing = replace(&mut self.doing, Doing::Asks);
+        match doing {
+            Doing::Evaluate(e, into) => self.begin(e, into, program),
+            Doing::Gives(v) => self.take(v),
+            Doing::Passes(calling) => self.pass(calling, program),
+            Doing::Enter(f, made) => self.enter(f, made),
+            Doing::Body(f, made) => self.begin_body(f, made),
+            Doing::Perform(s) => self.perform(s),
+            Doing::Follow(all) => self.follow(all),
+            Doing::Repeat(repeated) => self.repeat(repeated),
+            Doing::Ends(flow) => self.leave(flow),
+            Doing::Asks => Ok(Step::On),
+        }
+    }
+}
+
+/// The state in which a run begins: `main` is called.
+fn start<'a>(alloc: Global, limits: Limits) -> Machine<'a>
+    ensures { (p : Program) → Starts p limits result }
+{
+    Machine {
+        alloc,
+        stack: Vec::new(alloc),
+        doing: Doing::Passes(Calling {
+            name: b"__main".as_slice(),
+            params: &[],
+            rest: &[],
+            made: Vec::new(alloc),
+        }),
+        entered: Entered {
+            name: b"".as_slice(),
+            depth: limits.depth,
+            locals: Vec::new(alloc),
+            scope: Vec::new(alloc),
+        },
+        cells: Vec::new(alloc),
+        fuel: limits.ticks,
+        ticks: limits.ticks,
+    }
+}
+
+/// The next byte of the input, and its value.
+fn next_byte(seen: &mut Seen<'_>) -> Result<Value, Stop>
+    ensures { Reads seen.old seen.new result }
+{
+    match seen.rest.split_first() {
+        None => {
+            seen.trace.push(Event::In(None))?;
+            Ok(Value::Number(Integer::new(-1)))
+        }
+        Some((byte, rest)) => {
+            let byte = *byte;
+            seen.rest = rest;
+            seen.trace.push(Event::In(Some(byte)))?;
+            Ok(Value::Number(Integer::new(i64::from(byte))))
+        }
+    }
+}
+
+/// A byte that is awaited is read.
+fn ask<'a>(machine: &mut Machine<'a>, seen: &mut Seen<'a>) -> Result<Option<End>, Stop>
+    requires { machine.old.doing ≡ doing.Asks }
+    ensures { (p : Program) → Turns p machine.old machine.new seen.old seen.new result }
+{
+    match next_byte(seen) {
+        Err(stop) => Err(stop),
+        Ok(v) => {
+            machine.doing = Doing::Gives(v);
+            Ok(None)
+        }
+    }
+}
+
+/// A step is done.
+fn advance<'a>(
+    machine: &mut Machine<'a>,
+    program: &'a Program,
+    seen: &mut Seen<'a>,
+) -> Result<Option<End>, Stop>
+    ensures { Turns program.now machine.old machine.new seen.old seen.new result }
+{
+    match machine.step(program) {
+        Err(Stop::Act(act)) => Ok(Some(End::Undefined(act))),
+        Err(Stop::Malformed) => Err(Stop::Malformed),
+        Err(Stop::NotBuilt) => Err(Stop::NotBuilt),
+        Err(Stop::Memory) => Err(Stop::Memory),
+        Ok(Step::On) => Ok(None),
+        Ok(Step::Ends(end)) => Ok(Some(whole_end(end))),
+        Ok(Step::Shows(event)) => {
+            seen.trace.push(event)?;
+            Ok(None)
+        }
+    }
+}
+
+/// An end as that of a whole run.
+fn whole_end(end: RunEnd) -> End
+    ensures { its_end result ≡ its_run_end end }
+{
+    match end {
+        RunEnd::Ended(status) => End::Ended(status),
+        RunEnd::Ticks => End::Ticks,
+        RunEnd::Depth => End::Depth,
+    }
+}
+
+/// A byte that is awaited is read, or a step is done.
+fn turn<'a>(
+    machine: &mut Machine<'a>,
+    program: &'a Program,
+    seen: &mut Seen<'a>,
+) -> Result<Option<End>, Stop>
+    ensures { Turns program.now machine.old machine.new seen.old seen.new result }
+{
+    match &machine.doing {
+        Doing::Asks => ask(machine, seen),
+        _ => advance(machine, program, seen),
+    }
+}
+
+/// A program runs on an input, exactly as it means.
+pub fn run<'a>(
+    alloc: Global,
+    program: &'a Program,
+    limits: Limits,
+    input: &'a [u8],
+) -> Result<Ran<'a>, Stop>
+    ensures { Runs program.now limits input.now result }
+{
+    let mut machine = start(alloc, limits);
+    let mut seen = Seen {
+        rest: input,
+        trace: Vec::new(alloc),
+    };
+    for _ in 0..u64::MAX {
+        match turn(&mut machine, program, &mut seen) {
+            Err(stop) => return Err(stop),
+            Ok(None) => {}
+            Ok(Some(end)) => {
+                return Ok(Ran {
+                    end,
+                    trace: seen.trace,
+                });
+            }
+        }
+    }
+    Err(Stop::Memory)
+}

@@ -1,0 +1,109 @@
+use cf_base::Boxed;
+use cf_core::LoopForm;
+use cf_core_store::{Applied, Entered, Value};
+use cf_run_tree::{Binary, Node, RunFn, Shape};
+
+/// How a statement ends.
+#[derive(Clone, Copy)]
+pub enum Flow {
+    Falls,
+    Breaks,
+    Continues,
+    Returns(Value),
+}
+
+/// A call whose arguments are being evaluated.
+#[derive(Drop)]
+pub struct Calling<'a> {
+    pub name: &'a [u8],
+    /// The types of the parameters that are left, and their arguments.
+    pub params: &'a [Shape],
+    pub rest: &'a [Node],
+    /// The objects of the parameters so far.
+    pub made: Vec<usize>,
+}
+
+/// A loop: its condition, its step and its body.
+#[derive(Clone, Copy)]
+pub struct Repeated<'a> {
+    pub form: LoopForm,
+    pub condition: &'a Option<Boxed<Node>>,
+    pub step: &'a Option<Boxed<Node>>,
+    pub body: &'a Boxed<Node>,
+}
+
+/// What is left of an expression once the value at hand is there.
+#[derive(Drop)]
+pub enum ValueMark<'a> {
+    Apply(Applied),
+    /// The right operand comes.
+    Right(Binary, &'a Boxed<Node>),
+    And(&'a Boxed<Node>),
+    Or(&'a Boxed<Node>),
+    Choice(&'a Boxed<Node>, &'a Boxed<Node>),
+    Comma(&'a [Node]),
+    /// The parameter with this object gets the value, and the other arguments come.
+    Argument(Calling<'a>, usize),
+}
+
+/// What is left of a statement once the value at hand is there.
+#[derive(Clone, Copy)]
+pub enum TestMark<'a> {
+    /// An expression statement ends.
+    Statement,
+    If(&'a Boxed<Node>, &'a Option<Boxed<Node>>),
+    /// The condition before the body of a loop.
+    First(Repeated<'a>),
+    /// The condition behind it.
+    Last(Repeated<'a>),
+    /// The step of a `for` was done.
+    Stepped(Repeated<'a>),
+    /// A local with this object gets the value.
+    Declared(usize),
+    Result,
+    Switch(&'a [Node]),
+}
+
+/// What is left of a statement once a part of it has ended.
+#[derive(Drop)]
+pub enum FlowMark<'a> {
+    Rest(&'a [Node]),
+    /// A scope ends, and the one around it has these objects.
+    Scope(Vec<usize>),
+    /// The body of a loop was done.
+    Turn(Repeated<'a>),
+    /// A switch ends.
+    Leaving,
+    /// The parameters of a function end.
+    Parameters(Vec<usize>),
+}
+
+/// What is left to do. Each mark keeps how deep functions and turns may still be begun inside it.
+#[derive(Drop)]
+pub enum Mark<'a> {
+    Value(u64, ValueMark<'a>),
+    Test(u64, TestMark<'a>),
+    Flow(u64, FlowMark<'a>),
+    /// A function with a result of this type ends, and the one that called it goes on.
+    Back(u64, Shape, Entered<'a>),
+}
+
+/// What is being done.
+#[derive(Drop)]
+pub enum Doing<'a> {
+    /// An expression, or an initialiser of this object.
+    Evaluate(&'a Node, Option<usize>),
+    Gives(Value),
+    /// The next argument of a call.
+    Passes(Calling<'a>),
+    /// A function is entered with these objects as its parameters.
+    Enter(&'a RunFn, Vec<usize>),
+    Body(&'a RunFn, Vec<usize>),
+    Perform(&'a Node),
+    Follow(&'a [Node]),
+    /// The next turn of a loop.
+    Repeat(Repeated<'a>),
+    Ends(Flow),
+    /// The next byte of the input.
+    Asks,
+}
