@@ -15,7 +15,6 @@ use Rattle.cc_whole.specs.declared.unit.CProgram.{CProgram}
 use Rattle.cc_whole.specs.Build.{made_body}
 use Rattle.cc_whole.specs.Plain.{item_of}
 use Rattle.cc_whole.specs.Known.{is_in, is_library}
-use Rattle.cc_whole.specs.Uses.{uses_of_item}
 use Rattle.cc_whole.specs.Valid.{agrees, named_by}
 use Rattle.cc_whole_link.specs.Placed.{Placed, placed_units, its_name, old_name, defines_it, is_shared, defines_named, inner_names}
 
@@ -38,7 +37,7 @@ other_version (u ∷ rest) = if u.version == 1 then other_version rest else Some
 
 -- a used name that no unit defines, the library functions excepted: the first in the text of the item
 abbrev pub undefined_use : List Placed → Placed → Option (List ℕ)
-undefined_use all i = find (λ name. not (is_library name) && not (list_any (defines_named name) all)) (uses_of_item (item_of i.now))
+undefined_use all i = find (λ name. not (is_library name) && not (list_any (defines_named name) all)) i.uses
 
 -- ---- L2
 

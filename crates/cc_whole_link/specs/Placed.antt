@@ -4,7 +4,7 @@ use Rattle.cc_whole.specs.declared.unit.CItem.{CItem}
 use Rattle.cc_whole.specs.declared.unit.CUnit.{CUnit}
 use Rattle.cc_whole.specs.Plain.{Statement, assign, call, block, leave, next, choose, loop, select, give, Statements, done, followed, SwitchItems, closed, labelled, otherwise, stated, Body, body, Item, declares, declares_variable, defines, defines_variable, item_of, items_of, name_of}
 use Rattle.cc_whole.specs.Known.{is_in}
-use Rattle.cc_whole.specs.Uses.{local_names, parameter_names}
+use Rattle.cc_whole.specs.Uses.{local_names, parameter_names, uses_of_item}
 use Rattle.cc_whole.specs.Valid.{is_definition}
 use Rattle.cc_whole.specs.ValidUnit.{is_static}
 use Rattle.cc_whole_link.specs.Rename.{Renaming, item_renamed}
@@ -21,12 +21,13 @@ longer unit name = name ++ (codes "__u" ++ decimal unit)
 abbrev pub static_renaming : ℕ → List (List ℕ) → Renaming
 static_renaming unit names name = if is_in names name then longer unit name else name
 
--- an item, the number of its unit, as it stands there, and as it stands in the program; whether its name is static, and the longer names
--- of all static names of its unit
+-- an item, the number of its unit, as it stands there, and as it stands in the program; the names that it uses, as they are in the program;
+-- whether its name is static, and the longer names of all static names of its unit
 pub record Placed : Type 0 where
   pub unit : ℕ
   pub was : CItem
   pub now : CItem
+  pub uses : List (List ℕ)
   pub is_static : Bool
   pub longer_names : List (List ℕ)
 
@@ -35,6 +36,7 @@ placed unit names i = record {
   unit = unit;
   was = i;
   now = item_renamed i (static_renaming unit names);
+  uses = map (static_renaming unit names) (uses_of_item (item_of i));
   is_static = is_in names (name_of (item_of i));
   longer_names = map (longer unit) names;
 }
