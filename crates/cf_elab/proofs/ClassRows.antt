@@ -2,6 +2,9 @@
 use Rattle.std.proofs.Common.{◌≡◌, ℕ, List, [], ◌∷◌, refl}
 use Rattle.std.specs.Prelude.{false, Option, Some, None, codes, pos}
 use Rattle.std.specs.Fmt.{digits}
+use Rattle.cf_syntax.specs.declared.declarator.DeclTree.TheOpen.{DeclTree-F, Expr-F}
+use Rattle.cf_syntax.specs.declared.name.Last.TheVariants as last
+use Rattle.cf_syntax.specs.declared.operator.BinaryOp.TheVariants as binary
 use Rattle.cf_syntax.specs.declared.operator.PrefixOp.TheVariants as op
 use Rattle.cf_syntax.specs.declared.specifier.BasicType.TheVariants as basic
 use Rattle.cf_syntax.specs.declared.specifier.ClassKey.TheVariants as key
@@ -11,12 +14,13 @@ use Rattle.cf_unit.specs.declared.class.Access.TheVariants as written
 use Rattle.cf_core.specs.declared.node.Core.TheVariants as node
 use Rattle.cf_core.specs.declared.node.Holder.TheVariants as holder
 use Rattle.cf_core.specs.declared.node.BuiltPart.TheVariants as built
-use Rattle.cf_elab.specs.Answer.{◌>>◌, gives, done}
+use Rattle.cf_elab.specs.Declarator.{Declared}
+use Rattle.cf_elab.specs.Answer.{Elab, ◌>>◌, gives, done}
 use Rattle.cf_elab.specs.Statement.{expression_row, return_row}
 use Rattle.cf_elab.specs.ClassDefinition.{access_row}
 use Rattle.cf_elab.specs.Trees.{MemberRow}
 use Rattle.cf_elab.proofs.CoreRows.{bodies}
-use Rattle.cf_elab.proofs.Words.{number, named, call, applied, set, dot, arrow, stored, int_at, type_name, called, pointing, taking, parameter, plain, with_value, with_arguments, local, main, class_in, struct, base, public_base, member, method, builds, elaborates, refusal}
+use Rattle.cf_elab.proofs.Words.{number, named, call, applied, set, dot, arrow, stored, int_at, type_name, called, pointing, taking, parameter, plain, with_value, with_arguments, local, main, class_in, struct, base, public_base, member, method, basic_at, declared_item, step, joined, holding, type_in, unnamed, tree, word, struct_name, struct_word, only_word, pure, builds, elaborates, refusal}
 
 -- int x; in a class
 abbrev field : ℕ → List ℕ → MemberRow
@@ -115,3 +119,111 @@ dispatched_call :
     ∷ node.Return 59 (Some (node.VirtualCall 69 (record { class = 0; index = 0 }) 3 (node.Dereference 67 (node.Read 66 (node.Local 66 1))) [])) ∷ []) ∷ []
 unfolding digits
 dispatched_call = refl
+
+-- struct A{virtual void f()=0;};struct B:A{void f(){}};int main(){B b;}: no object of A is made but a part of b
+part_of_an_abstract_class :
+    refusal (elaborates (struct 0 (codes "A") [] (pure 9 (stored 9 storage.Virtual ∷ basic_at 17 basic.Void ∷ []) 22 (codes "f") 25 ∷ [])
+    ∷ struct 30 (codes "B") (base 39 (codes "A") ∷ []) (method (basic_at 41 basic.Void ∷ []) 46 (taking 47 [] (called 46 (codes "f"))) [] 49 [] ∷ [])
+    ∷ main (local 64 (type_name 64 (codes "B") ∷ []) (plain 66 (called 66 (codes "b")) ∷ []) ∷ []) ∷ []))
+    ≡ None
+unfolding digits
+part_of_an_abstract_class = refl
+
+-- struct A{virtual void f()=0;};struct B:A{void f()=0;};: the word may be left out where a function of a base is overridden
+pure_override :
+    refusal (elaborates (struct 0 (codes "A") [] (pure 9 (stored 9 storage.Virtual ∷ basic_at 17 basic.Void ∷ []) 22 (codes "f") 25 ∷ [])
+    ∷ struct 30 (codes "B") (base 39 (codes "A") ∷ []) (pure 41 (basic_at 41 basic.Void ∷ []) 46 (codes "f") 49 ∷ []) ∷ []))
+    ≡ None
+unfolding digits
+pure_override = refl
+
+-- struct A{void f()=0;};
+pure_and_not_virtual : refusal (elaborates (struct 0 (codes "A") [] (pure 9 (basic_at 9 basic.Void ∷ []) 14 (codes "f") 17 ∷ []) ∷ [])) ≡ Some (24, 17)
+unfolding digits
+pure_and_not_virtual = refl
+
+-- struct A{struct B;B*p;struct B{int x;};};: a nested class is declared and defined later
+abbrev nested_twice : MemberRow → Option (ℕ × ℕ)
+nested_twice first =
+    refusal (elaborates (struct 0 (codes "A") [] (first ∷ member 18 (type_name 18 (codes "B") ∷ []) (pointing 19 (called 20 (codes "p")))
+    ∷ only_word 22 (struct_word 22 (codes "B") [] (field 31 (codes "x") ∷ [])) ∷ []) ∷ []))
+
+nested_defined_later : nested_twice (only_word 9 (struct_name 9 16 (codes "B"))) ≡ None
+unfolding digits
+nested_defined_later = refl
+
+-- struct A{struct B{};B*p;struct B{int x;};};
+nested_defined_twice : nested_twice (only_word 9 (struct_word 9 (codes "B") [] [])) ≡ Some (8, 29)
+unfolding digits
+nested_defined_twice = refl
+
+-- typedef struct S{int x;}S; and typedef struct S{int x;}*S;
+abbrev named_again : Declared → Option (ℕ × ℕ)
+named_again d =
+    refusal (elaborates (declared_item 0 (stored 0 storage.Typedef ∷ struct_word 8 (codes "S") [] (field 17 (codes "x") ∷ []) ∷ []) (plain 24 d ∷ []) ∷ []))
+
+typedef_of_its_class : named_again (called 24 (codes "S")) ≡ None
+unfolding digits
+typedef_of_its_class = refl
+
+typedef_of_another_type : named_again (pointing 24 (called 25 (codes "S"))) ≡ Some (8, 25)
+unfolding digits
+typedef_of_another_type = refl
+
+-- struct A{int x;typedef int x;};
+typedef_of_a_data_member : refusal (elaborates (struct 0 (codes "A") [] (field 9 (codes "x") ∷ member 15 (stored 15 storage.Typedef ∷ int_at 23 ∷ []) (called 27 (codes "x")) ∷ []) ∷ [])) ≡ Some (8, 27)
+unfolding digits
+typedef_of_a_data_member = refl
+
+-- class A{typedef int T;T x;};int main(){A::T y;}: the members of a class may use what is private in it, and others may not
+abbrev private_type : List (Elab (Unit {0})) → Option (ℕ × ℕ)
+private_type behind =
+    refusal (elaborates (class_in 0 key.Class 6 (codes "A") [] (member 8 (stored 8 storage.Typedef ∷ int_at 16 ∷ []) (called 20 (codes "T")) ∷ member 22 (type_name 22 (codes "T") ∷ []) (called 24 (codes "x")) ∷ []) ∷ behind))
+
+private_type_in_its_class : private_type [] ≡ None
+unfolding digits
+private_type_in_its_class = refl
+
+private_type_outside :
+    private_type (main (local 39 (word (specifier.Named (record { at = 39; from_file = false; names = codes "A" ∷ codes "T" ∷ [] })) ∷ []) (plain 44 (called 44 (codes "y")) ∷ []) ∷ []) ∷ []) ≡ Some (38, 39)
+unfolding digits
+private_type_outside = refl
+
+-- struct A{int x;};int main(){int A=1;struct A a;a.x=A;return a.x;}: a variable does not hide a class behind its key
+class_through_a_variable :
+    refusal (elaborates (struct 0 (codes "A") [] (field 9 (codes "x") ∷ [])
+    ∷ main (local 28 (int_at 28 ∷ []) (with_value 32 (called 32 (codes "A")) 33 34 (number 34 1) ∷ [])
+    ∷ local 36 (struct_name 36 43 (codes "A") ∷ []) (plain 45 (called 45 (codes "a")) ∷ [])
+    ∷ expression_row 47 (set 50 (dot 48 (named 47 (codes "a")) 49 (codes "x")) (named 51 (codes "A")))
+    ∷ return_row 53 (Some (dot 61 (named 60 (codes "a")) 62 (codes "x"))) ∷ []) ∷ []))
+    ≡ None
+unfolding digits
+class_through_a_variable = refl
+
+-- int main(){int A=1;struct A*p;}: a class and another thing of one name in one scope
+class_beside_a_variable :
+    refusal (elaborates (main (local 11 (int_at 11 ∷ []) (with_value 15 (called 15 (codes "A")) 16 17 (number 17 1) ∷ []) ∷ local 19 (struct_name 19 26 (codes "A") ∷ []) (plain 27 (pointing 27 (called 28 (codes "p"))) ∷ []) ∷ []) ∷ []))
+    ≡ Some (8, 26)
+class_beside_a_variable = refl
+
+-- struct A{int x;};struct B:A{A::x;};
+access_declaration :
+    refusal (elaborates (struct 0 (codes "A") [] (field 9 (codes "x") ∷ []) ∷ struct 17 (codes "B") (base 26 (codes "A") ∷ [])
+    (member 28 [] (tree (DeclTree-F.Declared (record { at = 28; from_file = false; scopes = codes "A" ∷ []; last_at = 31; last = last.Ident (codes "x") }))) ∷ []) ∷ []))
+    ≡ Some (48, 28)
+unfolding digits
+access_declaration = refl
+
+-- struct A{friend int char f();};
+friend_of_two_types :
+    refusal (elaborates (struct 0 (codes "A") [] (member 9 (stored 9 storage.Friend ∷ int_at 16 ∷ basic_at 20 basic.Char ∷ []) (taking 26 [] (called 25 (codes "f"))) ∷ []) ∷ [])) ≡ Some (24, 20)
+unfolding digits
+friend_of_two_types = refl
+
+-- struct A{typedef int T;static int a[2];};int A::a[sizeof(T)/2];: the bound is looked up in the class
+bound_in_the_class :
+    refusal (elaborates (struct 0 (codes "A") [] (member 9 (stored 9 storage.Typedef ∷ int_at 17 ∷ []) (called 21 (codes "T")) ∷ member 23 (stored 23 storage.Static ∷ int_at 30 ∷ []) (holding 35 (Some (number 36 2)) (called 34 (codes "a"))) ∷ [])
+    ∷ declared_item 41 (int_at 41 ∷ []) (plain 45 (holding 49 (Some (joined 59 binary.Divide (step (Expr-F.SizeofType 50 (type_in 57 (specifier.Named (record { at = 57; from_file = false; names = codes "T" ∷ [] }) ∷ []) unnamed))) (number 60 2)))
+    (tree (DeclTree-F.Declared (record { at = 45; from_file = false; scopes = codes "A" ∷ []; last_at = 48; last = last.Ident (codes "a") })))) ∷ []) ∷ [])) ≡ None
+unfolding digits
+bound_in_the_class = refl

@@ -6,7 +6,7 @@ use Rattle.cf_syntax.specs.declared.operator.PrefixOp.TheVariants as op
 use Rattle.cf_syntax.specs.declared.operator.StepOp.TheVariants as by
 use Rattle.cf_syntax.specs.declared.specifier.BasicType.TheVariants as basic
 use Rattle.cf_elab.specs.Answer.{Elab}
-use Rattle.cf_elab.specs.Statement.{Made, expression_row, switch_row, case_row, break_row, return_row, empty_row}
+use Rattle.cf_elab.specs.Statement.{if_row, Made, expression_row, switch_row, case_row, break_row, return_row, empty_row}
 use Rattle.cf_elab.proofs.Words.{number, text, named, call, joined, applied, stepped, set, basic_at, int_at, type_name, called, unnamed, pointing, referring, taking, basic_word, type_in, cast, plain, with_value, declared_item, local, enumeration, main, function, elaborates, refusal}
 
 -- enum E{P,Q=5,R};
@@ -109,3 +109,9 @@ unlike_pointers :
     in_main (local 11 (int_at 11 ∷ []) (plain 14 (pointing 14 (called 15 (codes "p"))) ∷ []) ∷ local 17 (basic_at 17 basic.Char ∷ []) (plain 21 (pointing 21 (called 22 (codes "q"))) ∷ [])
     ∷ expression_row 24 (joined 25 binary.Equal (named 24 (codes "p")) (named 27 (codes "q"))) ∷ []) ≡ Some (18, 25)
 unlike_pointers = refl
+
+-- switch(1){if(1)int x=1;case 1:;}
+label_passes_a_branch :
+    in_main (switch_row 11 (number 18 1) (if_row 21 (number 24 1) (local 26 (int_at 26 ∷ []) (with_value 30 (called 30 (codes "x")) 31 32 (number 32 1) ∷ [])) None
+    ∷ case_row 34 (number 39 1) ∷ empty_row 41 ∷ []) ∷ []) ≡ Some (23, 34)
+label_passes_a_branch = refl

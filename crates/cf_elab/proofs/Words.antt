@@ -224,3 +224,19 @@ with_arguments at d bracket xs = record { at = at; declared = d; initial = Some 
 
 abbrev pub builds : ℕ → List ℕ → ℕ → List Part → WrittenInit
 builds at name bracket xs = record { path = record { at = at; from_file = false; names = name ∷ [] }; place = bracket; arguments = xs }
+
+-- `struct B` as a specifier, at its key and its name
+abbrev pub struct_name : ℕ → ℕ → List ℕ → SpecifierRow
+struct_name at name_place name = word (specifier.Elaborated at key.Struct (record { at = name_place; from_file = false; names = name ∷ [] }))
+
+-- a struct that is defined, as a specifier
+abbrev pub struct_word : ℕ → List ℕ → List Base → List MemberRow → SpecifierRow
+struct_word at name bases members = defined_row at (class_with_functions at key.Struct (Some (at + 7, name)) bases members)
+
+-- a member declaration that has a specifier alone
+abbrev pub only_word : ℕ → SpecifierRow → MemberRow
+only_word at s = member_declaration at (s ∷ []) []
+
+-- a function without parameters that is pure, at its name, with the place of its `=`
+abbrev pub pure : ℕ → List SpecifierRow → ℕ → List ℕ → ℕ → MemberRow
+pure at ss name_place name equals = member_declaration at ss (record { at = name_place; declared = taking (name_place + 1) [] (called name_place name); pure_at = Some equals } ∷ [])

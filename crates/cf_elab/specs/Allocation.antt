@@ -1,11 +1,11 @@
 -- `new` and `delete` (5.3.3, 5.3.4).
-use Rattle.std.specs.Prelude.{ℕ, Option, None, Some, Bool, true, false, not, ◌||◌, if◌then◌else◌, List, [], ◌∷◌}
+use Rattle.std.specs.Prelude.{ℕ, Option, None, Some, Bool, true, false, not, ◌||◌, if◌then◌else◌, List, [], ◌∷◌, pos}
 use Rattle.cf_core.specs.declared.node.Core.{Core as Node}
 use Rattle.cf_core.specs.declared.node.Core.TheVariants as node
 use Rattle.cf_elab.specs.UserFit.{initial, fit}
 use Rattle.cf_elab.specs.Answer.{Elab, ◌>>=◌, ◌>>◌, gives, breaks, need, known}
 use Rattle.cf_elab.specs.Made.{int, void, pointer_to}
-use Rattle.cf_elab.specs.Operand.{Value, computed, plain, Sort, sort_of, is_void, is_function, is_reference, is_array, object_pointer}
+use Rattle.cf_elab.specs.Operand.{Value, computed, plain, Sort, sort_of, is_void, is_function, is_reference, is_array, object_pointer, array_sort}
 use Rattle.cf_elab.specs.Initial.{no_keeper}
 use Rattle.cf_classes.specs.TypeTree.{class_in}
 use Rattle.cf_elab.specs.ClassObjects.{new_class_start, new_elements, deletes}
@@ -32,15 +32,25 @@ start_by_class at t has_arguments vs (Some c) = new_class_start at c vs
 abbrev pub is_object : Sort → Bool
 is_object s = not (is_void s || is_function s || is_reference s)
 
+-- a type that is an array has so many elements, and no initialiser, K28; the pointer is one to the first
+abbrev pub new_by_sort : ℕ → ℕ → Bool → List Value → Sort → Elab Value
+new_by_sort at t has_arguments vs (array_sort u n) = do
+  need (not has_arguments) 28 at
+  s ← new_elements at u
+  p ← pointer_to u
+  gives (computed at (node.NewArray at u (node.Number at (pos n)) s) p)
+new_by_sort at t has_arguments vs r = do
+  s ← start_by_class at t has_arguments vs (class_number r)
+  p ← pointer_to t
+  gives (computed at (node.New at t s) p)
+
 -- K26 where there are no such objects; K30
 abbrev pub new_object : ℕ → ℕ → Bool → List Value → Elab Value
 new_object at t has_arguments vs = do
   env ← known
   need (is_object (sort_of env.types t)) 26 at
   need (complete env t) 30 at
-  s ← start_by_class at t has_arguments vs (class_number (sort_of env.types t))
-  p ← pointer_to t
-  gives (computed at (node.New at t s) p)
+  new_by_sort at t has_arguments vs (sort_of env.types t)
 
 -- a number of elements of the type, Fit to int; an array has no initialiser, K28
 abbrev pub new_array : ℕ → ℕ → Value → Bool → Elab Value

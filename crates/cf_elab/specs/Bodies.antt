@@ -27,7 +27,7 @@ use Rattle.cf_elab.specs.UserFit.{initial}
 use Rattle.cf_elab.specs.Answer.{Elab, ◌>>=◌, ◌>>◌, gives, breaks, need, known, each}
 use Rattle.cf_elab.specs.Operand.{Value, Part, evaluated, defs, sort_of, is_reference}
 use Rattle.cf_elab.specs.Members.{class_defs, is_object_field, class_number}
-use Rattle.cf_elab.specs.Construct.{constructed, default_start}
+use Rattle.cf_elab.specs.Construct.{constructed, part_constructed, default_start}
 use Rattle.cf_elab.specs.Initial.{no_keeper}
 use Rattle.cf_elab.specs.Paths.{class_at_path, Found, entity, of_class, found_alone}
 use Rattle.cf_elab.specs.Methods.{is_const_type}
@@ -182,7 +182,7 @@ field_by_default at (Some t) = do
   default_start at t
 
 abbrev pub base_by_default : ℕ → ℕ → Elab Node
-base_by_default at c = need_default at (Some c) >> constructed at c []
+base_by_default at c = need_default at (Some c) >> part_constructed at c []
 
 abbrev pub part_by_default : ℕ → ℕ → BuiltPart → Elab Node
 part_by_default at c (built.Base s) = known >>= (λ env. base_by_default at (class_of_step env c s))
@@ -193,7 +193,7 @@ given_field x None = breaks 43 x.at
 given_field x (Some t) = known >>= (λ env. field_start x.place t x.values (part_type env t))
 
 abbrev pub part_given : ℕ → Initialises → BuiltPart → Elab Node
-part_given c x (built.Base s) = known >>= (λ env. constructed x.place (class_of_step env c s) x.values)
+part_given c x (built.Base s) = known >>= (λ env. part_constructed x.place (class_of_step env c s) x.values)
 part_given c x (built.Field i) = known >>= (λ env. given_field x (type_of_part env c (built.Field i)))
 
 abbrev pub part_start : ℕ → ℕ → BuiltPart → Option Initialises → Elab PartStart

@@ -12,6 +12,7 @@ use Rattle.cf_core.specs.Types.{same_but_const}
 use Rattle.cf_core.specs.declared.node.Core.TheVariants as node
 use Rattle.cf_elab.specs.Env.{Env}
 use Rattle.cf_elab.specs.Members.{class_defs, class_number, need_base}
+use Rattle.cf_elab.specs.MethodNode.{unused}
 use Rattle.cf_elab.specs.Answer.{Elab, ◌>>=◌, ◌>>◌, gives, breaks, need, known}
 use Rattle.cf_elab.specs.Operand.{Value, computed, constant, is_zero, plain, Sort, sort_of, integral, enumeral, object_pointer, void_pointer, function_pointer, data_pointer, method_pointer, void_sort, reference_sort}
 use Rattle.cf_elab.specs.Fit.{fit, null_of}
@@ -98,8 +99,8 @@ cast_value at t s v = do
   if is_zero x.number && takes_null s then gives (null_of t x) else cast_scalar at t x s (sort_of env.types x.type)
 
 -- to void the value is not read
-abbrev pub to_nothing : ℕ → ℕ → Value → Value
-to_nothing at t v = computed at (node.Convert at t v.node) t
+abbrev pub to_nothing : Env → ℕ → ℕ → Value → Value
+to_nothing env at t v = computed at (node.Convert at t (unused env v)) t
 
 -- an lvalue as one of the type that a reference refers to
 abbrev pub as_place : ℕ → ℕ → Value → Elab Value
@@ -109,7 +110,7 @@ as_place at u v = do
   cast_classes at u v (class_number (sort_of env.types v.type)) (class_number (sort_of env.types u))
 
 abbrev pub cast_sort : ℕ → ℕ → Value → Sort → Elab Value
-cast_sort at t v void_sort = gives (to_nothing at t v)
+cast_sort at t v void_sort = known >>= (λ env. gives (to_nothing env at t v))
 cast_sort at t v (reference_sort u) = as_place at u v
 cast_sort at t v s = cast_value at t s v
 
@@ -126,7 +127,7 @@ zero_value at t = do
     zero_sort : Sort → ℕ → Value → Elab Value
     zero_sort (integral k) u z = gives (record z { type = u })
     zero_sort (enumeral e) u z = gives (as_enumeration at u z)
-    zero_sort void_sort u z = gives (to_nothing at u z)
+    zero_sort void_sort u z = known >>= (λ env. gives (to_nothing env at u z))
     zero_sort s u z = if takes_null s then gives (null_of u z) else breaks 17 at
 
 -- T(args): one argument as a cast, none gives 0, several are too many

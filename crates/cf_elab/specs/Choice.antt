@@ -11,11 +11,18 @@ use Rattle.cf_syntax.specs.declared.operator.AssignOp.{AssignOp}
 use Rattle.cf_syntax.specs.declared.operator.AssignOp.TheVariants as assign
 use Rattle.cf_core.specs.declared.node.Change.{Change}
 use Rattle.cf_core.specs.declared.node.Change.TheVariants as change
+use Rattle.cf_core.specs.declared.node.Core.{Core as Node}
 use Rattle.cf_core.specs.declared.node.Core.TheVariants as node
+use Rattle.cf_types.specs.declared.ty.Ty.TheVariants as ty
+use Rattle.cf_classes.specs.Special.{specials}
+use Rattle.cf_elab.specs.Copying.{by_copy}
+use Rattle.cf_elab.specs.Members.{class_number}
+use Rattle.cf_elab.specs.MethodNode.{object_place, unused}
+use Rattle.cf_elab.specs.Env.{Env}
 use Rattle.cf_elab.specs.UserFit.{fit}
 use Rattle.cf_elab.specs.ClassOperand.{truth}
 use Rattle.cf_elab.specs.Answer.{Elab, ◌>>=◌, ◌>>◌, gives, breaks, need, known}
-use Rattle.cf_elab.specs.Made.{of_kind}
+use Rattle.cf_elab.specs.Made.{of_kind, intern}
 use Rattle.cf_elab.specs.Operand.{Value, val, defs, computed, place_of, plain, Sort, sort_of, arithmetic, void_sort, integral, enumeral, object_pointer}
 use Rattle.cf_elab.specs.Fit.{converted, to_kind}
 use Rattle.cf_elab.specs.Arithmetic.{is_nonzero}
@@ -62,11 +69,25 @@ alternatives at c x y s r k l = do
   need (elim (takes_null s) [ true ↦ true | false ↦ takes_null r ]) 18 at
   one_type at c x y (steps env.types (defs env) (val x) y.type) (steps env.types (defs env) (val y) x.type)
 
+-- two objects of one class: a copy of the chosen one (12.2, 12.8)
+abbrev pub same_class : Option ℕ → Option ℕ → Option ℕ
+same_class (Some a) (Some b) = if a == b then Some a else None
+same_class a b = None
+
+abbrev pub one_object : ℕ → Value → Value → Value → ℕ → Elab Value
+one_object at c x y k = do
+  t ← intern (ty.Class k)
+  env ← known
+  n ← by_copy at k (place_of at (node.Conditional at c.node (object_place x).node (object_place y).node) t false) (specials env.types (defs env) k).copy
+  gives (computed at n t)
+
 -- Truth of the condition; then the two by their types, else K18
 abbrev pub conditional : ℕ → Value → Value → Value → Elab Value
 conditional at condition x y = do
   c ← truth 13 at condition
-  if x.is_lvalue && y.is_lvalue && (x.type == y.type) then gives (one_place at c x y) else by_values c
+  env ← known
+  if x.is_lvalue && y.is_lvalue && (x.type == y.type) then gives (one_place at c x y)
+      else by_class c (same_class (class_number (sort_of env.types x.type)) (class_number (sort_of env.types y.type)))
   where
     by_values : Value → Elab Value
     by_values c = do
@@ -74,6 +95,10 @@ conditional at condition x y = do
       b ← plain y
       env ← known
       alternatives at c a b (sort_of env.types a.type) (sort_of env.types b.type) (arithmetic (sort_of env.types a.type)) (arithmetic (sort_of env.types b.type))
+
+    by_class : Value → Option ℕ → Elab Value
+    by_class c None = by_values c
+    by_class c (Some k) = one_object at c x y k
 
 -- ---- assignments
 
@@ -152,7 +177,11 @@ abbrev pub last_of : Value → List Value → Value
 last_of v [] = v
 last_of v (x ∷ xs) = last_of x xs
 
+abbrev pub in_order : Env → Value → List Value → List Node
+in_order env v [] = v.node ∷ []
+in_order env v (x ∷ xs) = unused env v ∷ in_order env x xs
+
 abbrev pub sequence : ℕ → List Value → Elab Value
 sequence at [] = breaks 18 at
 sequence at (v ∷ vs) =
-    gives (record (last_of v vs) { at = at; node = node.Comma at (map (λ (x : Value). x.node) (v ∷ vs)); number = None; is_fixed = false })
+    known >>= (λ env. gives (record (last_of v vs) { at = at; node = node.Comma at (in_order env v vs); number = None; is_fixed = false }))

@@ -15,23 +15,25 @@ use Rattle.cf_classes.specs.declared.class.Access.TheVariants as access
 use Rattle.cf_classes.specs.declared.class.BaseDef.{BaseDef}
 use Rattle.cf_classes.specs.declared.class.ClassDef.{ClassDef}
 use Rattle.cf_classes.specs.declared.class.MemberDef.{MemberDef}
+use Rattle.cf_classes.specs.declared.class.What.{What}
 use Rattle.cf_classes.specs.declared.class.What.TheVariants as what
 use Rattle.cf_classes.specs.ClassTable.{definition, members_of}
 use Rattle.cf_classes.specs.Description.{description}
 use Rattle.cf_classes.specs.Overrider.{has_overriders}
 use Rattle.cf_classes.specs.Signature.{may_override, signature, same_signature, inherited_virtuals}
 use Rattle.cf_classes.specs.Subobject.{paths}
-use Rattle.cf_elab.specs.Env.{Env, Name, OpenClass, Entity, class_name}
+use Rattle.cf_elab.specs.Env.{Env, Name, OpenClass, Entity, class_name, alias as type_alias}
+use Rattle.cf_elab.specs.Access.{inside}
 use Rattle.cf_elab.specs.Arguments.{fun_at, result_of}
 use Rattle.cf_elab.specs.Answer.{Elab, ◌>>=◌, ◌>>◌, gives, breaks, need, none_at, known, changed, each, for_each}
 use Rattle.cf_elab.specs.Made.{intern}
 use Rattle.cf_elab.specs.Operand.{defs, sort_of, is_void}
 use Rattle.cf_elab.specs.Complete.{complete, within, most_name, type_within}
 use Rattle.cf_elab.specs.Names.{declared_here, entity_of, is_file_scope}
-use Rattle.cf_elab.specs.ClassScope.{in_class, class_changed, open_class, add_member, has_name, plain_member, declare_alias, declare_class}
+use Rattle.cf_elab.specs.ClassScope.{asked_by, in_class, class_changed, open_class, add_member, has_name, member_named, plain_member, declare_alias, declare_class}
 use Rattle.cf_elab.specs.Paths.{class_at_path}
 use Rattle.cf_elab.specs.Specifiers.{Gathered, is_static, is_extern, automatic_at, storage_at}
-use Rattle.cf_elab.specs.Declaration.{earlier}
+use Rattle.cf_elab.specs.Declaration.{earlier, same_alias}
 
 -- ---- bases (10)
 
@@ -84,11 +86,22 @@ field_row g name at t = do
   i ← add_member (field_member env g name at t)
   type_within t
 
+-- what a member stands for, where it is a type
+abbrev pub type_member : MemberDef → Option Entity
+type_member m = of_what m.what
+  where
+    of_what : What → Option Entity
+    of_what (what.Nested c) = Some (class_name c)
+    of_what what.Alias = Some (type_alias m.ty)
+    of_what other = None
+
+-- a typedef: K8 unless the name stands for the same type (7.1.3)
 abbrev pub member_alias : Name → ℕ → ℕ → Elab (Unit {0})
-member_alias name at t = do
-  env ← known
-  need (not (has_name env name)) 8 at
-  declare_alias name at t
+member_alias name at t = known >>= (λ env. unless_named env (member_named env name))
+  where
+    unless_named : Env → Option MemberDef → Elab (Unit {0})
+    unless_named env None = declare_alias name at t
+    unless_named env (Some m) = need (same_alias env t (type_member m)) 8 at
 
 -- ---- the class
 
@@ -107,9 +120,11 @@ access_row a = class_changed (λ o. record o { access = access_named a })
 abbrev pub no_def : Bool → List BaseDef → ClassDef
 no_def is_struct bases = record { is_struct = is_struct; bases = bases; members = []; friends = [] }
 
+-- from the end of its bases on, its members ask for access (11)
 abbrev pub opened : ℕ → Bool → List BaseDef → Elab (Unit {0})
-opened c is_struct bases =
-    changed (λ env. record env { open_classes = record { class = c; access = own_access is_struct; def = no_def is_struct bases } ∷ env.open_classes })
+opened c is_struct bases = do
+  changed (λ env. record env { open_classes = record { class = c; access = own_access is_struct; def = no_def is_struct bases } ∷ env.open_classes })
+  asked_by (inside (record { class = c; index = 0 }))
 
 -- the innermost class is defined by what it has
 abbrev pub closing : Env → Env
@@ -134,14 +149,14 @@ class_to_define name at None = do
 class_to_define name at (Some (class_name c)) = known >>= (λ env. need (not (is_defined env c)) 8 at) >> gives c
 class_to_define name at (Some other) = breaks 8 at
 
-abbrev pub in_class_to_define : Name → ℕ → Bool → Elab ℕ
-in_class_to_define name at true = breaks 8 at
-in_class_to_define name at false = class_to_define name at None
+abbrev pub member_to_define : Name → ℕ → Option MemberDef → Elab ℕ
+member_to_define name at None = class_to_define name at None
+member_to_define name at (Some m) = if is_some (type_member m) then class_to_define name at (type_member m) else breaks 8 at
 
 abbrev pub named_class : Name → ℕ → Elab ℕ
 named_class name at = do
   env ← known
-  if in_class env then in_class_to_define name at (has_name env name) else class_to_define name at (entity_of env (declared_here env name))
+  if in_class env then member_to_define name at (member_named env name) else class_to_define name at (entity_of env (declared_here env name))
 
 -- without a name it has that of the `typedef` that it stands in, else K48
 abbrev pub class_of_name : ℕ → Option (ℕ × Name) → Option Name → Elab ℕ
@@ -185,8 +200,10 @@ class_row at k name bases members alias = do
   c ← class_of_name at name alias
   t ← intern (ty.Class c)
   bs ← bases_row (is_struct_key k) [] bases
+  around ← known
   opened c (is_struct_key k) bs
   later ← each (λ (m : Elab (Elab (Unit {0}))). m) members
   changed closing
+  asked_by around.hand.asker
   ending at c t
   gives (t, for_each (λ (run : Elab (Unit {0})). run) later)

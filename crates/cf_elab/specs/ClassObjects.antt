@@ -1,6 +1,7 @@
 -- Assignment to objects of classes, and `new` and `delete` of them (5.3.3, 5.3.4, 5.17, 12.8).
-use Rattle.std.specs.Prelude.{ℕ, Bool, true, false, not, ◌&&◌, if◌then◌else◌, List, [], ◌∷◌, codes, Option, None, Some, bytes_eq, is_some}
-use Rattle.cf_convert.specs.Constness.{is_const, bare}
+use Rattle.std.specs.Prelude.{ℕ, Bool, true, false, not, ◌&&◌, nat_lt, if◌then◌else◌, List, [], ◌∷◌, ◌++◌, length, codes, Option, None, Some, slice_get, bytes_eq, is_some}
+use Rattle.cf_convert.specs.Constness.{bare}
+use Rattle.cf_types.specs.declared.ty.Ty.TheVariants as ty
 use Rattle.cf_classes.specs.declared.class.MemberDef.{MemberDef}
 use Rattle.cf_classes.specs.declared.class.MemberRef.{MemberRef}
 use Rattle.cf_classes.specs.ClassTable.{members_of}
@@ -14,7 +15,11 @@ use Rattle.cf_elab.specs.MethodNode.{object_place}
 use Rattle.cf_elab.specs.Answer.{Elab, ◌>>=◌, ◌>>◌, gives, done, breaks, need, known}
 use Rattle.cf_elab.specs.Operand.{Value, Methods, place_of, defs, sort_of}
 use Rattle.cf_elab.specs.Members.{class_defs, class_number}
-use Rattle.cf_elab.specs.MethodCall.{call_methods}
+use Rattle.cf_elab.specs.MethodCall.{call_methods, chosen_member, method_candidates, pick_on}
+use Rattle.cf_elab.specs.Methods.{is_empty}
+use Rattle.cf_elab.specs.Made.{intern, reference_to, const_of}
+use Rattle.cf_elab.specs.Best.{Candidate}
+use Rattle.cf_elab.specs.UserFit.{fit}
 use Rattle.cf_elab.specs.Copying.{is_of, source_of}
 use Rattle.cf_elab.specs.Construct.{constructed, default_start, need_destructor, refs}
 
@@ -30,29 +35,53 @@ abbrev pub is_declared : Made → Bool
 is_declared Declared = true
 is_declared other = false
 
--- the generated one copies from an object of the class; where a member forbids it, K44
+abbrev pub is_absent : Made → Bool
+is_absent Absent = true
+is_absent other = false
+
+-- the generated one is a function as the declared ones: it takes a reference to a const object of the class (12.8)
+abbrev pub generated_candidate : ℕ → Elab Candidate
+generated_candidate c = do
+  t ← intern (ty.Class c)
+  object ← reference_to t
+  u ← const_of t
+  source ← reference_to u
+  gives (record { params = object ∷ source ∷ []; least = 2 })
+
+-- the object that is copied: one of the class, or what another value is converted to
+abbrev pub source_object : ℕ → ℕ → Value → Elab Value
+source_object at c x = known >>= (λ env. if is_of env c (class_number (sort_of env.types x.type)) then gives x else converted)
+  where
+    converted : Elab Value
+    converted = intern (ty.Class c) >>= fit at x
+
+-- where a member forbids it, K44
 abbrev pub by_generated : ℕ → ℕ → Value → Value → Made → Elab Value
 by_generated at c v x Absent = breaks 44 at
 by_generated at c v x made = do
+  s ← source_object at c x
   env ← known
-  need (not (is_const env.types v.type)) 12 at
-  y ← source_of at c x (class_number (sort_of env.types x.type))
+  y ← source_of at c s (class_number (sort_of env.types s.type))
   gives (place_of at (node.Assign at (bare env.types v.type) (object_place v).node y.node []) v.type false)
 
 abbrev pub methods_on : ℕ → ℕ → Value → List MemberRef → Methods
-methods_on at c v ms = record { at = at; naming = c; path = []; found = ms; object = Some (object_place v); is_qualified = false }
+methods_on at c v ms = record { at = at; naming = c; path = []; found = ms; object = Some (object_place v); is_qualified = false; alone = None }
 
-abbrev pub by_declared : ℕ → ℕ → Value → Value → List MemberRef → Elab Value
-by_declared at c v x [] = breaks 46 at
-by_declared at c v x (m ∷ ms) = call_methods at (methods_on at c v (m ∷ ms)) (x ∷ [])
+-- no assignment at all K44; then Pick among the declared ones, with the generated one behind them
+abbrev pub with_generated : ℕ → ℕ → Value → Value → List MemberRef → Made → Elab Value
+with_generated at c v x ms made = do
+  need (not (is_absent made && is_empty ms)) 44 at
+  cs ← method_candidates v.type ms
+  g ← generated_candidate c
+  i ← pick_on at v.type (cs ++ g ∷ []) (x ∷ [])
+  if nat_lt i (length ms) then chosen_member at (methods_on at c v ms) (x ∷ []) (slice_get ms i) else by_generated at c v x made
 
--- an object of the class, where no copying assignment is declared; else Pick among those that are
+-- Pick among those that are declared, and the one that is generated where no copying assignment is
 abbrev pub class_assigned : ℕ → ℕ → Value → Value → Elab Value
 class_assigned at c v x = do
   env ← known
   let made = (specials env.types (defs env) c).assign in
-      if not (is_declared made) && is_of env c (class_number (sort_of env.types x.type)) then by_generated at c v x made
-      else by_declared at c v x (assignments env c)
+      if is_declared made then call_methods at (methods_on at c v (assignments env c)) (x ∷ []) else with_generated at c v x (assignments env c) made
 
 -- ---- new and delete
 

@@ -1,10 +1,10 @@
 -- Class objects as operands: operator functions, and conversion to an arithmetic or pointer type (12.3.2, 13.4).
-use Rattle.std.specs.Prelude.{ℕ, ◌-◌, Bool, true, false, ◌&&◌, nat_lt, if◌then◌else◌, List, [], ◌∷◌, ◌++◌, length, map, codes, Option, None, Some, slice_get}
+use Rattle.std.specs.Prelude.{ℕ, ◌-◌, Bool, true, false, ◌&&◌, nat_lt, if◌then◌else◌, List, [], ◌∷◌, ◌++◌, length, map, codes, Option, None, Some, slice_get, not, ◌||◌, filter}
 use Rattle.std.specs.List.{list_any, flat_map}
 use Rattle.std.specs.Option.{option_map_or}
 use Rattle.cf_types.specs.declared.ty.Ty.{Ty}
 use Rattle.cf_types.specs.declared.ty.Ty.TheVariants as ty
-use Rattle.cf_convert.specs.Constness.{type_at}
+use Rattle.cf_convert.specs.Constness.{type_at, is_const}
 use Rattle.cf_convert.specs.declared.conv.Val.{Val}
 use Rattle.cf_classes.specs.declared.path.Step.{Step}
 use Rattle.cf_classes.specs.declared.class.MemberDef.{MemberDef}
@@ -16,10 +16,11 @@ use Rattle.cf_classes.specs.LinkName.{operator_codes, item}
 use Rattle.cf_classes.specs.Lookup.{Look, One, Nothing, Many, found, places_from}
 use Rattle.cf_classes.specs.Subobject.{paths, class_at, same_path}
 use Rattle.cf_elab.specs.Env.{Env, Name, Entity, functions}
+use Rattle.cf_classes.specs.Signature.{is_const_member}
 use Rattle.cf_elab.specs.Answer.{Elab, ◌>>=◌, ◌>>◌, gives, breaks, known}
 use Rattle.cf_elab.specs.Operand.{Value, val, Methods, defs, sort_of, is_testable}
 use Rattle.cf_elab.specs.Arguments.{fun_at, result_of}
-use Rattle.cf_elab.specs.Best.{Candidate, Choice, Chosen, NoMatch, Tie, best}
+use Rattle.cf_elab.specs.Best.{Candidate, Choice, Chosen, NoMatch, Tie, choice_of, matching}
 use Rattle.cf_elab.specs.Call.{candidate, call_entry, entries_of}
 use Rattle.cf_elab.specs.Fit as standard
 use Rattle.cf_elab.specs.Members.{class_defs, need_use, class_number}
@@ -60,17 +61,21 @@ abbrev pub scalar_functions : Env → ℕ → List MemberRef
 scalar_functions env c = flat_map (λ p. kept_at env c p (scalar_members env c (class_at (class_defs env) c p))) (paths (class_defs env) c)
 
 -- several are K41, and without one the rule is broken
-abbrev pub by_scalar_function : ℕ → ℕ → Value → List MemberRef → Elab Value
-by_scalar_function rule at v [] = breaks rule at
-by_scalar_function rule at v (m ∷ []) = do
-  need_use at m m.class None
+abbrev pub by_scalar_function : ℕ → ℕ → Value → ℕ → List MemberRef → Elab Value
+by_scalar_function rule at v c [] = breaks rule at
+by_scalar_function rule at v c (m ∷ []) = do
+  need_use at m c (Some c)
   env ← known
   by_member at v m (member_at env m)
-by_scalar_function rule at v (m ∷ n ∷ rest) = breaks 41 at
+by_scalar_function rule at v c (m ∷ n ∷ rest) = breaks 41 at
+
+-- a function that is not const does not serve a const object (9.3.1)
+abbrev pub serves : Env → Value → MemberRef → Bool
+serves env v m = not (is_const env.types v.type) || option_map_or (is_const_member env.types) (member_at env m) false
 
 abbrev pub scalar_of_class : ℕ → ℕ → Value → Option ℕ → Elab Value
 scalar_of_class rule at v None = gives v
-scalar_of_class rule at v (Some c) = known >>= (λ env. by_scalar_function rule at v (scalar_functions env c))
+scalar_of_class rule at v (Some c) = known >>= (λ env. by_scalar_function rule at v c (filter (serves env v) (scalar_functions env c)))
 
 -- the operand itself, or what its class's conversion function gives
 abbrev pub scalar : ℕ → ℕ → Value → Elab Value
@@ -110,13 +115,15 @@ functions_in (Some (functions fs)) = fs
 functions_in other = []
 
 abbrev pub object_methods : ℕ → Value → Option ℕ → Found → Methods
-object_methods at v c f = record { at = at; naming = option_map_or (λ n. n) c 0; path = f.path; found = f.members; object = Some (object_place v); is_qualified = false }
+object_methods at v c f = record { at = at; naming = option_map_or (λ n. n) c 0; path = f.path; found = f.members; object = Some (object_place v); is_qualified = false; alone = None }
 
+-- a member function is called on any object; for a function of the file the first operand is an argument as any other
 abbrev pub class_val : Value → Val
 class_val v = record (val v) { lvalue = true }
 
-abbrev pub first_val : Env → Value → Val
-first_val env v = if is_object env v then class_val v else val v
+abbrev pub choice_among : Env → List Candidate → List Candidate → Value → List Value → Choice
+choice_among env members files x vs =
+    choice_of env.types (defs env) (matching env.types (defs env) (class_val x ∷ map val vs) 0 members ++ matching env.types (defs env) (val x ∷ map val vs) (length members) files)
 
 -- a choice among the members, which come first, and then the functions of the file; where none matches, something else is done
 abbrev pub by_choice : ℕ → Value → List Value → Option ℕ → Found → List ℕ → Elab Value → Choice → Elab Value
@@ -133,10 +140,10 @@ among at name x vs with_file otherwise = do
       operator_members at name c >>= (λ f. method_candidates x.type f.members >>= (λ cs. chosen_among c f cs))
   where
     files : Env → List ℕ
-    files env = if with_file then functions_in (entity_named env false name) else []
+    files env = if with_file then functions_in (entity_named env true name) else []
 
     chosen_among : Option ℕ → Found → List Candidate → Elab Value
-    chosen_among c f cs = known >>= (λ env. by_choice at x vs c f (files env) otherwise (best env.types (defs env) (cs ++ map (candidate env.types) (entries_of env (files env))) (first_val env x ∷ map val vs)))
+    chosen_among c f cs = known >>= (λ env. by_choice at x vs c f (files env) otherwise (choice_among env cs (map (candidate env.types) (entries_of env (files env))) x vs))
 
 abbrev pub any_object : Env → List Value → Bool
 any_object env vs = list_any (is_object env) vs

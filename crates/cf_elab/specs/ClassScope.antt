@@ -1,6 +1,6 @@
 -- The class whose members are being declared (9.2), and names that are declared in it or in a scope.
-use Rattle.std.specs.Prelude.{ℕ, Bool, true, false, if◌then◌else◌, List, [], ◌∷◌, ◌++◌, length, ℤ, Option, None, Some, is_some, bytes_eq}
-use Rattle.std.specs.List.{list_any}
+use Rattle.std.specs.Prelude.{ℕ, ◌+◌, Bool, true, false, if◌then◌else◌, List, [], ◌∷◌, ◌++◌, length, ℤ, Option, None, Some, is_some, bytes_eq}
+use Rattle.std.specs.List.{list_any, find}
 use Rattle.cf_classes.specs.declared.class.Access.{Access}
 use Rattle.cf_classes.specs.declared.class.Access.TheVariants as access
 use Rattle.cf_classes.specs.declared.class.Friend.{Friend}
@@ -8,7 +8,7 @@ use Rattle.cf_classes.specs.declared.class.MemberDef.{MemberDef}
 use Rattle.cf_classes.specs.declared.class.What.{What}
 use Rattle.cf_classes.specs.declared.class.What.TheVariants as what
 use Rattle.cf_elab.specs.Env.{Env, Name, OpenClass, alias, class_name, enum_name, enumerator, static_body}
-use Rattle.cf_elab.specs.Access.{inside}
+use Rattle.cf_elab.specs.Access.{Asker, inside}
 use Rattle.cf_elab.specs.Answer.{Elab, ◌>>=◌, ◌>>◌, gives, done, known, changed, hand_changed}
 use Rattle.cf_elab.specs.Names.{declare, declared_here}
 
@@ -31,11 +31,21 @@ access_now env = elim env.open_classes [ [] ↦ access.Public | o ∷ rest ↦ o
 abbrev pub open_class : Env → Option ℕ
 open_class env = elim env.open_classes [ [] ↦ None | o ∷ rest ↦ Some o.class ]
 
+-- whose uses of members are looked at from here on
+abbrev pub asked_by : Asker → Elab (Unit {0})
+asked_by who = hand_changed (λ h. record h { asker = who })
+
+-- the member that is declared next asks
+abbrev pub next_member : Asker → Asker
+next_member (inside m) = inside (record m { index = m.index + 1 })
+next_member other = other
+
 -- a member is the next of its class
 abbrev pub add_member : MemberDef → Elab ℕ
 add_member m = do
   env ← known
   class_changed (λ o. record o { def = record o.def { members = o.def.members ++ m ∷ [] } })
+  asked_by (next_member env.hand.asker)
   gives (length (members_so_far env))
 
 abbrev pub add_friend : Friend → Elab (Unit {0})
@@ -43,6 +53,10 @@ add_friend f = class_changed (λ o. record o { def = record o.def { friends = o.
 
 abbrev pub declares_member : Env → Name → Bool
 declares_member env name = list_any (λ (m : MemberDef). bytes_eq m.name name) (members_so_far env)
+
+-- the first member of the name
+abbrev pub member_named : Env → Name → Option MemberDef
+member_named env name = find (λ (m : MemberDef). bytes_eq m.name name) (members_so_far env)
 
 -- whether the innermost scope, or the class whose members are declared, has the name
 abbrev pub has_name : Env → Name → Bool

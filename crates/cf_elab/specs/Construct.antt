@@ -145,14 +145,17 @@ takes_copy env c (v ∷ []) = is_of env c (class_number (sort_of env.types v.typ
     declared_copy other = false
 takes_copy env c vs = false
 
--- an object of the class by arguments
-abbrev pub constructed : ℕ → ℕ → List Value → Elab Node
-constructed at c vs = do
-  need_object_class at c
+-- a base part, whose class may be abstract (10.3)
+abbrev pub part_constructed : ℕ → ℕ → List Value → Elab Node
+part_constructed at c vs = do
   env ← known
   n ← if has_constructor env c && not (takes_copy env c vs) then by_constructor at c vs else without_constructor at c vs
   need_destructor at c
   gives n
+
+-- an object of the class by arguments
+abbrev pub constructed : ℕ → ℕ → List Value → Elab Node
+constructed at c vs = need_object_class at c >> part_constructed at c vs
 
 -- ---- an object of any type without an initialiser: each element of an array by itself; nothing is done for a scalar
 

@@ -13,13 +13,15 @@ use Rattle.cf_classes.specs.declared.class.MemberDef.{MemberDef}
 use Rattle.cf_classes.specs.declared.class.What.{What}
 use Rattle.cf_classes.specs.declared.class.What.TheVariants as what
 use Rattle.cf_classes.specs.ClassTable.{members_of}
+use Rattle.cf_types.specs.declared.ty.Ty.TheVariants as ty
+use Rattle.cf_convert.specs.Constness.{type_at}
 use Rattle.cf_core.specs.declared.unit.CoreStatic.{CoreStatic}
-use Rattle.cf_elab.specs.Env.{Env, Name, Entity, alias}
+use Rattle.cf_elab.specs.Env.{Env, Name, Entity, alias, class_name, enum_name}
 use Rattle.cf_elab.specs.Members.{static_link}
 use Rattle.cf_elab.specs.Paths.{class_of_names}
 use Rattle.cf_elab.specs.ClassScope.{in_class_scope}
-use Rattle.cf_elab.specs.Answer.{Elab, ◌>>=◌, ◌>>◌, gives, breaks, need, none_at, known, each, maybe}
-use Rattle.cf_elab.specs.Made.{int}
+use Rattle.cf_elab.specs.Answer.{Elab, ◌>>=◌, ◌>>◌, gives, done, breaks, need, none_at, known, each, maybe}
+use Rattle.cf_elab.specs.Made.{int, same_ty}
 use Rattle.cf_elab.specs.Operand.{Part, sort_of, is_function, is_void, defs}
 use Rattle.cf_elab.specs.Names.{declared_here, declare, is_file_scope, key}
 use Rattle.cf_elab.specs.Complete.{complete, type_within}
@@ -100,13 +102,15 @@ abbrev pub unqualified : WrittenName → Elab (Unit {0})
 unqualified n = need (elim n.scopes [ [] ↦ not n.from_file | s ∷ rest ↦ false ]) 48 n.at
 
 -- a typedef: K8 unless the name stands for the same type (7.1.3)
-abbrev pub same_alias : ℕ → Option Entity → Bool
-same_alias t (Some (alias u)) = t == u
-same_alias t other = false
+abbrev pub same_alias : Env → ℕ → Option Entity → Bool
+same_alias env t (Some (alias u)) = t == u
+same_alias env t (Some (class_name c)) = same_ty (type_at env.types t) (ty.Class c)
+same_alias env t (Some (enum_name e)) = same_ty (type_at env.types t) (ty.Enum e)
+same_alias env t other = false
 
 abbrev pub aliased : Name → ℕ → ℕ → Option ℕ → Elab (Unit {0})
 aliased name at t None = declare name (alias t)
-aliased name at t (Some e) = known >>= (λ env. need (same_alias t (slice_get env.entities e)) 8 at)
+aliased name at t (Some e) = known >>= (λ env. need (same_alias env t (slice_get env.entities e)) 8 at)
 
 abbrev pub typedef_row : Name → ℕ → ℕ → Option Initial → Elab (Unit {0})
 typedef_row name at t w = do
@@ -135,8 +139,15 @@ function_says g n t s defines = record {
   defines = defines;
 }
 
+-- a conversion function is a member K47, and so is a destructor K42 (12.3.2, 12.4)
+abbrev pub need_plain_name : Last → ℕ → Elab (Unit {0})
+need_plain_name (last.Conversion specifiers pointers) at = breaks 47 at
+need_plain_name (last.Destructor name) at = breaks 42 at
+need_plain_name other at = done
+
 abbrev pub function_row : Gathered → WrittenName → ℕ → Shape → Option Initial → Elab (Unit {0})
 function_row g n t s w = do
+  need_plain_name n.last n.last_at
   i ← int
   k ← declare_function i (function_says g n t s false)
   no_initialiser w
@@ -255,18 +266,20 @@ static_member_row g at w s n c = do
   now ← known
   static_defined n.last_at c t (static_link now c name) (parts_of w) (static_data now c name)
 
-abbrev pub declarator_of_name : Gathered → ℕ → Option Initial → Shape → WrittenName → List Name → Elab (List Reached)
-declarator_of_name g at w s n [] = named_declarator g at w s n
-declarator_of_name g at w s n (q ∷ qs) = class_of_names n.at n.from_file q qs >>= static_member_row g at w s n
+-- a qualified declarator opens the scope of its class (9.3)
+abbrev pub declarator_of_name : Gathered → ℕ → Option Initial → Elab Shape → WrittenName → List Name → Elab (List Reached)
+declarator_of_name g at w shape n [] = shape >>= (λ s. named_declarator g at w s n)
+declarator_of_name g at w shape n (q ∷ qs) = do
+  c ← class_of_names n.at n.from_file q qs
+  s ← in_class_scope c shape
+  static_member_row g at w s n c
 
-abbrev pub with_name : Gathered → ℕ → Option Initial → Shape → Option WrittenName → Elab (List Reached)
-with_name g at w s None = breaks 26 at
-with_name g at w s (Some n) = declarator_of_name g at w s n n.scopes
+abbrev pub with_name : Gathered → ℕ → Option Initial → Elab Shape → Option WrittenName → Elab (List Reached)
+with_name g at w shape None = shape >>= (λ s. breaks 26 at)
+with_name g at w shape (Some n) = declarator_of_name g at w shape n n.scopes
 
 abbrev pub declarator_row : Gathered → Declares → Elab (List Reached)
-declarator_row g d = do
-  s ← d.declared.shape
-  with_name g d.at d.initial s d.declared.name
+declarator_row g d = with_name g d.at d.initial d.declared.shape d.declared.name
 
 abbrev pub declarators_row : Gathered → List Declares → Elab (List Reached)
 declarators_row g [] = gives []

@@ -14,7 +14,7 @@ use Rattle.cf_elab.specs.Env.{Env}
 use Rattle.cf_elab.specs.Answer.{Elab, ◌>>=◌, ◌>>◌, gives, need, none_at, known, each, all, maybe, hand_changed}
 use Rattle.cf_elab.specs.Made.{pointer_to}
 use Rattle.cf_elab.specs.Operand.{Part, evaluated, Sort, array_sort, enumeral, class_sort, sort_of, is_void, is_function}
-use Rattle.cf_elab.specs.Paths.{type_at_path, class_at_path}
+use Rattle.cf_elab.specs.Paths.{type_at_path, keyed_type, class_at_path}
 use Rattle.cf_elab.specs.Specifiers.{Word, stored_as, const_word, basic_word, type_word, gathered, base_type, parameter_conflict, type_conflict}
 use Rattle.cf_elab.specs.Shape.{Given, Parameter, Shape, inner, pointing, referring, to_member, taking, holding, nowhere, Shaped, whole, unbounded, typed, bounds_constant}
 
@@ -38,7 +38,7 @@ word_of (specifier.Storage at s) = gives (stored_as at s)
 word_of (specifier.Const at) = gives (const_word at)
 word_of (specifier.Basic at b) = gives (basic_word at b)
 word_of (specifier.Elaborated at k path) = do
-  t ← type_at_path path
+  t ← keyed_type path
   u ← elaborated path.at k t
   gives (type_word at u)
 word_of (specifier.Named path) = do

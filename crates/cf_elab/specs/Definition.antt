@@ -31,8 +31,8 @@ use Rattle.cf_elab.specs.Declarator.{type_from}
 use Rattle.cf_elab.specs.Expression.{pointed_shape}
 use Rattle.cf_elab.specs.Objects.{declare_in_block, block_object}
 use Rattle.cf_elab.specs.Functions.{declare_function}
-use Rattle.cf_elab.specs.Declaration.{conflict, earlier, unqualified, no_definition, function_says}
-use Rattle.cf_elab.specs.Methods.{MethodKind, ordinary, constructs, destroys, converts, operates, Says, method_kind, declare_method, params_now, is_const_type, same_bool, label_name}
+use Rattle.cf_elab.specs.Declaration.{need_plain_name, conflict, earlier, unqualified, no_definition, function_says}
+use Rattle.cf_elab.specs.Methods.{conversion_name, has_type, MethodKind, ordinary, constructs, destroys, converts, operates, Says, method_kind, declare_method, params_now, is_const_type, same_bool, label_name}
 use Rattle.cf_elab.specs.ClassDefinition.{method_conflict}
 use Rattle.cf_elab.specs.Bodies.{WrittenInit, body_kind, role_of, body_by_what}
 use Rattle.cf_elab.specs.Statement.{Made, nodes_of}
@@ -131,6 +131,7 @@ named_definition g at s inits run n = do
   t ← type_of_shaped x
   ps ← parameters_or n.last_at (function_of s)
   bounds_constant s
+  need_plain_name n.last n.last_at
   i ← int
   k ← declare_function i (function_says g n t s true)
   no_initialisers inits
@@ -204,10 +205,11 @@ abbrev pub same_params : Env → ℕ → MemberDef → Bool
 same_params env t m =
     pointwise nat_eq (member_params env.types m) (params_now env t) && same_bool (is_const_member env.types m) (is_const_type env t)
 
--- the name as a member of the class: its constructor where the name is the class's own
-abbrev pub member_key : Env → ℕ → Last → Name
-member_key env c (last.Ident name) = if bytes_eq name (label_name env c) then codes "__ct" else name
-member_key env c other = key other
+-- the name as a member of the class: its constructor where the name is the class's own, and a conversion by its type
+abbrev pub member_key : Env → ℕ → Last → ℕ → Name
+member_key env c (last.Ident name) t = if bytes_eq name (label_name env c) then codes "__ct" else name
+member_key env c (last.Conversion specifiers pointers) t = conversion_name env t
+member_key env c other t = key other
 
 abbrev pub is_defining : Env → Name → ℕ → MemberDef → Bool
 is_defining env name t m = bytes_eq m.name name && same_params env t m
@@ -238,6 +240,13 @@ outside_kind env c (last.Destructor name) = destroys name
 outside_kind env c (last.Operator n) = operates n
 outside_kind env c (last.Conversion specifiers pointers) = converts
 
+-- the forms of constructors K40, destructors K42 and conversions K41 (12.1, 12.3, 12.4)
+abbrev pub need_outside_form : Env → Gathered → ℕ → ℕ → MethodKind → Elab (Unit {0})
+need_outside_form env g at c constructs = need (not (has_type g)) 40 at
+need_outside_form env g at c (destroys name) = need (bytes_eq name (label_name env c) && not (has_type g)) 42 at
+need_outside_form env g at c converts = need (not (has_type g)) 41 at
+need_outside_form env g at c other = done
+
 abbrev pub any_const : Position
 any_const = record { unbounded = false; const_function = true }
 
@@ -253,7 +262,8 @@ member_definition g at s inits run n c = do
   bounds_constant s
   now ← known
   need (is_some (definition (defs now) c)) 30 n.last_at
-  first_member n.last_at c t ps inits run (method_at now c (member_key now c n.last) t)
+  need_outside_form now g n.last_at c (outside_kind now c n.last)
+  first_member n.last_at c t ps inits run (method_at now c (member_key now c n.last t) t)
 
 abbrev pub qualified_definition : Gathered → ℕ → Elab Shape → List WrittenInit → Elab Node → WrittenName → Name → List Name → Elab (Unit {0})
 qualified_definition g at shape inits run n q qs = do

@@ -25,7 +25,7 @@ use Rattle.cf_elab.specs.Members.{class_defs, need_use, need_base, base_at, clas
 use Rattle.cf_elab.specs.MethodCall.{arrow_object}
 use Rattle.cf_elab.specs.Unary.{address_of}
 
--- ---- &C::x of a nonstatic member: a pointer to a member of the class that declares it
+-- ---- &C::x of a nonstatic member: a pointer to a member of the class that declares it; access is as of an object of C (11.5)
 
 abbrev pub pointer_to_field : ℕ → MemberRef → Option MemberDef → Elab Value
 pointer_to_field at m None = breaks 18 at
@@ -61,7 +61,10 @@ address_of_methods at ms (m ∷ []) = do
 address_of_methods at ms other = breaks 46 ms.at
 
 abbrev pub address_of_operand : ℕ → Operand → Elab Value
-address_of_operand at (field_name n c p m) = known >>= (λ env. pointer_to_field at m (member_at env m))
+address_of_operand at (field_name n c p m) = do
+  need_use n m c (Some c)
+  env ← known
+  pointer_to_field at m (member_at env m)
 address_of_operand at (methods ms) = address_of_methods at ms ms.found
 address_of_operand at o = value_of o >>= address_of at
 

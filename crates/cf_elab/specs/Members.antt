@@ -16,6 +16,8 @@ use Rattle.cf_classes.specs.LinkName.{Variable, none, link_name, class_names}
 use Rattle.cf_classes.specs.Lookup.{Look, One, Nothing, Many, found}
 use Rattle.cf_classes.specs.Subobject.{paths, class_at, join}
 use Rattle.cf_convert.specs.Converts.{base_path}
+use Rattle.cf_core.specs.FromClasses.{name_in_scope}
+use Rattle.cf_core.specs.FromTypes.{class_code}
 use Rattle.cf_core.specs.declared.node.Core.TheVariants as node
 use Rattle.cf_elab.specs.Access.{member, fault, is_accessible}
 use Rattle.cf_elab.specs.Env.{Env, Name, OpenClass, BodyKind, member_body, static_body, constructor_body, destructor_body}
@@ -169,10 +171,19 @@ static_value at m d = do
   t ← field_type_step d.ty false (type_at env.types d.ty)
   gives (place_of at (node.Static at (static_link env m.class d.name) d.ty) t true)
 
+-- the class that a member is named in is the object's own or one accessible base of it, K14
+abbrev pub need_own_base : ℕ → ℕ → Option ℕ → Elab (Unit {0})
+need_own_base at naming None = done
+need_own_base at naming (Some d) = need_base at d naming
+
 -- a nonstatic data member of the object, if there is one
 abbrev pub of_object : ℕ → ℕ → List Step → MemberRef → MemberDef → Option On → Elab Operand
 of_object at naming p m d None = gives (field_name at naming p m)
-of_object at naming p m d (Some o) = field_value at (join o.prefix p) m d o.object >>= (λ x. gives (value x))
+of_object at naming p m d (Some o) = do
+  env ← known
+  need_own_base at naming (class_number (sort_of env.types o.object.type))
+  x ← field_value at (join o.prefix p) m d o.object
+  gives (value x)
 
 -- a member that is no function, by what it is
 abbrev pub single_member : ℕ → ℕ → List Step → MemberRef → MemberDef → Option On → What → Elab Operand
@@ -199,10 +210,21 @@ abbrev pub object_in : Option On → Option Value
 object_in None = None
 object_in (Some o) = Some o.object
 
+-- one static member function, by its name: access, and the function
+abbrev pub static_function : ℕ → ℕ → List MemberRef → MemberRef → MemberDef → Option (Elab Value)
+static_function at naming (one ∷ []) m d = if d.is_static then Some run else None
+  where
+    run : Elab Value
+    run = do
+      need_use at m naming None
+      env ← known
+      gives (place_of at (node.Function at (name_in_scope (record { types = env.types; classes = env.classes }) (class_code env.classes m.class) d) d.ty) d.ty true)
+static_function at naming refs m d = None
+
 abbrev pub one_member : ℕ → ℕ → List Step → List MemberRef → Option On → Bool → MemberRef → Option MemberDef → Elab Operand
 one_member at naming p refs object qualified m None = breaks 10 at
 one_member at naming p refs object qualified m (Some d) =
-    if is_function_member d.what then gives (methods (record { at = at; naming = naming; path = whole_path object p; found = refs; object = object_in object; is_qualified = qualified }))
+    if is_function_member d.what then gives (methods (record { at = at; naming = naming; path = whole_path object p; found = refs; object = object_in object; is_qualified = qualified; alone = static_function at naming refs m d }))
     else (known >>= (λ env. need_use at m naming (via_of env object)) >> single_member at naming p m d object d.what)
 
 -- K34 where it is ambiguous; then access, of a function only once it is chosen

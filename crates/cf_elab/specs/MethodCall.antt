@@ -12,7 +12,7 @@ use Rattle.cf_syntax.specs.declared.name.Name.{Name as WrittenName}
 use Rattle.cf_classes.specs.declared.path.Step.{Step}
 use Rattle.cf_classes.specs.declared.class.MemberDef.{MemberDef}
 use Rattle.cf_classes.specs.declared.class.MemberRef.{MemberRef}
-use Rattle.cf_classes.specs.Lookup.{Look, Nothing, found}
+use Rattle.cf_classes.specs.Lookup.{Look, One, Nothing, found}
 use Rattle.cf_classes.specs.Signature.{member_params, is_const_member}
 use Rattle.cf_core.specs.declared.node.Core.{Core as Node}
 use Rattle.cf_core.specs.declared.node.Core.TheVariants as node
@@ -26,7 +26,7 @@ use Rattle.cf_elab.specs.Operand.{Value, val, Operand, Methods, Part, evaluated,
 use Rattle.cf_elab.specs.Best.{Candidate, Choice, Chosen, NoMatch, Tie, best}
 use Rattle.cf_elab.specs.Call.{called}
 use Rattle.cf_elab.specs.Complete.{complete}
-use Rattle.cf_elab.specs.Members.{class_defs, need_use, need_base, base_at, class_number, member_operand}
+use Rattle.cf_elab.specs.Members.{class_defs, need_use, need_own_base, need_base, base_at, class_number, member_operand}
 use Rattle.cf_elab.specs.Names.{key}
 use Rattle.cf_elab.specs.Paths.{class_of_names}
 
@@ -61,14 +61,25 @@ abbrev pub is_nothing : Look → Bool
 is_nothing Nothing = true
 is_nothing other = false
 
--- K16; K34; access; a destructor is not called by its name, K48
+-- K16; K34; access
+abbrev pub member_operand_of : WrittenName → Value → ℕ → List Step → Bool → Look → Elab Operand
+member_operand_of n v naming prefix qualified look = do
+  need (not (is_nothing look)) 16 n.last_at
+  member_operand n.last_at naming look (Some (record { object = v; prefix = prefix })) qualified
+
+-- each class has a destructor: a declared one's access, and then K48
+abbrev pub explicit_destructor : ℕ → ℕ → Value → Look → Elab Operand
+explicit_destructor at naming v (One p (m ∷ ms)) = do
+  env ← known
+  if m.class == naming then need_use at m naming (class_number (sort_of env.types v.type)) else done
+  breaks 48 at
+explicit_destructor at naming v look = breaks 48 at
+
 abbrev pub named_member : WrittenName → Value → ℕ → List Step → Bool → Elab Operand
 named_member n v naming prefix qualified = do
   env ← known
-  need (not (is_nothing (found (class_defs env) naming (key n.last)))) 16 n.last_at
-  o ← member_operand n.last_at naming (found (class_defs env) naming (key n.last)) (Some (record { object = v; prefix = prefix })) qualified
-  need (not (is_destructor_name n.last)) 48 n.last_at
-  gives o
+  let look = found (class_defs env) naming (key n.last) in
+      if is_destructor_name n.last then explicit_destructor n.last_at naming v look else member_operand_of n v naming prefix qualified look
 
 -- a class that qualifies the name is the object's own or a base of it, K14
 abbrev pub prefix_of : Env → ℕ → ℕ → List Step
@@ -148,23 +159,26 @@ chosen_method at NoMatch other = breaks (if is_no_match other then 46 else 31) a
 abbrev pub type_of_object : Methods → Elab ℕ
 type_of_object m = elim m.object [ None ↦ intern (ty.Class m.naming) | Some v ↦ gives v.type ]
 
+-- among these candidates, on an object of the type
+abbrev pub pick_on : ℕ → ℕ → List Candidate → List Value → Elab ℕ
+pick_on at t cs vs = do
+  counted at cs (length vs + 1)
+  env ← known
+  chosen_method at (best env.types (defs env) cs (object_val t ∷ map val vs)) (best env.types (defs env) cs (object_val (bare env.types t) ∷ map val vs))
+
 abbrev pub pick_method : ℕ → Methods → List Value → Elab ℕ
 pick_method at m vs = do
   t ← type_of_object m
   cs ← method_candidates t m.found
-  counted at cs (length vs + 1)
-  env ← known
-  plain_type ← without_const t
-  chosen_method at (best env.types (defs env) cs (object_val t ∷ map val vs)) (best env.types (defs env) cs (object_val plain_type ∷ map val vs))
-  where
-    without_const : ℕ → Elab ℕ
-    without_const t = known >>= (λ env. gives (bare env.types t))
+  pick_on at t cs vs
 
 -- ---- the call
 
 abbrev pub with_object : ℕ → Methods → MemberRef → MemberDef → List Node → Option Value → Elab Node
 with_object at ms m d args None = breaks 32 at
 with_object at ms m d args (Some v) = do
+  env ← known
+  need_own_base at ms.naming (class_number (sort_of env.types v.type))
   b ← base_at at ms.path v
   env ← known
   gives (on_object at ms.is_qualified env m d b.node args)

@@ -11,12 +11,16 @@ use Rattle.cf_core.specs.FromTypes.{class_code}
 use Rattle.cf_core.specs.declared.node.Core.{Core as Node}
 use Rattle.cf_core.specs.declared.node.Core.TheVariants as node
 use Rattle.cf_elab.specs.Env.{Env, Name, Default}
-use Rattle.cf_elab.specs.Operand.{Value, place_of}
+use Rattle.cf_elab.specs.Operand.{Value, place_of, sort_of, is_class}
 use Rattle.cf_elab.specs.Members.{class_defs}
 
 -- a class value without a place is a temporary (12.2)
 abbrev pub object_place : Value → Value
 object_place v = if v.is_lvalue then v else place_of v.at (node.Temporary v.at v.type v.node) v.type false
+
+-- a value that nothing takes: of a class it is an object all the same
+abbrev pub unused : Env → Value → Node
+unused env v = if is_class (sort_of env.types v.type) then (object_place v).node else v.node
 
 abbrev pub member_at : Env → MemberRef → Option MemberDef
 member_at env m = slice_get (members_of (class_defs env) m.class) m.index

@@ -10,7 +10,7 @@ use Rattle.cf_classes.specs.declared.class.MemberRef.{MemberRef}
 use Rattle.cf_classes.specs.declared.class.What.{What}
 use Rattle.cf_classes.specs.declared.class.What.TheVariants as what
 use Rattle.cf_classes.specs.LinkName.{code, code_of}
-use Rattle.cf_classes.specs.Signature.{member_params, is_const_member}
+use Rattle.cf_classes.specs.Signature.{member_params, is_const_member, inherited_virtuals, overrides}
 use Rattle.cf_classes.specs.TypeTree.{params_of, is_const_fun}
 use Rattle.cf_elab.specs.Env.{Env, Name, Default}
 use Rattle.cf_elab.specs.Arguments.{fun_at, result_of}
@@ -18,6 +18,7 @@ use Rattle.cf_elab.specs.Answer.{Elab, ◌>>=◌, ◌>>◌, gives, done, need, n
 use Rattle.cf_elab.specs.Made.{int}
 use Rattle.cf_elab.specs.Operand.{Sort, sort_of, class_sort}
 use Rattle.cf_elab.specs.ClassScope.{members_so_far, open_class, access_now, add_member}
+use Rattle.cf_elab.specs.Members.{class_defs}
 use Rattle.cf_elab.specs.Functions.{default_fault, earlier_defaults, new_defaults}
 use Rattle.cf_elab.specs.Names.{key}
 use Rattle.cf_elab.specs.Shape.{Parameter}
@@ -123,6 +124,10 @@ operator_form env int_type n d =
 
 -- ---- names and signatures
 
+-- a conversion function's name has the code of its result, by the function's type
+abbrev pub conversion_name : Env → ℕ → Name
+conversion_name env t = codes "__op" ++ code (code_of env.types env.classes (result_of (fun_at env.types t)))
+
 abbrev pub method_name : Env → Says → Name
 method_name env d = named d.kind
   where
@@ -130,7 +135,7 @@ method_name env d = named d.kind
     named ordinary = key d.last
     named constructs = codes "__ct"
     named (destroys name) = codes "__dt"
-    named converts = codes "__op" ++ code (code_of env.types env.classes (result_of (fun_at env.types d.type)))
+    named converts = conversion_name env d.type
     named (operates n) = key d.last
 
 abbrev pub method_what : MethodKind → What
@@ -172,9 +177,6 @@ need_form int_type env d = by_kind d.kind
     by_kind converts = need (conversion_form env d) 41 d.at
     by_kind (operates n) = need (operator_form env int_type n d) 47 d.at
 
-abbrev pub pure_fault : Says → Option ℕ
-pure_fault d = if is_some d.gathered.virtual_at then None else d.pure_at
-
 abbrev pub method_member : Env → Says → List Default → MemberDef
 method_member env d ds = record {
   name = method_name env d;
@@ -188,6 +190,13 @@ method_member env d ds = record {
   defaults = length ds;
   at = d.at;
 }
+
+-- whether it is a virtual function of a base again, which needs no `virtual` (10.2)
+abbrev pub overrides_base : Env → MemberDef → Bool
+overrides_base env m = overrides env.types (option_map_or (inherited_virtuals env.types (class_defs env)) (open_class env) []) m
+
+abbrev pub pure_fault : Env → Says → Option ℕ
+pure_fault env d = if is_some d.gathered.virtual_at || overrides_base env (method_member env d []) then None else d.pure_at
 
 abbrev pub set_defaults : MemberRef → List Default → Elab (Unit {0})
 set_defaults m [] = done
@@ -209,7 +218,7 @@ declare_method d = do
   need (not (clashes env (method_name env d))) 8 d.at
   need (not (same_again env (method_name env d) d.type)) 45 d.at
   need_form i env d
-  none_at (pure_fault d) 24
+  none_at (pure_fault env d) 24
   ds ← method_defaults env d
   now ← known
   n ← add_member (method_member now d ds)

@@ -65,9 +65,10 @@ tree_value (leaf at v) = gives v
 tree_value (text at n bytes) = literal n bytes >>= value_of
 tree_value (branch at ts) = breaks 28 at
 
--- arguments of a class without constructors are K28, other than one of its own
+-- K30, K37; arguments of a class without constructors are K28, other than one of its own
 abbrev pub by_arguments : ℕ → ℕ → List Value → Elab Start
 by_arguments at c vs = do
+  need_object_class at c
   env ← known
   need (has_constructor env c || one_of_class env c vs) 28 at
   constructed at c vs >>= (λ n. gives (fixed_start n false))

@@ -1,5 +1,6 @@
 -- What an expression is while it is elaborated (3.7, 5).
 use Rattle.std.specs.Prelude.{ℕ, zero, Bool, true, false, if◌then◌else◌, List, [], ◌∷◌, ℤ, pos, Option, None, Some, Result, Ok, Err, slice_get}
+use Rattle.std.specs.Option.{option_map_or}
 use Rattle.cf_base.specs.declared.kind.Kind.{Kind}
 use Rattle.cf_base.specs.declared.kind.Kind.TheVariants as kind
 use Rattle.cf_base.specs.Promotion.{promoted}
@@ -36,6 +37,7 @@ pub record Methods : Type 0 where
   pub found : List MemberRef
   pub object : Option Value
   pub is_qualified : Bool  -- whether a class qualified the name, so that no call of it is dispatched (10.2)
+  pub alone : Option (Elab Value)  -- its value where it is one static function, which is a function as any other (9.4)
 
 -- An expression is a value; or functions of one name, by their numbers, with the place of the name; or member functions; or a nonstatic
 -- data member that is named without an object, from the class in which it was named; or an object with a pointer to a member function of this
@@ -104,7 +106,7 @@ abbrev pub value_of : Operand → Elab Value
 value_of (value v) = gives v
 value_of (functions at (f ∷ [])) = known >>= (λ env. one_function at (slice_get env.entries f))
 value_of (functions at fs) = breaks 46 at
-value_of (methods m) = breaks 32 m.at
+value_of (methods m) = option_map_or (λ v. v) m.alone (breaks 32 m.at)
 value_of (field_name at c p m) = breaks 32 at
 value_of (bound_method o p f) = breaks 18 p.at
 

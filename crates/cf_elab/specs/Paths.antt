@@ -1,14 +1,18 @@
 -- Names with the classes that qualify them, and what they stand for (3.2, 5.1, 7.1.6, 9.3).
-use Rattle.std.specs.Prelude.{ℕ, Bool, true, false, List, [], ◌∷◌, ◌++◌, Option, None, Some}
+use Rattle.std.specs.Prelude.{ℕ, Bool, true, false, if◌then◌else◌, List, [], ◌∷◌, ◌++◌, map, filter, Option, None, Some, slice_get}
 use Rattle.cf_syntax.specs.declared.name.Name.{Name as WrittenName}
 use Rattle.cf_syntax.specs.declared.name.Path.{Path}
-use Rattle.cf_classes.specs.Lookup.{Look, found}
-use Rattle.cf_lookup.specs.Scope.{OpenScopes, found_in}
-use Rattle.cf_elab.specs.Env.{Env, Name, Entity}
+use Rattle.cf_classes.specs.declared.class.MemberDef.{MemberDef}
+use Rattle.cf_classes.specs.declared.class.What.{What}
+use Rattle.cf_classes.specs.declared.class.What.TheVariants as what
+use Rattle.cf_classes.specs.ClassTable.{members_of}
+use Rattle.cf_classes.specs.Lookup.{Look, One, Nothing, found}
+use Rattle.cf_lookup.specs.Scope.{OpenScopes, found_in, in_scope}
+use Rattle.cf_elab.specs.Env.{Env, Name, Entity, alias, class_name, enum_name}
 use Rattle.cf_elab.specs.Answer.{Elab, ◌>>=◌, gives, breaks, known}
 use Rattle.cf_elab.specs.Operand.{Operand, sort_of}
-use Rattle.cf_elab.specs.Members.{class_defs, classes_around, found_around, member_by_name, member_operand, type_by_look, class_number}
-use Rattle.cf_elab.specs.Names.{entity_named, entity_of, type_of_entity, operand_of, key}
+use Rattle.cf_elab.specs.Members.{class_defs, classes_around, unless_nothing, found_around, member_by_name, member_operand, type_by_look, class_number}
+use Rattle.cf_elab.specs.Names.{entity_named, entity_of, file_names, type_of_entity, operand_of, key}
 
 -- ---- names alone: the blocks, then the classes around, then the file
 
@@ -35,6 +39,49 @@ block_or_around env name e = entity (entity_of env e)
 abbrev pub found_alone : Env → Bool → Name → Found
 found_alone env true name = entity (entity_named env true name)
 found_alone env false name = block_or_around env name (found_in name (block_scopes env.scopes))
+
+-- ---- a class or an enumeration behind its key: what is no type does not hide it (3.2)
+
+abbrev pub is_type : Option Entity → Bool
+is_type (Some (alias t)) = true
+is_type (Some (class_name c)) = true
+is_type (Some (enum_name e)) = true
+is_type other = false
+
+abbrev pub types_in : Env → List (List ℕ × ℕ) → List (List ℕ × ℕ)
+types_in env scope = filter (λ (x : List ℕ × ℕ). is_type (slice_get env.entities x.1)) scope
+
+abbrev pub is_type_member : Option MemberDef → Bool
+is_type_member None = false
+is_type_member (Some m) = of_what m.what
+  where
+    of_what : What → Bool
+    of_what (what.Nested c) = true
+    of_what what.Alias = true
+    of_what other = false
+
+abbrev pub type_look : Env → Look → Look
+type_look env (One p (m ∷ ms)) = if is_type_member (slice_get (members_of (class_defs env) m.class) m.index) then One p (m ∷ ms) else Nothing
+type_look env look = look
+
+abbrev pub type_around : Env → Name → List ℕ → Option (ℕ × Look)
+type_around env name [] = None
+type_around env name (c ∷ cs) = unless_nothing (type_around env name cs) c (type_look env (found (class_defs env) c name))
+
+abbrev pub type_of_file : Env → Name → Found
+type_of_file env name = entity (entity_of env (in_scope name (types_in env (file_names env.scopes))))
+
+abbrev pub around_or_type_of_file : Env → Name → Option (ℕ × Look) → Found
+around_or_type_of_file env name None = type_of_file env name
+around_or_type_of_file env name (Some x) = of_class x.0 x.1
+
+abbrev pub type_behind_key : Env → Bool → Name → Found
+type_behind_key env true name = type_of_file env name
+type_behind_key env false name = in_blocks (found_in name (map (types_in env) (block_scopes env.scopes)))
+  where
+    in_blocks : Option ℕ → Found
+    in_blocks None = around_or_type_of_file env name (type_around env name (classes_around env))
+    in_blocks e = entity (entity_of env e)
 
 -- ---- types
 
@@ -88,6 +135,14 @@ type_at at file (n ∷ ns) = type_of_names at file (last_name n ns) (before_last
 
 abbrev pub type_at_path : Path → Elab ℕ
 type_at_path path = type_at path.at path.from_file path.names
+
+-- behind `class`, `struct` or `enum`
+abbrev pub keyed_type : Path → Elab ℕ
+keyed_type path = by_names path.names
+  where
+    by_names : List Name → Elab ℕ
+    by_names (n ∷ []) = known >>= (λ env. type_found path.at (type_behind_key env path.from_file n))
+    by_names names = type_at_path path
 
 abbrev pub class_at_path : Path → Elab ℕ
 class_at_path path = type_at_path path >>= class_of_type path.at

@@ -1,14 +1,15 @@
 -- Statements, and the definitions that hold them (6).
 use Rattle.std.specs.Prelude.{ℕ, if◌then◌else◌, Bool, true, false, not, ◌&&◌, ◌||◌, List, [], ◌∷◌, map, ℤ, pos, int_le, Option, None, Some, is_some}
 use Rattle.std.specs.List.{list_any}
+use Rattle.std.specs.Option.{option_map, option_map_or}
 use Rattle.cf_base.specs.declared.kind.Kind.{Kind}
 use Rattle.cf_base.specs.Integers.{convert}
 use Rattle.cf_core.specs.declared.operators.LoopForm.{LoopForm}
 use Rattle.cf_core.specs.declared.operators.LoopForm.TheVariants as form
 use Rattle.cf_core.specs.declared.node.Core.{Core as Node}
 use Rattle.cf_core.specs.declared.node.Core.TheVariants as node
-use Rattle.cf_elab.specs.Env.{BodyKind, main_body}
-use Rattle.cf_elab.specs.MethodNode.{object_place}
+use Rattle.cf_elab.specs.Env.{Env, BodyKind, main_body}
+use Rattle.cf_elab.specs.MethodNode.{unused}
 use Rattle.cf_elab.specs.UserFit.{initial}
 use Rattle.cf_elab.specs.ClassOperand.{truth, scalar}
 use Rattle.cf_elab.specs.Answer.{Elab, ◌>>=◌, ◌>>◌, gives, done, breaks, need, known, hand_changed, maybe, all}
@@ -42,7 +43,7 @@ abbrev pub expression_row : ℕ → Part → Elab Made
 expression_row at x = do
   v ← evaluated x
   env ← known
-  gives (made at (node.Full at (if is_class (sort_of env.types v.type) then (object_place v).node else v.node)))
+  gives (made at (node.Full at (unused env v)))
 
 abbrev pub empty_row : ℕ → Elab Made
 empty_row at = gives (made at (node.Full at (node.Blank at)))
@@ -68,7 +69,7 @@ if_row at x then_part else_part = do
   a ← then_part
   b ← maybe (λ (s : Elab Made). s) else_part
   c ← condition at v
-  gives (made at (node.If at c a.node (node_of b)))
+  gives (record (made at (node.If at c a.node (node_of b))) { initialises = a.initialises || option_map_or (λ (m : Made). m.initialises) b false })
   where
     node_of : Option Made → Option Node
     node_of None = None
@@ -86,27 +87,30 @@ looped run = do
 abbrev pub loop_of : ℕ → LoopForm → Option Node → Option Node → Made → Node
 loop_of at f c step body = node.Loop at f c step body.node
 
+-- a body that is no block is no scope: what it declares counts for the labels behind
+abbrev pub loop_made : ℕ → Node → Made → Made
+loop_made at n body = record (made at n) { initialises = body.initialises }
+
 abbrev pub while_row : ℕ → Part → Elab Made → Elab Made
 while_row at x body = do
   v ← evaluated x
   m ← looped body
   c ← condition at v
-  gives (made at (loop_of at form.While (Some c) None m))
+  gives (loop_made at (loop_of at form.While (Some c) None m) m)
 
 abbrev pub do_row : ℕ → Elab Made → Part → Elab Made
 do_row at body x = do
   m ← looped body
   v ← evaluated x
   c ← condition at v
-  gives (made at (loop_of at form.Do (Some c) None m))
+  gives (loop_made at (loop_of at form.Do (Some c) None m) m)
 
-abbrev pub value_node : Option Value → Option Node
-value_node None = None
-value_node (Some v) = Some v.node
+abbrev pub step_node : Env → Option Value → Option Node
+step_node env w = option_map (unused env) w
 
 -- what a `for` declares lives to the end of the block around it
-abbrev pub with_first : ℕ → Made → Node → Made
-with_first at first loop = record (made at (node.Sequence at (first.node ∷ loop ∷ []))) { initialises = first.initialises }
+abbrev pub with_first : ℕ → Made → Made → Node → Made
+with_first at first body loop = record (made at (node.Sequence at (first.node ∷ loop ∷ []))) { initialises = first.initialises || body.initialises }
 
 abbrev pub for_row : ℕ → Elab Made → Option Part → Option Part → Elab Made → Elab Made
 for_row at first x step body = do
@@ -115,7 +119,8 @@ for_row at first x step body = do
   w ← maybe evaluated step
   m ← looped body
   c ← maybe (condition at) v
-  gives (with_first at f (loop_of at form.For c (value_node w) m))
+  env ← known
+  gives (with_first at f m (loop_of at form.For c (step_node env w) m))
 
 -- ---- switch (6.4.2)
 

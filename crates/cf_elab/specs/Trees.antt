@@ -25,11 +25,11 @@ use Rattle.cf_unit.specs.declared.declaration.Declaration.{Declaration, Declarat
 use Rattle.cf_classes.specs.declared.class.Friend.TheVariants as friend
 use Rattle.cf_core.specs.declared.node.Core.{Core as Node}
 use Rattle.cf_elab.specs.Env.{Env, Name}
-use Rattle.cf_elab.specs.Answer.{Elab, ◌>>=◌, ◌>>◌, gives, done, breaks, none_at, known, all, for_each}
+use Rattle.cf_elab.specs.Answer.{Elab, ◌>>=◌, ◌>>◌, gives, done, breaks, need, none_at, known, all, for_each}
 use Rattle.cf_elab.specs.Made.{int, intern}
 use Rattle.cf_elab.specs.Operand.{Sort, class_sort, sort_of, is_function}
 use Rattle.cf_elab.specs.Names as names
-use Rattle.cf_elab.specs.Paths.{Found, entity, found_alone}
+use Rattle.cf_elab.specs.Paths.{Found, entity, type_behind_key}
 use Rattle.cf_elab.specs.Complete.{types_within}
 use Rattle.cf_elab.specs.Specifiers.{Word, Gathered, gathered, defined_word, base_type, is_typedef, type_word}
 use Rattle.cf_elab.specs.Shape.{Shape, inner, function_of, nowhere, typed, bounds_constant}
@@ -39,7 +39,7 @@ use Rattle.cf_elab.specs.Enumeration.{enumeration}
 use Rattle.cf_elab.specs.Objects.{Reached}
 use Rattle.cf_elab.specs.Functions.{declare_function}
 use Rattle.cf_elab.specs.Declaration.{Declares, declares, declaration_row, unqualified, no_definition, function_says}
-use Rattle.cf_elab.specs.ClassScope.{add_friend, declare_class}
+use Rattle.cf_elab.specs.ClassScope.{add_friend, declare_class, has_name}
 use Rattle.cf_elab.specs.ClassDefinition.{new_class, access_row, class_row, field_conflict, field_row, member_alias}
 use Rattle.cf_elab.specs.Methods.{declare_method}
 use Rattle.cf_elab.specs.Bodies.{WrittenInit}
@@ -97,9 +97,11 @@ is_typedef_word (specifier.Storage at s) = typedef_storage s
     typedef_storage other = false
 is_typedef_word other = false
 
--- `class B` of an unknown B in a declaration enters a new class in the innermost scope (9.1)
+-- `class B` of an unknown B in a declaration enters a new class in the innermost scope (9.1), which has nothing else of the name, K8
 abbrev pub new_class_word : Path → Name → Elab Word
 new_class_word path name = do
+  env ← known
+  need (not (has_name env name)) 8 path.at
   c ← new_class name
   t ← intern (ty.Class c)
   declare_class name path.at c t
@@ -110,7 +112,7 @@ word_unless_found s path name (entity None) = new_class_word path name
 word_unless_found s path name found = word_of s
 
 abbrev pub class_word : TypeSpecifier → Path → List Name → Elab Word
-class_word s path (name ∷ []) = if path.from_file then word_of s else (known >>= (λ env. word_unless_found s path name (found_alone env false name)))
+class_word s path (name ∷ []) = if path.from_file then word_of s else (known >>= (λ env. word_unless_found s path name (type_behind_key env false name)))
 class_word s path names = word_of s
 
 abbrev pub word_in_declaration : TypeSpecifier → Elab Word
@@ -200,6 +202,7 @@ member_declares d = record { at = d.at; declared = declared d.declarator; pure_a
 abbrev pub friend_function : Gathered → Shape → WrittenName → Elab (Unit {0})
 friend_function g s n = do
   unqualified n
+  none_at g.conflict 24
   base ← base_type g
   x ← typed nowhere s base
   t ← type_of_shaped x
@@ -212,7 +215,7 @@ abbrev pub data_name : WrittenName → Last → Elab Name
 data_name n (last.Ident name) = gives name
 data_name n other = breaks 26 n.last_at
 
--- an object, a type, or a function by a named function type
+-- an object, a type, or a function by a named function type; an access declaration is K48 before all else (11.3)
 abbrev pub data_or_type : MemberDeclares → Gathered → WrittenName → ℕ → Elab (Unit {0})
 data_or_type d g n t = do
   env ← known
@@ -229,9 +232,9 @@ data_or_type d g n t = do
 
 abbrev pub data_member : MemberDeclares → Gathered → Shape → WrittenName → Elab (Unit {0})
 data_member d g s n = do
+  unqualified n
   base ← base_type g
   none_at (if is_typedef g then g.conflict else field_conflict d.at g) 24
-  unqualified n
   no_definition g s
   x ← typed nowhere s base
   t ← type_of_shaped x

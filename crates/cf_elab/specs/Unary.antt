@@ -14,7 +14,7 @@ use Rattle.cf_core.specs.declared.node.Core.TheVariants as node
 use Rattle.cf_elab.specs.Env.{Env}
 use Rattle.cf_elab.specs.Answer.{Elab, ◌>>=◌, ◌>>◌, gives, done, breaks, need, known}
 use Rattle.cf_elab.specs.Made.{pointer_to, unsigned_int}
-use Rattle.cf_elab.specs.Operand.{Value, computed, constant, place_of, plain, Sort, sort_of, arithmetic, is_function, is_array, is_void, integral, object_pointer, void_pointer, function_pointer}
+use Rattle.cf_elab.specs.Operand.{Value, computed, constant, place_of, plain, Sort, sort_of, arithmetic, is_function, is_array, is_void, integral, object_pointer, void_pointer, function_pointer, reference_sort}
 use Rattle.cf_elab.specs.Fit.{to_kind}
 use Rattle.cf_elab.specs.Arithmetic.{negated, complemented, negation}
 use Rattle.cf_elab.specs.Complete.{complete, bytes_of}
@@ -136,11 +136,19 @@ subscript at x y = do
 abbrev pub is_unsized : Sort → Bool
 is_unsized s = elim (is_function s) [ true ↦ true | false ↦ is_void s ]
 
--- the bytes of a type, as an unsigned int; a reference counts as what it refers to (5.3.2)
-abbrev pub size_constant : ℕ → ℕ → Elab Value
-size_constant at t = do
+-- K18; K30; the bytes of a type, as an unsigned int
+abbrev pub size_of_object : ℕ → ℕ → Elab Value
+size_of_object at t = do
   env ← known
   need (not (is_unsized (sort_of env.types t))) 18 at
   need (complete env t) 30 at
   u ← unsigned_int
   gives (constant at (pos (bytes_of env t)) u)
+
+-- a reference counts as what it refers to (5.3.2)
+abbrev pub referred_type : ℕ → Sort → ℕ
+referred_type t (reference_sort u) = u
+referred_type t s = t
+
+abbrev pub size_constant : ℕ → ℕ → Elab Value
+size_constant at t = known >>= (λ env. size_of_object at (referred_type t (sort_of env.types t)))

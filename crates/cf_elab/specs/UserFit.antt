@@ -53,13 +53,22 @@ abbrev pub by_member : ℕ → Value → MemberRef → Option MemberDef → Elab
 by_member at v m None = breaks 13 at
 by_member at v m (Some d) = by_what at v m d d.what
 
+-- a conversion function is used on the object, and named in its class; a constructor is named in its own
+abbrev pub use_of : Env → ℕ → MemberRef → Option ℕ → Option MemberDef → Elab (Unit {0})
+use_of env at m (Some c) (Some d) = by_kind d.what
+  where
+    by_kind : What → Elab (Unit {0})
+    by_kind what.Convert = need_use at m c (Some c)
+    by_kind other = need_use at m m.class None
+use_of env at m c d = need_use at m m.class None
+
 -- several are K41; access; and then its own conversion to the type
 abbrev pub by_function : ℕ → Value → ℕ → User → Elab Value
 by_function at v t Nothing = no_user at v t
 by_function at v t Many = breaks 41 at
 by_function at v t (One s) = do
-  need_use at s.function s.function.class None
   env ← known
+  use_of env at s.function (class_number (sort_of env.types v.type)) (member_at env s.function)
   x ← by_member at v s.function (member_at env s.function)
   converted at t s.after x
 
