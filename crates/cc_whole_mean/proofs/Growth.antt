@@ -15,7 +15,8 @@ use Rattle.cc_whole_mean.specs.declared.named.Target.{Target}
 use Rattle.cc_whole_mean.specs.Scope.{Scope}
 use Rattle.cc_whole_mean.specs.Values.{values_of, stored, assigned, integer_of, is_true}
 use Rattle.cc_whole_mean.specs.Flow.{State, in_memory, Flow, Falls, Breaks, Continues, Returns, Exits, tried, falling, turning, Called, Back, Gone}
-use Rattle.cc_whole_mean.specs.Callee.{Callee, own, built_in, is_helper, is_main}
+use Rattle.cc_whole.specs.Known.{is_helper, is_main}
+use Rattle.cc_whole_mean.specs.Callee.{Callee, own, built_in}
 use Rattle.cc_whole_mean.specs.Callee as callee
 use Rattle.cc_whole_mean.specs.Library.{does_library, of_number, of_pointer, of_function, of_none, of_one, back_int, byte_or_end, most_registered, wrong}
 use Rattle.cc_whole_mean.specs.Mean.{Program, Again, run_function, enter_helper, enter_function, enter, called_own, called, chosen, callee_of, targeted, used, go_back, call_to, given, wanted, is_wanted, does, does_body, does_all, does_from, does_items, refused, helps_in, runs}

@@ -1,5 +1,5 @@
 -- What a call calls.
-use Rattle.std.specs.Prelude.{ℕ, zero, suc, ◌-◌, Bool, true, false, ◌&&◌, ◌==◌, if◌then◌else◌, List, [], ◌∷◌, length, Option, Some, None, Result, Ok, Err, bytes_eq, codes, find, map, slice_get, take}
+use Rattle.std.specs.Prelude.{ℕ, zero, suc, ◌-◌, Bool, true, false, ◌&&◌, ◌==◌, if◌then◌else◌, List, [], ◌∷◌, length, Option, Some, None, Result, Ok, Err, bytes_eq, codes, find, map, slice_get}
 use Rattle.cc_whole.specs.declared.types.CType.{CType}
 use Rattle.cc_whole.specs.declared.types.CType.TheVariants as ty
 use Rattle.cc_whole.specs.declared.unit.CParameter.{CParameter}
@@ -35,13 +35,6 @@ library_named name =
 -- in the order of their numbers
 abbrev pub library_functions : List Library
 library_functions = putchar ∷ getchar ∷ exit ∷ malloc ∷ free ∷ atexit ∷ []
-
--- a function that spends no tick and no depth and gives no event
-abbrev pub is_helper : List ℕ → Bool
-is_helper name = bytes_eq (take 3 name) (codes "__h")
-
-abbrev pub is_main : List ℕ → Bool
-is_main name = bytes_eq name (codes "main")
 
 abbrev pub found_function : Option Function → Result Callee ℕ
 found_function None = Err wrong_type

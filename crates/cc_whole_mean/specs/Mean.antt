@@ -6,6 +6,7 @@ use Rattle.cf_base.specs.World.{World, Ran, Went, Stops, and_then, spend, deeper
 use Rattle.cc_whole.specs.declared.types.CConstant.{CConstant}
 use Rattle.cc_whole.specs.declared.types.CConstant.TheVariants as constant
 use Rattle.cc_whole.specs.declared.types.CSignature.{CSignature}
+use Rattle.cc_whole.specs.Known.{is_helper, is_main}
 use Rattle.cc_whole.specs.Plain.{Place, Expression, Callee as Called_by, by_name, by_pointer, Statement, assign, call, block, leave, next, choose, loop, select, give, Statements, done, followed, SwitchItems, closed, labelled, otherwise, stated, Body, body, Function}
 use Rattle.cc_whole_memory.specs.declared.value.Value.{Value}
 use Rattle.cc_whole_memory.specs.declared.value.Value.TheVariants as value
@@ -14,7 +15,7 @@ use Rattle.cc_whole_mean.specs.declared.named.Target.{Target}
 use Rattle.cc_whole_mean.specs.Scope.{Scope, bind_locals, bind_parameters}
 use Rattle.cc_whole_mean.specs.Values.{ill_typed, is_true, value_of, values_of, target_of, stored, assigned, integer_of}
 use Rattle.cc_whole_mean.specs.Flow.{State, in_memory, Flow, Falls, Breaks, Continues, Returns, Exits, tried, falling, turning, switching, ending, born_locals, born_arguments, Called, Back, Gone, called_back}
-use Rattle.cc_whole_mean.specs.Callee.{Callee, own, built_in, wrong_type, is_helper, is_main, callee_named, callee_numbered, has_type}
+use Rattle.cc_whole_mean.specs.Callee.{Callee, own, built_in, wrong_type, callee_named, callee_numbered, has_type}
 use Rattle.cc_whole_mean.specs.Library.{wrong, does_library}
 
 -- the use of a result that was not returned

@@ -1,5 +1,5 @@
 -- What the names in scope stand for.
-use Rattle.std.specs.Prelude.{ℕ, suc, if◌then◌else◌, List, [], ◌∷◌, Option, Some, None, bytes_eq, codes, map}
+use Rattle.std.specs.Prelude.{ℕ, suc, if◌then◌else◌, List, [], ◌∷◌, Option, Some, None, bytes_eq, map}
 use Rattle.cc_whole.specs.declared.statement.CLocal.{CLocal}
 use Rattle.cc_whole.specs.declared.unit.CParameter.{CParameter}
 use Rattle.cc_whole.specs.declared.unit.CVariable.{CVariable}
@@ -35,10 +35,6 @@ bind_variables (x ∷ xs) b scope = bind_variables xs (suc b) (bind x.name (vari
 abbrev pub bind_functions : List (List ℕ) → ℕ → Scope → Scope
 bind_functions [] i scope = scope
 bind_functions (name ∷ names) i scope = bind_functions names (suc i) (bind name (function i) scope)
-
--- the library functions, which have the numbers behind those of the program
-abbrev pub library : List (List ℕ)
-library = codes "putchar" ∷ codes "getchar" ∷ codes "exit" ∷ codes "malloc" ∷ codes "free" ∷ codes "atexit" ∷ []
 
 abbrev pub function_names : List Function → List (List ℕ)
 function_names fs = map (λ (f : Function). f.prototype.name) fs

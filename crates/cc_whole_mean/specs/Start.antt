@@ -10,6 +10,7 @@ use Rattle.cc_whole.specs.declared.unit.CInitialiser.{CInitialiser}
 use Rattle.cc_whole.specs.declared.unit.CInitialiser.TheVariants as initialiser
 use Rattle.cc_whole.specs.declared.unit.CPair.{CPair}
 use Rattle.cc_whole.specs.declared.unit.CProgram.{CProgram}
+use Rattle.cc_whole.specs.Known.{library}
 use Rattle.cc_whole.specs.Plain.{Function, Item, items_of, functions_of, variables_of}
 use Rattle.cc_whole_memory.specs.declared.value.Pointer.TheVariants as pointer
 use Rattle.cc_whole_memory.specs.declared.value.Value.{Value}
@@ -19,14 +20,15 @@ use Rattle.cc_whole_memory.specs.Blocks.{Memory, no_memory, born, on_ok, write}
 use Rattle.cc_whole_mean.specs.Types.{constant_value, variable_size}
 use Rattle.cc_whole_mean.specs.declared.named.Named.{Named}
 use Rattle.cc_whole_mean.specs.declared.named.Named.TheVariants.{Variable as variable, Function as function}
-use Rattle.cc_whole_mean.specs.Scope.{Scope, no_names, bind_variables, bind_functions, library, function_names}
+use Rattle.cc_whole_mean.specs.Scope.{Scope, no_names, bind_variables, bind_functions, function_names}
 use Rattle.cc_whole_mean.specs.Values.{numbered}
 use Rattle.cc_whole_mean.specs.Flow.{State, Called, Back, Gone, tried}
 use Rattle.cc_whole_mean.specs.Callee.{wrong_type, function_named}
 use Rattle.cc_whole_mean.specs.Mean.{Program, Again, run_function, called, callee_of, used, runs, helps_in}
 use Rattle.cc_whole_mean.specs.Mean as mean
 
--- the names of a program's variables and functions; the blocks of its variables are numbered from 0
+-- the names of a program's variables and functions; the blocks of its variables are numbered from 0, and the library functions have the numbers behind
+-- those of the program
 abbrev pub file_names : List Item → Scope
 file_names items = bind_functions (function_names (functions_of items) ++ library) 1 (bind_variables (variables_of items) 0 no_names)
 
