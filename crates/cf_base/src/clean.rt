@@ -31,6 +31,7 @@ pub struct CleanSource {
 #[derive(Debug, Drop)]
 pub struct CleanSink {
     room: Room,
+    handed_on: usize,
     is_whole: bool,
 }
 
@@ -88,12 +89,13 @@ impl Sink for CleanSink {
     ghost use Rattle.std.specs.Prelude.{◌&&◌, Ok};
     ghost use Rattle.cf_base.specs.Space.{fits, with_piece};
 
-    ghost stream = { λ s. record { told = s.is_whole; bytes = s.room.bytes; faults = 0 } };
+    ghost stream = { λ s. record { told = s.is_whole; bytes = s.room.bytes; handed_on = s.handed_on; faults = 0 } };
 
     fn put(&mut self, piece: &[u8]) -> Result<(), Failed>
         ensures answer { result ≡ Ok tt }
         ensures room { self.new.room ≡ with_piece piece.now self.old.room }
         ensures whole { self.new.is_whole ≡ self.old.is_whole && fits piece.now self.old.room }
+        ensures handed_on { self.new.handed_on ≡ self.old.handed_on }
     {
         if !self.room.add(piece) {
             self.is_whole = false;
@@ -102,6 +104,7 @@ impl Sink for CleanSink {
     }
 
     fn flush(&mut self) -> Result<(), Failed> {
+        self.handed_on = self.room.bytes().len();
         Ok(())
     }
 }
@@ -115,6 +118,7 @@ impl CleanSink {
         let room = Room::new(alloc, cap)?;
         Ok(CleanSink {
             room,
+            handed_on: 0,
             is_whole: true,
         })
     }

@@ -9,22 +9,24 @@ use std::alloc::Global;
 #[derive(Debug, Drop)]
 pub struct MemSink {
     room: Room,
+    handed_on: usize,
     planned: Planned,
     faults: u64,
 }
 
 impl Sink for MemSink {
-    ghost use Rattle.std.specs.Prelude.{◌≡◌, true, not, ◌&&◌, if◌then◌else◌, is_ok};
+    ghost use Rattle.std.specs.Prelude.{◌≡◌, true, not, ◌&&◌, if◌then◌else◌, is_ok, length};
     ghost use Rattle.cf_base.specs.Plan.{fails_next, one_later};
     ghost use Rattle.cf_base.specs.Rose.{CountsFaults};
     ghost use Rattle.cf_base.specs.Space.{fits, with_piece};
     ghost use Rattle.cf_base.specs.Stream.{Puts};
 
-    ghost stream = { λ s. record { told = true; bytes = s.room.bytes; faults = s.faults } };
+    ghost stream = { λ s. record { told = true; bytes = s.room.bytes; handed_on = s.handed_on; faults = s.faults } };
 
     /// Fails exactly where that is planned or the piece passes the room.
     fn put(&mut self, piece: &[u8]) -> Result<(), Failed>
         ensures bytes { Puts piece.now self.old.room.bytes self.new.room.bytes result }
+        ensures handed_on { self.new.handed_on ≡ self.old.handed_on }
         ensures faults { CountsFaults self.old.faults self.new.faults result }
         ensures answer { is_ok result ≡ not (fails_next self.old.planned) && fits piece.now self.old.room }
         ensures room { self.new.room ≡ (if fails_next self.old.planned then self.old.room else with_piece piece.now self.old.room) }
@@ -39,6 +41,7 @@ impl Sink for MemSink {
 
     /// Fails exactly where that is planned.
     fn flush(&mut self) -> Result<(), Failed>
+        ensures handed_on { self.new.handed_on ≡ (if fails_next self.old.planned then self.old.handed_on else length self.old.room.bytes) }
         ensures faults { CountsFaults self.old.faults self.new.faults result }
         ensures answer { is_ok result ≡ not (fails_next self.old.planned) }
         ensures room { self.new.room ≡ self.old.room }
@@ -48,6 +51,7 @@ impl Sink for MemSink {
             self.faults = self.faults.saturating_add(1);
             return Err(Failed);
         }
+        self.handed_on = self.room.bytes().len();
         Ok(())
     }
 }
@@ -67,6 +71,7 @@ impl MemSink {
         let room = Room::new(alloc, cap)?;
         Ok(MemSink {
             room,
+            handed_on: 0,
             planned: Planned::new(fail),
             faults: 0,
         })

@@ -17,7 +17,7 @@ impl Source for MemSource {
     ghost use Rattle.cf_base.specs.Rose.{CountsFaults};
     ghost use Rattle.cf_base.specs.Stream.{Gives};
 
-    ghost stream = { λ s. record { told = true; bytes = drop s.taken s.bytes.items; faults = s.faults } };
+    ghost stream = { λ s. record { told = true; bytes = drop s.taken s.bytes.items; handed_on = 0; faults = s.faults } };
 
     /// Fails exactly where that is planned.
     fn next(&mut self) -> Result<Option<u8>, Failed>

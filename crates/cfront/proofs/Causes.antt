@@ -108,10 +108,10 @@ module _ (file : List ℕ) (limits : Limits) (old new : Disk) (input out err inp
   run_counts : (program : CProgram) (entered : ℕ) (outcome : Outcome) → Made file old new program
       → RunsTo program limits (streams input out err) (streams input' out' err') entered outcome → is_fault outcome ≡ false
       → CountsStand (outside old input out err) (outside new input' out' err')
-  run_counts program entered (answer.Ended status) made runs no_fault = all_counts made.counts runs.counts
-  run_counts program entered answer.Ticks made runs no_fault = all_counts made.counts runs.counts
-  run_counts program entered answer.Depth made runs no_fault = all_counts made.counts runs.counts
-  run_counts program entered (answer.Undefined act) made runs no_fault = all_counts made.counts runs.counts
+  run_counts program entered (answer.Ended status) made runs no_fault = all_counts made.counts runs.left.counts
+  run_counts program entered answer.Ticks made runs no_fault = all_counts made.counts runs.left.counts
+  run_counts program entered answer.Depth made runs no_fault = all_counts made.counts runs.left.counts
+  run_counts program entered (answer.Undefined act) made runs no_fault = all_counts made.counts runs.left.counts
   run_counts program entered answer.Usage made runs no_fault = absurd runs
   run_counts program entered (answer.Refused number rule at) made runs no_fault = absurd runs
   run_counts program entered (answer.Limit number limit) made runs no_fault = absurd runs

@@ -72,21 +72,32 @@ pub flush_done : (program : CProgram) (limits : Limits) (old : Streams) (input o
     → LeavesAt program limits false old (streams input out trace) count end → FlushDone (outcome_of end) after out flushed
     → RunsTo program limits old (streams input flushed trace) count after
 unfolding front_on
-flush_done program limits old input out trace flushed count (ended.Ended status) after left f =
-    rw f.same (whole_on program limits old input out trace flushed f.told f.bytes count _ f.faults left)
-flush_done program limits old input out trace flushed count ended.Ticks after left f =
-    rw f.same (whole_on program limits old input out trace flushed f.told f.bytes count _ f.faults left)
-flush_done program limits old input out trace flushed count ended.Depth after left f =
-    rw f.same (whole_on program limits old input out trace flushed f.told f.bytes count _ f.faults left)
-flush_done program limits old input out trace flushed count (ended.Undefined act) after left f =
-    rw f.same (whole_on program limits old input out trace flushed f.told f.bytes count _ f.faults left)
+flush_done program limits old input out trace flushed count (ended.Ended status) after left f = rw f.same (record {
+  left = whole_on program limits old input out trace flushed f.told f.bytes count _ f.faults left;
+  handed_on = f.handed_on;
+})
+flush_done program limits old input out trace flushed count ended.Ticks after left f = rw f.same (record {
+  left = whole_on program limits old input out trace flushed f.told f.bytes count _ f.faults left;
+  handed_on = f.handed_on;
+})
+flush_done program limits old input out trace flushed count ended.Depth after left f = rw f.same (record {
+  left = whole_on program limits old input out trace flushed f.told f.bytes count _ f.faults left;
+  handed_on = f.handed_on;
+})
+flush_done program limits old input out trace flushed count (ended.Undefined act) after left f = rw f.same (record {
+  left = whole_on program limits old input out trace flushed f.told f.bytes count _ f.faults left;
+  handed_on = f.handed_on;
+})
 flush_done program limits old input out trace flushed count ended.SourceFault after left f = rw f.same (record {
-  front = front_on program limits old input out trace flushed f.told f.bytes left.front;
-  next = left.next;
-  counted = left.counted;
-  rose = left.rose;
-  out = f.faults ∙ left.out;
-  trace = left.trace;
+  left = record {
+    front = front_on program limits old input out trace flushed f.told f.bytes left.front;
+    next = left.next;
+    counted = left.counted;
+    rose = left.rose;
+    out = f.faults ∙ left.out;
+    trace = left.trace;
+  };
+  handed_on = f.handed_on;
 })
 flush_done program limits old input out trace flushed count ended.SinkFault after left f = rw f.same (record {
   front = front_on program limits old input out trace flushed f.told f.bytes left.front;

@@ -1,7 +1,7 @@
 -- How a run of a program answers.
 use Rattle.std.specs.Prelude.{◌≡◌, ℕ, List, false, IsTrue, Result, Ok, Err}
 use Rattle.cf_base.specs.Rose.{Rose}
-use Rattle.cf_base.specs.Stream.{Stream}
+use Rattle.cf_base.specs.Stream.{Stream, HandedOn}
 use Rattle.cc_tree.specs.declared.unit.CProgram.{CProgram}
 use Rattle.cc_tree.specs.declared.outcome.End.{End}
 use Rattle.cc_tree.specs.declared.outcome.End.TheVariants as ended
@@ -19,17 +19,22 @@ outcome_of (ended.Undefined act) = answer.Undefined act
 outcome_of ended.SourceFault = answer.SourceFault
 outcome_of ended.SinkFault = answer.SinkFault
 
+-- A run came to this end, and then its output was flushed.
+pub record FlushedAt (program : CProgram) (limits : Limits) (old new : Streams) (entered : ℕ) (end : End) : Type 0 where
+  pub left : LeavesAt program limits false old new entered end
+  pub handed_on : IsTrue new.out.told → HandedOn new.out
+
 -- What a run in which so many functions were entered leaves on the streams, by its answer. The output is flushed behind the run, so that it may fail then too.
 abbrev pub RunsTo : CProgram → Limits → Streams → Streams → ℕ → Outcome → Type 0
-RunsTo program limits old new entered (answer.Ended status) = LeavesAt program limits false old new entered (ended.Ended status)
-RunsTo program limits old new entered answer.Ticks = LeavesAt program limits false old new entered ended.Ticks
-RunsTo program limits old new entered answer.Depth = LeavesAt program limits false old new entered ended.Depth
-RunsTo program limits old new entered (answer.Undefined act) = LeavesAt program limits false old new entered (ended.Undefined act)
+RunsTo program limits old new entered (answer.Ended status) = FlushedAt program limits old new entered (ended.Ended status)
+RunsTo program limits old new entered answer.Ticks = FlushedAt program limits old new entered ended.Ticks
+RunsTo program limits old new entered answer.Depth = FlushedAt program limits old new entered ended.Depth
+RunsTo program limits old new entered (answer.Undefined act) = FlushedAt program limits old new entered (ended.Undefined act)
 RunsTo program limits old new entered answer.Usage = ⊥
 RunsTo program limits old new entered (answer.Refused file rule at) = ⊥
 RunsTo program limits old new entered (answer.Limit file limit) = ⊥
 RunsTo program limits old new entered answer.FileFault = ⊥
-RunsTo program limits old new entered answer.SourceFault = LeavesAt program limits false old new entered ended.SourceFault
+RunsTo program limits old new entered answer.SourceFault = FlushedAt program limits old new entered ended.SourceFault
 RunsTo program limits old new entered answer.SinkFault = OutputFailed program limits false old new entered
 
 pub record RanTo (program : CProgram) (limits : Limits) (old new : Streams) (outcome : Outcome) : Type 0 where
@@ -45,6 +50,7 @@ pub record FlushDone (before after : Outcome) (old new : Stream) : Type 0 where
   pub same : after ≡ before
   pub bytes : IsTrue new.told → new.bytes ≡ old.bytes
   pub told : IsTrue new.told → IsTrue old.told
+  pub handed_on : IsTrue new.told → HandedOn new
   pub faults : new.faults ≡ old.faults
 
 -- it failed, and the answer is that

@@ -31,7 +31,7 @@ impl<W> StreamSink<W> {
 impl<R: Read> Source for StreamSource<R> {
     ghost use Rattle.std.specs.Prelude.{false, []};
 
-    ghost stream = { λ s. record { told = false; bytes = []; faults = s.faults } };
+    ghost stream = { λ s. record { told = false; bytes = []; handed_on = 0; faults = s.faults } };
 
     fn next(&mut self) -> Result<Option<u8>, Failed> {
         let mut byte = [0u8; 1];
@@ -49,7 +49,7 @@ impl<R: Read> Source for StreamSource<R> {
 impl<W: Write> Sink for StreamSink<W> {
     ghost use Rattle.std.specs.Prelude.{false, []};
 
-    ghost stream = { λ s. record { told = false; bytes = []; faults = s.faults } };
+    ghost stream = { λ s. record { told = false; bytes = []; handed_on = 0; faults = s.faults } };
 
     fn put(&mut self, piece: &[u8]) -> Result<(), Failed> {
         if write_whole(&mut self.writer, piece) {
