@@ -1,0 +1,2 @@
+mod Inits
+mod Whole
