@@ -1,2 +1,2 @@
-mod Inits
-mod Whole
+mod BodiesRead
+mod InitsRead

@@ -1,6 +1,6 @@
 use Rattle.std.proofs.Common.{subst}
 use Rattle.cf_parse_expr.specs.Reads.{Reads}
-use Rattle.cf_parse_body.proofs.Inits.{member-inits-is}
+use Rattle.cf_parse_body.proofs.InitsRead.{member-inits-is}
 use Rattle.cf_parse_body.proofs.inits.member_inits.Goals as goal
 
 pub returns : goal.returns

@@ -1,6 +1,6 @@
 use Rattle.std.proofs.Common.{subst}
 use Rattle.cf_parse_expr.specs.Reads.{Reads}
-use Rattle.cf_parse_body.proofs.Whole.{body-is}
+use Rattle.cf_parse_body.proofs.BodiesRead.{body-is}
 use Rattle.cf_parse_body.proofs.whole.body.Goals as goal
 
 pub returns : goal.returns

@@ -1,7 +1,7 @@
 use Rattle.std.proofs.Common.{subst}
 use Rattle.cf_parse_decl.specs.Reads.{Gives}
 use Rattle.cf_unit.specs.Declares.{shape}
-use Rattle.cf_parse_body.proofs.Whole.{body-by-is}
+use Rattle.cf_parse_body.proofs.BodiesRead.{body-by-is}
 use Rattle.cf_parse_body.proofs.whole.body_by.Goals as goal
 
 pub returns : goal.returns

@@ -12,7 +12,7 @@ use Rattle.cf_unit.specs.Files.{inner, by_tree}
 use Rattle.cf_unit.specs.Known.{Known, late_names}
 use Rattle.cf_unit.specs.Read.{reading}
 use Rattle.cf_unit.specs.Rule.{Bodies, at_once, left_out, late}
-use Rattle.cf_parse_body.proofs.Inits.{member-inits-is}
+use Rattle.cf_parse_body.proofs.InitsRead.{member-inits-is}
 use Rattle.cf_parse_body.specs.Bodies as steps
 use Rattle.cf_parse_body.specs.Inits.{member_inits}
 
