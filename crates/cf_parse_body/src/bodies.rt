@@ -2,9 +2,8 @@
 
 ghost use Rattle.std.specs.Prelude.{◌≡◌, IfOk};
 ghost use Rattle.cf_parse_body.specs.Bodies as spec;
+ghost use Rattle.cf_parse_body.specs.Bodies.{GivesBody, ReadsBody};
 ghost use Rattle.cf_parse_decl.specs.Nests.{Nests};
-ghost use Rattle.cf_parse_decl.specs.Reads.{Gives};
-ghost use Rattle.cf_parse_expr.specs.Reads.{Reads};
 ghost use Rattle.cf_unit.specs.Declares.{shape};
 ghost use Rattle.cf_unit.specs.Known.{in_block, late_names};
 
@@ -17,7 +16,6 @@ use cf_parse_expr::{Cursor, Stop};
 use cf_syntax::{DeclTree, TypeNames};
 use cf_unit::{MemberInit, Stmt};
 use std::alloc::Global;
-use std::marker::Model;
 use std::mem::replace;
 
 /// What stands behind the declarator of a function (8.3).
@@ -27,14 +25,6 @@ pub struct Body {
     /// The place of the `{`, and 0 where the body is left out.
     pub at: u32,
     pub statements: Items<Stmt>,
-}
-
-impl Model for Body {
-    ghost use Rattle.cf_unit.specs.Bodies.{Body as Whole};
-
-    ghost Value = { Whole };
-
-    ghost view = { λ b. (b.initialisers, b.at, b.statements) };
 }
 
 /// What is known in a block: no class's members are read there, and bodies where they stand.
@@ -56,7 +46,7 @@ pub fn body_read<F: Fn(Global, usize, Wanted, &mut Known, &mut Cursor<'_>) -> Re
     c: &mut Cursor<'_>,
 ) -> Result<(Body, Known), Stop>
     requires { Nests grammar.now.depth (F.pre grammar.now.inside) (F.post grammar.now.inside) }
-    ensures { Reads (spec.body grammar.now.depth names c.old) result c.new }
+    ensures { ReadsBody (spec.body grammar.now.depth names c.old) result c.new }
 {
     let initialisers = inits_read(grammar.alloc, &names, c)?;
     let mut known = in_block(names);
@@ -81,7 +71,7 @@ fn body_at_once<
     c: &mut Cursor<'_>,
 ) -> Result<Body, Stop>
     requires { Nests grammar.now.depth (F.pre grammar.now.inside) (F.post grammar.now.inside) }
-    ensures { Gives (spec.body_at_once grammar.now.depth home (shape tree.now) known.old c.old) result known.new c.new }
+    ensures { GivesBody (spec.body_at_once grammar.now.depth home (shape tree.now) known.old c.old) result known.new c.new }
 {
     let mut names = replace(&mut known.names, TypeNames::new(grammar.alloc));
     enter_params(grammar.alloc, &mut names, tree)?;
@@ -99,7 +89,7 @@ fn body_left_out(
     known: &mut Known,
     c: &mut Cursor<'_>,
 ) -> Result<Body, Stop>
-    ensures { Gives (spec.body_left_out home known.old c.old) result known.new c.new }
+    ensures { GivesBody (spec.body_left_out home known.old c.old) result known.new c.new }
 {
     pass_over(c)?;
     known.close_to(home);
@@ -130,7 +120,7 @@ fn body_late<F: Fn(Global, usize, Wanted, &mut Known, &mut Cursor<'_>) -> Result
     c: &mut Cursor<'_>,
 ) -> Result<Body, Stop>
     requires { Nests grammar.now.depth (F.pre grammar.now.inside) (F.post grammar.now.inside) }
-    ensures { Gives (spec.body_late grammar.now.depth end home (shape tree.now) known.old c.old) result known.new c.new }
+    ensures { GivesBody (spec.body_late grammar.now.depth end home (shape tree.now) known.old c.old) result known.new c.new }
 {
     let open = end.open_scopes();
     let mut names = late_names(end, &known.names)?;
@@ -155,7 +145,7 @@ pub fn body_read_by<
     c: &mut Cursor<'_>,
 ) -> Result<Body, Stop>
     requires { Nests grammar.now.depth (F.pre grammar.now.inside) (F.post grammar.now.inside) }
-    ensures { Gives (spec.body_by grammar.now.depth known.old.bodies home (shape tree.now) known.old c.old) result known.new c.new }
+    ensures { GivesBody (spec.body_by grammar.now.depth known.old.bodies home (shape tree.now) known.old c.old) result known.new c.new }
 {
     match replace(&mut known.bodies, Bodies::AtOnce) {
         Bodies::AtOnce => body_at_once(grammar, home, tree, known, c),

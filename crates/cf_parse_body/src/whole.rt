@@ -1,8 +1,7 @@
 //! Bodies as the rules of the grammar read them.
 
+ghost use Rattle.cf_parse_body.specs.Bodies.{GivesBody, ReadsBody};
 ghost use Rattle.cf_parse_decl.specs.Nests.{Nests};
-ghost use Rattle.cf_parse_decl.specs.Reads.{Gives};
-ghost use Rattle.cf_parse_expr.specs.Reads.{Reads};
 ghost use Rattle.cf_unit.specs.Bodies as rule;
 ghost use Rattle.cf_unit.specs.Declares.{shape};
 ghost use Rattle.cf_unit.specs.Files.{inner, by_tree};
@@ -21,7 +20,7 @@ pub fn body<F: Fn(Global, usize, Wanted, &mut Known, &mut Cursor<'_>) -> Result<
     c: &mut Cursor<'_>,
 ) -> Result<(Body, Known), Stop>
     requires { Nests grammar.now.depth (F.pre grammar.now.inside) (F.post grammar.now.inside) }
-    ensures { Reads (reading (rule.body (inner by_tree grammar.now.depth) names) c.old) result c.new }
+    ensures { ReadsBody (reading (rule.body (inner by_tree grammar.now.depth) names) c.old) result c.new }
 {
     body_read(grammar, names, c)
 }
@@ -36,7 +35,7 @@ pub fn body_by<F: Fn(Global, usize, Wanted, &mut Known, &mut Cursor<'_>) -> Resu
     c: &mut Cursor<'_>,
 ) -> Result<Body, Stop>
     requires { Nests grammar.now.depth (F.pre grammar.now.inside) (F.post grammar.now.inside) }
-    ensures { Gives (reading (rule.body_by (inner by_tree grammar.now.depth) known.old.bodies home (shape tree.now) known.old) c.old) result known.new c.new }
+    ensures { GivesBody (reading (rule.body_by (inner by_tree grammar.now.depth) known.old.bodies home (shape tree.now) known.old) c.old) result known.new c.new }
 {
     body_read_by(grammar, home, tree, known, c)
 }
