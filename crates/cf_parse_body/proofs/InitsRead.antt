@@ -1,5 +1,5 @@
 -- Initialisers of bases and members read step by step are those that the grammar's rules read.
-use Rattle.std.proofs.Common.{◌≡◌, ℕ, Bool, true, false, cond, List, [], ◌∷◌, ◌++◌, length, Option, Some, None, nat_eq, refl, sym, ap, ◌∙◌}
+use Rattle.std.proofs.Common.{◌≡◌, ℕ, Bool, true, false, cond, List, [], ◌∷◌, ◌++◌, length, Option, Some, None, nat_eq, refl, sym, ap, ◌∙◌, arith}
 use Rattle.std.proofs.Math.Path.{fun_ext}
 use Rattle.std.proofs.lemmas.Bool.Decides.{nat_tests}
 use Rattle.cf_tokens.specs.declared.token.Token.{Token}
@@ -9,7 +9,6 @@ use Rattle.cf_syntax.specs.Grammar.{sees}
 use Rattle.cf_syntax.specs.Named.{ident_path}
 use Rattle.cf_syntax.specs.Parse.{Parse, pure, none, with_rest, then, word}
 use Rattle.cf_syntax.specs.Words.{front, code, left_paren, right_paren, comma, colon, equals}
-use Rattle.cf_parse_decl.specs.Statements.{by}
 use Rattle.cf_parse_expr.proofs.Leaves.{ident-path-is}
 use Rattle.cf_parse_expr.proofs.Steps.{with-rest-same}
 use Rattle.cf_parse_expr.specs.Named.{ident_path_at}

@@ -61,9 +61,7 @@ pub fn body_read<F: Fn(Global, usize, Wanted, &mut Known, &mut Cursor<'_>) -> Re
 
 /// A body that is read where it stands.
 #[tactic(auto, unfolding(crate::specs::Bodies::body_at_once))]
-fn body_at_once<
-    F: Fn(Global, usize, Wanted, &mut Known, &mut Cursor<'_>) -> Result<Node, Stop>,
->(
+fn body_at_once<F: Fn(Global, usize, Wanted, &mut Known, &mut Cursor<'_>) -> Result<Node, Stop>>(
     grammar: &Grammar<F>,
     home: usize,
     tree: &DeclTree,
