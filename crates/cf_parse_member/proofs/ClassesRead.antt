@@ -12,7 +12,6 @@ use Rattle.cf_parse_member.proofs.Joined.{joined, rest-same}
 use Rattle.cf_parse_member.proofs.MembersRead.{member-is}
 use Rattle.cf_parse_member.specs.Classes as steps
 use Rattle.cf_parse_member.specs.Heads as heads
-use Rattle.cf_parse_member.specs.Members.{one_member}
 use Rattle.cf_unit.specs.declared.class.ClassDef.{ClassDef}
 use Rattle.cf_unit.specs.declared.class.Member.{Member}
 use Rattle.cf_unit.specs.Declarations.{maybe_identifier}
@@ -25,20 +24,27 @@ use Rattle.cf_unit.specs.Read.{reading, element, row, up_to}
 use Rattle.cf_unit.specs.Rule as rules
 use Rattle.cf_unit.specs.Rule.{Bodies, at_once, left_out, late}
 
+-- what is left of members behind a class that stands in no other
+abbrev left : ℕ → List Member × Known → Parse (List Member × Known)
+left home all ts = Some ((all.0, steps.behind_outermost home all.1), ts)
+
+-- the names at the end of members
+abbrev at-end : Known → List Member × Known → Parse Names
+at-end k all ts = Some (closed_to (open_scopes k.names) all.1.names, ts)
+
 -- twice over the same tokens, where members are read so
 twice-is : (read : Known → Parse (List Member × Known)) (home : ℕ) (k : Known) (ts : List Token) (o : Option ((List Member × Known) × List Token))
-    → with_rest (with_rest o (λ all. pure (closed_to (open_scopes k.names) all.1.names)))
-        (λ end _. with_rest (read (steps.with_ways k (late end)) ts) (λ all. pure (all.0, steps.behind_outermost home all.1)))
-    ≡ with_rest (with_rest o (λ all _. read (steps.with_ways k (late (closed_to (open_scopes k.names) all.1.names))) ts)) (λ all. pure (all.0, steps.behind_outermost home all.1))
+    → with_rest (with_rest o (at-end k)) (λ end _. with_rest (read (steps.with_ways k (late end)) ts) (left home))
+    ≡ with_rest (with_rest o (λ all _. read (steps.with_ways k (late (closed_to (open_scopes k.names) all.1.names))) ts)) (left home)
 twice-is read home k ts None = refl
 twice-is read home k ts (Some q) = refl
 
-key-is : (ts : List Token) → parts.class_key ts ≡ rule.class_key ts
-unfolding parts.class_key
-key-is [] = refl
-key-is (t ∷ ts) = refl
-
 module _ (n : ℕ) where
+  key-is : (ts : List Token) → parts.class_key ts ≡ rule.class_key (inner by_tree n) ts
+  unfolding parts.class_key
+  key-is [] = refl
+  key-is (t ∷ ts) = refl
+
   next-is : (s : List Member × Known) (ts : List Token) → steps.next_member n s ts ≡ reading (rule.next_member (inner by_tree n) s) ts
   unfolding steps.next_member
   next-is s ts = ap (λ o. with_rest o (λ x. pure (s.0 ++ x.0 ∷ [], x.1))) (member-is n s.1 ts)
@@ -55,8 +61,8 @@ module _ (n : ℕ) where
 
   outermost-is : (home : ℕ) (k : Known) (ts : List Token) → steps.outermost n home k ts ≡ reading (rule.outermost (inner by_tree n) home k) ts
   unfolding steps.outermost steps.names_at_end
-  outermost-is home k ts = ap (λ m. with_rest (with_rest (m (steps.with_ways k left_out) ts) (λ all. pure (closed_to (open_scopes k.names) all.1.names)))
-      (λ end _. with_rest (m (steps.with_ways k (late end)) ts) (λ all. pure (all.0, steps.behind_outermost home all.1)))) (fun_ext (λ k'. fun_ext (λ us. members-are k' us)))
+  outermost-is home k ts = ap (λ m. with_rest (with_rest (m (steps.with_ways k left_out) ts) (at-end k)) (λ end _. with_rest (m (steps.with_ways k (late end)) ts) (left home)))
+      (fun_ext (λ k'. fun_ext (λ us. members-are k' us)))
       ∙ twice-is members-by-rule home k ts (members-by-rule (steps.with_ways k left_out) ts)
 
   nested-is : (home : ℕ) (k : Known) (ts : List Token) → steps.nested n home k ts ≡ reading (rule.nested (inner by_tree n) home k) ts
@@ -82,7 +88,7 @@ module _ (n : ℕ) where
       joined (word left_brace us) _ _ ∙ rest-same (word left_brace us) _ _ (λ _ vs.
       joined (steps.members_by n k.bodies (open_scopes k.names) (heads.inside_class k.bodies start.1 start.0 bs.1 name) vs) _ _
       ∙ ap (λ o. with_rest o (λ all. pure (steps.class_of (heads.head_of c name bs.0 start.0) all.0, steps.with_own all.1 k.own)))
-        (members-by-is k.bodies (open_scopes k.names) (heads.inside_class k.bodies start.1 start.0 bs.1 name) vs)))
+      (members-by-is k.bodies (open_scopes k.names) (heads.inside_class k.bodies start.1 start.0 bs.1 name) vs)))
 
   abbrev behind-key : Known → ℕ × ClassKey → Parse ((ClassDef × NameKind) × Known)
   behind-key k c = reading (rules.then maybe_identifier (λ name. rule.class_as (inner by_tree n) k c.0 c.1 name (class_to_define k.names name)))

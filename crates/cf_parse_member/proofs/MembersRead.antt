@@ -1,5 +1,5 @@
 -- Functions and members read step by step are those that the grammar's rules read.
-use Rattle.std.proofs.Common.{◌≡◌, ℕ, Bool, true, false, List, [], ◌∷◌, ◌++◌, length, Option, Some, None, refl, ap, ◌∙◌}
+use Rattle.std.proofs.Common.{◌≡◌, ℕ, Bool, true, false, List, [], ◌∷◌, length, Some, None, refl, ap, ◌∙◌}
 use Rattle.std.proofs.Math.Path.{fun_ext}
 use Rattle.cf_tokens.specs.declared.token.Token.{Token}
 use Rattle.cf_syntax.specs.Grammar.{sees, begins}
@@ -26,17 +26,19 @@ pub open-at-comma : (home : ℕ) (s : List MemberDeclarator × Known) (ts : List
 unfolding steps.closed
 open-at-comma home s ts here = ap (λ o. with_rest o (λ _. just (s.0, with_names s.1 (closed_to home s.1.names)))) (other-word comma semicolon ts here refl)
 
+-- nothing is read
+abbrev passed : Parse (Unit {0})
+passed ts = Some (tt, ts)
+
 -- [";"], where nothing depends on it
 maybe-semicolon-is : {A : Type 0} (x : A) (ts : List Token)
     → with_rest (steps.maybe_semicolon ts) (λ _. just x) ≡ chosen (sees semicolon ts) (then (word semicolon) (λ _. just x)) (just x) ts
 unfolding steps.maybe_semicolon
-maybe-semicolon-is {A = A} x ts = by-word (sees semicolon ts) (word semicolon ts)
+maybe-semicolon-is {A = A} x ts = by-front (sees semicolon ts)
   where
-    by-word : (b : Bool) (o : Option (ℕ × List Token))
-        → with_rest (chosen b (λ _. with_rest o (λ _. just tt)) (just tt) ts) (λ _. just x) ≡ chosen b (λ _. with_rest o (λ _. just x)) (just x) ts
-    by-word true None = refl
-    by-word true (Some q) = refl
-    by-word false o = refl
+    by-front : (b : Bool) → with_rest (chosen b (then (word semicolon) (λ _. passed)) passed ts) (λ _. just x) ≡ chosen b (then (word semicolon) (λ _. just x)) (just x) ts
+    by-front true = joined (word semicolon ts) (λ _. passed) (λ _. just x)
+    by-front false = refl
 
 module _ (n : ℕ) where
   pub defined-is : (home at : ℕ) (g : Given) (d : Declared) (k : Known) (ts : List Token)

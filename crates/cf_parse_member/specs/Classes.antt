@@ -5,13 +5,12 @@ use Rattle.cf_syntax.specs.declared.type_names.NameKind.TheVariants as kind
 use Rattle.cf_syntax.specs.NamesData.{Names}
 use Rattle.cf_syntax.specs.Grammar.{sees}
 use Rattle.cf_syntax.specs.Parse.{Parse, pure, with_rest, then, word}
-use Rattle.cf_parse_member.specs.declared.head.Head.{Head}
+use Rattle.cf_parse_member.specs.declared.heads.Head.{Head}
 use Rattle.cf_parse_member.specs.Heads.{head}
 use Rattle.cf_parse_member.specs.Members.{one_member}
 use Rattle.cf_unit.specs.declared.class.ClassDef.{ClassDef}
 use Rattle.cf_unit.specs.declared.class.Member.{Member}
 use Rattle.cf_unit.specs.Known.{Known, with_names, open_scopes, closed_to}
-use Rattle.cf_unit.specs.Members.{names_after}
 use Rattle.cf_unit.specs.Pieces.{right_brace}
 use Rattle.cf_unit.specs.Read.{element, row, up_to}
 use Rattle.cf_unit.specs.Rule.{Bodies, at_once, left_out, late}
@@ -21,6 +20,12 @@ with_ways k ways = record { names = k.names; bodies = ways; own = k.own }
 
 abbrev pub with_own : Known → Option (List ℕ) → Known
 with_own k own = record { names = k.names; bodies = k.bodies; own = own }
+
+-- where bodies are read late, the classes in them are known too
+abbrev pub names_after : Bodies → Names → Names
+names_after at_once names = names
+names_after left_out names = names
+names_after (late end) names = end
 
 -- behind a class that stands in no other
 abbrev pub behind_outermost : ℕ → Known → Known

@@ -3,16 +3,16 @@
 //! Each rule is a function over a cursor and what is known, that reads what the reading of the grammar reads there.
 #![tactic(auto)]
 
-mod class;
+mod classes;
 mod function;
-mod head;
+mod heads;
 mod list;
 mod member;
 mod member_list;
 mod parts;
 mod words;
 
-pub use class::class;
+pub use classes::class;
 pub use function::{begins_body, defined};
-pub use head::{Head, head};
+pub use heads::{Head, class_head};
 pub use member::one_member;

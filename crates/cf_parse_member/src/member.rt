@@ -30,10 +30,7 @@ fn declaration(
 ) -> Result<Boxed<Member>, Memory>
     ensures { IfOk result (λ m. m ≡ spec.declaration_of at given all) }
 {
-    Ok(Boxed::new(
-        alloc,
-        Member::Declaration(at, given.list, all),
-    )?)
+    Ok(Boxed::new(alloc, Member::Declaration(at, given.list, all))?)
 }
 
 /// A declaration behind its first declarator.
@@ -55,9 +52,7 @@ fn member_declared<F>(
 
 /// A function behind its declarator. A `;` directly behind its block belongs to it.
 #[tactic(auto, unfolding(crate::specs::Members::member_function))]
-fn member_function<
-    F: Fn(Global, usize, Wanted, &mut Known, &mut Cursor<'_>) -> Result<Node, Stop>,
->(
+fn member_function<F: Fn(Global, usize, Wanted, &mut Known, &mut Cursor<'_>) -> Result<Node, Stop>>(
     grammar: &Grammar<F>,
     home: usize,
     at: u32,
@@ -130,9 +125,7 @@ fn access_label(alloc: Global, known: &Known, c: &mut Cursor<'_>) -> Result<Boxe
 
 /// A member, step by step.
 #[tactic(auto, unfolding(crate::specs::Members::one_member))]
-pub fn member_read<
-    F: Fn(Global, usize, Wanted, &mut Known, &mut Cursor<'_>) -> Result<Node, Stop>,
->(
+pub fn member_read<F: Fn(Global, usize, Wanted, &mut Known, &mut Cursor<'_>) -> Result<Node, Stop>>(
     grammar: &Grammar<F>,
     known: &mut Known,
     c: &mut Cursor<'_>,

@@ -1,5 +1,6 @@
 //! The parts of a member by words that stay shut.
 
+ghost use Rattle.cf_parse_body.specs.Bodies.{GivesBody};
 ghost use Rattle.cf_parse_decl.specs.Nests.{Nests};
 ghost use Rattle.cf_parse_decl.specs.Reads.{Gives};
 ghost use Rattle.cf_parse_expr.specs.Reads.{Reads};
@@ -21,11 +22,7 @@ use std::alloc::Global;
 #[tactic(auto, unfolding(crate::specs::Members::some_specifiers))]
 pub fn some_specifiers<
     F: Fn(Global, usize, Wanted, &mut Known, &mut Cursor<'_>) -> Result<Node, Stop>,
->(
-    grammar: &Grammar<F>,
-    known: &mut Known,
-    c: &mut Cursor<'_>,
-) -> Result<Given, Stop>
+>(grammar: &Grammar<F>, known: &mut Known, c: &mut Cursor<'_>) -> Result<Given, Stop>
     requires { Nests grammar.now.depth (F.pre grammar.now.inside) (F.post grammar.now.inside) }
     ensures { Gives (spec.some_specifiers grammar.now.depth known.old c.old) result known.new c.new }
 {
@@ -56,7 +53,7 @@ pub fn a_body<F: Fn(Global, usize, Wanted, &mut Known, &mut Cursor<'_>) -> Resul
     c: &mut Cursor<'_>,
 ) -> Result<Body, Stop>
     requires { Nests grammar.now.depth (F.pre grammar.now.inside) (F.post grammar.now.inside) }
-    ensures { Gives (spec.a_body grammar.now.depth home (shape tree.now) known.old c.old) result known.new c.new }
+    ensures { GivesBody (spec.a_body grammar.now.depth home (shape tree.now) known.old c.old) result known.new c.new }
 {
     body_by(grammar, home, tree, known, c)
 }

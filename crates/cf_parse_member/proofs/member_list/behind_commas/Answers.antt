@@ -16,7 +16,7 @@ returns-then-front-ne-COMMA g c =
     let turn = declarator_turn c.args.grammar.now.depth c.args.home c.args.given.now in
     let past : sees comma c.loop-turn.c ≡ false = search rules in
     let over : turn (c.loop-turn.all, c.loop-turn.known) c.loop-turn.c ≡ None =
-        none-behind comma c.loop-turn.c (λ _. then (a_declarator c.args.grammar.now.depth c.args.home c.args.given.now c.loop-turn.known) (λ d. then (with_pure d.0) (λ m. pure (m, d.1)))) (λ d. pure (c.loop-turn.all ++ d.0 ∷ [], d.1)) past in
+    none-behind comma c.loop-turn.c (λ _. then (a_declarator c.args.grammar.now.depth c.args.home c.args.given.now c.loop-turn.known) (λ d. then (with_pure d.0) (λ m. pure (m, d.1)))) (λ d. pure (c.loop-turn.all ++ d.0 ∷ [], d.1)) past in
     subst (λ o. Gives o c.closed.result c.closed.new.known c.closed.new.c)
     (sym (closes turn (closed c.args.home) (c.len-turn-end.result - c.loop-turn._turn) (c.loop-turn.all, c.loop-turn.known) c.loop-turn.c
     (row (λ b us. taking (turn b us) us) (length c.args.c.now) (c.args.first, c.args.known.now) c.args.c.now) over c.loop-turn.invariant)) c.closed.ensures

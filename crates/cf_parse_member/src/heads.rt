@@ -5,7 +5,6 @@ ghost use Rattle.cf_parse_class.specs.Parts.{ReadsBases};
 ghost use Rattle.cf_parse_decl.specs.Reads.{Gives};
 ghost use Rattle.cf_parse_expr.specs.Reads.{Reads};
 ghost use Rattle.cf_parse_member.specs.Heads as spec;
-ghost use Rattle.cf_unit.specs.Members as rule;
 
 use crate::words::LEFT_BRACE;
 use cf_base::{Bytes, Items, Memory};
@@ -32,7 +31,7 @@ pub struct Head {
 
 /// The name without its place.
 fn name_of(alloc: Global, name: &Option<(u32, Bytes)>) -> Result<Option<Bytes>, Memory>
-    ensures { IfOk result (λ own. own ≡ rule.name_of name.now) }
+    ensures { IfOk result (λ own. own ≡ spec.name_of name.now) }
 {
     match name {
         Some((_, bytes)) => Ok(Some(Bytes::from_slice(alloc, bytes.as_slice())?)),
@@ -64,7 +63,7 @@ fn go_in(
     bases: &[u32],
     name: &Option<(u32, Bytes)>,
 ) -> Result<(), Memory>
-    ensures { OnOk result (known.new ≡ rule.in_class known.old known.old.names class bases.now name.now) }
+    ensures { OnOk result (known.new ≡ spec.inside_class known.old.bodies known.old.names class bases.now name.now) }
 {
     known.names.define(class, bases)?;
     known.names.open_class(class)?;
@@ -99,7 +98,7 @@ fn head_behind(
 
 /// A class up to its `{` (9, 10): its key, its name, which is entered before the bases are read, and its bases. Behind it the class's scope is open.
 #[tactic(auto, unfolding(crate::specs::Heads::head))]
-pub fn head(alloc: Global, known: &mut Known, c: &mut Cursor<'_>) -> Result<Head, Stop>
+pub fn class_head(alloc: Global, known: &mut Known, c: &mut Cursor<'_>) -> Result<Head, Stop>
     ensures { Gives (spec.head known.old.bodies known.old.names c.old) result known.new c.new }
 {
     let (at, key) = class_key(c)?;

@@ -1,7 +1,7 @@
 use Rattle.std.proofs.Common.{subst}
 use Rattle.cf_parse_decl.specs.Reads.{Gives}
 use Rattle.cf_parse_member.proofs.ClassesRead.{class-is}
-use Rattle.cf_parse_member.proofs.class.class.Goals as goal
+use Rattle.cf_parse_member.proofs.classes.class.Goals as goal
 
 pub returns : goal.returns
 returns g c =

@@ -8,7 +8,7 @@ ghost use Rattle.cf_unit.specs.Files.{inner, by_tree};
 ghost use Rattle.cf_unit.specs.Members as rule;
 ghost use Rattle.cf_unit.specs.Read.{reading};
 
-use crate::head::{Head, head};
+use crate::heads::{Head, class_head};
 use crate::list::members_by;
 use cf_base::{Boxed, Items, Memory};
 use cf_parse_decl::{Grammar, Known, Node, Wanted};
@@ -71,7 +71,7 @@ fn class_read<F: Fn(Global, usize, Wanted, &mut Known, &mut Cursor<'_>) -> Resul
 {
     let home = known.open_scopes();
     let own = replace(&mut known.own, None);
-    let found = head(grammar.alloc, known, c)?;
+    let found = class_head(grammar.alloc, known, c)?;
     let class = class_behind(grammar, home, found, known, c)?;
     known.own = own;
     Ok(class)
