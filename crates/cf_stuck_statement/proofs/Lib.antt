@@ -1,0 +1,5 @@
+pub mod Kept
+pub mod Past
+pub mod Quiet
+pub mod Stuck
+pub mod Turns
