@@ -201,11 +201,12 @@ length-nones : (n : ℕ) → (let xs : List (Option ℕ) = replicate n None in l
 length-nones zero = refl
 length-nones (suc n) = ap suc (length-nones n)
 
-pub entered-frame : (T : Tables) (f : RunFn) (args : List ℕ) (e : Entered) → e.name.now ≡ f.name → e.locals.items ≡ map Some args ++ replicate (length f.locals) None → e.scope.items ≡ []
+pub entered-frame : (T : Tables) (f : RunFn) (args : List ℕ) (e : Entered) → e.name.now ≡ f.name → e.locals.items ≡ map Some args ++ replicate (length f.locals) None → e.scope.items ≡ [] → e.temporaries.items ≡ []
     → length args ≡ length f.signature.params → frame_of e ≡ calls.frame_of f.name (local_count (function_of T f)) args None None e.depth
-entered-frame T f args e en el es ea =
+entered-frame T f args e en el es et ea =
     let mk : List ℕ → ℕ → (ℕ → Option ℕ) → List ℕ → Frame = λ n c l s. record { function = n; count = c; this = None; result = None; depth = e.depth; locals = l; scope = s; temporaries = [] } in
-    ap (λ (l : List (Option ℕ)). mk e.name.now (length l) (λ i. local_object (slice_get l i)) (reverse e.scope.items)) el
+    ap (λ (l : List ℕ). record (frame_of e) { temporaries = reverse l }) et
+    ∙ ap (λ (l : List (Option ℕ)). mk e.name.now (length l) (λ i. local_object (slice_get l i)) (reverse e.scope.items)) el
     ∙ ap (λ n. mk n (length (map Some args ++ replicate (length f.locals) None)) (λ i. local_object (slice_get (map Some args ++ replicate (length f.locals) None) i)) (reverse e.scope.items)) en
     ∙ ap (λ (s : List ℕ). mk f.name (length (map Some args ++ replicate (length f.locals) None)) (λ i. local_object (slice_get (map Some args ++ replicate (length f.locals) None) i)) (reverse s)) es
     ∙ ap (λ c. mk f.name c (λ i. local_object (slice_get (map Some args ++ replicate (length f.locals) None) i)) []) counts
@@ -217,11 +218,11 @@ entered-frame T f args e en el es ea =
         ∙ ap (λ n. length (parameters (signature_type T f.signature)) + n) (length-nones (length f.locals) ∙ sym (length-map (shape_type T) f.locals))
 
 pub enter-goes : (p : Program) (m : Machine) (f : Bor RunFn) (args : Vec ℕ Global) (e : Entered) (stack : Vec Mark Global) → (m.ticks ≡ 0 → ⊥) → (m.entered.depth ≡ 0 → ⊥)
-    → e.name.now ≡ f.now.name → e.locals.items ≡ map Some args.items ++ replicate (length f.now.locals) None → e.scope.items ≡ [] → length args.items ≡ length f.now.signature.params
+    → e.name.now ≡ f.now.name → e.locals.items ≡ map Some args.items ++ replicate (length f.now.locals) None → e.scope.items ≡ [] → e.temporaries.items ≡ [] → length args.items ≡ length f.now.signature.params
     → e.depth ≡ m.entered.depth - 1 → stack.items ≡ m.stack.items ++ mark.Back m.fuel f.now.signature.result m.entered ∷ []
     → GoesOn p (λ T o. from_value T p m (enter (again T p m.fuel) (function_of T f.now) args.items None None) o) (Some (Enter f.now.name))
     (record m { stack = stack; entered = e; ticks = m.ticks - 1; doing = doing.Body f args })
-enter-goes p m f args e stack ht hd en el es ea ed ei = record {
+enter-goes p m f args e stack ht hd en el es et ea ed ei = record {
   same = λ T o.
       let S = state_of T m.entered m.cells.items in
       let w : World = record (world_of m.ticks o) { ticks = m.ticks - 1 } in
@@ -231,7 +232,7 @@ enter-goes p m f args e stack ht hd en el es ea ed ei = record {
       (spends m.ticks (world_of m.ticks o) (λ w. deeper m.entered.depth w (λ depth. entering T p m.fuel f.now args.items S depth w)) ht
       ∙ deepens m.entered.depth w (λ depth. entering T p m.fuel f.now args.items S depth w) hd
       ∙ ap (λ depth. entering T p m.fuel f.now args.items S depth w) (sym ed)
-      ∙ ap (λ (fr : Frame). (R (with_frame fr S) ▷ (λ flow. changed (with_frame (frame_of m.entered)) >> returned (result (signature_type T f.now.signature)) flow))) (sym (entered-frame T f.now args.items e en el es ea))
+      ∙ ap (λ (fr : Frame). (R (with_frame fr S) ▷ (λ flow. changed (with_frame (frame_of m.entered)) >> returned (result (signature_type T f.now.signature)) flow))) (sym (entered-frame T f.now args.items e en el es et ea))
       ∙ ap (λ t. (R (state_of T e m.cells.items) ▷ (λ flow. changed (with_frame (frame_of m.entered)) >> returned t flow))) (signature-result T f.now.signature))
       ∙ sym (ap (λ (ms : List Mark). finish T p o (on_flow T p (reverse ms) (R (state_of T e m.cells.items)))) ei
       ∙ ap (λ (ms : List Mark). finish T p o (on_flow T p ms (R (state_of T e m.cells.items)))) (pushed m.stack.items (mark.Back m.fuel f.now.signature.result m.entered)));

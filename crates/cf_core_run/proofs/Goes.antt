@@ -12,6 +12,7 @@ use Rattle.cf_run_tree.specs.declared.program.Program.{Program}
 use Rattle.cf_run_tree.specs.Tree.{core_of}
 use Rattle.cf_core_store.specs.declared.store.Entered.{Entered}
 use Rattle.cf_core_run.specs.declared.mark.ValueMark.{ValueMark}
+use Rattle.cf_core_run.specs.declared.mark.ValueMark.TheVariants as vm
 use Rattle.cf_core_run.specs.declared.mark.TestMark.{TestMark}
 use Rattle.cf_core_run.specs.declared.mark.TestMark.TheVariants as test
 use Rattle.cf_core_run.specs.declared.mark.FlowMark.{FlowMark}
@@ -22,7 +23,7 @@ use Rattle.cf_core_run.specs.declared.mark.Doing.TheVariants as doing
 use Rattle.cf_core_run.specs.declared.state.Machine.{Machine}
 use Rattle.cf_core_store.specs.Store.{state_of, frame_of}
 use Rattle.cf_core_store.specs.Then.{◌▷◌}
-use Rattle.cf_core_run.specs.Going.{on_value, on_flow, finish, from_value, from_flow, world_of, Outside, GoesOn, OpensScope, valued, go_value, go_test, go_flow, go_scope, go_declared}
+use Rattle.cf_core_run.specs.Going.{on_value, on_flow, finish, from_value, from_flow, world_of, Outside, GoesOn, OpensScope, valued, go_value, go_test, go_flow, go_scope, go_declared, OpensWhole, full, closed}
 use Rattle.cf_core_run.proofs.Laws.{pushed}
 
 -- a part is evaluated first
@@ -39,30 +40,23 @@ down-goes p old stack m n e items is = record {
       ∙ ap (λ (n : Node). finish T p o (on_value T p (reverse old.stack.items) (valued T p old.fuel (core_of T n) None S w ▷ go_value T p old.fuel m))) is);
 }
 
-pub test-goes : (p : Program) (old : Machine) (stack : Vec Mark Global) (m : TestMark) (n : Node) (e : Bor Node)
-    → stack.items ≡ old.stack.items ++ mark.Test old.fuel m ∷ [] → e.now ≡ n
-    → GoesOn p (λ T o. from_flow T p old (λ s w. valued T p old.fuel (core_of T n) None s w ▷ go_test T p old.fuel m) o) None
-    (record old { stack = stack; doing = doing.Evaluate e None })
-test-goes p old stack m n e items is = record {
-  same = λ T o.
-      let S = state_of T old.entered old.cells.items in
-      let w = world_of old.ticks o in
-      sym (ap (λ (ms : List Mark). finish T p o (on_value T p (reverse ms) (valued T p old.fuel (core_of T e.now) None S w))) items
-      ∙ ap (λ (ms : List Mark). finish T p o (on_value T p ms (valued T p old.fuel (core_of T e.now) None S w))) (pushed old.stack.items (mark.Test old.fuel m))
-      ∙ ap (λ (n : Node). finish T p o (on_flow T p (reverse old.stack.items) (valued T p old.fuel (core_of T n) None S w ▷ go_test T p old.fuel m))) is);
+-- a full expression is evaluated first, or an initialiser of an object
+pub test-goes : (p : Program) (old opened : Machine) (m : TestMark) (n : Node) (e : Bor Node) → OpensWhole old opened m → e.now ≡ n
+    → GoesOn p (λ T o. from_flow T p old (λ s w. full T p old.fuel (valued T p old.fuel (core_of T n) None) s w ▷ go_test T p old.fuel m) o) None
+    (record opened { doing = doing.Evaluate e None })
+test-goes p old opened m n e opens is = record {
+  same = λ T o. opens.same T p (valued T p old.fuel (core_of T n) None) o
+      ∙ ap (λ k. from_value T p opened (valued T p k (core_of T n) None) o) (sym opens.fuel)
+      ∙ ap (λ (n : Node). from_value T p opened (valued T p opened.fuel (core_of T n) None) o) (sym is);
 }
 
-pub initialise-goes : (p : Program) (old : Machine) (stack : Vec Mark Global) (object : ℕ) (n : Node) (e : Bor Node)
-    → stack.items ≡ old.stack.items ++ mark.Test old.fuel (test.Declared object) ∷ [] → e.now ≡ n
-    → GoesOn p (λ T o. from_flow T p old (λ s w. valued T p old.fuel (core_of T n) (Some (root object)) s w ▷ go_declared T p old.fuel object) o) None
-    (record old { stack = stack; doing = doing.Evaluate e (Some object) })
-initialise-goes p old stack object n e items is = record {
-  same = λ T o.
-      let S = state_of T old.entered old.cells.items in
-      let w = world_of old.ticks o in
-      sym (ap (λ (ms : List Mark). finish T p o (on_value T p (reverse ms) (valued T p old.fuel (core_of T e.now) (Some (root object)) S w))) items
-      ∙ ap (λ (ms : List Mark). finish T p o (on_value T p ms (valued T p old.fuel (core_of T e.now) (Some (root object)) S w))) (pushed old.stack.items (mark.Test old.fuel (test.Declared object)))
-      ∙ ap (λ (n : Node). finish T p o (on_flow T p (reverse old.stack.items) (valued T p old.fuel (core_of T n) (Some (root object)) S w ▷ go_declared T p old.fuel object))) is);
+pub initialise-goes : (p : Program) (old opened : Machine) (object : ℕ) (n : Node) (e : Bor Node) → OpensWhole old opened (test.Declared object) → e.now ≡ n
+    → GoesOn p (λ T o. from_flow T p old (λ s w. full T p old.fuel (valued T p old.fuel (core_of T n) (Some (root object))) s w ▷ go_declared T p old.fuel object) o) None
+    (record opened { doing = doing.Evaluate e (Some object) })
+initialise-goes p old opened object n e opens is = record {
+  same = λ T o. opens.same T p (valued T p old.fuel (core_of T n) (Some (root object))) o
+      ∙ ap (λ k. from_value T p opened (valued T p k (core_of T n) (Some (root object))) o) (sym opens.fuel)
+      ∙ ap (λ (n : Node). from_value T p opened (valued T p opened.fuel (core_of T n) (Some (root object))) o) (sym is);
 }
 
 -- the newest mark gets a value, or the way in which a statement ended
@@ -97,5 +91,23 @@ scope-opens old stack scope items is = record {
       sym (flow-pushed T p (record old { entered = x }) stack old.fuel (part.Scope old.entered.scope) act o items
       ∙ ap (λ (l : List ℕ). finish T p o (on_flow T p (reverse old.stack.items)
       (act (record (state_of T old.entered old.cells.items) { frame = record (frame_of old.entered) { scope = reverse l } }) w ▷ go_scope T p old.fuel old.entered.scope.items))) is);
+  fuel = refl;
+}
+
+pub whole-opens : (old : Machine) (first stack : Vec Mark Global) (m : TestMark) (temporaries : Vec ℕ Global) → first.items ≡ old.stack.items ++ mark.Test old.fuel m ∷ []
+    → stack.items ≡ first.items ++ mark.Value old.fuel (vm.Whole old.entered.temporaries) ∷ [] → temporaries.items ≡ []
+    → OpensWhole old (record old { stack = stack; entered = record old.entered { temporaries = temporaries } }) m
+whole-opens old first stack m temporaries one two is = record {
+  same = λ T p act o.
+      let k = old.fuel in
+      let S = state_of T old.entered old.cells.items in
+      let w = world_of old.ticks o in
+      let R = act (state_of T (record old.entered { temporaries = temporaries }) old.cells.items) w in
+      let ends : Act Value = λ s w. act s w ▷ closed T p k (reverse old.entered.temporaries.items) in
+      sym (ap (λ (ms : List Mark). finish T p o (on_value T p (reverse ms) R)) two
+      ∙ ap (λ (ms : List Mark). finish T p o (on_value T p ms R)) (pushed first.items (mark.Value k (vm.Whole old.entered.temporaries)))
+      ∙ ap (λ (ms : List Mark). finish T p o (on_value T p (reverse ms) (ends (state_of T (record old.entered { temporaries = temporaries }) old.cells.items) w))) one
+      ∙ ap (λ (ms : List Mark). finish T p o (on_value T p ms (ends (state_of T (record old.entered { temporaries = temporaries }) old.cells.items) w))) (pushed old.stack.items (mark.Test k m))
+      ∙ ap (λ (l : List ℕ). finish T p o (on_flow T p (reverse old.stack.items) (ends (record S { frame = record (frame_of old.entered) { temporaries = reverse l } }) w ▷ go_test T p k m))) is);
   fuel = refl;
 }

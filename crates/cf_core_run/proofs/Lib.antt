@@ -1,7 +1,9 @@
 mod CallLaws
 mod Goes
+mod LabelLaws
 mod Laws
 mod Nodes
 mod ShapeLaws
 mod StatementLaws
+mod TemporaryLaws
 mod WholeLaws

@@ -1,5 +1,5 @@
 -- What each statement does first, and what is left of it then.
-use Rattle.std.proofs.Common.{◌≡◌, ◌∙◌, ℕ, zero, suc, ◌-◌, false, List, [], ◌∷◌, ◌++◌, Option, Some, None, Result, Ok, Err, Bor, refl, ap, sym, reverse, arith}
+use Rattle.std.proofs.Common.{◌≡◌, ◌∙◌, ℕ, zero, suc, ◌-◌, Bool, true, false, List, [], ◌∷◌, ◌++◌, Option, Some, None, Result, Ok, Err, Bor, refl, ap, sym, reverse, arith}
 use Rattle.std.specs.Global.{Global}
 use Rattle.std.specs.Prelude.{Vec}
 use Rattle.cf_base.specs.Event.{Ticks}
@@ -13,6 +13,12 @@ use Rattle.cf_core.specs.Places.{Place, inner}
 use Rattle.cf_core.specs.Run.{State, Did, Gives, Act, ◌>>=◌, ◌>>◌, gives, done, tick, for_all, for_each_back, frame_changed, object_changed, gone, lists_in_scope, when}
 use Rattle.cf_core.specs.Access.{used, number_of}
 use Rattle.cf_core.specs.Scalars.{truth_of}
+use Rattle.cf_core.specs.Pointers.{truth_value}
+use Rattle.cf_core.specs.Store.{Value}
+use Rattle.cf_core.specs.Run.{Exits, Malformed}
+use Rattle.cf_base.specs.World.{Stops}
+use Rattle.cf_core_store.specs.declared.results.Applied.TheVariants as applied
+use Rattle.cf_core_store.specs.Values.{of_value}
 use Rattle.cf_core.specs.Objects.{settle, settled, new_local}
 use Rattle.cf_core.specs.Calls.{Flow, Falls, Returns, Again, turn, root, end_object, destroy, has_destructor, full_expression}
 use Rattle.cf_core.specs.Calls as calls
@@ -35,51 +41,65 @@ use Rattle.cf_core_run.specs.declared.state.Machine.{Machine}
 use Rattle.cf_core_store.specs.Answer.{Told}
 use Rattle.cf_core_store.specs.Store.{state_of}
 use Rattle.cf_core_store.specs.Then.{◌▷◌}
-use Rattle.cf_core_run.specs.Going.{on_flow, finish, from_flow, world_of, Outside, GoesOn, EndsAs, OpensScope, valued, performed, performed_all, cores, maybe_core, scoped, ended, again, loop_of, first_turn, body_turn, go_test, go_if, go_declared, selected}
+use Rattle.cf_core_run.specs.Going.{on_flow, finish, from_flow, world_of, Outside, GoesOn, EndsAs, OpensScope, valued, performed, performed_all, cores, maybe_core, scoped, again, loop_of, first_turn, body_turn, go_test, go_if, go_declared, selected, full, closed}
 use Rattle.cf_core_store.proofs.ThenLaws.{then-assoc, then-same, stops-on}
 use Rattle.cf_core_run.proofs.Laws.{flow-stops}
 use Rattle.cf_core_run.proofs.Goes.{flow-pushed}
-
-pub assoc-three : {A B C D : Type 0} (r : Ran (Did A)) (f : A → Act B) (g : B → Act C) (h : C → Act D)
-    → (((r ▷ f) ▷ g) ▷ h) ≡ (r ▷ (λ a. (f a >>= g) >>= h))
-assoc-three r f g h =
-    then-assoc (r ▷ f) g h ∙ then-assoc r f (λ b. g b >>= h)
-    ∙ then-same r (λ a. f a >>= (λ b. g b >>= h)) (λ a. (f a >>= g) >>= h) (λ a s w. sym (then-assoc (f a s w) g h))
 
 -- what is left of a declaration once the local is there
 abbrev pub declare_rest : Tables → Program → ℕ → Core → ℕ → Act Flow
 declare_rest T p k c o =
     (settled [] (root o) (full_expression (again T p k) (program_of T p) (valued T p k c (Some (root o)))) >> frame_changed (lists_in_scope o)) >> gives Falls
 
--- an answer on a part of a full expression is one on the whole
-pub ended-told : {A B : Type 0} (T : Tables) (p : Program) (k : ℕ) (e : Entered) (cells : List Cell) (view : A → B) (r : Result A Stop) (w : World) (x : Ran (Did B))
-    → Told view r (state_of T e cells) w x → Told view r (state_of T e cells) w (x ▷ ended T p k)
-ended-told {A} {B} T p k e cells view (Ok a) w x h = ap (λ (x : Ran (Did B)). x ▷ ended T p k) h
-ended-told T p k e cells view (Err stop) w x h = stops-on stop x (ended T p k) w h
+-- A full expression ends with a truth value, or with 1 or 0 for it.
+module _ (T : Tables) (p : Program) (k : ℕ) (around : List ℕ) (K : Bool → Act Flow) where
+  abbrev after_truth : Value → Act Flow
+  after_truth v = truth_of v >>= K
+
+  restored : (b : Bool) (r : Ran (Did (Unit {0})))
+      → ((r ▷ (λ u. frame_changed (λ f. record f { temporaries = around }) >> gives b)) ▷ K)
+      ≡ ((r ▷ (λ u. frame_changed (λ f. record f { temporaries = around }) >> gives (truth_value b))) ▷ after_truth)
+  restored true (Went (Gives u s) w) = refl
+  restored false (Went (Gives u s) w) = refl
+  restored b (Went (Exits z s) w) = refl
+  restored b (Went Malformed w) = refl
+  restored b (Stops e t) = refl
+
+  counted-closed : (r : Ran (Did Bool)) → ((r ▷ closed T p k around) ▷ K) ≡ (((r ▷ (λ b. gives (truth_value b))) ▷ closed T p k around) ▷ after_truth)
+  counted-closed (Went (Gives b s) w) = restored b (for_all s.frame.temporaries (end_object (again T p k) (program_of T p)) s w)
+  counted-closed (Went (Exits z s) w) = refl
+  counted-closed (Went Malformed w) = refl
+  counted-closed (Stops e t) = refl
+
+pub truth-whole : (T : Tables) (p : Program) (k : ℕ) (V : Act Value) (K : Bool → Act Flow) (s : State) (w : World)
+    → (full T p k (V >>= truth_of) s w ▷ K) ≡ (full T p k (V >>= of_value T applied.Truth) s w ▷ (λ v. truth_of v >>= K))
+truth-whole T p k V K s w =
+    let S : State = record s { frame = record s.frame { temporaries = [] } } in
+    let around = s.frame.temporaries in
+    counted-closed T p k around K (V S w ▷ truth_of)
+    ∙ ap (λ (r : Ran (Did Value)). (r ▷ closed T p k around) ▷ (λ v. truth_of v >>= K)) (then-assoc (V S w) truth_of (λ b. gives (truth_value b)))
 
 pub full-goes : (T : Tables) (p : Program) (k : ℕ) (e : Entered) (cells : List Cell) (n : Node) (x : Node) (w : World) → n ≡ node.Full x
-    → performed T p k (core_of T n) (state_of T e cells) w ≡ (valued T p k (core_of T x) None (state_of T e cells) w ▷ go_test T p k test.Statement)
-full-goes T p k e cells n x w is =
-    ap (λ c. performed T p k c (state_of T e cells) w) (ap (core_of T) is ∙ core-Full T x)
-    ∙ then-assoc (valued T p k (core_of T x) None (state_of T e cells) w) (ended T p k) (λ v. gives Falls)
+    → performed T p k (core_of T n) (state_of T e cells) w ≡ (full T p k (valued T p k (core_of T x) None) (state_of T e cells) w ▷ go_test T p k test.Statement)
+full-goes T p k e cells n x w is = ap (λ c. performed T p k c (state_of T e cells) w) (ap (core_of T) is ∙ core-Full T x)
 
 pub if-goes : (T : Tables) (p : Program) (k : ℕ) (e : Entered) (cells : List Cell) (n c a : Node) (b : Option Node) (w : World) → n ≡ node.If c a b
-    → performed T p k (core_of T n) (state_of T e cells) w ≡ (valued T p k (core_of T c) None (state_of T e cells) w ▷ go_if T p k a b)
+    → performed T p k (core_of T n) (state_of T e cells) w ≡ (full T p k (valued T p k (core_of T c) None >>= of_value T applied.Truth) (state_of T e cells) w ▷ go_if T p k a b)
 if-goes T p k e cells n c a b w is =
     ap (λ c. performed T p k c (state_of T e cells) w) (ap (core_of T) is ∙ core-If T c a b)
-    ∙ assoc-three (valued T p k (core_of T c) None (state_of T e cells) w) truth_of (ended T p k) _
+    ∙ truth-whole T p k (valued T p k (core_of T c) None) _ (state_of T e cells) w
 
 pub return-goes : (T : Tables) (p : Program) (k : ℕ) (e : Entered) (cells : List Cell) (n : Option Node) (x : Node) (w : World) → n ≡ Some x
-    → performed T p k (give (maybe_core T p n)) (state_of T e cells) w ≡ (valued T p k (core_of T x) None (state_of T e cells) w ▷ go_test T p k test.Result)
-return-goes T p k e cells n x w is =
-    ap (λ (n : Option Node). performed T p k (give (maybe_core T p n)) (state_of T e cells) w) is
-    ∙ assoc-three (valued T p k (core_of T x) None (state_of T e cells) w) used (ended T p k) _
+    → performed T p k (give (maybe_core T p n)) (state_of T e cells) w
+    ≡ (full T p k (valued T p k (core_of T x) None >>= of_value T applied.Used) (state_of T e cells) w ▷ go_test T p k test.Result)
+return-goes T p k e cells n x w is = ap (λ (n : Option Node). performed T p k (give (maybe_core T p n)) (state_of T e cells) w) is
 
 pub declare-goes : (T : Tables) (p : Program) (k : ℕ) (e : Entered) (cells : List Cell) (c : Core) (o : ℕ) (w : World)
-    → declare_rest T p k c o (state_of T e cells) w ≡ (valued T p k c (Some (root o)) (state_of T e cells) w ▷ go_declared T p k o)
+    → declare_rest T p k c o (state_of T e cells) w ≡ (full T p k (valued T p k c (Some (root o))) (state_of T e cells) w ▷ go_declared T p k o)
 declare-goes T p k e cells c o w =
-    then-assoc ((valued T p k c (Some (root o)) (state_of T e cells) w ▷ ended T p k) ▷ settle [] (root o)) (λ u. frame_changed (lists_in_scope o)) (λ u. gives Falls)
-    ∙ assoc-three (valued T p k c (Some (root o)) (state_of T e cells) w) (ended T p k) (settle [] (root o)) (λ u. frame_changed (lists_in_scope o) >> gives Falls)
+    let F = full T p k (valued T p k c (Some (root o))) (state_of T e cells) w in
+    then-assoc (F ▷ settle [] (root o)) (λ u. frame_changed (lists_in_scope o)) (λ u. gives Falls)
+    ∙ then-assoc F (settle [] (root o)) (λ u. frame_changed (lists_in_scope o) >> gives Falls)
 
 pub declare-first : (T : Tables) (p : Program) (k : ℕ) (i : ℕ) (t : SourceType) (c : Core) (s : State) (w : World)
     → performed T p k (declare i t c) s w ≡ (new_local i t s w ▷ (λ o. declare_rest T p k c o))
@@ -199,13 +219,11 @@ end-all T p k (o ∷ os) s w =
     ∙ end-all T p k os _ w
 
 pub switch-goes : (T : Tables) (p : Program) (k : ℕ) (e : Entered) (cells : List Cell) (n x : Node) (all : List Node) (es : Bor (List Node)) (w : World) → n ≡ node.Switch x all → es.now ≡ all
-    → performed T p k (core_of T n) (state_of T e cells) w ≡ (valued T p k (core_of T x) None (state_of T e cells) w ▷ go_test T p k (test.Switch es))
+    → performed T p k (core_of T n) (state_of T e cells) w
+    ≡ (full T p k (valued T p k (core_of T x) None >>= of_value T applied.Used) (state_of T e cells) w ▷ go_test T p k (test.Switch es))
 switch-goes T p k e cells n x all es w is same =
-    let V = valued T p k (core_of T x) None (state_of T e cells) w in
+    let F = full T p k (valued T p k (core_of T x) None >>= of_value T applied.Used) (state_of T e cells) w in
     let go = selected T p k (cores T p es.now) in
     ap (λ c. performed T p k c (state_of T e cells) w) (ap (core_of T) is ∙ core-Switch T x all)
     ∙ ap (λ (l : List Node). performed T p k (switch (core_of T x) (cores T p l)) (state_of T e cells) w) (sym same)
-    ∙ then-assoc ((V ▷ used) ▷ ended T p k) number_of go
-    ∙ assoc-three V used (ended T p k) (λ v. number_of v >>= go)
-    ∙ then-same V (λ v. (used v >>= ended T p k) >>= (λ v. number_of v >>= go)) (λ v. ((used v >>= ended T p k) >>= number_of) >>= go)
-    (λ v s w. sym (then-assoc ((used v >>= ended T p k) s w) number_of go))
+    ∙ then-assoc F number_of go

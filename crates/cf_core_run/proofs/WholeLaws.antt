@@ -90,16 +90,16 @@ module _ (p : Program) (limits : Limits) (input : List ℕ) (first : Machine) (b
       ∙ ap (λ l. Some (record { end = end_of ran.end; trace = map event_of l })) (sym et)
 
 -- The first state: `main` is called.
-first-frame : (e : Entered) (depth : ℕ) → e.name.now ≡ [] → e.locals.items ≡ [] → e.scope.items ≡ [] → e.depth ≡ depth → frame_of e ≡ no_frame depth
-first-frame e depth en el es ed =
+first-frame : (e : Entered) (depth : ℕ) → e.name.now ≡ [] → e.locals.items ≡ [] → e.scope.items ≡ [] → e.temporaries.items ≡ [] → e.depth ≡ depth → frame_of e ≡ no_frame depth
+first-frame e depth en el es et ed =
     let mk : List ℕ → List (Option ℕ) → List ℕ → ℕ → Frame = λ n l s d. record { function = n; count = length l; this = None; result = None; depth = d; locals = λ i. local_object (slice_get l i); scope = reverse s; temporaries = [] } in
-    ap (λ n. mk n e.locals.items e.scope.items e.depth) en ∙ ap (λ l. mk [] l e.scope.items e.depth) el ∙ ap (λ s. mk [] [] s e.depth) es ∙ ap (mk [] [] []) ed
+    ap (λ (l : List ℕ). record (frame_of e) { temporaries = reverse l }) et ∙ ap (λ n. mk n e.locals.items e.scope.items e.depth) en ∙ ap (λ l. mk [] l e.scope.items e.depth) el ∙ ap (λ s. mk [] [] s e.depth) es ∙ ap (mk [] [] []) ed
 
 pub first-goes : (p : Program) (limits : Limits) (alloc : Global) (stack : Vec Mark Global) (c : Calling) (e : Entered) (cells : Vec Cell Global)
     → stack.items ≡ [] → c.name.now ≡ codes "__main" → c.params.now ≡ [] → c.rest.now ≡ [] → c.made.items ≡ []
-    → e.name.now ≡ [] → e.locals.items ≡ [] → e.scope.items ≡ [] → e.depth ≡ limits.depth → cells.items ≡ []
+    → e.name.now ≡ [] → e.locals.items ≡ [] → e.scope.items ≡ [] → e.temporaries.items ≡ [] → e.depth ≡ limits.depth → cells.items ≡ []
     → Starts p limits (record { alloc = alloc; stack = stack; doing = doing.Passes c; entered = e; cells = cells; fuel = limits.ticks; ticks = limits.ticks })
-first-goes p limits alloc stack c e cells hs hn hp hr hm en el es ed hc = record {
+first-goes p limits alloc stack c e cells hs hn hp hr hm en el es et ed hc = record {
   same = λ T input heap.
       let o : Outside = record { input = input; heap = heap; trace = []; bound = limits.ticks; depth = limits.depth } in
       let w = world_of limits.ticks o in
@@ -109,5 +109,5 @@ first-goes p limits alloc stack c e cells hs hn hp hr hm en el es ed hc = record
       ∙ ap (λ (x : List ℕ). finish T p o (on_value T p [] (called T p n x c.made.items (state_of T e cells.items) w))) hn
       ∙ ap (λ (x : List ℕ). finish T p o (on_value T p [] (called T p n (codes "__main") x (state_of T e cells.items) w))) hm
       ∙ ap (λ (l : List Cell). finish T p o (on_value T p [] (called T p n (codes "__main") [] (state_of T e l) w))) hc
-      ∙ ap (λ (f : Frame). finish T p o (on_value T p [] (called T p n (codes "__main") [] (record (state_of T e []) { frame = f }) w))) (first-frame e limits.depth en el es ed));
+      ∙ ap (λ (f : Frame). finish T p o (on_value T p [] (called T p n (codes "__main") [] (record (state_of T e []) { frame = f }) w))) (first-frame e limits.depth en el es et ed));
 }

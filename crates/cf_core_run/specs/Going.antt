@@ -6,14 +6,14 @@ use Rattle.cf_core.specs.FromTypes.{Tables}
 use Rattle.cf_core.specs.Core.{Core, Cores, MaybeCore, loop}
 use Rattle.cf_core.specs.View.{listed, maybe}
 use Rattle.cf_core.specs.Places.{Place}
-use Rattle.cf_core.specs.Store.{Value}
+use Rattle.cf_core.specs.Store.{Value, At}
 use Rattle.cf_core.specs.Pointers.{truth_value}
-use Rattle.cf_core.specs.Run.{Did, Act, ◌>>=◌, ◌>>◌, gives, malformed, state, changed, when, for_all, with_frame, frame_changed, lists_in_scope, declared_object, some_or}
+use Rattle.cf_core.specs.Run.{Did, Act, ◌>>=◌, ◌>>◌, gives, malformed, state, changed, when, for_all, with_frame, frame_changed, lists_in_scope, lists_temporary, declared_object, some_or}
 use Rattle.cf_core.specs.Access.{used, number_of}
 use Rattle.cf_core.specs.Scalars.{truth_of}
 use Rattle.cf_core.specs.Objects.{settle, settled, result_place}
 use Rattle.cf_core.specs.Types.{SourceType, parameters}
-use Rattle.cf_core.specs.Calls.{Flow, Falls, Breaks, Continues, Returns, body, turn, Again, root, get, run_named, enter, end_object, returned, in_scope}
+use Rattle.cf_core.specs.Calls.{Flow, Falls, Breaks, Continues, Returns, body, turn, Again, root, get, run_named, enter, end_object, full_expression, returned, in_scope}
 use Rattle.cf_core.specs.Expressions.{value, last_value, arguments}
 use Rattle.cf_core.specs.Statements.{does, does_maybe, does_all, falling, turning, tests_first, leaving, holds, step_and, has_case, has_default, from_case, from_default}
 use Rattle.cf_core.specs.Program.{runs, status_of, ended_run, run_outcome}
@@ -26,6 +26,7 @@ use Rattle.cf_run_tree.specs.Tree.{core_of, shape_type, function_of, program_of}
 use Rattle.cf_core_store.specs.declared.answer.Stop.{Stop}
 use Rattle.cf_core_store.specs.declared.answer.Stop.TheVariants as stop
 use Rattle.cf_core_store.specs.declared.store.Entered.{Entered}
+use Rattle.cf_core_store.specs.declared.results.Applied.{Applied}
 use Rattle.cf_core_store.specs.Then.{◌▷◌}
 use Rattle.cf_core_run.specs.declared.mark.Flow.{Flow as Way}
 use Rattle.cf_core_run.specs.declared.mark.Flow.TheVariants as way
@@ -130,16 +131,28 @@ module _ (T : Tables) (p : Program) where
     os ← arguments (again k) (program_of T p) (map (shape_type T) c.params.now) (cores c.rest.now)
     called k c.name.now (c.made.items ++ o ∷ os)
 
-  -- a full expression has ended with this
-  abbrev pub ended : {A : Type 0} → ℕ → A → Act A
-  ended k v = do
+  -- a full expression
+  abbrev pub full : {A : Type 0} → ℕ → Act A → Act A
+  full k act = full_expression (again k) (program_of T p) act
+
+  -- one in which something is made of a value
+  abbrev pub full_by : ℕ → Core → Applied → Act Value
+  full_by k c a = full k (valued k c None >>= of_value T a)
+
+  -- a full expression has ended with this: its temporaries end, and those of the one around it stand again
+  abbrev pub closed : {A : Type 0} → ℕ → List ℕ → A → Act A
+  closed k around v = do
     t ← state
     for_all t.frame.temporaries (end_object (again k) (program_of T p))
-    frame_changed (λ f. record f { temporaries = [] })
+    frame_changed (λ f. record f { temporaries = around })
     gives v
 
-  abbrev pub condition : ℕ → Value → Act Bool
-  condition k v = truth_of v >>= ended k
+  -- a temporary of the full expression has its value, or one that lives as long as a local
+  abbrev pub go_temporary : ℕ → ℕ → Value → Act Value
+  go_temporary k o v = settle [] (root o) v >>= (λ u. frame_changed (lists_temporary o) >> gives (At (root o)))
+
+  abbrev pub go_held : ℕ → ℕ → Value → Act Value
+  go_held k o v = settle [] (root o) v >>= (λ u. frame_changed (lists_in_scope o) >> gives (At (root o)))
 
   abbrev pub scoped : ℕ → Act Flow → Act Flow
   scoped k act = in_scope (again k) (program_of T p) act
@@ -188,6 +201,9 @@ module _ (T : Tables) (p : Program) where
   go_value k (on_value_mark.Choice a b) v = go_choice k a.now b.now v
   go_value k (on_value_mark.Comma es) v = last_of k es.now
   go_value k (on_value_mark.Argument c o) v = go_argument k c o v
+  go_value k (on_value_mark.Temporary o) v = go_temporary k o v
+  go_value k (on_value_mark.Held o) v = go_held k o v
+  go_value k (on_value_mark.Whole around) v = closed k (reverse around.items) v
 
   -- the statements behind the label of a switch for this number
   abbrev pub labelled : ℕ → ℤ → Cores → Act Flow
@@ -198,11 +214,14 @@ module _ (T : Tables) (p : Program) where
   abbrev pub selected : ℕ → Cores → ℤ → Act Flow
   selected k es z = scoped k (labelled k z es) >>= leaving
 
+  abbrev pub go_switch : ℕ → Cores → Value → Act Flow
+  go_switch k es v = number_of v >>= selected k es
+
   abbrev pub first_turn : ℕ → Repeated → Act Flow
   first_turn k r = holds (again k) (program_of T p) (maybe_core r.condition.now) >>= (λ t. when t (body_turn k r) (gives Falls))
 
   abbrev pub go_declared : ℕ → ℕ → Value → Act Flow
-  go_declared k o v = ended k v >>= settle [] (root o) >>= (λ u. frame_changed (lists_in_scope o) >> gives Falls)
+  go_declared k o v = settle [] (root o) v >>= (λ u. frame_changed (lists_in_scope o) >> gives Falls)
 
   abbrev pub go_scope : ℕ → List ℕ → Flow → Act Flow
   go_scope k saved flow = do
@@ -219,26 +238,23 @@ module _ (T : Tables) (p : Program) where
   performed_other k b = does_maybe (again k) (program_of T p) (maybe_core b)
 
   abbrev pub go_if : ℕ → Node → Option Node → Value → Act Flow
-  go_if k a b v = condition k v >>= (λ t. when t (performed k (core_of T a)) (performed_other k b))
+  go_if k a b v = truth_of v >>= (λ t. when t (performed k (core_of T a)) (performed_other k b))
 
   abbrev pub go_first : ℕ → Repeated → Value → Act Flow
-  go_first k r v = condition k v >>= (λ t. when t (body_turn k r) (gives Falls))
+  go_first k r v = truth_of v >>= (λ t. when t (body_turn k r) (gives Falls))
 
   abbrev pub go_last : ℕ → Repeated → Value → Act Flow
-  go_last k r v = condition k v >>= (λ t. when t (again k (turn (loop_of r))) (gives Falls))
-
-  abbrev pub go_result : ℕ → Value → Act Flow
-  go_result k v = used v >>= ended k >>= (λ v. gives (Returns v))
+  go_last k r v = truth_of v >>= (λ t. when t (again k (turn (loop_of r))) (gives Falls))
 
   abbrev pub go_test : ℕ → TestMark → Value → Act Flow
-  go_test k test.Statement v = ended k v >> gives Falls
+  go_test k test.Statement v = gives Falls
   go_test k (test.If a b) v = go_if k a.now b.now v
   go_test k (test.First r) v = go_first k r v
   go_test k (test.Last r) v = go_last k r v
-  go_test k (test.Stepped r) v = ended k v >> again k (turn (loop_of r))
+  go_test k (test.Stepped r) v = again k (turn (loop_of r))
   go_test k (test.Declared o) v = go_declared k o v
-  go_test k test.Result v = go_result k v
-  go_test k (test.Switch es) v = used v >>= ended k >>= number_of >>= selected k (cores es.now)
+  go_test k test.Result v = gives (Returns v)
+  go_test k (test.Switch es) v = go_switch k (cores es.now) v
 
   abbrev pub go_flow : ℕ → FlowMark → Flow → Act Flow
   go_flow k (part.Rest es) flow = falling (performed_all k (cores es.now)) flow
@@ -284,6 +300,8 @@ module _ (T : Tables) (p : Program) where
   from_doing (doing.Body f args) m o = from_flow m (again m.fuel (body (function_of T f.now) args.items)) o
   from_doing (doing.Perform s) m o = from_flow m (performed m.fuel (core s.now)) o
   from_doing (doing.Follow es) m o = from_flow m (performed_all m.fuel (cores es.now)) o
+  from_doing (doing.Case z es) m o = from_flow m (from_case (again m.fuel) (program_of T p) z (cores es.now)) o
+  from_doing (doing.Default es) m o = from_flow m (from_default (again m.fuel) (program_of T p) (cores es.now)) o
   from_doing (doing.Repeat r) m o = from_flow m (again m.fuel (turn (loop_of r))) o
   from_doing (doing.Ends flow) m o = from_flow m (gives (flow_of flow)) o
   from_doing doing.Asks m o = from_value m get o
@@ -333,4 +351,9 @@ Comes p ahead (Err stop) new = StopsAt ahead stop
 -- a scope was opened: what runs in it comes next
 pub record OpensScope (old new : Machine) : Type 0 where
   pub same : (T : Tables) (p : Program) (act : Act Flow) (o : Outside) → from_flow T p old (scoped T p old.fuel act) o ≡ from_flow T p new act o
+  pub fuel : new.fuel ≡ old.fuel
+
+-- a full expression was begun: what runs in it comes next, and the mark says what its value leads to
+pub record OpensWhole (old new : Machine) (m : TestMark) : Type 0 where
+  pub same : (T : Tables) (p : Program) (act : Act Value) (o : Outside) → from_flow T p old (λ s w. full T p old.fuel act s w ▷ go_test T p old.fuel m) o ≡ from_value T p new act o
   pub fuel : new.fuel ≡ old.fuel

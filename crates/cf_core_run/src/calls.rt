@@ -361,6 +361,7 @@ impl<'a> Machine<'a> {
             depth: self.entered.depth - 1,
             locals,
             scope: Vec::new(self.alloc),
+            temporaries: Vec::new(self.alloc),
         };
         let caller = replace(&mut self.entered, entered);
         self.ticks -= 1;

@@ -48,6 +48,8 @@ impl<'a> Machine<'a> {
                 self.doing = Doing::Evaluate(a.get(), None);
                 Ok(Step::On)
             }
+            Node::Temporary(shape, start) => self.temporary(*shape, start),
+            Node::Hold(number, shape, start) => self.hold(*number, *shape, start),
             Node::Blank => {
                 self.doing = Doing::Gives(Value::Built);
                 Ok(Step::On)
@@ -57,7 +59,7 @@ impl<'a> Machine<'a> {
     }
 
     /// A part is evaluated first, and the mark says what follows.
-    fn down(&mut self, mark: ValueMark<'a>, a: &'a Boxed<Node>) -> Result<Step<'a>, Stop>
+    pub fn down(&mut self, mark: ValueMark<'a>, a: &'a Boxed<Node>) -> Result<Step<'a>, Stop>
         ensures { (p : Program) → Comes p (λ T o. from_value T p self.old (λ s w. valued T p self.old.fuel (core_of T a.now) None s w ▷ go_value T p self.old.fuel mark.entry) o) result self.new }
     {
         self.stack.push(Mark::Value(self.fuel, mark))?;
@@ -129,6 +131,9 @@ impl<'a> Machine<'a> {
             ValueMark::Choice(a, b) => self.choice(a, b, v),
             ValueMark::Comma(rest) => self.comma(rest),
             ValueMark::Argument(calling, object) => self.argument(calling, object, v),
+            ValueMark::Temporary(object) => self.made(object, v),
+            ValueMark::Held(object) => self.held(object, v),
+            ValueMark::Whole(around) => self.close_whole(around, v),
         }
     }
 

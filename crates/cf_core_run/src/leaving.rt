@@ -8,13 +8,13 @@ ghost use Rattle.cf_core.specs.Statements.{falling, turning, leaving, tests_firs
 ghost use Rattle.cf_run_tree.specs.Tree.{core_of, shape_type};
 ghost use Rattle.cf_core_store.specs.Answer.{Told};
 ghost use Rattle.cf_run_tree.specs.declared.program.Program.{Program};
-ghost use Rattle.cf_core_run.specs.Going.{Comes, from_value, from_flow, performed, performed_all, performed_other, cores, turned, body_turn, again, loop_of, go_test, go_if, go_first, go_last, go_result, go_flow, go_back, go_declared, go_scope, go_parameters, flow_of};
+ghost use Rattle.cf_core_run.specs.Going.{Comes, from_value, from_flow, performed, performed_all, performed_other, cores, turned, body_turn, again, loop_of, go_test, go_if, go_first, go_last, go_flow, go_back, go_declared, go_scope, go_parameters, flow_of};
 ghost use Rattle.cf_core_store.specs.Store.{value_of};
 
 use crate::mark::{Doing, Flow, FlowMark, Mark, Repeated, TestMark};
 use crate::state::{Machine, RunEnd, Step};
 use cf_base::Boxed;
-use cf_core_store::{Entered, Integer, Stop, Value, end_objects, end_scope, settle, truth, used};
+use cf_core_store::{Entered, Integer, Stop, Value, end_objects, end_scope, settle, truth};
 use cf_run_tree::{Form, Node, Shape};
 
 impl<'a> Machine<'a> {
@@ -47,8 +47,8 @@ impl<'a> Machine<'a> {
             TestMark::Last(repeated) => self.tested_last(repeated, v),
             TestMark::Stepped(repeated) => self.repeat_next(repeated),
             TestMark::Declared(object) => self.declared(object, v),
-            TestMark::Result => self.result(v),
-            TestMark::Switch(_) => Err(Stop::NotBuilt),
+            TestMark::Result => self.ends(Flow::Returns(v)),
+            TestMark::Switch(all) => self.switch(all, v),
         }
     }
 
@@ -119,16 +119,6 @@ impl<'a> Machine<'a> {
             self.repeat_next(repeated)
         } else {
             self.ends(Flow::Falls)
-        }
-    }
-
-    /// The result of a function is there.
-    fn result(&mut self, v: Value) -> Result<Step<'a>, Stop>
-        ensures { (p : Program) → Comes p (λ T o. from_flow T p self.old (go_result T p self.old.fuel (value_of v)) o) result self.new }
-    {
-        match used(v) {
-            Err(stop) => Err(stop),
-            Ok(v) => self.ends(Flow::Returns(v)),
         }
     }
 

@@ -10,8 +10,12 @@ mod expressions;
 mod leaving;
 mod machine;
 mod mark;
+#[cfg(test)]
+mod row_tests;
 mod state;
 mod statements;
+mod switch;
+mod temporaries;
 #[cfg(test)]
 mod tests;
 

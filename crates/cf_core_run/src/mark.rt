@@ -1,6 +1,6 @@
 use cf_base::Boxed;
 use cf_core::LoopForm;
-use cf_core_store::{Applied, Entered, Value};
+use cf_core_store::{Applied, Entered, Integer, Value};
 use cf_run_tree::{Binary, Node, RunFn, Shape};
 
 /// How a statement ends.
@@ -44,6 +44,12 @@ pub enum ValueMark<'a> {
     Comma(&'a [Node]),
     /// The parameter with this object gets the value, and the other arguments come.
     Argument(Calling<'a>, usize),
+    /// The temporary with this object gets the value, and lives to the end of the full expression.
+    Temporary(usize),
+    /// The temporary with this object gets the value, and lives as long as a local.
+    Held(usize),
+    /// A full expression ends, and the one around it has these temporaries.
+    Whole(Vec<usize>),
 }
 
 /// What is left of a statement once the value at hand is there.
@@ -101,6 +107,10 @@ pub enum Doing<'a> {
     Body(&'a RunFn, Vec<usize>),
     Perform(&'a Node),
     Follow(&'a [Node]),
+    /// The statements behind the label of a switch for this number, which is among these.
+    Case(Integer, &'a [Node]),
+    /// Those behind `default`.
+    Default(&'a [Node]),
     /// The next turn of a loop.
     Repeat(Repeated<'a>),
     Ends(Flow),

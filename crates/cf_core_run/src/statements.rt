@@ -6,13 +6,13 @@ ghost use Rattle.cf_core.specs.Statements.{tests_first};
 ghost use Rattle.cf_run_tree.specs.Tree.{core_of, shape_type};
 ghost use Rattle.cf_run_tree.specs.declared.program.Program.{Program};
 ghost use Rattle.cf_core_store.specs.Then.{◌▷◌};
-ghost use Rattle.cf_core_run.specs.Going.{Comes, from_flow, valued, performed, performed_all, scoped, cores, maybe_core, again, loop_of, first_turn, body_turn, turned, go_test, go_declared, flow_of};
+ghost use Rattle.cf_core_run.specs.Going.{Comes, from_flow, valued, full, full_by, performed, performed_all, scoped, cores, maybe_core, again, loop_of, first_turn, body_turn, turned, go_test, go_declared, flow_of};
 
-use crate::mark::{Doing, Flow, FlowMark, Mark, Repeated, TestMark};
+use crate::mark::{Doing, Flow, FlowMark, Mark, Repeated, TestMark, ValueMark};
 use crate::state::{Machine, RunEnd, Step};
 use cf_base::Boxed;
 use cf_core::LoopForm;
-use cf_core_store::{Stop, Value, new_local};
+use cf_core_store::{Applied, Stop, Value, new_local};
 use cf_run_tree::{Node, Shape};
 
 impl<'a> Machine<'a> {
@@ -28,14 +28,18 @@ impl<'a> Machine<'a> {
                 Ok(Step::On)
             }
             Node::Declare(number, shape, start) => self.declare(*number, *shape, start),
-            Node::If(condition, yes, no) => self.test(TestMark::If(yes, no), condition),
+            Node::If(condition, yes, no) => {
+                self.test_by(Applied::Truth, TestMark::If(yes, no), condition)
+            }
             Node::Loop(form, condition, step, body) => self.start_loop(Repeated {
                 form: *form,
                 condition,
                 step,
                 body,
             }),
-            Node::Switch(e, all) => self.test(TestMark::Switch(all.as_slice()), e),
+            Node::Switch(e, all) => {
+                self.test_by(Applied::Used, TestMark::Switch(all.as_slice()), e)
+            }
             Node::Case(_) => self.ends(Flow::Falls),
             Node::Default => self.ends(Flow::Falls),
             Node::Break => self.ends(Flow::Breaks),
@@ -51,7 +55,7 @@ impl<'a> Machine<'a> {
     {
         match value {
             None => self.ends(Flow::Returns(Value::Nothing)),
-            Some(e) => self.test(TestMark::Result, e),
+            Some(e) => self.test_by(Applied::Used, TestMark::Result, e),
         }
     }
 
@@ -65,11 +69,24 @@ impl<'a> Machine<'a> {
 
     /// A full expression is evaluated first, and the mark says what follows.
     pub fn test(&mut self, mark: TestMark<'a>, e: &'a Boxed<Node>) -> Result<Step<'a>, Stop>
-        ensures { (p : Program) → Comes p (λ T o. from_flow T p self.old (λ s w. valued T p self.old.fuel (core_of T e.now) None s w ▷ go_test T p self.old.fuel mark.entry) o) result self.new }
+        ensures { (p : Program) → Comes p (λ T o. from_flow T p self.old (λ s w. full T p self.old.fuel (valued T p self.old.fuel (core_of T e.now) None) s w ▷ go_test T p self.old.fuel mark.entry) o) result self.new }
     {
-        self.stack.push(Mark::Test(self.fuel, mark))?;
+        self.open_whole(mark)?;
         self.doing = Doing::Evaluate(e.get(), None);
         Ok(Step::On)
+    }
+
+    /// A full expression is evaluated first, with what is made of its value in it, and the mark says what follows.
+    pub fn test_by(
+        &mut self,
+        op: Applied,
+        mark: TestMark<'a>,
+        e: &'a Boxed<Node>,
+    ) -> Result<Step<'a>, Stop>
+        ensures { (p : Program) → Comes p (λ T o. from_flow T p self.old (λ s w. full_by T p self.old.fuel (core_of T e.now) op s w ▷ go_test T p self.old.fuel mark.entry) o) result self.new }
+    {
+        self.open_whole(mark)?;
+        self.down(ValueMark::Apply(op), e)
     }
 
     /// A block.
@@ -113,10 +130,9 @@ impl<'a> Machine<'a> {
 
     /// The initialiser of a local with this object.
     fn initialise(&mut self, object: usize, start: &'a Boxed<Node>) -> Result<Step<'a>, Stop>
-        ensures { (p : Program) → Comes p (λ T o. from_flow T p self.old (λ s w. valued T p self.old.fuel (core_of T start.now) (Some (root object)) s w ▷ go_declared T p self.old.fuel object) o) result self.new }
+        ensures { (p : Program) → Comes p (λ T o. from_flow T p self.old (λ s w. full T p self.old.fuel (valued T p self.old.fuel (core_of T start.now) (Some (root object))) s w ▷ go_declared T p self.old.fuel object) o) result self.new }
     {
-        self.stack
-            .push(Mark::Test(self.fuel, TestMark::Declared(object)))?;
+        self.open_whole(TestMark::Declared(object))?;
         self.doing = Doing::Evaluate(start.get(), Some(object));
         Ok(Step::On)
     }
@@ -142,7 +158,7 @@ impl<'a> Machine<'a> {
     {
         match repeated.condition {
             None => self.open_body(repeated),
-            Some(e) => self.test(TestMark::First(repeated), e),
+            Some(e) => self.test_by(Applied::Truth, TestMark::First(repeated), e),
         }
     }
 
@@ -188,7 +204,7 @@ impl<'a> Machine<'a> {
                 self.doing = Doing::Repeat(repeated);
                 Ok(Step::On)
             }
-            Some(e) => self.test(TestMark::Last(repeated), e),
+            Some(e) => self.test_by(Applied::Truth, TestMark::Last(repeated), e),
         }
     }
 

@@ -153,10 +153,10 @@ settle-goes T e cells at c v u w got scalar is =
     (changed-state T e cells at c (record { shape = c.shape; held = Some u; is_gone = c.is_gone }) (hold [] (Some (value_of u))) got (held-written T c u))
 
 pub local-goes : (T : Tables) (e : Entered) (cells : List Cell) (i : ℕ) (s : Shape) (w : World) (new : Entered) → i < length e.locals.items
-    → new.locals.items ≡ slice_set e.locals.items i (Some (length cells)) → new.name ≡ e.name → new.depth ≡ e.depth → new.scope ≡ e.scope
+    → new.locals.items ≡ slice_set e.locals.items i (Some (length cells)) → new.name ≡ e.name → new.depth ≡ e.depth → new.scope ≡ e.scope → new.temporaries ≡ e.temporaries
     → new_local i (shape_type T s) (state_of T e cells) w
     ≡ Went (Gives (length cells) (state_of T new (cells ++ record { shape = s; held = None; is_gone = false } ∷ []))) w
-local-goes T e cells i s w new lt locals name depth scope =
+local-goes T e cells i s w new lt locals name depth scope temporaries =
     let c : Cell = record { shape = s; held = None; is_gone = false } in
     let mk : ℕ → (ℕ → Object) → Frame → State = λ n ob f. record { next = n; object = ob; literals = []; reached = []; finished = []; frame = f } in
     let S = state_of T e cells in
@@ -165,17 +165,18 @@ local-goes T e cells i s w new lt locals name depth scope =
     ∙ ap (λ (s : State). Went (Gives (length cells) s) w)
     (ap (λ n. mk n (upd (length cells) (object_of T (Some c)) (objects_of T cells)) (lists_local i (length cells) (frame_of e))) (sym (length-push cells c))
     ∙ ap (λ ob. mk (length (cells ++ c ∷ [])) ob (lists_local i (length cells) (frame_of e))) (sym (objects-push T cells c))
-    ∙ ap (mk (length (cells ++ c ∷ [])) (objects_of T (cells ++ c ∷ []))) (sym (frames (sym name) (sym depth) (sym scope))))
+    ∙ ap (mk (length (cells ++ c ∷ [])) (objects_of T (cells ++ c ∷ []))) (sym (frames (sym name) (sym depth) (sym scope) (sym temporaries))))
   where
-    frames : e.name ≡ new.name → e.depth ≡ new.depth → e.scope ≡ new.scope → frame_of new ≡ lists_local i (length cells) (frame_of e)
-    frames n d sc =
-        let mkf : ℕ → (ℕ → Option ℕ) → Frame = λ k f. record { function = new.name.now; count = k; this = None; result = None; depth = new.depth; locals = f; scope = reverse new.scope.items; temporaries = [] } in
+    frames : e.name ≡ new.name → e.depth ≡ new.depth → e.scope ≡ new.scope → e.temporaries ≡ new.temporaries → frame_of new ≡ lists_local i (length cells) (frame_of e)
+    frames n d sc te =
+        let mkf : ℕ → (ℕ → Option ℕ) → Frame = λ k f. record { function = new.name.now; count = k; this = None; result = None; depth = new.depth; locals = f; scope = reverse new.scope.items; temporaries = reverse new.temporaries.items } in
         ap (λ (l : List (Option ℕ)). mkf (length l) (λ k. local_object (slice_get l k))) locals
         ∙ ap (λ k. mkf k (λ k. local_object (slice_get (slice_set e.locals.items i (Some (length cells))) k))) (length-set e.locals.items i (Some (length cells)))
         ∙ ap (mkf (length e.locals.items)) (locals-set e.locals.items i (length cells) lt)
-        ∙ ap (λ (x : Bor (List ℕ)). record (lists_local i (length cells) (frame_of e)) { function = x.now; depth = new.depth; scope = reverse new.scope.items }) (sym n)
-        ∙ ap (λ k. record (lists_local i (length cells) (frame_of e)) { depth = k; scope = reverse new.scope.items }) (sym d)
-        ∙ ap (λ (x : Vec ℕ Global). record (lists_local i (length cells) (frame_of e)) { scope = reverse x.items }) (sym sc)
+        ∙ ap (λ (x : Bor (List ℕ)). record (lists_local i (length cells) (frame_of e)) { function = x.now; depth = new.depth; scope = reverse new.scope.items; temporaries = reverse new.temporaries.items }) (sym n)
+        ∙ ap (λ k. record (lists_local i (length cells) (frame_of e)) { depth = k; scope = reverse new.scope.items; temporaries = reverse new.temporaries.items }) (sym d)
+        ∙ ap (λ (x : Vec ℕ Global). record (lists_local i (length cells) (frame_of e)) { scope = reverse x.items; temporaries = reverse new.temporaries.items }) (sym sc)
+        ∙ ap (λ (x : Vec ℕ Global). record (lists_local i (length cells) (frame_of e)) { temporaries = reverse x.items }) (sym te)
 
 pub told-number : (r : Result ℤ Stop) (answer : Result Given Stop) (s : State) (w : World) (x : Ran (Did Value)) → answer ≡ as_number r → Told Number r s w x → Told value_of answer s w x
 told-number r answer s w x is h = subst (λ (a : Result Given Stop). Told value_of a s w x) (sym is) (at r h)

@@ -43,7 +43,7 @@ frame_of e = record {
   depth = e.depth;
   locals = λ i. local_object (slice_get e.locals.items i);
   scope = reverse e.scope.items;
-  temporaries = [];
+  temporaries = reverse e.temporaries.items;
 }
 
 module _ (T : Tables) where

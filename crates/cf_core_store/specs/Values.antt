@@ -134,3 +134,4 @@ abbrev pub of_value : Tables → Applied → Value → Act Value
 of_value T (applied.One op) v = of_one T op v
 of_value T (applied.Two op x) v = of_two op (value_of x) v
 of_value T applied.Truth v = counted v
+of_value T applied.Used v = used v

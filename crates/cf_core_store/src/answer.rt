@@ -23,7 +23,8 @@ pub enum Stop {
     Act(u8),
     /// The core is none that elaboration makes.
     Malformed,
-    /// The core has a form that the runner does not know yet.
+    /// The runner does not follow it: a function is called by another type than the very one of its definition, or entered with another
+    /// number of parameters; a node or a mark stands where one of another sort belongs; or an object ends that was never made.
     NotBuilt,
     Memory,
 }

@@ -14,4 +14,6 @@ pub use answer::{Stop, Value};
 pub use arithmetic::{truth, used};
 pub use integer::Integer;
 pub use results::{Applied, apply, ready, truth_number};
-pub use store::{Cell, Entered, end_objects, end_scope, local_value, new_local, settle};
+pub use store::{
+    Cell, Entered, end_objects, end_scope, end_temporaries, local_value, new_local, settle,
+};

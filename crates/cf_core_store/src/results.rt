@@ -26,6 +26,8 @@ pub enum Applied {
     Two(Binary, Value),
     /// 1 if it counts as true, or 0.
     Truth,
+    /// Itself, where it is used.
+    Used,
 }
 
 /// The object that an lvalue is.
@@ -281,5 +283,6 @@ pub fn apply(
         Applied::One(op) => of_one(op, v, entered, cells),
         Applied::Two(op, x) => of_two(op, x, v, entered, cells),
         Applied::Truth => counted(v),
+        Applied::Used => used(v),
     }
 }

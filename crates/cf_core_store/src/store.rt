@@ -33,6 +33,8 @@ pub struct Entered<'a> {
     pub locals: Vec<Option<usize>>,
     /// The objects declared in the innermost open scope, the oldest first.
     pub scope: Vec<usize>,
+    /// The temporaries of the full expression at hand, the oldest first.
+    pub temporaries: Vec<usize>,
 }
 
 /// The value that an object holds.
@@ -229,6 +231,14 @@ pub fn end_objects(
             }
         }
     }
+}
+
+/// The temporaries of the full expression at hand end, the newest first.
+pub fn end_temporaries(entered: &Entered<'_>, cells: &mut Vec<Cell>) -> Result<(), Stop>
+    ensures { (T : Tables) (w : World) → Told (λ u. tt) result (state_of T entered.now cells.new.items) w (for_all (reverse entered.now.temporaries.items) (λ o. object_changed o gone) (state_of T entered.now cells.old.items) w) }
+{
+    let temporaries = entered.temporaries.as_slice();
+    end_objects(entered, cells, temporaries)
 }
 
 /// The objects that were declared in the innermost scope end, the newest first.

@@ -2,7 +2,7 @@
 use Rattle.std.proofs.Common.{◌≡◌, ◌∙◌, ap, sym, ℕ, ℤ, List, Option, Some, None, map, option_map}
 use Rattle.cf_core.specs.declared.operators.LoopForm.{LoopForm}
 use Rattle.cf_core.specs.FromTypes.{Tables}
-use Rattle.cf_core.specs.Core.{Core, no_temporary, absent, number, local, logical_and, logical_or, conditional, comma, call, bind, blank, full, block, sequence, declare, branch, loop, switch, case_label, default_label, leave, continue, give}
+use Rattle.cf_core.specs.Core.{Core, no_temporary, local_temporary, absent, number, temporary, local, logical_and, logical_or, conditional, comma, call, bind, blank, full, block, sequence, declare, branch, loop, switch, case_label, default_label, leave, continue, give}
 use Rattle.cf_core.specs.View.{listed, maybe}
 use Rattle.cf_run_tree.specs.declared.shape.Shape.{Shape}
 use Rattle.cf_run_tree.specs.declared.node.Unary.{Unary}
@@ -43,6 +43,12 @@ core-Call tables name f es = ap (core_of tables) (sym (node.rolls-Call name f es
 
 pub core-Bind : (tables : Tables) (e : Node) → core_of tables (node.Bind e) ≡ bind no_temporary (core_of tables e)
 core-Bind tables e = ap (core_of tables) (sym (node.rolls-Bind e)) ∙ fold-roll-Node Core (core_step tables) (Node-F.Bind e)
+
+pub core-Temporary : (tables : Tables) (s : Shape) (e : Node) → core_of tables (node.Temporary s e) ≡ temporary (shape_type tables s) (core_of tables e)
+core-Temporary tables s e = ap (core_of tables) (sym (node.rolls-Temporary s e)) ∙ fold-roll-Node Core (core_step tables) (Node-F.Temporary s e)
+
+pub core-Hold : (tables : Tables) (i : ℕ) (s : Shape) (e : Node) → core_of tables (node.Hold i s e) ≡ bind (local_temporary i (shape_type tables s)) (core_of tables e)
+core-Hold tables i s e = ap (core_of tables) (sym (node.rolls-Hold i s e)) ∙ fold-roll-Node Core (core_step tables) (Node-F.Hold i s e)
 
 pub core-Blank : (tables : Tables) → core_of tables node.Blank ≡ blank
 core-Blank tables = ap (core_of tables) (sym node.rolls-Blank) ∙ fold-roll-Node Core (core_step tables) Node-F.Blank

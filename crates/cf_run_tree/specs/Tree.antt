@@ -3,7 +3,7 @@ use Rattle.std.specs.Prelude.{ℕ, Bool, true, false, List, [], ◌∷◌, Optio
 use Rattle.cf_classes.specs.LinkName.{scope_code, enum_names}
 use Rattle.cf_core.specs.Types.{SourceType, void, integer, enumeration, pointer, reference, gives, const}
 use Rattle.cf_core.specs.FromTypes.{Tables, type_of, taking}
-use Rattle.cf_core.specs.Core.{Core, plain_function, Function, Change, arithmetic, no_temporary, absent, number, local, read, address, dereference, convert, operate, unary, logical_not, logical_and, logical_or, conditional, comma, store, update, step, call, bind, blank, full, block, sequence, declare, branch, loop, switch, case_label, default_label, leave, continue, give}
+use Rattle.cf_core.specs.Core.{Core, plain_function, Function, Change, arithmetic, no_temporary, local_temporary, absent, number, temporary, local, read, address, dereference, convert, operate, unary, logical_not, logical_and, logical_or, conditional, comma, store, update, step, call, bind, blank, full, block, sequence, declare, branch, loop, switch, case_label, default_label, leave, continue, give}
 use Rattle.cf_core.specs.View.{listed, maybe}
 use Rattle.cf_core.specs.Calls as meaning
 use Rattle.cf_run_tree.specs.declared.shape.Form.{Form}
@@ -64,8 +64,10 @@ module _ (tables : Tables) where
   core_step (Node-F.Or a b) = logical_or a b
   core_step (Node-F.Conditional c a b) = conditional c a b
   core_step (Node-F.Comma es) = comma (listed es)
+  core_step (Node-F.Temporary s e) = temporary (shape_type s) e
   core_step (Node-F.Call name f es) = call name (signature_type f) absent (listed es)
   core_step (Node-F.Bind e) = bind no_temporary e
+  core_step (Node-F.Hold i s e) = bind (local_temporary i (shape_type s)) e
   core_step Node-F.Blank = blank
   core_step (Node-F.Full e) = full e
   core_step (Node-F.Block es) = block (listed es)

@@ -52,11 +52,15 @@ pub enum Node {
     Or(Boxed<Node>, Boxed<Node>),
     Conditional(Boxed<Node>, Boxed<Node>, Boxed<Node>),
     Comma(Items<Node>),
+    /// A temporary of the full expression, of this type and with its initialiser (12.2).
+    Temporary(Shape, Boxed<Node>),
     /// Of a function by its link name, with the type that it is declared with (5.2.2).
     Call(Name, Signature, Items<Node>),
     // initialisers (8.4)
     /// A reference, to a place (8.4.3).
     Bind(Boxed<Node>),
+    /// A reference to a temporary that lives as long as the reference, as the local of this number and type (8.4.3, 12.2).
+    Hold(u32, Shape, Boxed<Node>),
     /// Nothing is done.
     Blank,
     // statements (6)

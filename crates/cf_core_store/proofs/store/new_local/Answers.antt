@@ -13,8 +13,8 @@ returns c = λ T w.
     let e = c.args.entered.now in
     let n : c.len-object.result ≡ length c.args.cells.now.items = search rules in
     let within : c.args.number < length c.args.entered.now.locals.items = search rules in
-    let new : Entered = record { name = e.name; depth = e.depth; locals = with_item e.locals c.args.number (Some c.len-object.result); scope = e.scope } in
+    let new : Entered = record { name = e.name; depth = e.depth; locals = with_item e.locals c.args.number (Some c.len-object.result); scope = e.scope; temporaries = e.temporaries } in
     local-goes T e c.args.cells.now.items c.args.number c.args.shape w new within
-    (ap (λ (k : ℕ). slice_set e.locals.items c.args.number (Some k)) n) refl refl refl
+    (ap (λ (k : ℕ). slice_set e.locals.items c.args.number (Some k)) n) refl refl refl refl
     ∙ ap (λ (l : List Cell). Went (Gives (length c.args.cells.now.items) (state_of T new l)) w) (sym c.in_ok-push.ensures.items)
     ∙ ap (λ (k : ℕ). Went (Gives k (state_of T new c.push.new.self.items)) w) (sym n)

@@ -1,6 +1,6 @@
 use Rattle.cf_core.specs.Core as nodes
-use Rattle.cf_run_tree.specs.Tree.{signature_type}
-use Rattle.cf_run_tree.proofs.Views.{core-Call}
+use Rattle.cf_run_tree.specs.Tree.{signature_type, shape_type}
+use Rattle.cf_run_tree.proofs.Views.{core-Call, core-Temporary, core-Hold}
 use Rattle.std.proofs.Common.{FitsSigned, w64, to_z-of_z}
 use Rattle.std.proofs.Common.{◌∙◌, List, ℕ, option_map, ap, sym, rules}
 use Rattle.cf_core.specs.Calls.{root}
@@ -79,3 +79,15 @@ returns-in-Call c =
     (ap (core_of T) c.in-Call.is ∙ core-Call T c.in-Call.name c.in-Call.signature c.in-Call.all
     ∙ ap (λ (x : List ℕ). nodes.call x (signature_type T c.in-Call.signature) nodes.absent (listed (map (core_of T) c.in-Call.all))) (sym c.as_slice-in-Call.ensures)
     ∙ ap (λ (l : List Node). nodes.call c.as_slice-in-Call.result.now (signature_type T c.in-Call.signature) nodes.absent (listed (map (core_of T) l))) (sym c.as_slice-in-Call-2.ensures)))
+
+pub returns-in-Temporary : goal.returns-in-Temporary
+returns-in-Temporary c =
+    value-as c.args.program.now c.args.self.now (λ T. valued T c.args.program.now c.args.self.now.fuel (core_of T c.args.e.now) (option_map root c.args.into)) (λ T. valued T c.args.program.now c.args.self.now.fuel (nodes.temporary (shape_type T c.in-Temporary.shape) (core_of T c.in-Temporary.start)) (option_map root c.args.into))
+    c.temporary.result c.temporary.new.self (c.temporary.ensures c.args.program.now (option_map root c.args.into))
+    (λ T s w. ap (λ n. valued T c.args.program.now c.args.self.now.fuel n (option_map root c.args.into) s w) (ap (core_of T) c.in-Temporary.is ∙ core-Temporary T c.in-Temporary.shape c.in-Temporary.start))
+
+pub returns-in-Hold : goal.returns-in-Hold
+returns-in-Hold c =
+    value-as c.args.program.now c.args.self.now (λ T. valued T c.args.program.now c.args.self.now.fuel (core_of T c.args.e.now) (option_map root c.args.into)) (λ T. valued T c.args.program.now c.args.self.now.fuel (nodes.bind (nodes.local_temporary c.in-Hold.number (shape_type T c.in-Hold.shape)) (core_of T c.in-Hold.start)) (option_map root c.args.into))
+    c.hold.result c.hold.new.self (c.hold.ensures c.args.program.now (option_map root c.args.into))
+    (λ T s w. ap (λ n. valued T c.args.program.now c.args.self.now.fuel n (option_map root c.args.into) s w) (ap (core_of T) c.in-Hold.is ∙ core-Hold T c.in-Hold.number c.in-Hold.shape c.in-Hold.start))

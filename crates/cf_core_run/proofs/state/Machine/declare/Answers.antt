@@ -5,7 +5,7 @@ use Rattle.cf_core.specs.Objects.{new_local}
 use Rattle.cf_core.specs.Run.{◌>>=◌}
 use Rattle.cf_run_tree.specs.Tree.{core_of, shape_type}
 use Rattle.cf_core_store.specs.Then.{◌▷◌}
-use Rattle.cf_core_run.specs.Going.{valued, performed, go_declared}
+use Rattle.cf_core_run.specs.Going.{valued, full, performed, go_declared}
 use Rattle.cf_core_store.specs.Store.{state_of}
 use Rattle.cf_core_run.proofs.Laws.{flow-as, flow-err, flow-ok}
 use Rattle.cf_core_run.proofs.StatementLaws.{declare_rest, declare-goes, declare-first}
@@ -21,6 +21,6 @@ pub returns-in-Ok : goal.returns-in-Ok
 returns-in-Ok c = λ p. flow-as p c.args.self.now (λ T. performed T p c.args.self.now.fuel (nodes.declare c.args.number (shape_type T c.args.shape) (core_of T c.args.start.now)))
     (λ T. new_local c.args.number (shape_type T c.args.shape) >>= declare_rest T p c.args.self.now.fuel (core_of T c.args.start.now)) c.initialise.result c.initialise.new.self
     (flow-ok p c.args.self.now c.new_local.new.entered c.new_local.new.cells (λ o. o) c.new_local.result c.in-Ok.object (λ T. new_local c.args.number (shape_type T c.args.shape)) (λ T. declare_rest T p c.args.self.now.fuel (core_of T c.args.start.now)) c.initialise.result c.initialise.new.self c.in-Ok.is c.new_local.ensures
-    (flow-as p (record c.args.self.now { entered = c.new_local.new.entered; cells = c.new_local.new.cells }) (λ T. declare_rest T p c.args.self.now.fuel (core_of T c.args.start.now) c.in-Ok.object) (λ T s w. valued T p c.args.self.now.fuel (core_of T c.args.start.now) (Some (root c.in-Ok.object)) s w ▷ go_declared T p c.args.self.now.fuel c.in-Ok.object) c.initialise.result c.initialise.new.self (c.initialise.ensures p)
+    (flow-as p (record c.args.self.now { entered = c.new_local.new.entered; cells = c.new_local.new.cells }) (λ T. declare_rest T p c.args.self.now.fuel (core_of T c.args.start.now) c.in-Ok.object) (λ T s w. full T p c.args.self.now.fuel (valued T p c.args.self.now.fuel (core_of T c.args.start.now) (Some (root c.in-Ok.object))) s w ▷ go_declared T p c.args.self.now.fuel c.in-Ok.object) c.initialise.result c.initialise.new.self (c.initialise.ensures p)
     (λ T w. declare-goes T p c.args.self.now.fuel c.new_local.new.entered c.new_local.new.cells.items (core_of T c.args.start.now) c.in-Ok.object w)))
     (λ T w. declare-first T p c.args.self.now.fuel c.args.number (shape_type T c.args.shape) (core_of T c.args.start.now) (state_of T c.args.self.now.entered c.args.self.now.cells.items) w)

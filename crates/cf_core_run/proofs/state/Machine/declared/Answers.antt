@@ -2,19 +2,19 @@ use Rattle.std.proofs.Common.{◌∙◌, ◌∷◌, [], List, ℕ, ap, sym, reve
 use Rattle.cf_base.specs.World.{Went}
 use Rattle.cf_core.specs.Calls.{Falls, root}
 use Rattle.cf_core.specs.Objects.{settle}
-use Rattle.cf_core.specs.Run.{Gives, ◌>>=◌, ◌>>◌, gives, frame_changed, lists_in_scope}
-use Rattle.cf_core_run.specs.Going.{on_flow, finish, from_flow, world_of, ended}
+use Rattle.cf_core.specs.Run.{Gives, ◌>>◌, gives, frame_changed, lists_in_scope}
+use Rattle.cf_core_run.specs.Going.{on_flow, finish, from_flow, world_of}
 use Rattle.cf_core_store.specs.Store.{state_of, value_of, frame_of}
 use Rattle.cf_core_run.proofs.Laws.{comes-by, flow-err, flow-ok}
 use Rattle.std.proofs.lemmas.List.{reverse-append}
 use Rattle.cf_core_run.proofs.state.Machine.declared.Goals as goal
 
 pub returns-in-Err : goal.returns-in-Err
-returns-in-Err c = λ p. flow-err p c.args.self.now (λ u. tt) c.settle.result c.in-Err.stop (λ T. ended T p c.args.self.now.fuel (value_of c.args.v) >>= settle [] (root c.args.object)) (λ T u. frame_changed (lists_in_scope c.args.object) >> gives Falls)
+returns-in-Err c = λ p. flow-err p c.args.self.now (λ u. tt) c.settle.result c.in-Err.stop (λ T. settle [] (root c.args.object) (value_of c.args.v)) (λ T u. frame_changed (lists_in_scope c.args.object) >> gives Falls)
     (λ T. state_of T c.args.self.now.entered c.settle.new.cells.items) c.in-Err.is (λ T w. c.settle.ensures T w)
 
 pub returns-in_ok-push-in-Ok : goal.returns-in_ok-push-in-Ok
-returns-in_ok-push-in-Ok c = λ p. flow-ok p c.args.self.now c.args.self.now.entered c.settle.new.cells (λ u. tt) c.settle.result tt (λ T. ended T p c.args.self.now.fuel (value_of c.args.v) >>= settle [] (root c.args.object)) (λ T u. frame_changed (lists_in_scope c.args.object) >> gives Falls)
+returns-in_ok-push-in-Ok c = λ p. flow-ok p c.args.self.now c.args.self.now.entered c.settle.new.cells (λ u. tt) c.settle.result tt (λ T. settle [] (root c.args.object) (value_of c.args.v)) (λ T u. frame_changed (lists_in_scope c.args.object) >> gives Falls)
     c.ends.result c.ends.new.self c.in-Ok.is (λ T w. c.settle.ensures T w)
     (comes-by p (λ T o. from_flow T p (record c.args.self.now { cells = c.settle.new.cells }) (frame_changed (lists_in_scope c.args.object) >> gives Falls) o)
     (λ T o. from_flow T p (record c.args.self.now { cells = c.settle.new.cells; entered = record c.args.self.now.entered { scope = c.push.new.self } }) (gives Falls) o) c.ends.result c.ends.new.self

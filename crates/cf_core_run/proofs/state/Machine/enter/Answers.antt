@@ -27,6 +27,7 @@ returns c = λ p.
     (enter-goes p c.args.self.now c.args.f c.args.made e c.push.new.self c.if-self-eq0.false c.if-self-eq0-2.false
     (ap (λ (x : Entered). x.name.now) c.replace-caller.ensures.after ∙ c.as_slice-name.ensures)
     (ap (λ (x : Entered). x.locals.items) c.replace-caller.ensures.after ∙ locals)
-    (ap (λ (x : Entered). x.scope.items) c.replace-caller.ensures.after ∙ c.new.ensures.items) count
+    (ap (λ (x : Entered). x.scope.items) c.replace-caller.ensures.after ∙ c.new.ensures.items)
+    (ap (λ (x : Entered). x.temporaries.items) c.replace-caller.ensures.after ∙ c.new-2.ensures.items) count
     (ap (λ (x : Entered). x.depth) c.replace-caller.ensures.after)
     (c.in_ok-push.ensures.items ∙ ap (λ (x : Entered). c.args.self.now.stack.items ++ mark.Back c.args.self.now.fuel c.args.f.now.signature.result x ∷ []) c.replace-caller.ensures.value))

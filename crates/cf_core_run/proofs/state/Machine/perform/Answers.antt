@@ -1,3 +1,7 @@
+use Rattle.cf_core.specs.Run.{◌>>=◌}
+use Rattle.cf_core_store.specs.declared.results.Applied.TheVariants as applied
+use Rattle.cf_core_store.specs.Values.{of_value}
+use Rattle.cf_core_run.specs.Going.{full}
 use Rattle.cf_core_run.specs.declared.mark.TestMark.TheVariants as test
 use Rattle.cf_core_run.specs.Going.{go_if}
 use Rattle.std.proofs.Common.{◌∙◌, List, None, ap, sym, map}
@@ -17,7 +21,7 @@ use Rattle.cf_core_run.proofs.state.Machine.perform.Goals as goal
 use Rattle.cf_core.specs.Calls.{Breaks, Continues}
 
 pub returns-in-Full : goal.returns-in-Full
-returns-in-Full c = λ p. flow-as p c.args.self.now (λ T. performed T p c.args.self.now.fuel (core_of T c.args.s.now)) (λ T s w. valued T p c.args.self.now.fuel (core_of T c.in-Full.e) None s w ▷ go_test T p c.args.self.now.fuel test.Statement) c.test.result c.test.new.self (c.test.ensures p)
+returns-in-Full c = λ p. flow-as p c.args.self.now (λ T. performed T p c.args.self.now.fuel (core_of T c.args.s.now)) (λ T s w. full T p c.args.self.now.fuel (valued T p c.args.self.now.fuel (core_of T c.in-Full.e) None) s w ▷ go_test T p c.args.self.now.fuel test.Statement) c.test.result c.test.new.self (c.test.ensures p)
     (λ T w. full-goes T p c.args.self.now.fuel c.args.self.now.entered c.args.self.now.cells.items c.args.s.now c.in-Full.e w c.in-Full.is)
 
 pub returns-in-Block : goal.returns-in-Block
@@ -36,7 +40,7 @@ returns-in-Declare c = λ p. flow-as p c.args.self.now (λ T. performed T p c.ar
     (λ T w. ap (λ n. performed T p c.args.self.now.fuel n (state_of T c.args.self.now.entered c.args.self.now.cells.items) w) (ap (core_of T) c.in-Declare.is ∙ core-Declare T c.in-Declare.number c.in-Declare.shape c.in-Declare.start))
 
 pub returns-in-If : goal.returns-in-If
-returns-in-If c = λ p. flow-as p c.args.self.now (λ T. performed T p c.args.self.now.fuel (core_of T c.args.s.now)) (λ T s w. valued T p c.args.self.now.fuel (core_of T c.in-If.condition) None s w ▷ go_if T p c.args.self.now.fuel c.in-If.yes c.in-If.no) c.test-in-If.result c.test-in-If.new.self (c.test-in-If.ensures p)
+returns-in-If c = λ p. flow-as p c.args.self.now (λ T. performed T p c.args.self.now.fuel (core_of T c.args.s.now)) (λ T s w. full T p c.args.self.now.fuel (valued T p c.args.self.now.fuel (core_of T c.in-If.condition) None >>= of_value T applied.Truth) s w ▷ go_if T p c.args.self.now.fuel c.in-If.yes c.in-If.no) c.test_by.result c.test_by.new.self (c.test_by.ensures p)
     (λ T w. if-goes T p c.args.self.now.fuel c.args.self.now.entered c.args.self.now.cells.items c.args.s.now c.in-If.condition c.in-If.yes c.in-If.no w c.in-If.is)
 
 pub returns-in-Loop : goal.returns-in-Loop
@@ -64,5 +68,5 @@ returns-in-Return c = λ p. flow-as p c.args.self.now (λ T. performed T p c.arg
     (λ T w. ap (λ n. performed T p c.args.self.now.fuel n (state_of T c.args.self.now.entered c.args.self.now.cells.items) w) (ap (core_of T) c.in-Return.is ∙ core-Return T c.in-Return.value))
 
 pub returns-in-Switch : goal.returns-in-Switch
-returns-in-Switch c = λ p. flow-as p c.args.self.now (λ T. performed T p c.args.self.now.fuel (core_of T c.args.s.now)) (λ T s w. valued T p c.args.self.now.fuel (core_of T c.in-Switch.e) None s w ▷ go_test T p c.args.self.now.fuel (test.Switch c.as_slice-in-Switch.result)) c.test-in-Switch.result c.test-in-Switch.new.self (c.test-in-Switch.ensures p)
+returns-in-Switch c = λ p. flow-as p c.args.self.now (λ T. performed T p c.args.self.now.fuel (core_of T c.args.s.now)) (λ T s w. full T p c.args.self.now.fuel (valued T p c.args.self.now.fuel (core_of T c.in-Switch.e) None >>= of_value T applied.Used) s w ▷ go_test T p c.args.self.now.fuel (test.Switch c.as_slice-in-Switch.result)) c.test_by-in-Switch.result c.test_by-in-Switch.new.self (c.test_by-in-Switch.ensures p)
     (λ T w. switch-goes T p c.args.self.now.fuel c.args.self.now.entered c.args.self.now.cells.items c.args.s.now c.in-Switch.e c.in-Switch.all c.as_slice-in-Switch.result w c.in-Switch.is c.as_slice-in-Switch.ensures)

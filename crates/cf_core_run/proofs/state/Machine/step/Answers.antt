@@ -29,3 +29,9 @@ returns-in-Repeat c = comes-by c.args.program.now (λ T o. total T c.args.progra
 
 pub returns-in-Ends : goal.returns-in-Ends
 returns-in-Ends c = comes-by c.args.program.now (λ T o. total T c.args.program.now c.args.self.now o) _ c.leave.result c.leave.new.self (λ T o. ap (λ d. from_doing T c.args.program.now d c.args.self.now o) (sym c.replace-doing.ensures.value ∙ c.in-Ends.is)) (c.leave.ensures c.args.program.now)
+
+pub returns-in-Case : goal.returns-in-Case
+returns-in-Case c = comes-by c.args.program.now (λ T o. total T c.args.program.now c.args.self.now o) _ c.seek_case.result c.seek_case.new.self (λ T o. ap (λ d. from_doing T c.args.program.now d c.args.self.now o) (sym c.replace-doing.ensures.value ∙ c.in-Case.is)) (c.seek_case.ensures c.args.program.now)
+
+pub returns-in-Default : goal.returns-in-Default
+returns-in-Default c = comes-by c.args.program.now (λ T o. total T c.args.program.now c.args.self.now o) _ c.seek_default.result c.seek_default.new.self (λ T o. ap (λ d. from_doing T c.args.program.now d c.args.self.now o) (sym c.replace-doing.ensures.value ∙ c.in-Default.is)) (c.seek_default.ensures c.args.program.now)

@@ -33,5 +33,9 @@ returns-in-Declared c = λ p. flow-as p c.args.self.now (λ T. go_test T p c.arg
     (λ T w. ap (λ (x : TestMark). go_test T p c.args.self.now.fuel x (value_of c.args.v) (state_of T c.args.self.now.entered c.args.self.now.cells.items) w) c.in-Declared.is)
 
 pub returns-in-Result : goal.returns-in-Result
-returns-in-Result c = λ p. flow-as p c.args.self.now (λ T. go_test T p c.args.self.now.fuel c.args.mark (value_of c.args.v)) (λ T. go_test T p c.args.self.now.fuel (test.Result) (value_of c.args.v)) c.result.result c.result.new.self (c.result.ensures p)
+returns-in-Result c = λ p. flow-as p c.args.self.now (λ T. go_test T p c.args.self.now.fuel c.args.mark (value_of c.args.v)) (λ T. go_test T p c.args.self.now.fuel (test.Result) (value_of c.args.v)) c.ends-in-Result.result c.ends-in-Result.new.self (c.ends-in-Result.ensures p)
     (λ T w. ap (λ (x : TestMark). go_test T p c.args.self.now.fuel x (value_of c.args.v) (state_of T c.args.self.now.entered c.args.self.now.cells.items) w) c.in-Result.is)
+
+pub returns-in-Switch : goal.returns-in-Switch
+returns-in-Switch c = λ p. flow-as p c.args.self.now (λ T. go_test T p c.args.self.now.fuel c.args.mark (value_of c.args.v)) (λ T. go_test T p c.args.self.now.fuel (test.Switch c.in-Switch.all) (value_of c.args.v)) c.switch.result c.switch.new.self (c.switch.ensures p)
+    (λ T w. ap (λ (x : TestMark). go_test T p c.args.self.now.fuel x (value_of c.args.v) (state_of T c.args.self.now.entered c.args.self.now.cells.items) w) c.in-Switch.is)

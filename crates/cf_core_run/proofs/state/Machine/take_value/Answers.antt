@@ -33,3 +33,15 @@ returns-in-Comma c = λ p. value-as p c.args.self.now (λ T. go_value T p c.args
 pub returns-in-Argument : goal.returns-in-Argument
 returns-in-Argument c = λ p. value-as p c.args.self.now (λ T. go_value T p c.args.self.now.fuel c.args.mark (value_of c.args.v)) (λ T. go_value T p c.args.self.now.fuel (vm.Argument c.in-Argument.calling c.in-Argument.object) (value_of c.args.v)) c.argument.result c.argument.new.self (c.argument.ensures p)
     (λ T s w. ap (λ (x : ValueMark). go_value T p c.args.self.now.fuel x (value_of c.args.v) s w) c.in-Argument.is)
+
+pub returns-in-Temporary : goal.returns-in-Temporary
+returns-in-Temporary c = λ p. value-as p c.args.self.now (λ T. go_value T p c.args.self.now.fuel c.args.mark (value_of c.args.v)) (λ T. go_value T p c.args.self.now.fuel (vm.Temporary c.in-Temporary.object) (value_of c.args.v)) c.made.result c.made.new.self (c.made.ensures p)
+    (λ T s w. ap (λ (x : ValueMark). go_value T p c.args.self.now.fuel x (value_of c.args.v) s w) c.in-Temporary.is)
+
+pub returns-in-Held : goal.returns-in-Held
+returns-in-Held c = λ p. value-as p c.args.self.now (λ T. go_value T p c.args.self.now.fuel c.args.mark (value_of c.args.v)) (λ T. go_value T p c.args.self.now.fuel (vm.Held c.in-Held.object) (value_of c.args.v)) c.held.result c.held.new.self (c.held.ensures p)
+    (λ T s w. ap (λ (x : ValueMark). go_value T p c.args.self.now.fuel x (value_of c.args.v) s w) c.in-Held.is)
+
+pub returns-in-Whole : goal.returns-in-Whole
+returns-in-Whole c = λ p. value-as p c.args.self.now (λ T. go_value T p c.args.self.now.fuel c.args.mark (value_of c.args.v)) (λ T. go_value T p c.args.self.now.fuel (vm.Whole c.in-Whole.around) (value_of c.args.v)) c.close_whole.result c.close_whole.new.self (c.close_whole.ensures p)
+    (λ T s w. ap (λ (x : ValueMark). go_value T p c.args.self.now.fuel x (value_of c.args.v) s w) c.in-Whole.is)

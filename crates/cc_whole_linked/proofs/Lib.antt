@@ -1,0 +1,4 @@
+mod Agrees
+pub mod Alone
+mod Identity
+pub mod Once

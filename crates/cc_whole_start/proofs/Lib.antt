@@ -1,0 +1,7 @@
+mod BirthLaws
+pub mod Exits
+pub mod FirstLaws
+mod NameLaws
+mod Quiet
+mod RoomLaws
+mod StaticLaws

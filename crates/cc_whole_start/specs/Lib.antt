@@ -1,0 +1,4 @@
+pub mod First
+pub mod Room
+pub mod Table
+pub mod Walk

@@ -1,0 +1,5 @@
+pub mod CallLaws
+pub mod ExitLaws
+pub mod Marks
+pub mod Resume
+pub mod StepLaws

@@ -1,0 +1,23 @@
+use Rattle.std.proofs.Common.{◌≡◌, ◌∙◌, ◌≤◌, ◌<◌, ◌+◌, ◌^◌, ◌==◌, false, ℕ, List, [], ◌∷◌, ◌++◌, length, Some, None, Option, Ok, ℤ, pos, rules, arith, ap, sym, refl, subst, FitsSigned, w64, to_z-of_z}
+use Rattle.cf_base.specs.declared.kind.Kind.TheVariants as kind
+use Rattle.cf_base.specs.Event.{Undefined}
+use Rattle.cc_whole_memory.specs.declared.value.Value.{Value}
+use Rattle.cc_whole_memory.specs.declared.value.Value.TheVariants as value
+use Rattle.cc_whole_callee.specs.declared.library.Library.{Library}
+use Rattle.cc_whole_callee.specs.View.{library_of}
+use Rattle.cc_whole_mean.specs.Callee.{atexit, free}
+use Rattle.cc_whole_mean.specs.Library as does
+use Rattle.cc_whole_step.specs.declared.mark.Flow.{Flow}
+use Rattle.cc_whole_step.specs.declared.mark.Flow.TheVariants as left
+use Rattle.cc_whole_step.specs.Running.{coming_back, leaving}
+use Rattle.cc_whole_step.specs.Comes.{Comes, StepsTaking}
+use Rattle.cc_whole_step.proofs.Resume.{comes-from}
+use Rattle.cc_whole_step.proofs.CallLaws.{getchar-takes, none-ends}
+use Rattle.cc_whole_step.proofs.moment.Moment.library_of_none.Goals as goal
+
+pub returns-in-Getchar : goal.returns-in-Getchar
+returns-in-Getchar c =
+    subst (λ (l : Library). StepsTaking (coming_back (λ g s w. does.of_none (library_of l) s w)) c.args.self.now c.args.self.now) (sym c.in-Getchar.is) (getchar-takes c.args.self.now)
+
+pub returns-in_default : goal.returns-in_default
+returns-in_default c = none-ends c.args.self.now c.args.library c.in_default.not-Getchar

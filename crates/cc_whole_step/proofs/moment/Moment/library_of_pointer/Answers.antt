@@ -1,0 +1,19 @@
+use Rattle.std.proofs.Common.{◌≡◌, ◌∙◌, ◌≤◌, ◌<◌, ◌+◌, ◌^◌, ◌==◌, false, ℕ, List, [], ◌∷◌, ◌++◌, length, Some, None, Option, Ok, ℤ, pos, rules, arith, ap, sym, refl, subst, FitsSigned, w64, to_z-of_z}
+use Rattle.cf_base.specs.declared.kind.Kind.TheVariants as kind
+use Rattle.cf_base.specs.Event.{Undefined}
+use Rattle.cc_whole_memory.specs.declared.value.Value.{Value}
+use Rattle.cc_whole_memory.specs.declared.value.Value.TheVariants as value
+use Rattle.cc_whole_callee.specs.declared.library.Library.{Library}
+use Rattle.cc_whole_callee.specs.View.{library_of}
+use Rattle.cc_whole_mean.specs.Callee.{atexit, free}
+use Rattle.cc_whole_mean.specs.Library as does
+use Rattle.cc_whole_step.specs.declared.mark.Flow.{Flow}
+use Rattle.cc_whole_step.specs.declared.mark.Flow.TheVariants as left
+use Rattle.cc_whole_step.specs.Running.{coming_back, leaving}
+use Rattle.cc_whole_step.specs.Comes.{Comes, StepsTaking}
+use Rattle.cc_whole_step.proofs.Resume.{comes-from}
+use Rattle.cc_whole_step.proofs.CallLaws.{pointer-ends}
+use Rattle.cc_whole_step.proofs.moment.Moment.library_of_pointer.Goals as goal
+
+pub returns-in_default : goal.returns-in_default
+returns-in_default c = pointer-ends c.args.self.now c.args.library c.args.pointer c.in_default.not-Free

@@ -1,0 +1,225 @@
+ghost use Rattle.std.specs.Prelude.{◌≡◌};
+ghost use Rattle.cf_base.specs.World.{World};
+ghost use Rattle.cf_core.specs.FromTypes.{Tables};
+ghost use Rattle.cf_core.specs.Statements as statements;
+ghost use Rattle.cf_run_tree.specs.Tree.{core_of, shape_type, program_of};
+ghost use Rattle.cf_run_tree.specs.declared.program.Program.{Program};
+ghost use Rattle.cf_core_store.specs.Answer.{Told};
+ghost use Rattle.cf_core_store.specs.Store.{state_of, value_of};
+ghost use Rattle.cf_core_run.specs.Going.{Comes, from_flow, cores, again, go_switch, selected, labelled};
+ghost use Rattle.cf_core_run.specs.Labels.{is_case as its_case, is_default as its_default, row, passes_before, passes_blank, passes_local};
+
+use crate::mark::{Doing, Flow, FlowMark, Mark};
+use crate::state::{Machine, Step};
+use cf_base::Boxed;
+use cf_core_store::{Cell, Entered, Integer, Stop, Value, new_local};
+use cf_run_tree::{Node, Shape};
+
+/// Whether a statement is the label for this number.
+fn is_case(number: Integer, s: &Node) -> bool
+    ensures { (T : Tables) → result ≡ its_case number (core_of T s.now) }
+{
+    match s {
+        Node::Case(value) => *value == number.get(),
+        _ => false,
+    }
+}
+
+/// Whether a statement is the label `default`.
+fn is_default(s: &Node) -> bool
+    ensures { (T : Tables) → result ≡ its_default (core_of T s.now) }
+{
+    match s {
+        Node::Default => true,
+        _ => false,
+    }
+}
+
+/// Whether there is a label for this number (6.4.2).
+fn has_case(number: Integer, all: &[Node]) -> bool
+    ensures { (T : Tables) → result ≡ statements.has_case number (row T all.now) }
+{
+    for s in all {
+        if is_case(number, s) {
+            return true;
+        }
+    }
+    false
+}
+
+/// Whether there is a label `default`.
+fn has_default(all: &[Node]) -> bool
+    ensures { (T : Tables) → result ≡ statements.has_default (row T all.now) }
+{
+    for s in all {
+        if is_default(s) {
+            return true;
+        }
+    }
+    false
+}
+
+/// A label passes a statement: a local that is declared without an initialiser is there (6.7).
+#[cycle(pass_over)]
+fn pass_over(s: &Node, entered: &mut Entered<'_>, cells: &mut Vec<Cell>) -> Result<(), Stop>
+    ensures { (T : Tables) (w : World) → Told (λ u. tt) result (state_of T entered.new cells.new.items) w (statements.passes (core_of T s.now) (state_of T entered.old cells.old.items) w) }
+{
+    match s {
+        Node::Declare(number, shape, start) => {
+            pass_declared(*number, *shape, start, entered, cells)
+        }
+        Node::Sequence(all) => pass_all(all.as_slice(), entered, cells),
+        _ => Ok(()),
+    }
+}
+
+/// Statements are passed in order.
+#[cycle(pass_over)]
+fn pass_all(all: &[Node], entered: &mut Entered<'_>, cells: &mut Vec<Cell>) -> Result<(), Stop>
+    ensures { (T : Tables) (w : World) → Told (λ u. tt) result (state_of T entered.new cells.new.items) w (statements.passes_all (row T all.now) (state_of T entered.old cells.old.items) w) }
+{
+    for s in all {
+        match pass_over(s, entered, cells) {
+            Err(stop) => return Err(stop),
+            Ok(()) => {}
+        }
+    }
+    Ok(())
+}
+
+/// A declaration is passed.
+fn pass_declared(
+    number: u32,
+    shape: Shape,
+    start: &Boxed<Node>,
+    entered: &mut Entered<'_>,
+    cells: &mut Vec<Cell>,
+) -> Result<(), Stop>
+    ensures { (T : Tables) (w : World) → Told (λ u. tt) result (state_of T entered.new cells.new.items) w (passes_local number (shape_type T shape) (core_of T start.now) (state_of T entered.old cells.old.items) w) }
+{
+    match start.get() {
+        Node::Blank => pass_blank(number, shape, entered, cells),
+        _ => Err(Stop::Malformed),
+    }
+}
+
+/// A local without an initialiser is there.
+fn pass_blank(
+    number: u32,
+    shape: Shape,
+    entered: &mut Entered<'_>,
+    cells: &mut Vec<Cell>,
+) -> Result<(), Stop>
+    ensures { (T : Tables) (w : World) → Told (λ u. tt) result (state_of T entered.new cells.new.items) w (passes_blank number (shape_type T shape) (state_of T entered.old cells.old.items) w) }
+{
+    match new_local(number, shape, entered, cells) {
+        Err(stop) => Err(stop),
+        Ok(object) => {
+            entered.scope.push(object)?;
+            Ok(())
+        }
+    }
+}
+
+impl<'a> Machine<'a> {
+    /// The value of a switch is there.
+    pub fn switch(&mut self, all: &'a [Node], v: Value) -> Result<Step<'a>, Stop>
+        ensures { (p : Program) → Comes p (λ T o. from_flow T p self.old (go_switch T p self.old.fuel (cores T p all.now) (value_of v)) o) result self.new }
+    {
+        match v {
+            Value::Number(number) => self.select(number, all),
+            Value::Nothing => Err(Stop::Malformed),
+            Value::Missing => Err(Stop::Malformed),
+            Value::Built => Err(Stop::Malformed),
+            Value::Null => Err(Stop::Malformed),
+            Value::At(_) => Err(Stop::Malformed),
+        }
+    }
+
+    /// The statements behind the label for this number come, in a scope.
+    fn select(&mut self, number: Integer, all: &'a [Node]) -> Result<Step<'a>, Stop>
+        ensures { (p : Program) → Comes p (λ T o. from_flow T p self.old (selected T p self.old.fuel (cores T p all.now) number) o) result self.new }
+    {
+        self.stack.push(Mark::Flow(self.fuel, FlowMark::Leaving))?;
+        self.open_scope()?;
+        self.seek(number, all)
+    }
+
+    /// The label for this number is sought, or `default`.
+    fn seek(&mut self, number: Integer, all: &'a [Node]) -> Result<Step<'a>, Stop>
+        ensures { (p : Program) → Comes p (λ T o. from_flow T p self.old (labelled T p self.old.fuel number (cores T p all.now)) o) result self.new }
+    {
+        if has_case(number, all) {
+            self.doing = Doing::Case(number, all);
+            return Ok(Step::On);
+        }
+        if has_default(all) {
+            self.doing = Doing::Default(all);
+            return Ok(Step::On);
+        }
+        self.ends(Flow::Falls)
+    }
+
+    /// The next statement is the label for this number, or is passed.
+    pub fn seek_case(&mut self, number: Integer, all: &'a [Node]) -> Result<Step<'a>, Stop>
+        ensures { (p : Program) → Comes p (λ T o. from_flow T p self.old (statements.from_case (again T p self.old.fuel) (program_of T p) number (cores T p all.now)) o) result self.new }
+    {
+        match all.split_first() {
+            None => self.ends(Flow::Falls),
+            Some((first, rest)) => {
+                if is_case(number, first) {
+                    self.doing = Doing::Follow(rest);
+                    return Ok(Step::On);
+                }
+                self.pass_to_case(number, first, rest)
+            }
+        }
+    }
+
+    /// A statement before the label for this number is passed.
+    fn pass_to_case(
+        &mut self,
+        number: Integer,
+        first: &'a Node,
+        rest: &'a [Node],
+    ) -> Result<Step<'a>, Stop>
+        ensures { (p : Program) → Comes p (λ T o. from_flow T p self.old (passes_before (core_of T first.now) (statements.from_case (again T p self.old.fuel) (program_of T p) number (cores T p rest.now))) o) result self.new }
+    {
+        match pass_over(first, &mut self.entered, &mut self.cells) {
+            Err(stop) => Err(stop),
+            Ok(()) => {
+                self.doing = Doing::Case(number, rest);
+                Ok(Step::On)
+            }
+        }
+    }
+
+    /// The next statement is the label `default`, or is passed.
+    pub fn seek_default(&mut self, all: &'a [Node]) -> Result<Step<'a>, Stop>
+        ensures { (p : Program) → Comes p (λ T o. from_flow T p self.old (statements.from_default (again T p self.old.fuel) (program_of T p) (cores T p all.now)) o) result self.new }
+    {
+        match all.split_first() {
+            None => self.ends(Flow::Falls),
+            Some((first, rest)) => {
+                if is_default(first) {
+                    self.doing = Doing::Follow(rest);
+                    return Ok(Step::On);
+                }
+                self.pass_to_default(first, rest)
+            }
+        }
+    }
+
+    /// A statement before `default` is passed.
+    fn pass_to_default(&mut self, first: &'a Node, rest: &'a [Node]) -> Result<Step<'a>, Stop>
+        ensures { (p : Program) → Comes p (λ T o. from_flow T p self.old (passes_before (core_of T first.now) (statements.from_default (again T p self.old.fuel) (program_of T p) (cores T p rest.now))) o) result self.new }
+    {
+        match pass_over(first, &mut self.entered, &mut self.cells) {
+            Err(stop) => Err(stop),
+            Ok(()) => {
+                self.doing = Doing::Default(rest);
+                Ok(Step::On)
+            }
+        }
+    }
+}

@@ -1,0 +1,113 @@
+ghost use Rattle.std.specs.Prelude.{◌≡◌, Option, Some, IfOk, reverse};
+ghost use Rattle.cf_core.specs.Calls.{root};
+ghost use Rattle.cf_core.specs.Core as cores;
+ghost use Rattle.cf_core.specs.Places.{Place};
+ghost use Rattle.cf_run_tree.specs.Tree.{core_of, shape_type};
+ghost use Rattle.cf_run_tree.specs.declared.program.Program.{Program};
+ghost use Rattle.cf_core_store.specs.Store.{value_of};
+ghost use Rattle.cf_core_store.specs.Then.{◌▷◌};
+ghost use Rattle.cf_core_run.specs.Going.{Comes, OpensWhole, from_value, valued, closed, go_temporary, go_held};
+
+use crate::mark::{Doing, Mark, TestMark, ValueMark};
+use crate::state::{Machine, Step};
+use cf_base::Boxed;
+use cf_core_store::{Cell, Stop, Value, end_temporaries, new_local, settle};
+use cf_run_tree::{Node, Shape};
+use std::alloc::AllocError;
+use std::mem::replace;
+
+impl<'a> Machine<'a> {
+    /// A full expression begins, without temporaries, and the mark says what its value leads to.
+    pub fn open_whole(&mut self, mark: TestMark<'a>) -> Result<(), AllocError>
+        ensures { IfOk result (λ u. OpensWhole self.old self.new mark.entry) }
+    {
+        self.stack.push(Mark::Test(self.fuel, mark))?;
+        let around = replace(&mut self.entered.temporaries, Vec::new(self.alloc));
+        self.stack
+            .push(Mark::Value(self.fuel, ValueMark::Whole(around)))?;
+        Ok(())
+    }
+
+    /// A full expression has ended: its temporaries end, and those of the one around it stand again.
+    pub fn close_whole(&mut self, around: Vec<usize>, v: Value) -> Result<Step<'a>, Stop>
+        ensures { (p : Program) → Comes p (λ T o. from_value T p self.old (closed T p self.old.fuel (reverse around.items) (value_of v)) o) result self.new }
+    {
+        match end_temporaries(&self.entered, &mut self.cells) {
+            Err(stop) => Err(stop),
+            Ok(()) => {
+                self.entered.temporaries = around;
+                self.doing = Doing::Gives(v);
+                Ok(Step::On)
+            }
+        }
+    }
+
+    /// A temporary of the full expression is made.
+    pub fn temporary(&mut self, shape: Shape, start: &'a Boxed<Node>) -> Result<Step<'a>, Stop>
+        ensures { (p : Program) (into : Option Place) → Comes p (λ T o. from_value T p self.old (valued T p self.old.fuel (cores.temporary (shape_type T shape) (core_of T start.now)) into) o) result self.new }
+    {
+        let object = self.cells.len();
+        self.cells.push(Cell {
+            shape,
+            held: None,
+            is_gone: false,
+        })?;
+        self.stack
+            .push(Mark::Value(self.fuel, ValueMark::Temporary(object)))?;
+        self.doing = Doing::Evaluate(start.get(), Some(object));
+        Ok(Step::On)
+    }
+
+    /// The value of a temporary is there.
+    pub fn made(&mut self, object: usize, v: Value) -> Result<Step<'a>, Stop>
+        ensures { (p : Program) → Comes p (λ T o. from_value T p self.old (go_temporary T p self.old.fuel object (value_of v)) o) result self.new }
+    {
+        match settle(&self.entered, &mut self.cells, object, v) {
+            Err(stop) => Err(stop),
+            Ok(()) => {
+                self.entered.temporaries.push(object)?;
+                self.doing = Doing::Gives(Value::At(object));
+                Ok(Step::On)
+            }
+        }
+    }
+
+    /// A temporary that a local reference binds is made: it is a local of its own.
+    pub fn hold(
+        &mut self,
+        number: u32,
+        shape: Shape,
+        start: &'a Boxed<Node>,
+    ) -> Result<Step<'a>, Stop>
+        ensures { (p : Program) (into : Option Place) → Comes p (λ T o. from_value T p self.old (valued T p self.old.fuel (cores.bind (cores.local_temporary number (shape_type T shape)) (core_of T start.now)) into) o) result self.new }
+    {
+        match new_local(number, shape, &mut self.entered, &mut self.cells) {
+            Err(stop) => Err(stop),
+            Ok(object) => self.hold_in(object, start),
+        }
+    }
+
+    /// The initialiser of such a temporary with this object.
+    fn hold_in(&mut self, object: usize, start: &'a Boxed<Node>) -> Result<Step<'a>, Stop>
+        ensures { (p : Program) → Comes p (λ T o. from_value T p self.old (λ s w. valued T p self.old.fuel (core_of T start.now) (Some (root object)) s w ▷ go_held T p self.old.fuel object) o) result self.new }
+    {
+        self.stack
+            .push(Mark::Value(self.fuel, ValueMark::Held(object)))?;
+        self.doing = Doing::Evaluate(start.get(), Some(object));
+        Ok(Step::On)
+    }
+
+    /// The value of such a temporary is there.
+    pub fn held(&mut self, object: usize, v: Value) -> Result<Step<'a>, Stop>
+        ensures { (p : Program) → Comes p (λ T o. from_value T p self.old (go_held T p self.old.fuel object (value_of v)) o) result self.new }
+    {
+        match settle(&self.entered, &mut self.cells, object, v) {
+            Err(stop) => Err(stop),
+            Ok(()) => {
+                self.entered.scope.push(object)?;
+                self.doing = Doing::Gives(Value::At(object));
+                Ok(Step::On)
+            }
+        }
+    }
+}
