@@ -39,11 +39,7 @@ fn no_arguments(alloc: Global) -> CSignature
 }
 
 /// The function of this number, as one that was registered.
-fn registered_callee(
-    alloc: Global,
-    program: &CProgram,
-    number: usize,
-) -> Result<Callee<'_>, Act>
+fn registered_callee(alloc: Global, program: &CProgram, number: usize) -> Result<Callee<'_>, Act>
     ensures { answer_of result ≡ mean.callee_of (functions_in program.now) (mean.pointer start.no_arguments number) }
 {
     let signature = no_arguments(alloc);

@@ -44,10 +44,7 @@ fn local_named(locals: &[CLocal], first: u32, name: &[u8]) -> Option<Named>
     let mut found = None;
     for (i, local) in locals.iter().enumerate() {
         if name == local.name.as_slice() {
-            found = Some(Named::Variable(
-                first as usize + i,
-                local_shape(local.ty),
-            ));
+            found = Some(Named::Variable(first as usize + i, local_shape(local.ty)));
         }
     }
     found

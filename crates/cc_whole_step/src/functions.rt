@@ -8,8 +8,8 @@ ghost use Rattle.cc_whole_step.specs.Comes.{Comes, StepsOn};
 
 use crate::mark::{Level, Mark};
 use crate::moment::{End, Moment, Shown, Step};
-use cc_whole::CFunction;
 use crate::stop::{Stop, short};
+use cc_whole::CFunction;
 use cc_whole_memory::{Act, Value};
 use cc_whole_start::born_arguments;
 use cf_base::Memory;
@@ -103,11 +103,7 @@ impl<'a> Moment<'a> {
         ensures { IfOk result (λ _. StepsOn (entering (function_of f.now) []) None self.old self.new) }
     {
         let next = short(next)?;
-        self.frames.marks.push(Mark::Parameters(
-            f.prototype.parameters.as_slice(),
-            next,
-            0,
-        ))?;
+        self.frames.marks.push(Mark::Parameters(f.prototype.parameters.as_slice(), next, 0))?;
         self.open(&f.body)?;
         Ok(())
     }

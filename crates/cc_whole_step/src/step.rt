@@ -4,8 +4,8 @@ ghost use Rattle.cc_whole_step.specs.Comes.{Comes};
 
 use crate::mark::{Doing, Flow, Mark};
 use crate::moment::{Moment, Step};
-use cc_whole::{CStatement, CSwitchItem};
 use crate::stop::Stop;
+use cc_whole::{CStatement, CSwitchItem};
 
 impl<'a> Moment<'a> {
     /// One step of the run.

@@ -8,9 +8,9 @@ ghost use Rattle.cc_whole_step.specs.Comes.{Comes};
 
 use crate::mark::{Doing, Mark};
 use crate::moment::{Moment, Step};
-use cc_whole::{CConstant, CExpression, CSwitchItem};
 use crate::stop::Stop;
-use cc_whole_eval::{integer};
+use cc_whole::{CConstant, CExpression, CSwitchItem};
+use cc_whole_eval::integer;
 
 /// An integer modulo 2 ^ 32.
 pub fn bits_of(number: i64) -> u32

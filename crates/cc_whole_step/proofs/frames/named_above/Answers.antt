@@ -27,9 +27,9 @@ pub loop-above-preserved : goal.loop-above-preserved
 loop-above-preserved c = (
   let h : c.loop-above.above ≤ length c.args.marks.now = c.loop-above.invariant.0 in omega arith,
   sym (below_mark (file_scope c.args.file.now) c.args.marks.now c.loop-above.above c.index-marks-above.result c.args.name.now c.loop-above-test.true
-    c.loop-above.invariant.0 c.index-marks-above.is
-    ∙ c.look_on.ensures (file_scope c.args.file.now) (scope_over (file_scope c.args.file.now) (file_scope c.args.file.now) (take (c.loop-above.above - 1) c.args.marks.now))
-    ∙ ap (λ r. look_in r (file_scope c.args.file.now c.args.name.now)
-    (scope_over (file_scope c.args.file.now) (file_scope c.args.file.now) (take (c.loop-above.above - 1) c.args.marks.now) c.args.name.now)) c.in-Below.is)
+      c.loop-above.invariant.0 c.index-marks-above.is
+      ∙ c.look_on.ensures (file_scope c.args.file.now) (scope_over (file_scope c.args.file.now) (file_scope c.args.file.now) (take (c.loop-above.above - 1) c.args.marks.now))
+      ∙ ap (λ r. look_in r (file_scope c.args.file.now c.args.name.now)
+      (scope_over (file_scope c.args.file.now) (file_scope c.args.file.now) (take (c.loop-above.above - 1) c.args.marks.now) c.args.name.now)) c.in-Below.is)
       ∙ c.loop-above.invariant.1,
 )
