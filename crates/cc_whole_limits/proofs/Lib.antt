@@ -1,0 +1,4 @@
+mod FrameLaws
+mod LimitLaws
+mod NodeLaws
+mod SumLaws

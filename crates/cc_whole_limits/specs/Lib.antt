@@ -1,0 +1,4 @@
+pub mod Frames
+pub mod Nodes
+pub mod StartLimit
+pub mod Sums
