@@ -6,7 +6,7 @@
 
 mod files;
 mod item;
-mod knot;
+pub mod knot;
 mod linkages;
 mod parts;
 mod words;
