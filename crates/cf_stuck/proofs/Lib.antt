@@ -1,0 +1,3 @@
+pub mod Elements
+pub mod Quiet
+pub mod Whole
