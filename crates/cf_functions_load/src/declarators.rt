@@ -117,7 +117,7 @@ fn no_head(alloc: Global, first: u32, before: &DeclTree, at: u32) -> Result<Head
 }
 
 /// The head of a function that a declarator is which begins at this place (8.3).
-pub fn head(alloc: Global, first: u32, d: &DeclTree) -> Result<Head, LoadFault>
+pub fn function_head(alloc: Global, first: u32, d: &DeclTree) -> Result<Head, LoadFault>
     ensures value { Gives ((spec.shape d.now).head first) result }
     ensures named { IfOk result (λ found. is_identifier found.name ≡ true) }
 {

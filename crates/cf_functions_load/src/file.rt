@@ -8,7 +8,7 @@ ghost use Rattle.cf_functions_load.specs.Gives.{Gives};
 ghost use Rattle.cf_functions_load.specs.Names.{is_named};
 ghost use Rattle.cf_functions_load.specs.Statements.{no_initialisers as has_none, function as its_function};
 
-use crate::declarators::{Head, head};
+use crate::declarators::{Head, function_head};
 use crate::fault::LoadFault;
 use crate::specifiers::int_declared;
 use crate::statements::{declaration_place, statements};
@@ -33,7 +33,7 @@ fn function(alloc: Global, f: &FunctionDef) -> Result<Function, LoadFault>
     ensures named { IfOk result (λ found. is_named (function_of found) ≡ true) }
 {
     int_declared(f.at, f.specifiers.as_slice())?;
-    let Head { name, parameters } = head(alloc, f.declarator_at, f.declarator.get())?;
+    let Head { name, parameters } = function_head(alloc, f.declarator_at, f.declarator.get())?;
     no_initialisers(f.initialisers.as_slice())?;
     let body = statements(alloc, &f.body)?;
     Ok(Function {
