@@ -7,7 +7,7 @@ use Rattle.cf_syntax.specs.declared.declarator.TypeId.{TypeId-F}
 use Rattle.cf_syntax.specs.declared.specifier.Pointer.{Pointer}
 use Rattle.cf_syntax.specs.declared.specifier.Pointer.TheVariants as pointer
 use Rattle.cf_functions_load.specs.declared.declarators.Head.{Head}
-use Rattle.cf_functions_load.specs.Formed.{Formed, then, made, stray, all}
+use Rattle.cf_functions_load.specs.Formed.{Formed, after, made, stray, all}
 use Rattle.cf_functions_load.specs.Names.{plain}
 use Rattle.cf_functions_load.specs.Specifiers.{word, int_alone}
 
@@ -37,7 +37,7 @@ tree_step (DeclTree-F.Declared n) = record { name = λ _. plain n; head = λ at.
 tree_step (DeclTree-F.Pointed p d) = no_shape (pointer_place p)
 tree_step (DeclTree-F.Bracketed at d) = no_shape at
 tree_step (DeclTree-F.Function at d ps is_const) =
-    record { name = λ first. stray (d.name first) at; head = λ first. then (d.name first) (λ name. head_of at name ps is_const) }
+    record { name = λ first. stray (d.name first) at; head = λ first. after (d.name first) (λ name. head_of at name ps is_const) }
 tree_step (DeclTree-F.Array at d bound) = record { name = λ first. stray (d.name first) at; head = λ first. stray (d.name first) at }
 
 abbrev pub no_default : {A : Type 0} → Option (ℕ × A) → List ℕ → Formed (List ℕ)
@@ -46,7 +46,7 @@ no_default (Some d) name = Err d.0
 
 -- int name
 abbrev pub param_step : Param-F Shape (Unit {0}) (Formed (List ℕ)) (Unit {0}) → Formed (List ℕ)
-param_step p = then (int_alone p.at (map word p.specifiers)) (λ _. then (p.declarator.name p.at) (no_default p.default))
+param_step p = after (int_alone p.at (map word p.specifiers)) (λ _. after (p.declarator.name p.at) (no_default p.default))
 
 -- ---- declarators hold no expressions of theirs
 

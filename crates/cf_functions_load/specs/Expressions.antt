@@ -18,7 +18,7 @@ use Rattle.cf_functions.specs.declared.tree.Expression.TheVariants as tree
 use Rattle.cf_functions.specs.declared.tree.Statement.{Statement}
 use Rattle.cf_functions.specs.declared.tree.Statement.TheVariants as statement
 use Rattle.cf_functions_load.specs.declared.calls.Call.{Call}
-use Rattle.cf_functions_load.specs.Formed.{Formed, then, made, stray, all}
+use Rattle.cf_functions_load.specs.Formed.{Formed, after, made, stray, all}
 use Rattle.cf_functions_load.specs.Names.{plain}
 
 -- What an expression is where it stands.
@@ -79,7 +79,7 @@ operator at binary.DotStar = Err at
 operator at binary.ArrowStar = Err at
 
 abbrev pub joined : ℕ → BinaryOp → Formed Expression → Formed Expression → Formed Expression
-joined at o a b = then a (λ x. then (operator at o) (λ f. made (λ y. tree.Binary f x y) b))
+joined at o a b = after a (λ x. after (operator at o) (λ f. made (λ y. tree.Binary f x y) b))
 
 -- ---- calls (5.2.2)
 
@@ -95,7 +95,7 @@ called at f = called_by at f.name f.value
     called_by at None x = stray x at
 
 abbrev pub call : ℕ → Form → List Form → Formed Call
-call at f xs = then (called at f) (λ n. made (λ es. record { at = n.0; name = n.1; arguments = es }) (values xs))
+call at f xs = after (called at f) (λ n. made (λ es. record { at = n.0; name = n.1; arguments = es }) (values xs))
 
 abbrev pub call_value : Formed Call → Formed Expression
 call_value c = made (λ (x : Call). tree.Call x.at x.name x.arguments) c
@@ -111,7 +111,7 @@ local n = made (λ name. tree.Local n.at name) (plain n)
 -- ---- assignments (5.17)
 
 abbrev pub assigned : Option Name → Formed Expression → ℕ → Formed Statement
-assigned (Some n) x at = then (plain n) (λ name. made (λ e. statement.Assign n.at name e) x)
+assigned (Some n) x at = after (plain n) (λ name. made (λ e. statement.Assign n.at name e) x)
 assigned None x at = Err at
 
 -- `=` behind a name

@@ -6,9 +6,9 @@ abbrev pub Formed : Type 0 → Type 0
 Formed A = Result A ℕ
 
 -- one part, and what it makes of another behind it
-abbrev pub then : {A B : Type 0} → Formed A → (A → Formed B) → Formed B
-then (Ok a) f = f a
-then (Err at) f = Err at
+abbrev pub after : {A B : Type 0} → Formed A → (A → Formed B) → Formed B
+after (Ok a) f = f a
+after (Err at) f = Err at
 
 abbrev pub made : {A B : Type 0} → (A → B) → Formed A → Formed B
 made f (Ok a) = Ok (f a)
@@ -22,4 +22,4 @@ stray (Err before) at = Err before
 -- parts, one behind the other
 abbrev pub all : {A : Type 0} → List (Formed A) → Formed (List A)
 all [] = Ok []
-all (x ∷ xs) = then x (λ a. made (λ rest. a ∷ rest) (all xs))
+all (x ∷ xs) = after x (λ a. made (λ rest. a ∷ rest) (all xs))

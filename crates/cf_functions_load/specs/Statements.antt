@@ -18,7 +18,7 @@ use Rattle.cf_functions.specs.declared.tree.Function.{Function}
 use Rattle.cf_functions.specs.declared.tree.Statement.{Statement}
 use Rattle.cf_functions.specs.declared.tree.Statement.TheVariants as statement
 use Rattle.cf_functions_load.specs.declared.declarators.Head.{Head}
-use Rattle.cf_functions_load.specs.Formed.{Formed, then, made, stray, all}
+use Rattle.cf_functions_load.specs.Formed.{Formed, after, made, stray, all}
 use Rattle.cf_functions_load.specs.Specifiers.{word, int_alone}
 use Rattle.cf_functions_load.specs.Expressions.{form}
 use Rattle.cf_functions_load.specs.Declarators.{shape}
@@ -39,7 +39,7 @@ initialised at name (Some (initialiser.Equals p i)) = made (λ e. statement.Decl
 initialised at name (Some (initialiser.Arguments p xs)) = Err p
 
 abbrev pub local : InitDeclarator → Formed Statement
-local d = then ((shape d.declarator).name d.at) (λ name. initialised d.at name d.initialiser)
+local d = after ((shape d.declarator).name d.at) (λ name. initialised d.at name d.initialiser)
 
 -- one declarator, in a declaration at this place
 abbrev pub local_alone : ℕ → List InitDeclarator → Formed Statement
@@ -79,10 +79,10 @@ otherwise None = Ok []
 otherwise (Some p) = p.block
 
 abbrev pub chosen : Expr → Part → Option Part → Formed Statement
-chosen c yes no = then (form c).value (λ x. then yes.block (λ ys. made (λ ns. statement.If x ys ns) (otherwise no)))
+chosen c body other = after (form c).value (λ x. after body.block (λ ss. made (λ rest. statement.If x ss rest) (otherwise other)))
 
 abbrev pub repeated : Expr → Part → Formed Statement
-repeated c body = then (form c).value (λ x. made (λ ss. statement.While x ss) body.block)
+repeated c body = after (form c).value (λ x. made (λ ss. statement.While x ss) body.block)
 
 abbrev pub returned : ℕ → Option Expr → Formed Statement
 returned at None = Err at
@@ -110,7 +110,7 @@ statement_step (Stmt-F.Stmt::Declaration d) = no_block d.at d.local
 statement_step (Stmt-F.Block at ps) = record { statement = inner ps; block = statements ps }
 statement_step (Stmt-F.Empty at) = no_statement at
 statement_step (Stmt-F.Expression at x) = no_block at ((form x).act at)
-statement_step (Stmt-F.If at c yes no) = no_block at (chosen c yes no)
+statement_step (Stmt-F.If at c body other) = no_block at (chosen c body other)
 statement_step (Stmt-F.While at c body) = no_block at (repeated c body)
 statement_step (Stmt-F.Do at body c) = no_statement at
 statement_step (Stmt-F.For at first c last body) = no_statement at
@@ -126,11 +126,11 @@ class_step c = c.at
 
 -- int name(int a, ..) { .. }
 abbrev pub function_step : FunctionDef-F (Unit {0}) (Formed ℕ) Part ℕ (Formed Function) Declared → Formed Function
-function_step f = then (int_alone f.at f.specifiers) (λ _. then ((shape f.declarator).head f.declarator_at) (λ h. then (no_initialisers f.initialisers)
+function_step f = after (int_alone f.at f.specifiers) (λ _. after ((shape f.declarator).head f.declarator_at) (λ h. after (no_initialisers f.initialisers)
     (λ _. body_of h f.body)))
 
 abbrev pub declaration_step : Declaration-F (Unit {0}) (Formed ℕ) Part ℕ (Formed Function) Declared → Declared
-declaration_step d = record { at = d.at; local = then (int_alone d.at d.specifiers) (λ _. local_alone d.at d.declarators) }
+declaration_step d = record { at = d.at; local = after (int_alone d.at d.specifiers) (λ _. local_alone d.at d.declarators) }
 
 abbrev pub specifier : Specifier → Formed ℕ
 specifier = fold-Specifier (Unit {0}) (Formed ℕ) Part ℕ (Formed Function) Declared member_step specifier_step statement_step class_step function_step declaration_step

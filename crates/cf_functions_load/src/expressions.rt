@@ -73,7 +73,11 @@ pub fn value(alloc: Global, e: &Expr) -> Result<Boxed<Expression>, LoadFault>
         Expr::BasicCall(at, _, _) => Err(LoadFault::NotBuilt { at: *at }),
         Expr::TypeCall(at, _, _) => Err(LoadFault::NotBuilt { at: *at }),
         Expr::Index(at, a, _) => stray(alloc, a.get(), *at),
-        Expr::Call(at, callee, arguments) => call_value(alloc, *at, callee.get(), arguments),
+        Expr::Call(at, callee, arguments) => {
+            let (at, name) = called(alloc, *at, callee.get())?;
+            let arguments = values(alloc, arguments)?;
+            Ok(Boxed::new(alloc, Expression::Call(at, name, arguments))?)
+        }
         Expr::Dot(at, a, _) => stray(alloc, a.get(), *at),
         Expr::Arrow(at, a, _) => stray(alloc, a.get(), *at),
         Expr::StepAfter(at, _, a) => stray(alloc, a.get(), *at),
@@ -85,7 +89,12 @@ pub fn value(alloc: Global, e: &Expr) -> Result<Boxed<Expression>, LoadFault>
         Expr::New(at, _, _, _, _, _, _) => Err(LoadFault::NotBuilt { at: *at }),
         Expr::NewBracketed(at, _, _, _, _) => Err(LoadFault::NotBuilt { at: *at }),
         Expr::Cast(at, _, _) => Err(LoadFault::NotBuilt { at: *at }),
-        Expr::Binary(at, op, a, b) => joined(alloc, *at, *op, a.get(), b.get()),
+        Expr::Binary(at, op, a, b) => {
+            let left = value(alloc, a.get())?;
+            let operator = operator(*at, *op)?;
+            let right = value(alloc, b.get())?;
+            Ok(Boxed::new(alloc, Expression::Binary(operator, left, right))?)
+        }
         Expr::Conditional(at, condition, _, _) => stray(alloc, condition.get(), *at),
         Expr::Assign(at, _, a, _) => stray(alloc, a.get(), *at),
         Expr::Comma(at, all) => comma(alloc, *at, all),
@@ -106,27 +115,10 @@ fn stray(alloc: Global, before: &Expr, at: u32) -> Result<Boxed<Expression>, Loa
 fn comma(alloc: Global, at: u32, all: &Items<Expr>) -> Result<Boxed<Expression>, LoadFault>
     ensures { Gives (spec.comma at (map spec.form all.now)) result }
 {
-    match all.get(0) {
-        Some(first) => stray(alloc, first, at),
-        None => Err(LoadFault::NotBuilt { at }),
+    match all.as_slice() {
+        [] => Err(LoadFault::NotBuilt { at }),
+        [first, ..] => stray(alloc, first, at),
     }
-}
-
-/// Two operands with an operator at this place.
-#[cycle(values)]
-fn joined(
-    alloc: Global,
-    at: u32,
-    op: BinaryOp,
-    a: &Expr,
-    b: &Expr,
-) -> Result<Boxed<Expression>, LoadFault>
-    ensures { Gives (spec.joined at op (spec.form a.now).value (spec.form b.now).value) result }
-{
-    let left = value(alloc, a)?;
-    let operator = operator(at, op)?;
-    let right = value(alloc, b)?;
-    Ok(Boxed::new(alloc, Expression::Binary(operator, left, right))?)
 }
 
 /// The values of arguments.
@@ -159,7 +151,6 @@ fn called(alloc: Global, at: u32, callee: &Expr) -> Result<(u32, Bytes), LoadFau
 }
 
 /// A call by a bracket at this place (5.2.2).
-#[cycle(values)]
 fn call(alloc: Global, at: u32, callee: &Expr, arguments: &Items<Expr>) -> Result<Call, LoadFault>
     ensures { Gives (spec.call at (spec.form callee.now) (map spec.form arguments.now)) result }
 {
@@ -170,23 +161,6 @@ fn call(alloc: Global, at: u32, callee: &Expr, arguments: &Items<Expr>) -> Resul
         name,
         arguments,
     })
-}
-
-#[cycle(values)]
-fn call_value(
-    alloc: Global,
-    at: u32,
-    callee: &Expr,
-    arguments: &Items<Expr>,
-) -> Result<Boxed<Expression>, LoadFault>
-    ensures { Gives (spec.call_value (spec.call at (spec.form callee.now) (map spec.form arguments.now))) result }
-{
-    let Call {
-        at,
-        name,
-        arguments,
-    } = call(alloc, at, callee, arguments)?;
-    Ok(Boxed::new(alloc, Expression::Call(at, name, arguments))?)
 }
 
 /// A call whose value is not used.
@@ -213,7 +187,7 @@ fn assigned(
     name: Option<&Name>,
     x: &Expr,
 ) -> Result<Boxed<Statement>, LoadFault>
-    ensures { Gives (spec.assigned (option_copied name) (spec.form x.now).value at) result }
+    ensures { Gives (spec.assigned (option_copied name.entry) (spec.form x.now).value at) result }
 {
     match name {
         Some(name) => {

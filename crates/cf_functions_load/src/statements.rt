@@ -114,8 +114,17 @@ fn statement(alloc: Global, s: &Stmt) -> Result<Boxed<Statement>, LoadFault>
         Stmt::Block(_, all) => inner(alloc, all),
         Stmt::Empty(at) => Err(LoadFault::NotBuilt { at: *at }),
         Stmt::Expression(at, x) => act(alloc, *at, x.get()),
-        Stmt::If(_, condition, yes, no) => chosen(alloc, condition.get(), yes.get(), no),
-        Stmt::While(_, condition, body) => repeated(alloc, condition.get(), body.get()),
+        Stmt::If(_, condition, body, other) => {
+            let condition = value(alloc, condition.get())?;
+            let body = block(alloc, body.get())?;
+            let other = otherwise(alloc, other)?;
+            Ok(Boxed::new(alloc, Statement::If(condition, body, other))?)
+        }
+        Stmt::While(_, condition, body) => {
+            let condition = value(alloc, condition.get())?;
+            let body = block(alloc, body.get())?;
+            Ok(Boxed::new(alloc, Statement::While(condition, body))?)
+        }
         Stmt::Do(at, _, _) => Err(LoadFault::NotBuilt { at: *at }),
         Stmt::For(at, _, _, _, _) => Err(LoadFault::NotBuilt { at: *at }),
         Stmt::Switch(at, _, _) => Err(LoadFault::NotBuilt { at: *at }),
@@ -182,30 +191,4 @@ fn otherwise(alloc: Global, no: &Option<Boxed<Stmt>>) -> Result<Items<Statement>
         None => Ok(Items::new(alloc)),
         Some(no) => block(alloc, no.get()),
     }
-}
-
-/// `if` (6.4.1)
-#[cycle(statements)]
-fn chosen(
-    alloc: Global,
-    condition: &Expr,
-    yes: &Stmt,
-    no: &Option<Boxed<Stmt>>,
-) -> Result<Boxed<Statement>, LoadFault>
-    ensures { Gives (spec.chosen condition.now (spec.part yes.now) (option_map spec.part no.now)) result }
-{
-    let condition = value(alloc, condition)?;
-    let yes = block(alloc, yes)?;
-    let no = otherwise(alloc, no)?;
-    Ok(Boxed::new(alloc, Statement::If(condition, yes, no))?)
-}
-
-/// `while` (6.5.1)
-#[cycle(statements)]
-fn repeated(alloc: Global, condition: &Expr, body: &Stmt) -> Result<Boxed<Statement>, LoadFault>
-    ensures { Gives (spec.repeated condition.now (spec.part body.now)) result }
-{
-    let condition = value(alloc, condition)?;
-    let body = block(alloc, body)?;
-    Ok(Boxed::new(alloc, Statement::While(condition, body))?)
 }
