@@ -1,6 +1,6 @@
 -- Lists that grow by one part after the other.
-use Rattle.std.proofs.Common.{◌≡◌, List, [], ◌∷◌, ◌++◌, Ok, Err, refl, ap, sym, append_assoc}
-use Rattle.cf_functions_load.specs.Formed.{Formed, made}
+use Rattle.std.proofs.Common.{List, ◌++◌, Ok, Err}
+use Rattle.cf_functions_load.specs.Formed.{Formed}
 
 -- what was found, and the rest behind it
 abbrev pub infront : {A : Type 0} → List A → Formed (List A) → Formed (List A)

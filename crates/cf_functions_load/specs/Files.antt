@@ -1,5 +1,5 @@
 -- Which files are those of functions over int: functions, one behind the other.
-use Rattle.std.specs.Prelude.{ℕ, List, map, Err}
+use Rattle.std.specs.Prelude.{List, map, Err}
 use Rattle.cf_unit.specs.declared.file.Item.{Item}
 use Rattle.cf_unit.specs.declared.file.Item.TheVariants as item
 use Rattle.cf_unit.specs.declared.file.Unit.{Unit as File}
