@@ -23,7 +23,7 @@ no_list bytes fault.Memory free = tt
 module _ (bytes : List ℕ) (listed : List Token) (lexical : Lex bytes (Ok listed)) where
   -- the tokens have no tree
   pub no_tree : (f : Fault) → IsTree listed (Err f) → IsRead bytes (Err f)
-  no_tree (fault.Broken b) n = subst (λ k. First bytes (Err (breaks k))) (sym n.broken) (is_misspelled listed n.at lexical n.refused)
+  no_tree (fault.Broken b) n = subst (λ k. First bytes (Err (breaks k))) (sym n.broken) (is_misspelled listed b.at lexical n.refused)
   no_tree (fault.Limit limit) n = subst (λ l. First bytes (Err (passes l))) (sym n.passed) (is_nested listed lexical n.nested)
   no_tree fault.Memory free = tt
 
@@ -33,7 +33,7 @@ module _ (bytes : List ℕ) (listed : List Token) (lexical : Lex bytes (Ok liste
 
     -- the tree is no program
     pub no_program : (f : Fault) → IsLoaded tree (Err f) → IsRead bytes (Err f)
-    no_program (fault.Broken b) n = subst (λ k. First bytes (Err (breaks k))) (sym n.broken) (is_not_built tree n.at has_tree n.first)
+    no_program (fault.Broken b) n = subst (λ k. First bytes (Err (breaks k))) (sym n.broken) (is_not_built tree b.at has_tree n.first)
     no_program (fault.Limit limit) n = absurd n
     no_program fault.Memory free = tt
 

@@ -25,9 +25,8 @@ IsUncut bytes fault.Memory = Unit {0}
 
 -- the tokens are refused at a place
 pub record Misspelled (ts : List Token) (b : Broken) : Type 0 where
-  pub at : ℕ
-  pub broken : b ≡ misspelled at
-  pub refused : IsUnit ts (grammar.refused at)
+  pub broken : b ≡ misspelled b.at
+  pub refused : IsUnit ts (grammar.refused b.at)
 
 -- the tokens are nested too deep
 pub record TooDeep (ts : List Token) (limit : Limit) : Type 0 where
@@ -48,9 +47,8 @@ pub record Loaded (tree : File) (p : Program) : Type 0 where
 
 -- the tree's first construct that is no form of functions over int
 pub record NotBuilt (tree : File) (b : Broken) : Type 0 where
-  pub at : ℕ
-  pub broken : b ≡ not_built at
-  pub first : program_of tree ≡ Err at
+  pub broken : b ≡ not_built b.at
+  pub first : program_of tree ≡ Err b.at
 
 -- the program of a tree, or why there is none; no limit is passed here
 abbrev pub IsLoaded : File → Result Program Fault → Type 0

@@ -1,1 +1,1 @@
-pub mod IsParsed
+pub mod Tells

@@ -1,4 +1,4 @@
-ghost use Rattle.cf_parse_file.specs.IsParsed.{IsParsed};
+ghost use Rattle.cf_parse_file.specs.Tells.{Tells};
 
 use crate::fault::ParseFault;
 use cf_tokens::Token;
@@ -7,7 +7,7 @@ use std::alloc::Global;
 
 /// The tree of a file's tokens, or why there is none.
 pub fn unit(alloc: Global, tokens: &[Token]) -> Result<Unit, ParseFault>
-    ensures { IsParsed tokens.now result }
+    ensures { Tells tokens.now result }
 {
     let _ = alloc;
     let _ = tokens;
