@@ -1,6 +1,6 @@
 //! Copies of scopes and classes.
 
-ghost use Rattle.std.specs.Prelude.{◌≡◌, IfOk};
+ghost use Rattle.std.specs.Prelude.{◌≡◌, drop, IfOk};
 
 use crate::type_names::{ClassNames, Entry, Scope};
 use cf_base::{Bytes, Items, Memory};
@@ -65,4 +65,15 @@ pub fn scopes(alloc: Global, all: &[Scope]) -> Result<Vec<Scope>, Memory>
         made.push(scope(alloc, one)?)?;
     }
     Ok(made)
+}
+
+/// The same scopes without so many at the front.
+pub fn scopes_beyond(alloc: Global, all: &[Scope], count: usize) -> Result<Vec<Scope>, Memory>
+    ensures { IfOk result (λ made. made.items ≡ drop count all.now) }
+{
+    if count < all.len() {
+        scopes(alloc, &all[count..])
+    } else {
+        Ok(Vec::new(alloc))
+    }
 }

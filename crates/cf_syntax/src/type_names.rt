@@ -1,6 +1,6 @@
 ghost use Rattle.std.specs.Prelude.{◌≡◌, ℕ, ◌<◌, [], length, slice_index, slice_set, true, false, IfOk, OnOk, OnErr};
 ghost use Rattle.cf_syntax.specs.Names.{no_names, find, find_in, find_here, find_in_file, with_class, with_bases, with_scope, without_scope, declared, is_defined, grown, class_at};
-ghost use Rattle.cf_syntax.specs.Closing.{closed_to};
+ghost use Rattle.cf_syntax.specs.Closing.{closed_to, opened_beyond};
 ghost use Rattle.cf_syntax.specs.Entered.{entered_at, find_type, outside_classes};
 ghost use Rattle.cf_syntax.specs.Named.{opened};
 ghost use Rattle.cf_syntax.specs.declared.type_names.Scope.TheVariants.{Block, Class};
@@ -198,6 +198,16 @@ impl TypeNames {
         ensures { result ≡ length self.now.inner }
     {
         self.inner.len()
+    }
+
+    /// Opens copies of the scopes that are open in the other names beyond as many as are open here.
+    pub fn open_beyond(&mut self, other: &TypeNames) -> Result<(), Memory>
+        ensures ok { OnOk result (self.new ≡ opened_beyond self.old other.now) }
+        ensures err { OnErr result (self.new ≡ self.old) }
+    {
+        let mut scopes = copied::scopes_beyond(self.alloc, &other.inner, self.inner.len())?;
+        self.inner.append(&mut scopes)?;
+        Ok(())
     }
 
     /// Closes the innermost scopes until at most so many are open inside the file's.

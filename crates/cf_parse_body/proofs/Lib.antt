@@ -1,0 +1,2 @@
+mod BodiesRead
+mod InitsRead

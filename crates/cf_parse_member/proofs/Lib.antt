@@ -1,0 +1,3 @@
+mod ClassesRead
+mod Joined
+mod MembersRead

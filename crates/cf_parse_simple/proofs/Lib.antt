@@ -1,0 +1,11 @@
+pub mod Commas
+pub mod Constructing
+pub mod Declaring
+pub mod Entering
+pub mod Enumerating
+pub mod Followed
+pub mod Joined
+pub mod Specifying
+pub mod Suffixes
+pub mod Taken
+pub mod Turns
