@@ -137,7 +137,7 @@ fn the_first_fault_comes_first(rt: HostRuntime) -> Result<(), Fail> {
         ("int main(){return 2*3; a}", "K6@23"),
         ("int main(){int a=a;int a=1;}", "K48@0"),
         ("int main(){return a+(2*b);}", "K48@22"),
-        ("int main(){return b+2u*'a';}", "K48@21"),
+        ("int main(){return b+2u*'a';}", "K48@20"),
     ];
     compare(&rt, rt.alloc(), &rows)
 }
