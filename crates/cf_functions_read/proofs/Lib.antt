@@ -1,4 +1,2 @@
 mod Answer
-mod Identifiers
-mod Names
 mod Reading

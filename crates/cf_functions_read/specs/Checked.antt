@@ -3,8 +3,8 @@ use Rattle.std.specs.Prelude.{◌≡◌, true, None, Result, Ok, Err, ◌⊎◌}
 use Rattle.cf_functions.specs.declared.tree.Program.{Program}
 use Rattle.cf_functions.specs.Plain.{functions_of}
 use Rattle.cf_functions.specs.Rules.{keeps_names, first_unknown_of}
-use Rattle.cf_functions_tokens.specs.declared.fault.Fault.{Fault}
-use Rattle.cf_functions_tokens.specs.declared.fault.Fault.TheVariants as fault
+use Rattle.cf_functions_read.specs.declared.fault.Fault.{Fault}
+use Rattle.cf_functions_read.specs.declared.fault.Fault.TheVariants as fault
 use Rattle.cf_functions_names.specs.Checks.{BreaksNames, UsesUnknown}
 
 pub record Kept (p q : Program) : Type 0 where

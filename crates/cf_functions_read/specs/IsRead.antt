@@ -3,18 +3,10 @@ use Rattle.std.specs.Prelude.{◌≡◌, ℕ, true, List, Result, Ok, Err}
 use Rattle.std.specs.List.{list_all}
 use Rattle.cf_functions.specs.declared.tree.Program.{Program}
 use Rattle.cf_functions.specs.Plain.{functions_of}
-use Rattle.cf_functions_tokens.specs.declared.fault.Fault.{Fault}
-use Rattle.cf_functions_tokens.specs.declared.fault.Fault.TheVariants as fault
-use Rattle.cf_tokens.specs.Lex.{Lex}
-use Rattle.cf_tokens.specs.declared.fault.LexFault.TheVariants as lexical
+use Rattle.cf_functions_load.specs.Names.{is_named}
+use Rattle.cf_functions_read.specs.declared.fault.Fault.{Fault}
+use Rattle.cf_functions_read.specs.declared.fault.Fault.TheVariants as fault
 use Rattle.cf_functions_read.specs.First.{First, breaks, passes}
-use Rattle.cf_functions_read.specs.Words.{is_named}
-
--- why the bytes have no tokens of the language; want of memory says nothing
-abbrev pub IsUncut : List ℕ → Fault → Type 0
-IsUncut bytes (fault.Broken first) = Lex bytes (Err (lexical.Broken first))
-IsUncut bytes (fault.Limit limit) = Lex bytes (Err (lexical.Limit limit))
-IsUncut bytes fault.Memory = Unit {0}
 
 -- the file is this program, and the names of its functions are identifiers
 pub record IsAccepted (bytes : List ℕ) (p : Program) : Type 0 where

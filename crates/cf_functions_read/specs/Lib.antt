@@ -1,4 +1,4 @@
 pub mod Checked
 pub mod First
 pub mod IsRead
-pub mod Words
+pub mod Steps

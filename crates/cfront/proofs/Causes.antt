@@ -8,7 +8,7 @@ use Rattle.cc_run.specs.Run.{streams, StillTold, Front, SameCounts}
 use Rattle.cf_functions.specs.declared.tree.Program.{Program}
 use Rattle.cf_functions_read.specs.First.{First, accepted}
 use Rattle.cf_functions_read.specs.IsRead.{IsAccepted}
-use Rattle.cf_functions_read.specs.Words.{is_named}
+use Rattle.cf_functions_load.specs.Names.{is_named}
 use Rattle.cf_functions.specs.Plain.{functions_of}
 use Rattle.std.specs.List.{list_all}
 use Rattle.cfront.specs.declared.outcome.Outcome.{Outcome}

@@ -30,7 +30,7 @@ use Rattle.cf_functions.specs.Agrees.{is_function_of_text, Keeps}
 use Rattle.cf_functions.proofs.LinkNames.{link_is_no_main, link-main}
 use Rattle.cf_functions.proofs.Whole.{keeps}
 use Rattle.cf_functions_lower.specs.Translated.{IsTranslated}
-use Rattle.cf_functions_read.specs.Words.{is_identifier, is_named}
+use Rattle.cf_functions_load.specs.Names.{is_identifier, is_named}
 use Rattle.cfront.specs.Steps.{IsSound, KeepsMeaning}
 
 -- a named function that needs few variables is one of a text

@@ -9,7 +9,7 @@ use Rattle.cf_functions.specs.Plain.{functions_of}
 use Rattle.cf_functions.specs.Mean.{mean}
 use Rattle.cf_functions.specs.Rules.{keeps_names, first_unknown_of}
 use Rattle.cf_functions_read.specs.IsRead.{IsAccepted}
-use Rattle.cf_functions_read.specs.Words.{is_named}
+use Rattle.cf_functions_load.specs.Names.{is_named}
 use Rattle.cfront.specs.declared.outcome.Outcome.{Outcome}
 use Rattle.cfront.specs.declared.outcome.Outcome.TheVariants as answer
 use Rattle.cfront.specs.declared.answer.Answer.{Answer}

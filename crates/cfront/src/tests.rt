@@ -188,10 +188,25 @@ fn lexical_faults_come_first(rt: HostRuntime) -> Result<(), Fail> {
 
 #[test]
 fn another_constant_and_an_empty_file_are_outside(rt: HostRuntime) -> Result<(), Fail> {
-    let line = "a.C:1:1: K48 outside the profile\n";
+    let line = "a.C:1:19: K48 outside the profile\n";
     let constant = b"int main(){return 1u;}";
-    check_text(&rt, rt.alloc(), constant, refused(48, 0), "", line)?;
+    check_text(&rt, rt.alloc(), constant, refused(48, 18), "", line)?;
+    let line = "a.C:1:1: K48 outside the profile\n";
     check_text(&rt, rt.alloc(), b"", refused(48, 0), "", line)
+}
+
+#[test]
+fn unmatched_bracket_is_not_in_the_grammar(rt: HostRuntime) -> Result<(), Fail> {
+    let line = "a.C:1:11: K6 (17) tokens not in the grammar\n";
+    let text = b"int main(){return 7";
+    check_text(&rt, rt.alloc(), text, refused(6, 10), "", line)
+}
+
+#[test]
+fn declaration_of_a_local_in_brackets_is_outside(rt: HostRuntime) -> Result<(), Fail> {
+    let line = "a.C:1:1: K48 outside the profile\n";
+    let text = b"typedef int T;int main(){T(x);return 0;}";
+    check_text(&rt, rt.alloc(), text, refused(48, 0), "", line)
 }
 
 #[test]
@@ -316,12 +331,18 @@ fn nested(alloc: Global, brackets: u32) -> Result<Vec<u8>, AllocError> {
 #[test]
 fn nesting(rt: HostRuntime) -> Result<(), Fail> {
     let alloc = rt.alloc();
-    let most = nested(alloc, 63)?;
+    let most = nested(alloc, 250)?;
     let want = Outcome::Ended { status: 7 };
     check_text(&rt, alloc, &most, want, "", "cfront: ended 7\n")?;
-    let more = nested(alloc, 64)?;
-    let line = "a.C:1:1: K48 outside the profile\n";
-    check_text(&rt, alloc, &more, refused(48, 0), "", line)
+    let more = nested(alloc, 251)?;
+    let want = Outcome::Limit {
+        file: Some(1),
+        limit: Limit {
+            bound: Bound::Nesting,
+            most: 256,
+        },
+    };
+    check_text(&rt, alloc, &more, want, "", "a.C: limit Nesting 256\n")
 }
 
 #[test]

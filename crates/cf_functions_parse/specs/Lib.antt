@@ -1,5 +1,0 @@
-pub mod IsParsed
-pub mod Nesting
-pub mod Parse
-pub mod Rules
-pub mod Spells

@@ -1,5 +1,0 @@
-pub mod Gives
-pub mod Outside
-pub mod Symbol
-pub mod Taken
-pub mod Terminals
