@@ -12,41 +12,79 @@ pub struct Repeated {
     pub most: usize,
 }
 
-const fn row(
-    before: &'static str,
-    piece: &'static str,
-    middle: &'static str,
-    last: &'static str,
-    behind: &'static str,
-    most: usize,
-) -> Repeated {
-    Repeated {
-        before,
-        piece,
-        middle,
-        last,
-        behind,
-        most,
-    }
-}
-
 /// Files whose nesting is 256, or one time more passes it.
 pub const AT_LIMIT: [Repeated; 5] = [
-    row("int main(){return ", "(", "7", ")", ";}", 250),
-    row("int main()", "{", ";", "}", "", 253),
-    row("int main(){return ", "1+", "1", "", ";}", 125),
-    row("int main(){", "if(1);else ", ";", "", "}", 63),
-    row("int x", "[1", "", "]", ";", 127),
+    Repeated {
+        before: "int main(){return ",
+        piece: "(",
+        middle: "7",
+        last: ")",
+        behind: ";}",
+        most: 250,
+    },
+    Repeated {
+        before: "int main()",
+        piece: "{",
+        middle: ";",
+        last: "}",
+        behind: "",
+        most: 253,
+    },
+    Repeated {
+        before: "int main(){return ",
+        piece: "1+",
+        middle: "1",
+        last: "",
+        behind: ";}",
+        most: 125,
+    },
+    Repeated {
+        before: "int main(){",
+        piece: "if(1);else ",
+        middle: ";",
+        last: "",
+        behind: "}",
+        most: 63,
+    },
+    Repeated {
+        before: "int x",
+        piece: "[1",
+        middle: "",
+        last: "]",
+        behind: ";",
+        most: 127,
+    },
 ];
 
 /// Files whose trees are deeper than their nesting.
 pub const UNLIMITED: [Repeated; 2] = [
-    row("f(){", "if(a)b,c;else ", ";", "", "}", 200),
-    row("f(){x=", "a?b,", "a?b:c", ",d:c", ";}", 200),
+    Repeated {
+        before: "f(){",
+        piece: "if(a)b,c;else ",
+        middle: ";",
+        last: "",
+        behind: "}",
+        most: 200,
+    },
+    Repeated {
+        before: "f(){x=",
+        piece: "a?b,",
+        middle: "a?b:c",
+        last: ",d:c",
+        behind: ";}",
+        most: 200,
+    },
 ];
 
 /// Braces without partners that are nested too deep.
-pub const BRACES: Repeated = row("", "{\n", "", "", "", 2000);
+pub const BRACES: Repeated = Repeated {
+    before: "",
+    piece: "{\n",
+    middle: "",
+    last: "",
+    behind: "",
+    most: 2000,
+};
 
 /// The first bracket without a partner, marked by `$`.
 pub const BRACKETS: [&str; 10] = [
