@@ -1,0 +1,3 @@
+pub mod GoingLaws
+pub mod Grows
+pub mod Starting
