@@ -196,29 +196,43 @@ fn raised(alloc: Global) -> Result<Items<Node>, Memory> {
     Ok(statements)
 }
 
-/// `int main(){int i=4;int&j=i;j=j+1;return f(i)+f(2);}`: the second argument is a temporary.
-#[test]
-fn references(rt: HostRuntime) -> Result<(), Fail> {
-    let alloc = rt.alloc();
+/// `f(i)+f(2)`: the second argument is a temporary.
+fn sum_of_calls(alloc: Global) -> Result<Node, Memory> {
     let two = boxed(alloc, Node::Number(2))?;
     let first = called(alloc, Node::Local(0))?;
     let second = called(alloc, Node::Temporary(int(), two))?;
-    let total = sum(alloc, first, second)?;
-    let mut statements = raised(alloc)?;
-    statements.push(given(alloc, total)?)?;
-    let mut locals = Items::new(alloc);
-    locals.push(int())?;
-    locals.push(reference(0))?;
-    let main = function(
+    sum(alloc, first, second)
+}
+
+/// `main` with these locals and statements.
+fn main_of(alloc: Global, locals: Items<Shape>, statements: Items<Node>) -> Result<RunFn, Memory> {
+    function(
         alloc,
         b"__main".as_slice(),
         Items::new(alloc),
         locals,
         statements,
-    )?;
+    )
+}
+
+/// `int main(){int i=4;int&j=i;j=j+1;return f(i)+f(2);}`
+fn raising_main(alloc: Global) -> Result<RunFn, Memory> {
+    let total = sum_of_calls(alloc)?;
+    let mut statements = raised(alloc)?;
+    statements.push(given(alloc, total)?)?;
+    let mut locals = Items::new(alloc);
+    locals.push(int())?;
+    locals.push(reference(0))?;
+    main_of(alloc, locals, statements)
+}
+
+/// A reference names its object, also behind a call, and a temporary where there is none.
+#[test]
+fn references(rt: HostRuntime) -> Result<(), Fail> {
+    let alloc = rt.alloc();
     let mut functions = Items::new(alloc);
     functions.push(reader(alloc)?)?;
-    functions.push(main)?;
+    functions.push(raising_main(alloc)?)?;
     ends(&rt, alloc, functions, End::Ended(Integer::new(7)))
 }
 
@@ -246,29 +260,37 @@ fn temporary_of_a_local(rt: HostRuntime) -> Result<(), Fail> {
     ends(&rt, alloc, functions, End::Ended(Integer::new(3)))
 }
 
-/// A pointer to a temporary outlives the full expression, and is used.
-#[test]
-fn temporary_has_ended(rt: HostRuntime) -> Result<(), Fail> {
-    let alloc = rt.alloc();
-    let pointer = open(Form::Pointer(TyId::new(0)));
+/// `*p`
+fn read_through(alloc: Global) -> Result<Node, Memory> {
+    let held = boxed(alloc, read(alloc, Node::Local(0))?)?;
+    read(alloc, Node::Apply(Unary::Dereference, held))
+}
+
+/// The address of a temporary of 2.
+fn address_of_two(alloc: Global) -> Result<Node, Memory> {
     let two = boxed(alloc, Node::Number(2))?;
     let place = boxed(alloc, Node::Temporary(int(), two))?;
-    let start = Node::Apply(Unary::Address, place);
-    let held = boxed(alloc, read(alloc, Node::Local(0))?)?;
-    let value = read(alloc, Node::Apply(Unary::Dereference, held))?;
+    Ok(Node::Apply(Unary::Address, place))
+}
+
+/// `main` with a pointer that keeps that address.
+fn keeping_main(alloc: Global) -> Result<RunFn, Memory> {
+    let pointer = open(Form::Pointer(TyId::new(0)));
+    let start = address_of_two(alloc)?;
+    let value = read_through(alloc)?;
     let mut statements = Items::new(alloc);
     statements.push(declared(alloc, 0, pointer, start)?)?;
     statements.push(given(alloc, value)?)?;
     let mut locals = Items::new(alloc);
     locals.push(pointer)?;
-    let main = function(
-        alloc,
-        b"__main".as_slice(),
-        Items::new(alloc),
-        locals,
-        statements,
-    )?;
+    main_of(alloc, locals, statements)
+}
+
+/// A pointer to a temporary outlives the full expression, and is used.
+#[test]
+fn temporary_has_ended(rt: HostRuntime) -> Result<(), Fail> {
+    let alloc = rt.alloc();
     let mut functions = Items::new(alloc);
-    functions.push(main)?;
+    functions.push(keeping_main(alloc)?)?;
     ends(&rt, alloc, functions, End::Undefined(5))
 }
