@@ -1,0 +1,4 @@
+pub mod First
+pub mod Front
+pub mod Inside
+pub mod Stray
