@@ -3,16 +3,9 @@
 ghost use Rattle.std.specs.Prelude.{◌≡◌};
 ghost use Rattle.cf_unit.specs.Nesting as spec;
 
-use cf_parse_expr::words::{COMMA, LEFT_BRACKET, LEFT_PAREN, RIGHT_BRACKET, RIGHT_PAREN};
-
-/// `{`
-const LEFT_BRACE: u16 = 4;
-/// `}`
-pub const RIGHT_BRACE: u16 = 5;
-/// `;`
-const SEMICOLON: u16 = 6;
-/// `else`
-pub const ELSE: u16 = 77;
+use cf_parse_expr::words::{
+    COMMA, LEFT_BRACE, LEFT_BRACKET, LEFT_PAREN, RIGHT_BRACE, RIGHT_BRACKET, RIGHT_PAREN, SEMICOLON,
+};
 
 /// Whether the word is an opening bracket.
 pub fn is_opening(word: u16) -> bool

@@ -3,8 +3,9 @@
 ghost use Rattle.std.specs.Prelude.{◌≡◌, ◌<◌, OnOk, nat_lt};
 ghost use Rattle.cf_unit.specs.Nesting as spec;
 
-use crate::brackets::{RIGHT_BRACE, is_closing, is_opening, is_partner, resets};
+use crate::brackets::{is_closing, is_opening, is_partner, resets};
 use cf_base::Memory;
+use cf_parse_expr::words::RIGHT_BRACE;
 use cf_unit::Level;
 use std::alloc::Global;
 use std::marker::Model;

@@ -3,10 +3,10 @@
 ghost use Rattle.std.specs.Prelude.{◌≡◌, IfOk};
 ghost use Rattle.cf_nesting.specs.Found.{found_in};
 
-use crate::brackets::ELSE;
 use crate::levels::Levels;
 use cf_base::Memory;
 use cf_parse_expr::Cursor;
+use cf_parse_expr::words::ELSE;
 use cf_tokens::Token;
 use std::alloc::Global;
 

@@ -9,11 +9,10 @@ ghost use Rattle.cf_parse_class.specs.Parts.{number_as, ReadsBases};
 ghost use Rattle.cf_unit.specs.Read.{reading};
 ghost use Rattle.cf_unit.specs.Members as rule;
 
-use crate::words::{PRIVATE, PUBLIC, VIRTUAL};
 use cf_base::{Items, Memory};
 use cf_enter::path_kind;
 use cf_parse_expr::names::type_path;
-use cf_parse_expr::words::{COLON, COMMA};
+use cf_parse_expr::words::{COLON, COMMA, PRIVATE, PUBLIC, VIRTUAL};
 use cf_parse_expr::{Cursor, Scopes, Stop};
 use cf_syntax::{NameKind, TypeNames};
 use cf_unit::{Base, BaseWord};

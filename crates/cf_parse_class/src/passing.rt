@@ -4,7 +4,7 @@ ghost use Rattle.std.specs.Prelude.{◌≡◌};
 ghost use Rattle.cf_unit.specs.Bodies.{past_braces};
 ghost use Rattle.cf_parse_class.specs.Parts.{Passes};
 
-use crate::words::{LEFT_BRACE, RIGHT_BRACE};
+use cf_parse_expr::words::{LEFT_BRACE, RIGHT_BRACE};
 use cf_parse_expr::{Cursor, Stop};
 
 /// Goes past the partner of the first `{`.

@@ -10,27 +10,12 @@ ghost use Rattle.cf_unit.specs.Pieces as pieces;
 ghost use Rattle.std.specs.Prelude.{◌≡◌, ◌&&◌, nat_eq};
 
 use cf_base::Bytes;
-use cf_parse_expr::words::EQUALS;
+use cf_parse_expr::words::{CLASS, EQUALS, PRIVATE, PROTECTED, PUBLIC};
 use cf_parse_expr::{Cursor, Stop};
 use cf_syntax::ClassKey;
 use cf_tokens::{Token, Word};
 use cf_unit::Access;
 use std::alloc::Global;
-
-/// `{`
-pub const LEFT_BRACE: u16 = 4;
-/// `}`
-pub const RIGHT_BRACE: u16 = 5;
-/// `private`
-pub const PRIVATE: u16 = 90;
-/// `protected`
-pub const PROTECTED: u16 = 91;
-/// `public`
-pub const PUBLIC: u16 = 92;
-/// `virtual`
-pub const VIRTUAL: u16 = 108;
-/// `class`
-const CLASS: u16 = 70;
 
 /// The word of access that comes next, with its place (11.1).
 pub fn access_word(c: &mut Cursor<'_>) -> Result<(u32, Access), Stop>

@@ -15,9 +15,11 @@ use crate::simple_statements::{
     break_statement, continue_statement, expression_statement, maybe_comma, return_statement,
 };
 use crate::trial::may_declare;
-use crate::words::{BREAK, CONTINUE, DO, FOR, IF, LEFT_BRACE, RETURN, SEMICOLON, SWITCH, WHILE};
 use cf_base::{Boxed, Memory};
-use cf_parse_expr::words::{LEFT_PAREN, RIGHT_PAREN};
+use cf_parse_expr::words::{
+    BREAK, CONTINUE, DO, FOR, IF, LEFT_BRACE, LEFT_PAREN, RETURN, RIGHT_PAREN, SEMICOLON, SWITCH,
+    WHILE,
+};
 use cf_parse_expr::{Cursor, Stop};
 use cf_unit::Stmt;
 use std::alloc::Global;

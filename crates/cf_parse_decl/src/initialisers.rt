@@ -6,9 +6,8 @@ ghost use Rattle.cf_unit.specs.Read.{reading};
 ghost use Rattle.cf_unit.specs.Files.{inner, by_tree};
 ghost use Rattle.cf_unit.specs.Declarations.{initialiser};
 
-use crate::words::{LEFT_BRACE, RIGHT_BRACE};
 use cf_base::{Boxed, Items, Memory};
-use cf_parse_expr::words::{COMMA, EQUALS, LEFT_PAREN, RIGHT_PAREN};
+use cf_parse_expr::words::{COMMA, EQUALS, LEFT_BRACE, LEFT_PAREN, RIGHT_BRACE, RIGHT_PAREN};
 use cf_parse_expr::{Cursor, Scopes, Stop, whole};
 use cf_syntax::Expr;
 use cf_unit::{Init, Initialiser};

@@ -11,8 +11,7 @@ mod known;
 mod simple_statements;
 mod statements;
 mod trial;
-mod words;
 
 pub use grammar::{Grammar, Node, Wanted};
 pub use initialisers::initialiser;
-pub use known::{Bodies, Known};
+pub use known::{Bodies, Known, commas, condition};

@@ -5,9 +5,10 @@ ghost use Rattle.cf_parse_decl.specs.Statements as spec;
 ghost use Rattle.cf_parse_decl.specs.Reads.{Gives};
 
 use crate::known::{Known, commas, condition};
-use crate::words::{BREAK, CASE, CONTINUE, DEFAULT, RETURN, SEMICOLON};
 use cf_base::Boxed;
-use cf_parse_expr::words::{COLON, LEFT_PAREN, RIGHT_PAREN};
+use cf_parse_expr::words::{
+    BREAK, CASE, COLON, CONTINUE, DEFAULT, LEFT_PAREN, RETURN, RIGHT_PAREN, SEMICOLON,
+};
 use cf_parse_expr::{Cursor, Stop};
 use cf_syntax::Expr;
 use cf_unit::Stmt;

@@ -8,10 +8,10 @@ ghost use Rattle.cf_parse_decl.specs.Statements as spec;
 use crate::grammar::{Grammar, Node, Wanted};
 use crate::known::Known;
 use crate::simple_statements::{case_label, default_label, in_brackets};
-use crate::words::{
+use cf_base::{Boxed, Items};
+use cf_parse_expr::words::{
     CASE, DEFAULT, DO, ELSE, IF, LEFT_BRACE, RIGHT_BRACE, SEMICOLON, SWITCH, WHILE,
 };
-use cf_base::{Boxed, Items};
 use cf_parse_expr::{Cursor, Stop};
 use cf_syntax::Expr;
 use cf_unit::Stmt;

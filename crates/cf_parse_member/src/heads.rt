@@ -6,11 +6,11 @@ ghost use Rattle.cf_parse_decl.specs.Reads.{Gives};
 ghost use Rattle.cf_parse_expr.specs.Reads.{Reads};
 ghost use Rattle.cf_parse_member.specs.Heads as spec;
 
-use crate::words::LEFT_BRACE;
 use cf_base::{Bytes, Items, Memory};
 use cf_enter::class_to_define;
 use cf_parse_class::{Bases, bases_behind, class_key, maybe_identifier};
 use cf_parse_decl::Known;
+use cf_parse_expr::words::LEFT_BRACE;
 use cf_parse_expr::{Cursor, Stop};
 use cf_syntax::{ClassKey, TypeNames};
 use cf_unit::Base;

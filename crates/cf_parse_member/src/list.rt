@@ -7,9 +7,9 @@ ghost use Rattle.cf_parse_expr.specs.Reads.{Reads};
 ghost use Rattle.cf_parse_member.specs.Classes as spec;
 
 use crate::member::member_read;
-use crate::words::RIGHT_BRACE;
 use cf_base::Items;
 use cf_parse_decl::{Bodies, Grammar, Known, Node, Wanted};
+use cf_parse_expr::words::RIGHT_BRACE;
 use cf_parse_expr::{Cursor, Stop};
 use cf_syntax::TypeNames;
 use cf_unit::Member;

@@ -7,11 +7,11 @@ ghost use Rattle.cf_parse_expr.specs.Reads.{Reads};
 ghost use Rattle.cf_parse_member.specs.Members as spec;
 ghost use Rattle.cf_unit.specs.Declares.{shape};
 
-use crate::words::SEMICOLON;
 use cf_base::Items;
 use cf_parse_body::{Body, body_by};
 use cf_parse_class::pure_behind;
 use cf_parse_decl::{Grammar, Known, Node, Wanted};
+use cf_parse_expr::words::SEMICOLON;
 use cf_parse_expr::{Cursor, Stop};
 use cf_parse_simple::{Declared, one_declarator, specifiers};
 use cf_syntax::DeclTree;

@@ -3,9 +3,8 @@
 ghost use Rattle.std.specs.Prelude.{◌≡◌};
 ghost use Rattle.cf_unit.specs.Declarations as rule;
 
-use crate::words::{CLASS, ENUM, LEFT_BRACE, STRUCT};
 use cf_parse_expr::Cursor;
-use cf_parse_expr::words::COLON;
+use cf_parse_expr::words::{CLASS, COLON, ENUM, LEFT_BRACE, STRUCT};
 
 /// Whether this word stands behind the first one, or behind a name that stands there.
 fn behind_key(word: u16, c: &Cursor<'_>) -> bool

@@ -11,11 +11,10 @@ ghost use Rattle.cf_unit.specs.Enters.{entered};
 ghost use Rattle.cf_unit.specs.Files.{inner, by_tree};
 ghost use Rattle.cf_unit.specs.Read.{reading};
 
-use crate::words::SEMICOLON;
 use cf_base::{Boxed, Items, Memory};
 use cf_enter::enter;
 use cf_parse_decl::{Grammar, Known, initialiser};
-use cf_parse_expr::words::COMMA;
+use cf_parse_expr::words::{COMMA, SEMICOLON};
 use cf_parse_expr::{Cursor, Scopes, Stop, whole};
 use cf_syntax::DeclTree;
 use cf_unit::{Given, InitDeclarator, Initialiser};

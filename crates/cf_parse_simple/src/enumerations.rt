@@ -8,11 +8,10 @@ ghost use Rattle.cf_unit.specs.Declarations as rule;
 ghost use Rattle.cf_unit.specs.Pieces as pieces;
 ghost use Rattle.cf_unit.specs.Read.{reading};
 
-use crate::words::{ENUM, LEFT_BRACE, RIGHT_BRACE};
 use cf_base::{Boxed, Bytes, Items, Memory};
 use cf_parse_class::maybe_identifier;
 use cf_parse_decl::Known;
-use cf_parse_expr::words::{COMMA, EQUALS};
+use cf_parse_expr::words::{COMMA, ENUM, EQUALS, LEFT_BRACE, RIGHT_BRACE};
 use cf_parse_expr::{Cursor, Scopes, Stop, whole};
 use cf_syntax::{Expr, NameKind};
 use cf_unit::{EnumDef, Enumerator};

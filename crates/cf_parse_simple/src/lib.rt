@@ -10,7 +10,6 @@ mod declarator_list;
 mod enumerations;
 mod given;
 mod specifier_list;
-mod words;
 
 pub use declaration::{simple, specified};
 pub use declarator_list::{Declared, declarators, initialised, more_declarators, one_declarator};

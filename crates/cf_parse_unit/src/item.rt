@@ -9,9 +9,9 @@ ghost use Rattle.cf_unit.specs.Files.{inner, by_tree, at_end, one_item};
 
 use crate::linkages::{begins_linkage, linkage_read};
 use crate::parts::{declarator, defined, initialised, more_declarators, specifiers};
-use crate::words::SEMICOLON;
 use cf_base::{Boxed, Items};
 use cf_parse_decl::{Grammar, Known, Node, Wanted};
+use cf_parse_expr::words::SEMICOLON;
 use cf_parse_expr::{Cursor, Stop};
 use cf_parse_member::begins_body;
 use cf_parse_simple::Declared;

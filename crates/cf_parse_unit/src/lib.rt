@@ -9,7 +9,6 @@ mod item;
 pub mod knot;
 mod linkages;
 mod parts;
-mod words;
 
 pub use files::file;
 pub use item::{items, one_item};

@@ -10,9 +10,9 @@ ghost use Rattle.cf_unit.specs.Files.{inner, by_tree, linkage};
 ghost use Rattle.cf_unit.specs.Pieces.{string};
 
 use crate::parts::simple;
-use crate::words::{EXTERN, LEFT_BRACE, RIGHT_BRACE, TEXT};
 use cf_base::{Bytes, Items};
 use cf_parse_decl::{Grammar, Known, Node, Wanted};
+use cf_parse_expr::words::{EXTERN, LEFT_BRACE, RIGHT_BRACE, TEXT};
 use cf_parse_expr::{Cursor, Stop};
 use cf_tokens::Word;
 use cf_unit::{Declaration, Linkage};

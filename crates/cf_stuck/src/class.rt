@@ -10,8 +10,8 @@ ghost use Rattle.cf_stuck_statement.specs.Searches.{Searches};
 
 use crate::rows::Element;
 use crate::seeker::Seeker;
-use crate::words::RIGHT_BRACE;
 use cf_parse_decl::{Bodies, Known, Node, Wanted};
+use cf_parse_expr::words::RIGHT_BRACE;
 use cf_parse_expr::{Cursor, Stop};
 use cf_parse_member::class_head;
 use cf_stuck_statement::Spot;

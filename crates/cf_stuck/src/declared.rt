@@ -8,8 +8,9 @@ ghost use Rattle.cf_stuck_statement.specs.Inside.{places};
 ghost use Rattle.cf_stuck_statement.specs.Searches.{Searches};
 
 use crate::seeker::Seeker;
-use crate::words::{SEMICOLON, begins_access, begins_class, begins_linkage};
+use crate::words::{begins_access, begins_class, begins_linkage};
 use cf_parse_decl::{Known, Node, Wanted};
+use cf_parse_expr::words::SEMICOLON;
 use cf_parse_expr::{Cursor, Stop};
 use cf_parse_member::begins_body;
 use cf_parse_simple::{Declared, one_declarator, specifiers};

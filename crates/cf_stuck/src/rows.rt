@@ -12,9 +12,9 @@ ghost use Rattle.cf_stuck_statement.specs.Parts.{turns};
 ghost use Rattle.cf_stuck_statement.specs.Searches.{Searches};
 
 use crate::seeker::Seeker;
-use crate::words::RIGHT_BRACE;
 use cf_base::Memory;
 use cf_parse_decl::{Known, Node, Wanted};
+use cf_parse_expr::words::RIGHT_BRACE;
 use cf_parse_expr::{Cursor, Stop};
 use cf_parse_member::one_member;
 use cf_parse_unit::one_item;

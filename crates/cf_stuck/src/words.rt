@@ -6,22 +6,10 @@ ghost use Rattle.cf_unit.specs.Declarations.{begins_class, behind_key};
 ghost use Rattle.cf_unit.specs.Pieces as pieces;
 
 use cf_parse_expr::Cursor;
-use cf_parse_expr::words::{COLON, begins};
+use cf_parse_expr::words::{ACCESS, COLON, EXTERN, LEFT_BRACE, TEXT, begins};
 
-/// `{`
-pub const LEFT_BRACE: u16 = 4;
-/// `}`
-pub const RIGHT_BRACE: u16 = 5;
-/// `;`
-pub const SEMICOLON: u16 = 6;
 /// `class` and `struct`
 const CLASS_KEYS: [u16; 2] = [70, 99];
-/// `extern`
-const EXTERN: u16 = 79;
-/// The number of a string literal.
-const TEXT: u16 = 131;
-/// `public`, `protected` and `private`
-const ACCESS: [u16; 3] = [92, 91, 90];
 
 /// Whether a class's name, if it has one, and this word follow its key.
 fn behind_key(c: &Cursor<'_>, word: u16) -> bool

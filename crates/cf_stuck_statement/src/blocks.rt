@@ -8,10 +8,10 @@ ghost use Rattle.cf_stuck_statement.specs.Searches.{Searches};
 ghost use Rattle.cf_stuck_statement.specs.Statements as spec;
 
 use crate::finder::Finder;
-use crate::parts::{CASE, DEFAULT, LEFT_BRACE, RIGHT_BRACE};
 use crate::rows::Element;
 use crate::spot::Spot;
 use cf_parse_decl::{Known, Node, Wanted};
+use cf_parse_expr::words::{CASE, DEFAULT, LEFT_BRACE, RIGHT_BRACE};
 use cf_parse_expr::{Cursor, Stop};
 use std::alloc::Global;
 

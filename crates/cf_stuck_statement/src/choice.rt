@@ -11,13 +11,13 @@ ghost use Rattle.cf_unit.specs.Files.{inner, by_tree};
 ghost use Rattle.cf_unit.specs.Statements as rule;
 
 use crate::finder::Finder;
-use crate::parts::{
-    DO, ELSE, FOR, IF, LEFT_BRACE, SEMICOLON, SWITCH, WHILE, in_brackets, maybe_comma,
-};
+use crate::parts::{in_brackets, maybe_comma};
 use crate::rows::Element;
 use crate::spot::Spot;
 use cf_parse_decl::{Known, Node, Wanted};
-use cf_parse_expr::words::{LEFT_PAREN, RIGHT_PAREN};
+use cf_parse_expr::words::{
+    DO, ELSE, FOR, IF, LEFT_BRACE, LEFT_PAREN, RIGHT_PAREN, SEMICOLON, SWITCH, WHILE,
+};
 use cf_parse_expr::{Cursor, Stop};
 use std::alloc::Global;
 

@@ -1,55 +1,15 @@
 //! What a statement has beside statements, and what of it is read past.
 
 ghost use Rattle.cf_parse_expr.specs.Reads.{Reads};
-ghost use Rattle.cf_parse_expr.specs.Whole.{commas_at, condition_at};
 ghost use Rattle.cf_stuck_statement.specs.Finds.{Passes};
 ghost use Rattle.cf_stuck_statement.specs.Statements as spec;
 
 use cf_base::Boxed;
-use cf_parse_decl::Known;
-use cf_parse_expr::words::{COLON, LEFT_PAREN, RIGHT_PAREN};
-use cf_parse_expr::{Cursor, Scopes, Stop, whole};
+use cf_parse_decl::{Known, commas, condition};
+use cf_parse_expr::words::{CASE, COLON, DEFAULT, LEFT_PAREN, RIGHT_PAREN, SEMICOLON};
+use cf_parse_expr::{Cursor, Stop};
 use cf_syntax::Expr;
 use std::alloc::Global;
-
-/// `{`
-pub const LEFT_BRACE: u16 = 4;
-/// `}`
-pub const RIGHT_BRACE: u16 = 5;
-/// `;`
-pub const SEMICOLON: u16 = 6;
-/// `case`
-pub const CASE: u16 = 67;
-/// `default`
-pub const DEFAULT: u16 = 73;
-/// `do`
-pub const DO: u16 = 75;
-/// `else`
-pub const ELSE: u16 = 77;
-/// `for`
-pub const FOR: u16 = 81;
-/// `if`
-pub const IF: u16 = 84;
-/// `switch`
-pub const SWITCH: u16 = 100;
-/// `while`
-pub const WHILE: u16 = 111;
-
-/// Expressions with commas between them, or one (5.18).
-fn commas(alloc: Global, known: &Known, c: &mut Cursor<'_>) -> Result<Boxed<Expr>, Stop>
-    ensures { Reads (commas_at known.now.names c.old) result c.new }
-{
-    let scopes = Scopes::new(alloc, &known.names);
-    whole::commas(alloc, &scopes, c)
-}
-
-/// An expression that assigns nothing outside brackets (5.16).
-fn condition(alloc: Global, known: &Known, c: &mut Cursor<'_>) -> Result<Boxed<Expr>, Stop>
-    ensures { Reads (condition_at known.now.names c.old) result c.new }
-{
-    let scopes = Scopes::new(alloc, &known.names);
-    whole::condition(alloc, &scopes, c)
-}
 
 /// A condition in brackets.
 #[tactic(auto, unfolding(crate::specs::Statements::in_brackets))]

@@ -7,8 +7,9 @@ ghost use Rattle.cf_stuck_statement.specs.Parts.{known_at};
 ghost use Rattle.cf_stuck_statement.specs.Statements as spec;
 
 use crate::finder::Finder;
-use crate::parts::{CASE, DEFAULT, past_case, past_default, past_expression};
+use crate::parts::{past_case, past_default, past_expression};
 use cf_parse_decl::{Known, Node, Wanted};
+use cf_parse_expr::words::{CASE, DEFAULT};
 use cf_parse_expr::{Cursor, Stop};
 use std::alloc::Global;
 

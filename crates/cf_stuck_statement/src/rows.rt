@@ -14,9 +14,9 @@ ghost use Rattle.cf_stuck_statement.specs.Parts.{turns};
 ghost use Rattle.cf_stuck_statement.specs.Statements as spec;
 
 use crate::finder::Finder;
-use crate::parts::RIGHT_BRACE;
 use cf_base::Memory;
 use cf_parse_decl::{Known, Node, Wanted};
+use cf_parse_expr::words::RIGHT_BRACE;
 use cf_parse_expr::{Cursor, Stop};
 use std::alloc::Global;
 
