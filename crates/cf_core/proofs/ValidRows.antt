@@ -22,6 +22,7 @@ use Rattle.cf_core.specs.FromTypes.{type_of}
 use Rattle.cf_core.specs.Size.{size}
 use Rattle.cf_classes.specs.Fit.{Fit, class_of_type, enum_of_type}
 use Rattle.cf_types.specs.declared.ty.Ty.{Ty}
+use Rattle.cf_types.specs.Table.{Names}
 use Rattle.cf_core.specs.Valid.{valid_file}
 use Rattle.cf_core.proofs.Sample.{int, function_type, function_of, listed, in_block, main_of, returns, num, value_of, called, base_of, plain_class, built_class, constructor_of, static_of}
 use Rattle.cf_core.proofs.ActRows.{int_pointer, two_classes}
@@ -250,9 +251,14 @@ seven_within_limits = record { sizes = sizes; functions = refl; statics = refl; 
 
 seven_unit_is_valid : IsValid seven_unit
 seven_unit_is_valid = record {
+  names = named;
   fit = seven_types_fit;
   limits = seven_within_limits;
   functions = simp (fold-roll-Core Bool Bool (known_step (tables_of seven_unit)) (known_part (tables_of seven_unit)));
   statics = refl;
   file = simp (fold-roll-Core Core Started (core_step (tables_of seven_unit) (signature_of (tables_of seven_unit))) (started_step (tables_of seven_unit) (signature_of (tables_of seven_unit))));
 }
+  where
+    named : (i : ℕ) (t : Ty) → slice_get seven_unit.types.types i ≡ Some t → Names [] i 0 t
+    named zero t h = let e : ty.Int Int ≡ t = cc in subst (Names [] 0 0) e (record { parts_known = λ k d h. absurd (omega arith); fun_known = λ k d h. absurd (omega arith) })
+    named (suc i) t h = cc

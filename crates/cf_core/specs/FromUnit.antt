@@ -1,10 +1,11 @@
 -- The core of a file as plain data, and the meaning of files.
-use Rattle.std.specs.Prelude.{◌≡◌, ℕ, ◌<◌, ◌≤◌, ◌^◌, nat_le, Bool, false, true, List, Option, map, length}
+use Rattle.std.specs.Prelude.{◌≡◌, ℕ, ◌<◌, ◌≤◌, ◌^◌, nat_le, Bool, false, true, List, Option, Some, map, length, slice_get}
 use Rattle.std.specs.List.{list_all}
 use Rattle.cf_base.specs.World.{Outcome}
 use Rattle.cf_core.specs.declared.unit.CoreFn.{CoreFn}
 use Rattle.cf_core.specs.declared.unit.CoreStatic.{CoreStatic}
-use Rattle.cf_types.specs.Table.{Table}
+use Rattle.cf_types.specs.declared.ty.Ty.{Ty}
+use Rattle.cf_types.specs.Table.{Table, Names}
 use Rattle.cf_classes.specs.ClassTable.{ClassTable}
 use Rattle.cf_classes.specs.Fit.{Fit}
 use Rattle.cf_core.specs.declared.unit.Role.{Role as UnitRole}
@@ -78,8 +79,10 @@ pub record WithinLimits (unit : Unit) : Type 0 where
   pub statics : list_all (λ (x : CoreStatic). is_short x.name) unit.statics ≡ true
   pub descriptions : list_all (λ (c : Class). is_short c.description) (file_of unit).classes ≡ true
 
--- Only valid cores exist: types and classes fit and keep the limits, each number is there in the tables, and the file is valid.
+-- Only valid cores exist: each type names what is there and stands before it, types and classes fit and keep the limits, each number is there in the
+-- tables, and the file is valid.
 pub record IsValid (unit : Unit) : Type 0 where
+  pub names : (i : ℕ) (ty : Ty) → slice_get unit.types.types i ≡ Some ty → Names unit.types.funs i (length unit.types.funs) ty
   pub fit : Fit unit.types unit.classes
   pub limits : WithinLimits unit
   pub functions : list_all (function_known (tables_of unit)) unit.functions ≡ true

@@ -1,9 +1,10 @@
-ghost use Rattle.std.specs.Prelude.{◌≡◌};
+ghost use Rattle.std.specs.Prelude.{◌≡◌, ◌<◌, Some, length, slice_get};
+ghost use Rattle.cf_types.specs.Table.{Names, NamesBelow};
 
 use crate::node::Core;
 use cf_base::{Items, Name};
 use cf_classes::Classes;
-use cf_types::{ClassId, TyId, Types};
+use cf_types::{ClassId, Fun, FunId, Ty, TyId, Types};
 use std::marker::Model;
 
 /// What kind of function it is.
@@ -99,6 +100,24 @@ impl CoreUnit {
         ensures { result.now ≡ self.now.types }
     {
         &self.types
+    }
+
+    /// The type of this number. What it names is there, and stands before it.
+    pub fn ty(&self, id: TyId) -> &Ty
+        requires { id < length self.now.types.types }
+        ensures kept { slice_get self.now.types.types id ≡ Some result.now }
+        ensures names { Names self.now.types.funs id (length self.now.types.funs) result.now }
+        ensures earlier { NamesBelow id result.now }
+    {
+        self.types.get(id)
+    }
+
+    /// The function type of this number.
+    pub fn fun(&self, id: FunId) -> &Fun
+        requires { id < length self.now.types.funs }
+        ensures { slice_get self.now.types.funs id ≡ Some result.now }
+    {
+        self.types.get_fun(id)
     }
 
     pub fn classes(&self) -> &Classes
