@@ -58,6 +58,7 @@ module _ {T : Type 0} (old new : Tree T) (f : Fork T) (before : opened old ≡ f
       by-parity k (suc r) p =
           let one : k % 2 ≡ 1 = omega (arith, p) in
           at-even new _ after (suc k) k refl one ∙ sym (at-even old f before (suc k) k refl one)
+
       go : (j : ℕ) → (j ≡ 0 → ⊥) → at new j ≡ at old j
       go zero apart = absurd (apart refl)
       go (suc k) apart = by-parity k (k % 2) refl
@@ -72,6 +73,7 @@ module _ {T : Type 0} (old new : Tree T) (f : Fork T) (before : opened old ≡ f
       by-parity m (suc r) p apart =
           let one : m % 2 ≡ 1 = omega (arith, p) in
           at-even new _ after (suc m) m refl one ∙ sym (at-even old f before (suc m) m refl one)
+
       go : (j : ℕ) → (j ≡ suc k → ⊥) → at new j ≡ at old j
       go zero apart = at-here new _ after 0 refl ∙ sym (at-here old f before 0 refl)
       go (suc m) apart = by-parity m (m % 2) refl apart
@@ -86,6 +88,7 @@ module _ {T : Type 0} (old new : Tree T) (f : Fork T) (before : opened old ≡ f
       by-parity m (suc r) p apart =
           let one : m % 2 ≡ 1 = omega (arith, p) in
           at-even new _ after (suc m) m refl one ∙ even.elsewhere (m / 2) (λ e. apart (omega (arith, e, one, parity))) ∙ sym (at-even old f before (suc m) m refl one)
+
       go : (j : ℕ) → (j ≡ suc k → ⊥) → at new j ≡ at old j
       go zero apart = at-here new _ after 0 refl ∙ sym (at-here old f before 0 refl)
       go (suc m) apart = by-parity m (m % 2) refl apart

@@ -1,5 +1,5 @@
 -- Values at indices, in a tree that has room for each index.
-use Rattle.std.specs.Prelude.{◌≡◌, ◌≢◌, ℕ, zero, suc, ◌/◌, ◌%◌, cond, nat_eq, Option, Some, None}
+use Rattle.std.specs.Prelude.{◌≡◌, ◌≢◌, ℕ, zero, suc, ◌/◌, ◌%◌, ◌<◌, true, cond, nat_eq, List, [], ◌++◌, Option, Some, None, is_some, option_to_list}
 use Rattle.cf_shared.specs.declared.tree.Fork.{Fork, Fork-F}
 use Rattle.cf_shared.specs.declared.tree.Tree.{Tree, Tree-F, fold-Tree, out-Tree}
 use Rattle.cf_shared.specs.declared.tree.Tree.TheOpen as layer
@@ -30,3 +30,12 @@ opened {T = T} t = opening (out-Tree T t)
 pub record Puts {T : Type 0} (older : Tree T) (index : ℕ) (value : T) (newer : Tree T) : Type 0 where
   pub here : at newer index ≡ Some value
   pub elsewhere : (i : ℕ) → i ≢ index → at newer i ≡ at older i
+
+-- the values at the indices below n
+abbrev pub listed : {T : Type 0} → ℕ → Tree T → List T
+listed zero t = []
+listed (suc i) t = listed i t ++ option_to_list (at t i)
+
+-- a value stands at each index below n
+abbrev pub IsFull : {T : Type 0} → ℕ → Tree T → Type 0
+IsFull n t = (i : ℕ) → i < n → is_some (at t i) ≡ true

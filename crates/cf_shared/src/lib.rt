@@ -4,7 +4,8 @@
 #![tactic(auto)]
 
 mod shared;
-mod tree;
+mod shared_vec;
+pub mod tree;
 
 pub use shared::Shared;
-pub use tree::{Tree, get, put};
+pub use shared_vec::SharedVec;

@@ -95,7 +95,12 @@ fn rooted<T: Drop>(alloc: Global, root: Fork<T>) -> Result<Tree<T>, Memory>
 }
 
 /// The same values, but this one at this index.
-pub fn put<T: Drop>(alloc: Global, tree: &Tree<T>, index: usize, value: T) -> Result<Tree<T>, Memory>
+pub fn put<T: Drop>(
+    alloc: Global,
+    tree: &Tree<T>,
+    index: usize,
+    value: T,
+) -> Result<Tree<T>, Memory>
     ensures { IfOk result (λ made. Puts tree.now index value made) }
 {
     let Fork { here, odd, even } = root(tree)?;
