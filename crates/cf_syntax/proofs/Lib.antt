@@ -8,6 +8,7 @@ pub mod Opening
 pub mod Operands
 pub mod Repeats
 mod Samples
+pub mod Table
 pub mod Tails
 pub mod Unaries
 pub mod Under

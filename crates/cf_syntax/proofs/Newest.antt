@@ -1,10 +1,12 @@
 -- The newest and the oldest item that answers, and loops that look for them.
 use Rattle.std.proofs.Common.{◌≡◌, ℕ, zero, suc, ◌<◌, ◌≤◌, true, cond, List, [], ◌∷◌, length, get_or, drop, Option, Some, None, bytes_eq, refl, sym, ◌∙◌, ap, subst, drop-cons}
+use Rattle.std.specs.Prelude.{slice_get, slice_set, unwrap_or}
 use Rattle.std.proofs.lemmas.List.{drop_all}
+use Rattle.std.proofs.lemmas.Option.{unwrap_or-slice_get}
 use Rattle.cf_syntax.specs.declared.type_names.ClassNames.{ClassNames}
 use Rattle.cf_syntax.specs.declared.type_names.Entry.{Entry}
 use Rattle.cf_syntax.specs.declared.type_names.NameKind.{NameKind}
-use Rattle.cf_syntax.specs.Names.{or_else, newest, oldest, says, kind_of, class_at, in_class_to}
+use Rattle.cf_syntax.specs.Names.{or_else, newest, oldest, says, kind_of, no_class, class_at, in_class_to}
 
 pub newest-from : {A B : Type 0} (ask : A → Option B) (xs : List A) (i : ℕ) (b : B) → newest ask (drop i xs) ≡ Some b → newest ask xs ≡ Some b
 newest-from ask [] zero b e = e
@@ -54,12 +56,38 @@ none-else (Some x) never = absurd (never x refl)
 none-else None never = refl
 
 -- the class that is found, without the name of its own
-pub by-found-bases : (depth k : ℕ) (classes : List ClassNames) (name : List ℕ) (class : ℕ) (found : ClassNames) (items : List ℕ) (entries : List Entry)
-    (own : Option NameKind)
-    → depth ≡ suc k → class_at classes class ≡ found → own ≡ kind_of entries name → entries ≡ found.entries
-    → ((x : NameKind) → own ≡ Some x → ⊥) → items ≡ found.bases
+pub by-found-bases : (depth k : ℕ) (classes : List ClassNames) (name : List ℕ) (class : ℕ) (found : ClassNames) (items : List ℕ) (own : Option NameKind)
+    → depth ≡ suc k → class_at classes class ≡ found → own ≡ kind_of found.entries name → ((x : NameKind) → own ≡ Some x → ⊥) → items ≡ found.bases
     → in_class_to depth classes name class ≡ oldest (in_class_to k classes name) items
-by-found-bases depth k classes name class found items entries own deep looked owned listed never based =
-    by-bases depth k classes name class found deep looked
-    (ap (λ es. kind_of es name) (sym listed) ∙ sym owned ∙ none-else own never)
+by-found-bases depth k classes name class found items own deep looked owned never based =
+    by-bases depth k classes name class found deep looked (sym owned ∙ none-else own never)
     ∙ ap (oldest (in_class_to k classes name)) (sym based)
+
+-- the class of a number, read
+pub class-read : (classes : List ClassNames) (class : ℕ) (read : Option ClassNames) → read ≡ slice_get classes class → class_at classes class ≡ unwrap_or read no_class
+class-read classes class read is = sym (ap (λ o. unwrap_or o no_class) is ∙ unwrap_or-slice_get classes class no_class)
+
+-- where there is no item, none is set
+pub set_missing : {A : Type 0} (xs : List A) (i : ℕ) (x : A) → None ≡ slice_get xs i → slice_set xs i x ≡ xs
+set_missing [] i x none = refl
+set_missing (y ∷ xs) zero x none = absurd (some-is-not-none y none)
+  where
+    some-is-not-none : {A : Type 0} (y : A) → None ≡ Some y → ⊥
+    some-is-not-none y e = cc
+set_missing (y ∷ xs) (suc i) x none = ap (λ l. y ∷ l) (set_missing xs i x none)
+
+-- where there is no class of the number, none has the name
+pub in-no-class : (depth k : ℕ) (classes : List ClassNames) (name : List ℕ) (class : ℕ) → depth ≡ suc k → class_at classes class ≡ no_class
+    → None ≡ in_class_to depth classes name class
+in-no-class depth k classes name class deep is =
+    let P : ℕ → Type 0 = λ d. None ≡ in_class_to d classes name class in
+    subst P (sym deep) (sym (ap (λ (c : ClassNames). or_else (kind_of c.entries name) (oldest (in_class_to k classes name) c.bases)) is))
+
+-- a class with the name of its own
+pub in-own : (depth k : ℕ) (classes : List ClassNames) (name : List ℕ) (class : ℕ) (found : ClassNames) (kind : NameKind)
+    → depth ≡ suc k → class_at classes class ≡ found → kind_of found.entries name ≡ Some kind → Some kind ≡ in_class_to depth classes name class
+in-own depth k classes name class found kind deep is own =
+    let P : ℕ → Type 0 = λ d. Some kind ≡ in_class_to d classes name class in
+    subst P (sym deep)
+    (sym (ap (λ (c : ClassNames). or_else (kind_of c.entries name) (oldest (in_class_to k classes name) c.bases)) is
+    ∙ ap (λ o. or_else o (oldest (in_class_to k classes name) found.bases)) own))

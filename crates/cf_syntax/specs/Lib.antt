@@ -1,6 +1,7 @@
 pub mod Closing
 pub mod Entered
 pub mod Grammar
+pub mod Kinds
 pub mod Language
 pub mod Longest
 pub mod Named
@@ -9,5 +10,6 @@ pub mod NamesData
 pub mod Operators
 pub mod Parse
 pub mod Reading
+pub mod Slots
 pub mod Specified
 pub mod Words

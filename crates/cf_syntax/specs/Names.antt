@@ -6,29 +6,12 @@ use Rattle.cf_syntax.specs.declared.type_names.NameKind.{NameKind}
 use Rattle.cf_syntax.specs.declared.type_names.Scope.{Scope}
 use Rattle.cf_syntax.specs.declared.type_names.Scope.TheVariants.{Block, Class}
 use Rattle.cf_syntax.specs.NamesData.{Names}
-
--- the first of two answers that is there
-abbrev pub or_else : {A : Type 0} → Option A → Option A → Option A
-or_else (Some x) later = Some x
-or_else None later = later
-
--- what the last item that answers says
-abbrev pub newest : {A B : Type 0} → (A → Option B) → List A → Option B
-newest ask [] = None
-newest ask (x ∷ xs) = or_else (newest ask xs) (ask x)
+pub use Rattle.cf_syntax.specs.Kinds.{or_else, newest, says, kind_of}
 
 -- what the first item that answers says
 abbrev pub oldest : {A B : Type 0} → (A → Option B) → List A → Option B
 oldest ask [] = None
 oldest ask (x ∷ xs) = or_else (ask x) (oldest ask xs)
-
--- what an entry says of a name
-abbrev pub says : List ℕ → Entry → Option NameKind
-says name e = cond (bytes_eq e.name name) (Some e.kind) None
-
--- what a scope's own entries say of a name
-abbrev pub kind_of : List Entry → List ℕ → Option NameKind
-kind_of entries name = newest (says name) entries
 
 abbrev pub no_class : ClassNames
 no_class = record { entries = []; bases = []; is_defined = false }

@@ -8,12 +8,14 @@
 mod asked;
 mod copied;
 mod declarator;
+mod entries;
 mod expression;
 mod laws;
 mod lookup;
 mod name;
 mod operator;
 mod reading;
+mod slot;
 mod specifier;
 mod type_names;
 

@@ -1,36 +1,15 @@
 //! Names of scopes and classes looked up.
 
-ghost use Rattle.std.specs.Prelude.{◌≡◌, bytes_eq, length};
+ghost use Rattle.std.specs.Prelude.{◌≡◌, length};
 ghost use Rattle.cf_syntax.specs.Entered as spec;
-ghost use Rattle.cf_syntax.specs.Names.{kind_of, in_class_to, in_scope, newest};
+ghost use Rattle.cf_syntax.specs.Names.{in_class_to, in_scope, newest};
 
-use crate::type_names::{ClassNames, Entry, NameKind, Scope};
-
-/// Whether two names are the same bytes.
-fn is_same(a: &[u8], b: &[u8]) -> bool
-    ensures { result ≡ bytes_eq a.now b.now }
-{
-    a == b
-}
-
-/// What the newest of these entries says of a name.
-pub fn kind_among(entries: &[Entry], name: &[u8]) -> Option<NameKind>
-    ensures { result ≡ kind_of entries.now name.now }
-{
-    let mut left = entries.len();
-    while left > 0 {
-        left -= 1;
-        let entry = &entries[left];
-        if is_same(entry.name.as_slice(), name) {
-            return Some(entry.kind);
-        }
-    }
-    None
-}
+use crate::type_names::{ClassNames, NameKind, Scope};
+use cf_shared::SharedVec;
 
 /// What a class says of a name, or its bases, at most `depth` classes above one another.
 pub fn kind_in_class(
-    classes: &[ClassNames],
+    classes: &SharedVec<ClassNames>,
     depth: usize,
     class: u32,
     name: &[u8],
@@ -41,10 +20,10 @@ pub fn kind_in_class(
         return None;
     }
     let found = classes.get(class as usize)?;
-    if let Some(kind) = kind_among(found.entries.as_slice(), name) {
+    if let Some(kind) = found.entries.kind(name) {
         return Some(kind);
     }
-    for base in found.bases.as_slice() {
+    for base in found.bases.get().as_slice() {
         if let Some(kind) = kind_in_class(classes, depth - 1, *base, name) {
             return Some(kind);
         }
@@ -53,17 +32,25 @@ pub fn kind_in_class(
 }
 
 /// What one open scope says of a name.
-pub fn kind_in_scope(classes: &[ClassNames], scope: &Scope, name: &[u8]) -> Option<NameKind>
+pub fn kind_in_scope(
+    classes: &SharedVec<ClassNames>,
+    scope: &Scope,
+    name: &[u8],
+) -> Option<NameKind>
     ensures { result ≡ in_scope classes.now name.now scope.now }
 {
     match scope {
-        Scope::Block(entries) => kind_among(entries.as_slice(), name),
+        Scope::Block(entries) => entries.kind(name),
         Scope::Class(class) => kind_in_class(classes, classes.len(), *class, name),
     }
 }
 
 /// What the innermost of these scopes that has the name says of it.
-pub fn kind_in_scopes(classes: &[ClassNames], scopes: &[Scope], name: &[u8]) -> Option<NameKind>
+pub fn kind_in_scopes(
+    classes: &SharedVec<ClassNames>,
+    scopes: &[Scope],
+    name: &[u8],
+) -> Option<NameKind>
     ensures { result ≡ newest (in_scope classes.now name.now) scopes.now }
 {
     let mut left = scopes.len();
@@ -87,14 +74,18 @@ pub fn if_type(kind: Option<NameKind>) -> Option<NameKind>
 }
 
 /// What one open scope says of a name that is a type.
-fn type_in_scope(classes: &[ClassNames], scope: &Scope, name: &[u8]) -> Option<NameKind>
+fn type_in_scope(classes: &SharedVec<ClassNames>, scope: &Scope, name: &[u8]) -> Option<NameKind>
     ensures { result ≡ spec.type_in classes.now name.now scope.now }
 {
     if_type(kind_in_scope(classes, scope, name))
 }
 
 /// What the innermost of these scopes where the name is a type says of it.
-pub fn type_in_scopes(classes: &[ClassNames], scopes: &[Scope], name: &[u8]) -> Option<NameKind>
+pub fn type_in_scopes(
+    classes: &SharedVec<ClassNames>,
+    scopes: &[Scope],
+    name: &[u8],
+) -> Option<NameKind>
     ensures { result ≡ newest (spec.type_in classes.now name.now) scopes.now }
 {
     let mut left = scopes.len();

@@ -1,16 +1,17 @@
 ghost use Rattle.std.specs.Prelude.{◌≡◌, ℕ, ◌<◌, [], length, slice_index, slice_set, true, false, IfOk, OnOk, OnErr};
-ghost use Rattle.cf_syntax.specs.Names.{no_names, find, find_in, find_here, find_in_file, with_class, with_bases, with_scope, without_scope, declared, is_defined, grown, class_at};
+ghost use Rattle.cf_syntax.specs.Names.{no_names, find, find_in, find_here, find_in_file, with_class, with_bases, with_scope, without_scope, declared, is_defined, grown, based, class_at, no_class};
 ghost use Rattle.cf_syntax.specs.Closing.{closed_to, opened_beyond};
 ghost use Rattle.cf_syntax.specs.Entered.{entered_at, find_type, outside_classes};
 ghost use Rattle.cf_syntax.specs.Named.{opened};
 ghost use Rattle.cf_syntax.specs.declared.type_names.Scope.TheVariants.{Block, Class};
 
 use crate::copied;
+use crate::entries::Entries;
 use crate::lookup::{
-    if_type, kind_among, kind_in_class, kind_in_scope, kind_in_scopes, outside_classes,
-    type_in_scopes,
+    if_type, kind_in_class, kind_in_scope, kind_in_scopes, outside_classes, type_in_scopes,
 };
 use cf_base::{Bytes, Items, Memory};
+use cf_shared::{Shared, SharedVec};
 use std::alloc::Global;
 use std::marker::Model;
 
@@ -35,8 +36,8 @@ pub struct Entry {
 /// A class: its own names, the oldest first, and its bases once it is defined.
 #[derive(Drop)]
 pub struct ClassNames {
-    pub entries: Items<Entry>,
-    pub bases: Items<u32>,
+    pub entries: Entries,
+    pub bases: Shared<Items<u32>>,
     pub is_defined: bool,
 }
 
@@ -44,7 +45,7 @@ pub struct ClassNames {
 #[derive(Drop)]
 pub enum Scope {
     /// A scope with names of its own, the oldest first.
-    Block(Items<Entry>),
+    Block(Entries),
     /// The scope of the class of this number.
     Class(u32),
 }
@@ -53,8 +54,8 @@ pub enum Scope {
 #[derive(Drop)]
 pub struct TypeNames {
     alloc: Global,
-    classes: Vec<ClassNames>,
-    file: Items<Entry>,
+    classes: SharedVec<ClassNames>,
+    file: Entries,
     inner: Vec<Scope>,
 }
 
@@ -63,7 +64,7 @@ impl Model for TypeNames {
 
     ghost Value = { Names };
 
-    ghost view = { λ a. record { classes = a.classes.items; file = a.file; inner = a.inner.items } };
+    ghost view = { λ a. record { classes = a.classes; file = a.file; inner = a.inner.items } };
 }
 
 impl TypeNames {
@@ -73,20 +74,20 @@ impl TypeNames {
     {
         TypeNames {
             alloc,
-            classes: Vec::new(alloc),
-            file: Items::new(alloc),
+            classes: SharedVec::new(alloc),
+            file: Entries::new(alloc),
             inner: Vec::new(alloc),
         }
     }
 
-    /// The same names in a table of their own.
+    /// The same names in a table of their own, in a time that grows with the number of open scopes alone.
     pub fn copy(&self) -> Result<TypeNames, Memory>
         ensures { IfOk result (λ made. made ≡ self.now) }
     {
         Ok(TypeNames {
             alloc: self.alloc,
-            classes: copied::classes(self.alloc, &self.classes)?,
-            file: copied::entries(self.alloc, self.file.as_slice())?,
+            classes: self.classes.copy()?,
+            file: self.file.copy()?,
             inner: copied::scopes(self.alloc, &self.inner)?,
         })
     }
@@ -100,11 +101,7 @@ impl TypeNames {
         let Ok(number) = u32::try_from(self.classes.len()) else {
             return Err(Memory);
         };
-        self.classes.push(ClassNames {
-            entries: Items::new(self.alloc),
-            bases: Items::new(self.alloc),
-            is_defined: false,
-        })?;
+        self.classes.push(no_class(self.alloc)?)?;
         Ok(number)
     }
 
@@ -116,11 +113,7 @@ impl TypeNames {
         ensures ok { OnOk result (self.new ≡ with_bases self.old class bases.now) }
         ensures err { OnErr result (self.new ≡ self.old) }
     {
-        let bases = Items::from_slice(self.alloc, bases)?;
-        let found = &mut self.classes[class as usize];
-        found.bases = bases;
-        found.is_defined = true;
-        Ok(())
+        self.define(class, bases)
     }
 
     /// Sets the bases of a class, which is defined from now on, where there is a class of this number.
@@ -128,24 +121,14 @@ impl TypeNames {
         ensures ok { OnOk result (self.new ≡ with_bases self.old class bases.now) }
         ensures err { OnErr result (self.new ≡ self.old) }
     {
-        let bases = Items::from_slice(self.alloc, bases)?;
-        let index = class as usize;
-        if index < self.classes.len() {
-            let found = &mut self.classes[index];
-            found.bases = bases;
-            found.is_defined = true;
-        }
-        Ok(())
+        define_class(self.alloc, &mut self.classes, class, bases)
     }
 
     /// Whether the bases of a class were set.
     pub fn is_defined(&self, class: u32) -> bool
         ensures { result ≡ is_defined self.now class }
     {
-        match self.classes.get(class as usize) {
-            Some(found) => found.is_defined,
-            None => false,
-        }
+        is_class_defined(&self.classes, class)
     }
 
     /// Opens a scope.
@@ -153,7 +136,7 @@ impl TypeNames {
         ensures ok { OnOk result (self.new ≡ with_scope self.old (Block [])) }
         ensures err { OnErr result (self.new ≡ self.old) }
     {
-        self.inner.push(Scope::Block(Items::new(self.alloc)))?;
+        self.inner.push(Scope::Block(Entries::new(self.alloc)))?;
         Ok(())
     }
 
@@ -267,7 +250,7 @@ impl TypeNames {
     {
         match kind_in_scopes(&self.classes, &self.inner, name) {
             Some(kind) => Some(kind),
-            None => kind_among(self.file.as_slice(), name),
+            None => self.file.kind(name),
         }
     }
 
@@ -277,7 +260,7 @@ impl TypeNames {
     {
         match type_in_scopes(&self.classes, &self.inner, name) {
             Some(kind) => Some(kind),
-            None => if_type(kind_among(self.file.as_slice(), name)),
+            None => if_type(self.file.kind(name)),
         }
     }
 
@@ -285,7 +268,7 @@ impl TypeNames {
     pub fn find_in_file(&self, name: &[u8]) -> Option<NameKind>
         ensures { result ≡ find_in_file self.now name.now }
     {
-        kind_among(self.file.as_slice(), name)
+        self.file.kind(name)
     }
 
     /// What a class, or else its bases in order and depth first, says of a name.
@@ -301,28 +284,80 @@ impl TypeNames {
     {
         let count = self.inner.len();
         if count == 0 {
-            return kind_among(self.file.as_slice(), name);
+            return self.file.kind(name);
         }
         kind_in_scope(&self.classes, &self.inner[count - 1], name)
     }
 }
 
-/// Adds an entry to the class of this number.
-fn add_to_class(classes: &mut Vec<ClassNames>, class: u32, entry: Entry) -> Result<(), Memory>
-    ensures ok { OnOk result (classes.new.items ≡ slice_set classes.old.items class (grown (class_at classes.old.items class) entry)) }
-    ensures err { OnErr result (classes.new.items ≡ classes.old.items) }
+/// Whether the bases of the class of this number were set.
+fn is_class_defined(classes: &SharedVec<ClassNames>, class: u32) -> bool
+    ensures { result ≡ (class_at classes.now class).is_defined }
 {
-    let index = class as usize;
-    if index >= classes.len() {
-        return Ok(());
+    match classes.get(class as usize) {
+        Some(found) => found.is_defined,
+        None => false,
     }
-    add_entry(&mut classes[index], entry)
 }
 
-/// Adds an entry to a class.
-fn add_entry(class: &mut ClassNames, entry: Entry) -> Result<(), Memory>
-    ensures ok { OnOk result (class.new ≡ grown class.old entry) }
-    ensures err { OnErr result (class.new ≡ class.old) }
+/// A new class.
+fn no_class(alloc: Global) -> Result<ClassNames, Memory>
+    ensures { IfOk result (λ made. made ≡ no_class) }
 {
-    class.entries.push(entry)
+    Ok(ClassNames {
+        entries: Entries::new(alloc),
+        bases: Shared::new(alloc, Items::new(alloc))?,
+        is_defined: false,
+    })
+}
+
+/// The class with these bases, and defined.
+fn based(alloc: Global, class: &ClassNames, bases: &[u32]) -> Result<ClassNames, Memory>
+    ensures { IfOk result (λ made. made ≡ based class.now bases.now) }
+{
+    Ok(ClassNames {
+        entries: class.entries.copy()?,
+        bases: Shared::new(alloc, Items::from_slice(alloc, bases)?)?,
+        is_defined: true,
+    })
+}
+
+/// Sets the bases of the class of this number.
+fn define_class(
+    alloc: Global,
+    classes: &mut SharedVec<ClassNames>,
+    class: u32,
+    bases: &[u32],
+) -> Result<(), Memory>
+    ensures ok { OnOk result (classes.new ≡ slice_set classes.old class (based (class_at classes.old class) bases.now)) }
+    ensures err { OnErr result (classes.new ≡ classes.old) }
+{
+    let Some(found) = classes.get(class as usize) else {
+        return Ok(());
+    };
+    let defined = based(alloc, found, bases)?;
+    classes.set(class as usize, defined)?;
+    Ok(())
+}
+
+/// Adds an entry to the class of this number.
+fn add_to_class(classes: &mut SharedVec<ClassNames>, class: u32, entry: Entry) -> Result<(), Memory>
+    ensures ok { OnOk result (classes.new ≡ slice_set classes.old class (grown (class_at classes.old class) entry)) }
+    ensures err { OnErr result (classes.new ≡ classes.old) }
+{
+    let Some(found) = classes.get(class as usize) else {
+        return Ok(());
+    };
+    let grown = with_entry(found, entry)?;
+    classes.set(class as usize, grown)?;
+    Ok(())
+}
+
+/// The class with one more entry.
+fn with_entry(class: &ClassNames, entry: Entry) -> Result<ClassNames, Memory>
+    ensures { IfOk result (λ made. made ≡ grown class.now entry) }
+{
+    let mut made = copied::class(class)?;
+    made.entries.push(entry)?;
+    Ok(made)
 }

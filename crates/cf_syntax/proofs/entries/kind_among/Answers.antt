@@ -1,6 +1,6 @@
 use Rattle.std.proofs.Common.{◌≡◌, ◌-◌, true, bytes_eq, arith}
 use Rattle.cf_syntax.proofs.Newest.{kind-here}
-use Rattle.cf_syntax.proofs.lookup.kind_among.Goals as goal
+use Rattle.cf_syntax.proofs.entries.kind_among.Goals as goal
 
 pub returns-then-is_same : goal.returns-then-is_same
 returns-then-is_same c =
