@@ -165,5 +165,6 @@ breaks_9 = refl
 breaks_10 : keeps_names (function (codes "f") (a ∷ []) (declare 0 a (number 1) ∷ []) ∷ function (codes "main") [] [] ∷ []) ≡ false
 breaks_10 = refl
 
-no_main : keeps_names [] ≡ false
+-- the empty file
+no_main : keeps_names [] ≡ true
 no_main = refl

@@ -110,11 +110,11 @@ is_plain_main f = not (bytes_eq f.name main_name) || (length f.parameters == 0)
 abbrev pub file_of : List Function → File
 file_of fs = record { functions = function_names fs; locals = locals_of fs }
 
--- The functions have different names, none of them putchar, and one is main, without parameters. No local or parameter has the name of a
--- function. No name is declared twice in a block. Names are used as what they are.
+-- The functions have different names, none of them putchar, and main has no parameters where it is there. No local or parameter has the name of
+-- a function. No name is declared twice in a block. Names are used as what they are.
 abbrev pub keeps_names : List Function → Bool
 keeps_names fs =
-    (differ (function_names fs) && (not (is_in (function_names fs) putchar_name) && (is_in (function_names fs) main_name && list_all is_plain_main fs)))
+    (differ (function_names fs) && (not (is_in (function_names fs) putchar_name) && list_all is_plain_main fs))
     && (list_all (λ x. not (is_function (file_of fs) x)) (locals_of fs) && functions_well (file_of fs) [] fs)
 
 -- ---- the first used name that is no local in scope, no function that stands earlier or is the function itself, and is not putchar
