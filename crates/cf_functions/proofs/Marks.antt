@@ -1,8 +1,8 @@
 -- Each name of a file keeps the rules at its place exactly where the file keeps them.
-use Rattle.std.proofs.Common.{◌≡◌, ℕ, Bool, true, false, not, ◌&&◌, ◌||◌, List, [], ◌∷◌, ◌++◌, map, Option, Some, None, refl, sym, ap, ◌∙◌}
-use Rattle.std.specs.Prelude.{if◌then◌else◌, ◌==◌}
+use Rattle.std.proofs.Common.{◌≡◌, ℕ, Bool, true, false, not, ◌&&◌, ◌||◌, List, [], ◌∷◌, ◌++◌, map, Some, None, refl, sym, ap, ◌∙◌}
+use Rattle.std.specs.Prelude.{if◌then◌else◌}
 use Rattle.std.specs.Str.{bytes_eq}
-use Rattle.std.specs.List.{list_all, list_any}
+use Rattle.std.specs.List.{list_all}
 use Rattle.std.proofs.lemmas.List.Folds.{list_all-append, list_any-append}
 use Rattle.std.proofs.lemmas.List.{map-append}
 use Rattle.cf_base.proofs.Tests.{same_bytes, bytes_same}
@@ -11,7 +11,7 @@ use Rattle.cf_functions.specs.declared.tree.Parameter.{Parameter}
 use Rattle.cf_functions.specs.Plain.{Expression, number, local, call, binary, Expressions, none, more, Statement, declare, assign, perform, give, choose, loop, block, Statements, done, followed, names_after, names_of, Function, function_of}
 use Rattle.cf_functions.specs.Mean.{count, putchar_name}
 use Rattle.cf_functions.specs.Rules.{File, file_of, is_in, differ, function_names, declared, declared_all, locals_of, once, once_all, is_function, may_call, used_well, all_used_well, well, all_well, functions_well, is_plain_main, keeps_names}
-use Rattle.cf_functions.specs.Marks.{Mark, mark, first_broken, uses, uses_of, may_declare, marks, marks_of, parameter_marks, may_define, known_with, function_marks, file_marks, first_broken_of, MarksTell}
+use Rattle.cf_functions.specs.Marks.{Mark, first_broken, uses, uses_of, may_declare, marks, marks_of, parameter_marks, may_define, known_with, function_marks, file_marks, MarksTell}
 
 -- ---- no mark is broken
 

@@ -30,8 +30,8 @@ pointer_place (pointer.Reference at) = at
 pointer_place (pointer.ToMember at path is_const) = at
 
 -- a name with its place
-abbrev pub placed : Name → Formed Placed
-placed n = made (λ name. record { at = n.at; name = name }) (plain n)
+abbrev pub placed_name : Name → Formed Placed
+placed_name n = made (λ name. record { at = n.at; name = name }) (plain n)
 
 -- parameters at a bracket, and whether `const` follows
 abbrev pub head_of : ℕ → Placed → List (Formed Parameter) → Bool → Formed Head
@@ -40,7 +40,7 @@ head_of at name ps false = made (λ parameters. record { at = name.at; name = na
 
 abbrev pub tree_step : DeclTree-F Shape (Unit {0}) (Formed Parameter) (Unit {0}) → Shape
 tree_step DeclTree-F.Unnamed = record { name = λ at. Err at; head = λ at. Err at }
-tree_step (DeclTree-F.Declared n) = record { name = λ _. placed n; head = λ at. stray (placed n) at }
+tree_step (DeclTree-F.Declared n) = record { name = λ _. placed_name n; head = λ at. stray (placed_name n) at }
 tree_step (DeclTree-F.Pointed p d) = no_shape (pointer_place p)
 tree_step (DeclTree-F.Bracketed at d) = no_shape at
 tree_step (DeclTree-F.Function at d ps is_const) =

@@ -41,8 +41,8 @@ fn pointer_place(pointer: &Pointer) -> u32
 }
 
 /// A name that is an identifier and nothing else, with its place.
-fn placed(alloc: Global, name: &Name) -> Result<Placed, LoadFault>
-    ensures value { Gives (spec.placed name.now) result }
+fn placed_name(alloc: Global, name: &Name) -> Result<Placed, LoadFault>
+    ensures value { Gives (spec.placed_name name.now) result }
     ensures named { IfOk result (λ found. is_identifier found.name ≡ true) }
 {
     let bytes = plain(alloc, name)?;
@@ -60,7 +60,7 @@ pub fn name_alone(alloc: Global, first: u32, d: &DeclTree) -> Result<Placed, Loa
 {
     match d {
         DeclTree::Unnamed => Err(LoadFault::NotBuilt { at: first }),
-        DeclTree::Declared(name) => placed(alloc, name),
+        DeclTree::Declared(name) => placed_name(alloc, name),
         DeclTree::Pointed(pointer, _) => Err(LoadFault::NotBuilt {
             at: pointer_place(pointer),
         }),
