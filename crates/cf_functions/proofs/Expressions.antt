@@ -46,7 +46,7 @@ max_right a b t h = omega arith
 
 -- an expression needs its own variable
 pub top-above : (e : Expression) (k : ℕ) → k < top e k
-top-above (number n) k = omega arith
+top-above (number at n) k = omega arith
 top-above (local at x) k = omega arith
 top-above (call at x es) k = omega arith
 top-above (binary op a b) k = let h = top-above a k in omega arith
@@ -158,7 +158,7 @@ module _ (again : Again) (c_again helps : m.Again) (fs : List Function) (p : Lis
   mutual
     pub flat_sim : (e : Expression) (locals : Locals) (k d : ℕ) (n : Memory) (w : World) → length locals ≤ k → top e k ≤ total → Living base total n → Stored base locals n
         → Sim (FallsAs (Gets base k n)) (value again fs e locals d w) (run (flat fs (names_of locals) e k) d n w)
-    flat_sim (number z) locals k d n w le h l s =
+    flat_sim (number at z) locals k d n w le h l s =
         sim-at _ _ _ (all_one c_again helps p (set k (c.number (pos z))) sc d n w ∙ set_number c_again helps p sc base total scoped k (pos z) d n w h l)
         (sim-went (FallsAs (Gets base k n)) (pos z) _ w (record { memory = written (base + k) (Some (pos z)) n; is = refl; holds = gets_written base k n (pos z) }))
     flat_sim (local at x) locals k d n w le h l s =

@@ -1,6 +1,6 @@
 -- The items of a translation are valid.
 use Rattle.std.proofs.Common.{◌≡◌, ℕ, zero, suc, ◌+◌, ◌<◌, ◌≤◌, ◌^◌, Bool, true, false, not, ◌&&◌, ◌||◌, List, [], ◌∷◌, ◌++◌, length, map, take, Some, None, refl, sym, ap, subst, ◌∙◌, arith, codes, cond, ◌⊎◌, inl, inr, lit<}
-use Rattle.std.specs.Prelude.{if◌then◌else◌, ◌==◌, is_some, pos}
+use Rattle.std.specs.Prelude.{if◌then◌else◌, ◌==◌, find, is_some, pos}
 use Rattle.std.specs.Str.{bytes_eq}
 use Rattle.std.specs.List.{list_all}
 use Rattle.std.proofs.lemmas.Bool.{eqb-true, eq-eqb}
@@ -14,7 +14,7 @@ use Rattle.cc_tree.specs.Valid as v
 use Rattle.cc_tree.specs.Valid.{Known, is_name, valid_prototype, valid_items, valid_call, valid_expressions, valid_statement, prototype_named, has_own_type, gives_int}
 use Rattle.cf_functions.specs.Plain.{Function}
 use Rattle.cf_functions.specs.Mean.{link_name, link_name_of, putchar_name, main_name}
-use Rattle.cf_functions.specs.Rules.{File, is_in, differ, function_names, may_call, arity_fits, functions_well, first_unknown, unknown_in_all, all_well, once_all, file_of, keeps_names, first_unknown_of}
+use Rattle.cf_functions.specs.Rules.{File, is_in, differ, function_names, may_call, arity_fits, takes, functions_well, first_unknown, unknown_in_all, all_well, once_all, file_of, keeps_names, first_unknown_of}
 use Rattle.cf_functions.specs.Translate.{slot, slots_from, parameters_of, locals_of, locals_count, lowered, items, putchar, variables, is_sound, in_scope, finish, codes_of, top_of_all}
 use Rattle.cf_base.proofs.Tests.{all_of, same_bytes, bytes_same, bytes_differ, both}
 use Rattle.cf_functions.proofs.LinkNames.{link_tells, lt_or, main_or, link-main, link-other, tail, link_is_no_putchar, link_is_no_main, link_is_no_helper}
@@ -60,37 +60,29 @@ record FindsHead (ps : List CPrototype) (name : List ℕ) (n : ℕ) : Type 0 whe
   many : length prototype.parameters ≡ n
   gives : prototype.result ≡ Some ty.Int
 
-or_true : (a b : Bool) → (not a || b) ≡ true → a ≡ true → b ≡ true
-or_true true b e f = e
-or_true false b e f = absurd (cc)
-
-finds : (ks : List Function) (x : List ℕ) (n : ℕ) → is_in (function_names ks) x ≡ true → list_all (λ (f : Function). not (bytes_eq f.name x) || (length f.parameters == n)) ks ≡ true
+finds : (ks : List Function) (x : List ℕ) (n : ℕ) → is_in (function_names ks) x ≡ true → takes n (find (λ (f : Function). bytes_eq f.name x) ks) ≡ true
     → FindsHead (map head ks) (link_name x n) n
 finds [] x n e h = absurd (cc)
-finds (g ∷ ks) x n e h = go (finds ks x n) (bytes_eq (link_name_of g) (link_name x n)) refl
+finds (g ∷ ks) x n e h = go (finds ks x n) (bytes_eq g.name x) refl e h
   where
-    p : ((not (bytes_eq g.name x) || (length g.parameters == n)) ≡ true) × (list_all (λ (f : Function). not (bytes_eq f.name x) || (length f.parameters == n)) ks ≡ true)
-    p = both _ _ h
-
-    other : (t : Bool) → bytes_eq g.name x ≡ t → bytes_eq (link_name_of g) (link_name x n) ≡ false → is_in (function_names ks) x ≡ true
-    other true is ne =
-        let same : length g.parameters ≡ n = eqb-true (length g.parameters) n (or_true (bytes_eq g.name x) (length g.parameters == n) p.0 is) in
-        let eq = bytes_same (link_name_of g) (link_name x n) (ap (λ y. link_name y (length g.parameters)) (same_bytes g.name x is) ∙ ap (link_name x) same) in absurd (cc)
-    other false is ne = sym (ap (λ t. t || is_in (function_names ks) x) is) ∙ e
-
-    go : (is_in (function_names ks) x ≡ true → list_all (λ (f : Function). not (bytes_eq f.name x) || (length f.parameters == n)) ks ≡ true → FindsHead (map head ks) (link_name x n) n)
-        → (t : Bool) → bytes_eq (link_name_of g) (link_name x n) ≡ t → FindsHead (map head (g ∷ ks)) (link_name x n) n
-    go next true is = record {
-      prototype = head g;
-      is = ap (λ t. cond t (Some (head g)) (prototype_named (map head ks) (link_name x n))) is;
-      many = length-parameters (length g.parameters) ∙ (link_tells g.name x (length g.parameters) n (same_bytes (link_name_of g) (link_name x n) is)).1;
-      gives = refl;
-    }
-    go next false is =
-        let f = next (other (bytes_eq g.name x) refl is) p.1 in
+    go : (is_in (function_names ks) x ≡ true → takes n (find (λ (f : Function). bytes_eq f.name x) ks) ≡ true → FindsHead (map head ks) (link_name x n) n)
+        → (t : Bool) → bytes_eq g.name x ≡ t → (t || is_in (function_names ks) x) ≡ true
+        → takes n (cond t (Some g) (find (λ (f : Function). bytes_eq f.name x) ks)) ≡ true → FindsHead (map head (g ∷ ks)) (link_name x n) n
+    go next true is e h =
+        let same : length g.parameters ≡ n = eqb-true (length g.parameters) n h in
+        let name : link_name_of g ≡ link_name x n = ap (λ y. link_name y (length g.parameters)) (same_bytes g.name x is) ∙ ap (link_name x) same in
+        record {
+          prototype = head g;
+          is = ap (λ t. cond t (Some (head g)) (prototype_named (map head ks) (link_name x n))) (bytes_same (link_name_of g) (link_name x n) name);
+          many = length-parameters (length g.parameters) ∙ same;
+          gives = refl;
+        }
+    go next false is e h =
+        let f = next e h in
+        let other = bytes_differ (link_name_of g) (link_name x n) (λ s. let t = bytes_same g.name x (link_tells g.name x (length g.parameters) n s).0 in cc) in
         record {
           prototype = f.prototype;
-          is = ap (λ t. cond t (Some (head g)) (prototype_named (map head ks) (link_name x n))) is ∙ f.is;
+          is = ap (λ t. cond t (Some (head g)) (prototype_named (map head ks) (link_name x n))) other ∙ f.is;
           many = f.many;
           gives = f.gives;
         }
@@ -99,7 +91,7 @@ finds (g ∷ ks) x n e h = go (finds ks x n) (bytes_eq (link_name_of g) (link_na
 abbrev heads : List Function → List CPrototype
 heads ks = putchar ∷ map head ks
 
-finds_known : (ks : List Function) (x : List ℕ) (n : ℕ) → is_in (function_names ks) x ≡ true → list_all (λ (f : Function). not (bytes_eq f.name x) || (length f.parameters == n)) ks ≡ true
+finds_known : (ks : List Function) (x : List ℕ) (n : ℕ) → is_in (function_names ks) x ≡ true → takes n (find (λ (f : Function). bytes_eq f.name x) ks) ≡ true
     → FindsHead (heads ks) (link_name x n) n
 finds_known ks x n e h =
     let f = finds ks x n e h in
@@ -152,10 +144,10 @@ stored_ok true p e = ap is_some e
 stored_ok false p e = refl
 
 arity_of : (file : File) (known : List Function) (x : List ℕ) (n : ℕ) → bytes_eq x putchar_name ≡ false → may_call file known x n ≡ true
-    → list_all (λ (f : Function). not (bytes_eq f.name x) || (length f.parameters == n)) known ≡ true
+    → takes n (find (λ (f : Function). bytes_eq f.name x) known) ≡ true
 arity_of file known x n ne may =
     let fit = (both (not (bytes_eq x main_name)) (arity_fits known x n) (both (not (is_in file.locals x)) _ may).1).1 in
-    sym (ap (λ t. if t then n == 1 else list_all (λ (f : Function). not (bytes_eq f.name x) || (length f.parameters == n)) known) ne) ∙ fit
+    sym (ap (λ t. if t then n == 1 else takes n (find (λ (f : Function). bytes_eq f.name x) known)) ne) ∙ fit
 
 -- calls of known functions are valid in a body
 calls_known : (file : File) (known : List Function) (f : Function) → variables f < 2 ^ 64 → list_all is_good known ≡ true → is_in (function_names known) putchar_name ≡ false

@@ -5,6 +5,7 @@ pub mod Functions
 pub mod Items
 pub mod LinkNames
 pub mod Linking
+pub mod Marks
 pub mod Names
 pub mod Statements
 pub mod Steps

@@ -61,7 +61,7 @@ module _ (fine : List ℕ → Bool) (fs : List Function) (puts_fine : fine putch
 
   mutual
     flat_uses : (names : List (List ℕ)) (e : Expression) (k : ℕ) → all_fine (uses (flat fs names e k)) ≡ true
-    flat_uses names (number n) k = refl
+    flat_uses names (number at n) k = refl
     flat_uses names (local at x) k = refl
     flat_uses names (call at x es) k = uses_join (flats fs names es k) (value_call (callee fs x (count es)) k (count es) ∷ []) (flats_uses names es k) (call_uses x (count es) k (callee fs x (count es)) refl)
     flat_uses names (binary op a b) k =

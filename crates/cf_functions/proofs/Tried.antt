@@ -20,9 +20,9 @@ abbrev sum : Function
 sum = record {
   name = codes "f";
   parameters = n ∷ [];
-  body = in_order (declare 0 s (number 0)
-      ∷ loop (binary operator.Less (number 0) (var n))
-      (in_order (assign 0 s (binary operator.Add (var s) (var n)) ∷ assign 0 n (binary operator.Subtract (var n) (number 1)) ∷ []))
+  body = in_order (declare 0 s (number 0 0)
+      ∷ loop (binary operator.Less (number 0 0) (var n))
+      (in_order (assign 0 s (binary operator.Add (var s) (var n)) ∷ assign 0 n (binary operator.Subtract (var n) (number 0 1)) ∷ []))
       ∷ give (var s) ∷ []);
 }
 
@@ -30,7 +30,7 @@ abbrev function : List ℕ → List (List ℕ) → List Statement → Function
 function name parameters all = record { name = name; parameters = parameters; body = in_order all }
 
 abbrev shows_sum : List Function
-shows_sum = sum ∷ function (codes "main") [] (perform 0 (codes "putchar") (arguments (number 65 ∷ [])) ∷ give (call 0 (codes "f") (arguments (number 4 ∷ []))) ∷ []) ∷ []
+shows_sum = sum ∷ function (codes "main") [] (perform 0 (codes "putchar") (arguments (number 0 65 ∷ [])) ∷ give (call 0 (codes "f") (arguments (number 0 4 ∷ []))) ∷ []) ∷ []
 
 abbrev run : List Function → ℕ → ℕ → Outcome
 run fs depth n = mean fs [] 0 depth n
@@ -50,7 +50,7 @@ six_ticks = refl
 
 overflow_after_output : List Function
 overflow_after_output = function (codes "main") []
-    (perform 0 (codes "putchar") (arguments (number 97 ∷ [])) ∷ give (binary operator.Add (number 2147483647) (number 1)) ∷ []) ∷ []
+    (perform 0 (codes "putchar") (arguments (number 0 97 ∷ [])) ∷ give (binary operator.Add (number 0 2147483647) (number 0 1)) ∷ []) ∷ []
 
 overflows : run overflow_after_output 1024 100 ≡ record { end = Undefined 1; trace = Enter (codes "__main") ∷ Out 97 ∷ [] }
 unfolding overflow_after_output
@@ -62,9 +62,9 @@ a = codes "a"
 
 abbrev in_order_program : List Function
 in_order_program =
-    function (codes "g") (a ∷ []) (perform 0 (codes "putchar") (arguments (binary operator.Add (number 48) (var a) ∷ [])) ∷ give (var a) ∷ [])
+    function (codes "g") (a ∷ []) (perform 0 (codes "putchar") (arguments (binary operator.Add (number 0 48) (var a) ∷ [])) ∷ give (var a) ∷ [])
     ∷ function (codes "f") (a ∷ codes "b" ∷ []) (give (binary operator.Add (var a) (var (codes "b"))) ∷ [])
-    ∷ function (codes "main") [] (give (call 0 (codes "f") (arguments (call 0 (codes "g") (arguments (number 1 ∷ [])) ∷ call 0 (codes "g") (arguments (number 2 ∷ [])) ∷ []))) ∷ []) ∷ []
+    ∷ function (codes "main") [] (give (call 0 (codes "f") (arguments (call 0 (codes "g") (arguments (number 0 1 ∷ [])) ∷ call 0 (codes "g") (arguments (number 0 2 ∷ [])) ∷ []))) ∷ []) ∷ []
 
 abbrev in_order_shown : Outcome
 in_order_shown = record {
@@ -80,7 +80,7 @@ abbrev x : List ℕ
 x = codes "x"
 
 abbrev hides : List Function
-hides = function (codes "main") [] (declare 0 x (number 1) ∷ block (in_order (declare 0 x (number 2) ∷ assign 0 x (number 3) ∷ [])) ∷ give (var x) ∷ []) ∷ []
+hides = function (codes "main") [] (declare 0 x (number 0 1) ∷ block (in_order (declare 0 x (number 0 2) ∷ assign 0 x (number 0 3) ∷ [])) ∷ give (var x) ∷ []) ∷ []
 
 hidden : run hides 1 1 ≡ record { end = Ended (pos 1); trace = Enter (codes "__main") ∷ [] }
 hidden = refl
@@ -121,7 +121,7 @@ undeclared_name = refl
 
 -- `int main(){return f(1);} int f(int a){return a;}`: a function is known from where it stands
 abbrev forward : List Function
-forward = function (codes "main") [] (give (call 18 (codes "f") (arguments (number 1 ∷ []))) ∷ []) ∷ function (codes "f") (a ∷ []) (give (var a) ∷ []) ∷ []
+forward = function (codes "main") [] (give (call 18 (codes "f") (arguments (number 0 1 ∷ []))) ∷ []) ∷ function (codes "f") (a ∷ []) (give (var a) ∷ []) ∷ []
 
 forward_is_unknown : first_unknown_of forward ≡ Some 18
 forward_is_unknown = refl
@@ -140,16 +140,16 @@ breaks_1 = refl
 breaks_2 : keeps_names (function (codes "main") (a ∷ []) [] ∷ []) ≡ false
 breaks_2 = refl
 
-breaks_3 : keeps_names (function (codes "main") [] (declare 0 (codes "main") (number 1) ∷ []) ∷ []) ≡ false
+breaks_3 : keeps_names (function (codes "main") [] (declare 0 (codes "main") (number 0 1) ∷ []) ∷ []) ≡ false
 breaks_3 = refl
 
-breaks_4 : keeps_names (function (codes "main") [] (declare 0 x (number 1) ∷ declare 0 x (number 1) ∷ []) ∷ []) ≡ false
+breaks_4 : keeps_names (function (codes "main") [] (declare 0 x (number 0 1) ∷ declare 0 x (number 0 1) ∷ []) ∷ []) ≡ false
 breaks_4 = refl
 
 breaks_5 : keeps_names (function (codes "main") [] (give (var (codes "putchar")) ∷ []) ∷ []) ≡ false
 breaks_5 = refl
 
-breaks_6 : keeps_names (function (codes "main") [] (declare 0 x (number 1) ∷ perform 0 x none ∷ []) ∷ []) ≡ false
+breaks_6 : keeps_names (function (codes "main") [] (declare 0 x (number 0 1) ∷ perform 0 x none ∷ []) ∷ []) ≡ false
 breaks_6 = refl
 
 breaks_7 : keeps_names (function (codes "main") [] (perform 0 (codes "main") none ∷ []) ∷ []) ≡ false
@@ -162,8 +162,9 @@ breaks_9 : keeps_names (function (codes "f") (a ∷ []) [] ∷ function (codes "
 breaks_9 = refl
 
 -- a parameter and a local of the outermost block
-breaks_10 : keeps_names (function (codes "f") (a ∷ []) (declare 0 a (number 1) ∷ []) ∷ function (codes "main") [] [] ∷ []) ≡ false
+breaks_10 : keeps_names (function (codes "f") (a ∷ []) (declare 0 a (number 0 1) ∷ []) ∷ function (codes "main") [] [] ∷ []) ≡ false
 breaks_10 = refl
 
-no_main : keeps_names [] ≡ false
+-- the empty file
+no_main : keeps_names [] ≡ true
 no_main = refl

@@ -2,7 +2,6 @@
 use Rattle.std.proofs.Common.{◌≡◌, ℕ, zero, suc, ◌+◌, ◌<◌, ◌≤◌, ◌^◌, Bool, true, false, not, ◌&&◌, ◌||◌, List, [], ◌∷◌, ◌++◌, length, pos, Option, Some, None, refl, sym, ap, subst, ◌∙◌, arith}
 use Rattle.std.specs.Prelude.{if◌then◌else◌, ◌==◌, find, nat_lt, nat_le, is_some, max}
 use Rattle.std.specs.Str.{bytes_eq}
-use Rattle.std.specs.List.{list_all}
 use Rattle.std.proofs.lemmas.Bool.Decides.{nat_tests}
 use Rattle.cf_base.specs.declared.kind.Kind.TheVariants.{Int}
 use Rattle.cf_base.specs.Integers.{fits}
@@ -13,7 +12,7 @@ use Rattle.cf_functions.specs.declared.tree.Operator.{Operator}
 use Rattle.cf_functions.specs.declared.tree.Operator.TheVariants as operator
 use Rattle.cf_functions.specs.Plain.{Expression, number, local, call, binary, Expressions, none, more, Statement, declare, assign, perform, give, choose, loop, block, Statements, done, followed, names_after, Function}
 use Rattle.cf_functions.specs.Mean.{Callee, Puts, Defined, Missing, callee, defined, is_called, count, arith_of, link_name_of, putchar_name, main_name}
-use Rattle.cf_functions.specs.Rules.{File, is_in, is_function, may_call, arity_fits, used_well, all_used_well, well, all_well, unknown, unknowns, unknown_in, unknown_in_all, first, int_max, function_names}
+use Rattle.cf_functions.specs.Rules.{File, is_in, is_function, may_call, arity_fits, takes, used_well, all_used_well, well, all_well, unknown, unknowns, unknown_in, unknown_in_all, first, int_max, function_names}
 use Rattle.cf_functions.specs.Translate.{place, held, set, held_from, slot_of, read_local, store_local, value_call, plain_call, flat, flats, code, codes_of, turn, plain_body, count_after, top, tops, top_of, top_of_all}
 use Rattle.cf_functions.proofs.Expressions.{max_left, max_right, top-above, tops-above}
 use Rattle.cf_base.proofs.Tests.{both, all_of}
@@ -107,7 +106,7 @@ not_putchar fs known file x n f is may = go (bytes_eq x putchar_name) refl
     go : (t : Bool) → bytes_eq x putchar_name ≡ t → bytes_eq x putchar_name ≡ false
     go false e = e
     go true e =
-        let one : (n == 1) ≡ true = sym (ap (λ t. if t then n == 1 else list_all (λ (f : Function). not (bytes_eq f.name x) || (length f.parameters == n)) known) e) ∙ fit in
+        let one : (n == 1) ≡ true = sym (ap (λ t. if t then n == 1 else takes n (find (λ (f : Function). bytes_eq f.name x) known)) e) ∙ fit in
         let puts : callee fs x n ≡ Puts = ap (λ t. if t && (n == 1) then Puts else defined (find (is_called x n) fs)) e ∙ ap (λ t. if t then Puts else defined (find (is_called x n) fs)) one in
         absurd (cc)
 
@@ -145,7 +144,7 @@ module _ (fs : List Function) (file : File) (known : List Function) (functions :
     mutual
       pub flat_valid : (kn : Known) → Slots kn total → Calls file known kn → (e : Expression) (names scope : List (List ℕ)) (k : ℕ) → length names ≤ k → top e k ≤ total
           → used_well file known e ≡ true → unknown functions scope e ≡ None → valid_statements (c.in_order (flat fs names e k)) kn ≡ true
-      flat_valid kn s cs (number n) names scope k le h used none_unknown = valid_one (set k (c.number (pos n))) kn (valid_set kn total s k (c.number (pos n)) h (fits_small n used))
+      flat_valid kn s cs (number at n) names scope k le h used none_unknown = valid_one (set k (c.number (pos n))) kn (valid_set kn total s k (c.number (pos n)) h (fits_small n used))
       flat_valid kn s cs (local at x) names scope k le h used none_unknown =
           valid_one (set k (read_local (slot_of names x))) kn (valid_set kn total s k (read_local (slot_of names x)) h (read_valid kn s names x (slot_of names x) refl (omega arith)))
       flat_valid kn s cs (call at x es) names scope k le h used none_unknown =

@@ -10,18 +10,18 @@ use Rattle.cc_tree.specs.Mean.{mean_of}
 use Rattle.cf_functions.specs.Plain.{Function}
 use Rattle.cf_functions.specs.Mean.{mean}
 use Rattle.cf_functions.specs.Rules.{keeps_names, first_unknown_of}
-use Rattle.cf_functions.specs.Translate.{is_sound, items, program}
+use Rattle.cf_functions.specs.Translate.{has_main, is_sound, items, program}
 
 -- a function of a text: its name is an identifier without __ in front, and it needs fewer than 2 ^ 64 variables
 abbrev pub is_function_of_text : Function → Bool
 is_function_of_text f = is_sound f && is_word f.name
 
--- The items keep the rules of validity, their unit breaks no rule of linking, and the linked program has, for every input, heap limit, depth limit
--- and bound of ticks, the trace and end that the file means, up to the first undefined act.
+-- The items keep the rules of validity, and their unit breaks no rule of linking but the one on `main`. With a `main` the linked program has, for every
+-- input, heap limit, depth limit and bound of ticks, the trace and end that the file means, up to the first undefined act.
 pub record Keeps (fs : List Function) : Type 0 where
   pub valid : valid_items (items fs) [] [] ≡ true
   pub links : broken_rule (items fs ∷ []) ≡ None
-  pub agrees : (input : List ℕ) (heap depth n : ℕ) → Agree (mean fs input heap depth n) (mean_of (functions_of (program fs)) input heap depth n)
+  pub agrees : has_main fs ≡ true → (input : List ℕ) (heap depth n : ℕ) → Agree (mean fs input heap depth n) (mean_of (functions_of (program fs)) input heap depth n)
 
 -- so it is for every file that keeps the rules of names and uses no undeclared name
 abbrev pub TranslationKeeps : Type 0

@@ -1,4 +1,5 @@
 pub mod Agrees
+pub mod Marks
 pub mod Mean
 pub mod Plain
 pub mod Rules

@@ -153,7 +153,7 @@ called again Missing vs depth w = Went (Some (pos 0)) w
 
 abbrev mutual
   pub value : Again → List Function → Expression → Locals → ℕ → World → Ran ℤ
-  value again fs (number n) locals depth w = Went (pos n) w
+  value again fs (number at n) locals depth w = Went (pos n) w
   value again fs (local at x) locals depth w = Went (value_in locals x) w
   value again fs (call at x es) locals depth w =
       and_then (values again fs es locals depth w) (λ vs w. and_then (called again (callee fs x (count es)) vs depth w) used)

@@ -6,11 +6,12 @@ use Rattle.cf_functions.specs.declared.tree.Expression.TheOpen.{Expression-F}
 use Rattle.cf_functions.specs.declared.tree.Statement as tree_s
 use Rattle.cf_functions.specs.declared.tree.Statement.TheOpen.{Statement-F}
 use Rattle.cf_functions.specs.declared.tree.Function as tree_f
+use Rattle.cf_functions.specs.declared.tree.Parameter.{Parameter}
 use Rattle.cf_functions.specs.declared.tree.Program as tree_p
 
 mutual
   pub data Expression : Type 0 where
-    number : ℕ → Expression
+    number : ℕ → ℕ → Expression
     local : ℕ → List ℕ → Expression
     call : ℕ → List ℕ → Expressions → Expression
     binary : Operator → Expression → Expression → Expression
@@ -42,7 +43,7 @@ in_order [] = done
 in_order (s ∷ ss) = followed s (in_order ss)
 
 abbrev pub expression_step : Expression-F Expression → Expression
-expression_step (Expression-F.Number n) = number n
+expression_step (Expression-F.Number at n) = number at n
 expression_step (Expression-F.Local at name) = local at name
 expression_step (Expression-F.Call at name es) = call at name (arguments es)
 expression_step (Expression-F.Binary op a b) = binary op a b
@@ -75,13 +76,17 @@ names_after (choose e chosen other) names = names
 names_after (loop e body) names = names
 names_after (block body) names = names
 
+-- A function as its meaning has it, without the places of its name and of its parameters.
 pub record Function : Type 0 where
   pub name : List ℕ
   pub parameters : List (List ℕ)
   pub body : Statements
 
+abbrev pub names_of : List Parameter → List (List ℕ)
+names_of ps = map (λ (p : Parameter). p.name) ps
+
 abbrev pub function_of : tree_f.Function → Function
-function_of f = record { name = f.name; parameters = f.parameters; body = in_order (map statement_of f.body) }
+function_of f = record { name = f.name; parameters = names_of f.parameters; body = in_order (map statement_of f.body) }
 
 abbrev pub functions_of : tree_p.Program → List Function
 functions_of p = map function_of p.functions

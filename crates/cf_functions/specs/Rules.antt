@@ -1,5 +1,5 @@
 -- The rules of names that a file keeps beside the grammar, and the first name that is not declared.
-use Rattle.std.specs.Prelude.{ℕ, Bool, true, not, ◌&&◌, ◌||◌, ◌==◌, nat_le, if◌then◌else◌, List, [], ◌∷◌, ◌++◌, Option, Some, None, length, map}
+use Rattle.std.specs.Prelude.{ℕ, Bool, true, not, ◌&&◌, ◌||◌, ◌==◌, nat_le, if◌then◌else◌, List, [], ◌∷◌, ◌++◌, Option, Some, None, length, map, find}
 use Rattle.std.specs.List.{list_all, list_any}
 use Rattle.std.specs.Str.{bytes_eq}
 use Rattle.cf_functions.specs.Plain.{Expression, number, local, call, binary, Expressions, none, more, Statement, declare, assign, perform, give, choose, loop, block, Statements, done, followed, names_after, Function}
@@ -62,9 +62,14 @@ pub record File : Type 0 where
 abbrev pub is_function : File → List ℕ → Bool
 is_function file x = bytes_eq x putchar_name || is_in file.functions x
 
+-- a function takes as many arguments as it has parameters
+abbrev pub takes : ℕ → Option Function → Bool
+takes n None = true
+takes n (Some f) = length f.parameters == n
+
 -- putchar takes one argument, a function that stands earlier or is the function itself as many as it has parameters; main is not called
 abbrev pub arity_fits : List Function → List ℕ → ℕ → Bool
-arity_fits known x n = if bytes_eq x putchar_name then n == 1 else list_all (λ (f : Function). not (bytes_eq f.name x) || (length f.parameters == n)) known
+arity_fits known x n = if bytes_eq x putchar_name then n == 1 else takes n (find (λ (f : Function). bytes_eq f.name x) known)
 
 abbrev pub may_call : File → List Function → List ℕ → ℕ → Bool
 may_call file known x n = not (is_in file.locals x) && (not (bytes_eq x main_name) && arity_fits known x n)
@@ -75,7 +80,7 @@ int_max = 2147483647
 
 abbrev mutual
   pub used_well : File → List Function → Expression → Bool
-  used_well file known (number n) = nat_le n int_max
+  used_well file known (number at n) = nat_le n int_max
   used_well file known (local at x) = not (is_function file x)
   used_well file known (call at x es) = may_call file known x (count es) && all_used_well file known es
   used_well file known (binary op a b) = used_well file known a && used_well file known b
@@ -110,11 +115,11 @@ is_plain_main f = not (bytes_eq f.name main_name) || (length f.parameters == 0)
 abbrev pub file_of : List Function → File
 file_of fs = record { functions = function_names fs; locals = locals_of fs }
 
--- The functions have different names, none of them putchar, and one is main, without parameters. No local or parameter has the name of a
--- function. No name is declared twice in a block. Names are used as what they are.
+-- The functions have different names, none of them putchar, and main has no parameters where it is there. No local or parameter has the name of
+-- a function. No name is declared twice in a block. Names are used as what they are.
 abbrev pub keeps_names : List Function → Bool
 keeps_names fs =
-    (differ (function_names fs) && (not (is_in (function_names fs) putchar_name) && (is_in (function_names fs) main_name && list_all is_plain_main fs)))
+    (differ (function_names fs) && (not (is_in (function_names fs) putchar_name) && list_all is_plain_main fs))
     && (list_all (λ x. not (is_function (file_of fs) x)) (locals_of fs) && functions_well (file_of fs) [] fs)
 
 -- ---- the first used name that is no local in scope, no function that stands earlier or is the function itself, and is not putchar
@@ -125,7 +130,7 @@ first None next = next
 
 abbrev mutual
   pub unknown : List (List ℕ) → List (List ℕ) → Expression → Option ℕ
-  unknown functions scope (number n) = None
+  unknown functions scope (number at n) = None
   unknown functions scope (local at x) = if is_in scope x then None else Some at
   unknown functions scope (call at x es) =
       if bytes_eq x putchar_name || is_in functions x then unknowns functions scope es else Some at

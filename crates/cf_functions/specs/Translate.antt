@@ -62,7 +62,7 @@ plain_call Missing k n = []
 -- the value of an expression into variable k; of arguments into k, k + 1 and so on
 abbrev mutual
   pub flat : List Function → List (List ℕ) → Expression → ℕ → List c.Statement
-  flat fs names (number n) k = set k (c.number (pos n)) ∷ []
+  flat fs names (number at n) k = set k (c.number (pos n)) ∷ []
   flat fs names (local at x) k = set k (read_local (slot_of names x)) ∷ []
   flat fs names (call at x es) k = flats fs names es k ++ (value_call (callee fs x (count es)) k (count es) ∷ [])
   flat fs names (binary op a b) k =
@@ -98,7 +98,7 @@ abbrev mutual
 
 abbrev mutual
   pub top : Expression → ℕ → ℕ
-  top (number n) k = suc k
+  top (number at n) k = suc k
   top (local at x) k = suc k
   top (call at x es) k = max (suc k) (tops es k)
   top (binary op a b) k = max (top a k) (top b (suc k))

@@ -5,5 +5,5 @@
 mod laws;
 mod tree;
 
-pub use laws::translation_keeps_meaning;
-pub use tree::{Expression, Function, Operator, Program, Statement};
+pub use laws::{rules_are_kept_where_no_name_breaks_one, translation_keeps_meaning};
+pub use tree::{Expression, Function, Operator, Parameter, Program, Statement};

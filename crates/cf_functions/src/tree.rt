@@ -9,11 +9,11 @@ pub enum Operator {
     Equal,
 }
 
-/// An expression of type int. A name stands with its byte place.
+/// An expression of type int. A name and a constant stand with their byte place.
 #[derive(Drop)]
 pub enum Expression {
     /// A constant, at most 2147483647 (2.5.1).
-    Number(u32),
+    Number(u32, u32),
     /// The value of a local or parameter.
     Local(u32, Name),
     Call(u32, Name, Items<Expression>),
@@ -36,11 +36,19 @@ pub enum Statement {
     Block(Items<Statement>),
 }
 
-/// A function of ints that returns an int.
+/// A parameter of type int: its name, and the byte place of that.
+#[derive(Drop)]
+pub struct Parameter {
+    pub at: u32,
+    pub name: Name,
+}
+
+/// A function of ints that returns an int. `at` is the byte place of its name.
 #[derive(Drop)]
 pub struct Function {
+    pub at: u32,
     pub name: Name,
-    pub parameters: Items<Name>,
+    pub parameters: Items<Parameter>,
     pub body: Items<Statement>,
 }
 

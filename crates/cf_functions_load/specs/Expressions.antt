@@ -40,7 +40,7 @@ abbrev pub int_max : ℕ
 int_max = 2147483647
 
 abbrev pub int_constant : ℕ → ℕ → Formed Expression
-int_constant at n = if nat_le n int_max then Ok (tree.Number n) else Err at
+int_constant at n = if nat_le n int_max then Ok (tree.Number at n) else Err at
 
 -- of type int
 abbrev pub constant : ℕ → ℕ → Kind → Formed Expression

@@ -39,7 +39,7 @@ initialised at name (Some (initialiser.Equals p i)) = made (λ e. statement.Decl
 initialised at name (Some (initialiser.Arguments p xs)) = Err p
 
 abbrev pub local : InitDeclarator → Formed Statement
-local d = after ((shape d.declarator).name d.at) (λ name. initialised d.at name d.initialiser)
+local d = after ((shape d.declarator).name d.at) (λ name. initialised d.at name.name d.initialiser)
 
 -- one declarator, in a declaration at this place
 abbrev pub local_alone : ℕ → List InitDeclarator → Formed Statement
@@ -94,7 +94,7 @@ no_initialisers [] = Ok tt
 no_initialisers (i ∷ rest) = Err i.path.at
 
 abbrev pub body_of : Head → List Part → Formed Function
-body_of h ps = made (λ ss. record { name = h.name; parameters = h.parameters; body = ss }) (statements ps)
+body_of h ps = made (λ ss. record { at = h.at; name = h.name; parameters = h.parameters; body = ss }) (statements ps)
 
 -- Results for a member, a specifier, a statement, a class, a function and a declaration. A specifier is its place, and a class too.
 abbrev pub member_step : Member-F (Unit {0}) (Formed ℕ) Part ℕ (Formed Function) Declared → Unit {0}

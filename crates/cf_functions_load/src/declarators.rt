@@ -9,15 +9,24 @@ ghost use Rattle.cf_functions_load.specs.Declarators as spec;
 use crate::fault::LoadFault;
 use crate::names::plain;
 use crate::specifiers::int_alone;
-use cf_base::{Boxed, Bytes, Items, Name};
-use cf_syntax::{DeclTree, Expr, Param, Pointer};
+use cf_base::{Boxed, Items};
+use cf_functions::Parameter;
+use cf_syntax::{DeclTree, Expr, Name, Param, Pointer};
 use std::alloc::Global;
 
-/// The head of a function: its name and those of its parameters.
+/// An identifier and its byte place.
+#[derive(Drop)]
+pub struct Placed {
+    pub at: u32,
+    pub name: cf_base::Name,
+}
+
+/// The head of a function: its name with its byte place, and its parameters.
 #[derive(Drop)]
 pub struct Head {
-    pub name: Name,
-    pub parameters: Items<Name>,
+    pub at: u32,
+    pub name: cf_base::Name,
+    pub parameters: Items<Parameter>,
 }
 
 /// The place of an operator of a declarator.
@@ -31,15 +40,27 @@ fn pointer_place(pointer: &Pointer) -> u32
     }
 }
 
+/// A name that is an identifier and nothing else, with its place.
+fn placed_name(alloc: Global, name: &Name) -> Result<Placed, LoadFault>
+    ensures value { Gives (spec.placed_name name.now) result }
+    ensures named { IfOk result (λ found. is_identifier found.name ≡ true) }
+{
+    let bytes = plain(alloc, name)?;
+    Ok(Placed {
+        at: name.at,
+        name: bytes,
+    })
+}
+
 /// The name that a declarator is which begins at this place.
 #[cycle(declarators)]
-pub fn name_alone(alloc: Global, first: u32, d: &DeclTree) -> Result<Bytes, LoadFault>
+pub fn name_alone(alloc: Global, first: u32, d: &DeclTree) -> Result<Placed, LoadFault>
     ensures value { Gives ((spec.shape d.now).name first) result }
-    ensures named { IfOk result (λ found. is_identifier found ≡ true) }
+    ensures named { IfOk result (λ found. is_identifier found.name ≡ true) }
 {
     match d {
         DeclTree::Unnamed => Err(LoadFault::NotBuilt { at: first }),
-        DeclTree::Declared(name) => plain(alloc, name),
+        DeclTree::Declared(name) => placed_name(alloc, name),
         DeclTree::Pointed(pointer, _) => Err(LoadFault::NotBuilt {
             at: pointer_place(pointer),
         }),
@@ -51,26 +72,29 @@ pub fn name_alone(alloc: Global, first: u32, d: &DeclTree) -> Result<Bytes, Load
 
 /// What stands at this place behind a declarator is no form.
 #[cycle(declarators)]
-fn stray(alloc: Global, first: u32, before: &DeclTree, at: u32) -> Result<Bytes, LoadFault>
+fn stray(alloc: Global, first: u32, before: &DeclTree, at: u32) -> Result<Placed, LoadFault>
     ensures value { Gives (its_stray ((spec.shape before.now).name first) at) result }
-    ensures named { IfOk result (λ found. is_identifier found ≡ true) }
+    ensures named { IfOk result (λ found. is_identifier found.name ≡ true) }
 {
     let _ = name_alone(alloc, first, before)?;
     Err(LoadFault::NotBuilt { at })
 }
 
-/// A name without a default argument.
-fn no_default(default: &Option<(u32, Boxed<Expr>)>, name: Bytes) -> Result<Bytes, LoadFault>
+/// The parameter of this name, without a default argument.
+fn no_default(default: &Option<(u32, Boxed<Expr>)>, name: Placed) -> Result<Parameter, LoadFault>
     ensures { Gives (spec.no_default default.now name) result }
 {
     match default {
-        None => Ok(name),
+        None => Ok(Parameter {
+            at: name.at,
+            name: name.name,
+        }),
         Some((at, _)) => Err(LoadFault::NotBuilt { at: *at }),
     }
 }
 
-/// The name of a parameter (8.2.5).
-fn parameter(alloc: Global, p: &Param) -> Result<Bytes, LoadFault>
+/// A parameter (8.2.5).
+fn parameter(alloc: Global, p: &Param) -> Result<Parameter, LoadFault>
     ensures { Gives (spec.parameter p.now) result }
 {
     int_alone(p.at, p.specifiers.as_slice())?;
@@ -78,8 +102,8 @@ fn parameter(alloc: Global, p: &Param) -> Result<Bytes, LoadFault>
     no_default(&p.default, name)
 }
 
-/// The names of parameters.
-fn parameters(alloc: Global, all: &[Param]) -> Result<Items<Name>, LoadFault>
+/// Parameters, in their order.
+fn parameters(alloc: Global, all: &[Param]) -> Result<Items<Parameter>, LoadFault>
     ensures { Gives (in_order (map spec.parameter all.now)) result }
 {
     let mut found = Items::new(alloc);
@@ -93,18 +117,22 @@ fn parameters(alloc: Global, all: &[Param]) -> Result<Items<Name>, LoadFault>
 fn head_of(
     alloc: Global,
     at: u32,
-    name: Name,
+    name: Placed,
     all: &[Param],
     is_const: bool,
 ) -> Result<Head, LoadFault>
     ensures value { Gives (spec.head_of at name (map spec.parameter all.now) is_const) result }
-    ensures same { IfOk result (λ found. found.name ≡ name) }
+    ensures same { IfOk result (λ found. found.name ≡ name.name) }
 {
     if is_const {
         return Err(LoadFault::NotBuilt { at });
     }
     let parameters = parameters(alloc, all)?;
-    Ok(Head { name, parameters })
+    Ok(Head {
+        at: name.at,
+        name: name.name,
+        parameters,
+    })
 }
 
 /// No head: what stands at this place behind a declarator is no form.

@@ -22,7 +22,7 @@ fn constant(alloc: Global, at: u32, number: u32, kind: Kind) -> Result<Boxed<Exp
     ensures { Gives (spec.constant at number kind) result }
 {
     match kind {
-        Kind::Int if number <= INT_MAX => Ok(Boxed::new(alloc, Expression::Number(number))?),
+        Kind::Int if number <= INT_MAX => Ok(Boxed::new(alloc, Expression::Number(at, number))?),
         _ => Err(LoadFault::NotBuilt { at }),
     }
 }

@@ -33,10 +33,15 @@ fn function(alloc: Global, f: &FunctionDef) -> Result<Function, LoadFault>
     ensures named { IfOk result (λ found. is_named (function_of found) ≡ true) }
 {
     int_declared(f.at, f.specifiers.as_slice())?;
-    let Head { name, parameters } = function_head(alloc, f.declarator_at, f.declarator.get())?;
+    let Head {
+        at,
+        name,
+        parameters,
+    } = function_head(alloc, f.declarator_at, f.declarator.get())?;
     no_initialisers(f.initialisers.as_slice())?;
     let body = statements(alloc, &f.body)?;
     Ok(Function {
+        at,
         name,
         parameters,
         body,

@@ -50,7 +50,7 @@ fn local(alloc: Global, d: &InitDeclarator) -> Result<Boxed<Statement>, LoadFaul
     ensures { Gives (spec.local d.now) result }
 {
     let name = name_alone(alloc, d.at, d.declarator.get())?;
-    initialised(alloc, d.at, name, &d.initialiser)
+    initialised(alloc, d.at, name.name, &d.initialiser)
 }
 
 /// What stands at this place behind a local is no form.

@@ -63,7 +63,7 @@ fn put_name(out: &mut String, name: &Bytes) -> Result<(), Fail> {
 
 fn show(out: &mut String, e: &Expression) -> Result<(), Fail> {
     match e {
-        Expression::Number(number) => write!(out, "{number}")?,
+        Expression::Number(_, number) => write!(out, "{number}")?,
         Expression::Local(at, name) => {
             put_name(out, name)?;
             write!(out, "@{at}")?;

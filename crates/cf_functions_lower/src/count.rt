@@ -16,7 +16,7 @@ fn top(e: &Expression, into: usize) -> Result<usize, Memory>
     ensures { IfOk result (λ count. count ≡ its_top (expression_of e.now) into) }
 {
     match e {
-        Expression::Number(_) => next(into),
+        Expression::Number(_, _) => next(into),
         Expression::Local(_, _) => next(into),
         Expression::Call(_, _, arguments) => Ok(max(next(into)?, tops(arguments, into)?)),
         Expression::Binary(_, a, b) => Ok(max(top(a.get(), into)?, top(b.get(), next(into)?)?)),

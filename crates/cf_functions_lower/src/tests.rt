@@ -3,12 +3,12 @@
 use crate::translate;
 use cc_print::print;
 use cf_base::{Boxed, Items, Memory, Name};
-use cf_functions::{Expression, Function, Operator, Program, Statement};
+use cf_functions::{Expression, Function, Operator, Parameter, Program, Statement};
 use std::alloc::Global;
 use std::test::Fail;
 
 fn number(alloc: Global, value: u32) -> Result<Boxed<Expression>, Memory> {
-    Boxed::new(alloc, Expression::Number(value))
+    Boxed::new(alloc, Expression::Number(0, value))
 }
 
 fn local(alloc: Global, name: &[u8]) -> Result<Boxed<Expression>, Memory> {
@@ -78,9 +78,13 @@ fn function(
 ) -> Result<(), Memory> {
     let mut names = Items::new(alloc);
     for parameter in parameters {
-        names.push(Name::from_slice(alloc, parameter)?)?;
+        names.push(Parameter {
+            at: 0,
+            name: Name::from_slice(alloc, parameter)?,
+        })?;
     }
     program.functions.push(Function {
+        at: 0,
         name: Name::from_slice(alloc, name)?,
         parameters: names,
         body,

@@ -3,7 +3,7 @@
 ghost use Rattle.std.specs.Prelude.{◌≡◌, ◌-◌, ◌^◌, ◌++◌, ◌∷◌, [], true, Some, length, nat_lt, IfOk, OnOk};
 ghost use Rattle.cc_tree.specs.Plain.{function_of as target_of};
 ghost use Rattle.cc_tree.specs.declared.types.CType.TheVariants.{Int};
-ghost use Rattle.cf_functions.specs.Plain.{function_of, functions_of};
+ghost use Rattle.cf_functions.specs.Plain.{function_of, functions_of, names_of};
 ghost use Rattle.cf_functions.specs.Mean.{link_name_of};
 ghost use Rattle.cf_functions.specs.Translate.{codes_of, finish as its_end, in_scope, lowered, locals_of, parameters_of, putchar as its_putchar, top_of_all, variables};
 ghost use Rattle.cf_functions_lower.specs.Code.{functions_known, plain, statements_of};
@@ -20,7 +20,7 @@ use cc_tree::{
     CBody, CExpression, CFunction, CItem, CLocal, CParameter, CPrototype, CStatement, CType, CUnit,
 };
 use cf_base::{Boxed, Items, Memory, Name};
-use cf_functions::{Function, Program};
+use cf_functions::{Function, Parameter, Program};
 use std::alloc::Global;
 
 /// So many parameters of type int, by the names of the first variables.
@@ -52,12 +52,12 @@ fn locals(alloc: Global, first: usize, end: usize) -> Result<Items<CLocal>, Memo
 }
 
 /// The parameters in scope.
-fn scope_of<'a>(alloc: Global, parameters: &'a Items<Name>) -> Result<Scope<'a>, Memory>
-    ensures { IfOk result (λ scope. scope ≡ in_scope parameters.now []) }
+fn scope_of<'a>(alloc: Global, parameters: &'a Items<Parameter>) -> Result<Scope<'a>, Memory>
+    ensures { IfOk result (λ scope. scope ≡ in_scope (names_of parameters.now) []) }
 {
     let mut scope = Scope::new(alloc);
-    for name in parameters.as_slice() {
-        scope.declare(name.as_slice())?;
+    for parameter in parameters.as_slice() {
+        scope.declare(parameter.name.as_slice())?;
     }
     Ok(scope)
 }
@@ -75,7 +75,7 @@ fn put_end(alloc: Global, function: &Function, code: &mut Items<CStatement>) -> 
 
 /// The statements of a function.
 fn function_code(file: &File<'_>, function: &Function) -> Result<Items<CStatement>, Memory>
-    ensures { IfOk result (λ code. plain code ≡ codes_of (functions_in file.now) (in_scope function.now.parameters []) (statements_of function.now.body) ++ its_end (function_of function.now)) }
+    ensures { IfOk result (λ code. plain code ≡ codes_of (functions_in file.now) (in_scope (names_of function.now.parameters) []) (statements_of function.now.body) ++ its_end (function_of function.now)) }
 {
     let mut scope = scope_of(file.alloc(), &function.parameters)?;
     let mut code = Items::new(file.alloc());
@@ -88,7 +88,7 @@ fn function_code(file: &File<'_>, function: &Function) -> Result<Items<CStatemen
 fn prototype(alloc: Global, function: &Function) -> Result<CPrototype, Memory>
     ensures result_type { IfOk result (λ made. made.result ≡ Some Int) }
     ensures name { IfOk result (λ made. made.name ≡ link_name_of (function_of function.now)) }
-    ensures parameters { IfOk result (λ made. made.parameters ≡ parameters_of (length function.now.parameters)) }
+    ensures parameters { IfOk result (λ made. made.parameters ≡ parameters_of (length (function_of function.now).parameters)) }
 {
     let count = function.parameters.len();
     Ok(CPrototype {

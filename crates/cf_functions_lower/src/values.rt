@@ -137,7 +137,7 @@ pub fn value(
     ensures { OnOk result (plain code.new ≡ plain code.old ++ flat (functions_in file.now) scope.now (expression_of e.now) into) }
 {
     match e {
-        Expression::Number(number) => set_number(file.alloc(), code, into, *number),
+        Expression::Number(_, number) => set_number(file.alloc(), code, into, *number),
         Expression::Local(_, name) => set_local(
             file.alloc(),
             code,

@@ -1,4 +1,4 @@
 mod BehindLaws
-mod DifferLaws
+mod FirstLaws
 mod HeadLaws
 mod WalkLaws

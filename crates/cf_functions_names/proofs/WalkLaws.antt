@@ -6,7 +6,7 @@ use Rattle.cf_functions.specs.declared.tree.Statement.TheVariants as variants
 use Rattle.cf_functions.specs.declared.tree.Statement.TheOpen.{Statement-F}
 use Rattle.cf_functions.specs.declared.tree.Function as tree
 use Rattle.cf_functions.specs.Mean.{count}
-use Rattle.cf_functions.specs.Plain.{Expressions, more, arguments, expression_of, expressions_of, Statement, Statements, choose, statement_of, statement_step, in_order, function_of, Function}
+use Rattle.cf_functions.specs.Plain.{Expressions, more, arguments, expression_of, expressions_of, Statement, Statements, choose, statement_of, statement_step, in_order, names_of, function_of, Function}
 use Rattle.cf_functions.specs.Rules.{declared, declared_all, locals_of}
 use Rattle.cf_functions_names.specs.Lists.{behind}
 use Rattle.cf_functions_names.specs.Walk.{plain}
@@ -43,10 +43,10 @@ declared_two s e a b names mid new is first second =
     ∙ sym (ap (λ x. behind (declared (statement_of x)) names) is ∙ ap (λ x. behind (declared x) names) (statement_of-If e a b))
 
 pub locals_next : (all : List tree.Function) (i : ℕ) (f : tree.Function) (names mid new start : List (List ℕ)) → i < length all → f ≡ get_or all i f
-    → mid ≡ behind f.parameters names → new ≡ behind (declared_all (in_order (map statement_of f.body))) mid
+    → mid ≡ behind (names_of f.parameters) names → new ≡ behind (declared_all (in_order (map statement_of f.body))) mid
     → behind (locals_of (plain (drop i all))) names ≡ start → behind (locals_of (plain (drop (i + 1) all))) new ≡ start
 locals_next all i f names mid new start within is first second so_far =
     let own = declared_all (in_order (map statement_of f.body)) in
     let rest = locals_of (plain (drop (i + 1) all)) in
-    ap (behind rest) (second ∙ ap (behind own) first ∙ sym (behind-append f.parameters own names)) ∙ sym (behind-append (f.parameters ++ own) rest names)
+    ap (behind rest) (second ∙ ap (behind own) first ∙ sym (behind-append (names_of f.parameters) own names)) ∙ sym (behind-append (names_of f.parameters ++ own) rest names)
     ∙ sym (ap (λ l. behind (locals_of (plain l)) names) (left_is all i f within is)) ∙ so_far

@@ -1,25 +1,28 @@
 -- What the test of a file's names answers.
-use Rattle.std.specs.Prelude.{◌≡◌, ℕ, true, false, List, Option, Some, None, Result, Ok, Err, ◌⊎◌}
+use Rattle.std.specs.Prelude.{◌≡◌, ℕ, Option, Some, None, Result, Ok, Err, ◌⊎◌}
 use Rattle.cf_base.specs.declared.rule.Broken.{Broken}
-use Rattle.cf_functions.specs.Plain.{Function}
-use Rattle.cf_functions.specs.Rules.{keeps_names, first_unknown_of}
+use Rattle.cf_functions.specs.declared.tree.Program.{Program}
+use Rattle.cf_functions.specs.Plain.{functions_of}
+use Rattle.cf_functions.specs.Rules.{first_unknown_of}
+use Rattle.cf_functions.specs.Marks.{first_broken_of}
 use Rattle.cf_functions_names.specs.declared.fault.NameFault.{NameFault}
 use Rattle.cf_functions_names.specs.declared.fault.NameFault.TheVariants as fault
 
--- The file breaks a rule of names: it is outside the profile, which is said at its first byte.
-pub record BreaksNames (fs : List Function) (b : Broken) : Type 0 where
-  pub at_first : b ≡ record { rule = 48; at = 0 }
-  pub broken : keeps_names fs ≡ false
+-- A name breaks a rule of names, first at this place: the file is outside the profile there.
+pub record BreaksNames (p : Program) (b : Broken) : Type 0 where
+  pub at : ℕ
+  pub outside : b ≡ record { rule = 48; at = at }
+  pub first : first_broken_of p.functions ≡ Some at
 
--- The file keeps the rules, and uses a name that is not declared, first at this place.
-pub record UsesUnknown (fs : List Function) (b : Broken) : Type 0 where
+-- No name breaks these rules, and one is used that is not declared, first at this place.
+pub record UsesUnknown (p : Program) (b : Broken) : Type 0 where
   pub at : ℕ
   pub undeclared : b ≡ record { rule = 10; at = at }
-  pub kept : keeps_names fs ≡ true
-  pub first : first_unknown_of fs ≡ Some at
+  pub kept : first_broken_of p.functions ≡ None
+  pub first : first_unknown_of (functions_of p) ≡ Some at
 
 -- by the answer; want of memory has no cause
-abbrev pub Checks : List Function → Result (Unit {0}) NameFault → Type 0
-Checks fs (Ok u) = (keeps_names fs ≡ true) × (first_unknown_of fs ≡ None)
-Checks fs (Err (fault.Broken b)) = BreaksNames fs b ⊎ UsesUnknown fs b
-Checks fs (Err fault.Memory) = Unit {0}
+abbrev pub Checks : Program → Result (Unit {0}) NameFault → Type 0
+Checks p (Ok u) = (first_broken_of p.functions ≡ None) × (first_unknown_of (functions_of p) ≡ None)
+Checks p (Err (fault.Broken b)) = BreaksNames p b ⊎ UsesUnknown p b
+Checks p (Err fault.Memory) = Unit {0}

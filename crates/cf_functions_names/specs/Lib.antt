@@ -1,4 +1,5 @@
 pub mod Checks
+pub mod Firsts
 pub mod Heads
 pub mod Lists
 pub mod Walk

@@ -1,12 +1,10 @@
-ghost use Rattle.std.specs.Prelude.{◌≡◌, ◌&&◌, not, IfOk, if◌then◌else◌, Some, None, codes};
-ghost use Rattle.std.specs.List.{list_all};
+ghost use Rattle.std.specs.Prelude.{◌≡◌, IfOk};
+ghost use Rattle.cf_functions.specs.Marks as marks;
 ghost use Rattle.cf_functions.specs.Plain.{function_of};
-ghost use Rattle.cf_functions.specs.Mean.{main_name};
 ghost use Rattle.cf_functions.specs.Rules as spec;
-ghost use Rattle.cf_functions_names.specs.Lists.{distinct};
 ghost use Rattle.cf_functions_names.specs.Walk.{file_at, known_at, plain};
 
-use crate::heads::{Head, fits, heads};
+use crate::heads::{Head, fits, heads, is_known};
 use crate::locals::all_locals;
 use crate::names::is;
 use cf_base::Memory;
@@ -16,7 +14,7 @@ use std::alloc::Global;
 use std::collections::HashMap;
 use std::marker::Model;
 
-/// The functions of a file, whose names are different, with what is known of all of them.
+/// The functions of a file, with what is known of all of them.
 #[derive(Drop)]
 pub struct File<'a> {
     functions: &'a [Function],
@@ -44,23 +42,19 @@ impl<'a> Model for File<'a> {
 }
 
 impl<'a> File<'a> {
-    /// The functions with what is known of them, if their names are different.
-    pub fn new(alloc: Global, functions: &'a [Function]) -> Result<Option<File<'a>>, Memory>
-        ensures { IfOk result (λ file. file ≡ (if spec.differ (spec.function_names (plain functions.now)) then Some functions.now else None)) }
+    /// The functions with what is known of them.
+    pub fn new(alloc: Global, functions: &'a [Function]) -> Result<File<'a>, Memory>
+        ensures { IfOk result (λ file. file ≡ functions.now) }
     {
-        match function_names(alloc, functions)? {
-            None => Ok(None),
-            Some(names) => {
-                let locals = all_locals(alloc, functions)?;
-                let heads = heads(alloc, functions)?;
-                Ok(Some(File {
-                    functions,
-                    names,
-                    locals,
-                    heads,
-                }))
-            }
-        }
+        let names = function_names(alloc, functions)?;
+        let locals = all_locals(alloc, functions)?;
+        let heads = heads(alloc, functions)?;
+        Ok(File {
+            functions,
+            names,
+            locals,
+            heads,
+        })
     }
 
     pub fn functions(&self) -> &'a [Function]
@@ -105,38 +99,27 @@ impl<'a> File<'a> {
         }
     }
 
-    /// Whether no function is `putchar`, and one is `main`, without parameters.
-    pub fn has_main(&self) -> bool
-        ensures { result ≡ (not (spec.is_in (spec.function_names (plain self.now)) (codes "putchar"))
-            && (spec.is_in (spec.function_names (plain self.now)) main_name && list_all spec.is_plain_main (plain self.now))) }
+    /// Whether it is the name of one of the first functions.
+    fn is_earlier(&self, known: usize, name: &[u8]) -> bool
+        ensures { result ≡ spec.is_in (spec.function_names (known_at known self.now)) name.now }
     {
-        !self.is_named(b"putchar") && (self.is_named(b"main") && self.all_plain())
+        is_known(self.heads.get(name).copied(), known)
     }
 
-    fn all_plain(&self) -> bool
-        ensures { result ≡ list_all spec.is_plain_main (plain self.now) }
+    /// Whether a local may have this name where these are declared before it in its block.
+    pub fn may_declare(&self, before: &Names<'_>, name: &[u8]) -> bool
+        ensures { result ≡ marks.may_declare (file_at self.now) before.now name.now }
     {
-        all_plain(self.functions)
+        !self.is_function(name) && !before.has(name)
     }
 
-    /// Whether no parameter or local has the name of a function.
-    pub fn locals_are_none(&self) -> bool
-        ensures { result ≡ list_all (λ x. not (spec.is_function (file_at self.now) x)) (spec.locals_of (plain self.now)) }
+    /// Whether a function may have its name where the first functions stand before it.
+    pub fn may_define(&self, known: usize, function: &Function) -> bool
+        ensures { result ≡ marks.may_define (known_at known self.now) (function_of function.now) }
     {
-        self.all_differ(self.locals.as_slice())
+        let name = function.name.as_slice();
+        !self.is_earlier(known, name) && (!is(name, b"putchar") && is_plain_main(function))
     }
-
-    fn all_differ(&self, names: &[&[u8]]) -> bool
-        ensures { result ≡ list_all (λ x. not (spec.is_function (file_at self.now) x.now)) names.now }
-    {
-        names.iter().all(|name| !self.is_function(name))
-    }
-}
-
-fn all_plain(functions: &[Function]) -> bool
-    ensures { result ≡ list_all (λ f. spec.is_plain_main (function_of f)) functions.now }
-{
-    functions.iter().all(|function| is_plain_main(function))
 }
 
 fn is_plain_main(function: &Function) -> bool
@@ -145,19 +128,15 @@ fn is_plain_main(function: &Function) -> bool
     !is(function.name.as_slice(), b"main") || function.parameters.len() == 0
 }
 
-/// The names of functions in their order, if they are different.
-fn function_names<'a>(alloc: Global, all: &'a [Function]) -> Result<Option<Names<'a>>, Memory>
-    ensures { IfOk result (λ found. found ≡ distinct (spec.function_names (plain all.now))) }
+/// The names of functions in their order.
+fn function_names<'a>(alloc: Global, all: &'a [Function]) -> Result<Names<'a>, Memory>
+    ensures { IfOk result (λ names. names ≡ spec.function_names (plain all.now)) }
 {
     let mut names = Names::new(alloc);
     let mut left = all.len();
     while left > 0 {
         left -= 1;
-        let name = all[left].name.as_slice();
-        if names.has(name) {
-            return Ok(None);
-        }
-        names.add(name)?;
+        names.add(all[left].name.as_slice())?;
     }
-    Ok(Some(names))
+    Ok(names)
 }

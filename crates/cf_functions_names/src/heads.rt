@@ -1,7 +1,7 @@
 ghost use Rattle.std.specs.Prelude.{◌≡◌, ℕ, List, Option, IfOk};
 ghost use Rattle.std.specs.Borrow.{Bor};
 ghost use Rattle.std.specs.HashMap.{get};
-ghost use Rattle.cf_functions_names.specs.Heads.{head_from, head_fits};
+ghost use Rattle.cf_functions_names.specs.Heads.{head_from, head_fits, head_known};
 ghost use Rattle.cf_name_list.specs.Names.{same_name};
 ghost use Rattle.cf_functions_names.specs.Walk.{plain};
 
@@ -44,5 +44,15 @@ pub fn fits(head: Option<Head>, known: usize, count: usize) -> bool
     match head {
         None => true,
         Some(head) => !(head.index < known) || head.count == count,
+    }
+}
+
+/// Whether the function of a name is among the known ones.
+pub fn is_known(head: Option<Head>, known: usize) -> bool
+    ensures { result ≡ head_known known head }
+{
+    match head {
+        None => false,
+        Some(head) => head.index < known,
     }
 }

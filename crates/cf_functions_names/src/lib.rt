@@ -1,16 +1,17 @@
-//! The rules of names that a file of functions over int keeps, and the first name that it does not declare.
+//! The first name of a file of functions over int that breaks a rule of names, and the first that it does not declare.
 //!
-//! `check` tries the rules first, and then looks for the name. Names are looked up in tables,
-//! so the time for a name does not grow with the file.
+//! `check` goes through the names in the order of the text for the rules, and then once more for the name that is not declared.
+//! Names are looked up in tables, so the time for a name does not grow with the file.
 #![tactic(auto)]
 
 mod fault;
 mod file;
+mod functions;
 mod heads;
 mod locals;
 mod names;
-mod once;
 mod program;
+mod statements;
 mod unknown;
 mod uses;
 

@@ -1,11 +1,11 @@
 ghost use Rattle.std.specs.Prelude.{◌≡◌, map, reverse, IfOk, OnOk};
-ghost use Rattle.cf_functions.specs.Plain.{statement_of, in_order};
+ghost use Rattle.cf_functions.specs.Plain.{statement_of, in_order, names_of};
 ghost use Rattle.cf_functions.specs.Rules.{declared, declared_all, locals_of};
 ghost use Rattle.cf_functions_names.specs.Lists.{behind};
 ghost use Rattle.cf_functions_names.specs.Walk.{plain};
 
-use cf_base::{Items, Memory, Name};
-use cf_functions::{Function, Statement};
+use cf_base::{Items, Memory};
+use cf_functions::{Function, Parameter, Statement};
 use cf_name_list::Names;
 use std::alloc::Global;
 
@@ -46,11 +46,11 @@ fn add_all<'a>(all: &'a Items<Statement>, names: &mut Names<'a>) -> Result<(), M
     Ok(())
 }
 
-fn add_parameters<'a>(all: &'a Items<Name>, names: &mut Names<'a>) -> Result<(), Memory>
-    ensures { OnOk result (names.new ≡ behind all.now names.old) }
+fn add_parameters<'a>(all: &'a Items<Parameter>, names: &mut Names<'a>) -> Result<(), Memory>
+    ensures { OnOk result (names.new ≡ behind (names_of all.now) names.old) }
 {
-    for name in all.as_slice() {
-        names.add(name.as_slice())?;
+    for parameter in all.as_slice() {
+        names.add(parameter.name.as_slice())?;
     }
     Ok(())
 }

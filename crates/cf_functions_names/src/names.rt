@@ -1,7 +1,8 @@
-ghost use Rattle.std.specs.Prelude.{◌≡◌, IfOk, bytes_eq};
-ghost use Rattle.cf_functions_names.specs.Lists.{distinct};
+ghost use Rattle.std.specs.Prelude.{◌≡◌, bytes_eq, IfOk};
+ghost use Rattle.cf_functions.specs.Plain.{names_of};
 
-use cf_base::{Memory, Name};
+use cf_base::Memory;
+use cf_functions::Parameter;
 use cf_name_list::Names;
 use std::alloc::Global;
 
@@ -12,19 +13,15 @@ pub fn is(name: &[u8], other: &[u8]) -> bool
     name == other
 }
 
-/// These names in their order, if they are different.
-pub fn distinct<'a>(alloc: Global, all: &'a [Name]) -> Result<Option<Names<'a>>, Memory>
-    ensures { IfOk result (λ found. found ≡ distinct all.now) }
+/// The names of parameters in their order.
+pub fn in_their_order<'a>(alloc: Global, all: &'a [Parameter]) -> Result<Names<'a>, Memory>
+    ensures { IfOk result (λ made. made ≡ names_of all.now) }
 {
     let mut names = Names::new(alloc);
     let mut left = all.len();
     while left > 0 {
         left -= 1;
-        let name = all[left].as_slice();
-        if names.has(name) {
-            return Ok(None);
-        }
-        names.add(name)?;
+        names.add(all[left].name.as_slice())?;
     }
-    Ok(Some(names))
+    Ok(names)
 }

@@ -6,7 +6,7 @@
 
 use crate::{NameFault, check};
 use cf_base::{Boxed, Items, Name};
-use cf_functions::{Expression, Function, Operator, Program, Statement};
+use cf_functions::{Expression, Function, Operator, Parameter, Program, Statement};
 use std::alloc::Global;
 use std::test::Fail;
 
@@ -60,7 +60,7 @@ fn expression(alloc: Global, fuel: u32, words: &mut Words<'_>) -> Option<Boxed<E
         return None;
     }
     if words.takes("1") {
-        return Boxed::new(alloc, Expression::Number(1)).ok();
+        return Boxed::new(alloc, Expression::Number(words.at, 1)).ok();
     }
     if words.takes("+") {
         let a = expression(alloc, fuel - 1, words)?;
@@ -136,16 +136,20 @@ fn statement(alloc: Global, fuel: u32, words: &mut Words<'_>) -> Option<Boxed<St
 }
 
 fn function(alloc: Global, words: &mut Words<'_>) -> Option<Function> {
+    let at = words.at;
     let own_name = name(alloc, words.take())?;
     let mut parameters = Items::new(alloc);
     for _ in 0..4 {
         if words.peek() == "{" {
             break;
         }
-        parameters.push(name(alloc, words.take())?).ok()?;
+        let at = words.at;
+        let name = name(alloc, words.take())?;
+        parameters.push(Parameter { at, name }).ok()?;
     }
     let body = block(alloc, 8, words)?;
     Some(Function {
+        at,
         name: own_name,
         parameters,
         body,
@@ -177,7 +181,9 @@ fn answer(alloc: Global, text: &str) -> Option<(u8, u32)> {
     }
 }
 
-const GOOD: [&str; 6] = [
+const GOOD: [&str; 8] = [
+    "",
+    "fun f { }",
     "fun main { do putchar 1 ) }",
     "fun f x { ret + x 1 } fun main { ret call f call f 1 ) ) }",
     "fun f x y { if x { ret y } { ret call f 1 x ) } } fun main { }",
@@ -186,26 +192,30 @@ const GOOD: [&str; 6] = [
     "fun f x { } fun g x { } fun main { int y call putchar 1 ) }",
 ];
 
-const BREAKS: [&str; 19] = [
-    "fun f { } fun f { } fun main { }",
-    "fun putchar x { } fun main { }",
-    "fun f { }",
-    "fun main x { }",
-    "fun main { do main ) }",
-    "fun f { ret call main ) } fun main { }",
-    "fun f { } fun main { int f 1 }",
-    "fun f x { int main 1 } fun main { }",
-    "fun main { int putchar 1 }",
-    "fun main { int x 1 int x 1 }",
-    "fun f x { int x 1 } fun main { }",
-    "fun f x x { } fun main { }",
-    "fun main { while 1 { int x 1 int x 1 } }",
-    "fun f x { } fun main { do f ) }",
-    "fun main { do putchar 1 1 ) }",
-    "fun f { } fun main { ret f }",
-    "fun f { } fun main { set f 1 }",
-    "fun main { int x 1 ret call x ) }",
-    "fun main { set putchar y }",
+const BREAKS: [(&str, u32); 23] = [
+    ("fun f { } fun f { } fun main { }", 5),
+    ("fun main { } fun main { }", 5),
+    ("fun putchar x { } fun main { }", 1),
+    ("fun main x { }", 1),
+    ("fun main { do main ) }", 4),
+    ("fun f { ret call main ) } fun main { }", 5),
+    ("fun f { } fun main { int f 1 }", 8),
+    ("fun f x { int main 1 } fun main { }", 5),
+    ("fun main { int putchar 1 }", 4),
+    ("fun f f { }", 2),
+    ("fun main { int x 1 int x 1 }", 7),
+    ("fun f x { int x 1 } fun main { }", 5),
+    ("fun f x x { } fun main { }", 3),
+    ("fun main { while 1 { int x 1 int x 1 } }", 10),
+    ("fun f x { } fun main { do f ) }", 9),
+    ("fun f x { } fun main { do f call f ) ) }", 11),
+    ("fun main { do putchar 1 1 ) }", 4),
+    ("fun f { } fun main { ret f }", 8),
+    ("fun f { } fun main { set f 1 }", 8),
+    ("fun main { int x 1 ret call x ) }", 8),
+    ("fun main { set putchar y }", 4),
+    ("fun main { ret y } fun f x x { }", 9),
+    ("fun f x { } fun main { do f ) int y 1 int y 1 }", 9),
 ];
 
 const UNKNOWN: [(&str, u32); 8] = [
@@ -228,9 +238,9 @@ fn good_programs_are_accepted(rt: HostRuntime) -> Result<(), Fail> {
 }
 
 #[test]
-fn broken_rules_are_named_at_the_first_byte(rt: HostRuntime) -> Result<(), Fail> {
-    for text in BREAKS {
-        assert_eq!(rt; answer(rt.alloc(), text), Some((48, 0)), "at {text}");
+fn first_broken_rule_is_named_at_its_place(rt: HostRuntime) -> Result<(), Fail> {
+    for (text, at) in BREAKS {
+        assert_eq!(rt; answer(rt.alloc(), text), Some((48, at)), "at {text}");
     }
     Ok(())
 }

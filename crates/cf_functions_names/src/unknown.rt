@@ -2,8 +2,8 @@ ghost use Rattle.std.specs.Prelude.{◌≡◌, ◌||◌, [], map, Some, None, If
 ghost use Rattle.cf_functions.specs.Plain.{expression_of, expressions_of, statement_of, in_order, names_after, function_of, functions_of};
 ghost use Rattle.cf_functions.specs.Rules as spec;
 
-use crate::names::is;
-use cf_base::{Items, Memory, Name};
+use crate::names::{in_their_order, is};
+use cf_base::{Items, Memory};
 use cf_functions::{Expression, Function, Program, Statement};
 use cf_name_list::Names;
 use std::alloc::Global;
@@ -14,7 +14,7 @@ fn unknown(functions: &Names<'_>, scope: &Names<'_>, e: &Expression) -> Option<u
     ensures { result ≡ spec.unknown functions.now scope.now (expression_of e.now) }
 {
     match e {
-        Expression::Number(_) => None,
+        Expression::Number(_, _) => None,
         Expression::Local(at, name) => {
             if scope.has(name.as_slice()) {
                 None
@@ -149,19 +149,6 @@ fn unknown_in_all<'a>(
     }
     scope.cut(around);
     Ok(None)
-}
-
-/// The names in their order.
-fn in_their_order<'a>(alloc: Global, all: &'a [Name]) -> Result<Names<'a>, Memory>
-    ensures { IfOk result (λ made. made ≡ all.now) }
-{
-    let mut names = Names::new(alloc);
-    let mut left = all.len();
-    while left > 0 {
-        left -= 1;
-        names.add(all[left].as_slice())?;
-    }
-    Ok(names)
 }
 
 fn unknown_in_function(

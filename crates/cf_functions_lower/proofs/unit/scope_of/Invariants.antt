@@ -1,6 +1,7 @@
 use Rattle.std.proofs.Common.{◌≡◌, [], drop}
+use Rattle.cf_functions.specs.Plain.{names_of}
 use Rattle.cf_functions.specs.Translate.{in_scope}
 use Rattle.cf_functions_lower.proofs.unit.scope_of.Given as goal
 
-abbrev pub invariant-loop-name : goal.invariant-loop-name
-invariant-loop-name l = in_scope (drop l.name-index l.name-items) l.scope ≡ in_scope l.name-items []
+abbrev pub invariant-loop-parameter : goal.invariant-loop-parameter
+invariant-loop-parameter l = in_scope (names_of (drop l.parameter-index l.parameter-items)) l.scope ≡ in_scope (names_of l.parameter-items) []
