@@ -24,7 +24,7 @@ use Rattle.cf_run_tree.specs.declared.program.Signature.{Signature}
 use Rattle.cf_run_tree.specs.declared.shape.Form.{Form}
 use Rattle.cf_run_tree.specs.declared.shape.Form.TheVariants as form
 use Rattle.cf_run_tree.specs.declared.shape.Shape.{Shape}
-use Rattle.cf_run_tree.specs.Tree.{core_of, kept, form_type, shape_type, signature_type, function_of, program_of}
+use Rattle.cf_run_tree.specs.Tree.{core_of, kept, form_type, shape_type, object_type, signature_type, function_of, program_of}
 use Rattle.cf_core_store.specs.declared.store.Entered.{Entered}
 use Rattle.cf_core_store.specs.declared.store.Cell.{Cell}
 use Rattle.cf_core_run.specs.declared.mark.Calling.{Calling}
@@ -215,7 +215,7 @@ entered-frame T f args e en el es et ea =
     counts : length (map Some args ++ replicate (length f.locals) None) ≡ local_count (function_of T f)
     counts = length-append (map Some args) (replicate (length f.locals) None)
         ∙ ap (λ n. n + length (let xs : List (Option ℕ) = replicate (length f.locals) None in xs)) (length-map Some args ∙ ea ∙ sym (ap length (signature-params T f.signature) ∙ length-map (shape_type T) f.signature.params))
-        ∙ ap (λ n. length (parameters (signature_type T f.signature)) + n) (length-nones (length f.locals) ∙ sym (length-map (shape_type T) f.locals))
+        ∙ ap (λ n. length (parameters (signature_type T f.signature)) + n) (length-nones (length f.locals) ∙ sym (length-map (object_type T) f.locals))
 
 pub enter-goes : (p : Program) (m : Machine) (f : Bor RunFn) (args : Vec ℕ Global) (e : Entered) (stack : Vec Mark Global) → (m.ticks ≡ 0 → ⊥) → (m.entered.depth ≡ 0 → ⊥)
     → e.name.now ≡ f.now.name → e.locals.items ≡ map Some args.items ++ replicate (length f.now.locals) None → e.scope.items ≡ [] → e.temporaries.items ≡ [] → length args.items ≡ length f.now.signature.params

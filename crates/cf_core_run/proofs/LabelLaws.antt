@@ -16,7 +16,7 @@ use Rattle.cf_run_tree.specs.declared.node.Unary.{Unary}
 use Rattle.cf_run_tree.specs.declared.node.Unary.TheVariants as one
 use Rattle.cf_run_tree.specs.declared.node.Binary.{Binary}
 use Rattle.cf_run_tree.specs.declared.node.Binary.TheVariants as two
-use Rattle.cf_run_tree.specs.declared.shape.Shape.{Shape}
+use Rattle.cf_run_tree.specs.declared.shape.ObjectType.{ObjectType}
 use Rattle.cf_run_tree.specs.Tree.{core_step, core_of, applied, joined}
 use Rattle.cf_core_store.specs.Then.{◌▷◌}
 use Rattle.cf_core_run.specs.Labels.{row, is_case, is_default}
@@ -29,6 +29,7 @@ case-unary : (T : Tables) (z : ℤ) (op : Unary) (c : Core) → is_case z (appli
 case-unary T z one.Read c = refl
 case-unary T z one.Address c = refl
 case-unary T z one.Dereference c = refl
+case-unary T z one.Decay c = refl
 case-unary T z (one.Convert s) c = refl
 case-unary T z (one.Sign op k) c = refl
 case-unary T z one.Not c = refl
@@ -38,6 +39,8 @@ case-binary : (T : Tables) (z : ℤ) (op : Binary) (a b : Core) → is_case z (j
 case-binary T z (two.Operate op k) a b = refl
 case-binary T z two.Store a b = refl
 case-binary T z (two.Update o) a b = refl
+case-binary T z two.Index a b = refl
+case-binary T z (two.Point op) a b = refl
 
 case-form : (T : Tables) (z : ℤ) (x : Node-F Node) → ((y : ℤ) → roll-Node x ≡ node.Case y → ⊥) → is_case z (core_of T (roll-Node x)) ≡ false
 case-form T z (Node-F.Case y) h = absurd (h y (node.rolls-Case y))
@@ -52,6 +55,7 @@ default-unary : (T : Tables) (op : Unary) (c : Core) → is_default (applied T o
 default-unary T one.Read c = refl
 default-unary T one.Address c = refl
 default-unary T one.Dereference c = refl
+default-unary T one.Decay c = refl
 default-unary T (one.Convert s) c = refl
 default-unary T (one.Sign op k) c = refl
 default-unary T one.Not c = refl
@@ -61,6 +65,8 @@ default-binary : (T : Tables) (op : Binary) (a b : Core) → is_default (joined 
 default-binary T (two.Operate op k) a b = refl
 default-binary T two.Store a b = refl
 default-binary T (two.Update o) a b = refl
+default-binary T two.Index a b = refl
+default-binary T (two.Point op) a b = refl
 
 default-form : (T : Tables) (x : Node-F Node) → (roll-Node x ≡ node.Default → ⊥) → is_default (core_of T (roll-Node x)) ≡ false
 default-form T Node-F.Default h = absurd (h node.rolls-Default)
@@ -76,6 +82,7 @@ passes-unary : (T : Tables) (op : Unary) (c : Core) → passes (applied T op c) 
 passes-unary T one.Read c = refl
 passes-unary T one.Address c = refl
 passes-unary T one.Dereference c = refl
+passes-unary T one.Decay c = refl
 passes-unary T (one.Convert s) c = refl
 passes-unary T (one.Sign op k) c = refl
 passes-unary T one.Not c = refl
@@ -85,8 +92,10 @@ passes-binary : (T : Tables) (op : Binary) (a b : Core) → passes (joined T op 
 passes-binary T (two.Operate op k) a b = refl
 passes-binary T two.Store a b = refl
 passes-binary T (two.Update o) a b = refl
+passes-binary T two.Index a b = refl
+passes-binary T (two.Point op) a b = refl
 
-passes-form : (T : Tables) (x : Node-F Node) → ((i : ℕ) (s : Shape) (e : Node) → roll-Node x ≡ node.Declare i s e → ⊥) → ((es : List Node) → roll-Node x ≡ node.Sequence es → ⊥)
+passes-form : (T : Tables) (x : Node-F Node) → ((i : ℕ) (s : ObjectType) (e : Node) → roll-Node x ≡ node.Declare i s e → ⊥) → ((es : List Node) → roll-Node x ≡ node.Sequence es → ⊥)
     → passes (core_of T (roll-Node x)) ≡ done
 passes-form T (Node-F.Declare i s e) h k = absurd (h i s e (node.rolls-Declare i s e))
 passes-form T (Node-F.Sequence es) h k = absurd (k es (node.rolls-Sequence es))
@@ -94,7 +103,7 @@ passes-form T (Node-F.Apply op e) h k = ap passes (fold-roll-Node Core (core_ste
 passes-form T (Node-F.Join op a b) h k = ap passes (fold-roll-Node Core (core_step T) (Node-F.Join op a b)) ∙ passes-binary T op (core_of T a) (core_of T b)
 passes-form T x h k = ap passes (fold-roll-Node Core (core_step T) x)
 
-pub passes-other : (T : Tables) (n : Node) → ((i : ℕ) (s : Shape) (e : Node) → n ≡ node.Declare i s e → ⊥) → ((es : List Node) → n ≡ node.Sequence es → ⊥) → passes (core_of T n) ≡ done
+pub passes-other : (T : Tables) (n : Node) → ((i : ℕ) (s : ObjectType) (e : Node) → n ≡ node.Declare i s e → ⊥) → ((es : List Node) → n ≡ node.Sequence es → ⊥) → passes (core_of T n) ≡ done
 passes-other T n h k = let x = form_of n in ap (λ n. passes (core_of T n)) x.1 ∙ passes-form T x.0 (λ i s e eq. h i s e (x.1 ∙ eq)) (λ es eq. k es (x.1 ∙ eq))
 
 -- a declaration with an initialiser is not passed
@@ -102,6 +111,7 @@ declare-unary : (T : Tables) (i : ℕ) (t : SourceType) (op : Unary) (c : Core) 
 declare-unary T i t one.Read c = refl
 declare-unary T i t one.Address c = refl
 declare-unary T i t one.Dereference c = refl
+declare-unary T i t one.Decay c = refl
 declare-unary T i t (one.Convert s) c = refl
 declare-unary T i t (one.Sign op k) c = refl
 declare-unary T i t one.Not c = refl
@@ -111,6 +121,8 @@ declare-binary : (T : Tables) (i : ℕ) (t : SourceType) (op : Binary) (a b : Co
 declare-binary T i t (two.Operate op k) a b = refl
 declare-binary T i t two.Store a b = refl
 declare-binary T i t (two.Update o) a b = refl
+declare-binary T i t two.Index a b = refl
+declare-binary T i t (two.Point op) a b = refl
 
 declare-form : (T : Tables) (i : ℕ) (t : SourceType) (x : Node-F Node) → (roll-Node x ≡ node.Blank → ⊥) → passes (declare i t (core_of T (roll-Node x))) ≡ malformed
 declare-form T i t Node-F.Blank h = absurd (h node.rolls-Blank)

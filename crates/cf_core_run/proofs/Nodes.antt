@@ -7,7 +7,8 @@ use Rattle.cf_core.specs.Places.{Place}
 use Rattle.cf_core.specs.Store.{Value, At}
 use Rattle.cf_core.specs.Run.{State, Did, Gives, Exits, Malformed, Act, ◌>>=◌, gives}
 use Rattle.cf_core.specs.Access.{used, place_of, read_place}
-use Rattle.cf_core.specs.Scalars.{truth_of, pointed_to, signed, operated}
+use Rattle.cf_core.specs.Pointers.{pointer_op}
+use Rattle.cf_core.specs.Scalars.{truth_of, pointed_to, decayed, indexed, signed, operated}
 use Rattle.cf_run_tree.specs.declared.node.Node.{Node}
 use Rattle.cf_run_tree.specs.declared.node.Node.TheVariants as node
 use Rattle.cf_run_tree.specs.declared.node.Unary.{Unary}
@@ -35,6 +36,7 @@ one-goes T p k one.Read c into s w = placed-then (valued T p k c None s w) (read
 one-goes T p k one.Address c into s w =
     then-same (valued T p k c None s w) used (λ v. used v >>= by_used one.Address) (λ v s w. sym (then-unit (used v s w)))
 one-goes T p k one.Dereference c into s w = then-assoc (valued T p k c None s w) used pointed_to
+one-goes T p k one.Decay c into s w = then-assoc (valued T p k c None s w) used (decayed [])
 one-goes T p k (one.Convert x) c into s w = refl
 one-goes T p k (one.Sign op kind) c into s w = then-assoc (valued T p k c None s w) used (signed op kind)
 one-goes T p k one.Not c into s w = then-assoc (valued T p k c None s w) truth_of _
@@ -50,18 +52,25 @@ placed-both A B g h e =
     (λ v s w. then-same (placed_value v s w) (λ q. (B >>= used) >>= g q) (λ q. h (At q)) e
     ∙ sym (then-assoc (placed_value v s w) (λ q. gives (At q)) h))
 
+-- a used value, then another, and what is done with both
+used-both : (A : Ran (Did Value)) (B : Act Value) (g : Value → Value → Act Value)
+    → ((A ▷ used) ▷ (λ x. (B >>= used) >>= g x)) ≡ (A ▷ (λ v. used v >>= (λ x. B >>= (λ y. used y >>= g x))))
+used-both A B g =
+    then-assoc A used (λ x. (B >>= used) >>= g x)
+    ∙ then-same A (λ v. used v >>= (λ x. (B >>= used) >>= g x)) (λ v. used v >>= (λ x. B >>= (λ y. used y >>= g x)))
+    (λ v s w. then-same (used v s w) (λ x. (B >>= used) >>= g x) (λ x. B >>= (λ y. used y >>= g x)) (λ x s w. then-assoc (B s w) used (g x)))
+
 two-goes : (T : Tables) (p : Program) (k : ℕ) (op : Binary) (a b : Core) (into : Option Place) (s : State) (w : World)
     → valued T p k (joined T op a b) into s w ≡ (valued T p k a None s w ▷ (λ v. ready op v >>= (λ x. valued T p k b None >>= of_two op x)))
-two-goes T p k (two.Operate op kind) a b into s w =
-    then-assoc (valued T p k a None s w) used _
-    ∙ then-same (valued T p k a None s w) _ (λ v. used v >>= (λ x. valued T p k b None >>= of_two (two.Operate op kind) x))
-    (λ v s w. then-same (used v s w) _ (λ x. valued T p k b None >>= of_two (two.Operate op kind) x) (λ x s w. then-assoc (valued T p k b None s w) used (operated op kind x)))
+two-goes T p k (two.Operate op kind) a b into s w = used-both (valued T p k a None s w) (valued T p k b None) (operated op kind)
 two-goes T p k two.Store a b into s w =
     placed-both (valued T p k a None s w) (valued T p k b None) put_at (λ x. valued T p k b None >>= of_two two.Store x)
     (λ q s w. then-assoc (valued T p k b None s w) used (put_at q))
 two-goes T p k (two.Update o) a b into s w =
     placed-both (valued T p k a None s w) (valued T p k b None) (changed_at o) (λ x. valued T p k b None >>= of_two (two.Update o) x)
     (λ q s w. then-assoc (valued T p k b None s w) used (changed_at o q))
+two-goes T p k two.Index a b into s w = used-both (valued T p k a None s w) (valued T p k b None) (indexed [])
+two-goes T p k (two.Point op) a b into s w = used-both (valued T p k a None s w) (valued T p k b None) (pointer_op [] op)
 
 pub node-Apply : (T : Tables) (p : Program) (k : ℕ) (n : Node) (op : Unary) (e : Node) (into : Option Place) (s : State) (w : World) → n ≡ node.Apply op e
     → valued T p k (core_of T n) into s w ≡ (valued T p k (core_of T e) None s w ▷ of_value T (applied.One op))

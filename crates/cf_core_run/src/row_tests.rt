@@ -4,7 +4,7 @@ use crate::machine::run;
 use crate::state::{End, Limits};
 use cf_base::{Arith, Boxed, Items, Kind, Memory, Name};
 use cf_core_store::Integer;
-use cf_run_tree::{Binary, Form, Node, Program, RunFn, Shape, Signature, Unary};
+use cf_run_tree::{Binary, Form, Node, ObjectType, Program, RunFn, Shape, Signature, Unary};
 use cf_types::TyId;
 use std::alloc::Global;
 use std::process::Abort;
@@ -52,9 +52,17 @@ fn given(alloc: Global, value: Node) -> Result<Node, Memory> {
     Ok(Node::Return(Some(value)))
 }
 
+/// The type of an object that is no array.
+fn scalar(alloc: Global, shape: Shape) -> ObjectType {
+    ObjectType {
+        shape,
+        bounds: Items::new(alloc),
+    }
+}
+
 fn declared(alloc: Global, number: u32, shape: Shape, start: Node) -> Result<Node, Memory> {
     let start = boxed(alloc, start)?;
-    Ok(Node::Declare(number, shape, start))
+    Ok(Node::Declare(number, scalar(alloc, shape), start))
 }
 
 /// A function that gives an int, with these parameters, locals and statements.
@@ -62,7 +70,7 @@ fn function(
     alloc: Global,
     name: &[u8],
     params: Items<Shape>,
-    locals: Items<Shape>,
+    locals: Items<ObjectType>,
     statements: Items<Node>,
 ) -> Result<RunFn, Memory> {
     let name = Name::from_slice(alloc, name)?;
@@ -110,7 +118,7 @@ fn labels_of_an_enumeration(rt: HostRuntime) -> Result<(), Fail> {
     statements.push(Node::Switch(operand, labelled))?;
     statements.push(given(alloc, Node::Number(3))?)?;
     let mut locals = Items::new(alloc);
-    locals.push(e)?;
+    locals.push(scalar(alloc, e))?;
     let main = function(
         alloc,
         b"__main".as_slice(),
@@ -139,7 +147,7 @@ fn label_behind_a_declaration(rt: HostRuntime) -> Result<(), Fail> {
     let mut statements = Items::new(alloc);
     statements.push(Node::Switch(operand, labelled))?;
     let mut locals = Items::new(alloc);
-    locals.push(int())?;
+    locals.push(scalar(alloc, int()))?;
     let main = function(
         alloc,
         b"__main".as_slice(),
@@ -205,7 +213,11 @@ fn sum_of_calls(alloc: Global) -> Result<Node, Memory> {
 }
 
 /// `main` with these locals and statements.
-fn main_of(alloc: Global, locals: Items<Shape>, statements: Items<Node>) -> Result<RunFn, Memory> {
+fn main_of(
+    alloc: Global,
+    locals: Items<ObjectType>,
+    statements: Items<Node>,
+) -> Result<RunFn, Memory> {
     function(
         alloc,
         b"__main".as_slice(),
@@ -221,8 +233,8 @@ fn raising_main(alloc: Global) -> Result<RunFn, Memory> {
     let mut statements = raised(alloc)?;
     statements.push(given(alloc, total)?)?;
     let mut locals = Items::new(alloc);
-    locals.push(int())?;
-    locals.push(reference(0))?;
+    locals.push(scalar(alloc, int()))?;
+    locals.push(scalar(alloc, reference(0)))?;
     main_of(alloc, locals, statements)
 }
 
@@ -246,8 +258,8 @@ fn temporary_of_a_local(rt: HostRuntime) -> Result<(), Fail> {
     statements.push(declared(alloc, 0, reference(1), Node::Hold(1, int(), three))?)?;
     statements.push(given(alloc, value)?)?;
     let mut locals = Items::new(alloc);
-    locals.push(reference(1))?;
-    locals.push(int())?;
+    locals.push(scalar(alloc, reference(1)))?;
+    locals.push(scalar(alloc, int()))?;
     let main = function(
         alloc,
         b"__main".as_slice(),
@@ -282,7 +294,7 @@ fn keeping_main(alloc: Global) -> Result<RunFn, Memory> {
     statements.push(declared(alloc, 0, pointer, start)?)?;
     statements.push(given(alloc, value)?)?;
     let mut locals = Items::new(alloc);
-    locals.push(pointer)?;
+    locals.push(scalar(alloc, pointer))?;
     main_of(alloc, locals, statements)
 }
 

@@ -3,7 +3,7 @@ ghost use Rattle.cf_core.specs.Calls.{root, turn};
 ghost use Rattle.cf_core.specs.Core as nodes;
 ghost use Rattle.cf_core.specs.Run.{gives};
 ghost use Rattle.cf_core.specs.Statements.{tests_first};
-ghost use Rattle.cf_run_tree.specs.Tree.{core_of, shape_type};
+ghost use Rattle.cf_run_tree.specs.Tree.{core_of, object_type};
 ghost use Rattle.cf_run_tree.specs.declared.program.Program.{Program};
 ghost use Rattle.cf_core_store.specs.Then.{◌▷◌};
 ghost use Rattle.cf_core_run.specs.Going.{Comes, from_flow, valued, full, full_by, performed, performed_all, scoped, cores, maybe_core, again, loop_of, first_turn, body_turn, turned, go_test, go_declared, flow_of};
@@ -13,7 +13,7 @@ use crate::state::{Machine, RunEnd, Step};
 use cf_base::Boxed;
 use cf_core::LoopForm;
 use cf_core_store::{Applied, Stop, Value, new_local};
-use cf_run_tree::{Node, Shape};
+use cf_run_tree::{Node, ObjectType};
 
 impl<'a> Machine<'a> {
     /// A statement begins.
@@ -27,7 +27,7 @@ impl<'a> Machine<'a> {
                 self.doing = Doing::Follow(all.as_slice());
                 Ok(Step::On)
             }
-            Node::Declare(number, shape, start) => self.declare(*number, *shape, start),
+            Node::Declare(number, ty, start) => self.declare(*number, ty, start),
             Node::If(condition, yes, no) => {
                 self.test_by(Applied::Truth, TestMark::If(yes, no), condition)
             }
@@ -117,12 +117,12 @@ impl<'a> Machine<'a> {
     fn declare(
         &mut self,
         number: u32,
-        shape: Shape,
+        ty: &'a ObjectType,
         start: &'a Boxed<Node>,
     ) -> Result<Step<'a>, Stop>
-        ensures { (p : Program) → Comes p (λ T o. from_flow T p self.old (performed T p self.old.fuel (nodes.declare number (shape_type T shape) (core_of T start.now))) o) result self.new }
+        ensures { (p : Program) → Comes p (λ T o. from_flow T p self.old (performed T p self.old.fuel (nodes.declare number (object_type T ty.now) (core_of T start.now))) o) result self.new }
     {
-        match new_local(number, shape, &mut self.entered, &mut self.cells) {
+        match new_local(number, ty, &mut self.entered, &mut self.cells) {
             Err(stop) => Err(stop),
             Ok(object) => self.initialise(object, start),
         }

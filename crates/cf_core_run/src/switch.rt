@@ -2,7 +2,7 @@ ghost use Rattle.std.specs.Prelude.{◌≡◌};
 ghost use Rattle.cf_base.specs.World.{World};
 ghost use Rattle.cf_core.specs.FromTypes.{Tables};
 ghost use Rattle.cf_core.specs.Statements as statements;
-ghost use Rattle.cf_run_tree.specs.Tree.{core_of, shape_type, program_of};
+ghost use Rattle.cf_run_tree.specs.Tree.{core_of, object_type, program_of};
 ghost use Rattle.cf_run_tree.specs.declared.program.Program.{Program};
 ghost use Rattle.cf_core_store.specs.Answer.{Told};
 ghost use Rattle.cf_core_store.specs.Store.{state_of, value_of};
@@ -13,7 +13,7 @@ use crate::mark::{Doing, Flow, FlowMark, Mark};
 use crate::state::{Machine, Step};
 use cf_base::Boxed;
 use cf_core_store::{Cell, Entered, Integer, Stop, Value, new_local};
-use cf_run_tree::{Node, Shape};
+use cf_run_tree::{Node, ObjectType};
 
 /// Whether a statement is the label for this number.
 fn is_case(number: Integer, s: &Node) -> bool
@@ -65,9 +65,7 @@ fn pass_over(s: &Node, entered: &mut Entered<'_>, cells: &mut Vec<Cell>) -> Resu
     ensures { (T : Tables) (w : World) → Told (λ u. tt) result (state_of T entered.new cells.new.items) w (statements.passes (core_of T s.now) (state_of T entered.old cells.old.items) w) }
 {
     match s {
-        Node::Declare(number, shape, start) => {
-            pass_declared(*number, *shape, start, entered, cells)
-        }
+        Node::Declare(number, ty, start) => pass_declared(*number, ty, start, entered, cells),
         Node::Sequence(all) => pass_all(all.as_slice(), entered, cells),
         _ => Ok(()),
     }
@@ -90,15 +88,15 @@ fn pass_all(all: &[Node], entered: &mut Entered<'_>, cells: &mut Vec<Cell>) -> R
 /// A declaration is passed.
 fn pass_declared(
     number: u32,
-    shape: Shape,
+    ty: &ObjectType,
     start: &Boxed<Node>,
     entered: &mut Entered<'_>,
     cells: &mut Vec<Cell>,
 ) -> Result<(), Stop>
-    ensures { (T : Tables) (w : World) → Told (λ u. tt) result (state_of T entered.new cells.new.items) w (passes_local number (shape_type T shape) (core_of T start.now) (state_of T entered.old cells.old.items) w) }
+    ensures { (T : Tables) (w : World) → Told (λ u. tt) result (state_of T entered.new cells.new.items) w (passes_local number (object_type T ty.now) (core_of T start.now) (state_of T entered.old cells.old.items) w) }
 {
     match start.get() {
-        Node::Blank => pass_blank(number, shape, entered, cells),
+        Node::Blank => pass_blank(number, ty, entered, cells),
         _ => Err(Stop::Malformed),
     }
 }
@@ -106,13 +104,13 @@ fn pass_declared(
 /// A local without an initialiser is there.
 fn pass_blank(
     number: u32,
-    shape: Shape,
+    ty: &ObjectType,
     entered: &mut Entered<'_>,
     cells: &mut Vec<Cell>,
 ) -> Result<(), Stop>
-    ensures { (T : Tables) (w : World) → Told (λ u. tt) result (state_of T entered.new cells.new.items) w (passes_blank number (shape_type T shape) (state_of T entered.old cells.old.items) w) }
+    ensures { (T : Tables) (w : World) → Told (λ u. tt) result (state_of T entered.new cells.new.items) w (passes_blank number (object_type T ty.now) (state_of T entered.old cells.old.items) w) }
 {
-    match new_local(number, shape, entered, cells) {
+    match new_local(number, ty, entered, cells) {
         Err(stop) => Err(stop),
         Ok(object) => {
             entered.scope.push(object)?;

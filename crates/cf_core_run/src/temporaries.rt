@@ -11,7 +11,7 @@ ghost use Rattle.cf_core_run.specs.Going.{Comes, OpensWhole, from_value, valued,
 use crate::mark::{Doing, Mark, TestMark, ValueMark};
 use crate::state::{Machine, Step};
 use cf_base::Boxed;
-use cf_core_store::{Cell, Stop, Value, end_temporaries, new_local, settle};
+use cf_core_store::{Cell, Stop, Value, end_temporaries, new_scalar, settle};
 use cf_run_tree::{Node, Shape};
 use std::alloc::AllocError;
 use std::mem::replace;
@@ -81,7 +81,7 @@ impl<'a> Machine<'a> {
     ) -> Result<Step<'a>, Stop>
         ensures { (p : Program) (into : Option Place) → Comes p (λ T o. from_value T p self.old (valued T p self.old.fuel (cores.bind (cores.local_temporary number (shape_type T shape)) (core_of T start.now)) into) o) result self.new }
     {
-        match new_local(number, shape, &mut self.entered, &mut self.cells) {
+        match new_scalar(number, shape, &mut self.entered, &mut self.cells) {
             Err(stop) => Err(stop),
             Ok(object) => self.hold_in(object, start),
         }

@@ -4,7 +4,7 @@ use crate::machine::run;
 use crate::state::{End, Limits};
 use cf_base::{Arith, Boxed, Items, Kind, Memory, Name};
 use cf_core_store::Integer;
-use cf_run_tree::{Binary, Form, Node, Program, RunFn, Shape, Signature, Unary};
+use cf_run_tree::{Binary, Form, Node, ObjectType, Program, RunFn, Shape, Signature, Unary};
 use std::alloc::Global;
 use std::process::Abort;
 use std::test::Fail;
@@ -14,6 +14,14 @@ fn int() -> Shape {
     Shape {
         is_const: false,
         form: Form::Integer(Kind::Int),
+    }
+}
+
+/// The type of an int object.
+fn int_object(alloc: Global) -> ObjectType {
+    ObjectType {
+        shape: int(),
+        bounds: Items::new(alloc),
     }
 }
 
@@ -50,7 +58,7 @@ fn put(alloc: Global, byte: i64) -> Result<Boxed<Node>, Memory> {
 fn program(alloc: Global, statement: Boxed<Node>) -> Result<Program, Memory> {
     let name = Name::from_slice(alloc, b"__main")?;
     let mut locals = Items::new(alloc);
-    locals.push(int())?;
+    locals.push(int_object(alloc))?;
     let mut functions = Items::new(alloc);
     functions.push(RunFn {
         name,
@@ -124,7 +132,7 @@ fn no_value(rt: HostRuntime) -> Result<(), Fail> {
     let read = node(alloc, Node::Apply(Unary::Read, place))?;
     let read = given(alloc, read)?;
     let mut statements = Items::new(alloc);
-    statements.push(Node::Declare(0, int(), blank))?;
+    statements.push(Node::Declare(0, int_object(alloc), blank))?;
     statements.push(read.into_inner())?;
     let block = node(alloc, Node::Block(statements))?;
     ends(&rt, alloc, block, 9, End::Undefined(7), 1)

@@ -6,9 +6,9 @@ use Rattle.cf_core.specs.Store.{Value, Nothing, Missing, Built, Number, Null, At
 use Rattle.cf_core.specs.Run.{Act, ◌>>=◌, ◌>>◌, gives, malformed, state, when}
 use Rattle.cf_core.specs.Access.{used, place_of, place_type, followed, bound_to, read_place, write_place, first_value}
 use Rattle.cf_core.specs.Objects.{local_place}
-use Rattle.cf_core.specs.Pointers.{truth_value}
-use Rattle.cf_core.specs.Scalars.{truth_of, converted_value, operated, signed, changed_value, pointed_to, as_pointer}
-use Rattle.cf_run_tree.specs.declared.node.Operation.{Operation}
+use Rattle.cf_core.specs.Pointers.{truth_value, pointer_op}
+use Rattle.cf_core.specs.Scalars.{truth_of, converted_value, operated, signed, changed_value, indexed, decayed, pointed_to, as_pointer}
+use Rattle.cf_run_tree.specs.declared.node.Change.{Change}
 use Rattle.cf_run_tree.specs.declared.node.Unary.{Unary}
 use Rattle.cf_run_tree.specs.declared.node.Unary.TheVariants as one
 use Rattle.cf_run_tree.specs.declared.node.Binary.{Binary}
@@ -31,14 +31,14 @@ named i = local_place i >>= followed []
 abbrev pub bound_by : Act Value → Act Value
 bound_by act = act >>= bound_to
 
-abbrev pub stepped_at : Bool → Operation → Place → Act Value
+abbrev pub stepped_at : Bool → Change → Place → Act Value
 stepped_at is_postfix o p = do
   x ← read_place [] p
   z ← changed_value [] (change_of o) x (Number (pos 1))
   write_place [] p z
   gives (if is_postfix then x else At p)
 
-abbrev pub changed_at : Operation → Place → Value → Act Value
+abbrev pub changed_at : Change → Place → Value → Act Value
 changed_at o p y = do
   x ← read_place [] p
   z ← changed_value [] (change_of o) x y
@@ -71,7 +71,7 @@ kept_place v = placed_value v >>= (λ p. gives (At p))
 abbrev pub pointer_value : Value → Act Value
 pointer_value v = used v >>= as_pointer
 
-abbrev pub changed_by : Operation → Value → Value → Act Value
+abbrev pub changed_by : Change → Value → Value → Act Value
 changed_by o x y = changed_value [] (change_of o) x y
 
 abbrev pub negated : Value → Act Value
@@ -85,6 +85,7 @@ abbrev pub by_used : Unary → Value → Act Value
 by_used one.Read v = gives v
 by_used one.Address v = gives v
 by_used one.Dereference v = pointed_to v
+by_used one.Decay v = decayed [] v
 by_used (one.Convert s) v = gives v
 by_used (one.Sign op k) v = signed op k v
 by_used one.Not v = gives v
@@ -94,6 +95,7 @@ abbrev pub by_place : Unary → Place → Act Value
 by_place one.Read p = read_place [] p
 by_place one.Address p = read_place [] p
 by_place one.Dereference p = read_place [] p
+by_place one.Decay p = read_place [] p
 by_place (one.Convert s) p = read_place [] p
 by_place (one.Sign op k) p = read_place [] p
 by_place one.Not p = read_place [] p
@@ -110,6 +112,7 @@ abbrev pub of_one : Tables → Unary → Value → Act Value
 of_one T one.Read v = of_place one.Read v
 of_one T one.Address v = of_used one.Address v
 of_one T one.Dereference v = of_used one.Dereference v
+of_one T one.Decay v = of_used one.Decay v
 of_one T (one.Convert s) v = converted_value (shape_type T s) v
 of_one T (one.Sign op k) v = of_used (one.Sign op k) v
 of_one T one.Not v = negated v
@@ -120,12 +123,16 @@ abbrev pub ready : Binary → Value → Act Value
 ready (two.Operate op k) v = used v
 ready two.Store v = kept_place v
 ready (two.Update o) v = kept_place v
+ready two.Index v = used v
+ready (two.Point op) v = used v
 
 -- what is made of both, the right one used
 abbrev pub of_both : Binary → Value → Value → Act Value
 of_both (two.Operate op k) x y = operated op k x y
 of_both two.Store x y = at_place (λ p. put_at p y) x
 of_both (two.Update o) x y = at_place (λ p. changed_at o p y) x
+of_both two.Index x y = indexed [] x y
+of_both (two.Point op) x y = pointer_op [] op x y
 
 abbrev pub of_two : Binary → Value → Value → Act Value
 of_two op x v = used v >>= of_both op x

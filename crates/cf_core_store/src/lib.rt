@@ -15,5 +15,6 @@ pub use arithmetic::{truth, used};
 pub use integer::Integer;
 pub use results::{Applied, apply, ready, truth_number};
 pub use store::{
-    Cell, Entered, end_objects, end_scope, end_temporaries, local_value, new_local, settle,
+    Cell, Entered, end_objects, end_scope, end_temporaries, local_value, new_local, new_scalar,
+    settle,
 };

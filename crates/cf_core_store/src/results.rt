@@ -1,7 +1,8 @@
-ghost use Rattle.std.specs.Prelude.{◌≡◌};
+ghost use Rattle.std.specs.Prelude.{◌≡◌, []};
 ghost use Rattle.cf_base.specs.World.{World};
 ghost use Rattle.cf_core.specs.Access.{place_of};
 ghost use Rattle.cf_core.specs.Calls.{root};
+ghost use Rattle.cf_core.specs.Core.{arithmetic};
 ghost use Rattle.cf_core.specs.FromTypes.{Tables};
 ghost use Rattle.cf_core.specs.Pointers.{truth_value};
 ghost use Rattle.cf_core.specs.Run.{State};
@@ -16,7 +17,7 @@ use crate::integer::Integer;
 use crate::store::{Cell, Entered, read, write};
 use cf_base::{Arith, Kind};
 use cf_core::UnaryOperator;
-use cf_run_tree::{Binary, Operation, Unary};
+use cf_run_tree::{Binary, Change, Operation, Unary};
 
 /// What is made of a value once it is there.
 #[derive(Clone, Copy)]
@@ -58,8 +59,18 @@ pub fn truth_number(holds: bool) -> Value
 }
 
 /// The new value of what an object holds.
-fn changed_value(by: Operation, x: Value, y: Value) -> Result<Value, Stop>
+fn changed_value(by: Change, x: Value, y: Value) -> Result<Value, Stop>
     ensures { (s : State) (w : World) → Told value_of result s w (values.changed_by by (value_of x) (value_of y) s w) }
+{
+    match by {
+        Change::Arithmetic(by) => changed_number(by, x, y),
+        Change::Moved(_) => Err(Stop::NotBuilt),
+    }
+}
+
+/// The new value of a number that an object holds.
+fn changed_number(by: Operation, x: Value, y: Value) -> Result<Value, Stop>
+    ensures { (s : State) (w : World) → Told value_of result s w (scalars.changed_value [] (arithmetic by.op by.at by.to) (value_of x) (value_of y) s w) }
 {
     match x {
         Value::Number(x) => number(changed(by.op, by.at, by.to, x, y)),
@@ -79,7 +90,7 @@ fn put(v: Value, entered: &Entered<'_>, cells: &mut Vec<Cell>, at: usize) -> Res
 
 /// An object is changed in place by a right operand.
 fn change(
-    by: Operation,
+    by: Change,
     y: Value,
     entered: &Entered<'_>,
     cells: &mut Vec<Cell>,
@@ -99,7 +110,7 @@ fn change(
 /// An object is changed by one.
 fn step(
     is_postfix: bool,
-    by: Operation,
+    by: Change,
     entered: &Entered<'_>,
     cells: &mut Vec<Cell>,
     at: usize,
@@ -171,6 +182,7 @@ fn of_used(op: Unary, v: Value) -> Result<Value, Stop>
         Err(stop) => Err(stop),
         Ok(v) => match op {
             Unary::Dereference => pointed_to(v),
+            Unary::Decay => Err(Stop::NotBuilt),
             Unary::Sign(op, kind) => signed_value(op, kind, v),
             _ => Ok(v),
         },
@@ -206,6 +218,7 @@ fn of_one(op: Unary, v: Value, entered: &Entered<'_>, cells: &mut Vec<Cell>) -> 
         Unary::Not => negated(v),
         Unary::Address => of_used(op, v),
         Unary::Dereference => of_used(op, v),
+        Unary::Decay => of_used(op, v),
         Unary::Sign(_, _) => of_used(op, v),
     }
 }
@@ -218,6 +231,8 @@ pub fn ready(op: Binary, v: Value) -> Result<Value, Stop>
         Binary::Operate(_, _) => used(v),
         Binary::Store => kept_place(v),
         Binary::Update(_) => kept_place(v),
+        Binary::Index => used(v),
+        Binary::Point(_) => used(v),
     }
 }
 
@@ -251,6 +266,8 @@ fn of_both(
             Value::At(at) => change(by, y, entered, cells, at),
             _ => Err(Stop::Malformed),
         },
+        Binary::Index => Err(Stop::NotBuilt),
+        Binary::Point(_) => Err(Stop::NotBuilt),
     }
 }
 

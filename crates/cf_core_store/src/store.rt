@@ -6,14 +6,14 @@ ghost use Rattle.cf_core.specs.FromTypes.{Tables};
 ghost use Rattle.cf_core.specs.Objects as objects;
 ghost use Rattle.cf_core.specs.Run.{Act, State, for_all, object_changed, gone};
 ghost use Rattle.cf_core.specs.Store.{Value as Val};
-ghost use Rattle.cf_run_tree.specs.Tree.{shape_type};
+ghost use Rattle.cf_run_tree.specs.Tree.{object_type, shape_type};
 ghost use Rattle.cf_core_store.specs.Answer.{Told};
 ghost use Rattle.cf_core_store.specs.Store.{state_of, value_of};
 ghost use Rattle.cf_core_store.specs.Values as values;
 
 use crate::answer::{Stop, Value};
 use crate::arithmetic::used;
-use cf_run_tree::{Form, Shape};
+use cf_run_tree::{Form, ObjectType, Shape};
 
 /// A scalar object.
 #[derive(Clone, Copy, Debug, PartialEq, Eq)]
@@ -173,6 +173,22 @@ fn bound(found: Result<Value, Stop>) -> Result<Value, Stop>
 
 /// A local is reached: it gets a new object.
 pub fn new_local(
+    number: u32,
+    ty: &ObjectType,
+    entered: &mut Entered<'_>,
+    cells: &mut Vec<Cell>,
+) -> Result<usize, Stop>
+    ensures { (T : Tables) (w : World) → Told (λ o. o) result (state_of T entered.new cells.new.items) w (objects.new_local number (object_type T ty.now) (state_of T entered.old cells.old.items) w) }
+{
+    if ty.bounds.is_empty() {
+        new_scalar(number, ty.shape, entered, cells)
+    } else {
+        Err(Stop::NotBuilt)
+    }
+}
+
+/// A local that is a scalar gets a new object.
+pub fn new_scalar(
     number: u32,
     shape: Shape,
     entered: &mut Entered<'_>,

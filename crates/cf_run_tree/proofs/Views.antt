@@ -2,9 +2,10 @@
 use Rattle.std.proofs.Common.{◌≡◌, ◌∙◌, ap, sym, ℕ, ℤ, List, Option, Some, None, map, option_map}
 use Rattle.cf_core.specs.declared.operators.LoopForm.{LoopForm}
 use Rattle.cf_core.specs.FromTypes.{Tables}
-use Rattle.cf_core.specs.Core.{Core, no_temporary, local_temporary, absent, number, temporary, local, logical_and, logical_or, conditional, comma, call, bind, blank, full, block, sequence, declare, branch, loop, switch, case_label, default_label, leave, continue, give}
+use Rattle.cf_core.specs.Core.{Core, no_temporary, local_temporary, absent, number, temporary, local, logical_and, logical_or, conditional, comma, text, function, call, pointer_call, bind, list, string, zeros, blank, full, block, sequence, declare, branch, loop, switch, case_label, default_label, leave, continue, give}
 use Rattle.cf_core.specs.View.{listed, maybe}
 use Rattle.cf_run_tree.specs.declared.shape.Shape.{Shape}
+use Rattle.cf_run_tree.specs.declared.shape.ObjectType.{ObjectType}
 use Rattle.cf_run_tree.specs.declared.node.Unary.{Unary}
 use Rattle.cf_run_tree.specs.declared.node.Binary.{Binary}
 use Rattle.cf_run_tree.specs.declared.node.Node.{Node}
@@ -12,7 +13,7 @@ use Rattle.cf_run_tree.specs.declared.node.Node.TheOpen.{Node-F}
 use Rattle.cf_run_tree.specs.declared.node.Node.TheFolds.{fold-roll-Node}
 use Rattle.cf_run_tree.specs.declared.node.Node.TheVariants as node
 use Rattle.cf_run_tree.specs.declared.program.Signature.{Signature}
-use Rattle.cf_run_tree.specs.Tree.{shape_type, signature_type, applied, joined, core_step, core_of}
+use Rattle.cf_run_tree.specs.Tree.{shape_type, object_type, signature_type, applied, joined, core_step, core_of}
 
 pub core-Number : (tables : Tables) (z : ℤ) → core_of tables (node.Number z) ≡ number z
 core-Number tables z = ap (core_of tables) (sym (node.rolls-Number z)) ∙ fold-roll-Node Core (core_step tables) (Node-F.Number z)
@@ -62,8 +63,8 @@ core-Block tables es = ap (core_of tables) (sym (node.rolls-Block es)) ∙ fold-
 pub core-Sequence : (tables : Tables) (es : List Node) → core_of tables (node.Sequence es) ≡ sequence (listed (map (core_of tables) es))
 core-Sequence tables es = ap (core_of tables) (sym (node.rolls-Sequence es)) ∙ fold-roll-Node Core (core_step tables) (Node-F.Sequence es)
 
-pub core-Declare : (tables : Tables) (i : ℕ) (s : Shape) (e : Node) → core_of tables (node.Declare i s e) ≡ declare i (shape_type tables s) (core_of tables e)
-core-Declare tables i s e = ap (core_of tables) (sym (node.rolls-Declare i s e)) ∙ fold-roll-Node Core (core_step tables) (Node-F.Declare i s e)
+pub core-Declare : (tables : Tables) (i : ℕ) (t : ObjectType) (e : Node) → core_of tables (node.Declare i t e) ≡ declare i (object_type tables t) (core_of tables e)
+core-Declare tables i t e = ap (core_of tables) (sym (node.rolls-Declare i t e)) ∙ fold-roll-Node Core (core_step tables) (Node-F.Declare i t e)
 
 pub core-If : (tables : Tables) (c a : Node) (b : Option Node) → core_of tables (node.If c a b) ≡ branch (core_of tables c) (core_of tables a) (maybe (option_map (core_of tables) b))
 core-If tables c a None = ap (core_of tables) (sym (node.rolls-If c a None)) ∙ fold-roll-Node Core (core_step tables) (Node-F.If c a None)
@@ -93,3 +94,21 @@ core-Continue tables = ap (core_of tables) (sym node.rolls-Continue) ∙ fold-ro
 pub core-Return : (tables : Tables) (e : Option Node) → core_of tables (node.Return e) ≡ give (maybe (option_map (core_of tables) e))
 core-Return tables None = ap (core_of tables) (sym (node.rolls-Return None)) ∙ fold-roll-Node Core (core_step tables) (Node-F.Return None)
 core-Return tables (Some e) = ap (core_of tables) (sym (node.rolls-Return (Some e))) ∙ fold-roll-Node Core (core_step tables) (Node-F.Return (Some e))
+
+pub core-Text : (tables : Tables) (j : ℕ) (bytes : List ℕ) → core_of tables (node.Text j bytes) ≡ text j bytes
+core-Text tables j bytes = ap (core_of tables) (sym (node.rolls-Text j bytes)) ∙ fold-roll-Node Core (core_step tables) (Node-F.Text j bytes)
+
+pub core-Function : (tables : Tables) (name : List ℕ) (f : Signature) → core_of tables (node.Function name f) ≡ function name (signature_type tables f)
+core-Function tables name f = ap (core_of tables) (sym (node.rolls-Function name f)) ∙ fold-roll-Node Core (core_step tables) (Node-F.Function name f)
+
+pub core-PointerCall : (tables : Tables) (e : Node) (f : Signature) (es : List Node) → core_of tables (node.PointerCall e f es) ≡ pointer_call absent (core_of tables e) (signature_type tables f) (listed (map (core_of tables) es))
+core-PointerCall tables e f es = ap (core_of tables) (sym (node.rolls-PointerCall e f es)) ∙ fold-roll-Node Core (core_step tables) (Node-F.PointerCall e f es)
+
+pub core-List : (tables : Tables) (es : List Node) (rest : Node) → core_of tables (node.List es rest) ≡ list (listed (map (core_of tables) es)) (core_of tables rest)
+core-List tables es rest = ap (core_of tables) (sym (node.rolls-List es rest)) ∙ fold-roll-Node Core (core_step tables) (Node-F.List es rest)
+
+pub core-Characters : (tables : Tables) (bytes : List ℕ) → core_of tables (node.Characters bytes) ≡ string bytes
+core-Characters tables bytes = ap (core_of tables) (sym (node.rolls-Characters bytes)) ∙ fold-roll-Node Core (core_step tables) (Node-F.Characters bytes)
+
+pub core-Zeros : (tables : Tables) → core_of tables node.Zeros ≡ zeros
+core-Zeros tables = ap (core_of tables) (sym node.rolls-Zeros) ∙ fold-roll-Node Core (core_step tables) Node-F.Zeros

@@ -1,15 +1,17 @@
 -- What shapes, trees and programs are as types, cores and programs of the meaning. The numbers of types and enumerations are those of a file's tables.
-use Rattle.std.specs.Prelude.{ℕ, Bool, true, false, List, [], ◌∷◌, Option, None, map}
+use Rattle.std.specs.Prelude.{ℕ, Bool, true, false, List, [], ◌∷◌, map}
 use Rattle.cf_classes.specs.LinkName.{scope_code, enum_names}
-use Rattle.cf_core.specs.Types.{SourceType, void, integer, enumeration, pointer, reference, gives, const}
+use Rattle.cf_core.specs.Types.{SourceType, void, integer, enumeration, pointer, reference, array, gives, const}
 use Rattle.cf_core.specs.FromTypes.{Tables, type_of, taking}
-use Rattle.cf_core.specs.Core.{Core, plain_function, Function, Change, arithmetic, no_temporary, local_temporary, absent, number, temporary, local, read, address, dereference, convert, operate, unary, logical_not, logical_and, logical_or, conditional, comma, store, update, step, call, bind, blank, full, block, sequence, declare, branch, loop, switch, case_label, default_label, leave, continue, give}
+use Rattle.cf_core.specs.Core.{Core, plain_function, Function, Change, arithmetic, moved, no_temporary, local_temporary, absent, number, text, temporary, local, function, read, address, dereference, decay, index, convert, operate, unary, logical_not, logical_and, logical_or, pointer_operate, conditional, comma, store, update, step, call, pointer_call, bind, list, string, zeros, blank, full, block, sequence, declare, branch, loop, switch, case_label, default_label, leave, continue, give}
 use Rattle.cf_core.specs.View.{listed, maybe}
 use Rattle.cf_core.specs.Calls as meaning
 use Rattle.cf_run_tree.specs.declared.shape.Form.{Form}
 use Rattle.cf_run_tree.specs.declared.shape.Form.TheVariants as form
 use Rattle.cf_run_tree.specs.declared.shape.Shape.{Shape}
-use Rattle.cf_run_tree.specs.declared.node.Operation.{Operation}
+use Rattle.cf_run_tree.specs.declared.shape.ObjectType.{ObjectType}
+use Rattle.cf_run_tree.specs.declared.node.Change.{Change as NodeChange}
+use Rattle.cf_run_tree.specs.declared.node.Change.TheVariants as change
 use Rattle.cf_run_tree.specs.declared.node.Unary.{Unary}
 use Rattle.cf_run_tree.specs.declared.node.Unary.TheVariants as one
 use Rattle.cf_run_tree.specs.declared.node.Binary.{Binary}
@@ -20,8 +22,14 @@ use Rattle.cf_run_tree.specs.declared.program.Signature.{Signature}
 use Rattle.cf_run_tree.specs.declared.program.RunFn.{RunFn}
 use Rattle.cf_run_tree.specs.declared.program.Program.{Program}
 
-abbrev pub change_of : Operation → Change
-change_of o = arithmetic o.op o.at o.to
+abbrev pub change_of : NodeChange → Change
+change_of (change.Arithmetic o) = arithmetic o.op o.at o.to
+change_of (change.Moved back) = moved back
+
+-- an array of these bounds, the outermost first, of elements of a type
+abbrev pub arrays : List ℕ → SourceType → SourceType
+arrays [] t = t
+arrays (n ∷ bounds) t = array (arrays bounds t) n
 
 abbrev pub kept : Bool → SourceType → SourceType
 kept true t = const t
@@ -38,6 +46,9 @@ module _ (tables : Tables) where
   abbrev pub shape_type : Shape → SourceType
   shape_type s = kept s.is_const (form_type s.form)
 
+  abbrev pub object_type : ObjectType → SourceType
+  object_type o = arrays o.bounds (shape_type o.shape)
+
   abbrev pub signature_type : Signature → SourceType
   signature_type f = taking (map shape_type f.params) (gives (shape_type f.result) false)
 
@@ -45,6 +56,7 @@ module _ (tables : Tables) where
   applied one.Read e = read e
   applied one.Address e = address e
   applied one.Dereference e = dereference e
+  applied one.Decay e = decay e
   applied (one.Convert s) e = convert (shape_type s) e
   applied (one.Sign op k) e = unary op k e
   applied one.Not e = logical_not e
@@ -54,9 +66,13 @@ module _ (tables : Tables) where
   joined (two.Operate op k) a b = operate op k a b
   joined two.Store a b = store a b
   joined (two.Update o) a b = update a (change_of o) b
+  joined two.Index a b = index a b
+  joined (two.Point op) a b = pointer_operate op a b
 
   abbrev pub core_step : Node-F Core → Core
   core_step (Node-F.Number z) = number z
+  core_step (Node-F.Text j bytes) = text j bytes
+  core_step (Node-F.Function name f) = function name (signature_type f)
   core_step (Node-F.Local i) = local i
   core_step (Node-F.Apply op e) = applied op e
   core_step (Node-F.Join op a b) = joined op a b
@@ -66,13 +82,17 @@ module _ (tables : Tables) where
   core_step (Node-F.Comma es) = comma (listed es)
   core_step (Node-F.Temporary s e) = temporary (shape_type s) e
   core_step (Node-F.Call name f es) = call name (signature_type f) absent (listed es)
+  core_step (Node-F.PointerCall e f es) = pointer_call absent e (signature_type f) (listed es)
   core_step (Node-F.Bind e) = bind no_temporary e
   core_step (Node-F.Hold i s e) = bind (local_temporary i (shape_type s)) e
+  core_step (Node-F.List es rest) = list (listed es) rest
+  core_step (Node-F.Characters bytes) = string bytes
+  core_step Node-F.Zeros = zeros
   core_step Node-F.Blank = blank
   core_step (Node-F.Full e) = full e
   core_step (Node-F.Block es) = block (listed es)
   core_step (Node-F.Sequence es) = sequence (listed es)
-  core_step (Node-F.Declare i s e) = declare i (shape_type s) e
+  core_step (Node-F.Declare i t e) = declare i (object_type t) e
   core_step (Node-F.If c a b) = branch c a (maybe b)
   core_step (Node-F.Loop f c e s) = loop f (maybe c) (maybe e) s
   core_step (Node-F.Switch e es) = switch e (listed es)
@@ -90,7 +110,7 @@ module _ (tables : Tables) where
     name = f.name;
     role = plain_function;
     type = signature_type f.signature;
-    locals = map shape_type f.locals;
+    locals = map object_type f.locals;
     body = core_of f.body;
     is_shared = f.is_shared;
     is_local = f.is_local;

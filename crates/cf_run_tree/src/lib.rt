@@ -1,4 +1,4 @@
-//! The programs that the plain program runs: functions over scalars, whose trees have the forms that it knows. In `specs/` stands
+//! The programs that the plain program runs: functions over scalars and arrays of them, whose trees have the forms that it knows. In `specs/` stands
 //! what each tree is as a core.
 #![tactic(auto)]
 
@@ -6,6 +6,6 @@ mod node;
 mod program;
 mod shape;
 
-pub use node::{Binary, Node, Operation, Unary};
+pub use node::{Binary, Change, Node, Operation, Unary};
 pub use program::{Program, RunFn, Signature};
-pub use shape::{Form, Shape};
+pub use shape::{Form, ObjectType, Shape};

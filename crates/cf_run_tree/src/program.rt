@@ -1,5 +1,5 @@
 use crate::node::Node;
-use crate::shape::Shape;
+use crate::shape::{ObjectType, Shape};
 use cf_base::{Items, Name};
 
 /// The type of a function (8.2.5).
@@ -16,7 +16,7 @@ pub struct RunFn {
     pub name: Name,
     pub signature: Signature,
     /// Of its locals, by their numbers behind the parameters.
-    pub locals: Items<Shape>,
+    pub locals: Items<ObjectType>,
     pub body: Node,
     pub is_shared: bool,
     pub is_local: bool,

@@ -1,4 +1,4 @@
-use cf_base::Kind;
+use cf_base::{Items, Kind};
 use cf_types::TyId;
 
 /// What a type is, const aside.
@@ -19,4 +19,12 @@ pub enum Form {
 pub struct Shape {
     pub is_const: bool,
     pub form: Form,
+}
+
+/// The type of an object: a scalar or, with bounds, an array of scalars.
+#[derive(Debug, Drop)]
+pub struct ObjectType {
+    pub shape: Shape,
+    /// The numbers of elements, the outermost first; none where it is no array (8.2.4).
+    pub bounds: Items<u32>,
 }

@@ -1,6 +1,6 @@
 use Rattle.std.proofs.lemmas.Option.{slice_get-get_or}
 use Rattle.cf_core_store.specs.declared.store.Cell.{Cell}
-use Rattle.std.proofs.Common.{◌≡◌, ◌∙◌, List, Some, None, sym, ap, slice_get, rules}
+use Rattle.std.proofs.Common.{◌∙◌, List, Some, sym, ap, slice_get}
 use Rattle.cf_core_store.proofs.StoreLaws.{end-goes}
 use Rattle.cf_core_store.proofs.store.end_object.Goals as goal
 

@@ -1,9 +1,7 @@
 use Rattle.std.proofs.lemmas.Option.{slice_get-get_or}
 use Rattle.cf_core_store.specs.declared.store.Cell.{Cell}
-use Rattle.std.proofs.Common.{◌≡◌, ◌∙◌, List, Some, None, sym, ap, slice_get, rules}
-use Rattle.cf_base.specs.World.{Went}
+use Rattle.std.proofs.Common.{◌≡◌, ◌∙◌, List, Some, sym, ap, slice_get, rules}
 use Rattle.cf_core.specs.Access.{used}
-use Rattle.cf_core.specs.Run.{Gives}
 use Rattle.cf_run_tree.specs.declared.shape.Form.TheVariants as form
 use Rattle.cf_core_store.specs.Store.{value_of, state_of}
 use Rattle.cf_core_store.proofs.ThenLaws.{told-ok}

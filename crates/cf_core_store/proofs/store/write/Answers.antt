@@ -1,6 +1,6 @@
 use Rattle.std.proofs.lemmas.Option.{slice_get-get_or}
 use Rattle.cf_core_store.specs.declared.store.Cell.{Cell}
-use Rattle.std.proofs.Common.{◌≡◌, ◌∙◌, List, Some, None, sym, ap, slice_get, rules, false}
+use Rattle.std.proofs.Common.{◌≡◌, ◌∙◌, List, Some, sym, ap, slice_get, rules, false}
 use Rattle.cf_run_tree.specs.declared.shape.Form.TheVariants as form
 use Rattle.cf_core_store.proofs.StoreLaws.{write-goes}
 use Rattle.cf_core_store.proofs.store.write.Goals as goal

@@ -10,7 +10,7 @@ use Rattle.cf_core.specs.Core as nodes
 use Rattle.cf_core.specs.Run.{gives}
 use Rattle.cf_core.specs.View.{listed}
 use Rattle.cf_run_tree.specs.declared.node.Node.{Node}
-use Rattle.cf_run_tree.specs.Tree.{core_of, shape_type}
+use Rattle.cf_run_tree.specs.Tree.{core_of, object_type}
 use Rattle.cf_run_tree.proofs.Views.{core-Block, core-Sequence, core-Declare, core-Loop, core-Case, core-Default, core-Break, core-Continue, core-Return}
 use Rattle.cf_core_store.specs.Then.{◌▷◌}
 use Rattle.cf_core_run.specs.Going.{from_flow, valued, performed, performed_all, cores, maybe_core, scoped, go_test}
@@ -36,8 +36,8 @@ returns-in-Sequence c = λ p. record {
 }
 
 pub returns-in-Declare : goal.returns-in-Declare
-returns-in-Declare c = λ p. flow-as p c.args.self.now (λ T. performed T p c.args.self.now.fuel (core_of T c.args.s.now)) (λ T. performed T p c.args.self.now.fuel (nodes.declare c.in-Declare.number (shape_type T c.in-Declare.shape) (core_of T c.in-Declare.start))) c.declare.result c.declare.new.self (c.declare.ensures p)
-    (λ T w. ap (λ n. performed T p c.args.self.now.fuel n (state_of T c.args.self.now.entered c.args.self.now.cells.items) w) (ap (core_of T) c.in-Declare.is ∙ core-Declare T c.in-Declare.number c.in-Declare.shape c.in-Declare.start))
+returns-in-Declare c = λ p. flow-as p c.args.self.now (λ T. performed T p c.args.self.now.fuel (core_of T c.args.s.now)) (λ T. performed T p c.args.self.now.fuel (nodes.declare c.in-Declare.number (object_type T c.in-Declare.ty) (core_of T c.in-Declare.start))) c.declare.result c.declare.new.self (c.declare.ensures p)
+    (λ T w. ap (λ n. performed T p c.args.self.now.fuel n (state_of T c.args.self.now.entered c.args.self.now.cells.items) w) (ap (core_of T) c.in-Declare.is ∙ core-Declare T c.in-Declare.number c.in-Declare.ty c.in-Declare.start))
 
 pub returns-in-If : goal.returns-in-If
 returns-in-If c = λ p. flow-as p c.args.self.now (λ T. performed T p c.args.self.now.fuel (core_of T c.args.s.now)) (λ T s w. full T p c.args.self.now.fuel (valued T p c.args.self.now.fuel (core_of T c.in-If.condition) None >>= of_value T applied.Truth) s w ▷ go_if T p c.args.self.now.fuel c.in-If.yes c.in-If.no) c.test_by.result c.test_by.new.self (c.test_by.ensures p)

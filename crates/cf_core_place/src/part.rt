@@ -1,0 +1,33 @@
+ghost use Rattle.std.specs.Prelude.{◌≡◌, ◌∷◌, IfSome};
+ghost use Rattle.cf_core.specs.Core as core;
+ghost use Rattle.cf_core_place.specs.Routes.{route_of};
+
+/// A part of an object, or an end of an array in it.
+#[derive(Clone, Copy, Debug, PartialEq, Eq)]
+pub enum Part {
+    Whole,
+    /// One past the whole object (5.7).
+    Past,
+    /// The element of this index.
+    Item(u32),
+    /// The element of the second index of the element of the first, which is an array.
+    Inner(u32, u32),
+}
+
+/// A part of the object of this number.
+#[derive(Clone, Copy, Debug, PartialEq, Eq)]
+pub struct Place {
+    pub object: usize,
+    pub part: Part,
+}
+
+/// The element of this index of a part that is an array. Arrays of arrays of arrays are not built.
+pub fn item(part: Part, index: u32) -> Option<Part>
+    ensures { IfSome result (λ q. route_of q ≡ core.item index ∷ route_of part) }
+{
+    match part {
+        Part::Whole => Some(Part::Item(index)),
+        Part::Item(row) => Some(Part::Inner(row, index)),
+        _ => None,
+    }
+}
