@@ -1,4 +1,4 @@
-"""Runs the built program on a file and measures the run."""
+"""Runs a built program and measures the run."""
 import os
 import tempfile
 import time
@@ -7,26 +7,31 @@ TOP = os.path.dirname(os.path.dirname(os.path.abspath(__file__)))
 LAUNCHER = os.path.join(TOP, "cfront")
 
 
-def go(text):
-    """Runs `go` on a file with this text: seconds, peak memory in MiB, status, last line on standard error."""
+def measured(words, told):
+    """Runs a program with its words: seconds, peak memory in MiB, status, last line on the stream `told`, 1 or 2."""
     with tempfile.TemporaryDirectory() as folder:
-        name = os.path.join(folder, "a.C")
-        with open(name, "w", encoding="ascii") as file:
-            file.write(text)
-        lines = os.path.join(folder, "err")
+        lines = os.path.join(folder, "lines")
         begun = time.monotonic()
         child = os.fork()
         if child == 0:
-            out = os.open(os.devnull, os.O_WRONLY)
-            err = os.open(lines, os.O_WRONLY | os.O_CREAT)
-            os.dup2(out, 1)
-            os.dup2(err, 2)
-            os.execv(LAUNCHER, [LAUNCHER, "go", name])
+            nothing = os.open(os.devnull, os.O_WRONLY)
+            os.dup2(nothing, 3 - told)
+            os.dup2(os.open(lines, os.O_WRONLY | os.O_CREAT), told)
+            os.execv(words[0], words)
         _, status, used = os.wait4(child, 0)
         seconds = time.monotonic() - begun
         with open(lines, encoding="utf-8", errors="replace") as file:
             last = file.read().strip().splitlines()[-1:]
     return seconds, used.ru_maxrss / 1024, os.waitstatus_to_exitcode(status), "".join(last)
+
+
+def go(text):
+    """Runs `go` on a file with this text, and measures it with its last line on standard error."""
+    with tempfile.TemporaryDirectory() as folder:
+        name = os.path.join(folder, "a.C")
+        with open(name, "w", encoding="ascii") as file:
+            file.write(text)
+        return measured([LAUNCHER, "go", name], 2)
 
 
 def best(text, turns):
