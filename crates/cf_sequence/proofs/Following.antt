@@ -1,0 +1,126 @@
+-- The laws of following: by parts, and over steps that don't look at the lists of a frame.
+use Rattle.std.proofs.Common.{◌≡◌, ℕ, zero, suc, Bool, true, false, refl, sym, ◌∙◌, ap, subst}
+use Rattle.std.specs.Prelude.{ℤ, Result, Ok, Err, Option, Some, None}
+use Rattle.cf_base.specs.Event.{Event, Undefined}
+use Rattle.cf_base.specs.World.{World, Ran, Went, Stops, and_then, spend_of}
+use Rattle.cf_core.specs.Run.{State, Frame, Did, Gives, Exits, Malformed, Act, onward, ◌>>=◌, ◌>>◌, gives, malformed, undefined, need, valid, some_or, ok_or_act, when, with_frame}
+use Rattle.cf_sequence.specs.Follows.{GivesAs, ExitsAs, FollowsFrom, Follows}
+
+abbrev pub Relation : Type 0 → Type 0 → Type 1
+Relation A B = A → State → B → State → Type 0
+
+-- what comes behind a step
+abbrev pub on : {A B : Type 0} → (A → Act B) → Did A → World → Ran (Did B)
+on go = λ did w. onward did go w
+
+pub follows-then : {A B C D : Type 0} {R : A → State → B → State → Type 0} {S : C → State → D → State → Type 0}
+    (x : Ran (Did A)) (y : Ran (Did B)) (f : A → Act C) (g : B → Act D)
+    → Follows R x y
+    → ((a : A) (s : State) (b : B) (t : State) (w : World) → R a s b t → Follows S (f a s w) (g b t w))
+    → Follows S (and_then x (on f)) (and_then y (on g))
+follows-then {S = S} (Went (Gives a s) w) y f g h next =
+    subst (λ r. Follows S (f a s w) (and_then r (on g))) (sym h.by.run) (next a s h.by.value h.by.after w h.by.related)
+follows-then {S = S} (Went (Exits z s) w) y f g h next =
+    record { by = record { after = h.by.after; run = ap (λ r. and_then r (on g)) h.by.run; same = h.by.same } }
+follows-then (Went Malformed w) y f g h next = record { by = tt }
+follows-then (Stops end trace) y f g h next = record { by = ap (λ r. and_then r (on g)) h.by }
+
+-- ---- steps behind steps: what comes behind two can come behind the second
+
+pub pull : {A B C D : Type 0} {S : C → State → D → State → Type 0} (x : Ran (Did A)) (F : A → Act B) (G : B → Act C) (y : Ran (Did D))
+    → Follows S (and_then x (on (λ a. F a >>= G))) y → Follows S (and_then (and_then x (on F)) (on G)) y
+pull (Went (Gives a s) w) F G y h = h
+pull (Went (Exits z s) w) F G y h = h
+pull (Went Malformed w) F G y h = h
+pull (Stops end trace) F G y h = h
+
+pub push : {A B C D : Type 0} {S : D → State → C → State → Type 0} (x : Ran (Did A)) (F : A → Act B) (G : B → Act C) (y : Ran (Did D))
+    → Follows S y (and_then x (on (λ a. F a >>= G))) → Follows S y (and_then (and_then x (on F)) (on G))
+push (Went (Gives a s) w) F G y h = h
+push (Went (Exits z s) w) F G y h = h
+push (Went Malformed w) F G y h = h
+push (Stops end trace) F G y h = h
+
+-- ---- steps that look at no state
+
+pub data Answer (A : Type 0) : Type 0 where
+  answers : A → Answer A
+  fails : ℕ → Answer A
+  wrong : Answer A
+
+abbrev pub of_answer : {A : Type 0} → Answer A → Act A
+of_answer (answers a) = gives a
+of_answer (fails act) = undefined act
+of_answer wrong = malformed
+
+pub record Pure {A : Type 0} (act : Act A) : Type 0 where
+  pub answer : Answer A
+  pub runs : act ≡ of_answer answer
+
+pub pure-gives : {A : Type 0} (a : A) → Pure (gives a)
+pure-gives a = record { answer = answers a; runs = refl }
+
+pub pure-undefined : {A : Type 0} (n : ℕ) → Pure {A = A} (undefined n)
+pure-undefined n = record { answer = fails n; runs = refl }
+
+pub pure-malformed : {A : Type 0} → Pure {A = A} malformed
+pure-malformed = record { answer = wrong; runs = refl }
+
+then-of : {A B : Type 0} (x : Answer A) (go : A → Act B) → ((a : A) → Pure (go a)) → Pure (of_answer x >>= go)
+then-of (answers a) go p = record { answer = (p a).answer; runs = (p a).runs }
+then-of (fails n) go p = record { answer = fails n; runs = refl }
+then-of wrong go p = record { answer = wrong; runs = refl }
+
+pub pure-then : {A B : Type 0} (act : Act A) (go : A → Act B) → Pure act → ((a : A) → Pure (go a)) → Pure (act >>= go)
+pure-then act go p q = subst (λ a. Pure (a >>= go)) (sym p.runs) (then-of p.answer go q)
+
+pub pure-need : (b : Bool) (n : ℕ) → Pure (need b n)
+pure-need true n = record { answer = answers tt; runs = refl }
+pure-need false n = record { answer = fails n; runs = refl }
+
+pub pure-valid : (b : Bool) → Pure (valid b)
+pure-valid true = record { answer = answers tt; runs = refl }
+pure-valid false = record { answer = wrong; runs = refl }
+
+pub pure-some_or : {A : Type 0} (x : Option A) (act : Act A) → Pure act → Pure (some_or x act)
+pure-some_or None act p = p
+pure-some_or (Some a) act p = record { answer = answers a; runs = refl }
+
+pub pure-ok_or_act : {A : Type 0} (x : Result A ℕ) → Pure (ok_or_act x)
+pure-ok_or_act (Ok a) = record { answer = answers a; runs = refl }
+pure-ok_or_act (Err n) = record { answer = fails n; runs = refl }
+
+pub pure-when : {A : Type 0} (b : Bool) (act other : Act A) → Pure act → Pure other → Pure (when b act other)
+pure-when true act other p q = p
+pure-when false act other p q = q
+
+answer-steps : {A C D : Type 0} {S : C → State → D → State → Type 0} (x : Answer A) (c : A → Act C) (g : A → Act D) (s t : State) (w : World)
+    → ((a : A) → Follows S (c a s w) (g a t w))
+    → Follows S (and_then (of_answer x s w) (on c)) (and_then (of_answer x t w) (on g))
+answer-steps (answers a) c g s t w next = next a
+answer-steps (fails n) c g s t w next = record { by = refl }
+answer-steps wrong c g s t w next = record { by = tt }
+
+-- The same step in any two states.
+pub pure-steps : {A C D : Type 0} {S : C → State → D → State → Type 0} (act : Act A) → Pure act → (c : A → Act C) (g : A → Act D) (s t : State) (w : World)
+    → ((a : A) → Follows S (c a s w) (g a t w))
+    → Follows S (and_then (act s w) (on c)) (and_then (act t w) (on g))
+pure-steps {S = S} act p c g s t w next =
+    subst (λ (a : Act _). Follows S (and_then (a s w) (on c)) (and_then (a t w) (on g))) (sym p.runs) (answer-steps p.answer c g s t w next)
+
+-- ---- steps that look at the objects alone and change nothing
+
+pub record Looks {A : Type 0} (act : Act A) : Type 0 where
+  pub answer : State → Answer A
+  pub runs : (s : State) (w : World) → act s w ≡ of_answer (answer s) s w
+  pub blind : (s : State) (f : Frame) → answer (with_frame f s) ≡ answer s
+
+pub looks-steps : {A C D : Type 0} {S : C → State → D → State → Type 0} (act : Act A) → Looks act
+    → (c : A → Act C) (g : A → Act D) (s : State) (f : Frame) (w : World)
+    → ((a : A) → Follows S (c a s w) (g a (with_frame f s) w))
+    → Follows S (and_then (act s w) (on c)) (and_then (act (with_frame f s) w) (on g))
+looks-steps {S = S} act p c g s f w next =
+    subst (λ r. Follows S (and_then r (on c)) (and_then (act (with_frame f s) w) (on g))) (sym (p.runs s w))
+    (subst (λ r. Follows S (and_then (of_answer (p.answer s) s w) (on c)) (and_then r (on g)))
+    (sym (p.runs (with_frame f s) w ∙ ap (λ x. of_answer x (with_frame f s) w) (p.blind s f)))
+    (answer-steps (p.answer s) c g s (with_frame f s) w next))

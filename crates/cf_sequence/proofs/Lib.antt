@@ -1,0 +1,3 @@
+pub mod Following
+pub mod Sample
+mod ScalarRows

@@ -1,0 +1,5 @@
+pub mod Made
+pub mod Expressions
+pub mod Statements
+pub mod Sequenced
+pub mod Follows
