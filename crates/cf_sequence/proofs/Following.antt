@@ -41,6 +41,20 @@ push (Went (Exits z s) w) F G y h = h
 push (Went Malformed w) F G y h = h
 push (Stops end trace) F G y h = h
 
+pub pull-two : {A B C D E : Type 0} {S : D → State → E → State → Type 0} (x : Ran (Did A)) (F : A → Act B) (G : B → Act C) (c : C → Act D) (y : Ran (Did E))
+    → Follows S (and_then x (on (λ a. (F a >>= G) >>= c))) y → Follows S (and_then (and_then (and_then x (on F)) (on G)) (on c)) y
+pull-two (Went (Gives a s) w) F G c y h = h
+pull-two (Went (Exits z s) w) F G c y h = h
+pull-two (Went Malformed w) F G c y h = h
+pull-two (Stops end trace) F G c y h = h
+
+pub pull-three : {A B C D E X : Type 0} {S : E → State → X → State → Type 0} (x : Ran (Did A)) (F : A → Act B) (G : B → Act C) (R : C → Act D) (c : D → Act E) (y : Ran (Did X))
+    → Follows S (and_then x (on (λ a. ((F a >>= G) >>= R) >>= c))) y → Follows S (and_then (and_then (and_then (and_then x (on F)) (on G)) (on R)) (on c)) y
+pull-three (Went (Gives a s) w) F G R c y h = h
+pull-three (Went (Exits z s) w) F G R c y h = h
+pull-three (Went Malformed w) F G R c y h = h
+pull-three (Stops end trace) F G R c y h = h
+
 -- ---- steps that look at no state
 
 pub data Answer (A : Type 0) : Type 0 where
@@ -66,13 +80,23 @@ pure-undefined n = record { answer = fails n; runs = refl }
 pub pure-malformed : {A : Type 0} → Pure {A = A} malformed
 pure-malformed = record { answer = wrong; runs = refl }
 
-then-of : {A B : Type 0} (x : Answer A) (go : A → Act B) → ((a : A) → Pure (go a)) → Pure (of_answer x >>= go)
-then-of (answers a) go p = record { answer = (p a).answer; runs = (p a).runs }
-then-of (fails n) go p = record { answer = fails n; runs = refl }
-then-of wrong go p = record { answer = wrong; runs = refl }
+-- an answer, and then what its value leads to
+abbrev pub chained : {A B : Type 0} → Answer A → (A → Answer B) → Answer B
+chained (answers a) go = go a
+chained (fails n) go = fails n
+chained wrong go = wrong
+
+pure-chained : {A B : Type 0} (x : Answer A) (go : A → Act B) (q : (a : A) → Pure (go a))
+    → (of_answer x >>= go) ≡ of_answer (chained x (λ a. (q a).answer))
+pure-chained (answers a) go q = (q a).runs
+pure-chained (fails n) go q = refl
+pure-chained wrong go q = refl
 
 pub pure-then : {A B : Type 0} (act : Act A) (go : A → Act B) → Pure act → ((a : A) → Pure (go a)) → Pure (act >>= go)
-pure-then act go p q = subst (λ a. Pure (a >>= go)) (sym p.runs) (then-of p.answer go q)
+pure-then act go p q = record {
+  answer = chained p.answer (λ a. (q a).answer);
+  runs = ap (λ (a : Act _). a >>= go) p.runs ∙ pure-chained p.answer go q;
+}
 
 pub pure-need : (b : Bool) (n : ℕ) → Pure (need b n)
 pure-need true n = record { answer = answers tt; runs = refl }
@@ -124,3 +148,41 @@ looks-steps {S = S} act p c g s f w next =
     (subst (λ r. Follows S (and_then (of_answer (p.answer s) s w) (on c)) (and_then r (on g)))
     (sym (p.runs (with_frame f s) w ∙ ap (λ x. of_answer x (with_frame f s) w) (p.blind s f)))
     (answer-steps (p.answer s) c g s (with_frame f s) w next))
+
+looks-chained : {A B : Type 0} (x : Answer A) (go : A → Act B) (q : (a : A) → Looks (go a)) (s : State) (w : World)
+    → and_then (of_answer x s w) (on go) ≡ of_answer (chained x (λ a. (q a).answer s)) s w
+looks-chained (answers a) go q s w = (q a).runs s w
+looks-chained (fails n) go q s w = refl
+looks-chained wrong go q s w = refl
+
+blind-chained : {A B : Type 0} (x : Answer A) (go : A → Act B) (q : (a : A) → Looks (go a)) (s : State) (f : Frame)
+    → chained x (λ a. (q a).answer (with_frame f s)) ≡ chained x (λ a. (q a).answer s)
+blind-chained (answers a) go q s f = (q a).blind s f
+blind-chained (fails n) go q s f = refl
+blind-chained wrong go q s f = refl
+
+pub looks-then : {A B : Type 0} (act : Act A) (go : A → Act B) → Looks act → ((a : A) → Looks (go a)) → Looks (act >>= go)
+looks-then act go p q = record {
+  answer = λ s. chained (p.answer s) (λ a. (q a).answer s);
+  runs = λ s w. ap (λ r. and_then r (on go)) (p.runs s w) ∙ looks-chained (p.answer s) go q s w;
+  blind = λ s f. ap (λ x. chained x (λ a. (q a).answer (with_frame f s))) (p.blind s f) ∙ blind-chained (p.answer s) go q s f;
+}
+
+pub looks-pure : {A : Type 0} (act : Act A) → Pure act → Looks act
+looks-pure act p = record { answer = λ s. p.answer; runs = λ s w. ap (λ (a : Act _). a s w) p.runs; blind = λ s f. refl }
+
+-- ---- a step, and what comes behind it, on both sides
+
+pub looks-step : {A B C D : Type 0} {S : C → State → D → State → Type 0} (act : Act A) → Looks act → (F : A → Act B)
+    (c : B → Act C) (g : B → Act D) (s : State) (f : Frame) (w : World)
+    → ((a : A) → Follows S (and_then (F a s w) (on c)) (and_then (F a (with_frame f s) w) (on g)))
+    → Follows S (and_then ((act >>= F) s w) (on c)) (and_then ((act >>= F) (with_frame f s) w) (on g))
+looks-step act p F c g s f w next =
+    pull (act s w) F c _ (push (act (with_frame f s) w) F g _ (looks-steps act p (λ a. F a >>= c) (λ a. F a >>= g) s f w next))
+
+pub pure-step : {A B C D : Type 0} {S : C → State → D → State → Type 0} (act : Act A) → Pure act → (F : A → Act B)
+    (c : B → Act C) (g : B → Act D) (s t : State) (w : World)
+    → ((a : A) → Follows S (and_then (F a s w) (on c)) (and_then (F a t w) (on g)))
+    → Follows S (and_then ((act >>= F) s w) (on c)) (and_then ((act >>= F) t w) (on g))
+pure-step act p F c g s t w next =
+    pull (act s w) F c _ (push (act t w) F g _ (pure-steps act p (λ a. F a >>= c) (λ a. F a >>= g) s t w next))

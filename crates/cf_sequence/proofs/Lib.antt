@@ -1,3 +1,14 @@
+pub mod Actions
+pub mod Calling
+mod ClassRows
+mod ControlRows
+pub mod Doing
+pub mod Evaluating
 pub mod Following
+pub mod Fulls
+pub mod Kept
+pub mod Moving
+pub mod PlainSteps
 pub mod Sample
+pub mod Steps
 mod ScalarRows

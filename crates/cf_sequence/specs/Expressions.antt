@@ -98,12 +98,13 @@ abbrev pub repeated : ℕ → ℕ → (ℕ → Plains → Plains) → Plains →
 repeated i zero code rest = rest
 repeated i (suc n) code rest = code i (repeated (suc i) n code rest)
 
--- A full expression from register n on: its flags, its code with the register for its value, and the ends of its temporaries, the newest first.
-abbrev pub whole : Core → Register → ℕ → (Full → Register → Plains → Plains) → Plains → Plains
+-- A full expression from register n on: its flags, its code with the register for its value, the ends of its temporaries, the newest first, and then
+-- what follows with that register.
+abbrev pub whole : Core → Register → ℕ → (Full → Register → Plains → Plains) → (Register → Plains) → Plains
 whole e n k code rest =
     let x : Full = record { first = k; base = n } in
     let made = temporaries false e k in
-    flags x made (code x (n + width e) (ended x (reverse made) rest))
+    flags x made (code x (n + width e) (ended x (reverse made) (rest (n + width e))))
 
 module _ (classes : List Class) where
   abbrev pub part_type : SourceType → ℕ → SourceType
@@ -215,7 +216,7 @@ module _ (classes : List Class) where
         (repeated (count es) (parts_count d.type - count es) (λ i rest.
             in_turn (is_array d.type && costs_tick last classes u) (λ rest. part_in n d.register d.type i
             (whole last (suc n) (k + width_all es) (λ y m rest. value y last (destination n (part_type d.type i)) m (k + width_all es) rest)
-            (settled last n (suc n + width last) rest))) rest)
+            (λ m. settled last n m rest))) rest)
         (built d rest)))
     value x (core.string bytes) (Some d) n k rest = more (act (plain.bytes d.register bytes)) rest
     value x core.zeros (Some d) n k rest = more (act (plain.zeros d.register)) rest
@@ -230,7 +231,7 @@ module _ (classes : List Class) where
     elements x none d i n k rest = rest
     elements x (core.more e es) d i n k rest =
         in_turn (is_array d.type && costs_tick e classes (part_type d.type i)) (λ rest. part_in n d.register d.type i
-        (whole e (suc n) k (λ y m rest. value y e (destination n (part_type d.type i)) m k rest) (settled e n (suc n + width e) rest)))
+        (whole e (suc n) k (λ y m rest. value y e (destination n (part_type d.type i)) m k rest) (λ m. settled e n m rest)))
         (elements x es d (suc i) n (k + width e) rest)
 
     -- an expression's parts in order; the last one's value stays (5.18)

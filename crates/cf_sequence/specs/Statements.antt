@@ -47,7 +47,7 @@ type_of_static statics name = found (find (λ (x : Static). bytes_eq x.name name
 -- a condition: 1 or 0 in the register behind those of its locals
 abbrev pub condition : List Class → Core → ℕ → (Register → Plains) → Plains
 condition classes c k rest =
-    whole c 0 k (λ x n rest. value classes x c None n k (more (set n (plain.truth n)) rest)) (rest (width c))
+    whole c 0 k (λ x n rest. value classes x c None n k (more (set n (plain.truth n)) rest)) rest
 
 -- a loop is left where its condition doesn't hold
 abbrev pub held : List Class → MaybeCore → ℕ → Plains → Plains
@@ -56,11 +56,11 @@ held classes (given c) k rest = condition classes c k (λ n. more (branch n noth
 
 abbrev pub stepped : List Class → MaybeCore → ℕ → Plains
 stepped classes absent k = nothing
-stepped classes (given e) k = whole e 0 k (λ x n rest. value classes x e None n k rest) nothing
+stepped classes (given e) k = whole e 0 k (λ x n rest. value classes x e None n k rest) (λ n. nothing)
 
 -- an initialiser of the place in register n, as a full expression of its own
 abbrev pub started : List Class → SourceType → Core → Register → ℕ → Plains → Plains
-started classes t e n k rest = whole e (suc n) k (λ x m rest. value classes x e (destination n t) m k rest) (settled e n (suc n + width e) rest)
+started classes t e n k rest = whole e (suc n) k (λ x m rest. value classes x e (destination n t) m k rest) (λ m. settled e n m rest)
 
 -- A static object is reached, and then initialised (6.7).
 abbrev pub initialised : List Class → SourceType → Name → Core → ℕ → Plains → Plains
@@ -72,7 +72,7 @@ abbrev pub returned : Inside → Core → ℕ → Plains → Plains
 returned f e k rest =
     if is_class f.result
     then more (set 0 plain.result) (started f.classes f.result e 0 k (finished (f.here ++ f.returns) (more (give None) rest)))
-    else whole e 0 k (λ x n rest. value f.classes x e None n k (used n rest)) (finished (f.here ++ f.returns) (more (give (Some (width e))) rest))
+    else whole e 0 k (λ x n rest. value f.classes x e None n k (used n rest)) (λ n. finished (f.here ++ f.returns) (more (give (Some n)) rest))
 
 abbrev pub made : List Local → Plains → Plains
 made [] rest = rest
@@ -102,8 +102,7 @@ looping classes c e k body rest = more (loop (held classes c k body) (stepped cl
 abbrev mutual
   -- A statement, and then the rest; the locals that it adds are numbered from k.
   pub statement : Inside → Core → ℕ → Plains → Plains
-  statement f (core.full core.blank) k rest = rest
-  statement f (core.full e) k rest = whole e 0 k (λ x n rest. value f.classes x e None n k rest) rest
+  statement f (core.full e) k rest = whole e 0 k (λ x n rest. value f.classes x e None n k rest) (λ n. rest)
   statement f (core.block es) k rest = statements (opened f) es k (finished (declared_all es) rest)
   statement f (core.sequence es) k rest = statements f es k rest
   statement f (core.declare i t e) k rest = more (set 0 (plain.declare i t)) (started f.classes t e 0 k rest)
@@ -120,8 +119,7 @@ abbrev mutual
       more (loop (statement (in_loop f) s (k + width_maybe c + width_maybe e) (finished (declared s) nothing)) (held f.classes c k nothing)) rest
   statement f (core.switch e es) k rest =
       whole e 0 k (λ x n rest. value f.classes x e None n k (used n rest))
-      (passed (width e) es
-      (more (switch (width e) (statements (in_switch f) es (k + width e) (finished (declared_all es) nothing))) rest))
+      (λ n. passed n es (more (switch n (statements (in_switch f) es (k + width e) (finished (declared_all es) nothing))) rest))
   statement f (core.case_label z) k rest = more (case_label z) rest
   statement f core.default_label k rest = more default_label rest
   statement f core.leave k rest = finished (f.here ++ f.breaks) (more leave rest)
