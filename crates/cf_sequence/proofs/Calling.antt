@@ -10,7 +10,7 @@ use Rattle.cf_core.specs.Core.{Function, Static}
 use Rattle.cf_core.specs.Store.{Value, Nothing, Number}
 use Rattle.cf_core.specs.Run.{State, Frame, Did, Gives, Exits, Malformed, Act, ◌>>=◌, ◌>>◌, gives, malformed, changed, need, some_or, when, with_frame}
 use Rattle.cf_core.specs.Calls as core
-use Rattle.cf_core.specs.Calls.{Program, body, function_named, is_library, run_library, run_named, name_function, has_type, enter, enter_found, frame_of, local_count, argument, put, get, byte_value, leave_with, returned, given_value}
+use Rattle.cf_core.specs.Calls.{Program, body, function_named, is_library, run_library, run_named, name_function, has_type, enter, enter_found, frame_of, local_count, argument, put, get, byte_value, leave_with, returned, given_value, without_value}
 use Rattle.cf_plain.specs.Running as plain
 use Rattle.cf_plain.specs.Running.{calls, core_flow, header}
 use Rattle.cf_plain.specs.Program.{headers}
@@ -114,9 +114,15 @@ FlowAs (core.Returns v) (plain.Returns u) = v ≡ u
 FlowAs (core.Returns v) y = ⊥
 FlowAs x y = Unit {0}
 
+-- the objects are the same where the function has ended well
+abbrev pub SameObjects : core.Flow → State → State → Type 0
+SameObjects core.Falls s t = t ≡ with_frame t.frame s
+SameObjects (core.Returns v) s t = t ≡ with_frame t.frame s
+SameObjects x s t = Unit {0}
+
 pub record Ended (x : core.Flow) (s : State) (y : plain.Flow) (t : State) : Type 0 where
   pub flow : FlowAs x y
-  pub same : t ≡ with_frame t.frame s
+  pub same : SameObjects x s t
 
 module _ (again : core.Again) (again' : plain.Again) (P : Program) where
   abbrev pub plain_program : Program
@@ -135,20 +141,23 @@ module _ (again : core.Again) (again' : plain.Again) (P : Program) where
 
   module _ (bodies : Bodies) {C D : Type 0} {S : C → State → D → State → Type 0} (s : State) (f : Frame) (c : Value → Act C) (g : Value → Act D)
       (next : (v : Value) (t : State) (w : World) → t.frame ≡ s.frame → Follows S (c v t w) (g v (with_frame f t) w)) where
-    returned-steps : (t : SourceType) (x : core.Flow) (y : plain.Flow) → FlowAs x y → (u : State) (w : World)
-        → Follows S (and_then (returned t x (with_frame s.frame u) w) (on c)) (and_then (returned t (core_flow y) (with_frame f u) w) (on g))
-    returned-steps t core.Falls (plain.Falls h) e u w = next _ (with_frame s.frame u) w refl
-    returned-steps t core.Falls (plain.Breaks h) e u w = absurd e
-    returned-steps t core.Falls (plain.Continues h) e u w = absurd e
-    returned-steps t core.Falls (plain.Returns v) e u w = absurd e
-    returned-steps t core.Breaks y e u w = record { by = tt }
-    returned-steps t core.Continues y e u w = record { by = tt }
-    returned-steps t (core.Returns v) (plain.Returns x) e u w =
-        subst (λ x. Follows S (and_then (returned t (core.Returns v) (with_frame s.frame u) w) (on c)) (and_then (returned t (core.Returns x) (with_frame f u) w) (on g))) e
-        (next _ (with_frame s.frame u) w refl)
-    returned-steps t (core.Returns v) (plain.Falls h) e u w = absurd e
-    returned-steps t (core.Returns v) (plain.Breaks h) e u w = absurd e
-    returned-steps t (core.Returns v) (plain.Continues h) e u w = absurd e
+    value-steps : (v : Value) (u q : State) (w : World) → q ≡ with_frame q.frame u → Follows S (c v (with_frame s.frame u) w) (g v (with_frame f q) w)
+    value-steps v u q w same = subst (λ q. Follows S (c v (with_frame s.frame u) w) (g v (with_frame f q) w)) (sym same) (next v (with_frame s.frame u) w refl)
+
+    returned-steps : (t : SourceType) (x : core.Flow) (y : plain.Flow) → FlowAs x y → (u q : State) (w : World) → SameObjects x u q
+        → Follows S (and_then (returned t x (with_frame s.frame u) w) (on c)) (and_then (returned t (core_flow y) (with_frame f q) w) (on g))
+    returned-steps t core.Falls (plain.Falls h) e u q w same = value-steps (without_value t) u q w same
+    returned-steps t core.Falls (plain.Breaks h) e u q w same = absurd e
+    returned-steps t core.Falls (plain.Continues h) e u q w same = absurd e
+    returned-steps t core.Falls (plain.Returns v) e u q w same = absurd e
+    returned-steps t core.Breaks y e u q w same = record { by = tt }
+    returned-steps t core.Continues y e u q w same = record { by = tt }
+    returned-steps t (core.Returns v) (plain.Returns x) e u q w same =
+        subst (λ x. Follows S (and_then (returned t (core.Returns v) (with_frame s.frame u) w) (on c)) (and_then (returned t (core.Returns x) (with_frame f q) w) (on g))) e
+        (value-steps (given_value t v) u q w same)
+    returned-steps t (core.Returns v) (plain.Falls h) e u q w same = absurd e
+    returned-steps t (core.Returns v) (plain.Breaks h) e u q w same = absurd e
+    returned-steps t (core.Returns v) (plain.Continues h) e u q w same = absurd e
 
     body-steps : (name : Name) (h : Function) → function_named P name ≡ Some h → (os : List ℕ) → length os ≡ length (parameters h.type) → (depth : ℕ) (w : World)
         → Follows S
@@ -161,8 +170,7 @@ module _ (again : core.Again) (again' : plain.Again) (P : Program) where
         (push _ (λ flow. changed (with_frame f) >> returned (result h.type) flow) g _
         (push _ (λ flow. gives (core_flow flow)) (λ flow. (changed (with_frame f) >> returned (result h.type) flow) >>= g) _
         (follows-then _ _ _ _ (bodies name h e os l depth s w) (λ x u y t w r.
-            subst (λ v. Follows S (and_then (returned (result h.type) x (with_frame s.frame u) w) (on c)) (and_then (returned (result h.type) (core_flow y) (with_frame f v) w) (on g)))
-            (sym r.same) (returned-steps (result h.type) x y r.flow u w)))))
+            returned-steps (result h.type) x y r.flow u t w r.same))))
 
     deeper-steps : (d e : ℕ) → e ≡ d → (w : World) (go go' : ℕ → Ran (Did Value))
         → ((n : ℕ) → Follows S (and_then (go n) (on c)) (and_then (go' n) (on g)))

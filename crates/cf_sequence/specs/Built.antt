@@ -95,3 +95,20 @@ abbrev mutual
   pub are_statements : ℕ → Cores → Bool
   are_statements m none = true
   are_statements m (core.more s rest) = is_statement m s && are_statements (next_local m s) rest
+
+-- A program that is sequenced so far: of functions over numbers.
+abbrev pub is_plain_role : Role → Bool
+is_plain_role plain_function = true
+is_plain_role role = false
+
+abbrev pub is_built_function : Function → Bool
+is_built_function f =
+    is_plain_role f.role && (is_chain f.type && (not (is_class (result f.type)) && is_statement (length (parameters f.type)) f.body))
+
+abbrev pub is_none : {A : Type 0} → List A → Bool
+is_none [] = true
+is_none (x ∷ xs) = false
+
+abbrev pub is_plainly_built : Program → Bool
+is_plainly_built P =
+    is_none P.classes && (is_none P.statics && (is_none P.constants && (is_none P.initialisers && list_all is_built_function P.functions)))
