@@ -134,18 +134,20 @@ inner-declared (core.sequence es) ok = never ok
 inner-declared s ok = refl
 
 -- how further turns of a loop end
-abbrev pub EndsAs : Beyond → Frame → calling.Flow → State → Flow → State → Type 0
-EndsAs D g calling.Falls t (Falls h) u = u ≡ with_frame g t
-EndsAs D g calling.Falls t y u = ⊥
-EndsAs D g (calling.Returns v) t (Returns x) u = (v ≡ x) × (u ≡ with_frame g (all_gone (t.frame.scope ++ D.returns) t))
-EndsAs D g (calling.Returns v) t y u = ⊥
-EndsAs D g x t y u = ⊥
+abbrev pub EndsAs : List ℕ → Beyond → Frame → calling.Flow → State → Flow → State → Type 0
+EndsAs os D g calling.Falls t (Falls h) u = (t.frame.scope ≡ os) × (u ≡ with_frame g t)
+EndsAs os D g calling.Falls t y u = ⊥
+EndsAs os D g calling.Breaks t (Breaks h) u = u ≡ with_frame g (all_gone (t.frame.scope ++ D.breaks) t)
+EndsAs os D g calling.Breaks t y u = ⊥
+EndsAs os D g calling.Continues t (Continues h) u = u ≡ with_frame g (all_gone (t.frame.scope ++ D.continues) t)
+EndsAs os D g calling.Continues t y u = ⊥
+EndsAs os D g (calling.Returns v) t (Returns x) u = (v ≡ x) × (u ≡ with_frame g (all_gone (t.frame.scope ++ D.returns) t))
+EndsAs os D g (calling.Returns v) t y u = ⊥
 
 pub record Turned (D : Beyond) (m : ℕ) (s : State) (f : Frame) (x : calling.Flow) (t : State) (y : Flow) (u : State) : Type 0 where
   pub plain : Frame
   pub moved : Moved m s f t plain
-  pub scope : t.frame.scope ≡ s.frame.scope
-  pub ends : EndsAs D plain x t y u
+  pub ends : EndsAs s.frame.scope D plain x t y u
 
 abbrev pub Turns : calling.Again → running.Again → Program → Type 0
 Turns again again' P =
@@ -195,19 +197,19 @@ module _ (again : calling.Again) (again' : running.Again) (P : Program) (bodies 
 
   -- ---- scopes
 
-  abbrev closing_scope : List ℕ → calling.Flow → Act calling.Flow
+  abbrev pub closing_scope : List ℕ → calling.Flow → Act calling.Flow
   closing_scope os flow = state >>= (λ t. for_all t.frame.scope (end_object again P) >> (frame_changed (λ f. record f { scope = os }) >> gives flow))
 
   scope-closed : (os : List ℕ) (flow : calling.Flow) (t : State) (w : World) → closing_scope os flow t w ≡ Went (Gives flow (with_scope os (all_gone t.frame.scope t))) w
   scope-closed os flow t w =
       ap (λ r. and_then r (on (λ u. frame_changed (λ f. record f { scope = os }) >> gives flow))) (ends-all again P classless t.frame.scope t w)
 
-  scope-steps : (os : List ℕ) (flow : calling.Flow) (t : State) (w : World) (c : calling.Flow → Act A) (y : Ran (Did B))
+  pub scope-steps : (os : List ℕ) (flow : calling.Flow) (t : State) (w : World) (c : calling.Flow → Act A) (y : Ran (Did B))
       → Follows S (c flow (with_scope os (all_gone t.frame.scope t)) w) y → Follows S (and_then (closing_scope os flow t w) (on c)) y
   scope-steps os flow t w c y h = subst (λ r. Follows S (and_then r (on c)) y) (sym (scope-closed os flow t w)) h
 
   -- what ends within a scope and beyond it
-  scope-gone : (xs os : List ℕ) (t : State) (h fr : Frame) → with_frame h (all_gone xs (with_frame fr (all_gone os t))) ≡ with_frame h (all_gone (os ++ xs) t)
+  pub scope-gone : (xs os : List ℕ) (t : State) (h fr : Frame) → with_frame h (all_gone xs (with_frame fr (all_gone os t))) ≡ with_frame h (all_gone (os ++ xs) t)
   scope-gone xs os t h fr = ap (with_frame h) (gone-frame xs (all_gone os t) fr) ∙ sym (ap (with_frame h) (gone-append os xs t))
 
   moved-out : (m : ℕ) (s : State) (f : Frame) (t : State) (g : Frame) → Moved m (with_scope [] s) f t g → Moved m s f (with_scope s.frame.scope (all_gone t.frame.scope t)) g
@@ -309,19 +311,27 @@ module _ (again : calling.Again) (again' : running.Again) (P : Program) (bodies 
         (let a = moved-count m s f t g v in let low = st.low in omega arith)
 
     turned-end : (t : State) (g : Frame) → Moved m s f t g → t.frame.scope ≡ s.frame.scope → (x : calling.Flow) (t2 : State) (y : Flow) (u : State) (w : World)
-        (p : Frame) → Moved m t g t2 p → t2.frame.scope ≡ t.frame.scope → EndsAs D p x t2 y u → Follows S (c x t2 w) (behind rest K y u w)
-    turned-end t g v same calling.Falls t2 (Falls h) u w p v2 same2 ends =
-        subst (λ u. Follows S (c calling.Falls t2 w) (runs_on again' (H again again' P) rest h K u w)) (sym ends)
-        (loop-left t2 p h w (moved-then m m s f t g t2 p (omega arith) v v2) (same2 ∙ same))
-    turned-end t g v same calling.Falls t2 (Breaks h) u w p v2 same2 ends = absurd ends
-    turned-end t g v same calling.Falls t2 (Continues h) u w p v2 same2 ends = absurd ends
-    turned-end t g v same calling.Falls t2 (Returns x) u w p v2 same2 ends = absurd ends
-    turned-end t g v same calling.Breaks t2 y u w p v2 same2 ends = absurd ends
-    turned-end t g v same calling.Continues t2 y u w p v2 same2 ends = absurd ends
-    turned-end t g v same (calling.Returns x) t2 (Falls h) u w p v2 same2 ends = absurd ends
-    turned-end t g v same (calling.Returns x) t2 (Breaks h) u w p v2 same2 ends = absurd ends
-    turned-end t g v same (calling.Returns x) t2 (Continues h) u w p v2 same2 ends = absurd ends
-    turned-end t g v same (calling.Returns x) t2 (Returns y) u w p v2 same2 ends =
+        (p : Frame) → Moved m t g t2 p → EndsAs t.frame.scope D p x t2 y u → Follows S (c x t2 w) (behind rest K y u w)
+    turned-end t g v same calling.Falls t2 (Falls h) u w p v2 ends =
+        subst (λ u. Follows S (c calling.Falls t2 w) (runs_on again' (H again again' P) rest h K u w)) (sym ends.1)
+        (loop-left t2 p h w (moved-then m m s f t g t2 p (omega arith) v v2) (ends.0 ∙ same))
+    turned-end t g v same calling.Falls t2 (Breaks h) u w p v2 ends = absurd ends
+    turned-end t g v same calling.Falls t2 (Continues h) u w p v2 ends = absurd ends
+    turned-end t g v same calling.Falls t2 (Returns x) u w p v2 ends = absurd ends
+    turned-end t g v same calling.Breaks t2 (Breaks h) u w p v2 ends =
+        subst (λ u. Follows S (c calling.Breaks t2 w) (K (Breaks h) u w)) (sym ends) (ways.breaks t2 p h w (moved-then m m s f t g t2 p (omega arith) v v2))
+    turned-end t g v same calling.Breaks t2 (Falls h) u w p v2 ends = absurd ends
+    turned-end t g v same calling.Breaks t2 (Continues h) u w p v2 ends = absurd ends
+    turned-end t g v same calling.Breaks t2 (Returns x) u w p v2 ends = absurd ends
+    turned-end t g v same calling.Continues t2 (Continues h) u w p v2 ends =
+        subst (λ u. Follows S (c calling.Continues t2 w) (K (Continues h) u w)) (sym ends) (ways.continues t2 p h w (moved-then m m s f t g t2 p (omega arith) v v2))
+    turned-end t g v same calling.Continues t2 (Falls h) u w p v2 ends = absurd ends
+    turned-end t g v same calling.Continues t2 (Breaks h) u w p v2 ends = absurd ends
+    turned-end t g v same calling.Continues t2 (Returns x) u w p v2 ends = absurd ends
+    turned-end t g v same (calling.Returns x) t2 (Falls h) u w p v2 ends = absurd ends
+    turned-end t g v same (calling.Returns x) t2 (Breaks h) u w p v2 ends = absurd ends
+    turned-end t g v same (calling.Returns x) t2 (Continues h) u w p v2 ends = absurd ends
+    turned-end t g v same (calling.Returns x) t2 (Returns y) u w p v2 ends =
         subst (λ u. Follows S (c (calling.Returns x) t2 w) (K (Returns y) u w)) (sym ends.1)
         (subst (λ y. Follows S (c (calling.Returns x) t2 w) (K (Returns y) (with_frame p (all_gone (t2.frame.scope ++ D.returns) t2)) w)) ends.0
         (ways.returns x t2 p w (moved-then m m s f t g t2 p (omega arith) v v2)))
@@ -336,7 +346,7 @@ module _ (again : calling.Again) (again' : running.Again) (P : Program) (bodies 
             (subst (λ os. Held g.locals m o.here os) (sym same) (held-kept f.locals g.locals m m o.here s.frame.scope st.here (omega arith) v.below)) in
         follows-then (again (turn the_loop) t w) (again' (running.turn SS EE h) (with_frame g t) w) c (behind rest K)
         (turns R C plain-result how q e body m ok o D k h t g w st1 (omega arith))
-        (λ x t2 y u w2 r. turned-end t g v same x t2 y u w2 r.plain r.moved r.scope r.ends)
+        (λ x t2 y u w2 r. turned-end t g v same x t2 y u w2 r.plain r.moved r.ends)
 
   abbrev still : State → World → Ran (Did (Unit {0}))
   still s w = Went (Gives tt s) w
@@ -537,7 +547,7 @@ module _ (again : calling.Again) (again' : running.Again) (P : Program) (bodies 
   -- ---- declarations
 
   -- a local is there, with its object
-  declared-state : ℕ → SourceType → State → State
+  abbrev declared-state : ℕ → SourceType → State → State
   declared-state i T s = record s { next = suc s.next; object = upd s.next (new_object T automatic) s.object; frame = lists_local i s.next s.frame }
 
   declared-ready : (i k : ℕ) (o : ℕ) (e f : Frame) → Ready k e f → Ready k (lists_local i o e) (lists_local i o f)
@@ -569,13 +579,13 @@ module _ (again : calling.Again) (again' : running.Again) (P : Program) (bodies 
       → Stands op D m k s f → nat_le m i ≡ true → nat_lt i s.frame.count ≡ true → (xs : List Local) → xs ≡ [] → Fallen (suc i) ((record { number = i; type = T } ∷ xs) ++ op.here) m c K rest s f
       → (t : State) (g : Frame) (h : Registers) (w : World) → t.frame ≡ lists_local i o s.frame → Kept k (lists_local i o f) g
       → Follows S (c calling.Falls (with_frame (lists_in_scope o t.frame) t) w) (runs_on again' (H again again' P) rest h K (with_frame g t) w)
-  declared-falls i k o T m op D rest s f c K st le lt xs no falls t g h w same kept =
+  declared-falls i k o T m op D rest s f c K st le lt xs empty falls t g h w same kept =
       let le2 : m ≤ i = low-bound m i le in
       let lt2 : suc i ≤ s.frame.count = low-number i s.frame.count lt in
       let c1 = st.ready.count in
       let v = declared-moved m i k o s f t g le2 (omega arith) st.ready same kept in
       falls (with_frame (lists_in_scope o t.frame) t) g h w v
-      (subst (λ ys. Held g.locals (suc i) ((record { number = i; type = T } ∷ ys) ++ op.here) (o ∷ t.frame.scope)) (sym no)
+      (subst (λ ys. Held g.locals (suc i) ((record { number = i; type = T } ∷ ys) ++ op.here) (o ∷ t.frame.scope)) (sym empty)
       (kept.below i (omega arith) ∙ listed-there i o f, (omega arith),
       subst (λ (e : Frame). Held g.locals (suc i) op.here e.scope) (sym same) (held-kept f.locals g.locals m (suc i) op.here s.frame.scope st.here (omega arith) v.below)))
       (let a = moved-count m s f (with_frame (lists_in_scope o t.frame) t) g v in omega arith)
@@ -595,9 +605,9 @@ module _ (again : calling.Again) (again' : running.Again) (P : Program) (bodies 
       let h1 : Registers = keep g 0 (At (root o)) in
       declare-steps again' (H again again' P) i T 0 (started P.classes T e 0 k rest) g K _ s f w (let a = low-number i s.frame.count lt in let c1 = st.ready.count in let c2 = st.ready.wide in omega arith)
       (by-or (is_nothing e) (is_value e) ok
-      (λ no. subst (λ e. Follows S (and_then ((settled_full again P (root o) e >> frame_changed (lists_in_scope o)) s1 w) (on (λ u. c calling.Falls)))
-          (runs_on again' (H again again' P) (started P.classes T e 0 k rest) h1 K (with_frame f1 s1) w)) (sym (nothing-is e no))
-          (declared-falls i k o T m op D rest s f c K st le lt (held_by e) (ap held_by (nothing-is e no)) falls s1 f1 h1 w refl (kept-all k f1)))
+      (λ blank. subst (λ e. Follows S (and_then ((settled_full again P (root o) e >> frame_changed (lists_in_scope o)) s1 w) (on (λ u. c calling.Falls)))
+          (runs_on again' (H again again' P) (started P.classes T e 0 k rest) h1 K (with_frame f1 s1) w)) (sym (nothing-is e blank))
+          (declared-falls i k o T m op D rest s f c K st le lt (held_by e) (ap held_by (nothing-is e blank)) falls s1 f1 h1 w refl (kept-all k f1)))
       (λ is.
           pull-two (full_expression again P (meaning.value again P e (Some (root o))) s1 w) (settle P.classes (root o)) (λ u. frame_changed (lists_in_scope o)) (λ u. c calling.Falls) _
           (full-steps again again' P bodies chains A B S e is (Some (root o)) (destination 0 T) 1 k (λ n. settled e 0 n rest) h1 s1 f1 w
@@ -674,9 +684,9 @@ module _ (again : calling.Again) (again' : running.Again) (P : Program) (bodies 
     pub follow-statement : (st : Core) → Does st
     follow-statement (core.full e) m ok o D k rest g s f w c K st room ways falls =
         by-or (is_nothing e) (is_value e) ok
-        (λ no.
+        (λ blank.
             subst (λ e. Follows S (and_then ((full_expression again P (meaning.value again P e None) >> gives calling.Falls) s w) (on c))
-            (runs_on again' (H again again' P) (whole e 0 k (λ x n rest. value P.classes x e None n k rest) (λ n. rest)) g K (with_frame f s) w)) (sym (nothing-is e no))
+            (runs_on again' (H again again' P) (whole e 0 k (λ x n rest. value P.classes x e None n k rest) (λ n. rest)) g K (with_frame f s) w)) (sym (nothing-is e blank))
             (fall-on o D m k c K rest s f st falls s f g w refl (kept-all k f)))
         (λ is.
             pull (full_expression again P (meaning.value again P e None) s w) (λ u. gives calling.Falls) c _

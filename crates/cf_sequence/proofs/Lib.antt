@@ -11,4 +11,5 @@ pub mod Moving
 pub mod PlainSteps
 pub mod Sample
 pub mod Steps
+pub mod Whole
 mod ScalarRows

@@ -1,6 +1,6 @@
 -- The cores that are sequenced so far: numbers, locals, calls of functions by name, and all statements but `switch`, over no class and no static object
 -- with an initialiser.
-use Rattle.std.specs.Prelude.{ℕ, suc, Bool, true, false, ◌&&◌, ◌||◌, not, nat_le, nat_lt, List, [], ◌∷◌, ◌++◌, length, Option, None, Some}
+use Rattle.std.specs.Prelude.{ℕ, suc, Bool, true, false, ◌&&◌, ◌||◌, not, nat_le, nat_lt, List, [], ◌∷◌, ◌++◌, length, Option, None, Some, bytes_eq, codes}
 use Rattle.std.specs.List.{list_all}
 use Rattle.cf_core.specs.Types.{SourceType, takes, gives, result, is_class, parameters}
 use Rattle.cf_core.specs.Classes.{Class}
@@ -101,13 +101,17 @@ abbrev pub is_plain_role : Role → Bool
 is_plain_role plain_function = true
 is_plain_role role = false
 
-abbrev pub is_built_function : Function → Bool
-is_built_function f =
-    is_plain_role f.role && (is_chain f.type && (not (is_class (result f.type)) && is_statement (length (parameters f.type)) f.body))
-
 abbrev pub is_none : {A : Type 0} → List A → Bool
 is_none [] = true
 is_none (x ∷ xs) = false
+
+abbrev pub is_body : Function → Bool
+is_body f = not (is_class (result f.type)) && is_statement (length (parameters f.type)) f.body
+
+-- `main` takes nothing
+abbrev pub is_built_function : Function → Bool
+is_built_function f =
+    is_plain_role f.role && (is_chain f.type && ((not (bytes_eq f.name (codes "__main")) || is_none (parameters f.type)) && is_body f))
 
 abbrev pub is_plainly_built : Program → Bool
 is_plainly_built P =
