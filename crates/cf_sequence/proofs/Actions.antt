@@ -58,9 +58,9 @@ module _ (again : running.Again) (H : Program) {A B : Type 0} {S : A → State �
       (push (used v (with_frame f s) w) (λ x. write_place H.classes p x >>= (λ u. gives Nothing)) (λ u. λ t w. runs_on again H rest h K t w) _
       (pure-steps (used v) (pure-used v) (λ x. (write_place H.classes p x >> gives r) >>= c) (λ x. (write_place H.classes p x >>= (λ u. gives Nothing)) >>= (λ u. λ t w. runs_on again H rest h K t w))
       s (with_frame f s) w (λ x.
-          pull (write_place H.classes p x s w) (λ u. gives r) c _
-          (push (write_place H.classes p x (with_frame f s) w) (λ u. gives Nothing) (λ u. λ t w. runs_on again H rest h K t w) _
-          (write-steps s f w H.classes p x (λ u. c r) (λ u. λ t w. runs_on again H rest h K t w) next))))))
+      pull (write_place H.classes p x s w) (λ u. gives r) c _
+      (push (write_place H.classes p x (with_frame f s) w) (λ u. gives Nothing) (λ u. λ t w. runs_on again H rest h K t w) _
+      (write-steps s f w H.classes p x (λ u. c r) (λ u. λ t w. runs_on again H rest h K t w) next))))))
 
   -- a scalar is changed in place: its old value stands in one register and the right operand in another
   pub change-steps : (op : Arith) (k t : Kind) (place from by to : Register) (p : Place) (x y r : Value) (h : Registers) (rest : Plains) (c : Value → Act A) (K : Flow → Act B)
@@ -81,9 +81,9 @@ module _ (again : running.Again) (H : Program) {A B : Type 0} {S : A → State �
       (push (step (with_frame f s) w) (λ z. gives (Number (converted t z))) G _
       (pure-steps step (pure-then (operated op k (Number (converted k i)) y) number_of (pure-operated op k (Number (converted k i)) y) pure-number_of)
       (λ z. (write_place H.classes p (Number (converted t z)) >> gives r) >>= c) (λ z. G (Number (converted t z))) s (with_frame f s) w (λ z.
-          store-steps place to p (Number (converted t z)) r (keep h to (Number (converted t z))) rest c K s f w
-          (keep-other to place h (Number (converted t z)) differs ∙ at-place) (keep-same to h (Number (converted t z)))
-          (λ u same. next (Number (converted t z)) u same)))))))
+      store-steps place to p (Number (converted t z)) r (keep h to (Number (converted t z))) rest c K s f w
+      (keep-other to place h (Number (converted t z)) differs ∙ at-place) (keep-same to h (Number (converted t z)))
+      (λ u same. next (Number (converted t z)) u same)))))))
   change-steps op k t place from by to p x y r h rest c K s f w at-place at-from at-by usable differs next = record { by = tt }
 
 -- ---- calls

@@ -170,7 +170,7 @@ module _ (again : core.Again) (again' : plain.Again) (P : Program) where
         (push _ (λ flow. changed (with_frame f) >> returned (result h.type) flow) g _
         (push _ (λ flow. gives (core_flow flow)) (λ flow. (changed (with_frame f) >> returned (result h.type) flow) >>= g) _
         (follows-then _ _ _ _ (bodies name h e os l depth s w) (λ x u y t w r.
-            returned-steps (result h.type) x y r.flow u t w r.same))))
+        returned-steps (result h.type) x y r.flow u t w r.same))))
 
     deeper-steps : (d e : ℕ) → e ≡ d → (w : World) (go go' : ℕ → Ran (Did Value))
         → ((n : ℕ) → Follows S (and_then (go n) (on c)) (and_then (go' n) (on g)))

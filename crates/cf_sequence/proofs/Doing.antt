@@ -274,9 +274,9 @@ module _ (again : calling.Again) (again' : running.Again) (P : Program) (bodies 
       → Follows S (and_then (does.does again P a t w) (on c)) (runs_on again' (H again again' P) (statement (inside_of P R C o) a l nothing) h (behind rest K) (with_frame g t) w)
   arm-steps a does-a m inner ok o D k l rest h s f t g w c K st v st1 room ways falls =
       does-a m ok o D l nothing h t g w c (behind rest K) st1 room (ways-behind rest D m t g c K (ways-later D m m s f t g c K (omega arith) v ways)) (λ u g2 h2 w2 v2 held low.
-          falls u g2 h2 w2 (moved-then m m s f t g u g2 (omega arith) v v2)
-          (subst (λ xs. Held g2.locals m (xs ++ o.here) u.frame.scope) (inner-declared a inner) (subst (λ n. Held g2.locals n (declared a ++ o.here) u.frame.scope) (inner-next m a inner) held))
-          (subst (λ n. n ≤ u.frame.count) (inner-next m a inner) low))
+      falls u g2 h2 w2 (moved-then m m s f t g u g2 (omega arith) v v2)
+      (subst (λ xs. Held g2.locals m (xs ++ o.here) u.frame.scope) (inner-declared a inner) (subst (λ n. Held g2.locals n (declared a ++ o.here) u.frame.scope) (inner-next m a inner) held))
+      (subst (λ n. n ≤ u.frame.count) (inner-next m a inner) low))
 
   -- behind a condition
   stands-on : (o : Open) (D : Beyond) (m k l : ℕ) (s : State) (f : Frame) (t : State) (g : Frame) → Stands o D m k s f → t.frame ≡ s.frame → Kept k f g → k ≤ l → l ≤ f.count
@@ -285,9 +285,11 @@ module _ (again : calling.Again) (again' : running.Again) (P : Program) (bodies 
       let c1 = st.ready.count in
       let m-le : m ≤ k = (let low = st.low in omega arith) in
       let v : Moved m s f t g = moved-kept m k s f t g m-le st.ready same kept in
-      let count : g.count ≡ f.count = ap (λ (x : Frame). x.count) kept.frame in
-      (v, stands-later o D m m k l o.here s f t g st v (omega arith) (let e = moved-count m s f t g v in let low = st.low in omega arith) le (omega arith)
-      (subst (λ (e : Frame). Held g.locals m o.here e.scope) (sym same) (held-kept f.locals g.locals m m o.here s.frame.scope st.here (omega arith) v.below)))
+      let count : g.count ≡ f.count = ap (λ (x : Frame). x.count) kept.frame in (
+        v,
+        stands-later o D m m k l o.here s f t g st v (omega arith) (let e = moved-count m s f t g v in let low = st.low in omega arith) le (omega arith)
+            (subst (λ (e : Frame). Held g.locals m o.here e.scope) (sym same) (held-kept f.locals g.locals m m o.here s.frame.scope st.here (omega arith) v.below)),
+      )
 
   -- ---- loops
 
@@ -342,8 +344,8 @@ module _ (again : calling.Again) (again' : running.Again) (P : Program) (bodies 
     further t g h w v same =
         let count : g.count ≡ f.count = ap (λ (x : Frame). x.count) v.plain in
         let st1 : Stands o D m k t g =
-            stands-later o D m m k k o.here s f t g st v (omega arith) (let a = moved-count m s f t g v in let low = st.low in omega arith) (omega arith) (let wide = st.ready.wide in omega arith)
-            (subst (λ os. Held g.locals m o.here os) (sym same) (held-kept f.locals g.locals m m o.here s.frame.scope st.here (omega arith) v.below)) in
+        stands-later o D m m k k o.here s f t g st v (omega arith) (let a = moved-count m s f t g v in let low = st.low in omega arith) (omega arith) (let wide = st.ready.wide in omega arith)
+        (subst (λ os. Held g.locals m o.here os) (sym same) (held-kept f.locals g.locals m m o.here s.frame.scope st.here (omega arith) v.below)) in
         follows-then (again (turn the_loop) t w) (again' (running.turn SS EE h) (with_frame g t) w) c (behind rest K)
         (turns R C plain-result how q e body m ok o D k h t g w st1 (omega arith))
         (λ x t2 y u w2 r. turned-end t g v same x t2 y u w2 r.plain r.moved r.ends)
@@ -374,8 +376,8 @@ module _ (again : calling.Again) (again' : running.Again) (P : Program) (bodies 
   hold-steps absent ok k rest g s f w c K ready room holds fails = holds s g f w refl (kept-all k f)
   hold-steps (given e) ok k rest g s f w c K ready room holds fails =
       condition-steps again again' P bodies chains A B S e ok k (λ n. more (branch n nothing (more leave nothing)) rest) g s f w c K ready room (λ b t h f1 w1 at same kept.
-          branch-steps again' (H again again' P) b (0 + width e) nothing (more leave nothing) rest h K _ (with_frame f1 t) w1 at
-          (held-arm b rest h t f1 w1 c K (holds t h f1 w1 same kept) (fails t h f1 w1 same kept)))
+      branch-steps again' (H again again' P) b (0 + width e) nothing (more leave nothing) rest h K _ (with_frame f1 t) w1 at
+      (held-arm b rest h t f1 w1 c K (holds t h f1 w1 same kept) (fails t h f1 w1 same kept)))
 
   scope-turn : (os : List ℕ) (N : Act calling.Flow) (flow : calling.Flow) (t : State) (w : World) (c : calling.Flow → Act A) (y : Ran (Did B))
       → Follows S (and_then (does.turning N flow (with_scope os (all_gone t.frame.scope t)) w) (on c)) y
@@ -399,34 +401,34 @@ module _ (again : calling.Again) (again' : running.Again) (P : Program) (bodies 
       pull-two (does.does again P body (with_scope [] t) w) (closing_scope os) (does.turning N) c _
       (does-body m ok (looped o) D1 k (finished (declared body) nothing) h (with_scope [] t) g w (λ flow. (closing_scope os flow >>= does.turning N) >>= c) K1
       (record {
-          ready = record { alike = record { function = st.ready.alike.function; this = st.ready.alike.this; result = st.ready.alike.result; depth = st.ready.alike.depth }; count = st.ready.count; wide = st.ready.wide; locals = st.ready.locals };
-          low = st.low;
-          result = st.result;
-          here = tt;
-          breaks = tt;
-          continues = tt;
-          returns = held-append g.locals m o.here o.returns os D.returns st.here st.returns;
+        ready = record { alike = record { function = st.ready.alike.function; this = st.ready.alike.this; result = st.ready.alike.result; depth = st.ready.alike.depth }; count = st.ready.count; wide = st.ready.wide; locals = st.ready.locals };
+        low = st.low;
+        result = st.result;
+        here = tt;
+        breaks = tt;
+        continues = tt;
+        returns = held-append g.locals m o.here o.returns os D.returns st.here st.returns;
       })
       room
       (record {
-          breaks = λ u g2 h2 w2 v.
-              scope-turn os N calling.Breaks u w2 c _
-              (subst (λ xs. Follows S (c calling.Falls (with_scope os (all_gone u.frame.scope u)) w2) (K (Falls h2) (with_frame g2 (all_gone xs u)) w2)) (sym (append-nil u.frame.scope))
-              (left (with_scope os (all_gone u.frame.scope u)) g2 h2 w2 (moved-out m t g u g2 v) refl));
-          continues = λ u g2 h2 w2 v.
-              scope-turn os N calling.Continues u w2 c _
-              (subst (λ xs. Follows S (and_then (N (with_scope os (all_gone u.frame.scope u)) w2) (on c)) (and_then (M h2 (with_frame g2 (all_gone xs u)) w2) (on K))) (sym (append-nil u.frame.scope))
-              (after (with_scope os (all_gone u.frame.scope u)) g2 h2 w2 (moved-out m t g u g2 v) refl));
-          returns = λ x u g2 w2 v.
-              scope-turn os N (calling.Returns x) u w2 c _
-              (subst (λ z. Follows S (c (calling.Returns x) (with_scope os (all_gone u.frame.scope u)) w2) (K (Returns x) z w2))
-              (scope-gone (os ++ D.returns) u.frame.scope u g2 (record (all_gone u.frame.scope u).frame { scope = os }))
-              (gives-back x (with_scope os (all_gone u.frame.scope u)) g2 w2 (moved-out m t g u g2 v)));
+        breaks = λ u g2 h2 w2 v.
+            scope-turn os N calling.Breaks u w2 c _
+            (subst (λ xs. Follows S (c calling.Falls (with_scope os (all_gone u.frame.scope u)) w2) (K (Falls h2) (with_frame g2 (all_gone xs u)) w2)) (sym (append-nil u.frame.scope))
+            (left (with_scope os (all_gone u.frame.scope u)) g2 h2 w2 (moved-out m t g u g2 v) refl));
+        continues = λ u g2 h2 w2 v.
+            scope-turn os N calling.Continues u w2 c _
+            (subst (λ xs. Follows S (and_then (N (with_scope os (all_gone u.frame.scope u)) w2) (on c)) (and_then (M h2 (with_frame g2 (all_gone xs u)) w2) (on K))) (sym (append-nil u.frame.scope))
+            (after (with_scope os (all_gone u.frame.scope u)) g2 h2 w2 (moved-out m t g u g2 v) refl));
+        returns = λ x u g2 w2 v.
+            scope-turn os N (calling.Returns x) u w2 c _
+            (subst (λ z. Follows S (c (calling.Returns x) (with_scope os (all_gone u.frame.scope u)) w2) (K (Returns x) z w2))
+            (scope-gone (os ++ D.returns) u.frame.scope u g2 (record (all_gone u.frame.scope u).frame { scope = os }))
+            (gives-back x (with_scope os (all_gone u.frame.scope u)) g2 w2 (moved-out m t g u g2 v)));
       })
       (λ u g2 h2 w2 v held-now low.
-          finished-steps again' (H again again' P) classless A B S (declared body) u.frame.scope (next_local m body) nothing h2 K1 _ u g2 w2
-          (subst (λ ys. Held g2.locals (next_local m body) ys u.frame.scope) (append-nil (declared body)) held-now)
-          (scope-turn os N calling.Falls u w2 c _ (after (with_scope os (all_gone u.frame.scope u)) g2 h2 w2 (moved-out m t g u g2 v) refl))))
+      finished-steps again' (H again again' P) classless A B S (declared body) u.frame.scope (next_local m body) nothing h2 K1 _ u g2 w2
+      (subst (λ ys. Held g2.locals (next_local m body) ys u.frame.scope) (append-nil (declared body)) held-now)
+      (scope-turn os N calling.Falls u w2 c _ (after (with_scope os (all_gone u.frame.scope u)) g2 h2 w2 (moved-out m t g u g2 v) refl))))
 
   maybe-width : (q : MaybeCore) → length (added (nodes_maybe q)) ≡ width_maybe q
   maybe-width absent = refl
@@ -462,9 +464,9 @@ module _ (again : calling.Again) (again' : running.Again) (P : Program) (bodies 
       (push (all again' (H again again' P) (stepped P.classes (given e) (k + width_maybe q)) h2 (with_frame g2 u) w2) (turning AG) (behind rest K) _
       (full-steps again again' P bodies chains A B S e good None None 0 (k + width_maybe q) (λ n. nothing) h2 u g2 w2 (λ x. again (turn (core.loop how q (given e) body)) >>= c)
       (λ flow. turning AG flow >>= behind rest K) ready (omega arith) (λ x t h f1 w1 done.
-          further how q (given e) body m ok o D k rest s f c K st room ways falls t f1 h w1
-          (moved-then m m s f u g2 t f1 (omega arith) v (moved-kept m (k + width_maybe q) u g2 t f1 (let l = st.low in let c1 = st.ready.count in omega arith) ready done.frame done.kept))
-          (ap (λ (x : Frame). x.scope) done.frame ∙ scope)))))
+      further how q (given e) body m ok o D k rest s f c K st room ways falls t f1 h w1
+      (moved-then m m s f u g2 t f1 (omega arith) v (moved-kept m (k + width_maybe q) u g2 t f1 (let l = st.low in let c1 = st.ready.count in omega arith) ready done.frame done.kept))
+      (ap (λ (x : Frame). x.scope) done.frame ∙ scope)))))
 
   -- where each turn begins with the condition
   loop-first : (q e : MaybeCore) (body : Core) → Does body → (how : LoopForm) (m : ℕ) (ok : is_statement m (core.loop how q e body) ≡ true) (o : Open) (D : Beyond) (k : ℕ) (rest : Plains)
@@ -493,17 +495,17 @@ module _ (again : calling.Again) (again' : running.Again) (P : Program) (bodies 
       (hold-steps q conditions.0 k (statement (inside_of P R C (looped o)) body (k + width_maybe q + width_maybe e) (finished (declared body) nothing)) g s f w
       (λ t. when t (in_scope again P (does.does again P body) >>= does.turning N) (gives calling.Falls) >>= c) K1 st.ready (omega arith)
       (λ t h g1 w1 same kept.
-          let on-turn = stands-on o D m k (k + width_maybe q + width_maybe e) s f t g1 st same kept (omega arith) (omega arith) in
-          let count : g1.count ≡ f.count = ap (λ (x : Frame). x.count) kept.frame in
-          let scope-same : t.frame.scope ≡ s.frame.scope = ap (λ (x : Frame). x.scope) same in
-          body-steps body does-body m parts.1 o D (k + width_maybe q + width_maybe e) h s f t g1 w1 N M c (behind rest K) on-turn.1 (omega arith)
-          (λ u g2 h2 w2 v scope.
-              step-steps how q e body m ok o D k rest s f c K st room ways falls parts.0 is-step u g2 h2 w2 (moved-then m m s f t g1 u g2 (omega arith) on-turn.0 v) (scope ∙ scope-same))
-          (λ u g2 h2 w2 v scope. loop-left how q e body m ok o D k rest s f c K st room ways falls u g2 h2 w2 (moved-then m m s f t g1 u g2 (omega arith) on-turn.0 v) (scope ∙ scope-same))
-          (λ x u g2 w2 v. ways.returns x u g2 w2 (moved-then m m s f t g1 u g2 (omega arith) on-turn.0 v)))
+      let on-turn = stands-on o D m k (k + width_maybe q + width_maybe e) s f t g1 st same kept (omega arith) (omega arith) in
+      let count : g1.count ≡ f.count = ap (λ (x : Frame). x.count) kept.frame in
+      let scope-same : t.frame.scope ≡ s.frame.scope = ap (λ (x : Frame). x.scope) same in
+      body-steps body does-body m parts.1 o D (k + width_maybe q + width_maybe e) h s f t g1 w1 N M c (behind rest K) on-turn.1 (omega arith)
+      (λ u g2 h2 w2 v scope.
+      step-steps how q e body m ok o D k rest s f c K st room ways falls parts.0 is-step u g2 h2 w2 (moved-then m m s f t g1 u g2 (omega arith) on-turn.0 v) (scope ∙ scope-same))
+      (λ u g2 h2 w2 v scope. loop-left how q e body m ok o D k rest s f c K st room ways falls u g2 h2 w2 (moved-then m m s f t g1 u g2 (omega arith) on-turn.0 v) (scope ∙ scope-same))
+      (λ x u g2 w2 v. ways.returns x u g2 w2 (moved-then m m s f t g1 u g2 (omega arith) on-turn.0 v)))
       (λ t h g1 w1 same kept.
-          let on-turn = stands-on o D m k k s f t g1 st same kept (omega arith) (let wide = st.ready.wide in omega arith) in
-          loop-left how q e body m ok o D k rest s f c K st room ways falls t g1 h w1 on-turn.0 (ap (λ (x : Frame). x.scope) same))))
+      let on-turn = stands-on o D m k k s f t g1 st same kept (omega arith) (let wide = st.ready.wide in omega arith) in
+      loop-left how q e body m ok o D k rest s f c K st room ways falls t g1 h w1 on-turn.0 (ap (λ (x : Frame). x.scope) same))))
 
   -- where each turn ends with the condition
   loop-last : (q e : MaybeCore) (body : Core) → Does body → (m : ℕ) (ok : is_statement m (core.loop form.Do q e body) ≡ true) (o : Open) (D : Beyond) (k : ℕ) (rest : Plains)
@@ -525,22 +527,27 @@ module _ (again : calling.Again) (again' : running.Again) (P : Program) (bodies 
       let N : Act calling.Flow = does.holds again P q >>= (λ t. when t (again (turn (core.loop form.Do q e body))) (gives calling.Falls)) in
       let l : ℕ = k + width_maybe q + width_maybe e in
       let st1 : Stands o D m l s f = record {
-          ready = ready-more k l s.frame f (omega arith) (omega arith) st.ready;
-          low = st.low; result = st.result; here = st.here; breaks = st.breaks; continues = st.continues; returns = st.returns;
+        ready = ready-more k l s.frame f (omega arith) (omega arith) st.ready;
+        low = st.low;
+        result = st.result;
+        here = st.here;
+        breaks = st.breaks;
+        continues = st.continues;
+        returns = st.returns;
       } in
       body-steps body does-body m parts.1 o D l g s f s f w N M c (behind rest K) st1 body-room
       (λ u g2 h2 w2 v scope.
-          let count : g2.count ≡ f.count = ap (λ (x : Frame). x.count) v.plain in
-          pull (does.holds again P q u w2) (λ t. when t (again (turn (core.loop form.Do q e body))) (gives calling.Falls)) c _
-          (push (all again' (H again again' P) EE h2 (with_frame g2 u) w2) (turning AG) (behind rest K) _
-          (hold-steps q conditions.0 k nothing h2 u g2 w2 (λ t. when t (again (turn (core.loop form.Do q e body))) (gives calling.Falls) >>= c) (λ flow. turning AG flow >>= behind rest K)
-          (moved-ready m k s f u g2 st.ready v) (omega arith)
-          (λ t h f1 w1 same kept.
-              let later = moved-kept m k u g2 t f1 (let low = st.low in let c1 = st.ready.count in omega arith) (moved-ready m k s f u g2 st.ready v) same kept in
-              further form.Do q e body m ok o D k rest s f c K st room ways falls t f1 h w1 (moved-then m m s f u g2 t f1 (omega arith) v later) (ap (λ (x : Frame). x.scope) same ∙ scope))
-          (λ t h f1 w1 same kept.
-              let later = moved-kept m k u g2 t f1 (let low = st.low in let c1 = st.ready.count in omega arith) (moved-ready m k s f u g2 st.ready v) same kept in
-              loop-left form.Do q e body m ok o D k rest s f c K st room ways falls t f1 h w1 (moved-then m m s f u g2 t f1 (omega arith) v later) (ap (λ (x : Frame). x.scope) same ∙ scope)))))
+      let count : g2.count ≡ f.count = ap (λ (x : Frame). x.count) v.plain in
+      pull (does.holds again P q u w2) (λ t. when t (again (turn (core.loop form.Do q e body))) (gives calling.Falls)) c _
+      (push (all again' (H again again' P) EE h2 (with_frame g2 u) w2) (turning AG) (behind rest K) _
+      (hold-steps q conditions.0 k nothing h2 u g2 w2 (λ t. when t (again (turn (core.loop form.Do q e body))) (gives calling.Falls) >>= c) (λ flow. turning AG flow >>= behind rest K)
+      (moved-ready m k s f u g2 st.ready v) (omega arith)
+      (λ t h f1 w1 same kept.
+      let later = moved-kept m k u g2 t f1 (let low = st.low in let c1 = st.ready.count in omega arith) (moved-ready m k s f u g2 st.ready v) same kept in
+      further form.Do q e body m ok o D k rest s f c K st room ways falls t f1 h w1 (moved-then m m s f u g2 t f1 (omega arith) v later) (ap (λ (x : Frame). x.scope) same ∙ scope))
+      (λ t h f1 w1 same kept.
+      let later = moved-kept m k u g2 t f1 (let low = st.low in let c1 = st.ready.count in omega arith) (moved-ready m k s f u g2 st.ready v) same kept in
+      loop-left form.Do q e body m ok o D k rest s f c K st room ways falls t f1 h w1 (moved-then m m s f u g2 t f1 (omega arith) v later) (ap (λ (x : Frame). x.scope) same ∙ scope)))))
       (λ u g2 h2 w2 v scope. loop-left form.Do q e body m ok o D k rest s f c K st room ways falls u g2 h2 w2 v scope)
       (λ x u g2 w2 v. ways.returns x u g2 w2 v)
 
@@ -585,9 +592,11 @@ module _ (again : calling.Again) (again' : running.Again) (P : Program) (bodies 
       let c1 = st.ready.count in
       let v = declared-moved m i k o s f t g le2 (omega arith) st.ready same kept in
       falls (with_frame (lists_in_scope o t.frame) t) g h w v
-      (subst (λ ys. Held g.locals (suc i) ((record { number = i; type = T } ∷ ys) ++ op.here) (o ∷ t.frame.scope)) (sym empty)
-      (kept.below i (omega arith) ∙ listed-there i o f, (omega arith),
-      subst (λ (e : Frame). Held g.locals (suc i) op.here e.scope) (sym same) (held-kept f.locals g.locals m (suc i) op.here s.frame.scope st.here (omega arith) v.below)))
+      (subst (λ ys. Held g.locals (suc i) ((record { number = i; type = T } ∷ ys) ++ op.here) (o ∷ t.frame.scope)) (sym empty) (
+        kept.below i (omega arith) ∙ listed-there i o f,
+        (omega arith),
+        subst (λ (e : Frame). Held g.locals (suc i) op.here e.scope) (sym same) (held-kept f.locals g.locals m (suc i) op.here s.frame.scope st.here (omega arith) v.below),
+      ))
       (let a = moved-count m s f (with_frame (lists_in_scope o t.frame) t) g v in omega arith)
 
   declaration : (i : ℕ) (T : SourceType) (e : Core) (m : ℕ) → nat_le m i ≡ true → is_start e ≡ true → (op : Open) (D : Beyond) (k : ℕ) (rest : Plains) (g : Registers) (s : State) (f : Frame) (w : World)
@@ -606,18 +615,18 @@ module _ (again : calling.Again) (again' : running.Again) (P : Program) (bodies 
       declare-steps again' (H again again' P) i T 0 (started P.classes T e 0 k rest) g K _ s f w (let a = low-number i s.frame.count lt in let c1 = st.ready.count in let c2 = st.ready.wide in omega arith)
       (by-or (is_nothing e) (is_value e) ok
       (λ blank. subst (λ e. Follows S (and_then ((settled_full again P (root o) e >> frame_changed (lists_in_scope o)) s1 w) (on (λ u. c calling.Falls)))
-          (runs_on again' (H again again' P) (started P.classes T e 0 k rest) h1 K (with_frame f1 s1) w)) (sym (nothing-is e blank))
-          (declared-falls i k o T m op D rest s f c K st le lt (held_by e) (ap held_by (nothing-is e blank)) falls s1 f1 h1 w refl (kept-all k f1)))
+      (runs_on again' (H again again' P) (started P.classes T e 0 k rest) h1 K (with_frame f1 s1) w)) (sym (nothing-is e blank))
+      (declared-falls i k o T m op D rest s f c K st le lt (held_by e) (ap held_by (nothing-is e blank)) falls s1 f1 h1 w refl (kept-all k f1)))
       (λ is.
-          pull-two (full_expression again P (meaning.value again P e (Some (root o))) s1 w) (settle P.classes (root o)) (λ u. frame_changed (lists_in_scope o)) (λ u. c calling.Falls) _
-          (full-steps again again' P bodies chains A B S e is (Some (root o)) (destination 0 T) 1 k (λ n. settled e 0 n rest) h1 s1 f1 w
-          (λ v. (settle P.classes (root o) v >> frame_changed (lists_in_scope o)) >>= (λ u. c calling.Falls)) K (declared-ready i k o s.frame f st.ready) room (λ v t h f2 w2 done.
-              pull (settle P.classes (root o) v t w2) (λ u. frame_changed (lists_in_scope o)) (λ u. c calling.Falls) _
-              (subst (λ b. Follows S (and_then (settle P.classes (root o) v t w2) (on (λ u. frame_changed (lists_in_scope o) >>= (λ u. c calling.Falls))))
-              (runs_on again' (H again again' P) (if b then rest else more (act (plain.first 0 (1 + width e))) rest) h K (with_frame f2 t) w2)) (sym (value-gives again again' P bodies chains A B S e is))
-              (first-steps again again' P bodies chains A B S 0 (1 + width e) (root o) v h rest (λ u. frame_changed (lists_in_scope o) >>= (λ u. c calling.Falls)) K t f2 w2
-              (done.below 0 (omega arith) ∙ keep-same 0 g (At (root o))) done.value (λ t3 same.
-                  declared-falls i k o T m op D rest s f c K st le lt (held_by e) (held-none e is) falls t3 f2 h w2 (same ∙ done.frame) done.kept)))))))
+      pull-two (full_expression again P (meaning.value again P e (Some (root o))) s1 w) (settle P.classes (root o)) (λ u. frame_changed (lists_in_scope o)) (λ u. c calling.Falls) _
+      (full-steps again again' P bodies chains A B S e is (Some (root o)) (destination 0 T) 1 k (λ n. settled e 0 n rest) h1 s1 f1 w
+      (λ v. (settle P.classes (root o) v >> frame_changed (lists_in_scope o)) >>= (λ u. c calling.Falls)) K (declared-ready i k o s.frame f st.ready) room (λ v t h f2 w2 done.
+      pull (settle P.classes (root o) v t w2) (λ u. frame_changed (lists_in_scope o)) (λ u. c calling.Falls) _
+      (subst (λ b. Follows S (and_then (settle P.classes (root o) v t w2) (on (λ u. frame_changed (lists_in_scope o) >>= (λ u. c calling.Falls))))
+      (runs_on again' (H again again' P) (if b then rest else more (act (plain.first 0 (1 + width e))) rest) h K (with_frame f2 t) w2)) (sym (value-gives again again' P bodies chains A B S e is))
+      (first-steps again again' P bodies chains A B S 0 (1 + width e) (root o) v h rest (λ u. frame_changed (lists_in_scope o) >>= (λ u. c calling.Falls)) K t f2 w2
+      (done.below 0 (omega arith) ∙ keep-same 0 g (At (root o))) done.value (λ t3 same.
+      declared-falls i k o T m op D rest s f c K st le lt (held_by e) (held-none e is) falls t3 f2 h w2 (same ∙ done.frame) done.kept)))))))
 
   abbrev DoesMaybe : MaybeCore → Type 0
   DoesMaybe absent = Unit {0}
@@ -650,7 +659,7 @@ module _ (again : calling.Again) (again' : running.Again) (P : Program) (bodies 
       let T : Flow → Act Flow = λ flow. turning (λ h. all again' (H again again' P) EE h >>= turning (λ h. again' (running.turn SS EE h))) flow in
       push (running.does again' (H again again' P) (loop SS EE) g u w) (falling (λ h. all again' (H again again' P) rest h)) K _
       (tick-steps X (all again' (H again again' P) SS g >>= T) c (behind rest K) s u w.ticks w (λ w.
-          push (all again' (H again again' P) SS g u w) T (behind rest K) _ (next w)))
+      push (all again' (H again again' P) SS g u w) T (behind rest K) _ (next w)))
 
   -- ---- returns
 
@@ -673,10 +682,10 @@ module _ (again : calling.Again) (again' : running.Again) (P : Program) (bodies 
       (pull (full_expression again P (meaning.value again P e None >>= used) s w) (λ v. gives (calling.Returns v)) c _
       (used-steps again again' P bodies chains A B S e ok k (λ n. finished (o.here ++ o.returns) (more (give (Some n)) rest)) g s f w (λ v. c (calling.Returns v)) K st.ready room
       (λ v t h f1 w1 usable at same kept.
-          let later = stands-on o D m k k s f t f1 st same kept (omega arith) (let wide = st.ready.wide in omega arith) in
-          finished-steps again' (H again again' P) classless A B S (o.here ++ o.returns) (t.frame.scope ++ D.returns) m (more (give (Some (0 + width e))) rest) h K _ t f1 w1
-          (held-append f1.locals m o.here o.returns t.frame.scope D.returns later.1.here later.1.returns)
-          (give-steps (0 + width e) v rest h K _ (with_frame f1 (all_gone (t.frame.scope ++ D.returns) t)) w1 at usable (ways.returns v t f1 w1 later.0))))))
+      let later = stands-on o D m k k s f t f1 st same kept (omega arith) (let wide = st.ready.wide in omega arith) in
+      finished-steps again' (H again again' P) classless A B S (o.here ++ o.returns) (t.frame.scope ++ D.returns) m (more (give (Some (0 + width e))) rest) h K _ t f1 w1
+      (held-append f1.locals m o.here o.returns t.frame.scope D.returns later.1.here later.1.returns)
+      (give-steps (0 + width e) v rest h K _ (with_frame f1 (all_gone (t.frame.scope ++ D.returns) t)) w1 at usable (ways.returns v t f1 w1 later.0))))))
 
   -- ---- statements
 
@@ -685,31 +694,31 @@ module _ (again : calling.Again) (again' : running.Again) (P : Program) (bodies 
     follow-statement (core.full e) m ok o D k rest g s f w c K st room ways falls =
         by-or (is_nothing e) (is_value e) ok
         (λ blank.
-            subst (λ e. Follows S (and_then ((full_expression again P (meaning.value again P e None) >> gives calling.Falls) s w) (on c))
-            (runs_on again' (H again again' P) (whole e 0 k (λ x n rest. value P.classes x e None n k rest) (λ n. rest)) g K (with_frame f s) w)) (sym (nothing-is e blank))
-            (fall-on o D m k c K rest s f st falls s f g w refl (kept-all k f)))
+        subst (λ e. Follows S (and_then ((full_expression again P (meaning.value again P e None) >> gives calling.Falls) s w) (on c))
+        (runs_on again' (H again again' P) (whole e 0 k (λ x n rest. value P.classes x e None n k rest) (λ n. rest)) g K (with_frame f s) w)) (sym (nothing-is e blank))
+        (fall-on o D m k c K rest s f st falls s f g w refl (kept-all k f)))
         (λ is.
-            pull (full_expression again P (meaning.value again P e None) s w) (λ u. gives calling.Falls) c _
-            (full-steps again again' P bodies chains A B S e is None None 0 k (λ n. rest) g s f w (λ v. c calling.Falls) K st.ready room (λ v t h f1 w1 done.
-                fall-on o D m k c K rest s f st falls t f1 h w1 done.frame done.kept)))
+        pull (full_expression again P (meaning.value again P e None) s w) (λ u. gives calling.Falls) c _
+        (full-steps again again' P bodies chains A B S e is None None 0 k (λ n. rest) g s f w (λ v. c calling.Falls) K st.ready room (λ v t h f1 w1 done.
+        fall-on o D m k c K rest s f st falls t f1 h w1 done.frame done.kept)))
     follow-statement (core.block es) m ok o D k rest g s f w c K st room ways falls =
         let D1 : Beyond = record { breaks = s.frame.scope ++ D.breaks; continues = s.frame.scope ++ D.continues; returns = s.frame.scope ++ D.returns } in
         pull (does.does_all again P es (with_scope [] s) w) (closing_scope s.frame.scope) c _
         (follow-statements es m ok (opened o) D1 k (finished (declared_all es) rest) g (with_scope [] s) f w (λ flow. closing_scope s.frame.scope flow >>= c) K
         (record {
-            ready = record { alike = record { function = st.ready.alike.function; this = st.ready.alike.this; result = st.ready.alike.result; depth = st.ready.alike.depth }; count = st.ready.count; wide = st.ready.wide; locals = st.ready.locals };
-            low = st.low;
-            result = st.result;
-            here = tt;
-            breaks = held-append f.locals m o.here o.breaks s.frame.scope D.breaks st.here st.breaks;
-            continues = held-append f.locals m o.here o.continues s.frame.scope D.continues st.here st.continues;
-            returns = held-append f.locals m o.here o.returns s.frame.scope D.returns st.here st.returns;
+          ready = record { alike = record { function = st.ready.alike.function; this = st.ready.alike.this; result = st.ready.alike.result; depth = st.ready.alike.depth }; count = st.ready.count; wide = st.ready.wide; locals = st.ready.locals };
+          low = st.low;
+          result = st.result;
+          here = tt;
+          breaks = held-append f.locals m o.here o.breaks s.frame.scope D.breaks st.here st.breaks;
+          continues = held-append f.locals m o.here o.continues s.frame.scope D.continues st.here st.continues;
+          returns = held-append f.locals m o.here o.returns s.frame.scope D.returns st.here st.returns;
         })
         room (block-ways D m s f c K ways) (λ t g1 h w1 v held-now low.
-            close-steps m (next_locals m es) (declared_all es) s f s.frame.scope rest c K calling.Falls t g1 h w1 held-now
-            (falls (with_scope s.frame.scope (all_gone t.frame.scope t)) g1 h w1 (moved-out m s f t g1 v)
-            (held-kept f.locals g1.locals m m o.here s.frame.scope st.here (omega arith) v.below)
-            (let a = moved-count m s f (with_scope s.frame.scope (all_gone t.frame.scope t)) g1 (moved-out m s f t g1 v) in let b = st.low in omega arith))))
+        close-steps m (next_locals m es) (declared_all es) s f s.frame.scope rest c K calling.Falls t g1 h w1 held-now
+        (falls (with_scope s.frame.scope (all_gone t.frame.scope t)) g1 h w1 (moved-out m s f t g1 v)
+        (held-kept f.locals g1.locals m m o.here s.frame.scope st.here (omega arith) v.below)
+        (let a = moved-count m s f (with_scope s.frame.scope (all_gone t.frame.scope t)) g1 (moved-out m s f t g1 v) in let b = st.low in omega arith))))
     follow-statement (core.sequence es) m ok o D k rest g s f w c K st room ways falls = follow-statements es m ok o D k rest g s f w c K st room ways falls
     follow-statement (core.declare i T e) m ok o D k rest g s f w c K st room ways falls =
         let parts = both (nat_le m i) (is_start e) ok in
@@ -722,18 +731,18 @@ module _ (again : calling.Again) (again' : running.Again) (P : Program) (bodies 
         let left = both (not (declares_here a)) (is_statement m a) arms.0 in
         let two-room : k + length (added (nodes q ++ nodes a)) ≤ f.count = first-room k f.count (nodes q ++ nodes a) (nodes_maybe b) room in
         let last-room : (k + width q + width a) + width_maybe b ≤ f.count =
-            (let x = added-two (nodes q) (nodes a) in let y = maybe-width b in let r = second-room k f.count (nodes q ++ nodes a) (nodes_maybe b) room in omega arith) in
+        (let x = added-two (nodes q) (nodes a) in let y = maybe-width b in let r = second-room k f.count (nodes q ++ nodes a) (nodes_maybe b) room in omega arith) in
         let yes-code : Plains = statement (inside_of P R C o) a (k + width q) nothing in
         let no-code : Plains = statement_or (inside_of P R C o) b (k + width q + width a) nothing in
         pull (full_expression again P (meaning.value again P q None >>= truth_of) s w) (λ t. when t (does.does again P a) (does.does_maybe again P b)) c _
         (condition-steps again again' P bodies chains A B S q parts.0 k (λ n. more (branch n yes-code no-code) rest) g s f w
         (λ t. when t (does.does again P a) (does.does_maybe again P b) >>= c) K st.ready (first-room k f.count (nodes q) (nodes a) two-room) (λ t u h f1 w1 at same kept.
-            let later = stands-on o D m k (k + width q) s f u f1 st same kept (omega arith) (first-room k f.count (nodes q) (nodes a) two-room) in
-            let last = stands-on o D m k (k + width q + width a) s f u f1 st same kept (omega arith) (second-room k f.count (nodes q) (nodes a) two-room) in
-            let count : f1.count ≡ f.count = ap (λ (x : Frame). x.count) kept.frame in
-            branch-steps again' (H again again' P) t (0 + width q) yes-code no-code rest h K _ (with_frame f1 u) w1 at
-            (one-arm t a b (follow-statement a) (follow-maybe b) m left.0 left.1 arms.1 o D k (k + width q) (k + width q + width a) rest h s f u f1 w1 c K st later.0 later.1 last.1
-            (let r = second-room k f.count (nodes q) (nodes a) two-room in omega arith) (omega arith) ways falls)))
+        let later = stands-on o D m k (k + width q) s f u f1 st same kept (omega arith) (first-room k f.count (nodes q) (nodes a) two-room) in
+        let last = stands-on o D m k (k + width q + width a) s f u f1 st same kept (omega arith) (second-room k f.count (nodes q) (nodes a) two-room) in
+        let count : f1.count ≡ f.count = ap (λ (x : Frame). x.count) kept.frame in
+        branch-steps again' (H again again' P) t (0 + width q) yes-code no-code rest h K _ (with_frame f1 u) w1 at
+        (one-arm t a b (follow-statement a) (follow-maybe b) m left.0 left.1 arms.1 o D k (k + width q) (k + width q + width a) rest h s f u f1 w1 c K st later.0 later.1 last.1
+        (let r = second-room k f.count (nodes q) (nodes a) two-room in omega arith) (omega arith) ways falls)))
     follow-statement (core.loop form.While q e body) m ok o D k rest g s f w c K st room ways falls =
         loop-whole form.While q e body m rest g (with_frame f s) w c K o k
         (does.holds again P q >>= (λ t. when t (in_scope again P (does.does again P body) >>= does.turning (does.step_and again P e (again (turn (core.loop form.While q e body))))) (gives calling.Falls))) s
@@ -776,9 +785,9 @@ module _ (again : calling.Again) (again' : running.Again) (P : Program) (bodies 
         (follow-statement s1 m parts.0 o D k (statements (inside_of P R C (record o { here = declared s1 ++ o.here })) es (k + width s1) rest) g s f w
         (λ flow. does.falling (does.does_all again P es) flow >>= c) K st first
         (record { breaks = ways.breaks; continues = ways.continues; returns = ways.returns }) (λ t g1 h w1 v held-now low.
-            let count : g1.count ≡ f.count = ap (λ (x : Frame). x.count) v.plain in
-            follow-statements es (next_local m s1) parts.1 (record o { here = declared s1 ++ o.here }) D (k + width s1) rest h t g1 w1 c K
-            (stands-later o D m (next_local m s1) k (k + width s1) (declared s1 ++ o.here) s f t g1 st v further-on low (omega arith) (omega arith) held-now)
-            (omega arith) (ways-later D m (next_local m s1) s f t g1 c K further-on v ways) (λ u g2 h2 w2 v2 held-then low2.
-                falls u g2 h2 w2 (moved-then m (next_local m s1) s f t g1 u g2 further-on v v2)
-                (subst (λ xs. Held g2.locals (next_locals (next_local m s1) es) xs u.frame.scope) (sym (append_assoc (declared_all es) (declared s1) o.here)) held-then) low2)))
+        let count : g1.count ≡ f.count = ap (λ (x : Frame). x.count) v.plain in
+        follow-statements es (next_local m s1) parts.1 (record o { here = declared s1 ++ o.here }) D (k + width s1) rest h t g1 w1 c K
+        (stands-later o D m (next_local m s1) k (k + width s1) (declared s1 ++ o.here) s f t g1 st v further-on low (omega arith) (omega arith) held-now)
+        (omega arith) (ways-later D m (next_local m s1) s f t g1 c K further-on v ways) (λ u g2 h2 w2 v2 held-then low2.
+        falls u g2 h2 w2 (moved-then m (next_local m s1) s f t g1 u g2 further-on v v2)
+        (subst (λ xs. Held g2.locals (next_locals (next_local m s1) es) xs u.frame.scope) (sym (append_assoc (declared_all es) (declared s1) o.here)) held-then) low2)))

@@ -51,7 +51,6 @@ module _ (again : calling.Again) (again' : running.Again) (P : Program) where
 module _ (again : calling.Again) (again' : running.Again) (P : Program) (bodies : Bodies again again' P)
     (chains : (name : Name) (f : Function) → function_named P name ≡ Some f → is_chain f.type ≡ true)
     (A B : Type 0) (S : A → State → B → State → Type 0) where
-
   -- what comes behind an expression whose value is in register n
   abbrev pub Next : (c : Value → Act A) (K : Flow → Act B) (n k : ℕ) (rest : Plains) (g : Registers) (e f : Frame) → Type 0
   Next c K n k rest g e f =
@@ -76,10 +75,10 @@ module _ (again : calling.Again) (again' : running.Again) (P : Program) (bodies 
       (runs_on again' (H again again' P) (value P.classes x e None n k (more (set n (a n)) rest)) g K (with_frame f s) w)
   one-operand e follow q looks a acts x n k rest g s f w c K ready room next =
       follow None None x n k (more (set n (a n)) rest) g s f w (λ v. q v >>= c) K ready room (λ v s1 h f1 w1 done.
-          set-steps again' (H again again' P) n (a n) rest h K _ (with_frame f1 s1) w1
-          (acts h n v done.value _ _ (with_frame f1 s1) w1
-          (looks-steps (q v) (looks v) c (λ u. λ t w. runs_on again' (H again again' P) rest (keep h n u) K t w) s1 f1 w1
-          (λ u. next u s1 (keep h n u) f1 w1 (after-again n k g h s.frame f f1 v u s1 s1 done refl)))))
+      set-steps again' (H again again' P) n (a n) rest h K _ (with_frame f1 s1) w1
+      (acts h n v done.value _ _ (with_frame f1 s1) w1
+      (looks-steps (q v) (looks v) c (λ u. λ t w. runs_on again' (H again again' P) rest (keep h n u) K t w) s1 f1 w1
+      (λ u. next u s1 (keep h n u) f1 w1 (after-again n k g h s.frame f f1 v u s1 s1 done refl)))))
 
   -- two operands, the left one used first, and then what is done with both
   two-operands : (a b : Core) → Follow a → Follow b → (D : Value → Act A) (C : Value → Value → Act A)
@@ -93,16 +92,16 @@ module _ (again : calling.Again) (again' : running.Again) (P : Program) (bodies 
   two-operands a b follow-a follow-b D C split x n k rest g s f w K ready room next =
       follow-a None None x n k _ g s f w (λ u. used u >>= D) K ready (first-room k f.count (nodes a) (nodes b) room)
       (λ u s1 h1 f1 w1 done.
-          use-steps again' (H again again' P) n u h1 done.value D (value P.classes x b None (suc n) (k + width a) rest) K s1 (with_frame f1 s1) w1 (λ usable.
-              let same : f1.count ≡ f.count = kept-count k f f1 done.kept in
-              let left-room : (k + width a) + width b ≤ f.count = second-room k f.count (nodes a) (nodes b) room in
-              let ready1 : Ready (k + width a) s1.frame f1 =
-                  subst (λ e. Ready (k + width a) e f1) (sym done.frame)
-                  (ready-more k (k + width a) s.frame f1 (omega arith) (omega arith) (ready-kept k s.frame f f1 ready done.kept)) in
-              split u s1 w1 _ (follow-b None None x (suc n) (k + width a) rest h1 s1 f1 w1 (C u) K ready1 (omega arith) (λ v s2 h2 f2 w2 done2.
-                  next u v s2 h2 f2 w2 usable (done2.below n (omega arith) ∙ done.value) done2.value
-                  (λ r lt. done2.below r (omega arith) ∙ done.below r lt) (done2.frame ∙ done.frame)
-                  (kept-then k (k + width a) f f1 f2 (omega arith) done.kept done2.kept)))))
+      use-steps again' (H again again' P) n u h1 done.value D (value P.classes x b None (suc n) (k + width a) rest) K s1 (with_frame f1 s1) w1 (λ usable.
+      let same : f1.count ≡ f.count = kept-count k f f1 done.kept in
+      let left-room : (k + width a) + width b ≤ f.count = second-room k f.count (nodes a) (nodes b) room in
+      let ready1 : Ready (k + width a) s1.frame f1 =
+      subst (λ e. Ready (k + width a) e f1) (sym done.frame)
+      (ready-more k (k + width a) s.frame f1 (omega arith) (omega arith) (ready-kept k s.frame f f1 ready done.kept)) in
+      split u s1 w1 _ (follow-b None None x (suc n) (k + width a) rest h1 s1 f1 w1 (C u) K ready1 (omega arith) (λ v s2 h2 f2 w2 done2.
+      next u v s2 h2 f2 w2 usable (done2.below n (omega arith) ∙ done.value) done2.value
+      (λ r lt. done2.below r (omega arith) ∙ done.below r lt) (done2.frame ∙ done.frame)
+      (kept-then k (k + width a) f f1 f2 (omega arith) done.kept done2.kept)))))
 
   -- ---- what is done with the value of one operand
 
@@ -138,13 +137,13 @@ module _ (again : calling.Again) (again' : running.Again) (P : Program) (bodies 
       (λ u s w y h. pull _ (F u) c y (pull (meaning.value again P b None s w) used (λ v. F u v >>= c) y h))
       x n k _ g s f w K ready room
       (λ u v s2 h f2 w2 usable at-n at-m below frame kept.
-          set-steps again' (H again again' P) n (action n (suc n)) rest h K _ (with_frame f2 s2) w2
-          (subst (λ (a : Act Value). Follows S (and_then (used v s2 w2) (on (λ v. F u v >>= c))) (and_then (a (with_frame f2 s2) w2) (on (λ v. λ t w. runs_on again' (H again again' P) rest (keep h n v) K t w))))
-          (sym (is h n (suc n)))
-          (used-two F (h n) (h (suc n)) u v at-n at-m usable _ _ (with_frame f2 s2) w2
-          (pure-steps (used v) (pure-used v) (λ v. F u v >>= c) (λ v. F u v >>= (λ v. λ t w. runs_on again' (H again again' P) rest (keep h n v) K t w)) s2 (with_frame f2 s2) w2 (λ v.
-              looks-steps (F u v) (looks u v) c (λ v. λ t w. runs_on again' (H again again' P) rest (keep h n v) K t w) s2 f2 w2 (λ z.
-                  next z s2 (keep h n z) f2 w2 (after-set n k g h s.frame f f2 z s2 below frame kept)))))))))
+      set-steps again' (H again again' P) n (action n (suc n)) rest h K _ (with_frame f2 s2) w2
+      (subst (λ (a : Act Value). Follows S (and_then (used v s2 w2) (on (λ v. F u v >>= c))) (and_then (a (with_frame f2 s2) w2) (on (λ v. λ t w. runs_on again' (H again again' P) rest (keep h n v) K t w))))
+      (sym (is h n (suc n)))
+      (used-two F (h n) (h (suc n)) u v at-n at-m usable _ _ (with_frame f2 s2) w2
+      (pure-steps (used v) (pure-used v) (λ v. F u v >>= c) (λ v. F u v >>= (λ v. λ t w. runs_on again' (H again again' P) rest (keep h n v) K t w)) s2 (with_frame f2 s2) w2 (λ v.
+      looks-steps (F u v) (looks u v) c (λ v. λ t w. runs_on again' (H again again' P) rest (keep h n v) K t w) s2 f2 w2 (λ z.
+      next z s2 (keep h n z) f2 w2 (after-set n k g h s.frame f f2 z s2 below frame kept)))))))))
 
   -- ---- branches
 
@@ -163,9 +162,9 @@ module _ (again : calling.Again) (again' : running.Again) (P : Program) (bodies 
       pull _ (λ y. gives (truth_value y)) c _ (pull (meaning.value again P b None s w) truth_of (λ y. gives (truth_value y) >>= c) _
       (follow None None x n m (more (set n (plain.truth n)) nothing) h s f1 w (λ u. truth_of u >>= (λ y. gives (truth_value y) >>= c)) (behind rest K) ready room
       (λ u s2 h2 f2 w2 done.
-          truth-steps again' (H again again' P) n u h2 done.value (λ y. gives (truth_value y) >>= c) nothing (behind rest K) s2 (with_frame f2 s2) w2 (λ y.
-              next (truth_value y) s2 (keep h2 n (truth_value y)) f2 w2
-              (after-set n k g h2 e f f2 (truth_value y) s2 (λ r lt. done.below r lt ∙ below r lt) (done.frame ∙ frame) (kept-then k m f f1 f2 le kept done.kept))))))
+      truth-steps again' (H again again' P) n u h2 done.value (λ y. gives (truth_value y) >>= c) nothing (behind rest K) s2 (with_frame f2 s2) w2 (λ y.
+      next (truth_value y) s2 (keep h2 n (truth_value y)) f2 w2
+      (after-set n k g h2 e f f2 (truth_value y) s2 (λ r lt. done.below r lt ∙ below r lt) (done.frame ∙ frame) (kept-then k m f f1 f2 le kept done.kept))))))
 
   and-right : (t : Bool) (b : Core) → Follow b → (x : Full) (n k m : ℕ) (rest : Plains) (g h : Registers) (s : State) (e f f1 : Frame) (w : World) (c : Value → Act A) (K : Flow → Act B)
       → ((r : ℕ) → r < n → h r ≡ g r) → s.frame ≡ e → Kept k f f1 → k ≤ m → Ready m s.frame f1 → m + width b ≤ f1.count → Next c K n k rest g e f
@@ -191,21 +190,21 @@ module _ (again : calling.Again) (again' : running.Again) (P : Program) (bodies 
       (runs_on again' (H again again' P) (pick t (value P.classes x a None n m nothing) (value P.classes x b None n (m + width a) nothing)) (keep h n (truth_value t)) (behind rest K) (with_frame f1 s) w)
   one-of true a b follow-a follow-b x n k m rest g h s e f f1 w c K below frame kept le ready room-a room-b next =
       follow-a None None x n m nothing (keep h n (truth_value true)) s f1 w c (behind rest K) ready room-a (λ v s2 h2 f2 w2 done.
-          next v s2 h2 f2 w2 (record {
-              value = done.value;
-              below = λ r lt. done.below r lt ∙ keep-other n r h _ (λ same. omega arith) ∙ below r lt;
-              frame = done.frame ∙ frame;
-              kept = kept-then k m f f1 f2 le kept done.kept;
-          }))
+      next v s2 h2 f2 w2 (record {
+        value = done.value;
+        below = λ r lt. done.below r lt ∙ keep-other n r h _ (λ same. omega arith) ∙ below r lt;
+        frame = done.frame ∙ frame;
+        kept = kept-then k m f f1 f2 le kept done.kept;
+      }))
   one-of false a b follow-a follow-b x n k m rest g h s e f f1 w c K below frame kept le ready room-a room-b next =
       follow-b None None x n (m + width a) nothing (keep h n (truth_value false)) s f1 w c (behind rest K)
       (ready-more m (m + width a) s.frame f1 (omega arith) room-a ready) room-b (λ v s2 h2 f2 w2 done.
-          next v s2 h2 f2 w2 (record {
-              value = done.value;
-              below = λ r lt. done.below r lt ∙ keep-other n r h _ (λ same. omega arith) ∙ below r lt;
-              frame = done.frame ∙ frame;
-              kept = kept-then k (m + width a) f f1 f2 (omega arith) kept done.kept;
-          }))
+      next v s2 h2 f2 w2 (record {
+        value = done.value;
+        below = λ r lt. done.below r lt ∙ keep-other n r h _ (λ same. omega arith) ∙ below r lt;
+        frame = done.frame ∙ frame;
+        kept = kept-then k (m + width a) f f1 f2 (omega arith) kept done.kept;
+      }))
 
   -- behind the first operand: where the locals of the next one begin
   ready-next : (k m : ℕ) (e f f1 : Frame) (s1 : State) → Ready k e f → s1.frame ≡ e → Kept k f f1 → k ≤ m → m ≤ f.count → Ready m s1.frame f1
@@ -324,8 +323,8 @@ module _ (again : calling.Again) (again' : running.Again) (P : Program) (bodies 
         (pull (local_place i s w) (followed P.classes) c _ (push (local_place i (with_frame f s) w) (followed P.classes) _ _
         (local-steps again' (H again again' P) i k s f ready (λ p. followed P.classes p >>= c)
         (λ p. followed P.classes p >>= (λ v. λ t w. runs_on again' (H again again' P) rest (keep g n v) K t w)) w (λ p.
-            looks-steps (followed P.classes p) (looks-followed P.classes p) c (λ v. λ t w. runs_on again' (H again again' P) rest (keep g n v) K t w) s f w (λ v.
-                next v s (keep g n v) f w (after-set n k g g s.frame f f v s (λ r lt. refl) refl (kept-all k f)))))))
+        looks-steps (followed P.classes p) (looks-followed P.classes p) c (λ v. λ t w. runs_on again' (H again again' P) rest (keep g n v) K t w) s f w (λ v.
+        next v s (keep g n v) f w (after-set n k g g s.frame f f v s (λ r lt. refl) refl (kept-all k f)))))))
     follow-value (core.read e) ok into into' x n k rest g s f w c K ready room next =
         pull-three (meaning.value again P e None s w) used place_of (read_place P.classes) c _
         (one-operand e (follow-value e ok) (λ v. (used v >>= place_of) >>= read_place P.classes)
@@ -357,40 +356,40 @@ module _ (again : calling.Again) (again' : running.Again) (P : Program) (bodies 
         pull _ (λ t. when t (test_of b) (gives (truth_value false))) c _ (pull (meaning.value again P a None s w) truth_of (λ t. when t (test_of b) (gives (truth_value false)) >>= c) _
         (follow-value a parts.0 None None x n k _ g s f w (λ v. truth_of v >>= (λ t. when t (test_of b) (gives (truth_value false)) >>= c)) K ready
         (first-room k f.count (nodes a) (nodes b) room) (λ v s1 h1 f1 w1 done.
-            truth-steps again' (H again again' P) n v h1 done.value (λ t. when t (test_of b) (gives (truth_value false)) >>= c) (more (branch n (value P.classes x b None n (k + width a) (more (set n (plain.truth n)) nothing)) nothing) rest) K s1 (with_frame f1 s1) w1 (λ t.
-                branch-steps again' (H again again' P) t n (value P.classes x b None n (k + width a) (more (set n (plain.truth n)) nothing)) nothing rest (keep h1 n (truth_value t)) K _ (with_frame f1 s1) w1
-                (keep-same n h1 (truth_value t))
-                (and-right t b (follow-value b parts.1) x n k (k + width a) rest g h1 s1 s.frame f f1 w1 c K done.below done.frame done.kept (omega arith)
-                (ready-next k (k + width a) s.frame f f1 s1 ready done.frame done.kept (omega arith) (first-room k f.count (nodes a) (nodes b) room))
-                (moved-room k _ f f1 done.kept (second-room k f.count (nodes a) (nodes b) room)) next)))))
+        truth-steps again' (H again again' P) n v h1 done.value (λ t. when t (test_of b) (gives (truth_value false)) >>= c) (more (branch n (value P.classes x b None n (k + width a) (more (set n (plain.truth n)) nothing)) nothing) rest) K s1 (with_frame f1 s1) w1 (λ t.
+        branch-steps again' (H again again' P) t n (value P.classes x b None n (k + width a) (more (set n (plain.truth n)) nothing)) nothing rest (keep h1 n (truth_value t)) K _ (with_frame f1 s1) w1
+        (keep-same n h1 (truth_value t))
+        (and-right t b (follow-value b parts.1) x n k (k + width a) rest g h1 s1 s.frame f f1 w1 c K done.below done.frame done.kept (omega arith)
+        (ready-next k (k + width a) s.frame f f1 s1 ready done.frame done.kept (omega arith) (first-room k f.count (nodes a) (nodes b) room))
+        (moved-room k _ f f1 done.kept (second-room k f.count (nodes a) (nodes b) room)) next)))))
     follow-value (core.logical_or a b) ok into into' x n k rest g s f w c K ready room next =
         let parts = both (is_value a) (is_value b) ok in
         pull _ (λ t. when t (gives (truth_value true)) (test_of b)) c _ (pull (meaning.value again P a None s w) truth_of (λ t. when t (gives (truth_value true)) (test_of b) >>= c) _
         (follow-value a parts.0 None None x n k _ g s f w (λ v. truth_of v >>= (λ t. when t (gives (truth_value true)) (test_of b) >>= c)) K ready
         (first-room k f.count (nodes a) (nodes b) room) (λ v s1 h1 f1 w1 done.
-            truth-steps again' (H again again' P) n v h1 done.value (λ t. when t (gives (truth_value true)) (test_of b) >>= c) (more (branch n nothing (value P.classes x b None n (k + width a) (more (set n (plain.truth n)) nothing))) rest) K s1 (with_frame f1 s1) w1 (λ t.
-                branch-steps again' (H again again' P) t n nothing (value P.classes x b None n (k + width a) (more (set n (plain.truth n)) nothing)) rest (keep h1 n (truth_value t)) K _ (with_frame f1 s1) w1
-                (keep-same n h1 (truth_value t))
-                (or-right t b (follow-value b parts.1) x n k (k + width a) rest g h1 s1 s.frame f f1 w1 c K done.below done.frame done.kept (omega arith)
-                (ready-next k (k + width a) s.frame f f1 s1 ready done.frame done.kept (omega arith) (first-room k f.count (nodes a) (nodes b) room))
-                (moved-room k _ f f1 done.kept (second-room k f.count (nodes a) (nodes b) room)) next)))))
+        truth-steps again' (H again again' P) n v h1 done.value (λ t. when t (gives (truth_value true)) (test_of b) >>= c) (more (branch n nothing (value P.classes x b None n (k + width a) (more (set n (plain.truth n)) nothing))) rest) K s1 (with_frame f1 s1) w1 (λ t.
+        branch-steps again' (H again again' P) t n nothing (value P.classes x b None n (k + width a) (more (set n (plain.truth n)) nothing)) rest (keep h1 n (truth_value t)) K _ (with_frame f1 s1) w1
+        (keep-same n h1 (truth_value t))
+        (or-right t b (follow-value b parts.1) x n k (k + width a) rest g h1 s1 s.frame f f1 w1 c K done.below done.frame done.kept (omega arith)
+        (ready-next k (k + width a) s.frame f f1 s1 ready done.frame done.kept (omega arith) (first-room k f.count (nodes a) (nodes b) room))
+        (moved-room k _ f f1 done.kept (second-room k f.count (nodes a) (nodes b) room)) next)))))
     follow-value (core.conditional q a b) ok into into' x n k rest g s f w c K ready room next =
         let parts = both (is_value q) (is_value a && is_value b) ok in
         let arms = both (is_value a) (is_value b) parts.1 in
         let two-room : k + length (added (nodes q ++ nodes a)) ≤ f.count = first-room k f.count (nodes q ++ nodes a) (nodes b) room in
         let last-room : (k + width q + width a) + width b ≤ f.count =
-            (let e = added-two (nodes q) (nodes a) in let r = second-room k f.count (nodes q ++ nodes a) (nodes b) room in omega arith) in
+        (let e = added-two (nodes q) (nodes a) in let r = second-room k f.count (nodes q ++ nodes a) (nodes b) room in omega arith) in
         pull _ (λ t. when t (meaning.value again P a None) (meaning.value again P b None)) c _
         (pull (meaning.value again P q None s w) truth_of (λ t. when t (meaning.value again P a None) (meaning.value again P b None) >>= c) _
         (follow-value q parts.0 None None x n k _ g s f w (λ v. truth_of v >>= (λ t. when t (meaning.value again P a None) (meaning.value again P b None) >>= c)) K ready
         (first-room k f.count (nodes q) (nodes a) two-room) (λ v s1 h1 f1 w1 done.
-            truth-steps again' (H again again' P) n v h1 done.value (λ t. when t (meaning.value again P a None) (meaning.value again P b None) >>= c) (more (branch n (value P.classes x a None n (k + width q) nothing) (value P.classes x b None n (k + width q + width a) nothing)) rest) K s1 (with_frame f1 s1) w1 (λ t.
-                branch-steps again' (H again again' P) t n (value P.classes x a None n (k + width q) nothing) (value P.classes x b None n (k + width q + width a) nothing) rest
-                (keep h1 n (truth_value t)) K _ (with_frame f1 s1) w1 (keep-same n h1 (truth_value t))
-                (one-of t a b (follow-value a arms.0) (follow-value b arms.1) x n k (k + width q) rest g h1 s1 s.frame f f1 w1 c K done.below done.frame done.kept (omega arith)
-                (ready-next k (k + width q) s.frame f f1 s1 ready done.frame done.kept (omega arith) (first-room k f.count (nodes q) (nodes a) two-room))
-                (moved-room k _ f f1 done.kept (second-room k f.count (nodes q) (nodes a) two-room))
-                (moved-room k _ f f1 done.kept last-room) next)))))
+        truth-steps again' (H again again' P) n v h1 done.value (λ t. when t (meaning.value again P a None) (meaning.value again P b None) >>= c) (more (branch n (value P.classes x a None n (k + width q) nothing) (value P.classes x b None n (k + width q + width a) nothing)) rest) K s1 (with_frame f1 s1) w1 (λ t.
+        branch-steps again' (H again again' P) t n (value P.classes x a None n (k + width q) nothing) (value P.classes x b None n (k + width q + width a) nothing) rest
+        (keep h1 n (truth_value t)) K _ (with_frame f1 s1) w1 (keep-same n h1 (truth_value t))
+        (one-of t a b (follow-value a arms.0) (follow-value b arms.1) x n k (k + width q) rest g h1 s1 s.frame f f1 w1 c K done.below done.frame done.kept (omega arith)
+        (ready-next k (k + width q) s.frame f f1 s1 ready done.frame done.kept (omega arith) (first-room k f.count (nodes q) (nodes a) two-room))
+        (moved-room k _ f f1 done.kept (second-room k f.count (nodes q) (nodes a) two-room))
+        (moved-room k _ f f1 done.kept last-room) next)))))
     follow-value (core.comma es) ok into into' x n k rest g s f w c K ready room next = follow-values es ok x n k rest g s f w c K ready room next
     follow-value (core.store a b) ok into into' x n k rest g s f w c K ready room next =
         let parts = both (is_value a) (is_value b) ok in
@@ -399,12 +398,12 @@ module _ (again : calling.Again) (again' : running.Again) (P : Program) (bodies 
         pull _ right c _ (pull _ place_of (λ p. right p >>= c) _ (pull (meaning.value again P a None s w) used (λ u. place_of u >>= (λ p. right p >>= c)) _
         (two-operands a b (follow-value a parts.0) (follow-value b parts.1) (λ u. place_of u >>= (λ p. right p >>= c)) (λ u v. place_of u >>= (λ p. used v >>= (λ v. writes p v >>= c)))
         (λ u s w y h. place-cases again' (H again again' P) u (λ p. right p >>= c) s w y (λ p e.
-            pull _ (writes p) c y (pull (meaning.value again P b None s w) used (λ v. writes p v >>= c) y
-            (subst (λ u. Follows S (and_then (meaning.value again P b None s w) (on (λ v. place_of u >>= (λ p. used v >>= (λ v. writes p v >>= c))))) y) e h))))
+        pull _ (writes p) c y (pull (meaning.value again P b None s w) used (λ v. writes p v >>= c) y
+        (subst (λ u. Follows S (and_then (meaning.value again P b None s w) (on (λ v. place_of u >>= (λ p. used v >>= (λ v. writes p v >>= c))))) y) e h))))
         x n k _ g s f w K ready room (λ u v s2 h f2 w2 usable at-n at-m below frame kept.
-            place-cases again' (H again again' P) u (λ p. used v >>= (λ v. writes p v >>= c)) s2 w2 _ (λ p e.
-                store-steps again' (H again again' P) n (suc n) p v (At p) h rest c K s2 f2 w2 (at-n ∙ ap Some e) at-m (λ s3 same.
-                    next (At p) s3 h f2 w2 (record { value = at-n ∙ ap Some e; below = below; frame = same ∙ frame; kept = kept })))))))
+        place-cases again' (H again again' P) u (λ p. used v >>= (λ v. writes p v >>= c)) s2 w2 _ (λ p e.
+        store-steps again' (H again again' P) n (suc n) p v (At p) h rest c K s2 f2 w2 (at-n ∙ ap Some e) at-m (λ s3 same.
+        next (At p) s3 h f2 w2 (record { value = at-n ∙ ap Some e; below = below; frame = same ∙ frame; kept = kept })))))))
     follow-value (core.update a (moved b) e) ok into into' x n k rest g s f w c K ready room next = never ok
     follow-value (core.update a (arithmetic op kd t) b) ok into into' x n k rest g s f w c K ready room next =
         let parts = both (is_value a) (is_value b) ok in
@@ -415,66 +414,66 @@ module _ (again : calling.Again) (again' : running.Again) (P : Program) (bodies 
         pull _ right c _ (pull _ place_of (λ p. right p >>= c) _ (pull (meaning.value again P a None s w) used (λ u. place_of u >>= (λ p. right p >>= c)) _
         (two-operands a b (follow-value a parts.0) (follow-value b parts.1) (λ u. place_of u >>= (λ p. right p >>= c)) (λ u v. place_of u >>= (λ p. used v >>= (λ v. ends p v >>= c)))
         (λ u s w y h. place-cases again' (H again again' P) u (λ p. right p >>= c) s w y (λ p e.
-            pull _ (ends p) c y (pull (meaning.value again P b None s w) used (λ v. ends p v >>= c) y
-            (subst (λ u. Follows S (and_then (meaning.value again P b None s w) (on (λ v. place_of u >>= (λ p. used v >>= (λ v. ends p v >>= c))))) y) e h))))
+        pull _ (ends p) c y (pull (meaning.value again P b None s w) used (λ v. ends p v >>= c) y
+        (subst (λ u. Follows S (and_then (meaning.value again P b None s w) (on (λ v. place_of u >>= (λ p. used v >>= (λ v. ends p v >>= c))))) y) e h))))
         x n k _ g s f w K ready room (λ u v s2 h f2 w2 usable at-n at-m below frame kept.
-            place-cases again' (H again again' P) u (λ p. used v >>= (λ v. ends p v >>= c)) s2 w2 _ (λ p e.
-                use-steps again' (H again again' P) (suc n) v h at-m (λ v. ends p v >>= c) (more (set (suc (suc n)) (plain.read n)) changing) K s2 (with_frame f2 s2) w2 (λ usable-v.
-                    pull (read_place P.classes p s2 w2) (writes p v) c _
-                    (read-at n (suc (suc n)) p h changing (λ y. writes p v y >>= c) K s2 f2 w2 (at-n ∙ ap Some e) (λ y.
-                        change-steps again' (H again again' P) op kd t n (suc (suc n)) (suc n) (suc n) p y v (At p) (keep h (suc (suc n)) y) rest c K s2 f2 w2
-                        (keep-other (suc (suc n)) n h y (λ same. omega arith) ∙ at-n ∙ ap Some e) (keep-same (suc (suc n)) h y)
-                        (keep-other (suc (suc n)) (suc n) h y (λ same. omega arith) ∙ at-m) usable-v (λ same. omega arith) (λ z s3 same.
-                            next (At p) s3 (keep (keep h (suc (suc n)) y) (suc n) z) f2 w2 (record {
-                                value = keep-other (suc n) n (keep h (suc (suc n)) y) z (λ same. omega arith) ∙ keep-other (suc (suc n)) n h y (λ same. omega arith) ∙ at-n ∙ ap Some e;
-                                below = λ r lt. keep-other (suc n) r (keep h (suc (suc n)) y) z (λ same. omega arith) ∙ keep-other (suc (suc n)) r h y (λ same. omega arith) ∙ below r lt;
-                                frame = same ∙ frame;
-                                kept = kept;
-                            }))))))))))
+        place-cases again' (H again again' P) u (λ p. used v >>= (λ v. ends p v >>= c)) s2 w2 _ (λ p e.
+        use-steps again' (H again again' P) (suc n) v h at-m (λ v. ends p v >>= c) (more (set (suc (suc n)) (plain.read n)) changing) K s2 (with_frame f2 s2) w2 (λ usable-v.
+        pull (read_place P.classes p s2 w2) (writes p v) c _
+        (read-at n (suc (suc n)) p h changing (λ y. writes p v y >>= c) K s2 f2 w2 (at-n ∙ ap Some e) (λ y.
+        change-steps again' (H again again' P) op kd t n (suc (suc n)) (suc n) (suc n) p y v (At p) (keep h (suc (suc n)) y) rest c K s2 f2 w2
+        (keep-other (suc (suc n)) n h y (λ same. omega arith) ∙ at-n ∙ ap Some e) (keep-same (suc (suc n)) h y)
+        (keep-other (suc (suc n)) (suc n) h y (λ same. omega arith) ∙ at-m) usable-v (λ same. omega arith) (λ z s3 same.
+        next (At p) s3 (keep (keep h (suc (suc n)) y) (suc n) z) f2 w2 (record {
+          value = keep-other (suc n) n (keep h (suc (suc n)) y) z (λ same. omega arith) ∙ keep-other (suc (suc n)) n h y (λ same. omega arith) ∙ at-n ∙ ap Some e;
+          below = λ r lt. keep-other (suc n) r (keep h (suc (suc n)) y) z (λ same. omega arith) ∙ keep-other (suc (suc n)) r h y (λ same. omega arith) ∙ below r lt;
+          frame = same ∙ frame;
+          kept = kept;
+        }))))))))))
     follow-value (core.step b (moved back) e) ok into into' x n k rest g s f w c K ready room next = never ok
     follow-value (core.step false (arithmetic op kd t) e) ok into into' x n k rest g s f w c K ready room next =
         let writes : Place → Value → Act Value = λ p v. changed_value P.classes (arithmetic op kd t) v (Number (pos 1)) >>= (λ z. write_place P.classes p z >> gives (At p)) in
         let ends : Place → Act Value = λ p. read_place P.classes p >>= writes p in
         pull (and_then (and_then (meaning.value again P e None s w) (on used)) (on place_of)) ends c _ (pull (and_then (meaning.value again P e None s w) (on used)) place_of (λ p. ends p >>= c) _ (pull (meaning.value again P e None s w) used (λ u. place_of u >>= (λ p. ends p >>= c)) _
         (follow-value e ok None None x n k _ g s f w (λ u. used u >>= (λ u. place_of u >>= (λ p. ends p >>= c))) K ready room (λ u s1 h f1 w1 done.
-            read-first n (suc n) u h (more (set (suc (suc n)) (plain.number (pos 1))) (more (set (suc n) (plain.changed (arithmetic op kd t) (suc n) (suc (suc n)))) (more (act (plain.store n (suc n))) rest))) (λ p. ends p >>= c) K s1 f1 w1 done.value (λ p e.
-                pull (read_place P.classes p s1 w1) (writes p) c _
-                (looks-steps (read_place P.classes p) (looks-read_place P.classes p) (λ y. writes p y >>= c) _ s1 f1 w1 (λ y.
-                    number-and-change op kd t n (suc n) (suc (suc n)) (suc n) p y (At p) (keep h (suc n) y) rest c K s1 f1 w1
-                    (keep-other (suc n) n h y (λ same. omega arith) ∙ done.value ∙ ap Some e) (keep-same (suc n) h y)
-                    (λ same. omega arith) (λ same. omega arith) (λ same. omega arith) (λ z s3 same.
-                        next (At p) s3 (keep (keep (keep h (suc n) y) (suc (suc n)) (Number (pos 1))) (suc n) z) f1 w1 (record {
-                            value = keep-other (suc n) n (keep (keep h (suc n) y) (suc (suc n)) (Number (pos 1))) z (λ same. omega arith)
-                                ∙ keep-other (suc (suc n)) n (keep h (suc n) y) (Number (pos 1)) (λ same. omega arith) ∙ keep-other (suc n) n h y (λ same. omega arith) ∙ done.value ∙ ap Some e;
-                            below = λ r lt. keep-other (suc n) r (keep (keep h (suc n) y) (suc (suc n)) (Number (pos 1))) z (λ same. omega arith)
-                                ∙ keep-other (suc (suc n)) r (keep h (suc n) y) (Number (pos 1)) (λ same. omega arith) ∙ keep-other (suc n) r h y (λ same. omega arith) ∙ done.below r lt;
-                            frame = same ∙ done.frame;
-                            kept = done.kept;
-                        })))))))))
+        read-first n (suc n) u h (more (set (suc (suc n)) (plain.number (pos 1))) (more (set (suc n) (plain.changed (arithmetic op kd t) (suc n) (suc (suc n)))) (more (act (plain.store n (suc n))) rest))) (λ p. ends p >>= c) K s1 f1 w1 done.value (λ p e.
+        pull (read_place P.classes p s1 w1) (writes p) c _
+        (looks-steps (read_place P.classes p) (looks-read_place P.classes p) (λ y. writes p y >>= c) _ s1 f1 w1 (λ y.
+        number-and-change op kd t n (suc n) (suc (suc n)) (suc n) p y (At p) (keep h (suc n) y) rest c K s1 f1 w1
+        (keep-other (suc n) n h y (λ same. omega arith) ∙ done.value ∙ ap Some e) (keep-same (suc n) h y)
+        (λ same. omega arith) (λ same. omega arith) (λ same. omega arith) (λ z s3 same.
+        next (At p) s3 (keep (keep (keep h (suc n) y) (suc (suc n)) (Number (pos 1))) (suc n) z) f1 w1 (record {
+          value = keep-other (suc n) n (keep (keep h (suc n) y) (suc (suc n)) (Number (pos 1))) z (λ same. omega arith)
+              ∙ keep-other (suc (suc n)) n (keep h (suc n) y) (Number (pos 1)) (λ same. omega arith) ∙ keep-other (suc n) n h y (λ same. omega arith) ∙ done.value ∙ ap Some e;
+          below = λ r lt. keep-other (suc n) r (keep (keep h (suc n) y) (suc (suc n)) (Number (pos 1))) z (λ same. omega arith)
+              ∙ keep-other (suc (suc n)) r (keep h (suc n) y) (Number (pos 1)) (λ same. omega arith) ∙ keep-other (suc n) r h y (λ same. omega arith) ∙ done.below r lt;
+          frame = same ∙ done.frame;
+          kept = done.kept;
+        })))))))))
     follow-value (core.step true (arithmetic op kd t) e) ok into into' x n k rest g s f w c K ready room next =
         let writes : Place → Value → Act Value = λ p v. changed_value P.classes (arithmetic op kd t) v (Number (pos 1)) >>= (λ z. write_place P.classes p z >> gives v) in
         let ends : Place → Act Value = λ p. read_place P.classes p >>= writes p in
         pull (and_then (and_then (meaning.value again P e None s w) (on used)) (on place_of)) ends c _ (pull (and_then (meaning.value again P e None s w) (on used)) place_of (λ p. ends p >>= c) _ (pull (meaning.value again P e None s w) used (λ u. place_of u >>= (λ p. ends p >>= c)) _
         (follow-value e ok None None x (suc n) k _ g s f w (λ u. used u >>= (λ u. place_of u >>= (λ p. ends p >>= c))) K ready room (λ u s1 h f1 w1 done.
-            read-first (suc n) n u h (more (set (suc (suc n)) (plain.number (pos 1))) (more (set (suc (suc n)) (plain.changed (arithmetic op kd t) n (suc (suc n)))) (more (act (plain.store (suc n) (suc (suc n)))) rest))) (λ p. ends p >>= c) K s1 f1 w1 done.value (λ p e.
-                pull (read_place P.classes p s1 w1) (writes p) c _
-                (looks-steps (read_place P.classes p) (looks-read_place P.classes p) (λ y. writes p y >>= c) _ s1 f1 w1 (λ y.
-                    number-and-change op kd t (suc n) n (suc (suc n)) (suc (suc n)) p y y (keep h n y) rest c K s1 f1 w1
-                    (keep-other n (suc n) h y (λ same. omega arith) ∙ done.value ∙ ap Some e) (keep-same n h y)
-                    (λ same. omega arith) (λ same. omega arith) (λ same. omega arith) (λ z s3 same.
-                        next y s3 (keep (keep (keep h n y) (suc (suc n)) (Number (pos 1))) (suc (suc n)) z) f1 w1 (record {
-                            value = keep-other (suc (suc n)) n (keep (keep h n y) (suc (suc n)) (Number (pos 1))) z (λ same. omega arith)
-                                ∙ keep-other (suc (suc n)) n (keep h n y) (Number (pos 1)) (λ same. omega arith) ∙ keep-same n h y;
-                            below = λ r lt. keep-other (suc (suc n)) r (keep (keep h n y) (suc (suc n)) (Number (pos 1))) z (λ same. omega arith)
-                                ∙ keep-other (suc (suc n)) r (keep h n y) (Number (pos 1)) (λ same. omega arith) ∙ keep-other n r h y (λ same. omega arith) ∙ done.below r (omega arith);
-                            frame = same ∙ done.frame;
-                            kept = done.kept;
-                        })))))))))
+        read-first (suc n) n u h (more (set (suc (suc n)) (plain.number (pos 1))) (more (set (suc (suc n)) (plain.changed (arithmetic op kd t) n (suc (suc n)))) (more (act (plain.store (suc n) (suc (suc n)))) rest))) (λ p. ends p >>= c) K s1 f1 w1 done.value (λ p e.
+        pull (read_place P.classes p s1 w1) (writes p) c _
+        (looks-steps (read_place P.classes p) (looks-read_place P.classes p) (λ y. writes p y >>= c) _ s1 f1 w1 (λ y.
+        number-and-change op kd t (suc n) n (suc (suc n)) (suc (suc n)) p y y (keep h n y) rest c K s1 f1 w1
+        (keep-other n (suc n) h y (λ same. omega arith) ∙ done.value ∙ ap Some e) (keep-same n h y)
+        (λ same. omega arith) (λ same. omega arith) (λ same. omega arith) (λ z s3 same.
+        next y s3 (keep (keep (keep h n y) (suc (suc n)) (Number (pos 1))) (suc (suc n)) z) f1 w1 (record {
+          value = keep-other (suc (suc n)) n (keep (keep h n y) (suc (suc n)) (Number (pos 1))) z (λ same. omega arith)
+              ∙ keep-other (suc (suc n)) n (keep h n y) (Number (pos 1)) (λ same. omega arith) ∙ keep-same n h y;
+          below = λ r lt. keep-other (suc (suc n)) r (keep (keep h n y) (suc (suc n)) (Number (pos 1))) z (λ same. omega arith)
+              ∙ keep-other (suc (suc n)) r (keep h n y) (Number (pos 1)) (λ same. omega arith) ∙ keep-other n r h y (λ same. omega arith) ∙ done.below r (omega arith);
+          frame = same ∙ done.frame;
+          kept = done.kept;
+        })))))))))
     follow-value (core.call name t absent args) ok into into' x n k rest g s f w c K ready room next =
         let conditions = both (not (is_class (result t))) (is_chain t && are_arguments args) ok in
         let chain = both (is_chain t) (are_arguments args) conditions.1 in
         let all-room : (k + length (parameters t)) + length (added (nodes_all args)) ≤ f.count =
-            (let e = length-append (parameters t) (added (nodes_all args)) in omega arith) in
+        (let e = length-append (parameters t) (added (nodes_all args)) in omega arith) in
         let runs : List ℕ → Act Value = λ os. run_named again P name os None (result_place t into) in
         let calling-it : Plains = more (set n (plain.call name t None (numbers k (parameters t)) (result_register t into'))) rest in
         let behind-name : Plains = arguments P.classes x (parameters t) args n k (k + length (parameters t) + 0) calling-it in
@@ -482,13 +481,13 @@ module _ (again : calling.Again) (again' : running.Again) (P : Program) (bodies 
         (act-steps again' (H again again' P) (plain.function name t) behind-name g K _ (with_frame f s) w
         (push (name_function (H again again' P) name t (with_frame f s) w) (λ u. gives (Code name)) (λ v. λ t' w. runs_on again' (H again again' P) behind-name g K t' w) _
         (name-steps again again' P name t (λ u. (meaning.arguments again P (parameters t) args >>= runs) >>= c) (λ u. λ t' w. runs_on again' (H again again' P) behind-name g K t' w) s (with_frame f s) w (λ callee.
-            pull (meaning.arguments again P (parameters t) args s w) runs c _
-            (follow-arguments (parameters t) args chain.1 x n k (k + length (parameters t) + 0) calling-it g s f w (λ os. runs os >>= c) K
-            (ready-more k (k + length (parameters t) + 0) s.frame f (omega arith) (omega arith) ready) ready.count (omega arith) (omega arith)
-            (λ os s1 h f1 w1 there many below frame kept.
-                called name t callee chain.0 conditions.0 into into' n k os rest h s1 f1 w1 c K there many
-                (subst (λ e. Alike e f1) (sym frame) (kept-alike k s.frame f f1 kept ready.alike)) (λ v s2 w2 same.
-                    next v s2 (keep h n v) f1 w2 (after-set n k g h s.frame f f1 v s2 below (same ∙ frame) kept))))))))
+        pull (meaning.arguments again P (parameters t) args s w) runs c _
+        (follow-arguments (parameters t) args chain.1 x n k (k + length (parameters t) + 0) calling-it g s f w (λ os. runs os >>= c) K
+        (ready-more k (k + length (parameters t) + 0) s.frame f (omega arith) (omega arith) ready) ready.count (omega arith) (omega arith)
+        (λ os s1 h f1 w1 there many below frame kept.
+        called name t callee chain.0 conditions.0 into into' n k os rest h s1 f1 w1 c K there many
+        (subst (λ e. Alike e f1) (sym frame) (kept-alike k s.frame f f1 kept ready.alike)) (λ v s2 w2 same.
+        next v s2 (keep h n v) f1 w2 (after-set n k g h s.frame f f1 v s2 below (same ∙ frame) kept))))))))
     follow-value e ok into into' x n k rest g s f w c K ready room next = never ok
 
     -- parts of an expression in order
@@ -503,10 +502,10 @@ module _ (again : calling.Again) (again' : running.Again) (P : Program) (bodies 
         pull (meaning.value again P e None s w) (λ v. meaning.last_value again P (core.more e' es)) c _
         (follow-value e parts.0 None None x n k _ g s f w (λ v. meaning.last_value again P (core.more e' es) >>= c) K ready
         (first-room k f.count (nodes e) (nodes_all (core.more e' es)) room) (λ v s1 h1 f1 w1 done.
-            follow-values (core.more e' es) parts.1 x n (k + width e) rest h1 s1 f1 w1 c K
-            (ready-next k (k + width e) s.frame f f1 s1 ready done.frame done.kept (omega arith) (first-room k f.count (nodes e) (nodes_all (core.more e' es)) room))
-            (moved-room k _ f f1 done.kept (second-room k f.count (nodes e) (nodes_all (core.more e' es)) room)) (λ u s2 h2 f2 w2 done2.
-                next u s2 h2 f2 w2 (after-then n k (k + width e) g h1 h2 s.frame f f1 f2 u s1 s2 (omega arith) done.below done.frame done.kept done2))))
+        follow-values (core.more e' es) parts.1 x n (k + width e) rest h1 s1 f1 w1 c K
+        (ready-next k (k + width e) s.frame f f1 s1 ready done.frame done.kept (omega arith) (first-room k f.count (nodes e) (nodes_all (core.more e' es)) room))
+        (moved-room k _ f f1 done.kept (second-room k f.count (nodes e) (nodes_all (core.more e' es)) room)) (λ u s2 h2 f2 w2 done2.
+        next u s2 h2 f2 w2 (after-then n k (k + width e) g h1 h2 s.frame f f1 f2 u s1 s2 (omega arith) done.below done.frame done.kept done2))))
 
     -- each parameter's object by its argument
     pub follow-arguments : (ts : List SourceType) (es : Cores) → are_arguments es ≡ true → (x : Full) (n i k : ℕ) (rest : Plains) (g : Registers) (s : State) (f : Frame) (w : World)
@@ -526,10 +525,10 @@ module _ (again : calling.Again) (again' : running.Again) (P : Program) (bodies 
         let others : Act (List ℕ) = meaning.arguments again P ts es >>= (λ os. gives (o ∷ os)) in
         let more-args : Plains = arguments P.classes x ts es n (suc i) (k + width e) rest in
         let ready1 : Ready k s.frame f1 = record {
-            alike = record { function = ready.alike.function; this = ready.alike.this; result = ready.alike.result; depth = ready.alike.depth };
-            count = ready.count;
-            wide = ready.wide;
-            locals = λ j lt. (listed-kept i o f).below j (omega arith) ∙ ready.locals j lt;
+          alike = record { function = ready.alike.function; this = ready.alike.this; result = ready.alike.result; depth = ready.alike.depth };
+          count = ready.count;
+          wide = ready.wide;
+          locals = λ j lt. (listed-kept i o f).below j (omega arith) ∙ ready.locals j lt;
         } in
         declare-steps again' (H again again' P) i t n (value P.classes x e (destination n t) (suc n) k (settled e n (suc n) more-args)) g K _ s f w (let wide = ready.wide in omega arith)
         (subst (λ b. Follows S (and_then (and_then (and_then (meaning.value again P e (Some (root o)) s1 w) (on (settle P.classes (root o)))) (on (λ u. others))) (on c))
@@ -538,15 +537,15 @@ module _ (again : calling.Again) (again' : running.Again) (P : Program) (bodies 
         (pull _ (λ u. others) c _ (pull (meaning.value again P e (Some (root o)) s1 w) (settle P.classes (root o)) (λ u. others >>= c) _
         (follow-value e parts.0 (Some (root o)) (destination n t) x (suc n) k (more (act (plain.first n (suc n))) more-args) (keep g n (At (root o))) s1 f1 w
         (λ v. settle P.classes (root o) v >>= (λ u. others >>= c)) K ready1 (first-room k f.count (nodes e) (nodes_all es) room) (λ v s2 h f2 w2 done.
-            let kept : Kept i f f2 = kept-then i k f f1 f2 (omega arith) (listed-kept i o f) done.kept in
-            first-steps n (suc n) (root o) v h more-args (λ u. others >>= c) K s2 f2 w2 (done.below n (omega arith) ∙ keep-same n g (At (root o))) done.value (λ s3 same.
-                pull (meaning.arguments again P ts es s3 w2) (λ os. gives (o ∷ os)) c _
-                (follow-arguments ts es parts.1 x n (suc i) (k + width e) rest h s3 f2 w2 (λ os. c (o ∷ os)) K
-                (subst (λ e'. Ready (k + width e) e' f2) (sym (same ∙ done.frame))
-                (ready-more k (k + width e) s.frame f2 (omega arith) (moved-room i _ f f2 kept (first-room k f.count (nodes e) (nodes_all es) room)) (ready-kept k s.frame f1 f2 ready1 done.kept)))
-                (subst (λ (e' : Frame). e'.count ≤ suc i) (sym (same ∙ done.frame)) (omega arith)) (omega arith)
-                (moved-room i _ f f2 kept (second-room k f.count (nodes e) (nodes_all es) room))
-                (λ os s4 h4 f4 w4 there many below frame kept4.
-                    next (o ∷ os) s4 h4 f4 w4 (kept4.below i (omega arith) ∙ done.kept.below i (omega arith) ∙ listed-there i o f, there) (ap suc many)
-                    (λ r lt. below r lt ∙ done.below r (omega arith) ∙ keep-other n r g (At (root o)) (λ e. omega arith))
-                    (frame ∙ same ∙ done.frame) (kept-then i (suc i) f f2 f4 (omega arith) kept kept4)))))))))
+        let kept : Kept i f f2 = kept-then i k f f1 f2 (omega arith) (listed-kept i o f) done.kept in
+        first-steps n (suc n) (root o) v h more-args (λ u. others >>= c) K s2 f2 w2 (done.below n (omega arith) ∙ keep-same n g (At (root o))) done.value (λ s3 same.
+        pull (meaning.arguments again P ts es s3 w2) (λ os. gives (o ∷ os)) c _
+        (follow-arguments ts es parts.1 x n (suc i) (k + width e) rest h s3 f2 w2 (λ os. c (o ∷ os)) K
+        (subst (λ e'. Ready (k + width e) e' f2) (sym (same ∙ done.frame))
+        (ready-more k (k + width e) s.frame f2 (omega arith) (moved-room i _ f f2 kept (first-room k f.count (nodes e) (nodes_all es) room)) (ready-kept k s.frame f1 f2 ready1 done.kept)))
+        (subst (λ (e' : Frame). e'.count ≤ suc i) (sym (same ∙ done.frame)) (omega arith)) (omega arith)
+        (moved-room i _ f f2 kept (second-room k f.count (nodes e) (nodes_all es) room))
+        (λ os s4 h4 f4 w4 there many below frame kept4.
+        next (o ∷ os) s4 h4 f4 w4 (kept4.below i (omega arith) ∙ done.kept.below i (omega arith) ∙ listed-there i o f, there) (ap suc many)
+        (λ r lt. below r lt ∙ done.below r (omega arith) ∙ keep-other n r g (At (root o)) (λ e. omega arith))
+        (frame ∙ same ∙ done.frame) (kept-then i (suc i) f f2 f4 (omega arith) kept kept4)))))))))

@@ -107,9 +107,6 @@ module _ (again : calling.Again) (again' : running.Again) (P : Program) (bodies 
       → Follows S (c v (with_frame e t) w) y → Follows S (and_then (closing again P e.temporaries v t w) (on c)) y
   closed-steps e t w v c y same h = subst (λ r. Follows S (and_then r (on c)) y) (sym (closed again P e t w v same)) h
 
-
-
-
   -- the value of a full expression
   pub full-steps : (e : Core) → is_value e ≡ true → (into : Option Place) (into' : Option Destination) (n k : ℕ) (rest : Register → Plains) (g : Registers) (s : State) (f : Frame) (w : World)
       (c : Value → Act A) (K : Flow → Act B)
@@ -127,8 +124,8 @@ module _ (again : calling.Again) (again' : running.Again) (P : Program) (bodies 
       (λ v. closing again P s.frame.temporaries v >>= c) K
       (record { alike = record { function = ready.alike.function; this = ready.alike.this; result = ready.alike.result; depth = ready.alike.depth }; count = ready.count; wide = ready.wide; locals = ready.locals })
       room (λ v t h f1 w1 done.
-          closed-steps s.frame t w1 v c _ done.frame
-          (next v (with_frame s.frame t) h f1 w1 (record { value = done.value; below = done.below; frame = refl; kept = done.kept })))))
+      closed-steps s.frame t w1 v c _ done.frame
+      (next v (with_frame s.frame t) h f1 w1 (record { value = done.value; below = done.below; frame = refl; kept = done.kept })))))
 
   -- a condition: the register holds 1 or 0
   pub condition-steps : (e : Core) → is_value e ≡ true → (k : ℕ) (rest : Register → Plains) (g : Registers) (s : State) (f : Frame) (w : World)
@@ -149,9 +146,9 @@ module _ (again : calling.Again) (again' : running.Again) (P : Program) (bodies 
       (λ v. truth_of v >>= (λ b. closing again P s.frame.temporaries b >>= c)) K
       (record { alike = record { function = ready.alike.function; this = ready.alike.this; result = ready.alike.result; depth = ready.alike.depth }; count = ready.count; wide = ready.wide; locals = ready.locals })
       room (λ v t h f1 w1 done.
-          truth-steps again' (H again again' P) n v h done.value (λ b. closing again P s.frame.temporaries b >>= c) (rest n) K t (with_frame f1 t) w1 (λ b.
-              closed-steps s.frame t w1 b c _ done.frame
-              (next b (with_frame s.frame t) (keep h n (truth_value b)) f1 w1 (keep-same n h (truth_value b)) refl done.kept))))))
+      truth-steps again' (H again again' P) n v h done.value (λ b. closing again P s.frame.temporaries b >>= c) (rest n) K t (with_frame f1 t) w1 (λ b.
+      closed-steps s.frame t w1 b c _ done.frame
+      (next b (with_frame s.frame t) (keep h n (truth_value b)) f1 w1 (keep-same n h (truth_value b)) refl done.kept))))))
 
   -- a value that is used
   pub used-steps : (e : Core) → is_value e ≡ true → (k : ℕ) (rest : Register → Plains) (g : Registers) (s : State) (f : Frame) (w : World)
@@ -172,5 +169,5 @@ module _ (again : calling.Again) (again' : running.Again) (P : Program) (bodies 
       (λ v. used v >>= (λ v. closing again P s.frame.temporaries v >>= c)) K
       (record { alike = record { function = ready.alike.function; this = ready.alike.this; result = ready.alike.result; depth = ready.alike.depth }; count = ready.count; wide = ready.wide; locals = ready.locals })
       room (λ v t h f1 w1 done.
-          use-steps again' (H again again' P) n v h done.value (λ v. closing again P s.frame.temporaries v >>= c) (rest n) K t (with_frame f1 t) w1 (λ usable.
-              closed-steps s.frame t w1 v c _ done.frame (next v (with_frame s.frame t) h f1 w1 usable done.value refl done.kept))))))
+      use-steps again' (H again again' P) n v h done.value (λ v. closing again P s.frame.temporaries v >>= c) (rest n) K t (with_frame f1 t) w1 (λ usable.
+      closed-steps s.frame t w1 v c _ done.frame (next v (with_frame s.frame t) h f1 w1 usable done.value refl done.kept))))))

@@ -50,7 +50,6 @@ module _ (again : running.Again) (H : Program) where
   plain_acts g a = acts (calls again) H g a
 
 module _ (again : running.Again) (H : Program) {A B : Type 0} {S : A → State → B → State → Type 0} where
-
   pub set-steps : (r : Register) (a : Action) (rest : Plains) (g : Registers) (K : Flow → Act B) (x : Ran (Did A)) (t : State) (w : World)
       → Follows S x (and_then (plain_acts again H g a t w) (on (λ v. λ t w. runs_on again H rest (keep g r v) K t w)))
       → Follows S x (runs_on again H (more (set r a) rest) g K t w)

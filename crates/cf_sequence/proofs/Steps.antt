@@ -97,9 +97,8 @@ looks-names_scalar cs p =
 pub looks-use_place : (cs : List Class) (p : Place) → Looks (use_place cs p)
 looks-use_place cs p =
     let pure : (s : State) → Pure (need (is_inside cs (s.object p.object).type p.route) outside_array >> need (is_usable cs (s.object p.object) p.route) not_alive) =
-        
-        λ s. pure-then (need (is_inside cs (s.object p.object).type p.route) outside_array) (λ u. need (is_usable cs (s.object p.object) p.route) not_alive)
-            (pure-need (is_inside cs (s.object p.object).type p.route) outside_array) (λ u. pure-need (is_usable cs (s.object p.object) p.route) not_alive) in
+    λ s. pure-then (need (is_inside cs (s.object p.object).type p.route) outside_array) (λ u. need (is_usable cs (s.object p.object) p.route) not_alive)
+    (pure-need (is_inside cs (s.object p.object).type p.route) outside_array) (λ u. pure-need (is_usable cs (s.object p.object) p.route) not_alive) in
     record { answer = λ s. (pure s).answer; runs = λ s w. ap (λ (a : Act _). a s w) (pure s).runs; blind = λ s f. refl }
 
 abbrev held_there : Place → Act Value
@@ -113,7 +112,7 @@ looks-held_there p =
 pub looks-read_place : (cs : List Class) (p : Place) → Looks (read_place cs p)
 looks-read_place cs p =
     looks-then (names_scalar cs p) (λ u. use_place cs p >> held_there p) (looks-names_scalar cs p) (λ u.
-        looks-then (use_place cs p) (λ u. held_there p) (looks-use_place cs p) (λ u. looks-held_there p))
+    looks-then (use_place cs p) (λ u. held_there p) (looks-use_place cs p) (λ u. looks-held_there p))
 
 abbrev chosen : {A : Type 0} → Bool → A → A → A
 chosen true a b = a
@@ -156,11 +155,11 @@ module _ {C D : Type 0} {S : C → State → D → State → Type 0} (s : State)
       looks-step (names_scalar cs p) (looks-names_scalar cs p)
       (λ u. use_place cs p >> changes)
       c g s f w (λ u.
-          looks-step (use_place cs p) (looks-use_place cs p)
-          (λ u. changes)
-          c g s f w (λ u.
-              pure-step (need (not (is_constant_place cs (s.object p.object) p.route)) write_to_const) (pure-need (not (is_constant_place cs (s.object p.object) p.route)) write_to_const)
-              (λ u. object_changed p.object (hold p.route (Some v))) c g s (with_frame f s) w (λ u. next _ refl)))
+      looks-step (use_place cs p) (looks-use_place cs p)
+      (λ u. changes)
+      c g s f w (λ u.
+      pure-step (need (not (is_constant_place cs (s.object p.object) p.route)) write_to_const) (pure-need (not (is_constant_place cs (s.object p.object) p.route)) write_to_const)
+      (λ u. object_changed p.object (hold p.route (Some v))) c g s (with_frame f s) w (λ u. next _ refl)))
 
   -- the first value of a scalar
   first-steps : (p : Place) (v : Value) (c : Unit {0} → Act C) (g : Unit {0} → Act D)

@@ -45,10 +45,12 @@ held-numbered : (locals : ℕ → Option ℕ) (j m : ℕ) (ts : List SourceType)
 held-numbered locals j m [] [] l le at = tt
 held-numbered locals j m [] (o ∷ os) l le at = absurd (omega (arith, l))
 held-numbered locals j m (t ∷ ts) [] l le at = absurd (omega (arith, l))
-held-numbered locals j m (t ∷ ts) (o ∷ os) l le at =
-    (at 0 j (omega arith), omega arith,
-    held-numbered locals (suc j) m ts os (let e : suc (length os) ≡ suc (length ts) = l in omega arith) (let e : j + suc (length ts) ≤ m = le in omega arith)
-    (λ i n e. at (suc i) n (omega arith)))
+held-numbered locals j m (t ∷ ts) (o ∷ os) l le at = (
+  at 0 j (omega arith),
+  omega arith,
+  held-numbered locals (suc j) m ts os (let e : suc (length os) ≡ suc (length ts) = l in omega arith) (let e : j + suc (length ts) ≤ m = le in omega arith)
+      (λ i n e. at (suc i) n (omega arith)),
+)
 
 held-together : (locals : ℕ → Option ℕ) (m : ℕ) (xs ys : List Local) (os ps : List ℕ) → Held locals m xs os → Held locals m ys ps → Held locals m (xs ++ ys) (os ++ ps)
 held-together locals m [] ys [] ps h k = k
@@ -229,8 +231,8 @@ module _ (again : calling.Again) (again' : running.Again) (fs : List Function) (
       let o : Open = record { here = []; breaks = []; continues = []; returns = params } in
       let D : Beyond = record { breaks = []; continues = []; returns = reverse args } in
       let held : Held (λ i. slice_get args i) m params (reverse args) =
-          held-reverse (λ i. slice_get args i) m (numbered 0 (parameters f.type)) args
-          (held-numbered (λ i. slice_get args i) 0 m (parameters f.type) args many (omega arith) (λ i n e. ap (slice_get args) (let x : n ≡ i = omega arith in x))) in
+      held-reverse (λ i. slice_get args i) m (numbered 0 (parameters f.type)) args
+      (held-numbered (λ i. slice_get args i) 0 m (parameters f.type) args many (omega arith) (λ i n e. ap (slice_get args) (let x : n ≡ i = omega arith in x))) in
       let room : k + length (added (nodes f.body)) ≤ g.count = omega arith in
       subst (λ b. Follows Ended (and_then (in_scope again P (does.does again P f.body) s0 w) (on (last R C scalar args)))
       (and_then (all again' H (statement (inside_of P R C o) f.body k (finished (declared f.body) (if b then nothing else finished params nothing))) no_registers (with_frame g s) w) (on gives)))
@@ -239,26 +241,26 @@ module _ (again : calling.Again) (again' : running.Again) (fs : List Function) (
       (follow-statement again again' P bodies chains refl turns R C scalar calling.Flow Flow Ended f.body m ok o D k
       (finished (declared f.body) (finished params nothing)) no_registers s0 g w (λ flow. closes R C scalar args flow >>= last R C scalar args) gives
       (record {
-          ready = record { alike = record { function = refl; this = refl; result = refl; depth = refl }; count = omega arith; wide = omega arith; locals = λ i lt. refl };
-          low = omega arith;
-          result = refl;
-          here = tt;
-          breaks = tt;
-          continues = tt;
-          returns = held;
+        ready = record { alike = record { function = refl; this = refl; result = refl; depth = refl }; count = omega arith; wide = omega arith; locals = λ i lt. refl };
+        low = omega arith;
+        result = refl;
+        here = tt;
+        breaks = tt;
+        continues = tt;
+        returns = held;
       })
       room
       (record {
-          breaks = λ t g2 h w2 v. ended-with R C scalar args calling.Breaks (Breaks h) t _ w2 tt tt;
-          continues = λ t g2 h w2 v. ended-with R C scalar args calling.Continues (Continues h) t _ w2 tt tt;
-          returns = λ x t g2 w2 v. ended-with R C scalar args (calling.Returns x) (Returns x) t (with_frame g2 (all_gone (t.frame.scope ++ reverse args) t)) w2 refl (all-returned R C scalar args t g2);
+        breaks = λ t g2 h w2 v. ended-with R C scalar args calling.Breaks (Breaks h) t _ w2 tt tt;
+        continues = λ t g2 h w2 v. ended-with R C scalar args calling.Continues (Continues h) t _ w2 tt tt;
+        returns = λ x t g2 w2 v. ended-with R C scalar args (calling.Returns x) (Returns x) t (with_frame g2 (all_gone (t.frame.scope ++ reverse args) t)) w2 refl (all-returned R C scalar args t g2);
       })
       (λ t g2 h w2 v held-now low.
-          finished-steps again' H refl calling.Flow Flow Ended (declared f.body) t.frame.scope (next_local m f.body) (finished params nothing) h gives _ t g2 w2
-          (subst (λ xs. Held g2.locals (next_local m f.body) xs t.frame.scope) (append-nil (declared f.body)) held-now)
-          (finished-steps again' H refl calling.Flow Flow Ended params (reverse args) m nothing h gives _ (all_gone t.frame.scope t) g2 w2
-          (held-kept (λ i. slice_get args i) g2.locals m m params (reverse args) held (omega arith) v.below)
-          (ended-with R C scalar args calling.Falls (Falls h) t (with_frame g2 (all_gone (reverse args) (all_gone t.frame.scope t))) w2 tt (all-ended R C scalar args t g2))))))
+      finished-steps again' H refl calling.Flow Flow Ended (declared f.body) t.frame.scope (next_local m f.body) (finished params nothing) h gives _ t g2 w2
+      (subst (λ xs. Held g2.locals (next_local m f.body) xs t.frame.scope) (append-nil (declared f.body)) held-now)
+      (finished-steps again' H refl calling.Flow Flow Ended params (reverse args) m nothing h gives _ (all_gone t.frame.scope t) g2 w2
+      (held-kept (λ i. slice_get args i) g2.locals m m params (reverse args) held (omega arith) v.below)
+      (ended-with R C scalar args calling.Falls (Falls h) t (with_frame g2 (all_gone (reverse args) (all_gone t.frame.scope t))) w2 tt (all-ended R C scalar args t g2))))))
 
   -- a function's body, with what comes round it
   entered-follows : (f : Function) → is_built_function f ≡ true → (args : List ℕ) → length args ≡ length (parameters f.type) → (depth : ℕ) (s : State) (w : World)
@@ -329,12 +331,14 @@ module _ (fs : List Function) (ok : list_all is_built_function fs ≡ true) wher
   turn-falls : (o : Open) (D : Beyond) (m k : ℕ) (s : State) (f : Frame) → Stands o D m k s f
       → (t : State) (g : Frame) (h : Registers) (w : World) → Moved m s f t g → Held g.locals m o.here t.frame.scope
       → Follows (Turned D m s f) (Went (Gives calling.Falls t) w) (Went (Gives (Falls h) (with_frame g t)) w)
-  turn-falls o D m k s f st t g h w v held = record { by = record {
+  turn-falls o D m k s f st t g h w v held = record {
+    by = record {
       value = Falls h;
       after = with_frame g t;
       run = refl;
       related = record { plain = g; moved = v; ends = (sym (held-same f.locals g.locals m o.here s.frame.scope t.frame.scope st.here held v.below), refl) };
-  } }
+    };
+  }
 
   next-turns : (n : ℕ) → Both n → Turns (runs (of_functions fs) (suc n)) (running.runs Q code_of (suc n)) (of_functions fs)
   next-turns n b R C scalar form.While q e body m is-ok o D k g s f w st room = turn-by n form.While q e body o D m k g s f w R C
@@ -447,9 +451,9 @@ sequencing-keeps P ok input heap depth n o is =
     let three = both (is_none P.constants) (is_none P.initialisers && list_all is_built_function P.functions) two.1 in
     let four = both (is_none P.initialisers) (list_all is_built_function P.functions) three.1 in
     let same : P ≡ of_functions P.functions =
-        ap (λ (cs : List Class). let R : Program = record { classes = cs; functions = P.functions; statics = P.statics; constants = P.constants; initialisers = P.initialisers } in R) (empty-list P.classes one.0)
-        ∙ ap (λ (xs : List Static). let R : Program = record { classes = []; functions = P.functions; statics = xs; constants = P.constants; initialisers = P.initialisers } in R) (empty-list P.statics two.0)
-        ∙ ap (λ (xs : List Setting). let R : Program = record { classes = []; functions = P.functions; statics = []; constants = xs; initialisers = P.initialisers } in R) (empty-list P.constants three.0)
-        ∙ ap (λ (xs : List Function). let R : Program = record { classes = []; functions = P.functions; statics = []; constants = []; initialisers = xs } in R) (empty-list P.initialisers four.0) in
+    ap (λ (cs : List Class). let R : Program = record { classes = cs; functions = P.functions; statics = P.statics; constants = P.constants; initialisers = P.initialisers } in R) (empty-list P.classes one.0)
+    ∙ ap (λ (xs : List Static). let R : Program = record { classes = []; functions = P.functions; statics = xs; constants = P.constants; initialisers = P.initialisers } in R) (empty-list P.statics two.0)
+    ∙ ap (λ (xs : List Setting). let R : Program = record { classes = []; functions = P.functions; statics = []; constants = xs; initialisers = P.initialisers } in R) (empty-list P.constants three.0)
+    ∙ ap (λ (xs : List Function). let R : Program = record { classes = []; functions = P.functions; statics = []; constants = []; initialisers = xs } in R) (empty-list P.initialisers four.0) in
     subst (λ (R : Program). Mean R input heap depth n ≡ Some o → PlainMean (sequenced R) input heap depth n ≡ Some o) (sym same)
     (programs-agree P.functions four.1 input heap depth n o) is

@@ -214,9 +214,9 @@ module _ (classes : List Class) where
         begun d
         (elements x es d 0 n k
         (repeated (count es) (parts_count d.type - count es) (λ i rest.
-            in_turn (is_array d.type && costs_tick last classes u) (λ rest. part_in n d.register d.type i
-            (whole last (suc n) (k + width_all es) (λ y m rest. value y last (destination n (part_type d.type i)) m (k + width_all es) rest)
-            (λ m. settled last n m rest))) rest)
+        in_turn (is_array d.type && costs_tick last classes u) (λ rest. part_in n d.register d.type i
+        (whole last (suc n) (k + width_all es) (λ y m rest. value y last (destination n (part_type d.type i)) m (k + width_all es) rest)
+        (λ m. settled last n m rest))) rest)
         (built d rest)))
     value x (core.string bytes) (Some d) n k rest = more (act (plain.bytes d.register bytes)) rest
     value x core.zeros (Some d) n k rest = more (act (plain.zeros d.register)) rest

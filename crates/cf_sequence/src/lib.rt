@@ -15,8 +15,6 @@ ghost use Rattle.cf_sequence.specs.Sequenced.{sequenced};
 /// The law that sequencing keeps the meaning, for the programs that are built so far: for each input, heap limit, depth limit and bound of ticks the
 /// plain statements show the same trace and come to the same end, an undefined act too. It does nothing.
 pub fn sequencing_keeps_the_meaning()
-    ensures {
-        (P : Program) → is_plainly_built P ≡ true → (input : List ℕ) (heap depth n : ℕ) (x : Outcome)
-            → Mean P input heap depth n ≡ Some x → PlainMean (sequenced P) input heap depth n ≡ Some x
-    }
+    ensures { (P : Program) → is_plainly_built P ≡ true → (input : List ℕ) (heap depth n : ℕ) (x : Outcome)
+        → Mean P input heap depth n ≡ Some x → PlainMean (sequenced P) input heap depth n ≡ Some x }
 {}
