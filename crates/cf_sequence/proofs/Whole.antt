@@ -36,7 +36,9 @@ use Rattle.cf_core.specs.Valid.{class_of_role}
 use Rattle.cf_sequence.proofs.Following.{on, pull, push}
 use Rattle.cf_sequence.proofs.Calling.{Bodies, FlowAs, SameObjects, Ended, never, named-header, enter-steps, plain_program, plain_function as beside}
 use Rattle.cf_sequence.proofs.Moving.{all_gone, gone-frame, gone-append, ends-all, destroy-nothing, Held, held-kept, finished-steps, Moved, with_scope, Beyond}
-use Rattle.cf_sequence.proofs.Doing.{Open, Stands, Turned, Turns, inside_of, turn_code, step_code, follow-statement, Ways, scope-gone, scope-steps, closing_scope}
+use Rattle.cf_sequence.proofs.Standing.{Open, Stands, Turned, Turns, inside_of, turn_code, step_code}
+use Rattle.cf_sequence.proofs.Scopes.{Ways, scope-gone, scope-steps, closing_scope}
+use Rattle.cf_sequence.proofs.Doing.{follow-statement}
 
 -- ---- the objects of parameters
 

@@ -1,5 +1,5 @@
--- The cores that are sequenced so far: numbers, locals, calls of functions by name, and all statements but `switch`, over no class and no static object
--- with an initialiser.
+-- The cores that are sequenced so far: numbers, locals, calls of functions by name, and all statements, but that a `switch` declares no local in its own
+-- block; over no class and no static object.
 use Rattle.std.specs.Prelude.{ℕ, suc, Bool, true, false, ◌&&◌, ◌||◌, not, nat_le, nat_lt, List, [], ◌∷◌, ◌++◌, length, Option, None, Some, bytes_eq, codes}
 use Rattle.std.specs.List.{list_all}
 use Rattle.cf_core.specs.Types.{SourceType, takes, gives, result, is_class, parameters}
@@ -8,6 +8,7 @@ use Rattle.cf_core.specs.Core as core
 use Rattle.cf_core.specs.Core.{Core, Cores, MaybeCore, Change, arithmetic, none, absent, given, Role, plain_function, Function, Static}
 use Rattle.cf_core.specs.Calls.{Program, Setting}
 use Rattle.cf_core.specs.Joined.{is_nothing}
+use Rattle.cf_core.specs.Valid.{is_label}
 
 -- a function type: its parameters, and then its result
 abbrev pub is_chain : SourceType → Bool
@@ -82,6 +83,7 @@ abbrev mutual
   is_statement m (core.declare i t e) = nat_le m i && is_start e
   is_statement m (core.branch c a b) = is_value c && ((not (declares_here a) && is_statement m a) && is_inner_or m b)
   is_statement m (core.loop form c e s) = is_condition c && (is_condition e && is_statement m s)
+  is_statement m (core.switch e es) = is_value e && are_cases m es
   is_statement m core.leave = true
   is_statement m core.continue = true
   is_statement m (core.give absent) = true
@@ -91,6 +93,11 @@ abbrev mutual
   pub is_inner_or : ℕ → MaybeCore → Bool
   is_inner_or m absent = true
   is_inner_or m (given s) = not (declares_here s) && is_statement m s
+
+  -- the labels of a switch and its statements
+  pub are_cases : ℕ → Cores → Bool
+  are_cases m none = true
+  are_cases m (core.more s rest) = (is_label s || (not (declares_here s) && is_statement m s)) && are_cases m rest
 
   pub are_statements : ℕ → Cores → Bool
   are_statements m none = true
