@@ -16,9 +16,9 @@ use Rattle.cf_core.specs.Places.{Place}
 use Rattle.cf_core.specs.Store.{Value, Nothing, Missing, Built, Number, Null, At, Code, DataMember, FunctionMember, new_object, automatic}
 use Rattle.cf_core.specs.Run.{State, Frame, Did, Act, ◌>>=◌, ◌>>◌, gives, malformed, some_or, need, when, upd, with_frame, lists_local, declared_object, cast_from_void}
 use Rattle.cf_core.specs.Access.{used, place_of, number_of, read_place, write_place, followed}
-use Rattle.cf_core.specs.Pointers.{truth_value}
-use Rattle.cf_core.specs.Scalars.{truth_of, converted_value, operated, signed, changed_value}
-use Rattle.cf_core.specs.Objects.{settle, local_place, result_place}
+use Rattle.cf_core.specs.Pointers.{truth_value, from_void_value, pointer_op}
+use Rattle.cf_core.specs.Scalars.{truth_of, converted_value, operated, signed, changed_value, indexed, decayed, pointed_to}
+use Rattle.cf_core.specs.Objects.{literal_object, settle, local_place, result_place}
 use Rattle.cf_core.specs.Calls as calling
 use Rattle.cf_core.specs.Calls.{Program, root, function_named, is_library, name_function, has_type, run_named, run_library, enter_found}
 use Rattle.cf_core.specs.Expressions as meaning
@@ -33,6 +33,7 @@ use Rattle.cf_sequence.specs.Made.{makes, added, width, width_all, numbers}
 use Rattle.cf_sequence.specs.Expressions.{Full, Destination, destination, value, values, arguments, settled, builds, used as use_of, result_register}
 use Rattle.cf_sequence.proofs.Following.{on, pull, pull-two, pull-three, push, Pure, pure-steps, pure-step, pure-then, pure-gives, Looks, looks-steps, looks-then, looks-pure}
 use Rattle.cf_sequence.proofs.Steps.{pure-used, pure-place_of, pure-truth_of, pure-number_of, pure-converted_value, pure-operated, pure-signed, looks-read_place, looks-followed, write-steps, settle-steps}
+use Rattle.cf_sequence.proofs.Pointers.{pure-pointed_to, looks-indexed, looks-decayed, looks-from_void, looks-pointer_op, literal-steps}
 use Rattle.cf_sequence.proofs.Calling.{Alike, Bodies, never, plain_program}
 use Rattle.cf_sequence.proofs.Actions.{placed-by, store-steps, change-steps, objects-there, Callee, named-again, name-steps, run-steps}
 use Rattle.cf_sequence.proofs.Kept.{Kept, kept-all, kept-then, kept-less, kept-count, kept-alike, Ready, ready-kept, ready-more, Objects, added-two, After, after-set, after-again, after-then, keep-same, keep-other, listed-kept, listed-there}
@@ -332,6 +333,34 @@ module _ (again : calling.Again) (again' : running.Again) (P : Program) (bodies 
         (λ n. plain.read n)
         (λ h n v e G y t w r. subst (λ o. Follows S y (and_then ((((some_or o malformed >>= used) >>= place_of) >>= read_place P.classes) t w) (on G))) (sym e) r)
         x n k rest g s f w c K ready room next)
+    follow-value (core.text j bytes) ok into into' x n k rest g s f w c K ready room next =
+        set-steps again' (H again again' P) n (plain.text j bytes) rest g K _ (with_frame f s) w
+        (pull (literal_object j bytes s w) (λ o. gives (At (root o))) c _ (push (literal_object j bytes (with_frame f s) w) (λ o. gives (At (root o))) (λ v. λ t w. runs_on again' (H again again' P) rest (keep g n v) K t w) _
+        (literal-steps s f w (λ o. c (At (root o))) (λ o. λ t w. runs_on again' (H again again' P) rest (keep g n (At (root o))) K t w)
+        (λ o t same. next (At (root o)) t (keep g n (At (root o))) f w (after-set n k g g s.frame f f (At (root o)) t (λ r lt. refl) same (kept-all k f))) j bytes ready.alike.function)))
+    follow-value (core.address e) ok into into' x n k rest g s f w c K ready room next =
+        pull (meaning.value again P e None s w) used c _ (follow-value e ok None None x n k (use_of n rest) g s f w (λ v. used v >>= c) K ready room (λ v s1 h f1 w1 done.
+            use-steps again' (H again again' P) n v h done.value c rest K s1 (with_frame f1 s1) w1 (λ usable. next v s1 h f1 w1 done)))
+    follow-value (core.dereference e) ok into into' x n k rest g s f w c K ready room next =
+        pull-two (meaning.value again P e None s w) used pointed_to c _
+        (one-operand e (follow-value e ok) (λ v. used v >>= pointed_to) (λ v. looks-pure (used v >>= pointed_to) (pure-then (used v) pointed_to (pure-used v) pure-pointed_to))
+        (λ n. plain.dereference n) (λ h n v e G y t' w r. used-one pointed_to (h n) v e G y t' w r) x n k rest g s f w c K ready room next)
+    follow-value (core.decay e) ok into into' x n k rest g s f w c K ready room next =
+        pull-two (meaning.value again P e None s w) used (decayed P.classes) c _
+        (one-operand e (follow-value e ok) (λ v. used v >>= decayed P.classes) (λ v. looks-then (used v) (decayed P.classes) (looks-pure (used v) (pure-used v)) (looks-decayed P.classes))
+        (λ n. plain.decay n) (λ h n v e G y t' w r. used-one (decayed P.classes) (h n) v e G y t' w r) x n k rest g s f w c K ready room next)
+    follow-value (core.from_void t e) ok into into' x n k rest g s f w c K ready room next =
+        pull-two (meaning.value again P e None s w) used (from_void_value P.classes t) c _
+        (one-operand e (follow-value e ok) (λ v. used v >>= from_void_value P.classes t) (λ v. looks-then (used v) (from_void_value P.classes t) (looks-pure (used v) (pure-used v)) (looks-from_void P.classes t))
+        (λ n. plain.from_void t n) (λ h n v e G y t' w r. used-one (from_void_value P.classes t) (h n) v e G y t' w r) x n k rest g s f w c K ready room next)
+    follow-value (core.index a b) ok into into' x n k rest g s f w c K ready room next =
+        let parts = both (is_value a) (is_value b) ok in
+        two-used a b (follow-value a parts.0) (follow-value b parts.1) (indexed P.classes) (looks-indexed P.classes)
+        (λ n m. plain.index n m) (λ h n m. refl) x n k rest g s f w c K ready room next
+    follow-value (core.pointer_operate op a b) ok into into' x n k rest g s f w c K ready room next =
+        let parts = both (is_value a) (is_value b) ok in
+        two-used a b (follow-value a parts.0) (follow-value b parts.1) (pointer_op P.classes op) (looks-pointer_op P.classes op)
+        (λ n m. plain.pointer_operate op n m) (λ h n m. refl) x n k rest g s f w c K ready room next
     follow-value (core.convert t e) ok into into' x n k rest g s f w c K ready room next =
         pull (meaning.value again P e None s w) (converted_value t) c _
         (one-operand e (follow-value e ok) (converted_value t) (λ v. looks-pure (converted_value t v) (pure-converted_value t v)) (λ n. plain.convert t n)

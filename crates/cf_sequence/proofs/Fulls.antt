@@ -39,6 +39,15 @@ mutual
   pub no-temporaries : (e : Core) → is_value e ≡ true → (b : Bool) (k : ℕ) → temporaries b e k ≡ []
   no-temporaries (core.read e) ok b k = no-temporaries e ok b k
   no-temporaries (core.convert t e) ok b k = no-temporaries e ok b k
+  no-temporaries (core.address e) ok b k = no-temporaries e ok b k
+  no-temporaries (core.dereference e) ok b k = no-temporaries e ok b k
+  no-temporaries (core.decay e) ok b k = no-temporaries e ok b k
+  no-temporaries (core.from_void t e) ok b k = no-temporaries e ok b k
+  no-temporaries (core.index e f) ok b k =
+      let parts = both (is_value e) (is_value f) ok in empty-two _ _ (no-temporaries e parts.0 b k) (no-temporaries f parts.1 b (k + width e))
+  no-temporaries (core.pointer_operate op e f) ok b k =
+      let parts = both (is_value e) (is_value f) ok in empty-two _ _ (no-temporaries e parts.0 b k) (no-temporaries f parts.1 b (k + width e))
+  no-temporaries (core.text j bytes) ok b k = refl
   no-temporaries (core.unary op t e) ok b k = no-temporaries e ok b k
   no-temporaries (core.logical_not e) ok b k = no-temporaries e ok b k
   no-temporaries (core.operate op t e f) ok b k =

@@ -84,6 +84,22 @@ module _ (again : Again) (H : Program) where
       silent-value (core.number z) ok x into n k = silent-set n (plain.number z)
       silent-value (core.local i) ok x into n k = silent-set n (plain.local i)
       silent-value (core.read e) ok x into n k = silent-then (value P.classes x e None n k) (λ rest. more (set n (plain.read n)) rest) (silent-value e ok x None n k) (silent-set n (plain.read n))
+      silent-value (core.text j bytes) ok x into n k = silent-set n (plain.text j bytes)
+      silent-value (core.address e) ok x into n k = silent-then (value P.classes x e None n k) (use_of n) (silent-value e ok x None n k) (silent-used n)
+      silent-value (core.dereference e) ok x into n k =
+          silent-then (value P.classes x e None n k) (λ rest. more (set n (plain.dereference n)) rest) (silent-value e ok x None n k) (silent-set n (plain.dereference n))
+      silent-value (core.decay e) ok x into n k =
+          silent-then (value P.classes x e None n k) (λ rest. more (set n (plain.decay n)) rest) (silent-value e ok x None n k) (silent-set n (plain.decay n))
+      silent-value (core.from_void t e) ok x into n k =
+          silent-then (value P.classes x e None n k) (λ rest. more (set n (plain.from_void t n)) rest) (silent-value e ok x None n k) (silent-set n (plain.from_void t n))
+      silent-value (core.index a b) ok x into n k =
+          let parts = both (is_value a) (is_value b) ok in
+          silent-operands (value P.classes x a None n k) (value P.classes x b None (suc n) (k + width a)) (λ rest. more (set n (plain.index n (suc n))) rest) n
+          (silent-value a parts.0 x None n k) (silent-value b parts.1 x None (suc n) (k + width a)) (silent-set n (plain.index n (suc n)))
+      silent-value (core.pointer_operate op a b) ok x into n k =
+          let parts = both (is_value a) (is_value b) ok in
+          silent-operands (value P.classes x a None n k) (value P.classes x b None (suc n) (k + width a)) (λ rest. more (set n (plain.pointer_operate op n (suc n))) rest) n
+          (silent-value a parts.0 x None n k) (silent-value b parts.1 x None (suc n) (k + width a)) (silent-set n (plain.pointer_operate op n (suc n)))
       silent-value (core.convert t e) ok x into n k =
           silent-then (value P.classes x e None n k) (λ rest. more (set n (plain.convert t n)) rest) (silent-value e ok x None n k) (silent-set n (plain.convert t n))
       silent-value (core.unary op t e) ok x into n k =

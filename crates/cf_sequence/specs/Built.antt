@@ -1,4 +1,4 @@
--- The cores that are sequenced so far: numbers, locals, calls of functions by name, and all statements, but that a `switch` declares no local in its own
+-- The cores that are sequenced so far: numbers, pointers, locals, literals, calls of functions by name, and all statements, but that a `switch` declares no local in its own
 -- block; over no class and no static object.
 use Rattle.std.specs.Prelude.{ℕ, suc, Bool, true, false, ◌&&◌, ◌||◌, not, nat_le, nat_lt, List, [], ◌∷◌, ◌++◌, length, Option, None, Some, bytes_eq, codes}
 use Rattle.std.specs.List.{list_all}
@@ -24,7 +24,14 @@ abbrev mutual
   pub is_value : Core → Bool
   is_value (core.number z) = true
   is_value (core.local i) = true
+  is_value (core.text j bytes) = true
   is_value (core.read e) = is_value e
+  is_value (core.address e) = is_value e
+  is_value (core.dereference e) = is_value e
+  is_value (core.decay e) = is_value e
+  is_value (core.from_void t e) = is_value e
+  is_value (core.index a b) = is_value a && is_value b
+  is_value (core.pointer_operate op a b) = is_value a && is_value b
   is_value (core.convert t e) = is_value e
   is_value (core.operate op k a b) = is_value a && is_value b
   is_value (core.unary op k e) = is_value e
