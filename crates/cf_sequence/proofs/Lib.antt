@@ -4,12 +4,14 @@ mod ClassRows
 mod ControlRows
 pub mod Doing
 pub mod Loops
+pub mod SameNames
 pub mod Scopes
 pub mod Silent
 pub mod Standing
 pub mod Evaluating
 pub mod Following
 pub mod Fulls
+pub mod Joining
 pub mod Kept
 pub mod Moving
 pub mod PlainSteps

@@ -121,7 +121,7 @@ found-built name (x ∷ fs) f e ok =
 
 -- ---- a program of functions alone
 
-abbrev of_functions : List Function → Program
+abbrev pub of_functions : List Function → Program
 of_functions fs = record { classes = []; functions = fs; statics = []; constants = []; initialisers = [] }
 
 -- what is entered is a plain function
@@ -440,7 +440,7 @@ module _ (fs : List Function) (ok : list_all is_built_function fs ≡ true) wher
       outcomes (runs (of_functions fs) n) (calls (running.runs Q code_of n)) Q refl depth (suc n) _ _ o
       (main-follows n (function_named (of_functions fs) (codes "__main")) refl (first_state (of_functions fs) depth) (world_at n input heap)) is
 
-empty-list : {A : Type 0} (xs : List A) → is_none xs ≡ true → xs ≡ []
+pub empty-list : {A : Type 0} (xs : List A) → is_none xs ≡ true → xs ≡ []
 empty-list [] ok = refl
 empty-list (x ∷ xs) ok = never ok
 

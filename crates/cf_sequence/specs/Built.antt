@@ -5,7 +5,7 @@ use Rattle.std.specs.List.{list_all}
 use Rattle.cf_core.specs.Types.{SourceType, takes, gives, result, is_class, parameters}
 use Rattle.cf_core.specs.Classes.{Class}
 use Rattle.cf_core.specs.Core as core
-use Rattle.cf_core.specs.Core.{Core, Cores, MaybeCore, Change, arithmetic, none, absent, given, Role, plain_function, Function, Static}
+use Rattle.cf_core.specs.Core.{Core, Cores, MaybeCore, Change, arithmetic, none, absent, given, Role, plain_function, Function, Static, CoreFile}
 use Rattle.cf_core.specs.Calls.{Program, Setting}
 use Rattle.cf_core.specs.Joined.{is_nothing}
 use Rattle.cf_core.specs.Valid.{is_label}
@@ -130,3 +130,7 @@ is_built_function f =
 abbrev pub is_plainly_built : Program → Bool
 is_plainly_built P =
     is_none P.classes && (is_none P.statics && (is_none P.constants && (is_none P.initialisers && list_all is_built_function P.functions)))
+
+-- Files of such functions, of which none is local to its file.
+abbrev pub is_built_file : CoreFile → Bool
+is_built_file file = is_none file.classes && (is_none file.statics && list_all (λ (f : Function). is_built_function f && not f.is_local) file.functions)
