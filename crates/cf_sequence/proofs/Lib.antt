@@ -1,0 +1,23 @@
+pub mod Actions
+pub mod Calling
+mod ClassRows
+mod ControlRows
+pub mod Doing
+pub mod Loops
+pub mod SameNames
+pub mod Scopes
+pub mod Silent
+pub mod Standing
+pub mod Evaluating
+pub mod Following
+pub mod Fulls
+pub mod Joining
+pub mod Kept
+pub mod Moving
+pub mod PlainSteps
+pub mod Pointers
+pub mod Sample
+pub mod Steps
+pub mod Switching
+pub mod Whole
+mod ScalarRows

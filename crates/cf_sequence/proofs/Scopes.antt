@@ -1,0 +1,176 @@
+-- Scopes: the ways out of a statement, the end of a scope, and the arms of a branch.
+use Rattle.std.proofs.Common.{◌≡◌, ℕ, zero, suc, ◌+◌, ◌≤◌, ◌<◌, Bool, true, false, not, ◌&&◌, ◌||◌, nat_lt, nat_le, ◌==◌, List, [], ◌∷◌, ◌++◌, length, refl, sym, ◌∙◌, ap, subst, arith, append-nil, append_assoc, if◌then◌else◌}
+use Rattle.std.specs.Prelude.{ℤ, pos, Option, Some, None}
+use Rattle.std.proofs.lemmas.Bool.Decides.{nat_tests}
+use Rattle.cf_base.proofs.Tests.{both}
+use Rattle.cf_base.specs.World.{World, Ran, Went, and_then, spend_of}
+use Rattle.cf_core.specs.declared.operators.LoopForm.{LoopForm}
+use Rattle.cf_core.specs.declared.operators.LoopForm.TheVariants as form
+use Rattle.cf_core.specs.Types.{SourceType, Name, is_class}
+use Rattle.cf_core.specs.Core as core
+use Rattle.cf_core.specs.Core.{Core, Cores, MaybeCore, Function, none, absent, given}
+use Rattle.cf_core.specs.Nodes.{nodes, nodes_all, nodes_maybe}
+use Rattle.cf_core.specs.Places.{Place}
+use Rattle.cf_core.specs.Store.{Value, Nothing, Built, At, new_object, automatic}
+use Rattle.cf_core.specs.Run.{State, Frame, Did, Gives, Act, ◌>>=◌, ◌>>◌, gives, malformed, some_or, state, tick, valid, when, upd, declared_object, for_all, frame_changed, lists_local, lists_in_scope, with_frame}
+use Rattle.cf_core.specs.Joined.{is_nothing}
+use Rattle.cf_core.specs.Access.{used}
+use Rattle.cf_core.specs.Scalars.{truth_of}
+use Rattle.cf_core.specs.Objects.{settle, new_local}
+use Rattle.cf_core.specs.Calls as calling
+use Rattle.cf_core.specs.Calls.{Program, root, turn, function_named, end_object, in_scope, full_expression}
+use Rattle.cf_core.specs.Expressions as meaning
+use Rattle.cf_core.specs.Statements as does
+use Rattle.cf_plain.specs.Plain.{Register, Plain, Plains, act, set, branch, loop, leave, continue, give, nothing, more}
+use Rattle.cf_plain.specs.Plain as plain
+use Rattle.cf_plain.specs.Acts.{Registers}
+use Rattle.cf_plain.specs.Running as running
+use Rattle.cf_plain.specs.Running.{Flow, Falls, Breaks, Continues, Returns, keep, falling, turning, all}
+use Rattle.cf_sequence.specs.Follows.{Follows}
+use Rattle.cf_sequence.specs.Built.{is_value, is_start, is_condition, is_chain, next_local, next_locals, declares_here, is_statement, is_inner_or, are_statements}
+use Rattle.cf_sequence.specs.Made.{Local, added, width, width_maybe, declared, declared_all, held_by}
+use Rattle.cf_sequence.specs.Expressions.{destination, finished, settled, whole, value, used as use_of}
+use Rattle.cf_sequence.specs.Statements.{Inside, in_loop, statement, statement_or, statements, held, stepped, started, returned}
+use Rattle.cf_sequence.proofs.Following.{on, pull, pull-two, push, follows-then}
+use Rattle.cf_sequence.proofs.Calling.{Bodies, never}
+use Rattle.cf_sequence.proofs.Kept.{Kept, kept-all, kept-then, Ready, ready-more, After, added-two, keep-same, listed-kept, listed-there}
+use Rattle.cf_sequence.proofs.PlainSteps.{Usable, pick, runs_on, set-steps, act-steps, at-one, branch-steps, declare-steps}
+use Rattle.cf_sequence.proofs.Evaluating.{H, first-room, second-room, first-steps, value-gives}
+use Rattle.cf_sequence.proofs.Moving.{all_gone, gone-frame, gone-append, ends-all, Held, held-kept, held-append, finished-steps, Moved, moved-count, moved-then, moved-kept, moved-ready, with_scope, moved-scope, moved-opened, moved-gone, Beyond}
+use Rattle.cf_sequence.proofs.Fulls.{nothing-is, held-none, full-steps, condition-steps, used-steps}
+use Rattle.cf_sequence.proofs.Standing.{Open, inside_of, opened, looped, turn_code, step_code, Stands, stands-later, moved-all, settled_full, result_act, next-more, inner-next, inner-declared, Turned, EndsAs, Turns}
+
+module _ (again : calling.Again) (again' : running.Again) (P : Program) (bodies : Bodies again again' P)
+    (chains : (name : Name) (f : Function) → function_named P name ≡ Some f → is_chain f.type ≡ true)
+    (classless : P.classes ≡ []) (turns : Turns again again' P) (R C : SourceType) (plain-result : is_class R ≡ false)
+    (A B : Type 0) (S : A → State → B → State → Type 0) where
+  -- the ways out of a statement
+  pub record Ways (D : Beyond) (m : ℕ) (s : State) (f : Frame) (c : calling.Flow → Act A) (K : Flow → Act B) : Type 0 where
+    pub breaks : (t : State) (g : Frame) (h : Registers) (w : World) → Moved m s f t g
+        → Follows S (c calling.Breaks t w) (K (Breaks h) (with_frame g (all_gone (t.frame.scope ++ D.breaks) t)) w)
+    pub continues : (t : State) (g : Frame) (h : Registers) (w : World) → Moved m s f t g
+        → Follows S (c calling.Continues t w) (K (Continues h) (with_frame g (all_gone (t.frame.scope ++ D.continues) t)) w)
+    pub returns : (v : Value) (t : State) (g : Frame) (w : World) → Moved m s f t g
+        → Follows S (c (calling.Returns v) t w) (K (Returns v) (with_frame g (all_gone (t.frame.scope ++ D.returns) t)) w)
+
+  pub ways-later : (D : Beyond) (m n : ℕ) (s : State) (f : Frame) (t : State) (g : Frame) (c : calling.Flow → Act A) (K : Flow → Act B)
+      → m ≤ n → Moved m s f t g → Ways D m s f c K → Ways D n t g c K
+  ways-later D m n s f t g c K le v ways = record {
+    breaks = λ u h r w v2. ways.breaks u h r w (moved-then m n s f t g u h le v v2);
+    continues = λ u h r w v2. ways.continues u h r w (moved-then m n s f t g u h le v v2);
+    returns = λ x u h w v2. ways.returns x u h w (moved-then m n s f t g u h le v v2);
+  }
+
+  -- the end of a statement that falls through, with these locals in the scope at hand
+  abbrev pub Fallen : (n : ℕ) (xs : List Local) (m : ℕ) (c : calling.Flow → Act A) (K : Flow → Act B) (rest : Plains) (s : State) (f : Frame) → Type 0
+  Fallen n xs m c K rest s f =
+      (t : State) (g : Frame) (h : Registers) (w : World) → Moved m s f t g → Held g.locals n xs t.frame.scope → n ≤ t.frame.count
+      → Follows S (c calling.Falls t w) (runs_on again' (H again again' P) rest h K (with_frame g t) w)
+
+  -- behind an expression
+  pub fall-on : (o : Open) (D : Beyond) (m k : ℕ) (c : calling.Flow → Act A) (K : Flow → Act B) (rest : Plains) (s : State) (f : Frame) → Stands o D m k s f → Fallen m o.here m c K rest s f
+      → (t : State) (g : Frame) (h : Registers) (w : World) → t.frame ≡ s.frame → Kept k f g → Follows S (c calling.Falls t w) (runs_on again' (H again again' P) rest h K (with_frame g t) w)
+  fall-on o D m k c K rest s f st falls t g h w same kept =
+      let c1 = st.ready.count in
+      let le : m ≤ k = (let l = st.low in omega arith) in
+      let v : Moved m s f t g = moved-kept m k s f t g le st.ready same kept in
+      falls t g h w v
+      (subst (λ (e : Frame). Held g.locals m o.here e.scope) (sym same) (held-kept f.locals g.locals m m o.here s.frame.scope st.here (omega arith) v.below))
+      (let e = moved-count m s f t g v in let l = st.low in omega arith)
+
+  -- ---- scopes
+
+  abbrev pub closing_scope : List ℕ → calling.Flow → Act calling.Flow
+  closing_scope os flow = state >>= (λ t. for_all t.frame.scope (end_object again P) >> (frame_changed (λ f. record f { scope = os }) >> gives flow))
+
+  pub scope-closed : (os : List ℕ) (flow : calling.Flow) (t : State) (w : World) → closing_scope os flow t w ≡ Went (Gives flow (with_scope os (all_gone t.frame.scope t))) w
+  scope-closed os flow t w =
+      ap (λ r. and_then r (on (λ u. frame_changed (λ f. record f { scope = os }) >> gives flow))) (ends-all again P classless t.frame.scope t w)
+
+  pub scope-steps : (os : List ℕ) (flow : calling.Flow) (t : State) (w : World) (c : calling.Flow → Act A) (y : Ran (Did B))
+      → Follows S (c flow (with_scope os (all_gone t.frame.scope t)) w) y → Follows S (and_then (closing_scope os flow t w) (on c)) y
+  scope-steps os flow t w c y h = subst (λ r. Follows S (and_then r (on c)) y) (sym (scope-closed os flow t w)) h
+
+  -- what ends within a scope and beyond it
+  pub scope-gone : (xs os : List ℕ) (t : State) (h fr : Frame) → with_frame h (all_gone xs (with_frame fr (all_gone os t))) ≡ with_frame h (all_gone (os ++ xs) t)
+  scope-gone xs os t h fr = ap (with_frame h) (gone-frame xs (all_gone os t) fr) ∙ sym (ap (with_frame h) (gone-append os xs t))
+
+  pub moved-out : (m : ℕ) (s : State) (f : Frame) (t : State) (g : Frame) → Moved m (with_scope [] s) f t g → Moved m s f (with_scope s.frame.scope (all_gone t.frame.scope t)) g
+  moved-out m s f t g v =
+      moved-scope m s f (all_gone t.frame.scope t) g s.frame.scope (moved-gone m s f t g t.frame.scope (moved-opened m s [] f t g v))
+
+  -- the ways out of a block are those of what it stands in
+  pub block-ways : (D : Beyond) (m : ℕ) (s : State) (f : Frame) (c : calling.Flow → Act A) (K : Flow → Act B) → Ways D m s f c K
+      → Ways (record { breaks = s.frame.scope ++ D.breaks; continues = s.frame.scope ++ D.continues; returns = s.frame.scope ++ D.returns }) m (with_scope [] s) f
+      (λ flow. closing_scope s.frame.scope flow >>= c) K
+  block-ways D m s f c K ways = record {
+    breaks = λ t g h w v.
+        scope-steps s.frame.scope calling.Breaks t w c _
+        (subst (λ u. Follows S (c calling.Breaks (with_scope s.frame.scope (all_gone t.frame.scope t)) w) (K (Breaks h) u w))
+        (scope-gone (s.frame.scope ++ D.breaks) t.frame.scope t g (record (all_gone t.frame.scope t).frame { scope = s.frame.scope }))
+        (ways.breaks (with_scope s.frame.scope (all_gone t.frame.scope t)) g h w (moved-out m s f t g v)));
+    continues = λ t g h w v.
+        scope-steps s.frame.scope calling.Continues t w c _
+        (subst (λ u. Follows S (c calling.Continues (with_scope s.frame.scope (all_gone t.frame.scope t)) w) (K (Continues h) u w))
+        (scope-gone (s.frame.scope ++ D.continues) t.frame.scope t g (record (all_gone t.frame.scope t).frame { scope = s.frame.scope }))
+        (ways.continues (with_scope s.frame.scope (all_gone t.frame.scope t)) g h w (moved-out m s f t g v)));
+    returns = λ x t g w v.
+        scope-steps s.frame.scope (calling.Returns x) t w c _
+        (subst (λ u. Follows S (c (calling.Returns x) (with_scope s.frame.scope (all_gone t.frame.scope t)) w) (K (Returns x) u w))
+        (scope-gone (s.frame.scope ++ D.returns) t.frame.scope t g (record (all_gone t.frame.scope t).frame { scope = s.frame.scope }))
+        (ways.returns x (with_scope s.frame.scope (all_gone t.frame.scope t)) g w (moved-out m s f t g v)));
+  }
+
+  -- the end of a scope
+  pub close-steps : (m n : ℕ) (xs : List Local) (s : State) (f : Frame) (os : List ℕ) (rest : Plains) (c : calling.Flow → Act A) (K : Flow → Act B) (flow : calling.Flow)
+      (t : State) (g : Frame) (h : Registers) (w : World)
+      → Held g.locals n (xs ++ []) t.frame.scope
+      → Follows S (c flow (with_scope os (all_gone t.frame.scope t)) w) (runs_on again' (H again again' P) rest h K (with_frame g (all_gone t.frame.scope t)) w)
+      → Follows S (and_then (closing_scope os flow t w) (on c)) (runs_on again' (H again again' P) (finished xs rest) h K (with_frame g t) w)
+  close-steps m n xs s f os rest c K flow t g h w held next =
+      finished-steps again' (H again again' P) classless A B S xs t.frame.scope n rest h K _ t g w
+      (subst (λ ys. Held g.locals n ys t.frame.scope) (append-nil xs) held)
+      (scope-steps os flow t w c _ next)
+
+  abbrev pub Does : Core → Type 0
+  Does st =
+      (m : ℕ) → is_statement m st ≡ true → (o : Open) (D : Beyond) (k : ℕ) (rest : Plains) (g : Registers) (s : State) (f : Frame) (w : World)
+      (c : calling.Flow → Act A) (K : Flow → Act B)
+      → Stands o D m k s f → k + width st ≤ f.count → Ways D m s f c K → Fallen (next_local m st) (declared st ++ o.here) m c K rest s f
+      → Follows S (and_then (does.does again P st s w) (on c)) (runs_on again' (H again again' P) (statement (inside_of P R C o) st k rest) g K (with_frame f s) w)
+
+  pub by-or : {X : Type 0} (a b : Bool) → (a || b) ≡ true → (a ≡ true → X) → (b ≡ true → X) → X
+  by-or true b ok f g = f refl
+  by-or false b ok f g = g ok
+
+  -- what follows a branch or a loop
+  abbrev pub behind : Plains → (Flow → Act B) → Flow → Act B
+  behind rest K = λ flow. falling (λ h. all again' (H again again' P) rest h) flow >>= K
+
+  pub ways-behind : (rest : Plains) (D : Beyond) (m : ℕ) (s : State) (f : Frame) (c : calling.Flow → Act A) (K : Flow → Act B) → Ways D m s f c K → Ways D m s f c (behind rest K)
+  ways-behind rest D m s f c K ways = record { breaks = ways.breaks; continues = ways.continues; returns = ways.returns }
+
+  -- one arm of a branch
+  pub arm-steps : (a : Core) → Does a → (m : ℕ) → not (declares_here a) ≡ true → is_statement m a ≡ true
+      → (o : Open) (D : Beyond) (k l : ℕ) (rest : Plains) (h : Registers) (s : State) (f : Frame) (t : State) (g : Frame) (w : World) (c : calling.Flow → Act A) (K : Flow → Act B)
+      → Stands o D m k s f → Moved m s f t g → Stands o D m l t g → l + width a ≤ g.count → Ways D m s f c K → Fallen m o.here m c K rest s f
+      → Follows S (and_then (does.does again P a t w) (on c)) (runs_on again' (H again again' P) (statement (inside_of P R C o) a l nothing) h (behind rest K) (with_frame g t) w)
+  arm-steps a does-a m inner ok o D k l rest h s f t g w c K st v st1 room ways falls =
+      does-a m ok o D l nothing h t g w c (behind rest K) st1 room (ways-behind rest D m t g c K (ways-later D m m s f t g c K (omega arith) v ways)) (λ u g2 h2 w2 v2 held low.
+      falls u g2 h2 w2 (moved-then m m s f t g u g2 (omega arith) v v2)
+      (subst (λ xs. Held g2.locals m (xs ++ o.here) u.frame.scope) (inner-declared a inner) (subst (λ n. Held g2.locals n (declared a ++ o.here) u.frame.scope) (inner-next m a inner) held))
+      (subst (λ n. n ≤ u.frame.count) (inner-next m a inner) low))
+
+  -- behind a condition
+  pub stands-on : (o : Open) (D : Beyond) (m k l : ℕ) (s : State) (f : Frame) (t : State) (g : Frame) → Stands o D m k s f → t.frame ≡ s.frame → Kept k f g → k ≤ l → l ≤ f.count
+      → Moved m s f t g × Stands o D m l t g
+  stands-on o D m k l s f t g st same kept le room =
+      let c1 = st.ready.count in
+      let m-le : m ≤ k = (let low = st.low in omega arith) in
+      let v : Moved m s f t g = moved-kept m k s f t g m-le st.ready same kept in
+      let count : g.count ≡ f.count = ap (λ (x : Frame). x.count) kept.frame in (
+        v,
+        stands-later o D m m k l o.here s f t g st v (omega arith) (let e = moved-count m s f t g v in let low = st.low in omega arith) le (omega arith)
+            (subst (λ (e : Frame). Held g.locals m o.here e.scope) (sym same) (held-kept f.locals g.locals m m o.here s.frame.scope st.here (omega arith) v.below)),
+      )
+

@@ -1,0 +1,170 @@
+-- Plain statements without a label of their own: a switch passes over them to the labels behind.
+use Rattle.std.proofs.Common.{◌≡◌, ℕ, suc, ◌+◌, length, if◌then◌else◌, Bool, true, false, not, ◌&&◌, ◌||◌, List, [], ◌∷◌, ◌++◌, refl, sym, ◌∙◌, ap, subst}
+use Rattle.std.specs.Prelude.{ℤ, pos, Option, Some, None}
+use Rattle.cf_base.proofs.Tests.{both}
+use Rattle.cf_core.specs.declared.operators.LoopForm.TheVariants as form
+use Rattle.cf_core.specs.Types.{SourceType, parameters, result, is_class}
+use Rattle.cf_core.specs.Core as core
+use Rattle.cf_core.specs.Core.{Core, Cores, MaybeCore, none, absent, given, arithmetic, moved}
+use Rattle.cf_core.specs.Calls.{Program}
+use Rattle.cf_core.specs.Joined.{is_nothing}
+use Rattle.cf_plain.specs.Plain.{Register, Action, Plain, Plains, act, set, branch, loop, leave, continue, give, nothing, more}
+use Rattle.cf_plain.specs.Plain as plain
+use Rattle.cf_plain.specs.Acts.{Registers}
+use Rattle.cf_plain.specs.Running.{Again, has_case, from_case, from_default}
+use Rattle.cf_sequence.specs.Built.{is_value, are_values, are_arguments, is_arithmetic, is_chain}
+use Rattle.cf_sequence.specs.Made.{Local, width, numbers}
+use Rattle.cf_sequence.specs.Expressions.{Full, Destination, destination, value, values, arguments, settled, builds, finished, result_register, used as use_of}
+use Rattle.cf_sequence.proofs.Calling.{never}
+
+module _ (again : Again) (H : Program) where
+  -- code before others that has no label
+  pub record Silent (code : Plains → Plains) : Type 0 where
+    pub labels : (z : ℤ) (rest : Plains) → has_case z (code rest) ≡ has_case z rest
+    pub at_case : (z : ℤ) (rest : Plains) (g : Registers) → from_case again H z (code rest) g ≡ from_case again H z rest g
+    pub at_default : (rest : Plains) (g : Registers) → from_default again H (code rest) g ≡ from_default again H rest g
+
+  pub silent-none : Silent (λ rest. rest)
+  silent-none = record { labels = λ z rest. refl; at_case = λ z rest g. refl; at_default = λ rest g. refl }
+
+  pub silent-set : (n : Register) (a : Action) → Silent (λ rest. more (set n a) rest)
+  silent-set n a = record { labels = λ z rest. refl; at_case = λ z rest g. refl; at_default = λ rest g. refl }
+
+  pub silent-act : (a : Action) → Silent (λ rest. more (act a) rest)
+  silent-act a = record { labels = λ z rest. refl; at_case = λ z rest g. refl; at_default = λ rest g. refl }
+
+  pub silent-branch : (n : Register) (ss ts : Plains) → Silent (λ rest. more (branch n ss ts) rest)
+  silent-branch n ss ts = record { labels = λ z rest. refl; at_case = λ z rest g. refl; at_default = λ rest g. refl }
+
+  pub silent-loop : (ss ts : Plains) → Silent (λ rest. more (loop ss ts) rest)
+  silent-loop ss ts = record { labels = λ z rest. refl; at_case = λ z rest g. refl; at_default = λ rest g. refl }
+
+  pub silent-switch : (n : Register) (ss : Plains) → Silent (λ rest. more (plain.switch n ss) rest)
+  silent-switch n ss = record { labels = λ z rest. refl; at_case = λ z rest g. refl; at_default = λ rest g. refl }
+
+  pub silent-leave : Silent (λ rest. more leave rest)
+  silent-leave = record { labels = λ z rest. refl; at_case = λ z rest g. refl; at_default = λ rest g. refl }
+
+  pub silent-continue : Silent (λ rest. more continue rest)
+  silent-continue = record { labels = λ z rest. refl; at_case = λ z rest g. refl; at_default = λ rest g. refl }
+
+  pub silent-give : (r : Option Register) → Silent (λ rest. more (give r) rest)
+  silent-give r = record { labels = λ z rest. refl; at_case = λ z rest g. refl; at_default = λ rest g. refl }
+
+  pub silent-then : (F G : Plains → Plains) → Silent F → Silent G → Silent (λ rest. F (G rest))
+  silent-then F G p q = record {
+    labels = λ z rest. p.labels z (G rest) ∙ q.labels z rest;
+    at_case = λ z rest g. p.at_case z (G rest) g ∙ q.at_case z rest g;
+    at_default = λ rest g. p.at_default (G rest) g ∙ q.at_default rest g;
+  }
+
+  pub silent-finished : (xs : List Local) → Silent (finished xs)
+  silent-finished [] = silent-none
+  silent-finished (x ∷ xs) = silent-then (λ rest. more (act (plain.finish x.type x.number)) rest) (finished xs) (silent-act _) (silent-finished xs)
+
+  pub silent-used : (n : Register) → Silent (use_of n)
+  silent-used n = silent-act (plain.truth n)
+
+  -- two operands, and then more
+  silent-operands : (F G last : Plains → Plains) (n : Register) → Silent F → Silent G → Silent last → Silent (λ rest. F (use_of n (G (last rest))))
+  silent-operands F G last n p q r =
+      silent-then F (λ rest. use_of n (G (last rest))) p (silent-then (use_of n) (λ rest. G (last rest)) (silent-used n) (silent-then G last q r))
+
+  -- whether an initialiser's value is put or not
+  pub silent-settled : (e : Core) (p n : Register) → Silent (settled e p n)
+  silent-settled e p n = by-test (builds e)
+    where
+      by-test : (b : Bool) → Silent (λ rest. if b then rest else more (act (plain.first p n)) rest)
+      by-test true = silent-none
+      by-test false = silent-act (plain.first p n)
+
+  module _ (P : Program) where
+    mutual
+      pub silent-value : (e : Core) → is_value e ≡ true → (x : Full) (into : Option Destination) (n : Register) (k : ℕ) → Silent (value P.classes x e into n k)
+      silent-value (core.number z) ok x into n k = silent-set n (plain.number z)
+      silent-value (core.local i) ok x into n k = silent-set n (plain.local i)
+      silent-value (core.read e) ok x into n k = silent-then (value P.classes x e None n k) (λ rest. more (set n (plain.read n)) rest) (silent-value e ok x None n k) (silent-set n (plain.read n))
+      silent-value (core.text j bytes) ok x into n k = silent-set n (plain.text j bytes)
+      silent-value (core.address e) ok x into n k = silent-then (value P.classes x e None n k) (use_of n) (silent-value e ok x None n k) (silent-used n)
+      silent-value (core.dereference e) ok x into n k =
+          silent-then (value P.classes x e None n k) (λ rest. more (set n (plain.dereference n)) rest) (silent-value e ok x None n k) (silent-set n (plain.dereference n))
+      silent-value (core.decay e) ok x into n k =
+          silent-then (value P.classes x e None n k) (λ rest. more (set n (plain.decay n)) rest) (silent-value e ok x None n k) (silent-set n (plain.decay n))
+      silent-value (core.from_void t e) ok x into n k =
+          silent-then (value P.classes x e None n k) (λ rest. more (set n (plain.from_void t n)) rest) (silent-value e ok x None n k) (silent-set n (plain.from_void t n))
+      silent-value (core.index a b) ok x into n k =
+          let parts = both (is_value a) (is_value b) ok in
+          silent-operands (value P.classes x a None n k) (value P.classes x b None (suc n) (k + width a)) (λ rest. more (set n (plain.index n (suc n))) rest) n
+          (silent-value a parts.0 x None n k) (silent-value b parts.1 x None (suc n) (k + width a)) (silent-set n (plain.index n (suc n)))
+      silent-value (core.pointer_operate op a b) ok x into n k =
+          let parts = both (is_value a) (is_value b) ok in
+          silent-operands (value P.classes x a None n k) (value P.classes x b None (suc n) (k + width a)) (λ rest. more (set n (plain.pointer_operate op n (suc n))) rest) n
+          (silent-value a parts.0 x None n k) (silent-value b parts.1 x None (suc n) (k + width a)) (silent-set n (plain.pointer_operate op n (suc n)))
+      silent-value (core.convert t e) ok x into n k =
+          silent-then (value P.classes x e None n k) (λ rest. more (set n (plain.convert t n)) rest) (silent-value e ok x None n k) (silent-set n (plain.convert t n))
+      silent-value (core.unary op t e) ok x into n k =
+          silent-then (value P.classes x e None n k) (λ rest. more (set n (plain.unary op t n)) rest) (silent-value e ok x None n k) (silent-set n (plain.unary op t n))
+      silent-value (core.logical_not e) ok x into n k =
+          silent-then (value P.classes x e None n k) (λ rest. more (set n (plain.logical_not n)) rest) (silent-value e ok x None n k) (silent-set n (plain.logical_not n))
+      silent-value (core.operate op t a b) ok x into n k =
+          let parts = both (is_value a) (is_value b) ok in
+          silent-operands (value P.classes x a None n k) (value P.classes x b None (suc n) (k + width a)) (λ rest. more (set n (plain.operate op t n (suc n))) rest) n
+          (silent-value a parts.0 x None n k) (silent-value b parts.1 x None (suc n) (k + width a)) (silent-set n (plain.operate op t n (suc n)))
+      silent-value (core.logical_and a b) ok x into n k =
+          let parts = both (is_value a) (is_value b) ok in
+          silent-then (value P.classes x a None n k)
+          (λ rest. more (set n (plain.truth n)) (more (branch n (value P.classes x b None n (k + width a) (more (set n (plain.truth n)) nothing)) nothing) rest))
+          (silent-value a parts.0 x None n k) (record { labels = λ z rest. refl; at_case = λ z rest g. refl; at_default = λ rest g. refl })
+      silent-value (core.logical_or a b) ok x into n k =
+          let parts = both (is_value a) (is_value b) ok in
+          silent-then (value P.classes x a None n k)
+          (λ rest. more (set n (plain.truth n)) (more (branch n nothing (value P.classes x b None n (k + width a) (more (set n (plain.truth n)) nothing))) rest))
+          (silent-value a parts.0 x None n k) (record { labels = λ z rest. refl; at_case = λ z rest g. refl; at_default = λ rest g. refl })
+      silent-value (core.conditional q a b) ok x into n k =
+          let parts = both (is_value q) (is_value a && is_value b) ok in
+          silent-then (value P.classes x q None n k)
+          (λ rest. more (set n (plain.truth n)) (more (branch n (value P.classes x a None n (k + width q) nothing) (value P.classes x b None n (k + width q + width a) nothing)) rest))
+          (silent-value q parts.0 x None n k) (record { labels = λ z rest. refl; at_case = λ z rest g. refl; at_default = λ rest g. refl })
+      silent-value (core.comma es) ok x into n k = silent-values es ok x n k
+      silent-value (core.store a b) ok x into n k =
+          let parts = both (is_value a) (is_value b) ok in
+          silent-operands (value P.classes x a None n k) (value P.classes x b None (suc n) (k + width a)) (λ rest. more (act (plain.store n (suc n))) rest) n
+          (silent-value a parts.0 x None n k) (silent-value b parts.1 x None (suc n) (k + width a)) (silent-act (plain.store n (suc n)))
+      silent-value (core.update a c b) ok x into n k =
+          let parts = both (is_value a) (is_value b) (both (is_arithmetic c) (is_value a && is_value b) ok).1 in
+          silent-operands (value P.classes x a None n k) (value P.classes x b None (suc n) (k + width a))
+          (λ rest. use_of (suc n) (more (set (suc (suc n)) (plain.read n)) (more (set (suc n) (plain.changed c (suc (suc n)) (suc n))) (more (act (plain.store n (suc n))) rest)))) n
+          (silent-value a parts.0 x None n k) (silent-value b parts.1 x None (suc n) (k + width a)) (record { labels = λ z rest. refl; at_case = λ z rest g. refl; at_default = λ rest g. refl })
+      silent-value (core.step false c e) ok x into n k =
+          silent-then (value P.classes x e None n k)
+          (λ rest. more (set (suc n) (plain.read n)) (more (set (suc (suc n)) (plain.number (pos 1))) (more (set (suc n) (plain.changed c (suc n) (suc (suc n)))) (more (act (plain.store n (suc n))) rest))))
+          (silent-value e (both (is_arithmetic c) (is_value e) ok).1 x None n k) (record { labels = λ z rest. refl; at_case = λ z rest g. refl; at_default = λ rest g. refl })
+      silent-value (core.step true c e) ok x into n k =
+          silent-then (value P.classes x e None (suc n) k)
+          (λ rest. more (set n (plain.read (suc n))) (more (set (suc (suc n)) (plain.number (pos 1))) (more (set (suc (suc n)) (plain.changed c n (suc (suc n)))) (more (act (plain.store (suc n) (suc (suc n)))) rest))))
+          (silent-value e (both (is_arithmetic c) (is_value e) ok).1 x None (suc n) k) (record { labels = λ z rest. refl; at_case = λ z rest g. refl; at_default = λ rest g. refl })
+      silent-value (core.call name t absent args) ok x into n k =
+          let given_args = (both (is_chain t) (are_arguments args) (both (not (is_class (result t))) (is_chain t && are_arguments args) ok).1).1 in
+          let last : Plains → Plains = λ rest. more (set n (plain.call name t None (numbers k (parameters t)) (result_register t into))) rest in
+          silent-then (λ rest. more (act (plain.function name t)) rest) (λ rest. arguments P.classes x (parameters t) args n k (k + length (parameters t) + 0) (last rest)) (silent-act (plain.function name t))
+          (silent-then (arguments P.classes x (parameters t) args n k (k + length (parameters t) + 0)) last (silent-arguments (parameters t) args given_args x n k (k + length (parameters t) + 0))
+          (silent-set n (plain.call name t None (numbers k (parameters t)) (result_register t into))))
+      silent-value e ok x into n k = never ok
+
+      silent-values : (es : Cores) → are_values es ≡ true → (x : Full) (n : Register) (k : ℕ) → Silent (values P.classes x es n k)
+      silent-values none ok x n k = silent-none
+      silent-values (core.more e none) ok x n k = silent-value e ok x None n k
+      silent-values (core.more e (core.more f es)) ok x n k =
+          let parts = both (is_value e) (are_values (core.more f es)) ok in
+          silent-then (value P.classes x e None n k) (values P.classes x (core.more f es) n (k + width e)) (silent-value e parts.0 x None n k) (silent-values (core.more f es) parts.1 x n (k + width e))
+
+      silent-arguments : (ts : List SourceType) (es : Cores) → are_arguments es ≡ true → (x : Full) (n : Register) (i k : ℕ) → Silent (arguments P.classes x ts es n i k)
+      silent-arguments [] none ok x n i k = silent-none
+      silent-arguments [] (core.more e es) ok x n i k = silent-none
+      silent-arguments (t ∷ ts) none ok x n i k = silent-none
+      silent-arguments (t ∷ ts) (core.more e es) ok x n i k =
+          let parts = both (is_value e) (are_arguments es) ok in
+          let others : Plains → Plains = arguments P.classes x ts es n (suc i) (k + width e) in
+          silent-then (λ rest. more (set n (plain.declare i t)) rest) (λ rest. value P.classes x e (destination n t) (suc n) k (settled e n (suc n) (others rest))) (silent-set n (plain.declare i t))
+          (silent-then (value P.classes x e (destination n t) (suc n) k) (λ rest. settled e n (suc n) (others rest)) (silent-value e parts.0 x (destination n t) (suc n) k)
+          (silent-then (settled e n (suc n)) others (silent-settled e n (suc n)) (silent-arguments ts es parts.1 x n (suc i) (k + width e))))

@@ -1,0 +1,511 @@
+-- Switches (6.4.2): the statements behind a label, in a scope of their own, where no local is declared in the switch's own block.
+use Rattle.std.proofs.Common.{◌≡◌, ℕ, zero, suc, ◌+◌, ◌≤◌, ◌<◌, Bool, true, false, not, ◌&&◌, ◌||◌, nat_le, if◌then◌else◌, List, [], ◌∷◌, ◌++◌, length, refl, sym, ◌∙◌, ap, subst, arith, append-nil}
+use Rattle.std.specs.Prelude.{ℤ, pos, int_le, Option, Some, None}
+use Rattle.cf_base.proofs.Tests.{both}
+use Rattle.cf_base.specs.World.{World, Ran, Went, and_then}
+use Rattle.cf_core.specs.declared.operators.LoopForm.TheVariants as form
+use Rattle.cf_core.specs.Types.{SourceType, Name, is_class}
+use Rattle.cf_core.specs.Core as core
+use Rattle.cf_core.specs.Core.{Core, Cores, MaybeCore, Function, none, absent, given}
+use Rattle.cf_core.specs.Nodes.{nodes, nodes_all}
+use Rattle.cf_core.specs.Store.{Value}
+use Rattle.cf_core.specs.Run.{State, Frame, Did, Gives, Act, ◌>>=◌, ◌>>◌, gives, malformed, some_or, done, when, with_frame}
+use Rattle.cf_core.specs.Access.{used, number_of}
+use Rattle.cf_core.specs.Joined.{is_nothing}
+use Rattle.cf_core.specs.Valid.{is_label}
+use Rattle.cf_core.specs.Calls as calling
+use Rattle.cf_core.specs.Calls.{Program, function_named, in_scope, full_expression}
+use Rattle.cf_core.specs.Expressions as meaning
+use Rattle.cf_core.specs.Statements as does
+use Rattle.cf_plain.specs.Plain.{Register, Plain, Plains, act, set, loop, leave, continue, give, nothing, more}
+use Rattle.cf_plain.specs.Plain as plain
+use Rattle.cf_plain.specs.Acts.{Registers}
+use Rattle.cf_plain.specs.Running as running
+use Rattle.cf_plain.specs.Running.{Flow, Falls, Breaks, Continues, Returns, falling, all}
+use Rattle.cf_sequence.specs.Follows.{Follows}
+use Rattle.cf_sequence.specs.Built.{is_value, is_start, is_condition, is_chain, declares_here, is_statement, is_inner_or, are_statements, are_cases, next_local, next_locals}
+use Rattle.cf_sequence.specs.Made.{Local, width, added, declared, declared_all, held_by}
+use Rattle.cf_sequence.specs.Expressions.{Full, destination, finished, settled, flags, ended, whole, value, used as use_of}
+use Rattle.cf_sequence.specs.Statements.{Inside, in_switch, statement, statement_or, statements, started, passing, passed}
+use Rattle.cf_sequence.proofs.Following.{on, pull, pull-two, push, pure-steps}
+use Rattle.cf_sequence.proofs.Steps.{pure-number_of}
+use Rattle.cf_sequence.proofs.Calling.{Bodies, never}
+use Rattle.cf_sequence.proofs.Kept.{Kept, Ready, ready-more}
+use Rattle.cf_sequence.proofs.PlainSteps.{Usable, runs_on}
+use Rattle.cf_sequence.proofs.Evaluating.{H, first-room, second-room}
+use Rattle.cf_sequence.proofs.Moving.{all_gone, gone-append, Held, held-append, held-kept, finished-steps, Moved, moved-count, moved-then, with_scope, Beyond}
+use Rattle.cf_sequence.proofs.Fulls.{used-steps, whole-is, nothing-is, held-none}
+use Rattle.cf_sequence.proofs.Standing.{Open, inside_of, opened, Stands, stands-later, Turns, moved-all, inner-next, inner-declared}
+use Rattle.cf_sequence.proofs.Scopes.{Ways, ways-later, Fallen, closing_scope, scope-closed, scope-gone, moved-out, Does, behind, stands-on}
+use Rattle.cf_sequence.proofs.Silent.{Silent, silent-none, silent-set, silent-then, silent-used, silent-settled, silent-finished, silent-leave, silent-continue, silent-give, silent-value}
+
+-- what a switch looks for
+data Aim : Type 0 where
+  to_case : ℤ → Aim
+  to_default : Aim
+
+abbrev core_from : calling.Again → Program → Aim → Cores → Act calling.Flow
+core_from again P (to_case z) es = does.from_case again P z es
+core_from again P to_default es = does.from_default again P es
+
+abbrev plain_from : running.Again → Program → Aim → Plains → Registers → Act Flow
+plain_from again H (to_case z) ss g = running.from_case again H z ss g
+plain_from again H to_default ss g = running.from_default again H ss g
+
+abbrev core_has : Aim → Cores → Bool
+core_has (to_case z) es = does.has_case z es
+core_has to_default es = does.has_default es
+
+-- a label is a case or the default
+data Label (s : Core) : Type 0 where
+  a_case : (y : ℤ) → s ≡ core.case_label y → Label s
+  the_default : s ≡ core.default_label → Label s
+
+label-of : (s : Core) → is_label s ≡ true → Label s
+label-of (core.case_label y) ok = a_case y refl
+label-of core.default_label ok = the_default refl
+label-of s ok = never ok
+
+or-else : {X : Type 0} (a b : Bool) → (a || b) ≡ true → (a ≡ true → X) → (b ≡ true → X) → X
+or-else true b ok f g = f refl
+or-else false b ok f g = g ok
+
+-- statements that declare nothing are passed without a step
+passed-by : (again : calling.Again) (P : Program) (aim : Aim) (m : ℕ) (s : Core) (rest : Cores) → not (declares_here s) ≡ true → is_statement m s ≡ true
+    → core_from again P aim (core.more s rest) ≡ core_from again P aim rest
+passed-by again P (to_case z) m (core.case_label y) rest free ok = never ok
+passed-by again P (to_case z) m (core.declare i t e) rest free ok = never free
+passed-by again P (to_case z) m (core.sequence es) rest free ok = never free
+passed-by again P (to_case z) m s rest free ok = refl
+passed-by again P to_default m core.default_label rest free ok = never ok
+passed-by again P to_default m (core.declare i t e) rest free ok = never free
+passed-by again P to_default m (core.sequence es) rest free ok = never free
+passed-by again P to_default m s rest free ok = refl
+
+no-label : (aim : Aim) (m : ℕ) (s : Core) (rest : Cores) → is_statement m s ≡ true → core_has aim (core.more s rest) ≡ core_has aim rest
+no-label (to_case z) m (core.case_label y) rest ok = never ok
+no-label (to_case z) m s rest ok = refl
+no-label to_default m core.default_label rest ok = never ok
+no-label to_default m s rest ok = refl
+
+label-declares : (s : Core) → Label s → declared s ≡ []
+label-declares s (a_case y e) = ap declared e
+label-declares s (the_default e) = ap declared e
+
+cases-declare : (m : ℕ) (es : Cores) → are_cases m es ≡ true → declared_all es ≡ []
+cases-declare m none ok = refl
+cases-declare m (core.more s rest) ok =
+    let parts = both (is_label s || (not (declares_here s) && is_statement m s)) (are_cases m rest) ok in
+    ap (λ xs. xs ++ declared s) (cases-declare m rest parts.1)
+    ∙ or-else (is_label s) (not (declares_here s) && is_statement m s) parts.0 (λ l. label-declares s (label-of s l)) (λ ok. inner-declared s (both (not (declares_here s)) (is_statement m s) ok).0)
+
+-- where no local is declared before them, labels pass none
+not-passed : (n : Register) (es : Cores) (rest : Plains) → declared_all es ≡ [] → passed n es rest ≡ rest
+not-passed n es rest none-there = ap (λ (xs : List Local). elim xs as (λ x. Plains) [ [] ↦ rest | x ∷ xs ↦ more (plain.switch n (passing [] es)) rest ]) none-there
+
+-- ---- no statement but a switch's own has its labels
+
+silent-by : (again : running.Again) (H : Program) (F G : Plains → Plains) → ((rest : Plains) → F rest ≡ G rest) → Silent again H G → Silent again H F
+silent-by again H F G same p = record {
+  labels = λ z rest. ap (running.has_case z) (same rest) ∙ p.labels z rest;
+  at_case = λ z rest g. ap (λ ss. running.from_case again H z ss g) (same rest) ∙ p.at_case z rest g;
+  at_default = λ rest g. ap (λ ss. running.from_default again H ss g) (same rest) ∙ p.at_default rest g;
+}
+
+module _ (again : running.Again) (H : Program) (P : Program) (R C : SourceType) (plain-result : is_class R ≡ false) where
+  mutual
+    silent-statement : (s : Core) (m : ℕ) → is_statement m s ≡ true → (o : Open) (k : ℕ) → Silent again H (statement (inside_of P R C o) s k)
+    silent-statement (core.full e) m ok o k =
+        let code : Full → Register → Plains → Plains = λ x n rest. value P.classes x e None n k rest in
+        or-else (is_nothing e) (is_value e) ok
+        (λ blank. silent-by again H (statement (inside_of P R C o) (core.full e) k) (λ rest. rest)
+            (λ rest. ap (λ e. whole e 0 k (λ x n rest. value P.classes x e None n k rest) (λ n. rest)) (nothing-is e blank)) (silent-none again H))
+        (λ is. silent-by again H (statement (inside_of P R C o) (core.full e) k) (value P.classes (record { first = k; base = 0 }) e None (0 + width e) k)
+            (λ rest. whole-is e is 0 k code (λ n. rest)) (silent-value again H P e is (record { first = k; base = 0 }) None (0 + width e) k))
+    silent-statement (core.block es) m ok o k =
+        silent-then again H (statements (inside_of P R C (opened o)) es k) (finished (declared_all es)) (silent-statements es m ok (opened o) k) (silent-finished again H (declared_all es))
+    silent-statement (core.sequence es) m ok o k = silent-statements es m ok o k
+    silent-statement (core.declare i t e) m ok o k =
+        let code : Full → Register → Plains → Plains = λ x n rest. value P.classes x e (destination 0 t) n k rest in
+        let F : Plains → Plains = λ rest. whole e 1 k code (λ m. settled e 0 m rest) in
+        silent-then again H (λ rest. more (set 0 (plain.declare i t)) rest) F (silent-set again H 0 (plain.declare i t))
+        (or-else (is_nothing e) (is_value e) (both (nat_le m i) (is_start e) ok).1
+        (λ blank. silent-by again H F (λ rest. rest)
+            (λ rest. ap (λ e. whole e 1 k (λ x n rest. value P.classes x e (destination 0 t) n k rest) (λ m. settled e 0 m rest)) (nothing-is e blank)) (silent-none again H))
+        (λ is. silent-by again H F (λ rest. value P.classes (record { first = k; base = 1 }) e (destination 0 t) (1 + width e) k (settled e 0 (1 + width e) rest))
+            (λ rest. whole-is e is 1 k code (λ m. settled e 0 m rest))
+            (silent-then again H (value P.classes (record { first = k; base = 1 }) e (destination 0 t) (1 + width e) k) (settled e 0 (1 + width e))
+            (silent-value again H P e is (record { first = k; base = 1 }) (destination 0 t) (1 + width e) k) (silent-settled again H e 0 (1 + width e)))))
+    silent-statement (core.branch q a b) m ok o k =
+        let is = (both (is_value q) ((not (declares_here a) && is_statement m a) && is_inner_or m b) ok).0 in
+        let code : Full → Register → Plains → Plains = λ x n rest. value P.classes x q None n k (more (set n (plain.truth n)) rest) in
+        let branched : Register → Plains → Plains = λ n rest. more (plain.branch n (statement (inside_of P R C o) a (k + width q) nothing) (statement_or (inside_of P R C o) b (k + width q + width a) nothing)) rest in
+        silent-by again H (statement (inside_of P R C o) (core.branch q a b) k)
+        (λ rest. value P.classes (record { first = k; base = 0 }) q None (0 + width q) k (more (set (0 + width q) (plain.truth (0 + width q))) (branched (0 + width q) rest)))
+        (λ rest. whole-is q is 0 k code (λ n. branched n rest))
+        (silent-then again H (value P.classes (record { first = k; base = 0 }) q None (0 + width q) k) (λ rest. more (set (0 + width q) (plain.truth (0 + width q))) (branched (0 + width q) rest))
+        (silent-value again H P q is (record { first = k; base = 0 }) None (0 + width q) k) (record { labels = λ z rest. refl; at_case = λ z rest g. refl; at_default = λ rest g. refl }))
+    silent-statement (core.loop form.While q e s) m ok o k = record { labels = λ z rest. refl; at_case = λ z rest g. refl; at_default = λ rest g. refl }
+    silent-statement (core.loop form.For q e s) m ok o k = record { labels = λ z rest. refl; at_case = λ z rest g. refl; at_default = λ rest g. refl }
+    silent-statement (core.loop form.Do q e s) m ok o k = record { labels = λ z rest. refl; at_case = λ z rest g. refl; at_default = λ rest g. refl }
+    silent-statement (core.switch e es) m ok o k =
+        let parts = both (is_value e) (are_cases m es) ok in
+        let code : Full → Register → Plains → Plains = λ x n rest. value P.classes x e None n k (use_of n rest) in
+        let body : Plains = statements (in_switch (inside_of P R C o)) es (k + width e) (finished (declared_all es) nothing) in
+        let n : ℕ = 0 + width e in
+        silent-by again H (statement (inside_of P R C o) (core.switch e es) k)
+        (λ rest. value P.classes (record { first = k; base = 0 }) e None n k (use_of n (more (plain.switch n body) rest)))
+        (λ rest. whole-is e parts.0 0 k code (λ n. passed n es (more (plain.switch n body) rest))
+            ∙ ap (λ ss. value P.classes (record { first = k; base = 0 }) e None n k (use_of n ss)) (not-passed n es (more (plain.switch n body) rest) (cases-declare m es parts.1)))
+        (silent-then again H (value P.classes (record { first = k; base = 0 }) e None n k) (λ rest. use_of n (more (plain.switch n body) rest))
+        (silent-value again H P e parts.0 (record { first = k; base = 0 }) None n k) (record { labels = λ z rest. refl; at_case = λ z rest g. refl; at_default = λ rest g. refl }))
+    silent-statement core.leave m ok o k =
+        silent-then again H (finished (o.here ++ o.breaks)) (λ rest. more leave rest) (silent-finished again H (o.here ++ o.breaks)) (silent-leave again H)
+    silent-statement core.continue m ok o k =
+        silent-then again H (finished (o.here ++ o.continues)) (λ rest. more continue rest) (silent-finished again H (o.here ++ o.continues)) (silent-continue again H)
+    silent-statement (core.give absent) m ok o k =
+        silent-then again H (finished (o.here ++ o.returns)) (λ rest. more (give None) rest) (silent-finished again H (o.here ++ o.returns)) (silent-give again H None)
+    silent-statement (core.give (given e)) m ok o k =
+        let n : ℕ = 0 + width e in
+        let code : Full → Register → Plains → Plains = λ x n rest. value P.classes x e None n k (use_of n rest) in
+        let by_value : Plains → Plains = λ rest. whole e 0 k code (λ n. finished (o.here ++ o.returns) (more (give (Some n)) rest)) in
+        let in_place : Plains → Plains = λ rest. more (set 0 plain.result) (started P.classes R e 0 k (finished (o.here ++ o.returns) (more (give None) rest))) in
+        silent-by again H (statement (inside_of P R C o) (core.give (given e)) k)
+        (λ rest. value P.classes (record { first = k; base = 0 }) e None n k (use_of n (finished (o.here ++ o.returns) (more (give (Some n)) rest))))
+        (λ rest. ap (λ b. if b then in_place rest else by_value rest) plain-result ∙ whole-is e ok 0 k code (λ n. finished (o.here ++ o.returns) (more (give (Some n)) rest)))
+        (silent-then again H (value P.classes (record { first = k; base = 0 }) e None n k) (λ rest. use_of n (finished (o.here ++ o.returns) (more (give (Some n)) rest)))
+        (silent-value again H P e ok (record { first = k; base = 0 }) None n k)
+        (silent-then again H (use_of n) (λ rest. finished (o.here ++ o.returns) (more (give (Some n)) rest)) (silent-used again H n)
+        (silent-then again H (finished (o.here ++ o.returns)) (λ rest. more (give (Some n)) rest) (silent-finished again H (o.here ++ o.returns)) (silent-give again H (Some n)))))
+    silent-statement s m ok o k = never ok
+
+    silent-statements : (es : Cores) (m : ℕ) → are_statements m es ≡ true → (o : Open) (k : ℕ) → Silent again H (statements (inside_of P R C o) es k)
+    silent-statements none m ok o k = silent-none again H
+    silent-statements (core.more s es) m ok o k =
+        let parts = both (is_statement m s) (are_statements (next_local m s) es) ok in
+        silent-then again H (statement (inside_of P R C o) s k) (statements (inside_of P R C (record o { here = declared s ++ o.here })) es (k + width s))
+        (silent-statement s m parts.0 o k) (silent-statements es (next_local m s) parts.1 (record o { here = declared s ++ o.here }) (k + width s))
+
+-- the locals of the scopes around a switch's own
+abbrev pub switched : Open → Open
+switched o = record { here = []; breaks = []; continues = o.here ++ o.continues; returns = o.here ++ o.returns }
+
+module _ (again : calling.Again) (again' : running.Again) (P : Program) (bodies : Bodies again again' P)
+    (chains : (name : Name) (f : Function) → function_named P name ≡ Some f → is_chain f.type ≡ true)
+    (classless : P.classes ≡ []) (turns : Turns again again' P) (R C : SourceType) (plain-result : is_class R ≡ false)
+    (A B : Type 0) (S : A → State → B → State → Type 0) where
+  -- each statement of a list follows
+  abbrev pub DoAll : Cores → Type 0
+  DoAll none = Unit {0}
+  DoAll (core.more s rest) = Does again again' P bodies chains classless turns R C plain-result A B S s × DoAll rest
+
+  abbrev Out : Beyond → (m : ℕ) → State → Frame → (calling.Flow → Act A) → (Flow → Act B) → Type 0
+  Out = Ways again again' P bodies chains classless turns R C plain-result A B S
+
+  abbrev End : (n : ℕ) (xs : List Local) (m : ℕ) (c : calling.Flow → Act A) (K : Flow → Act B) (rest : Plains) (s : State) (f : Frame) → Type 0
+  End = Fallen again again' P bodies chains classless turns R C plain-result A B S
+
+  abbrev closes : List ℕ → calling.Flow → Act calling.Flow
+  closes = closing_scope again again' P bodies chains classless turns R C plain-result A B S
+
+  abbrev follows_by : Plains → (Flow → Act B) → Flow → Act B
+  follows_by = behind again again' P bodies chains classless turns R C plain-result A B S
+
+  abbrev sts : Open → Cores → ℕ → Plains → Plains
+  sts o es k rest = statements (inside_of P R C o) es k rest
+
+  -- where the code of the next statement begins
+  further-on : (o : Open) (D : Beyond) (m k l : ℕ) (s : State) (f : Frame) → Stands o D m k s f → k ≤ l → l ≤ f.count → Stands o D m l s f
+  further-on o D m k l s f st le room = record {
+    ready = ready-more k l s.frame f le room st.ready;
+    low = st.low;
+    result = st.result;
+    here = st.here;
+    breaks = st.breaks;
+    continues = st.continues;
+    returns = st.returns;
+  }
+
+  -- a label does nothing
+  label-goes-on : (s1 : Core) → Label s1 → (es : Cores) (o : Open) (k : ℕ) (rest : Plains) (g : Registers) (s : State) (f : Frame) (w : World) (c : calling.Flow → Act A) (K : Flow → Act B)
+      → Follows S (and_then (does.does_all again P es s w) (on c)) (runs_on again' (H again again' P) (sts o es (k + width s1) rest) g K (with_frame f s) w)
+      → Follows S (and_then (does.does_all again P (core.more s1 es) s w) (on c)) (runs_on again' (H again again' P) (sts o (core.more s1 es) k rest) g K (with_frame f s) w)
+  label-goes-on s1 (a_case y e) es o k rest g s f w c K =
+      subst (λ s1. Follows S (and_then (does.does_all again P es s w) (on c)) (runs_on again' (H again again' P) (sts o es (k + width s1) rest) g K (with_frame f s) w)
+      → Follows S (and_then (does.does_all again P (core.more s1 es) s w) (on c)) (runs_on again' (H again again' P) (sts o (core.more s1 es) k rest) g K (with_frame f s) w)) (sym e) (λ h. h)
+  label-goes-on s1 (the_default e) es o k rest g s f w c K =
+      subst (λ s1. Follows S (and_then (does.does_all again P es s w) (on c)) (runs_on again' (H again again' P) (sts o es (k + width s1) rest) g K (with_frame f s) w)
+      → Follows S (and_then (does.does_all again P (core.more s1 es) s w) (on c)) (runs_on again' (H again again' P) (sts o (core.more s1 es) k rest) g K (with_frame f s) w)) (sym e) (λ h. h)
+
+  -- the labels and statements of a switch from one on, in order
+  in-order : (es : Cores) (m : ℕ) → are_cases m es ≡ true → DoAll es → (o : Open) (D : Beyond) (k : ℕ) (rest : Plains) (g : Registers) (s : State) (f : Frame) (w : World)
+      (c : calling.Flow → Act A) (K : Flow → Act B)
+      → Stands o D m k s f → k + length (added (nodes_all es)) ≤ f.count → Out D m s f c K → End m o.here m c K rest s f
+      → Follows S (and_then (does.does_all again P es s w) (on c)) (runs_on again' (H again again' P) (sts o es k rest) g K (with_frame f s) w)
+  in-order none m ok all-do o D k rest g s f w c K st room ways falls = falls s f g w (moved-all m k s f st.ready) st.here st.low
+  in-order (core.more s1 es) m ok all-do o D k rest g s f w c K st room ways falls =
+      let parts = both (is_label s1 || (not (declares_here s1) && is_statement m s1)) (are_cases m es) ok in
+      let first : k + width s1 ≤ f.count = first-room k f.count (nodes s1) (nodes_all es) room in
+      let second : (k + width s1) + length (added (nodes_all es)) ≤ f.count = second-room k f.count (nodes s1) (nodes_all es) room in
+      or-else (is_label s1) (not (declares_here s1) && is_statement m s1) parts.0
+      (λ l. label-goes-on s1 (label-of s1 l) es o k rest g s f w c K
+          (in-order es m parts.1 all-do.1 o D (k + width s1) rest g s f w c K (further-on o D m k (k + width s1) s f st (omega arith) first) second ways falls))
+      (λ is.
+          let good = both (not (declares_here s1)) (is_statement m s1) is in
+          pull (does.does again P s1 s w) (does.falling (does.does_all again P es)) c _
+          (all-do.0 m good.1 o D k (sts (record o { here = declared s1 ++ o.here }) es (k + width s1) rest) g s f w
+          (λ flow. does.falling (does.does_all again P es) flow >>= c) K st first
+          (record { breaks = ways.breaks; continues = ways.continues; returns = ways.returns }) (λ t g1 h w1 v held-now low.
+              let count : g1.count ≡ f.count = ap (λ (x : Frame). x.count) v.plain in
+              let here-now : Held g1.locals m o.here t.frame.scope =
+                  subst (λ xs. Held g1.locals m (xs ++ o.here) t.frame.scope) (inner-declared s1 good.0) (subst (λ n. Held g1.locals n (declared s1 ++ o.here) t.frame.scope) (inner-next m s1 good.0) held-now) in
+              let low-now : m ≤ t.frame.count = subst (λ n. n ≤ t.frame.count) (inner-next m s1 good.0) low in
+              subst (λ xs. Follows S (and_then (does.does_all again P es t w1) (on c))
+              (runs_on again' (H again again' P) (sts (record o { here = xs ++ o.here }) es (k + width s1) rest) h K (with_frame g1 t) w1)) (sym (inner-declared s1 good.0))
+              (in-order es m parts.1 all-do.1 o D (k + width s1) rest h t g1 w1 c K
+              (stands-later o D m m k (k + width s1) o.here s f t g1 st v (omega arith) low-now (omega arith) (omega arith) here-now)
+              (omega arith) (ways-later again again' P bodies chains classless turns R C plain-result A B S D m m s f t g1 c K (omega arith) v ways) (λ u g2 h2 w2 v2 held-then low2.
+                  falls u g2 h2 w2 (moved-then m m s f t g1 u g2 (omega arith) v v2) held-then low2)))))
+
+  -- ---- from a label on
+
+  after-or : (a b : Bool) → (a || b) ≡ true → a ≡ false → b ≡ true
+  after-or true b e f = never (sym f)
+  after-or false b e f = e
+
+  -- a case, and where it is another's
+  at-case : (b : Bool) (z : ℤ) (es : Cores) (ss : Plains) (g : Registers) (s : State) (t : State) (w : World) (c : calling.Flow → Act A) (K : Flow → Act B)
+      → Follows S (and_then (does.does_all again P es s w) (on c)) (runs_on again' (H again again' P) ss g K t w)
+      → (b ≡ false → Follows S (and_then (does.from_case again P z es s w) (on c)) (and_then (running.from_case again' (H again again' P) z ss g t w) (on K)))
+      → Follows S (and_then (when b (does.does_all again P es) (does.from_case again P z es) s w) (on c))
+      (and_then (when b (all again' (H again again' P) ss g) (running.from_case again' (H again again' P) z ss g) t w) (on K))
+  at-case true z es ss g s t w c K here later = here
+  at-case false z es ss g s t w c K here later = later refl
+
+  -- a label that is looked at
+  at-label : (aim : Aim) (s1 : Core) → Label s1 → (es : Cores) (o : Open) (k : ℕ) (rest : Plains) (g : Registers) (s : State) (f : Frame) (w : World) (c : calling.Flow → Act A) (K : Flow → Act B)
+      → core_has aim (core.more s1 es) ≡ true
+      → Follows S (and_then (does.does_all again P es s w) (on c)) (runs_on again' (H again again' P) (sts o es (k + width s1) rest) g K (with_frame f s) w)
+      → (core_has aim es ≡ true → Follows S (and_then (core_from again P aim es s w) (on c)) (and_then (plain_from again' (H again again' P) aim (sts o es (k + width s1) rest) g (with_frame f s) w) (on K)))
+      → Follows S (and_then (core_from again P aim (core.more s1 es) s w) (on c)) (and_then (plain_from again' (H again again' P) aim (sts o (core.more s1 es) k rest) g (with_frame f s) w) (on K))
+  at-label (to_case z) s1 (a_case y e) es o k rest g s f w c K =
+      subst (λ s1. does.has_case z (core.more s1 es) ≡ true
+      → Follows S (and_then (does.does_all again P es s w) (on c)) (runs_on again' (H again again' P) (sts o es (k + width s1) rest) g K (with_frame f s) w)
+      → (does.has_case z es ≡ true → Follows S (and_then (does.from_case again P z es s w) (on c)) (and_then (running.from_case again' (H again again' P) z (sts o es (k + width s1) rest) g (with_frame f s) w) (on K)))
+      → Follows S (and_then (does.from_case again P z (core.more s1 es) s w) (on c)) (and_then (running.from_case again' (H again again' P) z (sts o (core.more s1 es) k rest) g (with_frame f s) w) (on K))) (sym e)
+      (λ has here later. at-case (int_le y z && int_le z y) z es (sts o es (k + width (core.case_label y)) rest) g s (with_frame f s) w c K here
+          (λ other. later (after-or (int_le y z && int_le z y) (does.has_case z es) has other)))
+  at-label (to_case z) s1 (the_default e) es o k rest g s f w c K =
+      subst (λ s1. does.has_case z (core.more s1 es) ≡ true
+      → Follows S (and_then (does.does_all again P es s w) (on c)) (runs_on again' (H again again' P) (sts o es (k + width s1) rest) g K (with_frame f s) w)
+      → (does.has_case z es ≡ true → Follows S (and_then (does.from_case again P z es s w) (on c)) (and_then (running.from_case again' (H again again' P) z (sts o es (k + width s1) rest) g (with_frame f s) w) (on K)))
+      → Follows S (and_then (does.from_case again P z (core.more s1 es) s w) (on c)) (and_then (running.from_case again' (H again again' P) z (sts o (core.more s1 es) k rest) g (with_frame f s) w) (on K))) (sym e)
+      (λ has here later. later has)
+  at-label to_default s1 (a_case y e) es o k rest g s f w c K =
+      subst (λ s1. does.has_default (core.more s1 es) ≡ true
+      → Follows S (and_then (does.does_all again P es s w) (on c)) (runs_on again' (H again again' P) (sts o es (k + width s1) rest) g K (with_frame f s) w)
+      → (does.has_default es ≡ true → Follows S (and_then (does.from_default again P es s w) (on c)) (and_then (running.from_default again' (H again again' P) (sts o es (k + width s1) rest) g (with_frame f s) w) (on K)))
+      → Follows S (and_then (does.from_default again P (core.more s1 es) s w) (on c)) (and_then (running.from_default again' (H again again' P) (sts o (core.more s1 es) k rest) g (with_frame f s) w) (on K))) (sym e)
+      (λ has here later. later has)
+  at-label to_default s1 (the_default e) es o k rest g s f w c K =
+      subst (λ s1. does.has_default (core.more s1 es) ≡ true
+      → Follows S (and_then (does.does_all again P es s w) (on c)) (runs_on again' (H again again' P) (sts o es (k + width s1) rest) g K (with_frame f s) w)
+      → (does.has_default es ≡ true → Follows S (and_then (does.from_default again P es s w) (on c)) (and_then (running.from_default again' (H again again' P) (sts o es (k + width s1) rest) g (with_frame f s) w) (on K)))
+      → Follows S (and_then (does.from_default again P (core.more s1 es) s w) (on c)) (and_then (running.from_default again' (H again again' P) (sts o (core.more s1 es) k rest) g (with_frame f s) w) (on K))) (sym e)
+      (λ has here later. here)
+
+  passes-over : (aim : Aim) (F : Plains → Plains) → Silent again' (H again again' P) F → (ss : Plains) (g : Registers)
+      → plain_from again' (H again again' P) aim (F ss) g ≡ plain_from again' (H again again' P) aim ss g
+  passes-over (to_case z) F p ss g = p.at_case z ss g
+  passes-over to_default F p ss g = p.at_default ss g
+
+  none-has : (aim : Aim) → core_has aim none ≡ false
+  none-has (to_case z) = refl
+  none-has to_default = refl
+
+  -- from the label that is looked for on
+  from-label : (aim : Aim) (es : Cores) (m : ℕ) → are_cases m es ≡ true → DoAll es → core_has aim es ≡ true
+      → (o : Open) (D : Beyond) (k : ℕ) (rest : Plains) (g : Registers) (s : State) (f : Frame) (w : World) (c : calling.Flow → Act A) (K : Flow → Act B)
+      → Stands o D m k s f → k + length (added (nodes_all es)) ≤ f.count → Out D m s f c K → End m o.here m c K rest s f
+      → Follows S (and_then (core_from again P aim es s w) (on c)) (and_then (plain_from again' (H again again' P) aim (sts o es k rest) g (with_frame f s) w) (on K))
+  from-label aim none m ok all-do has o D k rest g s f w c K st room ways falls = never (sym (none-has aim) ∙ has)
+  from-label aim (core.more s1 es) m ok all-do has o D k rest g s f w c K st room ways falls =
+      let parts = both (is_label s1 || (not (declares_here s1) && is_statement m s1)) (are_cases m es) ok in
+      let first : k + width s1 ≤ f.count = first-room k f.count (nodes s1) (nodes_all es) room in
+      let second : (k + width s1) + length (added (nodes_all es)) ≤ f.count = second-room k f.count (nodes s1) (nodes_all es) room in
+      let st1 : Stands o D m (k + width s1) s f = further-on o D m k (k + width s1) s f st (omega arith) first in
+      or-else (is_label s1) (not (declares_here s1) && is_statement m s1) parts.0
+      (λ l. at-label aim s1 (label-of s1 l) es o k rest g s f w c K has
+          (in-order es m parts.1 all-do.1 o D (k + width s1) rest g s f w c K st1 second ways falls)
+          (λ has-later. from-label aim es m parts.1 all-do.1 has-later o D (k + width s1) rest g s f w c K st1 second ways falls))
+      (λ is.
+          let good = both (not (declares_here s1)) (is_statement m s1) is in
+          subst (λ (a : Act calling.Flow). Follows S (and_then (a s w) (on c)) (and_then (plain_from again' (H again again' P) aim (sts o (core.more s1 es) k rest) g (with_frame f s) w) (on K)))
+          (sym (passed-by again P aim m s1 es good.0 good.1))
+          (subst (λ (a : Act Flow). Follows S (and_then (core_from again P aim es s w) (on c)) (and_then (a (with_frame f s) w) (on K)))
+          (sym (passes-over aim (statement (inside_of P R C o) s1 k) (silent-statement again' (H again again' P) P R C plain-result s1 m good.1 o k) (sts (record o { here = declared s1 ++ o.here }) es (k + width s1) rest) g))
+          (subst (λ xs. Follows S (and_then (core_from again P aim es s w) (on c)) (and_then (plain_from again' (H again again' P) aim (sts (record o { here = xs ++ o.here }) es (k + width s1) rest) g (with_frame f s) w) (on K)))
+          (sym (inner-declared s1 good.0))
+          (from-label aim es m parts.1 all-do.1 (sym (no-label aim m s1 es good.1) ∙ has) o D (k + width s1) rest g s f w c K st1 second ways falls))))
+
+  label-same : (z : ℤ) (s1 : Core) → Label s1 → (es : Cores) (o : Open) (k : ℕ) → running.has_case z (sts o es (k + width s1) nothing) ≡ does.has_case z es
+      → running.has_case z (sts o (core.more s1 es) k nothing) ≡ does.has_case z (core.more s1 es)
+  label-same z s1 (a_case y e) es o k =
+      subst (λ s1. running.has_case z (sts o es (k + width s1) nothing) ≡ does.has_case z es → running.has_case z (sts o (core.more s1 es) k nothing) ≡ does.has_case z (core.more s1 es))
+      (sym e) (λ h. ap (λ b. (int_le y z && int_le z y) || b) h)
+  label-same z s1 (the_default e) es o k =
+      subst (λ s1. running.has_case z (sts o es (k + width s1) nothing) ≡ does.has_case z es → running.has_case z (sts o (core.more s1 es) k nothing) ≡ does.has_case z (core.more s1 es))
+      (sym e) (λ h. h)
+
+  label-without : (s1 : Core) → Label s1 → (es : Cores) (o : Open) (k : ℕ) (g : Registers) → does.has_default (core.more s1 es) ≡ false
+      → (does.has_default es ≡ false → running.from_default again' (H again again' P) (sts o es (k + width s1) nothing) g ≡ gives (Falls g))
+      → running.from_default again' (H again again' P) (sts o (core.more s1 es) k nothing) g ≡ gives (Falls g)
+  label-without s1 (a_case y e) es o k g =
+      subst (λ s1. does.has_default (core.more s1 es) ≡ false
+      → (does.has_default es ≡ false → running.from_default again' (H again again' P) (sts o es (k + width s1) nothing) g ≡ gives (Falls g))
+      → running.from_default again' (H again again' P) (sts o (core.more s1 es) k nothing) g ≡ gives (Falls g)) (sym e) (λ has later. later has)
+  label-without s1 (the_default e) es o k g =
+      subst (λ s1. does.has_default (core.more s1 es) ≡ false
+      → (does.has_default es ≡ false → running.from_default again' (H again again' P) (sts o es (k + width s1) nothing) g ≡ gives (Falls g))
+      → running.from_default again' (H again again' P) (sts o (core.more s1 es) k nothing) g ≡ gives (Falls g)) (sym e) (λ has later. never (sym has))
+
+  -- the plain statements have the labels of the core's
+  same-cases : (z : ℤ) (es : Cores) (m : ℕ) → are_cases m es ≡ true → (o : Open) (k : ℕ) → running.has_case z (sts o es k nothing) ≡ does.has_case z es
+  same-cases z none m ok o k = refl
+  same-cases z (core.more s1 es) m ok o k =
+      let parts = both (is_label s1 || (not (declares_here s1) && is_statement m s1)) (are_cases m es) ok in
+      or-else (is_label s1) (not (declares_here s1) && is_statement m s1) parts.0
+      (λ l. label-same z s1 (label-of s1 l) es o k (same-cases z es m parts.1 o (k + width s1)))
+      (λ is.
+          let good = both (not (declares_here s1)) (is_statement m s1) is in
+          (silent-statement again' (H again again' P) P R C plain-result s1 m good.1 o k).labels z (sts (record o { here = declared s1 ++ o.here }) es (k + width s1) nothing)
+          ∙ ap (λ xs. running.has_case z (sts (record o { here = xs ++ o.here }) es (k + width s1) nothing)) (inner-declared s1 good.0)
+          ∙ same-cases z es m parts.1 o (k + width s1) ∙ sym (no-label (to_case z) m s1 es good.1))
+
+  -- without the default there is nothing to do
+  no-default : (es : Cores) (m : ℕ) → are_cases m es ≡ true → does.has_default es ≡ false → (o : Open) (k : ℕ) (g : Registers) → running.from_default again' (H again again' P) (sts o es k nothing) g ≡ gives (Falls g)
+  no-default none m ok has o k g = refl
+  no-default (core.more s1 es) m ok has o k g =
+      let parts = both (is_label s1 || (not (declares_here s1) && is_statement m s1)) (are_cases m es) ok in
+      or-else (is_label s1) (not (declares_here s1) && is_statement m s1) parts.0
+      (λ l. label-without s1 (label-of s1 l) es o k g has (λ has-later. no-default es m parts.1 has-later o (k + width s1) g))
+      (λ is.
+          let good = both (not (declares_here s1)) (is_statement m s1) is in
+          (silent-statement again' (H again again' P) P R C plain-result s1 m good.1 o k).at_default (sts (record o { here = declared s1 ++ o.here }) es (k + width s1) nothing) g
+          ∙ ap (λ xs. running.from_default again' (H again again' P) (sts (record o { here = xs ++ o.here }) es (k + width s1) nothing) g) (inner-declared s1 good.0)
+          ∙ no-default es m parts.1 (sym (no-label to_default m s1 es good.1) ∙ has) o (k + width s1) g)
+
+  -- ---- the switch
+
+  nothing-held : (locals : ℕ → Option ℕ) (m : ℕ) (os : List ℕ) → Held locals m [] os → [] ≡ os
+  nothing-held locals m [] h = refl
+  nothing-held locals m (o ∷ os) h = absurd h
+
+  scope-leave : (os : List ℕ) (flow : calling.Flow) (t : State) (w : World) (c : calling.Flow → Act A) (y : Ran (Did B))
+      → Follows S (and_then (does.leaving flow (with_scope os (all_gone t.frame.scope t)) w) (on c)) y
+      → Follows S (and_then ((closes os flow >>= does.leaving) t w) (on c)) y
+  scope-leave os flow t w c y h =
+      subst (λ r. Follows S (and_then (and_then r (on does.leaving)) (on c)) y) (sym (scope-closed again again' P bodies chains classless turns R C plain-result A B S os flow t w)) h
+
+  -- a case, the default, or neither
+  abbrev chosen_case : ℤ → Cores → Act calling.Flow
+  chosen_case z es = when (does.has_case z es) (does.from_case again P z es) (when (does.has_default es) (does.from_default again P es) (gives calling.Falls))
+
+  choose : (b d : Bool) (z : ℤ) (es : Cores) (m : ℕ) → are_cases m es ≡ true → DoAll es → does.has_case z es ≡ b → does.has_default es ≡ d
+      → (o : Open) (D : Beyond) (k : ℕ) (g : Registers) (s : State) (f : Frame) (w : World) (c : calling.Flow → Act A) (K : Flow → Act B)
+      → Stands o D m k s f → k + length (added (nodes_all es)) ≤ f.count → Out D m s f c K → End m o.here m c K nothing s f
+      → Follows S (and_then (when b (does.from_case again P z es) (when d (does.from_default again P es) (gives calling.Falls)) s w) (on c))
+      (and_then (when b (running.from_case again' (H again again' P) z (sts o es k nothing) g) (running.from_default again' (H again again' P) (sts o es k nothing) g) (with_frame f s) w) (on K))
+  choose true d z es m ok all-do has has-default o D k g s f w c K st room ways falls = from-label (to_case z) es m ok all-do has o D k nothing g s f w c K st room ways falls
+  choose false true z es m ok all-do has has-default o D k g s f w c K st room ways falls = from-label to_default es m ok all-do has-default o D k nothing g s f w c K st room ways falls
+  choose false false z es m ok all-do has has-default o D k g s f w c K st room ways falls =
+      subst (λ (a : Act Flow). Follows S (c calling.Falls s w) (and_then (a (with_frame f s) w) (on K))) (sym (no-default es m ok has-default o k g))
+      (falls s f g w (moved-all m k s f st.ready) st.here st.low)
+
+  -- the value is looked up among the labels
+  dispatched : (z : ℤ) (es : Cores) (m : ℕ) → are_cases m es ≡ true → DoAll es → (o : Open) (D : Beyond) (k l : ℕ) (rest : Plains) (h : Registers) (s : State) (f : Frame) (t : State) (g : Frame) (w : World)
+      (c : calling.Flow → Act A) (K : Flow → Act B)
+      → Stands o D m k s f → Moved m s f t g → t.frame.scope ≡ s.frame.scope → Stands o D m l t g → l + length (added (nodes_all es)) ≤ g.count → Out D m s f c K → End m o.here m c K rest s f
+      → Follows S (and_then ((in_scope again P (chosen_case z es) >>= does.leaving) t w) (on c))
+      (and_then ((when (running.has_case z (sts (switched o) es l nothing)) (running.from_case again' (H again again' P) z (sts (switched o) es l nothing) h)
+      (running.from_default again' (H again again' P) (sts (switched o) es l nothing) h) >>= running.leaving) (with_frame g t) w) (on (follows_by rest K)))
+  dispatched z es m ok all-do o D k l rest h s f t g w c K st v same st1 room ways falls =
+      let os : List ℕ = t.frame.scope in
+      let D1 : Beyond = record { breaks = []; continues = os ++ D.continues; returns = os ++ D.returns } in
+      let c1 : calling.Flow → Act A = λ flow. (closes os flow >>= does.leaving) >>= c in
+      let K1 : Flow → Act B = λ flow. running.leaving flow >>= follows_by rest K in
+      let out : (u : State) (g2 : Frame) (h2 : Registers) (w2 : World) → Moved m (with_scope [] t) g u g2
+              → Follows S (c calling.Falls (with_scope os (all_gone u.frame.scope u)) w2) (runs_on again' (H again again' P) rest h2 K (with_frame g2 (all_gone u.frame.scope u)) w2) =
+          λ u g2 h2 w2 v2.
+              let later = moved-then m m s f t g (with_scope os (all_gone u.frame.scope u)) g2 (omega arith) v (moved-out again again' P bodies chains classless turns R C plain-result A B S m t g u g2 v2) in
+              falls (with_scope os (all_gone u.frame.scope u)) g2 h2 w2 later
+              (subst (λ xs. Held g2.locals m o.here xs) (sym same) (held-kept f.locals g2.locals m m o.here s.frame.scope st.here (omega arith) later.below))
+              (let a = moved-count m s f (with_scope os (all_gone u.frame.scope u)) g2 later in let low = st.low in omega arith) in
+      pull-two (chosen_case z es (with_scope [] t) w) (closes os) does.leaving c _
+      (push _ running.leaving (follows_by rest K) _
+      (subst (λ b. Follows S (and_then (chosen_case z es (with_scope [] t) w) (on c1))
+      (and_then (when b (running.from_case again' (H again again' P) z (sts (switched o) es l nothing) h) (running.from_default again' (H again again' P) (sts (switched o) es l nothing) h) (with_frame g t) w) (on K1)))
+      (sym (same-cases z es m ok (switched o) l))
+      (choose (does.has_case z es) (does.has_default es) z es m ok all-do refl refl (switched o) D1 l h (with_scope [] t) g w c1 K1
+      (record {
+          ready = record { alike = record { function = st1.ready.alike.function; this = st1.ready.alike.this; result = st1.ready.alike.result; depth = st1.ready.alike.depth }; count = st1.ready.count; wide = st1.ready.wide; locals = st1.ready.locals };
+          low = st1.low;
+          result = st1.result;
+          here = tt;
+          breaks = tt;
+          continues = held-append g.locals m o.here o.continues os D.continues st1.here st1.continues;
+          returns = held-append g.locals m o.here o.returns os D.returns st1.here st1.returns;
+      })
+      room
+      (record {
+          breaks = λ u g2 h2 w2 v2.
+              scope-leave os calling.Breaks u w2 c _
+              (subst (λ xs. Follows S (c calling.Falls (with_scope os (all_gone u.frame.scope u)) w2) (runs_on again' (H again again' P) rest h2 K (with_frame g2 (all_gone xs u)) w2)) (sym (append-nil u.frame.scope))
+              (out u g2 h2 w2 v2));
+          continues = λ u g2 h2 w2 v2.
+              scope-leave os calling.Continues u w2 c _
+              (subst (λ x. Follows S (c calling.Continues (with_scope os (all_gone u.frame.scope u)) w2) (K (Continues h2) x w2))
+              (scope-gone again again' P bodies chains classless turns R C plain-result A B S (os ++ D.continues) u.frame.scope u g2 (record (all_gone u.frame.scope u).frame { scope = os }))
+              (ways.continues (with_scope os (all_gone u.frame.scope u)) g2 h2 w2
+              (moved-then m m s f t g (with_scope os (all_gone u.frame.scope u)) g2 (omega arith) v (moved-out again again' P bodies chains classless turns R C plain-result A B S m t g u g2 v2))));
+          returns = λ x u g2 w2 v2.
+              scope-leave os (calling.Returns x) u w2 c _
+              (subst (λ y. Follows S (c (calling.Returns x) (with_scope os (all_gone u.frame.scope u)) w2) (K (Returns x) y w2))
+              (scope-gone again again' P bodies chains classless turns R C plain-result A B S (os ++ D.returns) u.frame.scope u g2 (record (all_gone u.frame.scope u).frame { scope = os }))
+              (ways.returns x (with_scope os (all_gone u.frame.scope u)) g2 w2
+              (moved-then m m s f t g (with_scope os (all_gone u.frame.scope u)) g2 (omega arith) v (moved-out again again' P bodies chains classless turns R C plain-result A B S m t g u g2 v2))));
+      })
+      (λ u g2 h2 w2 v2 held-now low.
+          scope-leave os calling.Falls u w2 c _
+          (subst (λ xs. Follows S (c calling.Falls (with_scope os (all_gone u.frame.scope u)) w2) (runs_on again' (H again again' P) rest h2 K (with_frame g2 (all_gone xs u)) w2)) (sym (nothing-held g2.locals m u.frame.scope held-now))
+          (out u g2 h2 w2 v2))))))
+
+  pub switch-steps : (e : Core) (es : Cores) → DoAll es → (m : ℕ) → is_value e ≡ true → are_cases m es ≡ true → (o : Open) (D : Beyond) (k : ℕ) (rest : Plains) (g : Registers) (s : State) (f : Frame) (w : World)
+      (c : calling.Flow → Act A) (K : Flow → Act B)
+      → Stands o D m k s f → k + length (added (nodes e ++ nodes_all es)) ≤ f.count → Out D m s f c K → End m o.here m c K rest s f
+      → Follows S (and_then (does.does again P (core.switch e es) s w) (on c)) (runs_on again' (H again again' P) (statement (inside_of P R C o) (core.switch e es) k rest) g K (with_frame f s) w)
+  switch-steps e es all-do m is ok o D k rest g s f w c K st room ways falls =
+      let n : ℕ = 0 + width e in
+      let l : ℕ = k + width e in
+      let body : Plains = sts (switched o) es l nothing in
+      let first : k + width e ≤ f.count = first-room k f.count (nodes e) (nodes_all es) room in
+      let second : (k + width e) + length (added (nodes_all es)) ≤ f.count = second-room k f.count (nodes e) (nodes_all es) room in
+      let code : Full → Register → Plains → Plains = λ x n rest. value P.classes x e None n k (use_of n rest) in
+      let chosen : ℤ → Act calling.Flow = λ z. in_scope again P (chosen_case z es) >>= does.leaving in
+      let looked : Registers → ℤ → Act Flow = λ h z. when (running.has_case z body) (running.from_case again' (H again again' P) z body h) (running.from_default again' (H again again' P) body h) >>= running.leaving in
+      let code-same : passed n es (more (plain.switch n (sts (switched o) es l (finished (declared_all es) nothing))) rest) ≡ more (plain.switch n body) rest =
+          not-passed n es (more (plain.switch n (sts (switched o) es l (finished (declared_all es) nothing))) rest) (cases-declare m es ok)
+          ∙ ap (λ xs. more (plain.switch n (sts (switched o) es l (finished xs nothing))) rest) (cases-declare m es ok) in
+      subst (λ q. Follows S (and_then (does.does again P (core.switch e es) s w) (on c)) (runs_on again' (H again again' P) (whole e 0 k code (λ n. q)) g K (with_frame f s) w)) (sym code-same)
+      (pull (and_then (full_expression again P (meaning.value again P e None >>= used) s w) (on number_of)) chosen c _
+      (pull (full_expression again P (meaning.value again P e None >>= used) s w) number_of (λ z. chosen z >>= c) _
+      (used-steps again again' P bodies chains A B S e is k (λ x. more (plain.switch n body) rest) g s f w (λ v. number_of v >>= (λ z. chosen z >>= c)) K st.ready first
+      (λ v t h f1 w1 usable at same kept.
+          let count : f1.count ≡ f.count = ap (λ (x : Frame). x.count) kept.frame in
+          let later = stands-on again again' P bodies chains classless turns R C plain-result A B S o D m k l s f t f1 st same kept (omega arith) first in
+          push (running.does again' (H again again' P) (plain.switch n body) h (with_frame f1 t) w1) (falling (λ h. all again' (H again again' P) rest h)) K _
+          (subst (λ r. Follows S (and_then (number_of v t w1) (on (λ z. chosen z >>= c))) (and_then ((((some_or r malformed >>= used) >>= number_of) >>= looked h) (with_frame f1 t) w1) (on (follows_by rest K)))) (sym at)
+          (subst (λ (a : Act Value). Follows S (and_then (number_of v t w1) (on (λ z. chosen z >>= c))) (and_then (((a >>= number_of) >>= looked h) (with_frame f1 t) w1) (on (follows_by rest K)))) (sym usable)
+          (push (number_of v (with_frame f1 t) w1) (looked h) (follows_by rest K) _
+          (pure-steps (number_of v) (pure-number_of v) (λ z. chosen z >>= c) (λ z. looked h z >>= follows_by rest K) t (with_frame f1 t) w1 (λ z.
+              dispatched z es m ok all-do o D k l rest h s f t f1 w1 c K st later.0 (ap (λ (x : Frame). x.scope) same) later.1 (omega arith) ways falls)))))))))

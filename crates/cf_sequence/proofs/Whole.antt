@@ -1,0 +1,461 @@
+-- Functions and whole programs: for each bound of ticks the plain program does what the program does.
+use Rattle.std.proofs.Common.{◌≡◌, ℕ, zero, suc, ◌+◌, ◌≤◌, ◌<◌, cond, Bool, true, false, not, ◌&&◌, ◌||◌, List, [], ◌∷◌, ◌++◌, append-nil, map, reverse, length, length-append, refl, sym, ◌∙◌, ap, subst, arith, if◌then◌else◌, slice_get}
+use Rattle.std.specs.Prelude.{ℤ, pos, Option, Some, None, find, bytes_eq, codes, option_map}
+use Rattle.std.specs.List.{list_all}
+use Rattle.std.proofs.lemmas.List.{reverse-append}
+use Rattle.cf_base.proofs.Tests.{both, same_bytes}
+use Rattle.cf_base.specs.Event.{Event, End, Ticks}
+use Rattle.cf_base.specs.World.{World, Ran, Went, Stops, Outcome, and_then, world_at}
+use Rattle.cf_core.specs.Types.{SourceType, Name, parameters, result, is_class}
+use Rattle.cf_core.specs.Classes.{Class}
+use Rattle.cf_core.specs.Core as core
+use Rattle.cf_core.specs.Core.{Core, Cores, MaybeCore, Function, Static, Role, plain_function, member_function, constructor, destructor}
+use Rattle.cf_core.specs.Nodes.{nodes}
+use Rattle.cf_core.specs.Store.{Value, Missing, Number}
+use Rattle.cf_core.specs.declared.operators.LoopForm.{LoopForm}
+use Rattle.cf_core.specs.declared.operators.LoopForm.TheVariants as form
+use Rattle.cf_core.specs.Run.{State, Frame, Did, Gives, Exits, Malformed, Act, ◌>>=◌, ◌>>◌, gives, state, done, for_all, with_frame}
+use Rattle.cf_core.specs.Calls as calling
+use Rattle.cf_core.specs.Calls.{Program, Setting, root, function_named, frame_of, local_count, run_named, end_object, in_scope, destroy}
+use Rattle.cf_core.specs.Program as program
+use Rattle.cf_core.specs.Program.{Mean, runs, run_body, main_run, status_of, begins, unbuilds, ends, ended_well, first_state, no_frame, left, destroy_statics, destroy_static, ended_run, run_outcome, resumed}
+use Rattle.cf_core.specs.Statements as does
+use Rattle.cf_plain.specs.Plain.{Plain, Plains, PlainFunction, loop, nothing, more}
+use Rattle.cf_plain.specs.Acts.{Registers, no_registers}
+use Rattle.cf_plain.specs.Program as plain
+use Rattle.cf_plain.specs.Program.{PlainMean, headers}
+use Rattle.cf_plain.specs.Running as running
+use Rattle.cf_plain.specs.Running.{Flow, Falls, Breaks, Continues, Returns, calls, core_flow, header, plain_named, all, falling, turning}
+use Rattle.cf_sequence.specs.Follows.{Follows}
+use Rattle.cf_sequence.specs.Built.{is_statement, is_chain, is_body, is_built_function, is_plain_role, is_plainly_built, is_none, next_local}
+use Rattle.cf_sequence.specs.Made.{Local, added, declared, numbered}
+use Rattle.cf_sequence.specs.Expressions.{finished}
+use Rattle.cf_sequence.specs.Statements.{statement}
+use Rattle.cf_sequence.specs.Sequenced.{sequenced, sequenced_function, sequenced_body, flowed_off, class_type}
+use Rattle.cf_core.specs.Valid.{class_of_role}
+use Rattle.cf_sequence.proofs.Following.{on, pull, push}
+use Rattle.cf_sequence.proofs.Calling.{Bodies, FlowAs, SameObjects, Ended, never, named-header, enter-steps, plain_program, plain_function as beside}
+use Rattle.cf_sequence.proofs.Moving.{all_gone, gone-frame, gone-append, ends-all, destroy-nothing, Held, held-kept, finished-steps, Moved, with_scope, Beyond}
+use Rattle.cf_sequence.proofs.Standing.{Open, Stands, Turned, Turns, inside_of, turn_code, step_code}
+use Rattle.cf_sequence.proofs.Scopes.{Ways, scope-gone, scope-steps, closing_scope}
+use Rattle.cf_sequence.proofs.Doing.{follow-statement}
+
+-- ---- the objects of parameters
+
+held-numbered : (locals : ℕ → Option ℕ) (j m : ℕ) (ts : List SourceType) (os : List ℕ) → length os ≡ length ts → j + length ts ≤ m
+    → ((i n : ℕ) → n ≡ j + i → locals n ≡ slice_get os i) → Held locals m (numbered j ts) os
+held-numbered locals j m [] [] l le at = tt
+held-numbered locals j m [] (o ∷ os) l le at = absurd (omega (arith, l))
+held-numbered locals j m (t ∷ ts) [] l le at = absurd (omega (arith, l))
+held-numbered locals j m (t ∷ ts) (o ∷ os) l le at = (
+  at 0 j (omega arith),
+  omega arith,
+  held-numbered locals (suc j) m ts os (let e : suc (length os) ≡ suc (length ts) = l in omega arith) (let e : j + suc (length ts) ≤ m = le in omega arith)
+      (λ i n e. at (suc i) n (omega arith)),
+)
+
+held-together : (locals : ℕ → Option ℕ) (m : ℕ) (xs ys : List Local) (os ps : List ℕ) → Held locals m xs os → Held locals m ys ps → Held locals m (xs ++ ys) (os ++ ps)
+held-together locals m [] ys [] ps h k = k
+held-together locals m [] ys (o ∷ os) ps h k = absurd h
+held-together locals m (x ∷ xs) ys [] ps h k = absurd h
+held-together locals m (x ∷ xs) ys (o ∷ os) ps h k = (h.0, h.1, held-together locals m xs ys os ps h.2 k)
+
+held-reverse : (locals : ℕ → Option ℕ) (m : ℕ) (xs : List Local) (os : List ℕ) → Held locals m xs os → Held locals m (reverse xs) (reverse os)
+held-reverse locals m [] [] h = tt
+held-reverse locals m [] (o ∷ os) h = absurd h
+held-reverse locals m (x ∷ xs) [] h = absurd h
+held-reverse locals m (x ∷ xs) (o ∷ os) h =
+    subst (λ zs. Held locals m zs (reverse (o ∷ os))) (sym (reverse-append (x ∷ []) xs))
+    (subst (λ ps. Held locals m (reverse xs ++ x ∷ []) ps) (sym (reverse-append (o ∷ []) os))
+    (held-together locals m (reverse xs) (x ∷ []) (reverse os) (o ∷ []) (held-reverse locals m xs os h.2) (h.0, h.1, tt)))
+
+held-same : (locals later : ℕ → Option ℕ) (m : ℕ) (xs : List Local) (os ps : List ℕ) → Held locals m xs os → Held later m xs ps → ((i : ℕ) → i < m → later i ≡ locals i) → os ≡ ps
+held-same locals later m [] [] [] h k same = refl
+held-same locals later m [] (o ∷ os) ps h k same = absurd h
+held-same locals later m [] [] (p ∷ ps) h k same = absurd k
+held-same locals later m (x ∷ xs) [] ps h k same = absurd h
+held-same locals later m (x ∷ xs) (o ∷ os) [] h k same = absurd k
+held-same locals later m (x ∷ xs) (o ∷ os) (p ∷ ps) h k same =
+    let there : Some o ≡ Some p = sym (same x.number h.1 ∙ h.0) ∙ k.0 in
+    ap (λ (y : Option ℕ). (elim y as (λ z. ℕ) [ None ↦ o | Some z ↦ z ]) ∷ os) there ∙ ap (λ (zs : List ℕ). p ∷ zs) (held-same locals later m xs os ps h.2 k.2 same)
+
+-- ---- functions by name
+
+abbrev found-or : Function → Option Function → Function
+found-or x None = x
+found-or x (Some y) = y
+
+found-name : (name : Name) (fs : List Function) (f : Function) → find (λ (f : Function). bytes_eq f.name name) fs ≡ Some f → bytes_eq f.name name ≡ true
+found-name name [] f e = absurd (cc)
+found-name name (x ∷ fs) f e = by-test (bytes_eq x.name name) refl e (found-name name fs f)
+  where
+    same-of : bytes_eq x.name name ≡ true → Some x ≡ Some f → bytes_eq f.name name ≡ true
+    same-of t e = subst (λ (y : Option Function). bytes_eq (found-or x y).name name ≡ true) e t
+
+    by-test : (b : Bool) → bytes_eq x.name name ≡ b → cond b (Some x) (find (λ (f : Function). bytes_eq f.name name) fs) ≡ Some f
+        → (find (λ (f : Function). bytes_eq f.name name) fs ≡ Some f → bytes_eq f.name name ≡ true) → bytes_eq f.name name ≡ true
+    by-test true t e rest = same-of t e
+    by-test false t e rest = rest e
+
+picked : {X Y : Type 0} (b : Bool) (x f : X) (g : X → Y) (old : Option X) (new : Option Y)
+    → (old ≡ Some f → new ≡ Some (g f)) → cond b (Some x) old ≡ Some f → cond b (Some (g x)) new ≡ Some (g f)
+picked true x f g old new rest e = ap (option_map g) e
+picked false x f g old new rest e = rest e
+
+named-plain : (cs : List Class) (xs : List Static) (name : Name) (fs : List Function) (others : List PlainFunction) (f : Function)
+    → find (λ (f : Function). bytes_eq f.name name) fs ≡ Some f
+    → find (λ (f : PlainFunction). bytes_eq f.name name) (map (sequenced_function cs xs) fs ++ others) ≡ Some (sequenced_function cs xs f)
+named-plain cs xs name [] others f e = absurd (cc)
+named-plain cs xs name (x ∷ fs) others f e = picked (bytes_eq x.name name) x f (sequenced_function cs xs) _ _ (named-plain cs xs name fs others f) e
+
+found-built : (name : Name) (fs : List Function) (f : Function) → find (λ (f : Function). bytes_eq f.name name) fs ≡ Some f → list_all is_built_function fs ≡ true → is_built_function f ≡ true
+found-built name [] f e ok = absurd (cc)
+found-built name (x ∷ fs) f e ok =
+    let parts = both (is_built_function x) (list_all is_built_function fs) ok in
+    by-test (bytes_eq x.name name) e (λ e. found-built name fs f e parts.1) parts.0
+  where
+    by-test : (b : Bool) → cond b (Some x) (find (λ (f : Function). bytes_eq f.name name) fs) ≡ Some f
+        → (find (λ (f : Function). bytes_eq f.name name) fs ≡ Some f → is_built_function f ≡ true) → is_built_function x ≡ true → is_built_function f ≡ true
+    by-test true e rest here = subst (λ (y : Option Function). is_built_function (found-or x y) ≡ true) e here
+    by-test false e rest here = rest e
+
+-- ---- a program of functions alone
+
+abbrev pub of_functions : List Function → Program
+of_functions fs = record { classes = []; functions = fs; statics = []; constants = []; initialisers = [] }
+
+-- what is entered is a plain function
+abbrev core_body : calling.Again → Program → Role → Bool → Core → List ℕ → Act calling.Flow
+core_body again P role b e args = do
+  before ← state
+  begins P.classes role before.frame.this
+  flow ← in_scope again P (does.does again P e)
+  ended_well b flow
+  unbuilds again P role before.frame.this
+  for_all (reverse args) (end_object again P)
+  ends P.classes role before.frame.this before
+  gives flow
+
+abbrev plain_body : running.Again → Program → Role → Bool → Plains → Act Flow
+plain_body again H role b code = do
+  before ← state
+  begins H.classes role before.frame.this
+  flow ← all again H code no_registers
+  ended_well b (core_flow flow)
+  unbuilds (calls again) H role before.frame.this
+  ends H.classes role before.frame.this before
+  gives flow
+
+role-is : (role : Role) → is_plain_role role ≡ true → role ≡ plain_function
+role-is plain_function ok = refl
+role-is (member_function c) ok = never ok
+role-is (constructor c) ok = never ok
+role-is (destructor c) ok = never ok
+
+no-result : (b : Bool) → not b ≡ true → b ≡ false
+no-result true e = sym e
+no-result false e = refl
+
+-- what a function of the program is
+record Parts (f : Function) : Type 0 where
+  role : f.role ≡ plain_function
+  chain : is_chain f.type ≡ true
+  main : (not (bytes_eq f.name (codes "__main")) || is_none (parameters f.type)) ≡ true
+  scalar : is_class (result f.type) ≡ false
+  statement : is_statement (length (parameters f.type)) f.body ≡ true
+
+built-parts : (f : Function) → is_built_function f ≡ true → Parts f
+built-parts f ok =
+    let main_ok = not (bytes_eq f.name (codes "__main")) || is_none (parameters f.type) in
+    let one = both (is_plain_role f.role) (is_chain f.type && (main_ok && is_body f)) ok in
+    let two = both (is_chain f.type) (main_ok && is_body f) one.1 in
+    let three = both main_ok (is_body f) two.1 in
+    let four = both (not (is_class (result f.type))) (is_statement (length (parameters f.type)) f.body) three.1 in
+    record { role = role-is f.role one.0; chain = two.0; main = three.0; scalar = no-result (is_class (result f.type)) four.0; statement = four.1 }
+
+main-takes-nothing : (f : Function) → Parts f → bytes_eq f.name (codes "__main") ≡ true → length (parameters f.type) ≡ 0
+main-takes-nothing f parts e = by-list (parameters f.type) (subst (λ b. (not b || is_none (parameters f.type)) ≡ true) e parts.main)
+  where
+    by-list : (ts : List SourceType) → is_none ts ≡ true → length ts ≡ 0
+    by-list [] ok = refl
+    by-list (t ∷ ts) ok = never ok
+
+module _ (again : calling.Again) (again' : running.Again) (fs : List Function) (bodies : Bodies again again' (of_functions fs))
+    (chains : (name : Name) (f : Function) → function_named (of_functions fs) name ≡ Some f → is_chain f.type ≡ true)
+    (turns : Turns again again' (of_functions fs)) where
+  abbrev P : Program
+  P = of_functions fs
+
+  abbrev H : Program
+  H = plain_program again again' P
+
+  -- the end of a body: the objects of its parameters end
+  parameters-end : (args : List ℕ) (flow : calling.Flow) (t : State) (w : World)
+      → (for_all (reverse args) (end_object again P) >> gives flow) t w ≡ Went (Gives flow (all_gone (reverse args) t)) w
+  parameters-end args flow t w = ap (λ r. and_then r (on (λ u. gives flow))) (ends-all again P refl (reverse args) t w)
+
+  module _ (R C : SourceType) (scalar : is_class R ≡ false) (args : List ℕ) where
+    abbrev last : calling.Flow → Act calling.Flow
+    last flow = for_all (reverse args) (end_object again P) >> gives flow
+
+    abbrev closes : calling.Flow → Act calling.Flow
+    closes = closing_scope again again' P bodies chains refl turns R C scalar calling.Flow Flow Ended []
+
+    ended-with : (x : calling.Flow) (y : Flow) (t u : State) (w : World) → FlowAs x y → SameObjects x (all_gone (reverse args) (with_scope [] (all_gone t.frame.scope t))) u
+        → Follows Ended (and_then (closes x t w) (on last)) (Went (Gives y u) w)
+    ended-with x y t u w flow same =
+        scope-steps again again' P bodies chains refl turns R C scalar calling.Flow Flow Ended [] x t w last (Went (Gives y u) w)
+        (subst (λ r. Follows Ended r (Went (Gives y u) w)) (sym (parameters-end args x (with_scope [] (all_gone t.frame.scope t)) w))
+        (record { by = record { value = y; after = u; run = refl; related = record { flow = flow; same = same } } }))
+
+    all-ended : (t : State) (g : Frame) → with_frame g (all_gone (reverse args) (all_gone t.frame.scope t)) ≡ with_frame g (all_gone (reverse args) (with_scope [] (all_gone t.frame.scope t)))
+    all-ended t g = sym (ap (with_frame g) (gone-frame (reverse args) (all_gone t.frame.scope t) (with_scope [] (all_gone t.frame.scope t)).frame))
+
+    all-returned : (t : State) (g : Frame) → with_frame g (all_gone (t.frame.scope ++ reverse args) t) ≡ with_frame g (all_gone (reverse args) (with_scope [] (all_gone t.frame.scope t)))
+    all-returned t g = ap (with_frame g) (gone-append t.frame.scope (reverse args) t) ∙ all-ended t g
+
+  body-follows : (f : Function) → is_class (result f.type) ≡ false → is_statement (length (parameters f.type)) f.body ≡ true → (args : List ℕ) → length args ≡ length (parameters f.type)
+      → (depth : ℕ) (s : State) (w : World)
+      → Follows Ended
+      (and_then (in_scope again P (does.does again P f.body) (with_frame (frame_of f.name (local_count f) args None None depth) s) w)
+      (on (λ flow. for_all (reverse args) (end_object again P) >> gives flow)))
+      (and_then (all again' H (sequenced_body [] [] f) no_registers (with_frame (frame_of f.name (local_count (beside again again' P f)) args None None depth) s) w) (on gives))
+  body-follows f scalar ok args many depth s w =
+      let e : Frame = frame_of f.name (local_count f) args None None depth in
+      let g : Frame = frame_of f.name (local_count (beside again again' P f)) args None None depth in
+      let s0 : State = with_frame e s in
+      let m : ℕ = length (parameters f.type) in
+      let k : ℕ = length (parameters f.type) + length f.locals in
+      let wide : g.count ≡ k + length (added (nodes f.body)) = (let x = length-append f.locals (added (nodes f.body)) in omega arith) in
+      let R : SourceType = result f.type in
+      let C : SourceType = class_type (class_of_role f.role) in
+      let params : List Local = reverse (numbered 0 (parameters f.type)) in
+      let o : Open = record { here = []; breaks = []; continues = []; returns = params } in
+      let D : Beyond = record { breaks = []; continues = []; returns = reverse args } in
+      let held : Held (λ i. slice_get args i) m params (reverse args) =
+      held-reverse (λ i. slice_get args i) m (numbered 0 (parameters f.type)) args
+      (held-numbered (λ i. slice_get args i) 0 m (parameters f.type) args many (omega arith) (λ i n e. ap (slice_get args) (let x : n ≡ i = omega arith in x))) in
+      let room : k + length (added (nodes f.body)) ≤ g.count = omega arith in
+      subst (λ b. Follows Ended (and_then (in_scope again P (does.does again P f.body) s0 w) (on (last R C scalar args)))
+      (and_then (all again' H (statement (inside_of P R C o) f.body k (finished (declared f.body) (if b then nothing else finished params nothing))) no_registers (with_frame g s) w) (on gives)))
+      (sym scalar)
+      (pull (does.does again P f.body s0 w) (closes R C scalar args) (last R C scalar args) _
+      (follow-statement again again' P bodies chains refl turns R C scalar calling.Flow Flow Ended f.body m ok o D k
+      (finished (declared f.body) (finished params nothing)) no_registers s0 g w (λ flow. closes R C scalar args flow >>= last R C scalar args) gives
+      (record {
+        ready = record { alike = record { function = refl; this = refl; result = refl; depth = refl }; count = omega arith; wide = omega arith; locals = λ i lt. refl };
+        low = omega arith;
+        result = refl;
+        here = tt;
+        breaks = tt;
+        continues = tt;
+        returns = held;
+      })
+      room
+      (record {
+        breaks = λ t g2 h w2 v. ended-with R C scalar args calling.Breaks (Breaks h) t _ w2 tt tt;
+        continues = λ t g2 h w2 v. ended-with R C scalar args calling.Continues (Continues h) t _ w2 tt tt;
+        returns = λ x t g2 w2 v. ended-with R C scalar args (calling.Returns x) (Returns x) t (with_frame g2 (all_gone (t.frame.scope ++ reverse args) t)) w2 refl (all-returned R C scalar args t g2);
+      })
+      (λ t g2 h w2 v held-now low.
+      finished-steps again' H refl calling.Flow Flow Ended (declared f.body) t.frame.scope (next_local m f.body) (finished params nothing) h gives _ t g2 w2
+      (subst (λ xs. Held g2.locals (next_local m f.body) xs t.frame.scope) (append-nil (declared f.body)) held-now)
+      (finished-steps again' H refl calling.Flow Flow Ended params (reverse args) m nothing h gives _ (all_gone t.frame.scope t) g2 w2
+      (held-kept (λ i. slice_get args i) g2.locals m m params (reverse args) held (omega arith) v.below)
+      (ended-with R C scalar args calling.Falls (Falls h) t (with_frame g2 (all_gone (reverse args) (all_gone t.frame.scope t))) w2 tt (all-ended R C scalar args t g2))))))
+
+  -- a function's body, with what comes round it
+  entered-follows : (f : Function) → is_built_function f ≡ true → (args : List ℕ) → length args ≡ length (parameters f.type) → (depth : ℕ) (s : State) (w : World)
+      → Follows Ended
+      (run_body again P f args (with_frame (frame_of f.name (local_count f) args None None depth) s) w)
+      (running.run_body again' H (sequenced_function [] [] f) (with_frame (frame_of f.name (local_count (beside again again' P f)) args None None depth) s) w)
+  entered-follows f ok args many depth s w =
+      let parts = built-parts f ok in
+      let s0 : State = with_frame (frame_of f.name (local_count f) args None None depth) s in
+      let t0 : State = with_frame (frame_of f.name (local_count (beside again again' P f)) args None None depth) s in
+      subst (λ role. Follows Ended (core_body again P role (is_class (result f.type)) f.body args s0 w) (plain_body again' H role (is_class (result f.type)) (sequenced_body [] [] f) t0 w))
+      (sym parts.role)
+      (subst (λ b. Follows Ended (core_body again P plain_function b f.body args s0 w) (plain_body again' H plain_function b (sequenced_body [] [] f) t0 w)) (sym parts.scalar)
+      (body-follows f parts.scalar parts.statement args many depth s w))
+
+unit-right : {A : Type 0} (x : Ran (Did A)) → and_then x (on gives) ≡ x
+unit-right (Went (Gives a s) w) = refl
+unit-right (Went (Exits z s) w) = refl
+unit-right (Went Malformed w) = refl
+unit-right (Stops end trace) = refl
+
+falls-unit : (again : running.Again) (H : Program) (x : Ran (Did Flow)) → and_then (and_then x (on (falling (λ h. all again H nothing h)))) (on gives) ≡ x
+falls-unit again H (Went (Gives (Falls h) s) w) = refl
+falls-unit again H (Went (Gives (Breaks h) s) w) = refl
+falls-unit again H (Went (Gives (Continues h) s) w) = refl
+falls-unit again H (Went (Gives (Returns v) s) w) = refl
+falls-unit again H (Went (Exits z s) w) = refl
+falls-unit again H (Went Malformed w) = refl
+falls-unit again H (Stops end trace) = refl
+
+-- ---- for each bound of ticks
+
+module _ (fs : List Function) (ok : list_all is_built_function fs ≡ true) where
+  abbrev Q : Program
+  Q = headers (sequenced (of_functions fs))
+
+  abbrev code_of : List PlainFunction
+  code_of = (sequenced (of_functions fs)).functions ++ (sequenced (of_functions fs)).initialisers
+
+  chains-of : (name : Name) (f : Function) → function_named (of_functions fs) name ≡ Some f → is_chain f.type ≡ true
+  chains-of name f e = (built-parts f (found-built name fs f e ok)).chain
+
+  record Both (n : ℕ) : Type 0 where
+    bodies : Bodies (runs (of_functions fs) n) (running.runs Q code_of n) (of_functions fs)
+    turns : Turns (runs (of_functions fs) n) (running.runs Q code_of n) (of_functions fs)
+
+  turn-by : (n : ℕ) (how : LoopForm) (q e : MaybeCore) (body : Core) (o : Open) (D : Beyond) (m k : ℕ) (g : Registers) (s : State) (f : Frame) (w : World) (R C : SourceType)
+      → Follows (Turned D m s f) (and_then (does.does (runs (of_functions fs) n) (of_functions fs) (core.loop how q e body) s w) (on gives))
+      (and_then (all (running.runs Q code_of n) Q (more (loop (turn_code (inside_of (of_functions fs) R C o) how q e body k) (step_code (inside_of (of_functions fs) R C o) how q e body k)) nothing) g (with_frame f s) w) (on gives))
+      → Follows (Turned D m s f) (does.does (runs (of_functions fs) n) (of_functions fs) (core.loop how q e body) s w)
+      (running.does (running.runs Q code_of n) Q (loop (turn_code (inside_of (of_functions fs) R C o) how q e body k) (step_code (inside_of (of_functions fs) R C o) how q e body k)) g (with_frame f s) w)
+  turn-by n how q e body o D m k g s f w R C h =
+      let again' = running.runs Q code_of n in
+      let the_loop : Plain = loop (turn_code (inside_of (of_functions fs) R C o) how q e body k) (step_code (inside_of (of_functions fs) R C o) how q e body k) in
+      subst (λ y. Follows (Turned D m s f) (does.does (runs (of_functions fs) n) (of_functions fs) (core.loop how q e body) s w) y)
+      (falls-unit again' Q (running.does again' Q the_loop g (with_frame f s) w))
+      (subst (λ x. Follows (Turned D m s f) x (and_then (all again' Q (more the_loop nothing) g (with_frame f s) w) (on gives)))
+      (unit-right (does.does (runs (of_functions fs) n) (of_functions fs) (core.loop how q e body) s w)) h)
+
+  turn-ways : (n : ℕ) (b : Both n) (R C : SourceType) (scalar : is_class R ≡ false) (o : Open) (D : Beyond) (m k : ℕ) (s : State) (f : Frame)
+      → Ways (runs (of_functions fs) n) (running.runs Q code_of n) (of_functions fs) b.bodies chains-of refl b.turns R C scalar calling.Flow Flow (Turned D m s f) D m s f gives gives
+  turn-ways n b R C scalar o D m k s f = record {
+    breaks = λ t g h w v. record { by = record { value = Breaks h; after = with_frame g (all_gone (t.frame.scope ++ D.breaks) t); run = refl; related = record { plain = g; moved = v; ends = refl } } };
+    continues = λ t g h w v. record { by = record { value = Continues h; after = with_frame g (all_gone (t.frame.scope ++ D.continues) t); run = refl; related = record { plain = g; moved = v; ends = refl } } };
+    returns = λ x t g w v. record { by = record { value = Returns x; after = with_frame g (all_gone (t.frame.scope ++ D.returns) t); run = refl; related = record { plain = g; moved = v; ends = (refl, refl) } } };
+  }
+
+  turn-falls : (o : Open) (D : Beyond) (m k : ℕ) (s : State) (f : Frame) → Stands o D m k s f
+      → (t : State) (g : Frame) (h : Registers) (w : World) → Moved m s f t g → Held g.locals m o.here t.frame.scope
+      → Follows (Turned D m s f) (Went (Gives calling.Falls t) w) (Went (Gives (Falls h) (with_frame g t)) w)
+  turn-falls o D m k s f st t g h w v held = record {
+    by = record {
+      value = Falls h;
+      after = with_frame g t;
+      run = refl;
+      related = record { plain = g; moved = v; ends = (sym (held-same f.locals g.locals m o.here s.frame.scope t.frame.scope st.here held v.below), refl) };
+    };
+  }
+
+  next-turns : (n : ℕ) → Both n → Turns (runs (of_functions fs) (suc n)) (running.runs Q code_of (suc n)) (of_functions fs)
+  next-turns n b R C scalar form.While q e body m is-ok o D k g s f w st room = turn-by n form.While q e body o D m k g s f w R C
+      (follow-statement (runs (of_functions fs) n) (running.runs Q code_of n) (of_functions fs) b.bodies chains-of refl b.turns R C scalar calling.Flow Flow (Turned D m s f)
+      (core.loop form.While q e body) m is-ok o D k nothing g s f w gives gives st room (turn-ways n b R C scalar o D m k s f) (λ t g h w v held low. turn-falls o D m k s f st t g h w v held))
+  next-turns n b R C scalar form.For q e body m is-ok o D k g s f w st room = turn-by n form.For q e body o D m k g s f w R C
+      (follow-statement (runs (of_functions fs) n) (running.runs Q code_of n) (of_functions fs) b.bodies chains-of refl b.turns R C scalar calling.Flow Flow (Turned D m s f)
+      (core.loop form.For q e body) m is-ok o D k nothing g s f w gives gives st room (turn-ways n b R C scalar o D m k s f) (λ t g h w v held low. turn-falls o D m k s f st t g h w v held))
+  next-turns n b R C scalar form.Do q e body m is-ok o D k g s f w st room = turn-by n form.Do q e body o D m k g s f w R C
+      (follow-statement (runs (of_functions fs) n) (running.runs Q code_of n) (of_functions fs) b.bodies chains-of refl b.turns R C scalar calling.Flow Flow (Turned D m s f)
+      (core.loop form.Do q e body) m is-ok o D k nothing g s f w gives gives st room (turn-ways n b R C scalar o D m k s f) (λ t g h w v held low. turn-falls o D m k s f st t g h w v held))
+
+  next-bodies : (n : ℕ) → Both n → Bodies (runs (of_functions fs) (suc n)) (running.runs Q code_of (suc n)) (of_functions fs)
+  next-bodies n b name f found args many depth s w =
+      let again = runs (of_functions fs) n in
+      let again' = running.runs Q code_of n in
+      let t0 : State = with_frame (frame_of f.name (local_count (beside again again' (of_functions fs) f)) args None None depth) s in
+      let same : f.name ≡ name = same_bytes f.name name (found-name name fs f found) in
+      let here : function_named (of_functions fs) f.name ≡ Some f = subst (λ n. function_named (of_functions fs) n ≡ Some f) (sym same) found in
+      subst (λ x. Follows Ended (run_body again (of_functions fs) f args (with_frame (frame_of f.name (local_count f) args None None depth) s) w) (running.run_found again' Q x t0 w))
+      (sym (named-plain [] [] f.name fs (sequenced (of_functions fs)).initialisers f here))
+      (entered-follows again again' fs b.bodies chains-of b.turns f (found-built name fs f found ok) args many depth s w)
+
+  both-at : (n : ℕ) → Both n
+  both-at zero = record { bodies = λ name f found args many depth s w. record { by = refl }; turns = λ R C scalar how q e body m is-ok o D k g s f w st room. record { by = refl } }
+  both-at (suc n) = record { bodies = next-bodies n (both-at n); turns = next-turns n (both-at n) }
+
+  -- ---- the whole run
+
+  nothing-to-destroy : (again : calling.Again) (P : Program) → P.classes ≡ [] → (o : ℕ) (s : State) (w : World) → destroy_static again P o s w ≡ Went (Gives tt s) w
+  nothing-to-destroy again P e o s w = ap (λ (a : Act (Unit {0})). a s w) (destroy-nothing again P e (s.object o).type (root o))
+
+  abbrev statics_by : calling.Again → Program → ℕ → ℕ → ℤ → State → World → List ℕ → Ran (Did ℤ)
+  statics_by a P depth n status s w os = elim os [
+    | [] ↦ Went (Gives status s) w
+    | o ∷ rest ↦ and_then (destroy_static a P o (record s { finished = rest }) w) (resumed depth (destroy_statics a P depth n) status)
+  ]
+
+  statics-end : (a b : calling.Again) (P R : Program) → P.classes ≡ [] → R.classes ≡ [] → (depth n : ℕ) (status : ℤ) (s : State) (w : World)
+      → destroy_statics a P depth n status s w ≡ destroy_statics b R depth n status s w
+  statics-end a b P R e f depth zero status s w = refl
+  statics-end a b P R e f depth (suc n) status s w = by-list s.finished (λ rest. statics-end a b P R e f depth n status (record s { finished = rest }) w)
+    where
+      by-list : (os : List ℕ)
+          → ((rest : List ℕ) → destroy_statics a P depth n status (record s { finished = rest }) w ≡ destroy_statics b R depth n status (record s { finished = rest }) w)
+          → statics_by a P depth n status s w os ≡ statics_by b R depth n status s w os
+      by-list [] later = refl
+      by-list (o ∷ rest) later =
+          ap (λ r. and_then r (resumed depth (destroy_statics a P depth n) status)) (nothing-to-destroy a P e o (record s { finished = rest }) w)
+          ∙ later rest
+          ∙ sym (ap (λ r. and_then r (resumed depth (destroy_statics b R depth n) status)) (nothing-to-destroy b R f o (record s { finished = rest }) w))
+
+  abbrev SameNumber : ℤ → State → ℤ → State → Type 0
+  SameNumber a s b t = (a ≡ b) × (t ≡ with_frame t.frame s)
+
+  left-same : (depth : ℕ) (s t : State) → t ≡ with_frame t.frame s → left depth t ≡ left depth s
+  left-same depth s t e = ap (left depth) e
+
+  outcomes : (a b : calling.Again) (R : Program) → R.classes ≡ [] → (depth n : ℕ) (x y : Ran (Did ℤ)) (o : Outcome) → Follows SameNumber x y
+      → run_outcome (and_then x (ended_run a (of_functions fs) depth n)) ≡ Some o → run_outcome (and_then y (ended_run b R depth n)) ≡ Some o
+  outcomes a b R e depth n (Stops end trace) y o h is = ap (λ y. run_outcome (and_then y (ended_run b R depth n))) h.by ∙ is
+  outcomes a b R e depth n (Went Malformed w) y o h is = absurd (cc)
+  outcomes a b R e depth n (Went (Exits z s) w) y o h is =
+      ap (λ y. run_outcome (and_then y (ended_run b R depth n))) h.by.run
+      ∙ ap (λ t. run_outcome (destroy_statics b R depth n z t w)) (left-same depth s h.by.after h.by.same)
+      ∙ ap run_outcome (sym (statics-end a b (of_functions fs) R refl e depth n z (left depth s) w)) ∙ is
+  outcomes a b R e depth n (Went (Gives z s) w) y o h is =
+      ap (λ y. run_outcome (and_then y (ended_run b R depth n))) h.by.run
+      ∙ ap (λ z. run_outcome (destroy_statics b R depth n z (left depth h.by.after) w)) (sym h.by.related.0)
+      ∙ ap (λ t. run_outcome (destroy_statics b R depth n z t w)) (left-same depth s h.by.after h.by.related.1)
+      ∙ ap run_outcome (sym (statics-end a b (of_functions fs) R refl e depth n z (left depth s) w)) ∙ is
+
+  status-steps : (v : Value) (s : State) (f : Frame) (w : World) → Follows SameNumber (status_of v s w) (status_of v (with_frame f s) w)
+  status-steps (Number z) s f w = record { by = record { value = z; after = with_frame f s; run = refl; related = (refl, refl) } }
+  status-steps Missing s f w = record { by = record { value = pos 0; after = with_frame f s; run = refl; related = (refl, refl) } }
+  status-steps v s f w = record { by = tt }
+
+  main-follows : (n : ℕ) (x : Option Function) → function_named (of_functions fs) (codes "__main") ≡ x → (s : State) (w : World)
+      → Follows SameNumber (and_then (run_named (runs (of_functions fs) n) (of_functions fs) (codes "__main") [] None None s w) (on status_of))
+      (and_then (run_named (calls (running.runs Q code_of n)) Q (codes "__main") [] None None s w) (on status_of))
+  main-follows n None found s w =
+      subst (λ x. Follows SameNumber (and_then (calling.enter_found (runs (of_functions fs) n) x [] None None s w) (on status_of))
+      (and_then (run_named (calls (running.runs Q code_of n)) Q (codes "__main") [] None None s w) (on status_of))) (sym found) (record { by = tt })
+  main-follows n (Some f) found s w =
+      let again = runs (of_functions fs) n in
+      let again' = running.runs Q code_of n in
+      let parts = built-parts f (found-built (codes "__main") fs f found ok) in
+      subst (λ x. Follows SameNumber (and_then (calling.enter_found again x [] None None s w) (on status_of))
+      (and_then (run_named (calls again') Q (codes "__main") [] None None s w) (on status_of))) (sym found)
+      (subst (λ x. Follows SameNumber (and_then (calling.enter again f [] None None s w) (on status_of))
+      (and_then (calling.enter_found (calls again') x [] None None s w) (on status_of))) (sym (named-header [] [] (codes "__main") fs (sequenced (of_functions fs)).initialisers f found))
+      (enter-steps again again' (of_functions fs) (both-at n).bodies s s.frame status_of status_of (λ v t w same. status-steps v t s.frame w) (codes "__main") f found []
+      (sym (main-takes-nothing f parts (found-name (codes "__main") fs f found))) (record { function = refl; this = refl; result = refl; depth = refl }) w))
+
+  pub programs-agree : (input : List ℕ) (heap depth n : ℕ) (o : Outcome) → Mean (of_functions fs) input heap depth n ≡ Some o → PlainMean (sequenced (of_functions fs)) input heap depth n ≡ Some o
+  programs-agree input heap depth n o is =
+      outcomes (runs (of_functions fs) n) (calls (running.runs Q code_of n)) Q refl depth (suc n) _ _ o
+      (main-follows n (function_named (of_functions fs) (codes "__main")) refl (first_state (of_functions fs) depth) (world_at n input heap)) is
+
+pub empty-list : {A : Type 0} (xs : List A) → is_none xs ≡ true → xs ≡ []
+empty-list [] ok = refl
+empty-list (x ∷ xs) ok = never ok
+
+-- The plain program has the program's meaning: the same trace and the same end, with the same ticks.
+pub sequencing-keeps : (P : Program) → is_plainly_built P ≡ true → (input : List ℕ) (heap depth n : ℕ) (o : Outcome)
+    → Mean P input heap depth n ≡ Some o → PlainMean (sequenced P) input heap depth n ≡ Some o
+sequencing-keeps P ok input heap depth n o is =
+    let one = both (is_none P.classes) (is_none P.statics && (is_none P.constants && (is_none P.initialisers && list_all is_built_function P.functions))) ok in
+    let two = both (is_none P.statics) (is_none P.constants && (is_none P.initialisers && list_all is_built_function P.functions)) one.1 in
+    let three = both (is_none P.constants) (is_none P.initialisers && list_all is_built_function P.functions) two.1 in
+    let four = both (is_none P.initialisers) (list_all is_built_function P.functions) three.1 in
+    let same : P ≡ of_functions P.functions =
+    ap (λ (cs : List Class). let R : Program = record { classes = cs; functions = P.functions; statics = P.statics; constants = P.constants; initialisers = P.initialisers } in R) (empty-list P.classes one.0)
+    ∙ ap (λ (xs : List Static). let R : Program = record { classes = []; functions = P.functions; statics = xs; constants = P.constants; initialisers = P.initialisers } in R) (empty-list P.statics two.0)
+    ∙ ap (λ (xs : List Setting). let R : Program = record { classes = []; functions = P.functions; statics = []; constants = xs; initialisers = P.initialisers } in R) (empty-list P.constants three.0)
+    ∙ ap (λ (xs : List Function). let R : Program = record { classes = []; functions = P.functions; statics = []; constants = []; initialisers = xs } in R) (empty-list P.initialisers four.0) in
+    subst (λ (R : Program). Mean R input heap depth n ≡ Some o → PlainMean (sequenced R) input heap depth n ≡ Some o) (sym same)
+    (programs-agree P.functions four.1 input heap depth n o) is

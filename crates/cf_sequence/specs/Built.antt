@@ -1,0 +1,136 @@
+-- The cores that are sequenced so far: numbers, pointers, locals, literals, calls of functions by name, and all statements, but that a `switch` declares no local in its own
+-- block; over no class and no static object.
+use Rattle.std.specs.Prelude.{ℕ, suc, Bool, true, false, ◌&&◌, ◌||◌, not, nat_le, nat_lt, List, [], ◌∷◌, ◌++◌, length, Option, None, Some, bytes_eq, codes}
+use Rattle.std.specs.List.{list_all}
+use Rattle.cf_core.specs.Types.{SourceType, takes, gives, result, is_class, parameters}
+use Rattle.cf_core.specs.Classes.{Class}
+use Rattle.cf_core.specs.Core as core
+use Rattle.cf_core.specs.Core.{Core, Cores, MaybeCore, Change, arithmetic, none, absent, given, Role, plain_function, Function, Static, CoreFile}
+use Rattle.cf_core.specs.Calls.{Program, Setting}
+use Rattle.cf_core.specs.Joined.{is_nothing}
+use Rattle.cf_core.specs.Valid.{is_label}
+
+-- a function type: its parameters, and then its result
+abbrev pub is_chain : SourceType → Bool
+is_chain (takes p t) = is_chain t
+is_chain (gives t c) = true
+is_chain t = false
+
+abbrev pub is_arithmetic : Change → Bool
+is_arithmetic (arithmetic op k to) = true
+is_arithmetic c = false
+
+abbrev mutual
+  pub is_value : Core → Bool
+  is_value (core.number z) = true
+  is_value (core.local i) = true
+  is_value (core.text j bytes) = true
+  is_value (core.read e) = is_value e
+  is_value (core.address e) = is_value e
+  is_value (core.dereference e) = is_value e
+  is_value (core.decay e) = is_value e
+  is_value (core.from_void t e) = is_value e
+  is_value (core.index a b) = is_value a && is_value b
+  is_value (core.pointer_operate op a b) = is_value a && is_value b
+  is_value (core.convert t e) = is_value e
+  is_value (core.operate op k a b) = is_value a && is_value b
+  is_value (core.unary op k e) = is_value e
+  is_value (core.logical_not e) = is_value e
+  is_value (core.logical_and a b) = is_value a && is_value b
+  is_value (core.logical_or a b) = is_value a && is_value b
+  is_value (core.conditional c a b) = is_value c && (is_value a && is_value b)
+  is_value (core.comma es) = are_values es
+  is_value (core.store a b) = is_value a && is_value b
+  is_value (core.update a c b) = is_arithmetic c && (is_value a && is_value b)
+  is_value (core.step is_postfix c e) = is_arithmetic c && is_value e
+  is_value (core.call name t absent args) = not (is_class (result t)) && (is_chain t && are_arguments args)
+  is_value e = false
+
+  -- an expression's parts: one at least
+  pub are_values : Cores → Bool
+  are_values none = false
+  are_values (core.more e none) = is_value e
+  are_values (core.more e (core.more f es)) = is_value e && are_values (core.more f es)
+
+  pub are_arguments : Cores → Bool
+  are_arguments none = true
+  are_arguments (core.more e es) = is_value e && are_arguments es
+
+abbrev pub is_condition : MaybeCore → Bool
+is_condition absent = true
+is_condition (given e) = is_value e
+
+-- an initialiser, or an expression statement: nothing, or a value
+abbrev pub is_start : Core → Bool
+is_start e = is_nothing e || is_value e
+
+-- The number behind that of each local that a statement declares in the scope at hand.
+abbrev mutual
+  pub next_local : ℕ → Core → ℕ
+  next_local m (core.declare i t e) = suc i
+  next_local m (core.sequence es) = next_locals m es
+  next_local m s = m
+
+  pub next_locals : ℕ → Cores → ℕ
+  next_locals m none = m
+  next_locals m (core.more s rest) = next_locals (next_local m s) rest
+
+-- whether a statement declares locals in the scope at hand
+abbrev pub declares_here : Core → Bool
+declares_here (core.declare i t e) = true
+declares_here (core.sequence es) = true
+declares_here s = false
+
+-- A statement where the locals below m are those of the open scopes: each that it declares comes behind them.
+abbrev mutual
+  pub is_statement : ℕ → Core → Bool
+  is_statement m (core.full e) = is_start e
+  is_statement m (core.block es) = are_statements m es
+  is_statement m (core.sequence es) = are_statements m es
+  is_statement m (core.declare i t e) = nat_le m i && is_start e
+  is_statement m (core.branch c a b) = is_value c && ((not (declares_here a) && is_statement m a) && is_inner_or m b)
+  is_statement m (core.loop form c e s) = is_condition c && (is_condition e && is_statement m s)
+  is_statement m (core.switch e es) = is_value e && are_cases m es
+  is_statement m core.leave = true
+  is_statement m core.continue = true
+  is_statement m (core.give absent) = true
+  is_statement m (core.give (given e)) = is_value e
+  is_statement m s = false
+
+  pub is_inner_or : ℕ → MaybeCore → Bool
+  is_inner_or m absent = true
+  is_inner_or m (given s) = not (declares_here s) && is_statement m s
+
+  -- the labels of a switch and its statements
+  pub are_cases : ℕ → Cores → Bool
+  are_cases m none = true
+  are_cases m (core.more s rest) = (is_label s || (not (declares_here s) && is_statement m s)) && are_cases m rest
+
+  pub are_statements : ℕ → Cores → Bool
+  are_statements m none = true
+  are_statements m (core.more s rest) = is_statement m s && are_statements (next_local m s) rest
+
+-- A program that is sequenced so far: of functions over numbers.
+abbrev pub is_plain_role : Role → Bool
+is_plain_role plain_function = true
+is_plain_role role = false
+
+abbrev pub is_none : {A : Type 0} → List A → Bool
+is_none [] = true
+is_none (x ∷ xs) = false
+
+abbrev pub is_body : Function → Bool
+is_body f = not (is_class (result f.type)) && is_statement (length (parameters f.type)) f.body
+
+-- `main` takes nothing
+abbrev pub is_built_function : Function → Bool
+is_built_function f =
+    is_plain_role f.role && (is_chain f.type && ((not (bytes_eq f.name (codes "__main")) || is_none (parameters f.type)) && is_body f))
+
+abbrev pub is_plainly_built : Program → Bool
+is_plainly_built P =
+    is_none P.classes && (is_none P.statics && (is_none P.constants && (is_none P.initialisers && list_all is_built_function P.functions)))
+
+-- Files of such functions, of which none is local to its file.
+abbrev pub is_built_file : CoreFile → Bool
+is_built_file file = is_none file.classes && (is_none file.statics && list_all (λ (f : Function). is_built_function f && not f.is_local) file.functions)
