@@ -1,0 +1,78 @@
+ghost use Rattle.std.specs.Prelude.{◌≡◌};
+ghost use Rattle.cf_elab_env.specs.Holds.{IsEnv};
+
+use crate::entity::Entity;
+use crate::extent::Extent;
+use crate::functions::FunctionEntry;
+use crate::hand::Hand;
+use cf_base::{Items, Name};
+use cf_classes::Classes;
+use cf_core::{CoreFn, CoreStatic};
+use cf_lookup::Scopes;
+use cf_types::Types;
+use std::alloc::Global;
+use std::marker::Model;
+
+/// An object with linkage, by its name (3.3).
+#[derive(Debug, Drop)]
+pub struct Linked {
+    pub name: Name,
+    /// The number of its entity.
+    pub entity: u32,
+}
+
+/// What is known at a place of a file (3).
+#[derive(Drop)]
+pub struct Env {
+    alloc: Global,
+    extent: Extent,
+    /// The names that the file's own declarations define.
+    defines: Items<Name>,
+    types: Types,
+    classes: Classes,
+    scopes: Scopes,
+    entities: Items<Entity>,
+    linked: Items<Linked>,
+    entries: Items<FunctionEntry>,
+    hand: Hand,
+    functions: Items<CoreFn>,
+    statics: Items<CoreStatic>,
+}
+
+impl Model for Env {
+    ghost use Rattle.std.specs.Prelude.{[], map};
+    ghost use Rattle.std.specs.Coded.{codes};
+    ghost use Rattle.cf_core.specs.contracts.node.Core as core;
+    ghost use Rattle.cf_elab.specs.Env.{Env};
+
+    ghost Value = { Env };
+
+    ghost coded = { Prim.hlevel (codes, core.the_row.coded) };
+
+    ghost use Rattle.cf_elab_env.specs.SeenEnv.{env_seen};
+    ghost use Rattle.cf_elab_env.specs.Holds.{IsEnv};
+
+    ghost view = { env_seen };
+
+    ghost invariant = { λ e. IsEnv (env_seen e) };
+}
+
+impl Env {
+    /// Where memory is taken.
+    pub fn alloc(&self) -> Global {
+        self.alloc
+    }
+
+    pub fn types(&self) -> &Types
+        ensures { result.now ≡ self.now.types }
+    {
+        &self.types
+    }
+
+    /// The declared functions that are no members, in order of declaration.
+    pub fn entries(&self) -> &Items<FunctionEntry>
+        ensures { result.now ≡ self.now.entries }
+    {
+        &self.entries
+    }
+}

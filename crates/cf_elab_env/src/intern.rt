@@ -1,0 +1,132 @@
+ghost use Rattle.std.specs.Prelude.{◌≡◌, ◌<◌, length, IfOk, OnOk, IsTrue, All};
+ghost use Rattle.cf_types.specs.Table.{Names, AreParameters, fun_parts, is_normal, passes, is_parameter, takes_const};
+ghost use Rattle.cf_elab.specs.Answer.{Made};
+ghost use Rattle.cf_elab_env.specs.Holds.{Grows, IsType, without_class};
+ghost use Rattle.cf_elab_env.specs.Shut as shut;
+
+use crate::env::Env;
+use cf_base::{Items, Kind, Memory};
+use cf_types::{Fun, FunId, Ty, TyId};
+
+impl Env {
+    /// The number of a type, which the table has afterwards. Const stands in it only where it may (3.6).
+    pub fn intern(&mut self, ty: Ty) -> Result<TyId, Memory>
+        requires known { Names self.old.types.funs (length self.old.types.types) (length self.old.types.funs) ty }
+        requires normal { IsTrue (is_normal self.old.types.types ty) }
+        requires no_class { IsTrue (without_class ty) }
+        ensures made { IfOk result (λ t. shut.intern ty self.old ≡ Made t self.new) }
+        ensures known { IfOk result (λ t. IsType self.new.types t) }
+        ensures grows { OnOk result (Grows self.old.types self.new.types) }
+    {
+        Err(Memory)
+    }
+
+    /// The number of a function type. Its parameters have their types as the type of a function has them (8.2.5).
+    pub fn intern_fun(&mut self, fun: Fun) -> Result<FunId, Memory>
+        requires known { All (λ t. IsType self.old.types t) (fun_parts fun) }
+        requires parameters { AreParameters self.old.types.types fun.params }
+        ensures made { IfOk result (λ f. shut.intern_fun fun self.old ≡ Made f self.new) }
+        ensures known { IfOk result (λ f. f < length self.new.types.funs) }
+        ensures grows { OnOk result (Grows self.old.types self.new.types) }
+    {
+        Err(Memory)
+    }
+
+    /// The number of an integer type.
+    pub fn of_kind(&mut self, kind: Kind) -> Result<TyId, Memory>
+        ensures made { IfOk result (λ t. shut.of_kind kind self.old ≡ Made t self.new) }
+        ensures known { IfOk result (λ t. IsType self.new.types t) }
+        ensures grows { OnOk result (Grows self.old.types self.new.types) }
+    {
+        Err(Memory)
+    }
+
+    pub fn int(&mut self) -> Result<TyId, Memory>
+        ensures made { IfOk result (λ t. shut.int self.old ≡ Made t self.new) }
+        ensures known { IfOk result (λ t. IsType self.new.types t) }
+        ensures grows { OnOk result (Grows self.old.types self.new.types) }
+    {
+        Err(Memory)
+    }
+
+    pub fn unsigned_int(&mut self) -> Result<TyId, Memory>
+        ensures made { IfOk result (λ t. shut.unsigned_int self.old ≡ Made t self.new) }
+        ensures known { IfOk result (λ t. IsType self.new.types t) }
+        ensures grows { OnOk result (Grows self.old.types self.new.types) }
+    {
+        Err(Memory)
+    }
+
+    pub fn void(&mut self) -> Result<TyId, Memory>
+        ensures made { IfOk result (λ t. shut.void self.old ≡ Made t self.new) }
+        ensures known { IfOk result (λ t. IsType self.new.types t) }
+        ensures grows { OnOk result (Grows self.old.types self.new.types) }
+    {
+        Err(Memory)
+    }
+
+    pub fn pointer_to(&mut self, ty: TyId) -> Result<TyId, Memory>
+        requires { IsType self.old.types ty }
+        ensures made { IfOk result (λ t. shut.pointer_to ty self.old ≡ Made t self.new) }
+        ensures known { IfOk result (λ t. IsType self.new.types t) }
+        ensures grows { OnOk result (Grows self.old.types self.new.types) }
+    {
+        Err(Memory)
+    }
+
+    pub fn reference_to(&mut self, ty: TyId) -> Result<TyId, Memory>
+        requires { IsType self.old.types ty }
+        ensures made { IfOk result (λ t. shut.reference_to ty self.old ≡ Made t self.new) }
+        ensures known { IfOk result (λ t. IsType self.new.types t) }
+        ensures grows { OnOk result (Grows self.old.types self.new.types) }
+    {
+        Err(Memory)
+    }
+
+    /// The number of the type of so many elements.
+    pub fn array_of(&mut self, element: TyId, count: u32) -> Result<TyId, Memory>
+        requires { IsType self.old.types element }
+        ensures made { IfOk result (λ t. shut.array_of element count self.old ≡ Made t self.new) }
+        ensures known { IfOk result (λ t. IsType self.new.types t) }
+        ensures grows { OnOk result (Grows self.old.types self.new.types) }
+    {
+        Err(Memory)
+    }
+
+    /// The const of a type: of an array that of its elements, of a const one const, and none of a reference or a function (7.1.6).
+    pub fn const_of(&mut self, ty: TyId) -> Result<TyId, Memory>
+        requires { IsType self.old.types ty }
+        ensures made { IfOk result (λ t. shut.const_of ty self.old ≡ Made t self.new) }
+        ensures known { IfOk result (λ t. IsType self.new.types t) }
+        ensures grows { OnOk result (Grows self.old.types self.new.types) }
+    {
+        Err(Memory)
+    }
+
+    /// The const of a type, if const is asked for.
+    pub fn const_if(&mut self, is_const: bool, ty: TyId) -> Result<TyId, Memory>
+        requires { IsType self.old.types ty }
+        ensures made { IfOk result (λ t. shut.const_if is_const ty self.old ≡ Made t self.new) }
+        ensures known { IfOk result (λ t. IsType self.new.types t) }
+        ensures grows { OnOk result (Grows self.old.types self.new.types) }
+    {
+        Err(Memory)
+    }
+
+    /// The number of the type of a function (8.2.5).
+    pub fn function_type(
+        &mut self,
+        returned: TyId,
+        params: Items<TyId>,
+        is_const: bool,
+    ) -> Result<TyId, Memory>
+        requires known { IsType self.old.types returned }
+        requires params_known { All (λ t. IsType self.old.types t) params }
+        requires parameters { AreParameters self.old.types.types params }
+        ensures made { IfOk result (λ t. shut.function_type returned params is_const self.old ≡ Made t self.new) }
+        ensures known { IfOk result (λ t. IsType self.new.types t) }
+        ensures grows { OnOk result (Grows self.old.types self.new.types) }
+    {
+        Err(Memory)
+    }
+}
