@@ -5,8 +5,9 @@ use Rattle.cf_base.specs.declared.kind.Kind.TheVariants as kind
 use Rattle.cf_types.specs.declared.ty.Ty.{Ty}
 use Rattle.cf_types.specs.declared.ty.Ty.TheVariants as ty
 use Rattle.cf_types.specs.declared.ty.Fun.{Fun}
-use Rattle.cf_types.specs.Table.{Table}
+use Rattle.cf_types.specs.Table.{Table, IsTable}
 use Rattle.cf_elab.specs.Env.{Env, Entity, Object, FunctionEntry, Hand, object, functions, alias, class_name, enum_name, enumerator}
+use Rattle.cf_elab.specs.Members.{class_of_body}
 use Rattle.cf_elab_env.specs.declared.sort.Sort.{Sort as FoundSort}
 use Rattle.cf_elab_env.specs.declared.sort.Sort.TheVariants as sort
 use Rattle.cf_elab.specs.Operand.{Value, Sort, integral, enumeral, function_sort, sort_of}
@@ -19,6 +20,9 @@ without_class (ty.Class c) = false
 without_class (ty.MemData c t) = false
 without_class (ty.MemFun c f) = false
 without_class other = true
+
+abbrev pub HasNoClass : Table → Type 0
+HasNoClass types = All (λ t. IsTrue (without_class t)) types.types
 
 abbrev pub IsType : Table → ℕ → Type 0
 IsType types t = t < length types.types
@@ -87,13 +91,16 @@ abbrev pub AreNames : ℕ → List (List ℕ × ℕ) → Type 0
 AreNames count names = All (λ n. n.1 < count) names
 
 pub record IsHand (types : Table) (hand : Hand) : Type 0 where
+  pub no_class : class_of_body hand.kind ≡ None
   pub locals : All (λ t. IsType types t) hand.locals
 
 -- ---- all that is known
 
 pub record IsEnv (env : Env) : Type 0 where
   pub no_class : env.classes.defined ≡ []
-  pub no_class_type : All (λ t. IsTrue (without_class t)) env.types.types
+  pub no_open_class : env.open_classes ≡ []
+  pub table : IsTable env.types
+  pub no_class_type : HasNoClass env.types
   pub entities : All (λ e. IsEntity env.types (length env.entries) e) env.entities
   pub entries : All (λ f. IsEntry env.types f) env.entries
   pub outer : All (λ names. AreNames (length env.entities) names) env.scopes.outer

@@ -1,5 +1,6 @@
 ghost use Rattle.std.specs.Prelude.{◌≡◌};
-ghost use Rattle.cf_elab_env.specs.Holds.{IsEnv};
+ghost use Rattle.cf_types.specs.Table.{IsTable};
+ghost use Rattle.cf_elab_env.specs.Holds.{IsEnv, HasNoClass};
 
 use crate::entity::Entity;
 use crate::extent::Extent;
@@ -24,19 +25,19 @@ pub struct Linked {
 /// What is known at a place of a file (3).
 #[derive(Drop)]
 pub struct Env {
-    alloc: Global,
-    extent: Extent,
+    pub(crate) alloc: Global,
+    pub(crate) extent: Extent,
     /// The names that the file's own declarations define.
-    defines: Items<Name>,
-    types: Types,
-    classes: Classes,
-    scopes: Scopes,
-    entities: Items<Entity>,
-    linked: Items<Linked>,
-    entries: Items<FunctionEntry>,
-    hand: Hand,
-    functions: Items<CoreFn>,
-    statics: Items<CoreStatic>,
+    pub(crate) defines: Items<Name>,
+    pub(crate) types: Types,
+    pub(crate) classes: Classes,
+    pub(crate) scopes: Scopes,
+    pub(crate) entities: Items<Entity>,
+    pub(crate) linked: Items<Linked>,
+    pub(crate) entries: Items<FunctionEntry>,
+    pub(crate) hand: Hand,
+    pub(crate) functions: Items<CoreFn>,
+    pub(crate) statics: Items<CoreStatic>,
 }
 
 impl Model for Env {
@@ -63,8 +64,11 @@ impl Env {
         self.alloc
     }
 
+    /// The types that were made so far. None is a class.
     pub fn types(&self) -> &Types
-        ensures { result.now ≡ self.now.types }
+        ensures value { result.now ≡ self.now.types }
+        ensures table { IsTable self.now.types }
+        ensures no_class { HasNoClass self.now.types }
     {
         &self.types
     }

@@ -1,4 +1,4 @@
-ghost use Rattle.std.specs.Prelude.{◌≡◌, ◌<◌, length, IfOk, OnOk, IsTrue, All};
+ghost use Rattle.std.specs.Prelude.{◌≡◌, ◌<◌, length, IfOk, OnOk, IsTrue, All, slice_get, Some};
 ghost use Rattle.cf_types.specs.Table.{Names, AreParameters, fun_parts, is_normal, passes, is_parameter, takes_const};
 ghost use Rattle.cf_elab.specs.Answer.{Made};
 ghost use Rattle.cf_elab_env.specs.Holds.{Grows, IsType, without_class};
@@ -26,7 +26,7 @@ impl Env {
         requires known { All (λ t. IsType self.old.types t) (fun_parts fun) }
         requires parameters { AreParameters self.old.types.types fun.params }
         ensures made { IfOk result (λ f. shut.intern_fun fun self.old ≡ Made f self.new) }
-        ensures known { IfOk result (λ f. f < length self.new.types.funs) }
+        ensures found { IfOk result (λ f. slice_get self.new.types.funs f ≡ Some fun) }
         ensures grows { OnOk result (Grows self.old.types self.new.types) }
     {
         Err(Memory)

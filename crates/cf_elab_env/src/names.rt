@@ -17,7 +17,8 @@ impl Env {
     pub fn find(&self, name: &[u8]) -> Option<&Entity>
         ensures { found_alone self.now false name.now ≡ entity_found (option_map entity_seen (option_copied result)) }
     {
-        None
+        let id = self.scopes.find(name)?;
+        self.entities.get(id.number() as usize)
     }
 
     /// The declared function of this number.
@@ -25,7 +26,7 @@ impl Env {
         requires { number < length self.now.entries }
         ensures { slice_get self.now.entries number ≡ Some result.now }
     {
-        &self.entries().as_slice()[number as usize]
+        &self.entries.as_slice()[number as usize]
     }
 
     /// Opens a scope inside the innermost.

@@ -21,9 +21,9 @@ pub struct Value {
 impl Model for Value {
     ghost use Rattle.std.specs.Coded.{codes};
     ghost use Rattle.cf_core.specs.contracts.node.Core as core;
-    ghost use Rattle.cf_elab.specs.Operand.{Value};
+    ghost use Rattle.cf_elab.specs.Operand.{Value as Elaborated};
 
-    ghost Value = { Value };
+    ghost Value = { Elaborated };
 
     ghost coded = { Prim.hlevel (codes, core.the_row.coded) };
 
