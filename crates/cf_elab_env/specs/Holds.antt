@@ -45,20 +45,21 @@ pub record Grows (old new : Table) : Type 0 where
   pub more_funs : List Fun
   pub types : new.types ≡ old.types ++ more_types
   pub funs : new.funs ≡ old.funs ++ more_funs
+  pub sorts : (t : ℕ) → IsType old t → sort_of new t ≡ sort_of old t
 
 -- ---- values
 
--- whether a number is one of the type
+-- whether a number is one of the type, where the type is an integer or an enumeration
 abbrev pub fits_sort : Sort → ℤ → Bool
 fits_sort (integral k) z = fits k z
 fits_sort (enumeral e) z = fits kind.Int z
-fits_sort other z = false
+fits_sort other z = true
 
 abbrev pub FitsIn : Table → ℕ → Option ℤ → Type 0
 FitsIn types t None = Unit {0}
 FitsIn types t (Some z) = IsTrue (fits_sort (sort_of types t) z)
 
--- a value's type is in the table, and where its number is known, it is one of that type
+-- a value's type is in the table, and a number that is known is one of that type
 pub record Known (types : Table) (v : Value) : Type 0 where
   pub typed : IsType types v.type
   pub number : FitsIn types v.type v.number

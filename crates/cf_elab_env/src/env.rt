@@ -1,4 +1,4 @@
-ghost use Rattle.std.specs.Prelude.{◌≡◌};
+ghost use Rattle.std.specs.Prelude.{◌≡◌, []};
 ghost use Rattle.cf_types.specs.Table.{IsTable};
 ghost use Rattle.cf_elab_env.specs.Holds.{IsEnv, HasNoClass};
 
@@ -73,10 +73,25 @@ impl Env {
         &self.types
     }
 
+    /// The classes and enumerations. So far no class is defined.
+    pub fn classes(&self) -> &Classes
+        ensures value { result.now ≡ self.now.classes }
+        ensures no_class { self.now.classes.defined ≡ [] }
+    {
+        &self.classes
+    }
+
     /// The declared functions that are no members, in order of declaration.
     pub fn entries(&self) -> &Items<FunctionEntry>
         ensures { result.now ≡ self.now.entries }
     {
         &self.entries
+    }
+
+    /// What always holds of an environment is told to the caller.
+    pub fn holds(&self)
+        ensures { IsEnv self.now }
+    {
+        let _inside = &self.alloc;
     }
 }

@@ -1,4 +1,6 @@
-use cf_base::{Items, Name};
+ghost use Rattle.std.specs.Prelude.{◌≡◌, ◌+◌, IfOk, OnOk, OnErr};
+
+use cf_base::{Items, Memory, Name};
 use cf_types::TyId;
 use std::marker::Model;
 
@@ -49,4 +51,24 @@ impl Model for Hand {
     ghost use Rattle.cf_elab_env.specs.Seen.{kind_seen};
 
     ghost view = { λ h. record { link = h.link; kind = kind_seen h.kind; asker = outside h.asker.name h.asker.ty; result = h.result; locals = h.locals; literals = h.literals; statics = h.statics; breaks = h.breaks; continues = h.continues } };
+}
+
+impl Hand {
+    /// The number of its next string literal, which counts then.
+    pub(crate) fn take_literal(&mut self) -> Result<u32, Memory>
+        ensures number { IfOk result (λ number. number ≡ self.old.literals) }
+        ensures state { OnOk result (self.new ≡ record self.old { literals = self.old.literals + 1 }) }
+        ensures err { OnErr result (self.new ≡ self.old) }
+    {
+        let number = self.literals;
+        self.literals = number.checked_add(1).ok_or(Memory)?;
+        Ok(number)
+    }
+
+    /// How many string literals it has so far.
+    pub fn literals(&self) -> u32
+        ensures { result ≡ self.now.literals }
+    {
+        self.literals
+    }
 }

@@ -10,11 +10,11 @@ mod extent;
 mod functions;
 mod hand;
 mod intern;
+mod names;
 mod object;
 mod operand;
 mod sort;
 mod stop;
-mod names;
 mod types;
 mod value;
 

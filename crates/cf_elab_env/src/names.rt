@@ -1,16 +1,14 @@
-ghost use Rattle.std.specs.Prelude.{◌≡◌, ◌+◌, ◌<◌, length, slice_get, Some, None, IfOk, OnOk, OnErr, false};
+ghost use Rattle.std.specs.Prelude.{◌≡◌, ◌+◌, ◌<◌, length, slice_get, Some, IfOk, OnOk, false};
 ghost use Rattle.std.specs.Option.{option_map, option_copied};
 ghost use Rattle.cf_elab.specs.Answer.{Made};
-ghost use Rattle.cf_elab.specs.Names as names;
 ghost use Rattle.cf_elab.specs.Paths.{found_alone, entity as entity_found};
-ghost use Rattle.cf_elab_env.specs.Holds.{IsEntity};
 ghost use Rattle.cf_elab_env.specs.Seen.{entity_seen};
 ghost use Rattle.cf_elab_env.specs.Shut as shut;
 
 use crate::entity::Entity;
 use crate::env::Env;
 use crate::functions::FunctionEntry;
-use cf_base::{Memory, Name};
+use cf_base::Memory;
 
 impl Env {
     /// What a name stands for: what the innermost scope that has it declares it as (3.2).
@@ -33,24 +31,8 @@ impl Env {
     pub fn enter_scope(&mut self) -> Result<(), Memory>
         ensures { OnOk result (shut.enter_scope self.old ≡ Made tt self.new) }
     {
-        Err(Memory)
-    }
-
-    /// Closes the innermost scope.
-    pub fn leave_scope(&mut self) -> Result<(), Memory>
-        requires { 0 < length self.old.scopes.outer }
-        ensures { OnOk result (shut.leave_scope self.old ≡ Made tt self.new) }
-    {
-        Err(Memory)
-    }
-
-    /// Declares a name that the innermost scope does not have.
-    pub fn declare(&mut self, name: Name, entity: Entity) -> Result<(), Memory>
-        requires fresh { names.declared_here self.old name ≡ None }
-        requires known { IsEntity self.old.types (length self.old.entries) (entity_seen entity) }
-        ensures { OnOk result (shut.declare name (entity_seen entity) self.old ≡ Made tt self.new) }
-    {
-        Err(Memory)
+        self.scopes.enter()?;
+        Ok(())
     }
 
     /// The number of the next string literal of the function at hand (2.5.4).
@@ -58,6 +40,7 @@ impl Env {
         ensures number { IfOk result (λ number. number ≡ self.old.hand.literals) }
         ensures state { OnOk result (self.new ≡ record self.old { hand = record self.old.hand { literals = self.old.hand.literals + 1 } }) }
     {
-        Err(Memory)
+        let number = self.hand.take_literal()?;
+        Ok(number)
     }
 }

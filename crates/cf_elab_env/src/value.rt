@@ -143,4 +143,25 @@ impl Value {
     {
         Value { is_fixed, ..self }
     }
+
+    /// The same value, as a place or not.
+    pub fn with_lvalue(self, is_lvalue: bool) -> Value
+        ensures { result ≡ record self { is_lvalue = is_lvalue } }
+    {
+        Value { is_lvalue, ..self }
+    }
+
+    /// The same value at another byte place.
+    pub fn with_at(self, at: u32) -> Value
+        ensures { result ≡ record self { at = at } }
+    {
+        Value { at, ..self }
+    }
+
+    /// The same value as that of this node.
+    pub fn with_node(self, node: Boxed<Core>) -> Value
+        ensures { result ≡ record self { node = node } }
+    {
+        Value { node, ..self }
+    }
 }
