@@ -1,0 +1,9 @@
+pub mod Bare
+pub mod Consts
+pub mod Finding
+pub mod Growth
+pub mod Interned
+pub mod Making
+pub mod Opened
+pub mod Scoped
+pub mod Sorts

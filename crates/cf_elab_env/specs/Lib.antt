@@ -1,0 +1,6 @@
+pub mod Answered
+pub mod Holds
+pub mod Seen
+pub mod SeenEnv
+pub mod SeenOperand
+pub mod Shut

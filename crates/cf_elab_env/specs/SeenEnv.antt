@@ -1,0 +1,26 @@
+-- The environment that the code holds, as the definitions of elaboration see it: no class is defined in it.
+use Rattle.std.specs.Prelude.{ℕ, List, [], map}
+use Rattle.cf_elab.specs.Env.{Env, Name}
+use Rattle.cf_elab_env.specs.declared.env.Env.TheInside.{Inside}
+use Rattle.cf_elab_env.specs.declared.env.Linked.{Linked}
+use Rattle.cf_elab_env.specs.Seen.{entity_seen}
+
+abbrev pub linked_seen : Linked → Name × ℕ
+linked_seen x = (x.name, x.entity)
+
+abbrev pub env_seen : Inside → Env
+env_seen e = record {
+  extent = e.extent;
+  defines = e.defines;
+  types = e.types;
+  classes = e.classes;
+  open_classes = [];
+  scopes = e.scopes;
+  entities = map entity_seen e.entities;
+  linked = map linked_seen e.linked;
+  entries = e.entries;
+  member_defaults = [];
+  hand = e.hand;
+  functions = e.functions;
+  statics = e.statics;
+}
