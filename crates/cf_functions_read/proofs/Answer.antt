@@ -13,9 +13,10 @@ use Rattle.cf_unit.specs.Answers as grammar
 use Rattle.cf_unit.proofs.Whole.{one-answer}
 use Rattle.cf_functions.specs.declared.tree.Program.{Program}
 use Rattle.cf_functions.specs.Plain.{functions_of}
-use Rattle.cf_functions.specs.Rules.{keeps_names, first_unknown_of}
+use Rattle.cf_functions.specs.Marks.{first_broken_of}
+use Rattle.cf_functions.specs.Rules.{first_unknown_of}
 use Rattle.cf_functions_load.specs.Files.{program_of}
-use Rattle.cf_functions_read.specs.First.{Refusal, breaks, passes, HasTree, IsFile, First, nesting, misspelled, not_built, outside, undeclared, breaks_form, passes_limit, is_nested, is_misspelled, is_not_built, breaks_names, uses_unknown, accepted}
+use Rattle.cf_functions_read.specs.First.{Refusal, breaks, passes, HasTree, IsFile, First, nesting, misspelled, not_built, undeclared, breaks_form, passes_limit, is_nested, is_misspelled, is_not_built, breaks_names, uses_unknown, accepted}
 
 -- ---- a file has one list of tokens
 
@@ -43,16 +44,16 @@ one_fault bytes f g a b = same_err f g (one_answer_each bytes (Err f) (Err g) a 
 abbrev refused_by : LexFault → Result Program Refusal
 refused_by (lexical.Broken first) = Err (breaks first)
 refused_by (lexical.Limit limit) = Err (passes limit)
-refused_by lexical.Memory = Err (breaks outside)
+refused_by lexical.Memory = Err (breaks (not_built 0))
 
--- a program, by whether it keeps the rules of names and by its first name that is not declared
-abbrev answer : Program → Bool → Option ℕ → Result Program Refusal
-answer p true None = Ok p
-answer p true (Some at) = Err (breaks (undeclared at))
-answer p false unknown = Err (breaks outside)
+-- a program, by its first name that breaks a rule of names and by its first name that is not declared
+abbrev answer : Program → Option ℕ → Option ℕ → Result Program Refusal
+answer p None None = Ok p
+answer p None (Some at) = Err (breaks (undeclared at))
+answer p (Some at) unknown = Err (breaks (not_built at))
 
 abbrev answer_of : Program → Result Program Refusal
-answer_of p = answer p (keeps_names (functions_of p)) (first_unknown_of (functions_of p))
+answer_of p = answer p (first_broken_of p.functions) (first_unknown_of (functions_of p))
 
 -- what a tree is
 abbrev formed_as : Result Program ℕ → Result Program Refusal
@@ -70,10 +71,10 @@ data Is (bytes : List ℕ) (r : Result Program Refusal) : Type 0 where
   uncut : (f : LexFault) → Lex bytes (Err f) → r ≡ refused_by f → Is bytes r
   cut : (listed : List Token) (a : Answer) → Lex bytes (Ok listed) → IsUnit listed a → r ≡ spelled_as a → Is bytes r
 
-answer_is : (p : Program) (kept : Bool) (unknown : Option ℕ) → keeps_names (functions_of p) ≡ kept → first_unknown_of (functions_of p) ≡ unknown
-    → answer p kept unknown ≡ answer_of p
-answer_is p kept unknown e f =
-    sym (ap (λ k. answer p k (first_unknown_of (functions_of p))) e ∙ ap (λ o. answer p kept o) f)
+answer_is : (p : Program) (broken unknown : Option ℕ) → first_broken_of p.functions ≡ broken → first_unknown_of (functions_of p) ≡ unknown
+    → answer p broken unknown ≡ answer_of p
+answer_is p broken unknown e f =
+    sym (ap (λ k. answer p k (first_unknown_of (functions_of p))) e ∙ ap (λ o. answer p broken o) f)
 
 file_is : (bytes : List ℕ) (p : Program) (r : Result Program Refusal) → IsFile bytes p → r ≡ answer_of p → Is bytes r
 file_is bytes p r file e =
@@ -85,9 +86,9 @@ which bytes _ (passes_limit limit l) = uncut (lexical.Limit limit) l refl
 which bytes _ (is_nested listed l deep) = cut listed grammar.too_deep l deep refl
 which bytes _ (is_misspelled listed at l u) = cut listed (grammar.refused at) l u refl
 which bytes _ (is_not_built tree at has first) = cut has.listed (grammar.accepted tree) has.lexical has.spelled (sym (ap formed_as first))
-which bytes _ (breaks_names p file broken) = file_is bytes p _ file (answer_is p false (first_unknown_of (functions_of p)) broken refl)
-which bytes _ (uses_unknown p at file kept first) = file_is bytes p _ file (answer_is p true (Some at) kept first)
-which bytes _ (accepted p file kept known) = file_is bytes p _ file (answer_is p true None kept known)
+which bytes _ (breaks_names p at file first) = file_is bytes p _ file (answer_is p (Some at) (first_unknown_of (functions_of p)) first refl)
+which bytes _ (uses_unknown p at file kept first) = file_is bytes p _ file (answer_is p None (Some at) kept first)
+which bytes _ (accepted p file kept known) = file_is bytes p _ file (answer_is p None None kept known)
 
 both : (bytes : List ℕ) (a b : Result Program Refusal) → Is bytes a → Is bytes b → a ≡ b
 both bytes a b (uncut f l e) (uncut g m d) = e ∙ (ap refused_by (one_fault bytes f g l m) ∙ sym d)

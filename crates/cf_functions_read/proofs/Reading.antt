@@ -46,7 +46,7 @@ module _ (bytes : List ℕ) (listed : List Token) (lexical : Lex bytes (Ok liste
       checked (Ok q) kept =
           subst (λ x. IsRead bytes (Ok x)) (sym kept.same)
           (record { first = accepted p is_file kept.names kept.declared; named = is.named })
-      checked (Err (fault.Broken b)) (inl n) = subst (λ k. First bytes (Err (breaks k))) (sym n.at_first) (breaks_names p is_file n.broken)
+      checked (Err (fault.Broken b)) (inl n) = subst (λ k. First bytes (Err (breaks k))) (sym n.outside) (breaks_names p n.at is_file n.first)
       checked (Err (fault.Broken b)) (inr n) =
           subst (λ k. First bytes (Err (breaks k))) (sym n.undeclared) (uses_unknown p n.at is_file n.kept n.first)
       checked (Err (fault.Limit limit)) n = absurd n

@@ -69,8 +69,8 @@ fn checked(alloc: Global, program: Program) -> Result<Program, Fault>
 ///
 /// The lexical form comes first: the limit of bytes, then the first of K1 to K5 and K7 in text order, then the limit of tokens. Then
 /// come the limit of nesting, K6 where the tokens are not in the grammar (17), and K48 at the first construct that is no form of functions over
-/// int. A program that breaks a rule of names breaks K48 at its first byte. Then a name that is not declared breaks K10, at the first
-/// such (3.2). The names of a program's functions are identifiers.
+/// int. Then comes K48 at the first name that breaks a rule of names, and then K10 at the first name that is not declared (3.2). A file without `main`
+/// is a program. The names of a program's functions are identifiers.
 pub fn read(alloc: Global, bytes: &[u8]) -> Result<Program, Fault>
     ensures { IsRead bytes.now result }
 {

@@ -69,16 +69,34 @@ fn programs_and_the_rules_of_names(rt: HostRuntime) -> Result<(), Fail> {
             "ok",
         ),
         ("int main() { { int a = 1; } int a = 2; }", "ok"),
-        ("", "K48@0"),
-        ("int f() { return 1; }", "K48@0"),
-        ("int main(int a) {}", "K48@0"),
-        ("int main() { int a = 1; int a = 2; }", "K48@0"),
-        ("int f(int a) {} int main() { f(); }", "K48@0"),
+        ("", "ok"),
+        ("int f() { return 1; }", "ok"),
         ("int main() { return a; }", "K10@20"),
         ("int main() { f(); } int f() { return a; }", "K10@13"),
         ("int main() { { int a = 1; } a = 2; }", "K10@28"),
     ];
     compare(&rt, rt.alloc(), &rows)
+}
+
+#[test]
+fn names_that_break_a_rule(rt: HostRuntime) -> Result<(), Fail> {
+    let rows = [
+        "int ^main(int a) {}",
+        "int ^putchar(int a) {}",
+        "int main() {} int ^main() {}",
+        "int f(int a, int ^a) {}",
+        "int main() { int a = 1; int ^a = 2; }",
+        "int f(int a) { int ^a = 1; }",
+        "int f() { return 1; } int main() { int ^f = 1; }",
+        "int f() { return 1; } int main() { return ^f; }",
+        "int f(int a) {} int main() { ^f(); }",
+        "int f(int a) {} int main() { return f(^f(1, 2)); }",
+        "int main() { return ^putchar(); }",
+        "int main() { ^main(); }",
+        "int main() { int a = 1; return ^a(); }",
+        "int main() { return a; } int f() { return ^putchar; }",
+    ];
+    compare_marked(&rt, rt.alloc(), 48, &rows)
 }
 
 #[test]
@@ -135,7 +153,7 @@ fn the_first_fault_comes_first(rt: HostRuntime) -> Result<(), Fail> {
         ("a__b /*", "K3@0"),
         ("int main(){goto a;}", "K4@11"),
         ("int main(){return 2*3; a}", "K6@23"),
-        ("int main(){int a=a;int a=1;}", "K48@0"),
+        ("int main(){int a=a;int a=1;}", "K48@23"),
         ("int main(){return a+(2*b);}", "K48@22"),
         ("int main(){return b+2u*'a';}", "K48@20"),
     ];

@@ -17,7 +17,7 @@ use Rattle.cfront.specs.declared.position.Position.{Position}
 use Rattle.cfront.specs.declared.answer.Stop.{Stop}
 use Rattle.cfront.specs.declared.answer.Stop.TheVariants as stop
 use Rattle.cfront.specs.Answer.{Causes, Answers, EndsWith, LineStands, LineFailed, is_fault, WordsCause, NoJob, GoJob}
-use Rattle.cfront.specs.Cause.{FileCause, read_failed, too_long, limited, refused, write_failed, Stopped, Ran, GoCause, Made, Begun, TextLeft, unwritten, text_stands, LeftByMemory, DiskCountsStand, FirstRefused, WriteFailed}
+use Rattle.cfront.specs.Cause.{FileCause, read_failed, too_long, limited, refused, write_failed, Stopped, Ran, GoCause, Made, Begun, TextLeft, unwritten, text_stands, not_linked, LeftByMemory, DiskCountsStand, FirstRefused, WriteFailed}
 use Rattle.cfront.specs.LastLine.{last_line}
 use Rattle.cfront.specs.Outside.{Outside, outside, streams_of, CountsStand, StreamsStand, KeepTelling}
 use Rattle.cfront.specs.Run.{RunsTo, RanTo}
@@ -114,6 +114,7 @@ module _ (file : List ℕ) (limits : Limits) (old new : Disk) (input out err inp
   run_counts program entered (answer.Undefined act) made runs no_fault = all_counts made.counts runs.left.counts
   run_counts program entered answer.Usage made runs no_fault = absurd runs
   run_counts program entered (answer.Refused number rule at) made runs no_fault = absurd runs
+  run_counts program entered (answer.LinkRefused rule name) made runs no_fault = absurd runs
   run_counts program entered (answer.Limit number limit) made runs no_fault = absurd runs
   run_counts program entered answer.FileFault made runs no_fault = absurd runs
   run_counts program entered answer.SourceFault made runs no_fault = cc
@@ -139,6 +140,8 @@ stop_counts file old new position outcome (too_long r) s no_fault =
 stop_counts file old new position outcome (limited r) s no_fault =
     record { reads = r.counts.reads; writes = r.counts.writes; input = rw s.input refl; out = rw s.out refl; err = rw s.err refl }
 stop_counts file old new position outcome (refused r) s no_fault =
+    record { reads = r.counts.reads; writes = r.counts.writes; input = rw s.input refl; out = rw s.out refl; err = rw s.err refl }
+stop_counts file old new position outcome (not_linked r) s no_fault =
     record { reads = r.counts.reads; writes = r.counts.writes; input = rw s.input refl; out = rw s.out refl; err = rw s.err refl }
 stop_counts file old new position outcome (write_failed r) s no_fault = let k : false ≡ true = sym (fault_is outcome answer.FileFault r.answered no_fault) in cc
 

@@ -1,5 +1,5 @@
 -- The text of a unit, read again.
-use Rattle.std.proofs.Common.{◌≡◌, ◌∙◌, ℕ, List, [], ◌∷◌, refl, ap, sym, subst, true, Result, Ok, Err, IsOk, IsTrue}
+use Rattle.std.proofs.Common.{◌≡◌, ◌∙◌, ℕ, List, [], ◌∷◌, refl, ap, sym, subst, true, Result, Ok, Err, IsTrue}
 use Rattle.cf_base.specs.World.{Outcome}
 use Rattle.cc_tree.specs.declared.unit.CUnit.{CUnit}
 use Rattle.cc_tree.specs.declared.unit.CProgram.{CProgram}
@@ -9,9 +9,6 @@ use Rattle.cc_tree.specs.Mean.{c_mean}
 use Rattle.cc_tree.specs.Text.{Text}
 use Rattle.cfront.specs.declared.answer.Stop.{Stop}
 use Rattle.cfront.specs.Steps.{LinkLeaves}
-
-pub links_again : (again tree : CUnit) → again ≡ tree → IsOk (link (tree ∷ [])) → IsOk (link (again ∷ []))
-links_again again tree same links = subst (λ t. IsOk (link (t ∷ []))) (sym same) links
 
 pub linked_again : (again tree : CUnit) (result : Result CProgram Stop) → again ≡ tree → LinkLeaves again result → LinkLeaves tree result
 linked_again again tree result same links = subst (λ t. LinkLeaves t result) same links

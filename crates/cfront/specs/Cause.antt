@@ -14,7 +14,7 @@ use Rattle.cfront.specs.declared.position.Position.{Position}
 use Rattle.cfront.specs.Outside.{Outside, StreamsStand, CountsStand, streams_of}
 use Rattle.cfront.specs.Position.{position_of}
 use Rattle.cfront.specs.Run.{RanTo}
-use Rattle.cfront.specs.Translated.{WasRead, Translated, most_bytes}
+use Rattle.cfront.specs.Translated.{WasRead, Translated, Unlinked, no_main, most_bytes}
 use Rattle.cfront.specs.Words.{text_name}
 
 -- no read and no write failed
@@ -77,6 +77,13 @@ pub record WriteFailed (file : List ℕ) (old new : Disk) (outcome : Outcome) : 
   pub elsewhere : IsTrue old.told → SameElsewhere (text_name file) old.content new.content
   pub reads : new.read_faults ≡ old.read_faults
 
+-- The file was accepted and has no `main`, so that its text, which stands, does not link. No other file was touched.
+pub record NotLinked (file : List ℕ) (old new : Disk) (outcome : Outcome) : Type 0 where
+  pub unlinked : Unlinked file old new
+  pub answered : outcome ≡ answer.LinkRefused no_main.rule no_main.name
+  pub elsewhere : IsTrue old.told → SameElsewhere (text_name file) old.content new.content
+  pub counts : DiskCountsStand old new
+
 -- why there is no program to run
 pub data FileCause (file : List ℕ) (old new : Disk) (position : Position) (outcome : Outcome) : Type 0 where
   read_failed : ReadFailed file old new outcome → FileCause file old new position outcome
@@ -84,6 +91,7 @@ pub data FileCause (file : List ℕ) (old new : Disk) (position : Position) (out
   limited : FirstLimited file old new outcome → FileCause file old new position outcome
   refused : FirstRefused file old new position outcome → FileCause file old new position outcome
   write_failed : WriteFailed file old new outcome → FileCause file old new position outcome
+  not_linked : NotLinked file old new outcome → FileCause file old new position outcome
 
 -- There was no program to run, and input and sinks are as they were.
 pub record Stopped (file : List ℕ) (old new : Outside) (position : Position) (outcome : Outcome) : Type 0 where
@@ -111,10 +119,11 @@ pub record Begun (file : List ℕ) (limits : Limits) (old new : Outside) : Type 
   pub translated : Translated file old.files new.files program
   pub front : Front program limits false (streams_of old) (streams_of new)
 
--- no file was written, or the text of the accepted file stands
+-- no file was written, or the text of the accepted file stands, with a `main` or without
 pub data TextLeft (file : List ℕ) (old new : Disk) : Type 0 where
   unwritten : (IsTrue old.told → new.content ≡ old.content) → TextLeft file old new
   text_stands : (program : CProgram) → Translated file old new program → TextLeft file old new
+  unlinked_stands : Unlinked file old new → TextLeft file old new
 
 -- What stands after want of memory.
 pub record LeftByMemory (file : List ℕ) (limits : Limits) (old new : Outside) : Type 0 where

@@ -59,6 +59,7 @@ last_line names position (answer.Refused file rule at) =
     ∷ opening rule ∷ section rule ∷ closing rule ∷ get_or texts (rule - 1) [] ∷ codes "\n" ∷ [])
 last_line names position (answer.Limit file limit) =
     concat (limit_place names file ∷ codes ": limit " ∷ bound_name limit.bound ∷ codes " " ∷ decimal limit.most ∷ codes "\n" ∷ [])
+last_line names position (answer.LinkRefused rule name) = concat (codes "link: L" ∷ decimal rule ∷ codes " " ∷ name ∷ codes "\n" ∷ [])
 last_line names position answer.FileFault = concat (codes "cfront: file fault\n" ∷ [])
 last_line names position answer.SourceFault = concat (codes "cfront: source fault\n" ∷ [])
 last_line names position answer.SinkFault = concat (codes "cfront: sink fault\n" ∷ [])
@@ -68,6 +69,7 @@ abbrev pub status_of : Outcome → ℕ
 status_of (answer.Ended status) = bits_of 8 status
 status_of answer.Usage = 101
 status_of (answer.Refused file rule at) = 102
+status_of (answer.LinkRefused rule name) = 103
 status_of answer.FileFault = 104
 status_of answer.SourceFault = 105
 status_of answer.SinkFault = 106

@@ -32,6 +32,7 @@ RunsTo program limits old new entered answer.Depth = FlushedAt program limits ol
 RunsTo program limits old new entered (answer.Undefined act) = FlushedAt program limits old new entered (ended.Undefined act)
 RunsTo program limits old new entered answer.Usage = ⊥
 RunsTo program limits old new entered (answer.Refused file rule at) = ⊥
+RunsTo program limits old new entered (answer.LinkRefused rule name) = ⊥
 RunsTo program limits old new entered (answer.Limit file limit) = ⊥
 RunsTo program limits old new entered answer.FileFault = ⊥
 RunsTo program limits old new entered answer.SourceFault = FlushedAt program limits old new entered ended.SourceFault

@@ -1,5 +1,5 @@
 -- What the steps from a file to its program leave.
-use Rattle.std.specs.Prelude.{◌≡◌, ◌⊎◌, ℕ, List, [], ◌∷◌, Result, Ok, Err, Some, None, true, IsTrue}
+use Rattle.std.specs.Prelude.{◌≡◌, ◌⊎◌, ℕ, List, [], ◌∷◌, Result, Ok, Err, Some, None, true, false, IsTrue}
 use Rattle.std.specs.List.{list_all}
 use Rattle.cf_base.specs.Agree.{Agree}
 use Rattle.cf_base.specs.Disk.{Disk, SameElsewhere, Rises}
@@ -7,7 +7,9 @@ use Rattle.cc_tree.specs.declared.unit.CProgram.{CProgram}
 use Rattle.cf_functions.specs.declared.tree.Program.{Program}
 use Rattle.cf_functions.specs.Plain.{functions_of}
 use Rattle.cf_functions.specs.Mean.{mean}
-use Rattle.cf_functions.specs.Rules.{keeps_names, first_unknown_of}
+use Rattle.cf_functions.specs.Marks.{first_broken_of}
+use Rattle.cf_functions.specs.Rules.{first_unknown_of}
+use Rattle.cf_functions.specs.Translate.{has_main, items}
 use Rattle.cf_functions_read.specs.IsRead.{IsAccepted}
 use Rattle.cf_functions_load.specs.Names.{is_named}
 use Rattle.cfront.specs.declared.outcome.Outcome.{Outcome}
@@ -17,14 +19,15 @@ use Rattle.cfront.specs.declared.answer.Stop.{Stop}
 use Rattle.cfront.specs.declared.answer.Stop.TheVariants as stop
 use Rattle.cc_run.specs.declared.types.Limits.{Limits}
 use Rattle.cc_tree.specs.declared.unit.CUnit.{CUnit}
-use Rattle.cc_tree.specs.Link.{link}
+use Rattle.cc_tree.specs.Link.{link, Refusal}
+use Rattle.cc_tree.specs.Plain.{items_of}
 use Rattle.cc_tree.specs.Mean.{c_mean}
 use Rattle.cc_tree.specs.Valid.{valid_unit}
 use Rattle.cfront.specs.Answer.{WordsCause, WordsLeft}
 use Rattle.cfront.specs.Cause.{FileCause, RefusedAt, LimitedBy, DiskCountsStand, Made, GoCause, TextLeft, LeftByMemory}
 use Rattle.cfront.specs.Outside.{Outside}
 use Rattle.cfront.specs.Words.{text_name}
-use Rattle.cfront.specs.Translated.{WasRead}
+use Rattle.cfront.specs.Translated.{WasRead, no_main}
 
 -- what the disk holds is told as before
 abbrev pub DiskTold : Disk → Disk → Type 0
@@ -50,16 +53,30 @@ AcceptLeaves bytes (Err stop.Memory) = bytes ≡ bytes
 
 -- what reading gives, and translation asks
 pub record IsSound (source : Program) : Type 0 where
-  pub names : keeps_names (functions_of source) ≡ true
+  pub names : first_broken_of source.functions ≡ None
   pub known : first_unknown_of (functions_of source) ≡ None
   pub named : list_all is_named (functions_of source) ≡ true
 
--- The unit is valid, it links to a program, and that program's runs agree with the source's, whatever the input and the limits.
-pub record KeepsMeaning (source : Program) (unit : CUnit) : Type 0 where
-  pub valid : valid_unit unit ≡ true
+-- The unit alone links to a program, and that program's runs agree with the source's, whatever the input and the limits.
+pub record Linked (source : Program) (unit : CUnit) : Type 0 where
   pub program : CProgram
   pub links : link (unit ∷ []) ≡ Ok program
   pub agrees : (input : List ℕ) (heap depth n : ℕ) → Agree (mean (functions_of source) input heap depth n) (c_mean program input heap depth n)
+
+-- The unit has the items of the translation, and alone it does not link, since it has no `main`.
+pub record LacksMain (source : Program) (unit : CUnit) : Type 0 where
+  pub items : items_of unit.items ≡ items (functions_of source)
+  pub refused : link (unit ∷ []) ≡ Err no_main
+
+-- by whether the source has a `main`
+pub data Joins (source : Program) (unit : CUnit) : Type 0 where
+  with_main : has_main (functions_of source) ≡ true → Linked source unit → Joins source unit
+  without_main : has_main (functions_of source) ≡ false → LacksMain source unit → Joins source unit
+
+-- The unit is valid, and means what the source means where that has a `main`.
+pub record KeepsMeaning (source : Program) (unit : CUnit) : Type 0 where
+  pub valid : valid_unit unit ≡ true
+  pub joins : Joins source unit
 
 -- bytes were written under a name
 pub record WasWritten (name bytes : List ℕ) (old new : Disk) : Type 0 where
@@ -99,10 +116,16 @@ abbrev pub TranslateLeaves : List ℕ → Disk → Disk → Result CProgram Stop
 TranslateLeaves file old new (Ok program) = Made file old new program
 TranslateLeaves file old new (Err e) = StopLeaves file old new e
 
--- the program that a unit links to by itself
+-- the unit does not link by itself, and the answer is that
+pub record LinkFault (unit : CUnit) (outcome : Outcome) : Type 0 where
+  pub refusal : Refusal
+  pub refused : link (unit ∷ []) ≡ Err refusal
+  pub answered : outcome ≡ answer.LinkRefused refusal.rule refusal.name
+
+-- the program that a unit links to by itself, or why it does not
 abbrev pub LinkLeaves : CUnit → Result CProgram Stop → Type 0
 LinkLeaves unit (Ok program) = link (unit ∷ []) ≡ Ok program
-LinkLeaves unit (Err (stop.Answer a)) = ⊥
+LinkLeaves unit (Err (stop.Answer a)) = LinkFault unit a.outcome
 LinkLeaves unit (Err stop.Memory) = unit ≡ unit
 
 -- the unit that a text is read as, which is this one

@@ -7,7 +7,7 @@ use cf_base::Memory;
 use std::alloc::{AllocError, AllocFailed};
 
 /// An answer before its last line, with the position of a refusal.
-#[derive(Clone, Copy, Debug, PartialEq, Eq)]
+#[derive(Debug, Drop, PartialEq, Eq)]
 pub struct Answer {
     pub outcome: Outcome,
     pub position: Position,
@@ -26,7 +26,7 @@ impl Answer {
 }
 
 /// Why a job doesn't go on.
-#[derive(Clone, Copy, Debug, PartialEq, Eq)]
+#[derive(Debug, Drop, PartialEq, Eq)]
 pub enum Stop {
     Answer(Answer),
     Memory,

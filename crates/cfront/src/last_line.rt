@@ -34,17 +34,21 @@ pub type Pieces<'a> = [&'a [u8]; 12];
 const EMPTY: &[u8] = b"";
 
 /// The line that an answer writes to `err` at the end; `names` has the FILEs of the job.
-pub fn line_pieces<'a>(names: &'a [String], answer: &Answer, digits: &'a mut Digits) -> Pieces<'a>
+pub fn line_pieces<'a>(
+    names: &'a [String],
+    answer: &'a Answer,
+    digits: &'a mut Digits,
+) -> Pieces<'a>
     ensures { concat (map (λ piece. piece.now) result) ≡ last_line (map string_bytes names.now) answer.now.position answer.now.outcome }
 {
-    match answer.outcome {
-        Outcome::Ended { status } => number_line(b"cfront: ended ", digits.first.format(status)),
+    match &answer.outcome {
+        Outcome::Ended { status } => number_line(b"cfront: ended ", digits.first.format(*status)),
         Outcome::Ticks => plain_line(b"cfront: out of ticks\n"),
         Outcome::Depth => plain_line(b"cfront: too deep\n"),
         Outcome::Undefined { act } => {
             number_line(
                 b"cfront: undefined act A",
-                digits.first.format(act_number(act)),
+                digits.first.format(act_number(*act)),
             )
         }
         Outcome::Usage => plain_line(b"usage: cfront go|translate|layout|link|run|name|sample\n"),
@@ -53,18 +57,21 @@ pub fn line_pieces<'a>(names: &'a [String], answer: &Answer, digits: &'a mut Dig
         Outcome::SinkFault => plain_line(b"cfront: sink fault\n"),
         Outcome::Limit { file, limit } => {
             limit_line(
-                place_name(names, file),
+                place_name(names, *file),
                 limit.bound,
                 digits.first.format(limit.most),
             )
         }
         Outcome::Refused { file, rule, at: _ } => refusal_line(
-            name_of(names, file),
+            name_of(names, *file),
             digits.first.format(answer.position.line),
             digits.second.format(answer.position.column),
             digits.third.format(rule.number()),
-            rule,
+            *rule,
         ),
+        Outcome::LinkRefused { rule, name } => {
+            link_line(digits.first.format(*rule), name.as_slice())
+        }
     }
 }
 
@@ -112,6 +119,25 @@ fn limit_line<'a>(place: &'a [u8], bound: Bound, most: &'a str) -> Pieces<'a>
         bound,
         b" ",
         most.as_bytes(),
+        b"\n",
+    ]
+}
+
+fn link_line<'a>(rule: &'a str, name: &'a [u8]) -> Pieces<'a>
+    ensures { concat (map (λ piece. piece.now) result) ≡ concat (codes "link: L" ∷ rule.now ∷ codes " " ∷ name.now ∷ codes "\n" ∷ []) }
+{
+    [
+        EMPTY,
+        EMPTY,
+        EMPTY,
+        EMPTY,
+        EMPTY,
+        EMPTY,
+        EMPTY,
+        b"link: L",
+        rule.as_bytes(),
+        b" ",
+        name,
         b"\n",
     ]
 }

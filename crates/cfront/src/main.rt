@@ -6,6 +6,8 @@
 
 mod answer;
 mod disk_files;
+#[cfg(test)]
+mod failing_tests;
 mod go;
 mod last_line;
 mod outcome;

@@ -3,10 +3,10 @@ ghost use Rattle.cf_base.specs.Integers.{bits_of};
 ghost use Rattle.cfront.specs.LastLine.{status_of, exit_status};
 
 use cc_tree::Act;
-use cf_base::{Limit, Memory, Rule};
+use cf_base::{Limit, Memory, Name, Rule};
 
 /// The answer of a job. A `file` counts the FILEs of the job from 1.
-#[derive(Clone, Copy, Debug, PartialEq, Eq)]
+#[derive(Debug, Drop, PartialEq, Eq)]
 pub enum Outcome {
     /// The program ended with this status.
     Ended { status: i32 },
@@ -20,6 +20,8 @@ pub enum Outcome {
     Usage,
     /// The file breaks this rule, at this byte place.
     Refused { file: u32, rule: Rule, at: u32 },
+    /// The text does not link: this rule of linking is broken, 1 to 6, about this name.
+    LinkRefused { rule: u8, name: Name },
     /// A limit is passed, of a file or of the job.
     Limit { file: Option<u32>, limit: Limit },
     /// A call on the files failed.
@@ -35,18 +37,19 @@ pub fn status(answer: &Result<Outcome, Memory>) -> u8
     ensures { result ≡ exit_status answer.now }
 {
     match answer {
-        Ok(outcome) => status_of_outcome(*outcome),
+        Ok(outcome) => status_of_outcome(outcome),
         Err(Memory) => 109,
     }
 }
 
-fn status_of_outcome(outcome: Outcome) -> u8
-    ensures { result ≡ status_of outcome }
+fn status_of_outcome(outcome: &Outcome) -> u8
+    ensures { result ≡ status_of outcome.now }
 {
     match outcome {
-        Outcome::Ended { status } => low_byte(status),
+        Outcome::Ended { status } => low_byte(*status),
         Outcome::Usage => 101,
         Outcome::Refused { .. } => 102,
+        Outcome::LinkRefused { .. } => 103,
         Outcome::FileFault => 104,
         Outcome::SourceFault => 105,
         Outcome::SinkFault => 106,

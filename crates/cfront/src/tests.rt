@@ -7,22 +7,22 @@ use crate::outcome::{Outcome, status};
 use crate::top::{DEFAULT_LIMITS, cfront};
 use cc_run::Limits;
 use cc_tree::Act;
-use cf_base::{Bound, Files, Limit, MemFiles, MemSink, MemSource, Memory, Rule};
+use cf_base::{Bound, Files, Limit, MemFiles, MemSink, MemSource, Memory, Name, Rule};
 use std::alloc::{AllocError, Global};
 use std::process::Abort;
 use std::test::Fail;
 
-const SEVEN: &[u8] = b"int main(){return 7;}";
+pub const SEVEN: &[u8] = b"int main(){return 7;}";
 
 /// The numbers of the calls that fail.
 #[derive(Clone, Copy)]
-struct Failing {
-    files: u32,
-    out: u32,
-    err: u32,
+pub struct Failing {
+    pub files: u32,
+    pub out: u32,
+    pub err: u32,
 }
 
-const NONE_FAILS: Failing = Failing {
+pub const NONE_FAILS: Failing = Failing {
     files: 0,
     out: 0,
     err: 0,
@@ -49,14 +49,14 @@ fn file(alloc: Global, text: &[u8], failing: Failing) -> Result<MemFiles, AllocE
 
 /// A job that was done: its words, what `a.C` held, and the calls that failed.
 #[derive(Drop)]
-struct Job<'a> {
-    words: &'a [&'a str],
-    text: &'a [u8],
-    failing: Failing,
+pub struct Job<'a> {
+    pub words: &'a [&'a str],
+    pub text: &'a [u8],
+    pub failing: Failing,
 }
 
 /// Does a job, and checks its answer, its output and the line on `err`.
-fn check_output(
+pub fn check_output(
     rt: &impl Abort,
     alloc: Global,
     job: &Job<'_>,
@@ -78,7 +78,7 @@ fn check_output(
 }
 
 /// Does a job without output, and checks its answer and the line on `err`.
-fn check(
+pub fn check(
     rt: &impl Abort,
     alloc: Global,
     job: &Job<'_>,
@@ -116,7 +116,7 @@ fn refused(number: u8, at: u32) -> Outcome
     }
 }
 
-fn go_seven(failing: Failing) -> Job<'static> {
+pub fn go_seven(failing: Failing) -> Job<'static> {
     Job {
         words: &["go", "a.C"],
         text: SEVEN,
@@ -187,12 +187,68 @@ fn lexical_faults_come_first(rt: HostRuntime) -> Result<(), Fail> {
 }
 
 #[test]
-fn another_constant_and_an_empty_file_are_outside(rt: HostRuntime) -> Result<(), Fail> {
+fn another_constant_is_outside(rt: HostRuntime) -> Result<(), Fail> {
     let line = "a.C:1:19: K48 outside the profile\n";
     let constant = b"int main(){return 1u;}";
-    check_text(&rt, rt.alloc(), constant, refused(48, 18), "", line)?;
-    let line = "a.C:1:1: K48 outside the profile\n";
-    check_text(&rt, rt.alloc(), b"", refused(48, 0), "", line)
+    check_text(&rt, rt.alloc(), constant, refused(48, 18), "", line)
+}
+
+#[test]
+fn rules_of_names_are_broken_at_the_name(rt: HostRuntime) -> Result<(), Fail> {
+    let second_local = b"int main(){int a=1;\nint a=2;}";
+    let line = "a.C:2:5: K48 outside the profile\n";
+    check_text(&rt, rt.alloc(), second_local, refused(48, 24), "", line)?;
+    let no_argument = b"int f(int a){return a;}int main(){return f();}";
+    let line = "a.C:1:42: K48 outside the profile\n";
+    check_text(&rt, rt.alloc(), no_argument, refused(48, 41), "", line)?;
+    let second_parameter = b"int f(int a,int a){return a;}int main(){return f(1,2);}";
+    let line = "a.C:1:17: K48 outside the profile\n";
+    check_text(&rt, rt.alloc(), second_parameter, refused(48, 16), "", line)?;
+    let behind_an_unknown_name = b"int f(){return 1;}int main(){return x;}int f(){return 2;}";
+    let line = "a.C:1:44: K48 outside the profile\n";
+    check_text(
+        &rt,
+        rt.alloc(),
+        behind_an_unknown_name,
+        refused(48, 43),
+        "",
+        line,
+    )
+}
+
+/// The answer to a text that does not link for want of `main`.
+fn no_main(alloc: Global) -> Result<Outcome, Fail> {
+    Ok(Outcome::LinkRefused {
+        rule: 4,
+        name: Name::from_slice(alloc, b"__main")?,
+    })
+}
+
+#[test]
+fn file_without_main_does_not_link(rt: HostRuntime) -> Result<(), Fail> {
+    let alloc = rt.alloc();
+    let line = "link: L4 __main\n";
+    for text in [b"".as_slice(), b" /* */\n", b"int f(){return 1;}"] {
+        check_text(&rt, alloc, text, no_main(alloc)?, "", line)?;
+    }
+    let answer = Ok(no_main(alloc)?);
+    assert_eq!(rt; status(&answer), 103);
+    Ok(())
+}
+
+#[test]
+fn text_without_main_stands_beside_the_file(rt: HostRuntime) -> Result<(), Fail> {
+    let alloc = rt.alloc();
+    let mut files = file(alloc, b"int f(){return 1;}", NONE_FAILS)?;
+    let mut input = MemSource::new(Vec::new(alloc), Vec::new(alloc));
+    let mut out = MemSink::new(alloc, 100, Vec::new(alloc))?;
+    let mut err = MemSink::new(alloc, 100, Vec::new(alloc))?;
+    let words = texts(alloc, &["go", "a.C"])?;
+    let answer = cfront(alloc, &words, &mut files, &mut input, &mut out, &mut err);
+    assert!(rt; answer == Ok(no_main(alloc)?));
+    let written = files.read("a.C.c", 1000);
+    assert!(rt; written.is_ok_and(|text| text.starts_with(b"#pragma cfront 1\n")));
+    Ok(())
 }
 
 #[test]
@@ -343,90 +399,6 @@ fn nesting(rt: HostRuntime) -> Result<(), Fail> {
         },
     };
     check_text(&rt, alloc, &more, want, "", "a.C: limit Nesting 256\n")
-}
-
-#[test]
-fn missing_file_is_a_fault(rt: HostRuntime) -> Result<(), Fail> {
-    let job = Job {
-        words: &["go", "b.C"],
-        text: SEVEN,
-        failing: NONE_FAILS,
-    };
-    check(
-        &rt,
-        rt.alloc(),
-        &job,
-        Outcome::FileFault,
-        "cfront: file fault\n",
-    )
-}
-
-#[test]
-fn each_call_on_files_fails_in_turn(rt: HostRuntime) -> Result<(), Fail> {
-    for number in 1..3u32 {
-        let failing = Failing {
-            files: number,
-            out: 0,
-            err: 0,
-        };
-        check(
-            &rt,
-            rt.alloc(),
-            &go_seven(failing),
-            Outcome::FileFault,
-            "cfront: file fault\n",
-        )?;
-    }
-    Ok(())
-}
-
-#[test]
-fn each_call_on_out_fails_in_turn(rt: HostRuntime) -> Result<(), Fail> {
-    for (number, output) in [(1, ""), (2, "A"), (3, "AB")] {
-        let job = Job {
-            words: &["go", "a.C"],
-            text: b"int main(){putchar(65);putchar(66);return 0;}",
-            failing: Failing {
-                files: 0,
-                out: number,
-                err: 0,
-            },
-        };
-        check_output(
-            &rt,
-            rt.alloc(),
-            &job,
-            Outcome::SinkFault,
-            output,
-            "cfront: sink fault\n",
-        )?;
-    }
-    Ok(())
-}
-
-/// The line is put in twelve pieces, the first nine of which are empty here.
-#[test]
-fn each_call_on_err_fails_in_turn(rt: HostRuntime) -> Result<(), Fail> {
-    for (number, front) in [
-        (1, ""),
-        (10, ""),
-        (11, "cfront: ended "),
-        (12, "cfront: ended 7"),
-    ] {
-        let failing = Failing {
-            files: 0,
-            out: 0,
-            err: number,
-        };
-        check(
-            &rt,
-            rt.alloc(),
-            &go_seven(failing),
-            Outcome::SinkFault,
-            front,
-        )?;
-    }
-    Ok(())
 }
 
 #[test]

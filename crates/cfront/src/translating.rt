@@ -1,5 +1,4 @@
-ghost use Rattle.std.specs.Prelude.{◌≡◌, ◌≤◌, ◌∷◌, [], true, IfOk, IsOk, length};
-ghost use Rattle.cc_tree.specs.Link.{link};
+ghost use Rattle.std.specs.Prelude.{◌≡◌, ◌≤◌, true, IfOk, length};
 ghost use Rattle.cc_tree.specs.Text.{Text};
 ghost use Rattle.cc_tree.specs.Valid.{valid_unit};
 ghost use Rattle.cfront.specs.Steps.{DiskTold, ReadLeaves, AcceptLeaves, WriteLeaves, LinkLeaves, ReadLeavesUnit, TranslateLeaves, IsSound, KeepsMeaning};
@@ -78,17 +77,19 @@ pub fn written<F: Files>(files: &mut F, name: &str, text: &[u8]) -> Result<(), S
     }
 }
 
-/// The program that a valid unit links to by itself.
+/// The program that a unit links to by itself.
 fn linked(alloc: Global, unit: CUnit) -> Result<CProgram, Stop>
-    requires { IsOk (link (unit ∷ [])) }
     ensures { LinkLeaves unit result }
 {
     let mut units = Vec::new(alloc);
     units.push(unit)?;
     match cc_link::link(alloc, units) {
         Ok(program) => Ok(program),
+        Err(LinkErr::Refused { rule, name }) => {
+            Err(Stop::Answer(Answer::plain(Outcome::LinkRefused { rule, name })))
+        }
+        Err(LinkErr::Limit(_)) => unreachable!(),
         Err(LinkErr::Memory) => Err(Stop::Memory),
-        Err(LinkErr::Limit(_)) | Err(LinkErr::Refused { .. }) => unreachable!(),
     }
 }
 
@@ -121,7 +122,6 @@ fn read_again(alloc: Global, text: &[u8], unit: &CUnit) -> Result<CUnit, Stop>
 fn read_and_linked(alloc: Global, text: &[u8], unit: &CUnit) -> Result<CProgram, Stop>
     requires valid { valid_unit unit.now ≡ true }
     requires written { Text text.now unit.now }
-    requires links { IsOk (link (unit.now ∷ [])) }
     ensures { LinkLeaves unit.now result }
 {
     let again = read_again(alloc, text, unit)?;
