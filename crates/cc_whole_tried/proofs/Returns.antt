@@ -1,5 +1,5 @@
 -- `int main ( void ) { return 3 ; }` and two texts that differ from it: with `x` in the place of `3`, and cut behind `return`.
-use Rattle.std.proofs.Common.{◌≡◌, false, List, [], ◌∷◌, pos, Option, Some, None, refl, codes, arith}
+use Rattle.std.proofs.Common.{◌≡◌, false, List, [], ◌∷◌, pos, Some, refl, codes, arith}
 use Rattle.cc_whole_tokens.specs.declared.mark.Mark.TheVariants as mark
 use Rattle.cc_whole_tokens.specs.declared.token.Token.{Token}
 use Rattle.cc_whole_tokens.specs.declared.token.Token.TheVariants as token
