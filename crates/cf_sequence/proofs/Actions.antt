@@ -7,12 +7,13 @@ use Rattle.cf_base.specs.Integers.{convert as converted}
 use Rattle.cf_base.specs.World.{World, Ran, Went, and_then}
 use Rattle.cf_core.specs.Types.{SourceType, Name, parameters, result, is_class, same_but_const}
 use Rattle.cf_core.specs.Classes.{Class}
-use Rattle.cf_core.specs.Core.{Function, arithmetic}
+use Rattle.cf_core.specs.Core.{Function, Change, arithmetic, moved}
 use Rattle.cf_core.specs.Places.{Place}
 use Rattle.cf_core.specs.Store.{Value, Nothing, Missing, Built, Number, Null, At, Code, DataMember, FunctionMember}
 use Rattle.cf_core.specs.Run.{State, Frame, Did, Gives, Act, ◌>>=◌, ◌>>◌, gives, malformed, done, some_or, need, when, with_frame, cast_from_void}
 use Rattle.cf_core.specs.Access.{used, place_of, number_of, write_place}
-use Rattle.cf_core.specs.Scalars.{operated, changed_value}
+use Rattle.cf_core.specs.Scalars.{operated, minus, moved_by, changed_value}
+use Rattle.cf_core.specs.Pointers.{element_of, route_of}
 use Rattle.cf_core.specs.Objects.{settle, result_place}
 use Rattle.cf_core.specs.Calls as calling
 use Rattle.cf_core.specs.Calls.{Program, root, function_named, is_library, name_function, has_type, run_named, run_library, enter_found}
@@ -26,9 +27,10 @@ use Rattle.cf_sequence.specs.Follows.{Follows}
 use Rattle.cf_sequence.specs.Built.{is_chain}
 use Rattle.cf_sequence.specs.Sequenced.{sequenced}
 use Rattle.cf_sequence.specs.Expressions.{Destination, result_register}
-use Rattle.cf_sequence.proofs.Following.{on, pull, pull-two, push, Pure, pure-steps, pure-then, pure-need}
+use Rattle.cf_sequence.proofs.Following.{on, pull, pull-two, push, Pure, pure-steps, pure-then, pure-need, looks-steps}
 use Rattle.cf_sequence.proofs.Steps.{pure-used, pure-number_of, pure-operated, write-steps, settle-steps}
 use Rattle.cf_sequence.proofs.Calling.{Alike, Bodies, plain_function, same-length, named-header, library-steps, enter-steps}
+use Rattle.cf_sequence.proofs.Pointers.{up_in, looks-up_in}
 use Rattle.cf_sequence.proofs.Kept.{Objects, keep-same, keep-other}
 use Rattle.cf_sequence.proofs.PlainSteps.{Usable, runs_on, plain_acts, set-steps, act-steps, at-two}
 
@@ -37,6 +39,11 @@ store_act cs o q = ((some_or o malformed >>= used) >>= place_of) >>= (λ p. (som
 
 abbrev either_act : Bool → Act Value → Act Value → Act Value
 either_act b x y = elim b [ true ↦ x | false ↦ y ]
+
+module _ (again : running.Again) (H : Program) where
+  -- what comes behind a new value: it is stored, and the place or another value is given
+  abbrev storing : {B : Type 0} → Register → Register → Registers → Plains → (Flow → Act B) → Value → Act B
+  storing place to h rest K z = λ t w. runs_on again H (more (act (plain.store place to)) rest) (keep h to z) K t w
 
 module _ (again : running.Again) (H : Program) {A B : Type 0} {S : A → State → B → State → Type 0} where
   -- a place that is used on both sides
@@ -62,29 +69,61 @@ module _ (again : running.Again) (H : Program) {A B : Type 0} {S : A → State �
       (push (write_place H.classes p x (with_frame f s) w) (λ u. gives Nothing) (λ u. λ t w. runs_on again H rest h K t w) _
       (write-steps s f w H.classes p x (λ u. c r) (λ u. λ t w. runs_on again H rest h K t w) next))))))
 
+  new-value : (place to : Register) (p : Place) (v r : Value) (h : Registers) (rest : Plains) (c : Value → Act A) (K : Flow → Act B) (s : State) (f : Frame) (w : World)
+      → Usable v → h place ≡ Some (At p) → (place ≡ to → ⊥)
+      → ((z : Value) (u : State) → u.frame ≡ s.frame → Follows S (c r u w) (runs_on again H rest (keep h to z) K (with_frame f u) w))
+      → Follows S (and_then ((write_place H.classes p v >> gives r) s w) (on c)) (storing again H place to h rest K v (with_frame f s) w)
+  new-value place to p v r h rest c K s f w usable at-place differs next =
+      subst (λ (a : Act Value). Follows S (and_then (a s w) (on (λ x. (write_place H.classes p x >> gives r) >>= c))) (storing again H place to h rest K v (with_frame f s) w)) usable
+      (store-steps place to p v r (keep h to v) rest c K s f w (keep-other to place h v differs ∙ at-place) (keep-same to h v) (λ u same. next v u same))
+
+  -- a pointer is moved
+  moved-steps : (place to : Register) (p : Place) (x y r : Value) (h : Registers) (rest : Plains) (c : Value → Act A) (K : Flow → Act B) (s : State) (f : Frame) (w : World)
+      → h place ≡ Some (At p) → (place ≡ to → ⊥)
+      → ((z : Value) (u : State) → u.frame ≡ s.frame → Follows S (c r u w) (runs_on again H rest (keep h to z) K (with_frame f u) w))
+      → Follows S (and_then ((moved_by H.classes x y >>= (λ z. write_place H.classes p z >> gives r)) s w) (on c))
+      (and_then ((used x >>= (λ a. moved_by H.classes a y)) (with_frame f s) w) (on (storing again H place to h rest K)))
+  moved-steps place to p (At q) (Number z) r h rest c K s f w at-place differs next =
+      let at : ℕ → Value = λ i. At (record q { route = route_of (element_of q.route) i }) in
+      pull-two (up_in H.classes q z s w) (λ i. gives (at i)) (λ z. write_place H.classes p z >> gives r) c _
+      (push (up_in H.classes q z (with_frame f s) w) (λ i. gives (at i)) (storing again H place to h rest K) _
+      (looks-steps (up_in H.classes q z) (looks-up_in H.classes q z) (λ i. (write_place H.classes p (at i) >> gives r) >>= c) (λ i. storing again H place to h rest K (at i)) s f w (λ i.
+          new-value place to p (at i) r h rest c K s f w refl at-place differs next)))
+  moved-steps place to p Null (Number z) r h rest c K s f w at-place differs next = record { by = refl }
+  moved-steps place to p x (Number z) r h rest c K s f w at-place differs next = record { by = tt }
+  moved-steps place to p x y r h rest c K s f w at-place differs next = record { by = tt }
+
+  -- the new value of a scalar
+  changed-steps : (ch : Change) (place to : Register) (p : Place) (x y r : Value) (h : Registers) (rest : Plains) (c : Value → Act A) (K : Flow → Act B) (s : State) (f : Frame) (w : World)
+      → h place ≡ Some (At p) → (place ≡ to → ⊥)
+      → ((z : Value) (u : State) → u.frame ≡ s.frame → Follows S (c r u w) (runs_on again H rest (keep h to z) K (with_frame f u) w))
+      → Follows S (and_then ((changed_value H.classes ch x y >>= (λ z. write_place H.classes p z >> gives r)) s w) (on c))
+      (and_then ((used x >>= (λ a. changed_value H.classes ch a y)) (with_frame f s) w) (on (storing again H place to h rest K)))
+  changed-steps (arithmetic op k t) place to p (Number i) y r h rest c K s f w at-place differs next =
+      let step : Act ℤ = operated op k (Number (converted k i)) y >>= number_of in
+      pull-two (step s w) (λ z. gives (Number (converted t z))) (λ z. write_place H.classes p z >> gives r) c _
+      (push (step (with_frame f s) w) (λ z. gives (Number (converted t z))) (storing again H place to h rest K) _
+      (pure-steps step (pure-then (operated op k (Number (converted k i)) y) number_of (pure-operated op k (Number (converted k i)) y) pure-number_of)
+      (λ z. (write_place H.classes p (Number (converted t z)) >> gives r) >>= c) (λ z. storing again H place to h rest K (Number (converted t z))) s (with_frame f s) w (λ z.
+          new-value place to p (Number (converted t z)) r h rest c K s f w refl at-place differs next)))
+  changed-steps (arithmetic op k t) place to p x y r h rest c K s f w at-place differs next = record { by = tt }
+  changed-steps (moved false) place to p x y r h rest c K s f w at-place differs next = moved-steps place to p x y r h rest c K s f w at-place differs next
+  changed-steps (moved true) place to p x y r h rest c K s f w at-place differs next = moved-steps place to p x (minus y) r h rest c K s f w at-place differs next
+
   -- a scalar is changed in place: its old value stands in one register and the right operand in another
-  pub change-steps : (op : Arith) (k t : Kind) (place from by to : Register) (p : Place) (x y r : Value) (h : Registers) (rest : Plains) (c : Value → Act A) (K : Flow → Act B)
+  pub change-steps : (ch : Change) (place from by to : Register) (p : Place) (x y r : Value) (h : Registers) (rest : Plains) (c : Value → Act A) (K : Flow → Act B)
       (s : State) (f : Frame) (w : World)
       → h place ≡ Some (At p) → h from ≡ Some x → h by ≡ Some y → Usable y → (place ≡ to → ⊥)
       → ((z : Value) (u : State) → u.frame ≡ s.frame → Follows S (c r u w) (runs_on again H rest (keep h to z) K (with_frame f u) w))
-      → Follows S (and_then ((changed_value H.classes (arithmetic op k t) x y >>= (λ z. write_place H.classes p z >> gives r)) s w) (on c))
-      (runs_on again H (more (set to (plain.changed (arithmetic op k t) from by)) (more (act (plain.store place to)) rest)) h K (with_frame f s) w)
-  change-steps op k t place from by to p (Number i) y r h rest c K s f w at-place at-from at-by usable differs next =
-      let step : Act ℤ = operated op k (Number (converted k i)) y >>= number_of in
-      let G : Value → Act B = λ z. λ t w. runs_on again H (more (act (plain.store place to)) rest) (keep h to z) K t w in
-      set-steps again H to (plain.changed (arithmetic op k t) from by) (more (act (plain.store place to)) rest) h K _ (with_frame f s) w
-      (at-two again H (λ o q. (some_or o malformed >>= used) >>= (λ a. (some_or q malformed >>= used) >>= (λ b. changed_value H.classes (arithmetic op k t) a b)))
-      (h from) (h by) (Number i) y at-from at-by G _ (with_frame f s) w
-      (subst (λ (a : Act Value). Follows S (and_then ((changed_value H.classes (arithmetic op k t) (Number i) y >>= (λ z. write_place H.classes p z >> gives r)) s w) (on c))
-      (and_then ((a >>= (λ b. changed_value H.classes (arithmetic op k t) (Number i) b)) (with_frame f s) w) (on G))) (sym usable)
-      (pull-two (step s w) (λ z. gives (Number (converted t z))) (λ z. write_place H.classes p z >> gives r) c _
-      (push (step (with_frame f s) w) (λ z. gives (Number (converted t z))) G _
-      (pure-steps step (pure-then (operated op k (Number (converted k i)) y) number_of (pure-operated op k (Number (converted k i)) y) pure-number_of)
-      (λ z. (write_place H.classes p (Number (converted t z)) >> gives r) >>= c) (λ z. G (Number (converted t z))) s (with_frame f s) w (λ z.
-      store-steps place to p (Number (converted t z)) r (keep h to (Number (converted t z))) rest c K s f w
-      (keep-other to place h (Number (converted t z)) differs ∙ at-place) (keep-same to h (Number (converted t z)))
-      (λ u same. next (Number (converted t z)) u same)))))))
-  change-steps op k t place from by to p x y r h rest c K s f w at-place at-from at-by usable differs next = record { by = tt }
+      → Follows S (and_then ((changed_value H.classes ch x y >>= (λ z. write_place H.classes p z >> gives r)) s w) (on c))
+      (runs_on again H (more (set to (plain.changed ch from by)) (more (act (plain.store place to)) rest)) h K (with_frame f s) w)
+  change-steps ch place from by to p x y r h rest c K s f w at-place at-from at-by usable differs next =
+      let G : Value → Act B = storing again H place to h rest K in
+      set-steps again H to (plain.changed ch from by) (more (act (plain.store place to)) rest) h K _ (with_frame f s) w
+      (at-two again H (λ o q. (some_or o malformed >>= used) >>= (λ a. (some_or q malformed >>= used) >>= (λ b. changed_value H.classes ch a b))) (h from) (h by) x y at-from at-by G _ (with_frame f s) w
+      (subst (λ (a : Act Value). Follows S (and_then ((changed_value H.classes ch x y >>= (λ z. write_place H.classes p z >> gives r)) s w) (on c))
+      (and_then ((used x >>= (λ v. a >>= (λ b. changed_value H.classes ch v b))) (with_frame f s) w) (on G))) (sym usable)
+      (changed-steps ch place to p x y r h rest c K s f w at-place differs next)))
 
 -- ---- calls
 

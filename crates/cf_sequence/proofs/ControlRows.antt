@@ -9,6 +9,7 @@ use Rattle.cf_core.specs.Types.{integer, void, pointer, reference, array, const}
 use Rattle.cf_core.specs.Core.{Core, absent, given, text, local, read, address, dereference, decay, index, operate, logical_and, logical_or, conditional, comma, update, step, store, arithmetic, moved, temporary, bind, local_temporary, list, zeros, string, blank, full, block, sequence, declare, once, branch, loop, switch, case_label, default_label, leave, continue, static_object, call, new, delete, new_array, delete_array}
 use Rattle.cf_core.specs.Calls.{Program}
 use Rattle.cf_core.proofs.Sample.{int, function_of, listed, in_block, main_of, program, static_of, returns, num, add, put, put_code, put_digit, value_of, set, called, referred}
+use Rattle.cf_sequence.specs.Built.{is_plainly_built}
 use Rattle.cf_sequence.proofs.Sample.{Shows}
 
 abbrev less : Core → Core → Core
@@ -148,3 +149,10 @@ local_static :
     (in_block (once (codes "n") (shown 5) ∷ full (step true (arithmetic op.Add Int Int) (static_object (codes "n") int)) ∷ full (step true (arithmetic op.Add Int Int) (local 0)) ∷ []))
     ∷ returns (read (static_object (codes "n") int)) ∷ [])) { statics = static_of (codes "n") int ∷ [] }) [] 20 (record { end = Ended (pos 7); out = codes "5" })
 local_static = record { core = refl; plain = refl }
+
+-- Which of these programs are built.
+loops_are_built : is_plainly_built with_continue ≡ true
+loops_are_built = refl
+
+switch_with_a_local_is_not_built : is_plainly_built (passing 1) ≡ false
+switch_with_a_local_is_not_built = refl

@@ -5,7 +5,7 @@ use Rattle.cf_base.proofs.Tests.{both}
 use Rattle.cf_base.specs.World.{World, Ran, Went, and_then}
 use Rattle.cf_core.specs.Types.{SourceType, Name, parameters, result, is_class}
 use Rattle.cf_core.specs.Core as core
-use Rattle.cf_core.specs.Core.{Core, Cores, Function, none, absent, arithmetic, moved}
+use Rattle.cf_core.specs.Core.{Core, Cores, Function, no_temporary, local_temporary, none, absent}
 use Rattle.cf_core.specs.Places.{Place}
 use Rattle.cf_core.specs.Store.{Value}
 use Rattle.cf_core.specs.Run.{State, Frame, Did, Gives, Act, ◌>>=◌, ◌>>◌, gives, state, for_all, frame_changed, with_frame}
@@ -22,7 +22,7 @@ use Rattle.cf_plain.specs.Acts.{Registers}
 use Rattle.cf_plain.specs.Running as running
 use Rattle.cf_plain.specs.Running.{Flow, keep}
 use Rattle.cf_sequence.specs.Follows.{Follows}
-use Rattle.cf_sequence.specs.Built.{is_value, are_values, are_arguments, is_chain, is_arithmetic, is_start}
+use Rattle.cf_sequence.specs.Built.{is_value, are_values, are_arguments, is_chain, is_start}
 use Rattle.cf_sequence.specs.Made.{Temporary, temporaries, temporaries_all, width, held_by, Local}
 use Rattle.cf_sequence.specs.Expressions.{Full, Destination, value, whole, flags, ended, used as use_of}
 use Rattle.cf_sequence.specs.Statements.{condition}
@@ -30,7 +30,8 @@ use Rattle.cf_sequence.proofs.Following.{on, pull}
 use Rattle.cf_sequence.proofs.Calling.{Bodies, never}
 use Rattle.cf_sequence.proofs.Kept.{Kept, Ready, After, after-set, keep-same}
 use Rattle.cf_sequence.proofs.PlainSteps.{Usable, runs_on, use-steps, truth-steps}
-use Rattle.cf_sequence.proofs.Evaluating.{H, follow-value}
+use Rattle.cf_sequence.proofs.Operands.{H}
+use Rattle.cf_sequence.proofs.Evaluating.{follow-value}
 
 empty-two : (xs ys : List Temporary) → xs ≡ [] → ys ≡ [] → xs ++ ys ≡ []
 empty-two xs ys e f = ap (λ z. z ++ ys) e ∙ f
@@ -48,6 +49,7 @@ mutual
   no-temporaries (core.pointer_operate op e f) ok b k =
       let parts = both (is_value e) (is_value f) ok in empty-two _ _ (no-temporaries e parts.0 b k) (no-temporaries f parts.1 b (k + width e))
   no-temporaries (core.text j bytes) ok b k = refl
+  no-temporaries (core.static_object name t) ok b k = refl
   no-temporaries (core.unary op t e) ok b k = no-temporaries e ok b k
   no-temporaries (core.logical_not e) ok b k = no-temporaries e ok b k
   no-temporaries (core.operate op t e f) ok b k =
@@ -64,9 +66,10 @@ mutual
       empty-two _ _ (empty-two _ _ (no-temporaries c parts.0 b k) (no-temporaries e arms.0 true (k + width c))) (no-temporaries f arms.1 true (k + width c + width e))
   no-temporaries (core.comma es) ok b k = no-temporaries-all es ok b k
   no-temporaries (core.update e c f) ok b k =
-      let parts = both (is_value e) (is_value f) (both (is_arithmetic c) (is_value e && is_value f) ok).1 in
+      let parts = both (is_value e) (is_value f) ok in
       empty-two _ _ (no-temporaries e parts.0 b k) (no-temporaries f parts.1 b (k + width e))
-  no-temporaries (core.step p c e) ok b k = no-temporaries e (both (is_arithmetic c) (is_value e) ok).1 b k
+  no-temporaries (core.step p c e) ok b k = no-temporaries e ok b k
+  no-temporaries (core.bind no_temporary e) ok b k = no-temporaries e ok b k
   no-temporaries (core.call name t absent args) ok b k =
       no-temporaries-in args (both (is_chain t) (are_arguments args) (both (not (is_class (result t))) (is_chain t && are_arguments args) ok).1).1 b (k + length (parameters t) + 0)
   no-temporaries (core.number z) ok b k = refl
@@ -97,7 +100,7 @@ nothing-is core.blank ok = refl
 nothing-is e ok = never ok
 
 pub held-none : (e : Core) → is_value e ≡ true → held_by e ≡ []
-held-none (core.bind h e) ok = never ok
+held-none (core.bind (local_temporary i t) e) ok = never ok
 held-none e ok = refl
 
 -- what comes at the end of a full expression: nothing, where it has made no temporary

@@ -104,15 +104,15 @@ abbrev with_functions : List PlainFunction → PlainProgram
 with_functions fs = record { classes = []; functions = fs; statics = []; constants = []; initialisers = [] }
 
 with-plain : (hs gs : List Function) (k : ℕ) → list_all is_ours gs ≡ true
-    → plain.with_file (sequenced (of_functions hs)) k (plain.own_names k (plain_file (map beside gs))) ≡ sequenced (of_functions (hs ++ core.new_functions hs gs))
+    → plain.with_file (sequenced (of_functions [] hs)) k (plain.own_names k (plain_file (map beside gs))) ≡ sequenced (of_functions [] (hs ++ core.new_functions hs gs))
 with-plain hs gs k ok =
-    ap (plain.with_file (sequenced (of_functions hs)) k) (own-plain k gs ok)
+    ap (plain.with_file (sequenced (of_functions [] hs)) k) (own-plain k gs ok)
     ∙ ap (λ (fs : List PlainFunction). with_functions (map beside hs ++ fs)) (new-same hs gs)
     ∙ ap with_functions (sym (map-append beside hs (core.new_functions hs gs)))
 
 with-core : (hs gs : List Function) (k : ℕ) → list_all is_ours gs ≡ true
-    → core.with_file (of_functions hs) k (core.own_names k (in_file gs)) ≡ of_functions (hs ++ core.new_functions hs gs)
-with-core hs gs k ok = ap (core.with_file (of_functions hs) k) (own-core k gs ok)
+    → core.with_file (of_functions [] hs) k (core.own_names k (in_file gs)) ≡ of_functions [] (hs ++ core.new_functions hs gs)
+with-core hs gs k ok = ap (core.with_file (of_functions [] hs) k) (own-core k gs ok)
 
 -- ---- what is joined is built
 
@@ -136,8 +136,8 @@ new-built hs (f ∷ gs) ok =
 record Together (files : List CoreFile) (hs : List Function) (k : ℕ) : Type 0 where
   functions : List Function
   built : list_all is_built_function functions ≡ true
-  in_core : core.with_files (of_functions hs) k files ≡ of_functions functions
-  in_plain : plain.with_files (sequenced (of_functions hs)) k (map sequenced_file files) ≡ sequenced (of_functions functions)
+  in_core : core.with_files (of_functions [] hs) k files ≡ of_functions [] functions
+  in_plain : plain.with_files (sequenced (of_functions [] hs)) k (map sequenced_file files) ≡ sequenced (of_functions [] functions)
 
 file-is : (file : CoreFile) → is_built_file file ≡ true → file ≡ in_file file.functions
 file-is file ok =
@@ -157,9 +157,9 @@ together (file ∷ files) hs k ok built =
     record {
       functions = rest.functions;
       built = rest.built;
-      in_core = ap (λ x. core.with_files (core.with_file (of_functions hs) k (core.own_names k x)) (suc k) files) (file-is file parts.0)
+      in_core = ap (λ x. core.with_files (core.with_file (of_functions [] hs) k (core.own_names k x)) (suc k) files) (file-is file parts.0)
           ∙ ap (λ P. core.with_files P (suc k) files) (with-core hs gs k ours) ∙ rest.in_core;
-      in_plain = ap (λ x. plain.with_files (plain.with_file (sequenced (of_functions hs)) k (plain.own_names k (sequenced_file x))) (suc k) (map sequenced_file files)) (file-is file parts.0)
+      in_plain = ap (λ x. plain.with_files (plain.with_file (sequenced (of_functions [] hs)) k (plain.own_names k (sequenced_file x))) (suc k) (map sequenced_file files)) (file-is file parts.0)
           ∙ ap (λ Q. plain.with_files Q (suc k) (map sequenced_file files)) (with-plain hs gs k ours) ∙ rest.in_plain;
     }
 
@@ -169,4 +169,4 @@ pub files-keep : (files : List CoreFile) → list_all is_built_file files ≡ tr
 files-keep files ok input heap depth n x is =
     let all = together files [] 1 ok refl in
     ap (λ Q. PlainMean Q input heap depth n) all.in_plain
-    ∙ programs-agree all.functions all.built input heap depth n x (sym (ap (λ P. Mean P input heap depth n) all.in_core) ∙ is)
+    ∙ programs-agree [] all.functions all.built input heap depth n x (sym (ap (λ P. Mean P input heap depth n) all.in_core) ∙ is)

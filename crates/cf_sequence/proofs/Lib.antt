@@ -9,6 +9,9 @@ pub mod Scopes
 pub mod Silent
 pub mod Standing
 pub mod Evaluating
+pub mod Labels
+pub mod Operands
+pub mod Parts
 pub mod Following
 pub mod Fulls
 pub mod Joining
@@ -17,6 +20,7 @@ pub mod Moving
 pub mod PlainSteps
 pub mod Pointers
 pub mod Sample
+pub mod StaticObjects
 pub mod Steps
 pub mod Switching
 pub mod Whole

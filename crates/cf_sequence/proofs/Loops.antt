@@ -35,7 +35,8 @@ use Rattle.cf_sequence.proofs.Following.{on, pull, pull-two, push, follows-then}
 use Rattle.cf_sequence.proofs.Calling.{Bodies, never}
 use Rattle.cf_sequence.proofs.Kept.{Kept, kept-all, kept-then, Ready, ready-more, After, added-two, keep-same, listed-kept, listed-there}
 use Rattle.cf_sequence.proofs.PlainSteps.{Usable, pick, runs_on, set-steps, act-steps, at-one, branch-steps, declare-steps}
-use Rattle.cf_sequence.proofs.Evaluating.{H, first-room, second-room, first-steps, value-gives}
+use Rattle.cf_sequence.proofs.Operands.{H, first-room, second-room}
+use Rattle.cf_sequence.proofs.Parts.{first-steps, value-gives}
 use Rattle.cf_sequence.proofs.Moving.{all_gone, gone-frame, gone-append, ends-all, Held, held-kept, held-append, finished-steps, Moved, moved-count, moved-then, moved-kept, moved-ready, with_scope, moved-scope, moved-opened, moved-gone, Beyond}
 use Rattle.cf_sequence.proofs.Fulls.{nothing-is, held-none, full-steps, condition-steps, used-steps}
 use Rattle.cf_sequence.proofs.Standing.{Open, inside_of, opened, looped, turn_code, step_code, Stands, stands-later, moved-all, settled_full, result_act, next-more, inner-next, inner-declared, Turned, EndsAs, Turns}

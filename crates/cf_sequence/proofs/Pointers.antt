@@ -27,13 +27,20 @@ pure-up_to : (n : ℕ) (x : Option ℕ) → Pure (up_to n x)
 pure-up_to n None = pure-undefined outside_array
 pure-up_to n (Some i) = pure-then (need (nat_le i n) outside_array) (λ u. gives i) (pure-need (nat_le i n) outside_array) (λ u. pure-gives i)
 
+-- the number of the element that a pointer is moved to
+abbrev pub up_in : List Class → Place → ℤ → Act ℕ
+up_in cs p z = λ s w. up_to (bound_of cs (s.object p.object).type (element_of p.route)) (further (element_of p.route).index z) s w
+
+pub looks-up_in : (cs : List Class) (p : Place) (z : ℤ) → Looks (up_in cs p z)
+looks-up_in cs p z =
+    let pure : (s : State) → Pure (up_to (bound_of cs (s.object p.object).type (element_of p.route)) (further (element_of p.route).index z)) =
+        λ s. pure-up_to (bound_of cs (s.object p.object).type (element_of p.route)) (further (element_of p.route).index z) in
+    record { answer = λ s. (pure s).answer; runs = λ s w. ap (λ (a : Act _). a s w) (pure s).runs; blind = λ s f. refl }
+
 looks-moved_place : (cs : List Class) (p : Place) (z : ℤ) → Looks (moved_place cs p z)
 looks-moved_place cs p z =
-    let e : Element = element_of p.route in
-    let pure : (s : State) → Pure (up_to (bound_of cs (s.object p.object).type e) (further e.index z) >>= (λ i. gives (At (record p { route = route_of e i })))) =
-        λ s. pure-then (up_to (bound_of cs (s.object p.object).type e) (further e.index z)) (λ i. gives (At (record p { route = route_of e i })))
-            (pure-up_to (bound_of cs (s.object p.object).type e) (further e.index z)) (λ i. pure-gives (At (record p { route = route_of e i }))) in
-    record { answer = λ s. (pure s).answer; runs = λ s w. ap (λ (a : Act _). a s w) (pure s).runs; blind = λ s f. refl }
+    looks-then (up_in cs p z) (λ i. gives (At (record p { route = route_of (element_of p.route) i }))) (looks-up_in cs p z)
+    (λ i. looks-pure (gives (At (record p { route = route_of (element_of p.route) i }))) (pure-gives (At (record p { route = route_of (element_of p.route) i }))))
 
 looks-moved_value : (cs : List Class) (v : Value) (z : ℤ) → Looks (moved_value cs v z)
 looks-moved_value cs (At p) z = looks-moved_place cs p z

@@ -7,9 +7,10 @@ use Rattle.cf_base.specs.Event.{Ended, Ticks, Undefined}
 use Rattle.cf_core.specs.declared.operators.UnaryOperator.TheVariants as sign
 use Rattle.cf_core.specs.declared.operators.LoopForm.TheVariants as form
 use Rattle.cf_core.specs.Types.{void, integer, enumeration, pointer, reference, array, const}
-use Rattle.cf_core.specs.Core.{Core, absent, given, local, read, operate, unary, convert, full, declare, blank, update, step, arithmetic, loop, store, switch, case_label, default_label, leave, continue, branch, logical_and, logical_or, conditional, comma, temporary, bind, local_temporary, zeros, list, index, decay}
+use Rattle.cf_core.specs.Core.{Core, absent, given, local, static_object, read, operate, unary, convert, full, declare, blank, update, step, arithmetic, loop, store, switch, case_label, default_label, leave, continue, branch, logical_and, logical_or, conditional, comma, temporary, bind, local_temporary, zeros, list, index, decay}
 use Rattle.cf_core.specs.Calls.{Program}
 use Rattle.cf_core.proofs.Sample.{int, function_of, listed, in_block, main_of, program, static_of, returns, num, add, put, put_code, put_digit, value_of, set, called, referred}
+use Rattle.cf_sequence.specs.Built.{is_plainly_built}
 use Rattle.cf_sequence.proofs.Sample.{Shows}
 
 -- int main(){return 7;}
@@ -41,3 +42,20 @@ condition_inside = record { core = refl; plain = refl }
 
 last_turn_spends_a_tick : Shows echo (codes "hi") 3 (record { end = Ticks; out = codes "hi" })
 last_turn_spends_a_tick = record { core = refl; plain = refl }
+
+-- The law of sequencing speaks of such programs.
+calls_are_built : is_plainly_built arguments_in_order ≡ true
+calls_are_built = refl
+
+input_is_built : is_plainly_built echo ≡ true
+input_is_built = refl
+
+-- int x;int main(){x=3;return x+1;}
+abbrev global : Program
+global = program [] (main_of (set (static_object (codes "x") int) (num 3) ∷ returns (add (read (static_object (codes "x") int)) (num 1)) ∷ []) ∷ []) (static_of (codes "x") int ∷ [])
+
+global_object : Shows global [] 1 (record { end = Ended (pos 4); out = [] })
+global_object = record { core = refl; plain = refl }
+
+global_is_built : is_plainly_built global ≡ true
+global_is_built = refl

@@ -5,14 +5,14 @@ use Rattle.cf_base.proofs.Tests.{both}
 use Rattle.cf_core.specs.declared.operators.LoopForm.TheVariants as form
 use Rattle.cf_core.specs.Types.{SourceType, parameters, result, is_class}
 use Rattle.cf_core.specs.Core as core
-use Rattle.cf_core.specs.Core.{Core, Cores, MaybeCore, none, absent, given, arithmetic, moved}
+use Rattle.cf_core.specs.Core.{Core, Cores, MaybeCore, no_temporary, none, absent, given}
 use Rattle.cf_core.specs.Calls.{Program}
 use Rattle.cf_core.specs.Joined.{is_nothing}
 use Rattle.cf_plain.specs.Plain.{Register, Action, Plain, Plains, act, set, branch, loop, leave, continue, give, nothing, more}
 use Rattle.cf_plain.specs.Plain as plain
 use Rattle.cf_plain.specs.Acts.{Registers}
 use Rattle.cf_plain.specs.Running.{Again, has_case, from_case, from_default}
-use Rattle.cf_sequence.specs.Built.{is_value, are_values, are_arguments, is_arithmetic, is_chain}
+use Rattle.cf_sequence.specs.Built.{is_value, are_values, are_arguments, is_chain}
 use Rattle.cf_sequence.specs.Made.{Local, width, numbers}
 use Rattle.cf_sequence.specs.Expressions.{Full, Destination, destination, value, values, arguments, settled, builds, finished, result_register, used as use_of}
 use Rattle.cf_sequence.proofs.Calling.{never}
@@ -84,6 +84,7 @@ module _ (again : Again) (H : Program) where
       silent-value (core.number z) ok x into n k = silent-set n (plain.number z)
       silent-value (core.local i) ok x into n k = silent-set n (plain.local i)
       silent-value (core.read e) ok x into n k = silent-then (value P.classes x e None n k) (λ rest. more (set n (plain.read n)) rest) (silent-value e ok x None n k) (silent-set n (plain.read n))
+      silent-value (core.static_object name t) ok x into n k = silent-set n (plain.static_object name t)
       silent-value (core.text j bytes) ok x into n k = silent-set n (plain.text j bytes)
       silent-value (core.address e) ok x into n k = silent-then (value P.classes x e None n k) (use_of n) (silent-value e ok x None n k) (silent-used n)
       silent-value (core.dereference e) ok x into n k =
@@ -125,24 +126,25 @@ module _ (again : Again) (H : Program) where
           silent-then (value P.classes x q None n k)
           (λ rest. more (set n (plain.truth n)) (more (branch n (value P.classes x a None n (k + width q) nothing) (value P.classes x b None n (k + width q + width a) nothing)) rest))
           (silent-value q parts.0 x None n k) (record { labels = λ z rest. refl; at_case = λ z rest g. refl; at_default = λ rest g. refl })
+      silent-value (core.bind no_temporary e) ok x into n k = silent-value e ok x None n k
       silent-value (core.comma es) ok x into n k = silent-values es ok x n k
       silent-value (core.store a b) ok x into n k =
           let parts = both (is_value a) (is_value b) ok in
           silent-operands (value P.classes x a None n k) (value P.classes x b None (suc n) (k + width a)) (λ rest. more (act (plain.store n (suc n))) rest) n
           (silent-value a parts.0 x None n k) (silent-value b parts.1 x None (suc n) (k + width a)) (silent-act (plain.store n (suc n)))
       silent-value (core.update a c b) ok x into n k =
-          let parts = both (is_value a) (is_value b) (both (is_arithmetic c) (is_value a && is_value b) ok).1 in
+          let parts = both (is_value a) (is_value b) ok in
           silent-operands (value P.classes x a None n k) (value P.classes x b None (suc n) (k + width a))
           (λ rest. use_of (suc n) (more (set (suc (suc n)) (plain.read n)) (more (set (suc n) (plain.changed c (suc (suc n)) (suc n))) (more (act (plain.store n (suc n))) rest)))) n
           (silent-value a parts.0 x None n k) (silent-value b parts.1 x None (suc n) (k + width a)) (record { labels = λ z rest. refl; at_case = λ z rest g. refl; at_default = λ rest g. refl })
       silent-value (core.step false c e) ok x into n k =
           silent-then (value P.classes x e None n k)
           (λ rest. more (set (suc n) (plain.read n)) (more (set (suc (suc n)) (plain.number (pos 1))) (more (set (suc n) (plain.changed c (suc n) (suc (suc n)))) (more (act (plain.store n (suc n))) rest))))
-          (silent-value e (both (is_arithmetic c) (is_value e) ok).1 x None n k) (record { labels = λ z rest. refl; at_case = λ z rest g. refl; at_default = λ rest g. refl })
+          (silent-value e ok x None n k) (record { labels = λ z rest. refl; at_case = λ z rest g. refl; at_default = λ rest g. refl })
       silent-value (core.step true c e) ok x into n k =
           silent-then (value P.classes x e None (suc n) k)
           (λ rest. more (set n (plain.read (suc n))) (more (set (suc (suc n)) (plain.number (pos 1))) (more (set (suc (suc n)) (plain.changed c n (suc (suc n)))) (more (act (plain.store (suc n) (suc (suc n)))) rest))))
-          (silent-value e (both (is_arithmetic c) (is_value e) ok).1 x None (suc n) k) (record { labels = λ z rest. refl; at_case = λ z rest g. refl; at_default = λ rest g. refl })
+          (silent-value e ok x None (suc n) k) (record { labels = λ z rest. refl; at_case = λ z rest g. refl; at_default = λ rest g. refl })
       silent-value (core.call name t absent args) ok x into n k =
           let given_args = (both (is_chain t) (are_arguments args) (both (not (is_class (result t))) (is_chain t && are_arguments args) ok).1).1 in
           let last : Plains → Plains = λ rest. more (set n (plain.call name t None (numbers k (parameters t)) (result_register t into))) rest in

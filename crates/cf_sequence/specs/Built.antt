@@ -1,11 +1,11 @@
--- The cores that are sequenced so far: numbers, pointers, locals, literals, calls of functions by name, and all statements, but that a `switch` declares no local in its own
--- block; over no class and no static object.
+-- The cores that are built so far: functions over numbers and pointers, with locals, references to objects, literals, calls by name and all statements,
+-- where a `switch` declares no local in its own block, and static objects without an initialiser; no class and no temporary.
 use Rattle.std.specs.Prelude.{ℕ, suc, Bool, true, false, ◌&&◌, ◌||◌, not, nat_le, nat_lt, List, [], ◌∷◌, ◌++◌, length, Option, None, Some, bytes_eq, codes}
 use Rattle.std.specs.List.{list_all}
 use Rattle.cf_core.specs.Types.{SourceType, takes, gives, result, is_class, parameters}
 use Rattle.cf_core.specs.Classes.{Class}
 use Rattle.cf_core.specs.Core as core
-use Rattle.cf_core.specs.Core.{Core, Cores, MaybeCore, Change, arithmetic, none, absent, given, Role, plain_function, Function, Static, CoreFile}
+use Rattle.cf_core.specs.Core.{Core, Cores, MaybeCore, no_temporary, none, absent, given, Role, plain_function, Function, Static, CoreFile}
 use Rattle.cf_core.specs.Calls.{Program, Setting}
 use Rattle.cf_core.specs.Joined.{is_nothing}
 use Rattle.cf_core.specs.Valid.{is_label}
@@ -16,15 +16,12 @@ is_chain (takes p t) = is_chain t
 is_chain (gives t c) = true
 is_chain t = false
 
-abbrev pub is_arithmetic : Change → Bool
-is_arithmetic (arithmetic op k to) = true
-is_arithmetic c = false
-
 abbrev mutual
   pub is_value : Core → Bool
   is_value (core.number z) = true
   is_value (core.local i) = true
   is_value (core.text j bytes) = true
+  is_value (core.static_object name t) = true
   is_value (core.read e) = is_value e
   is_value (core.address e) = is_value e
   is_value (core.dereference e) = is_value e
@@ -41,8 +38,9 @@ abbrev mutual
   is_value (core.conditional c a b) = is_value c && (is_value a && is_value b)
   is_value (core.comma es) = are_values es
   is_value (core.store a b) = is_value a && is_value b
-  is_value (core.update a c b) = is_arithmetic c && (is_value a && is_value b)
-  is_value (core.step is_postfix c e) = is_arithmetic c && is_value e
+  is_value (core.update a c b) = is_value a && is_value b
+  is_value (core.step is_postfix c e) = is_value e
+  is_value (core.bind no_temporary e) = is_value e
   is_value (core.call name t absent args) = not (is_class (result t)) && (is_chain t && are_arguments args)
   is_value e = false
 
@@ -129,8 +127,8 @@ is_built_function f =
 
 abbrev pub is_plainly_built : Program → Bool
 is_plainly_built P =
-    is_none P.classes && (is_none P.statics && (is_none P.constants && (is_none P.initialisers && list_all is_built_function P.functions)))
+    is_none P.classes && (is_none P.constants && (is_none P.initialisers && list_all is_built_function P.functions))
 
--- Files of such functions, of which none is local to its file.
+-- Files of such functions, of which none is local to its file, without static objects.
 abbrev pub is_built_file : CoreFile → Bool
 is_built_file file = is_none file.classes && (is_none file.statics && list_all (λ (f : Function). is_built_function f && not f.is_local) file.functions)

@@ -1,20 +1,34 @@
 //! Sequencing: a core becomes plain statements of one effect each, in which the order of evaluation, temporaries and the ends of objects are settled.
 //!
-//! `specs/` has the plain unit that a core's file becomes (`Sequenced`), and which cores have been built so far (`Built`). The law below says that a
-//! program's plain statements have its meaning; `proofs/` tries the definition on programs of all forms.
+//! `specs/` has the plain unit that a core's file becomes (`Sequenced`), and which cores have been built so far (`Built`). The laws below say that
+//! plain statements have the meaning of their cores; `proofs/` tries the definition on programs of all forms.
 #![tactic(auto)]
 
-ghost use Rattle.std.specs.Prelude.{◌≡◌, ℕ, List, true, Some};
+ghost use Rattle.std.specs.Prelude.{◌≡◌, ℕ, List, true, Some, map};
+ghost use Rattle.std.specs.List.{list_all};
 ghost use Rattle.cf_base.specs.World.{Outcome};
+ghost use Rattle.cf_core.specs.Core.{CoreFile};
 ghost use Rattle.cf_core.specs.Calls.{Program};
+ghost use Rattle.cf_core.specs.Joined.{program_of};
 ghost use Rattle.cf_core.specs.Program.{Mean};
+ghost use Rattle.cf_plain.specs.Joined.{files_mean};
 ghost use Rattle.cf_plain.specs.Program.{PlainMean};
-ghost use Rattle.cf_sequence.specs.Built.{is_plainly_built};
-ghost use Rattle.cf_sequence.specs.Sequenced.{sequenced};
+ghost use Rattle.cf_sequence.specs.Built.{is_built_file, is_plainly_built};
+ghost use Rattle.cf_sequence.specs.Sequenced.{sequenced, sequenced_file};
 
-/// The law that sequencing keeps the meaning, for the programs that are built so far: for each input, heap limit, depth limit and bound of ticks the
-/// plain statements show the same trace and come to the same end, an undefined act too. It does nothing.
+/// The law that sequencing keeps the meaning of files, for those that are built so far: for each input, heap limit, depth limit and bound of ticks
+/// their plain units, joined, show the same trace and come to the same end as their cores, an undefined act too. It does nothing.
+pub fn sequencing_keeps_the_meaning_of_files()
+    ensures {
+        (files : List CoreFile) → list_all is_built_file files ≡ true → (input : List ℕ) (heap depth n : ℕ) (x : Outcome)
+            → Mean (program_of files) input heap depth n ≡ Some x → files_mean (map sequenced_file files) input heap depth n ≡ Some x
+    }
+{}
+
+/// The same law of a program whose files are joined. It does nothing.
 pub fn sequencing_keeps_the_meaning()
-    ensures { (P : Program) → is_plainly_built P ≡ true → (input : List ℕ) (heap depth n : ℕ) (x : Outcome)
-        → Mean P input heap depth n ≡ Some x → PlainMean (sequenced P) input heap depth n ≡ Some x }
+    ensures {
+        (P : Program) → is_plainly_built P ≡ true → (input : List ℕ) (heap depth n : ℕ) (x : Outcome)
+            → Mean P input heap depth n ≡ Some x → PlainMean (sequenced P) input heap depth n ≡ Some x
+    }
 {}

@@ -1,0 +1,187 @@
+-- The labels of a switch, in a core and in its plain statements: what has no label of its own is passed over.
+use Rattle.std.proofs.Common.{◌≡◌, ℕ, zero, suc, ◌+◌, ◌≤◌, ◌<◌, Bool, true, false, not, ◌&&◌, ◌||◌, nat_le, if◌then◌else◌, List, [], ◌∷◌, ◌++◌, length, refl, sym, ◌∙◌, ap, subst, arith, append-nil}
+use Rattle.std.specs.Prelude.{ℤ, pos, int_le, Option, Some, None}
+use Rattle.cf_base.proofs.Tests.{both}
+use Rattle.cf_base.specs.World.{World, Ran, Went, and_then}
+use Rattle.cf_core.specs.declared.operators.LoopForm.TheVariants as form
+use Rattle.cf_core.specs.Types.{SourceType, Name, is_class}
+use Rattle.cf_core.specs.Core as core
+use Rattle.cf_core.specs.Core.{Core, Cores, MaybeCore, Function, none, absent, given}
+use Rattle.cf_core.specs.Nodes.{nodes, nodes_all}
+use Rattle.cf_core.specs.Store.{Value}
+use Rattle.cf_core.specs.Run.{State, Frame, Did, Gives, Act, ◌>>=◌, ◌>>◌, gives, malformed, some_or, done, when, with_frame}
+use Rattle.cf_core.specs.Access.{used, number_of}
+use Rattle.cf_core.specs.Joined.{is_nothing}
+use Rattle.cf_core.specs.Valid.{is_label}
+use Rattle.cf_core.specs.Calls as calling
+use Rattle.cf_core.specs.Calls.{Program, function_named, in_scope, full_expression}
+use Rattle.cf_core.specs.Expressions as meaning
+use Rattle.cf_core.specs.Statements as does
+use Rattle.cf_plain.specs.Plain.{Register, Plain, Plains, act, set, loop, leave, continue, give, nothing, more}
+use Rattle.cf_plain.specs.Plain as plain
+use Rattle.cf_plain.specs.Acts.{Registers}
+use Rattle.cf_plain.specs.Running as running
+use Rattle.cf_plain.specs.Running.{Flow, Falls, Breaks, Continues, Returns, falling, all}
+use Rattle.cf_sequence.specs.Follows.{Follows}
+use Rattle.cf_sequence.specs.Built.{is_value, is_start, is_condition, is_chain, declares_here, is_statement, is_inner_or, are_statements, are_cases, next_local, next_locals}
+use Rattle.cf_sequence.specs.Made.{Local, width, added, declared, declared_all, held_by}
+use Rattle.cf_sequence.specs.Expressions.{Full, destination, finished, settled, flags, ended, whole, value, used as use_of}
+use Rattle.cf_sequence.specs.Statements.{Inside, in_switch, statement, statement_or, statements, started, passing, passed}
+use Rattle.cf_sequence.proofs.Following.{on, pull, pull-two, push, pure-steps}
+use Rattle.cf_sequence.proofs.Steps.{pure-number_of}
+use Rattle.cf_sequence.proofs.Calling.{Bodies, never}
+use Rattle.cf_sequence.proofs.Kept.{Kept, Ready, ready-more}
+use Rattle.cf_sequence.proofs.PlainSteps.{Usable, runs_on}
+use Rattle.cf_sequence.proofs.Operands.{H, first-room, second-room}
+use Rattle.cf_sequence.proofs.Moving.{all_gone, gone-append, Held, held-append, held-kept, finished-steps, Moved, moved-count, moved-then, with_scope, Beyond}
+use Rattle.cf_sequence.proofs.Fulls.{used-steps, whole-is, nothing-is, held-none}
+use Rattle.cf_sequence.proofs.Standing.{Open, inside_of, opened, Stands, stands-later, Turns, moved-all, inner-next, inner-declared}
+use Rattle.cf_sequence.proofs.Scopes.{Ways, ways-later, Fallen, closing_scope, scope-closed, scope-gone, moved-out, Does, behind, stands-on}
+use Rattle.cf_sequence.proofs.Silent.{Silent, silent-none, silent-set, silent-then, silent-used, silent-settled, silent-finished, silent-leave, silent-continue, silent-give, silent-value}
+
+-- what a switch looks for
+pub data Aim : Type 0 where
+  to_case : ℤ → Aim
+  to_default : Aim
+
+abbrev pub core_from : calling.Again → Program → Aim → Cores → Act calling.Flow
+core_from again P (to_case z) es = does.from_case again P z es
+core_from again P to_default es = does.from_default again P es
+
+abbrev pub plain_from : running.Again → Program → Aim → Plains → Registers → Act Flow
+plain_from again H (to_case z) ss g = running.from_case again H z ss g
+plain_from again H to_default ss g = running.from_default again H ss g
+
+abbrev pub core_has : Aim → Cores → Bool
+core_has (to_case z) es = does.has_case z es
+core_has to_default es = does.has_default es
+
+-- a label is a case or the default
+pub data Label (s : Core) : Type 0 where
+  a_case : (y : ℤ) → s ≡ core.case_label y → Label s
+  the_default : s ≡ core.default_label → Label s
+
+pub label-of : (s : Core) → is_label s ≡ true → Label s
+label-of (core.case_label y) ok = a_case y refl
+label-of core.default_label ok = the_default refl
+label-of s ok = never ok
+
+pub or-else : {X : Type 0} (a b : Bool) → (a || b) ≡ true → (a ≡ true → X) → (b ≡ true → X) → X
+or-else true b ok f g = f refl
+or-else false b ok f g = g ok
+
+-- statements that declare nothing are passed without a step
+pub passed-by : (again : calling.Again) (P : Program) (aim : Aim) (m : ℕ) (s : Core) (rest : Cores) → not (declares_here s) ≡ true → is_statement m s ≡ true
+    → core_from again P aim (core.more s rest) ≡ core_from again P aim rest
+passed-by again P (to_case z) m (core.case_label y) rest free ok = never ok
+passed-by again P (to_case z) m (core.declare i t e) rest free ok = never free
+passed-by again P (to_case z) m (core.sequence es) rest free ok = never free
+passed-by again P (to_case z) m s rest free ok = refl
+passed-by again P to_default m core.default_label rest free ok = never ok
+passed-by again P to_default m (core.declare i t e) rest free ok = never free
+passed-by again P to_default m (core.sequence es) rest free ok = never free
+passed-by again P to_default m s rest free ok = refl
+
+pub no-label : (aim : Aim) (m : ℕ) (s : Core) (rest : Cores) → is_statement m s ≡ true → core_has aim (core.more s rest) ≡ core_has aim rest
+no-label (to_case z) m (core.case_label y) rest ok = never ok
+no-label (to_case z) m s rest ok = refl
+no-label to_default m core.default_label rest ok = never ok
+no-label to_default m s rest ok = refl
+
+pub label-declares : (s : Core) → Label s → declared s ≡ []
+label-declares s (a_case y e) = ap declared e
+label-declares s (the_default e) = ap declared e
+
+pub cases-declare : (m : ℕ) (es : Cores) → are_cases m es ≡ true → declared_all es ≡ []
+cases-declare m none ok = refl
+cases-declare m (core.more s rest) ok =
+    let parts = both (is_label s || (not (declares_here s) && is_statement m s)) (are_cases m rest) ok in
+    ap (λ xs. xs ++ declared s) (cases-declare m rest parts.1)
+    ∙ or-else (is_label s) (not (declares_here s) && is_statement m s) parts.0 (λ l. label-declares s (label-of s l)) (λ ok. inner-declared s (both (not (declares_here s)) (is_statement m s) ok).0)
+
+-- where no local is declared before them, labels pass none
+pub not-passed : (n : Register) (es : Cores) (rest : Plains) → declared_all es ≡ [] → passed n es rest ≡ rest
+not-passed n es rest none-there = ap (λ (xs : List Local). elim xs as (λ x. Plains) [ [] ↦ rest | x ∷ xs ↦ more (plain.switch n (passing [] es)) rest ]) none-there
+
+-- ---- no statement but a switch's own has its labels
+
+pub silent-by : (again : running.Again) (H : Program) (F G : Plains → Plains) → ((rest : Plains) → F rest ≡ G rest) → Silent again H G → Silent again H F
+silent-by again H F G same p = record {
+  labels = λ z rest. ap (running.has_case z) (same rest) ∙ p.labels z rest;
+  at_case = λ z rest g. ap (λ ss. running.from_case again H z ss g) (same rest) ∙ p.at_case z rest g;
+  at_default = λ rest g. ap (λ ss. running.from_default again H ss g) (same rest) ∙ p.at_default rest g;
+}
+
+module _ (again : running.Again) (H : Program) (P : Program) (R C : SourceType) (plain-result : is_class R ≡ false) where
+  mutual
+    pub silent-statement : (s : Core) (m : ℕ) → is_statement m s ≡ true → (o : Open) (k : ℕ) → Silent again H (statement (inside_of P R C o) s k)
+    silent-statement (core.full e) m ok o k =
+        let code : Full → Register → Plains → Plains = λ x n rest. value P.classes x e None n k rest in
+        or-else (is_nothing e) (is_value e) ok
+        (λ blank. silent-by again H (statement (inside_of P R C o) (core.full e) k) (λ rest. rest)
+            (λ rest. ap (λ e. whole e 0 k (λ x n rest. value P.classes x e None n k rest) (λ n. rest)) (nothing-is e blank)) (silent-none again H))
+        (λ is. silent-by again H (statement (inside_of P R C o) (core.full e) k) (value P.classes (record { first = k; base = 0 }) e None (0 + width e) k)
+            (λ rest. whole-is e is 0 k code (λ n. rest)) (silent-value again H P e is (record { first = k; base = 0 }) None (0 + width e) k))
+    silent-statement (core.block es) m ok o k =
+        silent-then again H (statements (inside_of P R C (opened o)) es k) (finished (declared_all es)) (silent-statements es m ok (opened o) k) (silent-finished again H (declared_all es))
+    silent-statement (core.sequence es) m ok o k = silent-statements es m ok o k
+    silent-statement (core.declare i t e) m ok o k =
+        let code : Full → Register → Plains → Plains = λ x n rest. value P.classes x e (destination 0 t) n k rest in
+        let F : Plains → Plains = λ rest. whole e 1 k code (λ m. settled e 0 m rest) in
+        silent-then again H (λ rest. more (set 0 (plain.declare i t)) rest) F (silent-set again H 0 (plain.declare i t))
+        (or-else (is_nothing e) (is_value e) (both (nat_le m i) (is_start e) ok).1
+        (λ blank. silent-by again H F (λ rest. rest)
+            (λ rest. ap (λ e. whole e 1 k (λ x n rest. value P.classes x e (destination 0 t) n k rest) (λ m. settled e 0 m rest)) (nothing-is e blank)) (silent-none again H))
+        (λ is. silent-by again H F (λ rest. value P.classes (record { first = k; base = 1 }) e (destination 0 t) (1 + width e) k (settled e 0 (1 + width e) rest))
+            (λ rest. whole-is e is 1 k code (λ m. settled e 0 m rest))
+            (silent-then again H (value P.classes (record { first = k; base = 1 }) e (destination 0 t) (1 + width e) k) (settled e 0 (1 + width e))
+            (silent-value again H P e is (record { first = k; base = 1 }) (destination 0 t) (1 + width e) k) (silent-settled again H e 0 (1 + width e)))))
+    silent-statement (core.branch q a b) m ok o k =
+        let is = (both (is_value q) ((not (declares_here a) && is_statement m a) && is_inner_or m b) ok).0 in
+        let code : Full → Register → Plains → Plains = λ x n rest. value P.classes x q None n k (more (set n (plain.truth n)) rest) in
+        let branched : Register → Plains → Plains = λ n rest. more (plain.branch n (statement (inside_of P R C o) a (k + width q) nothing) (statement_or (inside_of P R C o) b (k + width q + width a) nothing)) rest in
+        silent-by again H (statement (inside_of P R C o) (core.branch q a b) k)
+        (λ rest. value P.classes (record { first = k; base = 0 }) q None (0 + width q) k (more (set (0 + width q) (plain.truth (0 + width q))) (branched (0 + width q) rest)))
+        (λ rest. whole-is q is 0 k code (λ n. branched n rest))
+        (silent-then again H (value P.classes (record { first = k; base = 0 }) q None (0 + width q) k) (λ rest. more (set (0 + width q) (plain.truth (0 + width q))) (branched (0 + width q) rest))
+        (silent-value again H P q is (record { first = k; base = 0 }) None (0 + width q) k) (record { labels = λ z rest. refl; at_case = λ z rest g. refl; at_default = λ rest g. refl }))
+    silent-statement (core.loop form.While q e s) m ok o k = record { labels = λ z rest. refl; at_case = λ z rest g. refl; at_default = λ rest g. refl }
+    silent-statement (core.loop form.For q e s) m ok o k = record { labels = λ z rest. refl; at_case = λ z rest g. refl; at_default = λ rest g. refl }
+    silent-statement (core.loop form.Do q e s) m ok o k = record { labels = λ z rest. refl; at_case = λ z rest g. refl; at_default = λ rest g. refl }
+    silent-statement (core.switch e es) m ok o k =
+        let parts = both (is_value e) (are_cases m es) ok in
+        let code : Full → Register → Plains → Plains = λ x n rest. value P.classes x e None n k (use_of n rest) in
+        let body : Plains = statements (in_switch (inside_of P R C o)) es (k + width e) (finished (declared_all es) nothing) in
+        let n : ℕ = 0 + width e in
+        silent-by again H (statement (inside_of P R C o) (core.switch e es) k)
+        (λ rest. value P.classes (record { first = k; base = 0 }) e None n k (use_of n (more (plain.switch n body) rest)))
+        (λ rest. whole-is e parts.0 0 k code (λ n. passed n es (more (plain.switch n body) rest))
+            ∙ ap (λ ss. value P.classes (record { first = k; base = 0 }) e None n k (use_of n ss)) (not-passed n es (more (plain.switch n body) rest) (cases-declare m es parts.1)))
+        (silent-then again H (value P.classes (record { first = k; base = 0 }) e None n k) (λ rest. use_of n (more (plain.switch n body) rest))
+        (silent-value again H P e parts.0 (record { first = k; base = 0 }) None n k) (record { labels = λ z rest. refl; at_case = λ z rest g. refl; at_default = λ rest g. refl }))
+    silent-statement core.leave m ok o k =
+        silent-then again H (finished (o.here ++ o.breaks)) (λ rest. more leave rest) (silent-finished again H (o.here ++ o.breaks)) (silent-leave again H)
+    silent-statement core.continue m ok o k =
+        silent-then again H (finished (o.here ++ o.continues)) (λ rest. more continue rest) (silent-finished again H (o.here ++ o.continues)) (silent-continue again H)
+    silent-statement (core.give absent) m ok o k =
+        silent-then again H (finished (o.here ++ o.returns)) (λ rest. more (give None) rest) (silent-finished again H (o.here ++ o.returns)) (silent-give again H None)
+    silent-statement (core.give (given e)) m ok o k =
+        let n : ℕ = 0 + width e in
+        let code : Full → Register → Plains → Plains = λ x n rest. value P.classes x e None n k (use_of n rest) in
+        let by_value : Plains → Plains = λ rest. whole e 0 k code (λ n. finished (o.here ++ o.returns) (more (give (Some n)) rest)) in
+        let in_place : Plains → Plains = λ rest. more (set 0 plain.result) (started P.classes R e 0 k (finished (o.here ++ o.returns) (more (give None) rest))) in
+        silent-by again H (statement (inside_of P R C o) (core.give (given e)) k)
+        (λ rest. value P.classes (record { first = k; base = 0 }) e None n k (use_of n (finished (o.here ++ o.returns) (more (give (Some n)) rest))))
+        (λ rest. ap (λ b. if b then in_place rest else by_value rest) plain-result ∙ whole-is e ok 0 k code (λ n. finished (o.here ++ o.returns) (more (give (Some n)) rest)))
+        (silent-then again H (value P.classes (record { first = k; base = 0 }) e None n k) (λ rest. use_of n (finished (o.here ++ o.returns) (more (give (Some n)) rest)))
+        (silent-value again H P e ok (record { first = k; base = 0 }) None n k)
+        (silent-then again H (use_of n) (λ rest. finished (o.here ++ o.returns) (more (give (Some n)) rest)) (silent-used again H n)
+        (silent-then again H (finished (o.here ++ o.returns)) (λ rest. more (give (Some n)) rest) (silent-finished again H (o.here ++ o.returns)) (silent-give again H (Some n)))))
+    silent-statement s m ok o k = never ok
+
+    pub silent-statements : (es : Cores) (m : ℕ) → are_statements m es ≡ true → (o : Open) (k : ℕ) → Silent again H (statements (inside_of P R C o) es k)
+    silent-statements none m ok o k = silent-none again H
+    silent-statements (core.more s es) m ok o k =
+        let parts = both (is_statement m s) (are_statements (next_local m s) es) ok in
+        silent-then again H (statement (inside_of P R C o) s k) (statements (inside_of P R C (record o { here = declared s ++ o.here })) es (k + width s))
+        (silent-statement s m parts.0 o k) (silent-statements es (next_local m s) parts.1 (record o { here = declared s ++ o.here }) (k + width s))

@@ -1,0 +1,148 @@
+-- Operands: an expression's parts in registers, the left one used first, and the room for their locals.
+use Rattle.std.proofs.Common.{◌≡◌, ℕ, zero, suc, ◌+◌, ◌≤◌, ◌<◌, Bool, true, false, not, ◌&&◌, List, [], ◌∷◌, ◌++◌, length, refl, sym, ◌∙◌, ap, subst, arith, if◌then◌else◌}
+use Rattle.std.specs.Prelude.{ℤ, pos, Option, Some, None}
+use Rattle.std.proofs.lemmas.List.{length-append}
+use Rattle.cf_base.proofs.Tests.{both}
+use Rattle.cf_base.specs.declared.kind.Kind.{Kind}
+use Rattle.cf_base.specs.declared.arith.Arith.{Arith}
+use Rattle.cf_base.specs.Integers.{convert as converted}
+use Rattle.cf_base.specs.World.{World, Ran, and_then}
+use Rattle.cf_core.specs.Types.{SourceType, Name, parameters, result, is_class, same_but_const}
+use Rattle.cf_core.specs.Classes.{Class}
+use Rattle.cf_core.specs.Core as core
+use Rattle.cf_core.specs.Core.{Core, Cores, Function, none, absent, arithmetic, moved, Change}
+use Rattle.cf_core.specs.Nodes.{nodes, nodes_all}
+use Rattle.cf_core.specs.Places.{Place}
+use Rattle.cf_core.specs.Store.{Value, Nothing, Missing, Built, Number, Null, At, Code, DataMember, FunctionMember, new_object, automatic}
+use Rattle.cf_core.specs.Run.{State, Frame, Did, Act, ◌>>=◌, ◌>>◌, gives, malformed, some_or, need, when, upd, with_frame, lists_local, declared_object, cast_from_void}
+use Rattle.cf_core.specs.Access.{used, place_of, number_of, read_place, write_place, followed}
+use Rattle.cf_core.specs.Pointers.{truth_value, from_void_value, pointer_op}
+use Rattle.cf_core.specs.Scalars.{truth_of, converted_value, operated, signed, changed_value, indexed, decayed, pointed_to}
+use Rattle.cf_core.specs.Objects.{literal_object, settle, local_place, result_place}
+use Rattle.cf_core.specs.Calls as calling
+use Rattle.cf_core.specs.Calls.{Program, root, function_named, is_library, name_function, has_type, run_named, run_library, enter_found}
+use Rattle.cf_core.specs.Expressions as meaning
+use Rattle.cf_plain.specs.Plain.{Register, Plain, Plains, act, set, branch, nothing, more}
+use Rattle.cf_plain.specs.Plain as plain
+use Rattle.cf_plain.specs.Acts.{Registers, objects_of}
+use Rattle.cf_plain.specs.Running as running
+use Rattle.cf_plain.specs.Running.{Flow, Falls, calls, keep, falling, all}
+use Rattle.cf_sequence.specs.Follows.{Follows}
+use Rattle.cf_sequence.specs.Built.{is_value, are_values, are_arguments, is_chain}
+use Rattle.cf_sequence.specs.Made.{makes, added, width, width_all, numbers}
+use Rattle.cf_sequence.specs.Expressions.{Full, Destination, destination, value, values, arguments, settled, builds, used as use_of, result_register}
+use Rattle.cf_sequence.proofs.Following.{on, pull, pull-two, pull-three, push, Pure, pure-steps, pure-step, pure-then, pure-gives, Looks, looks-steps, looks-then, looks-pure}
+use Rattle.cf_sequence.proofs.Steps.{pure-used, pure-place_of, pure-truth_of, pure-number_of, pure-converted_value, pure-operated, pure-signed, looks-read_place, looks-followed, write-steps, settle-steps}
+use Rattle.cf_sequence.proofs.Pointers.{pure-pointed_to, looks-indexed, looks-decayed, looks-from_void, looks-pointer_op, literal-steps}
+use Rattle.cf_sequence.proofs.Calling.{Alike, Bodies, never, plain_program}
+use Rattle.cf_sequence.proofs.Actions.{placed-by, store-steps, change-steps, objects-there, Callee, named-again, name-steps, run-steps}
+use Rattle.cf_sequence.proofs.Kept.{Kept, kept-all, kept-then, kept-less, kept-count, kept-alike, Ready, ready-kept, ready-more, Objects, added-two, After, after-set, after-again, after-then, keep-same, keep-other, listed-kept, listed-there}
+use Rattle.cf_sequence.proofs.PlainSteps.{Usable, pick, runs_on, plain_acts, set-steps, act-steps, at-one, at-two, use-steps, place-cases, branch-steps, truth-steps, local-steps, declare-steps}
+
+pub first-room : (k c : ℕ) (xs ys : List Core) → k + length (added (xs ++ ys)) ≤ c → k + length (added xs) ≤ c
+first-room k c xs ys room = let e = added-two xs ys in omega arith
+
+pub second-room : (k c : ℕ) (xs ys : List Core) → k + length (added (xs ++ ys)) ≤ c → (k + length (added xs)) + length (added ys) ≤ c
+second-room k c xs ys room = let e = added-two xs ys in omega arith
+
+module _ (again : calling.Again) (again' : running.Again) (P : Program) where
+  abbrev pub H : Program
+  H = plain_program again again' P
+
+module _ (again : calling.Again) (again' : running.Again) (P : Program) (bodies : Bodies again again' P)
+    (chains : (name : Name) (f : Function) → function_named P name ≡ Some f → is_chain f.type ≡ true)
+    (A B : Type 0) (S : A → State → B → State → Type 0) where
+  -- what comes behind an expression whose value is in register n
+  abbrev pub Next : (c : Value → Act A) (K : Flow → Act B) (n k : ℕ) (rest : Plains) (g : Registers) (e f : Frame) → Type 0
+  Next c K n k rest g e f =
+      (v : Value) (s : State) (h : Registers) (f' : Frame) (w : World) → After n k g e f v s h f'
+      → Follows S (c v s w) (runs_on again' (H again again' P) rest h K (with_frame f' s) w)
+
+  -- the plain statements of an expression follow it
+  abbrev pub Follow : Core → Type 0
+  Follow e =
+      (into : Option Place) (into' : Option Destination) (x : Full) (n k : ℕ) (rest : Plains) (g : Registers) (s : State) (f : Frame) (w : World)
+      (c : Value → Act A) (K : Flow → Act B)
+      → Ready k s.frame f → k + width e ≤ f.count → Next c K n k rest g s.frame f
+      → Follows S (and_then (meaning.value again P e into s w) (on c)) (runs_on again' (H again again' P) (value P.classes x e into' n k rest) g K (with_frame f s) w)
+
+  -- an operand and then one act on its value
+  pub one-operand : (e : Core) → Follow e → (q : Value → Act Value) → ((v : Value) → Looks (q v)) → (a : Register → plain.Action)
+      → ((h : Registers) (n : Register) (v : Value) → h n ≡ Some v → (G : Value → Act B) (y : Ran (Did A)) (t : State) (w : World)
+      → Follows S y (and_then (q v t w) (on G)) → Follows S y (and_then (plain_acts again' (H again again' P) h (a n) t w) (on G)))
+      → (x : Full) (n k : ℕ) (rest : Plains) (g : Registers) (s : State) (f : Frame) (w : World) (c : Value → Act A) (K : Flow → Act B)
+      → Ready k s.frame f → k + width e ≤ f.count → Next c K n k rest g s.frame f
+      → Follows S (and_then (meaning.value again P e None s w) (on (λ v. q v >>= c)))
+      (runs_on again' (H again again' P) (value P.classes x e None n k (more (set n (a n)) rest)) g K (with_frame f s) w)
+  one-operand e follow q looks a acts x n k rest g s f w c K ready room next =
+      follow None None x n k (more (set n (a n)) rest) g s f w (λ v. q v >>= c) K ready room (λ v s1 h f1 w1 done.
+      set-steps again' (H again again' P) n (a n) rest h K _ (with_frame f1 s1) w1
+      (acts h n v done.value _ _ (with_frame f1 s1) w1
+      (looks-steps (q v) (looks v) c (λ u. λ t w. runs_on again' (H again again' P) rest (keep h n u) K t w) s1 f1 w1
+      (λ u. next u s1 (keep h n u) f1 w1 (after-again n k g h s.frame f f1 v u s1 s1 done refl)))))
+
+  -- two operands, the left one used first, and then what is done with both
+  pub two-operands : (a b : Core) → Follow a → Follow b → (D : Value → Act A) (C : Value → Value → Act A)
+      → ((u : Value) (s : State) (w : World) (y : Ran (Did B)) → Follows S (and_then (meaning.value again P b None s w) (on (C u))) y → Follows S (D u s w) y)
+      → (x : Full) (n k : ℕ) (rest : Plains) (g : Registers) (s : State) (f : Frame) (w : World) (K : Flow → Act B)
+      → Ready k s.frame f → k + length (added (nodes a ++ nodes b)) ≤ f.count
+      → ((u v : Value) (s2 : State) (h : Registers) (f2 : Frame) (w2 : World) → Usable u → h n ≡ Some u → h (suc n) ≡ Some v
+      → ((r : ℕ) → r < n → h r ≡ g r) → s2.frame ≡ s.frame → Kept k f f2 → Follows S (C u v s2 w2) (runs_on again' (H again again' P) rest h K (with_frame f2 s2) w2))
+      → Follows S (and_then (meaning.value again P a None s w) (on (λ u. used u >>= D)))
+      (runs_on again' (H again again' P) (value P.classes x a None n k (use_of n (value P.classes x b None (suc n) (k + width a) rest))) g K (with_frame f s) w)
+  two-operands a b follow-a follow-b D C split x n k rest g s f w K ready room next =
+      follow-a None None x n k _ g s f w (λ u. used u >>= D) K ready (first-room k f.count (nodes a) (nodes b) room)
+      (λ u s1 h1 f1 w1 done.
+      use-steps again' (H again again' P) n u h1 done.value D (value P.classes x b None (suc n) (k + width a) rest) K s1 (with_frame f1 s1) w1 (λ usable.
+      let same : f1.count ≡ f.count = kept-count k f f1 done.kept in
+      let left-room : (k + width a) + width b ≤ f.count = second-room k f.count (nodes a) (nodes b) room in
+      let ready1 : Ready (k + width a) s1.frame f1 =
+      subst (λ e. Ready (k + width a) e f1) (sym done.frame)
+      (ready-more k (k + width a) s.frame f1 (omega arith) (omega arith) (ready-kept k s.frame f f1 ready done.kept)) in
+      split u s1 w1 _ (follow-b None None x (suc n) (k + width a) rest h1 s1 f1 w1 (C u) K ready1 (omega arith) (λ v s2 h2 f2 w2 done2.
+      next u v s2 h2 f2 w2 usable (done2.below n (omega arith) ∙ done.value) done2.value
+      (λ r lt. done2.below r (omega arith) ∙ done.below r lt) (done2.frame ∙ done.frame)
+      (kept-then k (k + width a) f f1 f2 (omega arith) done.kept done2.kept)))))
+
+  -- ---- what is done with the value of one operand
+
+  pub held-one : (q : Value → Act Value) (o : Option Value) (v : Value) → o ≡ Some v → (G : Value → Act B) (y : Ran (Did A)) (t : State) (w : World)
+      → Follows S y (and_then (q v t w) (on G)) → Follows S y (and_then ((some_or o malformed >>= q) t w) (on G))
+  held-one q o v e G y t w h = subst (λ o. Follows S y (and_then ((some_or o malformed >>= q) t w) (on G))) (sym e) h
+
+  pub used-one : (q : Value → Act Value) (o : Option Value) (v : Value) → o ≡ Some v → (G : Value → Act B) (y : Ran (Did A)) (t : State) (w : World)
+      → Follows S y (and_then ((used v >>= q) t w) (on G)) → Follows S y (and_then (((some_or o malformed >>= used) >>= q) t w) (on G))
+  used-one q o v e G y t w h = subst (λ o. Follows S y (and_then (((some_or o malformed >>= used) >>= q) t w) (on G))) (sym e) h
+
+  -- a usable operand and another
+  pub used-two : (F : Value → Value → Act Value) (o p : Option Value) (u v : Value) → o ≡ Some u → p ≡ Some v → Usable u → (G : Value → Act B) (y : Ran (Did A)) (t : State) (w : World)
+      → Follows S y (and_then (used v t w) (on (λ v. F u v >>= G)))
+      → Follows S y (and_then (((some_or o malformed >>= used) >>= (λ a. (some_or p malformed >>= used) >>= F a)) t w) (on G))
+  used-two F o p u v eo ep usable G y t w h =
+      subst (λ o. Follows S y (and_then (((some_or o malformed >>= used) >>= (λ a. (some_or p malformed >>= used) >>= F a)) t w) (on G))) (sym eo)
+      (subst (λ p. Follows S y (and_then ((used u >>= (λ a. (some_or p malformed >>= used) >>= F a)) t w) (on G))) (sym ep)
+      (subst (λ (act : Act Value). Follows S y (and_then ((act >>= (λ a. used v >>= F a)) t w) (on G))) (sym usable)
+      (push (used v t w) (F u) G y h)))
+
+  -- an act on two used operands
+  pub two-used : (a b : Core) → Follow a → Follow b → (F : Value → Value → Act Value) → ((u v : Value) → Looks (F u v)) → (action : Register → Register → plain.Action)
+      → ((h : Registers) (n m : Register) → plain_acts again' (H again again' P) h (action n m) ≡ ((some_or (h n) malformed >>= used) >>= (λ a. (some_or (h m) malformed >>= used) >>= F a)))
+      → (x : Full) (n k : ℕ) (rest : Plains) (g : Registers) (s : State) (f : Frame) (w : World) (c : Value → Act A) (K : Flow → Act B)
+      → Ready k s.frame f → k + length (added (nodes a ++ nodes b)) ≤ f.count → Next c K n k rest g s.frame f
+      → Follows S (and_then ((((meaning.value again P a None >>= used) >>= (λ u. (meaning.value again P b None >>= used) >>= F u))) s w) (on c))
+      (runs_on again' (H again again' P) (value P.classes x a None n k (use_of n (value P.classes x b None (suc n) (k + width a) (more (set n (action n (suc n))) rest)))) g K (with_frame f s) w)
+  two-used a b follow-a follow-b F looks action is x n k rest g s f w c K ready room next =
+      pull _ (λ u. (meaning.value again P b None >>= used) >>= F u) c _
+      (pull (meaning.value again P a None s w) used (λ u. ((meaning.value again P b None >>= used) >>= F u) >>= c) _
+      (two-operands a b follow-a follow-b (λ u. ((meaning.value again P b None >>= used) >>= F u) >>= c) (λ u v. used v >>= (λ v. F u v >>= c))
+      (λ u s w y h. pull _ (F u) c y (pull (meaning.value again P b None s w) used (λ v. F u v >>= c) y h))
+      x n k _ g s f w K ready room
+      (λ u v s2 h f2 w2 usable at-n at-m below frame kept.
+      set-steps again' (H again again' P) n (action n (suc n)) rest h K _ (with_frame f2 s2) w2
+      (subst (λ (a : Act Value). Follows S (and_then (used v s2 w2) (on (λ v. F u v >>= c))) (and_then (a (with_frame f2 s2) w2) (on (λ v. λ t w. runs_on again' (H again again' P) rest (keep h n v) K t w))))
+      (sym (is h n (suc n)))
+      (used-two F (h n) (h (suc n)) u v at-n at-m usable _ _ (with_frame f2 s2) w2
+      (pure-steps (used v) (pure-used v) (λ v. F u v >>= c) (λ v. F u v >>= (λ v. λ t w. runs_on again' (H again again' P) rest (keep h n v) K t w)) s2 (with_frame f2 s2) w2 (λ v.
+      looks-steps (F u v) (looks u v) c (λ v. λ t w. runs_on again' (H again again' P) rest (keep h n v) K t w) s2 f2 w2 (λ z.
+      next z s2 (keep h n z) f2 w2 (after-set n k g h s.frame f f2 z s2 below frame kept)))))))))
+
