@@ -1,12 +1,11 @@
 -- How the run of a whole program goes, as facts about states and streams.
-use Rattle.std.proofs.Common.{◌≡◌, ℕ, ◌+◌, ◌-◌, ◌^◌, min, Bool, true, false, List, [], ◌∷◌, ◌++◌, IsTrue, Option, Some, None, Ok, refl, ap, sym, ◌∙◌, subst, append_assoc, append-nil, inl, inr, ◌⊎◌}
+use Rattle.std.proofs.Common.{◌≡◌, ℕ, ◌+◌, ◌-◌, ◌^◌, min, true, false, List, [], ◌∷◌, ◌++◌, IsTrue, Option, Some, None, Ok, refl, ap, sym, ◌∙◌, subst, append_assoc, append-nil, inl, inr, ◌⊎◌}
 use Rattle.cf_base.specs.Rose.{Rose}
 use Rattle.cf_base.specs.Stream.{Stream, AddsFront}
 use Rattle.cf_base.specs.Event.{Event, Enter, In, Out, End as EndOf, in_bytes, out_bytes}
-use Rattle.cf_base.specs.World.{Outcome}
 use Rattle.cf_core_run.specs.declared.state.Machine.{Machine}
 use Rattle.cf_core_drive.specs.declared.types.Tally.{Tally}
-use Rattle.cf_core_drive.specs.Run.{Streams, streams, Carried, Whole, Front, InputFailed, OutputFailed, Broken, Meaningless, Ahead, Meaning, entered_count}
+use Rattle.cf_core_drive.specs.Run.{Streams, streams, Carried, Whole, InputFailed, OutputFailed, Broken, Meaningless, Ahead, Meaning}
 use Rattle.cf_core_drive.specs.Going.{Going, Counts, PutByte, PutNot, Took, MetEnd, TookNot, Answers}
 use Rattle.cf_core_drive.proofs.Bytes.{out_bytes-append, in_bytes-append, same-count, next-count, quiet-bytes, flag, left_in, left-told, left-none, front-of-one}
 

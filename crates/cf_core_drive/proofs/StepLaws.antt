@@ -1,16 +1,14 @@
 -- What a step, or a byte of the input, makes of what lies ahead.
-use Rattle.std.proofs.Common.{◌≡◌, ◌∙◌, ℕ, List, [], ◌∷◌, ◌++◌, Option, Some, None, Result, Ok, Err, refl, ap, sym, subst}
+use Rattle.std.proofs.Common.{◌≡◌, ◌∙◌, ℕ, List, [], ◌∷◌, ◌++◌, Option, Some, None, Result, Ok, Err, ap, sym, subst}
 use Rattle.cf_base.specs.Stream.{Stream}
 use Rattle.cf_base.specs.Event.{Event, Enter, In, Out, Undefined, Ended as EndedAt, Ticks, Depth}
 use Rattle.cf_core.specs.FromTypes.{Tables}
 use Rattle.cf_core.specs.Calls.{byte_value}
 use Rattle.cf_core.specs.Run.{gives}
-use Rattle.cf_core.specs.Store.{Value}
 use Rattle.cf_core_store.specs.declared.answer.Stop.{Stop}
 use Rattle.cf_core_store.specs.declared.answer.Stop.TheVariants as stop
 use Rattle.cf_core_store.specs.declared.answer.Value.{Value as Given}
 use Rattle.cf_core_store.specs.Store.{value_of}
-use Rattle.cf_core_run.specs.declared.mark.Doing.{Doing}
 use Rattle.cf_core_run.specs.declared.mark.Doing.TheVariants as doing
 use Rattle.cf_core_run.specs.declared.state.Machine.{Machine}
 use Rattle.cf_core_run.specs.declared.state.Event.{Event as Seen}
@@ -18,7 +16,7 @@ use Rattle.cf_core_run.specs.declared.state.RunEnd.{RunEnd}
 use Rattle.cf_core_run.specs.declared.state.RunEnd.TheVariants as run_ending
 use Rattle.cf_core_run.specs.declared.state.Step.{Step}
 use Rattle.cf_core_run.specs.declared.state.Step.TheVariants as step
-use Rattle.cf_core_run.specs.Going.{Outside, Comes, GoesOn, total, from_doing, from_value, event_of, end_of as end_at}
+use Rattle.cf_core_run.specs.Going.{Comes, GoesOn, total, from_doing, from_value, event_of, end_of as end_at}
 use Rattle.cf_core_run.specs.Whole.{Around}
 use Rattle.cf_run_tree.specs.declared.program.Program.{Program}
 use Rattle.cf_core_drive.specs.declared.types.End.{End}
@@ -27,7 +25,7 @@ use Rattle.cf_core_drive.specs.declared.types.Fault.{Fault}
 use Rattle.cf_core_drive.specs.declared.types.Fault.TheVariants as fault
 use Rattle.cf_core_drive.specs.declared.types.Tally.{Tally}
 use Rattle.cf_core_drive.specs.Run.{Streams, streams, ahead_of, LeavesAt, Broken}
-use Rattle.cf_core_drive.specs.Going.{Going, Turns, TurnsTo, Carries, Answers, TookNot, run_end}
+use Rattle.cf_core_drive.specs.Going.{Turns, Carries, Answers, TookNot, run_end}
 use Rattle.cf_core_drive.proofs.GoingLaws.{going-on, going-enters, going-puts, going-not_put, going-whole, going-none, going-broken, going-answers, going-not_taken}
 
 module _ (p : Program) (m new : Machine) (a : Streams) (t : Tally) (r : Result Step Stop) (h : Comes p (λ T o. total T p m o) r new) where

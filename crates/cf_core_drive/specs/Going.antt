@@ -1,5 +1,5 @@
 -- How the run of a whole program goes on.
-use Rattle.std.specs.Prelude.{◌≡◌, ℕ, suc, ◌+◌, ◌-◌, ◌^◌, min, Bool, true, false, List, [], ◌∷◌, ◌++◌, IsTrue, Option, Some, None, Result, Ok, Err, pos, negsuc}
+use Rattle.std.specs.Prelude.{◌≡◌, ℕ, ◌+◌, ◌-◌, ◌^◌, min, Bool, true, false, List, [], ◌∷◌, ◌++◌, IsTrue, Option, Some, None, Result, Ok, Err}
 use Rattle.cf_base.specs.declared.memory.Failed.{Failed}
 use Rattle.cf_base.specs.Rose.{Rose}
 use Rattle.cf_base.specs.Stream.{Stream, AddsFront}

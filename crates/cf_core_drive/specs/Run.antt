@@ -1,5 +1,5 @@
 -- What the run of a core leaves on its input and its output.
-use Rattle.std.specs.Prelude.{◌≡◌, ℕ, ◌-◌, ◌^◌, min, List, [], ◌∷◌, ◌++◌, IsTrue, Option, Some, None, Result, Ok, Err}
+use Rattle.std.specs.Prelude.{◌≡◌, ℕ, ◌-◌, ◌^◌, min, List, ◌++◌, IsTrue, Option, Some, None, Result, Ok, Err}
 use Rattle.cf_base.specs.Rose.{Rose}
 use Rattle.cf_base.specs.Stream.{Stream}
 use Rattle.cf_base.specs.Event.{Event, End as EndOf, Ended, Ticks, Depth, Undefined, in_bytes, out_bytes, entered}

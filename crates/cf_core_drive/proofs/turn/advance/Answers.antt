@@ -1,4 +1,4 @@
-use Rattle.std.proofs.Common.{◌∙◌, ap, refl, Ok, Err}
+use Rattle.std.proofs.Common.{◌∙◌, ap, Ok, Err}
 use Rattle.cf_core_drive.specs.Run.{streams}
 use Rattle.cf_core_drive.proofs.StepLaws.{turns-on, turns-act, turns-none, turns-ends, turns-shows}
 use Rattle.cf_core_drive.proofs.GoingLaws.{going-broken}
