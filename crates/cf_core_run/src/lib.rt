@@ -19,6 +19,6 @@ mod temporaries;
 #[cfg(test)]
 mod tests;
 
-pub use machine::run;
+pub use machine::{run, start};
 pub use mark::{Calling, Doing, Flow, FlowMark, Mark, Repeated, TestMark, ValueMark};
 pub use state::{End, Event, Limits, Machine, Ran, RunEnd, Seen, Step};

@@ -34,7 +34,7 @@ impl<'a> Machine<'a> {
 }
 
 /// The state in which a run begins: `main` is called.
-fn start<'a>(alloc: Global, limits: Limits) -> Machine<'a>
+pub fn start<'a>(alloc: Global, limits: Limits) -> Machine<'a>
     ensures { (p : Program) → Starts p limits result }
 {
     Machine {

@@ -1,0 +1,122 @@
+ghost use Rattle.std.specs.Prelude.{◌≡◌};
+ghost use Rattle.cf_run_tree.specs.declared.program.Program.{Program};
+ghost use Rattle.cf_core_run.specs.Going.{event_of};
+ghost use Rattle.cf_core_run.specs.declared.mark.Doing.TheVariants as doing;
+ghost use Rattle.cf_core_store.specs.Store.{value_of};
+ghost use Rattle.cf_core_drive.specs.Run.{streams};
+ghost use Rattle.cf_core_drive.specs.Going.{Answers, Turns, Carries, run_end, given_byte};
+
+use crate::types::{End, Fault, Tally};
+use cf_base::{Failed, Sink, Source};
+use cf_core_run::{Doing, Event, Machine, RunEnd, Step};
+use cf_core_store::{Integer, Stop, Value};
+use cf_run_tree::Program;
+
+/// How a run ends where a step ends it.
+fn end_of(end: RunEnd) -> End
+    ensures { result ≡ run_end end }
+{
+    match end {
+        RunEnd::Ended(status) => End::Ended(status),
+        RunEnd::Ticks => End::Ticks,
+        RunEnd::Depth => End::Depth,
+    }
+}
+
+/// The value of a byte that was taken, or of the end of the input.
+fn byte_value(byte: Option<u8>) -> Value
+    ensures { value_of result ≡ given_byte byte }
+{
+    match byte {
+        None => Value::Number(Integer::new(-1)),
+        Some(byte) => Value::Number(Integer::new(i64::from(byte))),
+    }
+}
+
+/// The next byte of the input, or none at its end, behind which it is not asked again.
+fn take<I: Source>(input: &mut I, at_end: &mut bool) -> Result<Option<u8>, Failed>
+    ensures { Answers (I.stream input.old) (I.stream input.new) at_end.old at_end.new result }
+{
+    if *at_end {
+        return Ok(None);
+    }
+    let byte = input.next()?;
+    *at_end = byte.is_none();
+    Ok(byte)
+}
+
+/// An event is carried out: a function that is entered counts, and a byte that is put goes to the output. The answer is the end of the
+/// run, where that fails.
+fn carry<O: Sink>(event: Event<'_>, out: &mut O, tally: &mut Tally) -> Result<Option<End>, Fault>
+    ensures { Carries (event_of event.entry) (O.stream out.old) (O.stream out.new) tally.old tally.new result }
+{
+    match event {
+        Event::Enter(_) => {
+            tally.entered = tally.entered.saturating_add(1);
+            Ok(None)
+        }
+        Event::Out(byte) => match out.put(&[byte]) {
+            Err(Failed) => Ok(Some(End::SinkFault)),
+            Ok(()) => Ok(None),
+        },
+        Event::In(_) => Err(Fault::NotBuilt),
+    }
+}
+
+/// A byte that is awaited is taken.
+fn ask<I: Source, O: Sink>(
+    machine: &mut Machine<'_>,
+    input: &mut I,
+    out: &O,
+    tally: &mut Tally,
+) -> Result<Option<End>, Fault>
+    requires { machine.old.doing ≡ doing.Asks }
+    ensures { (p : Program) → Turns p machine.old machine.new (streams (I.stream input.old) (O.stream out.now)) (streams (I.stream input.new) (O.stream out.now)) tally.old tally.new result }
+{
+    let _ = out;
+    match take(input, &mut tally.at_end) {
+        Err(Failed) => Ok(Some(End::SourceFault)),
+        Ok(byte) => {
+            machine.doing = Doing::Gives(byte_value(byte));
+            Ok(None)
+        }
+    }
+}
+
+/// A step is done, and what it shows is carried out.
+fn advance<'a, I: Source, O: Sink>(
+    machine: &mut Machine<'a>,
+    program: &'a Program,
+    input: &I,
+    out: &mut O,
+    tally: &mut Tally,
+) -> Result<Option<End>, Fault>
+    ensures { Turns program.now machine.old machine.new (streams (I.stream input.now) (O.stream out.old)) (streams (I.stream input.now) (O.stream out.new)) tally.old tally.new result }
+{
+    let _ = input;
+    match machine.step(program) {
+        Err(Stop::Act(act)) => Ok(Some(End::Undefined(act))),
+        Err(Stop::Malformed) => Err(Fault::Malformed),
+        Err(Stop::NotBuilt) => Err(Fault::NotBuilt),
+        Err(Stop::Memory) => Err(Fault::Memory),
+        Ok(Step::On) => Ok(None),
+        Ok(Step::Ends(end)) => Ok(Some(end_of(end))),
+        Ok(Step::Shows(event)) => carry(event, out, tally),
+    }
+}
+
+/// A byte that is awaited is taken, or a step is done.
+pub(crate) fn turn<'a, I: Source, O: Sink>(
+    machine: &mut Machine<'a>,
+    program: &'a Program,
+    input: &mut I,
+    out: &mut O,
+    tally: &mut Tally,
+) -> Result<Option<End>, Fault>
+    ensures { Turns program.now machine.old machine.new (streams (I.stream input.old) (O.stream out.old)) (streams (I.stream input.new) (O.stream out.new)) tally.old tally.new result }
+{
+    match &machine.doing {
+        Doing::Asks => ask(machine, input, out, tally),
+        _ => advance(machine, program, input, out, tally),
+    }
+}
