@@ -119,13 +119,7 @@ fn labels_of_an_enumeration(rt: HostRuntime) -> Result<(), Fail> {
     statements.push(given(alloc, Node::Number(3))?)?;
     let mut locals = Items::new(alloc);
     locals.push(scalar(alloc, e))?;
-    let main = function(
-        alloc,
-        b"__main".as_slice(),
-        Items::new(alloc),
-        locals,
-        statements,
-    )?;
+    let main = main_of(alloc, locals, statements)?;
     let mut functions = Items::new(alloc);
     functions.push(main)?;
     ends(&rt, alloc, functions, End::Ended(Integer::new(2)))
@@ -148,13 +142,7 @@ fn label_behind_a_declaration(rt: HostRuntime) -> Result<(), Fail> {
     statements.push(Node::Switch(operand, labelled))?;
     let mut locals = Items::new(alloc);
     locals.push(scalar(alloc, int()))?;
-    let main = function(
-        alloc,
-        b"__main".as_slice(),
-        Items::new(alloc),
-        locals,
-        statements,
-    )?;
+    let main = main_of(alloc, locals, statements)?;
     let mut functions = Items::new(alloc);
     functions.push(main)?;
     ends(&rt, alloc, functions, End::Ended(Integer::new(4)))
@@ -260,13 +248,7 @@ fn temporary_of_a_local(rt: HostRuntime) -> Result<(), Fail> {
     let mut locals = Items::new(alloc);
     locals.push(scalar(alloc, reference(1)))?;
     locals.push(scalar(alloc, int()))?;
-    let main = function(
-        alloc,
-        b"__main".as_slice(),
-        Items::new(alloc),
-        locals,
-        statements,
-    )?;
+    let main = main_of(alloc, locals, statements)?;
     let mut functions = Items::new(alloc);
     functions.push(main)?;
     ends(&rt, alloc, functions, End::Ended(Integer::new(3)))
