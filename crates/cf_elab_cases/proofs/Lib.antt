@@ -1,0 +1,14 @@
+mod AllocationRows
+mod AssignmentRows
+mod BinaryRows
+mod CallRows
+mod CastRows
+mod ChoiceRows
+mod MemberRows
+mod NameRows
+mod SizeRows
+mod StepRows
+mod SubscriptRows
+mod TypeRows
+mod UnaryRows
+mod UpdateRows

@@ -1,0 +1,22 @@
+/// Casts (5.4). Files with the rule that each breaks, at the `$`; 0 where a file breaks none.
+pub const CASTS: [(&str, u8); 19] = [
+    ("int*p;int main(){return $(int)p;}", 17),
+    ("int main(){return $(int*)5==0;}", 17),
+    ("int main(){return (int*)0==0;}", 0),
+    ("int*p;int main(){return $(char*)p==0;}", 17),
+    ("int*p;int main(){return (char*)(void*)p==0;}", 0),
+    ("enum E{A};int*p;int main(){return $(E)p;}", 17),
+    ("enum E{A};int main(){return (E)1;}", 0),
+    ("int main(){return $(int&)1;}", 17),
+    ("int main(){return $(const int&)1;}", 17),
+    ("int x;int main(){return $(char&)x;}", 17),
+    ("void f();int main(){return $(int)f();}", 17),
+    ("void f();int main(){(void)f();return 0;}", 0),
+    ("int f();int main(){$(void(*)())f;return 0;}", 17),
+    ("void*v;int main(){$(int(*)())v;return 0;}", 17),
+    ("int f();int main(){$(void*)f;return 0;}", 17),
+    ("typedef int A[2];int x;int main(){$(A)x;return 0;}", 17),
+    ("int*const*p;int main(){int**q=(int**)p;return q==0;}", 0),
+    ("int main(){return (void$&)x;}", 26),
+    ("int main(){return (int*)$x==0;}", 10),
+];

@@ -1,0 +1,20 @@
+/// Unary operators (5.3). Files with the rule that each breaks, at the `$`; 0 where a file breaks none.
+pub const UNARIES: [(&str, u8); 17] = [
+    ("int x;int main(){return $*x;}", 18),
+    ("void*v;int main(){$*v;return 0;}", 18),
+    ("int f();int main(){return (*f)();}", 0),
+    ("int main(){$&1;return 0;}", 12),
+    ("int x;int main(){$&(x+1);return 0;}", 12),
+    ("int x;int main(){$& &x;return 0;}", 12),
+    ("int x;int main(){$&x++;return 0;}", 12),
+    ("void f(int);void f(long);int main(){&$f;return 0;}", 46),
+    ("int*p;int main(){$-p;return 0;}", 18),
+    ("int*p;int main(){$~p;return 0;}", 18),
+    ("int*p;int main(){return +p==p;}", 0),
+    ("int*p;int main(){return !p;}", 0),
+    ("void f();int main(){$!f();return 0;}", 18),
+    ("void f();int main(){$+f();return 0;}", 18),
+    ("void f();int main(){$-f();return 0;}", 18),
+    ("int f();int main(){$-f;return 0;}", 18),
+    ("int main(){return ~$x;}", 10),
+];
