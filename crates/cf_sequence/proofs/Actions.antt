@@ -1,20 +1,17 @@
 -- What the plain statements do to objects, and calls, beside the core's.
-use Rattle.std.proofs.Common.{◌≡◌, ℕ, zero, suc, ◌+◌, ◌≤◌, ◌<◌, Bool, true, false, List, [], ◌∷◌, length, refl, sym, ◌∙◌, ap, subst, arith, if◌then◌else◌}
-use Rattle.std.specs.Prelude.{ℤ, pos, Option, Some, None}
-use Rattle.cf_base.specs.declared.kind.Kind.{Kind}
-use Rattle.cf_base.specs.declared.arith.Arith.{Arith}
+use Rattle.std.proofs.Common.{◌≡◌, ℕ, Bool, true, false, List, [], ◌∷◌, length, refl, sym, ◌∙◌, ap, subst}
+use Rattle.std.specs.Prelude.{ℤ, Option, Some, None}
 use Rattle.cf_base.specs.Integers.{convert as converted}
-use Rattle.cf_base.specs.World.{World, Ran, Went, and_then}
-use Rattle.cf_core.specs.Types.{SourceType, Name, parameters, result, is_class, same_but_const}
+use Rattle.cf_base.specs.World.{World, Went, and_then}
+use Rattle.cf_core.specs.Types.{SourceType, Name, parameters, same_but_const}
 use Rattle.cf_core.specs.Classes.{Class}
 use Rattle.cf_core.specs.Core.{Function, Change, arithmetic, moved}
 use Rattle.cf_core.specs.Places.{Place}
-use Rattle.cf_core.specs.Store.{Value, Nothing, Missing, Built, Number, Null, At, Code, DataMember, FunctionMember}
-use Rattle.cf_core.specs.Run.{State, Frame, Did, Gives, Act, ◌>>=◌, ◌>>◌, gives, malformed, done, some_or, need, when, with_frame, cast_from_void}
+use Rattle.cf_core.specs.Store.{Value, Nothing, Missing, Number, Null, At}
+use Rattle.cf_core.specs.Run.{State, Frame, Gives, Act, ◌>>=◌, ◌>>◌, gives, malformed, done, some_or, need, when, with_frame, cast_from_void}
 use Rattle.cf_core.specs.Access.{used, place_of, number_of, write_place}
 use Rattle.cf_core.specs.Scalars.{operated, minus, moved_by, changed_value}
 use Rattle.cf_core.specs.Pointers.{element_of, route_of}
-use Rattle.cf_core.specs.Objects.{settle, result_place}
 use Rattle.cf_core.specs.Calls as calling
 use Rattle.cf_core.specs.Calls.{Program, root, function_named, is_library, name_function, has_type, run_named, run_library, enter_found}
 use Rattle.cf_plain.specs.Plain.{Register, Plain, Plains, act, set, nothing, more}
@@ -26,13 +23,12 @@ use Rattle.cf_plain.specs.Running.{Flow, calls, keep}
 use Rattle.cf_sequence.specs.Follows.{Follows}
 use Rattle.cf_sequence.specs.Built.{is_chain}
 use Rattle.cf_sequence.specs.Sequenced.{sequenced}
-use Rattle.cf_sequence.specs.Expressions.{Destination, result_register}
-use Rattle.cf_sequence.proofs.Following.{on, pull, pull-two, push, Pure, pure-steps, pure-then, pure-need, looks-steps}
-use Rattle.cf_sequence.proofs.Steps.{pure-used, pure-number_of, pure-operated, write-steps, settle-steps}
+use Rattle.cf_sequence.proofs.Following.{on, pull, pull-two, push, pure-steps, pure-then, looks-steps}
+use Rattle.cf_sequence.proofs.Steps.{pure-used, pure-number_of, pure-operated, write-steps}
 use Rattle.cf_sequence.proofs.Calling.{Alike, Bodies, plain_function, same-length, named-header, library-steps, enter-steps}
 use Rattle.cf_sequence.proofs.Pointers.{up_in, looks-up_in}
 use Rattle.cf_sequence.proofs.Kept.{Objects, keep-same, keep-other}
-use Rattle.cf_sequence.proofs.PlainSteps.{Usable, runs_on, plain_acts, set-steps, act-steps, at-two}
+use Rattle.cf_sequence.proofs.PlainSteps.{Usable, runs_on, set-steps, act-steps, at-two}
 
 abbrev store_act : List Class → Option Value → Option Value → Act Value
 store_act cs o q = ((some_or o malformed >>= used) >>= place_of) >>= (λ p. (some_or q malformed >>= used) >>= (λ x. write_place cs p x >>= (λ u. gives Nothing)))
@@ -88,7 +84,7 @@ module _ (again : running.Again) (H : Program) {A B : Type 0} {S : A → State �
       pull-two (up_in H.classes q z s w) (λ i. gives (at i)) (λ z. write_place H.classes p z >> gives r) c _
       (push (up_in H.classes q z (with_frame f s) w) (λ i. gives (at i)) (storing again H place to h rest K) _
       (looks-steps (up_in H.classes q z) (looks-up_in H.classes q z) (λ i. (write_place H.classes p (at i) >> gives r) >>= c) (λ i. storing again H place to h rest K (at i)) s f w (λ i.
-          new-value place to p (at i) r h rest c K s f w refl at-place differs next)))
+      new-value place to p (at i) r h rest c K s f w refl at-place differs next)))
   moved-steps place to p Null (Number z) r h rest c K s f w at-place differs next = record { by = refl }
   moved-steps place to p x (Number z) r h rest c K s f w at-place differs next = record { by = tt }
   moved-steps place to p x y r h rest c K s f w at-place differs next = record { by = tt }
@@ -105,7 +101,7 @@ module _ (again : running.Again) (H : Program) {A B : Type 0} {S : A → State �
       (push (step (with_frame f s) w) (λ z. gives (Number (converted t z))) (storing again H place to h rest K) _
       (pure-steps step (pure-then (operated op k (Number (converted k i)) y) number_of (pure-operated op k (Number (converted k i)) y) pure-number_of)
       (λ z. (write_place H.classes p (Number (converted t z)) >> gives r) >>= c) (λ z. storing again H place to h rest K (Number (converted t z))) s (with_frame f s) w (λ z.
-          new-value place to p (Number (converted t z)) r h rest c K s f w refl at-place differs next)))
+      new-value place to p (Number (converted t z)) r h rest c K s f w refl at-place differs next)))
   changed-steps (arithmetic op k t) place to p x y r h rest c K s f w at-place differs next = record { by = tt }
   changed-steps (moved false) place to p x y r h rest c K s f w at-place differs next = moved-steps place to p x y r h rest c K s f w at-place differs next
   changed-steps (moved true) place to p x y r h rest c K s f w at-place differs next = moved-steps place to p x (minus y) r h rest c K s f w at-place differs next

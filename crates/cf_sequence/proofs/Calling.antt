@@ -1,14 +1,14 @@
 -- Calls by name: the library's functions, and the functions of a program beside those of the plain program.
-use Rattle.std.proofs.Common.{◌≡◌, ℕ, zero, suc, length, cond, Bool, true, false, List, [], ◌∷◌, ◌++◌, map, refl, sym, ◌∙◌, ap, subst}
-use Rattle.std.specs.Prelude.{ℤ, pos, Option, Some, None, find, bytes_eq, codes, option_map}
+use Rattle.std.proofs.Common.{◌≡◌, ℕ, zero, suc, length, cond, Bool, true, false, List, [], ◌∷◌, ◌++◌, map, refl, sym, ap, subst}
+use Rattle.std.specs.Prelude.{Option, Some, None, find, bytes_eq, codes, option_map}
 use Rattle.cf_base.proofs.Tests.{both}
 use Rattle.cf_base.specs.Event.{Enter}
-use Rattle.cf_base.specs.World.{World, Ran, Went, Stops, and_then, spend_of, deeper, show, next_of}
+use Rattle.cf_base.specs.World.{World, Ran, Went, and_then, spend_of, deeper, show, next_of}
 use Rattle.cf_core.specs.Types.{SourceType, Name, takes, gives as gives_type, parameters, result, same_but_const, type_eq, without_const}
 use Rattle.cf_core.specs.Classes.{Class}
 use Rattle.cf_core.specs.Core.{Function, Static}
-use Rattle.cf_core.specs.Store.{Value, Nothing, Number}
-use Rattle.cf_core.specs.Run.{State, Frame, Did, Gives, Exits, Malformed, Act, ◌>>=◌, ◌>>◌, gives, malformed, changed, need, some_or, when, with_frame}
+use Rattle.cf_core.specs.Store.{Value, Number}
+use Rattle.cf_core.specs.Run.{State, Frame, Did, Gives, Act, ◌>>=◌, ◌>>◌, gives, malformed, changed, some_or, when, with_frame}
 use Rattle.cf_core.specs.Calls as core
 use Rattle.cf_core.specs.Calls.{Program, body, function_named, is_library, run_library, run_named, name_function, has_type, enter, enter_found, frame_of, local_count, argument, put, get, byte_value, leave_with, returned, given_value, without_value}
 use Rattle.cf_plain.specs.Running as plain
@@ -18,7 +18,7 @@ use Rattle.cf_plain.specs.Plain.{PlainFunction}
 use Rattle.cf_sequence.specs.Built.{is_chain}
 use Rattle.cf_sequence.specs.Sequenced.{sequenced, sequenced_function}
 use Rattle.cf_sequence.specs.Follows.{Follows}
-use Rattle.cf_sequence.proofs.Following.{on, pull, push, follows-then, pure-steps, pure-need}
+use Rattle.cf_sequence.proofs.Following.{on, pull, push, follows-then}
 
 -- two frames of one call, which may have other locals
 pub record Alike (f g : Frame) : Type 0 where

@@ -1,5 +1,5 @@
 -- Objects of classes: temporaries, parameters, scopes, constructors and static objects.
-use Rattle.std.proofs.Common.{◌≡◌, ℕ, List, [], ◌∷◌, refl}
+use Rattle.std.proofs.Common.{List, [], ◌∷◌, refl}
 use Rattle.std.specs.Prelude.{pos, Some, codes, true}
 use Rattle.cf_base.specs.declared.kind.Kind.TheVariants.{Int}
 use Rattle.cf_base.specs.declared.arith.Arith.TheVariants as op
@@ -8,7 +8,7 @@ use Rattle.cf_core.specs.declared.operators.LoopForm.TheVariants as form
 use Rattle.cf_core.specs.Types.{SourceType, class, void, pointer, array}
 use Rattle.cf_core.specs.Classes.{Class}
 use Rattle.cf_core.specs.Subobjects.{base}
-use Rattle.cf_core.specs.Core.{Core, within, none, absent, given, no_parts, part, Function, this, local, member, read, address, dereference, operate, step, store, arithmetic, conditional, comma, temporary, virtual_call, new, delete, copy, assign, list, zeros, blank, full, declare, once, branch, loop, leave, static_object}
+use Rattle.cf_core.specs.Core.{Core, within, none, absent, given, no_parts, part, Function, this, local, member, read, dereference, operate, step, arithmetic, conditional, comma, temporary, virtual_call, new, delete, copy, assign, list, blank, full, declare, once, branch, loop, leave, static_object}
 use Rattle.cf_core.specs.Calls.{Program}
 use Rattle.cf_core.proofs.Sample.{int, function_type, function_of, listed, in_block, main_of, program, static_of, returns, num, add, put_code, put_digit, value_of, set, called, built, base_of, plain_class, built_class, virtual_function, nonvirtual_function, constructor_of, destructor_of, method_of}
 use Rattle.cf_sequence.proofs.Sample.{Shows}

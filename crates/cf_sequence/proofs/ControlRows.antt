@@ -1,14 +1,14 @@
 -- Flow of control, conditions and compound assignments: cores and their plain statements show the same.
 use Rattle.std.proofs.Common.{◌≡◌, ℕ, List, [], ◌∷◌, refl}
-use Rattle.std.specs.Prelude.{pos, negsuc, ◌++◌, Some, codes, true, false}
+use Rattle.std.specs.Prelude.{pos, negsuc, ◌++◌, codes, true, false}
 use Rattle.cf_base.specs.declared.kind.Kind.TheVariants.{Int, Char}
 use Rattle.cf_base.specs.declared.arith.Arith.TheVariants as op
 use Rattle.cf_base.specs.Event.{Ended, Ticks, Undefined}
 use Rattle.cf_core.specs.declared.operators.LoopForm.TheVariants as form
 use Rattle.cf_core.specs.Types.{integer, void, pointer, reference, array, const}
-use Rattle.cf_core.specs.Core.{Core, absent, given, text, local, read, address, dereference, decay, index, operate, logical_and, logical_or, conditional, comma, update, step, store, arithmetic, moved, temporary, bind, local_temporary, list, zeros, string, blank, full, block, sequence, declare, once, branch, loop, switch, case_label, default_label, leave, continue, static_object, call, new, delete, new_array, delete_array}
+use Rattle.cf_core.specs.Core.{Core, absent, given, local, read, address, dereference, decay, index, operate, logical_and, logical_or, conditional, comma, update, step, store, arithmetic, temporary, bind, local_temporary, list, zeros, string, blank, full, declare, once, branch, loop, switch, case_label, default_label, leave, continue, static_object, new, delete}
 use Rattle.cf_core.specs.Calls.{Program}
-use Rattle.cf_core.proofs.Sample.{int, function_of, listed, in_block, main_of, program, static_of, returns, num, add, put, put_code, put_digit, value_of, set, called, referred}
+use Rattle.cf_core.proofs.Sample.{int, function_of, listed, in_block, main_of, program, static_of, returns, num, add, put_code, put_digit, value_of, set, called, referred}
 use Rattle.cf_sequence.specs.Built.{is_plainly_built}
 use Rattle.cf_sequence.proofs.Sample.{Shows}
 

@@ -1,18 +1,16 @@
 -- The plain statements of a statement do what the statement does.
-use Rattle.std.proofs.Common.{◌≡◌, ℕ, zero, suc, ◌+◌, ◌≤◌, ◌<◌, Bool, true, false, not, ◌&&◌, ◌||◌, nat_lt, nat_le, ◌==◌, List, [], ◌∷◌, ◌++◌, length, refl, sym, ◌∙◌, ap, subst, arith, append-nil, append_assoc, if◌then◌else◌}
-use Rattle.std.specs.Prelude.{ℤ, pos, Option, Some, None}
+use Rattle.std.proofs.Common.{◌≡◌, ℕ, suc, ◌+◌, ◌≤◌, Bool, true, false, not, ◌&&◌, nat_lt, nat_le, ◌==◌, List, [], ◌∷◌, ◌++◌, length, refl, sym, ◌∙◌, ap, subst, arith, append_assoc, if◌then◌else◌}
+use Rattle.std.specs.Prelude.{Some, None}
 use Rattle.std.proofs.lemmas.Bool.Decides.{nat_tests}
 use Rattle.cf_base.proofs.Tests.{both}
-use Rattle.cf_base.specs.World.{World, Ran, Went, and_then, spend_of}
-use Rattle.cf_core.specs.declared.operators.LoopForm.{LoopForm}
+use Rattle.cf_base.specs.World.{World, Ran, and_then}
 use Rattle.cf_core.specs.declared.operators.LoopForm.TheVariants as form
 use Rattle.cf_core.specs.Types.{SourceType, Name, is_class}
 use Rattle.cf_core.specs.Core as core
 use Rattle.cf_core.specs.Core.{Core, Cores, MaybeCore, Function, none, absent, given}
 use Rattle.cf_core.specs.Nodes.{nodes, nodes_all, nodes_maybe}
-use Rattle.cf_core.specs.Places.{Place}
-use Rattle.cf_core.specs.Store.{Value, Nothing, Built, At, new_object, automatic}
-use Rattle.cf_core.specs.Run.{State, Frame, Did, Gives, Act, ◌>>=◌, ◌>>◌, gives, malformed, some_or, state, tick, valid, when, upd, declared_object, for_all, frame_changed, lists_local, lists_in_scope, with_frame}
+use Rattle.cf_core.specs.Store.{Value, Nothing, At, new_object, automatic}
+use Rattle.cf_core.specs.Run.{State, Frame, Did, Act, ◌>>=◌, ◌>>◌, gives, malformed, some_or, valid, when, upd, declared_object, frame_changed, lists_local, lists_in_scope, with_frame}
 use Rattle.cf_core.specs.Joined.{is_nothing}
 use Rattle.cf_core.specs.Access.{used}
 use Rattle.cf_core.specs.Scalars.{truth_of}
@@ -27,20 +25,20 @@ use Rattle.cf_plain.specs.Acts.{Registers}
 use Rattle.cf_plain.specs.Running as running
 use Rattle.cf_plain.specs.Running.{Flow, Falls, Breaks, Continues, Returns, keep, falling, turning, all}
 use Rattle.cf_sequence.specs.Follows.{Follows}
-use Rattle.cf_sequence.specs.Built.{is_value, is_start, is_condition, is_chain, next_local, next_locals, declares_here, is_statement, is_inner_or, are_cases, are_statements}
+use Rattle.cf_sequence.specs.Built.{is_value, is_start, is_chain, next_local, next_locals, declares_here, is_statement, is_inner_or, are_cases, are_statements}
 use Rattle.cf_sequence.specs.Made.{Local, added, width, width_maybe, declared, declared_all, held_by}
 use Rattle.cf_sequence.specs.Expressions.{destination, finished, settled, whole, value, used as use_of}
-use Rattle.cf_sequence.specs.Statements.{Inside, in_loop, statement, statement_or, statements, held, stepped, started, returned}
-use Rattle.cf_sequence.proofs.Following.{on, pull, pull-two, push, follows-then}
+use Rattle.cf_sequence.specs.Statements.{statement, statement_or, statements, started, returned}
+use Rattle.cf_sequence.proofs.Following.{on, pull, pull-two}
 use Rattle.cf_sequence.proofs.Calling.{Bodies, never}
-use Rattle.cf_sequence.proofs.Kept.{Kept, kept-all, kept-then, Ready, ready-more, After, added-two, keep-same, listed-kept, listed-there}
-use Rattle.cf_sequence.proofs.PlainSteps.{Usable, pick, runs_on, set-steps, act-steps, at-one, branch-steps, declare-steps}
+use Rattle.cf_sequence.proofs.Kept.{Kept, kept-all, Ready, added-two, keep-same, listed-kept, listed-there}
+use Rattle.cf_sequence.proofs.PlainSteps.{Usable, pick, runs_on, branch-steps, declare-steps}
 use Rattle.cf_sequence.proofs.Operands.{H, first-room, second-room}
 use Rattle.cf_sequence.proofs.Parts.{first-steps, value-gives}
-use Rattle.cf_sequence.proofs.Moving.{all_gone, gone-frame, gone-append, ends-all, Held, held-kept, held-append, finished-steps, Moved, moved-count, moved-then, moved-kept, moved-ready, with_scope, moved-scope, moved-opened, moved-gone, Beyond}
+use Rattle.cf_sequence.proofs.Moving.{all_gone, Held, held-kept, held-append, finished-steps, Moved, moved-count, moved-then, with_scope, Beyond}
 use Rattle.cf_sequence.proofs.Fulls.{nothing-is, held-none, full-steps, condition-steps, used-steps}
-use Rattle.cf_sequence.proofs.Standing.{Open, inside_of, opened, looped, turn_code, step_code, Stands, stands-later, moved-all, settled_full, result_act, next-more, inner-next, inner-declared, Turned, EndsAs, Turns}
-use Rattle.cf_sequence.proofs.Scopes.{Ways, ways-later, Fallen, fall-on, closing_scope, scope-closed, scope-steps, scope-gone, moved-out, block-ways, close-steps, Does, by-or, behind, ways-behind, arm-steps, stands-on}
+use Rattle.cf_sequence.proofs.Standing.{Open, inside_of, opened, Stands, stands-later, moved-all, settled_full, result_act, next-more, Turns}
+use Rattle.cf_sequence.proofs.Scopes.{Ways, ways-later, Fallen, fall-on, closing_scope, moved-out, block-ways, close-steps, Does, by-or, behind, arm-steps, stands-on}
 use Rattle.cf_sequence.proofs.Switching.{DoAll, switch-steps}
 use Rattle.cf_sequence.proofs.Loops.{loop-first, loop-last, loop-whole, maybe-width}
 

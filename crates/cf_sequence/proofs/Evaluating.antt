@@ -1,21 +1,17 @@
 -- The plain statements of an expression do what the expression does.
-use Rattle.std.proofs.Common.{◌≡◌, ℕ, zero, suc, ◌+◌, ◌≤◌, ◌<◌, Bool, true, false, not, ◌&&◌, List, [], ◌∷◌, ◌++◌, length, refl, sym, ◌∙◌, ap, subst, arith, if◌then◌else◌}
-use Rattle.std.specs.Prelude.{ℤ, pos, Option, Some, None}
+use Rattle.std.proofs.Common.{◌≡◌, ℕ, suc, ◌+◌, ◌≤◌, ◌<◌, true, false, not, ◌&&◌, List, [], ◌∷◌, ◌++◌, length, refl, sym, ◌∙◌, ap, subst, arith, if◌then◌else◌}
+use Rattle.std.specs.Prelude.{pos, Some, None}
 use Rattle.std.proofs.lemmas.List.{length-append}
 use Rattle.cf_base.proofs.Tests.{both}
-use Rattle.cf_base.specs.declared.kind.Kind.{Kind}
-use Rattle.cf_base.specs.declared.arith.Arith.{Arith}
-use Rattle.cf_base.specs.Integers.{convert as converted}
-use Rattle.cf_base.specs.World.{World, Ran, and_then}
-use Rattle.cf_core.specs.Types.{SourceType, Name, parameters, result, is_class, same_but_const}
-use Rattle.cf_core.specs.Classes.{Class}
+use Rattle.cf_base.specs.World.{World, and_then}
+use Rattle.cf_core.specs.Types.{SourceType, Name, parameters, result, is_class}
 use Rattle.cf_core.specs.Core as core
 use Rattle.cf_core.specs.Core.{Core, Cores, Function, no_temporary, none, absent, Change}
 use Rattle.cf_core.specs.Nodes.{nodes, nodes_all}
 use Rattle.cf_core.specs.Places.{Place}
-use Rattle.cf_core.specs.Store.{Value, Nothing, Missing, Built, Number, Null, At, Code, DataMember, FunctionMember, new_object, automatic}
-use Rattle.cf_core.specs.Run.{State, Frame, Did, Act, ◌>>=◌, ◌>>◌, gives, malformed, some_or, need, when, upd, with_frame, lists_local, declared_object, cast_from_void}
-use Rattle.cf_core.specs.Access.{used, place_of, number_of, read_place, write_place, followed}
+use Rattle.cf_core.specs.Store.{Value, Number, At, Code, new_object, automatic}
+use Rattle.cf_core.specs.Run.{State, Frame, Act, ◌>>=◌, ◌>>◌, gives, malformed, some_or, when, upd, with_frame, lists_local}
+use Rattle.cf_core.specs.Access.{used, place_of, read_place, write_place, followed}
 use Rattle.cf_core.specs.Pointers.{truth_value, from_void_value, pointer_op}
 use Rattle.cf_core.specs.Scalars.{truth_of, converted_value, operated, signed, changed_value, indexed, decayed, pointed_to}
 use Rattle.cf_core.specs.Objects.{literal_object, settle, local_place, result_place}
@@ -24,23 +20,23 @@ use Rattle.cf_core.specs.Calls.{Program, root, function_named, is_library, name_
 use Rattle.cf_core.specs.Expressions as meaning
 use Rattle.cf_plain.specs.Plain.{Register, Plain, Plains, act, set, branch, nothing, more}
 use Rattle.cf_plain.specs.Plain as plain
-use Rattle.cf_plain.specs.Acts.{Registers, objects_of}
+use Rattle.cf_plain.specs.Acts.{Registers}
 use Rattle.cf_plain.specs.Running as running
 use Rattle.cf_plain.specs.Running.{Flow, Falls, calls, keep, falling, all}
 use Rattle.cf_sequence.specs.Follows.{Follows}
 use Rattle.cf_sequence.specs.Built.{is_value, are_values, are_arguments, is_chain}
-use Rattle.cf_sequence.specs.Made.{makes, added, width, width_all, numbers}
-use Rattle.cf_sequence.specs.Expressions.{Full, Destination, destination, value, values, arguments, settled, builds, used as use_of, result_register}
-use Rattle.cf_sequence.proofs.Following.{on, pull, pull-two, pull-three, push, Pure, pure-steps, pure-step, pure-then, pure-gives, Looks, looks-steps, looks-then, looks-pure}
-use Rattle.cf_sequence.proofs.Steps.{pure-used, pure-place_of, pure-truth_of, pure-number_of, pure-converted_value, pure-operated, pure-signed, looks-read_place, looks-followed, write-steps, settle-steps}
+use Rattle.cf_sequence.specs.Made.{added, width, numbers}
+use Rattle.cf_sequence.specs.Expressions.{Full, destination, value, values, arguments, settled, used as use_of, result_register}
+use Rattle.cf_sequence.proofs.Following.{on, pull, pull-two, pull-three, push, pure-steps, pure-then, pure-gives, looks-steps, looks-then, looks-pure}
+use Rattle.cf_sequence.proofs.Steps.{pure-used, pure-place_of, pure-truth_of, pure-converted_value, pure-operated, pure-signed, looks-read_place, looks-followed}
 use Rattle.cf_sequence.proofs.StaticObjects.{named_object, same-named, pure-named}
 use Rattle.cf_sequence.proofs.Pointers.{pure-pointed_to, looks-indexed, looks-decayed, looks-from_void, looks-pointer_op, literal-steps}
-use Rattle.cf_sequence.proofs.Calling.{Alike, Bodies, never, plain_program}
-use Rattle.cf_sequence.proofs.Actions.{placed-by, store-steps, change-steps, objects-there, Callee, named-again, name-steps, run-steps}
-use Rattle.cf_sequence.proofs.Kept.{Kept, kept-all, kept-then, kept-less, kept-count, kept-alike, Ready, ready-kept, ready-more, Objects, added-two, After, after-set, after-again, after-then, keep-same, keep-other, listed-kept, listed-there}
-use Rattle.cf_sequence.proofs.PlainSteps.{Usable, pick, runs_on, plain_acts, set-steps, act-steps, at-one, at-two, use-steps, place-cases, branch-steps, truth-steps, local-steps, declare-steps}
-use Rattle.cf_sequence.proofs.Operands.{H, first-room, second-room, Next, Follow, one-operand, two-operands, held-one, used-one, used-two, two-used}
-use Rattle.cf_sequence.proofs.Parts.{behind, test_of, tested, and-right, or-right, one-of, ready-next, moved-room, number-and-change, read-first, read-at, first-steps, no-class, value-gives, result-nowhere, register-nowhere, called}
+use Rattle.cf_sequence.proofs.Calling.{Alike, Bodies, never}
+use Rattle.cf_sequence.proofs.Actions.{store-steps, change-steps, name-steps}
+use Rattle.cf_sequence.proofs.Kept.{Kept, kept-all, kept-then, kept-alike, Ready, ready-kept, ready-more, Objects, added-two, after-set, after-then, keep-same, keep-other, listed-kept, listed-there}
+use Rattle.cf_sequence.proofs.PlainSteps.{runs_on, set-steps, act-steps, use-steps, place-cases, branch-steps, truth-steps, local-steps, declare-steps}
+use Rattle.cf_sequence.proofs.Operands.{H, first-room, second-room, Next, Follow, one-operand, two-operands, held-one, used-one, two-used}
+use Rattle.cf_sequence.proofs.Parts.{test_of, and-right, or-right, one-of, ready-next, moved-room, number-and-change, read-first, read-at, first-steps, value-gives, called}
 
 module _ (again : calling.Again) (again' : running.Again) (P : Program) (bodies : Bodies again again' P)
     (chains : (name : Name) (f : Function) → function_named P name ≡ Some f → is_chain f.type ≡ true)
@@ -70,7 +66,7 @@ module _ (again : calling.Again) (again' : running.Again) (P : Program) (bodies 
         (subst (λ (a : Act Place). Follows S (and_then ((named_object P name t >>= followed P.classes) s w) (on c)) (and_then ((a >>= followed P.classes) (with_frame f s) w) (on G))) (sym (same-named P name t))
         (pull (named_object P name t s w) (followed P.classes) c _ (push (named_object P name t (with_frame f s) w) (followed P.classes) G _
         (pure-steps (named_object P name t) (pure-named P name t) (λ p. followed P.classes p >>= c) (λ p. followed P.classes p >>= G) s (with_frame f s) w (λ p.
-            looks-steps (followed P.classes p) (looks-followed P.classes p) c G s f w (λ v. next v s (keep g n v) f w (after-set n k g g s.frame f f v s (λ r lt. refl) refl (kept-all k f))))))))
+        looks-steps (followed P.classes p) (looks-followed P.classes p) c G s f w (λ v. next v s (keep g n v) f w (after-set n k g g s.frame f f v s (λ r lt. refl) refl (kept-all k f))))))))
     follow-value (core.text j bytes) ok into into' x n k rest g s f w c K ready room next =
         set-steps again' (H again again' P) n (plain.text j bytes) rest g K _ (with_frame f s) w
         (pull (literal_object j bytes s w) (λ o. gives (At (root o))) c _ (push (literal_object j bytes (with_frame f s) w) (λ o. gives (At (root o))) (λ v. λ t w. runs_on again' (H again again' P) rest (keep g n v) K t w) _
@@ -78,7 +74,7 @@ module _ (again : calling.Again) (again' : running.Again) (P : Program) (bodies 
         (λ o t same. next (At (root o)) t (keep g n (At (root o))) f w (after-set n k g g s.frame f f (At (root o)) t (λ r lt. refl) same (kept-all k f))) j bytes ready.alike.function)))
     follow-value (core.address e) ok into into' x n k rest g s f w c K ready room next =
         pull (meaning.value again P e None s w) used c _ (follow-value e ok None None x n k (use_of n rest) g s f w (λ v. used v >>= c) K ready room (λ v s1 h f1 w1 done.
-            use-steps again' (H again again' P) n v h done.value c rest K s1 (with_frame f1 s1) w1 (λ usable. next v s1 h f1 w1 done)))
+        use-steps again' (H again again' P) n v h done.value c rest K s1 (with_frame f1 s1) w1 (λ usable. next v s1 h f1 w1 done)))
     follow-value (core.dereference e) ok into into' x n k rest g s f w c K ready room next =
         pull-two (meaning.value again P e None s w) used pointed_to c _
         ((one-operand again again' P bodies chains A B S) e (follow-value e ok) (λ v. used v >>= pointed_to) (λ v. looks-pure (used v >>= pointed_to) (pure-then (used v) pointed_to (pure-used v) pure-pointed_to))

@@ -1,10 +1,9 @@
 -- The laws of following: by parts, and over steps that don't look at the lists of a frame.
-use Rattle.std.proofs.Common.{◌≡◌, ℕ, zero, suc, Bool, true, false, refl, sym, ◌∙◌, ap, subst}
-use Rattle.std.specs.Prelude.{ℤ, Result, Ok, Err, Option, Some, None}
-use Rattle.cf_base.specs.Event.{Event, Undefined}
-use Rattle.cf_base.specs.World.{World, Ran, Went, Stops, and_then, spend_of}
-use Rattle.cf_core.specs.Run.{State, Frame, Did, Gives, Exits, Malformed, Act, onward, ◌>>=◌, ◌>>◌, gives, malformed, undefined, need, valid, some_or, ok_or_act, when, with_frame}
-use Rattle.cf_sequence.specs.Follows.{GivesAs, ExitsAs, FollowsFrom, Follows}
+use Rattle.std.proofs.Common.{◌≡◌, ℕ, Bool, true, false, refl, sym, ◌∙◌, ap, subst}
+use Rattle.std.specs.Prelude.{Result, Ok, Err, Option, Some, None}
+use Rattle.cf_base.specs.World.{World, Ran, Went, Stops, and_then}
+use Rattle.cf_core.specs.Run.{State, Frame, Did, Gives, Exits, Malformed, Act, onward, ◌>>=◌, gives, malformed, undefined, need, valid, some_or, ok_or_act, when, with_frame}
+use Rattle.cf_sequence.specs.Follows.{Follows}
 
 abbrev pub Relation : Type 0 → Type 0 → Type 1
 Relation A B = A → State → B → State → Type 0

@@ -1,9 +1,9 @@
 -- Full expressions: their temporaries, and the plain statements of one that makes none.
-use Rattle.std.proofs.Common.{◌≡◌, ℕ, zero, suc, ◌+◌, ◌≤◌, ◌<◌, Bool, true, false, not, ◌&&◌, ◌||◌, List, [], ◌∷◌, ◌++◌, length, refl, sym, ◌∙◌, ap, subst, arith, reverse}
-use Rattle.std.specs.Prelude.{ℤ, pos, Option, Some, None}
+use Rattle.std.proofs.Common.{◌≡◌, ℕ, ◌+◌, ◌≤◌, Bool, true, false, not, ◌&&◌, List, [], ◌++◌, length, refl, sym, ◌∙◌, ap, subst, reverse}
+use Rattle.std.specs.Prelude.{Option, Some, None}
 use Rattle.cf_base.proofs.Tests.{both}
 use Rattle.cf_base.specs.World.{World, Ran, Went, and_then}
-use Rattle.cf_core.specs.Types.{SourceType, Name, parameters, result, is_class}
+use Rattle.cf_core.specs.Types.{Name, parameters, result, is_class}
 use Rattle.cf_core.specs.Core as core
 use Rattle.cf_core.specs.Core.{Core, Cores, Function, no_temporary, local_temporary, none, absent}
 use Rattle.cf_core.specs.Places.{Place}
@@ -22,13 +22,13 @@ use Rattle.cf_plain.specs.Acts.{Registers}
 use Rattle.cf_plain.specs.Running as running
 use Rattle.cf_plain.specs.Running.{Flow, keep}
 use Rattle.cf_sequence.specs.Follows.{Follows}
-use Rattle.cf_sequence.specs.Built.{is_value, are_values, are_arguments, is_chain, is_start}
-use Rattle.cf_sequence.specs.Made.{Temporary, temporaries, temporaries_all, width, held_by, Local}
+use Rattle.cf_sequence.specs.Built.{is_value, are_values, are_arguments, is_chain}
+use Rattle.cf_sequence.specs.Made.{Temporary, temporaries, temporaries_all, width, held_by}
 use Rattle.cf_sequence.specs.Expressions.{Full, Destination, value, whole, flags, ended, used as use_of}
 use Rattle.cf_sequence.specs.Statements.{condition}
 use Rattle.cf_sequence.proofs.Following.{on, pull}
 use Rattle.cf_sequence.proofs.Calling.{Bodies, never}
-use Rattle.cf_sequence.proofs.Kept.{Kept, Ready, After, after-set, keep-same}
+use Rattle.cf_sequence.proofs.Kept.{Kept, Ready, After, keep-same}
 use Rattle.cf_sequence.proofs.PlainSteps.{Usable, runs_on, use-steps, truth-steps}
 use Rattle.cf_sequence.proofs.Operands.{H}
 use Rattle.cf_sequence.proofs.Evaluating.{follow-value}

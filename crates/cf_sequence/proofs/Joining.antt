@@ -8,10 +8,9 @@ use Rattle.cf_base.specs.World.{Outcome}
 use Rattle.cf_core.specs.Types.{Name}
 use Rattle.cf_core.specs.Classes.{Class}
 use Rattle.cf_core.specs.Core.{Core, Function, Static, CoreFile}
-use Rattle.cf_core.specs.Calls.{Program}
 use Rattle.cf_core.specs.Program.{Mean}
 use Rattle.cf_core.specs.Joined as core
-use Rattle.cf_plain.specs.Plain.{Plains, PlainFunction, PlainStatic, PlainFile}
+use Rattle.cf_plain.specs.Plain.{Plains, PlainFunction, PlainFile}
 use Rattle.cf_plain.specs.Program.{PlainProgram, PlainMean}
 use Rattle.cf_plain.specs.Joined as plain
 use Rattle.cf_plain.specs.Joined.{files_mean}

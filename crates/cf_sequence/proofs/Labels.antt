@@ -1,42 +1,30 @@
 -- The labels of a switch, in a core and in its plain statements: what has no label of its own is passed over.
-use Rattle.std.proofs.Common.{◌≡◌, ℕ, zero, suc, ◌+◌, ◌≤◌, ◌<◌, Bool, true, false, not, ◌&&◌, ◌||◌, nat_le, if◌then◌else◌, List, [], ◌∷◌, ◌++◌, length, refl, sym, ◌∙◌, ap, subst, arith, append-nil}
-use Rattle.std.specs.Prelude.{ℤ, pos, int_le, Option, Some, None}
+use Rattle.std.proofs.Common.{◌≡◌, ℕ, ◌+◌, Bool, true, false, not, ◌&&◌, ◌||◌, nat_le, if◌then◌else◌, List, [], ◌∷◌, ◌++◌, refl, ◌∙◌, ap}
+use Rattle.std.specs.Prelude.{ℤ, Some, None}
 use Rattle.cf_base.proofs.Tests.{both}
-use Rattle.cf_base.specs.World.{World, Ran, Went, and_then}
 use Rattle.cf_core.specs.declared.operators.LoopForm.TheVariants as form
-use Rattle.cf_core.specs.Types.{SourceType, Name, is_class}
+use Rattle.cf_core.specs.Types.{SourceType, is_class}
 use Rattle.cf_core.specs.Core as core
 use Rattle.cf_core.specs.Core.{Core, Cores, MaybeCore, Function, none, absent, given}
-use Rattle.cf_core.specs.Nodes.{nodes, nodes_all}
-use Rattle.cf_core.specs.Store.{Value}
-use Rattle.cf_core.specs.Run.{State, Frame, Did, Gives, Act, ◌>>=◌, ◌>>◌, gives, malformed, some_or, done, when, with_frame}
-use Rattle.cf_core.specs.Access.{used, number_of}
+use Rattle.cf_core.specs.Run.{Act}
 use Rattle.cf_core.specs.Joined.{is_nothing}
 use Rattle.cf_core.specs.Valid.{is_label}
 use Rattle.cf_core.specs.Calls as calling
 use Rattle.cf_core.specs.Calls.{Program, function_named, in_scope, full_expression}
-use Rattle.cf_core.specs.Expressions as meaning
 use Rattle.cf_core.specs.Statements as does
 use Rattle.cf_plain.specs.Plain.{Register, Plain, Plains, act, set, loop, leave, continue, give, nothing, more}
 use Rattle.cf_plain.specs.Plain as plain
 use Rattle.cf_plain.specs.Acts.{Registers}
 use Rattle.cf_plain.specs.Running as running
 use Rattle.cf_plain.specs.Running.{Flow, Falls, Breaks, Continues, Returns, falling, all}
-use Rattle.cf_sequence.specs.Follows.{Follows}
-use Rattle.cf_sequence.specs.Built.{is_value, is_start, is_condition, is_chain, declares_here, is_statement, is_inner_or, are_statements, are_cases, next_local, next_locals}
-use Rattle.cf_sequence.specs.Made.{Local, width, added, declared, declared_all, held_by}
-use Rattle.cf_sequence.specs.Expressions.{Full, destination, finished, settled, flags, ended, whole, value, used as use_of}
-use Rattle.cf_sequence.specs.Statements.{Inside, in_switch, statement, statement_or, statements, started, passing, passed}
-use Rattle.cf_sequence.proofs.Following.{on, pull, pull-two, push, pure-steps}
-use Rattle.cf_sequence.proofs.Steps.{pure-number_of}
-use Rattle.cf_sequence.proofs.Calling.{Bodies, never}
-use Rattle.cf_sequence.proofs.Kept.{Kept, Ready, ready-more}
-use Rattle.cf_sequence.proofs.PlainSteps.{Usable, runs_on}
-use Rattle.cf_sequence.proofs.Operands.{H, first-room, second-room}
-use Rattle.cf_sequence.proofs.Moving.{all_gone, gone-append, Held, held-append, held-kept, finished-steps, Moved, moved-count, moved-then, with_scope, Beyond}
-use Rattle.cf_sequence.proofs.Fulls.{used-steps, whole-is, nothing-is, held-none}
-use Rattle.cf_sequence.proofs.Standing.{Open, inside_of, opened, Stands, stands-later, Turns, moved-all, inner-next, inner-declared}
-use Rattle.cf_sequence.proofs.Scopes.{Ways, ways-later, Fallen, closing_scope, scope-closed, scope-gone, moved-out, Does, behind, stands-on}
+use Rattle.cf_sequence.specs.Built.{is_value, is_start, declares_here, is_statement, is_inner_or, are_statements, are_cases, next_local}
+use Rattle.cf_sequence.specs.Made.{Local, width, declared, declared_all}
+use Rattle.cf_sequence.specs.Expressions.{Full, destination, finished, settled, whole, value, used as use_of}
+use Rattle.cf_sequence.specs.Statements.{in_switch, statement, statement_or, statements, started, passing, passed}
+use Rattle.cf_sequence.proofs.Calling.{never}
+use Rattle.cf_sequence.proofs.Operands.{H}
+use Rattle.cf_sequence.proofs.Fulls.{whole-is, nothing-is}
+use Rattle.cf_sequence.proofs.Standing.{Open, inside_of, opened, inner-declared}
 use Rattle.cf_sequence.proofs.Silent.{Silent, silent-none, silent-set, silent-then, silent-used, silent-settled, silent-finished, silent-leave, silent-continue, silent-give, silent-value}
 
 -- what a switch looks for
@@ -119,9 +107,9 @@ module _ (again : running.Again) (H : Program) (P : Program) (R C : SourceType) 
         let code : Full → Register → Plains → Plains = λ x n rest. value P.classes x e None n k rest in
         or-else (is_nothing e) (is_value e) ok
         (λ blank. silent-by again H (statement (inside_of P R C o) (core.full e) k) (λ rest. rest)
-            (λ rest. ap (λ e. whole e 0 k (λ x n rest. value P.classes x e None n k rest) (λ n. rest)) (nothing-is e blank)) (silent-none again H))
+        (λ rest. ap (λ e. whole e 0 k (λ x n rest. value P.classes x e None n k rest) (λ n. rest)) (nothing-is e blank)) (silent-none again H))
         (λ is. silent-by again H (statement (inside_of P R C o) (core.full e) k) (value P.classes (record { first = k; base = 0 }) e None (0 + width e) k)
-            (λ rest. whole-is e is 0 k code (λ n. rest)) (silent-value again H P e is (record { first = k; base = 0 }) None (0 + width e) k))
+        (λ rest. whole-is e is 0 k code (λ n. rest)) (silent-value again H P e is (record { first = k; base = 0 }) None (0 + width e) k))
     silent-statement (core.block es) m ok o k =
         silent-then again H (statements (inside_of P R C (opened o)) es k) (finished (declared_all es)) (silent-statements es m ok (opened o) k) (silent-finished again H (declared_all es))
     silent-statement (core.sequence es) m ok o k = silent-statements es m ok o k
@@ -131,11 +119,11 @@ module _ (again : running.Again) (H : Program) (P : Program) (R C : SourceType) 
         silent-then again H (λ rest. more (set 0 (plain.declare i t)) rest) F (silent-set again H 0 (plain.declare i t))
         (or-else (is_nothing e) (is_value e) (both (nat_le m i) (is_start e) ok).1
         (λ blank. silent-by again H F (λ rest. rest)
-            (λ rest. ap (λ e. whole e 1 k (λ x n rest. value P.classes x e (destination 0 t) n k rest) (λ m. settled e 0 m rest)) (nothing-is e blank)) (silent-none again H))
+        (λ rest. ap (λ e. whole e 1 k (λ x n rest. value P.classes x e (destination 0 t) n k rest) (λ m. settled e 0 m rest)) (nothing-is e blank)) (silent-none again H))
         (λ is. silent-by again H F (λ rest. value P.classes (record { first = k; base = 1 }) e (destination 0 t) (1 + width e) k (settled e 0 (1 + width e) rest))
-            (λ rest. whole-is e is 1 k code (λ m. settled e 0 m rest))
-            (silent-then again H (value P.classes (record { first = k; base = 1 }) e (destination 0 t) (1 + width e) k) (settled e 0 (1 + width e))
-            (silent-value again H P e is (record { first = k; base = 1 }) (destination 0 t) (1 + width e) k) (silent-settled again H e 0 (1 + width e)))))
+        (λ rest. whole-is e is 1 k code (λ m. settled e 0 m rest))
+        (silent-then again H (value P.classes (record { first = k; base = 1 }) e (destination 0 t) (1 + width e) k) (settled e 0 (1 + width e))
+        (silent-value again H P e is (record { first = k; base = 1 }) (destination 0 t) (1 + width e) k) (silent-settled again H e 0 (1 + width e)))))
     silent-statement (core.branch q a b) m ok o k =
         let is = (both (is_value q) ((not (declares_here a) && is_statement m a) && is_inner_or m b) ok).0 in
         let code : Full → Register → Plains → Plains = λ x n rest. value P.classes x q None n k (more (set n (plain.truth n)) rest) in
@@ -156,7 +144,7 @@ module _ (again : running.Again) (H : Program) (P : Program) (R C : SourceType) 
         silent-by again H (statement (inside_of P R C o) (core.switch e es) k)
         (λ rest. value P.classes (record { first = k; base = 0 }) e None n k (use_of n (more (plain.switch n body) rest)))
         (λ rest. whole-is e parts.0 0 k code (λ n. passed n es (more (plain.switch n body) rest))
-            ∙ ap (λ ss. value P.classes (record { first = k; base = 0 }) e None n k (use_of n ss)) (not-passed n es (more (plain.switch n body) rest) (cases-declare m es parts.1)))
+        ∙ ap (λ ss. value P.classes (record { first = k; base = 0 }) e None n k (use_of n ss)) (not-passed n es (more (plain.switch n body) rest) (cases-declare m es parts.1)))
         (silent-then again H (value P.classes (record { first = k; base = 0 }) e None n k) (λ rest. use_of n (more (plain.switch n body) rest))
         (silent-value again H P e parts.0 (record { first = k; base = 0 }) None n k) (record { labels = λ z rest. refl; at_case = λ z rest g. refl; at_default = λ rest g. refl }))
     silent-statement core.leave m ok o k =

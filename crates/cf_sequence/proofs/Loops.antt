@@ -1,7 +1,6 @@
 -- Loops: each turn spends a tick, its condition stands inside, and further turns come with one tick less.
-use Rattle.std.proofs.Common.{◌≡◌, ℕ, zero, suc, ◌+◌, ◌≤◌, ◌<◌, Bool, true, false, not, ◌&&◌, ◌||◌, nat_lt, nat_le, ◌==◌, List, [], ◌∷◌, ◌++◌, length, refl, sym, ◌∙◌, ap, subst, arith, append-nil, append_assoc, if◌then◌else◌}
-use Rattle.std.specs.Prelude.{ℤ, pos, Option, Some, None}
-use Rattle.std.proofs.lemmas.Bool.Decides.{nat_tests}
+use Rattle.std.proofs.Common.{◌≡◌, ℕ, zero, suc, ◌+◌, ◌≤◌, Bool, true, false, ◌&&◌, List, [], ◌++◌, length, refl, sym, ◌∙◌, ap, subst, arith, append-nil}
+use Rattle.std.specs.Prelude.{Some, None}
 use Rattle.cf_base.proofs.Tests.{both}
 use Rattle.cf_base.specs.World.{World, Ran, Went, and_then, spend_of}
 use Rattle.cf_core.specs.declared.operators.LoopForm.{LoopForm}
@@ -9,38 +8,31 @@ use Rattle.cf_core.specs.declared.operators.LoopForm.TheVariants as form
 use Rattle.cf_core.specs.Types.{SourceType, Name, is_class}
 use Rattle.cf_core.specs.Core as core
 use Rattle.cf_core.specs.Core.{Core, Cores, MaybeCore, Function, none, absent, given}
-use Rattle.cf_core.specs.Nodes.{nodes, nodes_all, nodes_maybe}
-use Rattle.cf_core.specs.Places.{Place}
-use Rattle.cf_core.specs.Store.{Value, Nothing, Built, At, new_object, automatic}
-use Rattle.cf_core.specs.Run.{State, Frame, Did, Gives, Act, ◌>>=◌, ◌>>◌, gives, malformed, some_or, state, tick, valid, when, upd, declared_object, for_all, frame_changed, lists_local, lists_in_scope, with_frame}
-use Rattle.cf_core.specs.Joined.{is_nothing}
-use Rattle.cf_core.specs.Access.{used}
-use Rattle.cf_core.specs.Scalars.{truth_of}
-use Rattle.cf_core.specs.Objects.{settle, new_local}
+use Rattle.cf_core.specs.Nodes.{nodes, nodes_maybe}
+use Rattle.cf_core.specs.Store.{Value}
+use Rattle.cf_core.specs.Run.{State, Frame, Did, Gives, Act, ◌>>=◌, ◌>>◌, gives, tick, when, with_frame}
 use Rattle.cf_core.specs.Calls as calling
 use Rattle.cf_core.specs.Calls.{Program, root, turn, function_named, end_object, in_scope, full_expression}
 use Rattle.cf_core.specs.Expressions as meaning
 use Rattle.cf_core.specs.Statements as does
-use Rattle.cf_plain.specs.Plain.{Register, Plain, Plains, act, set, branch, loop, leave, continue, give, nothing, more}
-use Rattle.cf_plain.specs.Plain as plain
+use Rattle.cf_plain.specs.Plain.{Plains, branch, loop, leave, nothing, more}
 use Rattle.cf_plain.specs.Acts.{Registers}
 use Rattle.cf_plain.specs.Running as running
 use Rattle.cf_plain.specs.Running.{Flow, Falls, Breaks, Continues, Returns, keep, falling, turning, all}
 use Rattle.cf_sequence.specs.Follows.{Follows}
-use Rattle.cf_sequence.specs.Built.{is_value, is_start, is_condition, is_chain, next_local, next_locals, declares_here, is_statement, is_inner_or, are_statements}
-use Rattle.cf_sequence.specs.Made.{Local, added, width, width_maybe, declared, declared_all, held_by}
-use Rattle.cf_sequence.specs.Expressions.{destination, finished, settled, whole, value, used as use_of}
-use Rattle.cf_sequence.specs.Statements.{Inside, in_loop, statement, statement_or, statements, held, stepped, started, returned}
+use Rattle.cf_sequence.specs.Built.{is_condition, is_chain, next_local, is_statement}
+use Rattle.cf_sequence.specs.Made.{added, width, width_maybe, declared}
+use Rattle.cf_sequence.specs.Expressions.{finished}
+use Rattle.cf_sequence.specs.Statements.{statement, held, stepped}
 use Rattle.cf_sequence.proofs.Following.{on, pull, pull-two, push, follows-then}
-use Rattle.cf_sequence.proofs.Calling.{Bodies, never}
-use Rattle.cf_sequence.proofs.Kept.{Kept, kept-all, kept-then, Ready, ready-more, After, added-two, keep-same, listed-kept, listed-there}
-use Rattle.cf_sequence.proofs.PlainSteps.{Usable, pick, runs_on, set-steps, act-steps, at-one, branch-steps, declare-steps}
-use Rattle.cf_sequence.proofs.Operands.{H, first-room, second-room}
-use Rattle.cf_sequence.proofs.Parts.{first-steps, value-gives}
-use Rattle.cf_sequence.proofs.Moving.{all_gone, gone-frame, gone-append, ends-all, Held, held-kept, held-append, finished-steps, Moved, moved-count, moved-then, moved-kept, moved-ready, with_scope, moved-scope, moved-opened, moved-gone, Beyond}
-use Rattle.cf_sequence.proofs.Fulls.{nothing-is, held-none, full-steps, condition-steps, used-steps}
-use Rattle.cf_sequence.proofs.Standing.{Open, inside_of, opened, looped, turn_code, step_code, Stands, stands-later, moved-all, settled_full, result_act, next-more, inner-next, inner-declared, Turned, EndsAs, Turns}
-use Rattle.cf_sequence.proofs.Scopes.{Ways, ways-later, Fallen, fall-on, closing_scope, scope-closed, scope-steps, scope-gone, moved-out, block-ways, close-steps, Does, by-or, behind, ways-behind, arm-steps, stands-on}
+use Rattle.cf_sequence.proofs.Calling.{Bodies}
+use Rattle.cf_sequence.proofs.Kept.{Kept, kept-all, Ready, ready-more, added-two}
+use Rattle.cf_sequence.proofs.PlainSteps.{pick, runs_on, branch-steps}
+use Rattle.cf_sequence.proofs.Operands.{H}
+use Rattle.cf_sequence.proofs.Moving.{all_gone, Held, held-kept, held-append, finished-steps, Moved, moved-count, moved-then, moved-kept, moved-ready, with_scope, Beyond}
+use Rattle.cf_sequence.proofs.Fulls.{full-steps, condition-steps}
+use Rattle.cf_sequence.proofs.Standing.{Open, inside_of, looped, turn_code, step_code, Stands, stands-later, EndsAs, Turns}
+use Rattle.cf_sequence.proofs.Scopes.{Ways, Fallen, closing_scope, scope-closed, scope-gone, moved-out, Does, behind, stands-on}
 
 module _ (again : calling.Again) (again' : running.Again) (P : Program) (bodies : Bodies again again' P)
     (chains : (name : Name) (f : Function) → function_named P name ≡ Some f → is_chain f.type ≡ true)
@@ -320,4 +312,3 @@ module _ (again : calling.Again) (again' : running.Again) (P : Program) (bodies 
       push (running.does again' (H again again' P) (loop SS EE) g u w) (falling (λ h. all again' (H again again' P) rest h)) K _
       (tick-steps X (all again' (H again again' P) SS g >>= T) c ((behind again again' P bodies chains classless turns R C plain-result A B S) rest K) s u w.ticks w (λ w.
       push (all again' (H again again' P) SS g u w) T ((behind again again' P bodies chains classless turns R C plain-result A B S) rest K) _ (next w)))
-

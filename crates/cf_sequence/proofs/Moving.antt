@@ -1,13 +1,13 @@
 -- How states of the core and of the plain program stand to each other between statements: the objects of open scopes, and how they end.
-use Rattle.std.proofs.Common.{◌≡◌, ℕ, zero, suc, ◌+◌, ◌≤◌, ◌<◌, Bool, true, false, List, [], ◌∷◌, ◌++◌, length, refl, sym, ◌∙◌, ap, subst, arith, append-nil}
-use Rattle.std.specs.Prelude.{Option, Some, None}
+use Rattle.std.proofs.Common.{◌≡◌, ℕ, ◌≤◌, ◌<◌, false, List, [], ◌∷◌, ◌++◌, refl, sym, ◌∙◌, ap, subst, arith}
+use Rattle.std.specs.Prelude.{Option, Some}
 use Rattle.cf_base.specs.World.{World, Ran, Went, and_then}
-use Rattle.cf_core.specs.Types.{SourceType, void, integer, enumeration, class, pointer, reference, array, takes, gives as gives_type, data_member, function_member, const}
-use Rattle.cf_core.specs.Classes.{Class, class_named, destructor_in}
+use Rattle.cf_core.specs.Types.{SourceType, class, array, const}
+use Rattle.cf_core.specs.Classes.{class_named, destructor_in}
 use Rattle.cf_core.specs.Core.{item}
 use Rattle.cf_core.specs.Places.{Place, inner}
 use Rattle.cf_core.specs.Store.{Value, Nothing}
-use Rattle.cf_core.specs.Run.{State, Frame, Did, Gives, Act, ◌>>=◌, ◌>>◌, gives, malformed, done, tick, state, some_or, when, for_all, for_each_back, object_changed, frame_changed, with_object, gone, with_frame}
+use Rattle.cf_core.specs.Run.{State, Frame, Did, Gives, Act, ◌>>=◌, ◌>>◌, gives, malformed, done, tick, some_or, when, for_all, for_each_back, object_changed, with_object, gone, with_frame}
 use Rattle.cf_core.specs.Calls.{Program, Again, root, destroy, by_destructor, has_destructor, end_object}
 use Rattle.cf_plain.specs.Plain.{Plains, act, more}
 use Rattle.cf_plain.specs.Plain as plain
@@ -17,8 +17,7 @@ use Rattle.cf_plain.specs.Running.{Flow, calls}
 use Rattle.cf_sequence.specs.Follows.{Follows}
 use Rattle.cf_sequence.specs.Made.{Local}
 use Rattle.cf_sequence.specs.Expressions.{finished}
-use Rattle.cf_sequence.proofs.Following.{on, push}
-use Rattle.cf_sequence.proofs.Calling.{Alike}
+use Rattle.cf_sequence.proofs.Following.{on}
 use Rattle.cf_sequence.proofs.Kept.{Kept, Ready}
 use Rattle.cf_sequence.proofs.PlainSteps.{runs_on, act-steps}
 

@@ -1,43 +1,31 @@
 -- Operands: an expression's parts in registers, the left one used first, and the room for their locals.
-use Rattle.std.proofs.Common.{◌≡◌, ℕ, zero, suc, ◌+◌, ◌≤◌, ◌<◌, Bool, true, false, not, ◌&&◌, List, [], ◌∷◌, ◌++◌, length, refl, sym, ◌∙◌, ap, subst, arith, if◌then◌else◌}
-use Rattle.std.specs.Prelude.{ℤ, pos, Option, Some, None}
-use Rattle.std.proofs.lemmas.List.{length-append}
-use Rattle.cf_base.proofs.Tests.{both}
-use Rattle.cf_base.specs.declared.kind.Kind.{Kind}
-use Rattle.cf_base.specs.declared.arith.Arith.{Arith}
-use Rattle.cf_base.specs.Integers.{convert as converted}
+use Rattle.std.proofs.Common.{◌≡◌, ℕ, suc, ◌+◌, ◌≤◌, ◌<◌, true, List, ◌++◌, length, refl, sym, ◌∙◌, subst, arith}
+use Rattle.std.specs.Prelude.{Option, Some, None}
 use Rattle.cf_base.specs.World.{World, Ran, and_then}
-use Rattle.cf_core.specs.Types.{SourceType, Name, parameters, result, is_class, same_but_const}
-use Rattle.cf_core.specs.Classes.{Class}
-use Rattle.cf_core.specs.Core as core
-use Rattle.cf_core.specs.Core.{Core, Cores, Function, none, absent, arithmetic, moved, Change}
-use Rattle.cf_core.specs.Nodes.{nodes, nodes_all}
+use Rattle.cf_core.specs.Types.{Name}
+use Rattle.cf_core.specs.Core.{Core, Function}
+use Rattle.cf_core.specs.Nodes.{nodes}
 use Rattle.cf_core.specs.Places.{Place}
-use Rattle.cf_core.specs.Store.{Value, Nothing, Missing, Built, Number, Null, At, Code, DataMember, FunctionMember, new_object, automatic}
-use Rattle.cf_core.specs.Run.{State, Frame, Did, Act, ◌>>=◌, ◌>>◌, gives, malformed, some_or, need, when, upd, with_frame, lists_local, declared_object, cast_from_void}
-use Rattle.cf_core.specs.Access.{used, place_of, number_of, read_place, write_place, followed}
-use Rattle.cf_core.specs.Pointers.{truth_value, from_void_value, pointer_op}
-use Rattle.cf_core.specs.Scalars.{truth_of, converted_value, operated, signed, changed_value, indexed, decayed, pointed_to}
-use Rattle.cf_core.specs.Objects.{literal_object, settle, local_place, result_place}
+use Rattle.cf_core.specs.Store.{Value}
+use Rattle.cf_core.specs.Run.{State, Frame, Did, Act, ◌>>=◌, malformed, some_or, with_frame}
+use Rattle.cf_core.specs.Access.{used}
 use Rattle.cf_core.specs.Calls as calling
 use Rattle.cf_core.specs.Calls.{Program, root, function_named, is_library, name_function, has_type, run_named, run_library, enter_found}
 use Rattle.cf_core.specs.Expressions as meaning
 use Rattle.cf_plain.specs.Plain.{Register, Plain, Plains, act, set, branch, nothing, more}
 use Rattle.cf_plain.specs.Plain as plain
-use Rattle.cf_plain.specs.Acts.{Registers, objects_of}
+use Rattle.cf_plain.specs.Acts.{Registers}
 use Rattle.cf_plain.specs.Running as running
 use Rattle.cf_plain.specs.Running.{Flow, Falls, calls, keep, falling, all}
 use Rattle.cf_sequence.specs.Follows.{Follows}
-use Rattle.cf_sequence.specs.Built.{is_value, are_values, are_arguments, is_chain}
-use Rattle.cf_sequence.specs.Made.{makes, added, width, width_all, numbers}
-use Rattle.cf_sequence.specs.Expressions.{Full, Destination, destination, value, values, arguments, settled, builds, used as use_of, result_register}
-use Rattle.cf_sequence.proofs.Following.{on, pull, pull-two, pull-three, push, Pure, pure-steps, pure-step, pure-then, pure-gives, Looks, looks-steps, looks-then, looks-pure}
-use Rattle.cf_sequence.proofs.Steps.{pure-used, pure-place_of, pure-truth_of, pure-number_of, pure-converted_value, pure-operated, pure-signed, looks-read_place, looks-followed, write-steps, settle-steps}
-use Rattle.cf_sequence.proofs.Pointers.{pure-pointed_to, looks-indexed, looks-decayed, looks-from_void, looks-pointer_op, literal-steps}
-use Rattle.cf_sequence.proofs.Calling.{Alike, Bodies, never, plain_program}
-use Rattle.cf_sequence.proofs.Actions.{placed-by, store-steps, change-steps, objects-there, Callee, named-again, name-steps, run-steps}
-use Rattle.cf_sequence.proofs.Kept.{Kept, kept-all, kept-then, kept-less, kept-count, kept-alike, Ready, ready-kept, ready-more, Objects, added-two, After, after-set, after-again, after-then, keep-same, keep-other, listed-kept, listed-there}
-use Rattle.cf_sequence.proofs.PlainSteps.{Usable, pick, runs_on, plain_acts, set-steps, act-steps, at-one, at-two, use-steps, place-cases, branch-steps, truth-steps, local-steps, declare-steps}
+use Rattle.cf_sequence.specs.Built.{is_chain}
+use Rattle.cf_sequence.specs.Made.{added, width}
+use Rattle.cf_sequence.specs.Expressions.{Full, Destination, value, used as use_of}
+use Rattle.cf_sequence.proofs.Following.{on, pull, push, pure-steps, Looks, looks-steps}
+use Rattle.cf_sequence.proofs.Steps.{pure-used}
+use Rattle.cf_sequence.proofs.Calling.{Bodies, plain_program}
+use Rattle.cf_sequence.proofs.Kept.{Kept, kept-then, kept-count, Ready, ready-kept, ready-more, added-two, After, after-set, after-again}
+use Rattle.cf_sequence.proofs.PlainSteps.{Usable, runs_on, plain_acts, set-steps, use-steps}
 
 pub first-room : (k c : ℕ) (xs ys : List Core) → k + length (added (xs ++ ys)) ≤ c → k + length (added xs) ≤ c
 first-room k c xs ys room = let e = added-two xs ys in omega arith
@@ -145,4 +133,3 @@ module _ (again : calling.Again) (again' : running.Again) (P : Program) (bodies 
       (pure-steps (used v) (pure-used v) (λ v. F u v >>= c) (λ v. F u v >>= (λ v. λ t w. runs_on again' (H again again' P) rest (keep h n v) K t w)) s2 (with_frame f2 s2) w2 (λ v.
       looks-steps (F u v) (looks u v) c (λ v. λ t w. runs_on again' (H again again' P) rest (keep h n v) K t w) s2 f2 w2 (λ z.
       next z s2 (keep h n z) f2 w2 (after-set n k g h s.frame f f2 z s2 below frame kept)))))))))
-

@@ -1,24 +1,18 @@
 -- `&&`, `||` and `?:` by branches, changes in place, first values, and calls behind their arguments.
-use Rattle.std.proofs.Common.{◌≡◌, ℕ, zero, suc, ◌+◌, ◌≤◌, ◌<◌, Bool, true, false, not, ◌&&◌, List, [], ◌∷◌, ◌++◌, length, refl, sym, ◌∙◌, ap, subst, arith, if◌then◌else◌}
-use Rattle.std.specs.Prelude.{ℤ, pos, Option, Some, None}
-use Rattle.std.proofs.lemmas.List.{length-append}
+use Rattle.std.proofs.Common.{◌≡◌, ℕ, ◌+◌, ◌≤◌, ◌<◌, Bool, true, false, not, ◌&&◌, List, length, refl, sym, ◌∙◌, ap, subst, arith, if◌then◌else◌}
+use Rattle.std.specs.Prelude.{pos, Option, Some, None}
 use Rattle.cf_base.proofs.Tests.{both}
-use Rattle.cf_base.specs.declared.kind.Kind.{Kind}
-use Rattle.cf_base.specs.declared.arith.Arith.{Arith}
-use Rattle.cf_base.specs.Integers.{convert as converted}
-use Rattle.cf_base.specs.World.{World, Ran, and_then}
-use Rattle.cf_core.specs.Types.{SourceType, Name, parameters, result, is_class, same_but_const}
-use Rattle.cf_core.specs.Classes.{Class}
+use Rattle.cf_base.specs.World.{World, and_then}
+use Rattle.cf_core.specs.Types.{SourceType, Name, parameters, result, is_class}
 use Rattle.cf_core.specs.Core as core
 use Rattle.cf_core.specs.Core.{Core, Cores, Function, none, absent, arithmetic, moved, Change}
-use Rattle.cf_core.specs.Nodes.{nodes, nodes_all}
 use Rattle.cf_core.specs.Places.{Place}
-use Rattle.cf_core.specs.Store.{Value, Nothing, Missing, Built, Number, Null, At, Code, DataMember, FunctionMember, new_object, automatic}
-use Rattle.cf_core.specs.Run.{State, Frame, Did, Act, ◌>>=◌, ◌>>◌, gives, malformed, some_or, need, when, upd, with_frame, lists_local, declared_object, cast_from_void}
-use Rattle.cf_core.specs.Access.{used, place_of, number_of, read_place, write_place, followed}
-use Rattle.cf_core.specs.Pointers.{truth_value, from_void_value, pointer_op}
-use Rattle.cf_core.specs.Scalars.{truth_of, converted_value, operated, signed, changed_value, indexed, decayed, pointed_to}
-use Rattle.cf_core.specs.Objects.{literal_object, settle, local_place, result_place}
+use Rattle.cf_core.specs.Store.{Value, Nothing, Number, At}
+use Rattle.cf_core.specs.Run.{State, Frame, Act, ◌>>=◌, ◌>>◌, gives, malformed, some_or, when, with_frame}
+use Rattle.cf_core.specs.Access.{used, place_of, read_place, write_place}
+use Rattle.cf_core.specs.Pointers.{truth_value}
+use Rattle.cf_core.specs.Scalars.{truth_of, changed_value}
+use Rattle.cf_core.specs.Objects.{settle, result_place}
 use Rattle.cf_core.specs.Calls as calling
 use Rattle.cf_core.specs.Calls.{Program, root, function_named, is_library, name_function, has_type, run_named, run_library, enter_found}
 use Rattle.cf_core.specs.Expressions as meaning
@@ -28,17 +22,16 @@ use Rattle.cf_plain.specs.Acts.{Registers, objects_of}
 use Rattle.cf_plain.specs.Running as running
 use Rattle.cf_plain.specs.Running.{Flow, Falls, calls, keep, falling, all}
 use Rattle.cf_sequence.specs.Follows.{Follows}
-use Rattle.cf_sequence.specs.Built.{is_value, are_values, are_arguments, is_chain}
-use Rattle.cf_sequence.specs.Made.{makes, added, width, width_all, numbers}
-use Rattle.cf_sequence.specs.Expressions.{Full, Destination, destination, value, values, arguments, settled, builds, used as use_of, result_register}
-use Rattle.cf_sequence.proofs.Following.{on, pull, pull-two, pull-three, push, Pure, pure-steps, pure-step, pure-then, pure-gives, Looks, looks-steps, looks-then, looks-pure}
-use Rattle.cf_sequence.proofs.Steps.{pure-used, pure-place_of, pure-truth_of, pure-number_of, pure-converted_value, pure-operated, pure-signed, looks-read_place, looks-followed, write-steps, settle-steps}
-use Rattle.cf_sequence.proofs.Pointers.{pure-pointed_to, looks-indexed, looks-decayed, looks-from_void, looks-pointer_op, literal-steps}
-use Rattle.cf_sequence.proofs.Calling.{Alike, Bodies, never, plain_program}
-use Rattle.cf_sequence.proofs.Actions.{placed-by, store-steps, change-steps, objects-there, Callee, named-again, name-steps, run-steps}
-use Rattle.cf_sequence.proofs.Kept.{Kept, kept-all, kept-then, kept-less, kept-count, kept-alike, Ready, ready-kept, ready-more, Objects, added-two, After, after-set, after-again, after-then, keep-same, keep-other, listed-kept, listed-there}
-use Rattle.cf_sequence.proofs.PlainSteps.{Usable, pick, runs_on, plain_acts, set-steps, act-steps, at-one, at-two, use-steps, place-cases, branch-steps, truth-steps, local-steps, declare-steps}
-use Rattle.cf_sequence.proofs.Operands.{H, first-room, second-room, Next, Follow, one-operand, two-operands, held-one, used-one, used-two, two-used}
+use Rattle.cf_sequence.specs.Built.{is_value, are_arguments, is_chain}
+use Rattle.cf_sequence.specs.Made.{width, numbers}
+use Rattle.cf_sequence.specs.Expressions.{Full, Destination, value, builds, result_register}
+use Rattle.cf_sequence.proofs.Following.{on, pull, push, looks-steps}
+use Rattle.cf_sequence.proofs.Steps.{looks-read_place, settle-steps}
+use Rattle.cf_sequence.proofs.Calling.{Alike, Bodies, never}
+use Rattle.cf_sequence.proofs.Actions.{placed-by, change-steps, objects-there, Callee, named-again, run-steps}
+use Rattle.cf_sequence.proofs.Kept.{Kept, kept-then, kept-count, Ready, ready-kept, ready-more, Objects, after-set, keep-same, keep-other}
+use Rattle.cf_sequence.proofs.PlainSteps.{pick, runs_on, set-steps, act-steps, at-one, at-two, truth-steps}
+use Rattle.cf_sequence.proofs.Operands.{H, Next, Follow}
 
 module _ (again : calling.Again) (again' : running.Again) (P : Program) (bodies : Bodies again again' P)
     (chains : (name : Name) (f : Function) → function_named P name ≡ Some f → is_chain f.type ≡ true)
@@ -210,4 +203,3 @@ module _ (again : calling.Again) (again' : running.Again) (P : Program) (bodies 
       (subst (λ r. Follows S (and_then (run_named again P name os None None s w) (on c)) (and_then (and_then r (on (λ os. run_named (calls again') (H again again' P) name os None None))) (on G)))
       (sym (objects-there f.locals (numbers k (parameters t)) os there (with_frame f s) w refl))
       (run-steps again again' P bodies chains name t callee chain os many s f w c G alike next)))))
-

@@ -1,17 +1,16 @@
 -- The steps of plain statements beside those of the core: acts, registers, uses and branches.
-use Rattle.std.proofs.Common.{◌≡◌, ℕ, zero, suc, ◌<◌, Bool, true, false, not, nat_lt, List, [], ◌∷◌, refl, sym, ◌∙◌, ap, subst, arith}
-use Rattle.std.specs.Prelude.{ℤ, pos, negsuc, Option, Some, None}
+use Rattle.std.proofs.Common.{◌≡◌, ℕ, zero, suc, ◌<◌, Bool, true, false, nat_lt, refl, sym, subst, arith}
+use Rattle.std.specs.Prelude.{pos, Option, Some}
 use Rattle.std.proofs.lemmas.Bool.Decides.{nat_tests}
 use Rattle.cf_base.specs.World.{World, Ran, and_then}
 use Rattle.cf_core.specs.Types.{SourceType}
 use Rattle.cf_core.specs.Places.{Place}
-use Rattle.cf_core.specs.Store.{Value, Nothing, Missing, Built, Number, Null, At, Code, DataMember, FunctionMember, new_object, automatic}
-use Rattle.cf_core.specs.Run.{State, Frame, Did, Act, ◌>>=◌, ◌>>◌, gives, malformed, undefined, valid, some_or, need, upd, when as core_when, declared_object, frame_changed, with_frame, lists_local, not_alive}
+use Rattle.cf_core.specs.Store.{Value, Nothing, Missing, Built, Number, At, new_object, automatic}
+use Rattle.cf_core.specs.Run.{State, Frame, Did, Act, ◌>>=◌, ◌>>◌, gives, malformed, undefined, valid, some_or, upd, when as core_when, declared_object, frame_changed, with_frame, lists_local, not_alive}
 use Rattle.cf_core.specs.Access.{used, place_of}
 use Rattle.cf_core.specs.Pointers.{truth_value}
 use Rattle.cf_core.specs.Scalars.{truth_of}
-use Rattle.cf_core.specs.Objects.{local_place, new_local}
-use Rattle.cf_core.specs.Calls as core
+use Rattle.cf_core.specs.Objects.{local_place}
 use Rattle.cf_core.specs.Calls.{Program, root}
 use Rattle.cf_plain.specs.Plain.{Register, Action, Plains, act, set, branch, nothing, more}
 use Rattle.cf_plain.specs.Plain as plain
@@ -20,9 +19,9 @@ use Rattle.cf_plain.specs.Running as running
 use Rattle.cf_plain.specs.Running.{Flow, Falls, calls, keep, falling, all}
 use Rattle.cf_sequence.specs.Follows.{Follows}
 use Rattle.cf_sequence.specs.Expressions.{used as use_of}
-use Rattle.cf_sequence.proofs.Following.{on, pull, push, Pure, pure-steps, pure-step, pure-some_or, pure-undefined}
-use Rattle.cf_sequence.proofs.Steps.{pure-used, pure-place_of, pure-truth_of}
-use Rattle.cf_sequence.proofs.Kept.{Kept, Ready, listed-kept, listed-there}
+use Rattle.cf_sequence.proofs.Following.{on, push, pure-steps, pure-step, pure-some_or, pure-undefined}
+use Rattle.cf_sequence.proofs.Steps.{pure-truth_of}
+use Rattle.cf_sequence.proofs.Kept.{Ready}
 
 -- a value that may be used
 abbrev pub Usable : Value → Type 0

@@ -1,6 +1,6 @@
 -- Steps over pointers, which look at the objects alone and change nothing, and string literals.
-use Rattle.std.proofs.Common.{◌≡◌, ℕ, zero, suc, Bool, true, false, not, ◌&&◌, ◌==◌, nat_lt, nat_le, List, [], ◌∷◌, refl, sym, ◌∙◌, ap, subst}
-use Rattle.std.specs.Prelude.{ℤ, pos, negsuc, ◌-ℤ◌, Option, Some, None, find, bytes_eq}
+use Rattle.std.proofs.Common.{◌≡◌, ℕ, Bool, true, false, not, ◌&&◌, ◌==◌, nat_lt, nat_le, List, ◌∷◌, refl, sym, ap, subst}
+use Rattle.std.specs.Prelude.{ℤ, pos, ◌-ℤ◌, Option, Some, None, find, bytes_eq}
 use Rattle.cf_base.specs.World.{World, and_then}
 use Rattle.cf_core.specs.declared.operators.PointerOperator.{PointerOperator}
 use Rattle.cf_core.specs.declared.operators.PointerOperator.TheVariants as op
@@ -8,10 +8,10 @@ use Rattle.cf_core.specs.Types.{Name, SourceType, is_array, same_but_const}
 use Rattle.cf_core.specs.Classes.{Class}
 use Rattle.cf_core.specs.Core.{item}
 use Rattle.cf_core.specs.Places.{Place, inner, is_inside, place_eq}
-use Rattle.cf_core.specs.Store.{Value, Nothing, Missing, Built, Number, Null, At, Code, DataMember, FunctionMember}
+use Rattle.cf_core.specs.Store.{Value, Number, Null, At, Code, DataMember, FunctionMember}
 use Rattle.cf_core.specs.Run.{State, Frame, Literal, Act, ◌>>=◌, ◌>>◌, gives, malformed, undefined, state, changed, need, valid, some_or, born, with_frame, not_alive, outside_array, compared, cast_from_void}
 use Rattle.cf_core.specs.Access.{place_type, name_part}
-use Rattle.cf_core.specs.Pointers.{Element, element_of, route_of, bound_of, further, up_to, moved_place, moved_value, sum_of, moved_back, same_array, both_stand, truth_value, difference_of, ordered, comparable, unlike_null, equal_values, pointer_op, from_void_value}
+use Rattle.cf_core.specs.Pointers.{element_of, route_of, bound_of, further, up_to, moved_place, moved_value, sum_of, moved_back, same_array, both_stand, truth_value, difference_of, ordered, comparable, unlike_null, equal_values, pointer_op, from_void_value}
 use Rattle.cf_core.specs.Scalars.{moved_by, indexed, decayed, pointed_to}
 use Rattle.cf_core.specs.Objects.{literal_of, found_literal, literal_object}
 use Rattle.cf_sequence.specs.Follows.{Follows}
@@ -34,7 +34,7 @@ up_in cs p z = λ s w. up_to (bound_of cs (s.object p.object).type (element_of p
 pub looks-up_in : (cs : List Class) (p : Place) (z : ℤ) → Looks (up_in cs p z)
 looks-up_in cs p z =
     let pure : (s : State) → Pure (up_to (bound_of cs (s.object p.object).type (element_of p.route)) (further (element_of p.route).index z)) =
-        λ s. pure-up_to (bound_of cs (s.object p.object).type (element_of p.route)) (further (element_of p.route).index z) in
+    λ s. pure-up_to (bound_of cs (s.object p.object).type (element_of p.route)) (further (element_of p.route).index z) in
     record { answer = λ s. (pure s).answer; runs = λ s w. ap (λ (a : Act _). a s w) (pure s).runs; blind = λ s f. refl }
 
 looks-moved_place : (cs : List Class) (p : Place) (z : ℤ) → Looks (moved_place cs p z)
@@ -68,7 +68,7 @@ looks-valid_array cs p =
 pub looks-decayed : (cs : List Class) (v : Value) → Looks (decayed cs v)
 looks-decayed cs (At p) =
     looks-then (λ s w. valid (is_array (place_type cs s p)) s w) (λ u. name_part cs p >> gives (At (inner (item 0) p))) (looks-valid_array cs p) (λ u.
-        looks-then (name_part cs p) (λ u. gives (At (inner (item 0) p))) (looks-name_part cs p) (λ u. looks-pure (gives (At (inner (item 0) p))) (pure-gives (At (inner (item 0) p)))))
+    looks-then (name_part cs p) (λ u. gives (At (inner (item 0) p))) (looks-name_part cs p) (λ u. looks-pure (gives (At (inner (item 0) p))) (pure-gives (At (inner (item 0) p)))))
 looks-decayed cs (Code f) = looks-pure (gives (Code f)) (pure-gives (Code f))
 looks-decayed cs v = looks-pure malformed pure-malformed
 
@@ -76,7 +76,7 @@ pub looks-from_void : (cs : List Class) (t : SourceType) (v : Value) → Looks (
 looks-from_void cs t Null = looks-pure (gives Null) (pure-gives Null)
 looks-from_void cs t (At p) =
     let pure : (s : State) → Pure (need (same_but_const (place_type cs s p) t) cast_from_void >> gives (At p)) =
-        λ s. pure-then (need (same_but_const (place_type cs s p) t) cast_from_void) (λ u. gives (At p)) (pure-need (same_but_const (place_type cs s p) t) cast_from_void) (λ u. pure-gives (At p)) in
+    λ s. pure-then (need (same_but_const (place_type cs s p) t) cast_from_void) (λ u. gives (At p)) (pure-need (same_but_const (place_type cs s p) t) cast_from_void) (λ u. pure-gives (At p)) in
     record { answer = λ s. (pure s).answer; runs = λ s w. ap (λ (a : Act _). a s w) (pure s).runs; blind = λ s f. refl }
 looks-from_void cs t v = looks-pure malformed pure-malformed
 
@@ -88,7 +88,7 @@ looks-difference : (cs : List Class) (v w : Value) → Looks (difference_of cs v
 looks-difference cs (At p) (At q) =
     let z : Value = Number (pos (element_of p.route).index -ℤ pos (element_of q.route).index) in
     let pure : (s : State) → Pure (need (both_stand cs s p q) not_alive >> (need (same_array p q) outside_array >> gives z)) =
-        λ s. pure-tests (both_stand cs s p q) (same_array p q) not_alive outside_array z in
+    λ s. pure-tests (both_stand cs s p q) (same_array p q) not_alive outside_array z in
     record { answer = λ s. (pure s).answer; runs = λ s w. ap (λ (a : Act _). a s w) (pure s).runs; blind = λ s f. refl }
 looks-difference cs Null Null = looks-pure (undefined _) (pure-undefined _)
 looks-difference cs Null (At q) = looks-pure (undefined _) (pure-undefined _)
@@ -99,7 +99,7 @@ looks-ordered : (cs : List Class) (less : ℕ → ℕ → Bool) (v w : Value) �
 looks-ordered cs less (At p) (At q) =
     let z : Value = truth_value (less (element_of p.route).index (element_of q.route).index) in
     let pure : (s : State) → Pure (need (both_stand cs s p q) compared >> (need (same_array p q) compared >> gives z)) =
-        λ s. pure-tests (both_stand cs s p q) (same_array p q) compared compared z in
+    λ s. pure-tests (both_stand cs s p q) (same_array p q) compared compared z in
     record { answer = λ s. (pure s).answer; runs = λ s w. ap (λ (a : Act _). a s w) (pure s).runs; blind = λ s f. refl }
 looks-ordered cs less Null Null = looks-pure (undefined _) (pure-undefined _)
 looks-ordered cs less Null (At q) = looks-pure (undefined _) (pure-undefined _)
@@ -116,7 +116,7 @@ pure-unlike_null v = pure-malformed
 looks-equal : (cs : List Class) (v w : Value) → Looks (equal_values cs v w)
 looks-equal cs (At p) (At q) =
     let pure : (s : State) → Pure (need (both_stand cs s p q) compared >> (need (comparable cs s p q) compared >> gives (place_eq p q))) =
-        λ s. pure-tests (both_stand cs s p q) (comparable cs s p q) compared compared (place_eq p q) in
+    λ s. pure-tests (both_stand cs s p q) (comparable cs s p q) compared compared (place_eq p q) in
     record { answer = λ s. (pure s).answer; runs = λ s w. ap (λ (a : Act _). a s w) (pure s).runs; blind = λ s f. refl }
 looks-equal cs Null Null = looks-pure (gives true) (pure-gives true)
 looks-equal cs Null w = looks-pure (unlike_null w) (pure-unlike_null w)

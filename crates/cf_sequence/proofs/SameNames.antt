@@ -1,7 +1,7 @@
 -- Where no function is local to its file, no name is replaced.
-use Rattle.std.proofs.Common.{◌≡◌, ◌∙◌, List, [], refl, ap}
+use Rattle.std.proofs.Common.{◌≡◌, ◌∙◌, refl, ap}
 use Rattle.cf_core.specs.Types.{Name}
-use Rattle.cf_core.specs.Core.{Core, Cores, MaybeCore, Parts, Target, direct, dispatched, Holder, no_temporary, local_temporary, static_temporary, none, more, absent, given, no_parts, part, plain_function, Function, Static, CoreFile, number, text, this, local, static_object, function, member, read, address, dereference, decay, index, convert, up, down, from_void, to_member, data_pointer, function_pointer, through, operate, unary, logical_not, logical_and, logical_or, pointer_operate, conditional, comma, store, update, step, assign, temporary, call, virtual_call, pointer_call, new, new_array, delete, delete_array, build, copy, each, list, string, bind, zeros, blank, full, block, sequence, declare, once, branch, loop, switch, case_label, default_label, leave, continue, give, parts}
+use Rattle.cf_core.specs.Core.{Core, Cores, MaybeCore, Parts, Target, direct, dispatched, Holder, no_temporary, local_temporary, static_temporary, none, more, absent, given, no_parts, part, number, text, this, local, static_object, function, member, read, address, dereference, decay, index, convert, up, down, from_void, to_member, data_pointer, function_pointer, through, operate, unary, logical_not, logical_and, logical_or, pointer_operate, conditional, comma, store, update, step, assign, temporary, call, virtual_call, pointer_call, new, new_array, delete, delete_array, build, copy, each, list, string, bind, zeros, blank, full, block, sequence, declare, once, branch, loop, switch, case_label, default_label, leave, continue, give, parts}
 use Rattle.cf_core.specs.Joined.{renamed_target, renamed_holder, renamed, renamed_all, renamed_maybe, renamed_parts}
 use Rattle.cf_plain.specs.Plain as plain
 use Rattle.cf_plain.specs.Joined as joined

@@ -1,6 +1,6 @@
 -- What a program shows when it is run as a core and when its core is made into plain statements.
-use Rattle.std.proofs.Common.{◌≡◌, ℕ, List, [], ◌∷◌}
-use Rattle.std.specs.Prelude.{Option, Some, None}
+use Rattle.std.proofs.Common.{◌≡◌, ℕ, List}
+use Rattle.std.specs.Prelude.{Some}
 use Rattle.cf_core.specs.Calls.{Program}
 use Rattle.cf_core.specs.Program.{Mean}
 use Rattle.cf_core.proofs.Sample.{Shown, shown_of}

@@ -1,15 +1,14 @@
 -- Programs over numbers, pointers, arrays and references: their cores and their plain statements show the same.
 use Rattle.std.proofs.Common.{◌≡◌, [], ◌∷◌, refl}
-use Rattle.std.specs.Prelude.{pos, Some, true, codes}
+use Rattle.std.specs.Prelude.{pos, true, codes}
 use Rattle.cf_base.specs.declared.kind.Kind.TheVariants.{Int}
 use Rattle.cf_base.specs.declared.arith.Arith.TheVariants as op
-use Rattle.cf_base.specs.Event.{Ended, Ticks, Undefined}
+use Rattle.cf_base.specs.Event.{Ended, Ticks}
 use Rattle.cf_core.specs.declared.operators.UnaryOperator.TheVariants as sign
 use Rattle.cf_core.specs.declared.operators.LoopForm.TheVariants as form
-use Rattle.cf_core.specs.Types.{void, integer, enumeration, pointer, reference, array, const}
-use Rattle.cf_core.specs.Core.{Core, absent, given, local, static_object, read, operate, unary, convert, full, declare, blank, update, step, arithmetic, loop, store, switch, case_label, default_label, leave, continue, branch, logical_and, logical_or, conditional, comma, temporary, bind, local_temporary, zeros, list, index, decay}
+use Rattle.cf_core.specs.Core.{absent, given, local, static_object, read, operate, unary, declare, blank, loop, store}
 use Rattle.cf_core.specs.Calls.{Program}
-use Rattle.cf_core.proofs.Sample.{int, function_of, listed, in_block, main_of, program, static_of, returns, num, add, put, put_code, put_digit, value_of, set, called, referred}
+use Rattle.cf_core.proofs.Sample.{int, function_of, in_block, main_of, program, static_of, returns, num, add, put, put_digit, value_of, set, called}
 use Rattle.cf_sequence.specs.Built.{is_plainly_built}
 use Rattle.cf_sequence.proofs.Sample.{Shows}
 

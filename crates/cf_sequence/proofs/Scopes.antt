@@ -1,45 +1,30 @@
 -- Scopes: the ways out of a statement, the end of a scope, and the arms of a branch.
-use Rattle.std.proofs.Common.{◌≡◌, ℕ, zero, suc, ◌+◌, ◌≤◌, ◌<◌, Bool, true, false, not, ◌&&◌, ◌||◌, nat_lt, nat_le, ◌==◌, List, [], ◌∷◌, ◌++◌, length, refl, sym, ◌∙◌, ap, subst, arith, append-nil, append_assoc, if◌then◌else◌}
-use Rattle.std.specs.Prelude.{ℤ, pos, Option, Some, None}
-use Rattle.std.proofs.lemmas.Bool.Decides.{nat_tests}
-use Rattle.cf_base.proofs.Tests.{both}
-use Rattle.cf_base.specs.World.{World, Ran, Went, and_then, spend_of}
-use Rattle.cf_core.specs.declared.operators.LoopForm.{LoopForm}
-use Rattle.cf_core.specs.declared.operators.LoopForm.TheVariants as form
+use Rattle.std.proofs.Common.{◌≡◌, ℕ, ◌+◌, ◌≤◌, Bool, true, false, not, ◌||◌, List, [], ◌++◌, refl, sym, ◌∙◌, ap, subst, arith, append-nil}
+use Rattle.std.specs.Prelude.{Some}
+use Rattle.cf_base.specs.World.{World, Ran, Went, and_then}
 use Rattle.cf_core.specs.Types.{SourceType, Name, is_class}
-use Rattle.cf_core.specs.Core as core
-use Rattle.cf_core.specs.Core.{Core, Cores, MaybeCore, Function, none, absent, given}
-use Rattle.cf_core.specs.Nodes.{nodes, nodes_all, nodes_maybe}
-use Rattle.cf_core.specs.Places.{Place}
-use Rattle.cf_core.specs.Store.{Value, Nothing, Built, At, new_object, automatic}
-use Rattle.cf_core.specs.Run.{State, Frame, Did, Gives, Act, ◌>>=◌, ◌>>◌, gives, malformed, some_or, state, tick, valid, when, upd, declared_object, for_all, frame_changed, lists_local, lists_in_scope, with_frame}
-use Rattle.cf_core.specs.Joined.{is_nothing}
-use Rattle.cf_core.specs.Access.{used}
-use Rattle.cf_core.specs.Scalars.{truth_of}
-use Rattle.cf_core.specs.Objects.{settle, new_local}
+use Rattle.cf_core.specs.Core.{Core, Function}
+use Rattle.cf_core.specs.Store.{Value}
+use Rattle.cf_core.specs.Run.{State, Frame, Did, Gives, Act, ◌>>=◌, ◌>>◌, gives, state, for_all, frame_changed, with_frame}
 use Rattle.cf_core.specs.Calls as calling
 use Rattle.cf_core.specs.Calls.{Program, root, turn, function_named, end_object, in_scope, full_expression}
-use Rattle.cf_core.specs.Expressions as meaning
 use Rattle.cf_core.specs.Statements as does
-use Rattle.cf_plain.specs.Plain.{Register, Plain, Plains, act, set, branch, loop, leave, continue, give, nothing, more}
-use Rattle.cf_plain.specs.Plain as plain
+use Rattle.cf_plain.specs.Plain.{Plains, nothing}
 use Rattle.cf_plain.specs.Acts.{Registers}
 use Rattle.cf_plain.specs.Running as running
 use Rattle.cf_plain.specs.Running.{Flow, Falls, Breaks, Continues, Returns, keep, falling, turning, all}
 use Rattle.cf_sequence.specs.Follows.{Follows}
-use Rattle.cf_sequence.specs.Built.{is_value, is_start, is_condition, is_chain, next_local, next_locals, declares_here, is_statement, is_inner_or, are_statements}
-use Rattle.cf_sequence.specs.Made.{Local, added, width, width_maybe, declared, declared_all, held_by}
-use Rattle.cf_sequence.specs.Expressions.{destination, finished, settled, whole, value, used as use_of}
-use Rattle.cf_sequence.specs.Statements.{Inside, in_loop, statement, statement_or, statements, held, stepped, started, returned}
-use Rattle.cf_sequence.proofs.Following.{on, pull, pull-two, push, follows-then}
-use Rattle.cf_sequence.proofs.Calling.{Bodies, never}
-use Rattle.cf_sequence.proofs.Kept.{Kept, kept-all, kept-then, Ready, ready-more, After, added-two, keep-same, listed-kept, listed-there}
-use Rattle.cf_sequence.proofs.PlainSteps.{Usable, pick, runs_on, set-steps, act-steps, at-one, branch-steps, declare-steps}
-use Rattle.cf_sequence.proofs.Operands.{H, first-room, second-room}
-use Rattle.cf_sequence.proofs.Parts.{first-steps, value-gives}
-use Rattle.cf_sequence.proofs.Moving.{all_gone, gone-frame, gone-append, ends-all, Held, held-kept, held-append, finished-steps, Moved, moved-count, moved-then, moved-kept, moved-ready, with_scope, moved-scope, moved-opened, moved-gone, Beyond}
-use Rattle.cf_sequence.proofs.Fulls.{nothing-is, held-none, full-steps, condition-steps, used-steps}
-use Rattle.cf_sequence.proofs.Standing.{Open, inside_of, opened, looped, turn_code, step_code, Stands, stands-later, moved-all, settled_full, result_act, next-more, inner-next, inner-declared, Turned, EndsAs, Turns}
+use Rattle.cf_sequence.specs.Built.{is_chain, next_local, declares_here, is_statement}
+use Rattle.cf_sequence.specs.Made.{Local, width, declared}
+use Rattle.cf_sequence.specs.Expressions.{finished}
+use Rattle.cf_sequence.specs.Statements.{statement, held}
+use Rattle.cf_sequence.proofs.Following.{on}
+use Rattle.cf_sequence.proofs.Calling.{Bodies}
+use Rattle.cf_sequence.proofs.Kept.{Kept}
+use Rattle.cf_sequence.proofs.PlainSteps.{runs_on}
+use Rattle.cf_sequence.proofs.Operands.{H}
+use Rattle.cf_sequence.proofs.Moving.{all_gone, gone-frame, gone-append, ends-all, Held, held-kept, finished-steps, Moved, moved-count, moved-then, moved-kept, with_scope, moved-scope, moved-opened, moved-gone, Beyond}
+use Rattle.cf_sequence.proofs.Standing.{Open, inside_of, Stands, stands-later, inner-next, inner-declared, Turns}
 
 module _ (again : calling.Again) (again' : running.Again) (P : Program) (bodies : Bodies again again' P)
     (chains : (name : Name) (f : Function) → function_named P name ≡ Some f → is_chain f.type ≡ true)
@@ -174,4 +159,3 @@ module _ (again : calling.Again) (again' : running.Again) (P : Program) (bodies 
         stands-later o D m m k l o.here s f t g st v (omega arith) (let e = moved-count m s f t g v in let low = st.low in omega arith) le (omega arith)
             (subst (λ (e : Frame). Held g.locals m o.here e.scope) (sym same) (held-kept f.locals g.locals m m o.here s.frame.scope st.here (omega arith) v.below)),
       )
-

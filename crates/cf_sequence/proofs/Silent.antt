@@ -1,13 +1,11 @@
 -- Plain statements without a label of their own: a switch passes over them to the labels behind.
-use Rattle.std.proofs.Common.{◌≡◌, ℕ, suc, ◌+◌, length, if◌then◌else◌, Bool, true, false, not, ◌&&◌, ◌||◌, List, [], ◌∷◌, ◌++◌, refl, sym, ◌∙◌, ap, subst}
-use Rattle.std.specs.Prelude.{ℤ, pos, Option, Some, None}
+use Rattle.std.proofs.Common.{◌≡◌, ℕ, suc, ◌+◌, length, if◌then◌else◌, Bool, true, false, not, ◌&&◌, List, [], ◌∷◌, refl, ◌∙◌}
+use Rattle.std.specs.Prelude.{ℤ, pos, Option, None}
 use Rattle.cf_base.proofs.Tests.{both}
-use Rattle.cf_core.specs.declared.operators.LoopForm.TheVariants as form
 use Rattle.cf_core.specs.Types.{SourceType, parameters, result, is_class}
 use Rattle.cf_core.specs.Core as core
 use Rattle.cf_core.specs.Core.{Core, Cores, MaybeCore, no_temporary, none, absent, given}
 use Rattle.cf_core.specs.Calls.{Program}
-use Rattle.cf_core.specs.Joined.{is_nothing}
 use Rattle.cf_plain.specs.Plain.{Register, Action, Plain, Plains, act, set, branch, loop, leave, continue, give, nothing, more}
 use Rattle.cf_plain.specs.Plain as plain
 use Rattle.cf_plain.specs.Acts.{Registers}

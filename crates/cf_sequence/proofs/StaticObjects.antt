@@ -1,5 +1,5 @@
 -- Static objects: the plain program has the program's, by the same names and numbers and with the same types.
-use Rattle.std.proofs.Common.{◌≡◌, ℕ, zero, suc, ◌+◌, Bool, true, false, not, cond, nat_lt, List, [], ◌∷◌, map, length, refl, sym, ◌∙◌, ap, subst, slice_get}
+use Rattle.std.proofs.Common.{◌≡◌, ℕ, zero, suc, ◌+◌, Bool, true, false, not, cond, nat_lt, List, [], ◌∷◌, map, length, refl, ◌∙◌, ap, slice_get}
 use Rattle.std.specs.Prelude.{Option, Some, None, find, bytes_eq, position}
 use Rattle.std.specs.List.{prefix_len}
 use Rattle.cf_core.specs.Types.{Name, SourceType, void, same_but_const}
@@ -80,6 +80,6 @@ same-named P name t =
 pub pure-named : (P : Program) (name : Name) (t : SourceType) → Pure (named_object P name t)
 pure-named P name t =
     let place : Pure (static_place P name) =
-        pure-then (some_or (static_number P name) malformed) (λ o. gives (root o)) (pure-some_or (static_number P name) malformed pure-malformed) (λ o. pure-gives (root o)) in
+    pure-then (some_or (static_number P name) malformed) (λ o. gives (root o)) (pure-some_or (static_number P name) malformed pure-malformed) (λ o. pure-gives (root o)) in
     pure-then (same_type P name t) (λ u. static_place P name)
     (pure-then (static_place P name) (λ u. need (same_but_const (static_type P name) t) cast_from_void) place (λ u. pure-need (same_but_const (static_type P name) t) cast_from_void)) (λ u. place)

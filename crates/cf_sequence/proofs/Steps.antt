@@ -1,6 +1,6 @@
 -- The steps of the core's meaning that the plain meaning takes too, over states that are the same but for the frame.
-use Rattle.std.proofs.Common.{◌≡◌, ℕ, zero, suc, Bool, true, false, List, [], ◌∷◌, refl, sym, ◌∙◌, ap, subst}
-use Rattle.std.specs.Prelude.{ℤ, pos, negsuc, Option, Some, None, not, ◌&&◌, ◌||◌}
+use Rattle.std.proofs.Common.{◌≡◌, zero, Bool, true, false, List, refl, ◌∙◌, ap}
+use Rattle.std.specs.Prelude.{pos, negsuc, Some, not, ◌&&◌, ◌||◌}
 use Rattle.cf_base.specs.declared.arith.Arith.TheVariants as arith
 use Rattle.cf_base.specs.Integers.{fits, int_op, convert as converted}
 use Rattle.cf_types.specs.Operators.{is_shift}
@@ -9,17 +9,17 @@ use Rattle.cf_base.specs.declared.arith.Arith.{Arith}
 use Rattle.cf_base.specs.World.{World, and_then}
 use Rattle.cf_core.specs.declared.operators.UnaryOperator.{UnaryOperator}
 use Rattle.cf_core.specs.declared.operators.UnaryOperator.TheVariants as sign
-use Rattle.cf_core.specs.Types.{SourceType, void, integer, enumeration, class, pointer, reference, array, takes, gives as gives_type, data_member, function_member, const}
+use Rattle.cf_core.specs.Types.{SourceType, void, integer, enumeration, pointer, data_member, function_member, const}
 use Rattle.cf_core.specs.Classes.{Class}
 use Rattle.cf_core.specs.Core.{arithmetic}
 use Rattle.cf_core.specs.Places.{Place, is_inside, is_scalar, is_reference}
-use Rattle.cf_core.specs.Store.{Value, Nothing, Missing, Built, Number, Null, At, Code, DataMember, FunctionMember, hold, is_usable, is_constant_place}
-use Rattle.cf_core.specs.Run.{State, Frame, Act, ◌>>=◌, ◌>>◌, gives, malformed, undefined, state, need, valid, ok_or_act, when, some_or, with_frame, with_object, object_changed, outside_array, not_alive, no_value, write_to_const}
+use Rattle.cf_core.specs.Store.{Value, Nothing, Missing, Built, Number, Null, At, hold, is_usable, is_constant_place}
+use Rattle.cf_core.specs.Run.{State, Frame, Act, ◌>>=◌, ◌>>◌, gives, malformed, undefined, state, need, valid, ok_or_act, when, some_or, with_frame, object_changed, outside_array, not_alive, no_value, write_to_const}
 use Rattle.cf_core.specs.Access.{place_type, used, place_of, number_of, use_place, names_scalar, read_place, write_place, bound_to, followed, first_value}
 use Rattle.cf_core.specs.Scalars.{truth_of, as_pointer, converted_value, operated, signed, changed_value}
 use Rattle.cf_core.specs.Objects.{settle}
 use Rattle.cf_sequence.specs.Follows.{Follows}
-use Rattle.cf_sequence.proofs.Following.{on, pull, push, Pure, pure-gives, pure-undefined, pure-malformed, pure-then, pure-need, pure-valid, pure-some_or, pure-ok_or_act, pure-when, pure-steps, of_answer, Looks, looks-steps, looks-then, looks-pure, looks-step, pure-step}
+use Rattle.cf_sequence.proofs.Following.{on, Pure, pure-gives, pure-undefined, pure-malformed, pure-then, pure-need, pure-valid, pure-some_or, pure-ok_or_act, of_answer, Looks, looks-then, looks-pure, looks-step, pure-step}
 
 -- ---- values
 

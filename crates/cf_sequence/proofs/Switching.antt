@@ -1,17 +1,15 @@
 -- Switches (6.4.2): the statements behind a label, in a scope of their own, where no local is declared in the switch's own block.
-use Rattle.std.proofs.Common.{◌≡◌, ℕ, zero, suc, ◌+◌, ◌≤◌, ◌<◌, Bool, true, false, not, ◌&&◌, ◌||◌, nat_le, if◌then◌else◌, List, [], ◌∷◌, ◌++◌, length, refl, sym, ◌∙◌, ap, subst, arith, append-nil}
-use Rattle.std.specs.Prelude.{ℤ, pos, int_le, Option, Some, None}
+use Rattle.std.proofs.Common.{◌≡◌, ℕ, ◌+◌, ◌≤◌, Bool, true, false, not, ◌&&◌, ◌||◌, List, [], ◌∷◌, ◌++◌, length, refl, sym, ◌∙◌, ap, subst, arith, append-nil}
+use Rattle.std.specs.Prelude.{ℤ, int_le, Option, Some, None}
 use Rattle.cf_base.proofs.Tests.{both}
-use Rattle.cf_base.specs.World.{World, Ran, Went, and_then}
-use Rattle.cf_core.specs.declared.operators.LoopForm.TheVariants as form
+use Rattle.cf_base.specs.World.{World, Ran, and_then}
 use Rattle.cf_core.specs.Types.{SourceType, Name, is_class}
 use Rattle.cf_core.specs.Core as core
 use Rattle.cf_core.specs.Core.{Core, Cores, MaybeCore, Function, none, absent, given}
 use Rattle.cf_core.specs.Nodes.{nodes, nodes_all}
 use Rattle.cf_core.specs.Store.{Value}
-use Rattle.cf_core.specs.Run.{State, Frame, Did, Gives, Act, ◌>>=◌, ◌>>◌, gives, malformed, some_or, done, when, with_frame}
+use Rattle.cf_core.specs.Run.{State, Frame, Did, Act, ◌>>=◌, gives, malformed, some_or, when, with_frame}
 use Rattle.cf_core.specs.Access.{used, number_of}
-use Rattle.cf_core.specs.Joined.{is_nothing}
 use Rattle.cf_core.specs.Valid.{is_label}
 use Rattle.cf_core.specs.Calls as calling
 use Rattle.cf_core.specs.Calls.{Program, function_named, in_scope, full_expression}
@@ -23,22 +21,22 @@ use Rattle.cf_plain.specs.Acts.{Registers}
 use Rattle.cf_plain.specs.Running as running
 use Rattle.cf_plain.specs.Running.{Flow, Falls, Breaks, Continues, Returns, falling, all}
 use Rattle.cf_sequence.specs.Follows.{Follows}
-use Rattle.cf_sequence.specs.Built.{is_value, is_start, is_condition, is_chain, declares_here, is_statement, is_inner_or, are_statements, are_cases, next_local, next_locals}
-use Rattle.cf_sequence.specs.Made.{Local, width, added, declared, declared_all, held_by}
-use Rattle.cf_sequence.specs.Expressions.{Full, destination, finished, settled, flags, ended, whole, value, used as use_of}
-use Rattle.cf_sequence.specs.Statements.{Inside, in_switch, statement, statement_or, statements, started, passing, passed}
+use Rattle.cf_sequence.specs.Built.{is_value, is_chain, declares_here, is_statement, are_cases}
+use Rattle.cf_sequence.specs.Made.{Local, width, added, declared, declared_all}
+use Rattle.cf_sequence.specs.Expressions.{Full, finished, whole, value, used as use_of}
+use Rattle.cf_sequence.specs.Statements.{statement, statements, passed}
 use Rattle.cf_sequence.proofs.Following.{on, pull, pull-two, push, pure-steps}
 use Rattle.cf_sequence.proofs.Steps.{pure-number_of}
 use Rattle.cf_sequence.proofs.Calling.{Bodies, never}
-use Rattle.cf_sequence.proofs.Kept.{Kept, Ready, ready-more}
-use Rattle.cf_sequence.proofs.PlainSteps.{Usable, runs_on}
+use Rattle.cf_sequence.proofs.Kept.{ready-more}
+use Rattle.cf_sequence.proofs.PlainSteps.{runs_on}
 use Rattle.cf_sequence.proofs.Operands.{H, first-room, second-room}
-use Rattle.cf_sequence.proofs.Moving.{all_gone, gone-append, Held, held-append, held-kept, finished-steps, Moved, moved-count, moved-then, with_scope, Beyond}
-use Rattle.cf_sequence.proofs.Fulls.{used-steps, whole-is, nothing-is, held-none}
-use Rattle.cf_sequence.proofs.Standing.{Open, inside_of, opened, Stands, stands-later, Turns, moved-all, inner-next, inner-declared}
+use Rattle.cf_sequence.proofs.Moving.{all_gone, Held, held-append, held-kept, Moved, moved-count, moved-then, with_scope, Beyond}
+use Rattle.cf_sequence.proofs.Fulls.{used-steps}
+use Rattle.cf_sequence.proofs.Standing.{Open, inside_of, Stands, stands-later, Turns, moved-all, inner-next, inner-declared}
 use Rattle.cf_sequence.proofs.Scopes.{Ways, ways-later, Fallen, closing_scope, scope-closed, scope-gone, moved-out, Does, behind, stands-on}
-use Rattle.cf_sequence.proofs.Silent.{Silent, silent-none, silent-set, silent-then, silent-used, silent-settled, silent-finished, silent-leave, silent-continue, silent-give, silent-value}
-use Rattle.cf_sequence.proofs.Labels.{Aim, core_from, plain_from, core_has, Label, label-of, or-else, passed-by, no-label, label-declares, cases-declare, not-passed, silent-statement, silent-statements, to_case, to_default, a_case, the_default}
+use Rattle.cf_sequence.proofs.Silent.{Silent}
+use Rattle.cf_sequence.proofs.Labels.{Aim, core_from, plain_from, core_has, Label, label-of, or-else, passed-by, no-label, cases-declare, not-passed, silent-statement, to_case, to_default, a_case, the_default}
 
 -- the locals of the scopes around a switch's own
 abbrev pub switched : Open → Open
@@ -103,23 +101,23 @@ module _ (again : calling.Again) (again' : running.Again) (P : Program) (bodies 
       let second : (k + width s1) + length (added (nodes_all es)) ≤ f.count = second-room k f.count (nodes s1) (nodes_all es) room in
       or-else (is_label s1) (not (declares_here s1) && is_statement m s1) parts.0
       (λ l. label-goes-on s1 (label-of s1 l) es o k rest g s f w c K
-          (in-order es m parts.1 all-do.1 o D (k + width s1) rest g s f w c K (further-on o D m k (k + width s1) s f st (omega arith) first) second ways falls))
+      (in-order es m parts.1 all-do.1 o D (k + width s1) rest g s f w c K (further-on o D m k (k + width s1) s f st (omega arith) first) second ways falls))
       (λ is.
-          let good = both (not (declares_here s1)) (is_statement m s1) is in
-          pull (does.does again P s1 s w) (does.falling (does.does_all again P es)) c _
-          (all-do.0 m good.1 o D k (sts (record o { here = declared s1 ++ o.here }) es (k + width s1) rest) g s f w
-          (λ flow. does.falling (does.does_all again P es) flow >>= c) K st first
-          (record { breaks = ways.breaks; continues = ways.continues; returns = ways.returns }) (λ t g1 h w1 v held-now low.
-              let count : g1.count ≡ f.count = ap (λ (x : Frame). x.count) v.plain in
-              let here-now : Held g1.locals m o.here t.frame.scope =
-                  subst (λ xs. Held g1.locals m (xs ++ o.here) t.frame.scope) (inner-declared s1 good.0) (subst (λ n. Held g1.locals n (declared s1 ++ o.here) t.frame.scope) (inner-next m s1 good.0) held-now) in
-              let low-now : m ≤ t.frame.count = subst (λ n. n ≤ t.frame.count) (inner-next m s1 good.0) low in
-              subst (λ xs. Follows S (and_then (does.does_all again P es t w1) (on c))
-              (runs_on again' (H again again' P) (sts (record o { here = xs ++ o.here }) es (k + width s1) rest) h K (with_frame g1 t) w1)) (sym (inner-declared s1 good.0))
-              (in-order es m parts.1 all-do.1 o D (k + width s1) rest h t g1 w1 c K
-              (stands-later o D m m k (k + width s1) o.here s f t g1 st v (omega arith) low-now (omega arith) (omega arith) here-now)
-              (omega arith) (ways-later again again' P bodies chains classless turns R C plain-result A B S D m m s f t g1 c K (omega arith) v ways) (λ u g2 h2 w2 v2 held-then low2.
-                  falls u g2 h2 w2 (moved-then m m s f t g1 u g2 (omega arith) v v2) held-then low2)))))
+      let good = both (not (declares_here s1)) (is_statement m s1) is in
+      pull (does.does again P s1 s w) (does.falling (does.does_all again P es)) c _
+      (all-do.0 m good.1 o D k (sts (record o { here = declared s1 ++ o.here }) es (k + width s1) rest) g s f w
+      (λ flow. does.falling (does.does_all again P es) flow >>= c) K st first
+      (record { breaks = ways.breaks; continues = ways.continues; returns = ways.returns }) (λ t g1 h w1 v held-now low.
+      let count : g1.count ≡ f.count = ap (λ (x : Frame). x.count) v.plain in
+      let here-now : Held g1.locals m o.here t.frame.scope =
+      subst (λ xs. Held g1.locals m (xs ++ o.here) t.frame.scope) (inner-declared s1 good.0) (subst (λ n. Held g1.locals n (declared s1 ++ o.here) t.frame.scope) (inner-next m s1 good.0) held-now) in
+      let low-now : m ≤ t.frame.count = subst (λ n. n ≤ t.frame.count) (inner-next m s1 good.0) low in
+      subst (λ xs. Follows S (and_then (does.does_all again P es t w1) (on c))
+      (runs_on again' (H again again' P) (sts (record o { here = xs ++ o.here }) es (k + width s1) rest) h K (with_frame g1 t) w1)) (sym (inner-declared s1 good.0))
+      (in-order es m parts.1 all-do.1 o D (k + width s1) rest h t g1 w1 c K
+      (stands-later o D m m k (k + width s1) o.here s f t g1 st v (omega arith) low-now (omega arith) (omega arith) here-now)
+      (omega arith) (ways-later again again' P bodies chains classless turns R C plain-result A B S D m m s f t g1 c K (omega arith) v ways) (λ u g2 h2 w2 v2 held-then low2.
+      falls u g2 h2 w2 (moved-then m m s f t g1 u g2 (omega arith) v v2) held-then low2)))))
 
   -- ---- from a label on
 
@@ -148,7 +146,7 @@ module _ (again : calling.Again) (again' : running.Again) (P : Program) (bodies 
       → (does.has_case z es ≡ true → Follows S (and_then (does.from_case again P z es s w) (on c)) (and_then (running.from_case again' (H again again' P) z (sts o es (k + width s1) rest) g (with_frame f s) w) (on K)))
       → Follows S (and_then (does.from_case again P z (core.more s1 es) s w) (on c)) (and_then (running.from_case again' (H again again' P) z (sts o (core.more s1 es) k rest) g (with_frame f s) w) (on K))) (sym e)
       (λ has here later. at-case (int_le y z && int_le z y) z es (sts o es (k + width (core.case_label y)) rest) g s (with_frame f s) w c K here
-          (λ other. later (after-or (int_le y z && int_le z y) (does.has_case z es) has other)))
+      (λ other. later (after-or (int_le y z && int_le z y) (does.has_case z es) has other)))
   at-label (to_case z) s1 (the_default e) es o k rest g s f w c K =
       subst (λ s1. does.has_case z (core.more s1 es) ≡ true
       → Follows S (and_then (does.does_all again P es s w) (on c)) (runs_on again' (H again again' P) (sts o es (k + width s1) rest) g K (with_frame f s) w)
@@ -190,17 +188,17 @@ module _ (again : calling.Again) (again' : running.Again) (P : Program) (bodies 
       let st1 : Stands o D m (k + width s1) s f = further-on o D m k (k + width s1) s f st (omega arith) first in
       or-else (is_label s1) (not (declares_here s1) && is_statement m s1) parts.0
       (λ l. at-label aim s1 (label-of s1 l) es o k rest g s f w c K has
-          (in-order es m parts.1 all-do.1 o D (k + width s1) rest g s f w c K st1 second ways falls)
-          (λ has-later. from-label aim es m parts.1 all-do.1 has-later o D (k + width s1) rest g s f w c K st1 second ways falls))
+      (in-order es m parts.1 all-do.1 o D (k + width s1) rest g s f w c K st1 second ways falls)
+      (λ has-later. from-label aim es m parts.1 all-do.1 has-later o D (k + width s1) rest g s f w c K st1 second ways falls))
       (λ is.
-          let good = both (not (declares_here s1)) (is_statement m s1) is in
-          subst (λ (a : Act calling.Flow). Follows S (and_then (a s w) (on c)) (and_then (plain_from again' (H again again' P) aim (sts o (core.more s1 es) k rest) g (with_frame f s) w) (on K)))
-          (sym (passed-by again P aim m s1 es good.0 good.1))
-          (subst (λ (a : Act Flow). Follows S (and_then (core_from again P aim es s w) (on c)) (and_then (a (with_frame f s) w) (on K)))
-          (sym (passes-over aim (statement (inside_of P R C o) s1 k) (silent-statement again' (H again again' P) P R C plain-result s1 m good.1 o k) (sts (record o { here = declared s1 ++ o.here }) es (k + width s1) rest) g))
-          (subst (λ xs. Follows S (and_then (core_from again P aim es s w) (on c)) (and_then (plain_from again' (H again again' P) aim (sts (record o { here = xs ++ o.here }) es (k + width s1) rest) g (with_frame f s) w) (on K)))
-          (sym (inner-declared s1 good.0))
-          (from-label aim es m parts.1 all-do.1 (sym (no-label aim m s1 es good.1) ∙ has) o D (k + width s1) rest g s f w c K st1 second ways falls))))
+      let good = both (not (declares_here s1)) (is_statement m s1) is in
+      subst (λ (a : Act calling.Flow). Follows S (and_then (a s w) (on c)) (and_then (plain_from again' (H again again' P) aim (sts o (core.more s1 es) k rest) g (with_frame f s) w) (on K)))
+      (sym (passed-by again P aim m s1 es good.0 good.1))
+      (subst (λ (a : Act Flow). Follows S (and_then (core_from again P aim es s w) (on c)) (and_then (a (with_frame f s) w) (on K)))
+      (sym (passes-over aim (statement (inside_of P R C o) s1 k) (silent-statement again' (H again again' P) P R C plain-result s1 m good.1 o k) (sts (record o { here = declared s1 ++ o.here }) es (k + width s1) rest) g))
+      (subst (λ xs. Follows S (and_then (core_from again P aim es s w) (on c)) (and_then (plain_from again' (H again again' P) aim (sts (record o { here = xs ++ o.here }) es (k + width s1) rest) g (with_frame f s) w) (on K)))
+      (sym (inner-declared s1 good.0))
+      (from-label aim es m parts.1 all-do.1 (sym (no-label aim m s1 es good.1) ∙ has) o D (k + width s1) rest g s f w c K st1 second ways falls))))
 
   label-same : (z : ℤ) (s1 : Core) → Label s1 → (es : Cores) (o : Open) (k : ℕ) → running.has_case z (sts o es (k + width s1) nothing) ≡ does.has_case z es
       → running.has_case z (sts o (core.more s1 es) k nothing) ≡ does.has_case z (core.more s1 es)
@@ -231,10 +229,10 @@ module _ (again : calling.Again) (again' : running.Again) (P : Program) (bodies 
       or-else (is_label s1) (not (declares_here s1) && is_statement m s1) parts.0
       (λ l. label-same z s1 (label-of s1 l) es o k (same-cases z es m parts.1 o (k + width s1)))
       (λ is.
-          let good = both (not (declares_here s1)) (is_statement m s1) is in
-          (silent-statement again' (H again again' P) P R C plain-result s1 m good.1 o k).labels z (sts (record o { here = declared s1 ++ o.here }) es (k + width s1) nothing)
-          ∙ ap (λ xs. running.has_case z (sts (record o { here = xs ++ o.here }) es (k + width s1) nothing)) (inner-declared s1 good.0)
-          ∙ same-cases z es m parts.1 o (k + width s1) ∙ sym (no-label (to_case z) m s1 es good.1))
+      let good = both (not (declares_here s1)) (is_statement m s1) is in
+      (silent-statement again' (H again again' P) P R C plain-result s1 m good.1 o k).labels z (sts (record o { here = declared s1 ++ o.here }) es (k + width s1) nothing)
+      ∙ ap (λ xs. running.has_case z (sts (record o { here = xs ++ o.here }) es (k + width s1) nothing)) (inner-declared s1 good.0)
+      ∙ same-cases z es m parts.1 o (k + width s1) ∙ sym (no-label (to_case z) m s1 es good.1))
 
   -- without the default there is nothing to do
   no-default : (es : Cores) (m : ℕ) → are_cases m es ≡ true → does.has_default es ≡ false → (o : Open) (k : ℕ) (g : Registers) → running.from_default again' (H again again' P) (sts o es k nothing) g ≡ gives (Falls g)
@@ -244,10 +242,10 @@ module _ (again : calling.Again) (again' : running.Again) (P : Program) (bodies 
       or-else (is_label s1) (not (declares_here s1) && is_statement m s1) parts.0
       (λ l. label-without s1 (label-of s1 l) es o k g has (λ has-later. no-default es m parts.1 has-later o (k + width s1) g))
       (λ is.
-          let good = both (not (declares_here s1)) (is_statement m s1) is in
-          (silent-statement again' (H again again' P) P R C plain-result s1 m good.1 o k).at_default (sts (record o { here = declared s1 ++ o.here }) es (k + width s1) nothing) g
-          ∙ ap (λ xs. running.from_default again' (H again again' P) (sts (record o { here = xs ++ o.here }) es (k + width s1) nothing) g) (inner-declared s1 good.0)
-          ∙ no-default es m parts.1 (sym (no-label to_default m s1 es good.1) ∙ has) o (k + width s1) g)
+      let good = both (not (declares_here s1)) (is_statement m s1) is in
+      (silent-statement again' (H again again' P) P R C plain-result s1 m good.1 o k).at_default (sts (record o { here = declared s1 ++ o.here }) es (k + width s1) nothing) g
+      ∙ ap (λ xs. running.from_default again' (H again again' P) (sts (record o { here = xs ++ o.here }) es (k + width s1) nothing) g) (inner-declared s1 good.0)
+      ∙ no-default es m parts.1 (sym (no-label to_default m s1 es good.1) ∙ has) o (k + width s1) g)
 
   -- ---- the switch
 
@@ -289,12 +287,12 @@ module _ (again : calling.Again) (again' : running.Again) (P : Program) (bodies 
       let c1 : calling.Flow → Act A = λ flow. (closes os flow >>= does.leaving) >>= c in
       let K1 : Flow → Act B = λ flow. running.leaving flow >>= follows_by rest K in
       let out : (u : State) (g2 : Frame) (h2 : Registers) (w2 : World) → Moved m (with_scope [] t) g u g2
-              → Follows S (c calling.Falls (with_scope os (all_gone u.frame.scope u)) w2) (runs_on again' (H again again' P) rest h2 K (with_frame g2 (all_gone u.frame.scope u)) w2) =
-          λ u g2 h2 w2 v2.
-              let later = moved-then m m s f t g (with_scope os (all_gone u.frame.scope u)) g2 (omega arith) v (moved-out again again' P bodies chains classless turns R C plain-result A B S m t g u g2 v2) in
-              falls (with_scope os (all_gone u.frame.scope u)) g2 h2 w2 later
-              (subst (λ xs. Held g2.locals m o.here xs) (sym same) (held-kept f.locals g2.locals m m o.here s.frame.scope st.here (omega arith) later.below))
-              (let a = moved-count m s f (with_scope os (all_gone u.frame.scope u)) g2 later in let low = st.low in omega arith) in
+      → Follows S (c calling.Falls (with_scope os (all_gone u.frame.scope u)) w2) (runs_on again' (H again again' P) rest h2 K (with_frame g2 (all_gone u.frame.scope u)) w2) =
+      λ u g2 h2 w2 v2.
+      let later = moved-then m m s f t g (with_scope os (all_gone u.frame.scope u)) g2 (omega arith) v (moved-out again again' P bodies chains classless turns R C plain-result A B S m t g u g2 v2) in
+      falls (with_scope os (all_gone u.frame.scope u)) g2 h2 w2 later
+      (subst (λ xs. Held g2.locals m o.here xs) (sym same) (held-kept f.locals g2.locals m m o.here s.frame.scope st.here (omega arith) later.below))
+      (let a = moved-count m s f (with_scope os (all_gone u.frame.scope u)) g2 later in let low = st.low in omega arith) in
       pull-two (chosen_case z es (with_scope [] t) w) (closes os) does.leaving c _
       (push _ running.leaving (follows_by rest K) _
       (subst (λ b. Follows S (and_then (chosen_case z es (with_scope [] t) w) (on c1))
@@ -302,37 +300,37 @@ module _ (again : calling.Again) (again' : running.Again) (P : Program) (bodies 
       (sym (same-cases z es m ok (switched o) l))
       (choose (does.has_case z es) (does.has_default es) z es m ok all-do refl refl (switched o) D1 l h (with_scope [] t) g w c1 K1
       (record {
-          ready = record { alike = record { function = st1.ready.alike.function; this = st1.ready.alike.this; result = st1.ready.alike.result; depth = st1.ready.alike.depth }; count = st1.ready.count; wide = st1.ready.wide; locals = st1.ready.locals };
-          low = st1.low;
-          result = st1.result;
-          here = tt;
-          breaks = tt;
-          continues = held-append g.locals m o.here o.continues os D.continues st1.here st1.continues;
-          returns = held-append g.locals m o.here o.returns os D.returns st1.here st1.returns;
+        ready = record { alike = record { function = st1.ready.alike.function; this = st1.ready.alike.this; result = st1.ready.alike.result; depth = st1.ready.alike.depth }; count = st1.ready.count; wide = st1.ready.wide; locals = st1.ready.locals };
+        low = st1.low;
+        result = st1.result;
+        here = tt;
+        breaks = tt;
+        continues = held-append g.locals m o.here o.continues os D.continues st1.here st1.continues;
+        returns = held-append g.locals m o.here o.returns os D.returns st1.here st1.returns;
       })
       room
       (record {
-          breaks = λ u g2 h2 w2 v2.
-              scope-leave os calling.Breaks u w2 c _
-              (subst (λ xs. Follows S (c calling.Falls (with_scope os (all_gone u.frame.scope u)) w2) (runs_on again' (H again again' P) rest h2 K (with_frame g2 (all_gone xs u)) w2)) (sym (append-nil u.frame.scope))
-              (out u g2 h2 w2 v2));
-          continues = λ u g2 h2 w2 v2.
-              scope-leave os calling.Continues u w2 c _
-              (subst (λ x. Follows S (c calling.Continues (with_scope os (all_gone u.frame.scope u)) w2) (K (Continues h2) x w2))
-              (scope-gone again again' P bodies chains classless turns R C plain-result A B S (os ++ D.continues) u.frame.scope u g2 (record (all_gone u.frame.scope u).frame { scope = os }))
-              (ways.continues (with_scope os (all_gone u.frame.scope u)) g2 h2 w2
-              (moved-then m m s f t g (with_scope os (all_gone u.frame.scope u)) g2 (omega arith) v (moved-out again again' P bodies chains classless turns R C plain-result A B S m t g u g2 v2))));
-          returns = λ x u g2 w2 v2.
-              scope-leave os (calling.Returns x) u w2 c _
-              (subst (λ y. Follows S (c (calling.Returns x) (with_scope os (all_gone u.frame.scope u)) w2) (K (Returns x) y w2))
-              (scope-gone again again' P bodies chains classless turns R C plain-result A B S (os ++ D.returns) u.frame.scope u g2 (record (all_gone u.frame.scope u).frame { scope = os }))
-              (ways.returns x (with_scope os (all_gone u.frame.scope u)) g2 w2
-              (moved-then m m s f t g (with_scope os (all_gone u.frame.scope u)) g2 (omega arith) v (moved-out again again' P bodies chains classless turns R C plain-result A B S m t g u g2 v2))));
+        breaks = λ u g2 h2 w2 v2.
+            scope-leave os calling.Breaks u w2 c _
+            (subst (λ xs. Follows S (c calling.Falls (with_scope os (all_gone u.frame.scope u)) w2) (runs_on again' (H again again' P) rest h2 K (with_frame g2 (all_gone xs u)) w2)) (sym (append-nil u.frame.scope))
+            (out u g2 h2 w2 v2));
+        continues = λ u g2 h2 w2 v2.
+            scope-leave os calling.Continues u w2 c _
+            (subst (λ x. Follows S (c calling.Continues (with_scope os (all_gone u.frame.scope u)) w2) (K (Continues h2) x w2))
+            (scope-gone again again' P bodies chains classless turns R C plain-result A B S (os ++ D.continues) u.frame.scope u g2 (record (all_gone u.frame.scope u).frame { scope = os }))
+            (ways.continues (with_scope os (all_gone u.frame.scope u)) g2 h2 w2
+            (moved-then m m s f t g (with_scope os (all_gone u.frame.scope u)) g2 (omega arith) v (moved-out again again' P bodies chains classless turns R C plain-result A B S m t g u g2 v2))));
+        returns = λ x u g2 w2 v2.
+            scope-leave os (calling.Returns x) u w2 c _
+            (subst (λ y. Follows S (c (calling.Returns x) (with_scope os (all_gone u.frame.scope u)) w2) (K (Returns x) y w2))
+            (scope-gone again again' P bodies chains classless turns R C plain-result A B S (os ++ D.returns) u.frame.scope u g2 (record (all_gone u.frame.scope u).frame { scope = os }))
+            (ways.returns x (with_scope os (all_gone u.frame.scope u)) g2 w2
+            (moved-then m m s f t g (with_scope os (all_gone u.frame.scope u)) g2 (omega arith) v (moved-out again again' P bodies chains classless turns R C plain-result A B S m t g u g2 v2))));
       })
       (λ u g2 h2 w2 v2 held-now low.
-          scope-leave os calling.Falls u w2 c _
-          (subst (λ xs. Follows S (c calling.Falls (with_scope os (all_gone u.frame.scope u)) w2) (runs_on again' (H again again' P) rest h2 K (with_frame g2 (all_gone xs u)) w2)) (sym (nothing-held g2.locals m u.frame.scope held-now))
-          (out u g2 h2 w2 v2))))))
+      scope-leave os calling.Falls u w2 c _
+      (subst (λ xs. Follows S (c calling.Falls (with_scope os (all_gone u.frame.scope u)) w2) (runs_on again' (H again again' P) rest h2 K (with_frame g2 (all_gone xs u)) w2)) (sym (nothing-held g2.locals m u.frame.scope held-now))
+      (out u g2 h2 w2 v2))))))
 
   pub switch-steps : (e : Core) (es : Cores) → DoAll es → (m : ℕ) → is_value e ≡ true → are_cases m es ≡ true → (o : Open) (D : Beyond) (k : ℕ) (rest : Plains) (g : Registers) (s : State) (f : Frame) (w : World)
       (c : calling.Flow → Act A) (K : Flow → Act B)
@@ -348,18 +346,18 @@ module _ (again : calling.Again) (again' : running.Again) (P : Program) (bodies 
       let chosen : ℤ → Act calling.Flow = λ z. in_scope again P (chosen_case z es) >>= does.leaving in
       let looked : Registers → ℤ → Act Flow = λ h z. when (running.has_case z body) (running.from_case again' (H again again' P) z body h) (running.from_default again' (H again again' P) body h) >>= running.leaving in
       let code-same : passed n es (more (plain.switch n (sts (switched o) es l (finished (declared_all es) nothing))) rest) ≡ more (plain.switch n body) rest =
-          not-passed n es (more (plain.switch n (sts (switched o) es l (finished (declared_all es) nothing))) rest) (cases-declare m es ok)
-          ∙ ap (λ xs. more (plain.switch n (sts (switched o) es l (finished xs nothing))) rest) (cases-declare m es ok) in
+      not-passed n es (more (plain.switch n (sts (switched o) es l (finished (declared_all es) nothing))) rest) (cases-declare m es ok)
+      ∙ ap (λ xs. more (plain.switch n (sts (switched o) es l (finished xs nothing))) rest) (cases-declare m es ok) in
       subst (λ q. Follows S (and_then (does.does again P (core.switch e es) s w) (on c)) (runs_on again' (H again again' P) (whole e 0 k code (λ n. q)) g K (with_frame f s) w)) (sym code-same)
       (pull (and_then (full_expression again P (meaning.value again P e None >>= used) s w) (on number_of)) chosen c _
       (pull (full_expression again P (meaning.value again P e None >>= used) s w) number_of (λ z. chosen z >>= c) _
       (used-steps again again' P bodies chains A B S e is k (λ x. more (plain.switch n body) rest) g s f w (λ v. number_of v >>= (λ z. chosen z >>= c)) K st.ready first
       (λ v t h f1 w1 usable at same kept.
-          let count : f1.count ≡ f.count = ap (λ (x : Frame). x.count) kept.frame in
-          let later = stands-on again again' P bodies chains classless turns R C plain-result A B S o D m k l s f t f1 st same kept (omega arith) first in
-          push (running.does again' (H again again' P) (plain.switch n body) h (with_frame f1 t) w1) (falling (λ h. all again' (H again again' P) rest h)) K _
-          (subst (λ r. Follows S (and_then (number_of v t w1) (on (λ z. chosen z >>= c))) (and_then ((((some_or r malformed >>= used) >>= number_of) >>= looked h) (with_frame f1 t) w1) (on (follows_by rest K)))) (sym at)
-          (subst (λ (a : Act Value). Follows S (and_then (number_of v t w1) (on (λ z. chosen z >>= c))) (and_then (((a >>= number_of) >>= looked h) (with_frame f1 t) w1) (on (follows_by rest K)))) (sym usable)
-          (push (number_of v (with_frame f1 t) w1) (looked h) (follows_by rest K) _
-          (pure-steps (number_of v) (pure-number_of v) (λ z. chosen z >>= c) (λ z. looked h z >>= follows_by rest K) t (with_frame f1 t) w1 (λ z.
-              dispatched z es m ok all-do o D k l rest h s f t f1 w1 c K st later.0 (ap (λ (x : Frame). x.scope) same) later.1 (omega arith) ways falls)))))))))
+      let count : f1.count ≡ f.count = ap (λ (x : Frame). x.count) kept.frame in
+      let later = stands-on again again' P bodies chains classless turns R C plain-result A B S o D m k l s f t f1 st same kept (omega arith) first in
+      push (running.does again' (H again again' P) (plain.switch n body) h (with_frame f1 t) w1) (falling (λ h. all again' (H again again' P) rest h)) K _
+      (subst (λ r. Follows S (and_then (number_of v t w1) (on (λ z. chosen z >>= c))) (and_then ((((some_or r malformed >>= used) >>= number_of) >>= looked h) (with_frame f1 t) w1) (on (follows_by rest K)))) (sym at)
+      (subst (λ (a : Act Value). Follows S (and_then (number_of v t w1) (on (λ z. chosen z >>= c))) (and_then (((a >>= number_of) >>= looked h) (with_frame f1 t) w1) (on (follows_by rest K)))) (sym usable)
+      (push (number_of v (with_frame f1 t) w1) (looked h) (follows_by rest K) _
+      (pure-steps (number_of v) (pure-number_of v) (λ z. chosen z >>= c) (λ z. looked h z >>= follows_by rest K) t (with_frame f1 t) w1 (λ z.
+      dispatched z es m ok all-do o D k l rest h s f t f1 w1 c K st later.0 (ap (λ (x : Frame). x.scope) same) later.1 (omega arith) ways falls)))))))))

@@ -4,7 +4,6 @@ use Rattle.std.specs.Prelude.{ℤ, pos, Option, Some, None, find, bytes_eq, code
 use Rattle.std.specs.List.{list_all}
 use Rattle.std.proofs.lemmas.List.{reverse-append}
 use Rattle.cf_base.proofs.Tests.{both, same_bytes}
-use Rattle.cf_base.specs.Event.{Event, End, Ticks}
 use Rattle.cf_base.specs.World.{World, Ran, Went, Stops, Outcome, and_then, world_at}
 use Rattle.cf_core.specs.Types.{SourceType, Name, parameters, result, is_class}
 use Rattle.cf_core.specs.Classes.{Class}
@@ -14,15 +13,13 @@ use Rattle.cf_core.specs.Nodes.{nodes}
 use Rattle.cf_core.specs.Store.{Value, Missing, Number}
 use Rattle.cf_core.specs.declared.operators.LoopForm.{LoopForm}
 use Rattle.cf_core.specs.declared.operators.LoopForm.TheVariants as form
-use Rattle.cf_core.specs.Run.{State, Frame, Did, Gives, Exits, Malformed, Act, ◌>>=◌, ◌>>◌, gives, state, done, for_all, with_frame}
+use Rattle.cf_core.specs.Run.{State, Frame, Did, Gives, Exits, Malformed, Act, ◌>>=◌, ◌>>◌, gives, state, for_all, with_frame}
 use Rattle.cf_core.specs.Calls as calling
 use Rattle.cf_core.specs.Calls.{Program, Setting, root, function_named, frame_of, local_count, run_named, end_object, in_scope, destroy}
-use Rattle.cf_core.specs.Program as program
-use Rattle.cf_core.specs.Program.{Mean, runs, run_body, main_run, status_of, begins, unbuilds, ends, ended_well, first_state, no_frame, left, destroy_statics, destroy_static, ended_run, run_outcome, resumed}
+use Rattle.cf_core.specs.Program.{Mean, runs, run_body, status_of, begins, unbuilds, ends, ended_well, first_state, left, destroy_statics, destroy_static, ended_run, run_outcome, resumed}
 use Rattle.cf_core.specs.Statements as does
 use Rattle.cf_plain.specs.Plain.{Plain, Plains, PlainFunction, loop, nothing, more}
 use Rattle.cf_plain.specs.Acts.{Registers, no_registers}
-use Rattle.cf_plain.specs.Program as plain
 use Rattle.cf_plain.specs.Program.{PlainMean, headers}
 use Rattle.cf_plain.specs.Running as running
 use Rattle.cf_plain.specs.Running.{Flow, Falls, Breaks, Continues, Returns, calls, core_flow, header, plain_named, all, falling, turning}
@@ -31,14 +28,14 @@ use Rattle.cf_sequence.specs.Built.{is_statement, is_chain, is_body, is_built_fu
 use Rattle.cf_sequence.specs.Made.{Local, added, declared, numbered}
 use Rattle.cf_sequence.specs.Expressions.{finished}
 use Rattle.cf_sequence.specs.Statements.{statement}
-use Rattle.cf_sequence.specs.Sequenced.{sequenced, sequenced_function, sequenced_body, flowed_off, class_type}
+use Rattle.cf_sequence.specs.Sequenced.{sequenced, sequenced_function, sequenced_body, class_type}
 use Rattle.cf_core.specs.Valid.{class_of_role}
 use Rattle.cf_sequence.proofs.StaticObjects.{same-first}
-use Rattle.cf_sequence.proofs.Following.{on, pull, push}
+use Rattle.cf_sequence.proofs.Following.{on, pull}
 use Rattle.cf_sequence.proofs.Calling.{Bodies, FlowAs, SameObjects, Ended, never, named-header, enter-steps, plain_program, plain_function as beside}
 use Rattle.cf_sequence.proofs.Moving.{all_gone, gone-frame, gone-append, ends-all, destroy-nothing, Held, held-kept, finished-steps, Moved, with_scope, Beyond}
 use Rattle.cf_sequence.proofs.Standing.{Open, Stands, Turned, Turns, inside_of, turn_code, step_code}
-use Rattle.cf_sequence.proofs.Scopes.{Ways, scope-gone, scope-steps, closing_scope}
+use Rattle.cf_sequence.proofs.Scopes.{Ways, scope-steps, closing_scope}
 use Rattle.cf_sequence.proofs.Doing.{follow-statement}
 
 -- ---- the objects of parameters
@@ -456,8 +453,8 @@ sequencing-keeps P ok input heap depth n o is =
     let two = both (is_none P.constants) (is_none P.initialisers && list_all is_built_function P.functions) one.1 in
     let three = both (is_none P.initialisers) (list_all is_built_function P.functions) two.1 in
     let same : P ≡ of_functions P.statics P.functions =
-        ap (λ (cs : List Class). let R : Program = record { classes = cs; functions = P.functions; statics = P.statics; constants = P.constants; initialisers = P.initialisers } in R) (empty-list P.classes one.0)
-        ∙ ap (λ (xs : List Setting). let R : Program = record { classes = []; functions = P.functions; statics = P.statics; constants = xs; initialisers = P.initialisers } in R) (empty-list P.constants two.0)
-        ∙ ap (λ (xs : List Function). let R : Program = record { classes = []; functions = P.functions; statics = P.statics; constants = []; initialisers = xs } in R) (empty-list P.initialisers three.0) in
+    ap (λ (cs : List Class). let R : Program = record { classes = cs; functions = P.functions; statics = P.statics; constants = P.constants; initialisers = P.initialisers } in R) (empty-list P.classes one.0)
+    ∙ ap (λ (xs : List Setting). let R : Program = record { classes = []; functions = P.functions; statics = P.statics; constants = xs; initialisers = P.initialisers } in R) (empty-list P.constants two.0)
+    ∙ ap (λ (xs : List Function). let R : Program = record { classes = []; functions = P.functions; statics = P.statics; constants = []; initialisers = xs } in R) (empty-list P.initialisers three.0) in
     subst (λ (R : Program). Mean R input heap depth n ≡ Some o → PlainMean (sequenced R) input heap depth n ≡ Some o) (sym same)
     (programs-agree P.statics P.functions three.1 input heap depth n o) is

@@ -1,12 +1,11 @@
 -- The cores that are built so far: functions over numbers and pointers, with locals, references to objects, literals, calls by name and all statements,
 -- where a `switch` declares no local in its own block, and static objects without an initialiser; no class and no temporary.
-use Rattle.std.specs.Prelude.{ℕ, suc, Bool, true, false, ◌&&◌, ◌||◌, not, nat_le, nat_lt, List, [], ◌∷◌, ◌++◌, length, Option, None, Some, bytes_eq, codes}
+use Rattle.std.specs.Prelude.{ℕ, suc, Bool, true, false, ◌&&◌, ◌||◌, not, nat_le, List, [], ◌∷◌, length, bytes_eq, codes}
 use Rattle.std.specs.List.{list_all}
 use Rattle.cf_core.specs.Types.{SourceType, takes, gives, result, is_class, parameters}
-use Rattle.cf_core.specs.Classes.{Class}
 use Rattle.cf_core.specs.Core as core
 use Rattle.cf_core.specs.Core.{Core, Cores, MaybeCore, no_temporary, none, absent, given, Role, plain_function, Function, Static, CoreFile}
-use Rattle.cf_core.specs.Calls.{Program, Setting}
+use Rattle.cf_core.specs.Calls.{Program}
 use Rattle.cf_core.specs.Joined.{is_nothing}
 use Rattle.cf_core.specs.Valid.{is_label}
 
@@ -87,7 +86,7 @@ abbrev mutual
   is_statement m (core.sequence es) = are_statements m es
   is_statement m (core.declare i t e) = nat_le m i && is_start e
   is_statement m (core.branch c a b) = is_value c && ((not (declares_here a) && is_statement m a) && is_inner_or m b)
-  is_statement m (core.loop form c e s) = is_condition c && (is_condition e && is_statement m s)
+  is_statement m (core.loop _ c e s) = is_condition c && (is_condition e && is_statement m s)
   is_statement m (core.switch e es) = is_value e && are_cases m es
   is_statement m core.leave = true
   is_statement m core.continue = true

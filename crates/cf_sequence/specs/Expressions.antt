@@ -1,8 +1,8 @@
 -- Expressions and initialisers as plain statements. The value of an expression comes into a register: the registers below it stay, those above are
 -- free. An operator is its left operand in a register, its right one in the next, and then the action. Of classes these are not there yet: copies and
 -- assignments by functions, the elements of `new[]` and of an array that one initialiser builds, and static objects that are references.
-use Rattle.std.specs.Prelude.{ℕ, zero, suc, ◌+◌, ◌-◌, length, Bool, true, false, ◌&&◌, ◌||◌, if◌then◌else◌, List, [], ◌∷◌, pos, Option, Some, None, reverse, slice_get}
-use Rattle.cf_core.specs.Types.{SourceType, Name, parameters, result, is_class, plain as unqualified, element, is_array}
+use Rattle.std.specs.Prelude.{ℕ, zero, suc, ◌+◌, ◌-◌, length, Bool, true, false, ◌&&◌, if◌then◌else◌, List, [], ◌∷◌, pos, Option, Some, None, reverse, slice_get}
+use Rattle.cf_core.specs.Types.{SourceType, parameters, result, is_class, plain as unqualified, element, is_array}
 use Rattle.cf_core.specs.Classes.{Class, fields_of, type_in}
 use Rattle.cf_core.specs.Core as core
 use Rattle.cf_core.specs.Core.{Core, Cores, MaybeCore, no_temporary, local_temporary, static_temporary, none, absent, given}

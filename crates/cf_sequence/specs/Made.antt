@@ -1,9 +1,9 @@
 -- What a node of a core needs beyond the locals of its function: the locals that sequencing adds, and the temporaries of a full expression.
-use Rattle.std.specs.Prelude.{ℕ, suc, ◌+◌, length, Bool, true, false, List, [], ◌∷◌, ◌++◌, Option, Some, None, if◌then◌else◌}
+use Rattle.std.specs.Prelude.{ℕ, suc, ◌+◌, length, Bool, true, List, [], ◌∷◌, ◌++◌}
 use Rattle.std.specs.List.{flat_map}
 use Rattle.cf_core.specs.Types.{SourceType, parameters}
 use Rattle.cf_core.specs.Core.{Core, Cores, MaybeCore, local_temporary, none, more, absent, given, member, read, address, dereference, decay, index, convert, up, down, from_void, to_member, through, operate, unary, logical_not, logical_and, logical_or, pointer_operate, conditional, comma, store, update, step, assign, temporary, call, virtual_call, pointer_call, new, new_array, delete, delete_array, build, copy, bind, declare, sequence}
-use Rattle.cf_core.specs.Nodes.{nodes, nodes_all, nodes_maybe}
+use Rattle.cf_core.specs.Nodes.{nodes}
 
 -- A local of a function, by its number and with its type.
 pub record Local : Type 0 where

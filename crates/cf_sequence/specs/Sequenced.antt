@@ -1,15 +1,15 @@
 -- The plain unit that a core becomes, and the plain program that a program does.
-use Rattle.std.specs.Prelude.{ℕ, suc, ◌+◌, length, Bool, true, false, if◌then◌else◌, List, [], ◌∷◌, ◌++◌, ◌||◌, Option, Some, None, map, reverse, is_some}
+use Rattle.std.specs.Prelude.{◌+◌, length, if◌then◌else◌, List, [], ◌++◌, ◌||◌, Option, Some, None, map, reverse, is_some}
 use Rattle.cf_core.specs.Types.{Name, SourceType, void, parameters, result, is_class, class}
 use Rattle.cf_core.specs.Classes.{Class}
-use Rattle.cf_core.specs.Core.{Core, Role, Function, Static, CoreFile, once}
+use Rattle.cf_core.specs.Core.{Function, Static, CoreFile, once}
 use Rattle.cf_core.specs.Nodes.{nodes}
 use Rattle.cf_core.specs.Calls.{Program, Setting}
 use Rattle.cf_core.specs.Joined.{is_nothing}
 use Rattle.cf_core.specs.Valid.{class_of_role}
 use Rattle.cf_plain.specs.Plain.{Plains, PlainFunction, PlainStatic, PlainFile, nothing}
 use Rattle.cf_plain.specs.Program.{PlainProgram, PlainSetting}
-use Rattle.cf_sequence.specs.Made.{Local, numbered, added, declared}
+use Rattle.cf_sequence.specs.Made.{numbered, added, declared}
 use Rattle.cf_sequence.specs.Expressions.{finished}
 use Rattle.cf_sequence.specs.Statements.{Inside, statement, initialised, type_of_static}
 

@@ -1,5 +1,5 @@
 -- Statements: the ends of objects on each way out of a scope, loops with their conditions inside, and what a label passes.
-use Rattle.std.specs.Prelude.{ℕ, zero, suc, ◌+◌, length, Bool, true, false, ◌&&◌, not, if◌then◌else◌, List, [], ◌∷◌, ◌++◌, Option, Some, None, reverse, find, bytes_eq}
+use Rattle.std.specs.Prelude.{ℕ, suc, ◌+◌, length, if◌then◌else◌, List, [], ◌∷◌, ◌++◌, Option, Some, None, reverse, find, bytes_eq}
 use Rattle.cf_core.specs.declared.operators.LoopForm.TheVariants as form
 use Rattle.cf_core.specs.Types.{Name, SourceType, void, is_class}
 use Rattle.cf_core.specs.Classes.{Class}
@@ -8,7 +8,7 @@ use Rattle.cf_core.specs.Core.{Core, Cores, MaybeCore, Parts, Static, none, abse
 use Rattle.cf_core.specs.Places.{part_type}
 use Rattle.cf_plain.specs.Plain.{Register, Plain, Plains, PlainParts, act, set, branch, loop, switch, case_label, default_label, leave, continue, give, parts, nothing, more}
 use Rattle.cf_plain.specs.Plain as plain
-use Rattle.cf_sequence.specs.Made.{Local, width, width_maybe, width_all, added, held_by, declared, declared_all}
+use Rattle.cf_sequence.specs.Made.{Local, width, width_maybe, added, declared, declared_all}
 use Rattle.cf_core.specs.Nodes.{nodes_parts}
 use Rattle.cf_sequence.specs.Expressions.{destination, settled, used, finished, whole, value}
 

@@ -19,16 +19,12 @@ ghost use Rattle.cf_sequence.specs.Sequenced.{sequenced, sequenced_file};
 /// The law that sequencing keeps the meaning of files, for those that are built so far: for each input, heap limit, depth limit and bound of ticks
 /// their plain units, joined, show the same trace and come to the same end as their cores, an undefined act too. It does nothing.
 pub fn sequencing_keeps_the_meaning_of_files()
-    ensures {
-        (files : List CoreFile) → list_all is_built_file files ≡ true → (input : List ℕ) (heap depth n : ℕ) (x : Outcome)
-            → Mean (program_of files) input heap depth n ≡ Some x → files_mean (map sequenced_file files) input heap depth n ≡ Some x
-    }
+    ensures { (files : List CoreFile) → list_all is_built_file files ≡ true → (input : List ℕ) (heap depth n : ℕ) (x : Outcome)
+        → Mean (program_of files) input heap depth n ≡ Some x → files_mean (map sequenced_file files) input heap depth n ≡ Some x }
 {}
 
 /// The same law of a program whose files are joined. It does nothing.
 pub fn sequencing_keeps_the_meaning()
-    ensures {
-        (P : Program) → is_plainly_built P ≡ true → (input : List ℕ) (heap depth n : ℕ) (x : Outcome)
-            → Mean P input heap depth n ≡ Some x → PlainMean (sequenced P) input heap depth n ≡ Some x
-    }
+    ensures { (P : Program) → is_plainly_built P ≡ true → (input : List ℕ) (heap depth n : ℕ) (x : Outcome)
+        → Mean P input heap depth n ≡ Some x → PlainMean (sequenced P) input heap depth n ≡ Some x }
 {}
