@@ -267,17 +267,28 @@ fn address_of_two(alloc: Global) -> Result<Node, Memory> {
     Ok(Node::Apply(Unary::Address, place))
 }
 
-/// `main` with a pointer that keeps that address.
-fn keeping_main(alloc: Global) -> Result<RunFn, Memory> {
-    let pointer = open(Form::Pointer(TyId::new(0)));
+/// A pointer that keeps that address, and what is read through it.
+fn keeping(alloc: Global, pointer: Shape) -> Result<Items<Node>, Memory> {
     let start = address_of_two(alloc)?;
     let value = read_through(alloc)?;
     let mut statements = Items::new(alloc);
     statements.push(declared(alloc, 0, pointer, start)?)?;
     statements.push(given(alloc, value)?)?;
+    Ok(statements)
+}
+
+/// One local of this type.
+fn one_local(alloc: Global, shape: Shape) -> Result<Items<ObjectType>, Memory> {
     let mut locals = Items::new(alloc);
-    locals.push(scalar(alloc, pointer))?;
-    main_of(alloc, locals, statements)
+    locals.push(scalar(alloc, shape))?;
+    Ok(locals)
+}
+
+/// `main` with these.
+fn keeping_main(alloc: Global) -> Result<RunFn, Memory> {
+    let pointer = open(Form::Pointer(TyId::new(0)));
+    let statements = keeping(alloc, pointer)?;
+    main_of(alloc, one_local(alloc, pointer)?, statements)
 }
 
 /// A pointer to a temporary outlives the full expression, and is used.
