@@ -267,14 +267,31 @@ fn address_of_two(alloc: Global) -> Result<Node, Memory> {
     Ok(Node::Apply(Unary::Address, place))
 }
 
+/// A pointer that keeps that address.
+fn keeper(alloc: Global, pointer: Shape) -> Result<Node, Memory> {
+    let start = address_of_two(alloc)?;
+    declared(alloc, 0, pointer, start)
+}
+
+/// What is read through it is returned.
+fn given_back(alloc: Global) -> Result<Node, Memory> {
+    let value = read_through(alloc)?;
+    given(alloc, value)
+}
+
+/// Two statements.
+fn both(alloc: Global, first: Node, second: Node) -> Result<Items<Node>, Memory> {
+    let mut statements = Items::new(alloc);
+    statements.push(first)?;
+    statements.push(second)?;
+    Ok(statements)
+}
+
 /// A pointer that keeps that address, and what is read through it.
 fn keeping(alloc: Global, pointer: Shape) -> Result<Items<Node>, Memory> {
-    let start = address_of_two(alloc)?;
-    let value = read_through(alloc)?;
-    let mut statements = Items::new(alloc);
-    statements.push(declared(alloc, 0, pointer, start)?)?;
-    statements.push(given(alloc, value)?)?;
-    Ok(statements)
+    let first = keeper(alloc, pointer)?;
+    let second = given_back(alloc)?;
+    both(alloc, first, second)
 }
 
 /// One local of this type.
