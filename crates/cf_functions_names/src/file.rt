@@ -6,7 +6,7 @@ ghost use Rattle.cf_functions_names.specs.Walk.{file_at, known_at, plain};
 
 use crate::heads::{Head, fits, heads, is_known};
 use crate::locals::all_locals;
-use crate::names::is;
+use crate::names::{in_their_order, is};
 use cf_base::Memory;
 use cf_functions::Function;
 use cf_name_list::Names;
@@ -46,7 +46,7 @@ impl<'a> File<'a> {
     pub fn new(alloc: Global, functions: &'a [Function]) -> Result<File<'a>, Memory>
         ensures { IfOk result (λ file. file ≡ functions.now) }
     {
-        let names = function_names(alloc, functions)?;
+        let names = in_their_order(alloc, functions)?;
         let locals = all_locals(alloc, functions)?;
         let heads = heads(alloc, functions)?;
         Ok(File {
@@ -126,17 +126,4 @@ fn is_plain_main(function: &Function) -> bool
     ensures { result ≡ spec.is_plain_main (function_of function.now) }
 {
     !is(function.name.as_slice(), b"main") || function.parameters.len() == 0
-}
-
-/// The names of functions in their order.
-fn function_names<'a>(alloc: Global, all: &'a [Function]) -> Result<Names<'a>, Memory>
-    ensures { IfOk result (λ names. names ≡ spec.function_names (plain all.now)) }
-{
-    let mut names = Names::new(alloc);
-    let mut left = all.len();
-    while left > 0 {
-        left -= 1;
-        names.add(all[left].name.as_slice())?;
-    }
-    Ok(names)
 }

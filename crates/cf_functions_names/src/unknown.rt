@@ -23,11 +23,7 @@ fn unknown(functions: &Names<'_>, scope: &Names<'_>, e: &Expression) -> Option<u
             }
         }
         Expression::Call(at, name, arguments) => {
-            if is_callable(functions, name.as_slice()) {
-                unknowns(functions, scope, arguments)
-            } else {
-                Some(*at)
-            }
+            unknown_called(functions, scope, *at, name.as_slice(), arguments)
         }
         Expression::Binary(_, a, b) => match unknown(functions, scope, a.get()) {
             Some(at) => Some(at),
@@ -73,6 +69,7 @@ fn unknown_assigned(
 }
 
 /// The same of a call.
+#[cycle(expressions)]
 fn unknown_called(
     functions: &Names<'_>,
     scope: &Names<'_>,

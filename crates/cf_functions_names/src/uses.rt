@@ -33,11 +33,7 @@ pub fn first_use(file: &File<'_>, known: usize, e: &Expression) -> Option<u32>
             }
         }
         Expression::Call(at, name, arguments) => {
-            if may_call(file, known, name.as_slice(), arguments) {
-                first_uses(file, known, arguments)
-            } else {
-                Some(*at)
-            }
+            first_called(file, known, *at, name.as_slice(), arguments)
         }
         Expression::Binary(_, a, b) => match first_use(file, known, a.get()) {
             Some(at) => Some(at),
@@ -59,6 +55,7 @@ fn first_uses(file: &File<'_>, known: usize, all: &Items<Expression>) -> Option<
 }
 
 /// The same of a call of the name at this place.
+#[cycle(uses)]
 pub fn first_called(
     file: &File<'_>,
     known: usize,
