@@ -1,8 +1,8 @@
 ghost use Rattle.cf_functions.specs.Agrees.{TranslationKeeps};
 ghost use Rattle.cf_functions.specs.Marks.{MarksTell};
 
-/// A law: the small C that an accepted file is written as is valid, links, and runs as the file means, whatever the
-/// input and the limits: with the same trace and the same end, up to the first undefined act.
+/// A law: the small C that an accepted file is written as is valid and, where there is a `main`, links and runs as the file
+/// means, whatever the input and the limits: with the same trace and the same end, up to the first undefined act.
 pub fn translation_keeps_meaning()
     ensures { TranslationKeeps }
 {}
