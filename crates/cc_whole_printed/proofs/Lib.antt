@@ -1,0 +1,11 @@
+mod Bodies
+mod Cuts
+mod Expressions
+mod Items
+mod Numerals
+mod Statements
+mod Strings
+mod TextOf
+mod Texts
+mod Types
+mod Units
