@@ -1,4 +1,5 @@
 mod Bodies
+mod Checks
 mod Cuts
 mod Expressions
 mod Items
@@ -9,3 +10,5 @@ mod TextOf
 mod Texts
 mod Types
 mod Units
+mod ValidStatements
+mod ValidUnits
