@@ -1,0 +1,6 @@
+pub mod Expressions
+pub mod Initialisers
+pub mod Lines
+pub mod Statements
+pub mod Types
+pub mod Units

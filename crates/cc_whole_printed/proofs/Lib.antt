@@ -1,0 +1,14 @@
+mod Bodies
+mod Checks
+mod Cuts
+mod Expressions
+mod Items
+mod Numerals
+mod Statements
+mod Strings
+mod TextOf
+mod Texts
+mod Types
+mod Units
+mod ValidStatements
+mod ValidUnits
