@@ -1,52 +1,21 @@
 -- How the run of a whole program goes, as facts about moments and streams.
-use Rattle.std.proofs.Common.{◌≡◌, ℕ, ◌+◌, ◌-◌, ◌^◌, min, ◌<◌, ◌≤◌, Bool, true, false, List, [], ◌∷◌, ◌++◌, IsTrue, Option, Some, None, Ok, refl, ap, sym, ◌∙◌, arith, subst, append_assoc, append-nil, inl, inr, ◌⊎◌, cond}
+use Rattle.std.proofs.Common.{◌≡◌, ℕ, ◌+◌, ◌-◌, ◌^◌, min, ◌<◌, ◌≤◌, true, false, List, [], ◌∷◌, ◌++◌, IsTrue, Option, Some, None, Ok, refl, ap, sym, ◌∙◌, arith, subst, append_assoc, append-nil, inl, inr, ◌⊎◌}
 use Rattle.cf_base.specs.Rose.{Rose}
 use Rattle.cf_base.specs.Stream.{Stream, IsFront, AddsFront}
-use Rattle.cf_base.specs.Event.{Event, Enter, In, Out, End as EndOf, Ended as EndedAt, Ticks, Depth, in_bytes, out_bytes, entered}
+use Rattle.cf_base.specs.Event.{Event, Enter, In, Out, End as EndOf, Ended as EndedAt, Ticks, Depth, in_bytes, out_bytes}
 use Rattle.cf_base.specs.World.{Outcome}
 use Rattle.cc_whole_step.specs.declared.moment.Moment.{Moment}
 use Rattle.cc_whole_step.specs.Running.{total, answered, taken}
 use Rattle.cc_whole_step.specs.Comes.{StepsOn, StepsTaking, EndsAs, end_of}
 use Rattle.cc_whole_step.specs.declared.moment.End.{End as Ended}
 use Rattle.cc_whole_step.specs.declared.moment.End.TheVariants as step_end
-use Rattle.cc_whole_run.specs.declared.types.Tally.{Tally}
-use Rattle.cc_whole_run.specs.Run.{Streams, streams, Carried, Whole, IsInNext, InputFailed, OutputFailed, Broken, LeavesAt, entered_count}
-use Rattle.cc_whole_run.specs.Going.{outside, Going, run_end, Answers, Took, MetEnd, TookNot}
+use Rattle.cf_streams.specs.declared.tally.Tally.{Tally}
+use Rattle.cf_streams.specs.Streams.{Streams, streams, Carried, entered_count}
+use Rattle.cf_streams.specs.Taking.{Answers, Took, MetEnd, TookNot}
+use Rattle.cf_streams.proofs.Bytes.{out_bytes-append, in_bytes-append, same-count, next-count, quiet-bytes, flag, left_in, left-told, left-none, front-of-one}
+use Rattle.cc_whole_run.specs.Run.{Whole, IsInNext, InputFailed, OutputFailed, Broken, LeavesAt}
+use Rattle.cc_whole_run.specs.Going.{outside, Going, run_end}
 use Rattle.cc_whole_run.proofs.Grows.{grows-total}
-
--- Bytes of traces.
-
-out_bytes-append : (xs ys : List Event) → out_bytes (xs ++ ys) ≡ out_bytes xs ++ out_bytes ys
-out_bytes-append [] ys = refl
-out_bytes-append (Enter name ∷ xs) ys = out_bytes-append xs ys
-out_bytes-append (In byte ∷ xs) ys = out_bytes-append xs ys
-out_bytes-append (Out byte ∷ xs) ys = ap (λ l. byte ∷ l) (out_bytes-append xs ys)
-
-in_bytes-append : (xs ys : List Event) → in_bytes (xs ++ ys) ≡ in_bytes xs ++ in_bytes ys
-in_bytes-append [] ys = refl
-in_bytes-append (Enter name ∷ xs) ys = in_bytes-append xs ys
-in_bytes-append (In None ∷ xs) ys = in_bytes-append xs ys
-in_bytes-append (In (Some byte) ∷ xs) ys = ap (λ l. byte ∷ l) (in_bytes-append xs ys)
-in_bytes-append (Out byte ∷ xs) ys = in_bytes-append xs ys
-
-entered-append : (xs ys : List Event) → entered (xs ++ ys) ≡ entered xs + entered ys
-entered-append [] ys = let h : entered ys ≡ 0 + entered ys = omega arith in h
-entered-append (Enter name ∷ xs) ys = ap (λ n. 1 + n) (entered-append xs ys) ∙ let h : 1 + (entered xs + entered ys) ≡ (1 + entered xs) + entered ys = omega arith in h
-entered-append (In byte ∷ xs) ys = entered-append xs ys
-entered-append (Out byte ∷ xs) ys = entered-append xs ys
-
--- an event that takes nothing and enters nothing, one that enters
-same-count : (events more : List Event) → entered more ≡ 0 → entered_count events ≡ entered_count (events ++ more)
-same-count events more none = ap (λ k. min k (2 ^ 64 - 1)) ((let h : entered events ≡ entered events + 0 = omega arith in h) ∙ ap (λ k. entered events + k) (sym none) ∙ sym (entered-append events more))
-
-one-more : (a : ℕ) → min (min a (2 ^ 64 - 1) + 1) (2 ^ 64 - 1) ≡ min (a + 1) (2 ^ 64 - 1)
-one-more a = omega arith
-
-next-count : (events : List Event) (name : List ℕ) → min (entered_count events + 1) (2 ^ 64 - 1) ≡ entered_count (events ++ Enter name ∷ [])
-next-count events name = one-more (entered events) ∙ ap (λ k. min k (2 ^ 64 - 1)) (sym (entered-append events (Enter name ∷ [])))
-
-quiet-bytes : (events : List Event) (e : Event) (rest : List ℕ) → in_bytes (e ∷ []) ≡ [] → in_bytes (events ++ e ∷ []) ++ rest ≡ in_bytes events ++ rest
-quiet-bytes events e rest quiet = ap (λ l. l ++ rest) (in_bytes-append events (e ∷ []) ∙ ap (λ l. in_bytes events ++ l) quiet ∙ append-nil (in_bytes events))
 
 -- The first moment.
 pub going-starts : (means : List ℕ → Outcome) (n : ℕ) (m : Moment) (a : Streams) (t : Tally) → t.entered ≡ 0 → t.at_end ≡ false
@@ -130,10 +99,6 @@ going-takes means n m new a b c t u byte g h took same_count = record {
 
 -- The end of the input is met.
 
-flag : (t : Bool) → (t ≡ true) ⊎ (t ≡ false)
-flag true = inl refl
-flag false = inr refl
-
 pub going-met : (means : List ℕ → Outcome) (n : ℕ) (m new : Moment) (a b : Streams) (c : Stream) (t u : Tally) → Going means n m a b t → StepsTaking total m new
     → MetEnd b.input c t.at_end u.at_end → u.entered ≡ t.entered → Going means n (answered None new) a (streams c b.out) u
 going-met means n m new a b c t u g h met same_count = record {
@@ -160,23 +125,8 @@ going-met means n m new a b c t u g h met same_count = record {
     gone k (inl before) = ap (λ (x : Stream). x.bytes) (met.left before) ∙ g.none_left before k
     gone k (inr unmet) = (met.none unmet (g.told.input k)).1
 
--- What is left where it is told.
-left_in : Bool → List ℕ → List ℕ
-left_in told bytes = cond told bytes []
-
-left-told : (told : Bool) (bytes : List ℕ) → IsTrue told → left_in told bytes ≡ bytes
-unfolding left_in
-left-told true bytes h = refl
-left-told false bytes h = absurd (cc)
-
-left-none : (told : Bool) (bytes : List ℕ) → (IsTrue told → bytes ≡ []) → left_in told bytes ≡ []
-unfolding left_in
-left-none true bytes h = h refl
-left-none false bytes h = refl
-
 at_stop : (means : List ℕ → Outcome) (n : ℕ) (m : Moment) (a b : Streams) (t : Tally) → (g : Going means n m a b t)
     → means (in_bytes g.events ++ left_in a.input.told b.input.bytes) ≡ total n m (outside (left_in a.input.told b.input.bytes) g.events)
-unfolding left_in
 at_stop means n m a b t g = g.same (left_in a.input.told b.input.bytes) (λ x. left-none a.input.told b.input.bytes (g.none_left x))
 
 carried : (means : List ℕ → Outcome) (n : ℕ) (m : Moment) (a b : Streams) (t : Tally) → (g : Going means n m a b t)
@@ -216,11 +166,6 @@ going-whole means n m a b t e g h =
     }
 
 -- A byte is not put.
-
-front-of-one : (byte : ℕ) (front rest : List ℕ) → byte ∷ [] ≡ front ++ rest → (front ≡ []) ⊎ (front ≡ byte ∷ [])
-front-of-one byte [] rest e = inl refl
-front-of-one byte (x ∷ []) rest e = inr (cc)
-front-of-one byte (x ∷ (y ∷ front)) rest e = absurd (cc)
 
 module _ (means : List ℕ → Outcome) (n : ℕ) (m new : Moment) (a b : Streams) (c : Stream) (t : Tally) (byte : ℕ) (g : Going means n m a b t) (h : StepsOn total (Some (Out byte)) m new) (told : IsTrue c.told → IsTrue b.out.told) (rose : Rose b.out.faults c.faults) where
   with-byte : (IsTrue c.told → c.bytes ≡ b.out.bytes ++ byte ∷ []) → OutputFailed means a (streams b.input c) t.entered
@@ -286,7 +231,7 @@ next-in n new (byte ∷ rest) events =
 
 pub going-not_taken : (means : List ℕ → Outcome) (n : ℕ) (m new : Moment) (a b : Streams) (c : Stream) (t u : Tally) → Going means n m a b t → StepsTaking total m new
     → TookNot b.input c t.at_end u.at_end → u.entered ≡ t.entered → InputFailed means a (streams c b.out) u.entered
-unfolding left_in next-in
+unfolding next-in
 going-not_taken means n m new a b c t u g h not same_count =
     let rest = left_in a.input.told c.bytes in
     let input = in_bytes g.events ++ rest in

@@ -1,11 +1,10 @@
 -- How the run of a whole program goes on.
-use Rattle.std.specs.Prelude.{◌≡◌, ℕ, suc, ◌<◌, Bool, true, false, List, [], ◌∷◌, ◌++◌, IsTrue, Option, Some, None, Result, Ok, Err, codes}
+use Rattle.std.specs.Prelude.{◌≡◌, ℕ, suc, ◌<◌, List, [], ◌++◌, IsTrue, Option, Some, None, Result, Ok, Err, codes}
 use Rattle.cf_base.specs.declared.memory.Memory.{Memory}
-use Rattle.cf_base.specs.declared.memory.Failed.{Failed}
-use Rattle.cf_base.specs.Rose.{Rose}
-use Rattle.cf_base.specs.Stream.{Stream}
 use Rattle.cf_base.specs.Event.{Event, in_bytes, out_bytes}
 use Rattle.cf_base.specs.World.{Outcome}
+use Rattle.cf_streams.specs.declared.tally.Tally.{Tally}
+use Rattle.cf_streams.specs.Streams.{Streams, StillTold, entered_count, SameCounts}
 use Rattle.cc_whole.specs.declared.unit.CProgram.{CProgram}
 use Rattle.cc_whole.specs.declared.unit.CFunction.{CFunction}
 use Rattle.cc_whole.specs.Plain.{function_of}
@@ -18,8 +17,7 @@ use Rattle.cc_whole_step.specs.declared.moment.End.{End as Ended}
 use Rattle.cc_whole_step.specs.declared.moment.End.TheVariants as step_end
 use Rattle.cc_whole_run.specs.declared.types.End.{End}
 use Rattle.cc_whole_run.specs.declared.types.End.TheVariants as end
-use Rattle.cc_whole_run.specs.declared.types.Tally.{Tally}
-use Rattle.cc_whole_run.specs.Run.{Streams, StillTold, SameCounts, Broken, LeavesAt, Leaves, entered_count, meant}
+use Rattle.cc_whole_run.specs.Run.{Broken, LeavesAt, Leaves, meant}
 
 -- what stands outside
 abbrev pub outside : List ℕ → List Event → Outside
@@ -62,30 +60,3 @@ TurnsTo means n old now new tally (Err memory) = Broken means old new
 abbrev pub Turns : Moment → Moment → Streams → Streams → Tally → Tally → Result (Option End) Memory → Type 0
 Turns before now a b t u result =
     (means : List ℕ → Outcome) (n : ℕ) (old : Streams) → Going means n before old a t → TurnsTo means n old now b u result
-
--- the next byte of an input was taken, or its end was met before or now
-pub record Took (a b : Stream) (byte : ℕ) (before now : Bool) : Type 0 where
-  pub unmet : before ≡ false
-  pub still : now ≡ false
-  pub bytes : IsTrue a.told → a.bytes ≡ byte ∷ b.bytes
-  pub told : IsTrue a.told → IsTrue b.told
-  pub faults : b.faults ≡ a.faults
-
-pub record MetEnd (a b : Stream) (before now : Bool) : Type 0 where
-  pub met : now ≡ true
-  pub left : IsTrue before → b ≡ a
-  pub none : before ≡ false → IsTrue a.told → (a.bytes ≡ []) × (b.bytes ≡ [])
-  pub told : IsTrue a.told → IsTrue b.told
-  pub faults : b.faults ≡ a.faults
-
-pub record TookNot (a b : Stream) (before now : Bool) : Type 0 where
-  pub unmet : before ≡ false
-  pub still : now ≡ before
-  pub bytes : IsTrue a.told → b.bytes ≡ a.bytes
-  pub told : IsTrue a.told → IsTrue b.told
-  pub rose : Rose a.faults b.faults
-
-abbrev pub Answers : Stream → Stream → Bool → Bool → Result (Option ℕ) Failed → Type 0
-Answers a b before now (Ok (Some byte)) = Took a b byte before now
-Answers a b before now (Ok None) = MetEnd a b before now
-Answers a b before now (Err failed) = TookNot a b before now

@@ -1,10 +1,11 @@
 -- What a run of a program leaves on its input and its output.
-use Rattle.std.specs.Prelude.{◌≡◌, ℕ, ◌-◌, ◌^◌, min, List, ◌∷◌, ◌++◌, IsTrue, Option, Result, Ok, Err}
+use Rattle.std.specs.Prelude.{◌≡◌, ℕ, List, ◌∷◌, ◌++◌, Option, Result, Ok, Err}
 use Rattle.cf_base.specs.declared.memory.Memory.{Memory}
 use Rattle.cf_base.specs.Rose.{Rose}
-use Rattle.cf_base.specs.Stream.{Stream, IsFront}
-use Rattle.cf_base.specs.Event.{Event, In, End as EndOf, Ended, Ticks, Depth, Undefined, in_bytes, out_bytes, entered}
+use Rattle.cf_base.specs.Stream.{IsFront}
+use Rattle.cf_base.specs.Event.{Event, In, End as EndOf, Ended, Ticks, Depth, Undefined}
 use Rattle.cf_base.specs.World.{Outcome}
+use Rattle.cf_streams.specs.Streams.{Streams, Carried, entered_count, SameCounts}
 use Rattle.cc_whole.specs.declared.unit.CProgram.{CProgram}
 use Rattle.cc_whole_memory.specs.Store.{act_number}
 use Rattle.cc_whole_mean.specs.Start.{c_mean}
@@ -13,38 +14,9 @@ use Rattle.cc_whole_run.specs.declared.types.Ran.{Ran}
 use Rattle.cc_whole_run.specs.declared.types.End.{End}
 use Rattle.cc_whole_run.specs.declared.types.End.TheVariants as ended
 
--- the streams of a run
-pub record Streams : Type 0 where
-  pub input : Stream
-  pub out : Stream
-
-abbrev pub streams : Stream → Stream → Streams
-streams input out = record { input = input; out = out }
-
 -- the outcome that the program means within these limits, for an input
 abbrev pub meant : CProgram → Limits → List ℕ → Outcome
 meant program limits input = c_mean program input limits.heap limits.depth limits.ticks
-
--- A source that told its bytes still tells them, and a sink that tells its bytes told them before.
-pub record StillTold (old new : Streams) : Type 0 where
-  pub input : IsTrue old.input.told → IsTrue new.input.told
-  pub out : IsTrue new.out.told → IsTrue old.out.told
-
--- These events were carried out: their bytes were taken from the input and put on the output. `input` is what the input held.
-pub record Carried (events : List Event) (input : List ℕ) (old new : Streams) : Type 0 where
-  pub held : IsTrue old.input.told → old.input.bytes ≡ input
-  pub taken : IsTrue old.input.told → input ≡ in_bytes events ++ new.input.bytes
-  pub put : IsTrue new.out.told → new.out.bytes ≡ old.out.bytes ++ out_bytes events
-  pub told : StillTold old new
-
--- how many functions these events enter, as a number of 64 bits that stays at its greatest
-abbrev pub entered_count : List Event → ℕ
-entered_count events = min (entered events) (2 ^ 64 - 1)
-
--- no call on these streams failed
-pub record SameCounts (old new : Streams) : Type 0 where
-  pub input : new.input.faults ≡ old.input.faults
-  pub out : new.out.faults ≡ old.out.faults
 
 -- the run came to the end that is meant, with so many functions entered
 pub record Whole (means : List ℕ → Outcome) (old new : Streams) (count : ℕ) (end : EndOf) : Type 0 where

@@ -1,5 +1,6 @@
 ghost use Rattle.std.specs.Prelude.{◌≡◌, IfOk};
-ghost use Rattle.cc_whole_run.specs.Run.{Leaves, meant, streams};
+ghost use Rattle.cc_whole_run.specs.Run.{Leaves, meant};
+ghost use Rattle.cf_streams.specs.Streams.{streams};
 
 use crate::run::run_program;
 use crate::types::{Limits, Ran};

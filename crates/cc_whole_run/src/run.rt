@@ -1,17 +1,19 @@
 ghost use Rattle.std.specs.Prelude.{◌≡◌, IfOk};
 ghost use Rattle.cc_whole_memory.specs.declared.act.Act.TheVariants as act;
 ghost use Rattle.cc_whole_run.specs.declared.types.End.TheVariants as ended;
-ghost use Rattle.cc_whole_run.specs.Run.{Leaves, meant, streams};
+ghost use Rattle.cc_whole_run.specs.Run.{Leaves, meant};
 ghost use Rattle.cc_whole_run.specs.Going.{Goes, Starts};
+ghost use Rattle.cf_streams.specs.Streams.{streams};
 
 use crate::turn::turn;
-use crate::types::{End, Limits, Ran, Tally};
+use crate::types::{End, Limits, Ran};
 use cc_whole::{CFunction, CProgram};
 use cc_whole_callee::{Callee, callee_named};
 use cc_whole_memory::Act;
 use cc_whole_start::Start;
 use cc_whole_step::{Doing, Flow, Frames, Level, Moment};
 use cf_base::{Memory, Sink, Source};
+use cf_streams::Tally;
 use std::alloc::Global;
 
 /// A program runs.

@@ -1,10 +1,11 @@
 ghost use Rattle.std.specs.Prelude.{◌≡◌};
-ghost use Rattle.cc_whole_run.specs.Run.{streams};
-ghost use Rattle.cc_whole_run.specs.Going.{Answers, Turns, run_end};
+ghost use Rattle.cc_whole_run.specs.Going.{Turns, run_end};
+ghost use Rattle.cf_streams.specs.Streams.{streams};
 
-use crate::types::{End, Tally};
+use crate::types::End;
 use cc_whole_step::{End as Ended, Moment, Shown, Step, Stop};
 use cf_base::{Failed, Memory, Sink, Source};
+use cf_streams::{Tally, take};
 
 /// How a run ends where a step ends it.
 fn end_of(end: Ended) -> End
@@ -47,16 +48,4 @@ pub fn turn<I: Source, O: Sink>(
             }
         },
     }
-}
-
-/// The next byte of the input, or none at its end, behind which it is not asked again.
-fn take<I: Source>(input: &mut I, at_end: &mut bool) -> Result<Option<u8>, Failed>
-    ensures { Answers (I.stream input.old) (I.stream input.new) at_end.old at_end.new result }
-{
-    if *at_end {
-        return Ok(None);
-    }
-    let byte = input.next()?;
-    *at_end = byte.is_none();
-    Ok(byte)
 }

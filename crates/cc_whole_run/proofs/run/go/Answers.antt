@@ -1,7 +1,7 @@
 use Rattle.std.proofs.Common.{◌∙◌, Option, Result, Ok, ap, refl, subst, false}
 use Rattle.cf_base.specs.declared.memory.Memory.{Memory}
 use Rattle.cc_whole_run.specs.declared.types.End.{End}
-use Rattle.cc_whole_run.specs.Run.{streams}
+use Rattle.cf_streams.specs.Streams.{streams}
 use Rattle.cc_whole_run.specs.Going.{TurnsTo}
 use Rattle.cc_whole_run.proofs.GoingLaws.{going-starts, going-broken}
 use Rattle.cc_whole_run.proofs.run.go.Goals as goal

@@ -1,7 +1,7 @@
 use Rattle.std.proofs.Common.{◌≡◌, ℕ, ◌<◌, List, []}
 use Rattle.cf_base.specs.World.{Outcome}
 use Rattle.cc_whole_step.specs.Running.{total}
-use Rattle.cc_whole_run.specs.Run.{streams}
+use Rattle.cf_streams.specs.Streams.{streams}
 use Rattle.cc_whole_run.specs.Going.{Going, outside}
 use Rattle.cc_whole_run.proofs.run.go.Given as goal
 

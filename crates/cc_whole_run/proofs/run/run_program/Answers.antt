@@ -1,7 +1,8 @@
 use Rattle.std.proofs.Common.{◌∙◌, ℕ, suc, List, Ok, ap, sym, subst}
 use Rattle.cf_base.specs.Event.{Undefined}
 use Rattle.cc_whole_step.specs.Running.{functions_in}
-use Rattle.cc_whole_run.specs.Run.{streams, meant, LeavesAt}
+use Rattle.cf_streams.specs.Streams.{streams}
+use Rattle.cc_whole_run.specs.Run.{meant, LeavesAt}
 use Rattle.std.proofs.lemmas.Result.{err_from_is_err_and}
 use Rattle.cc_whole_run.specs.declared.types.Ran.{Ran}
 use Rattle.cc_whole_run.proofs.GoingLaws.{broken-none, whole-none}

@@ -8,7 +8,8 @@ use Rattle.cc_whole_step.specs.declared.stop.Stop.{Stop}
 use Rattle.cc_whole_step.specs.Running.{total}
 use Rattle.cc_whole_step.specs.Comes.{Comes}
 use Rattle.cc_whole_run.specs.declared.types.End.{End}
-use Rattle.cc_whole_run.specs.Run.{streams, LeavesAt}
+use Rattle.cf_streams.specs.Streams.{streams}
+use Rattle.cc_whole_run.specs.Run.{LeavesAt}
 use Rattle.cc_whole_run.specs.Going.{Going}
 use Rattle.cc_whole_run.proofs.GoingLaws.{going-broken, going-whole, going-ends, going-on, going-enters, going-puts, going-not_put, going-answers, going-not_taken}
 use Rattle.cc_whole_run.proofs.turn.turn.Goals as goal
