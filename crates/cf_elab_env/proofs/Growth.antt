@@ -13,7 +13,7 @@ use Rattle.cf_convert.proofs.Constness.{const-at}
 use Rattle.cf_convert.proofs.Known.{names_more}
 use Rattle.cf_elab.specs.Env.{Env, Entity, Object, FunctionEntry, object, functions, alias, class_name, enum_name, enumerator}
 use Rattle.cf_elab.specs.Operand.{Value, Sort, sort_of, ty_sort, pointer_sort}
-use Rattle.cf_elab_env.specs.Holds.{Grows, HasNoClass, IsType, Known, FitsIn, fits_sort, IsObject, IsEntry, IsFunctionSort, IsEntity, IsHand, IsEnv}
+use Rattle.cf_elab_env.specs.Holds.{Grows, HasNoClass, EnumGiven, IsType, Known, FitsIn, fits_sort, IsObject, IsEntry, IsFunctionSort, IsEntity, IsHand, IsEnv}
 use Rattle.cf_elab_env.proofs.Sorts.{below_at}
 
 -- ---- the type without its const
@@ -158,12 +158,15 @@ pub All-into : {A : Type 0} (P Q : A → Type 0) (xs : List A) → ((x : A) → 
 All-into P Q xs f all = λ k d w. f (get_or xs k d) (all k d w)
 
 -- an environment stays one with a longer table
-pub env_grown : (env : Env) (new : Table) → IsEnv env → IsTable new → HasNoClass new → Grows env.types new → IsEnv (record env { types = new })
-env_grown env new e table no_class g = record {
+pub env_grown : (env : Env) (new : Table) → IsEnv env → IsTable new → HasNoClass new → All (EnumGiven (length env.classes.enums)) new.types → Grows env.types new
+    → IsEnv (record env { types = new })
+env_grown env new e table no_class enums g = record {
   no_class = e.no_class;
   no_open_class = e.no_open_class;
   table = table;
   no_class_type = no_class;
+  enums = enums;
+  no_outer = e.no_outer;
   entities = All-into (IsEntity env.types (length env.entries)) (IsEntity new (length env.entries)) env.entities (entity_grown env.types new g (length env.entries)) e.entities;
   entries = All-into (IsEntry env.types) (IsEntry new) env.entries (entry_grown env.types new g) e.entries;
   outer = e.outer;
@@ -171,6 +174,7 @@ env_grown env new e table no_class g = record {
   linked = e.linked;
   hand = record {
     no_class = e.hand.no_class;
+    result = type_grown env.types new env.hand.result g e.hand.result;
     locals = All-into (IsType env.types) (IsType new) env.hand.locals (λ t. type_grown env.types new t g) e.hand.locals;
   };
 }

@@ -21,7 +21,7 @@ use Rattle.cf_types.proofs.Places.{get-left, get-last}
 use Rattle.cf_elab.specs.Answer.{Made}
 use Rattle.cf_elab.specs.Env.{Env}
 use Rattle.cf_elab.specs.Made.{same_ty, same_fun, place_in, entered_type, entered_fun}
-use Rattle.cf_elab_env.specs.Holds.{Grows, HasNoClass, IsEnv, without_class}
+use Rattle.cf_elab_env.specs.Holds.{Grows, HasNoClass, EnumGiven, IsEnv, without_class}
 use Rattle.cf_elab_env.specs.Shut as shut
 use Rattle.cf_elab_env.proofs.Growth.{grown, env_grown}
 
@@ -202,6 +202,15 @@ no_class_more old new u place enters plain all =
       | inr grown ↦ subst (All P) (sym grown) (All-append P old.types (u ∷ []) all (All-cons P u [] plain (λ i d w. absurd (omega arith))))
     ]
 
+pub enums_more : (count : ℕ) (old new : Table) (u : Ty) (place : ℕ) → Enters old.types new.types u place → EnumGiven count u → All (EnumGiven count) old.types
+    → All (EnumGiven count) new.types
+enums_more count old new u place enters given all =
+    let P : Ty → Type 0 = EnumGiven count in
+    elim enters.kept [
+      | inl kept ↦ subst (All P) (sym kept) all
+      | inr grown ↦ subst (All P) (sym grown) (All-append P old.types (u ∷ []) all (All-cons P u [] given (λ i d w. absurd (omega arith))))
+    ]
+
 -- a number of 32 bits bounds the table
 length_fits : {A : Type 0} (old new : List A) (u : A) (place : ℕ) → Enters old new u place → length old ≤ 2 ^ 32 → place < 2 ^ 32 → length new ≤ 2 ^ 32
 length_fits old new u place enters fits small = elim enters.kept [
@@ -228,14 +237,16 @@ fun_entered-table old new u place enters types small table names params =
 
 module _ (env : Env) (new : Table) (e : IsEnv env) where
   pub with_type : (u : Ty) (place : ℕ) → Enters env.types.types new.types u place → new.funs ≡ env.types.funs → place < 2 ^ 32
-      → Names env.types.funs (length env.types.types) (length env.types.funs) u → IsTrue (is_normal env.types.types u) → IsTrue (without_class u) → IsEnv (record env { types = new })
-  with_type u place enters funs small names normal plain =
+      → Names env.types.funs (length env.types.types) (length env.types.funs) u → IsTrue (is_normal env.types.types u) → IsTrue (without_class u)
+      → EnumGiven (length env.classes.enums) u → IsEnv (record env { types = new })
+  with_type u place enters funs small names normal plain given =
       env_grown env new e (type_entered-table env.types new u place enters funs small e.table names normal) (no_class_more env.types new u place enters plain e.no_class_type)
+      (enums_more (length env.classes.enums) env.types new u place enters given e.enums)
       (type_entered-grows env.types new u place enters funs e.table)
 
   pub with_fun : (u : Fun) (place : ℕ) → Enters env.types.funs new.funs u place → new.types ≡ env.types.types → place < 2 ^ 32
       → All (λ p. p < length env.types.types) (fun_parts u) → AreParameters env.types.types u.params → IsEnv (record env { types = new })
   with_fun u place enters types small names params =
       env_grown env new e (fun_entered-table env.types new u place enters types small e.table names params)
-      (subst (All (λ v. IsTrue (without_class v))) (sym types) e.no_class_type)
+      (subst (All (λ v. IsTrue (without_class v))) (sym types) e.no_class_type) (subst (All (EnumGiven (length env.classes.enums))) (sym types) e.enums)
       (fun_entered-grows env.types new u place enters types e.table)

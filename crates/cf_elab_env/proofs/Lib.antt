@@ -1,8 +1,10 @@
 pub mod Bare
+pub mod Beginning
 pub mod Consts
 pub mod Finding
 pub mod Growth
 pub mod Interned
+pub mod Known
 pub mod Making
 pub mod Opened
 pub mod Scoped

@@ -12,6 +12,7 @@ use Rattle.cf_elab.specs.Answer.{Answer, Made, onward}
 use Rattle.cf_convert.specs.Constness.{type_at, bare}
 use Rattle.cf_elab.specs.Env.{Env}
 use Rattle.cf_elab.specs.Operand.{sort_of, ty_sort, integral}
+use Rattle.cf_elab_env.specs.Holds.{IsFunctionSort}
 use Rattle.cf_elab_env.specs.Shut as shut
 
 -- ---- rows that are one interning
@@ -98,3 +99,9 @@ sort_int types t k h =
     let found : type_at types t ≡ ty.Int k = ap (λ o. unwrap_or o ty.Void) h in
     let plain : bare types t ≡ t = rw found refl in
     ap (λ b. ty_sort types (type_at types b)) plain ∙ ap (ty_sort types) found
+
+pub sort_fun : (types : Table) (t f : ℕ) → slice_get types.types t ≡ Some (ty.Fun f) → IsFunctionSort (sort_of types t)
+sort_fun types t f h =
+    let found : type_at types t ≡ ty.Fun f = ap (λ o. unwrap_or o ty.Void) h in
+    let plain : bare types t ≡ t = rw found refl in
+    subst IsFunctionSort (sym (ap (λ b. ty_sort types (type_at types b)) plain ∙ ap (ty_sort types) found)) tt

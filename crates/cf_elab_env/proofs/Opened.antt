@@ -3,9 +3,13 @@ use Rattle.std.proofs.Common.{◌≡◌, ℕ, Bool, List, refl}
 use Rattle.cf_base.specs.declared.kind.Kind.{Kind}
 use Rattle.cf_types.specs.declared.ty.Ty.{Ty}
 use Rattle.cf_types.specs.declared.ty.Fun.{Fun}
-use Rattle.cf_elab.specs.Env.{Name, Entity}
+use Rattle.cf_core.specs.declared.unit.CoreStatic.{CoreStatic}
+use Rattle.cf_elab.specs.Env.{Name, Entity, FunctionEntry}
+use Rattle.cf_elab.specs.Enumeration as enumeration
+use Rattle.cf_elab.specs.Functions as functions
 use Rattle.cf_elab.specs.Made as made
 use Rattle.cf_elab.specs.Names as names
+use Rattle.cf_elab.specs.Objects as objects
 use Rattle.cf_elab_env.specs.Shut as shut
 
 pub intern : (u : Ty) → shut.intern u ≡ made.intern u
@@ -71,3 +75,23 @@ declare n e = refl
 pub redeclare : (n : ℕ) (e : Entity) → shut.redeclare n e ≡ names.redeclare n e
 unfolding shut.redeclare
 redeclare n e = refl
+
+pub bind_name : (n : Name) (e : ℕ) → shut.bind_name n e ≡ names.bind_name n e
+unfolding shut.bind_name
+bind_name n e = refl
+
+pub new_local : (t : ℕ) → shut.new_local t ≡ objects.new_local t
+unfolding shut.new_local
+new_local t = refl
+
+pub define_static : (x : CoreStatic) → shut.define_static x ≡ objects.define_static x
+unfolding shut.define_static
+define_static x = refl
+
+pub set_entry : (n : ℕ) (f : FunctionEntry) → shut.set_entry n f ≡ functions.set_entry n f
+unfolding shut.set_entry
+set_entry n f = refl
+
+pub new_enum : (n : Name) → shut.new_enum n ≡ enumeration.new_enum n
+unfolding shut.new_enum
+new_enum n = refl

@@ -6,6 +6,7 @@ use Rattle.cf_types.specs.declared.ty.Ty.{Ty}
 use Rattle.cf_types.specs.declared.ty.Ty.TheVariants as ty
 use Rattle.cf_types.specs.declared.ty.Fun.{Fun}
 use Rattle.cf_types.specs.Table.{Table, IsTable}
+use Rattle.cf_classes.specs.declared.label.Label.{Label}
 use Rattle.cf_elab.specs.Env.{Env, Entity, Object, FunctionEntry, Hand, object, functions, alias, class_name, enum_name, enumerator}
 use Rattle.cf_elab.specs.Members.{class_of_body}
 use Rattle.cf_elab_env.specs.declared.sort.Sort.{Sort as FoundSort}
@@ -23,6 +24,11 @@ without_class other = true
 
 abbrev pub HasNoClass : Table → Type 0
 HasNoClass types = All (λ t. IsTrue (without_class t)) types.types
+
+-- an enumeration is one of so many that are declared
+abbrev pub EnumGiven : ℕ → Ty → Type 0
+EnumGiven count (ty.Enum e) = e < count
+EnumGiven count other = Unit {0}
 
 abbrev pub IsType : Table → ℕ → Type 0
 IsType types t = t < length types.types
@@ -93,6 +99,7 @@ AreNames count names = All (λ n. n.1 < count) names
 
 pub record IsHand (types : Table) (hand : Hand) : Type 0 where
   pub no_class : class_of_body hand.kind ≡ None
+  pub result : IsType types hand.result
   pub locals : All (λ t. IsType types t) hand.locals
 
 -- ---- all that is known
@@ -102,6 +109,8 @@ pub record IsEnv (env : Env) : Type 0 where
   pub no_open_class : env.open_classes ≡ []
   pub table : IsTable env.types
   pub no_class_type : HasNoClass env.types
+  pub enums : All (EnumGiven (length env.classes.enums)) env.types.types
+  pub no_outer : All (λ (l : Label). l.outer ≡ None) env.classes.enums
   pub entities : All (λ e. IsEntity env.types (length env.entries) e) env.entities
   pub entries : All (λ f. IsEntry env.types f) env.entries
   pub outer : All (λ names. AreNames (length env.entities) names) env.scopes.outer

@@ -5,9 +5,13 @@ use Rattle.cf_base.specs.declared.kind.Kind.{Kind}
 use Rattle.cf_types.specs.declared.ty.Ty.{Ty}
 use Rattle.cf_types.specs.declared.ty.Fun.{Fun}
 use Rattle.cf_elab.specs.Answer.{Elab}
-use Rattle.cf_elab.specs.Env.{Name, Entity}
+use Rattle.cf_core.specs.declared.unit.CoreStatic.{CoreStatic}
+use Rattle.cf_elab.specs.Env.{Name, Entity, FunctionEntry}
+use Rattle.cf_elab.specs.Enumeration as enumeration
+use Rattle.cf_elab.specs.Functions as functions
 use Rattle.cf_elab.specs.Made as made
 use Rattle.cf_elab.specs.Names as names
+use Rattle.cf_elab.specs.Objects as objects
 
 unfoldable pub intern : Ty → Elab ℕ
 intern = made.intern
@@ -59,3 +63,15 @@ bind_name = names.bind_name
 
 unfoldable pub redeclare : ℕ → Entity → Elab (Unit {0})
 redeclare = names.redeclare
+
+unfoldable pub new_local : ℕ → Elab ℕ
+new_local = objects.new_local
+
+unfoldable pub define_static : CoreStatic → Elab (Unit {0})
+define_static = objects.define_static
+
+unfoldable pub set_entry : ℕ → FunctionEntry → Elab (Unit {0})
+set_entry = functions.set_entry
+
+unfoldable pub new_enum : Name → Elab ℕ
+new_enum = enumeration.new_enum

@@ -1,16 +1,19 @@
-ghost use Rattle.std.specs.Prelude.{◌≡◌, []};
+ghost use Rattle.std.specs.Prelude.{◌≡◌, [], length, slice_get, All, IfOk, None, Some};
 ghost use Rattle.cf_types.specs.Table.{IsTable};
-ghost use Rattle.cf_elab_env.specs.Holds.{IsEnv, HasNoClass};
+ghost use Rattle.cf_elab.specs.File.{first_env};
+ghost use Rattle.cf_elab.specs.Answer.{Made};
+ghost use Rattle.cf_elab_env.specs.Holds.{IsEnv, EnumGiven, IsEntry, IsType, HasNoClass};
+ghost use Rattle.cf_elab_env.specs.Shut as shut;
 
 use crate::entity::Entity;
 use crate::extent::Extent;
 use crate::functions::FunctionEntry;
 use crate::hand::Hand;
-use cf_base::{Items, Name};
+use cf_base::{Items, Kind, Memory, Name};
 use cf_classes::Classes;
 use cf_core::{CoreFn, CoreStatic};
 use cf_lookup::Scopes;
-use cf_types::Types;
+use cf_types::{Ty, TyId, Types};
 use std::alloc::Global;
 use std::marker::Model;
 
@@ -32,9 +35,9 @@ pub struct Env {
     pub(crate) types: Types,
     pub(crate) classes: Classes,
     pub(crate) scopes: Scopes,
-    pub(crate) entities: Items<Entity>,
+    pub(crate) entities: Vec<Entity>,
     pub(crate) linked: Items<Linked>,
-    pub(crate) entries: Items<FunctionEntry>,
+    pub(crate) entries: Vec<FunctionEntry>,
     pub(crate) hand: Hand,
     pub(crate) functions: Items<CoreFn>,
     pub(crate) statics: Items<CoreStatic>,
@@ -59,6 +62,33 @@ impl Model for Env {
 }
 
 impl Env {
+    /// What is known at the begin of a file that defines these names, before the functions of the library are declared; and the type `int`,
+    /// which is its first.
+    pub fn new(alloc: Global, extent: Extent, defines: Items<Name>) -> Result<(Env, TyId), Memory>
+        ensures made { IfOk result (λ begun. shut.int (first_env extent defines) ≡ Made begun.1 begun.0) }
+        ensures found { IfOk result (λ begun. slice_get begun.0.types.types begun.1 ≡ Some (Ty.Int Kind.Int)) }
+        ensures known { IfOk result (λ begun. IsType begun.0.types begun.1) }
+    {
+        let hand = Hand::of_file(alloc)?;
+        let mut types = Types::new(alloc);
+        let int = types.intern(Ty::Int(Kind::Int))?;
+        let env = Env {
+            alloc,
+            extent,
+            defines,
+            types,
+            classes: Classes::new(alloc),
+            scopes: Scopes::new(alloc),
+            entities: Vec::new(alloc),
+            linked: Items::new(alloc),
+            entries: Vec::new(alloc),
+            hand,
+            functions: Items::new(alloc),
+            statics: Items::new(alloc),
+        };
+        Ok((env, int))
+    }
+
     /// Where memory is taken.
     pub fn alloc(&self) -> Global {
         self.alloc
@@ -77,15 +107,46 @@ impl Env {
     pub fn classes(&self) -> &Classes
         ensures value { result.now ≡ self.now.classes }
         ensures no_class { self.now.classes.defined ≡ [] }
+        ensures enums { All (EnumGiven (length self.now.classes.enums)) self.now.types.types }
+        ensures no_outer { All (λ l. l.outer ≡ None) self.now.classes.enums }
     {
         &self.classes
     }
 
-    /// The declared functions that are no members, in order of declaration.
-    pub fn entries(&self) -> &Items<FunctionEntry>
-        ensures { result.now ≡ self.now.entries }
+    /// The forms of the language that are built.
+    pub fn extent(&self) -> Extent
+        ensures { result ≡ self.now.extent }
     {
-        &self.entries
+        self.extent
+    }
+
+    /// The names that the file's own declarations define.
+    pub fn defines(&self) -> &[Name]
+        ensures { result.now ≡ self.now.defines }
+    {
+        self.defines.as_slice()
+    }
+
+    /// The declared functions that are no members, in order of declaration.
+    pub fn entries(&self) -> &[FunctionEntry]
+        ensures value { result.now ≡ self.now.entries }
+        ensures known { All (λ f. IsEntry self.now.types f) self.now.entries }
+    {
+        self.entries.as_slice()
+    }
+
+    /// The functions that are defined so far, in order.
+    pub fn functions(&self) -> &[CoreFn]
+        ensures { result.now ≡ self.now.functions }
+    {
+        self.functions.as_slice()
+    }
+
+    /// The static objects that are defined so far, in order.
+    pub fn statics(&self) -> &[CoreStatic]
+        ensures { result.now ≡ self.now.statics }
+    {
+        self.statics.as_slice()
     }
 
     /// What always holds of an environment is told to the caller.
@@ -94,4 +155,11 @@ impl Env {
     {
         let _inside = &self.alloc;
     }
+}
+
+/// The number of what comes behind so many.
+pub(crate) fn next_number(count: usize) -> Result<u32, Memory>
+    ensures { IfOk result (λ number. number ≡ count) }
+{
+    u32::try_from(count).map_err(|_| Memory)
 }

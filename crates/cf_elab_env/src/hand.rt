@@ -1,7 +1,10 @@
-ghost use Rattle.std.specs.Prelude.{◌≡◌, ◌+◌, IfOk, OnOk, OnErr};
+ghost use Rattle.std.specs.Prelude.{◌≡◌, ◌+◌, ◌++◌, ◌∷◌, [], length, IfOk, OnOk, OnErr};
+ghost use Rattle.cf_elab.specs.File.{file_hand};
 
+use crate::env::next_number;
 use cf_base::{Items, Memory, Name};
 use cf_types::TyId;
+use std::alloc::Global;
 use std::marker::Model;
 
 /// What kind of function a body belongs to (6.6.3).
@@ -54,6 +57,26 @@ impl Model for Hand {
 }
 
 impl Hand {
+    /// That of the initialisers of the file.
+    pub(crate) fn of_file(alloc: Global) -> Result<Hand, Memory>
+        ensures { IfOk result (λ h. h ≡ file_hand) }
+    {
+        Ok(Hand {
+            link: Items::from_slice(alloc, b"__sti")?,
+            kind: BodyKind::File,
+            asker: Asker {
+                name: Items::new(alloc),
+                ty: 0,
+            },
+            result: 0,
+            locals: Items::new(alloc),
+            literals: 0,
+            statics: 0,
+            breaks: false,
+            continues: false,
+        })
+    }
+
     /// The number of its next string literal, which counts then.
     pub(crate) fn take_literal(&mut self) -> Result<u32, Memory>
         ensures number { IfOk result (λ number. number ≡ self.old.literals) }
@@ -62,6 +85,17 @@ impl Hand {
     {
         let number = self.literals;
         self.literals = number.checked_add(1).ok_or(Memory)?;
+        Ok(number)
+    }
+
+    /// The number of a new local of this type.
+    pub(crate) fn take_local(&mut self, ty: TyId) -> Result<u32, Memory>
+        ensures number { IfOk result (λ number. number ≡ length self.old.locals) }
+        ensures state { OnOk result (self.new ≡ record self.old { locals = self.old.locals ++ ty ∷ [] }) }
+        ensures err { OnErr result (self.new ≡ self.old) }
+    {
+        let number = next_number(self.locals.len())?;
+        self.locals.push(ty)?;
         Ok(number)
     }
 

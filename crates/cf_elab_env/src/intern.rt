@@ -3,7 +3,7 @@ ghost use Rattle.cf_types.specs.Table.{Names, AreParameters, fun_parts, is_norma
 ghost use Rattle.cf_convert.specs.Constness.{type_at};
 ghost use Rattle.cf_elab.specs.Answer.{Made};
 ghost use Rattle.cf_elab.specs.Operand.{sort_of, integral};
-ghost use Rattle.cf_elab_env.specs.Holds.{Grows, IsType, without_class};
+ghost use Rattle.cf_elab_env.specs.Holds.{Grows, EnumGiven, IsFunctionSort, IsType, without_class};
 ghost use Rattle.cf_elab_env.specs.Shut as shut;
 
 use crate::env::Env;
@@ -16,6 +16,7 @@ impl Env {
         requires known { Names self.old.types.funs (length self.old.types.types) (length self.old.types.funs) ty }
         requires normal { IsTrue (is_normal self.old.types.types ty) }
         requires no_class { IsTrue (without_class ty) }
+        requires enums { EnumGiven (length self.old.classes.enums) ty }
         ensures made { IfOk result (λ t. shut.intern ty self.old ≡ Made t self.new) }
         ensures found { IfOk result (λ t. slice_get self.new.types.types t ≡ Some ty) }
         ensures known { IfOk result (λ t. IsType self.new.types t) }
@@ -170,7 +171,7 @@ impl Env {
     }
 
     /// The number of the type of a function (8.2.5).
-    #[tactic(auto, using(crate::proofs::Making::function_made, crate::proofs::Making::names_fun))]
+    #[tactic(auto, using(crate::proofs::Making::sort_fun, crate::proofs::Making::function_made, crate::proofs::Making::names_fun))]
     pub fn function_type(
         &mut self,
         returned: TyId,
@@ -181,6 +182,7 @@ impl Env {
         requires params_known { All (λ t. IsType self.old.types t) params }
         requires parameters { AreParameters self.old.types.types params }
         ensures made { IfOk result (λ t. shut.function_type returned params is_const self.old ≡ Made t self.new) }
+        ensures sort { IfOk result (λ t. IsFunctionSort (sort_of self.new.types t)) }
         ensures known { IfOk result (λ t. IsType self.new.types t) }
         ensures grows { OnOk result (Grows self.old.types self.new.types) }
     {

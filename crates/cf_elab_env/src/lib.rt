@@ -4,6 +4,8 @@
 //! function that does a row of theirs cites the row itself. So far no type is a class, which is an invariant of `Env`.
 #![tactic(auto)]
 
+mod added;
+mod at_hand;
 mod entity;
 mod env;
 mod extent;
@@ -13,6 +15,7 @@ mod intern;
 mod names;
 mod object;
 mod operand;
+mod scopes;
 mod sort;
 mod stop;
 mod types;

@@ -1,46 +1,57 @@
-ghost use Rattle.std.specs.Prelude.{◌≡◌, ◌+◌, ◌<◌, length, slice_get, Some, IfOk, OnOk, false};
+ghost use Rattle.std.specs.Prelude.{◌≡◌, ◌<◌, length, slice_get, Some, IfSome, true, false};
 ghost use Rattle.std.specs.Option.{option_map, option_copied};
-ghost use Rattle.cf_elab.specs.Answer.{Made};
+ghost use Rattle.cf_elab.specs.Names as names;
 ghost use Rattle.cf_elab.specs.Paths.{found_alone, entity as entity_found};
+ghost use Rattle.cf_elab_env.specs.Holds.{IsEntity, IsEntry};
 ghost use Rattle.cf_elab_env.specs.Seen.{entity_seen};
-ghost use Rattle.cf_elab_env.specs.Shut as shut;
 
 use crate::entity::Entity;
 use crate::env::Env;
 use crate::functions::FunctionEntry;
-use cf_base::Memory;
 
 impl Env {
     /// What a name stands for: what the innermost scope that has it declares it as (3.2).
     pub fn find(&self, name: &[u8]) -> Option<&Entity>
-        ensures { found_alone self.now false name.now ≡ entity_found (option_map entity_seen (option_copied result)) }
+        ensures value { found_alone self.now false name.now ≡ entity_found (option_map entity_seen (option_copied result)) }
+        ensures known { IfSome result (λ e. IsEntity self.now.types (length self.now.entries) (entity_seen e.now)) }
     {
         let id = self.scopes.find(name)?;
-        self.entities.get(id.number() as usize)
+        Some(self.entity(id.number()))
+    }
+
+    /// What the file's own scope declares a name as, which `::` asks (5.1).
+    pub fn find_in_file(&self, name: &[u8]) -> Option<&Entity>
+        ensures value { names.entity_named self.now true name.now ≡ option_map entity_seen (option_copied result) }
+        ensures known { IfSome result (λ e. IsEntity self.now.types (length self.now.entries) (entity_seen e.now)) }
+    {
+        let id = self.scopes.find_in_file(name)?;
+        Some(self.entity(id.number()))
+    }
+
+    /// What the innermost scope itself declares a name as, by the number of its entity.
+    pub fn declared_here(&self, name: &[u8]) -> Option<u32>
+        ensures value { result ≡ names.declared_here self.now name.now }
+        ensures known { IfSome result (λ number. number < length self.now.entities) }
+    {
+        let id = self.scopes.find_here(name)?;
+        Some(id.number())
+    }
+
+    /// What the name of this number stands for.
+    pub fn entity(&self, number: u32) -> &Entity
+        requires { number < length self.now.entities }
+        ensures value { slice_get self.now.entities number ≡ Some (entity_seen result.now) }
+        ensures known { IsEntity self.now.types (length self.now.entries) (entity_seen result.now) }
+    {
+        &self.entities[number as usize]
     }
 
     /// The declared function of this number.
     pub fn entry(&self, number: u32) -> &FunctionEntry
         requires { number < length self.now.entries }
-        ensures { slice_get self.now.entries number ≡ Some result.now }
+        ensures value { slice_get self.now.entries number ≡ Some result.now }
+        ensures known { IsEntry self.now.types result.now }
     {
-        &self.entries.as_slice()[number as usize]
-    }
-
-    /// Opens a scope inside the innermost.
-    pub fn enter_scope(&mut self) -> Result<(), Memory>
-        ensures { OnOk result (shut.enter_scope self.old ≡ Made tt self.new) }
-    {
-        self.scopes.enter()?;
-        Ok(())
-    }
-
-    /// The number of the next string literal of the function at hand (2.5.4).
-    pub fn next_literal(&mut self) -> Result<u32, Memory>
-        ensures number { IfOk result (λ number. number ≡ self.old.hand.literals) }
-        ensures state { OnOk result (self.new ≡ record self.old { hand = record self.old.hand { literals = self.old.hand.literals + 1 } }) }
-    {
-        let number = self.hand.take_literal()?;
-        Ok(number)
+        &self.entries[number as usize]
     }
 }

@@ -1,12 +1,12 @@
 -- Names in scopes.
-use Rattle.std.proofs.Common.{◌≡◌, ℕ, suc, ◌+◌, ◌<◌, Bool, true, false, List, [], ◌∷◌, ◌++◌, take, drop, get_or, length, Option, None, Some, map, cond, refl, sym, ap, ◌∙◌, add-one, ◌≤◌, ◌-◌, is_some, true≢false, nat_eq, arith}
-use Rattle.std.specs.Cmp.Lexicographic.{pointwise}
+use Rattle.std.proofs.Common.{◌≡◌, ℕ, ◌+◌, ◌<◌, Bool, true, false, List, [], ◌∷◌, ◌++◌, take, get_or, length, Option, None, Some, map, cond, refl, sym, ap, ◌∙◌, add-one, ◌≤◌, ◌-◌, is_some, true≢false, nat_eq, arith}
+use Rattle.std.specs.Cmp.Lexicographic.{pointwise, same_text}
 use Rattle.std.proofs.lemmas.List.{map-append}
 use Rattle.indexmap.specs.IndexMap.{IndexMap, insert_entry}
 use Rattle.indexmap.proofs.CallerLemmas.{insert_entry-new}
 use Rattle.std.proofs.Math.Seq.{take-suc}
 use Rattle.std.specs.Map.{lookup}
-use Rattle.cf_lookup.specs.Scope.{found_in, in_scope}
+use Rattle.cf_lookup.specs.Scope.{found_in, in_scope, StillTells}
 use Rattle.std.specs.Option.{option_or}
 
 -- a name is found in the last scope, or else in those before it
@@ -56,13 +56,63 @@ pub lookup-seen : {K J V : Type 0} (view : K → J) (test : J → Bool) (es : Li
 lookup-seen view test [] = refl
 lookup-seen view test (e ∷ es) = ap (λ r. cond (test (view e.0)) (Some e.1) r) (lookup-seen view test es)
 
--- a name that a scope does not have goes last
-pub seen-insert : {K S : Type 0} (view : K → List ℕ) (m n : IndexMap K ℕ S) (k : K) (name : List ℕ) (e : ℕ) (scope : List (List ℕ × ℕ))
-    → map (λ x. (view x.0, x.1)) m.entries ≡ scope → view k ≡ name → in_scope name scope ≡ None
+-- a name behind those of a scope is found where they don't have it
+found-behind : (name k : List ℕ) (e : ℕ) (scope : List (List ℕ × ℕ)) (b : Bool) → pointwise nat_eq name k ≡ b
+    → in_scope name (scope ++ (k, e) ∷ []) ≡ option_or (in_scope name scope) (cond b (Some e) None)
+found-behind name k e [] b is = ap (λ t. cond t (Some e) None) is ∙ by (cond b (Some e) None)
+  where
+    by : (r : Option ℕ) → r ≡ option_or None r
+    by None = refl
+    by (Some x) = refl
+found-behind name k e (s ∷ scope) b is = ap (λ r. cond (pointwise nat_eq name s.0) (Some s.1) r) (found-behind name k e scope b is) ∙ by (pointwise nat_eq name s.0)
+  where
+    rest : Option ℕ
+    rest = in_scope name scope
+
+    by : (t : Bool) → cond t (Some s.1) (option_or (in_scope name scope) (cond b (Some e) None)) ≡ option_or (cond t (Some s.1) (in_scope name scope)) (cond b (Some e) None)
+    by true = refl
+    by false = refl
+
+or_none : (r : Option ℕ) → option_or r None ≡ r
+or_none None = refl
+or_none (Some x) = refl
+
+-- a name that is noted stays what it is
+pub tells_again : (firsts : List (List ℕ × ℕ)) (name : List ℕ) (e : ℕ) → is_some (in_scope name firsts) ≡ true → StillTells firsts firsts name e
+tells_again firsts name e noted scope tells other = tells other ∙ by (pointwise nat_eq other name) refl
+  where
+    had : in_scope other scope ≡ in_scope other firsts
+    had = sym (tells other)
+
+    by : (b : Bool) → pointwise nat_eq other name ≡ b → in_scope other scope ≡ in_scope other (scope ++ (name, e) ∷ [])
+    by false is = sym (found-behind other name e scope false is ∙ or_none (in_scope other scope))
+    by true is =
+        let same : other ≡ name = same_text other name (sym is) in
+        let there : is_some (in_scope other scope) ≡ true = ap is_some had ∙ ap (λ n. is_some (in_scope n firsts)) same ∙ noted in
+        sym (found-behind other name e scope true is ∙ kept (in_scope other scope) there)
+      where
+        kept : (r : Option ℕ) → is_some r ≡ true → option_or r (Some e) ≡ r
+        kept None h = absurd (true≢false (sym h))
+        kept (Some x) h = refl
+
+-- a name that is not noted is noted behind the others
+pub tells_new : (firsts : List (List ℕ × ℕ)) (name : List ℕ) (e : ℕ) → StillTells firsts (firsts ++ (name, e) ∷ []) name e
+tells_new firsts name e scope tells other =
+    let b = pointwise nat_eq other name in
+    found-behind other name e firsts b refl ∙ ap (λ r. option_or r (cond b (Some e) None)) (tells other) ∙ sym (found-behind other name e scope b refl)
+
+-- a name that a map does not have goes last
+pub seen-insert : {K S : Type 0} (view : K → List ℕ) (m n : IndexMap K ℕ S) (k : K) (name : List ℕ) (e : ℕ)
+    → view k ≡ name → is_some (in_scope name (map {B = List ℕ × ℕ} (λ x. (view x.0, x.1)) m.entries)) ≡ false
     → n.entries ≡ insert_entry (λ x y. pointwise nat_eq (view x) (view y)) m.entries k e
-    → map (λ x. (view x.0, x.1)) n.entries ≡ scope ++ (name, e) ∷ []
-seen-insert view m n k name e scope seen called absent inserted =
-    let missing = lookup-seen view (pointwise nat_eq (view k)) m.entries ∙ ap (in_scope (view k)) seen ∙ ap (λ a. in_scope a scope) called ∙ absent in
+    → map {B = List ℕ × ℕ} (λ x. (view x.0, x.1)) n.entries ≡ map {B = List ℕ × ℕ} (λ x. (view x.0, x.1)) m.entries ++ (name, e) ∷ []
+seen-insert view m n k name e called absent inserted =
+    let seen : List (List ℕ × ℕ) = map {B = List ℕ × ℕ} (λ x. (view x.0, x.1)) m.entries in
+    let missing = lookup-seen view (pointwise nat_eq (view k)) m.entries ∙ ap (λ a. in_scope a seen) called ∙ nothing (in_scope name seen) absent in
     let last = inserted ∙ insert_entry-new (λ x y. pointwise nat_eq (view x) (view y)) m k e missing in
-    ap (map (λ x. (view x.0, x.1))) last ∙ map-append (λ x. (view x.0, x.1)) m.entries ((k, e) ∷ []) ∙ ap (λ s. s ++ (view k, e) ∷ []) seen
-    ∙ ap (λ a. scope ++ (a, e) ∷ []) called
+    ap (map {B = List ℕ × ℕ} (λ x. (view x.0, x.1))) last ∙ map-append (λ x. (view x.0, x.1)) m.entries ((k, e) ∷ [])
+    ∙ ap (λ a. seen ++ (a, e) ∷ []) called
+  where
+    nothing : (r : Option ℕ) → is_some r ≡ false → r ≡ None
+    nothing None h = refl
+    nothing (Some x) h = absurd (true≢false h)

@@ -1,5 +1,5 @@
 -- Scopes of names (3.2).
-use Rattle.std.specs.Prelude.{ℕ, Bool, nat_eq, List, [], ◌∷◌, ◌++◌, Option, None, Some}
+use Rattle.std.specs.Prelude.{◌≡◌, ℕ, nat_eq, List, [], ◌∷◌, ◌++◌, Option, None}
 use Rattle.std.specs.Cmp.Lexicographic.{pointwise}
 use Rattle.std.specs.Map.{lookup}
 use Rattle.std.specs.Option.{option_or}
@@ -20,3 +20,15 @@ found_in name (scope ∷ inner) = option_or (found_in name inner) (in_scope name
 
 abbrev pub found : List ℕ → OpenScopes → Option ℕ
 found name scopes = found_in name (scopes.outer ++ scopes.inner ∷ [])
+
+-- the file's own scope
+abbrev pub file_scope : OpenScopes → List (List ℕ × ℕ)
+file_scope scopes = elim scopes.outer [ [] ↦ scopes.inner | file ∷ rest ↦ file ]
+
+-- what these names stand for is what the scope declares them as first
+abbrev pub TellsFirst : List (List ℕ × ℕ) → List (List ℕ × ℕ) → Type 0
+TellsFirst firsts scope = (name : List ℕ) → in_scope name firsts ≡ in_scope name scope
+
+-- the same of a scope with one name more
+abbrev pub StillTells : List (List ℕ × ℕ) → List (List ℕ × ℕ) → List ℕ → ℕ → Type 0
+StillTells old new name e = (scope : List (List ℕ × ℕ)) → TellsFirst old scope → TellsFirst new (scope ++ (name, e) ∷ [])

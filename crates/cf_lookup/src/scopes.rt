@@ -1,5 +1,5 @@
-ghost use Rattle.std.specs.Prelude.{◌≡◌, ℕ, ◌<◌, ◌≤◌, ◌-◌, List, [], ◌∷◌, ◌++◌, length, take, IsTrue, None, IfOk, OnOk, OnErr, is_none, if◌then◌else◌};
-ghost use Rattle.cf_lookup.specs.Scope.{found, found_in, in_scope};
+ghost use Rattle.std.specs.Prelude.{◌≡◌, ℕ, ◌<◌, ◌≤◌, ◌-◌, ◌↔◌, List, [], ◌∷◌, ◌++◌, length, map, take, IsTrue, IfOk, OnOk, OnErr, is_none};
+ghost use Rattle.cf_lookup.specs.Scope.{found, found_in, in_scope, file_scope, StillTells};
 
 use cf_base::Memory;
 use indexmap::IndexMap;
@@ -39,18 +39,29 @@ impl EntityId {
     }
 }
 
-/// The names that one scope declares.
+/// A name and what it is declared as.
+#[derive(Drop)]
+struct Declared {
+    name: Vec<u8>,
+    entity: EntityId,
+}
+
+/// The names that one scope declares, in order, and what each is declared as first.
 #[derive(Drop)]
 struct Scope {
-    names: IndexMap<Vec<u8>, EntityId>,
+    declared: Vec<Declared>,
+    first: IndexMap<Vec<u8>, EntityId>,
 }
 
 impl Model for Scope {
     ghost use Rattle.std.specs.Prelude.{List, ℕ, map};
+    ghost use Rattle.cf_lookup.specs.Scope.{TellsFirst};
 
     ghost Value = { List (List ℕ × ℕ) };
 
-    ghost view = { λ s. map (λ e. (e.0.items, e.1)) s.names.entries };
+    ghost view = { λ s. map (λ d. (d.name.items, d.entity)) s.declared.items };
+
+    ghost invariant = { λ s. TellsFirst (map (λ e. (e.0.items, e.1)) s.first.entries) (map (λ d. (d.name.items, d.entity)) s.declared.items) };
 }
 
 impl Scope {
@@ -58,26 +69,46 @@ impl Scope {
         ensures { result ≡ [] }
     {
         Scope {
-            names: IndexMap::new(alloc),
+            declared: Vec::new(alloc),
+            first: IndexMap::new(alloc),
         }
     }
 
     fn get(&self, name: &[u8]) -> Option<EntityId>
         ensures { result ≡ in_scope name.now self.now }
     {
-        self.names.get(name).copied()
+        self.first.get(name).copied()
     }
 
-    /// Adds a name that the scope does not have.
+    /// Declares a name behind those that the scope has.
     fn add(&mut self, alloc: Global, name: &[u8], entity: EntityId) -> Result<(), Memory>
-        requires { in_scope name.now self.old ≡ None }
         ensures ok { OnOk result (self.new ≡ self.old ++ (name.now, entity) ∷ []) }
         ensures err { OnErr result (self.new ≡ self.old) }
     {
-        let name = Vec::from_slice(alloc, name)?;
-        self.names.insert(name, entity)?;
+        let own = Vec::from_slice(alloc, name)?;
+        self.declared.reserve(1)?;
+        note_first(alloc, &mut self.first, name, entity)?;
+        self.declared.push(Declared { name: own, entity }).unwrap();
         Ok(())
     }
+}
+
+/// Notes what a name is declared as, unless it is noted.
+fn note_first(
+    alloc: Global,
+    first: &mut IndexMap<Vec<u8>, EntityId>,
+    name: &[u8],
+    entity: EntityId,
+) -> Result<(), Memory>
+    ensures ok { OnOk result (StillTells (map (λ e. (e.0.items, e.1)) first.old.entries) (map (λ e. (e.0.items, e.1)) first.new.entries) name.now entity) }
+    ensures err { OnErr result (first.new.entries ≡ first.old.entries) }
+{
+    if first.contains_key(name) {
+        return Ok(());
+    }
+    let own = Vec::from_slice(alloc, name)?;
+    first.insert(own, entity)?;
+    Ok(())
 }
 
 /// The open scopes of a file (3.2).
@@ -129,18 +160,40 @@ impl Scopes {
         self.inner = self.outer.pop().unwrap();
     }
 
-    /// Declares a name in the innermost scope, and tells whether it was new there. A name that the scope has stays as it is.
+    /// Declares a name in the innermost scope, and tells whether it was new there. A name that the scope has stands for what it stood for.
     pub fn declare(&mut self, name: &[u8], entity: EntityId) -> Result<bool, Memory>
         ensures fresh { IfOk result (λ fresh. fresh ≡ is_none (in_scope name.now self.old.inner)) }
-        ensures declared { IfOk result (λ fresh. self.new.inner ≡ self.old.inner ++ (if fresh then (name.now, entity) ∷ [] else [])) }
+        ensures declared { OnOk result (self.new.inner ≡ self.old.inner ++ (name.now, entity) ∷ []) }
         ensures outer { self.new.outer ≡ self.old.outer }
         ensures err { OnErr result (self.new ≡ self.old) }
     {
-        if self.inner.get(name).is_some() {
-            return Ok(false);
-        }
+        let fresh = self.inner.get(name).is_none();
         self.inner.add(self.alloc, name, entity)?;
-        Ok(true)
+        Ok(fresh)
+    }
+
+    /// What the innermost scope itself declares the name as.
+    pub fn find_here(&self, name: &[u8]) -> Option<EntityId>
+        ensures { result ≡ in_scope name.now self.now.inner }
+    {
+        self.inner.get(name)
+    }
+
+    /// What the file's own scope declares the name as.
+    pub fn find_in_file(&self, name: &[u8]) -> Option<EntityId>
+        ensures { result ≡ in_scope name.now (file_scope self.now) }
+    {
+        match self.outer.as_slice().first() {
+            Some(file) => file.get(name),
+            None => self.inner.get(name),
+        }
+    }
+
+    /// Whether the file's own scope is the innermost.
+    pub fn is_file_scope(&self) -> bool
+        ensures { IsTrue result ↔ (self.now.outer ≡ []) }
+    {
+        self.outer.is_empty()
     }
 
     /// What the innermost scope that has the name declares it as.

@@ -2,7 +2,7 @@ use Rattle.std.proofs.Common.{◌≡◌, ◌<◌, ◌^◌, length, IsTrue, sym, 
 use Rattle.cf_types.specs.Table.{Table, IsTable, Names, is_normal}
 use Rattle.cf_elab.specs.Answer.{Answer, Made}
 use Rattle.cf_elab.specs.Env.{Env}
-use Rattle.cf_elab_env.specs.Holds.{Grows}
+use Rattle.cf_elab_env.specs.Holds.{EnumGiven, Grows}
 use Rattle.cf_elab_env.specs.SeenEnv.{env_seen}
 use Rattle.cf_elab_env.specs.Shut as shut
 use Rattle.cf_elab_env.proofs.Interned.{interned, with_type, type_entered-grows}
@@ -17,6 +17,7 @@ invariant_of-self-2 c =
     with_type env c.intern.new.self c.self.invariant c.args.ty place c.in_ok-id.ensures.ok c.intern.ensures.funs small
     (subst (λ (t : Table). Names t.funs (length t.types) (length t.funs) c.args.ty) back c.requires.known)
     (subst (λ (t : Table). IsTrue (is_normal t.types c.args.ty)) back c.requires.normal) c.requires.no_class
+    (subst (λ (e : Env). EnumGiven (length e.classes.enums) c.args.ty) (sym c.self.view_is) c.requires.enums)
 
 pub returns-clause-made : goal.returns-clause-made
 returns-clause-made c =

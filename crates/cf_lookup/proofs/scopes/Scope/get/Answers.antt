@@ -6,5 +6,6 @@ use Rattle.cf_lookup.proofs.scopes.Scope.get.Goals as goal
 
 pub returns : goal.returns
 returns c =
-    c.copied.ensures ∙ c.get.ensures.value ∙ lookup-seen (λ v. v.items) (pointwise nat_eq c.args.name.now) c.self.inside.names.entries
-    ∙ ap (in_scope c.args.name.now) c.self.view_is
+    let name = c.args.name.now in
+    c.copied.ensures ∙ c.get.ensures.value ∙ lookup-seen (λ v. v.items) (pointwise nat_eq name) c.self.inside.first.entries
+    ∙ c.self.invariant name ∙ ap (in_scope name) c.self.view_is
