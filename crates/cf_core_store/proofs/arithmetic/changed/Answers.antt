@@ -3,8 +3,8 @@ use Rattle.cf_core.specs.Store.{Number}
 use Rattle.cf_core.specs.Run.{Gives}
 use Rattle.cf_core.specs.Scalars.{operated}
 use Rattle.cf_base.specs.World.{Went}
-use Rattle.cf_core_store.specs.Answer.{Told}
-use Rattle.cf_core_store.specs.Store.{value_of}
+use Rattle.cf_core_objects.specs.Answer.{Told}
+use Rattle.cf_core_objects.specs.Store.{value_of}
 use Rattle.cf_core_store.proofs.Steps.{changed-stops, changed-goes}
 use Rattle.cf_core_store.proofs.arithmetic.changed.Goals as goal
 

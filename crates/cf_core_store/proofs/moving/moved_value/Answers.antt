@@ -1,0 +1,15 @@
+use Rattle.std.proofs.Common.{◌≡◌, ◌∙◌, [], ap, sym, subst}
+use Rattle.cf_base.specs.World.{Ran}
+use Rattle.cf_core.specs.Pointers as pointers
+use Rattle.cf_core.specs.Run.{Did}
+use Rattle.cf_core.specs.Scalars as scalars
+use Rattle.cf_core.specs.Store.{Value}
+use Rattle.cf_core_place.specs.Routes.{place_of}
+use Rattle.cf_core_objects.specs.declared.answer.Value.{Value as Given}
+use Rattle.cf_core_objects.specs.Answer.{Told}
+use Rattle.cf_core_objects.specs.Store.{state_of, value_of}
+use Rattle.cf_core_store.proofs.moving.moved_value.Goals as goal
+
+pub returns-in-At : goal.returns-in-At
+returns-in-At c = λ T e w.
+    subst (λ (x : Given). Told value_of c.moved_place.result (state_of T e c.args.objects.now) w (pointers.moved_value [] (value_of x) c.args.by (state_of T e c.args.objects.now) w)) (sym c.in-At.is) (c.moved_place.ensures T e w)
