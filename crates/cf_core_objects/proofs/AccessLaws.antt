@@ -1,7 +1,7 @@
 -- Reading and writing as they are where it is told what is at the place.
-use Rattle.std.proofs.Common.{◌≡◌, ◌∙◌, ℕ, Bool, true, false, not, [], Option, Some, Result, Ok, Err, refl, ap, sym}
+use Rattle.std.proofs.Common.{◌≡◌, ◌∙◌, Bool, true, false, not, [], Option, Some, Result, Ok, Err, refl, ap}
 use Rattle.cf_base.specs.World.{World, Ran, Went}
-use Rattle.cf_core.specs.Places.{Place, type_at, is_scalar}
+use Rattle.cf_core.specs.Places.{Place, type_at}
 use Rattle.cf_core.specs.Store.{Value, At, hold, is_usable, is_constant_place}
 use Rattle.cf_core.specs.Run.{State, Did, Gives, Act, ◌>>=◌, ◌>>◌, gives, malformed, undefined, state, when, need, valid, some_or, object_changed, not_alive, outside_array, no_value, write_to_const}
 use Rattle.cf_core.specs.Access.{used, first_value, read_place, write_place, use_place, followed, bound_to}

@@ -1,22 +1,19 @@
 -- What the runner's objects and locals become, as the meaning sees them.
-use Rattle.std.proofs.Common.{◌≡◌, ◌∙◌, ℕ, zero, suc, ◌<◌, Bool, true, false, ◌==◌, ◌+◌, nat_lt, if◌then◌else◌, List, [], ◌∷◌, ◌++◌, length, map, reverse, get_or, slice_get, slice_set, Option, Some, None, refl, ap, sym, arith, length-append}
+use Rattle.std.proofs.Common.{◌≡◌, ◌∙◌, ℕ, zero, suc, ◌<◌, Bool, true, false, ◌==◌, ◌+◌, if◌then◌else◌, List, [], ◌∷◌, ◌++◌, length, map, reverse, get_or, slice_get, slice_set, Option, Some, refl, ap, sym, arith, length-append}
 use Rattle.std.proofs.lemmas.Bool.Decides.{nat_tests}
 use Rattle.std.proofs.lemmas.List.{length-set}
 use Rattle.std.proofs.lemmas.Option.{slice_get_within, slice_get-get_or}
-use Rattle.cf_base.specs.World.{World, Went}
 use Rattle.cf_core.specs.FromTypes.{Tables}
 use Rattle.cf_core.specs.Types.{Name}
-use Rattle.cf_core.specs.Places.{Route, route_eq}
+use Rattle.cf_core.specs.Places.{Route}
 use Rattle.cf_core.specs.Store.{Value, Object, hold}
 use Rattle.cf_core.specs.Run.{State, Gives, Frame, upd, with_object}
 use Rattle.cf_core.specs.Run as run
-use Rattle.cf_core.specs.Access.{first_value}
 use Rattle.cf_core_place.specs.declared.part.Part.{Part}
 use Rattle.cf_core_place.specs.Routes.{route_of}
 use Rattle.cf_core_objects.specs.declared.answer.Value.{Value as Given}
 use Rattle.cf_core_objects.specs.declared.object.Cell.{Cell}
 use Rattle.cf_core_objects.specs.declared.object.Entered.{Entered}
-use Rattle.cf_core_objects.specs.declared.object.Held.{Held}
 use Rattle.cf_core_objects.specs.declared.object.Held.TheVariants as held
 use Rattle.cf_core_objects.specs.declared.object.Objects.{Objects}
 use Rattle.cf_core_objects.specs.Log.{value_of, noted, logged}

@@ -1,13 +1,13 @@
 -- What becomes of the state where an object is made, zeroed or ends.
-use Rattle.std.proofs.Common.{◌≡◌, ◌∙◌, ℕ, zero, suc, ◌<◌, ◌+◌, pos, Bool, true, false, ◌&&◌, ◌==◌, nat_lt, if◌then◌else◌, List, [], ◌∷◌, ◌++◌, length, map, reverse, slice_get, slice_set, Option, Some, None, Result, Ok, Err, refl, ap, sym, subst, arith, cond}
-use Rattle.std.specs.Prelude.{Vec, IfOk, find, option_map, bytes_eq}
+use Rattle.std.proofs.Common.{◌≡◌, ◌∙◌, ℕ, zero, suc, ◌<◌, ◌+◌, pos, Bool, true, false, ◌&&◌, ◌==◌, nat_lt, List, [], ◌∷◌, ◌++◌, length, map, reverse, slice_get, slice_set, Option, Some, None, Result, Ok, Err, refl, ap, sym, subst, arith, cond}
+use Rattle.std.specs.Prelude.{Vec, IfOk, find, bytes_eq}
 use Rattle.std.specs.Borrow.{Bor}
 use Rattle.std.specs.Global.{Global}
 use Rattle.std.proofs.lemmas.Bool.Decides.{nat_tests}
 use Rattle.std.proofs.lemmas.List.{length-set, reverse-append, map-append}
 use Rattle.cf_base.specs.World.{World, Ran, Went}
 use Rattle.cf_core.specs.FromTypes.{Tables}
-use Rattle.cf_core.specs.Types.{SourceType, Name, void, integer, array}
+use Rattle.cf_core.specs.Types.{SourceType, Name, integer, array}
 use Rattle.cf_base.specs.Integers.{convert as converted}
 use Rattle.cf_core.specs.Core.{item}
 use Rattle.cf_core.specs.Places.{Route, Place, inner, type_at}

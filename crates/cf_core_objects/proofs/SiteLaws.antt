@@ -1,10 +1,10 @@
 -- What a place is, by where it lies in its object.
-use Rattle.std.proofs.Common.{◌≡◌, ◌∙◌, ℕ, zero, suc, ◌≤◌, Bool, true, false, not, ◌==◌, if◌then◌else◌, List, [], ◌∷◌, length, drop, slice_get, Option, Some, None, refl, ap, sym, arith}
+use Rattle.std.proofs.Common.{◌≡◌, ◌∙◌, ℕ, zero, suc, ◌≤◌, Bool, true, false, ◌==◌, if◌then◌else◌, List, [], ◌∷◌, length, drop, slice_get, Option, Some, None, refl, ap, sym, arith}
 use Rattle.std.proofs.lemmas.Bool.Decides.{nat_tests}
 use Rattle.cf_core.specs.FromTypes.{Tables}
 use Rattle.cf_core.specs.Types.{SourceType, void, integer, enumeration, class, pointer, reference, array, takes, gives, data_member, function_member, const, is_array, is_class}
 use Rattle.cf_core.specs.Objects.{element_count}
-use Rattle.cf_core.specs.Places.{Route, type_at, is_scalar, is_reference, is_const, is_inside}
+use Rattle.cf_core.specs.Places.{Route, type_at, is_scalar, is_reference, is_const}
 use Rattle.cf_core.specs.Pointers.{element_of, bound_of}
 use Rattle.cf_core.specs.Store.{Value, Object, zero_of, is_constant_place, automatic}
 use Rattle.cf_run_tree.specs.declared.shape.Form.{Form}
@@ -15,7 +15,7 @@ use Rattle.cf_core_place.specs.declared.part.Part.{Part}
 use Rattle.cf_core_place.specs.declared.spot.Spot.{Spot}
 use Rattle.cf_core_place.specs.Routes.{list_of, route_of}
 use Rattle.cf_core_place.specs.Spots.{spot_of}
-use Rattle.cf_core_place.proofs.SpotLaws.{type-of, depth-of, at-depth, inside-of, constant-of, permanent-constant, literal-constant, usable, dead, plain_object}
+use Rattle.cf_core_place.proofs.SpotLaws.{type-of, depth-of, inside-of, constant-of, permanent-constant, literal-constant, usable, dead, plain_object}
 use Rattle.cf_core_objects.specs.declared.object.Cell.{Cell}
 use Rattle.cf_core_objects.specs.declared.object.Storage.{Storage}
 use Rattle.cf_core_objects.specs.declared.object.Storage.TheVariants as storage
@@ -173,8 +173,8 @@ site-of T c q s n so is_constant count is bound counts sorts constant =
       is_usable = usable (arrays bounds t) h (stored c.storage) c.is_gone π;
       is_dead = dead (arrays bounds t) h (stored c.storage) c.is_gone π;
       is_constant = stored-const (arrays bounds t) h c.storage c.is_gone π c.shape.is_const (slice_get bounds s.depth)
-        (constant-of bounds t h c.is_gone π s is ∙ const-at T c.shape bounds s.depth (depth-of bounds π s is))
-        ∙ ap (constant_with c.storage c.shape.is_const) (sym counts) ∙ sym constant;
+          (constant-of bounds t h c.is_gone π s is ∙ const-at T c.shape bounds s.depth (depth-of bounds π s is))
+          ∙ ap (constant_with c.storage c.shape.is_const) (sym counts) ∙ sym constant;
       bound = bound t;
     }
 

@@ -2,7 +2,7 @@
 use Rattle.std.specs.Prelude.{◌≡◌, Result, Ok, Err}
 use Rattle.cf_base.specs.Event.{Undefined}
 use Rattle.cf_base.specs.World.{World, Ran, Went, Stops}
-use Rattle.cf_core.specs.Run.{State, Act, Did, Gives, Malformed}
+use Rattle.cf_core.specs.Run.{State, Did, Gives, Malformed}
 use Rattle.cf_core_objects.specs.declared.answer.Stop.{Stop}
 use Rattle.cf_core_objects.specs.declared.answer.Stop.TheVariants as stop
 

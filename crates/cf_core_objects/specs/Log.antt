@@ -1,5 +1,5 @@
 -- What the parts of an object hold, by the log of what was done to them.
-use Rattle.std.specs.Prelude.{ℕ, suc, ◌<◌, ◌≡◌, Bool, true, false, if◌then◌else◌, List, [], ◌∷◌, ◌++◌, drop, pos, Option, Some, None, slice_get}
+use Rattle.std.specs.Prelude.{ℕ, suc, ◌≡◌, Bool, true, false, if◌then◌else◌, List, [], ◌∷◌, ◌++◌, drop, Option, Some, None, slice_get}
 use Rattle.cf_core.specs.Types.{SourceType}
 use Rattle.cf_core.specs.Places.{Route, route_eq, beyond, is_beyond, type_at}
 use Rattle.cf_core.specs.Store.{Value, Nothing, Missing, Built, Number, Null, At, Code, from_part, zero_of}

@@ -22,7 +22,6 @@ use Rattle.cf_core_objects.specs.declared.answer.Stop.{Stop}
 use Rattle.cf_core_objects.specs.declared.answer.Value.{Value as Given}
 use Rattle.cf_core_objects.specs.declared.answer.Value.TheVariants as given
 use Rattle.cf_core_objects.specs.Log.{logged}
-
 pub use Rattle.cf_core_objects.specs.Log.{value_of}
 
 abbrev pub as_number : Result ℤ Stop → Result Given Stop

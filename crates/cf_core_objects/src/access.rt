@@ -154,11 +154,7 @@ pub fn settle<'a>(objects: &mut Objects<'a>, place: Place, value: Value<'a>) -> 
 }
 
 /// A place gets its first value.
-fn settle_value<'a>(
-    objects: &mut Objects<'a>,
-    place: Place,
-    value: Value<'a>,
-) -> Result<(), Stop>
+fn settle_value<'a>(objects: &mut Objects<'a>, place: Place, value: Value<'a>) -> Result<(), Stop>
     ensures { (T : Tables) (e : Enter) (w : World) → Told (λ u. tt) result (state_of T e objects.new) w (settled_value (place_of place) (value_of value.entry) (state_of T e objects.old) w) }
 {
     match site_at(objects, place) {

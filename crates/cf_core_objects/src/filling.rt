@@ -66,12 +66,7 @@ pub fn write_bytes(objects: &mut Objects<'_>, place: Place, bytes: &[u8]) -> Res
 }
 
 /// The elements from this index on get these bytes.
-fn write_from(
-    objects: &mut Objects<'_>,
-    place: Place,
-    index: u32,
-    bytes: &[u8],
-) -> Result<(), Stop>
+fn write_from(objects: &mut Objects<'_>, place: Place, index: u32, bytes: &[u8]) -> Result<(), Stop>
     ensures { (T : Tables) (e : Enter) (w : World) → Told (λ u. tt) result (state_of T e objects.new) w (meaning.write_bytes (place_of place) index bytes.now (state_of T e objects.old) w) }
 {
     match bytes.split_first() {
@@ -87,12 +82,7 @@ fn write_from(
 }
 
 /// The element of this index gets this byte.
-fn write_byte(
-    objects: &mut Objects<'_>,
-    place: Place,
-    index: u32,
-    byte: u8,
-) -> Result<(), Stop>
+fn write_byte(objects: &mut Objects<'_>, place: Place, index: u32, byte: u8) -> Result<(), Stop>
     ensures { (T : Tables) (e : Enter) (w : World) → Told (λ u. tt) result (state_of T e objects.new) w (access.first_value (inner (core.item index) (place_of place)) (Number (convert Char (pos byte))) (state_of T e objects.old) w) }
 {
     match element(place, index) {

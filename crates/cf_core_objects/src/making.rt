@@ -168,11 +168,7 @@ pub fn literal_object<'a>(
 }
 
 /// The objects of static objects are made behind others, zeroed (8.4).
-fn push_statics(
-    alloc: Global,
-    cells: &mut Vec<Cell<'_>>,
-    statics: &[RunStatic],
-) -> Result<(), Stop>
+fn push_statics(alloc: Global, cells: &mut Vec<Cell<'_>>, statics: &[RunStatic]) -> Result<(), Stop>
     ensures { IfOk result (λ u. (T : Tables) → map (λ (c : Kept). object_of T (Some c)) cells.new.items ≡ map (λ (c : Kept). object_of T (Some c)) cells.old.items ++ map (λ x. zeroed_object [] (static_of T x).type) statics.now) }
 {
     match statics.split_first() {

@@ -113,11 +113,7 @@ fn distance_at<'a>(objects: &Objects<'_>, p: Place, q: Place) -> Result<Value<'a
 }
 
 /// The difference of two pointers (5.7).
-pub fn difference<'a>(
-    objects: &Objects<'_>,
-    x: Value<'_>,
-    y: Value<'_>,
-) -> Result<Value<'a>, Stop>
+pub fn difference<'a>(objects: &Objects<'_>, x: Value<'_>, y: Value<'_>) -> Result<Value<'a>, Stop>
     ensures { (T : Tables) (e : Enter) (w : World) → Told value_of result (state_of T e objects.now) w (pointers.difference_of [] (value_of x.entry) (value_of y.entry) (state_of T e objects.now) w) }
 {
     match x {

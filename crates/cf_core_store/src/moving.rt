@@ -16,11 +16,7 @@ use cf_core_objects::{Objects, Sort, Stop, Value, element, site_at};
 use cf_core_place::{Place, further, index, with_index};
 
 /// A place moved by a number of elements, within its array or to its end (5.7).
-fn moved_place<'a>(
-    objects: &Objects<'_>,
-    place: Place,
-    by: i64,
-) -> Result<Value<'a>, Stop>
+fn moved_place<'a>(objects: &Objects<'_>, place: Place, by: i64) -> Result<Value<'a>, Stop>
     ensures { (T : Tables) (e : Enter) (w : World) → Told value_of result (state_of T e objects.now) w (pointers.moved_place [] (place_of place) by (state_of T e objects.now) w) }
 {
     match site_at(objects, place) {
@@ -36,11 +32,7 @@ fn moved_place<'a>(
 }
 
 /// A pointer moved by a number of elements.
-fn moved_value<'a>(
-    objects: &Objects<'_>,
-    v: Value<'a>,
-    by: i64,
-) -> Result<Value<'a>, Stop>
+fn moved_value<'a>(objects: &Objects<'_>, v: Value<'a>, by: i64) -> Result<Value<'a>, Stop>
     ensures { (T : Tables) (e : Enter) (w : World) → Told value_of result (state_of T e objects.now) w (pointers.moved_value [] (value_of v.entry) by (state_of T e objects.now) w) }
 {
     match v {
@@ -51,11 +43,7 @@ fn moved_value<'a>(
 }
 
 /// A pointer moved by a value.
-pub fn moved_by<'a>(
-    objects: &Objects<'_>,
-    v: Value<'a>,
-    by: Value<'_>,
-) -> Result<Value<'a>, Stop>
+pub fn moved_by<'a>(objects: &Objects<'_>, v: Value<'a>, by: Value<'_>) -> Result<Value<'a>, Stop>
     ensures { (T : Tables) (e : Enter) (w : World) → Told value_of result (state_of T e objects.now) w (scalars.moved_by [] (value_of v.entry) (value_of by.entry) (state_of T e objects.now) w) }
 {
     match by {
@@ -65,11 +53,7 @@ pub fn moved_by<'a>(
 }
 
 /// A pointer and an integer, in either order (5.2.1, 5.7).
-pub fn indexed<'a>(
-    objects: &Objects<'_>,
-    x: Value<'a>,
-    y: Value<'a>,
-) -> Result<Value<'a>, Stop>
+pub fn indexed<'a>(objects: &Objects<'_>, x: Value<'a>, y: Value<'a>) -> Result<Value<'a>, Stop>
     ensures { (T : Tables) (e : Enter) (w : World) → Told value_of result (state_of T e objects.now) w (scalars.indexed [] (value_of x.entry) (value_of y.entry) (state_of T e objects.now) w) }
 {
     match x {
@@ -92,11 +76,7 @@ fn minus<'a>(v: Value<'a>) -> Option<Value<'a>>
 }
 
 /// A pointer moved back by a value, as `-=` moves it.
-fn changed_back<'a>(
-    objects: &Objects<'_>,
-    v: Value<'a>,
-    by: Value<'a>,
-) -> Result<Value<'a>, Stop>
+fn changed_back<'a>(objects: &Objects<'_>, v: Value<'a>, by: Value<'a>) -> Result<Value<'a>, Stop>
     ensures { (T : Tables) (e : Enter) (w : World) → Told value_of result (state_of T e objects.now) w (scalars.moved_by [] (value_of v.entry) (scalars.minus (value_of by.entry)) (state_of T e objects.now) w) }
 {
     match minus(by) {
@@ -122,11 +102,7 @@ pub fn changed_pointer<'a>(
 }
 
 /// A pointer minus a value (5.7).
-pub fn moved_back<'a>(
-    objects: &Objects<'_>,
-    v: Value<'a>,
-    by: Value<'_>,
-) -> Result<Value<'a>, Stop>
+pub fn moved_back<'a>(objects: &Objects<'_>, v: Value<'a>, by: Value<'_>) -> Result<Value<'a>, Stop>
     ensures { (T : Tables) (e : Enter) (w : World) → Told value_of result (state_of T e objects.now) w (pointers.moved_back [] (value_of v.entry) (value_of by.entry) (state_of T e objects.now) w) }
 {
     match by {

@@ -167,12 +167,7 @@ fn signed_value<'a>(op: UnaryOperator, kind: Kind, v: Value<'a>) -> Result<Value
 }
 
 /// An operator at two values.
-fn operated_value<'a>(
-    op: Arith,
-    kind: Kind,
-    x: Value<'a>,
-    y: Value<'a>,
-) -> Result<Value<'a>, Stop>
+fn operated_value<'a>(op: Arith, kind: Kind, x: Value<'a>, y: Value<'a>) -> Result<Value<'a>, Stop>
     ensures { (s : State) (w : World) → Told value_of result s w (scalars.operated op kind (value_of x.entry) (value_of y.entry) s w) }
 {
     number(operated(op, kind, x, y))
@@ -263,11 +258,7 @@ fn equal_number<'a>(objects: &Objects<'_>, x: Value<'_>, y: Value<'_>) -> Result
 }
 
 /// Whether two pointers are not equal, as 1 or 0.
-fn unequal_number<'a>(
-    objects: &Objects<'_>,
-    x: Value<'_>,
-    y: Value<'_>,
-) -> Result<Value<'a>, Stop>
+fn unequal_number<'a>(objects: &Objects<'_>, x: Value<'_>, y: Value<'_>) -> Result<Value<'a>, Stop>
     ensures { (T : Tables) (e : Enter) (w : World) → Told value_of result (state_of T e objects.now) w (values.unequal_number (value_of x.entry) (value_of y.entry) (state_of T e objects.now) w) }
 {
     match equal(objects, x, y) {

@@ -1,4 +1,4 @@
-use Rattle.std.proofs.Common.{◌≡◌, ◌∙◌, [], ap, sym, subst, true, false}
+use Rattle.std.proofs.Common.{◌∙◌, [], ap, sym, subst}
 use Rattle.cf_base.specs.World.{Ran}
 use Rattle.cf_core.specs.Access.{read_place, bound_to}
 use Rattle.cf_core.specs.Run.{Did, ◌>>=◌, gives, when}

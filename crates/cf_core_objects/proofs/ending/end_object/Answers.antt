@@ -1,4 +1,4 @@
-use Rattle.std.proofs.Common.{◌≡◌, ◌<◌, Some, length, slice_get, refl, sym, rules, true}
+use Rattle.std.proofs.Common.{◌<◌, length, refl, rules, true}
 use Rattle.std.proofs.lemmas.Option.{slice_get_read}
 use Rattle.std.specs.Vec.{with_item}
 use Rattle.cf_core_objects.specs.declared.object.Objects.{Objects}

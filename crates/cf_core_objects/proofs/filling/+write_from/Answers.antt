@@ -1,13 +1,7 @@
-use Rattle.std.proofs.Common.{◌≡◌, ◌∙◌, ◌+◌, pos, refl, sym, subst, ap, rules}
-use Rattle.cf_base.specs.Integers.{convert}
+use Rattle.std.proofs.Common.{◌≡◌, ◌∙◌, ◌+◌, refl, sym, subst, ap, rules}
 use Rattle.cf_base.specs.World.{Ran}
-use Rattle.cf_base.specs.declared.kind.Kind.TheVariants.{Char}
-use Rattle.cf_core.specs.Access.{first_value}
-use Rattle.cf_core.specs.Core.{item}
 use Rattle.cf_core.specs.Objects as objects
-use Rattle.cf_core.specs.Places.{inner}
 use Rattle.cf_core.specs.Run.{Did}
-use Rattle.cf_core.specs.Store.{Number}
 use Rattle.cf_core_place.specs.Routes.{place_of}
 use Rattle.cf_core_objects.specs.Answer.{Told, Stopped}
 use Rattle.cf_core_objects.specs.Store.{state_of}

@@ -1,4 +1,4 @@
-use Rattle.std.proofs.Common.{◌≡◌, ◌∙◌, Ok, refl, false}
+use Rattle.std.proofs.Common.{◌≡◌, ◌∙◌, refl, false}
 use Rattle.cf_core.specs.FromTypes.{Tables}
 use Rattle.cf_core_objects.specs.declared.object.Cell.{Cell}
 use Rattle.cf_core_objects.specs.declared.object.Storage.TheVariants as storage

@@ -1,4 +1,4 @@
-use Rattle.std.proofs.Common.{◌≡◌, ◌∙◌, ◌<◌, Some, length, refl, sym, subst, rules}
+use Rattle.std.proofs.Common.{◌∙◌, ◌<◌, Some, length, refl, sym, subst, rules}
 use Rattle.std.specs.Vec.{with_item}
 use Rattle.cf_base.specs.World.{Ran}
 use Rattle.cf_core.specs.Run.{Did, ◌>>◌, gives, declared_object, frame_changed, lists_local}

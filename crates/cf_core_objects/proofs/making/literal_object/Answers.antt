@@ -1,4 +1,4 @@
-use Rattle.std.proofs.Common.{◌≡◌, ◌∙◌, List, Option, Some, None, ap, sym, subst, map, reverse}
+use Rattle.std.proofs.Common.{◌∙◌, List, Some, None, ap, sym, subst, map, reverse}
 use Rattle.std.specs.Prelude.{find}
 use Rattle.cf_base.specs.World.{Ran}
 use Rattle.cf_core.specs.Objects.{found_literal}

@@ -1,4 +1,4 @@
-use Rattle.std.proofs.Common.{Option, Some, IfSome, sym, subst}
+use Rattle.std.proofs.Common.{Option, IfSome, sym, subst}
 use Rattle.cf_core.specs.FromTypes.{Tables}
 use Rattle.cf_core_place.specs.Routes.{route_of}
 use Rattle.cf_core_objects.specs.declared.object.Cell.{Cell}
