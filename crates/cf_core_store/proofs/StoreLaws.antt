@@ -1,19 +1,16 @@
 -- What operators give, by what is told of their operands.
-use Rattle.std.proofs.Common.{◌≡◌, ◌∙◌, ℕ, zero, suc, Bool, true, false, not, ◌&&◌, ◌||◌, ◌==◌, nat_lt, nat_le, if◌then◌else◌, List, [], ◌∷◌, ℤ, pos, negsuc, Option, Some, None, Result, Ok, Err, refl, ap, sym, subst}
-use Rattle.std.specs.Prelude.{neg_ℤ, ◌-ℤ◌}
+use Rattle.std.proofs.Common.{◌≡◌, ◌∙◌, ℕ, zero, suc, Bool, true, false, not, ◌&&◌, nat_le, if◌then◌else◌, [], ℤ, pos, negsuc, Option, Some, None, Result, Ok, Err, refl, ap, sym, subst}
+use Rattle.std.specs.Prelude.{neg_ℤ}
 use Rattle.cf_base.specs.Event.{Undefined}
 use Rattle.cf_base.specs.World.{World, Ran, Went, Stops}
-use Rattle.cf_base.specs.declared.arith.Arith.{Arith}
-use Rattle.cf_base.specs.declared.kind.Kind.{Kind}
 use Rattle.cf_core.specs.declared.operators.PointerOperator.{PointerOperator}
 use Rattle.cf_core.specs.Core.{item}
 use Rattle.cf_core.specs.Places.{Route, Place, inner, is_inside, place_eq}
 use Rattle.cf_core.specs.Pointers as pointers
 use Rattle.cf_core.specs.Pointers.{element_of, up_to, further, bound_of, same_array, truth_value}
-use Rattle.cf_core.specs.Run.{State, Did, Gives, Malformed, Act, ◌>>=◌, ◌>>◌, gives, need, valid, outside_array, not_alive, compared}
+use Rattle.cf_core.specs.Run.{State, Did, Gives, Malformed, ◌>>◌, gives, need, valid, outside_array, compared}
 use Rattle.cf_core.specs.Scalars as scalars
 use Rattle.cf_core.specs.Store.{Value, Number, At, is_dead}
-use Rattle.cf_core.specs.Types.{is_array}
 use Rattle.cf_core.specs.Places.{type_at}
 use Rattle.cf_core_place.specs.declared.part.Part.{Part}
 use Rattle.cf_core_place.specs.Routes.{route_of}

@@ -349,15 +349,15 @@ fn of_two<'a>(
 
 /// What is made of a value once it is there.
 pub fn apply<'a>(
-    op: Applied<'a>,
+    op: &Applied<'a>,
     v: Value<'a>,
     objects: &mut Objects<'a>,
 ) -> Result<Value<'a>, Stop>
-    ensures { (T : Tables) (e : Enter) (w : World) → Told value_of result (state_of T e objects.new) w (values.of_value T op.entry (value_of v.entry) (state_of T e objects.old) w) }
+    ensures { (T : Tables) (e : Enter) (w : World) → Told value_of result (state_of T e objects.new) w (values.of_value T op.now (value_of v.entry) (state_of T e objects.old) w) }
 {
     match op {
-        Applied::One(op) => of_one(objects, op, v),
-        Applied::Two(op, x) => of_two(objects, op, x, v),
+        Applied::One(op) => of_one(objects, *op, v),
+        Applied::Two(op, x) => of_two(objects, *op, *x, v),
         Applied::Truth => counted(v),
         Applied::Used => used(v),
     }

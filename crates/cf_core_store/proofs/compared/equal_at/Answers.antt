@@ -1,13 +1,9 @@
-use Rattle.std.proofs.Common.{◌≡◌, ◌∙◌, [], ap, sym, subst}
+use Rattle.std.proofs.Common.{sym, subst}
 use Rattle.cf_base.specs.World.{Ran}
-use Rattle.cf_core.specs.Pointers as pointers
 use Rattle.cf_core.specs.Run.{Did}
-use Rattle.cf_core.specs.Scalars as scalars
-use Rattle.cf_core.specs.Store.{Value}
 use Rattle.cf_core_place.specs.Routes.{place_of}
-use Rattle.cf_core_objects.specs.declared.answer.Value.{Value as Given}
 use Rattle.cf_core_objects.specs.Answer.{Told}
-use Rattle.cf_core_objects.specs.Store.{state_of, value_of}
+use Rattle.cf_core_objects.specs.Store.{state_of}
 use Rattle.cf_core_store.proofs.StoreLaws.{equality-as}
 use Rattle.cf_core_store.proofs.compared.equal_at.Goals as goal
 
