@@ -5,10 +5,10 @@ use Rattle.cf_base.specs.Event.{Event, Enter, In, Out, Undefined, Ended as Ended
 use Rattle.cf_core.specs.FromTypes.{Tables}
 use Rattle.cf_core.specs.Calls.{byte_value}
 use Rattle.cf_core.specs.Run.{gives}
-use Rattle.cf_core_store.specs.declared.answer.Stop.{Stop}
-use Rattle.cf_core_store.specs.declared.answer.Stop.TheVariants as stop
-use Rattle.cf_core_store.specs.declared.answer.Value.{Value as Given}
-use Rattle.cf_core_store.specs.Store.{value_of}
+use Rattle.cf_core_objects.specs.declared.answer.Stop.{Stop}
+use Rattle.cf_core_objects.specs.declared.answer.Stop.TheVariants as stop
+use Rattle.cf_core_objects.specs.declared.answer.Value.{Value as Given}
+use Rattle.cf_core_objects.specs.Store.{value_of}
 use Rattle.cf_core_run.specs.declared.mark.Doing.TheVariants as doing
 use Rattle.cf_core_run.specs.declared.state.Machine.{Machine}
 use Rattle.cf_core_run.specs.declared.state.Event.{Event as Seen}

@@ -4,7 +4,7 @@ use crate::machine::drive;
 use crate::types::End;
 use cf_base::{Boxed, Items, Kind, MemSink, MemSource, Memory, Name};
 use cf_core_run::Limits;
-use cf_core_store::Integer;
+use cf_core_objects::Integer;
 use cf_run_tree::{Form, Node, Program, RunFn, Shape, Signature};
 use std::alloc::Global;
 use std::process::Abort;
@@ -64,7 +64,10 @@ fn program(alloc: Global) -> Result<Program, Memory> {
         is_shared: false,
         is_local: false,
     })?;
-    Ok(Program { functions })
+    Ok(Program {
+        functions,
+        statics: Items::new(alloc),
+    })
 }
 
 /// Over the input `A`, where the first call on the input, or on the output, may fail, the run comes to this end, and puts these bytes.

@@ -2,14 +2,14 @@ ghost use Rattle.std.specs.Prelude.{◌≡◌};
 ghost use Rattle.cf_run_tree.specs.declared.program.Program.{Program};
 ghost use Rattle.cf_core_run.specs.Going.{event_of};
 ghost use Rattle.cf_core_run.specs.declared.mark.Doing.TheVariants as doing;
-ghost use Rattle.cf_core_store.specs.Store.{value_of};
+ghost use Rattle.cf_core_objects.specs.Store.{value_of};
 ghost use Rattle.cf_core_drive.specs.Run.{streams};
 ghost use Rattle.cf_core_drive.specs.Going.{Answers, Turns, Carries, run_end, given_byte};
 
 use crate::types::{End, Fault, Tally};
 use cf_base::{Failed, Sink, Source};
 use cf_core_run::{Doing, Event, Machine, RunEnd, Step};
-use cf_core_store::{Integer, Stop, Value};
+use cf_core_objects::{Stop, Value};
 use cf_run_tree::Program;
 
 /// How a run ends where a step ends it.
@@ -24,12 +24,12 @@ fn end_of(end: RunEnd) -> End
 }
 
 /// The value of a byte that was taken, or of the end of the input.
-fn byte_value(byte: Option<u8>) -> Value
+fn byte_value<'a>(byte: Option<u8>) -> Value<'a>
     ensures { value_of result ≡ given_byte byte }
 {
     match byte {
-        None => Value::Number(Integer::new(-1)),
-        Some(byte) => Value::Number(Integer::new(i64::from(byte))),
+        None => Value::Number(-1),
+        Some(byte) => Value::Number(i64::from(byte)),
     }
 }
 

@@ -1,4 +1,4 @@
-use cf_core_store::Integer;
+use cf_core_objects::Integer;
 use thiserror::Error;
 
 /// How a run ends.

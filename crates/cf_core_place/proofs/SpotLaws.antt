@@ -7,7 +7,7 @@ use Rattle.std.proofs.lemmas.Nat.{same_from_place}
 use Rattle.cf_core.specs.Types.{SourceType, array}
 use Rattle.cf_core.specs.Core.{item, past, field, within}
 use Rattle.cf_core.specs.Places.{Route, route_eq, type_at, is_inside, bound, is_const}
-use Rattle.cf_core.specs.Store.{Value, Object, automatic, is_usable, is_dead, is_constant_place, is_base_part}
+use Rattle.cf_core.specs.Store.{Value, Object, Storage, automatic, permanent, literal, is_usable, is_dead, is_constant_place, is_base_part}
 use Rattle.cf_core_place.specs.declared.spot.Spot.{Spot}
 use Rattle.cf_core_place.specs.Spots.{spot_of, item_of, item_at, past_of}
 use Rattle.cf_run_tree.specs.Tree.{arrays}
@@ -115,9 +115,9 @@ or-same : (b : Bool) → (b || b) ≡ b
 or-same true = refl
 or-same false = refl
 
-module _ (t : SourceType) (held : Route → Option Value) (is_gone : Bool) where
+module _ (t : SourceType) (held : Route → Option Value) (storage : Storage) (is_gone : Bool) where
   abbrev pub plain_object : Object
-  plain_object = record { type = t; held = held; life = λ π. None; storage = automatic; is_gone = is_gone }
+  plain_object = record { type = t; held = held; life = λ π. None; storage = storage; is_gone = is_gone }
 
   pub usable : (π : Route) → is_usable [] plain_object π ≡ not is_gone
   usable [] = and-true (not is_gone)
@@ -136,7 +136,7 @@ constant-with bounds t u s π le e = ap is_const e ∙ at-depth is_const false t
 
 -- an object is const where its scalars are
 pub constant-of : (bounds : List ℕ) (t : SourceType) (held : Route → Option Value) (is_gone : Bool) (π : Route) (s : Spot) → spot_of bounds π ≡ Some s
-    → is_constant_place [] (plain_object (arrays bounds t) held is_gone) π ≡ (if s.depth == length bounds then is_const t else false)
+    → is_constant_place [] (plain_object (arrays bounds t) held automatic is_gone) π ≡ (if s.depth == length bounds then is_const t else false)
 constant-of bounds t held is_gone [] s h =
     and-true (is_const (arrays bounds t)) ∙ constant-with bounds t (arrays bounds t) s [] (depth-of bounds [] s h) (type-of bounds t [] s h)
 constant-of bounds t held is_gone (item i ∷ π) s h = let x = of-item bounds i (spot_of bounds π) s h in
@@ -152,6 +152,16 @@ constant-of bounds t held is_gone (past ∷ π) s h = let x = of-past (spot_of b
     ∙ ap (λ b. b || c) (and-true c) ∙ or-same c ∙ e
 constant-of bounds t held is_gone (field i ∷ π) s h = absurd (cc)
 constant-of bounds t held is_gone (within w ∷ π) s h = absurd (cc)
+
+-- whether an object was declared const does not hang on where it is stored, and a string literal is constant everywhere
+pub permanent-constant : (t : SourceType) (held : Route → Option Value) (is_gone : Bool) (π : Route)
+    → is_constant_place [] (plain_object t held permanent is_gone) π ≡ is_constant_place [] (plain_object t held automatic is_gone) π
+permanent-constant t held is_gone [] = refl
+permanent-constant t held is_gone (s ∷ π) = ap (λ b. (is_const (type_at [] t (s ∷ π)) && true) || b) (permanent-constant t held is_gone π)
+
+pub literal-constant : (t : SourceType) (held : Route → Option Value) (is_gone : Bool) (π : Route) → is_constant_place [] (plain_object t held literal is_gone) π ≡ true
+literal-constant t held is_gone [] = refl
+literal-constant t held is_gone (s ∷ π) = ap (λ b. (is_const (type_at [] t (s ∷ π)) && true) || b) (literal-constant t held is_gone π) ∙ or-true (is_const (type_at [] t (s ∷ π)) && true)
 
 -- Two scalars are one where their numbers are equal.
 pub both : (x y : Bool) → (x && y) ≡ true → (x ≡ true) × (y ≡ true)

@@ -1,5 +1,5 @@
 -- How a call passes its arguments, how a function is entered, and how it ends.
-use Rattle.std.proofs.Common.{◌≡◌, ◌∙◌, ℕ, zero, suc, ◌+◌, ◌-◌, Bool, true, false, if◌then◌else◌, List, [], ◌∷◌, ◌++◌, length, slice_get, codes, bytes_eq, Option, Some, None, Bor, refl, ap, sym, subst, map, reverse, replicate, arith, length-append}
+use Rattle.std.proofs.Common.{◌≡◌, ◌∙◌, ℕ, zero, suc, ◌+◌, ◌-◌, Bool, true, false, if◌then◌else◌, List, [], ◌∷◌, ◌++◌, length, slice_get, codes, bytes_eq, Option, Some, None, option_map, Bor, refl, ap, sym, subst, map, reverse, replicate, arith, length-append}
 use Rattle.std.proofs.lemmas.List.{append-nil}
 use Rattle.std.proofs.Common.{append_assoc}
 use Rattle.std.specs.Global.{Global}
@@ -8,11 +8,12 @@ use Rattle.cf_base.specs.Event.{Enter, Ticks, Depth}
 use Rattle.cf_base.specs.World.{World, Ran, Went, spend_of, deeper, show}
 use Rattle.cf_core.specs.FromTypes.{Tables, taking}
 use Rattle.cf_core.specs.Types.{SourceType, parameters, result, is_class, gives as gives_type}
-use Rattle.cf_core.specs.Core.{more}
-use Rattle.cf_core.specs.Places.{Place}
-use Rattle.cf_core.specs.Store.{Value, Object, new_object, automatic}
-use Rattle.cf_core.specs.Run.{State, Frame, Did, Malformed, Act, ◌>>=◌, ◌>>◌, gives, malformed, some_or, when, upd, changed, with_frame, for_all}
-use Rattle.cf_core.specs.Objects.{settle, settled, result_place}
+use Rattle.cf_core.specs.Core.{Core, more, absent, pointer_call}
+use Rattle.cf_core.specs.Access.{used, place_type, use_place, read_place}
+use Rattle.cf_core.specs.Places.{Place, is_scalar, is_inside}
+use Rattle.cf_core.specs.Store.{Value, Code, new_object, automatic, is_usable}
+use Rattle.cf_core.specs.Run.{State, Frame, Did, Gives, Malformed, valid, need, undefined, outside_array, not_alive, no_value, Act, ◌>>=◌, ◌>>◌, gives, malformed, some_or, when, upd, changed, with_frame, for_all, state}
+use Rattle.cf_core.specs.Objects.{settle, settled, result_place, run_pointer}
 use Rattle.cf_core.specs.Calls.{Flow, Falls, body, root, enter, returned, local_count, end_object, name_function}
 use Rattle.cf_core.specs.Calls as calls
 use Rattle.cf_core.specs.Expressions.{arguments}
@@ -25,8 +26,9 @@ use Rattle.cf_run_tree.specs.declared.shape.Form.{Form}
 use Rattle.cf_run_tree.specs.declared.shape.Form.TheVariants as form
 use Rattle.cf_run_tree.specs.declared.shape.Shape.{Shape}
 use Rattle.cf_run_tree.specs.Tree.{core_of, kept, form_type, shape_type, object_type, signature_type, function_of, program_of}
-use Rattle.cf_core_store.specs.declared.store.Entered.{Entered}
-use Rattle.cf_core_store.specs.declared.store.Cell.{Cell}
+use Rattle.cf_core_objects.specs.declared.object.Entered.{Entered}
+use Rattle.cf_core_objects.specs.declared.object.Objects.{Objects}
+use Rattle.cf_core_objects.specs.declared.answer.Value.{Value as Given}
 use Rattle.cf_core_run.specs.declared.mark.Calling.{Calling}
 use Rattle.cf_core_run.specs.declared.mark.ValueMark.TheVariants as vm
 use Rattle.cf_core_run.specs.declared.mark.FlowMark.TheVariants as part
@@ -34,13 +36,12 @@ use Rattle.cf_core_run.specs.declared.mark.Mark.{Mark}
 use Rattle.cf_core_run.specs.declared.mark.Mark.TheVariants as mark
 use Rattle.cf_core_run.specs.declared.mark.Doing.TheVariants as doing
 use Rattle.cf_core_run.specs.declared.state.Machine.{Machine}
-use Rattle.cf_core_store.specs.Store.{state_of, objects_of, object_of, frame_of, local_object}
-use Rattle.cf_core_store.specs.Then.{◌▷◌}
-use Rattle.cf_core_run.specs.Going.{on_value, on_flow, finish, from_value, from_flow, world_of, GoesOn, EndsAs, OpensScope, valued, performed, cores, scoped, again, called, passing, pass_next, starting, go_parameters, library_by}
-use Rattle.cf_core_store.proofs.ThenLaws.{then-assoc, then-same}
+use Rattle.cf_core_objects.specs.Store.{state_of, value_of, frame_of, local_object}
+use Rattle.cf_core_objects.specs.Then.{◌▷◌}
+use Rattle.cf_core_run.specs.Going.{on_value, on_flow, finish, from_value, from_flow, world_of, GoesOn, EndsAs, OpensScope, valued, performed, cores, scoped, again, called, passing, pass_next, starting, go_callee, go_argument, go_parameters, library_by}
+use Rattle.cf_core_objects.proofs.ThenLaws.{then-assoc, then-same}
 use Rattle.cf_core_run.proofs.Laws.{pushed, value-stops}
 use Rattle.cf_core_run.proofs.Goes.{flow-pushed}
-use Rattle.cf_core_store.proofs.StoreLaws.{objects-push, length-push}
 
 taking-params : (ts : List SourceType) (r : SourceType) → parameters (taking ts (gives_type r false)) ≡ ts
 taking-params [] r = refl
@@ -72,87 +73,64 @@ pub class-none : (T : Tables) (f : Signature) → is_class (result (signature_ty
 class-none T f = ap is_class (signature-result T f) ∙ class-form T f.result.is_const f.result.form
 
 -- the arguments of a call begin
-pub start-goes : (T : Tables) (p : Program) (k : ℕ) (name : List ℕ) (f : Signature) (es : List Node) (into : Option Place) (c : Calling) (s : State) (w : World)
-    → c.name.now ≡ name → c.params.now ≡ f.params → c.rest.now ≡ es → c.made.items ≡ []
-    → starting T p k name (signature_type T f) (cores T p es) into s w ≡ passing T p k c s w
-start-goes T p k name f es into c s w en ep er em =
-    ap (λ ts. (arguments (again T p k) (program_of T p) ts (cores T p es) >>= (λ os. calls.run_named (again T p k) (program_of T p) name os None (result_place (signature_type T f) into))) s w) (signature-params T f)
-    ∙ ap (λ b. (arguments (again T p k) (program_of T p) (map (shape_type T) f.params) (cores T p es) >>= (λ os. calls.run_named (again T p k) (program_of T p) name os None (if b then into else None))) s w) (class-none T f)
-    ∙ ap (λ (n : List ℕ). (arguments (again T p k) (program_of T p) (map (shape_type T) f.params) (cores T p es) >>= (λ os. called T p k n os)) s w) (sym en)
-    ∙ ap (λ (ps : List Shape). (arguments (again T p k) (program_of T p) (map (shape_type T) ps) (cores T p es) >>= (λ os. called T p k c.name.now os)) s w) (sym ep)
-    ∙ ap (λ (es : List Node). (arguments (again T p k) (program_of T p) (map (shape_type T) c.params.now) (cores T p es) >>= (λ os. called T p k c.name.now os)) s w) (sym er)
-    ∙ ap (λ (made : List ℕ). (arguments (again T p k) (program_of T p) (map (shape_type T) c.params.now) (cores T p c.rest.now) >>= (λ os. called T p k c.name.now (made ++ os))) s w) (sym em)
+pub start-goes : (T : Tables) (p : Program) (k : ℕ) (f : Value) (g : Signature) (es : List Node) (into : Option Place) (c : Calling) (s : State) (w : World)
+    → value_of c.callee ≡ f → c.params.now ≡ g.params → c.rest.now ≡ es → c.made.items ≡ []
+    → starting T p k f (signature_type T g) (cores T p es) into s w ≡ passing T p k c s w
+start-goes T p k f g es into c s w en ep er em =
+    ap (λ ts. (arguments (again T p k) (program_of T p) ts (cores T p es) >>= (λ os. run_pointer (again T p k) (program_of T p) None f os (result_place (signature_type T g) into))) s w) (signature-params T g)
+    ∙ ap (λ b. (arguments (again T p k) (program_of T p) (map (shape_type T) g.params) (cores T p es) >>= (λ os. run_pointer (again T p k) (program_of T p) None f os (if b then into else None))) s w) (class-none T g)
+    ∙ ap (λ (n : Value). (arguments (again T p k) (program_of T p) (map (shape_type T) g.params) (cores T p es) >>= (λ os. called T p k n os)) s w) (sym en)
+    ∙ ap (λ (ps : List Shape). (arguments (again T p k) (program_of T p) (map (shape_type T) ps) (cores T p es) >>= (λ os. called T p k (value_of c.callee) os)) s w) (sym ep)
+    ∙ ap (λ (es : List Node). (arguments (again T p k) (program_of T p) (map (shape_type T) c.params.now) (cores T p es) >>= (λ os. called T p k (value_of c.callee) os)) s w) (sym er)
+    ∙ ap (λ (made : List ℕ). (arguments (again T p k) (program_of T p) (map (shape_type T) c.params.now) (cores T p c.rest.now) >>= (λ os. called T p k (value_of c.callee) (made ++ os))) s w) (sym em)
+
+-- a result of class type is built nowhere
+pub result-none : (T : Tables) (f : Signature) (into : Option Place) → result_place (signature_type T f) into ≡ None
+result-none T f into = ap (λ b. if b then into else None) (class-none T f)
+
+-- what is called through a pointer comes first
+pub pointer-goes : (T : Tables) (p : Program) (k : ℕ) (e : Core) (f : Signature) (es : List Node) (into : Option Place) (s : State) (w : World)
+    → valued T p k (pointer_call absent e (signature_type T f) (cores T p es)) into s w ≡ (valued T p k e None s w ▷ go_callee T p k f es)
+pointer-goes T p k e f es into s w =
+    ap (λ (q : Option Place). (valued T p k e None s w ▷ used) ▷ (λ x. arguments (again T p k) (program_of T p) (parameters (signature_type T f)) (cores T p es) >>= (λ os. run_pointer (again T p k) (program_of T p) None x os q))) (result-none T f into)
+    ∙ then-assoc (valued T p k e None s w) used (λ x. arguments (again T p k) (program_of T p) (parameters (signature_type T f)) (cores T p es) >>= (λ os. run_pointer (again T p k) (program_of T p) None x os None))
+    ∙ sym (ap (λ (q : Option Place). valued T p k e None s w ▷ (λ v. used v >>= (λ x. arguments (again T p k) (program_of T p) (parameters (signature_type T f)) (cores T p es) >>= (λ os. run_pointer (again T p k) (program_of T p) None x os q)))) (result-none T f None))
 
 -- all arguments are passed
 pub passing-end : (T : Tables) (p : Program) (k : ℕ) (c : Calling) (s : State) (w : World) → c.params.now ≡ [] → c.rest.now ≡ []
-    → passing T p k c s w ≡ called T p k c.name.now c.made.items s w
+    → passing T p k c s w ≡ called T p k (value_of c.callee) c.made.items s w
 passing-end T p k c s w ep er =
-    ap (λ (ps : List Shape). (arguments (again T p k) (program_of T p) (map (shape_type T) ps) (cores T p c.rest.now) >>= (λ os. called T p k c.name.now (c.made.items ++ os))) s w) ep
-    ∙ ap (λ (es : List Node). (arguments (again T p k) (program_of T p) [] (cores T p es) >>= (λ os. called T p k c.name.now (c.made.items ++ os))) s w) er
-    ∙ ap (λ os. called T p k c.name.now os s w) (append-nil c.made.items)
-
-pub passing-more : (T : Tables) (p : Program) (k : ℕ) (c : Calling) (e : Node) (es : List Node) (s : State) (w : World) → c.params.now ≡ [] → c.rest.now ≡ e ∷ es
-    → passing T p k c s w ≡ Went Malformed w
-passing-more T p k c e es s w ep er =
-    ap (λ (ps : List Shape). (arguments (again T p k) (program_of T p) (map (shape_type T) ps) (cores T p c.rest.now) >>= (λ os. called T p k c.name.now (c.made.items ++ os))) s w) ep
-    ∙ ap (λ (es : List Node). (arguments (again T p k) (program_of T p) [] (cores T p es) >>= (λ os. called T p k c.name.now (c.made.items ++ os))) s w) er
-
-pub passing-few : (T : Tables) (p : Program) (k : ℕ) (c : Calling) (t : Shape) (ts : List Shape) (s : State) (w : World) → c.params.now ≡ t ∷ ts → c.rest.now ≡ []
-    → passing T p k c s w ≡ Went Malformed w
-passing-few T p k c t ts s w ep er =
-    ap (λ (ps : List Shape). (arguments (again T p k) (program_of T p) (map (shape_type T) ps) (cores T p c.rest.now) >>= (λ os. called T p k c.name.now (c.made.items ++ os))) s w) ep
-    ∙ ap (λ (es : List Node). (arguments (again T p k) (program_of T p) (shape_type T t ∷ map (shape_type T) ts) (cores T p es) >>= (λ os. called T p k c.name.now (c.made.items ++ os))) s w) er
+    ap (λ (ps : List Shape). (arguments (again T p k) (program_of T p) (map (shape_type T) ps) (cores T p c.rest.now) >>= (λ os. called T p k (value_of c.callee) (c.made.items ++ os))) s w) ep
+    ∙ ap (λ (es : List Node). (arguments (again T p k) (program_of T p) [] (cores T p es) >>= (λ os. called T p k (value_of c.callee) (c.made.items ++ os))) s w) er
+    ∙ ap (λ os. called T p k (value_of c.callee) os s w) (append-nil c.made.items)
 
 pub passing-next : (T : Tables) (p : Program) (k : ℕ) (c left : Calling) (t : Shape) (e : Node) (s : State) (w : World) → c.params.now ≡ t ∷ left.params.now → c.rest.now ≡ e ∷ left.rest.now
-    → left.name.now ≡ c.name.now → left.made.items ≡ c.made.items → passing T p k c s w ≡ pass_next T p k left t e s w
+    → left.callee ≡ c.callee → left.made.items ≡ c.made.items → passing T p k c s w ≡ pass_next T p k left t e s w
 passing-next T p k c left t e s w ep er en em =
-    ap (λ (ps : List Shape). (arguments (again T p k) (program_of T p) (map (shape_type T) ps) (cores T p c.rest.now) >>= (λ os. called T p k c.name.now (c.made.items ++ os))) s w) ep
-    ∙ ap (λ (es : List Node). (arguments (again T p k) (program_of T p) (shape_type T t ∷ map (shape_type T) left.params.now) (cores T p es) >>= (λ os. called T p k c.name.now (c.made.items ++ os))) s w) er
-    ∙ ap (λ (n : List ℕ). (arguments (again T p k) (program_of T p) (shape_type T t ∷ map (shape_type T) left.params.now) (more (core_of T e) (cores T p left.rest.now)) >>= (λ os. called T p k n (c.made.items ++ os))) s w) (sym en)
-    ∙ ap (λ (made : List ℕ). (arguments (again T p k) (program_of T p) (shape_type T t ∷ map (shape_type T) left.params.now) (more (core_of T e) (cores T p left.rest.now)) >>= (λ os. called T p k left.name.now (made ++ os))) s w) (sym em)
+    ap (λ (ps : List Shape). (arguments (again T p k) (program_of T p) (map (shape_type T) ps) (cores T p c.rest.now) >>= (λ os. called T p k (value_of c.callee) (c.made.items ++ os))) s w) ep
+    ∙ ap (λ (es : List Node). (arguments (again T p k) (program_of T p) (shape_type T t ∷ map (shape_type T) left.params.now) (cores T p es) >>= (λ os. called T p k (value_of c.callee) (c.made.items ++ os))) s w) er
+    ∙ ap (λ (n : Given). (arguments (again T p k) (program_of T p) (shape_type T t ∷ map (shape_type T) left.params.now) (more (core_of T e) (cores T p left.rest.now)) >>= (λ os. called T p k (value_of n) (c.made.items ++ os))) s w) (sym en)
+    ∙ ap (λ (made : List ℕ). (arguments (again T p k) (program_of T p) (shape_type T t ∷ map (shape_type T) left.params.now) (more (core_of T e) (cores T p left.rest.now)) >>= (λ os. called T p k (value_of left.callee) (made ++ os))) s w) (sym em)
     ∙ behind (settled [] (root s.next) (valued T p k (core_of T e) (Some (root s.next)))
     (record s { next = suc s.next; object = upd s.next (new_object (shape_type T t) automatic) s.object }) w)
-    (arguments (again T p k) (program_of T p) (map (shape_type T) left.params.now) (cores T p left.rest.now)) s.next (λ os. called T p k left.name.now (left.made.items ++ os))
+    (arguments (again T p k) (program_of T p) (map (shape_type T) left.params.now) (cores T p left.rest.now)) s.next (λ os. called T p k (value_of left.callee) (left.made.items ++ os))
   where
     behind : (r : Ran (Did (Unit {0}))) (A : Act (List ℕ)) (o : ℕ) (g : List ℕ → Act Value)
         → ((r ▷ (λ u. A >>= (λ os. gives (o ∷ os)))) ▷ g) ≡ (r ▷ (λ u. A >>= (λ os. g (o ∷ os))))
     behind r A o g = then-assoc r (λ u. A >>= (λ os. gives (o ∷ os))) g
         ∙ then-same r (λ u. (A >>= (λ os. gives (o ∷ os))) >>= g) (λ u. A >>= (λ os. g (o ∷ os))) (λ u s w. then-assoc (A s w) (λ os. gives (o ∷ os)) g)
 
-pub pushed-state : (T : Tables) (e : Entered) (cells : List Cell) (t : Shape)
-    → (let s = state_of T e cells in record s { next = suc s.next; object = upd s.next (new_object (shape_type T t) automatic) s.object })
-    ≡ state_of T e (cells ++ record { shape = t; held = None; is_gone = false } ∷ [])
-pushed-state T e cells t =
-    let c : Cell = record { shape = t; held = None; is_gone = false } in
-    let mk : ℕ → (ℕ → Object) → State = λ n ob. record { next = n; object = ob; literals = []; reached = []; finished = []; frame = frame_of e } in
-    ap (λ n. mk n (upd (length cells) (object_of T (Some c)) (objects_of T cells))) (sym (length-push cells c))
-    ∙ ap (λ ob. mk (length (cells ++ c ∷ [])) ob) (sym (objects-push T cells c))
+-- what is left of a parameter once its object is there
+abbrev pub pass_rest : Tables → Program → ℕ → Calling → Node → ℕ → Act Value
+pass_rest T p k left e o =
+    settled [] (root o) (valued T p k (core_of T e) (Some (root o)))
+    >> (arguments (again T p k) (program_of T p) (map (shape_type T) left.params.now) (cores T p left.rest.now) >>= (λ os. called T p k (value_of left.callee) (left.made.items ++ o ∷ os)))
 
-next-goes-at : (p : Program) (old : Machine) (stack : Vec Mark Global) (cells : Vec Cell Global) (left : Calling) (t : Shape) (e : Bor Node)
-    → cells.items ≡ old.cells.items ++ record { shape = t; held = None; is_gone = false } ∷ []
-    → stack.items ≡ old.stack.items ++ mark.Value old.fuel (vm.Argument left (length old.cells.items)) ∷ []
-    → GoesOn p (λ T o. from_value T p old (pass_next T p old.fuel left t e.now) o) None
-    (record old { stack = stack; cells = cells; doing = doing.Evaluate e (Some (length old.cells.items)) })
-next-goes-at p old stack cells left t e ec es = record {
-  same = λ T o.
-      let n = length old.cells.items in
-      let w = world_of old.ticks o in
-      let V = valued T p old.fuel (core_of T e.now) (Some (root n)) in
-      let A = arguments (again T p old.fuel) (program_of T p) (map (shape_type T) left.params.now) (cores T p left.rest.now) >>= (λ os. called T p old.fuel left.name.now (left.made.items ++ n ∷ os)) in
-      ap (λ (s : State). finish T p o (on_value T p (reverse old.stack.items) ((V s w ▷ settle [] (root n)) ▷ (λ u. A)))) (pushed-state T old.entered old.cells.items t)
-      ∙ ap (λ (l : List Cell). finish T p o (on_value T p (reverse old.stack.items) ((V (state_of T old.entered l) w ▷ settle [] (root n)) ▷ (λ u. A)))) (sym ec)
-      ∙ ap (λ r. finish T p o (on_value T p (reverse old.stack.items) r)) (then-assoc (V (state_of T old.entered cells.items) w) (settle [] (root n)) (λ u. A))
-      ∙ sym (ap (λ (ms : List Mark). finish T p o (on_value T p (reverse ms) (V (state_of T old.entered cells.items) w))) es
-      ∙ ap (λ (ms : List Mark). finish T p o (on_value T p ms (V (state_of T old.entered cells.items) w))) (pushed old.stack.items (mark.Value old.fuel (vm.Argument left n))));
-}
-
-pub next-goes : (p : Program) (old : Machine) (stack : Vec Mark Global) (cells : Vec Cell Global) (left : Calling) (t : Shape) (e : Bor Node) (n : ℕ) → n ≡ length old.cells.items
-    → cells.items ≡ old.cells.items ++ record { shape = t; held = None; is_gone = false } ∷ []
-    → stack.items ≡ old.stack.items ++ mark.Value old.fuel (vm.Argument left n) ∷ []
-    → GoesOn p (λ T o. from_value T p old (pass_next T p old.fuel left t e.now) o) None (record old { stack = stack; cells = cells; doing = doing.Evaluate e (Some n) })
-next-goes p old stack cells left t e n is ec es =
-    subst (λ (n : ℕ). GoesOn p (λ T o. from_value T p old (pass_next T p old.fuel left t e.now) o) None (record old { stack = stack; cells = cells; doing = doing.Evaluate e (Some n) })) (sym is)
-    (next-goes-at p old stack cells left t e ec (es ∙ ap (λ (n : ℕ). old.stack.items ++ mark.Value old.fuel (vm.Argument left n) ∷ []) is))
+pub pass-goes : (T : Tables) (p : Program) (k : ℕ) (left : Calling) (e : Node) (o : ℕ) (s : State) (w : World)
+    → pass_rest T p k left e o s w ≡ (valued T p k (core_of T e) (Some (root o)) s w ▷ go_argument T p k left o)
+pass-goes T p k left e o s w =
+    then-assoc (valued T p k (core_of T e) (Some (root o)) s w) (settle [] (root o))
+    (λ u. arguments (again T p k) (program_of T p) (map (shape_type T) left.params.now) (cores T p left.rest.now) >>= (λ os. called T p k (value_of left.callee) (left.made.items ++ o ∷ os)))
 
 -- A function is entered.
 spends : {A : Type 0} (t : ℕ) (w : World) (go : World → Ran A) → (t ≡ 0 → ⊥) → spend_of t w go ≡ go (record w { ticks = t - 1 })
@@ -173,7 +151,7 @@ pub enter-ticks : (p : Program) (m : Machine) (f : RunFn) (args : List ℕ) → 
     → EndsAs (λ T o. from_value T p m (enter (again T p m.fuel) (function_of T f) args None None) o) Ticks
 enter-ticks p m f args h = record {
   same = λ T o. ap (λ t. finish T p o (on_value T p (reverse m.stack.items)
-      (spend_of t (world_of m.ticks o) (λ w. deeper m.entered.depth w (λ depth. entering T p m.fuel f args (state_of T m.entered m.cells.items) depth w))))) h
+      (spend_of t (world_of m.ticks o) (λ w. deeper m.entered.depth w (λ depth. entering T p m.fuel f args (state_of T m.entered m.objects) depth w))))) h
       ∙ ap (finish T p o) (value-stops T p (reverse m.stack.items) Ticks o.trace);
 }
 
@@ -181,8 +159,8 @@ pub enter-depth : (p : Program) (m : Machine) (f : RunFn) (args : List ℕ) → 
     → EndsAs (λ T o. from_value T p m (enter (again T p m.fuel) (function_of T f) args None None) o) Depth
 enter-depth p m f args h d = record {
   same = λ T o. ap (λ r. finish T p o (on_value T p (reverse m.stack.items) r))
-      (spends m.ticks (world_of m.ticks o) (λ w. deeper m.entered.depth w (λ depth. entering T p m.fuel f args (state_of T m.entered m.cells.items) depth w)) h
-      ∙ ap (λ d. deeper d (record (world_of m.ticks o) { ticks = m.ticks - 1 }) (λ depth. entering T p m.fuel f args (state_of T m.entered m.cells.items) depth (record (world_of m.ticks o) { ticks = m.ticks - 1 }))) d)
+      (spends m.ticks (world_of m.ticks o) (λ w. deeper m.entered.depth w (λ depth. entering T p m.fuel f args (state_of T m.entered m.objects) depth w)) h
+      ∙ ap (λ d. deeper d (record (world_of m.ticks o) { ticks = m.ticks - 1 }) (λ depth. entering T p m.fuel f args (state_of T m.entered m.objects) depth (record (world_of m.ticks o) { ticks = m.ticks - 1 }))) d)
       ∙ ap (finish T p o) (value-stops T p (reverse m.stack.items) Depth o.trace);
 }
 
@@ -224,7 +202,7 @@ pub enter-goes : (p : Program) (m : Machine) (f : Bor RunFn) (args : Vec ℕ Glo
     (record m { stack = stack; entered = e; ticks = m.ticks - 1; doing = doing.Body f args })
 enter-goes p m f args e stack ht hd en el es et ea ed ei = record {
   same = λ T o.
-      let S = state_of T m.entered m.cells.items in
+      let S = state_of T m.entered m.objects in
       let w : World = record (world_of m.ticks o) { ticks = m.ticks - 1 } in
       let v : World = show (Enter f.now.name) w in
       let R : State → Ran (Did Flow) = λ s. again T p m.fuel (body (function_of T f.now) args.items) s v in
@@ -233,9 +211,9 @@ enter-goes p m f args e stack ht hd en el es et ea ed ei = record {
       ∙ deepens m.entered.depth w (λ depth. entering T p m.fuel f.now args.items S depth w) hd
       ∙ ap (λ depth. entering T p m.fuel f.now args.items S depth w) (sym ed)
       ∙ ap (λ (fr : Frame). (R (with_frame fr S) ▷ (λ flow. changed (with_frame (frame_of m.entered)) >> returned (result (signature_type T f.now.signature)) flow))) (sym (entered-frame T f.now args.items e en el es et ea))
-      ∙ ap (λ t. (R (state_of T e m.cells.items) ▷ (λ flow. changed (with_frame (frame_of m.entered)) >> returned t flow))) (signature-result T f.now.signature))
-      ∙ sym (ap (λ (ms : List Mark). finish T p o (on_flow T p (reverse ms) (R (state_of T e m.cells.items)))) ei
-      ∙ ap (λ (ms : List Mark). finish T p o (on_flow T p ms (R (state_of T e m.cells.items)))) (pushed m.stack.items (mark.Back m.fuel f.now.signature.result m.entered)));
+      ∙ ap (λ t. (R (state_of T e m.objects) ▷ (λ flow. changed (with_frame (frame_of m.entered)) >> returned t flow))) (signature-result T f.now.signature))
+      ∙ sym (ap (λ (ms : List Mark). finish T p o (on_flow T p (reverse ms) (R (state_of T e m.objects)))) ei
+      ∙ ap (λ (ms : List Mark). finish T p o (on_flow T p ms (R (state_of T e m.objects)))) (pushed m.stack.items (mark.Back m.fuel f.now.signature.result m.entered)));
 }
 
 -- The body of a function.
@@ -252,7 +230,7 @@ begin-goes p m opened f args b stack hf ei opens is = record {
   same = λ T o.
       let k = m.fuel - 1 in
       ap (λ n. from_flow T p m (again T p n (body (function_of T f.now) args.items)) o) (let h : m.fuel ≡ suc (m.fuel - 1) = omega (arith, hf) in h)
-      ∙ ap (λ r. finish T p o (on_flow T p (reverse m.stack.items) r)) (body-starts T p k f.now args.items (state_of T m.entered m.cells.items) (world_of m.ticks o))
+      ∙ ap (λ r. finish T p o (on_flow T p (reverse m.stack.items) r)) (body-starts T p k f.now args.items (state_of T m.entered m.objects) (world_of m.ticks o))
       ∙ sym (flow-pushed T p (record m { fuel = k }) stack k (part.Parameters args) (scoped T p k (performed T p k (core_of T f.now.body))) o ei)
       ∙ opens.same T p (performed T p k (core_of T f.now.body)) o
       ∙ ap (λ (n : Node). from_flow T p opened (performed T p k (core_of T n)) o) (sym is)
@@ -261,11 +239,11 @@ begin-goes p m opened f args b stack hf ei opens is = record {
 
 -- a parameter has its value, and the other arguments come
 pub argument-passes : (T : Tables) (p : Program) (k : ℕ) (c : Calling) (made : Vec ℕ Global) (object : ℕ) (s : State) (w : World) → made.items ≡ c.made.items ++ object ∷ []
-    → (arguments (again T p k) (program_of T p) (map (shape_type T) c.params.now) (cores T p c.rest.now) >>= (λ os. called T p k c.name.now (c.made.items ++ object ∷ os))) s w
+    → (arguments (again T p k) (program_of T p) (map (shape_type T) c.params.now) (cores T p c.rest.now) >>= (λ os. called T p k (value_of c.callee) (c.made.items ++ object ∷ os))) s w
     ≡ passing T p k (record c { made = made }) s w
 argument-passes T p k c made object s w is =
-    then-same (arguments (again T p k) (program_of T p) (map (shape_type T) c.params.now) (cores T p c.rest.now) s w) (λ os. called T p k c.name.now (c.made.items ++ object ∷ os)) (λ os. called T p k c.name.now (made.items ++ os))
-    (λ os s w. ap (λ (l : List ℕ). called T p k c.name.now l s w) (sym (ap (λ (l : List ℕ). l ++ os) is ∙ append_assoc c.made.items (object ∷ []) os)))
+    then-same (arguments (again T p k) (program_of T p) (map (shape_type T) c.params.now) (cores T p c.rest.now) s w) (λ os. called T p k (value_of c.callee) (c.made.items ++ object ∷ os)) (λ os. called T p k (value_of c.callee) (made.items ++ os))
+    (λ os s w. ap (λ (l : List ℕ). called T p k (value_of c.callee) l s w) (sym (ap (λ (l : List ℕ). l ++ os) is ∙ append_assoc c.made.items (object ∷ []) os)))
 
 -- a function of the library is called
 pub library-goes : (T : Tables) (p : Program) (name args : List ℕ) (b : Bool) (s : State) (w : World) → bytes_eq name (codes "getchar") ≡ b
@@ -285,15 +263,48 @@ library-goes T p name args b s w is =
 
 -- a function is called by its name
 pub called-library : (T : Tables) (p : Program) (k : ℕ) (name args : List ℕ) (s : State) (w : World) → calls.is_library name ≡ true
-    → called T p k name args s w ≡ calls.run_library name args s w
+    → called T p k (Code name) args s w ≡ calls.run_library name args s w
 called-library T p k name args s w is = ap (λ (b : Bool). let r : Act Value = elim b [
   | true ↦ calls.run_library name args
   | false ↦ calls.enter_found (again T p k) (calls.function_named (program_of T p) name) args None None
 ] in r s w) is
 
 pub called-function : (T : Tables) (p : Program) (k : ℕ) (name args : List ℕ) (s : State) (w : World) → calls.is_library name ≡ false
-    → called T p k name args s w ≡ calls.enter_found (again T p k) (calls.function_named (program_of T p) name) args None None s w
+    → called T p k (Code name) args s w ≡ calls.enter_found (again T p k) (calls.function_named (program_of T p) name) args None None s w
 called-function T p k name args s w is = ap (λ (b : Bool). let r : Act Value = elim b [
   | true ↦ calls.run_library name args
   | false ↦ calls.enter_found (again T p k) (calls.function_named (program_of T p) name) args None None
 ] in r s w) is
+
+-- What stands behind a test that was passed.
+module _ (x : Value) (s : State) (w : World) where
+  behind-valid : (b : Bool) (next : Act Value) → (valid b >> next) s w ≡ Went (Gives x s) w → next s w ≡ Went (Gives x s) w
+  behind-valid true next e = e
+  behind-valid false next e = absurd (cc)
+
+  behind-need : (b : Bool) (act : ℕ) (next : Act Value) → (need b act >> next) s w ≡ Went (Gives x s) w → next s w ≡ Went (Gives x s) w
+  behind-need true act next e = e
+  behind-need false act next e = absurd (cc)
+
+  some-there : (r : Option Value) → some_or r (undefined no_value) s w ≡ Went (Gives x s) w → r ≡ Some x
+  some-there None e = absurd (cc)
+  some-there (Some v) e = ap Some (let z : v ≡ x = cc in z)
+
+  -- a value that was read stands there
+  read-found : (q : Place) → read_place [] q s w ≡ Went (Gives x s) w → (s.object q.object).held q.route ≡ Some x
+  read-found q e =
+      let rest : Act Value = state >>= (λ t. some_or ((t.object q.object).held q.route) (undefined no_value)) in
+      let c = is_inside [] (s.object q.object).type q.route in
+      let d = is_usable [] (s.object q.object) q.route in
+      some-there ((s.object q.object).held q.route)
+      (behind-need d not_alive rest
+      (behind-need c outside_array (need d not_alive >> rest)
+      (sym (then-assoc (need c outside_array s w) (λ u. need d not_alive) (λ u. rest))
+      ∙ behind-valid (is_scalar (place_type [] s q)) (use_place [] q >> rest) e)))
+
+-- the value of the first parameter
+pub first-found : (T : Tables) (e : Entered) (objects : Objects) (made rest : List ℕ) (object : ℕ) (v : Given) (w : World) → made ≡ object ∷ rest
+    → read_place [] (root object) (state_of T e objects) w ≡ Went (Gives (value_of v) (state_of T e objects)) w
+    → option_map value_of (Some v) ≡ calls.argument made (state_of T e objects)
+first-found T e objects made rest object v w is h =
+    sym (read-found (value_of v) (state_of T e objects) w (root object) h) ∙ sym (ap (λ (l : List ℕ). calls.argument l (state_of T e objects)) is)

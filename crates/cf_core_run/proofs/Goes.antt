@@ -10,7 +10,9 @@ use Rattle.cf_core.specs.Calls.{Flow, root}
 use Rattle.cf_run_tree.specs.declared.node.Node.{Node}
 use Rattle.cf_run_tree.specs.declared.program.Program.{Program}
 use Rattle.cf_run_tree.specs.Tree.{core_of}
-use Rattle.cf_core_store.specs.declared.store.Entered.{Entered}
+use Rattle.cf_core_objects.specs.declared.object.Entered.{Entered}
+use Rattle.cf_core_place.specs.declared.part.Place.{Place as Spot}
+use Rattle.cf_core_place.specs.Routes.{place_of}
 use Rattle.cf_core_run.specs.declared.mark.ValueMark.{ValueMark}
 use Rattle.cf_core_run.specs.declared.mark.ValueMark.TheVariants as vm
 use Rattle.cf_core_run.specs.declared.mark.TestMark.{TestMark}
@@ -21,9 +23,9 @@ use Rattle.cf_core_run.specs.declared.mark.Mark.{Mark}
 use Rattle.cf_core_run.specs.declared.mark.Mark.TheVariants as mark
 use Rattle.cf_core_run.specs.declared.mark.Doing.TheVariants as doing
 use Rattle.cf_core_run.specs.declared.state.Machine.{Machine}
-use Rattle.cf_core_store.specs.Store.{state_of, frame_of}
-use Rattle.cf_core_store.specs.Then.{◌▷◌}
-use Rattle.cf_core_run.specs.Going.{on_value, on_flow, finish, from_value, from_flow, world_of, Outside, GoesOn, OpensScope, valued, go_value, go_test, go_flow, go_scope, go_declared, OpensWhole, full, closed}
+use Rattle.cf_core_objects.specs.Store.{state_of, frame_of}
+use Rattle.cf_core_objects.specs.Then.{◌▷◌}
+use Rattle.cf_core_run.specs.Going.{whole_place, OpensInner, on_value, on_flow, finish, from_value, from_flow, world_of, Outside, GoesOn, OpensScope, valued, go_value, go_test, go_flow, go_scope, go_declared, OpensWhole, full, closed}
 use Rattle.cf_core_run.proofs.Laws.{pushed}
 
 -- a part is evaluated first
@@ -33,7 +35,7 @@ pub down-goes : (p : Program) (old : Machine) (stack : Vec Mark Global) (m : Val
     (record old { stack = stack; doing = doing.Evaluate e None })
 down-goes p old stack m n e items is = record {
   same = λ T o.
-      let S = state_of T old.entered old.cells.items in
+      let S = state_of T old.entered old.objects in
       let w = world_of old.ticks o in
       sym (ap (λ (ms : List Mark). finish T p o (on_value T p (reverse ms) (valued T p old.fuel (core_of T e.now) None S w))) items
       ∙ ap (λ (ms : List Mark). finish T p o (on_value T p ms (valued T p old.fuel (core_of T e.now) None S w))) (pushed old.stack.items (mark.Value old.fuel m))
@@ -52,7 +54,7 @@ test-goes p old opened m n e opens is = record {
 
 pub initialise-goes : (p : Program) (old opened : Machine) (object : ℕ) (n : Node) (e : Bor Node) → OpensWhole old opened (test.Declared object) → e.now ≡ n
     → GoesOn p (λ T o. from_flow T p old (λ s w. full T p old.fuel (valued T p old.fuel (core_of T n) (Some (root object))) s w ▷ go_declared T p old.fuel object) o) None
-    (record opened { doing = doing.Evaluate e (Some object) })
+    (record opened { doing = doing.Evaluate e (Some (whole_place object)) })
 initialise-goes p old opened object n e opens is = record {
   same = λ T o. opens.same T p (valued T p old.fuel (core_of T n) (Some (root object))) o
       ∙ ap (λ k. from_value T p opened (valued T p k (core_of T n) (Some (root object))) o) (sym opens.fuel)
@@ -61,23 +63,23 @@ initialise-goes p old opened object n e opens is = record {
 
 -- the newest mark gets a value, or the way in which a statement ended
 pub value-pops : (T : Tables) (p : Program) (old : Machine) (ms : List Mark) (m : Mark) (v : Value) (o : Outside) → old.stack.items ≡ ms ++ m ∷ []
-    → from_value T p old (gives v) o ≡ finish T p o (on_value T p (m ∷ reverse ms) (Went (Gives v (state_of T old.entered old.cells.items)) (world_of old.ticks o)))
+    → from_value T p old (gives v) o ≡ finish T p o (on_value T p (m ∷ reverse ms) (Went (Gives v (state_of T old.entered old.objects)) (world_of old.ticks o)))
 value-pops T p old ms m v o items =
-    ap (λ (ms : List Mark). finish T p o (on_value T p (reverse ms) (Went (Gives v (state_of T old.entered old.cells.items)) (world_of old.ticks o)))) items
-    ∙ ap (λ (ms : List Mark). finish T p o (on_value T p ms (Went (Gives v (state_of T old.entered old.cells.items)) (world_of old.ticks o)))) (pushed ms m)
+    ap (λ (ms : List Mark). finish T p o (on_value T p (reverse ms) (Went (Gives v (state_of T old.entered old.objects)) (world_of old.ticks o)))) items
+    ∙ ap (λ (ms : List Mark). finish T p o (on_value T p ms (Went (Gives v (state_of T old.entered old.objects)) (world_of old.ticks o)))) (pushed ms m)
 
 pub flow-pops : (T : Tables) (p : Program) (old : Machine) (ms : List Mark) (m : Mark) (flow : Flow) (o : Outside) → old.stack.items ≡ ms ++ m ∷ []
-    → from_flow T p old (gives flow) o ≡ finish T p o (on_flow T p (m ∷ reverse ms) (Went (Gives flow (state_of T old.entered old.cells.items)) (world_of old.ticks o)))
+    → from_flow T p old (gives flow) o ≡ finish T p o (on_flow T p (m ∷ reverse ms) (Went (Gives flow (state_of T old.entered old.objects)) (world_of old.ticks o)))
 flow-pops T p old ms m flow o items =
-    ap (λ (ms : List Mark). finish T p o (on_flow T p (reverse ms) (Went (Gives flow (state_of T old.entered old.cells.items)) (world_of old.ticks o)))) items
-    ∙ ap (λ (ms : List Mark). finish T p o (on_flow T p ms (Went (Gives flow (state_of T old.entered old.cells.items)) (world_of old.ticks o)))) (pushed ms m)
+    ap (λ (ms : List Mark). finish T p o (on_flow T p (reverse ms) (Went (Gives flow (state_of T old.entered old.objects)) (world_of old.ticks o)))) items
+    ∙ ap (λ (ms : List Mark). finish T p o (on_flow T p ms (Went (Gives flow (state_of T old.entered old.objects)) (world_of old.ticks o)))) (pushed ms m)
 
 -- a mark that waits for the end of a statement
 pub flow-pushed : (T : Tables) (p : Program) (old : Machine) (stack : Vec Mark Global) (k : ℕ) (m : FlowMark) (act : Act Flow) (o : Outside)
     → stack.items ≡ old.stack.items ++ mark.Flow k m ∷ []
     → from_flow T p (record old { stack = stack }) act o ≡ from_flow T p old (λ s w. act s w ▷ go_flow T p k m) o
 flow-pushed T p old stack k m act o items =
-    let S = state_of T old.entered old.cells.items in
+    let S = state_of T old.entered old.objects in
     let w = world_of old.ticks o in
     ap (λ (ms : List Mark). finish T p o (on_flow T p (reverse ms) (act S w))) items
     ∙ ap (λ (ms : List Mark). finish T p o (on_flow T p ms (act S w))) (pushed old.stack.items (mark.Flow k m))
@@ -90,7 +92,7 @@ scope-opens old stack scope items is = record {
       let w = world_of old.ticks o in
       sym (flow-pushed T p (record old { entered = x }) stack old.fuel (part.Scope old.entered.scope) act o items
       ∙ ap (λ (l : List ℕ). finish T p o (on_flow T p (reverse old.stack.items)
-      (act (record (state_of T old.entered old.cells.items) { frame = record (frame_of old.entered) { scope = reverse l } }) w ▷ go_scope T p old.fuel old.entered.scope.items))) is);
+      (act (record (state_of T old.entered old.objects) { frame = record (frame_of old.entered) { scope = reverse l } }) w ▷ go_scope T p old.fuel old.entered.scope.items))) is);
   fuel = refl;
 }
 
@@ -100,14 +102,56 @@ pub whole-opens : (old : Machine) (first stack : Vec Mark Global) (m : TestMark)
 whole-opens old first stack m temporaries one two is = record {
   same = λ T p act o.
       let k = old.fuel in
-      let S = state_of T old.entered old.cells.items in
+      let S = state_of T old.entered old.objects in
       let w = world_of old.ticks o in
-      let R = act (state_of T (record old.entered { temporaries = temporaries }) old.cells.items) w in
+      let R = act (state_of T (record old.entered { temporaries = temporaries }) old.objects) w in
       let ends : Act Value = λ s w. act s w ▷ closed T p k (reverse old.entered.temporaries.items) in
       sym (ap (λ (ms : List Mark). finish T p o (on_value T p (reverse ms) R)) two
       ∙ ap (λ (ms : List Mark). finish T p o (on_value T p ms R)) (pushed first.items (mark.Value k (vm.Whole old.entered.temporaries)))
-      ∙ ap (λ (ms : List Mark). finish T p o (on_value T p (reverse ms) (ends (state_of T (record old.entered { temporaries = temporaries }) old.cells.items) w))) one
-      ∙ ap (λ (ms : List Mark). finish T p o (on_value T p ms (ends (state_of T (record old.entered { temporaries = temporaries }) old.cells.items) w))) (pushed old.stack.items (mark.Test k m))
+      ∙ ap (λ (ms : List Mark). finish T p o (on_value T p (reverse ms) (ends (state_of T (record old.entered { temporaries = temporaries }) old.objects) w))) one
+      ∙ ap (λ (ms : List Mark). finish T p o (on_value T p ms (ends (state_of T (record old.entered { temporaries = temporaries }) old.objects) w))) (pushed old.stack.items (mark.Test k m))
       ∙ ap (λ (l : List ℕ). finish T p o (on_flow T p (reverse old.stack.items) (ends (record S { frame = record (frame_of old.entered) { temporaries = reverse l } }) w ▷ go_test T p k m))) is);
   fuel = refl;
+}
+
+-- the same inside an expression
+pub inner-opens : (old : Machine) (first stack : Vec Mark Global) (m : ValueMark) (temporaries : Vec ℕ Global) → first.items ≡ old.stack.items ++ mark.Value old.fuel m ∷ []
+    → stack.items ≡ first.items ++ mark.Value old.fuel (vm.Whole old.entered.temporaries) ∷ [] → temporaries.items ≡ []
+    → OpensInner old (record old { stack = stack; entered = record old.entered { temporaries = temporaries } }) m
+inner-opens old first stack m temporaries one two is = record {
+  same = λ T p act o.
+      let k = old.fuel in
+      let S = state_of T old.entered old.objects in
+      let w = world_of old.ticks o in
+      let R = act (state_of T (record old.entered { temporaries = temporaries }) old.objects) w in
+      let ends : Act Value = λ s w. act s w ▷ closed T p k (reverse old.entered.temporaries.items) in
+      sym (ap (λ (ms : List Mark). finish T p o (on_value T p (reverse ms) R)) two
+      ∙ ap (λ (ms : List Mark). finish T p o (on_value T p ms R)) (pushed first.items (mark.Value k (vm.Whole old.entered.temporaries)))
+      ∙ ap (λ (ms : List Mark). finish T p o (on_value T p (reverse ms) (ends (state_of T (record old.entered { temporaries = temporaries }) old.objects) w))) one
+      ∙ ap (λ (ms : List Mark). finish T p o (on_value T p ms (ends (state_of T (record old.entered { temporaries = temporaries }) old.objects) w))) (pushed old.stack.items (mark.Value k m))
+      ∙ ap (λ (l : List ℕ). finish T p o (on_value T p (reverse old.stack.items) (ends (record S { frame = record (frame_of old.entered) { temporaries = reverse l } }) w ▷ go_value T p k m))) is);
+  fuel = refl;
+}
+
+-- an initialiser in a full expression inside an expression
+pub inner-goes : (p : Program) (old opened : Machine) (m : ValueMark) (q : Spot) (e : Bor Node) → OpensInner old opened m
+    → GoesOn p (λ T o. from_value T p old (λ s w. full T p old.fuel (valued T p old.fuel (core_of T e.now) (Some (place_of q))) s w ▷ go_value T p old.fuel m) o) None
+    (record opened { doing = doing.Evaluate e (Some q) })
+inner-goes p old opened m q e opens = record {
+  same = λ T o. opens.same T p (valued T p old.fuel (core_of T e.now) (Some (place_of q))) o
+      ∙ ap (λ k. from_value T p opened (valued T p k (core_of T e.now) (Some (place_of q))) o) (sym opens.fuel);
+}
+
+-- an initialiser of an object comes first, and the mark says what its value leads to
+pub object-goes : (p : Program) (old : Machine) (stack : Vec Mark Global) (m : ValueMark) (object : ℕ) (n : Node) (e : Bor Node)
+    → stack.items ≡ old.stack.items ++ mark.Value old.fuel m ∷ [] → e.now ≡ n
+    → GoesOn p (λ T o. from_value T p old (λ s w. valued T p old.fuel (core_of T n) (Some (root object)) s w ▷ go_value T p old.fuel m) o) None
+    (record old { stack = stack; doing = doing.Evaluate e (Some (whole_place object)) })
+object-goes p old stack m object n e items is = record {
+  same = λ T o.
+      let S = state_of T old.entered old.objects in
+      let w = world_of old.ticks o in
+      sym (ap (λ (ms : List Mark). finish T p o (on_value T p (reverse ms) (valued T p old.fuel (core_of T e.now) (Some (root object)) S w))) items
+      ∙ ap (λ (ms : List Mark). finish T p o (on_value T p ms (valued T p old.fuel (core_of T e.now) (Some (root object)) S w))) (pushed old.stack.items (mark.Value old.fuel m))
+      ∙ ap (λ (n : Node). finish T p o (on_value T p (reverse old.stack.items) (valued T p old.fuel (core_of T n) (Some (root object)) S w ▷ go_value T p old.fuel m))) is);
 }

@@ -18,11 +18,11 @@ use Rattle.cf_run_tree.specs.declared.node.Binary.{Binary}
 use Rattle.cf_run_tree.specs.declared.node.Binary.TheVariants as two
 use Rattle.cf_run_tree.specs.declared.shape.ObjectType.{ObjectType}
 use Rattle.cf_run_tree.specs.Tree.{core_step, core_of, applied, joined}
-use Rattle.cf_core_store.specs.Then.{◌▷◌}
+use Rattle.cf_core_objects.specs.Then.{◌▷◌}
 use Rattle.cf_core_run.specs.Labels.{row, is_case, is_default}
 
 -- a node is of one of the forms
-form_of : (n : Node) → (x : Node-F Node) × (n ≡ roll-Node x)
+pub form_of : (n : Node) → (x : Node-F Node) × (n ≡ roll-Node x)
 form_of = ind-Node (λ n. (x : Node-F Node) × (n ≡ roll-Node x)) (λ x y is. (x, refl))
 
 case-unary : (T : Tables) (z : ℤ) (op : Unary) (c : Core) → is_case z (applied T op c) ≡ false

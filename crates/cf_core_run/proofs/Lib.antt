@@ -2,8 +2,10 @@ mod CallLaws
 mod Goes
 mod LabelLaws
 mod Laws
+mod ListLaws
 mod Nodes
 mod ShapeLaws
 mod StatementLaws
+mod StaticLaws
 mod TemporaryLaws
 mod WholeLaws

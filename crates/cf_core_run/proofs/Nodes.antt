@@ -1,8 +1,8 @@
 -- What each expression does first, and what is left of it then.
-use Rattle.std.proofs.Common.{◌≡◌, ◌∙◌, ℕ, [], Option, None, refl, ap, sym}
+use Rattle.std.proofs.Common.{◌≡◌, ◌∙◌, ℕ, List, [], Option, None, Bor, refl, ap, sym}
 use Rattle.cf_base.specs.World.{World, Ran, Went, Stops}
 use Rattle.cf_core.specs.FromTypes.{Tables}
-use Rattle.cf_core.specs.Core.{Core}
+use Rattle.cf_core.specs.Core.{Core, absent, pointer_call}
 use Rattle.cf_core.specs.Places.{Place}
 use Rattle.cf_core.specs.Store.{Value, At}
 use Rattle.cf_core.specs.Run.{State, Did, Gives, Exits, Malformed, Act, ◌>>=◌, gives}
@@ -16,13 +16,14 @@ use Rattle.cf_run_tree.specs.declared.node.Unary.TheVariants as one
 use Rattle.cf_run_tree.specs.declared.node.Binary.{Binary}
 use Rattle.cf_run_tree.specs.declared.node.Binary.TheVariants as two
 use Rattle.cf_run_tree.specs.declared.program.Program.{Program}
-use Rattle.cf_run_tree.specs.Tree.{core_of, applied as made, joined}
-use Rattle.cf_run_tree.proofs.Views.{core-Apply, core-Join, core-And, core-Or, core-Conditional}
-use Rattle.cf_core_store.specs.declared.results.Applied.TheVariants as applied
-use Rattle.cf_core_store.specs.Then.{◌▷◌}
-use Rattle.cf_core_run.specs.Going.{valued, go_and, go_or, go_choice}
-use Rattle.cf_core_store.specs.Values.{of_value, of_two, ready, placed_value, kept_place, put_at, changed_at, stepped_at, by_used}
-use Rattle.cf_core_store.proofs.ThenLaws.{then-assoc, then-same, placed-then}
+use Rattle.cf_run_tree.specs.Tree.{core_of, signature_type, applied as made, joined}
+use Rattle.cf_run_tree.specs.declared.program.Signature.{Signature}
+use Rattle.cf_run_tree.proofs.Views.{core-PointerCall, core-Apply, core-Join, core-And, core-Or, core-Conditional}
+use Rattle.cf_core_objects.specs.Then.{◌▷◌}
+use Rattle.cf_core_run.specs.Going.{valued, cores, go_and, go_or, go_choice, go_callee}
+use Rattle.cf_core_store.specs.Values.{of_one, of_two, ready, placed_value, kept_place, put_at, changed_at, stepped_at, by_used}
+use Rattle.cf_core_run.proofs.CallLaws.{pointer-goes}
+use Rattle.cf_core_objects.proofs.ThenLaws.{then-assoc, then-same, placed-then}
 
 then-unit : {A : Type 0} (r : Ran (Did A)) → (r ▷ gives) ≡ r
 then-unit (Went (Gives a s) w) = refl
@@ -31,7 +32,7 @@ then-unit (Went Malformed w) = refl
 then-unit (Stops e t) = refl
 
 one-goes : (T : Tables) (p : Program) (k : ℕ) (op : Unary) (c : Core) (into : Option Place) (s : State) (w : World)
-    → valued T p k (made T op c) into s w ≡ (valued T p k c None s w ▷ of_value T (applied.One op))
+    → valued T p k (made T op c) into s w ≡ (valued T p k c None s w ▷ of_one T op)
 one-goes T p k one.Read c into s w = placed-then (valued T p k c None s w) (read_place [])
 one-goes T p k one.Address c into s w =
     then-same (valued T p k c None s w) used (λ v. used v >>= by_used one.Address) (λ v s w. sym (then-unit (used v s w)))
@@ -73,7 +74,7 @@ two-goes T p k two.Index a b into s w = used-both (valued T p k a None s w) (val
 two-goes T p k (two.Point op) a b into s w = used-both (valued T p k a None s w) (valued T p k b None) (pointer_op [] op)
 
 pub node-Apply : (T : Tables) (p : Program) (k : ℕ) (n : Node) (op : Unary) (e : Node) (into : Option Place) (s : State) (w : World) → n ≡ node.Apply op e
-    → valued T p k (core_of T n) into s w ≡ (valued T p k (core_of T e) None s w ▷ of_value T (applied.One op))
+    → valued T p k (core_of T n) into s w ≡ (valued T p k (core_of T e) None s w ▷ of_one T op)
 node-Apply T p k n op e into s w is =
     ap (λ c. valued T p k c into s w) (ap (core_of T) is ∙ core-Apply T op e) ∙ one-goes T p k op (core_of T e) into s w
 
@@ -98,3 +99,10 @@ pub node-Conditional : (T : Tables) (p : Program) (k : ℕ) (n c a b : Node) (in
     → valued T p k (core_of T n) into s w ≡ (valued T p k (core_of T c) None s w ▷ go_choice T p k a b)
 node-Conditional T p k n c a b into s w is =
     ap (λ c. valued T p k c into s w) (ap (core_of T) is ∙ core-Conditional T c a b) ∙ then-assoc (valued T p k (core_of T c) None s w) truth_of _
+
+pub node-PointerCall : (T : Tables) (p : Program) (k : ℕ) (n e : Node) (f : Signature) (all : List Node) (es : Bor (List Node)) (into : Option Place) (s : State) (w : World) → n ≡ node.PointerCall e f all
+    → es.now ≡ all → valued T p k (core_of T n) into s w ≡ (valued T p k (core_of T e) None s w ▷ go_callee T p k f es.now)
+node-PointerCall T p k n e f all es into s w is same =
+    ap (λ c. valued T p k c into s w) (ap (core_of T) is ∙ core-PointerCall T e f all)
+    ∙ ap (λ (l : List Node). valued T p k (pointer_call absent (core_of T e) (signature_type T f) (cores T p l)) into s w) (sym same)
+    ∙ pointer-goes T p k (core_of T e) f es.now into s w

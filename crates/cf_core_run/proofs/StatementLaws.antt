@@ -28,9 +28,9 @@ use Rattle.cf_run_tree.specs.declared.node.Node.TheVariants as node
 use Rattle.cf_run_tree.specs.declared.program.Program.{Program}
 use Rattle.cf_run_tree.specs.Tree.{core_of, program_of}
 use Rattle.cf_run_tree.proofs.Views.{core-Full, core-If, core-Switch}
-use Rattle.cf_core_store.specs.declared.answer.Stop.{Stop}
-use Rattle.cf_core_store.specs.declared.store.Entered.{Entered}
-use Rattle.cf_core_store.specs.declared.store.Cell.{Cell}
+use Rattle.cf_core_objects.specs.declared.answer.Stop.{Stop}
+use Rattle.cf_core_objects.specs.declared.object.Entered.{Entered}
+use Rattle.cf_core_objects.specs.declared.object.Objects.{Objects}
 use Rattle.cf_core_run.specs.declared.mark.Repeated.{Repeated}
 use Rattle.cf_core_run.specs.declared.mark.FlowMark.TheVariants as part
 use Rattle.cf_core_run.specs.declared.mark.TestMark.TheVariants as test
@@ -38,11 +38,11 @@ use Rattle.cf_core_run.specs.declared.mark.Mark.{Mark}
 use Rattle.cf_core_run.specs.declared.mark.Mark.TheVariants as mark
 use Rattle.cf_core_run.specs.declared.mark.Doing.TheVariants as doing
 use Rattle.cf_core_run.specs.declared.state.Machine.{Machine}
-use Rattle.cf_core_store.specs.Answer.{Told}
-use Rattle.cf_core_store.specs.Store.{state_of}
-use Rattle.cf_core_store.specs.Then.{◌▷◌}
+use Rattle.cf_core_objects.specs.Answer.{Told}
+use Rattle.cf_core_objects.specs.Store.{state_of}
+use Rattle.cf_core_objects.specs.Then.{◌▷◌}
 use Rattle.cf_core_run.specs.Going.{on_flow, finish, from_flow, world_of, Outside, GoesOn, EndsAs, OpensScope, valued, performed, performed_all, cores, maybe_core, scoped, again, loop_of, first_turn, body_turn, go_test, go_if, go_declared, selected, full, closed}
-use Rattle.cf_core_store.proofs.ThenLaws.{then-assoc, then-same, stops-on}
+use Rattle.cf_core_objects.proofs.ThenLaws.{then-assoc, then-same, stops-on}
 use Rattle.cf_core_run.proofs.Laws.{flow-stops}
 use Rattle.cf_core_run.proofs.Goes.{flow-pushed}
 
@@ -79,25 +79,25 @@ truth-whole T p k V K s w =
     counted-closed T p k around K (V S w ▷ truth_of)
     ∙ ap (λ (r : Ran (Did Value)). (r ▷ closed T p k around) ▷ (λ v. truth_of v >>= K)) (then-assoc (V S w) truth_of (λ b. gives (truth_value b)))
 
-pub full-goes : (T : Tables) (p : Program) (k : ℕ) (e : Entered) (cells : List Cell) (n : Node) (x : Node) (w : World) → n ≡ node.Full x
-    → performed T p k (core_of T n) (state_of T e cells) w ≡ (full T p k (valued T p k (core_of T x) None) (state_of T e cells) w ▷ go_test T p k test.Statement)
-full-goes T p k e cells n x w is = ap (λ c. performed T p k c (state_of T e cells) w) (ap (core_of T) is ∙ core-Full T x)
+pub full-goes : (T : Tables) (p : Program) (k : ℕ) (e : Entered) (objects : Objects) (n : Node) (x : Node) (w : World) → n ≡ node.Full x
+    → performed T p k (core_of T n) (state_of T e objects) w ≡ (full T p k (valued T p k (core_of T x) None) (state_of T e objects) w ▷ go_test T p k test.Statement)
+full-goes T p k e objects n x w is = ap (λ c. performed T p k c (state_of T e objects) w) (ap (core_of T) is ∙ core-Full T x)
 
-pub if-goes : (T : Tables) (p : Program) (k : ℕ) (e : Entered) (cells : List Cell) (n c a : Node) (b : Option Node) (w : World) → n ≡ node.If c a b
-    → performed T p k (core_of T n) (state_of T e cells) w ≡ (full T p k (valued T p k (core_of T c) None >>= of_value T applied.Truth) (state_of T e cells) w ▷ go_if T p k a b)
-if-goes T p k e cells n c a b w is =
-    ap (λ c. performed T p k c (state_of T e cells) w) (ap (core_of T) is ∙ core-If T c a b)
-    ∙ truth-whole T p k (valued T p k (core_of T c) None) _ (state_of T e cells) w
+pub if-goes : (T : Tables) (p : Program) (k : ℕ) (e : Entered) (objects : Objects) (n c a : Node) (b : Option Node) (w : World) → n ≡ node.If c a b
+    → performed T p k (core_of T n) (state_of T e objects) w ≡ (full T p k (valued T p k (core_of T c) None >>= of_value T applied.Truth) (state_of T e objects) w ▷ go_if T p k a b)
+if-goes T p k e objects n c a b w is =
+    ap (λ c. performed T p k c (state_of T e objects) w) (ap (core_of T) is ∙ core-If T c a b)
+    ∙ truth-whole T p k (valued T p k (core_of T c) None) _ (state_of T e objects) w
 
-pub return-goes : (T : Tables) (p : Program) (k : ℕ) (e : Entered) (cells : List Cell) (n : Option Node) (x : Node) (w : World) → n ≡ Some x
-    → performed T p k (give (maybe_core T p n)) (state_of T e cells) w
-    ≡ (full T p k (valued T p k (core_of T x) None >>= of_value T applied.Used) (state_of T e cells) w ▷ go_test T p k test.Result)
-return-goes T p k e cells n x w is = ap (λ (n : Option Node). performed T p k (give (maybe_core T p n)) (state_of T e cells) w) is
+pub return-goes : (T : Tables) (p : Program) (k : ℕ) (e : Entered) (objects : Objects) (n : Option Node) (x : Node) (w : World) → n ≡ Some x
+    → performed T p k (give (maybe_core T p n)) (state_of T e objects) w
+    ≡ (full T p k (valued T p k (core_of T x) None >>= of_value T applied.Used) (state_of T e objects) w ▷ go_test T p k test.Result)
+return-goes T p k e objects n x w is = ap (λ (n : Option Node). performed T p k (give (maybe_core T p n)) (state_of T e objects) w) is
 
-pub declare-goes : (T : Tables) (p : Program) (k : ℕ) (e : Entered) (cells : List Cell) (c : Core) (o : ℕ) (w : World)
-    → declare_rest T p k c o (state_of T e cells) w ≡ (full T p k (valued T p k c (Some (root o))) (state_of T e cells) w ▷ go_declared T p k o)
-declare-goes T p k e cells c o w =
-    let F = full T p k (valued T p k c (Some (root o))) (state_of T e cells) w in
+pub declare-goes : (T : Tables) (p : Program) (k : ℕ) (e : Entered) (objects : Objects) (c : Core) (o : ℕ) (w : World)
+    → declare_rest T p k c o (state_of T e objects) w ≡ (full T p k (valued T p k c (Some (root o))) (state_of T e objects) w ▷ go_declared T p k o)
+declare-goes T p k e objects c o w =
+    let F = full T p k (valued T p k c (Some (root o))) (state_of T e objects) w in
     then-assoc (F ▷ settle [] (root o)) (λ u. frame_changed (lists_in_scope o)) (λ u. gives Falls)
     ∙ then-assoc F (settle [] (root o)) (λ u. frame_changed (lists_in_scope o) >> gives Falls)
 
@@ -126,21 +126,21 @@ pub loop-goes : (T : Tables) (p : Program) (m : Machine) (r : Repeated) (o : Out
     ≡ from_flow T p (record m { ticks = m.ticks - 1 }) (when (tests_first r.form) (first_turn T p m.fuel r) (body_turn T p m.fuel r)) o
 loop-goes T p m r o h =
     ap (λ x. finish T p o (on_flow T p (reverse m.stack.items) x))
-    (loop-first T p m.fuel r.form r.condition r.step r.body (state_of T m.entered m.cells.items) (world_of m.ticks o)
+    (loop-first T p m.fuel r.form r.condition r.step r.body (state_of T m.entered m.objects) (world_of m.ticks o)
     ∙ spends m.ticks (world_of m.ticks o) _ h)
 
 pub loop-ticks : (p : Program) (m : Machine) (r : Repeated) → m.ticks ≡ 0 → EndsAs (λ T o. from_flow T p m (performed T p m.fuel (loop_of T p r)) o) Ticks
 loop-ticks p m r h = record {
   same = λ T o. ap (λ x. finish T p o (on_flow T p (reverse m.stack.items) x))
-      (loop-first T p m.fuel r.form r.condition r.step r.body (state_of T m.entered m.cells.items) (world_of m.ticks o)
-      ∙ ap (λ t. spend_of t (world_of m.ticks o) (λ w. when (tests_first r.form) (first_turn T p m.fuel r) (body_turn T p m.fuel r) (state_of T m.entered m.cells.items) w)) h)
+      (loop-first T p m.fuel r.form r.condition r.step r.body (state_of T m.entered m.objects) (world_of m.ticks o)
+      ∙ ap (λ t. spend_of t (world_of m.ticks o) (λ w. when (tests_first r.form) (first_turn T p m.fuel r) (body_turn T p m.fuel r) (state_of T m.entered m.objects) w)) h)
       ∙ ap (finish T p o) (flow-stops T p (reverse m.stack.items) Ticks o.trace);
 }
 
 -- The turns of a loop and bodies of functions stand so deep.
 pub again-none : (p : Program) (m : Machine) (task : Tables → calls.Task) → m.fuel ≡ 0 → EndsAs (λ T o. from_flow T p m (again T p m.fuel (task T)) o) Ticks
 again-none p m task h = record {
-  same = λ T o. ap (λ k. finish T p o (on_flow T p (reverse m.stack.items) (again T p k (task T) (state_of T m.entered m.cells.items) (world_of m.ticks o)))) h
+  same = λ T o. ap (λ k. finish T p o (on_flow T p (reverse m.stack.items) (again T p k (task T) (state_of T m.entered m.objects) (world_of m.ticks o)))) h
       ∙ ap (finish T p o) (flow-stops T p (reverse m.stack.items) Ticks o.trace);
 }
 
@@ -180,7 +180,7 @@ follow-goes p old stack all first rest items is = record {
 }
 
 -- Objects end without a destructor.
-destructor-none : (t : SourceType) → has_destructor [] t ≡ false
+pub destructor-none : (t : SourceType) → has_destructor [] t ≡ false
 destructor-none void = refl
 destructor-none (integer k) = refl
 destructor-none (enumeration n) = refl
@@ -218,12 +218,12 @@ end-all T p k (o ∷ os) s w =
     ap (λ r. r ▷ (λ _. for_all os (end_object (again T p k) (program_of T p)))) (end-one T p k o s w)
     ∙ end-all T p k os _ w
 
-pub switch-goes : (T : Tables) (p : Program) (k : ℕ) (e : Entered) (cells : List Cell) (n x : Node) (all : List Node) (es : Bor (List Node)) (w : World) → n ≡ node.Switch x all → es.now ≡ all
-    → performed T p k (core_of T n) (state_of T e cells) w
-    ≡ (full T p k (valued T p k (core_of T x) None >>= of_value T applied.Used) (state_of T e cells) w ▷ go_test T p k (test.Switch es))
-switch-goes T p k e cells n x all es w is same =
-    let F = full T p k (valued T p k (core_of T x) None >>= of_value T applied.Used) (state_of T e cells) w in
+pub switch-goes : (T : Tables) (p : Program) (k : ℕ) (e : Entered) (objects : Objects) (n x : Node) (all : List Node) (es : Bor (List Node)) (w : World) → n ≡ node.Switch x all → es.now ≡ all
+    → performed T p k (core_of T n) (state_of T e objects) w
+    ≡ (full T p k (valued T p k (core_of T x) None >>= of_value T applied.Used) (state_of T e objects) w ▷ go_test T p k (test.Switch es))
+switch-goes T p k e objects n x all es w is same =
+    let F = full T p k (valued T p k (core_of T x) None >>= of_value T applied.Used) (state_of T e objects) w in
     let go = selected T p k (cores T p es.now) in
-    ap (λ c. performed T p k c (state_of T e cells) w) (ap (core_of T) is ∙ core-Switch T x all)
-    ∙ ap (λ (l : List Node). performed T p k (switch (core_of T x) (cores T p l)) (state_of T e cells) w) (sym same)
+    ap (λ c. performed T p k c (state_of T e objects) w) (ap (core_of T) is ∙ core-Switch T x all)
+    ∙ ap (λ (l : List Node). performed T p k (switch (core_of T x) (cores T p l)) (state_of T e objects) w) (sym same)
     ∙ then-assoc F number_of go

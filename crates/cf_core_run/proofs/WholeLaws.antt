@@ -1,18 +1,21 @@
 -- How the turns of a run lead to its end.
-use Rattle.std.proofs.Common.{◌≡◌, ◌∙◌, ℕ, List, [], ◌∷◌, ◌++◌, map, Option, Some, None, Result, Ok, Err, refl, ap, sym, subst, reverse, length, slice_get, codes}
+use Rattle.std.proofs.Common.{◌≡◌, ◌∙◌, ℕ, List, [], ◌∷◌, ◌++◌, map, Option, Some, None, Result, Ok, Err, Bor, refl, ap, sym, subst, reverse, length, slice_get, codes}
 use Rattle.std.specs.Global.{Global}
 use Rattle.std.specs.Prelude.{Vec}
 use Rattle.cf_core.specs.FromTypes.{Tables}
-use Rattle.cf_core.specs.Program.{Mean, no_frame}
-use Rattle.cf_core.specs.Run.{Frame}
-use Rattle.cf_run_tree.specs.declared.program.Program.{Program}
-use Rattle.cf_run_tree.specs.Tree.{program_of}
-use Rattle.cf_core_store.specs.declared.answer.Stop.{Stop}
-use Rattle.cf_core_store.specs.declared.answer.Stop.TheVariants as stop
-use Rattle.cf_core_store.specs.declared.store.Cell.{Cell}
-use Rattle.cf_core_store.specs.declared.store.Entered.{Entered}
-use Rattle.cf_core_store.specs.Store.{state_of, frame_of, local_object}
+use Rattle.cf_core.specs.Program.{Mean, no_frame, first_state, set_constant, status_of}
+use Rattle.cf_core.specs.Run.{Frame, State, for_all}
+use Rattle.cf_core.specs.Store.{Value, Code}
 use Rattle.cf_core_run.specs.declared.mark.Calling.{Calling}
+use Rattle.cf_core_run.proofs.CallLaws.{passing-end}
+use Rattle.cf_run_tree.specs.declared.program.Program.{Program}
+use Rattle.cf_run_tree.specs.declared.program.RunStatic.{RunStatic}
+use Rattle.cf_run_tree.specs.Tree.{program_of}
+use Rattle.cf_core_objects.specs.declared.answer.Stop.{Stop}
+use Rattle.cf_core_objects.specs.declared.answer.Stop.TheVariants as stop
+use Rattle.cf_core_objects.specs.declared.object.Objects.{Objects}
+use Rattle.cf_core_objects.specs.declared.object.Entered.{Entered}
+use Rattle.cf_core_objects.specs.Store.{state_of, value_of, frame_of, local_object}
 use Rattle.cf_core_run.specs.declared.mark.Mark.{Mark}
 use Rattle.cf_core_run.specs.declared.mark.Doing.TheVariants as doing
 use Rattle.cf_core_run.specs.declared.state.End.{End}
@@ -25,8 +28,9 @@ use Rattle.cf_core_run.specs.declared.state.Ran.{Ran}
 use Rattle.cf_core_run.specs.declared.state.Seen.{Seen}
 use Rattle.cf_core_run.specs.declared.state.Step.{Step}
 use Rattle.cf_core_run.specs.declared.state.Step.TheVariants as step
-use Rattle.cf_core_run.specs.Going.{Outside, Comes, total, on_value, finish, world_of, passing, called, event_of, end_of as run_end_of}
-use Rattle.cf_core_run.proofs.CallLaws.{passing-end}
+use Rattle.cf_core_run.specs.Going.{Outside, Comes, GoesOn, total, from_value, on_value, finish, world_of, again, setting, called, event_of, end_of as run_end_of}
+use Rattle.cf_core_objects.proofs.ThenLaws.{then-assoc}
+use Rattle.cf_core_objects.specs.Then.{◌▷◌}
 use Rattle.cf_core_run.specs.Whole.{outside, Starts, Turns, Reads, Runs, Goes, end_of}
 
 map-more : {A B : Type 0} (f : A → B) (xs : List A) (y : A) → map f (xs ++ y ∷ []) ≡ map f xs ++ f y ∷ []
@@ -89,25 +93,50 @@ module _ (p : Program) (limits : Limits) (input : List ℕ) (first : Machine) (b
       ∙ ap (λ e. Some (record { end = end_of e; trace = map event_of t.trace.items })) (sym ee)
       ∙ ap (λ l. Some (record { end = end_of ran.end; trace = map event_of l })) (sym et)
 
--- The first state: `main` is called.
-first-frame : (e : Entered) (depth : ℕ) → e.name.now ≡ [] → e.locals.items ≡ [] → e.scope.items ≡ [] → e.temporaries.items ≡ [] → e.depth ≡ depth → frame_of e ≡ no_frame depth
-first-frame e depth en el es et ed =
-    let mk : List ℕ → List (Option ℕ) → List ℕ → ℕ → Frame = λ n l s d. record { function = n; count = length l; this = None; result = None; depth = d; locals = λ i. local_object (slice_get l i); scope = reverse s; temporaries = [] } in
-    ap (λ (l : List ℕ). record (frame_of e) { temporaries = reverse l }) et ∙ ap (λ n. mk n e.locals.items e.scope.items e.depth) en ∙ ap (λ l. mk [] l e.scope.items e.depth) el ∙ ap (λ s. mk [] [] s e.depth) es ∙ ap (mk [] [] []) ed
-
-pub first-goes : (p : Program) (limits : Limits) (alloc : Global) (stack : Vec Mark Global) (c : Calling) (e : Entered) (cells : Vec Cell Global)
-    → stack.items ≡ [] → c.name.now ≡ codes "__main" → c.params.now ≡ [] → c.rest.now ≡ [] → c.made.items ≡ []
-    → e.name.now ≡ [] → e.locals.items ≡ [] → e.scope.items ≡ [] → e.temporaries.items ≡ [] → e.depth ≡ limits.depth → cells.items ≡ []
-    → Starts p limits (record { alloc = alloc; stack = stack; doing = doing.Passes c; entered = e; cells = cells; fuel = limits.ticks; ticks = limits.ticks })
-first-goes p limits alloc stack c e cells hs hn hp hr hm en el es et ed hc = record {
+-- The first state.
+pub first-goes : (p : Program) (limits : Limits) (alloc : Global) (stack : Vec Mark Global) (e : Entered) (objects : Objects)
+    → stack.items ≡ [] → e.depth ≡ limits.depth
+    → Starts p limits (record { alloc = alloc; stack = stack; doing = doing.Starts; entered = e; objects = objects; fuel = limits.ticks; ticks = limits.ticks })
+first-goes p limits alloc stack e objects hs hd = record {
   same = λ T input heap.
       let o : Outside = record { input = input; heap = heap; trace = []; bound = limits.ticks; depth = limits.depth } in
       let w = world_of limits.ticks o in
       let n = limits.ticks in
-      sym (ap (λ (ms : List Mark). finish T p o (on_value T p (reverse ms) (passing T p n c (state_of T e cells.items) w))) hs
-      ∙ ap (λ r. finish T p o (on_value T p [] r)) (passing-end T p n c (state_of T e cells.items) w hp hr)
-      ∙ ap (λ (x : List ℕ). finish T p o (on_value T p [] (called T p n x c.made.items (state_of T e cells.items) w))) hn
-      ∙ ap (λ (x : List ℕ). finish T p o (on_value T p [] (called T p n (codes "__main") x (state_of T e cells.items) w))) hm
-      ∙ ap (λ (l : List Cell). finish T p o (on_value T p [] (called T p n (codes "__main") [] (state_of T e l) w))) hc
-      ∙ ap (λ (f : Frame). finish T p o (on_value T p [] (called T p n (codes "__main") [] (record (state_of T e []) { frame = f }) w))) (first-frame e limits.depth en el es et ed));
+      let C = for_all (program_of T p).constants (set_constant (again T p n) (program_of T p)) in
+      sym (ap (λ (ms : List Mark). finish T p o (on_value T p (reverse ms) (setting T p n p.statics (first_state (program_of T p) e.depth) w))) hs
+      ∙ ap (λ d. finish T p o (setting T p n p.statics (first_state (program_of T p) d) w ▷ status_of)) hd
+      ∙ ap (finish T p o) (then-assoc (C (first_state (program_of T p) limits.depth) w) (λ u. called T p n (Code (codes "__main")) []) status_of));
+}
+
+-- The static objects are there, and nothing was entered.
+begun-frame : (e : Entered) → e.name.now ≡ [] → e.locals.items ≡ [] → e.scope.items ≡ [] → e.temporaries.items ≡ [] → frame_of e ≡ no_frame e.depth
+begun-frame e en el es et =
+    let mk : List ℕ → List (Option ℕ) → List ℕ → Frame = λ n l s. record { function = n; count = length l; this = None; result = None; depth = e.depth; locals = λ i. local_object (slice_get l i); scope = reverse s; temporaries = [] } in
+    ap (λ (l : List ℕ). record (frame_of e) { temporaries = reverse l }) et ∙ ap (λ n. mk n e.locals.items e.scope.items) en ∙ ap (λ l. mk [] l e.scope.items) el ∙ ap (λ s. mk [] [] s) es
+
+pub begun-goes : (p : Program) (old : Machine) (e : Entered) (objects : Objects) (xs : Bor (List RunStatic))
+    → ((T : Tables) (e : Entered) → state_of T e objects ≡ record (first_state (program_of T p) e.depth) { frame = frame_of e })
+    → e.name.now ≡ [] → e.locals.items ≡ [] → e.scope.items ≡ [] → e.temporaries.items ≡ [] → e.depth ≡ old.entered.depth → xs.now ≡ p.statics
+    → GoesOn p (λ T o. from_value T p old (λ s w. setting T p old.fuel p.statics (first_state (program_of T p) old.entered.depth) w) o) None
+    (record old { entered = e; objects = objects; doing = doing.Sets xs })
+begun-goes p old e objects xs made en el es et ed ex = record {
+  same = λ T o.
+      let w = world_of old.ticks o in
+      sym (ap (λ (l : List RunStatic). finish T p o (on_value T p (reverse old.stack.items) (setting T p old.fuel l (state_of T e objects) w))) ex
+      ∙ ap (λ (s : State). finish T p o (on_value T p (reverse old.stack.items) (setting T p old.fuel p.statics s w)))
+      (made T e ∙ ap (λ (f : Frame). record (first_state (program_of T p) e.depth) { frame = f }) (begun-frame e en el es et))
+      ∙ ap (λ d. finish T p o (on_value T p (reverse old.stack.items) (setting T p old.fuel p.statics (first_state (program_of T p) d) w))) ed);
+}
+
+-- `main` is called.
+pub main-goes : (p : Program) (old : Machine) (c : Calling) → value_of c.callee ≡ Code (codes "__main") → c.params.now ≡ [] → c.rest.now ≡ [] → c.made.items ≡ []
+    → GoesOn p (λ T o. from_value T p old (called T p old.fuel (Code (codes "__main")) []) o) None (record old { doing = doing.Passes c })
+main-goes p old c hc hp hr hm = record {
+  same = λ T o.
+      let S = state_of T old.entered old.objects in
+      let w = world_of old.ticks o in
+      ap (λ r. finish T p o (on_value T p (reverse old.stack.items) r))
+      (sym (passing-end T p old.fuel c S w hp hr
+      ∙ ap (λ (v : Value). called T p old.fuel v c.made.items S w) hc
+      ∙ ap (λ (l : List ℕ). called T p old.fuel (Code (codes "__main")) l S w) hm));
 }

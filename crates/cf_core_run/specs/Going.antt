@@ -5,32 +5,40 @@ use Rattle.cf_base.specs.World.{World, Ran, and_then, Outcome}
 use Rattle.cf_core.specs.FromTypes.{Tables}
 use Rattle.cf_core.specs.Core.{Core, Cores, MaybeCore, loop}
 use Rattle.cf_core.specs.View.{listed, maybe}
-use Rattle.cf_core.specs.Places.{Place}
-use Rattle.cf_core.specs.Store.{Value, At}
+use Rattle.cf_core.specs.Core.{item}
+use Rattle.cf_core.specs.Places.{Place, inner}
+use Rattle.cf_core.specs.Joined.{in_file, constant_setting}
+use Rattle.cf_core.specs.Store.{Value, Built, At, Code}
 use Rattle.cf_core.specs.Pointers.{truth_value}
-use Rattle.cf_core.specs.Run.{Did, Act, ◌>>=◌, ◌>>◌, gives, malformed, state, changed, when, for_all, with_frame, frame_changed, lists_in_scope, lists_temporary, declared_object, some_or}
-use Rattle.cf_core.specs.Access.{used, number_of}
+use Rattle.cf_core.specs.Run.{Did, Act, ◌>>=◌, ◌>>◌, gives, malformed, state, changed, when, for_all, for_each, with_frame, frame_changed, lists_in_scope, lists_temporary, declared_object, some_or}
+use Rattle.cf_core.specs.Access.{used, number_of, fill_zeros}
 use Rattle.cf_core.specs.Scalars.{truth_of}
-use Rattle.cf_core.specs.Objects.{settle, settled, result_place}
+use Rattle.cf_core.specs.Objects.{settle, settled, result_place, run_pointer, write_bytes}
 use Rattle.cf_core.specs.Types.{SourceType, parameters}
-use Rattle.cf_core.specs.Calls.{Flow, Falls, Breaks, Continues, Returns, body, turn, Again, root, get, run_named, enter, end_object, full_expression, returned, in_scope}
+use Rattle.cf_core.specs.Calls.{Flow, Falls, Breaks, Continues, Returns, body, turn, Again, root, get, name_function, enter, end_object, full_expression, returned, in_scope}
 use Rattle.cf_core.specs.Expressions.{value, last_value, arguments}
 use Rattle.cf_core.specs.Statements.{does, does_maybe, does_all, falling, turning, tests_first, leaving, holds, step_and, has_case, has_default, from_case, from_default}
-use Rattle.cf_core.specs.Program.{runs, status_of, ended_run, run_outcome}
+use Rattle.cf_core.specs.Program.{runs, first_state, set_constant, status_of, ended_run, run_outcome}
 use Rattle.cf_core.specs.Calls as calls
 use Rattle.cf_run_tree.specs.declared.node.Binary.{Binary}
 use Rattle.cf_run_tree.specs.declared.node.Node.{Node}
 use Rattle.cf_run_tree.specs.declared.program.Program.{Program}
+use Rattle.cf_run_tree.specs.declared.program.RunStatic.{RunStatic}
+use Rattle.cf_run_tree.specs.declared.program.Signature.{Signature}
 use Rattle.cf_run_tree.specs.declared.shape.Shape.{Shape}
-use Rattle.cf_run_tree.specs.Tree.{core_of, shape_type, function_of, program_of}
-use Rattle.cf_core_store.specs.declared.answer.Stop.{Stop}
-use Rattle.cf_core_store.specs.declared.answer.Stop.TheVariants as stop
-use Rattle.cf_core_store.specs.declared.store.Entered.{Entered}
+use Rattle.cf_run_tree.specs.Tree.{core_of, shape_type, signature_type, function_of, static_of, constants_of, program_of}
+use Rattle.cf_core_place.specs.declared.part.Part.TheVariants as site
+use Rattle.cf_core_place.specs.declared.part.Place.{Place as Spot}
+use Rattle.cf_core_place.specs.Routes.{place_of}
+use Rattle.cf_core_objects.specs.declared.answer.Stop.{Stop}
+use Rattle.cf_core_objects.specs.declared.answer.Stop.TheVariants as stop
+use Rattle.cf_core_objects.specs.declared.object.Entered.{Entered}
 use Rattle.cf_core_store.specs.declared.results.Applied.{Applied}
-use Rattle.cf_core_store.specs.Then.{◌▷◌}
+use Rattle.cf_core_objects.specs.Then.{◌▷◌}
 use Rattle.cf_core_run.specs.declared.mark.Flow.{Flow as Way}
 use Rattle.cf_core_run.specs.declared.mark.Flow.TheVariants as way
 use Rattle.cf_core_run.specs.declared.mark.Calling.{Calling}
+use Rattle.cf_core_run.specs.declared.mark.Listing.{Listing}
 use Rattle.cf_core_run.specs.declared.mark.Repeated.{Repeated}
 use Rattle.cf_core_run.specs.declared.mark.ValueMark.{ValueMark}
 use Rattle.cf_core_run.specs.declared.mark.ValueMark.TheVariants as on_value_mark
@@ -49,8 +57,12 @@ use Rattle.cf_core_run.specs.declared.state.RunEnd.{RunEnd}
 use Rattle.cf_core_run.specs.declared.state.RunEnd.TheVariants as ending
 use Rattle.cf_core_run.specs.declared.state.Step.{Step}
 use Rattle.cf_core_run.specs.declared.state.Step.TheVariants as step
-use Rattle.cf_core_store.specs.Store.{state_of, value_of, frame_of}
+use Rattle.cf_core_objects.specs.Store.{state_of, value_of, frame_of}
 use Rattle.cf_core_store.specs.Values.{ready, of_two, of_value}
+
+-- a whole object
+abbrev pub whole_place : ℕ → Spot
+whole_place o = record { object = o; part = site.Whole }
 
 abbrev pub flow_of : Way → Flow
 flow_of way.Falls = Falls
@@ -99,8 +111,9 @@ module _ (T : Tables) (p : Program) where
   abbrev pub performed_all : ℕ → Cores → Act Flow
   performed_all k es = does_all (again k) (program_of T p) es
 
-  abbrev pub called : ℕ → List ℕ → List ℕ → Act Value
-  called k name os = run_named (again k) (program_of T p) name os None None
+  -- what a value that is called is run on, with the objects of its parameters
+  abbrev pub called : ℕ → Value → List ℕ → Act Value
+  called k f os = run_pointer (again k) (program_of T p) None f os None
 
   -- `putchar` or `exit` with a value, or with the first of these parameters
   abbrev pub put_or_exit : List ℕ → Value → Act Value
@@ -116,12 +129,16 @@ module _ (T : Tables) (p : Program) where
 
   -- the other arguments of a call, and then the call
   abbrev pub passing : ℕ → Calling → Act Value
-  passing k c = arguments (again k) (program_of T p) (map (shape_type T) c.params.now) (cores c.rest.now) >>= (λ os. called k c.name.now (c.made.items ++ os))
+  passing k c = arguments (again k) (program_of T p) (map (shape_type T) c.params.now) (cores c.rest.now) >>= (λ os. called k (value_of c.callee) (c.made.items ++ os))
 
   -- the arguments of a call of a function of this type, and then the call
-  abbrev pub starting : ℕ → List ℕ → SourceType → Cores → Option Place → Act Value
-  starting k name t es into =
-      arguments (again k) (program_of T p) (parameters t) es >>= (λ os. run_named (again k) (program_of T p) name os None (result_place t into))
+  abbrev pub starting : ℕ → Value → SourceType → Cores → Option Place → Act Value
+  starting k f t es into =
+      arguments (again k) (program_of T p) (parameters t) es >>= (λ os. run_pointer (again k) (program_of T p) None f os (result_place t into))
+
+  -- what is called through a pointer, and then its arguments
+  abbrev pub go_callee : ℕ → Signature → List Node → Value → Act Value
+  go_callee k f es v = used v >>= (λ x. starting k x (signature_type T f) (cores es) None)
 
   -- a parameter of this type is built by its argument, and then the others
   abbrev pub pass_next : ℕ → Calling → Shape → Node → Act Value
@@ -129,7 +146,7 @@ module _ (T : Tables) (p : Program) where
     o ← declared_object (shape_type T s)
     settled [] (root o) (valued k (core_of T e) (Some (root o)))
     os ← arguments (again k) (program_of T p) (map (shape_type T) c.params.now) (cores c.rest.now)
-    called k c.name.now (c.made.items ++ o ∷ os)
+    called k (value_of c.callee) (c.made.items ++ o ∷ os)
 
   -- a full expression
   abbrev pub full : {A : Type 0} → ℕ → Act A → Act A
@@ -190,7 +207,59 @@ module _ (T : Tables) (p : Program) where
   go_argument k c o v =
       settle [] (root o) v
       >> (arguments (again k) (program_of T p) (map (shape_type T) c.params.now) (cores c.rest.now)
-      >>= (λ os. called k c.name.now (c.made.items ++ o ∷ os)))
+      >>= (λ os. called k (value_of c.callee) (c.made.items ++ o ∷ os)))
+
+  -- a function is named with this type
+  abbrev pub naming : List ℕ → SourceType → Act Value
+  naming name t = name_function (program_of T p) name t >> gives (Code name)
+
+  -- an array of zeros gets these bytes, or a place its zeros
+  abbrev pub putting_bytes : Place → List ℕ → Act Value
+  putting_bytes q bytes = write_bytes q 0 bytes >> gives Built
+
+  abbrev pub writing : Place → List ℕ → Act Value
+  writing q bytes = fill_zeros [] q >> putting_bytes q bytes
+
+  abbrev pub zeroing : Place → Act Value
+  zeroing q = fill_zeros [] q >> gives Built
+
+  -- the element of an array at an index is initialised (8.4.1)
+  abbrev pub one_element : ℕ → ℕ → Place → Node → Act (Unit {0})
+  one_element k i q e = settled [] (inner (item i) q) (full k (valued k (core_of T e) (Some (inner (item i) q))))
+
+  -- from an index on the elements with initialisers of their own, and then so many by one
+  abbrev pub elements_from : ℕ → ℕ → Place → List Node → ℕ → Node → Act Value
+  elements_from k i q [] n filler = for_each i n (λ i. one_element k i q filler) >> gives Built
+  elements_from k i q (e ∷ es) n filler = one_element k i q e >> elements_from k (suc i) q es n filler
+
+  abbrev pub listing : ℕ → Listing → Act Value
+  listing k l = elements_from k l.index (place_of l.array) l.rest.now l.left l.filler.now
+
+  -- the next element is initialised so, and then come the others
+  abbrev pub listing_with : ℕ → Listing → Node → Act Value
+  listing_with k l e = one_element k l.index (place_of l.array) e >> elements_from k (suc l.index) (place_of l.array) l.rest.now l.left l.filler.now
+
+  abbrev pub go_element : ℕ → Spot → Listing → Value → Act Value
+  go_element k q l v = settle [] (place_of q) v >>= (λ u. listing k l)
+
+  -- the constant initialisers of these static objects, and then `main`
+  abbrev pub setting : ℕ → List RunStatic → Act Value
+  setting k xs =
+      for_all (constants_of T (map (static_of T) xs)) (set_constant (again k) (program_of T p)) >> called k (Code (codes "__main")) []
+
+  abbrev pub setting_with : ℕ → RunStatic → List RunStatic → Act Value
+  setting_with k x xs =
+      set_constant (again k) (program_of T p) (constant_setting (in_file 1 (codes "__sti")) (static_of T x)) >> setting k xs
+
+  -- control has reached the static object of this number
+  abbrev pub reaching : ℕ → RunStatic → ℕ → List RunStatic → Act Value
+  reaching k x o xs = do
+    changed (λ s. record s { reached = x.name ∷ s.reached })
+    settled [] (root o) (full k (valued k (core_of T x.start) (Some (root o))))
+    setting k xs
+
+  abbrev pub go_constant : ℕ → ℕ → List RunStatic → Value → Act Value
+  go_constant k o xs v = settle [] (root o) v >>= (λ u. setting k xs)
 
   -- what a value leads to
   abbrev pub go_value : ℕ → ValueMark → Value → Act Value
@@ -200,9 +269,12 @@ module _ (T : Tables) (p : Program) where
   go_value k (on_value_mark.Or b) v = go_or k b.now v
   go_value k (on_value_mark.Choice a b) v = go_choice k a.now b.now v
   go_value k (on_value_mark.Comma es) v = last_of k es.now
+  go_value k (on_value_mark.Callee f es) v = go_callee k f.now es.now v
   go_value k (on_value_mark.Argument c o) v = go_argument k c o v
   go_value k (on_value_mark.Temporary o) v = go_temporary k o v
   go_value k (on_value_mark.Held o) v = go_held k o v
+  go_value k (on_value_mark.Element q l) v = go_element k q l v
+  go_value k (on_value_mark.Constant o xs) v = go_constant k o xs.now v
   go_value k (on_value_mark.Whole around) v = closed k (reverse around.items) v
 
   -- the statements behind the label of a switch for this number
@@ -287,14 +359,17 @@ module _ (T : Tables) (p : Program) where
 
   -- the outcome where this act runs, and then what the marks say
   abbrev pub from_value : Machine → Act Value → Outside → Option Outcome
-  from_value m act o = finish o (on_value (reverse m.stack.items) (act (state_of T m.entered m.cells.items) (world_of m.ticks o)))
+  from_value m act o = finish o (on_value (reverse m.stack.items) (act (state_of T m.entered m.objects) (world_of m.ticks o)))
 
   abbrev pub from_flow : Machine → Act Flow → Outside → Option Outcome
-  from_flow m act o = finish o (on_flow (reverse m.stack.items) (act (state_of T m.entered m.cells.items) (world_of m.ticks o)))
+  from_flow m act o = finish o (on_flow (reverse m.stack.items) (act (state_of T m.entered m.objects) (world_of m.ticks o)))
 
   abbrev pub from_doing : Doing → Machine → Outside → Option Outcome
-  from_doing (doing.Evaluate e into) m o = from_value m (valued m.fuel (core e.now) (option_map root into)) o
+  from_doing doing.Starts m o = from_value m (λ s w. setting m.fuel p.statics (first_state (program_of T p) m.entered.depth) w) o
+  from_doing (doing.Sets xs) m o = from_value m (setting m.fuel xs.now) o
+  from_doing (doing.Evaluate e into) m o = from_value m (valued m.fuel (core e.now) (option_map place_of into)) o
   from_doing (doing.Gives v) m o = from_value m (gives (value_of v)) o
+  from_doing (doing.Lists l) m o = from_value m (listing m.fuel l) o
   from_doing (doing.Passes c) m o = from_value m (passing m.fuel c) o
   from_doing (doing.Enter f args) m o = from_value m (enter (again m.fuel) (function_of T f.now) args.items None None) o
   from_doing (doing.Body f args) m o = from_flow m (again m.fuel (body (function_of T f.now) args.items)) o
@@ -356,4 +431,9 @@ pub record OpensScope (old new : Machine) : Type 0 where
 -- a full expression was begun: what runs in it comes next, and the mark says what its value leads to
 pub record OpensWhole (old new : Machine) (m : TestMark) : Type 0 where
   pub same : (T : Tables) (p : Program) (act : Act Value) (o : Outside) → from_flow T p old (λ s w. full T p old.fuel act s w ▷ go_test T p old.fuel m) o ≡ from_value T p new act o
+  pub fuel : new.fuel ≡ old.fuel
+
+-- the same inside an expression
+pub record OpensInner (old new : Machine) (m : ValueMark) : Type 0 where
+  pub same : (T : Tables) (p : Program) (act : Act Value) (o : Outside) → from_value T p old (λ s w. full T p old.fuel act s w ▷ go_value T p old.fuel m) o ≡ from_value T p new act o
   pub fuel : new.fuel ≡ old.fuel

@@ -7,9 +7,9 @@ use Rattle.cf_core.specs.Run.{gives}
 use Rattle.cf_core.specs.Program.{Mean}
 use Rattle.cf_run_tree.specs.declared.program.Program.{Program}
 use Rattle.cf_run_tree.specs.Tree.{program_of}
-use Rattle.cf_core_store.specs.declared.answer.Stop.{Stop}
-use Rattle.cf_core_store.specs.declared.answer.Stop.TheVariants as stop
-use Rattle.cf_core_store.specs.declared.answer.Value.{Value as Given}
+use Rattle.cf_core_objects.specs.declared.answer.Stop.{Stop}
+use Rattle.cf_core_objects.specs.declared.answer.Stop.TheVariants as stop
+use Rattle.cf_core_objects.specs.declared.answer.Value.{Value as Given}
 use Rattle.cf_core_run.specs.declared.state.End.{End}
 use Rattle.cf_core_run.specs.declared.state.End.TheVariants as ending
 use Rattle.cf_core_run.specs.declared.state.Limits.{Limits}
@@ -17,7 +17,7 @@ use Rattle.cf_core_run.specs.declared.state.Machine.{Machine}
 use Rattle.cf_core_run.specs.declared.state.Ran.{Ran}
 use Rattle.cf_core_run.specs.declared.state.Seen.{Seen}
 use Rattle.cf_core_run.specs.Going.{Outside, total, from_value, event_of}
-use Rattle.cf_core_store.specs.Store.{value_of}
+use Rattle.cf_core_objects.specs.Store.{value_of}
 
 abbrev pub end_of : End → EndOf
 end_of (ending.Ended status) = Ended status

@@ -2,21 +2,25 @@ ghost use Rattle.std.specs.Prelude.{◌≡◌, [], ◌∷◌, ◌++◌, map, rep
 ghost use Rattle.std.specs.Option.{option_copied};
 ghost use Rattle.cf_base.specs.Integers.{bits_of};
 ghost use Rattle.cf_base.specs.World.{World};
-ghost use Rattle.cf_core.specs.Calls.{name_function, body, argument};
+ghost use Rattle.cf_core.specs.Calls.{name_function, body, root, argument};
 ghost use Rattle.cf_core.specs.Calls as calls;
 ghost use Rattle.cf_core.specs.Core as cores;
 ghost use Rattle.cf_core.specs.FromTypes.{Tables};
-ghost use Rattle.cf_core.specs.Places.{Place};
+ghost use Rattle.cf_core.specs.Places as places;
 ghost use Rattle.cf_core.specs.Run.{State};
+ghost use Rattle.cf_core.specs.Store.{Code};
 ghost use Rattle.cf_run_tree.specs.Tree.{core_of, signature_type, function_of, program_of};
-ghost use Rattle.cf_core_store.specs.Answer.{Told};
+ghost use Rattle.cf_core_objects.specs.Answer.{Told};
+ghost use Rattle.cf_core_objects.specs.Then.{◌▷◌};
 ghost use Rattle.cf_core_run.specs.Going.{Comes, from_value, from_flow, valued, passing, called, again, starting, OpensScope};
 ghost use Rattle.cf_core_run.specs.Going as going;
-ghost use Rattle.cf_core_store.specs.Store.{state_of, value_of, objects_of};
+ghost use Rattle.cf_core_objects.specs.declared.object.Entered.{Entered};
+ghost use Rattle.cf_core_objects.specs.Store.{state_of, value_of};
 
 use crate::mark::{Calling, Doing, FlowMark, Mark, ValueMark};
 use crate::state::{Event, Machine, RunEnd, Step};
-use cf_core_store::{Cell, Entered, Integer, Stop, Value};
+use cf_core_objects::{Entered, Integer, Stop, Value, new_object, read, used};
+use cf_core_place::{Part, Place};
 use cf_run_tree::{Node, Program, RunFn, Shape, Signature};
 use std::alloc::{AllocError, Global};
 use std::mem::replace;
@@ -41,10 +45,9 @@ fn is_library(name: &[u8]) -> bool
 }
 
 /// The byte that a number is modulo 256.
-fn byte_of(number: Integer) -> u8
-    ensures { result ≡ bits_of 8 number }
+fn byte_of(value: i64) -> u8
+    ensures { result ≡ bits_of 8 value }
 {
-    let value = number.get();
     if value < 0 {
         255 - ((-(value + 1)) % 256) as u8
     } else {
@@ -53,7 +56,7 @@ fn byte_of(number: Integer) -> u8
 }
 
 /// Whether two types are the same.
-fn same_shape(a: Shape, b: Shape) -> bool
+pub fn same_shape(a: Shape, b: Shape) -> bool
     ensures { IsTrue result → a ≡ b }
 {
     a == b
@@ -122,16 +125,6 @@ fn locals_of(alloc: Global, made: &[usize], count: usize) -> Result<Vec<Option<u
     Ok(found)
 }
 
-/// What stands in an object; one that is not there holds null.
-fn held_in(cells: &[Cell], object: usize) -> Option<Value>
-    ensures { (T : Tables) → option_map value_of result ≡ (objects_of T cells.now object).held [] }
-{
-    match cells.get(object) {
-        None => Some(Value::Null),
-        Some(cell) => cell.held,
-    }
-}
-
 impl<'a> Machine<'a> {
     /// A function is called by its name.
     pub fn call(
@@ -141,25 +134,58 @@ impl<'a> Machine<'a> {
         all: &'a [Node],
         program: &'a Program,
     ) -> Result<Step<'a>, Stop>
-        ensures { (into : Option Place) → Comes program.now (λ T o. from_value T program.now self.old (valued T program.now self.old.fuel (cores.call name.now (signature_type T signature.now) cores.absent (going.cores T program.now all.now)) into) o) result self.new }
+        ensures { (into : Option places.Place) → Comes program.now (λ T o. from_value T program.now self.old (valued T program.now self.old.fuel (cores.call name.now (signature_type T signature.now) cores.absent (going.cores T program.now all.now)) into) o) result self.new }
     {
         match declared_alike(program, name, signature) {
             Err(stop) => Err(stop),
-            Ok(()) => self.start_call(name, signature, all),
+            Ok(()) => self.start_call(Value::Code(name), signature, all),
+        }
+    }
+
+    /// A function is named.
+    pub fn function(
+        &mut self,
+        name: &'a [u8],
+        signature: &'a Signature,
+        program: &'a Program,
+    ) -> Result<Step<'a>, Stop>
+        ensures { Comes program.now (λ T o. from_value T program.now self.old (going.naming T program.now name.now (signature_type T signature.now)) o) result self.new }
+    {
+        match declared_alike(program, name, signature) {
+            Err(stop) => Err(stop),
+            Ok(()) => {
+                self.doing = Doing::Gives(Value::Code(name));
+                Ok(Step::On)
+            }
+        }
+    }
+
+    /// What is called through a pointer is there, and its arguments come.
+    pub fn callee(
+        &mut self,
+        signature: &'a Signature,
+        all: &'a [Node],
+        v: Value<'a>,
+    ) -> Result<Step<'a>, Stop>
+        ensures { (p : Program) → Comes p (λ T o. from_value T p self.old (going.go_callee T p self.old.fuel signature.now all.now (value_of v.entry)) o) result self.new }
+    {
+        match used(v) {
+            Err(stop) => Err(stop),
+            Ok(callee) => self.start_call(callee, signature, all),
         }
     }
 
     /// The arguments of a call begin.
     fn start_call(
         &mut self,
-        name: &'a [u8],
+        callee: Value<'a>,
         signature: &'a Signature,
         all: &'a [Node],
     ) -> Result<Step<'a>, Stop>
-        ensures { (p : Program) (into : Option Place) → Comes p (λ T o. from_value T p self.old (starting T p self.old.fuel name.now (signature_type T signature.now) (going.cores T p all.now) into) o) result self.new }
+        ensures { (p : Program) (into : Option places.Place) → Comes p (λ T o. from_value T p self.old (starting T p self.old.fuel (value_of callee.entry) (signature_type T signature.now) (going.cores T p all.now) into) o) result self.new }
     {
         self.doing = Doing::Passes(Calling {
-            name,
+            callee,
             params: signature.params.as_slice(),
             rest: all,
             made: Vec::new(self.alloc),
@@ -183,7 +209,7 @@ impl<'a> Machine<'a> {
         ensures { Comes program.now (λ T o. from_value T program.now self.old (passing T program.now self.old.fuel calling.entry) o) result self.new }
     {
         match calling.rest.split_first() {
-            None => self.call_with(calling.name, calling.made, program),
+            None => self.call_with(calling.callee, calling.made, program),
             Some(_) => Err(Stop::NotBuilt),
         }
     }
@@ -202,7 +228,7 @@ impl<'a> Machine<'a> {
             None => Err(Stop::NotBuilt),
             Some((first, rest)) => {
                 let left = Calling {
-                    name: calling.name,
+                    callee: calling.callee,
                     params,
                     rest,
                     made: calling.made,
@@ -221,26 +247,58 @@ impl<'a> Machine<'a> {
     ) -> Result<Step<'a>, Stop>
         ensures { (p : Program) → Comes p (λ T o. from_value T p self.old (going.pass_next T p self.old.fuel left.entry shape first.now) o) result self.new }
     {
-        let object = self.cells.len();
-        self.cells.push(Cell {
-            shape,
-            held: None,
-            is_gone: false,
-        })?;
+        match new_object(shape, &mut self.objects) {
+            Err(stop) => Err(stop),
+            Ok(object) => self.pass_in(left, object, first),
+        }
+    }
+
+    /// The argument for the parameter with this object.
+    fn pass_in(
+        &mut self,
+        left: Calling<'a>,
+        object: usize,
+        first: &'a Node,
+    ) -> Result<Step<'a>, Stop>
+        ensures { (p : Program) → Comes p (λ T o. from_value T p self.old (λ s w. valued T p self.old.fuel (core_of T first.now) (Some (root object)) s w ▷ going.go_argument T p self.old.fuel left.entry object) o) result self.new }
+    {
         self.stack
             .push(Mark::Value(self.fuel, ValueMark::Argument(left, object)))?;
-        self.doing = Doing::Evaluate(first, Some(object));
+        self.doing = Doing::Evaluate(first, Some(Place {
+            object,
+            part: Part::Whole,
+        }));
         Ok(Step::On)
     }
 
-    /// A function is run with these objects as its parameters.
+    /// What is called is run with these objects as its parameters.
     fn call_with(
+        &mut self,
+        callee: Value<'a>,
+        made: Vec<usize>,
+        program: &'a Program,
+    ) -> Result<Step<'a>, Stop>
+        ensures { Comes program.now (λ T o. from_value T program.now self.old (called T program.now self.old.fuel (value_of callee.entry) made.items) o) result self.new }
+    {
+        match callee {
+            Value::Code(name) => self.call_named(name, made, program),
+            Value::Null => Err(Stop::Act(4)),
+            Value::Nothing => Err(Stop::Malformed),
+            Value::Missing => Err(Stop::Malformed),
+            Value::Built => Err(Stop::Malformed),
+            Value::Number(_) => Err(Stop::Malformed),
+            Value::At(_) => Err(Stop::Malformed),
+        }
+    }
+
+    /// A function is run with these objects as its parameters.
+    fn call_named(
         &mut self,
         name: &'a [u8],
         made: Vec<usize>,
         program: &'a Program,
     ) -> Result<Step<'a>, Stop>
-        ensures { Comes program.now (λ T o. from_value T program.now self.old (called T program.now self.old.fuel name.now made.items) o) result self.new }
+        ensures { Comes program.now (λ T o. from_value T program.now self.old (called T program.now self.old.fuel (Code name.now) made.items) o) result self.new }
     {
         if is_library(name) {
             self.call_library(name, made.as_slice())
@@ -284,13 +342,14 @@ impl<'a> Machine<'a> {
         ensures { (p : Program) → Comes p (λ T o. from_value T p self.old (going.library_on T p name.now made.now) o) result self.new }
     {
         match self.first_argument(made) {
-            None => Err(Stop::Malformed),
-            Some(v) => self.put_or_exit(name, v),
+            Err(_) => Err(Stop::NotBuilt),
+            Ok(None) => Err(Stop::Malformed),
+            Ok(Some(v)) => self.put_or_exit(name, v),
         }
     }
 
-    fn put_or_exit(&mut self, name: &'a [u8], v: Value) -> Result<Step<'a>, Stop>
-        ensures { (p : Program) → Comes p (λ T o. from_value T p self.old (going.put_or_exit T p name.now (value_of v)) o) result self.new }
+    fn put_or_exit(&mut self, name: &'a [u8], v: Value<'a>) -> Result<Step<'a>, Stop>
+        ensures { (p : Program) → Comes p (λ T o. from_value T p self.old (going.put_or_exit T p name.now (value_of v.entry)) o) result self.new }
     {
         if name == b"putchar".as_slice() {
             self.put(v)
@@ -300,23 +359,32 @@ impl<'a> Machine<'a> {
     }
 
     /// The value of the first parameter.
-    fn first_argument(&self, made: &[usize]) -> Option<Value>
-        ensures { (T : Tables) → option_map value_of result ≡ argument made.now (state_of T self.now.entered self.now.cells.items) }
+    fn first_argument(&self, made: &[usize]) -> Result<Option<Value<'a>>, Stop>
+        ensures { IfOk result (λ v. (T : Tables) → option_map value_of v ≡ argument made.now (state_of T self.now.entered self.now.objects)) }
     {
-        match made.first() {
-            None => None,
-            Some(object) => held_in(&self.cells, *object),
+        match made.split_first() {
+            None => Ok(None),
+            Some((object, _)) => {
+                let place = Place {
+                    object: *object,
+                    part: Part::Whole,
+                };
+                match read(&self.objects, place) {
+                    Err(_) => Err(Stop::NotBuilt),
+                    Ok(v) => Ok(Some(v)),
+                }
+            }
         }
     }
 
     /// A byte is put, and given.
-    fn put(&mut self, v: Value) -> Result<Step<'a>, Stop>
-        ensures { (p : Program) → Comes p (λ T o. from_value T p self.old (calls.put (value_of v)) o) result self.new }
+    fn put(&mut self, v: Value<'a>) -> Result<Step<'a>, Stop>
+        ensures { (p : Program) → Comes p (λ T o. from_value T p self.old (calls.put (value_of v.entry)) o) result self.new }
     {
         match v {
             Value::Number(number) => {
                 let byte = byte_of(number);
-                self.doing = Doing::Gives(Value::Number(Integer::new(i64::from(byte))));
+                self.doing = Doing::Gives(Value::Number(i64::from(byte)));
                 Ok(Step::Shows(Event::Out(byte)))
             }
             Value::Nothing => Err(Stop::Malformed),
@@ -324,20 +392,22 @@ impl<'a> Machine<'a> {
             Value::Built => Err(Stop::Malformed),
             Value::Null => Err(Stop::Malformed),
             Value::At(_) => Err(Stop::Malformed),
+            Value::Code(_) => Err(Stop::Malformed),
         }
     }
 
     /// The run ends with a value as its status.
-    fn exit(&mut self, v: Value) -> Result<Step<'a>, Stop>
-        ensures { (p : Program) → Comes p (λ T o. from_value T p self.old (calls.leave_with (value_of v)) o) result self.new }
+    fn exit(&mut self, v: Value<'a>) -> Result<Step<'a>, Stop>
+        ensures { (p : Program) → Comes p (λ T o. from_value T p self.old (calls.leave_with (value_of v.entry)) o) result self.new }
     {
         match v {
-            Value::Number(status) => Ok(Step::Ends(RunEnd::Ended(status))),
+            Value::Number(status) => Ok(Step::Ends(RunEnd::Ended(Integer::new(status)))),
             Value::Nothing => Err(Stop::Malformed),
             Value::Missing => Err(Stop::Malformed),
             Value::Built => Err(Stop::Malformed),
             Value::Null => Err(Stop::Malformed),
             Value::At(_) => Err(Stop::Malformed),
+            Value::Code(_) => Err(Stop::Malformed),
         }
     }
 

@@ -1,19 +1,23 @@
-ghost use Rattle.std.specs.Prelude.{◌≡◌, None, option_map, true, false};
-ghost use Rattle.cf_core.specs.Calls.{root};
+ghost use Rattle.std.specs.Prelude.{◌≡◌, None, option_map, true, false, Option};
+ghost use Rattle.cf_core.specs.Core as cores;
+ghost use Rattle.cf_core.specs.Places as places;
 ghost use Rattle.cf_core.specs.Run.{gives, when};
 ghost use Rattle.cf_run_tree.specs.Tree.{core_of};
-ghost use Rattle.cf_core_store.specs.Then.{◌▷◌};
+ghost use Rattle.cf_core_objects.specs.Named.{named};
+ghost use Rattle.cf_core_place.specs.Routes.{place_of};
+ghost use Rattle.cf_core_objects.specs.Then.{◌▷◌};
 ghost use Rattle.cf_core_run.specs.Going.{Comes, from_value, valued, go_value, go_and, go_or, go_choice, go_right, go_argument, last_of, truth_by};
-ghost use Rattle.cf_core_store.specs.Values.{named, of_value};
+ghost use Rattle.cf_core_store.specs.Values.{of_value};
 ghost use Rattle.cf_core.specs.Pointers.{truth_value};
-ghost use Rattle.cf_core_store.specs.Store.{value_of};
+ghost use Rattle.cf_core_objects.specs.Store.{value_of};
 
 use crate::mark::{Calling, Doing, Mark, ValueMark};
 use crate::state::{Machine, Step};
+use crate::temporaries::settle_object;
 use cf_base::Boxed;
-use cf_core_store::{
-    Applied, Integer, Stop, Value, apply, local_value, ready, settle, truth, truth_number,
-};
+use cf_core_objects::{Stop, Value, literal_object, local_value};
+use cf_core_place::{Part, Place};
+use cf_core_store::{Applied, apply, ready, truth, truth_number};
 use cf_run_tree::{Binary, Node, Program};
 
 impl<'a> Machine<'a> {
@@ -21,18 +25,23 @@ impl<'a> Machine<'a> {
     pub fn begin(
         &mut self,
         e: &'a Node,
-        into: Option<usize>,
+        into: Option<Place>,
         program: &'a Program,
     ) -> Result<Step<'a>, Stop>
-        ensures { Comes program.now (λ T o. from_value T program.now self.old (valued T program.now self.old.fuel (core_of T e.now) (option_map root into)) o) result self.new }
+        ensures { Comes program.now (λ T o. from_value T program.now self.old (valued T program.now self.old.fuel (core_of T e.now) (option_map place_of into)) o) result self.new }
     {
         match e {
             Node::Number(value) => {
-                self.doing = Doing::Gives(Value::Number(Integer::new(*value)));
+                self.doing = Doing::Gives(Value::Number(*value));
                 Ok(Step::On)
             }
+            Node::Text(number, bytes) => self.text(*number, bytes.as_slice()),
+            Node::Function(name, signature) => {
+                self.function(name.as_slice(), signature, program)
+            }
             Node::Local(number) => self.name_local(*number),
-            Node::Apply(op, a) => self.down(ValueMark::Apply(Applied::One(*op)), a),
+            Node::Static(name, ty) => self.name_static(name.as_slice(), ty, program),
+            Node::Apply(op, a) => self.down(ValueMark::Apply(Applied::One(op)), a),
             Node::Join(op, a, b) => self.down(ValueMark::Right(*op, b), a),
             Node::And(a, b) => self.down(ValueMark::And(b), a),
             Node::Or(a, b) => self.down(ValueMark::Or(b), a),
@@ -44,12 +53,18 @@ impl<'a> Machine<'a> {
                 all.as_slice(),
                 program,
             ),
+            Node::PointerCall(callee, signature, all) => {
+                self.down(ValueMark::Callee(signature, all.as_slice()), callee)
+            }
             Node::Bind(a) => {
                 self.doing = Doing::Evaluate(a.get(), None);
                 Ok(Step::On)
             }
             Node::Temporary(shape, start) => self.temporary(*shape, start),
             Node::Hold(number, shape, start) => self.hold(*number, *shape, start),
+            Node::List(all, rest) => self.begin_list(all.as_slice(), rest, into),
+            Node::Characters(bytes) => self.characters(bytes.as_slice(), into),
+            Node::Zeros => self.zeros(into),
             Node::Blank => {
                 self.doing = Doing::Gives(Value::Built);
                 Ok(Step::On)
@@ -79,10 +94,26 @@ impl<'a> Machine<'a> {
     fn name_local(&mut self, number: u32) -> Result<Step<'a>, Stop>
         ensures { (p : Program) → Comes p (λ T o. from_value T p self.old (named number) o) result self.new }
     {
-        match local_value(number, &self.entered, &self.cells) {
+        match local_value(number, &self.entered, &self.objects) {
             Err(stop) => Err(stop),
             Ok(v) => {
                 self.doing = Doing::Gives(v);
+                Ok(Step::On)
+            }
+        }
+    }
+
+    /// A string literal is named: it is one object for the whole run.
+    fn text(&mut self, number: u32, bytes: &'a [u8]) -> Result<Step<'a>, Stop>
+        ensures { (p : Program) (into : Option places.Place) → Comes p (λ T o. from_value T p self.old (valued T p self.old.fuel (cores.text number bytes.now) into) o) result self.new }
+    {
+        match literal_object(number, bytes, &self.entered, &mut self.objects) {
+            Err(stop) => Err(stop),
+            Ok(object) => {
+                self.doing = Doing::Gives(Value::At(Place {
+                    object,
+                    part: Part::Whole,
+                }));
                 Ok(Step::On)
             }
         }
@@ -120,8 +151,8 @@ impl<'a> Machine<'a> {
     }
 
     /// The value of a part is there.
-    pub fn take_value(&mut self, mark: ValueMark<'a>, v: Value) -> Result<Step<'a>, Stop>
-        ensures { (p : Program) → Comes p (λ T o. from_value T p self.old (go_value T p self.old.fuel mark.entry (value_of v)) o) result self.new }
+    pub fn take_value(&mut self, mark: ValueMark<'a>, v: Value<'a>) -> Result<Step<'a>, Stop>
+        ensures { (p : Program) → Comes p (λ T o. from_value T p self.old (go_value T p self.old.fuel mark.entry (value_of v.entry)) o) result self.new }
     {
         match mark {
             ValueMark::Apply(op) => self.applied(op, v),
@@ -130,16 +161,19 @@ impl<'a> Machine<'a> {
             ValueMark::Or(b) => self.or(b, v),
             ValueMark::Choice(a, b) => self.choice(a, b, v),
             ValueMark::Comma(rest) => self.comma(rest),
+            ValueMark::Callee(signature, all) => self.callee(signature, all, v),
             ValueMark::Argument(calling, object) => self.argument(calling, object, v),
             ValueMark::Temporary(object) => self.made(object, v),
             ValueMark::Held(object) => self.held(object, v),
+            ValueMark::Element(element, listing) => self.element(element, listing, v),
+            ValueMark::Constant(number, rest) => self.constant(number, rest, v),
             ValueMark::Whole(around) => self.close_whole(around, v),
         }
     }
 
     /// The left operand of `&&` is there.
-    fn and(&mut self, b: &'a Boxed<Node>, v: Value) -> Result<Step<'a>, Stop>
-        ensures { (p : Program) → Comes p (λ T o. from_value T p self.old (go_and T p self.old.fuel b.now (value_of v)) o) result self.new }
+    fn and(&mut self, b: &'a Boxed<Node>, v: Value<'a>) -> Result<Step<'a>, Stop>
+        ensures { (p : Program) → Comes p (λ T o. from_value T p self.old (go_and T p self.old.fuel b.now (value_of v.entry)) o) result self.new }
     {
         match truth(v) {
             Err(stop) => Err(stop),
@@ -158,8 +192,8 @@ impl<'a> Machine<'a> {
     }
 
     /// The left operand of `||` is there.
-    fn or(&mut self, b: &'a Boxed<Node>, v: Value) -> Result<Step<'a>, Stop>
-        ensures { (p : Program) → Comes p (λ T o. from_value T p self.old (go_or T p self.old.fuel b.now (value_of v)) o) result self.new }
+    fn or(&mut self, b: &'a Boxed<Node>, v: Value<'a>) -> Result<Step<'a>, Stop>
+        ensures { (p : Program) → Comes p (λ T o. from_value T p self.old (go_or T p self.old.fuel b.now (value_of v.entry)) o) result self.new }
     {
         match truth(v) {
             Err(stop) => Err(stop),
@@ -178,8 +212,8 @@ impl<'a> Machine<'a> {
     }
 
     /// The condition of `?:` is there.
-    fn choice(&mut self, a: &'a Boxed<Node>, b: &'a Boxed<Node>, v: Value) -> Result<Step<'a>, Stop>
-        ensures { (p : Program) → Comes p (λ T o. from_value T p self.old (go_choice T p self.old.fuel a.now b.now (value_of v)) o) result self.new }
+    fn choice(&mut self, a: &'a Boxed<Node>, b: &'a Boxed<Node>, v: Value<'a>) -> Result<Step<'a>, Stop>
+        ensures { (p : Program) → Comes p (λ T o. from_value T p self.old (go_choice T p self.old.fuel a.now b.now (value_of v.entry)) o) result self.new }
     {
         match truth(v) {
             Err(stop) => Err(stop),
@@ -211,10 +245,10 @@ impl<'a> Machine<'a> {
     }
 
     /// Something is made of a value.
-    fn applied(&mut self, op: Applied, v: Value) -> Result<Step<'a>, Stop>
-        ensures { (p : Program) → Comes p (λ T o. from_value T p self.old (of_value T op (value_of v)) o) result self.new }
+    fn applied(&mut self, op: Applied<'a>, v: Value<'a>) -> Result<Step<'a>, Stop>
+        ensures { (p : Program) → Comes p (λ T o. from_value T p self.old (of_value T op.entry (value_of v.entry)) o) result self.new }
     {
-        match apply(op, v, &self.entered, &mut self.cells) {
+        match apply(&op, v, &mut self.objects) {
             Err(stop) => Err(stop),
             Ok(x) => {
                 self.doing = Doing::Gives(x);
@@ -224,8 +258,8 @@ impl<'a> Machine<'a> {
     }
 
     /// The left operand is there.
-    fn right(&mut self, op: Binary, b: &'a Boxed<Node>, v: Value) -> Result<Step<'a>, Stop>
-        ensures { (p : Program) → Comes p (λ T o. from_value T p self.old (go_right T p self.old.fuel op b.now (value_of v)) o) result self.new }
+    fn right(&mut self, op: Binary, b: &'a Boxed<Node>, v: Value<'a>) -> Result<Step<'a>, Stop>
+        ensures { (p : Program) → Comes p (λ T o. from_value T p self.old (go_right T p self.old.fuel op b.now (value_of v.entry)) o) result self.new }
     {
         match ready(op, v) {
             Err(stop) => Err(stop),
@@ -234,10 +268,10 @@ impl<'a> Machine<'a> {
     }
 
     /// An argument of a call is there.
-    fn argument(&mut self, calling: Calling<'a>, object: usize, v: Value) -> Result<Step<'a>, Stop>
-        ensures { (p : Program) → Comes p (λ T o. from_value T p self.old (go_argument T p self.old.fuel calling.entry object (value_of v)) o) result self.new }
+    fn argument(&mut self, calling: Calling<'a>, object: usize, v: Value<'a>) -> Result<Step<'a>, Stop>
+        ensures { (p : Program) → Comes p (λ T o. from_value T p self.old (go_argument T p self.old.fuel calling.entry object (value_of v.entry)) o) result self.new }
     {
-        match settle(&self.entered, &mut self.cells, object, v) {
+        match settle_object(&mut self.objects, object, v) {
             Err(stop) => Err(stop),
             Ok(()) => {
                 let mut calling = calling;

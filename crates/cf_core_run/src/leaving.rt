@@ -6,21 +6,23 @@ ghost use Rattle.cf_core.specs.FromTypes.{Tables};
 ghost use Rattle.cf_core.specs.Run.{State, gives, when};
 ghost use Rattle.cf_core.specs.Statements.{falling, turning, leaving, tests_first};
 ghost use Rattle.cf_run_tree.specs.Tree.{core_of, shape_type};
-ghost use Rattle.cf_core_store.specs.Answer.{Told};
+ghost use Rattle.cf_core_objects.specs.Answer.{Told};
 ghost use Rattle.cf_run_tree.specs.declared.program.Program.{Program};
 ghost use Rattle.cf_core_run.specs.Going.{Comes, from_value, from_flow, performed, performed_all, performed_other, cores, turned, body_turn, again, loop_of, go_test, go_if, go_first, go_last, go_flow, go_back, go_declared, go_scope, go_parameters, flow_of};
-ghost use Rattle.cf_core_store.specs.Store.{value_of};
+ghost use Rattle.cf_core_objects.specs.Store.{value_of};
 
 use crate::mark::{Doing, Flow, FlowMark, Mark, Repeated, TestMark};
 use crate::state::{Machine, RunEnd, Step};
+use crate::temporaries::settle_object;
 use cf_base::Boxed;
-use cf_core_store::{Entered, Integer, Stop, Value, end_objects, end_scope, settle, truth};
+use cf_core_objects::{Entered, Integer, Stop, Value, end_objects, end_scope};
+use cf_core_store::truth;
 use cf_run_tree::{Form, Node, Shape};
 
 impl<'a> Machine<'a> {
     /// A value is there: the newest mark says what follows.
-    pub fn take(&mut self, v: Value) -> Result<Step<'a>, Stop>
-        ensures { (p : Program) → Comes p (λ T o. from_value T p self.old (gives (value_of v)) o) result self.new }
+    pub fn take(&mut self, v: Value<'a>) -> Result<Step<'a>, Stop>
+        ensures { (p : Program) → Comes p (λ T o. from_value T p self.old (gives (value_of v.entry)) o) result self.new }
     {
         match self.stack.pop() {
             None => end_with(v),
@@ -37,8 +39,8 @@ impl<'a> Machine<'a> {
     }
 
     /// The value of a full expression is there.
-    fn take_test(&mut self, mark: TestMark<'a>, v: Value) -> Result<Step<'a>, Stop>
-        ensures { (p : Program) → Comes p (λ T o. from_flow T p self.old (go_test T p self.old.fuel mark.entry (value_of v)) o) result self.new }
+    fn take_test(&mut self, mark: TestMark<'a>, v: Value<'a>) -> Result<Step<'a>, Stop>
+        ensures { (p : Program) → Comes p (λ T o. from_flow T p self.old (go_test T p self.old.fuel mark.entry (value_of v.entry)) o) result self.new }
     {
         match mark {
             TestMark::Statement => self.ends(Flow::Falls),
@@ -57,9 +59,9 @@ impl<'a> Machine<'a> {
         &mut self,
         yes: &'a Boxed<Node>,
         no: &'a Option<Boxed<Node>>,
-        v: Value,
+        v: Value<'a>,
     ) -> Result<Step<'a>, Stop>
-        ensures { (p : Program) → Comes p (λ T o. from_flow T p self.old (go_if T p self.old.fuel yes.now no.now (value_of v)) o) result self.new }
+        ensures { (p : Program) → Comes p (λ T o. from_flow T p self.old (go_if T p self.old.fuel yes.now no.now (value_of v.entry)) o) result self.new }
     {
         match truth(v) {
             Err(stop) => Err(stop),
@@ -83,8 +85,8 @@ impl<'a> Machine<'a> {
     }
 
     /// The condition before the body of a loop is there.
-    fn tested_first(&mut self, repeated: Repeated<'a>, v: Value) -> Result<Step<'a>, Stop>
-        ensures { (p : Program) → Comes p (λ T o. from_flow T p self.old (go_first T p self.old.fuel repeated.entry (value_of v)) o) result self.new }
+    fn tested_first(&mut self, repeated: Repeated<'a>, v: Value<'a>) -> Result<Step<'a>, Stop>
+        ensures { (p : Program) → Comes p (λ T o. from_flow T p self.old (go_first T p self.old.fuel repeated.entry (value_of v.entry)) o) result self.new }
     {
         match truth(v) {
             Err(stop) => Err(stop),
@@ -103,8 +105,8 @@ impl<'a> Machine<'a> {
     }
 
     /// The condition behind the body of a loop is there.
-    fn tested_last(&mut self, repeated: Repeated<'a>, v: Value) -> Result<Step<'a>, Stop>
-        ensures { (p : Program) → Comes p (λ T o. from_flow T p self.old (go_last T p self.old.fuel repeated.entry (value_of v)) o) result self.new }
+    fn tested_last(&mut self, repeated: Repeated<'a>, v: Value<'a>) -> Result<Step<'a>, Stop>
+        ensures { (p : Program) → Comes p (λ T o. from_flow T p self.old (go_last T p self.old.fuel repeated.entry (value_of v.entry)) o) result self.new }
     {
         match truth(v) {
             Err(stop) => Err(stop),
@@ -149,10 +151,10 @@ impl<'a> Machine<'a> {
     }
 
     /// A local has its value.
-    fn declared(&mut self, object: usize, v: Value) -> Result<Step<'a>, Stop>
-        ensures { (p : Program) → Comes p (λ T o. from_flow T p self.old (go_declared T p self.old.fuel object (value_of v)) o) result self.new }
+    fn declared(&mut self, object: usize, v: Value<'a>) -> Result<Step<'a>, Stop>
+        ensures { (p : Program) → Comes p (λ T o. from_flow T p self.old (go_declared T p self.old.fuel object (value_of v.entry)) o) result self.new }
     {
-        match settle(&self.entered, &mut self.cells, object, v) {
+        match settle_object(&mut self.objects, object, v) {
             Err(stop) => Err(stop),
             Ok(()) => {
                 self.entered.scope.push(object)?;
@@ -162,8 +164,8 @@ impl<'a> Machine<'a> {
     }
 
     /// A statement has ended: the newest mark says what follows.
-    pub fn leave(&mut self, flow: Flow) -> Result<Step<'a>, Stop>
-        ensures { (p : Program) → Comes p (λ T o. from_flow T p self.old (gives (flow_of flow)) o) result self.new }
+    pub fn leave(&mut self, flow: Flow<'a>) -> Result<Step<'a>, Stop>
+        ensures { (p : Program) → Comes p (λ T o. from_flow T p self.old (gives (flow_of flow.entry)) o) result self.new }
     {
         match self.stack.pop() {
             None => Err(Stop::Malformed),
@@ -180,8 +182,8 @@ impl<'a> Machine<'a> {
     }
 
     /// A part of a statement has ended.
-    fn leave_part(&mut self, mark: FlowMark<'a>, flow: Flow) -> Result<Step<'a>, Stop>
-        ensures { (p : Program) → Comes p (λ T o. from_flow T p self.old (go_flow T p self.old.fuel mark.entry (flow_of flow)) o) result self.new }
+    fn leave_part(&mut self, mark: FlowMark<'a>, flow: Flow<'a>) -> Result<Step<'a>, Stop>
+        ensures { (p : Program) → Comes p (λ T o. from_flow T p self.old (go_flow T p self.old.fuel mark.entry (flow_of flow.entry)) o) result self.new }
     {
         match mark {
             FlowMark::Rest(rest) => self.go_on(rest, flow),
@@ -193,8 +195,8 @@ impl<'a> Machine<'a> {
     }
 
     /// The statements behind one that has ended.
-    fn go_on(&mut self, rest: &'a [Node], flow: Flow) -> Result<Step<'a>, Stop>
-        ensures { (p : Program) → Comes p (λ T o. from_flow T p self.old (falling (performed_all T p self.old.fuel (cores T p rest.now)) (flow_of flow)) o) result self.new }
+    fn go_on(&mut self, rest: &'a [Node], flow: Flow<'a>) -> Result<Step<'a>, Stop>
+        ensures { (p : Program) → Comes p (λ T o. from_flow T p self.old (falling (performed_all T p self.old.fuel (cores T p rest.now)) (flow_of flow.entry)) o) result self.new }
     {
         match flow {
             Flow::Falls => {
@@ -208,8 +210,8 @@ impl<'a> Machine<'a> {
     }
 
     /// The body of a loop has ended.
-    fn turned(&mut self, repeated: Repeated<'a>, flow: Flow) -> Result<Step<'a>, Stop>
-        ensures { (p : Program) → Comes p (λ T o. from_flow T p self.old (turning (turned T p self.old.fuel repeated.entry (tests_first repeated.entry.form)) (flow_of flow)) o) result self.new }
+    fn turned(&mut self, repeated: Repeated<'a>, flow: Flow<'a>) -> Result<Step<'a>, Stop>
+        ensures { (p : Program) → Comes p (λ T o. from_flow T p self.old (turning (turned T p self.old.fuel repeated.entry (tests_first repeated.entry.form)) (flow_of flow.entry)) o) result self.new }
     {
         match flow {
             Flow::Falls => self.turn_on(repeated),
@@ -220,8 +222,8 @@ impl<'a> Machine<'a> {
     }
 
     /// A switch has ended.
-    fn left(&mut self, flow: Flow) -> Result<Step<'a>, Stop>
-        ensures { (p : Program) → Comes p (λ T o. from_flow T p self.old (leaving (flow_of flow)) o) result self.new }
+    fn left(&mut self, flow: Flow<'a>) -> Result<Step<'a>, Stop>
+        ensures { (p : Program) → Comes p (λ T o. from_flow T p self.old (leaving (flow_of flow.entry)) o) result self.new }
     {
         match flow {
             Flow::Breaks => self.ends(Flow::Falls),
@@ -232,10 +234,10 @@ impl<'a> Machine<'a> {
     }
 
     /// The objects of a scope end.
-    fn close_scope(&mut self, around: Vec<usize>, flow: Flow) -> Result<Step<'a>, Stop>
-        ensures { (p : Program) → Comes p (λ T o. from_flow T p self.old (go_scope T p self.old.fuel around.items (flow_of flow)) o) result self.new }
+    fn close_scope(&mut self, around: Vec<usize>, flow: Flow<'a>) -> Result<Step<'a>, Stop>
+        ensures { (p : Program) → Comes p (λ T o. from_flow T p self.old (go_scope T p self.old.fuel around.items (flow_of flow.entry)) o) result self.new }
     {
-        match end_scope(&self.entered, &mut self.cells) {
+        match end_scope(&self.entered, &mut self.objects) {
             Err(stop) => Err(stop),
             Ok(()) => {
                 self.entered.scope = around;
@@ -245,18 +247,18 @@ impl<'a> Machine<'a> {
     }
 
     /// The parameters of a function end.
-    fn end_parameters(&mut self, made: Vec<usize>, flow: Flow) -> Result<Step<'a>, Stop>
-        ensures { (p : Program) → Comes p (λ T o. from_flow T p self.old (go_parameters T p self.old.fuel made.items (flow_of flow)) o) result self.new }
+    fn end_parameters(&mut self, made: Vec<usize>, flow: Flow<'a>) -> Result<Step<'a>, Stop>
+        ensures { (p : Program) → Comes p (λ T o. from_flow T p self.old (go_parameters T p self.old.fuel made.items (flow_of flow.entry)) o) result self.new }
     {
-        match end_objects(&self.entered, &mut self.cells, made.as_slice()) {
+        match end_objects(&mut self.objects, made.as_slice()) {
             Err(stop) => Err(stop),
             Ok(()) => self.ends(flow),
         }
     }
 
     /// A function has ended, and the one that called it goes on.
-    fn go_back(&mut self, shape: Shape, entered: Entered<'a>, flow: Flow) -> Result<Step<'a>, Stop>
-        ensures { (p : Program) → Comes p (λ T o. from_value T p self.old (go_back T p self.old.fuel shape entered.entry (flow_of flow)) o) result self.new }
+    fn go_back(&mut self, shape: Shape, entered: Entered<'a>, flow: Flow<'a>) -> Result<Step<'a>, Stop>
+        ensures { (p : Program) → Comes p (λ T o. from_value T p self.old (go_back T p self.old.fuel shape entered.entry (flow_of flow.entry)) o) result self.new }
     {
         self.entered = entered;
         match returned(shape, flow) {
@@ -270,8 +272,8 @@ impl<'a> Machine<'a> {
 }
 
 /// The value with which a function of this result type ended.
-fn returned(shape: Shape, flow: Flow) -> Result<Value, Stop>
-    ensures { (T : Tables) (s : State) (w : World) → Told value_of result s w (calls.returned (shape_type T shape) (flow_of flow) s w) }
+fn returned<'a>(shape: Shape, flow: Flow<'a>) -> Result<Value<'a>, Stop>
+    ensures { (T : Tables) (s : State) (w : World) → Told value_of result s w (calls.returned (shape_type T shape) (flow_of flow.entry) s w) }
 {
     match flow {
         Flow::Falls => Ok(without_value(shape)),
@@ -283,7 +285,7 @@ fn returned(shape: Shape, flow: Flow) -> Result<Value, Stop>
 }
 
 /// What a function of this type gives where it ended without a value.
-fn without_value(shape: Shape) -> Value
+fn without_value<'a>(shape: Shape) -> Value<'a>
     ensures { (T : Tables) → value_of result ≡ calls.without_value (shape_type T shape) }
 {
     match shape.form {
@@ -293,11 +295,11 @@ fn without_value(shape: Shape) -> Value
 }
 
 /// The first function has ended with a value, whose number is the status.
-fn end_with<'a>(v: Value) -> Result<Step<'a>, Stop>
-    ensures { (p : Program) (m : Machine) → m.stack.items ≡ [] → Comes p (λ T o. from_value T p m (gives (value_of v)) o) result m }
+fn end_with<'a>(v: Value<'a>) -> Result<Step<'a>, Stop>
+    ensures { (p : Program) (m : Machine) → m.stack.items ≡ [] → Comes p (λ T o. from_value T p m (gives (value_of v.entry)) o) result m }
 {
     match v {
-        Value::Number(status) => Ok(Step::Ends(RunEnd::Ended(status))),
+        Value::Number(status) => Ok(Step::Ends(RunEnd::Ended(Integer::new(status)))),
         Value::Missing => Ok(Step::Ends(RunEnd::Ended(Integer::new(0)))),
         _ => Err(Stop::Malformed),
     }

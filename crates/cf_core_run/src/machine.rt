@@ -3,9 +3,9 @@ ghost use Rattle.cf_core_run.specs.Going.{Comes, total, end_of as its_run_end};
 ghost use Rattle.cf_core_run.specs.declared.mark.Doing.TheVariants as doing;
 ghost use Rattle.cf_core_run.specs.Whole.{Starts, Reads, Turns, Runs, end_of as its_end};
 
-use crate::mark::{Calling, Doing};
+use crate::mark::Doing;
 use crate::state::{End, Event, Limits, Machine, Ran, RunEnd, Seen, Step};
-use cf_core_store::{Entered, Integer, Stop, Value};
+use cf_core_objects::{Entered, Objects, Stop, Value};
 use cf_run_tree::Program;
 use std::alloc::Global;
 use std::mem::replace;
@@ -17,8 +17,11 @@ impl<'a> Machine<'a> {
     {
         let doing = replace(&mut self.doing, Doing::Asks);
         match doing {
+            Doing::Starts => self.start_program(program),
+            Doing::Sets(rest) => self.set_next(rest, program),
             Doing::Evaluate(e, into) => self.begin(e, into, program),
             Doing::Gives(v) => self.take(v),
+            Doing::Lists(listing) => self.next_element(listing),
             Doing::Passes(calling) => self.pass(calling, program),
             Doing::Enter(f, made) => self.enter(f, made),
             Doing::Body(f, made) => self.begin_body(f, made),
@@ -33,19 +36,14 @@ impl<'a> Machine<'a> {
     }
 }
 
-/// The state in which a run begins: `main` is called.
+/// The state in which a run begins.
 pub fn start<'a>(alloc: Global, limits: Limits) -> Machine<'a>
     ensures { (p : Program) → Starts p limits result }
 {
     Machine {
         alloc,
         stack: Vec::new(alloc),
-        doing: Doing::Passes(Calling {
-            name: b"__main".as_slice(),
-            params: &[],
-            rest: &[],
-            made: Vec::new(alloc),
-        }),
+        doing: Doing::Starts,
         entered: Entered {
             name: b"".as_slice(),
             depth: limits.depth,
@@ -53,26 +51,31 @@ pub fn start<'a>(alloc: Global, limits: Limits) -> Machine<'a>
             scope: Vec::new(alloc),
             temporaries: Vec::new(alloc),
         },
-        cells: Vec::new(alloc),
+        objects: Objects {
+            alloc,
+            cells: Vec::new(alloc),
+            literals: Vec::new(alloc),
+            reached: Vec::new(alloc),
+        },
         fuel: limits.ticks,
         ticks: limits.ticks,
     }
 }
 
 /// The next byte of the input, and its value.
-fn next_byte(seen: &mut Seen<'_>) -> Result<Value, Stop>
+fn next_byte<'a>(seen: &mut Seen<'a>) -> Result<Value<'a>, Stop>
     ensures { Reads seen.old seen.new result }
 {
     match seen.rest.split_first() {
         None => {
             seen.trace.push(Event::In(None))?;
-            Ok(Value::Number(Integer::new(-1)))
+            Ok(Value::Number(-1))
         }
         Some((byte, rest)) => {
             let byte = *byte;
             seen.rest = rest;
             seen.trace.push(Event::In(Some(byte)))?;
-            Ok(Value::Number(Integer::new(i64::from(byte))))
+            Ok(Value::Number(i64::from(byte)))
         }
     }
 }

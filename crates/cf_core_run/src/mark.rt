@@ -1,26 +1,42 @@
 use cf_base::Boxed;
 use cf_core::LoopForm;
-use cf_core_store::{Applied, Entered, Integer, Value};
-use cf_run_tree::{Binary, Node, RunFn, Shape};
+use cf_core_objects::{Entered, Integer, Value};
+use cf_core_place::Place;
+use cf_core_store::Applied;
+use cf_run_tree::{Binary, Node, RunFn, RunStatic, Shape, Signature};
 
 /// How a statement ends.
 #[derive(Clone, Copy)]
-pub enum Flow {
+pub enum Flow<'a> {
     Falls,
     Breaks,
     Continues,
-    Returns(Value),
+    Returns(Value<'a>),
 }
 
 /// A call whose arguments are being evaluated.
 #[derive(Drop)]
 pub struct Calling<'a> {
-    pub name: &'a [u8],
+    /// What is called: a function, or what a pointer held that is no function.
+    pub callee: Value<'a>,
     /// The types of the parameters that are left, and their arguments.
     pub params: &'a [Shape],
     pub rest: &'a [Node],
     /// The objects of the parameters so far.
     pub made: Vec<usize>,
+}
+
+/// A list of the elements of an array, of which some are initialised (8.4.1).
+#[derive(Clone, Copy)]
+pub struct Listing<'a> {
+    pub array: Place,
+    /// The next element.
+    pub index: u32,
+    /// The initialisers that are left.
+    pub rest: &'a [Node],
+    /// How many elements come behind these, and the initialiser of each.
+    pub left: usize,
+    pub filler: &'a Boxed<Node>,
 }
 
 /// A loop: its condition, its step and its body.
@@ -35,19 +51,25 @@ pub struct Repeated<'a> {
 /// What is left of an expression once the value at hand is there.
 #[derive(Drop)]
 pub enum ValueMark<'a> {
-    Apply(Applied),
+    Apply(Applied<'a>),
     /// The right operand comes.
     Right(Binary, &'a Boxed<Node>),
     And(&'a Boxed<Node>),
     Or(&'a Boxed<Node>),
     Choice(&'a Boxed<Node>, &'a Boxed<Node>),
     Comma(&'a [Node]),
+    /// What is called is there; its type, and the arguments, which come.
+    Callee(&'a Signature, &'a [Node]),
     /// The parameter with this object gets the value, and the other arguments come.
     Argument(Calling<'a>, usize),
     /// The temporary with this object gets the value, and lives to the end of the full expression.
     Temporary(usize),
     /// The temporary with this object gets the value, and lives as long as a local.
     Held(usize),
+    /// The element of an array at this place gets the value, and the others come.
+    Element(Place, Listing<'a>),
+    /// The static object of this number gets the value, and these others come.
+    Constant(usize, &'a [RunStatic]),
     /// A full expression ends, and the one around it has these temporaries.
     Whole(Vec<usize>),
 }
@@ -97,9 +119,15 @@ pub enum Mark<'a> {
 /// What is being done.
 #[derive(Drop)]
 pub enum Doing<'a> {
-    /// An expression, or an initialiser of this object.
-    Evaluate(&'a Node, Option<usize>),
-    Gives(Value),
+    /// The program begins: its static objects are made.
+    Starts,
+    /// These static objects get their constant initialisers, and then `main` is called.
+    Sets(&'a [RunStatic]),
+    /// An expression, or an initialiser of this place.
+    Evaluate(&'a Node, Option<Place>),
+    Gives(Value<'a>),
+    /// The next element of an array.
+    Lists(Listing<'a>),
     /// The next argument of a call.
     Passes(Calling<'a>),
     /// A function is entered with these objects as its parameters.
@@ -113,7 +141,7 @@ pub enum Doing<'a> {
     Default(&'a [Node]),
     /// The next turn of a loop.
     Repeat(Repeated<'a>),
-    Ends(Flow),
+    Ends(Flow<'a>),
     /// The next byte of the input.
     Asks,
 }

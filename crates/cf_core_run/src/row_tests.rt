@@ -3,7 +3,7 @@
 use crate::machine::run;
 use crate::state::{End, Limits};
 use cf_base::{Arith, Boxed, Items, Kind, Memory, Name};
-use cf_core_store::Integer;
+use cf_core_objects::Integer;
 use cf_run_tree::{Binary, Form, Node, ObjectType, Program, RunFn, Shape, Signature, Unary};
 use cf_types::TyId;
 use std::alloc::Global;
@@ -89,7 +89,10 @@ fn function(
 
 /// A program comes to this end.
 fn ends(rt: &impl Abort, alloc: Global, functions: Items<RunFn>, end: End) -> Result<(), Fail> {
-    let program = Program { functions };
+    let program = Program {
+        functions,
+        statics: Items::new(alloc),
+    };
     let limits = Limits {
         ticks: 99,
         depth: 9,

@@ -1,5 +1,5 @@
 use crate::mark::{Doing, Mark};
-use cf_core_store::{Cell, Entered, Integer};
+use cf_core_objects::{Entered, Integer, Objects};
 use std::alloc::Global;
 
 /// A run at a moment.
@@ -9,7 +9,7 @@ pub struct Machine<'a> {
     pub stack: Vec<Mark<'a>>,
     pub doing: Doing<'a>,
     pub entered: Entered<'a>,
-    pub cells: Vec<Cell>,
+    pub objects: Objects<'a>,
     /// How deep functions and turns may still be begun inside what is being done.
     pub fuel: u64,
     pub ticks: u64,

@@ -5,14 +5,16 @@ ghost use Rattle.cf_core.specs.Run.{gives};
 ghost use Rattle.cf_core.specs.Statements.{tests_first};
 ghost use Rattle.cf_run_tree.specs.Tree.{core_of, object_type};
 ghost use Rattle.cf_run_tree.specs.declared.program.Program.{Program};
-ghost use Rattle.cf_core_store.specs.Then.{◌▷◌};
+ghost use Rattle.cf_core_objects.specs.Then.{◌▷◌};
 ghost use Rattle.cf_core_run.specs.Going.{Comes, from_flow, valued, full, full_by, performed, performed_all, scoped, cores, maybe_core, again, loop_of, first_turn, body_turn, turned, go_test, go_declared, flow_of};
 
 use crate::mark::{Doing, Flow, FlowMark, Mark, Repeated, TestMark, ValueMark};
 use crate::state::{Machine, RunEnd, Step};
 use cf_base::Boxed;
 use cf_core::LoopForm;
-use cf_core_store::{Applied, Stop, Value, new_local};
+use cf_core_objects::{Stop, Value, new_local};
+use cf_core_place::{Part, Place};
+use cf_core_store::Applied;
 use cf_run_tree::{Node, ObjectType};
 
 impl<'a> Machine<'a> {
@@ -60,8 +62,8 @@ impl<'a> Machine<'a> {
     }
 
     /// A statement has ended.
-    pub fn ends(&mut self, flow: Flow) -> Result<Step<'a>, Stop>
-        ensures { (p : Program) → Comes p (λ T o. from_flow T p self.old (gives (flow_of flow)) o) result self.new }
+    pub fn ends(&mut self, flow: Flow<'a>) -> Result<Step<'a>, Stop>
+        ensures { (p : Program) → Comes p (λ T o. from_flow T p self.old (gives (flow_of flow.entry)) o) result self.new }
     {
         self.doing = Doing::Ends(flow);
         Ok(Step::On)
@@ -79,11 +81,11 @@ impl<'a> Machine<'a> {
     /// A full expression is evaluated first, with what is made of its value in it, and the mark says what follows.
     pub fn test_by(
         &mut self,
-        op: Applied,
+        op: Applied<'a>,
         mark: TestMark<'a>,
         e: &'a Boxed<Node>,
     ) -> Result<Step<'a>, Stop>
-        ensures { (p : Program) → Comes p (λ T o. from_flow T p self.old (λ s w. full_by T p self.old.fuel (core_of T e.now) op s w ▷ go_test T p self.old.fuel mark.entry) o) result self.new }
+        ensures { (p : Program) → Comes p (λ T o. from_flow T p self.old (λ s w. full_by T p self.old.fuel (core_of T e.now) op.entry s w ▷ go_test T p self.old.fuel mark.entry) o) result self.new }
     {
         self.open_whole(mark)?;
         self.down(ValueMark::Apply(op), e)
@@ -122,7 +124,7 @@ impl<'a> Machine<'a> {
     ) -> Result<Step<'a>, Stop>
         ensures { (p : Program) → Comes p (λ T o. from_flow T p self.old (performed T p self.old.fuel (nodes.declare number (object_type T ty.now) (core_of T start.now))) o) result self.new }
     {
-        match new_local(number, ty, &mut self.entered, &mut self.cells) {
+        match new_local(number, ty, &mut self.entered, &mut self.objects) {
             Err(stop) => Err(stop),
             Ok(object) => self.initialise(object, start),
         }
@@ -133,7 +135,10 @@ impl<'a> Machine<'a> {
         ensures { (p : Program) → Comes p (λ T o. from_flow T p self.old (λ s w. full T p self.old.fuel (valued T p self.old.fuel (core_of T start.now) (Some (root object))) s w ▷ go_declared T p self.old.fuel object) o) result self.new }
     {
         self.open_whole(TestMark::Declared(object))?;
-        self.doing = Doing::Evaluate(start.get(), Some(object));
+        self.doing = Doing::Evaluate(start.get(), Some(Place {
+            object,
+            part: Part::Whole,
+        }));
         Ok(Step::On)
     }
 

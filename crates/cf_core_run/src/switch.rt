@@ -4,15 +4,15 @@ ghost use Rattle.cf_core.specs.FromTypes.{Tables};
 ghost use Rattle.cf_core.specs.Statements as statements;
 ghost use Rattle.cf_run_tree.specs.Tree.{core_of, object_type, program_of};
 ghost use Rattle.cf_run_tree.specs.declared.program.Program.{Program};
-ghost use Rattle.cf_core_store.specs.Answer.{Told};
-ghost use Rattle.cf_core_store.specs.Store.{state_of, value_of};
+ghost use Rattle.cf_core_objects.specs.Answer.{Told};
+ghost use Rattle.cf_core_objects.specs.Store.{state_of, value_of};
 ghost use Rattle.cf_core_run.specs.Going.{Comes, from_flow, cores, again, go_switch, selected, labelled};
 ghost use Rattle.cf_core_run.specs.Labels.{is_case as its_case, is_default as its_default, row, passes_before, passes_blank, passes_local};
 
 use crate::mark::{Doing, Flow, FlowMark, Mark};
 use crate::state::{Machine, Step};
 use cf_base::Boxed;
-use cf_core_store::{Cell, Entered, Integer, Stop, Value, new_local};
+use cf_core_objects::{Entered, Integer, Objects, Stop, Value, new_local};
 use cf_run_tree::{Node, ObjectType};
 
 /// Whether a statement is the label for this number.
@@ -61,23 +61,23 @@ fn has_default(all: &[Node]) -> bool
 
 /// A label passes a statement: a local that is declared without an initialiser is there (6.7).
 #[cycle(pass_over)]
-fn pass_over(s: &Node, entered: &mut Entered<'_>, cells: &mut Vec<Cell>) -> Result<(), Stop>
-    ensures { (T : Tables) (w : World) → Told (λ u. tt) result (state_of T entered.new cells.new.items) w (statements.passes (core_of T s.now) (state_of T entered.old cells.old.items) w) }
+fn pass_over(s: &Node, entered: &mut Entered<'_>, objects: &mut Objects<'_>) -> Result<(), Stop>
+    ensures { (T : Tables) (w : World) → Told (λ u. tt) result (state_of T entered.new objects.new) w (statements.passes (core_of T s.now) (state_of T entered.old objects.old) w) }
 {
     match s {
-        Node::Declare(number, ty, start) => pass_declared(*number, ty, start, entered, cells),
-        Node::Sequence(all) => pass_all(all.as_slice(), entered, cells),
+        Node::Declare(number, ty, start) => pass_declared(*number, ty, start, entered, objects),
+        Node::Sequence(all) => pass_all(all.as_slice(), entered, objects),
         _ => Ok(()),
     }
 }
 
 /// Statements are passed in order.
 #[cycle(pass_over)]
-fn pass_all(all: &[Node], entered: &mut Entered<'_>, cells: &mut Vec<Cell>) -> Result<(), Stop>
-    ensures { (T : Tables) (w : World) → Told (λ u. tt) result (state_of T entered.new cells.new.items) w (statements.passes_all (row T all.now) (state_of T entered.old cells.old.items) w) }
+fn pass_all(all: &[Node], entered: &mut Entered<'_>, objects: &mut Objects<'_>) -> Result<(), Stop>
+    ensures { (T : Tables) (w : World) → Told (λ u. tt) result (state_of T entered.new objects.new) w (statements.passes_all (row T all.now) (state_of T entered.old objects.old) w) }
 {
     for s in all {
-        match pass_over(s, entered, cells) {
+        match pass_over(s, entered, objects) {
             Err(stop) => return Err(stop),
             Ok(()) => {}
         }
@@ -91,12 +91,12 @@ fn pass_declared(
     ty: &ObjectType,
     start: &Boxed<Node>,
     entered: &mut Entered<'_>,
-    cells: &mut Vec<Cell>,
+    objects: &mut Objects<'_>,
 ) -> Result<(), Stop>
-    ensures { (T : Tables) (w : World) → Told (λ u. tt) result (state_of T entered.new cells.new.items) w (passes_local number (object_type T ty.now) (core_of T start.now) (state_of T entered.old cells.old.items) w) }
+    ensures { (T : Tables) (w : World) → Told (λ u. tt) result (state_of T entered.new objects.new) w (passes_local number (object_type T ty.now) (core_of T start.now) (state_of T entered.old objects.old) w) }
 {
     match start.get() {
-        Node::Blank => pass_blank(number, ty, entered, cells),
+        Node::Blank => pass_blank(number, ty, entered, objects),
         _ => Err(Stop::Malformed),
     }
 }
@@ -106,11 +106,11 @@ fn pass_blank(
     number: u32,
     ty: &ObjectType,
     entered: &mut Entered<'_>,
-    cells: &mut Vec<Cell>,
+    objects: &mut Objects<'_>,
 ) -> Result<(), Stop>
-    ensures { (T : Tables) (w : World) → Told (λ u. tt) result (state_of T entered.new cells.new.items) w (passes_blank number (object_type T ty.now) (state_of T entered.old cells.old.items) w) }
+    ensures { (T : Tables) (w : World) → Told (λ u. tt) result (state_of T entered.new objects.new) w (passes_blank number (object_type T ty.now) (state_of T entered.old objects.old) w) }
 {
-    match new_local(number, ty, entered, cells) {
+    match new_local(number, ty, entered, objects) {
         Err(stop) => Err(stop),
         Ok(object) => {
             entered.scope.push(object)?;
@@ -121,16 +121,17 @@ fn pass_blank(
 
 impl<'a> Machine<'a> {
     /// The value of a switch is there.
-    pub fn switch(&mut self, all: &'a [Node], v: Value) -> Result<Step<'a>, Stop>
-        ensures { (p : Program) → Comes p (λ T o. from_flow T p self.old (go_switch T p self.old.fuel (cores T p all.now) (value_of v)) o) result self.new }
+    pub fn switch(&mut self, all: &'a [Node], v: Value<'a>) -> Result<Step<'a>, Stop>
+        ensures { (p : Program) → Comes p (λ T o. from_flow T p self.old (go_switch T p self.old.fuel (cores T p all.now) (value_of v.entry)) o) result self.new }
     {
         match v {
-            Value::Number(number) => self.select(number, all),
+            Value::Number(number) => self.select(Integer::new(number), all),
             Value::Nothing => Err(Stop::Malformed),
             Value::Missing => Err(Stop::Malformed),
             Value::Built => Err(Stop::Malformed),
             Value::Null => Err(Stop::Malformed),
             Value::At(_) => Err(Stop::Malformed),
+            Value::Code(_) => Err(Stop::Malformed),
         }
     }
 
@@ -183,7 +184,7 @@ impl<'a> Machine<'a> {
     ) -> Result<Step<'a>, Stop>
         ensures { (p : Program) → Comes p (λ T o. from_flow T p self.old (passes_before (core_of T first.now) (statements.from_case (again T p self.old.fuel) (program_of T p) number (cores T p rest.now))) o) result self.new }
     {
-        match pass_over(first, &mut self.entered, &mut self.cells) {
+        match pass_over(first, &mut self.entered, &mut self.objects) {
             Err(stop) => Err(stop),
             Ok(()) => {
                 self.doing = Doing::Case(number, rest);
@@ -212,7 +213,7 @@ impl<'a> Machine<'a> {
     fn pass_to_default(&mut self, first: &'a Node, rest: &'a [Node]) -> Result<Step<'a>, Stop>
         ensures { (p : Program) → Comes p (λ T o. from_flow T p self.old (passes_before (core_of T first.now) (statements.from_default (again T p self.old.fuel) (program_of T p) (cores T p rest.now))) o) result self.new }
     {
-        match pass_over(first, &mut self.entered, &mut self.cells) {
+        match pass_over(first, &mut self.entered, &mut self.objects) {
             Err(stop) => Err(stop),
             Ok(()) => {
                 self.doing = Doing::Default(rest);

@@ -1,20 +1,41 @@
-ghost use Rattle.std.specs.Prelude.{◌≡◌, Option, Some, IfOk, reverse};
+ghost use Rattle.std.specs.Prelude.{◌≡◌, [], Option, Some, IfOk, reverse};
 ghost use Rattle.cf_core.specs.Calls.{root};
 ghost use Rattle.cf_core.specs.Core as cores;
-ghost use Rattle.cf_core.specs.Places.{Place};
+ghost use Rattle.cf_core.specs.Objects as meaning;
+ghost use Rattle.cf_core.specs.Places as places;
+ghost use Rattle.cf_core.specs.FromTypes.{Tables};
+ghost use Rattle.cf_base.specs.World.{World};
+ghost use Rattle.cf_core_objects.specs.Answer.{Told};
+ghost use Rattle.cf_core_objects.specs.declared.object.Entered.{Entered};
 ghost use Rattle.cf_run_tree.specs.Tree.{core_of, shape_type};
 ghost use Rattle.cf_run_tree.specs.declared.program.Program.{Program};
-ghost use Rattle.cf_core_store.specs.Store.{value_of};
-ghost use Rattle.cf_core_store.specs.Then.{◌▷◌};
-ghost use Rattle.cf_core_run.specs.Going.{Comes, OpensWhole, from_value, valued, closed, go_temporary, go_held};
+ghost use Rattle.cf_core_objects.specs.Store.{state_of, value_of};
+ghost use Rattle.cf_core_objects.specs.Then.{◌▷◌};
+ghost use Rattle.cf_core_run.specs.Going.{Comes, OpensWhole, OpensInner, from_value, valued, closed, go_temporary, go_held};
 
 use crate::mark::{Doing, Mark, TestMark, ValueMark};
 use crate::state::{Machine, Step};
 use cf_base::Boxed;
-use cf_core_store::{Cell, Stop, Value, end_temporaries, new_scalar, settle};
+use cf_core_objects::{Objects, Stop, Value, end_temporaries, new_object, new_scalar, settle};
+use cf_core_place::{Part, Place};
 use cf_run_tree::{Node, Shape};
 use std::alloc::AllocError;
 use std::mem::replace;
+
+/// An initialiser has given a value for an object.
+pub fn settle_object<'a>(
+    objects: &mut Objects<'a>,
+    object: usize,
+    v: Value<'a>,
+) -> Result<(), Stop>
+    ensures { (T : Tables) (e : Entered) (w : World) → Told (λ u. tt) result (state_of T e objects.new) w (meaning.settle [] (root object) (value_of v.entry) (state_of T e objects.old) w) }
+{
+    let place = Place {
+        object,
+        part: Part::Whole,
+    };
+    settle(objects, place, v)
+}
 
 impl<'a> Machine<'a> {
     /// A full expression begins, without temporaries, and the mark says what its value leads to.
@@ -28,11 +49,22 @@ impl<'a> Machine<'a> {
         Ok(())
     }
 
-    /// A full expression has ended: its temporaries end, and those of the one around it stand again.
-    pub fn close_whole(&mut self, around: Vec<usize>, v: Value) -> Result<Step<'a>, Stop>
-        ensures { (p : Program) → Comes p (λ T o. from_value T p self.old (closed T p self.old.fuel (reverse around.items) (value_of v)) o) result self.new }
+    /// A full expression begins inside an expression, without temporaries, and the mark says what its value leads to.
+    pub fn open_inner(&mut self, mark: ValueMark<'a>) -> Result<(), AllocError>
+        ensures { IfOk result (λ u. OpensInner self.old self.new mark.entry) }
     {
-        match end_temporaries(&self.entered, &mut self.cells) {
+        self.stack.push(Mark::Value(self.fuel, mark))?;
+        let around = replace(&mut self.entered.temporaries, Vec::new(self.alloc));
+        self.stack
+            .push(Mark::Value(self.fuel, ValueMark::Whole(around)))?;
+        Ok(())
+    }
+
+    /// A full expression has ended: its temporaries end, and those of the one around it stand again.
+    pub fn close_whole(&mut self, around: Vec<usize>, v: Value<'a>) -> Result<Step<'a>, Stop>
+        ensures { (p : Program) → Comes p (λ T o. from_value T p self.old (closed T p self.old.fuel (reverse around.items) (value_of v.entry)) o) result self.new }
+    {
+        match end_temporaries(&self.entered, &mut self.objects) {
             Err(stop) => Err(stop),
             Ok(()) => {
                 self.entered.temporaries = around;
@@ -44,29 +76,39 @@ impl<'a> Machine<'a> {
 
     /// A temporary of the full expression is made.
     pub fn temporary(&mut self, shape: Shape, start: &'a Boxed<Node>) -> Result<Step<'a>, Stop>
-        ensures { (p : Program) (into : Option Place) → Comes p (λ T o. from_value T p self.old (valued T p self.old.fuel (cores.temporary (shape_type T shape) (core_of T start.now)) into) o) result self.new }
+        ensures { (p : Program) (into : Option places.Place) → Comes p (λ T o. from_value T p self.old (valued T p self.old.fuel (cores.temporary (shape_type T shape) (core_of T start.now)) into) o) result self.new }
     {
-        let object = self.cells.len();
-        self.cells.push(Cell {
-            shape,
-            held: None,
-            is_gone: false,
-        })?;
+        match new_object(shape, &mut self.objects) {
+            Err(stop) => Err(stop),
+            Ok(object) => self.make(object, start),
+        }
+    }
+
+    /// The initialiser of a temporary with this object.
+    fn make(&mut self, object: usize, start: &'a Boxed<Node>) -> Result<Step<'a>, Stop>
+        ensures { (p : Program) → Comes p (λ T o. from_value T p self.old (λ s w. valued T p self.old.fuel (core_of T start.now) (Some (root object)) s w ▷ go_temporary T p self.old.fuel object) o) result self.new }
+    {
         self.stack
             .push(Mark::Value(self.fuel, ValueMark::Temporary(object)))?;
-        self.doing = Doing::Evaluate(start.get(), Some(object));
+        self.doing = Doing::Evaluate(start.get(), Some(Place {
+            object,
+            part: Part::Whole,
+        }));
         Ok(Step::On)
     }
 
     /// The value of a temporary is there.
-    pub fn made(&mut self, object: usize, v: Value) -> Result<Step<'a>, Stop>
-        ensures { (p : Program) → Comes p (λ T o. from_value T p self.old (go_temporary T p self.old.fuel object (value_of v)) o) result self.new }
+    pub fn made(&mut self, object: usize, v: Value<'a>) -> Result<Step<'a>, Stop>
+        ensures { (p : Program) → Comes p (λ T o. from_value T p self.old (go_temporary T p self.old.fuel object (value_of v.entry)) o) result self.new }
     {
-        match settle(&self.entered, &mut self.cells, object, v) {
+        match settle_object(&mut self.objects, object, v) {
             Err(stop) => Err(stop),
             Ok(()) => {
                 self.entered.temporaries.push(object)?;
-                self.doing = Doing::Gives(Value::At(object));
+                self.doing = Doing::Gives(Value::At(Place {
+                    object,
+                    part: Part::Whole,
+                }));
                 Ok(Step::On)
             }
         }
@@ -79,9 +121,9 @@ impl<'a> Machine<'a> {
         shape: Shape,
         start: &'a Boxed<Node>,
     ) -> Result<Step<'a>, Stop>
-        ensures { (p : Program) (into : Option Place) → Comes p (λ T o. from_value T p self.old (valued T p self.old.fuel (cores.bind (cores.local_temporary number (shape_type T shape)) (core_of T start.now)) into) o) result self.new }
+        ensures { (p : Program) (into : Option places.Place) → Comes p (λ T o. from_value T p self.old (valued T p self.old.fuel (cores.bind (cores.local_temporary number (shape_type T shape)) (core_of T start.now)) into) o) result self.new }
     {
-        match new_scalar(number, shape, &mut self.entered, &mut self.cells) {
+        match new_scalar(number, shape, &mut self.entered, &mut self.objects) {
             Err(stop) => Err(stop),
             Ok(object) => self.hold_in(object, start),
         }
@@ -93,19 +135,25 @@ impl<'a> Machine<'a> {
     {
         self.stack
             .push(Mark::Value(self.fuel, ValueMark::Held(object)))?;
-        self.doing = Doing::Evaluate(start.get(), Some(object));
+        self.doing = Doing::Evaluate(start.get(), Some(Place {
+            object,
+            part: Part::Whole,
+        }));
         Ok(Step::On)
     }
 
     /// The value of such a temporary is there.
-    pub fn held(&mut self, object: usize, v: Value) -> Result<Step<'a>, Stop>
-        ensures { (p : Program) → Comes p (λ T o. from_value T p self.old (go_held T p self.old.fuel object (value_of v)) o) result self.new }
+    pub fn held(&mut self, object: usize, v: Value<'a>) -> Result<Step<'a>, Stop>
+        ensures { (p : Program) → Comes p (λ T o. from_value T p self.old (go_held T p self.old.fuel object (value_of v.entry)) o) result self.new }
     {
-        match settle(&self.entered, &mut self.cells, object, v) {
+        match settle_object(&mut self.objects, object, v) {
             Err(stop) => Err(stop),
             Ok(()) => {
                 self.entered.scope.push(object)?;
-                self.doing = Doing::Gives(Value::At(object));
+                self.doing = Doing::Gives(Value::At(Place {
+                    object,
+                    part: Part::Whole,
+                }));
                 Ok(Step::On)
             }
         }

@@ -3,7 +3,7 @@
 use crate::machine::run;
 use crate::state::{End, Limits};
 use cf_base::{Arith, Boxed, Items, Kind, Memory, Name};
-use cf_core_store::Integer;
+use cf_core_objects::Integer;
 use cf_run_tree::{Binary, Form, Node, ObjectType, Program, RunFn, Shape, Signature, Unary};
 use std::alloc::Global;
 use std::process::Abort;
@@ -71,7 +71,10 @@ fn program(alloc: Global, statement: Boxed<Node>) -> Result<Program, Memory> {
         is_shared: false,
         is_local: false,
     })?;
-    Ok(Program { functions })
+    Ok(Program {
+        functions,
+        statics: Items::new(alloc),
+    })
 }
 
 /// A program with this statement in `main` comes to this end, and shows so many events.

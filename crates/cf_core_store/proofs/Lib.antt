@@ -1,4 +1,3 @@
 mod Acts
 mod Steps
-pub mod StoreLaws
-pub mod ThenLaws
+mod StoreLaws

@@ -9,12 +9,12 @@ use Rattle.cf_core.specs.Store.{Value, Number}
 use Rattle.cf_core.specs.Access.{number_of}
 use Rattle.cf_core.specs.Core.{arithmetic}
 use Rattle.cf_core.specs.Scalars.{operated, changed_value}
-use Rattle.cf_core_store.specs.declared.answer.Stop.{Stop}
-use Rattle.cf_core_store.specs.declared.answer.Stop.TheVariants as stop
-use Rattle.cf_core_store.specs.declared.answer.Value.{Value as Given}
-use Rattle.cf_core_store.specs.declared.answer.Value.TheVariants as given
-use Rattle.cf_core_store.specs.Answer.{Told, Stopped}
-use Rattle.cf_core_store.specs.Store.{value_of}
+use Rattle.cf_core_objects.specs.declared.answer.Stop.{Stop}
+use Rattle.cf_core_objects.specs.declared.answer.Stop.TheVariants as stop
+use Rattle.cf_core_objects.specs.declared.answer.Value.{Value as Given}
+use Rattle.cf_core_objects.specs.declared.answer.Value.TheVariants as given
+use Rattle.cf_core_objects.specs.Answer.{Told, Stopped}
+use Rattle.cf_core_objects.specs.Store.{value_of}
 
 pub stops-then : {A B : Type 0} (e : Stop) (act : Act A) (go : A → Act B) (s : State) (w : World) → Stopped e w (act s w) → Stopped e w ((act >>= go) s w)
 stops-then {A} {B} (stop.Act n) act go s w h = ap (λ (r : Ran (Did A)). and_then r (λ did w. onward did go w)) h

@@ -1,5 +1,3 @@
 pub mod Acts
-pub mod Answer
-pub mod Store
-pub mod Then
+pub mod Compared
 pub mod Values

@@ -1,12 +1,11 @@
 -- What is done with a value once it is there.
-use Rattle.std.specs.Prelude.{ℕ, Bool, if◌then◌else◌, [], pos, not}
+use Rattle.std.specs.Prelude.{Bool, if◌then◌else◌, [], pos, not, Option, None, Some}
 use Rattle.cf_core.specs.FromTypes.{Tables}
-use Rattle.cf_core.specs.Places.{Place, is_scalar}
+use Rattle.cf_core.specs.Places.{Place}
 use Rattle.cf_core.specs.Store.{Value, Nothing, Missing, Built, Number, Null, At, Code, DataMember, FunctionMember}
-use Rattle.cf_core.specs.Run.{Act, ◌>>=◌, ◌>>◌, gives, malformed, state, when}
-use Rattle.cf_core.specs.Access.{used, place_of, place_type, followed, bound_to, read_place, write_place, first_value}
-use Rattle.cf_core.specs.Objects.{local_place}
-use Rattle.cf_core.specs.Pointers.{truth_value, pointer_op}
+use Rattle.cf_core.specs.Run.{Act, ◌>>=◌, ◌>>◌, gives, malformed}
+use Rattle.cf_core.specs.Access.{used, place_of, read_place, write_place}
+use Rattle.cf_core.specs.Pointers.{truth_value, pointer_op, equal_values}
 use Rattle.cf_core.specs.Scalars.{truth_of, converted_value, operated, signed, changed_value, indexed, decayed, pointed_to, as_pointer}
 use Rattle.cf_run_tree.specs.declared.node.Change.{Change}
 use Rattle.cf_run_tree.specs.declared.node.Unary.{Unary}
@@ -16,20 +15,7 @@ use Rattle.cf_run_tree.specs.declared.node.Binary.TheVariants as two
 use Rattle.cf_run_tree.specs.Tree.{shape_type, change_of}
 use Rattle.cf_core_store.specs.declared.results.Applied.{Applied}
 use Rattle.cf_core_store.specs.declared.results.Applied.TheVariants as applied
-use Rattle.cf_core_store.specs.Store.{value_of}
-
--- an object gets its first value
-abbrev pub settled_value : Place → Value → Act (Unit {0})
-settled_value p v = do
-  s ← state
-  when (is_scalar (place_type [] s p)) (used v >>= first_value p) malformed
-
--- what the name of a parameter or local stands for
-abbrev pub named : ℕ → Act Value
-named i = local_place i >>= followed []
-
-abbrev pub bound_by : Act Value → Act Value
-bound_by act = act >>= bound_to
+use Rattle.cf_core_objects.specs.Store.{value_of}
 
 abbrev pub stepped_at : Bool → Change → Place → Act Value
 stepped_at is_postfix o p = do
@@ -48,6 +34,12 @@ changed_at o p y = do
 abbrev pub put_at : Place → Value → Act Value
 put_at p y = write_place [] p y >> gives (At p)
 
+abbrev pub equal_number : Value → Value → Act Value
+equal_number x y = equal_values [] x y >>= (λ b. gives (truth_value b))
+
+abbrev pub unequal_number : Value → Value → Act Value
+unequal_number x y = equal_values [] x y >>= (λ b. gives (truth_value (not b)))
+
 -- an act at the place that a value is
 abbrev pub at_place : (Place → Act Value) → Value → Act Value
 at_place go (At p) = go p
@@ -59,6 +51,11 @@ at_place go Null = malformed
 at_place go (Code f) = malformed
 at_place go (DataMember path i) = malformed
 at_place go (FunctionMember path t) = malformed
+
+-- a value that is stored, or by which a place is changed
+abbrev pub stored : Option Change → Value → Value → Act Value
+stored None x y = at_place (λ p. put_at p y) x
+stored (Some o) x y = at_place (λ p. changed_at o p y) x
 
 -- the place that a used value is
 abbrev pub placed_value : Value → Act Place
@@ -138,7 +135,7 @@ abbrev pub of_two : Binary → Value → Value → Act Value
 of_two op x v = used v >>= of_both op x
 
 abbrev pub of_value : Tables → Applied → Value → Act Value
-of_value T (applied.One op) v = of_one T op v
+of_value T (applied.One op) v = of_one T op.now v
 of_value T (applied.Two op x) v = of_two op (value_of x) v
 of_value T applied.Truth v = counted v
 of_value T applied.Used v = used v

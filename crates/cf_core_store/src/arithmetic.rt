@@ -4,37 +4,35 @@ ghost use Rattle.cf_core.specs.Types.{integer, void};
 ghost use Rattle.cf_core.specs.FromTypes.{Tables};
 ghost use Rattle.cf_run_tree.specs.Tree.{shape_type};
 ghost use Rattle.cf_core.specs.Core.{arithmetic};
+ghost use Rattle.cf_core.specs.Pointers.{truth_value};
 ghost use Rattle.cf_base.specs.Integers as integers;
 ghost use Rattle.std.specs.Result.{result_ok};
 ghost use Rattle.cf_base.specs.World.{World};
 ghost use Rattle.cf_core.specs.Run.{State};
-ghost use Rattle.cf_core.specs.Access.{used as used_value};
 ghost use Rattle.cf_core.specs.Scalars as scalars;
 ghost use Rattle.cf_core.specs.Store.{Number};
 ghost use Rattle.cf_core_store.specs.Acts.{act_of as its_act};
-ghost use Rattle.cf_core_store.specs.Answer.{Told};
-ghost use Rattle.cf_core_store.specs.Store.{value_of, as_number};
+ghost use Rattle.cf_core_objects.specs.Answer.{Told};
+ghost use Rattle.cf_core_objects.specs.Store.{value_of, as_number};
 ghost use Rattle.cf_core_store.specs.Values.{pointer_value};
 
-use crate::answer::{Stop, Value};
-use crate::integer::Integer;
 use cf_base::{Arith, Kind};
 use cf_core::UnaryOperator;
+use cf_core_objects::{Stop, Value};
 use cf_run_tree::{Form, Shape};
 use cf_types::{convert_int, int_op};
 
 /// Whether it is a value of the type.
-fn fits(kind: Kind, number: Integer) -> bool
+fn fits(kind: Kind, number: i64) -> bool
     ensures { result ≡ integers.fits kind number }
 {
-    let value = number.get();
     match kind {
-        Kind::Char | Kind::SChar => -128 <= value && value < 128,
-        Kind::UChar => 0 <= value && value < 256,
-        Kind::Short => -32768 <= value && value < 32768,
-        Kind::UShort => 0 <= value && value < 65536,
-        Kind::Int | Kind::Long => -2147483648 <= value && value < 2147483648,
-        Kind::UInt | Kind::ULong => 0 <= value && value < 4294967296,
+        Kind::Char | Kind::SChar => -128 <= number && number < 128,
+        Kind::UChar => 0 <= number && number < 256,
+        Kind::Short => -32768 <= number && number < 32768,
+        Kind::UShort => 0 <= number && number < 65536,
+        Kind::Int | Kind::Long => -2147483648 <= number && number < 2147483648,
+        Kind::UInt | Kind::ULong => 0 <= number && number < 4294967296,
     }
 }
 
@@ -45,41 +43,40 @@ fn is_shift(op: Arith) -> bool
 }
 
 /// The act that the operator is where it gives no value.
-fn act_of(op: Arith, right: Integer) -> u8
+fn act_of(op: Arith, right: i64) -> u8
     ensures { result ≡ its_act op right }
 {
     match op {
-        Arith::Divide | Arith::Remainder => { if right.get() == 0 { 2 } else { 1 } }
+        Arith::Divide | Arith::Remainder => { if right == 0 { 2 } else { 1 } }
         Arith::ShiftLeft | Arith::ShiftRight => 3,
         _ => 1,
     }
 }
 
 /// A number converted to an integer type.
-pub fn convert(number: Integer, to: Kind) -> Integer
+pub fn convert(number: i64, to: Kind) -> i64
     ensures { result ≡ integers.convert to number }
 {
-    Integer::new(convert_int(number.get(), to))
+    convert_int(number, to)
 }
 
 /// Whether the operator takes these numbers at this type.
-fn takes(op: Arith, kind: Kind, a: Integer, b: Integer) -> bool
+fn takes(op: Arith, kind: Kind, a: i64, b: i64) -> bool
     ensures { result ≡ (integers.fits kind a && (its_shift op || integers.fits kind b)) }
 {
     fits(kind, a) && (is_shift(op) || fits(kind, b))
 }
 
 /// The value of the operator, if it gives one.
-fn value_of_op(op: Arith, kind: Kind, a: Integer, b: Integer) -> Option<Integer>
+fn value_of_op(op: Arith, kind: Kind, a: i64, b: i64) -> Option<i64>
     requires { (integers.fits kind a && (its_shift op || integers.fits kind b)) ≡ true }
     ensures { result ≡ result_ok (integers.int_op op kind a b) }
 {
-    let value = int_op(op, kind, a.get(), b.get())?;
-    Some(Integer::new(value))
+    int_op(op, kind, a, b)
 }
 
 /// The result of the operator, or the act that it is.
-fn result_of(op: Arith, kind: Kind, a: Integer, b: Integer) -> Result<Integer, u8>
+fn result_of(op: Arith, kind: Kind, a: i64, b: i64) -> Result<i64, u8>
     requires { (integers.fits kind a && (its_shift op || integers.fits kind b)) ≡ true }
     ensures { result ≡ integers.int_op op kind a b }
 {
@@ -90,7 +87,7 @@ fn result_of(op: Arith, kind: Kind, a: Integer, b: Integer) -> Result<Integer, u
 }
 
 /// The operator at two numbers.
-fn operated_numbers(op: Arith, kind: Kind, a: Integer, b: Integer) -> Result<Integer, Stop>
+fn operated_numbers(op: Arith, kind: Kind, a: i64, b: i64) -> Result<i64, Stop>
     ensures { (s : State) (w : World) → Told Number result s w (scalars.operated op kind (Number a) (Number b) s w) }
 {
     if !takes(op, kind, a, b) {
@@ -103,8 +100,8 @@ fn operated_numbers(op: Arith, kind: Kind, a: Integer, b: Integer) -> Result<Int
 }
 
 /// The operator at two values.
-pub fn operated(op: Arith, kind: Kind, x: Value, y: Value) -> Result<Integer, Stop>
-    ensures { (s : State) (w : World) → Told Number result s w (scalars.operated op kind (value_of x) (value_of y) s w) }
+pub fn operated(op: Arith, kind: Kind, x: Value<'_>, y: Value<'_>) -> Result<i64, Stop>
+    ensures { (s : State) (w : World) → Told Number result s w (scalars.operated op kind (value_of x.entry) (value_of y.entry) s w) }
 {
     match x {
         Value::Number(a) => match y {
@@ -116,49 +113,36 @@ pub fn operated(op: Arith, kind: Kind, x: Value, y: Value) -> Result<Integer, St
 }
 
 /// `-` takes from 0, `~` turns every bit.
-pub fn signed(op: UnaryOperator, kind: Kind, v: Value) -> Result<Integer, Stop>
-    ensures { (s : State) (w : World) → Told Number result s w (scalars.signed op kind (value_of v) s w) }
+pub fn signed(op: UnaryOperator, kind: Kind, v: Value<'_>) -> Result<i64, Stop>
+    ensures { (s : State) (w : World) → Told Number result s w (scalars.signed op kind (value_of v.entry) s w) }
 {
     match op {
-        UnaryOperator::Negate => operated(Arith::Subtract, kind, Value::Number(Integer::new(0)), v),
+        UnaryOperator::Negate => operated(Arith::Subtract, kind, Value::Number(0), v),
         UnaryOperator::Complement => {
-            let ones = convert(Integer::new(-1), kind);
+            let ones = convert(-1, kind);
             operated(Arith::Xor, kind, v, Value::Number(ones))
         }
     }
 }
 
-/// A value that is used.
-pub fn used(v: Value) -> Result<Value, Stop>
-    ensures { (s : State) (w : World) → Told value_of result s w (used_value (value_of v) s w) }
-{
-    match v {
-        Value::Nothing => Err(Stop::Malformed),
-        Value::Missing => Err(Stop::Act(16)),
-        Value::Built => Err(Stop::Malformed),
-        Value::Number(number) => Ok(Value::Number(number)),
-        Value::Null => Ok(Value::Null),
-        Value::At(at) => Ok(Value::At(at)),
-    }
-}
-
 /// Whether a value counts as true.
-pub fn truth(v: Value) -> Result<bool, Stop>
-    ensures { (s : State) (w : World) → Told (λ b. b) result s w (scalars.truth_of (value_of v) s w) }
+pub fn truth(v: Value<'_>) -> Result<bool, Stop>
+    ensures { (s : State) (w : World) → Told (λ b. b) result s w (scalars.truth_of (value_of v.entry) s w) }
 {
     match v {
         Value::Nothing => Err(Stop::Malformed),
         Value::Missing => Err(Stop::Act(16)),
         Value::Built => Err(Stop::Malformed),
-        Value::Number(number) => Ok(number.get() != 0),
+        Value::Number(number) => Ok(number != 0),
         Value::Null => Ok(false),
         Value::At(_) => Ok(true),
+        Value::Code(_) => Ok(true),
     }
 }
 
 /// A value converted to an integer type.
-pub fn converted(v: Value, to: Kind) -> Result<Integer, Stop>
-    ensures { (s : State) (w : World) → Told Number result s w (scalars.converted_value (integer to) (value_of v) s w) }
+pub fn converted(v: Value<'_>, to: Kind) -> Result<i64, Stop>
+    ensures { (s : State) (w : World) → Told Number result s w (scalars.converted_value (integer to) (value_of v.entry) s w) }
 {
     match v {
         Value::Nothing => Err(Stop::Malformed),
@@ -167,32 +151,34 @@ pub fn converted(v: Value, to: Kind) -> Result<Integer, Stop>
         Value::Number(number) => Ok(convert(number, to)),
         Value::Null => Err(Stop::Malformed),
         Value::At(_) => Err(Stop::Malformed),
+        Value::Code(_) => Err(Stop::Malformed),
     }
 }
 
 /// A value as a pointer: 0 is null.
-fn as_pointer(v: Value) -> Result<Value, Stop>
-    ensures { (s : State) (w : World) → Told value_of result s w (pointer_value (value_of v) s w) }
+fn as_pointer<'a>(v: Value<'a>) -> Result<Value<'a>, Stop>
+    ensures { (s : State) (w : World) → Told value_of result s w (pointer_value (value_of v.entry) s w) }
 {
     match v {
         Value::Nothing => Err(Stop::Malformed),
         Value::Missing => Err(Stop::Act(16)),
         Value::Built => Err(Stop::Malformed),
         Value::Number(number) => {
-            if number.get() == 0 {
+            if number == 0 {
                 Ok(Value::Null)
             } else {
                 Err(Stop::Malformed)
             }
         }
         Value::Null => Ok(Value::Null),
-        Value::At(at) => Ok(Value::At(at)),
+        Value::At(place) => Ok(Value::At(place)),
+        Value::Code(name) => Ok(Value::Code(name)),
     }
 }
 
 /// A value that is not used.
-fn dropped(v: Value) -> Result<Value, Stop>
-    ensures { (s : State) (w : World) → Told value_of result s w (scalars.converted_value void (value_of v) s w) }
+fn dropped<'a>(v: Value<'a>) -> Result<Value<'a>, Stop>
+    ensures { (s : State) (w : World) → Told value_of result s w (scalars.converted_value void (value_of v.entry) s w) }
 {
     match v {
         Value::Built => Err(Stop::Malformed),
@@ -201,7 +187,7 @@ fn dropped(v: Value) -> Result<Value, Stop>
 }
 
 /// A number as a value.
-pub fn number(found: Result<Integer, Stop>) -> Result<Value, Stop>
+pub fn number<'a>(found: Result<i64, Stop>) -> Result<Value<'a>, Stop>
     ensures { result ≡ as_number found }
 {
     match found {
@@ -211,8 +197,8 @@ pub fn number(found: Result<Integer, Stop>) -> Result<Value, Stop>
 }
 
 /// A value converted to a type.
-pub fn converted_to(shape: Shape, v: Value) -> Result<Value, Stop>
-    ensures { (T : Tables) (s : State) (w : World) → Told value_of result s w (scalars.converted_value (shape_type T shape) (value_of v) s w) }
+pub fn converted_to<'a>(shape: Shape, v: Value<'a>) -> Result<Value<'a>, Stop>
+    ensures { (T : Tables) (s : State) (w : World) → Told value_of result s w (scalars.converted_value (shape_type T shape) (value_of v.entry) s w) }
 {
     match shape.form {
         Form::Void => dropped(v),
@@ -224,11 +210,18 @@ pub fn converted_to(shape: Shape, v: Value) -> Result<Value, Stop>
 }
 
 /// The new value of an integer that is changed in place by a right operand.
-pub fn changed(op: Arith, at: Kind, to: Kind, x: Integer, y: Value) -> Result<Integer, Stop>
-    ensures { (s : State) (w : World) → Told Number result s w (scalars.changed_value [] (arithmetic op at to) (Number x) (value_of y) s w) }
+pub fn changed(op: Arith, at: Kind, to: Kind, x: i64, y: Value<'_>) -> Result<i64, Stop>
+    ensures { (s : State) (w : World) → Told Number result s w (scalars.changed_value [] (arithmetic op at to) (Number x) (value_of y.entry) s w) }
 {
     match operated(op, at, Value::Number(convert(x, at)), y) {
         Err(stop) => Err(stop),
         Ok(value) => Ok(convert(value, to)),
     }
+}
+
+/// 1 or 0.
+pub fn truth_number<'a>(holds: bool) -> Value<'a>
+    ensures { value_of result ≡ truth_value holds }
+{
+    Value::Number(if holds { 1 } else { 0 })
 }

@@ -1,76 +1,76 @@
 ghost use Rattle.std.specs.Prelude.{◌≡◌, []};
 ghost use Rattle.cf_base.specs.World.{World};
-ghost use Rattle.cf_core.specs.Access.{place_of};
-ghost use Rattle.cf_core.specs.Calls.{root};
+ghost use Rattle.cf_core.specs.Access as access;
 ghost use Rattle.cf_core.specs.Core.{arithmetic};
 ghost use Rattle.cf_core.specs.FromTypes.{Tables};
-ghost use Rattle.cf_core.specs.Pointers.{truth_value};
+ghost use Rattle.cf_core.specs.Pointers as pointers;
 ghost use Rattle.cf_core.specs.Run.{State};
 ghost use Rattle.cf_core.specs.Scalars as scalars;
-ghost use Rattle.cf_core_store.specs.Answer.{Told};
-ghost use Rattle.cf_core_store.specs.Store.{state_of, value_of};
+ghost use Rattle.cf_core_place.specs.Routes.{place_of};
+ghost use Rattle.cf_core_objects.specs.Answer.{Told};
+ghost use Rattle.cf_core_objects.specs.Store.{state_of, value_of};
+ghost use Rattle.cf_core_objects.specs.declared.object.Entered.{Entered as Enter};
 ghost use Rattle.cf_core_store.specs.Values as values;
 
-use crate::answer::{Stop, Value};
-use crate::arithmetic::{changed, converted_to, number, operated, signed, truth, used};
-use crate::integer::Integer;
-use crate::store::{Cell, Entered, read, write};
+use crate::arithmetic::{changed, converted_to, number, operated, signed, truth, truth_number};
+use crate::compared::{difference, equal, ordered};
+use crate::moving::{changed_pointer, decayed, indexed, moved_back};
 use cf_base::{Arith, Kind};
-use cf_core::UnaryOperator;
+use cf_core::{PointerOperator, UnaryOperator};
+use cf_core_objects::{Objects, Stop, Value, read, used, write};
+use cf_core_place::Place;
 use cf_run_tree::{Binary, Change, Operation, Unary};
 
 /// What is made of a value once it is there.
 #[derive(Clone, Copy)]
-pub enum Applied {
-    One(Unary),
+pub enum Applied<'a> {
+    One(&'a Unary),
     /// With the left operand.
-    Two(Binary, Value),
+    Two(Binary, Value<'a>),
     /// 1 if it counts as true, or 0.
     Truth,
     /// Itself, where it is used.
     Used,
 }
 
-/// The object that an lvalue is.
-fn object(v: Value) -> Result<usize, Stop>
-    ensures { (s : State) (w : World) → Told root result s w (place_of (value_of v) s w) }
+/// The place that an lvalue is.
+fn place(v: Value<'_>) -> Result<Place, Stop>
+    ensures { (s : State) (w : World) → Told place_of result s w (access.place_of (value_of v.entry) s w) }
 {
     match v {
-        Value::At(at) => Ok(at),
+        Value::At(place) => Ok(place),
         _ => Err(Stop::Malformed),
     }
 }
 
-/// The object that a used value is.
-fn place(v: Value) -> Result<usize, Stop>
-    ensures { (s : State) (w : World) → Told root result s w (values.placed_value (value_of v) s w) }
+/// The place that a used value is.
+fn used_place(v: Value<'_>) -> Result<Place, Stop>
+    ensures { (s : State) (w : World) → Told place_of result s w (values.placed_value (value_of v.entry) s w) }
 {
     match used(v) {
         Err(stop) => Err(stop),
-        Ok(v) => object(v),
+        Ok(v) => place(v),
     }
 }
 
-/// 1 or 0.
-pub fn truth_number(holds: bool) -> Value
-    ensures { value_of result ≡ truth_value holds }
-{
-    Value::Number(Integer::new(if holds { 1 } else { 0 }))
-}
-
 /// The new value of what an object holds.
-fn changed_value(by: Change, x: Value, y: Value) -> Result<Value, Stop>
-    ensures { (s : State) (w : World) → Told value_of result s w (values.changed_by by (value_of x) (value_of y) s w) }
+fn changed_value<'a>(
+    objects: &Objects<'_>,
+    by: Change,
+    x: Value<'a>,
+    y: Value<'a>,
+) -> Result<Value<'a>, Stop>
+    ensures { (T : Tables) (e : Enter) (w : World) → Told value_of result (state_of T e objects.now) w (values.changed_by by (value_of x.entry) (value_of y.entry) (state_of T e objects.now) w) }
 {
     match by {
         Change::Arithmetic(by) => changed_number(by, x, y),
-        Change::Moved(_) => Err(Stop::NotBuilt),
+        Change::Moved(is_back) => changed_pointer(objects, is_back, x, y),
     }
 }
 
 /// The new value of a number that an object holds.
-fn changed_number(by: Operation, x: Value, y: Value) -> Result<Value, Stop>
-    ensures { (s : State) (w : World) → Told value_of result s w (scalars.changed_value [] (arithmetic by.op by.at by.to) (value_of x) (value_of y) s w) }
+fn changed_number<'a>(by: Operation, x: Value<'a>, y: Value<'a>) -> Result<Value<'a>, Stop>
+    ensures { (s : State) (w : World) → Told value_of result s w (scalars.changed_value [] (arithmetic by.op by.at by.to) (value_of x.entry) (value_of y.entry) s w) }
 {
     match x {
         Value::Number(x) => number(changed(by.op, by.at, by.to, x, y)),
@@ -78,71 +78,70 @@ fn changed_number(by: Operation, x: Value, y: Value) -> Result<Value, Stop>
     }
 }
 
-/// A value is stored in an object, whose place is given.
-fn put(v: Value, entered: &Entered<'_>, cells: &mut Vec<Cell>, at: usize) -> Result<Value, Stop>
-    ensures { (T : Tables) (w : World) → Told value_of result (state_of T entered.now cells.new.items) w (values.put_at (root at) (value_of v) (state_of T entered.now cells.old.items) w) }
+/// A value is stored at a place.
+fn put<'a>(objects: &mut Objects<'a>, place: Place, v: Value<'a>) -> Result<Value<'a>, Stop>
+    ensures { (T : Tables) (e : Enter) (w : World) → Told value_of result (state_of T e objects.new) w (values.put_at (place_of place) (value_of v.entry) (state_of T e objects.old) w) }
 {
-    match write(entered, cells, at, v) {
+    match write(objects, place, v) {
         Err(stop) => Err(stop),
-        Ok(()) => Ok(Value::At(at)),
+        Ok(()) => Ok(Value::At(place)),
     }
 }
 
-/// An object is changed in place by a right operand.
-fn change(
+/// What stands at a place is changed by a right operand.
+fn change<'a>(
+    objects: &mut Objects<'a>,
+    place: Place,
     by: Change,
-    y: Value,
-    entered: &Entered<'_>,
-    cells: &mut Vec<Cell>,
-    at: usize,
-) -> Result<Value, Stop>
-    ensures { (T : Tables) (w : World) → Told value_of result (state_of T entered.now cells.new.items) w (values.changed_at by (root at) (value_of y) (state_of T entered.now cells.old.items) w) }
+    y: Value<'a>,
+) -> Result<Value<'a>, Stop>
+    ensures { (T : Tables) (e : Enter) (w : World) → Told value_of result (state_of T e objects.new) w (values.changed_at by (place_of place) (value_of y.entry) (state_of T e objects.old) w) }
 {
-    match read(entered, cells, at) {
+    match read(objects, place) {
         Err(stop) => Err(stop),
-        Ok(x) => match changed_value(by, x, y) {
+        Ok(x) => match changed_value(objects, by, x, y) {
             Err(stop) => Err(stop),
-            Ok(z) => put(z, entered, cells, at),
+            Ok(z) => put(objects, place, z),
         },
     }
 }
 
-/// An object is changed by one.
-fn step(
+/// What stands at a place is changed by one.
+fn step<'a>(
+    objects: &mut Objects<'a>,
+    place: Place,
     is_postfix: bool,
     by: Change,
-    entered: &Entered<'_>,
-    cells: &mut Vec<Cell>,
-    at: usize,
-) -> Result<Value, Stop>
-    ensures { (T : Tables) (w : World) → Told value_of result (state_of T entered.now cells.new.items) w (values.stepped_at is_postfix by (root at) (state_of T entered.now cells.old.items) w) }
+) -> Result<Value<'a>, Stop>
+    ensures { (T : Tables) (e : Enter) (w : World) → Told value_of result (state_of T e objects.new) w (values.stepped_at is_postfix by (place_of place) (state_of T e objects.old) w) }
 {
-    match read(entered, cells, at) {
+    match read(objects, place) {
         Err(stop) => Err(stop),
-        Ok(x) => match changed_value(by, x, Value::Number(Integer::new(1))) {
+        Ok(x) => match changed_value(objects, by, x, Value::Number(1)) {
             Err(stop) => Err(stop),
-            Ok(z) => match write(entered, cells, at, z) {
+            Ok(z) => match write(objects, place, z) {
                 Err(stop) => Err(stop),
-                Ok(()) => Ok(if is_postfix { x } else { Value::At(at) }),
+                Ok(()) => Ok(if is_postfix { x } else { Value::At(place) }),
             },
         },
     }
 }
 
 /// What a pointer points to.
-fn pointed_to(v: Value) -> Result<Value, Stop>
-    ensures { (s : State) (w : World) → Told value_of result s w (scalars.pointed_to (value_of v) s w) }
+fn pointed_to<'a>(v: Value<'a>) -> Result<Value<'a>, Stop>
+    ensures { (s : State) (w : World) → Told value_of result s w (scalars.pointed_to (value_of v.entry) s w) }
 {
     match v {
-        Value::At(at) => Ok(Value::At(at)),
+        Value::At(place) => Ok(Value::At(place)),
+        Value::Code(name) => Ok(Value::Code(name)),
         Value::Null => Err(Stop::Act(4)),
         _ => Err(Stop::Malformed),
     }
 }
 
 /// `!`
-fn negated(v: Value) -> Result<Value, Stop>
-    ensures { (s : State) (w : World) → Told value_of result s w (values.negated (value_of v) s w) }
+fn negated<'a>(v: Value<'a>) -> Result<Value<'a>, Stop>
+    ensures { (s : State) (w : World) → Told value_of result s w (values.negated (value_of v.entry) s w) }
 {
     match truth(v) {
         Err(stop) => Err(stop),
@@ -151,8 +150,8 @@ fn negated(v: Value) -> Result<Value, Stop>
 }
 
 /// 1 if it counts as true, or 0.
-fn counted(v: Value) -> Result<Value, Stop>
-    ensures { (s : State) (w : World) → Told value_of result s w (values.counted (value_of v) s w) }
+fn counted<'a>(v: Value<'a>) -> Result<Value<'a>, Stop>
+    ensures { (s : State) (w : World) → Told value_of result s w (values.counted (value_of v.entry) s w) }
 {
     match truth(v) {
         Err(stop) => Err(stop),
@@ -161,71 +160,73 @@ fn counted(v: Value) -> Result<Value, Stop>
 }
 
 /// `-` or `~`
-fn signed_value(op: UnaryOperator, kind: Kind, v: Value) -> Result<Value, Stop>
-    ensures { (s : State) (w : World) → Told value_of result s w (scalars.signed op kind (value_of v) s w) }
+fn signed_value<'a>(op: UnaryOperator, kind: Kind, v: Value<'a>) -> Result<Value<'a>, Stop>
+    ensures { (s : State) (w : World) → Told value_of result s w (scalars.signed op kind (value_of v.entry) s w) }
 {
     number(signed(op, kind, v))
 }
 
 /// An operator at two values.
-fn operated_value(op: Arith, kind: Kind, x: Value, y: Value) -> Result<Value, Stop>
-    ensures { (s : State) (w : World) → Told value_of result s w (scalars.operated op kind (value_of x) (value_of y) s w) }
+fn operated_value<'a>(op: Arith, kind: Kind, x: Value<'a>, y: Value<'a>) -> Result<Value<'a>, Stop>
+    ensures { (s : State) (w : World) → Told value_of result s w (scalars.operated op kind (value_of x.entry) (value_of y.entry) s w) }
 {
     number(operated(op, kind, x, y))
 }
 
-/// What is made of one used operand, without an object.
-fn of_used(op: Unary, v: Value) -> Result<Value, Stop>
-    ensures { (T : Tables) (s : State) (w : World) → Told value_of result s w (values.of_used op (value_of v) s w) }
+/// What is made of one used operand, without an object being changed.
+fn by_used<'a>(objects: &Objects<'_>, op: Unary, v: Value<'a>) -> Result<Value<'a>, Stop>
+    ensures { (T : Tables) (e : Enter) (w : World) → Told value_of result (state_of T e objects.now) w (values.by_used op (value_of v.entry) (state_of T e objects.now) w) }
 {
-    match used(v) {
-        Err(stop) => Err(stop),
-        Ok(v) => match op {
-            Unary::Dereference => pointed_to(v),
-            Unary::Decay => Err(Stop::NotBuilt),
-            Unary::Sign(op, kind) => signed_value(op, kind, v),
-            _ => Ok(v),
-        },
+    match op {
+        Unary::Dereference => pointed_to(v),
+        Unary::Decay => decayed(objects, v),
+        Unary::Sign(op, kind) => signed_value(op, kind, v),
+        _ => Ok(v),
     }
 }
 
-/// What is made of the object of an lvalue.
-fn of_place(
-    op: Unary,
-    v: Value,
-    entered: &Entered<'_>,
-    cells: &mut Vec<Cell>,
-) -> Result<Value, Stop>
-    ensures { (T : Tables) (w : World) → Told value_of result (state_of T entered.now cells.new.items) w (values.of_place op (value_of v) (state_of T entered.now cells.old.items) w) }
+/// What is made of one operand that is used.
+fn of_used<'a>(objects: &Objects<'_>, op: Unary, v: Value<'a>) -> Result<Value<'a>, Stop>
+    ensures { (T : Tables) (e : Enter) (w : World) → Told value_of result (state_of T e objects.now) w (values.of_used op (value_of v.entry) (state_of T e objects.now) w) }
 {
-    match place(v) {
+    match used(v) {
         Err(stop) => Err(stop),
-        Ok(at) => match op {
-            Unary::Increment(is_postfix, by) => step(is_postfix, by, entered, cells, at),
-            _ => read(entered, cells, at),
+        Ok(v) => by_used(objects, op, v),
+    }
+}
+
+/// What is made of what stands at an lvalue.
+fn of_place<'a>(objects: &mut Objects<'a>, op: Unary, v: Value<'a>) -> Result<Value<'a>, Stop>
+    ensures { (T : Tables) (e : Enter) (w : World) → Told value_of result (state_of T e objects.new) w (values.of_place op (value_of v.entry) (state_of T e objects.old) w) }
+{
+    match used_place(v) {
+        Err(stop) => Err(stop),
+        Ok(place) => match op {
+            Unary::Increment(is_postfix, by) => step(objects, place, is_postfix, by),
+            _ => read(objects, place),
         },
     }
 }
 
 /// What is made of one operand.
-fn of_one(op: Unary, v: Value, entered: &Entered<'_>, cells: &mut Vec<Cell>) -> Result<Value, Stop>
-    ensures { (T : Tables) (w : World) → Told value_of result (state_of T entered.now cells.new.items) w (values.of_one T op (value_of v) (state_of T entered.now cells.old.items) w) }
+fn of_one<'a>(objects: &mut Objects<'a>, op: Unary, v: Value<'a>) -> Result<Value<'a>, Stop>
+    ensures { (T : Tables) (e : Enter) (w : World) → Told value_of result (state_of T e objects.new) w (values.of_one T op (value_of v.entry) (state_of T e objects.old) w) }
 {
     match op {
-        Unary::Read => of_place(op, v, entered, cells),
-        Unary::Increment(_, _) => of_place(op, v, entered, cells),
+        Unary::Read => of_place(objects, op, v),
+        Unary::Increment(_, _) => of_place(objects, op, v),
         Unary::Convert(shape) => converted_to(shape, v),
         Unary::Not => negated(v),
-        Unary::Address => of_used(op, v),
-        Unary::Dereference => of_used(op, v),
-        Unary::Decay => of_used(op, v),
-        Unary::Sign(_, _) => of_used(op, v),
+        Unary::Address => of_used(objects, op, v),
+        Unary::Dereference => of_used(objects, op, v),
+        Unary::Decay => of_used(objects, op, v),
+        Unary::Sign(_, _) => of_used(objects, op, v),
     }
 }
 
 /// What is kept of the left operand while the right one is evaluated.
-pub fn ready(op: Binary, v: Value) -> Result<Value, Stop>
-    ensures { (s : State) (w : World) → Told value_of result s w (values.ready op (value_of v) s w) }
+pub fn ready<'a>(op: Binary, v: Value<'a>) -> Result<Value<'a>, Stop>
+    ensures { (s : State) (w : World) → Told value_of result s w (values.ready op (value_of v.entry) s w) }
 {
     match op {
         Binary::Operate(_, _) => used(v),
@@ -237,68 +238,126 @@ pub fn ready(op: Binary, v: Value) -> Result<Value, Stop>
 }
 
 /// The place that a value is, as a value.
-fn kept_place(v: Value) -> Result<Value, Stop>
-    ensures { (s : State) (w : World) → Told value_of result s w (values.kept_place (value_of v) s w) }
+fn kept_place<'a>(v: Value<'a>) -> Result<Value<'a>, Stop>
+    ensures { (s : State) (w : World) → Told value_of result s w (values.kept_place (value_of v.entry) s w) }
 {
-    match place(v) {
+    match used_place(v) {
         Err(stop) => Err(stop),
-        Ok(at) => Ok(Value::At(at)),
+        Ok(place) => Ok(Value::At(place)),
+    }
+}
+
+/// Whether two pointers are equal, as 1 or 0.
+fn equal_number<'a>(objects: &Objects<'_>, x: Value<'_>, y: Value<'_>) -> Result<Value<'a>, Stop>
+    ensures { (T : Tables) (e : Enter) (w : World) → Told value_of result (state_of T e objects.now) w (values.equal_number (value_of x.entry) (value_of y.entry) (state_of T e objects.now) w) }
+{
+    match equal(objects, x, y) {
+        Err(stop) => Err(stop),
+        Ok(holds) => Ok(truth_number(holds)),
+    }
+}
+
+/// Whether two pointers are not equal, as 1 or 0.
+fn unequal_number<'a>(objects: &Objects<'_>, x: Value<'_>, y: Value<'_>) -> Result<Value<'a>, Stop>
+    ensures { (T : Tables) (e : Enter) (w : World) → Told value_of result (state_of T e objects.now) w (values.unequal_number (value_of x.entry) (value_of y.entry) (state_of T e objects.now) w) }
+{
+    match equal(objects, x, y) {
+        Err(stop) => Err(stop),
+        Ok(holds) => Ok(truth_number(!holds)),
+    }
+}
+
+/// A pointer and an integer in either order, added (5.7).
+fn sum<'a>(objects: &Objects<'_>, x: Value<'a>, y: Value<'a>) -> Result<Value<'a>, Stop>
+    ensures { (T : Tables) (e : Enter) (w : World) → Told value_of result (state_of T e objects.now) w (pointers.sum_of [] (value_of x.entry) (value_of y.entry) (state_of T e objects.now) w) }
+{
+    indexed(objects, x, y)
+}
+
+/// An operator at two pointers, or at a pointer and an integer (5.7, 5.9, 5.10).
+fn pointed<'a>(
+    objects: &Objects<'_>,
+    op: PointerOperator,
+    x: Value<'a>,
+    y: Value<'a>,
+) -> Result<Value<'a>, Stop>
+    ensures { (T : Tables) (e : Enter) (w : World) → Told value_of result (state_of T e objects.now) w (pointers.pointer_op [] op (value_of x.entry) (value_of y.entry) (state_of T e objects.now) w) }
+{
+    match op {
+        PointerOperator::Add => sum(objects, x, y),
+        PointerOperator::Subtract => moved_back(objects, x, y),
+        PointerOperator::Difference => difference(objects, x, y),
+        PointerOperator::Less => ordered(objects, op, x, y),
+        PointerOperator::Greater => ordered(objects, op, x, y),
+        PointerOperator::LessEqual => ordered(objects, op, x, y),
+        PointerOperator::GreaterEqual => ordered(objects, op, x, y),
+        PointerOperator::Equal => equal_number(objects, x, y),
+        PointerOperator::NotEqual => unequal_number(objects, x, y),
+    }
+}
+
+/// What is made of a left operand that is a place and a used right one.
+fn stored<'a>(
+    objects: &mut Objects<'a>,
+    by: Option<Change>,
+    x: Value<'a>,
+    y: Value<'a>,
+) -> Result<Value<'a>, Stop>
+    ensures { (T : Tables) (e : Enter) (w : World) → Told value_of result (state_of T e objects.new) w (values.stored by (value_of x.entry) (value_of y.entry) (state_of T e objects.old) w) }
+{
+    match x {
+        Value::At(place) => match by {
+            None => put(objects, place, y),
+            Some(by) => change(objects, place, by, y),
+        },
+        _ => Err(Stop::Malformed),
     }
 }
 
 /// What is made of a left operand and a used right one.
-fn of_both(
+fn of_both<'a>(
+    objects: &mut Objects<'a>,
     op: Binary,
-    x: Value,
-    y: Value,
-    entered: &Entered<'_>,
-    cells: &mut Vec<Cell>,
-) -> Result<Value, Stop>
-    ensures { (T : Tables) (w : World) → Told value_of result (state_of T entered.now cells.new.items) w (values.of_both op (value_of x) (value_of y) (state_of T entered.now cells.old.items) w) }
+    x: Value<'a>,
+    y: Value<'a>,
+) -> Result<Value<'a>, Stop>
+    ensures { (T : Tables) (e : Enter) (w : World) → Told value_of result (state_of T e objects.new) w (values.of_both op (value_of x.entry) (value_of y.entry) (state_of T e objects.old) w) }
 {
     match op {
         Binary::Operate(op, kind) => operated_value(op, kind, x, y),
-        Binary::Store => match x {
-            Value::At(at) => put(y, entered, cells, at),
-            _ => Err(Stop::Malformed),
-        },
-        Binary::Update(by) => match x {
-            Value::At(at) => change(by, y, entered, cells, at),
-            _ => Err(Stop::Malformed),
-        },
-        Binary::Index => Err(Stop::NotBuilt),
-        Binary::Point(_) => Err(Stop::NotBuilt),
+        Binary::Store => stored(objects, None, x, y),
+        Binary::Update(by) => stored(objects, Some(by), x, y),
+        Binary::Index => indexed(objects, x, y),
+        Binary::Point(op) => pointed(objects, op, x, y),
     }
 }
 
 /// What is made of a left and a right operand.
-fn of_two(
+fn of_two<'a>(
+    objects: &mut Objects<'a>,
     op: Binary,
-    x: Value,
-    v: Value,
-    entered: &Entered<'_>,
-    cells: &mut Vec<Cell>,
-) -> Result<Value, Stop>
-    ensures { (T : Tables) (w : World) → Told value_of result (state_of T entered.now cells.new.items) w (values.of_two op (value_of x) (value_of v) (state_of T entered.now cells.old.items) w) }
+    x: Value<'a>,
+    v: Value<'a>,
+) -> Result<Value<'a>, Stop>
+    ensures { (T : Tables) (e : Enter) (w : World) → Told value_of result (state_of T e objects.new) w (values.of_two op (value_of x.entry) (value_of v.entry) (state_of T e objects.old) w) }
 {
     match used(v) {
         Err(stop) => Err(stop),
-        Ok(y) => of_both(op, x, y, entered, cells),
+        Ok(y) => of_both(objects, op, x, y),
     }
 }
 
 /// What is made of a value once it is there.
-pub fn apply(
-    op: Applied,
-    v: Value,
-    entered: &Entered<'_>,
-    cells: &mut Vec<Cell>,
-) -> Result<Value, Stop>
-    ensures { (T : Tables) (w : World) → Told value_of result (state_of T entered.now cells.new.items) w (values.of_value T op (value_of v) (state_of T entered.now cells.old.items) w) }
+pub fn apply<'a>(
+    op: &Applied<'a>,
+    v: Value<'a>,
+    objects: &mut Objects<'a>,
+) -> Result<Value<'a>, Stop>
+    ensures { (T : Tables) (e : Enter) (w : World) → Told value_of result (state_of T e objects.new) w (values.of_value T op.now (value_of v.entry) (state_of T e objects.old) w) }
 {
     match op {
-        Applied::One(op) => of_one(op, v, entered, cells),
-        Applied::Two(op, x) => of_two(op, x, v, entered, cells),
+        Applied::One(op) => of_one(objects, **op, v),
+        Applied::Two(op, x) => of_two(objects, *op, *x, v),
         Applied::Truth => counted(v),
         Applied::Used => used(v),
     }

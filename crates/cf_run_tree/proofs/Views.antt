@@ -2,7 +2,7 @@
 use Rattle.std.proofs.Common.{◌≡◌, ◌∙◌, ap, sym, ℕ, ℤ, List, Option, Some, None, map, option_map}
 use Rattle.cf_core.specs.declared.operators.LoopForm.{LoopForm}
 use Rattle.cf_core.specs.FromTypes.{Tables}
-use Rattle.cf_core.specs.Core.{Core, no_temporary, local_temporary, absent, number, temporary, local, logical_and, logical_or, conditional, comma, text, function, call, pointer_call, bind, list, string, zeros, blank, full, block, sequence, declare, branch, loop, switch, case_label, default_label, leave, continue, give}
+use Rattle.cf_core.specs.Core.{Core, no_temporary, local_temporary, absent, number, temporary, local, static_object, logical_and, logical_or, conditional, comma, text, function, call, pointer_call, bind, list, string, zeros, blank, full, block, sequence, declare, branch, loop, switch, case_label, default_label, leave, continue, give}
 use Rattle.cf_core.specs.View.{listed, maybe}
 use Rattle.cf_run_tree.specs.declared.shape.Shape.{Shape}
 use Rattle.cf_run_tree.specs.declared.shape.ObjectType.{ObjectType}
@@ -20,6 +20,9 @@ core-Number tables z = ap (core_of tables) (sym (node.rolls-Number z)) ∙ fold-
 
 pub core-Local : (tables : Tables) (i : ℕ) → core_of tables (node.Local i) ≡ local i
 core-Local tables i = ap (core_of tables) (sym (node.rolls-Local i)) ∙ fold-roll-Node Core (core_step tables) (Node-F.Local i)
+
+pub core-Static : (tables : Tables) (name : List ℕ) (t : ObjectType) → core_of tables (node.Static name t) ≡ static_object name (object_type tables t)
+core-Static tables name t = ap (core_of tables) (sym (node.rolls-Static name t)) ∙ fold-roll-Node Core (core_step tables) (Node-F.Static name t)
 
 pub core-Apply : (tables : Tables) (op : Unary) (e : Node) → core_of tables (node.Apply op e) ≡ applied tables op (core_of tables e)
 core-Apply tables op e = ap (core_of tables) (sym (node.rolls-Apply op e)) ∙ fold-roll-Node Core (core_step tables) (Node-F.Apply op e)

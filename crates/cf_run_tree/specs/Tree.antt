@@ -1,11 +1,12 @@
 -- What shapes, trees and programs are as types, cores and programs of the meaning. The numbers of types and enumerations are those of a file's tables.
-use Rattle.std.specs.Prelude.{ℕ, Bool, true, false, List, [], ◌∷◌, map}
+use Rattle.std.specs.Prelude.{ℕ, Bool, true, false, List, [], ◌∷◌, map, filter, codes}
 use Rattle.cf_classes.specs.LinkName.{scope_code, enum_names}
 use Rattle.cf_core.specs.Types.{SourceType, void, integer, enumeration, pointer, reference, array, gives, const}
 use Rattle.cf_core.specs.FromTypes.{Tables, type_of, taking}
-use Rattle.cf_core.specs.Core.{Core, plain_function, Function, Change, arithmetic, moved, no_temporary, local_temporary, absent, number, text, temporary, local, function, read, address, dereference, decay, index, convert, operate, unary, logical_not, logical_and, logical_or, pointer_operate, conditional, comma, store, update, step, call, pointer_call, bind, list, string, zeros, blank, full, block, sequence, declare, branch, loop, switch, case_label, default_label, leave, continue, give}
+use Rattle.cf_core.specs.Core.{Core, plain_function, Function, Static, Change, arithmetic, moved, no_temporary, local_temporary, absent, number, text, temporary, local, static_object, function, read, address, dereference, decay, index, convert, operate, unary, logical_not, logical_and, logical_or, pointer_operate, conditional, comma, store, update, step, call, pointer_call, bind, list, string, zeros, blank, full, block, sequence, declare, branch, loop, switch, case_label, default_label, leave, continue, give}
 use Rattle.cf_core.specs.View.{listed, maybe}
 use Rattle.cf_core.specs.Calls as meaning
+use Rattle.cf_core.specs.Joined.{in_file, sets_constant, constant_setting}
 use Rattle.cf_run_tree.specs.declared.shape.Form.{Form}
 use Rattle.cf_run_tree.specs.declared.shape.Form.TheVariants as form
 use Rattle.cf_run_tree.specs.declared.shape.Shape.{Shape}
@@ -20,6 +21,7 @@ use Rattle.cf_run_tree.specs.declared.node.Node.{Node, fold-Node}
 use Rattle.cf_run_tree.specs.declared.node.Node.TheOpen.{Node-F}
 use Rattle.cf_run_tree.specs.declared.program.Signature.{Signature}
 use Rattle.cf_run_tree.specs.declared.program.RunFn.{RunFn}
+use Rattle.cf_run_tree.specs.declared.program.RunStatic.{RunStatic}
 use Rattle.cf_run_tree.specs.declared.program.Program.{Program}
 
 abbrev pub change_of : NodeChange → Change
@@ -74,6 +76,7 @@ module _ (tables : Tables) where
   core_step (Node-F.Text j bytes) = text j bytes
   core_step (Node-F.Function name f) = function name (signature_type f)
   core_step (Node-F.Local i) = local i
+  core_step (Node-F.Static name t) = static_object name (object_type t)
   core_step (Node-F.Apply op e) = applied op e
   core_step (Node-F.Join op a b) = joined op a b
   core_step (Node-F.And a b) = logical_and a b
@@ -116,5 +119,26 @@ module _ (tables : Tables) where
     is_local = f.is_local;
   }
 
+  abbrev pub static_of : RunStatic → Static
+  static_of x = record {
+    name = x.name;
+    type = object_type x.ty;
+    start = core_of x.start;
+    owner = x.owner;
+    is_constant = x.is_constant;
+    is_shared = x.is_shared;
+    is_local = x.is_local;
+  }
+
+  -- what sets the static objects of the first file with constant initialisers, in order
+  abbrev pub constants_of : List Static → List meaning.Setting
+  constants_of statics = map (constant_setting (in_file 1 (codes "__sti"))) (filter sets_constant statics)
+
   abbrev pub program_of : Program → meaning.Program
-  program_of p = record { classes = []; functions = map function_of p.functions; statics = []; constants = []; initialisers = [] }
+  program_of p = record {
+    classes = [];
+    functions = map function_of p.functions;
+    statics = map static_of p.statics;
+    constants = constants_of (map static_of p.statics);
+    initialisers = [];
+  }

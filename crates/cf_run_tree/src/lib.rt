@@ -7,5 +7,5 @@ mod program;
 mod shape;
 
 pub use node::{Binary, Change, Node, Operation, Unary};
-pub use program::{Program, RunFn, Signature};
+pub use program::{Program, RunFn, RunStatic, Signature};
 pub use shape::{Form, ObjectType, Shape};

@@ -64,6 +64,8 @@ pub enum Node {
     Function(Name, Signature),
     /// A parameter or local; parameters come first.
     Local(u32),
+    /// A static object by its link name, with the type that it is declared with.
+    Static(Name, ObjectType),
     Apply(Unary, Boxed<Node>),
     Join(Binary, Boxed<Node>, Boxed<Node>),
     And(Boxed<Node>, Boxed<Node>),

@@ -22,8 +22,24 @@ pub struct RunFn {
     pub is_local: bool,
 }
 
-/// A program without classes and static objects.
+/// A static object.
+#[derive(Drop)]
+pub struct RunStatic {
+    /// Its link name.
+    pub name: Name,
+    pub ty: ObjectType,
+    /// Its initialiser; blank where it is zeroed alone.
+    pub start: Node,
+    /// The function whose local it is, by its link name: the literals of its initialiser are numbered there (2.5.4, 6.7).
+    pub owner: Option<Name>,
+    pub is_constant: bool,
+    pub is_shared: bool,
+    pub is_local: bool,
+}
+
+/// The program of one file, without classes. Static objects that are not constant are zeroed alone.
 #[derive(Drop)]
 pub struct Program {
     pub functions: Items<RunFn>,
+    pub statics: Items<RunStatic>,
 }

@@ -1,6 +1,6 @@
 use Rattle.std.proofs.Common.{◌∙◌, ap, subst, Result}
-use Rattle.cf_core_store.specs.declared.answer.Stop.{Stop}
-use Rattle.cf_core_store.specs.declared.answer.Value.{Value as Given}
+use Rattle.cf_core_objects.specs.declared.answer.Stop.{Stop}
+use Rattle.cf_core_objects.specs.declared.answer.Value.{Value as Given}
 use Rattle.cf_core_run.specs.Going.{from_doing}
 use Rattle.cf_core_run.specs.Whole.{outside, Reads}
 use Rattle.cf_core_run.proofs.WholeLaws.{asks-err}

@@ -1,5 +1,5 @@
 use Rattle.cf_core.specs.Scalars.{operated}
-use Rattle.cf_core_store.specs.Store.{value_of}
+use Rattle.cf_core_objects.specs.Store.{value_of}
 use Rattle.cf_core_store.proofs.StoreLaws.{told-number}
 use Rattle.cf_core_store.proofs.results.operated_value.Goals as goal
 

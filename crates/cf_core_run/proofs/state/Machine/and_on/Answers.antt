@@ -4,7 +4,7 @@ use Rattle.cf_core.specs.Run.{gives, when}
 use Rattle.cf_core.specs.Scalars.{truth_of}
 use Rattle.cf_run_tree.specs.Tree.{core_of}
 use Rattle.cf_core_run.specs.Going.{valued, truth_by}
-use Rattle.cf_core_store.proofs.ThenLaws.{then-assoc}
+use Rattle.cf_core_objects.proofs.ThenLaws.{then-assoc}
 use Rattle.cf_core_run.proofs.Laws.{value-as}
 use Rattle.cf_core_run.proofs.state.Machine.and_on.Goals as goal
 

@@ -4,7 +4,7 @@ use Rattle.cf_core.specs.Expressions.{arguments}
 use Rattle.cf_core.specs.Objects.{settle}
 use Rattle.cf_core.specs.Run.{◌>>=◌}
 use Rattle.cf_run_tree.specs.Tree.{shape_type, program_of}
-use Rattle.cf_core_store.specs.Store.{state_of, value_of}
+use Rattle.cf_core_objects.specs.Store.{state_of, value_of}
 use Rattle.cf_core_run.specs.declared.mark.Doing.TheVariants as doing
 use Rattle.cf_core_run.specs.declared.state.Step.TheVariants as step
 use Rattle.cf_core_run.specs.Going.{on_value, finish, world_of, again, cores, called}
@@ -13,17 +13,17 @@ use Rattle.cf_core_run.proofs.CallLaws.{argument-passes}
 use Rattle.cf_core_run.proofs.state.Machine.argument.Goals as goal
 
 pub returns-in-Err : goal.returns-in-Err
-returns-in-Err c = λ p. value-err p c.args.self.now (λ u. tt) c.settle.result c.in-Err.stop (λ T. settle [] (root c.args.object) (value_of c.args.v))
+returns-in-Err c = λ p. value-err p c.args.self.now (λ u. tt) c.settle_object.result c.in-Err.stop (λ T. settle [] (root c.args.object) (value_of c.args.v))
     (λ T u. arguments (again T p c.args.self.now.fuel) (program_of T p) (map (shape_type T) c.args.calling.params.now) (cores T p c.args.calling.rest.now)
-    >>= (λ os. called T p c.args.self.now.fuel c.args.calling.name.now (c.args.calling.made.items ++ c.args.object ∷ os)))
-    (λ T. state_of T c.args.self.now.entered c.settle.new.cells.items) c.in-Err.is (λ T w. c.settle.ensures T w)
+    >>= (λ os. called T p c.args.self.now.fuel (value_of c.args.calling.callee) (c.args.calling.made.items ++ c.args.object ∷ os)))
+    (λ T. state_of T c.args.self.now.entered c.settle_object.new.objects) c.in-Err.is (λ T w. c.settle_object.ensures T c.args.self.now.entered w)
 
 pub returns : goal.returns
-returns c = λ p. value-ok p c.args.self.now c.args.self.now.entered c.settle.new.cells (λ u. tt) c.settle.result tt (λ T. settle [] (root c.args.object) (value_of c.args.v))
+returns c = λ p. value-ok p c.args.self.now c.args.self.now.entered c.settle_object.new.objects (λ u. tt) c.settle_object.result tt (λ T. settle [] (root c.args.object) (value_of c.args.v))
     (λ T u. arguments (again T p c.args.self.now.fuel) (program_of T p) (map (shape_type T) c.args.calling.params.now) (cores T p c.args.calling.rest.now)
-    >>= (λ os. called T p c.args.self.now.fuel c.args.calling.name.now (c.args.calling.made.items ++ c.args.object ∷ os)))
-    (Ok step.On) (record c.args.self.now { cells = c.settle.new.cells; doing = doing.Passes (record c.args.calling { made = c.push.new.self }) }) c.in-Ok.is (λ T w. c.settle.ensures T w)
+    >>= (λ os. called T p c.args.self.now.fuel (value_of c.args.calling.callee) (c.args.calling.made.items ++ c.args.object ∷ os)))
+    (Ok step.On) (record c.args.self.now { objects = c.settle_object.new.objects; doing = doing.Passes (record c.args.calling { made = c.push.new.self }) }) c.in-Ok.is (λ T w. c.settle_object.ensures T c.args.self.now.entered w)
     (record {
       same = λ T o. ap (λ r. finish T p o (on_value T p (reverse c.args.self.now.stack.items) r))
-          (argument-passes T p c.args.self.now.fuel c.args.calling c.push.new.self c.args.object (state_of T c.args.self.now.entered c.settle.new.cells.items) (world_of c.args.self.now.ticks o) c.in_ok-push-in-Ok.ensures.items);
+          (argument-passes T p c.args.self.now.fuel c.args.calling c.push.new.self c.args.object (state_of T c.args.self.now.entered c.settle_object.new.objects) (world_of c.args.self.now.ticks o) c.in_ok-push-in-Ok.ensures.items);
     })

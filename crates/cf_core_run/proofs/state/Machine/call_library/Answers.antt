@@ -1,6 +1,6 @@
 use Rattle.std.proofs.Common.{◌∙◌, ap, sym, true, false, reverse}
 use Rattle.cf_core.specs.Calls.{run_library}
-use Rattle.cf_core_store.specs.Store.{state_of}
+use Rattle.cf_core_objects.specs.Store.{state_of}
 use Rattle.cf_core_run.specs.Going.{on_value, finish, world_of}
 use Rattle.cf_core_run.proofs.Laws.{value-as}
 use Rattle.std.proofs.Common.{bytes_eq}
@@ -11,7 +11,7 @@ use Rattle.cf_core_run.proofs.state.Machine.call_library.Goals as goal
 pub returns-then-eq : goal.returns-then-eq
 returns-then-eq c = λ p. record {
   same = λ T o. ap (λ r. finish T p o (on_value T p (reverse c.args.self.now.stack.items) r))
-      (library-goes T p c.args.name.now c.args.made.now true (state_of T c.args.self.now.entered c.args.self.now.cells.items) (world_of c.args.self.now.ticks o) (ap (bytes_eq c.args.name.now) (sym c.as_slice.ensures) ∙ sym c.eq.ensures ∙ c.if-eq.true));
+      (library-goes T p c.args.name.now c.args.made.now true (state_of T c.args.self.now.entered c.args.self.now.objects) (world_of c.args.self.now.ticks o) (ap (bytes_eq c.args.name.now) (sym c.as_slice.ensures) ∙ sym c.eq.ensures ∙ c.if-eq.true));
 }
 
 pub returns-else-eq : goal.returns-else-eq

@@ -1,18 +1,35 @@
-use Rattle.std.proofs.Common.{◌∙◌, List, ℕ, None, ap, sym}
-use Rattle.cf_core.specs.Calls.{name_function, run_library, root}
-use Rattle.cf_run_tree.specs.Tree.{program_of}
+use Rattle.std.proofs.Common.{ap}
+use Rattle.cf_core_objects.specs.declared.answer.Stop.TheVariants as stop
+use Rattle.cf_core_objects.specs.declared.answer.Value.{Value as Given}
+use Rattle.cf_core_objects.specs.Store.{state_of, value_of}
 use Rattle.cf_core_run.specs.Going.{called}
-use Rattle.cf_core_run.proofs.Laws.{value-as}
-use Rattle.cf_core.specs.Calls as calls
-use Rattle.cf_core_run.specs.Going.{again}
-use Rattle.cf_core_run.proofs.CallLaws.{called-library, called-function}
+use Rattle.cf_core_run.proofs.Laws.{value-as, value-stopped}
 use Rattle.cf_core_run.proofs.state.Machine.call_with.Goals as goal
 
-pub returns-then-is_library : goal.returns-then-is_library
-returns-then-is_library c = value-as c.args.program.now c.args.self.now (λ T. called T c.args.program.now c.args.self.now.fuel c.args.name.now c.args.made.items) (λ T. run_library c.args.name.now c.as_slice.result.now) c.call_library.result c.call_library.new.self (c.call_library.ensures c.args.program.now)
-    (λ T s w. called-library T c.args.program.now c.args.self.now.fuel c.args.name.now c.args.made.items s w (sym c.is_library.ensures ∙ c.if-is_library.true) ∙ ap (λ (l : List ℕ). run_library c.args.name.now l s w) (sym c.as_slice.ensures.value))
+pub returns-in-Code : goal.returns-in-Code
+returns-in-Code c = value-as c.args.program.now c.args.self.now (λ T. called T c.args.program.now c.args.self.now.fuel (value_of c.args.callee) c.args.made.items) _ c.call_named.result c.call_named.new.self c.call_named.ensures
+    (λ T s w. ap (λ (v : Given). called T c.args.program.now c.args.self.now.fuel (value_of v) c.args.made.items s w) c.in-Code.is)
 
-pub returns : goal.returns
-returns c = value-as c.args.program.now c.args.self.now (λ T. called T c.args.program.now c.args.self.now.fuel c.args.name.now c.args.made.items)
-    (λ T. calls.enter_found (again T c.args.program.now c.args.self.now.fuel) (calls.function_named (program_of T c.args.program.now) c.args.name.now) c.args.made.items None None) c.call_function.result c.call_function.new.self c.call_function.ensures
-    (λ T s w. called-function T c.args.program.now c.args.self.now.fuel c.args.name.now c.args.made.items s w (sym c.is_library.ensures ∙ c.if-is_library.false))
+pub returns-in-Null : goal.returns-in-Null
+returns-in-Null c = value-stopped c.args.program.now c.args.self.now (λ T. called T c.args.program.now c.args.self.now.fuel (value_of c.args.callee) c.args.made.items) (stop.Act 4)
+    (λ T w. ap (λ (v : Given). called T c.args.program.now c.args.self.now.fuel (value_of v) c.args.made.items (state_of T c.args.self.now.entered c.args.self.now.objects) w) c.in-Null.is)
+
+pub returns-in-Nothing : goal.returns-in-Nothing
+returns-in-Nothing c = value-stopped c.args.program.now c.args.self.now (λ T. called T c.args.program.now c.args.self.now.fuel (value_of c.args.callee) c.args.made.items) stop.Malformed
+    (λ T w. ap (λ (v : Given). called T c.args.program.now c.args.self.now.fuel (value_of v) c.args.made.items (state_of T c.args.self.now.entered c.args.self.now.objects) w) c.in-Nothing.is)
+
+pub returns-in-Missing : goal.returns-in-Missing
+returns-in-Missing c = value-stopped c.args.program.now c.args.self.now (λ T. called T c.args.program.now c.args.self.now.fuel (value_of c.args.callee) c.args.made.items) stop.Malformed
+    (λ T w. ap (λ (v : Given). called T c.args.program.now c.args.self.now.fuel (value_of v) c.args.made.items (state_of T c.args.self.now.entered c.args.self.now.objects) w) c.in-Missing.is)
+
+pub returns-in-Built : goal.returns-in-Built
+returns-in-Built c = value-stopped c.args.program.now c.args.self.now (λ T. called T c.args.program.now c.args.self.now.fuel (value_of c.args.callee) c.args.made.items) stop.Malformed
+    (λ T w. ap (λ (v : Given). called T c.args.program.now c.args.self.now.fuel (value_of v) c.args.made.items (state_of T c.args.self.now.entered c.args.self.now.objects) w) c.in-Built.is)
+
+pub returns-in-Number : goal.returns-in-Number
+returns-in-Number c = value-stopped c.args.program.now c.args.self.now (λ T. called T c.args.program.now c.args.self.now.fuel (value_of c.args.callee) c.args.made.items) stop.Malformed
+    (λ T w. ap (λ (v : Given). called T c.args.program.now c.args.self.now.fuel (value_of v) c.args.made.items (state_of T c.args.self.now.entered c.args.self.now.objects) w) c.in-Number.is)
+
+pub returns-in-At : goal.returns-in-At
+returns-in-At c = value-stopped c.args.program.now c.args.self.now (λ T. called T c.args.program.now c.args.self.now.fuel (value_of c.args.callee) c.args.made.items) stop.Malformed
+    (λ T w. ap (λ (v : Given). called T c.args.program.now c.args.self.now.fuel (value_of v) c.args.made.items (state_of T c.args.self.now.entered c.args.self.now.objects) w) c.in-At.is)

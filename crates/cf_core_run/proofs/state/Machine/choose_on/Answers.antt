@@ -2,12 +2,12 @@ use Rattle.std.proofs.Common.{ap}
 use Rattle.cf_core.specs.Run.{when}
 use Rattle.cf_run_tree.specs.Tree.{core_of}
 use Rattle.cf_core_run.specs.Going.{performed, performed_other}
-use Rattle.cf_core_store.specs.Store.{state_of}
+use Rattle.cf_core_objects.specs.Store.{state_of}
 use Rattle.cf_core_run.proofs.Laws.{flow-as}
 use Rattle.cf_core_run.proofs.state.Machine.choose_on.Goals as goal
 
 pub returns-then-holds : goal.returns-then-holds
-returns-then-holds c = λ p. flow-as p c.args.self.now (λ T. when c.args.holds (performed T p c.args.self.now.fuel (core_of T c.args.yes.now)) (performed_other T p c.args.self.now.fuel c.args.no.now)) (λ T. performed T p c.args.self.now.fuel (core_of T c.args.yes.now)) c.perform_next.result c.perform_next.new.self (c.perform_next.ensures p) (λ T w. ap (λ h. when h (performed T p c.args.self.now.fuel (core_of T c.args.yes.now)) (performed_other T p c.args.self.now.fuel c.args.no.now) (state_of T c.args.self.now.entered c.args.self.now.cells.items) w) c.if-holds.true)
+returns-then-holds c = λ p. flow-as p c.args.self.now (λ T. when c.args.holds (performed T p c.args.self.now.fuel (core_of T c.args.yes.now)) (performed_other T p c.args.self.now.fuel c.args.no.now)) (λ T. performed T p c.args.self.now.fuel (core_of T c.args.yes.now)) c.perform_next.result c.perform_next.new.self (c.perform_next.ensures p) (λ T w. ap (λ h. when h (performed T p c.args.self.now.fuel (core_of T c.args.yes.now)) (performed_other T p c.args.self.now.fuel c.args.no.now) (state_of T c.args.self.now.entered c.args.self.now.objects) w) c.if-holds.true)
 
 pub returns-else-holds : goal.returns-else-holds
-returns-else-holds c = λ p. flow-as p c.args.self.now (λ T. when c.args.holds (performed T p c.args.self.now.fuel (core_of T c.args.yes.now)) (performed_other T p c.args.self.now.fuel c.args.no.now)) (λ T. performed_other T p c.args.self.now.fuel c.args.no.now) c.perform_other.result c.perform_other.new.self (c.perform_other.ensures p) (λ T w. ap (λ h. when h (performed T p c.args.self.now.fuel (core_of T c.args.yes.now)) (performed_other T p c.args.self.now.fuel c.args.no.now) (state_of T c.args.self.now.entered c.args.self.now.cells.items) w) c.if-holds.false)
+returns-else-holds c = λ p. flow-as p c.args.self.now (λ T. when c.args.holds (performed T p c.args.self.now.fuel (core_of T c.args.yes.now)) (performed_other T p c.args.self.now.fuel c.args.no.now)) (λ T. performed_other T p c.args.self.now.fuel c.args.no.now) c.perform_other.result c.perform_other.new.self (c.perform_other.ensures p) (λ T w. ap (λ h. when h (performed T p c.args.self.now.fuel (core_of T c.args.yes.now)) (performed_other T p c.args.self.now.fuel c.args.no.now) (state_of T c.args.self.now.entered c.args.self.now.objects) w) c.if-holds.false)

@@ -1,18 +1,18 @@
 use Rattle.std.proofs.Common.{◌∙◌, ◌∷◌, List, None, ap, sym}
 use Rattle.cf_run_tree.specs.Tree.{core_of}
-use Rattle.cf_core_store.specs.Then.{◌▷◌}
+use Rattle.cf_core_objects.specs.Then.{◌▷◌}
 use Rattle.cf_core_run.specs.Going.{valued}
-use Rattle.cf_core_store.specs.Store.{state_of}
+use Rattle.cf_core_objects.specs.Store.{state_of}
 use Rattle.cf_core_run.proofs.Laws.{value-as, value-stopped}
 use Rattle.cf_run_tree.specs.declared.node.Node.{Node}
-use Rattle.cf_core_store.specs.declared.answer.Stop.TheVariants as stop
+use Rattle.cf_core_objects.specs.declared.answer.Stop.TheVariants as stop
 use Rattle.cf_core_run.specs.Going.{last_of}
 use Rattle.cf_core_run.proofs.Laws.{nil}
 use Rattle.cf_core_run.proofs.state.Machine.comma.Goals as goal
 
 pub returns-in-None : goal.returns-in-None
 returns-in-None c = λ p. value-stopped p c.args.self.now (λ T. last_of T p c.args.self.now.fuel c.args.all.now) stop.Malformed
-    (λ T w. ap (λ (l : List Node). last_of T p c.args.self.now.fuel l (state_of T c.args.self.now.entered c.args.self.now.cells.items) w) (nil c.args.all.now c.in-None.ensures.cases))
+    (λ T w. ap (λ (l : List Node). last_of T p c.args.self.now.fuel l (state_of T c.args.self.now.entered c.args.self.now.objects) w) (nil c.args.all.now c.in-None.ensures.cases))
 
 pub returns-in-None-split_first : goal.returns-in-None-split_first
 returns-in-None-split_first c = λ p. value-as p c.args.self.now (λ T. last_of T p c.args.self.now.fuel c.args.all.now) _ c.evaluate.result c.evaluate.new.self (c.evaluate.ensures p)

@@ -5,7 +5,7 @@ use Rattle.cf_core_run.specs.Going.{GoesOn, again}
 use Rattle.std.proofs.Common.{◌≡◌, ◌∙◌, ◌-◌, ◌++◌, ◌∷◌, [], List, ℕ, Some, None, ap, sym, subst, map, replicate, length, rules}
 use Rattle.cf_core.specs.Calls.{name_function, run_library, root}
 use Rattle.cf_run_tree.specs.Tree.{function_of}
-use Rattle.cf_core_store.specs.declared.store.Entered.{Entered}
+use Rattle.cf_core_objects.specs.declared.object.Entered.{Entered}
 use Rattle.cf_core_run.specs.declared.mark.Mark.TheVariants as mark
 use Rattle.cf_core_run.specs.Going.{from_value}
 use Rattle.cf_core_run.proofs.CallLaws.{enter-ticks, enter-depth, enter-goes}

@@ -1,9 +1,10 @@
-use Rattle.std.proofs.Common.{◌∙◌, ap}
+use Rattle.std.proofs.Common.{◌∙◌, ℤ, Some, ap, sym, rules, FitsSigned, w64, to_z-of_z}
+use Rattle.cf_base.specs.Event.{Ended}
 use Rattle.cf_core.specs.Calls.{root}
-use Rattle.cf_core_store.specs.Store.{state_of, value_of}
+use Rattle.cf_core_objects.specs.Store.{state_of, value_of}
 use Rattle.cf_core_run.proofs.Laws.{value-stopped}
-use Rattle.cf_core_store.specs.declared.answer.Value.{Value as Given}
-use Rattle.cf_core_store.specs.declared.answer.Stop.TheVariants as stop
+use Rattle.cf_core_objects.specs.declared.answer.Value.{Value as Given}
+use Rattle.cf_core_objects.specs.declared.answer.Stop.TheVariants as stop
 use Rattle.cf_core.specs.Calls as calls
 use Rattle.std.proofs.Common.{reverse}
 use Rattle.cf_core_run.specs.Going.{from_value, finish, world_of}
@@ -13,20 +14,24 @@ use Rattle.cf_core_run.proofs.state.Machine.exit.Goals as goal
 pub returns-in-Number : goal.returns-in-Number
 returns-in-Number c = λ p. record {
   same = λ T o. ap (λ (v : Given). from_value T p c.args.self.now (calls.leave_with (value_of v)) o) c.in-Number.is
-      ∙ ap (finish T p o) (value-exits T p (reverse c.args.self.now.stack.items) c.in-Number.status (state_of T c.args.self.now.entered c.args.self.now.cells.items) (world_of c.args.self.now.ticks o));
+      ∙ ap (finish T p o) (value-exits T p (reverse c.args.self.now.stack.items) c.in-Number.status (state_of T c.args.self.now.entered c.args.self.now.objects) (world_of c.args.self.now.ticks o))
+      ∙ ap (λ (z : ℤ). Some (record { end = Ended z; trace = o.trace })) (sym (c.new.ensures ∙ to_z-of_z {w = w64} {z = c.in-Number.status} (let fits : FitsSigned w64 c.in-Number.status = search rules in fits)));
 }
 
 pub returns-in-Nothing : goal.returns-in-Nothing
-returns-in-Nothing c = λ p. value-stopped p c.args.self.now (λ T. calls.leave_with (value_of c.args.v)) stop.Malformed (λ T w. ap (λ (v : Given). calls.leave_with (value_of v) (state_of T c.args.self.now.entered c.args.self.now.cells.items) w) c.in-Nothing.is)
+returns-in-Nothing c = λ p. value-stopped p c.args.self.now (λ T. calls.leave_with (value_of c.args.v)) stop.Malformed (λ T w. ap (λ (v : Given). calls.leave_with (value_of v) (state_of T c.args.self.now.entered c.args.self.now.objects) w) c.in-Nothing.is)
 
 pub returns-in-Missing : goal.returns-in-Missing
-returns-in-Missing c = λ p. value-stopped p c.args.self.now (λ T. calls.leave_with (value_of c.args.v)) stop.Malformed (λ T w. ap (λ (v : Given). calls.leave_with (value_of v) (state_of T c.args.self.now.entered c.args.self.now.cells.items) w) c.in-Missing.is)
+returns-in-Missing c = λ p. value-stopped p c.args.self.now (λ T. calls.leave_with (value_of c.args.v)) stop.Malformed (λ T w. ap (λ (v : Given). calls.leave_with (value_of v) (state_of T c.args.self.now.entered c.args.self.now.objects) w) c.in-Missing.is)
 
 pub returns-in-Built : goal.returns-in-Built
-returns-in-Built c = λ p. value-stopped p c.args.self.now (λ T. calls.leave_with (value_of c.args.v)) stop.Malformed (λ T w. ap (λ (v : Given). calls.leave_with (value_of v) (state_of T c.args.self.now.entered c.args.self.now.cells.items) w) c.in-Built.is)
+returns-in-Built c = λ p. value-stopped p c.args.self.now (λ T. calls.leave_with (value_of c.args.v)) stop.Malformed (λ T w. ap (λ (v : Given). calls.leave_with (value_of v) (state_of T c.args.self.now.entered c.args.self.now.objects) w) c.in-Built.is)
 
 pub returns-in-Null : goal.returns-in-Null
-returns-in-Null c = λ p. value-stopped p c.args.self.now (λ T. calls.leave_with (value_of c.args.v)) stop.Malformed (λ T w. ap (λ (v : Given). calls.leave_with (value_of v) (state_of T c.args.self.now.entered c.args.self.now.cells.items) w) c.in-Null.is)
+returns-in-Null c = λ p. value-stopped p c.args.self.now (λ T. calls.leave_with (value_of c.args.v)) stop.Malformed (λ T w. ap (λ (v : Given). calls.leave_with (value_of v) (state_of T c.args.self.now.entered c.args.self.now.objects) w) c.in-Null.is)
 
 pub returns-in-At : goal.returns-in-At
-returns-in-At c = λ p. value-stopped p c.args.self.now (λ T. calls.leave_with (value_of c.args.v)) stop.Malformed (λ T w. ap (λ (v : Given). calls.leave_with (value_of v) (state_of T c.args.self.now.entered c.args.self.now.cells.items) w) c.in-At.is)
+returns-in-At c = λ p. value-stopped p c.args.self.now (λ T. calls.leave_with (value_of c.args.v)) stop.Malformed (λ T w. ap (λ (v : Given). calls.leave_with (value_of v) (state_of T c.args.self.now.entered c.args.self.now.objects) w) c.in-At.is)
+
+pub returns-in-Code : goal.returns-in-Code
+returns-in-Code c = λ p. value-stopped p c.args.self.now (λ T. calls.leave_with (value_of c.args.v)) stop.Malformed (λ T w. ap (λ (v : Given). calls.leave_with (value_of v) (state_of T c.args.self.now.entered c.args.self.now.objects) w) c.in-Code.is)

@@ -2,12 +2,12 @@ use Rattle.std.proofs.Common.{ap}
 use Rattle.cf_core.specs.Calls.{Falls}
 use Rattle.cf_core.specs.Run.{gives, when}
 use Rattle.cf_core_run.specs.Going.{body_turn}
-use Rattle.cf_core_store.specs.Store.{state_of}
+use Rattle.cf_core_objects.specs.Store.{state_of}
 use Rattle.cf_core_run.proofs.Laws.{flow-as}
 use Rattle.cf_core_run.proofs.state.Machine.first_on.Goals as goal
 
 pub returns-then-holds : goal.returns-then-holds
-returns-then-holds c = λ p. flow-as p c.args.self.now (λ T. when c.args.holds (body_turn T p c.args.self.now.fuel c.args.repeated) (gives Falls)) (λ T. body_turn T p c.args.self.now.fuel c.args.repeated) c.open_body.result c.open_body.new.self (c.open_body.ensures p) (λ T w. ap (λ h. when h (body_turn T p c.args.self.now.fuel c.args.repeated) (gives Falls) (state_of T c.args.self.now.entered c.args.self.now.cells.items) w) c.if-holds.true)
+returns-then-holds c = λ p. flow-as p c.args.self.now (λ T. when c.args.holds (body_turn T p c.args.self.now.fuel c.args.repeated) (gives Falls)) (λ T. body_turn T p c.args.self.now.fuel c.args.repeated) c.open_body.result c.open_body.new.self (c.open_body.ensures p) (λ T w. ap (λ h. when h (body_turn T p c.args.self.now.fuel c.args.repeated) (gives Falls) (state_of T c.args.self.now.entered c.args.self.now.objects) w) c.if-holds.true)
 
 pub returns-else-holds : goal.returns-else-holds
-returns-else-holds c = λ p. flow-as p c.args.self.now (λ T. when c.args.holds (body_turn T p c.args.self.now.fuel c.args.repeated) (gives Falls)) (λ T. gives Falls) c.ends.result c.ends.new.self (c.ends.ensures p) (λ T w. ap (λ h. when h (body_turn T p c.args.self.now.fuel c.args.repeated) (gives Falls) (state_of T c.args.self.now.entered c.args.self.now.cells.items) w) c.if-holds.false)
+returns-else-holds c = λ p. flow-as p c.args.self.now (λ T. when c.args.holds (body_turn T p c.args.self.now.fuel c.args.repeated) (gives Falls)) (λ T. gives Falls) c.ends.result c.ends.new.self (c.ends.ensures p) (λ T w. ap (λ h. when h (body_turn T p c.args.self.now.fuel c.args.repeated) (gives Falls) (state_of T c.args.self.now.entered c.args.self.now.objects) w) c.if-holds.false)

@@ -10,17 +10,17 @@ use Rattle.cf_core.specs.Core as nodes
 use Rattle.cf_core.specs.Run.{gives}
 use Rattle.cf_run_tree.specs.declared.node.Node.{Node}
 use Rattle.cf_run_tree.specs.Tree.{core_of}
-use Rattle.cf_core_store.specs.Then.{◌▷◌}
+use Rattle.cf_core_objects.specs.Then.{◌▷◌}
 use Rattle.cf_core_run.specs.Going.{valued, performed, maybe_core, go_test}
-use Rattle.cf_core_store.specs.Store.{state_of}
+use Rattle.cf_core_objects.specs.Store.{state_of}
 use Rattle.cf_core_run.proofs.Laws.{flow-as}
 use Rattle.cf_core_run.proofs.StatementLaws.{return-goes}
 use Rattle.cf_core_run.proofs.state.Machine.give.Goals as goal
 
 pub returns-in-None : goal.returns-in-None
 returns-in-None c = λ p. flow-as p c.args.self.now (λ T. performed T p c.args.self.now.fuel (nodes.give (maybe_core T p c.args.value.now))) (λ T. gives (Returns Nothing)) c.ends.result c.ends.new.self (c.ends.ensures p)
-    (λ T w. ap (λ (x : Option Node). performed T p c.args.self.now.fuel (nodes.give (maybe_core T p x)) (state_of T c.args.self.now.entered c.args.self.now.cells.items) w) c.in-None.is)
+    (λ T w. ap (λ (x : Option Node). performed T p c.args.self.now.fuel (nodes.give (maybe_core T p x)) (state_of T c.args.self.now.entered c.args.self.now.objects) w) c.in-None.is)
 
 pub returns-in-Some : goal.returns-in-Some
 returns-in-Some c = λ p. flow-as p c.args.self.now (λ T. performed T p c.args.self.now.fuel (nodes.give (maybe_core T p c.args.value.now))) (λ T s w. full T p c.args.self.now.fuel (valued T p c.args.self.now.fuel (core_of T c.in-Some.e) None >>= of_value T applied.Used) s w ▷ go_test T p c.args.self.now.fuel test.Result) c.test_by.result c.test_by.new.self (c.test_by.ensures p)
-    (λ T w. return-goes T p c.args.self.now.fuel c.args.self.now.entered c.args.self.now.cells.items c.args.value.now c.in-Some.e w c.in-Some.is)
+    (λ T w. return-goes T p c.args.self.now.fuel c.args.self.now.entered c.args.self.now.objects c.args.value.now c.in-Some.e w c.in-Some.is)

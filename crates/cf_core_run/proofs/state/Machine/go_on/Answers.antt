@@ -3,18 +3,18 @@ use Rattle.cf_core.specs.Run.{gives}
 use Rattle.cf_core.specs.Statements.{falling}
 use Rattle.cf_core_run.specs.declared.mark.Flow.{Flow as Way}
 use Rattle.cf_core_run.specs.Going.{performed_all, cores, flow_of}
-use Rattle.cf_core_store.specs.Store.{state_of}
+use Rattle.cf_core_objects.specs.Store.{state_of}
 use Rattle.cf_core_run.proofs.Laws.{flow-as}
 use Rattle.cf_core_run.proofs.state.Machine.go_on.Goals as goal
 
 pub returns-in-Breaks : goal.returns-in-Breaks
 returns-in-Breaks c = λ p. flow-as p c.args.self.now (λ T. falling (performed_all T p c.args.self.now.fuel (cores T p c.args.rest.now)) (flow_of c.args.flow)) (λ T. gives (flow_of c.args.flow)) c.ends.result c.ends.new.self (c.ends.ensures p)
-    (λ T w. let P : Way → Type 0 = λ f. falling (performed_all T p c.args.self.now.fuel (cores T p c.args.rest.now)) (flow_of f) (state_of T c.args.self.now.entered c.args.self.now.cells.items) w ≡ gives (flow_of f) (state_of T c.args.self.now.entered c.args.self.now.cells.items) w in subst P (sym c.in-Breaks.is) refl)
+    (λ T w. let P : Way → Type 0 = λ f. falling (performed_all T p c.args.self.now.fuel (cores T p c.args.rest.now)) (flow_of f) (state_of T c.args.self.now.entered c.args.self.now.objects) w ≡ gives (flow_of f) (state_of T c.args.self.now.entered c.args.self.now.objects) w in subst P (sym c.in-Breaks.is) refl)
 
 pub returns-in-Continues : goal.returns-in-Continues
 returns-in-Continues c = λ p. flow-as p c.args.self.now (λ T. falling (performed_all T p c.args.self.now.fuel (cores T p c.args.rest.now)) (flow_of c.args.flow)) (λ T. gives (flow_of c.args.flow)) c.ends-in-Continues.result c.ends-in-Continues.new.self (c.ends-in-Continues.ensures p)
-    (λ T w. let P : Way → Type 0 = λ f. falling (performed_all T p c.args.self.now.fuel (cores T p c.args.rest.now)) (flow_of f) (state_of T c.args.self.now.entered c.args.self.now.cells.items) w ≡ gives (flow_of f) (state_of T c.args.self.now.entered c.args.self.now.cells.items) w in subst P (sym c.in-Continues.is) refl)
+    (λ T w. let P : Way → Type 0 = λ f. falling (performed_all T p c.args.self.now.fuel (cores T p c.args.rest.now)) (flow_of f) (state_of T c.args.self.now.entered c.args.self.now.objects) w ≡ gives (flow_of f) (state_of T c.args.self.now.entered c.args.self.now.objects) w in subst P (sym c.in-Continues.is) refl)
 
 pub returns-in-Returns : goal.returns-in-Returns
 returns-in-Returns c = λ p. flow-as p c.args.self.now (λ T. falling (performed_all T p c.args.self.now.fuel (cores T p c.args.rest.now)) (flow_of c.args.flow)) (λ T. gives (flow_of c.args.flow)) c.ends-in-Returns.result c.ends-in-Returns.new.self (c.ends-in-Returns.ensures p)
-    (λ T w. let P : Way → Type 0 = λ f. falling (performed_all T p c.args.self.now.fuel (cores T p c.args.rest.now)) (flow_of f) (state_of T c.args.self.now.entered c.args.self.now.cells.items) w ≡ gives (flow_of f) (state_of T c.args.self.now.entered c.args.self.now.cells.items) w in subst P (sym c.in-Returns.is) refl)
+    (λ T w. let P : Way → Type 0 = λ f. falling (performed_all T p c.args.self.now.fuel (cores T p c.args.rest.now)) (flow_of f) (state_of T c.args.self.now.entered c.args.self.now.objects) w ≡ gives (flow_of f) (state_of T c.args.self.now.entered c.args.self.now.objects) w in subst P (sym c.in-Returns.is) refl)

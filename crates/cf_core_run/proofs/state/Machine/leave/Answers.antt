@@ -4,14 +4,14 @@ use Rattle.cf_core.specs.Run.{Gives, gives}
 use Rattle.cf_core_run.specs.declared.mark.Mark.{Mark}
 use Rattle.cf_core_run.specs.declared.mark.Mark.TheVariants as mark
 use Rattle.cf_core_run.specs.Going.{on_flow, finish, from_value, from_flow, world_of, go_flow, go_back, flow_of}
-use Rattle.cf_core_store.specs.Store.{state_of}
+use Rattle.cf_core_objects.specs.Store.{state_of}
 use Rattle.cf_core_run.proofs.Laws.{comes-by}
 use Rattle.cf_core_run.proofs.Goes.{flow-pops}
 use Rattle.cf_core_run.proofs.state.Machine.leave.Goals as goal
 
 pub returns-in-None : goal.returns-in-None
 returns-in-None c = λ p. record {
-  same = λ T o. ap (λ (ms : List Mark). finish T p o (on_flow T p (reverse ms) (Went (Gives (flow_of c.args.flow) (state_of T c.args.self.now.entered c.args.self.now.cells.items)) (world_of c.args.self.now.ticks o)))) (let h : c.args.self.now.stack.items ≡ [] = search rules in h);
+  same = λ T o. ap (λ (ms : List Mark). finish T p o (on_flow T p (reverse ms) (Went (Gives (flow_of c.args.flow) (state_of T c.args.self.now.entered c.args.self.now.objects)) (world_of c.args.self.now.ticks o)))) (let h : c.args.self.now.stack.items ≡ [] = search rules in h);
 }
 
 pub returns-in-Some-Flow : goal.returns-in-Some-Flow

@@ -1,15 +1,15 @@
-use Rattle.cf_core_store.specs.Store.{state_of, value_of}
-use Rattle.cf_core_store.specs.Values.{named}
-use Rattle.cf_core_store.proofs.ThenLaws.{told-err, told-ok}
+use Rattle.cf_core_objects.specs.Store.{state_of, value_of}
+use Rattle.cf_core_objects.specs.Named.{named}
+use Rattle.cf_core_objects.proofs.ThenLaws.{told-err, told-ok}
 use Rattle.cf_core_run.proofs.Laws.{value-gives, value-stopped}
 use Rattle.cf_core_run.proofs.state.Machine.name_local.Goals as goal
 
 pub returns-in-Err : goal.returns-in-Err
 returns-in-Err c = λ p. value-stopped p c.args.self.now (λ T. named c.args.number) c.in-Err.stop
-    (λ T w. told-err value_of c.local_value.result c.in-Err.stop (state_of T c.args.self.now.entered c.args.self.now.cells.items) w
-    (named c.args.number (state_of T c.args.self.now.entered c.args.self.now.cells.items) w) c.in-Err.is (c.local_value.ensures T w))
+    (λ T w. told-err value_of c.local_value.result c.in-Err.stop (state_of T c.args.self.now.entered c.args.self.now.objects) w
+    (named c.args.number (state_of T c.args.self.now.entered c.args.self.now.objects) w) c.in-Err.is (c.local_value.ensures T w))
 
 pub returns-in-Ok : goal.returns-in-Ok
-returns-in-Ok c = λ p. value-gives p c.args.self.now c.args.self.now.entered c.args.self.now.cells (λ T. named c.args.number) c.in-Ok.v
-    (λ T w. told-ok value_of c.local_value.result c.in-Ok.v (state_of T c.args.self.now.entered c.args.self.now.cells.items) w
-    (named c.args.number (state_of T c.args.self.now.entered c.args.self.now.cells.items) w) c.in-Ok.is (c.local_value.ensures T w))
+returns-in-Ok c = λ p. value-gives p c.args.self.now c.args.self.now.entered c.args.self.now.objects (λ T. named c.args.number) c.in-Ok.v
+    (λ T w. told-ok value_of c.local_value.result c.in-Ok.v (state_of T c.args.self.now.entered c.args.self.now.objects) w
+    (named c.args.number (state_of T c.args.self.now.entered c.args.self.now.objects) w) c.in-Ok.is (c.local_value.ensures T w))

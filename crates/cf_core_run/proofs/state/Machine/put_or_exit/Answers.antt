@@ -1,6 +1,6 @@
 use Rattle.std.proofs.Common.{◌∙◌, ap, sym}
 use Rattle.cf_core.specs.Calls.{name_function, run_library, root}
-use Rattle.cf_core_store.specs.Store.{value_of}
+use Rattle.cf_core_objects.specs.Store.{value_of}
 use Rattle.cf_core_run.proofs.Laws.{value-as}
 use Rattle.std.proofs.Common.{Bool, bytes_eq}
 use Rattle.cf_core.specs.Run.{when}

@@ -3,7 +3,7 @@ use Rattle.cf_core.specs.Calls.{Falls}
 use Rattle.cf_core.specs.Run.{gives, when}
 use Rattle.cf_core.specs.Statements.{has_default, from_case, from_default}
 use Rattle.cf_run_tree.specs.Tree.{program_of}
-use Rattle.cf_core_store.specs.Store.{state_of}
+use Rattle.cf_core_objects.specs.Store.{state_of}
 use Rattle.cf_core_run.specs.Going.{from_flow, cores, again, labelled}
 use Rattle.cf_core_run.proofs.Laws.{flow-as}
 use Rattle.cf_core_run.proofs.state.Machine.seek.Goals as goal
@@ -27,7 +27,7 @@ returns-then-has_default c = λ p. record {
 pub returns : goal.returns
 returns c = λ p. flow-as p c.args.self.now (λ T. labelled T p c.args.self.now.fuel c.args.number (cores T p c.args.all.now)) (λ T. gives Falls) c.ends.result c.ends.new.self (c.ends.ensures p)
     (λ T w. ap (λ (b : Bool). when b (from_case (again T p c.args.self.now.fuel) (program_of T p) c.args.number (cores T p c.args.all.now))
-    (when (has_default (cores T p c.args.all.now)) (from_default (again T p c.args.self.now.fuel) (program_of T p) (cores T p c.args.all.now)) (gives Falls)) (state_of T c.args.self.now.entered c.args.self.now.cells.items) w)
+    (when (has_default (cores T p c.args.all.now)) (from_default (again T p c.args.self.now.fuel) (program_of T p) (cores T p c.args.all.now)) (gives Falls)) (state_of T c.args.self.now.entered c.args.self.now.objects) w)
     (sym (c.has_case.ensures T) ∙ c.if-has_case.false)
-    ∙ ap (λ (b : Bool). when b (from_default (again T p c.args.self.now.fuel) (program_of T p) (cores T p c.args.all.now)) (gives Falls) (state_of T c.args.self.now.entered c.args.self.now.cells.items) w)
+    ∙ ap (λ (b : Bool). when b (from_default (again T p c.args.self.now.fuel) (program_of T p) (cores T p c.args.all.now)) (gives Falls) (state_of T c.args.self.now.entered c.args.self.now.objects) w)
     (sym (c.has_default.ensures T) ∙ c.if-has_default.false))

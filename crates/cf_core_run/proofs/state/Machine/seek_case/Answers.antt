@@ -4,7 +4,7 @@ use Rattle.cf_core.specs.Run.{◌>>◌, gives, when}
 use Rattle.cf_core.specs.Statements.{passes, from_case}
 use Rattle.cf_run_tree.specs.declared.node.Node.{Node}
 use Rattle.cf_run_tree.specs.Tree.{core_of, program_of}
-use Rattle.cf_core_store.specs.Store.{state_of}
+use Rattle.cf_core_objects.specs.Store.{state_of}
 use Rattle.cf_core_run.specs.Going.{on_flow, finish, from_flow, world_of, cores, again, performed_all}
 use Rattle.cf_core_run.proofs.Laws.{nil, flow-as}
 use Rattle.cf_core_run.proofs.LabelLaws.{case-next}
@@ -12,20 +12,20 @@ use Rattle.cf_core_run.proofs.state.Machine.seek_case.Goals as goal
 
 pub returns-in-None : goal.returns-in-None
 returns-in-None c = λ p. flow-as p c.args.self.now (λ T. from_case (again T p c.args.self.now.fuel) (program_of T p) c.args.number (cores T p c.args.all.now)) (λ T. gives Falls) c.ends.result c.ends.new.self (c.ends.ensures p)
-    (λ T w. ap (λ (l : List Node). from_case (again T p c.args.self.now.fuel) (program_of T p) c.args.number (cores T p l) (state_of T c.args.self.now.entered c.args.self.now.cells.items) w) (nil c.args.all.now c.in-None.ensures.cases))
+    (λ T w. ap (λ (l : List Node). from_case (again T p c.args.self.now.fuel) (program_of T p) c.args.number (cores T p l) (state_of T c.args.self.now.entered c.args.self.now.objects) w) (nil c.args.all.now c.in-None.ensures.cases))
 
 pub returns-then-is_case : goal.returns-then-is_case
 returns-then-is_case c = λ p. record {
   same = λ T o. ap (λ (l : List Node). from_flow T p c.args.self.now (from_case (again T p c.args.self.now.fuel) (program_of T p) c.args.number (cores T p l)) o) c.in-Some.ensures.cases.0
       ∙ ap (λ r. finish T p o (on_flow T p (reverse c.args.self.now.stack.items) r))
-      (case-next (again T p c.args.self.now.fuel) (program_of T p) c.args.number (core_of T c.in-Some.first.now) (cores T p c.in-Some.rest.now) (state_of T c.args.self.now.entered c.args.self.now.cells.items) (world_of c.args.self.now.ticks o)
-      ∙ ap (λ (b : Bool). when b (performed_all T p c.args.self.now.fuel (cores T p c.in-Some.rest.now)) (passes (core_of T c.in-Some.first.now) >> from_case (again T p c.args.self.now.fuel) (program_of T p) c.args.number (cores T p c.in-Some.rest.now)) (state_of T c.args.self.now.entered c.args.self.now.cells.items) (world_of c.args.self.now.ticks o))
+      (case-next (again T p c.args.self.now.fuel) (program_of T p) c.args.number (core_of T c.in-Some.first.now) (cores T p c.in-Some.rest.now) (state_of T c.args.self.now.entered c.args.self.now.objects) (world_of c.args.self.now.ticks o)
+      ∙ ap (λ (b : Bool). when b (performed_all T p c.args.self.now.fuel (cores T p c.in-Some.rest.now)) (passes (core_of T c.in-Some.first.now) >> from_case (again T p c.args.self.now.fuel) (program_of T p) c.args.number (cores T p c.in-Some.rest.now)) (state_of T c.args.self.now.entered c.args.self.now.objects) (world_of c.args.self.now.ticks o))
       (sym (c.is_case.ensures T) ∙ c.if-is_case.true));
 }
 
 pub returns-else-is_case : goal.returns-else-is_case
 returns-else-is_case c = λ p. flow-as p c.args.self.now (λ T. from_case (again T p c.args.self.now.fuel) (program_of T p) c.args.number (cores T p c.args.all.now)) (λ T. passes (core_of T c.in-Some.first.now) >> from_case (again T p c.args.self.now.fuel) (program_of T p) c.args.number (cores T p c.in-Some.rest.now)) c.pass_to_case.result c.pass_to_case.new.self (c.pass_to_case.ensures p)
-    (λ T w. ap (λ (l : List Node). from_case (again T p c.args.self.now.fuel) (program_of T p) c.args.number (cores T p l) (state_of T c.args.self.now.entered c.args.self.now.cells.items) w) c.in-Some.ensures.cases.0
-    ∙ case-next (again T p c.args.self.now.fuel) (program_of T p) c.args.number (core_of T c.in-Some.first.now) (cores T p c.in-Some.rest.now) (state_of T c.args.self.now.entered c.args.self.now.cells.items) w
-    ∙ ap (λ (b : Bool). when b (performed_all T p c.args.self.now.fuel (cores T p c.in-Some.rest.now)) (passes (core_of T c.in-Some.first.now) >> from_case (again T p c.args.self.now.fuel) (program_of T p) c.args.number (cores T p c.in-Some.rest.now)) (state_of T c.args.self.now.entered c.args.self.now.cells.items) w)
+    (λ T w. ap (λ (l : List Node). from_case (again T p c.args.self.now.fuel) (program_of T p) c.args.number (cores T p l) (state_of T c.args.self.now.entered c.args.self.now.objects) w) c.in-Some.ensures.cases.0
+    ∙ case-next (again T p c.args.self.now.fuel) (program_of T p) c.args.number (core_of T c.in-Some.first.now) (cores T p c.in-Some.rest.now) (state_of T c.args.self.now.entered c.args.self.now.objects) w
+    ∙ ap (λ (b : Bool). when b (performed_all T p c.args.self.now.fuel (cores T p c.in-Some.rest.now)) (passes (core_of T c.in-Some.first.now) >> from_case (again T p c.args.self.now.fuel) (program_of T p) c.args.number (cores T p c.in-Some.rest.now)) (state_of T c.args.self.now.entered c.args.self.now.objects) w)
     (sym (c.is_case.ensures T) ∙ c.if-is_case.false))

@@ -1,5 +1,5 @@
 use Rattle.std.proofs.Common.{refl, ap, reverse}
-use Rattle.cf_core_store.specs.Store.{state_of}
+use Rattle.cf_core_objects.specs.Store.{state_of, value_of}
 use Rattle.cf_core_run.specs.Going.{on_value, finish, world_of}
 use Rattle.cf_core_run.proofs.CallLaws.{start-goes}
 use Rattle.cf_core_run.proofs.state.Machine.start_call.Goals as goal
@@ -7,6 +7,6 @@ use Rattle.cf_core_run.proofs.state.Machine.start_call.Goals as goal
 pub returns : goal.returns
 returns c = λ p into. record {
   same = λ T o. ap (λ r. finish T p o (on_value T p (reverse c.args.self.now.stack.items) r))
-      (start-goes T p c.args.self.now.fuel c.args.name.now c.args.signature.now c.args.all.now into (record { name = c.args.name; params = c.as_slice.result; rest = c.args.all; made = c.new.result }) (state_of T c.args.self.now.entered c.args.self.now.cells.items) (world_of c.args.self.now.ticks o)
+      (start-goes T p c.args.self.now.fuel (value_of c.args.callee) c.args.signature.now c.args.all.now into (record { callee = c.args.callee; params = c.as_slice.result; rest = c.args.all; made = c.new.result }) (state_of T c.args.self.now.entered c.args.self.now.objects) (world_of c.args.self.now.ticks o)
       refl c.as_slice.ensures refl c.new.ensures.items);
 }

@@ -35,3 +35,12 @@ returns-in-Case c = comes-by c.args.program.now (λ T o. total T c.args.program.
 
 pub returns-in-Default : goal.returns-in-Default
 returns-in-Default c = comes-by c.args.program.now (λ T o. total T c.args.program.now c.args.self.now o) _ c.seek_default.result c.seek_default.new.self (λ T o. ap (λ d. from_doing T c.args.program.now d c.args.self.now o) (sym c.replace-doing.ensures.value ∙ c.in-Default.is)) (c.seek_default.ensures c.args.program.now)
+
+pub returns-in-Starts : goal.returns-in-Starts
+returns-in-Starts c = comes-by c.args.program.now (λ T o. total T c.args.program.now c.args.self.now o) _ c.start_program.result c.start_program.new.self (λ T o. ap (λ d. from_doing T c.args.program.now d c.args.self.now o) (sym c.replace-doing.ensures.value ∙ c.in-Starts.is)) c.start_program.ensures
+
+pub returns-in-Sets : goal.returns-in-Sets
+returns-in-Sets c = comes-by c.args.program.now (λ T o. total T c.args.program.now c.args.self.now o) _ c.set_next.result c.set_next.new.self (λ T o. ap (λ d. from_doing T c.args.program.now d c.args.self.now o) (sym c.replace-doing.ensures.value ∙ c.in-Sets.is)) c.set_next.ensures
+
+pub returns-in-Lists : goal.returns-in-Lists
+returns-in-Lists c = comes-by c.args.program.now (λ T o. total T c.args.program.now c.args.self.now o) _ c.next_element.result c.next_element.new.self (λ T o. ap (λ d. from_doing T c.args.program.now d c.args.self.now o) (sym c.replace-doing.ensures.value ∙ c.in-Lists.is)) (c.next_element.ensures c.args.program.now)

@@ -4,7 +4,7 @@ use Rattle.cf_core.specs.Run.{Gives, gives}
 use Rattle.cf_core_run.specs.declared.mark.Mark.{Mark}
 use Rattle.cf_core_run.specs.declared.mark.Mark.TheVariants as mark
 use Rattle.cf_core_run.specs.Going.{on_value, finish, from_value, from_flow, world_of, go_value, go_test}
-use Rattle.cf_core_store.specs.Store.{state_of, value_of}
+use Rattle.cf_core_objects.specs.Store.{state_of, value_of}
 use Rattle.cf_core_run.proofs.Laws.{comes-by}
 use Rattle.cf_core_run.proofs.Goes.{value-pops}
 use Rattle.cf_core_run.proofs.state.Machine.take.Goals as goal
@@ -13,7 +13,7 @@ pub returns-in-None : goal.returns-in-None
 returns-in-None c = λ p.
     let none : c.pop.new.self.items ≡ [] = search rules in
     comes-by p (λ T o. from_value T p c.args.self.now (gives (value_of c.args.v)) o) (λ T o. from_value T p (record c.args.self.now { stack = c.pop.new.self }) (gives (value_of c.args.v)) o) c.end_with.result (record c.args.self.now { stack = c.pop.new.self })
-    (λ T o. ap (λ (ms : List Mark). finish T p o (on_value T p (reverse ms) (Went (Gives (value_of c.args.v) (state_of T c.args.self.now.entered c.args.self.now.cells.items)) (world_of c.args.self.now.ticks o)))) (let h : c.args.self.now.stack.items ≡ c.pop.new.self.items = search rules in h))
+    (λ T o. ap (λ (ms : List Mark). finish T p o (on_value T p (reverse ms) (Went (Gives (value_of c.args.v) (state_of T c.args.self.now.entered c.args.self.now.objects)) (world_of c.args.self.now.ticks o)))) (let h : c.args.self.now.stack.items ≡ c.pop.new.self.items = search rules in h))
     (c.end_with.ensures p (record c.args.self.now { stack = c.pop.new.self }) none)
 
 pub returns-in-Some-Value : goal.returns-in-Some-Value

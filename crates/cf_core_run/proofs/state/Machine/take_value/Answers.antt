@@ -1,6 +1,6 @@
 use Rattle.std.proofs.Common.{ap}
 use Rattle.cf_core_run.specs.Going.{go_value}
-use Rattle.cf_core_store.specs.Store.{value_of}
+use Rattle.cf_core_objects.specs.Store.{value_of}
 use Rattle.cf_core_run.proofs.Laws.{value-as}
 use Rattle.cf_core_run.specs.declared.mark.ValueMark.{ValueMark}
 use Rattle.cf_core_run.specs.declared.mark.ValueMark.TheVariants as vm
@@ -45,3 +45,15 @@ returns-in-Held c = λ p. value-as p c.args.self.now (λ T. go_value T p c.args.
 pub returns-in-Whole : goal.returns-in-Whole
 returns-in-Whole c = λ p. value-as p c.args.self.now (λ T. go_value T p c.args.self.now.fuel c.args.mark (value_of c.args.v)) (λ T. go_value T p c.args.self.now.fuel (vm.Whole c.in-Whole.around) (value_of c.args.v)) c.close_whole.result c.close_whole.new.self (c.close_whole.ensures p)
     (λ T s w. ap (λ (x : ValueMark). go_value T p c.args.self.now.fuel x (value_of c.args.v) s w) c.in-Whole.is)
+
+pub returns-in-Callee : goal.returns-in-Callee
+returns-in-Callee c = λ p. value-as p c.args.self.now (λ T. go_value T p c.args.self.now.fuel c.args.mark (value_of c.args.v)) (λ T. go_value T p c.args.self.now.fuel (vm.Callee c.in-Callee.signature c.in-Callee.all) (value_of c.args.v)) c.callee.result c.callee.new.self (c.callee.ensures p)
+    (λ T s w. ap (λ (x : ValueMark). go_value T p c.args.self.now.fuel x (value_of c.args.v) s w) c.in-Callee.is)
+
+pub returns-in-Element : goal.returns-in-Element
+returns-in-Element c = λ p. value-as p c.args.self.now (λ T. go_value T p c.args.self.now.fuel c.args.mark (value_of c.args.v)) (λ T. go_value T p c.args.self.now.fuel (vm.Element c.in-Element.element c.in-Element.listing) (value_of c.args.v)) c.element.result c.element.new.self (c.element.ensures p)
+    (λ T s w. ap (λ (x : ValueMark). go_value T p c.args.self.now.fuel x (value_of c.args.v) s w) c.in-Element.is)
+
+pub returns-in-Constant : goal.returns-in-Constant
+returns-in-Constant c = λ p. value-as p c.args.self.now (λ T. go_value T p c.args.self.now.fuel c.args.mark (value_of c.args.v)) (λ T. go_value T p c.args.self.now.fuel (vm.Constant c.in-Constant.number c.in-Constant.rest) (value_of c.args.v)) c.constant.result c.constant.new.self (c.constant.ensures p)
+    (λ T s w. ap (λ (x : ValueMark). go_value T p c.args.self.now.fuel x (value_of c.args.v) s w) c.in-Constant.is)

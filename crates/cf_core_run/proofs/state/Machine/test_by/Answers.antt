@@ -1,7 +1,7 @@
 use Rattle.std.proofs.Common.{◌∙◌, None, ap, sym}
 use Rattle.cf_core.specs.Run.{◌>>=◌}
 use Rattle.cf_run_tree.specs.Tree.{core_of}
-use Rattle.cf_core_store.specs.Then.{◌▷◌}
+use Rattle.cf_core_objects.specs.Then.{◌▷◌}
 use Rattle.cf_core_store.specs.Values.{of_value}
 use Rattle.cf_core_run.specs.Going.{from_value, from_flow, valued, full, go_test}
 use Rattle.cf_core_run.proofs.Laws.{comes-by}

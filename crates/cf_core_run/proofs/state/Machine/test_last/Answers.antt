@@ -7,9 +7,9 @@ use Rattle.cf_core.specs.Run.{◌>>=◌, gives, when}
 use Rattle.cf_core.specs.Statements.{holds}
 use Rattle.cf_run_tree.specs.declared.node.Node.{Node}
 use Rattle.cf_run_tree.specs.Tree.{core_of, program_of}
-use Rattle.cf_core_store.specs.Then.{◌▷◌}
+use Rattle.cf_core_objects.specs.Then.{◌▷◌}
 use Rattle.cf_core_run.specs.Going.{from_flow, valued, maybe_core, full, again, loop_of, turned}
-use Rattle.cf_core_store.specs.Store.{state_of}
+use Rattle.cf_core_objects.specs.Store.{state_of}
 use Rattle.cf_core_run.proofs.Laws.{flow-as}
 use Rattle.cf_core_run.proofs.StatementLaws.{truth-whole}
 use Rattle.cf_core_run.proofs.state.Machine.test_last.Goals as goal
@@ -21,5 +21,5 @@ returns-in-None c = λ p. record {
 
 pub returns-in-Some : goal.returns-in-Some
 returns-in-Some c = λ p. flow-as p c.args.self.now (λ T. turned T p c.args.self.now.fuel c.args.repeated false) (λ T s w. full T p c.args.self.now.fuel (valued T p c.args.self.now.fuel (core_of T c.in-Some.e) None >>= of_value T applied.Truth) s w ▷ go_last T p c.args.self.now.fuel c.args.repeated) c.test_by.result c.test_by.new.self (c.test_by.ensures p)
-    (λ T w. ap (λ (x : Option Node). (holds (again T p c.args.self.now.fuel) (program_of T p) (maybe_core T p x) >>= (λ t. when t (again T p c.args.self.now.fuel (turn (loop_of T p c.args.repeated))) (gives Falls))) (state_of T c.args.self.now.entered c.args.self.now.cells.items) w) c.in-Some.is
-    ∙ truth-whole T p c.args.self.now.fuel (valued T p c.args.self.now.fuel (core_of T c.in-Some.e) None) _ (state_of T c.args.self.now.entered c.args.self.now.cells.items) w)
+    (λ T w. ap (λ (x : Option Node). (holds (again T p c.args.self.now.fuel) (program_of T p) (maybe_core T p x) >>= (λ t. when t (again T p c.args.self.now.fuel (turn (loop_of T p c.args.repeated))) (gives Falls))) (state_of T c.args.self.now.entered c.args.self.now.objects) w) c.in-Some.is
+    ∙ truth-whole T p c.args.self.now.fuel (valued T p c.args.self.now.fuel (core_of T c.in-Some.e) None) _ (state_of T c.args.self.now.entered c.args.self.now.objects) w)

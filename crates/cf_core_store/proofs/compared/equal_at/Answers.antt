@@ -1,0 +1,13 @@
+use Rattle.std.proofs.Common.{sym, subst}
+use Rattle.cf_base.specs.World.{Ran}
+use Rattle.cf_core.specs.Run.{Did}
+use Rattle.cf_core_place.specs.Routes.{place_of}
+use Rattle.cf_core_objects.specs.Answer.{Told}
+use Rattle.cf_core_objects.specs.Store.{state_of}
+use Rattle.cf_core_store.proofs.StoreLaws.{equality-as}
+use Rattle.cf_core_store.proofs.compared.equal_at.Goals as goal
+
+pub returns-in-Some : goal.returns-in-Some
+returns-in-Some c = λ T e w.
+    subst (λ (r : Ran (Did _)). Told (λ b. b) c.equality.result (state_of T e c.args.objects.now) w r)
+    (sym (equality-as (state_of T e c.args.objects.now) (place_of c.args.p) (place_of c.args.q) c.in-Some.both w (c.in-Some.ensures T e))) (c.equality.ensures (state_of T e c.args.objects.now) w)

@@ -1,0 +1,14 @@
+use Rattle.std.proofs.Common.{sym, subst}
+use Rattle.cf_base.specs.World.{Ran}
+use Rattle.cf_core.specs.Run.{Did}
+use Rattle.cf_core.specs.Store.{Value}
+use Rattle.cf_core_place.specs.Routes.{place_of}
+use Rattle.cf_core_objects.specs.Answer.{Told}
+use Rattle.cf_core_objects.specs.Store.{state_of, value_of}
+use Rattle.cf_core_store.proofs.StoreLaws.{order-as}
+use Rattle.cf_core_store.proofs.compared.order_at.Goals as goal
+
+pub returns-in-Some : goal.returns-in-Some
+returns-in-Some c = λ T e w.
+    subst (λ (r : Ran (Did Value)). Told value_of c.order.result (state_of T e c.args.objects.now) w r)
+    (sym (order-as c.args.op (state_of T e c.args.objects.now) (place_of c.args.p) (place_of c.args.q) c.in-Some.both w (c.in-Some.ensures T e))) (c.order.ensures (state_of T e c.args.objects.now) w)
