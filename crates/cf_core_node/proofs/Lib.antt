@@ -1,0 +1,4 @@
+pub mod Known
+pub mod Loops
+pub mod NameLaws
+pub mod NodeLaws
