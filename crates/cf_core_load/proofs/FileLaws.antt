@@ -32,7 +32,7 @@ use Rattle.cf_core_shape.proofs.TypeLaws.{IsOrdered, object-type, signature-type
 use Rattle.cf_core_node.specs.Formed.{Formed, placed, after, made, all}
 use Rattle.cf_core_node.specs.Nodes.{node_of}
 use Rattle.cf_core_node.proofs.NodeLaws.{node_views}
-use Rattle.cf_core_load.specs.Files.{own_functions, own_statics, own_names, plain_head, function, starts_alone, object, program_of}
+use Rattle.cf_core_load.specs.Files.{own_name, own_functions, own_statics, own_names, plain_head, function, starts_alone, object, program_of}
 use Rattle.cf_core_load.specs.Loads.{first_class}
 
 same : {A : Type 0} (a b : A) → Some a ≡ Some b → a ≡ b
@@ -188,26 +188,29 @@ first-statics : (xs : List Static) → new_statics [] xs ≡ xs
 first-statics [] = refl
 first-statics (x ∷ xs) = ap (λ l. x ∷ l) (first-statics xs)
 
-filter-map : {A B : Type 0} (f : A → B) (p : B → Bool) (xs : List A) → filter p (map f xs) ≡ map f (filter (λ a. p (f a)) xs)
-filter-map f p [] = refl
-filter-map {A} {B} f p (x ∷ xs) = by (filter-map f p xs) (p (f x))
-  where
-    by : filter p (map f xs) ≡ map f (filter (λ a. p (f a)) xs) → (b : Bool)
-        → (if b then f x ∷ filter p (map f xs) else filter p (map f xs)) ≡ map f (if b then x ∷ filter (λ a. p (f a)) xs else filter (λ a. p (f a)) xs)
-    by rest true = ap (λ l. f x ∷ l) rest
-    by rest false = rest
-
 function-names : (tables : Tables) (fs : List CoreFn)
     → map (λ (f : Function). f.name) (filter (λ (f : Function). f.is_local) (map (whole.function_of tables) fs)) ≡ own_functions fs
-function-names tables fs =
-    ap (map (λ (f : Function). f.name)) (filter-map (whole.function_of tables) (λ (f : Function). f.is_local) fs)
-    ∙ sym (map-map (whole.function_of tables) (λ (f : Function). f.name) (filter (λ (f : CoreFn). f.is_local) fs))
+function-names tables [] = refl
+function-names tables (f ∷ fs) = by (function-names tables fs) f.is_local
+  where
+    by : map (λ (f : Function). f.name) (filter (λ (f : Function). f.is_local) (map (whole.function_of tables) fs)) ≡ own_functions fs → (b : Bool)
+        → map (λ (f : Function). f.name)
+        (if b then whole.function_of tables f ∷ filter (λ (f : Function). f.is_local) (map (whole.function_of tables) fs) else filter (λ (f : Function). f.is_local) (map (whole.function_of tables) fs))
+        ≡ own_name b f.name ++ own_functions fs
+    by rest true = ap (λ l. f.name ∷ l) rest
+    by rest false = rest
 
 static-names : (tables : Tables) (xs : List CoreStatic)
     → map (λ (x : Static). x.name) (filter (λ (x : Static). x.is_local) (map (whole.static_of tables) xs)) ≡ own_statics xs
-static-names tables xs =
-    ap (map (λ (x : Static). x.name)) (filter-map (whole.static_of tables) (λ (x : Static). x.is_local) xs)
-    ∙ sym (map-map (whole.static_of tables) (λ (x : Static). x.name) (filter (λ (x : CoreStatic). x.is_local) xs))
+static-names tables [] = refl
+static-names tables (x ∷ xs) = by (static-names tables xs) x.is_local
+  where
+    by : map (λ (x : Static). x.name) (filter (λ (x : Static). x.is_local) (map (whole.static_of tables) xs)) ≡ own_statics xs → (b : Bool)
+        → map (λ (x : Static). x.name)
+        (if b then whole.static_of tables x ∷ filter (λ (x : Static). x.is_local) (map (whole.static_of tables) xs) else filter (λ (x : Static). x.is_local) (map (whole.static_of tables) xs))
+        ≡ own_name b x.name ++ own_statics xs
+    by rest true = ap (λ l. x.name ∷ l) rest
+    by rest false = rest
 
 names-are : (unit : Unit) → local_names (file_of unit) ≡ own_names unit
 names-are unit =

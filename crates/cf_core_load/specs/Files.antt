@@ -1,6 +1,7 @@
 -- The program of trees that the core of a file is, or the place of its first construct that has no form in the plain program: functions come before
 -- static objects, each in order of definition.
-use Rattle.std.specs.Prelude.{Bool, ◌||◌, if◌then◌else◌, List, ◌++◌, map, filter, Option, None, option_map, is_some}
+use Rattle.std.specs.Prelude.{Bool, true, false, ◌||◌, if◌then◌else◌, List, [], ◌∷◌, ◌++◌, map, Option, None, option_map, is_some}
+use Rattle.std.specs.List.{flat_map}
 use Rattle.cf_types.specs.Table.{Table}
 use Rattle.cf_core.specs.Types.{Name}
 use Rattle.cf_core.specs.Joined.{name_in}
@@ -18,12 +19,16 @@ use Rattle.cf_core_shape.specs.Shapes.{each, object_type_of, signature}
 use Rattle.cf_core_node.specs.Formed.{Formed, placed, after, made, all}
 use Rattle.cf_core_node.specs.Nodes.{node_of}
 
--- the names of functions and static objects that are local to the file (3.3)
+-- the name of what is local to the file (3.3)
+abbrev pub own_name : Bool → Name → List Name
+own_name true n = n ∷ []
+own_name false n = []
+
 abbrev pub own_functions : List CoreFn → List Name
-own_functions fs = map (λ (f : CoreFn). f.name) (filter (λ (f : CoreFn). f.is_local) fs)
+own_functions fs = flat_map (λ (f : CoreFn). own_name f.is_local f.name) fs
 
 abbrev pub own_statics : List CoreStatic → List Name
-own_statics xs = map (λ (x : CoreStatic). x.name) (filter (λ (x : CoreStatic). x.is_local) xs)
+own_statics xs = flat_map (λ (x : CoreStatic). own_name x.is_local x.name) xs
 
 abbrev pub own_names : Unit → List Name
 own_names unit = own_functions unit.functions ++ own_statics unit.statics

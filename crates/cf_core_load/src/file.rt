@@ -20,26 +20,38 @@ use cf_run_tree::Program;
 use cf_types::ClassId;
 use std::alloc::Global;
 
-/// Adds the names of functions that are local to the file (3.3).
-fn add_functions(alloc: Global, names: &mut Items<Name>, all: &[CoreFn]) -> Result<(), Memory>
-    ensures { OnOk result (names.new ≡ names.old ++ spec.own_functions all.now) }
+/// Adds the name of what is local to the file (3.3).
+fn add_name(
+    alloc: Global,
+    names: &mut Items<Name>,
+    is_local: bool,
+    name: &Name,
+) -> Result<(), Memory>
+    ensures { OnOk result (names.new ≡ names.old ++ spec.own_name is_local name.now) }
 {
-    for f in all {
-        if f.is_local {
-            names.push(Name::from_slice(alloc, f.name.as_slice())?)?;
-        }
+    if is_local {
+        let name = Name::from_slice(alloc, name.as_slice())?;
+        names.push(name)?;
     }
     Ok(())
 }
 
-/// Adds the names of static objects that are local to the file (3.3).
+/// Adds the names of functions that are local to the file.
+fn add_functions(alloc: Global, names: &mut Items<Name>, all: &[CoreFn]) -> Result<(), Memory>
+    ensures { OnOk result (names.new ≡ names.old ++ spec.own_functions all.now) }
+{
+    for f in all {
+        add_name(alloc, names, f.is_local, &f.name)?;
+    }
+    Ok(())
+}
+
+/// Adds the names of static objects that are local to the file.
 fn add_statics(alloc: Global, names: &mut Items<Name>, all: &[CoreStatic]) -> Result<(), Memory>
     ensures { OnOk result (names.new ≡ names.old ++ spec.own_statics all.now) }
 {
     for x in all {
-        if x.is_local {
-            names.push(Name::from_slice(alloc, x.name.as_slice())?)?;
-        }
+        add_name(alloc, names, x.is_local, &x.name)?;
     }
     Ok(())
 }

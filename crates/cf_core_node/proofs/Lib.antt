@@ -2,3 +2,4 @@ pub mod Known
 pub mod Loops
 pub mod NameLaws
 pub mod NodeLaws
+mod NodeRows

@@ -236,6 +236,11 @@ module _ (tables : Tables) (ordered : IsOrdered tables.types) (own : List Name) 
       first_all _ (λ cs. plain.list cs rest) _ _ (row es)
       (λ ns. of_one (λ rest. node.List ns rest) (plain.list (listed (map view ns))) (λ a. core-List tables ns a) (formed e.0) rest e.1)
 
+  return-is : (e : Option Child)
+      → Views (made (λ e. node.Return e) (maybe (option_map formed (option_map (λ (c : Child). c.0) e))))
+      (plain.give (renamed_maybe r (maybe_core (option_map core_of (option_map (λ (c : Child). c.0) e)))))
+  return-is e = of_maybe (λ e. node.Return e) plain.give (core-Return tables) _ _ (perhaps e)
+
   -- a layer of the tree, once its parts are viewed
   layer : (y : Core-F Child PartChild)
       → Views (step tables.types own (map-Core _ _ _ _ formed part_of (map-Core _ _ _ _ (λ (c : Child). c.0) (λ (c : PartChild). c.0) y)))
@@ -297,14 +302,19 @@ module _ (tables : Tables) (ordered : IsOrdered tables.types) (own : List Name) 
   layer (Core-F.Sequence at es) = of_all node.Sequence plain.sequence (core-Sequence tables) _ _ (row es)
   layer (Core-F.Declare at i t e) = declare-is at i t e
   layer (Core-F.Once at n e) = tt
-  layer (Core-F.If at c a b) = if-is c a b
-  layer (Core-F.Loop at how c e s) = loop-is how c e s
+  layer (Core-F.If at c a None) = if-is c a None
+  layer (Core-F.If at c a (Some b)) = if-is c a (Some b)
+  layer (Core-F.Loop at how None None s) = loop-is how None None s
+  layer (Core-F.Loop at how None (Some e) s) = loop-is how None (Some e) s
+  layer (Core-F.Loop at how (Some c) None s) = loop-is how (Some c) None s
+  layer (Core-F.Loop at how (Some c) (Some e) s) = loop-is how (Some c) (Some e) s
   layer (Core-F.Switch at e es) = switch-is e es
   layer (Core-F.Case at z) = core-Case tables z
   layer (Core-F.Default at) = core-Default tables
   layer (Core-F.Break at) = core-Break tables
   layer (Core-F.Continue at) = core-Continue tables
-  layer (Core-F.Return at e) = of_maybe node.Return plain.give (core-Return tables) _ _ (perhaps e)
+  layer (Core-F.Return at None) = return-is None
+  layer (Core-F.Return at (Some e)) = return-is (Some e)
   layer (Core-F.Parts at ps s) = tt
 
   viewed-roll : (x : Core-F Core PartStart)
