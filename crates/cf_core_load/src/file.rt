@@ -67,6 +67,7 @@ fn own_names(alloc: Global, unit: &CoreUnit) -> Result<Items<Name>, Memory>
 }
 
 /// The first class that the file defines.
+#[tactic(auto, using(crate::proofs::Loading::first_none, crate::proofs::Loading::first_some))]
 fn first_class_of(unit: &CoreUnit) -> Option<ClassId>
     ensures { result ≡ first_class unit.now.classes.defined }
 {
@@ -89,6 +90,7 @@ fn program(alloc: Global, unit: &CoreUnit) -> Result<Program, NotLoaded>
 }
 
 /// The program of a file that is loaded, whether it defines classes or not.
+#[tactic(auto, using(crate::proofs::Loading::loads_fault))]
 fn loaded(alloc: Global, unit: &CoreUnit) -> Result<Program, LoadFault>
     ensures { Loads unit.now result }
 {

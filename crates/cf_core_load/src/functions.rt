@@ -18,6 +18,7 @@ use cf_run_tree::{ObjectType, RunFn, Signature};
 use std::alloc::Global;
 
 /// The type of a function that is no member of a class.
+#[tactic(auto, using(crate::proofs::Knowing::params_known, crate::proofs::Knowing::result_known))]
 fn head(alloc: Global, unit: &CoreUnit, f: &CoreFn) -> Result<Signature, NotLoaded>
     requires { function_known (tables_of unit.now) f.now ≡ true }
     ensures { Gives (placed (place f.now.body) (spec.plain_head f.now.role (signature_form unit.now.types f.now.params f.now.result))) result }
@@ -35,6 +36,7 @@ fn head(alloc: Global, unit: &CoreUnit, f: &CoreFn) -> Result<Signature, NotLoad
 }
 
 /// The types of a function's locals.
+#[tactic(auto, using(crate::proofs::Knowing::locals_known))]
 fn locals(alloc: Global, unit: &CoreUnit, f: &CoreFn) -> Result<Items<ObjectType>, NotLoaded>
     requires { function_known (tables_of unit.now) f.now ≡ true }
     ensures { Gives (placed (place f.now.body) (each (object_form unit.now.types) f.now.locals)) result }
@@ -47,6 +49,7 @@ fn locals(alloc: Global, unit: &CoreUnit, f: &CoreFn) -> Result<Items<ObjectType
 }
 
 /// A function, where these names are local to the file.
+#[tactic(auto, using(crate::proofs::Knowing::body_known))]
 fn function(alloc: Global, unit: &CoreUnit, own: &[Name], f: &CoreFn) -> Result<RunFn, NotLoaded>
     requires { function_known (tables_of unit.now) f.now ≡ true }
     ensures { Gives (spec.function unit.now.types own.now f.now) result }

@@ -19,6 +19,7 @@ use cf_run_tree::{ObjectType, RunStatic};
 use std::alloc::Global;
 
 /// The type of a static object whose initialiser is constant, or stands in the function whose local it is (6.7, 8.4).
+#[tactic(auto, using(crate::proofs::Knowing::object_known))]
 fn type_of(alloc: Global, unit: &CoreUnit, x: &CoreStatic) -> Result<ObjectType, NotLoaded>
     requires { static_known (tables_of unit.now) x.now ≡ true }
     ensures { Gives (placed (place x.now.start) (if spec.starts_alone x.now then object_form unit.now.types x.now.ty else None)) result }
@@ -44,6 +45,7 @@ fn owner_of(alloc: Global, own: &[Name], owner: &Option<Name>) -> Result<Option<
 }
 
 /// A static object, where these names are local to the file.
+#[tactic(auto, using(crate::proofs::Knowing::start_known))]
 fn object(
     alloc: Global,
     unit: &CoreUnit,
