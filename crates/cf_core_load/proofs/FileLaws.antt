@@ -38,7 +38,10 @@ use Rattle.cf_core_load.specs.Loads.{first_class}
 same : {A : Type 0} (a b : A) → Some a ≡ Some b → a ≡ b
 same a b e = cc
 
-same_ok : {A : Type 0} (a b : A) → Ok {E = ℕ} a ≡ Ok b → a ≡ b
+abbrev ok : {A : Type 0} → A → Formed A
+ok a = Ok a
+
+same_ok : {A : Type 0} (a b : A) → ok a ≡ ok b → a ≡ b
 same_ok a b e = cc
 
 -- what two parts, one behind the other, were made of
@@ -68,7 +71,7 @@ found at (Some x) a e = ap Some (same_ok x a e)
 all-parts : {A B C : Type 0} (f : A → Formed B) (g : B → C) (h : A → C) → ((a : A) (b : B) → f a ≡ Ok b → g b ≡ h a)
     → (xs : List A) (ys : List B) → all (map f xs) ≡ Ok ys → map g ys ≡ map h xs
 all-parts f g h law [] ys e = ap (map g) (sym (same_ok [] ys e))
-all-parts f g h law (x ∷ xs) ys e = by (all-parts f g h law xs) (f x) refl (all (map f xs)) refl e
+all-parts {B = B} f g h law (x ∷ xs) ys e = by (all-parts f g h law xs) (f x) refl (all (map f xs)) refl e
   where
     by : ((zs : List B) → all (map f xs) ≡ Ok zs → map g zs ≡ map h xs) → (u : Formed B) → f x ≡ u → (v : Formed (List B)) → all (map f xs) ≡ v
         → after u (λ a. made (λ rest. a ∷ rest) v) ≡ Ok ys → map g ys ≡ map h (x ∷ xs)
@@ -80,7 +83,7 @@ all-parts f g h law (x ∷ xs) ys e = by (all-parts f g h law xs) (f x) refl (al
 each-type : {A B C : Type 0} (f : A → Option B) (g : B → C) (h : A → C) → ((a : A) (b : B) → f a ≡ Some b → h a ≡ g b)
     → (xs : List A) (ys : List B) → each f xs ≡ Some ys → map g ys ≡ map h xs
 each-type f g h law [] ys e = ap (map g) (sym (same [] ys e))
-each-type f g h law (x ∷ xs) ys e = by (each-type f g h law xs) (f x) refl (each f xs) refl e
+each-type {B = B} f g h law (x ∷ xs) ys e = by (each-type f g h law xs) (f x) refl (each f xs) refl e
   where
     by : ((zs : List B) → each f xs ≡ Some zs → map g zs ≡ map h xs) → (u : Option B) → f x ≡ u → (v : Option (List B)) → each f xs ≡ v
         → joined (λ y ys. y ∷ ys) u v ≡ Some ys → map g ys ≡ map h (x ∷ xs)
@@ -225,18 +228,18 @@ abbrev name : Name
 name = in_file 1 (codes "__sti")
 
 -- a program of these, whose initialisers these functions run
-abbrev of_parts : List Class → List Function → List Static → List Function → meaning.Program
-of_parts cs fs xs is = record { classes = cs; functions = fs; statics = xs; constants = tree.constants_of xs; initialisers = is }
+abbrev of_parts : Tables → List Class → List Function → List Static → List Function → meaning.Program
+of_parts T cs fs xs is = record { classes = cs; functions = fs; statics = xs; constants = tree.constants_of T xs; initialisers = is }
 
 -- the first file of a program
-abbrev first : List Class → List Function → List Static → meaning.Program
-first cs fs xs = of_parts (new_classes [] cs) (new_functions [] fs) (new_statics [] xs) (file_initialiser name (filter needs_initialiser (new_statics [] xs)))
+abbrev first : Tables → List Class → List Function → List Static → meaning.Program
+first T cs fs xs = of_parts T (new_classes [] cs) (new_functions [] fs) (new_statics [] xs) (file_initialiser name (filter needs_initialiser (new_statics [] xs)))
 
-first-is : (fs : List Function) (xs : List Static) → filter needs_initialiser xs ≡ [] → first [] fs xs ≡ of_parts [] fs xs []
-first-is fs xs e =
-    ap (λ fs. of_parts [] fs (new_statics [] xs) (file_initialiser name (filter needs_initialiser (new_statics [] xs)))) (first-functions fs)
-    ∙ ap (λ xs. of_parts [] fs xs (file_initialiser name (filter needs_initialiser xs))) (first-statics xs)
-    ∙ ap (λ l. of_parts [] fs xs (file_initialiser name l)) e
+first-is : (T : Tables) (fs : List Function) (xs : List Static) → filter needs_initialiser xs ≡ [] → first T [] fs xs ≡ of_parts T [] fs xs []
+first-is T fs xs e =
+    ap (λ fs. of_parts T [] fs (new_statics [] xs) (file_initialiser name (filter needs_initialiser (new_statics [] xs)))) (first-functions fs)
+    ∙ ap (λ xs. of_parts T [] fs xs (file_initialiser name (filter needs_initialiser xs))) (first-statics xs)
+    ∙ ap (λ l. of_parts T [] fs xs (file_initialiser name l)) e
 
 module _ (unit : Unit) (valid : IsValid unit) where
   abbrev T : Tables
@@ -244,7 +247,7 @@ module _ (unit : Unit) (valid : IsValid unit) where
 
   abbrev named : List Name → meaning.Program
   named names =
-      first (classes_in T unit.classes.defined) (map (function_in_file (name_in 1 names)) (map (whole.function_of T) unit.functions))
+      first T (classes_in T unit.classes.defined) (map (function_in_file (name_in 1 names)) (map (whole.function_of T) unit.functions))
       (map (static_in_file (name_in 1 names)) (map (whole.static_of T) unit.statics))
 
   alone-is : joining.program_of (file_of unit ∷ []) ≡ named (local_names (file_of unit))
@@ -260,11 +263,11 @@ module _ (unit : Unit) (valid : IsValid unit) where
       let fs = all-parts (function unit.types own) (tree.function_of T) F (function-is T valid.names own) unit.functions u.one u.is in
       let xs = all-parts (object unit.types own) (tree.static_of T) S (λ x g e. (object-is T valid.names own x g e).0) unit.statics v.one v.is in
       ap (tree.program_of T) (sym v.value)
-      ∙ ap (λ l. of_parts [] l (map (tree.static_of T) v.one) []) fs ∙ ap (λ l. of_parts [] (map F unit.functions) l []) xs
-      ∙ sym (first-is (map F unit.functions) (map S unit.statics) (all-alone T valid.names own unit.statics v.one v.is))
-      ∙ ap (λ l. first [] l (map S unit.statics)) (map-map (whole.function_of T) (function_in_file (name_in 1 own)) unit.functions)
-      ∙ ap (λ l. first [] (map (function_in_file (name_in 1 own)) (map (whole.function_of T) unit.functions)) l) (map-map (whole.static_of T) (static_in_file (name_in 1 own)) unit.statics)
-      ∙ ap (λ ds. first (classes_in T ds) (map (function_in_file (name_in 1 own)) (map (whole.function_of T) unit.functions))
+      ∙ ap (λ l. of_parts T [] l (map (tree.static_of T) v.one) []) fs ∙ ap (λ l. of_parts T [] (map F unit.functions) l []) xs
+      ∙ sym (first-is T (map F unit.functions) (map S unit.statics) (all-alone T valid.names own unit.statics v.one v.is))
+      ∙ ap (λ l. first T [] l (map S unit.statics)) (map-map (whole.function_of T) (function_in_file (name_in 1 own)) unit.functions)
+      ∙ ap (λ l. first T [] (map (function_in_file (name_in 1 own)) (map (whole.function_of T) unit.functions)) l) (map-map (whole.static_of T) (static_in_file (name_in 1 own)) unit.statics)
+      ∙ ap (λ ds. first T (classes_in T ds) (map (function_in_file (name_in 1 own)) (map (whole.function_of T) unit.functions))
       (map (static_in_file (name_in 1 own)) (map (whole.static_of T) unit.statics))) (sym (no-class unit.classes.defined none))
       ∙ ap named (sym (names-are unit)) ∙ sym alone-is
 

@@ -40,6 +40,10 @@ plain_head (role.Member c) s = None
 plain_head (role.Constructor c) s = None
 plain_head (role.Destructor c) s = None
 
+-- it has a constant initialiser, or is a local whose initialiser stands in its function (6.7, 8.4)
+abbrev pub starts_alone : CoreStatic → Bool
+starts_alone x = x.is_constant || is_some x.owner
+
 module _ (types : Table) (own : List Name) where
   abbrev pub function : CoreFn → Formed RunFn
   function f =
@@ -53,10 +57,6 @@ module _ (types : Table) (own : List Name) where
         is_shared = f.is_shared;
         is_local = f.is_local;
       }) (node_of types own f.body)))
-
-  -- it has a constant initialiser, or is a local whose initialiser stands in its function (6.7, 8.4)
-  abbrev pub starts_alone : CoreStatic → Bool
-  starts_alone x = x.is_constant || is_some x.owner
 
   abbrev pub object : CoreStatic → Formed RunStatic
   object x =
