@@ -92,11 +92,11 @@ each-type {B = B} f g h law (x ∷ xs) ys e = by (each-type f g h law xs) (f x) 
     by rest (Some b) p (Some bs) q e =
         ap (map g) (sym (same (b ∷ bs) ys e)) ∙ ap (λ c. c ∷ map g bs) (sym (law x b p)) ∙ ap (λ l. h x ∷ l) (rest bs q)
 
-head-plain : (tables : Tables) (w : Role) (o : Option Signature) (s : Signature) → plain_head w o ≡ Some s → (w ≡ role.Plain) × (o ≡ Some s)
-head-plain tables role.Plain o s e = (refl, e)
-head-plain tables (role.Member c) o s e = cc
-head-plain tables (role.Constructor c) o s e = cc
-head-plain tables (role.Destructor c) o s e = cc
+head-plain : (w : Role) (o : Option Signature) (s : Signature) → plain_head w o ≡ Some s → (w ≡ role.Plain) × (o ≡ Some s)
+head-plain role.Plain o s e = (refl, e)
+head-plain (role.Member c) o s e = cc
+head-plain (role.Constructor c) o s e = cc
+head-plain (role.Destructor c) o s e = cc
 
 module _ (tables : Tables) (ordered : IsOrdered tables.types) (own : List Name) where
   -- a function that goes by its name here, with these parts
