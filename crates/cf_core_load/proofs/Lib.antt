@@ -1,0 +1,4 @@
+pub mod FileLaws
+pub mod Knowing
+pub mod Loading
+pub mod Passing

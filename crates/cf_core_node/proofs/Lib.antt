@@ -1,0 +1,5 @@
+pub mod Known
+pub mod Loops
+pub mod NameLaws
+pub mod NodeLaws
+mod NodeRows

@@ -1,0 +1,4 @@
+pub mod Formed
+pub mod Gives
+pub mod Known
+pub mod Nodes
