@@ -3,8 +3,8 @@
 use crate::machine::drive;
 use crate::types::End;
 use cf_base::{Boxed, Items, Kind, MemSink, MemSource, Memory, Name};
-use cf_core_run::Limits;
 use cf_core_objects::Integer;
+use cf_core_run::Limits;
 use cf_run_tree::{Form, Node, Program, RunFn, Shape, Signature};
 use std::alloc::Global;
 use std::process::Abort;

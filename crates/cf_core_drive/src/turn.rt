@@ -8,8 +8,8 @@ ghost use Rattle.cf_core_drive.specs.Going.{Answers, Turns, Carries, run_end, gi
 
 use crate::types::{End, Fault, Tally};
 use cf_base::{Failed, Sink, Source};
-use cf_core_run::{Doing, Event, Machine, RunEnd, Step};
 use cf_core_objects::{Stop, Value};
+use cf_core_run::{Doing, Event, Machine, RunEnd, Step};
 use cf_run_tree::Program;
 
 /// How a run ends where a step ends it.

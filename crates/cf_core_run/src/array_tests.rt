@@ -80,11 +80,7 @@ fn local(alloc: Global, ty: ObjectType, start: Node) -> Result<Node, Memory> {
 }
 
 /// `int main(){statements}` with one local of this type.
-fn main_of(
-    alloc: Global,
-    ty: ObjectType,
-    statements: Items<Node>,
-) -> Result<Items<RunFn>, Memory> {
+fn main_of(alloc: Global, ty: ObjectType, statements: Items<Node>) -> Result<Items<RunFn>, Memory> {
     let name = Name::from_slice(alloc, b"__main")?;
     let mut locals = Items::new(alloc);
     locals.push(ty)?;
@@ -236,7 +232,10 @@ fn called(alloc: Global) -> Result<Node, Memory> {
         params: Items::new(alloc),
         result: int(),
     };
-    given(alloc, Node::PointerCall(callee, signature, Items::new(alloc)))
+    given(
+        alloc,
+        Node::PointerCall(callee, signature, Items::new(alloc)),
+    )
 }
 
 /// `int(*p)()=0;return p();`

@@ -264,10 +264,13 @@ impl<'a> Machine<'a> {
     {
         self.stack
             .push(Mark::Value(self.fuel, ValueMark::Argument(left, object)))?;
-        self.doing = Doing::Evaluate(first, Some(Place {
-            object,
-            part: Part::Whole,
-        }));
+        self.doing = Doing::Evaluate(
+            first,
+            Some(Place {
+                object,
+                part: Part::Whole,
+            }),
+        );
         Ok(Step::On)
     }
 

@@ -212,7 +212,12 @@ impl<'a> Machine<'a> {
     }
 
     /// The condition of `?:` is there.
-    fn choice(&mut self, a: &'a Boxed<Node>, b: &'a Boxed<Node>, v: Value<'a>) -> Result<Step<'a>, Stop>
+    fn choice(
+        &mut self,
+        a: &'a Boxed<Node>,
+        b: &'a Boxed<Node>,
+        v: Value<'a>,
+    ) -> Result<Step<'a>, Stop>
         ensures { (p : Program) → Comes p (λ T o. from_value T p self.old (go_choice T p self.old.fuel a.now b.now (value_of v.entry)) o) result self.new }
     {
         match truth(v) {
@@ -268,7 +273,12 @@ impl<'a> Machine<'a> {
     }
 
     /// An argument of a call is there.
-    fn argument(&mut self, calling: Calling<'a>, object: usize, v: Value<'a>) -> Result<Step<'a>, Stop>
+    fn argument(
+        &mut self,
+        calling: Calling<'a>,
+        object: usize,
+        v: Value<'a>,
+    ) -> Result<Step<'a>, Stop>
         ensures { (p : Program) → Comes p (λ T o. from_value T p self.old (go_argument T p self.old.fuel calling.entry object (value_of v.entry)) o) result self.new }
     {
         match settle_object(&mut self.objects, object, v) {

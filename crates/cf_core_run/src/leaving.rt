@@ -257,7 +257,12 @@ impl<'a> Machine<'a> {
     }
 
     /// A function has ended, and the one that called it goes on.
-    fn go_back(&mut self, shape: Shape, entered: Entered<'a>, flow: Flow<'a>) -> Result<Step<'a>, Stop>
+    fn go_back(
+        &mut self,
+        shape: Shape,
+        entered: Entered<'a>,
+        flow: Flow<'a>,
+    ) -> Result<Step<'a>, Stop>
         ensures { (p : Program) → Comes p (λ T o. from_value T p self.old (go_back T p self.old.fuel shape entered.entry (flow_of flow.entry)) o) result self.new }
     {
         self.entered = entered;

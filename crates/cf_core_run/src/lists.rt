@@ -111,11 +111,7 @@ impl<'a> Machine<'a> {
     }
 
     /// The next element is initialised so, and then the others.
-    fn initialise_element(
-        &mut self,
-        e: &'a Node,
-        others: Listing<'a>,
-    ) -> Result<Step<'a>, Stop>
+    fn initialise_element(&mut self, e: &'a Node, others: Listing<'a>) -> Result<Step<'a>, Stop>
         ensures { (p : Program) → Comes p (λ T o. from_value T p self.old (listing_with T p self.old.fuel others.entry e.now) o) result self.new }
     {
         match element(others.array, others.index) {
@@ -163,11 +159,7 @@ impl<'a> Machine<'a> {
     }
 
     /// A char array is initialised by these bytes (8.4.2).
-    pub fn characters(
-        &mut self,
-        bytes: &'a [u8],
-        into: Option<Place>,
-    ) -> Result<Step<'a>, Stop>
+    pub fn characters(&mut self, bytes: &'a [u8], into: Option<Place>) -> Result<Step<'a>, Stop>
         ensures { (p : Program) → Comes p (λ T o. from_value T p self.old (valued T p self.old.fuel (cores.string bytes.now) (option_map place_of into)) o) result self.new }
     {
         match into {
@@ -187,12 +179,7 @@ impl<'a> Machine<'a> {
     }
 
     /// The char array has so many elements.
-    fn string_of(
-        &mut self,
-        bytes: &'a [u8],
-        array: Place,
-        count: usize,
-    ) -> Result<Step<'a>, Stop>
+    fn string_of(&mut self, bytes: &'a [u8], array: Place, count: usize) -> Result<Step<'a>, Stop>
         requires { (T : Tables) → HasElements (place_type [] (state_of T self.old.entered self.old.objects) (place_of array)) count }
         ensures { (p : Program) → Comes p (λ T o. from_value T p self.old (valued T p self.old.fuel (cores.string bytes.now) (Some (place_of array))) o) result self.new }
     {

@@ -135,10 +135,13 @@ impl<'a> Machine<'a> {
         ensures { (p : Program) → Comes p (λ T o. from_flow T p self.old (λ s w. full T p self.old.fuel (valued T p self.old.fuel (core_of T start.now) (Some (root object))) s w ▷ go_declared T p self.old.fuel object) o) result self.new }
     {
         self.open_whole(TestMark::Declared(object))?;
-        self.doing = Doing::Evaluate(start.get(), Some(Place {
-            object,
-            part: Part::Whole,
-        }));
+        self.doing = Doing::Evaluate(
+            start.get(),
+            Some(Place {
+                object,
+                part: Part::Whole,
+            }),
+        );
         Ok(Step::On)
     }
 

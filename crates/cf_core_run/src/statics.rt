@@ -233,10 +233,13 @@ impl<'a> Machine<'a> {
         ensures { (p : Program) → Comes p (λ T o. from_value T p self.old (λ s w. full T p self.old.fuel (valued T p self.old.fuel (core_of T start.now) (Some (root number))) s w ▷ go_constant T p self.old.fuel number rest.now) o) result self.new }
     {
         self.open_inner(ValueMark::Constant(number, rest))?;
-        self.doing = Doing::Evaluate(start, Some(Place {
-            object: number,
-            part: Part::Whole,
-        }));
+        self.doing = Doing::Evaluate(
+            start,
+            Some(Place {
+                object: number,
+                part: Part::Whole,
+            }),
+        );
         Ok(Step::On)
     }
 

@@ -23,11 +23,7 @@ use std::alloc::AllocError;
 use std::mem::replace;
 
 /// An initialiser has given a value for an object.
-pub fn settle_object<'a>(
-    objects: &mut Objects<'a>,
-    object: usize,
-    v: Value<'a>,
-) -> Result<(), Stop>
+pub fn settle_object<'a>(objects: &mut Objects<'a>, object: usize, v: Value<'a>) -> Result<(), Stop>
     ensures { (T : Tables) (e : Entered) (w : World) → Told (λ u. tt) result (state_of T e objects.new) w (meaning.settle [] (root object) (value_of v.entry) (state_of T e objects.old) w) }
 {
     let place = Place {
@@ -90,10 +86,13 @@ impl<'a> Machine<'a> {
     {
         self.stack
             .push(Mark::Value(self.fuel, ValueMark::Temporary(object)))?;
-        self.doing = Doing::Evaluate(start.get(), Some(Place {
-            object,
-            part: Part::Whole,
-        }));
+        self.doing = Doing::Evaluate(
+            start.get(),
+            Some(Place {
+                object,
+                part: Part::Whole,
+            }),
+        );
         Ok(Step::On)
     }
 
@@ -135,10 +134,13 @@ impl<'a> Machine<'a> {
     {
         self.stack
             .push(Mark::Value(self.fuel, ValueMark::Held(object)))?;
-        self.doing = Doing::Evaluate(start.get(), Some(Place {
-            object,
-            part: Part::Whole,
-        }));
+        self.doing = Doing::Evaluate(
+            start.get(),
+            Some(Place {
+                object,
+                part: Part::Whole,
+            }),
+        );
         Ok(Step::On)
     }
 
