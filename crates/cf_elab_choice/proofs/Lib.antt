@@ -1,0 +1,5 @@
+pub mod AskedLaws
+pub mod Chosen
+pub mod ClassFree
+pub mod Sequences
+pub mod Steps
