@@ -8,9 +8,7 @@ ghost use Rattle.cc_whole_print.specs.Statements.{alone_text, assignment_text, b
 use crate::expression::{arguments, in_brackets, place, whole};
 use crate::lines::{put, put_constant, put_spaced};
 use crate::types::{local, signature};
-use cc_whole::{
-    CBody, CCallee, CConstant, CExpression, CLocal, CPlace, CStatement, CSwitchItem,
-};
+use cc_whole::{CBody, CCallee, CConstant, CExpression, CLocal, CPlace, CStatement, CSwitchItem};
 use cc_whole_tokens::Mark;
 use cf_base::{Boxed, Items, Memory};
 

@@ -177,7 +177,7 @@ printed_made_body : (locals : List CLocal) (all : List ((s : CStatement) × IsPr
 printed_made_body locals all good =
     let statements = map (λ s. s.0) all in
     let parts = and_parts (list_all written_local locals) (written_statements (in_order (map statement_of statements)))
-        (ap written_body (sym (of-made locals statements)) ∙ good) in
+    (ap written_body (sym (of-made locals statements)) ∙ good) in
     let variables = printed_locals locals parts.0 in
     let inner = printed_statements all parts.1 in
     text_of_same _ _ (text-made locals statements) (record {

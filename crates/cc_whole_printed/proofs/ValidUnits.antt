@@ -90,7 +90,7 @@ defined_variable_good v names defined spell good h =
     let typed = variable_good names defined true v.ty v.name v.initialiser (before_first (checked_variable names defined true v.ty v.name v.initialiser) _ tt rest) in
     let all_names = named_by (defines_variable v) ∷ names in
     let start = moved_is (variable_marks v.ty) (checked_start v.ty all_names v.initialiser) tt
-        (before_next (checked_variable names defined true v.ty v.name v.initialiser) _ tt rest) in
+    (before_next (checked_variable names defined true v.ty v.name v.initialiser) _ tt rest) in
     and_from (is_name v.name) (written_type v.ty && (spellable_start v.initialiser && written_pairs v.initialiser)) spells.0
     (and_from (written_type v.ty) (spellable_start v.initialiser && written_pairs v.initialiser) typed
     (and_from (spellable_start v.initialiser) (written_pairs v.initialiser) spells.1
