@@ -1,0 +1,3 @@
+pub mod ArgumentLaws
+pub mod Counting
+pub mod LoopLaws

@@ -1,0 +1,186 @@
+-- What is written for the values of expressions, node by node: the locals that a node adds to its function, and how what is written goes on.
+use Rattle.std.specs.Prelude.{ℕ, suc, ◌+◌, Bool, true, false, List, [], ◌∷◌, ◌++◌, length, pos, Option, Some, None, slice_get}
+use Rattle.cf_types.specs.Table.{Table}
+use Rattle.cf_core.specs.declared.node.Core.{Core as Node, fold-Core}
+use Rattle.cf_core.specs.declared.node.Core.TheOpen.{Core-F}
+use Rattle.cf_core.specs.declared.node.PartStart.{PartStart, PartStart-F, fold-PartStart}
+use Rattle.cf_core.specs.declared.node.Change.{Change}
+use Rattle.cf_core.specs.declared.node.Holder.{Holder}
+use Rattle.cf_core.specs.declared.node.Holder.TheVariants as holder
+use Rattle.cf_plain.specs.declared.action.Action.TheVariants as action
+use Rattle.cf_sequence_expr.specs.declared.writing.Writing.{Writing}
+use Rattle.cf_sequence_expr.specs.Parameters.{parameters_at, counted}
+use Rattle.cf_sequence_expr.specs.Writes.{set, act, used, within, passed}
+
+pub record Piece : Type 0 where
+  -- the types of the locals that it adds, behind those so far
+  pub locals : List ℕ → List ℕ
+  -- its value comes into a register
+  pub value : ℕ → Writing → Writing
+
+-- Locals.
+
+abbrev pub in_two : Piece → Piece → List ℕ → List ℕ
+in_two a b l = b.locals (a.locals l)
+
+abbrev pub in_three : Piece → Piece → Piece → List ℕ → List ℕ
+in_three a b c l = c.locals (b.locals (a.locals l))
+
+abbrev pub in_all : List Piece → List ℕ → List ℕ
+in_all [] l = l
+in_all (e ∷ es) l = in_all es (e.locals l)
+
+abbrev pub in_maybe : Option Piece → List ℕ → List ℕ
+in_maybe None l = l
+in_maybe (Some e) l = e.locals l
+
+-- Values.
+
+-- what is written for nothing, or for what is no value
+abbrev pub silent : ℕ → Writing → Writing
+silent n w = w
+
+-- a first operand
+unfoldable pub left : Piece → ℕ → Writing → Writing
+left e n w = used n (e.value n w)
+
+-- two operands, in this register and the next
+abbrev pub two : Piece → Piece → ℕ → Writing → Writing
+two a b n w = b.value (suc n) (left a n w)
+
+-- the value as 1 or 0
+unfoldable pub truth : Piece → ℕ → Writing → Writing
+truth e n w = set n (action.Truth n) (e.value n w)
+
+abbrev pub all_values : List Piece → ℕ → Writing → Writing
+all_values [] n w = w
+all_values (e ∷ es) n w = all_values es n (e.value n w)
+
+-- `op=`: the new value is made of the old one behind the right side (5.17)
+unfoldable pub updated : Change → ℕ → Writing → Writing
+updated change n w =
+    act (action.Store n (suc n)) (set (suc n) (action.Changed change (suc (suc n)) (suc n)) (set (suc (suc n)) (action.Read n) (used (suc n) w)))
+
+-- `++` and `--` of the place in this register; the place stays
+unfoldable pub stepped : Change → ℕ → Writing → Writing
+stepped change n w =
+    act (action.Store n (suc n))
+    (set (suc n) (action.Changed change (suc n) (suc (suc n)))
+    (set (suc (suc n)) (action.Number (pos 1))
+    (set (suc n) (action.Read n) w)))
+
+-- those behind an operand, whose place is in the next register; the value before stays (5.2.5)
+unfoldable pub stepped_behind : Change → ℕ → Writing → Writing
+stepped_behind change n w =
+    act (action.Store (suc n) (suc (suc n)))
+    (set (suc (suc n)) (action.Changed change n (suc (suc n)))
+    (set (suc (suc n)) (action.Number (pos 1))
+    (set n (action.Read (suc n)) w)))
+
+-- A parameter's object is there before its argument is evaluated (5.2.2). An argument without a parameter is left out.
+unfoldable pub argument : Option ℕ → Piece → ℕ → ℕ → Writing → Writing
+argument None e n i w = passed (length (e.locals [])) w
+argument (Some t) e n i w = act (action.First n (suc n)) (e.value (suc n) (set n (action.Declare i t) w))
+
+-- the arguments from number j on, for parameters that are the locals from k
+abbrev pub arguments : List ℕ → ℕ → List Piece → ℕ → ℕ → Writing → Writing
+arguments ts j [] n k w = w
+arguments ts j (e ∷ es) n k w = arguments ts (suc j) es n k (argument (slice_get ts j) e n (k + j) w)
+
+-- a call by name
+unfoldable pub called : List ℕ → ℕ → List ℕ → List Piece → ℕ → Writing → Writing
+called name t ts es n w =
+    set n (action.Call name t None (counted w.next (length ts)) None)
+    (arguments ts 0 es n w.next (passed (length ts) (act (action.Function name t) w)))
+
+abbrev pub by_increment : Bool → Change → Piece → ℕ → Writing → Writing
+by_increment false change e n w = stepped change n (e.value n w)
+by_increment true change e n w = stepped_behind change n (e.value (suc n) w)
+
+abbrev pub by_holder : Holder → Piece → ℕ → Writing → Writing
+by_holder holder.NoTemporary e n w = e.value n w
+by_holder (holder.LocalTemporary i t) e n w = w
+by_holder (holder.StaticTemporary name) e n w = e.value n w
+
+abbrev pub by_call : List ℕ → ℕ → List ℕ → Option Piece → List Piece → ℕ → Writing → Writing
+by_call name t ts None es n w = called name t ts es n w
+by_call name t ts (Some object) es n w = w
+
+module _ (types : Table) where
+  abbrev pub piece_step : Core-F Piece Piece → Piece
+  piece_step (Core-F.Number at z) = record { locals = λ l. l; value = λ n. set n (action.Number z) }
+  piece_step (Core-F.Text at j bytes) = record { locals = λ l. l; value = λ n. set n (action.Text j bytes) }
+  piece_step (Core-F.This at) = record { locals = λ l. l; value = silent }
+  piece_step (Core-F.Local at i) = record { locals = λ l. l; value = λ n. set n (action.Local i) }
+  piece_step (Core-F.Static at name t) = record { locals = λ l. l; value = λ n. set n (action.Static name t) }
+  piece_step (Core-F.Function at name t) = record { locals = λ l. l; value = silent }
+  piece_step (Core-F.Member at e i) = record { locals = e.locals; value = silent }
+  piece_step (Core-F.Read at e) = record { locals = e.locals; value = λ n w. set n (action.Read n) (e.value n w) }
+  piece_step (Core-F.Address at e) = record { locals = e.locals; value = λ n w. used n (e.value n w) }
+  piece_step (Core-F.Dereference at e) = record { locals = e.locals; value = λ n w. set n (action.Dereference n) (e.value n w) }
+  piece_step (Core-F.Decay at e) = record { locals = e.locals; value = λ n w. set n (action.Decay n) (e.value n w) }
+  piece_step (Core-F.Index at a b) = record { locals = in_two a b; value = λ n w. set n (action.Index n (suc n)) (two a b n w) }
+  piece_step (Core-F.Convert at t e) = record { locals = e.locals; value = λ n w. set n (action.Convert t n) (e.value n w) }
+  piece_step (Core-F.Up at path e) = record { locals = e.locals; value = silent }
+  piece_step (Core-F.Down at c path e) = record { locals = e.locals; value = silent }
+  piece_step (Core-F.FromVoid at t e) = record { locals = e.locals; value = λ n w. set n (action.FromVoid t n) (e.value n w) }
+  piece_step (Core-F.ToMember at path e) = record { locals = e.locals; value = silent }
+  piece_step (Core-F.DataPointer at i) = record { locals = λ l. l; value = silent }
+  piece_step (Core-F.FunctionPointer at t) = record { locals = λ l. l; value = silent }
+  piece_step (Core-F.Through at a b) = record { locals = in_two a b; value = silent }
+  piece_step (Core-F.Operate at op k a b) = record { locals = in_two a b; value = λ n w. set n (action.Operate op k n (suc n)) (two a b n w) }
+  piece_step (Core-F.Unary at op k e) = record { locals = e.locals; value = λ n w. set n (action.Unary op k n) (e.value n w) }
+  piece_step (Core-F.Not at e) = record { locals = e.locals; value = λ n w. set n (action.Not n) (e.value n w) }
+  piece_step (Core-F.And at a b) = record { locals = in_two a b; value = λ n w. within n (truth b n) (λ w. w) (truth a n w) }
+  piece_step (Core-F.Or at a b) = record { locals = in_two a b; value = λ n w. within n (λ w. w) (truth b n) (truth a n w) }
+  piece_step (Core-F.PointerOperate at op a b) =
+      record { locals = in_two a b; value = λ n w. set n (action.PointerOperate op n (suc n)) (two a b n w) }
+  piece_step (Core-F.Conditional at c a b) =
+      record { locals = in_three c a b; value = λ n w. within n (a.value n) (b.value n) (truth c n w) }
+  piece_step (Core-F.Comma at es) = record { locals = in_all es; value = all_values es }
+  piece_step (Core-F.Store at a b) = record { locals = in_two a b; value = λ n w. act (action.Store n (suc n)) (two a b n w) }
+  piece_step (Core-F.Update at a change b) = record { locals = in_two a b; value = λ n w. updated change n (two a b n w) }
+  piece_step (Core-F.Increment at is_postfix change e) = record { locals = e.locals; value = by_increment is_postfix change e }
+  piece_step (Core-F.Assign at t a b es) = record { locals = λ l. in_all es (in_two a b l); value = silent }
+  piece_step (Core-F.Temporary at t e) = record { locals = λ l. e.locals (l ++ t ∷ []); value = silent }
+  piece_step (Core-F.Call at name t object es) =
+      let ts = parameters_at types t in
+      record { locals = λ l. in_all es (in_maybe object (l ++ ts)); value = by_call name t ts object es }
+  piece_step (Core-F.VirtualCall at m t e es) = record { locals = λ l. in_all es (e.locals (l ++ parameters_at types t)); value = silent }
+  piece_step (Core-F.PointerCall at object e t es) =
+      record { locals = λ l. in_all es (e.locals (in_maybe object (l ++ parameters_at types t))); value = silent }
+  piece_step (Core-F.New at t e) = record { locals = e.locals; value = silent }
+  piece_step (Core-F.NewArray at t a b) = record { locals = in_two a b; value = silent }
+  piece_step (Core-F.Delete at t e) = record { locals = e.locals; value = silent }
+  piece_step (Core-F.DeleteArray at t e) = record { locals = e.locals; value = silent }
+  piece_step (Core-F.Build at name t es) = record { locals = λ l. in_all es (l ++ parameters_at types t); value = silent }
+  piece_step (Core-F.Copy at t e es) = record { locals = λ l. in_all es (e.locals l); value = silent }
+  piece_step (Core-F.Each at e) = record { locals = e.locals; value = silent }
+  piece_step (Core-F.List at es rest) = record { locals = λ l. rest.locals (in_all es l); value = silent }
+  piece_step (Core-F.Characters at bytes) = record { locals = λ l. l; value = silent }
+  piece_step (Core-F.Bind at h e) = record { locals = e.locals; value = by_holder h e }
+  piece_step (Core-F.Zeros at) = record { locals = λ l. l; value = silent }
+  piece_step (Core-F.Blank at) = record { locals = λ l. l; value = silent }
+  piece_step (Core-F.Full at e) = record { locals = e.locals; value = silent }
+  piece_step (Core-F.Block at es) = record { locals = in_all es; value = silent }
+  piece_step (Core-F.Sequence at es) = record { locals = in_all es; value = silent }
+  piece_step (Core-F.Declare at i t e) = record { locals = e.locals; value = silent }
+  piece_step (Core-F.Once at name e) = record { locals = e.locals; value = silent }
+  piece_step (Core-F.If at c a b) = record { locals = λ l. in_maybe b (in_two c a l); value = silent }
+  piece_step (Core-F.Loop at f c e s) = record { locals = λ l. s.locals (in_maybe e (in_maybe c l)); value = silent }
+  piece_step (Core-F.Switch at e es) = record { locals = λ l. in_all es (e.locals l); value = silent }
+  piece_step (Core-F.Case at z) = record { locals = λ l. l; value = silent }
+  piece_step (Core-F.Default at) = record { locals = λ l. l; value = silent }
+  piece_step (Core-F.Break at) = record { locals = λ l. l; value = silent }
+  piece_step (Core-F.Continue at) = record { locals = λ l. l; value = silent }
+  piece_step (Core-F.Return at e) = record { locals = in_maybe e; value = silent }
+  piece_step (Core-F.Parts at ps s) = record { locals = λ l. s.locals (in_all ps l); value = silent }
+
+  abbrev pub part_step : PartStart-F Piece Piece → Piece
+  part_step x = x.start
+
+  abbrev pub piece : Node → Piece
+  piece = fold-Core Piece Piece piece_step part_step
+
+  abbrev pub part_piece : PartStart → Piece
+  part_piece = fold-PartStart Piece Piece piece_step part_step

@@ -1,0 +1,17 @@
+//! Sequencing of expressions: the value of each comes into a register, by plain statements of one effect each.
+//!
+//! `specs/Pieces` has what is written for each node. A function goes on from what is written so far.
+#![tactic(auto)]
+
+mod changes;
+mod function_types;
+mod locals;
+#[cfg(test)]
+mod tests;
+mod values;
+mod writing;
+
+pub use function_types::parameters;
+pub use locals::{add_locals, width};
+pub use values::value;
+pub use writing::{Writing, behind, beyond, copied};

@@ -1,0 +1,85 @@
+-- How what is written of a function's body goes on: its statements, and the locals of the scopes that are open.
+use Rattle.std.specs.Prelude.{ℕ, suc, ◌+◌, Bool, true, false, List, [], ◌∷◌, ◌++◌, length, take, drop, Option, Some, None}
+use Rattle.cf_plain.specs.declared.action.Action.TheVariants as action
+use Rattle.cf_plain.specs.declared.statement.Plain.{Plain}
+use Rattle.cf_plain.specs.declared.statement.Plain.TheVariants as plain
+use Rattle.cf_sequence_expr.specs.declared.writing.Writing.{Writing}
+use Rattle.cf_sequence_expr.specs.Writes.{put, set, act, used, emptied, branched}
+use Rattle.cf_sequence_expr.specs.Pieces.{Piece, truth}
+use Rattle.cf_sequence_stmt.specs.declared.body.Body.{Body}
+use Rattle.cf_sequence_stmt.specs.declared.body.Open.{Open}
+
+-- statements of an expression
+abbrev pub on : (Writing → Writing) → Body → Body
+on f b = record b { writing = f b.writing }
+
+-- the register behind those of the flags of a full expression that begins at this one
+abbrev pub behind_flags : ℕ → Piece → ℕ
+behind_flags n p = n + length (p.locals [])
+
+-- Scopes.
+
+-- a local is there
+unfoldable pub opened : ℕ → ℕ → Body → Body
+opened i t b = record b { scope = b.scope ++ record { number = i; ty = t } ∷ [] }
+
+-- locals end, the newest first (6.6)
+abbrev pub ended : List Open → Writing → Writing
+ended [] w = w
+ended (x ∷ xs) w = act (action.Finish x.ty x.number) (ended xs w)
+
+-- those that are open behind so many end, and stay open in what follows
+unfoldable pub left_to : ℕ → Body → Body
+left_to mark b = on (ended (drop mark b.scope)) b
+
+-- they end with their scope
+unfoldable pub closed_to : ℕ → Body → Body
+closed_to mark b = let c = left_to mark b in record c { scope = take mark c.scope }
+
+-- Expressions.
+
+-- an expression by itself (6.2)
+unfoldable pub full : Piece → Body → Body
+full p b = on (p.value (behind_flags 0 p)) b
+
+-- the value of an expression that is used
+unfoldable pub given : Piece → Body → Body
+given p b = on (λ w. used (behind_flags 0 p) (p.value (behind_flags 0 p) w)) b
+
+-- a condition, as 1 or 0
+unfoldable pub tested : Piece → Body → Body
+tested p b = on (truth p (behind_flags 0 p)) b
+
+-- the initialiser of the place in register 0
+unfoldable pub started : Bool → Piece → Writing → Writing
+started true p w = p.value (behind_flags 1 p) w
+started false p w = act (action.First 0 (behind_flags 1 p)) (p.value (behind_flags 1 p) w)
+
+-- a local with its initialiser (6.7)
+unfoldable pub declared : ℕ → ℕ → Bool → Piece → Body → Body
+declared i t is_blank p b = opened i t (on (λ w. started is_blank p (set 0 (action.Declare i t) w)) b)
+
+-- Statements.
+
+unfoldable pub stated : Plain → Body → Body
+stated s b = on (put s) b
+
+-- what is written next begins a list of its own
+unfoldable pub begun : Body → Body
+begun b = on emptied b
+
+-- a branch behind these statements
+unfoldable pub chosen : ℕ → List Plain → List Plain → Body → Body
+chosen n before first b = on (branched n before first) b
+
+-- a loop behind these statements: its body was written last
+unfoldable pub turned : List Plain → List Plain → Body → Body
+turned before next b = on (λ w. record w { code = before ++ plain.Loop w.code next ∷ [] }) b
+
+-- a switch behind these statements: its body was written last
+unfoldable pub switched : ℕ → List Plain → Body → Body
+switched n before b = on (λ w. record w { code = before ++ plain.Switch n w.code ∷ [] }) b
+
+-- these statements stand for those that were written last
+unfoldable pub with_code : List Plain → Body → Body
+with_code code b = on (λ w. record w { code = code }) b

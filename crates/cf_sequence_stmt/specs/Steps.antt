@@ -1,0 +1,123 @@
+-- What is written for statements, node by node.
+use Rattle.std.specs.Prelude.{ℕ, suc, Bool, true, false, List, [], ◌∷◌, length, Option, Some, None}
+use Rattle.cf_types.specs.Table.{Table}
+use Rattle.cf_core.specs.declared.operators.LoopForm.{LoopForm}
+use Rattle.cf_core.specs.declared.operators.LoopForm.TheVariants as form
+use Rattle.cf_core.specs.declared.node.Core.{Core as Node, fold-Core}
+use Rattle.cf_core.specs.declared.node.Core.TheOpen.{Core-F}
+use Rattle.cf_core.specs.declared.node.Core.TheFolds.{map-Core}
+use Rattle.cf_core.specs.declared.node.PartStart.{PartStart-F}
+use Rattle.cf_plain.specs.declared.statement.Plain.{Plain}
+use Rattle.cf_plain.specs.declared.statement.Plain.TheVariants as plain
+use Rattle.cf_sequence_expr.specs.Pieces.{Piece, piece_step}
+use Rattle.cf_sequence_stmt.specs.declared.body.Body.{Body}
+use Rattle.cf_sequence_stmt.specs.declared.body.Ways.{Ways}
+use Rattle.cf_sequence_stmt.specs.Bodies.{behind_flags, left_to, closed_to, full, given, tested, declared, stated, begun, chosen, turned, switched, with_code}
+
+pub record Step : Type 0 where
+  pub piece : Piece  -- as an expression
+  pub is_blank : Bool
+  -- as a statement, where `break` and `continue` leave the locals behind so many
+  pub act : Ways → Body → Body
+
+-- the statements in order
+abbrev pub in_order : List Step → Ways → Body → Body
+in_order [] ways b = b
+in_order (s ∷ ss) ways b = in_order ss ways (s.act ways b)
+
+abbrev pub or_nothing : Option Step → Ways → Body → Body
+or_nothing None ways b = b
+or_nothing (Some s) ways b = s.act ways b
+
+-- statements in a scope of their own (6.3)
+abbrev pub block : List Step → Ways → Body → Body
+block ss ways b = closed_to (length b.scope) (in_order ss ways b)
+
+-- where `break` and `continue` leave what is declared from here on
+abbrev pub inside_loop : Body → Ways
+inside_loop b = record { breaks = length b.scope; continues = length b.scope }
+
+abbrev pub inside_switch : Ways → Body → Ways
+inside_switch ways b = record { breaks = length b.scope; continues = ways.continues }
+
+-- a loop is left where its condition doesn't hold
+abbrev pub held : Option Step → Body → Body
+held None b = b
+held (Some c) b = let t = tested c.piece b in stated (plain.If (behind_flags 0 c.piece) [] (plain.Break ∷ [])) t
+
+abbrev pub stepped : Option Step → Body → Body
+stepped None b = b
+stepped (Some e) b = full e.piece b
+
+-- the body of a turn, in a scope of its own
+abbrev pub turn : Step → Body → Body
+turn s b = closed_to (length b.scope) (s.act (inside_loop b) b)
+
+-- by the form of the loop: the condition comes first, or before each further turn (6.5)
+abbrev pub repeated : LoopForm → List Plain → List Plain → List Plain → Step → Body → Body
+repeated form.While before test next s b = turned before next (turn s (with_code test b))
+repeated form.For before test next s b = turned before next (turn s (with_code test b))
+repeated form.Do before test next s b = turned before test (turn s b)
+
+abbrev pub loop : LoopForm → Option Step → Option Step → Step → Body → Body
+loop how c e s b =
+    let first = held c (begun b) in
+    let second = stepped e (begun first) in
+    repeated how b.writing.code first.writing.code second.writing.code s (begun second)
+
+-- the statements of a switch, in a scope of their own
+abbrev pub cases : List Step → Ways → Body → Body
+cases ss ways b = closed_to (length b.scope) (in_order ss (inside_switch ways b) b)
+
+abbrev pub selection : Step → List Step → Ways → Body → Body
+selection e ss ways b =
+    let v = given e.piece b in
+    switched (behind_flags 0 e.piece) v.writing.code (cases ss ways (begun v))
+
+abbrev pub choice : Step → Step → Option Step → Ways → Body → Body
+choice c a b ways body =
+    let t = tested c.piece body in
+    let first = a.act ways (begun t) in
+    chosen (behind_flags 0 c.piece) t.writing.code first.writing.code (or_nothing b ways (begun first))
+
+-- all that is open ends before the function does (6.6.3)
+abbrev pub returned : Option Step → Body → Body
+returned None b = stated (plain.Return None) (left_to 0 b)
+returned (Some e) b = stated (plain.Return (Some (behind_flags 0 e.piece))) (left_to 0 (given e.piece b))
+
+-- no statement
+abbrev pub silent : Ways → Body → Body
+silent ways b = b
+
+abbrev pub act_step : Core-F Step Step → Ways → Body → Body
+act_step (Core-F.Full at e) ways b = full e.piece b
+act_step (Core-F.Block at ss) ways b = block ss ways b
+act_step (Core-F.Sequence at ss) ways b = in_order ss ways b
+act_step (Core-F.Declare at i t e) ways b = declared i t e.is_blank e.piece b
+act_step (Core-F.If at c a s) ways b = choice c a s ways b
+act_step (Core-F.Loop at how c e s) ways b = loop how c e s b
+act_step (Core-F.Switch at e ss) ways b = selection e ss ways b
+act_step (Core-F.Case at z) ways b = stated (plain.Case z) b
+act_step (Core-F.Default at) ways b = stated plain.Default b
+act_step (Core-F.Break at) ways b = stated plain.Break (left_to ways.breaks b)
+act_step (Core-F.Continue at) ways b = stated plain.Continue (left_to ways.continues b)
+act_step (Core-F.Return at e) ways b = returned e b
+act_step other ways b = b
+
+abbrev pub blank_step : Core-F Step Step → Bool
+blank_step (Core-F.Blank at) = true
+blank_step other = false
+
+module _ (types : Table) where
+  abbrev pub step_step : Core-F Step Step → Step
+  step_step x = record {
+    piece = piece_step types (map-Core _ _ _ _ Step.piece Step.piece x);
+    is_blank = blank_step x;
+    act = act_step x;
+  }
+
+  abbrev pub part_step : PartStart-F Step Step → Step
+  part_step x = x.start
+
+  abbrev pub step : Node → Step
+  step = fold-Core Step Step step_step part_step

@@ -1,0 +1,103 @@
+//! Full expressions and initialisers (12.2, 8.4).
+
+ghost use Rattle.std.specs.Prelude.{◌≡◌, true, IfOk, OnOk};
+ghost use Rattle.cf_core.specs.FromUnit.{tables_of};
+ghost use Rattle.cf_core.specs.Numbers.{are_known};
+ghost use Rattle.cf_sequence_stmt.specs.Bodies as spec;
+ghost use Rattle.cf_types.specs.Table.{Table};
+ghost use Rattle.cf_sequence_stmt.specs.Steps.{step};
+
+use crate::body::Body;
+use cf_base::Memory;
+use cf_core::{Core, CoreUnit};
+use cf_plain::Action;
+use cf_sequence_expr::{Writing, beyond, value, width};
+use cf_types::TyId;
+use std::alloc::Global;
+
+/// The register of the value of a full expression that begins at this one: flags stand before it.
+#[tactic(auto, using(crate::proofs::Pieces::same_piece))]
+fn base(alloc: Global, unit: &CoreUnit, e: &Core, n: u32) -> Result<u32, Memory>
+    requires { are_known (tables_of unit.now) e.now ≡ true }
+    ensures { IfOk result (λ m. m ≡ spec.behind_flags n (step unit.now.types e.now).piece) }
+{
+    let count = width(alloc, unit, e)?;
+    beyond(n, count)
+}
+
+/// Writes the value of an expression into a register.
+#[tactic(auto, using(crate::proofs::Pieces::same_piece))]
+fn evaluated(unit: &CoreUnit, e: &Core, n: u32, w: &mut Writing) -> Result<(), Memory>
+    requires { are_known (tables_of unit.now) e.now ≡ true }
+    ensures { OnOk result (w.new ≡ (step unit.now.types e.now).piece.value n w.old) }
+{
+    value(unit, e, n, w)
+}
+
+/// Writes an expression by itself (6.2).
+#[tactic(auto, unfolding(crate::specs::Bodies::full))]
+pub fn full(unit: &CoreUnit, e: &Core, b: &mut Body) -> Result<(), Memory>
+    requires { are_known (tables_of unit.now) e.now ≡ true }
+    ensures { OnOk result (b.new ≡ spec.full (step unit.now.types e.now).piece b.old) }
+{
+    let n = base(b.writing.alloc, unit, e, 0)?;
+    evaluated(unit, e, n, &mut b.writing)
+}
+
+/// Writes the value of an expression that is used, and gives its register.
+#[tactic(auto, unfolding(crate::specs::Bodies::given))]
+pub fn given(unit: &CoreUnit, e: &Core, b: &mut Body) -> Result<u32, Memory>
+    requires { are_known (tables_of unit.now) e.now ≡ true }
+    ensures written { OnOk result (b.new ≡ spec.given (step unit.now.types e.now).piece b.old) }
+    ensures register { IfOk result (λ n. n ≡ spec.behind_flags 0 (step unit.now.types e.now).piece) }
+{
+    let n = base(b.writing.alloc, unit, e, 0)?;
+    evaluated(unit, e, n, &mut b.writing)?;
+    b.writing.used(n)?;
+    Ok(n)
+}
+
+/// Writes a condition, and gives the register with 1 or 0.
+#[tactic(auto, unfolding(crate::specs::Bodies::tested, cf_sequence_expr::specs::Pieces::truth))]
+pub fn tested(unit: &CoreUnit, e: &Core, b: &mut Body) -> Result<u32, Memory>
+    requires { are_known (tables_of unit.now) e.now ≡ true }
+    ensures written { OnOk result (b.new ≡ spec.tested (step unit.now.types e.now).piece b.old) }
+    ensures register { IfOk result (λ n. n ≡ spec.behind_flags 0 (step unit.now.types e.now).piece) }
+{
+    let n = base(b.writing.alloc, unit, e, 0)?;
+    evaluated(unit, e, n, &mut b.writing)?;
+    b.writing.set(n, Action::Truth { operand: n })?;
+    Ok(n)
+}
+
+/// Whether an initialiser does nothing.
+fn is_blank(e: &Core) -> bool
+    ensures { (types : Table) → result ≡ (step types e.now).is_blank }
+{
+    matches!(e, Core::Blank { .. })
+}
+
+/// Writes the initialiser of the place in register 0.
+#[tactic(auto, unfolding(crate::specs::Bodies::started))]
+fn started(unit: &CoreUnit, e: &Core, w: &mut Writing) -> Result<(), Memory>
+    requires { are_known (tables_of unit.now) e.now ≡ true }
+    ensures { OnOk result (w.new ≡ spec.started (step unit.now.types e.now).is_blank (step unit.now.types e.now).piece w.old) }
+{
+    let n = base(w.alloc, unit, e, 1)?;
+    evaluated(unit, e, n, w)?;
+    if is_blank(e) {
+        return Ok(());
+    }
+    w.act(Action::First { place: 0, value: n })
+}
+
+/// Writes the declaration of a local, with its initialiser (6.7).
+#[tactic(auto, unfolding(crate::specs::Bodies::declared))]
+pub fn declared(unit: &CoreUnit, e: &Core, local: u32, ty: TyId, b: &mut Body) -> Result<(), Memory>
+    requires { are_known (tables_of unit.now) e.now ≡ true }
+    ensures { OnOk result (b.new ≡ spec.declared local ty (step unit.now.types e.now).is_blank (step unit.now.types e.now).piece b.old) }
+{
+    b.writing.set(0, Action::Declare { local, ty })?;
+    started(unit, e, &mut b.writing)?;
+    b.declare(local, ty)
+}

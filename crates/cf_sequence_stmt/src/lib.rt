@@ -1,0 +1,11 @@
+//! Sequencing of statements: the ends of objects on each way out of a scope, loops with their conditions inside, and switches.
+//!
+//! `specs/Steps` has what is written for each node. A function goes on from what is written so far.
+#![tactic(auto)]
+
+mod body;
+mod expressions;
+mod forms;
+
+pub use body::{Body, Open, Ways};
+pub use forms::{statement, statements};
