@@ -5,23 +5,17 @@
 //! does not grow with the depth of calls.
 #![tactic(auto)]
 
-#[cfg(test)]
-mod array_tests;
 mod calls;
 mod expressions;
 mod leaving;
 mod lists;
 mod machine;
 mod mark;
-#[cfg(test)]
-mod row_tests;
 mod state;
 mod statements;
 mod statics;
 mod switch;
 mod temporaries;
-#[cfg(test)]
-mod tests;
 
 pub use machine::{run, start};
 pub use mark::{Calling, Doing, Flow, FlowMark, Listing, Mark, Repeated, TestMark, ValueMark};
