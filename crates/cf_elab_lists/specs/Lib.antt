@@ -1,0 +1,5 @@
+pub mod Forms
+pub mod Fronts
+pub mod Known
+pub mod Seen
+pub mod Shut
