@@ -1,0 +1,212 @@
+-- What is written for a built statement is the definition's.
+use Rattle.std.proofs.Common.{◌≡◌, ℕ, Bool, true, false, not, ◌&&◌, List, [], ◌∷◌, map, length, Option, Some, None, option_map, refl, ap, sym, subst, ◌∙◌}
+use Rattle.std.specs.Prelude.{nat_le}
+use Rattle.cf_base.proofs.Tests.{both}
+use Rattle.cf_classes.specs.declared.class.MemberRef.{MemberRef}
+use Rattle.cf_core.specs.declared.node.Core.{Core as Node, fold-Core, roll-Core, ind-Core}
+use Rattle.cf_core.specs.declared.node.Core.TheOpen.{Core-F}
+use Rattle.cf_core.specs.declared.node.Core.TheFolds.{fold-roll-Core, map-Core}
+use Rattle.cf_core.specs.declared.node.PartStart.{PartStart, fold-PartStart}
+use Rattle.cf_core.specs.declared.operators.LoopForm.{LoopForm}
+use Rattle.cf_core.specs.Types.{Name, parameters}
+use Rattle.cf_core.specs.Core as core
+use Rattle.cf_core.specs.Core.{Core, Cores, MaybeCore, local_temporary, absent, given}
+use Rattle.cf_core.specs.Joined.{is_nothing}
+use Rattle.cf_core.specs.FromTypes.{Tables, type_of}
+use Rattle.cf_core.specs.View.{Started, core_step, started_step, core_of, listed}
+use Rattle.cf_plain.specs.declared.statement.Plain.TheVariants as code
+use Rattle.cf_plain.specs.Plain as plain
+use Rattle.cf_sequence.specs.Built.{is_value, is_start, is_condition, is_statement, is_inner_or, are_cases, declares_here}
+use Rattle.cf_sequence.specs.Made.{held_by}
+use Rattle.cf_sequence.specs.Expressions.{builds}
+use Rattle.cf_sequence.proofs.Calling.{never}
+use Rattle.cf_sequence.proofs.Fulls.{held-none}
+use Rattle.cf_sequence_expr.specs.Parameters.{parameters_at}
+use Rattle.cf_sequence_expr.specs.Pieces.{Piece, piece}
+use Rattle.cf_sequence_stmt.specs.Steps.{Step, step, step_step}
+use Rattle.cf_sequence_stmt.specs.Steps as steps
+use Rattle.cf_sequence_stmt.proofs.Pieces.{same_piece}
+use Rattle.cf_sequence_written.proofs.Views.{of-Case, of-Default}
+use Rattle.cf_sequence_written.proofs.Adding.{added-count}
+use Rattle.cf_sequence_written.proofs.Values.{Writes}
+use Rattle.cf_sequence_written.proofs.Evaluated.{written-start, gives-value, value-start}
+use Rattle.cf_sequence_written.proofs.Bodies.{goes-stated, goes-declares}
+use Rattle.cf_sequence_written.proofs.Wholes.{Whole, goes-full, goes-declared}
+use Rattle.cf_sequence_written.proofs.Statements.{Acts, ActsAll, ActsOr, IsStated, stated-statement, stated-all, acts-none, acts-more, acts-absent, acts-given, goes-block, goes-choice, goes-leave, goes-continue, goes-give, goes-given_back}
+use Rattle.cf_sequence_written.proofs.Loops.{Part, no_part, one_part, goes-loop, goes-switch}
+
+held-start : (e : Core) → is_start e ≡ true → held_by e ≡ []
+held-start core.blank ok = refl
+held-start e ok = held-none e ok
+
+nothing-builds : (e : Core) → is_start e ≡ true → is_nothing e ≡ builds e
+nothing-builds core.blank ok = refl
+nothing-builds e ok = sym (gives-value e ok)
+
+module _ (tables : Tables) (signature : MemberRef → Name) (params : (t : ℕ) → map (type_of tables) (parameters_at tables.types t) ≡ parameters (type_of tables t)) where
+  pub record Stated (s : Step) (c : Core) : Type 0 where
+    pub blank : s.is_blank ≡ is_nothing c
+    pub acts : Acts tables signature s c
+
+  abbrev of_node : Node → Core
+  of_node = core_of tables signature
+
+  abbrev IsWritten : Node → Type 0
+  IsWritten n = Stated (step tables.types n) (of_node n)
+
+  abbrev Child : Type 0
+  Child = (n : Node) × IsWritten n
+
+  abbrev PartChild : Type 0
+  PartChild = (p : PartStart) × Unit {0}
+
+  abbrev node_of : Child → Node
+  node_of c = c.0
+
+  abbrev part_of : PartChild → PartStart
+  part_of c = c.0
+
+  abbrev started_of : PartStart → Started
+  started_of = fold-PartStart Core Started (core_step tables signature) (started_step tables signature)
+
+  abbrev part_step_of : PartStart → Step
+  part_step_of = fold-PartStart Step Step (step_step tables.types) (steps.part_step tables.types)
+
+  abbrev of : Child → Core
+  of c = of_node c.0
+
+  abbrev step_of : Child → Step
+  step_of c = step tables.types c.0
+
+  abbrev shape : Core-F Child PartChild → Core-F Node PartStart
+  shape y = map-Core _ _ _ _ node_of part_of y
+
+  abbrev steps_of : List Child → List Step
+  steps_of es = map (step tables.types) (map node_of es)
+
+  abbrev cores_of : List Child → Cores
+  cores_of es = listed (map of_node (map node_of es))
+
+  -- an expression of a statement, or an initialiser
+  operand : (e : Child) → is_start (of e) ≡ true → Whole tables signature (step_of e).piece (of e)
+  operand e ok = record {
+    writes = λ classes.
+        subst (λ p. Writes tables signature classes p (of e)) (sym (same_piece tables.types e.0)) (written-start tables signature classes params e.0 ok);
+    count = ap (λ (p : Piece). length (p.locals [])) (same_piece tables.types e.0) ∙ added-count tables signature params e.0;
+    start = ok;
+  }
+
+  operand_value : (e : Child) → is_value (of e) ≡ true → Whole tables signature (step_of e).piece (of e)
+  operand_value e ok = operand e (value-start (of e) ok)
+
+  row : (es : List Child) → ActsAll tables signature (steps_of es) (cores_of es)
+  row [] = acts-none tables signature
+  row (e ∷ es) = acts-more tables signature e.1.acts (row es)
+
+  loop-layer : (how : LoopForm) (o p : Option Step) (s : Child) (c e : MaybeCore) → Part tables signature o c → Part tables signature p e
+      → (m : ℕ) → is_statement m (of s) ≡ true → (at : ℕ) → Acts tables signature (step_step tables.types (Core-F.Loop at how o p (step_of s))) (core.loop how c e (of s))
+  loop-layer how o p s c e to ep m ok at = record {
+    acts = λ all f ways b there. goes-loop tables signature o p (step_of s) c e (of s) to ep s.1.acts (stated-statement m (of s) ok) f ways b there how;
+  }
+
+  either_part : (c : Child) → is_value (of c) ≡ true → Part tables signature (Some (step_of c)) (given (of c))
+  either_part c ok = one_part (step_of c) (of c) (operand_value c ok)
+
+  abbrev IsLayer : Core-F Node PartStart → Type 0
+  IsLayer x =
+      Stated (step_step tables.types (map-Core _ _ _ _ (step tables.types) part_step_of x)) (core_step tables signature (map-Core _ _ _ _ of_node started_of x))
+
+  layer : (y : Core-F Child PartChild) → IsLayer (shape y)
+  layer (Core-F.Full at e) = record { blank = refl; acts = record { acts = λ ok f ways b there. goes-full tables signature f b (operand e ok.stated) } }
+  layer (Core-F.Block at es) = record {
+    blank = refl;
+    acts = record { acts = λ ok f ways b there. goes-block tables signature (row es) (stated-all ok.below (cores_of es) ok.stated) f ways b there };
+  }
+  layer (Core-F.Sequence at es) = record {
+    blank = refl;
+    acts = record { acts = λ ok f ways b there. ActsAll.acts (row es) (stated-all ok.below (cores_of es) ok.stated) f ways b there };
+  }
+  layer (Core-F.Declare at i t e) = record {
+    blank = refl;
+    acts = record {
+      acts = λ ok f ways b there.
+          let good = (both (nat_le ok.below i) (is_start (of e)) ok.stated).1 in
+          goes-declares tables signature
+          (goes-declared tables signature f b i t (step_of e).is_blank (e.1.blank ∙ nothing-builds (of e) good) (operand e good))
+          (ap (λ ls. record { number = i; type = type_of tables t } ∷ ls) (sym (held-start (of e) good)));
+    };
+  }
+  layer (Core-F.If at q a None) = record {
+    blank = refl;
+    acts = record {
+      acts = λ ok f ways b there.
+          let parts = both (is_value (of q)) ((not (declares_here (of a)) && is_statement ok.below (of a)) && is_inner_or ok.below absent) ok.stated in
+          let sides = both (not (declares_here (of a)) && is_statement ok.below (of a)) (is_inner_or ok.below absent) parts.1 in
+          goes-choice tables signature (step_of q) (operand_value q parts.0) a.1.acts (acts-absent tables signature) ok.below sides.0 sides.1 f ways b there;
+    };
+  }
+  layer (Core-F.If at q a (Some o)) = record {
+    blank = refl;
+    acts = record {
+      acts = λ ok f ways b there.
+          let parts = both (is_value (of q)) ((not (declares_here (of a)) && is_statement ok.below (of a)) && is_inner_or ok.below (given (of o))) ok.stated in
+          let sides = both (not (declares_here (of a)) && is_statement ok.below (of a)) (is_inner_or ok.below (given (of o))) parts.1 in
+          goes-choice tables signature (step_of q) (operand_value q parts.0) a.1.acts (acts-given tables signature o.1.acts) ok.below sides.0 sides.1 f ways b there;
+    };
+  }
+  layer (Core-F.Loop at how None None s) = record {
+    blank = refl;
+    acts = record { acts = λ ok. Acts.acts (loop-layer how None None s absent absent no_part no_part ok.below ok.stated at) ok };
+  }
+  layer (Core-F.Loop at how None (Some e) s) = record {
+    blank = refl;
+    acts = record {
+      acts = λ ok.
+          let parts = both (is_value (of e)) (is_statement ok.below (of s)) ok.stated in
+          Acts.acts (loop-layer how None (Some (step_of e)) s absent (given (of e)) no_part (either_part e parts.0) ok.below parts.1 at) ok;
+    };
+  }
+  layer (Core-F.Loop at how (Some q) None s) = record {
+    blank = refl;
+    acts = record {
+      acts = λ ok.
+          let parts = both (is_value (of q)) (is_statement ok.below (of s)) ok.stated in
+          Acts.acts (loop-layer how (Some (step_of q)) None s (given (of q)) absent (either_part q parts.0) no_part ok.below parts.1 at) ok;
+    };
+  }
+  layer (Core-F.Loop at how (Some q) (Some e) s) = record {
+    blank = refl;
+    acts = record {
+      acts = λ ok.
+          let parts = both (is_value (of q)) (is_value (of e) && is_statement ok.below (of s)) ok.stated in
+          let further = both (is_value (of e)) (is_statement ok.below (of s)) parts.1 in
+          Acts.acts (loop-layer how (Some (step_of q)) (Some (step_of e)) s (given (of q)) (given (of e)) (either_part q parts.0) (either_part e further.0) ok.below further.1 at) ok;
+    };
+  }
+  layer (Core-F.Switch at e es) = record {
+    blank = refl;
+    acts = record {
+      acts = λ ok f ways b there.
+          let parts = both (is_value (of e)) (are_cases ok.below (cores_of es)) ok.stated in
+          goes-switch tables signature (step_of e) (operand_value e parts.0) (row es) ok.below parts.1 f ways b there;
+    };
+  }
+  layer (Core-F.Case at z) = record { blank = refl; acts = record { acts = λ ok f ways b there. goes-stated tables signature (code.Case z) (plain.case_label z) b (of-Case tables signature z) } }
+  layer (Core-F.Default at) = record { blank = refl; acts = record { acts = λ ok f ways b there. goes-stated tables signature code.Default plain.default_label b (of-Default tables signature) } }
+  layer (Core-F.Break at) = record { blank = refl; acts = record { acts = λ ok f ways b there. goes-leave tables signature f ways b there } }
+  layer (Core-F.Continue at) = record { blank = refl; acts = record { acts = λ ok f ways b there. goes-continue tables signature f ways b there } }
+  layer (Core-F.Return at None) = record { blank = refl; acts = record { acts = λ ok f ways b there. goes-give tables signature f ways b there } }
+  layer (Core-F.Return at (Some e)) = record {
+    blank = refl;
+    acts = record { acts = λ ok f ways b there. goes-given_back tables signature (step_of e) (operand_value e ok.stated) f ways b there };
+  }
+  layer y = record { blank = refl; acts = record { acts = λ ok f ways b there. never ok.stated } }
+
+  rolled : (x : Core-F Node PartStart) → IsLayer x → IsWritten (roll-Core x)
+  rolled x p =
+      subst (λ s. Stated s (of_node (roll-Core x))) (sym (fold-roll-Core Step Step (step_step tables.types) (steps.part_step tables.types) x))
+      (subst (λ c. Stated (step_step tables.types (map-Core _ _ _ _ (step tables.types) part_step_of x)) c)
+      (sym (fold-roll-Core Core Started (core_step tables signature) (started_step tables signature) x)) p)
+
+  pub written-statement : (n : Node) → Stated (step tables.types n) (of_node n)
+  written-statement = ind-Core IsWritten (λ p. Unit {0}) (λ x y is. subst (λ z. IsWritten (roll-Core z)) is (rolled (shape y) (layer y))) (λ x y is. tt)

@@ -1,0 +1,201 @@
+-- What is written for each kind of expression is the definition's.
+use Rattle.std.proofs.Common.{◌≡◌, ℕ, zero, suc, ◌+◌, Bool, true, false, not, List, [], ◌∷◌, ◌++◌, map, length, refl, ap, sym, ◌∙◌, subst, length-append, arith}
+use Rattle.std.specs.Prelude.{ℤ, pos, Option, Some, None, if◌then◌else◌}
+use Rattle.std.proofs.lemmas.Grind.{flat_map-append}
+use Rattle.cf_base.specs.declared.arith.Arith.{Arith}
+use Rattle.cf_base.specs.declared.kind.Kind.{Kind}
+use Rattle.cf_classes.specs.declared.class.MemberRef.{MemberRef}
+use Rattle.cf_core.specs.declared.operators.UnaryOperator.{UnaryOperator}
+use Rattle.cf_core.specs.declared.operators.PointerOperator.{PointerOperator}
+use Rattle.cf_core.specs.declared.node.Change.{Change}
+use Rattle.cf_core.specs.declared.node.Core.TheOpen.{Core-F}
+use Rattle.cf_core.specs.Types.{Name, SourceType}
+use Rattle.cf_core.specs.Classes.{Class}
+use Rattle.cf_core.specs.Core as core
+use Rattle.cf_core.specs.Core.{Core, Cores, no_temporary}
+use Rattle.cf_core.specs.Nodes.{nodes, nodes_all}
+use Rattle.cf_core.specs.FromTypes.{Tables, type_of}
+use Rattle.cf_core.specs.View.{change_of}
+use Rattle.cf_plain.specs.declared.action.Action.{Action}
+use Rattle.cf_plain.specs.declared.action.Action.TheVariants as action
+use Rattle.cf_plain.specs.Plain.{Plains, nothing, more, branch, set as sets, act as acts}
+use Rattle.cf_plain.specs.Plain as plain
+use Rattle.cf_plain.specs.View.{action_of}
+use Rattle.cf_sequence.specs.Made.{makes, added, width, width_all}
+use Rattle.cf_sequence.specs.Expressions.{Full, Destination, value, values, used as use_of}
+use Rattle.cf_sequence_expr.specs.declared.writing.Writing.{Writing}
+use Rattle.cf_sequence_expr.specs.Writes.{set, act, used, within}
+use Rattle.cf_sequence_expr.specs.Pieces.{Piece, piece_step, left, two, truth, all_values, updated, stepped, stepped_behind, by_increment}
+use Rattle.cf_sequence_written.proofs.Puts.{Puts, Still, still-set, still-act, still-used, still-then, puts-none, puts-as, puts-wide, puts-still, still-puts, puts-then, puts-within}
+
+pub nodes-count : (ms ns : List Core) → length (added ms) + length (added ns) ≡ length (added (ms ++ ns))
+nodes-count ms ns = sym (length-append (added ms) (added ns)) ∙ ap length (sym (flat_map-append makes ms ns))
+
+module _ (tables : Tables) (signature : MemberRef → Name) (classes : List Class) where
+  pub record Writes (p : Piece) (e : Core) : Type 0 where
+    pub puts : (x : Full) (into : Option Destination) (n : ℕ) → Puts tables signature (p.value n) (λ k rest. value classes x e into n k rest) (width e)
+
+  -- the same of expressions in order
+  pub record WritesAll (ps : List Piece) (es : Cores) : Type 0 where
+    pub puts : (x : Full) (n : ℕ) → Puts tables signature (all_values ps n) (λ k rest. values classes x es n k rest) (length (added (nodes_all es)))
+
+  -- an action on the value of an operand
+  abbrev pub Sets : ℕ → (Writing → Writing) → (ℕ → Plains → Plains) → ℕ → Action → Type 0
+  Sets n f g count a = Puts tables signature (λ w. set n a (f w)) (λ k rest. g k (more (sets n (action_of tables signature a)) rest)) count
+
+  sets-behind : {f : Writing → Writing} {g : ℕ → Plains → Plains} {count : ℕ} (n : ℕ) (a : Action) → Puts tables signature f g count → Sets n f g count a
+  sets-behind n a p = puts-still tables signature p (still-set tables signature n a)
+
+  -- one action alone
+  pub sets-alone : (n : ℕ) (a : Action) → Puts tables signature (set n a) (λ k rest. more (sets n (action_of tables signature a)) rest) 0
+  sets-alone n a = puts-still tables signature (puts-none tables signature) (still-set tables signature n a)
+
+  -- Operands.
+
+  pub puts-left : {p : Piece} {e : Core} (x : Full) (n : ℕ) → Writes p e → Puts tables signature (left p n) (λ k rest. value classes x e None n k (use_of n rest)) (width e)
+  unfolding left
+  puts-left x n w = puts-still tables signature (w.puts x None n) (still-used tables signature n)
+
+  pub puts-two : {p q : Piece} {a b : Core} (x : Full) (n : ℕ) → Writes p a → Writes q b
+      → Puts tables signature (two p q n) (λ k rest. value classes x a None n k (use_of n (value classes x b None (suc n) (k + width a) rest))) (length (added (nodes a ++ nodes b)))
+  puts-two {p} {q} {a} {b} x n v w =
+      puts-wide tables signature (puts-then tables signature (puts-left x n v) (w.puts x None (suc n))) (nodes-count (nodes a) (nodes b))
+
+  pub puts-truth : {p : Piece} {e : Core} (x : Full) (n : ℕ) → Writes p e
+      → Puts tables signature (truth p n) (λ k rest. value classes x e None n k (more (sets n (plain.truth n)) rest)) (width e)
+  unfolding truth
+  puts-truth x n w = puts-still tables signature (w.puts x None n) (still-set tables signature n (action.Truth n))
+
+  -- Expressions.
+
+  pub writes-Number : (at : ℕ) (z : ℤ) → Writes (piece_step tables.types (Core-F.Number at z)) (core.number z)
+  writes-Number at z = record { puts = λ x into n. sets-alone n (action.Number z) }
+
+  pub writes-Text : (at j : ℕ) (bytes : List ℕ) → Writes (piece_step tables.types (Core-F.Text at j bytes)) (core.text j bytes)
+  writes-Text at j bytes = record { puts = λ x into n. sets-alone n (action.Text j bytes) }
+
+  pub writes-Local : (at i : ℕ) → Writes (piece_step tables.types (Core-F.Local at i)) (core.local i)
+  writes-Local at i = record { puts = λ x into n. sets-alone n (action.Local i) }
+
+  pub writes-Static : (at : ℕ) (name : Name) (t : ℕ) → Writes (piece_step tables.types (Core-F.Static at name t)) (core.static_object name (type_of tables t))
+  writes-Static at name t = record { puts = λ x into n. sets-alone n (action.Static name t) }
+
+  pub writes-Read : {p : Piece} {e : Core} (at : ℕ) → Writes p e → Writes (piece_step tables.types (Core-F.Read at p)) (core.read e)
+  writes-Read at w = record { puts = λ x into n. sets-behind n (action.Read n) (w.puts x None n) }
+
+  pub writes-Address : {p : Piece} {e : Core} (at : ℕ) → Writes p e → Writes (piece_step tables.types (Core-F.Address at p)) (core.address e)
+  writes-Address at w = record { puts = λ x into n. puts-still tables signature (w.puts x None n) (still-used tables signature n) }
+
+  pub writes-Dereference : {p : Piece} {e : Core} (at : ℕ) → Writes p e → Writes (piece_step tables.types (Core-F.Dereference at p)) (core.dereference e)
+  writes-Dereference at w = record { puts = λ x into n. sets-behind n (action.Dereference n) (w.puts x None n) }
+
+  pub writes-Decay : {p : Piece} {e : Core} (at : ℕ) → Writes p e → Writes (piece_step tables.types (Core-F.Decay at p)) (core.decay e)
+  writes-Decay at w = record { puts = λ x into n. sets-behind n (action.Decay n) (w.puts x None n) }
+
+  pub writes-Convert : {p : Piece} {e : Core} (at t : ℕ) → Writes p e → Writes (piece_step tables.types (Core-F.Convert at t p)) (core.convert (type_of tables t) e)
+  writes-Convert at t w = record { puts = λ x into n. sets-behind n (action.Convert t n) (w.puts x None n) }
+
+  pub writes-FromVoid : {p : Piece} {e : Core} (at t : ℕ) → Writes p e → Writes (piece_step tables.types (Core-F.FromVoid at t p)) (core.from_void (type_of tables t) e)
+  writes-FromVoid at t w = record { puts = λ x into n. sets-behind n (action.FromVoid t n) (w.puts x None n) }
+
+  pub writes-Unary : {p : Piece} {e : Core} (at : ℕ) (op : UnaryOperator) (k : Kind) → Writes p e → Writes (piece_step tables.types (Core-F.Unary at op k p)) (core.unary op k e)
+  writes-Unary at op k w = record { puts = λ x into n. sets-behind n (action.Unary op k n) (w.puts x None n) }
+
+  pub writes-Not : {p : Piece} {e : Core} (at : ℕ) → Writes p e → Writes (piece_step tables.types (Core-F.Not at p)) (core.logical_not e)
+  writes-Not at w = record { puts = λ x into n. sets-behind n (action.Not n) (w.puts x None n) }
+
+  pub writes-Index : {p q : Piece} {a b : Core} (at : ℕ) → Writes p a → Writes q b → Writes (piece_step tables.types (Core-F.Index at p q)) (core.index a b)
+  writes-Index at v w = record { puts = λ x into n. sets-behind n (action.Index n (suc n)) (puts-two x n v w) }
+
+  pub writes-Operate : {p q : Piece} {a b : Core} (at : ℕ) (op : Arith) (k : Kind) → Writes p a → Writes q b → Writes (piece_step tables.types (Core-F.Operate at op k p q)) (core.operate op k a b)
+  writes-Operate at op k v w = record { puts = λ x into n. sets-behind n (action.Operate op k n (suc n)) (puts-two x n v w) }
+
+  pub writes-PointerOperate : {p q : Piece} {a b : Core} (at : ℕ) (op : PointerOperator) → Writes p a → Writes q b
+      → Writes (piece_step tables.types (Core-F.PointerOperate at op p q)) (core.pointer_operate op a b)
+  writes-PointerOperate at op v w = record { puts = λ x into n. sets-behind n (action.PointerOperate op n (suc n)) (puts-two x n v w) }
+
+  pub writes-Store : {p q : Piece} {a b : Core} (at : ℕ) → Writes p a → Writes q b → Writes (piece_step tables.types (Core-F.Store at p q)) (core.store a b)
+  writes-Store at v w = record { puts = λ x into n. puts-still tables signature (puts-two x n v w) (still-act tables signature (action.Store n (suc n))) }
+
+  -- An initialiser that does nothing.
+  pub writes-Blank : (at : ℕ) → Writes (piece_step tables.types (Core-F.Blank at)) core.blank
+  writes-Blank at = record { puts = λ x into n. puts-none tables signature }
+
+  -- Branches.
+
+  pub writes-And : {p q : Piece} {a b : Core} (at : ℕ) → Writes p a → Writes q b → Writes (piece_step tables.types (Core-F.And at p q)) (core.logical_and a b)
+  writes-And {p} {q} {a} {b} at v w = record {
+    puts = λ x into n.
+        puts-wide tables signature (puts-then tables signature (puts-truth x n v) (puts-within tables signature n (puts-truth x n w) (puts-none tables signature)))
+        (omega (arith, nodes-count (nodes a) (nodes b)));
+  }
+
+  pub writes-Or : {p q : Piece} {a b : Core} (at : ℕ) → Writes p a → Writes q b → Writes (piece_step tables.types (Core-F.Or at p q)) (core.logical_or a b)
+  writes-Or {p} {q} {a} {b} at v w = record {
+    puts = λ x into n.
+        puts-as tables signature (puts-then tables signature (puts-truth x n v) (puts-within tables signature n (puts-none tables signature) (puts-truth x n w)))
+        (λ k rest. ap (λ i. value classes x a None n k (more (sets n (plain.truth n))
+        (more (branch n nothing (value classes x b None n i (more (sets n (plain.truth n)) nothing))) rest))) (omega arith))
+        (omega (arith, nodes-count (nodes a) (nodes b)));
+  }
+
+  pub writes-Conditional : {o p q : Piece} {c a b : Core} (at : ℕ) → Writes o c → Writes p a → Writes q b
+      → Writes (piece_step tables.types (Core-F.Conditional at o p q)) (core.conditional c a b)
+  writes-Conditional {o} {p} {q} {c} {a} {b} at u v w = record {
+    puts = λ x into n.
+        puts-wide tables signature (puts-then tables signature (puts-truth x n u) (puts-within tables signature n (v.puts x None n) (w.puts x None n)))
+        (omega (arith, nodes-count (nodes c) (nodes a), nodes-count (nodes c ++ nodes a) (nodes b)));
+  }
+
+  -- Expressions in order.
+
+  pub writes-none : WritesAll [] core.none
+  writes-none = record { puts = λ x n. puts-none tables signature }
+
+  pub writes-more : {p : Piece} {e : Core} {ps : List Piece} {es : Cores} → Writes p e → WritesAll ps es → WritesAll (p ∷ ps) (core.more e es)
+  writes-more {p} {e} {ps} {es} w all = record {
+    puts = λ x n. puts-wide tables signature (puts-then tables signature (w.puts x None n) (all.puts x n)) (nodes-count (nodes e) (nodes_all es));
+  }
+
+  pub writes-Comma : {ps : List Piece} {es : Cores} (at : ℕ) → WritesAll ps es → Writes (piece_step tables.types (Core-F.Comma at ps)) (core.comma es)
+  writes-Comma at all = record { puts = λ x into n. all.puts x n }
+
+  -- Changes in place.
+
+  still-updated : (c : Change) (n : ℕ)
+      → Still tables signature (updated c n) (λ rest. use_of (suc n) (more (sets (suc (suc n)) (plain.read n))
+      (more (sets (suc n) (plain.changed (change_of c) (suc (suc n)) (suc n))) (more (acts (plain.store n (suc n))) rest))))
+  unfolding updated
+  still-updated c n =
+      still-then tables signature
+      (still-then tables signature (still-then tables signature (still-used tables signature (suc n)) (still-set tables signature (suc (suc n)) (action.Read n)))
+      (still-set tables signature (suc n) (action.Changed c (suc (suc n)) (suc n))))
+      (still-act tables signature (action.Store n (suc n)))
+
+  pub writes-Update : {p q : Piece} {a b : Core} (at : ℕ) (c : Change) → Writes p a → Writes q b → Writes (piece_step tables.types (Core-F.Update at p c q)) (core.update a (change_of c) b)
+  writes-Update at c v w = record { puts = λ x into n. puts-still tables signature (puts-two x n v w) (still-updated c n) }
+
+  still-stepped : (c : Change) (n : ℕ)
+      → Still tables signature (stepped c n) (λ rest. more (sets (suc n) (plain.read n)) (more (sets (suc (suc n)) (plain.number (pos 1)))
+      (more (sets (suc n) (plain.changed (change_of c) (suc n) (suc (suc n)))) (more (acts (plain.store n (suc n))) rest))))
+  unfolding stepped
+  still-stepped c n =
+      still-then tables signature
+      (still-then tables signature (still-then tables signature (still-set tables signature (suc n) (action.Read n)) (still-set tables signature (suc (suc n)) (action.Number (pos 1))))
+      (still-set tables signature (suc n) (action.Changed c (suc n) (suc (suc n)))))
+      (still-act tables signature (action.Store n (suc n)))
+
+  still-stepped_behind : (c : Change) (n : ℕ)
+      → Still tables signature (stepped_behind c n) (λ rest. more (sets n (plain.read (suc n))) (more (sets (suc (suc n)) (plain.number (pos 1)))
+      (more (sets (suc (suc n)) (plain.changed (change_of c) n (suc (suc n)))) (more (acts (plain.store (suc n) (suc (suc n)))) rest))))
+  unfolding stepped_behind
+  still-stepped_behind c n =
+      still-then tables signature
+      (still-then tables signature (still-then tables signature (still-set tables signature n (action.Read (suc n))) (still-set tables signature (suc (suc n)) (action.Number (pos 1))))
+      (still-set tables signature (suc (suc n)) (action.Changed c n (suc (suc n)))))
+      (still-act tables signature (action.Store (suc n) (suc (suc n))))
+
+  pub writes-Increment : {p : Piece} {e : Core} (at : ℕ) (is_postfix : Bool) (c : Change) → Writes p e
+      → Writes (piece_step tables.types (Core-F.Increment at is_postfix c p)) (core.step is_postfix (change_of c) e)
+  writes-Increment at false c w = record { puts = λ x into n. puts-still tables signature (w.puts x None n) (still-stepped c n) }
+  writes-Increment at true c w = record { puts = λ x into n. puts-still tables signature (w.puts x None (suc n)) (still-stepped_behind c n) }
