@@ -16,3 +16,5 @@ pub mod Parameters
 pub mod Functions
 pub mod Units
 pub mod Meaning
+pub mod Tested
+pub mod TestedFiles

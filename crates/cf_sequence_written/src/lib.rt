@@ -4,7 +4,7 @@
 //! the plain statements that `cf_sequence` defines, whose meaning is that of the core.
 #![tactic(auto)]
 
-ghost use Rattle.std.specs.Prelude.{◌≡◌, ℕ, List, Some, map, true};
+ghost use Rattle.std.specs.Prelude.{◌≡◌, ℕ, List, Some, is_some, map, not, true};
 ghost use Rattle.std.specs.declared.alloc.Global.{Global};
 ghost use Rattle.cf_base.specs.World.{Outcome};
 ghost use Rattle.cf_core.specs.FromUnit.{Unit, IsValid, file_of, units_mean};
@@ -12,6 +12,7 @@ ghost use Rattle.cf_plain.specs.Joined.{files_mean};
 ghost use Rattle.cf_plain.specs.View as plain;
 ghost use Rattle.cf_sequence.specs.Built.{is_built_file};
 ghost use Rattle.cf_sequence.specs.Sequenced.{sequenced_file};
+ghost use Rattle.cf_sequence_built.specs.Unbuilt.{in_file};
 ghost use Rattle.cf_sequence_fn.specs.Functions.{written_unit};
 ghost use Rattle.cf_sequence_written.specs.Built.{AreBuilt};
 
@@ -27,4 +28,9 @@ pub fn written_files_keep_the_meaning()
     ensures { (alloc : Global) (frames : Unit → List ℕ) (units : List Unit) → AreBuilt units → (input : List ℕ) (heap depth n : ℕ) (x : Outcome)
         → units_mean units input heap depth n ≡ Some x
         → files_mean (map (λ u. plain.file_of (written_unit alloc (frames u) u)) units) input heap depth n ≡ Some x }
+{}
+
+/// The law that in a file a construct that is not built is found just where the file is not one of built functions. It does nothing.
+pub fn what_is_found_is_not_built()
+    ensures { (unit : Unit) → is_some (in_file unit) ≡ not (is_built_file (file_of unit)) }
 {}

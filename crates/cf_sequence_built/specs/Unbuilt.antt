@@ -1,0 +1,193 @@
+-- The place of the first construct of a core that is not built so far.
+use Rattle.std.specs.Prelude.{ℕ, Bool, true, false, ◌&&◌, ◌||◌, not, ◌==◌, nat_le, if◌then◌else◌, List, [], ◌∷◌, map, length, codes, bytes_eq, suc, Option, Some, None}
+use Rattle.std.specs.Option.{option_or}
+use Rattle.cf_core.specs.declared.node.Core.{Core as Node, fold-Core}
+use Rattle.cf_core.specs.declared.node.Core.TheOpen.{Core-F}
+use Rattle.cf_core.specs.declared.node.Core.TheFolds.{map-Core}
+use Rattle.cf_core.specs.declared.node.PartStart.{PartStart, PartStart-F, fold-PartStart}
+use Rattle.cf_core.specs.declared.node.Holder.{Holder}
+use Rattle.cf_core.specs.declared.node.Holder.TheVariants as holder
+use Rattle.cf_core.specs.declared.unit.CoreFn.{CoreFn}
+use Rattle.cf_core.specs.declared.unit.CoreStatic.{CoreStatic}
+use Rattle.cf_core.specs.declared.unit.Role.{Role}
+use Rattle.cf_core.specs.declared.unit.Role.TheVariants as role
+use Rattle.cf_core.specs.Types.{SourceType, takes, gives, result, is_class}
+use Rattle.cf_core.specs.FromTypes.{Tables, type_of}
+use Rattle.cf_core.specs.FromUnit.{Unit as CoreUnit, tables_of}
+use Rattle.cf_core.specs.NodePlace.{place, place_step}
+
+-- What is known of a node. A place is that of the first construct in it that is not built.
+pub record Test : Type 0 where
+  pub value : Option ℕ  -- as an expression
+  pub statement : ℕ → Option ℕ  -- as a statement, where the locals below this number are those of the open scopes
+  pub next : ℕ → ℕ  -- the number behind that of each local that it declares in the scope at hand
+  pub is_blank : Bool
+  pub declares : Bool  -- whether it declares locals in the scope at hand
+  pub is_label : Bool
+
+-- an initialiser, or an expression statement
+abbrev pub start : Test → Option ℕ
+start e = if e.is_blank then None else e.value
+
+abbrev pub given : Option Test → Option ℕ
+given None = None
+given (Some e) = e.value
+
+abbrev pub each_value : List Test → Option ℕ
+each_value [] = None
+each_value (e ∷ es) = option_or e.value (each_value es)
+
+-- one expression at least
+unfoldable pub some_values : ℕ → List Test → Option ℕ
+some_values at [] = Some at
+some_values at (e ∷ es) = each_value (e ∷ es)
+
+abbrev pub each_statement : ℕ → List Test → Option ℕ
+each_statement m [] = None
+each_statement m (s ∷ ss) = option_or (s.statement m) (each_statement (s.next m) ss)
+
+-- what stands in a branch, where nothing is declared in the scope at hand
+abbrev pub inner : ℕ → ℕ → Test → Option ℕ
+inner at m s = if s.declares then Some at else s.statement m
+
+abbrev pub inner_or : ℕ → ℕ → Option Test → Option ℕ
+inner_or at m None = None
+inner_or at m (Some s) = inner at m s
+
+-- a label or a statement of a switch
+abbrev pub case : ℕ → ℕ → Test → Option ℕ
+case at m s = if s.is_label then None else inner at m s
+
+abbrev pub each_case : ℕ → ℕ → List Test → Option ℕ
+each_case at m [] = None
+each_case at m (s ∷ ss) = option_or (case at m s) (each_case at m ss)
+
+abbrev pub next_of_all : ℕ → List Test → ℕ
+next_of_all m [] = m
+next_of_all m (s ∷ ss) = next_of_all (s.next m) ss
+
+abbrev pub bound : ℕ → Holder → Option ℕ → Option ℕ
+bound at holder.NoTemporary e = e
+bound at h e = Some at
+
+-- a call by name, of a function whose result is no class
+abbrev pub called : ℕ → Bool → Option Test → List Test → Option ℕ
+called at is_plain None es = if is_plain then each_value es else Some at
+called at is_plain (Some object) es = Some at
+
+-- a function type: its parameters, and then its result
+abbrev pub is_function_type : SourceType → Bool
+is_function_type (takes p t) = is_function_type t
+is_function_type (gives t c) = true
+is_function_type t = false
+
+abbrev pub place_in : Core-F Test Test → ℕ
+place_in x = place_step (map-Core _ _ _ _ (λ (t : Test). 0) (λ (t : Test). tt) x)
+
+abbrev pub statement_step : Core-F Test Test → ℕ → Option ℕ
+statement_step (Core-F.Full at e) m = start e
+statement_step (Core-F.Block at ss) m = each_statement m ss
+statement_step (Core-F.Sequence at ss) m = each_statement m ss
+statement_step (Core-F.Declare at i t e) m = if nat_le m i then start e else Some at
+statement_step (Core-F.If at c a b) m = option_or c.value (option_or (inner at m a) (inner_or at m b))
+statement_step (Core-F.Loop at how c e s) m = option_or (given c) (option_or (given e) (s.statement m))
+statement_step (Core-F.Switch at e ss) m = option_or e.value (each_case at m ss)
+statement_step (Core-F.Break at) m = None
+statement_step (Core-F.Continue at) m = None
+statement_step (Core-F.Return at e) m = given e
+statement_step x m = Some (place_in x)
+
+abbrev pub next_step : Core-F Test Test → ℕ → ℕ
+next_step (Core-F.Declare at i t e) m = suc i
+next_step (Core-F.Sequence at ss) m = next_of_all m ss
+next_step x m = m
+
+abbrev pub blank_step : Core-F Test Test → Bool
+blank_step (Core-F.Blank at) = true
+blank_step x = false
+
+abbrev pub declares_step : Core-F Test Test → Bool
+declares_step (Core-F.Declare at i t e) = true
+declares_step (Core-F.Sequence at ss) = true
+declares_step x = false
+
+abbrev pub label_step : Core-F Test Test → Bool
+label_step (Core-F.Case at z) = true
+label_step (Core-F.Default at) = true
+label_step x = false
+
+module _ (tables : Tables) where
+  -- a function type whose result is no class
+  abbrev pub is_called : ℕ → Bool
+  is_called t = not (is_class (result (type_of tables t))) && is_function_type (type_of tables t)
+
+  abbrev pub value_step : Core-F Test Test → Option ℕ
+  value_step (Core-F.Number at z) = None
+  value_step (Core-F.Text at j bytes) = None
+  value_step (Core-F.Local at i) = None
+  value_step (Core-F.Static at n t) = None
+  value_step (Core-F.Read at e) = e.value
+  value_step (Core-F.Address at e) = e.value
+  value_step (Core-F.Dereference at e) = e.value
+  value_step (Core-F.Decay at e) = e.value
+  value_step (Core-F.Index at a b) = option_or a.value b.value
+  value_step (Core-F.Convert at t e) = e.value
+  value_step (Core-F.FromVoid at t e) = e.value
+  value_step (Core-F.Operate at op k a b) = option_or a.value b.value
+  value_step (Core-F.Unary at op k e) = e.value
+  value_step (Core-F.Not at e) = e.value
+  value_step (Core-F.And at a b) = option_or a.value b.value
+  value_step (Core-F.Or at a b) = option_or a.value b.value
+  value_step (Core-F.PointerOperate at op a b) = option_or a.value b.value
+  value_step (Core-F.Conditional at c a b) = option_or c.value (option_or a.value b.value)
+  value_step (Core-F.Comma at es) = some_values at es
+  value_step (Core-F.Store at a b) = option_or a.value b.value
+  value_step (Core-F.Update at a c b) = option_or a.value b.value
+  value_step (Core-F.Increment at is_postfix c e) = e.value
+  value_step (Core-F.Call at f t object es) = called at (is_called t) object es
+  value_step (Core-F.Bind at h e) = bound at h e.value
+  value_step x = Some (place_in x)
+
+  abbrev pub test_step : Core-F Test Test → Test
+  test_step x = record {
+    value = value_step x;
+    statement = statement_step x;
+    next = next_step x;
+    is_blank = blank_step x;
+    declares = declares_step x;
+    is_label = label_step x;
+  }
+
+  abbrev pub part_step : PartStart-F Test Test → Test
+  part_step x = x.start
+
+  abbrev pub test : Node → Test
+  test = fold-Core Test Test test_step part_step
+
+-- A function of numbers and pointers, which is not local to its file; `main` takes nothing.
+abbrev pub is_plain : Role → Bool
+is_plain role.Plain = true
+is_plain r = false
+
+abbrev pub takes_nothing : CoreFn → Bool
+takes_nothing f = length f.params == 0
+
+abbrev pub is_usual : Tables → CoreFn → Bool
+is_usual tables f =
+    is_plain f.role && ((not (bytes_eq f.name (codes "__main")) || takes_nothing f) && (not (is_class (type_of tables f.result)) && not f.is_local))
+
+abbrev pub in_function : Tables → CoreFn → Option ℕ
+in_function tables f = if is_usual tables f then (test tables f.body).statement (length f.params) else Some (place f.body)
+
+abbrev pub in_functions : Tables → List CoreFn → Option ℕ
+in_functions tables [] = None
+in_functions tables (f ∷ fs) = option_or (in_function tables f) (in_functions tables fs)
+
+abbrev pub in_statics : List CoreStatic → Option ℕ
+in_statics [] = None
+in_statics (x ∷ xs) = Some (place x.start)
+
+-- A file has no class and no static object. Where a class is defined, the place is the begin of the file.
+abbrev pub in_file : CoreUnit → Option ℕ
+in_file unit =
+    if length unit.classes.defined == 0 then option_or (in_statics unit.statics) (in_functions (tables_of unit) unit.functions) else Some 0

@@ -1,0 +1,65 @@
+ghost use Rattle.std.specs.Prelude.{◌≡◌, true};
+ghost use Rattle.cf_core.specs.FromUnit.{tables_of};
+ghost use Rattle.cf_core.specs.Numbers.{function_known};
+ghost use Rattle.cf_sequence_built.specs.Unbuilt as spec;
+
+use crate::statements::statement;
+use crate::types::is_of_class;
+use cf_core::{CoreFn, CoreUnit, Role};
+
+/// Whether it is a function of numbers and pointers that is not local to its file; `main` takes nothing.
+fn is_usual(unit: &CoreUnit, f: &CoreFn) -> bool
+    requires { function_known (tables_of unit.now) f.now ≡ true }
+    ensures { result ≡ spec.is_usual (tables_of unit.now) f.now }
+{
+    matches!(f.role, Role::Plain)
+        && (f.name.as_slice() != b"__main".as_slice() || f.params.len() == 0)
+        && !is_of_class(unit, f.result)
+        && !f.is_local
+}
+
+/// The place of the first construct of a function that is not built.
+fn in_function(unit: &CoreUnit, f: &CoreFn) -> Option<u32>
+    requires { function_known (tables_of unit.now) f.now ≡ true }
+    ensures { result ≡ spec.in_function (tables_of unit.now) f.now }
+{
+    if is_usual(unit, f) {
+        statement(unit, f.params.len() as u64, &f.body)
+    } else {
+        Some(f.body.at())
+    }
+}
+
+/// The same of the functions in order.
+fn in_functions(unit: &CoreUnit) -> Option<u32>
+    ensures { result ≡ spec.in_functions (tables_of unit.now) unit.now.functions }
+{
+    for f in unit.functions() {
+        let found = in_function(unit, f);
+        if found.is_some() {
+            return found;
+        }
+    }
+    None
+}
+
+/// The place of the first static object's initialiser.
+fn in_statics(unit: &CoreUnit) -> Option<u32>
+    ensures { result ≡ spec.in_statics unit.now.statics }
+{
+    match unit.statics().first() {
+        None => None,
+        Some(first) => Some(first.start.at()),
+    }
+}
+
+/// The byte place of the first construct of a file that is not built so far; none where all are. Where the file defines a class it is 0.
+pub fn unbuilt(unit: &CoreUnit) -> Option<u32>
+    ensures { result ≡ spec.in_file unit.now }
+{
+    if unit.classes().count() == 0 {
+        in_statics(unit).or(in_functions(unit))
+    } else {
+        Some(0)
+    }
+}

@@ -1,0 +1,11 @@
+//! Which cores are built so far: the place of the first construct that sequencing has no form for.
+//!
+//! `specs/Unbuilt` has the place node by node.
+#![tactic(auto)]
+
+mod files;
+mod statements;
+mod types;
+mod values;
+
+pub use files::unbuilt;

@@ -1,0 +1,193 @@
+ghost use Rattle.std.specs.Prelude.{◌≡◌, map, true};
+ghost use Rattle.std.specs.Option.{option_map};
+ghost use Rattle.cf_core.specs.FromTypes.{Tables};
+ghost use Rattle.cf_core.specs.FromUnit.{tables_of};
+ghost use Rattle.cf_core.specs.Numbers.{are_known, all_of, maybe_of};
+ghost use Rattle.cf_sequence_built.specs.Unbuilt as spec;
+ghost use Rattle.cf_sequence_built.specs.Unbuilt.{test};
+
+use crate::values::value;
+use cf_base::Boxed;
+use cf_core::{Core, CoreUnit};
+
+/// The place of the first construct of an initialiser or an expression statement that is not built.
+fn start(unit: &CoreUnit, e: &Core) -> Option<u32>
+    requires { are_known (tables_of unit.now) e.now ≡ true }
+    ensures { result ≡ spec.start (test (tables_of unit.now) e.now) }
+{
+    match e {
+        Core::Blank { .. } => None,
+        _ => value(unit, e),
+    }
+}
+
+/// Of a condition or a step, if there is one.
+fn given(unit: &CoreUnit, e: &Option<Boxed<Core>>) -> Option<u32>
+    requires { maybe_of (tables_of unit.now) (option_map (are_known (tables_of unit.now)) e.now) ≡ true }
+    ensures { result ≡ spec.given (option_map (test (tables_of unit.now)) e.now) }
+{
+    match e {
+        None => None,
+        Some(e) => value(unit, e.get()),
+    }
+}
+
+/// Whether a statement declares locals in the scope at hand.
+fn declares(s: &Core) -> bool
+    ensures { (tables : Tables) → result ≡ (test tables s.now).declares }
+{
+    matches!(s, Core::Declare { .. } | Core::Sequence { .. })
+}
+
+/// Whether it is a label of a switch.
+fn is_label(s: &Core) -> bool
+    ensures { (tables : Tables) → result ≡ (test tables s.now).is_label }
+{
+    matches!(s, Core::Case { .. } | Core::Default { .. })
+}
+
+/// The number behind that of each local that a statement declares in the scope at hand.
+#[cycle(nexts)]
+fn next(below: u64, s: &Core) -> u64
+    ensures { (tables : Tables) → result ≡ (test tables s.now).next below }
+{
+    match s {
+        Core::Declare { local, .. } => *local as u64 + 1,
+        Core::Sequence { statements, .. } => next_of_all(below, statements.as_slice()),
+        _ => below,
+    }
+}
+
+/// The same of statements in order.
+#[cycle(nexts)]
+fn next_of_all(below: u64, all: &[Core]) -> u64
+    ensures { (tables : Tables) → result ≡ spec.next_of_all below (map (test tables) all.now) }
+{
+    let mut behind = below;
+    for s in all {
+        behind = next(behind, s);
+    }
+    behind
+}
+
+/// The place of the first construct of a statement that is not built, where the locals below this number are those of the open scopes.
+#[cycle(statements)]
+pub fn statement(unit: &CoreUnit, below: u64, s: &Core) -> Option<u32>
+    requires { are_known (tables_of unit.now) s.now ≡ true }
+    ensures { result ≡ (test (tables_of unit.now) s.now).statement below }
+{
+    match s {
+        Core::Full { expression, .. } => start(unit, expression.get()),
+        Core::Block {
+            statements: all,
+            ..
+        }
+        | Core::Sequence {
+            statements: all,
+            ..
+        } => { each_statement(unit, below, all.as_slice()) }
+        Core::Declare {
+            at,
+            local,
+            start: e,
+            ..
+        } => {
+            if below <= *local as u64 {
+                start(unit, e.get())
+            } else {
+                Some(*at)
+            }
+        }
+        Core::If {
+            at,
+            condition,
+            yes,
+            no,
+        } => {
+            let sides = inner(unit, *at, below, yes.get()).or(inner_or(unit, *at, below, no));
+            value(unit, condition.get()).or(sides)
+        }
+        Core::Loop {
+            condition,
+            step,
+            body,
+            ..
+        } => { given(unit, condition).or(given(unit, step).or(statement(unit, below, body.get()))) }
+        Core::Switch { at, operand, body } => {
+            value(unit, operand.get()).or(each_case(unit, *at, below, body.as_slice()))
+        }
+        Core::Break { .. } | Core::Continue { .. } => None,
+        Core::Return { value: e, .. } => given(unit, e),
+        _ => Some(s.at()),
+    }
+}
+
+/// Of statements in order.
+#[cycle(statements)]
+fn each_statement(unit: &CoreUnit, below: u64, all: &[Core]) -> Option<u32>
+    requires { all_of (tables_of unit.now) (map (are_known (tables_of unit.now)) all.now) ≡ true }
+    ensures { result ≡ spec.each_statement below (map (test (tables_of unit.now)) all.now) }
+{
+    let mut behind = below;
+    for s in all {
+        let found = statement(unit, behind, s);
+        if found.is_some() {
+            return found;
+        }
+        behind = next(behind, s);
+    }
+    None
+}
+
+/// Of a statement in a branch of what stands at this place. It declares nothing in the scope at hand.
+#[cycle(statements)]
+fn inner(unit: &CoreUnit, at: u32, below: u64, s: &Core) -> Option<u32>
+    requires { are_known (tables_of unit.now) s.now ≡ true }
+    ensures { result ≡ spec.inner at below (test (tables_of unit.now) s.now) }
+{
+    if declares(s) {
+        Some(at)
+    } else {
+        statement(unit, below, s)
+    }
+}
+
+/// Of the statement behind `else`, if there is one (6.4.1).
+#[cycle(statements)]
+fn inner_or(unit: &CoreUnit, at: u32, below: u64, s: &Option<Boxed<Core>>) -> Option<u32>
+    requires { maybe_of (tables_of unit.now) (option_map (are_known (tables_of unit.now)) s.now) ≡ true }
+    ensures { result ≡ spec.inner_or at below (option_map (test (tables_of unit.now)) s.now) }
+{
+    match s {
+        None => None,
+        Some(s) => inner(unit, at, below, s.get()),
+    }
+}
+
+/// Of one label or statement of a switch (6.4.2).
+#[cycle(statements)]
+fn case(unit: &CoreUnit, at: u32, below: u64, s: &Core) -> Option<u32>
+    requires { are_known (tables_of unit.now) s.now ≡ true }
+    ensures { result ≡ spec.case at below (test (tables_of unit.now) s.now) }
+{
+    if is_label(s) {
+        None
+    } else {
+        inner(unit, at, below, s)
+    }
+}
+
+/// Of the labels and statements of a switch.
+#[cycle(statements)]
+fn each_case(unit: &CoreUnit, at: u32, below: u64, all: &[Core]) -> Option<u32>
+    requires { all_of (tables_of unit.now) (map (are_known (tables_of unit.now)) all.now) ≡ true }
+    ensures { result ≡ spec.each_case at below (map (test (tables_of unit.now)) all.now) }
+{
+    for s in all {
+        let found = case(unit, at, below, s);
+        if found.is_some() {
+            return found;
+        }
+    }
+    None
+}

@@ -1,0 +1,258 @@
+-- A file is built where the test finds no construct that is not.
+use Rattle.std.proofs.Common.{◌≡◌, ℕ, zero, suc, ◌==◌, Bool, true, false, not, ◌&&◌, ◌||◌, List, [], ◌∷◌, map, length, Option, Some, None, option_map, refl, ap, sym, subst, ◌∙◌}
+use Rattle.std.specs.Prelude.{nat_le, if◌then◌else◌, bytes_eq, codes}
+use Rattle.std.specs.List.{list_all}
+use Rattle.std.specs.Option.{option_or}
+use Rattle.cf_classes.specs.declared.class.MemberRef.{MemberRef}
+use Rattle.cf_core.specs.declared.node.Core.{Core as Node, fold-Core, roll-Core, ind-Core}
+use Rattle.cf_core.specs.declared.node.Core.TheOpen.{Core-F}
+use Rattle.cf_core.specs.declared.node.Core.TheFolds.{fold-roll-Core, map-Core}
+use Rattle.cf_core.specs.declared.node.PartStart.{PartStart, fold-PartStart}
+use Rattle.cf_core.specs.declared.node.Holder.TheVariants as holder
+use Rattle.cf_core.specs.Types.{Name, SourceType, takes, gives, result, is_class}
+use Rattle.cf_core.specs.Core as core
+use Rattle.cf_core.specs.Core.{Core, Cores, MaybeCore}
+use Rattle.cf_core.specs.Joined.{is_nothing}
+use Rattle.cf_core.specs.Valid.{is_label}
+use Rattle.cf_core.specs.FromTypes.{Tables, type_of}
+use Rattle.cf_core.specs.View.{Started, core_step, started_step, core_of, listed, maybe}
+use Rattle.cf_sequence.specs.Built.{is_value, is_start, is_condition, is_statement, is_inner_or, are_values, are_arguments, are_statements, are_cases, declares_here, next_local, next_locals, is_chain}
+use Rattle.cf_sequence_built.specs.Unbuilt.{Test, test, test_step, start, given, each_value, some_values, each_statement, inner, inner_or, case, each_case, next_of_all, called, is_function_type, is_called}
+use Rattle.cf_sequence_built.specs.Unbuilt as unbuilt
+
+-- whether nothing was found
+abbrev pub clear : Option ℕ → Bool
+clear None = true
+clear (Some at) = false
+
+pub and-is : (p q : Option ℕ) (a b : Bool) → clear p ≡ a → clear q ≡ b → clear (option_or p q) ≡ a && b
+and-is None q a b e f = f ∙ ap (λ c. c && b) e
+and-is (Some at) q a b e f = ap (λ c. c && b) e
+
+and-all : (a : Bool) → a && true ≡ a
+and-all true = refl
+and-all false = refl
+
+-- by a test
+
+where-not : (b : Bool) (v : Option ℕ) (w : Bool) → clear v ≡ w → clear (if b then None else v) ≡ b || w
+where-not true v w e = refl
+where-not false v w e = e
+
+where-false : (at : ℕ) (b : Bool) (v : Option ℕ) (w : Bool) → clear v ≡ w → clear (if b then Some at else v) ≡ not b && w
+where-false at true v w e = refl
+where-false at false v w e = e
+
+pub where-true : (at : ℕ) (b : Bool) (v : Option ℕ) (w : Bool) → clear v ≡ w → clear (if b then v else Some at) ≡ b && w
+where-true at true v w e = e
+where-true at false v w e = refl
+
+both-tests : (at : ℕ) (a b : Bool) (v : Option ℕ) (w : Bool) → clear v ≡ w → clear (if a && b then v else Some at) ≡ a && (b && w)
+both-tests at true true v w e = e
+both-tests at true false v w e = refl
+both-tests at false b v w e = refl
+
+pub chain-is : (t : SourceType) → is_function_type t ≡ is_chain t
+chain-is (takes p t) = chain-is t
+chain-is t = refl
+
+module _ (tables : Tables) (signature : MemberRef → Name) where
+  pub record Tests (t : Test) (c : Core) : Type 0 where
+    pub value : clear t.value ≡ is_value c
+    pub statement : (m : ℕ) → clear (t.statement m) ≡ is_statement m c
+    pub next : (m : ℕ) → t.next m ≡ next_local m c
+    pub blank : t.is_blank ≡ is_nothing c
+    pub declares : t.declares ≡ declares_here c
+    pub label : t.is_label ≡ is_label c
+
+  abbrev of_node : Node → Core
+  of_node = core_of tables signature
+
+  abbrev IsTested : Node → Type 0
+  IsTested n = Tests (test tables n) (of_node n)
+
+  abbrev Child : Type 0
+  Child = (n : Node) × IsTested n
+
+  abbrev PartChild : Type 0
+  PartChild = (p : PartStart) × Unit {0}
+
+  abbrev node_of : Child → Node
+  node_of c = c.0
+
+  abbrev part_of : PartChild → PartStart
+  part_of c = c.0
+
+  abbrev started_of : PartStart → Started
+  started_of = fold-PartStart Core Started (core_step tables signature) (started_step tables signature)
+
+  abbrev part_test : PartStart → Test
+  part_test = fold-PartStart Test Test (test_step tables) (unbuilt.part_step tables)
+
+  abbrev shape : Core-F Child PartChild → Core-F Node PartStart
+  shape y = map-Core _ _ _ _ node_of part_of y
+
+  abbrev of : Child → Core
+  of c = of_node c.0
+
+  abbrev test_of : Child → Test
+  test_of c = test tables c.0
+
+  abbrev tests_of : List Child → List Test
+  tests_of es = map (test tables) (map node_of es)
+
+  abbrev cores_of : List Child → Cores
+  cores_of es = listed (map of_node (map node_of es))
+
+  abbrev maybe_test : Option Child → Option Test
+  maybe_test o = option_map (test tables) (option_map node_of o)
+
+  abbrev maybe_core : Option Child → MaybeCore
+  maybe_core o = maybe (option_map of_node (option_map node_of o))
+
+  two : (a b : Child) → clear (option_or (test_of a).value (test_of b).value) ≡ is_value (of a) && is_value (of b)
+  two a b = and-is (test_of a).value (test_of b).value _ _ a.1.value b.1.value
+
+  three : (c a b : Child) → clear (option_or (test_of c).value (option_or (test_of a).value (test_of b).value)) ≡ is_value (of c) && (is_value (of a) && is_value (of b))
+  three c a b = and-is (test_of c).value _ _ _ c.1.value (two a b)
+
+  start-is : (e : Child) → clear (start (test_of e)) ≡ is_start (of e)
+  start-is e = ap (λ b. clear (if b then None else (test_of e).value)) e.1.blank ∙ where-not (is_nothing (of e)) (test_of e).value _ e.1.value
+
+  inner-is : (at m : ℕ) (s : Child) → clear (inner at m (test_of s)) ≡ not (declares_here (of s)) && is_statement m (of s)
+  inner-is at m s =
+      ap (λ b. clear (if b then Some at else (test_of s).statement m)) s.1.declares ∙ where-false at (declares_here (of s)) ((test_of s).statement m) _ (s.1.statement m)
+
+  inner_or-is : (at m : ℕ) (o : Option Child) → clear (inner_or at m (maybe_test o)) ≡ is_inner_or m (maybe_core o)
+  inner_or-is at m None = refl
+  inner_or-is at m (Some s) = inner-is at m s
+
+  given-is : (o : Option Child) → clear (given (maybe_test o)) ≡ is_condition (maybe_core o)
+  given-is None = refl
+  given-is (Some e) = e.1.value
+
+  case-is : (at m : ℕ) (s : Child) → clear (case at m (test_of s)) ≡ is_label (of s) || (not (declares_here (of s)) && is_statement m (of s))
+  case-is at m s = ap (λ b. clear (if b then None else inner at m (test_of s))) s.1.label ∙ where-not (is_label (of s)) (inner at m (test_of s)) _ (inner-is at m s)
+
+  in_arguments : (es : List Child) → clear (each_value (tests_of es)) ≡ are_arguments (cores_of es)
+  in_arguments [] = refl
+  in_arguments (e ∷ es) = and-is (test_of e).value _ _ _ e.1.value (in_arguments es)
+
+  in_values : (e : Child) (es : List Child) → clear (each_value (tests_of (e ∷ es))) ≡ are_values (cores_of (e ∷ es))
+  in_values e [] = and-is (test_of e).value None _ true e.1.value refl ∙ and-all (is_value (of e))
+  in_values e (f ∷ es) = and-is (test_of e).value _ _ _ e.1.value (in_values f es)
+
+  in_comma : (at : ℕ) (es : List Child) → clear (some_values at (tests_of es)) ≡ are_values (cores_of es)
+  unfolding some_values
+  in_comma at [] = refl
+  in_comma at (e ∷ es) = in_values e es
+
+  in_order : (m : ℕ) (es : List Child) → clear (each_statement m (tests_of es)) ≡ are_statements m (cores_of es)
+  in_order m [] = refl
+  in_order m (s ∷ ss) =
+      and-is ((test_of s).statement m) _ _ _ (s.1.statement m)
+      (ap (λ k. clear (each_statement k (tests_of ss))) (s.1.next m) ∙ in_order (next_local m (of s)) ss)
+
+  nexts : (m : ℕ) (es : List Child) → next_of_all m (tests_of es) ≡ next_locals m (cores_of es)
+  nexts m [] = refl
+  nexts m (s ∷ ss) = ap (λ k. next_of_all k (tests_of ss)) (s.1.next m) ∙ nexts (next_local m (of s)) ss
+
+  in_cases : (at m : ℕ) (es : List Child) → clear (each_case at m (tests_of es)) ≡ are_cases m (cores_of es)
+  in_cases at m [] = refl
+  in_cases at m (s ∷ ss) = and-is (case at m (test_of s)) _ _ _ (case-is at m s) (in_cases at m ss)
+
+  in_call : (at t : ℕ) (es : List Child) → clear (called at (is_called tables t) None (tests_of es))
+      ≡ not (is_class (result (type_of tables t))) && (is_chain (type_of tables t) && are_arguments (cores_of es))
+  in_call at t es =
+      both-tests at (not (is_class (result (type_of tables t)))) (is_function_type (type_of tables t)) (each_value (tests_of es)) _ (in_arguments es)
+      ∙ ap (λ b. not (is_class (result (type_of tables t))) && (b && are_arguments (cores_of es))) (chain-is (type_of tables t))
+
+  in_loop : (c e : Option Child) (s : Child) (m : ℕ) → clear (option_or (given (maybe_test c)) (option_or (given (maybe_test e)) ((test_of s).statement m)))
+      ≡ is_condition (maybe_core c) && (is_condition (maybe_core e) && is_statement m (of s))
+  in_loop c e s m =
+      and-is (given (maybe_test c)) (option_or (given (maybe_test e)) ((test_of s).statement m)) (is_condition (maybe_core c)) (is_condition (maybe_core e) && is_statement m (of s)) (given-is c)
+      (and-is (given (maybe_test e)) ((test_of s).statement m) (is_condition (maybe_core e)) (is_statement m (of s)) (given-is e) (s.1.statement m))
+
+  abbrev IsLayer : Core-F Node PartStart → Type 0
+  IsLayer x = Tests (test_step tables (map-Core _ _ _ _ (test tables) part_test x)) (core_step tables signature (map-Core _ _ _ _ of_node started_of x))
+
+  layer : (y : Core-F Child PartChild) → IsLayer (shape y)
+  layer (Core-F.Number at z) = record { value = refl; statement = λ m. refl; next = λ m. refl; blank = refl; declares = refl; label = refl }
+  layer (Core-F.Text at j bytes) = record { value = refl; statement = λ m. refl; next = λ m. refl; blank = refl; declares = refl; label = refl }
+  layer (Core-F.This at) = record { value = refl; statement = λ m. refl; next = λ m. refl; blank = refl; declares = refl; label = refl }
+  layer (Core-F.Local at i) = record { value = refl; statement = λ m. refl; next = λ m. refl; blank = refl; declares = refl; label = refl }
+  layer (Core-F.Static at n t) = record { value = refl; statement = λ m. refl; next = λ m. refl; blank = refl; declares = refl; label = refl }
+  layer (Core-F.Function at n t) = record { value = refl; statement = λ m. refl; next = λ m. refl; blank = refl; declares = refl; label = refl }
+  layer (Core-F.Member at e i) = record { value = refl; statement = λ m. refl; next = λ m. refl; blank = refl; declares = refl; label = refl }
+  layer (Core-F.Read at e) = record { value = e.1.value; statement = λ m. refl; next = λ m. refl; blank = refl; declares = refl; label = refl }
+  layer (Core-F.Address at e) = record { value = e.1.value; statement = λ m. refl; next = λ m. refl; blank = refl; declares = refl; label = refl }
+  layer (Core-F.Dereference at e) = record { value = e.1.value; statement = λ m. refl; next = λ m. refl; blank = refl; declares = refl; label = refl }
+  layer (Core-F.Decay at e) = record { value = e.1.value; statement = λ m. refl; next = λ m. refl; blank = refl; declares = refl; label = refl }
+  layer (Core-F.Index at a b) = record { value = two a b; statement = λ m. refl; next = λ m. refl; blank = refl; declares = refl; label = refl }
+  layer (Core-F.Convert at t e) = record { value = e.1.value; statement = λ m. refl; next = λ m. refl; blank = refl; declares = refl; label = refl }
+  layer (Core-F.Up at path e) = record { value = refl; statement = λ m. refl; next = λ m. refl; blank = refl; declares = refl; label = refl }
+  layer (Core-F.Down at c path e) = record { value = refl; statement = λ m. refl; next = λ m. refl; blank = refl; declares = refl; label = refl }
+  layer (Core-F.FromVoid at t e) = record { value = e.1.value; statement = λ m. refl; next = λ m. refl; blank = refl; declares = refl; label = refl }
+  layer (Core-F.ToMember at path e) = record { value = refl; statement = λ m. refl; next = λ m. refl; blank = refl; declares = refl; label = refl }
+  layer (Core-F.DataPointer at i) = record { value = refl; statement = λ m. refl; next = λ m. refl; blank = refl; declares = refl; label = refl }
+  layer (Core-F.FunctionPointer at t) = record { value = refl; statement = λ m. refl; next = λ m. refl; blank = refl; declares = refl; label = refl }
+  layer (Core-F.Through at a b) = record { value = refl; statement = λ m. refl; next = λ m. refl; blank = refl; declares = refl; label = refl }
+  layer (Core-F.Operate at op k a b) = record { value = two a b; statement = λ m. refl; next = λ m. refl; blank = refl; declares = refl; label = refl }
+  layer (Core-F.Unary at op k e) = record { value = e.1.value; statement = λ m. refl; next = λ m. refl; blank = refl; declares = refl; label = refl }
+  layer (Core-F.Not at e) = record { value = e.1.value; statement = λ m. refl; next = λ m. refl; blank = refl; declares = refl; label = refl }
+  layer (Core-F.And at a b) = record { value = two a b; statement = λ m. refl; next = λ m. refl; blank = refl; declares = refl; label = refl }
+  layer (Core-F.Or at a b) = record { value = two a b; statement = λ m. refl; next = λ m. refl; blank = refl; declares = refl; label = refl }
+  layer (Core-F.PointerOperate at op a b) = record { value = two a b; statement = λ m. refl; next = λ m. refl; blank = refl; declares = refl; label = refl }
+  layer (Core-F.Conditional at c a b) = record { value = three c a b; statement = λ m. refl; next = λ m. refl; blank = refl; declares = refl; label = refl }
+  layer (Core-F.Comma at es) = record { value = in_comma at es; statement = λ m. refl; next = λ m. refl; blank = refl; declares = refl; label = refl }
+  layer (Core-F.Store at a b) = record { value = two a b; statement = λ m. refl; next = λ m. refl; blank = refl; declares = refl; label = refl }
+  layer (Core-F.Update at a c b) = record { value = two a b; statement = λ m. refl; next = λ m. refl; blank = refl; declares = refl; label = refl }
+  layer (Core-F.Increment at is_postfix c e) = record { value = e.1.value; statement = λ m. refl; next = λ m. refl; blank = refl; declares = refl; label = refl }
+  layer (Core-F.Assign at t a b es) = record { value = refl; statement = λ m. refl; next = λ m. refl; blank = refl; declares = refl; label = refl }
+  layer (Core-F.Temporary at t e) = record { value = refl; statement = λ m. refl; next = λ m. refl; blank = refl; declares = refl; label = refl }
+  layer (Core-F.Call at f t None es) = record { value = in_call at t es; statement = λ m. refl; next = λ m. refl; blank = refl; declares = refl; label = refl }
+  layer (Core-F.Call at f t (Some object) es) = record { value = refl; statement = λ m. refl; next = λ m. refl; blank = refl; declares = refl; label = refl }
+  layer (Core-F.VirtualCall at m t e es) = record { value = refl; statement = λ m. refl; next = λ m. refl; blank = refl; declares = refl; label = refl }
+  layer (Core-F.PointerCall at None e t es) = record { value = refl; statement = λ m. refl; next = λ m. refl; blank = refl; declares = refl; label = refl }
+  layer (Core-F.PointerCall at (Some object) e t es) = record { value = refl; statement = λ m. refl; next = λ m. refl; blank = refl; declares = refl; label = refl }
+  layer (Core-F.New at t e) = record { value = refl; statement = λ m. refl; next = λ m. refl; blank = refl; declares = refl; label = refl }
+  layer (Core-F.NewArray at t n e) = record { value = refl; statement = λ m. refl; next = λ m. refl; blank = refl; declares = refl; label = refl }
+  layer (Core-F.Delete at t e) = record { value = refl; statement = λ m. refl; next = λ m. refl; blank = refl; declares = refl; label = refl }
+  layer (Core-F.DeleteArray at t e) = record { value = refl; statement = λ m. refl; next = λ m. refl; blank = refl; declares = refl; label = refl }
+  layer (Core-F.Build at f t es) = record { value = refl; statement = λ m. refl; next = λ m. refl; blank = refl; declares = refl; label = refl }
+  layer (Core-F.Copy at t e es) = record { value = refl; statement = λ m. refl; next = λ m. refl; blank = refl; declares = refl; label = refl }
+  layer (Core-F.Each at e) = record { value = refl; statement = λ m. refl; next = λ m. refl; blank = refl; declares = refl; label = refl }
+  layer (Core-F.List at es rest) = record { value = refl; statement = λ m. refl; next = λ m. refl; blank = refl; declares = refl; label = refl }
+  layer (Core-F.Characters at bytes) = record { value = refl; statement = λ m. refl; next = λ m. refl; blank = refl; declares = refl; label = refl }
+  layer (Core-F.Bind at holder.NoTemporary e) = record { value = e.1.value; statement = λ m. refl; next = λ m. refl; blank = refl; declares = refl; label = refl }
+  layer (Core-F.Bind at (holder.LocalTemporary i t) e) = record { value = refl; statement = λ m. refl; next = λ m. refl; blank = refl; declares = refl; label = refl }
+  layer (Core-F.Bind at (holder.StaticTemporary name) e) = record { value = refl; statement = λ m. refl; next = λ m. refl; blank = refl; declares = refl; label = refl }
+  layer (Core-F.Zeros at) = record { value = refl; statement = λ m. refl; next = λ m. refl; blank = refl; declares = refl; label = refl }
+  layer (Core-F.Blank at) = record { value = refl; statement = λ m. refl; next = λ m. refl; blank = refl; declares = refl; label = refl }
+  layer (Core-F.Full at e) = record { value = refl; statement = λ m. start-is e; next = λ m. refl; blank = refl; declares = refl; label = refl }
+  layer (Core-F.Block at es) = record { value = refl; statement = λ m. in_order m es; next = λ m. refl; blank = refl; declares = refl; label = refl }
+  layer (Core-F.Sequence at es) = record { value = refl; statement = λ m. in_order m es; next = λ m. nexts m es; blank = refl; declares = refl; label = refl }
+  layer (Core-F.Declare at i t e) = record { value = refl; statement = λ m. where-true at (nat_le m i) _ _ (start-is e); next = λ m. refl; blank = refl; declares = refl; label = refl }
+  layer (Core-F.Once at n e) = record { value = refl; statement = λ m. refl; next = λ m. refl; blank = refl; declares = refl; label = refl }
+  layer (Core-F.If at c a None) = record { value = refl; statement = λ m. and-is _ _ _ _ c.1.value (and-is _ _ _ _ (inner-is at m a) (inner_or-is at m None)); next = λ m. refl; blank = refl; declares = refl; label = refl }
+  layer (Core-F.If at c a (Some b)) = record { value = refl; statement = λ m. and-is _ _ _ _ c.1.value (and-is _ _ _ _ (inner-is at m a) (inner_or-is at m (Some b))); next = λ m. refl; blank = refl; declares = refl; label = refl }
+  layer (Core-F.Loop at f None None s) = record { value = refl; statement = in_loop None None s; next = λ m. refl; blank = refl; declares = refl; label = refl }
+  layer (Core-F.Loop at f None (Some e) s) = record { value = refl; statement = in_loop None (Some e) s; next = λ m. refl; blank = refl; declares = refl; label = refl }
+  layer (Core-F.Loop at f (Some c) None s) = record { value = refl; statement = in_loop (Some c) None s; next = λ m. refl; blank = refl; declares = refl; label = refl }
+  layer (Core-F.Loop at f (Some c) (Some e) s) = record { value = refl; statement = in_loop (Some c) (Some e) s; next = λ m. refl; blank = refl; declares = refl; label = refl }
+  layer (Core-F.Switch at e es) = record { value = refl; statement = λ m. and-is _ _ _ _ e.1.value (in_cases at m es); next = λ m. refl; blank = refl; declares = refl; label = refl }
+  layer (Core-F.Case at z) = record { value = refl; statement = λ m. refl; next = λ m. refl; blank = refl; declares = refl; label = refl }
+  layer (Core-F.Default at) = record { value = refl; statement = λ m. refl; next = λ m. refl; blank = refl; declares = refl; label = refl }
+  layer (Core-F.Break at) = record { value = refl; statement = λ m. refl; next = λ m. refl; blank = refl; declares = refl; label = refl }
+  layer (Core-F.Continue at) = record { value = refl; statement = λ m. refl; next = λ m. refl; blank = refl; declares = refl; label = refl }
+  layer (Core-F.Return at None) = record { value = refl; statement = λ m. refl; next = λ m. refl; blank = refl; declares = refl; label = refl }
+  layer (Core-F.Return at (Some e)) = record { value = refl; statement = λ m. e.1.value; next = λ m. refl; blank = refl; declares = refl; label = refl }
+  layer (Core-F.Parts at ps s) = record { value = refl; statement = λ m. refl; next = λ m. refl; blank = refl; declares = refl; label = refl }
+
+  rolled : (x : Core-F Node PartStart) → IsLayer x → IsTested (roll-Core x)
+  rolled x p =
+      subst (λ t. Tests t (of_node (roll-Core x))) (sym (fold-roll-Core Test Test (test_step tables) (unbuilt.part_step tables) x))
+      (subst (λ c. Tests (test_step tables (map-Core _ _ _ _ (test tables) part_test x)) c) (sym (fold-roll-Core Core Started (core_step tables signature) (started_step tables signature) x)) p)
+
+  pub tested : (n : Node) → Tests (test tables n) (of_node n)
+  tested = ind-Core IsTested (λ p. Unit {0}) (λ x y is. subst (λ z. IsTested (roll-Core z)) is (rolled (shape y) (layer y))) (λ x y is. tt)

@@ -1,0 +1,100 @@
+-- A file is built where the test finds nothing in it.
+use Rattle.std.proofs.Common.{◌≡◌, ℕ, zero, suc, ◌==◌, Bool, true, false, not, ◌&&◌, ◌||◌, List, [], ◌∷◌, map, length, Option, Some, None, refl, ap, sym, ◌∙◌, arith}
+use Rattle.std.specs.Prelude.{if◌then◌else◌, is_some, bytes_eq, codes}
+use Rattle.std.specs.List.{list_all}
+use Rattle.std.proofs.lemmas.Bool.{eqb-true}
+use Rattle.std.proofs.lemmas.List.{length-map}
+use Rattle.cf_classes.specs.declared.class.ClassDef.{ClassDef}
+use Rattle.cf_core.specs.declared.unit.CoreFn.{CoreFn}
+use Rattle.cf_core.specs.declared.unit.CoreStatic.{CoreStatic}
+use Rattle.cf_core.specs.declared.unit.Role.{Role}
+use Rattle.cf_core.specs.declared.unit.Role.TheVariants as role
+use Rattle.cf_core.specs.Types.{SourceType, gives, parameters, result, is_class}
+use Rattle.cf_core.specs.Core.{Function}
+use Rattle.cf_core.specs.NodePlace.{place}
+use Rattle.cf_core.specs.FromTypes.{Tables, type_of, taking}
+use Rattle.cf_core.specs.FromClasses.{signature_of, classes_in}
+use Rattle.cf_core.specs.FromUnit.{Unit as CoreUnit, tables_of, file_of, function_of, static_of, role_of}
+use Rattle.cf_sequence.specs.Built.{is_statement, is_chain, is_plain_role, is_none, is_body, is_built_function, is_built_file}
+use Rattle.cf_sequence_built.specs.Unbuilt.{test, is_plain, takes_nothing, is_usual, in_function, in_functions, in_statics, in_file}
+use Rattle.cf_sequence_written.proofs.Parameters.{parameters-taking, result-taking}
+use Rattle.cf_sequence_written.proofs.Tested.{clear, and-is, where-true, Tests, tested}
+
+some-first : (n : ℕ) → (suc n == 0) ≡ false
+some-first n = by (suc n == 0) refl
+  where
+    by : (b : Bool) → (suc n == 0) ≡ b → (suc n == 0) ≡ false
+    by true e = let same : suc n ≡ 0 = eqb-true (suc n) 0 e in absurd (omega (arith, same))
+    by false e = e
+
+none-mapped : {A B : Type 0} (g : A → B) (xs : List A) → (length xs == 0) ≡ is_none (map g xs)
+none-mapped g [] = refl
+none-mapped g (x ∷ xs) = some-first (length xs)
+
+chain-taking : (ps : List SourceType) (t : SourceType) (c : Bool) → is_chain (taking ps (gives t c)) ≡ true
+chain-taking [] t c = refl
+chain-taking (p ∷ ps) t c = chain-taking ps t c
+
+-- the parts of the tests of a function, in either order
+parts-are : (p m c l s : Bool) → (p && (m && (c && l))) && s ≡ (p && (true && (m && (c && s)))) && l
+parts-are false m c l s = refl
+parts-are true false c l s = refl
+parts-are true true false l s = refl
+parts-are true true true true true = refl
+parts-are true true true true false = refl
+parts-are true true true false true = refl
+parts-are true true true false false = refl
+
+module _ (tables : Tables) where
+  role-is : (r : Role) → is_plain r ≡ is_plain_role (role_of tables r)
+  role-is role.Plain = refl
+  role-is (role.Member c) = refl
+  role-is (role.Constructor c) = refl
+  role-is (role.Destructor c) = refl
+
+  abbrev is_good : Function → Bool
+  is_good f = is_built_function f && not f.is_local
+
+  function-is : (f : CoreFn) → clear (in_function tables f) ≡ is_good (function_of tables f)
+  function-is f =
+      let F : Function = function_of tables f in
+      let params : parameters F.type ≡ map (type_of tables) f.params = parameters-taking (map (type_of tables) f.params) (type_of tables f.result) false in
+      let count : length f.params ≡ length (parameters F.type) = sym (length-map f.params (type_of tables)) ∙ ap length (sym params) in
+      let named : Bool = not (bytes_eq f.name (codes "__main")) in
+      let body : Bool = is_statement (length (parameters F.type)) F.body in
+      where-true (place f.body) (is_usual tables f) ((test tables f.body).statement (length f.params)) body
+      (Tests.statement (tested tables (signature_of tables) f.body) (length f.params) ∙ ap (λ m. is_statement m F.body) count)
+      ∙ parts-are (is_plain f.role) (named || takes_nothing f) (not (is_class (type_of tables f.result))) (not f.is_local) body
+      ∙ ap (λ p. (p && (true && ((named || takes_nothing f) && (not (is_class (type_of tables f.result)) && body)))) && not f.is_local) (role-is f.role)
+      ∙ ap (λ k. (is_plain_role F.role && (k && ((named || takes_nothing f) && (not (is_class (type_of tables f.result)) && body)))) && not f.is_local)
+      (sym (chain-taking (map (type_of tables) f.params) (type_of tables f.result) false))
+      ∙ ap (λ n. (is_plain_role F.role && (is_chain F.type && ((named || n) && (not (is_class (type_of tables f.result)) && body)))) && not f.is_local)
+      (none-mapped (type_of tables) f.params ∙ ap is_none (sym params))
+      ∙ ap (λ t. (is_plain_role F.role && (is_chain F.type && ((named || is_none (parameters F.type)) && (not (is_class t) && body)))) && not f.is_local)
+      (sym (result-taking (map (type_of tables) f.params) (type_of tables f.result) false))
+
+  functions-are : (fs : List CoreFn) → clear (in_functions tables fs) ≡ list_all is_good (map (function_of tables) fs)
+  functions-are [] = refl
+  functions-are (f ∷ fs) = and-is (in_function tables f) (in_functions tables fs) _ _ (function-is f) (functions-are fs)
+
+  statics-are : (xs : List CoreStatic) → clear (in_statics xs) ≡ is_none (map (static_of tables) xs)
+  statics-are [] = refl
+  statics-are (x ∷ xs) = refl
+
+  classes-are : (ds : List (ℕ × ClassDef)) → (length ds == 0) ≡ is_none (classes_in tables ds)
+  classes-are [] = refl
+  classes-are (d ∷ ds) = some-first (length ds)
+
+file-clear : (unit : CoreUnit) → clear (in_file unit) ≡ is_built_file (file_of unit)
+file-clear unit =
+    let tables = tables_of unit in
+    let good = and-is (in_statics unit.statics) (in_functions tables unit.functions) _ _ (statics-are tables unit.statics) (functions-are tables unit.functions) in
+    where-true 0 (length unit.classes.defined == 0) _ _ good
+    ∙ ap (λ b. b && (is_none (file_of unit).statics && list_all (is_good tables) (file_of unit).functions)) (classes-are tables unit.classes.defined)
+
+found : (o : Option ℕ) → is_some o ≡ not (clear o)
+found None = refl
+found (Some at) = refl
+
+pub file-tested : (unit : CoreUnit) → is_some (in_file unit) ≡ not (is_built_file (file_of unit))
+file-tested unit = found (in_file unit) ∙ ap not (file-clear unit)
