@@ -1,0 +1,4 @@
+pub mod Forms
+pub mod Given
+pub mod Same
+pub mod Shut
