@@ -1,1 +1,2 @@
+mod Products
 pub mod SpotLaws

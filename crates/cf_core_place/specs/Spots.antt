@@ -1,5 +1,5 @@
 -- Where a route leads in an array.
-use Rattle.std.specs.Prelude.{ℕ, suc, ◌+◌, ◌*◌, nat_lt, nat_le, Bool, true, false, ◌&&◌, if◌then◌else◌, List, [], ◌∷◌, slice_get, Option, Some, None}
+use Rattle.std.specs.Prelude.{ℕ, suc, ◌+◌, ◌*◌, nat_lt, nat_le, true, false, ◌&&◌, if◌then◌else◌, List, [], ◌∷◌, slice_get, Option, Some, None}
 use Rattle.cf_core.specs.Core.{item, past, field, within}
 use Rattle.cf_core.specs.Places.{Route}
 use Rattle.cf_core_place.specs.declared.spot.Spot.{Spot}

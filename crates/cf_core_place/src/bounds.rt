@@ -1,5 +1,5 @@
-ghost use Rattle.std.specs.Prelude.{◌≡◌, [], ◌∷◌, IfSome, length, slice_get};
-ghost use Rattle.cf_core_place.specs.Routes.{list_of};
+ghost use Rattle.std.specs.Prelude.{◌≡◌, [], ◌∷◌, length, slice_get};
+ghost use Rattle.cf_core_place.specs.Routes.{list_of, AreBounds};
 
 /// The numbers of elements of an object, the outermost first (8.2.4). Arrays of arrays of arrays are not built.
 #[derive(Clone, Copy, Debug, PartialEq, Eq)]
@@ -13,7 +13,7 @@ pub enum Bounds {
 impl Bounds {
     /// Those of a list, unless it has more than two.
     pub fn of(list: &[u32]) -> Option<Bounds>
-        ensures { IfSome result (λ b. list_of b ≡ list.now) }
+        ensures { AreBounds list.now result }
     {
         match list {
             [] => Some(Bounds::None),
@@ -31,15 +31,6 @@ impl Bounds {
             Bounds::None => 0,
             Bounds::One(_) => 1,
             Bounds::Two(_, _) => 2,
-        }
-    }
-
-    /// How many scalars there are.
-    pub fn count(self) -> Option<usize> {
-        match self {
-            Bounds::None => Some(1),
-            Bounds::One(n) => Some(n as usize),
-            Bounds::Two(n, m) => (n as usize).checked_mul(m as usize),
         }
     }
 }

@@ -1,17 +1,16 @@
-ghost use Rattle.std.specs.Prelude.{◌≡◌, ◌<◌, ◌+◌, [], pos, neg_ℤ, IfSome, Some};
+ghost use Rattle.std.specs.Prelude.{◌≡◌, ◌<◌, ◌+◌, [], pos, neg_ℤ, Some};
 ghost use Rattle.cf_core.specs.Pointers as pointers;
 ghost use Rattle.cf_core.specs.Pointers.{element_of};
-ghost use Rattle.cf_core.specs.Types.{SourceType};
-ghost use Rattle.cf_run_tree.specs.Tree.{arrays};
-ghost use Rattle.cf_core_place.specs.Routes.{list_of, route_of};
+ghost use Rattle.cf_core_place.specs.Routes.{route_of, IsBound};
 ghost use Rattle.cf_core_place.specs.Spots.{kept_to};
 
 use crate::bounds::{Bounds, bound_at};
 use crate::part::Part;
 
-/// How many elements the array has of which a part is an element; an object that is none counts as the one element of an array (5.7).
+/// How many elements the array has of which a part is an element; an object that is none counts as the one element of an array (5.7). There is no
+/// such number where fewer arrays stand there.
 pub fn bound(bounds: Bounds, part: Part) -> Option<u32>
-    ensures { IfSome result (λ n. (t : SourceType) → pointers.bound_of [] (arrays (list_of bounds) t) (element_of (route_of part)) ≡ n) }
+    ensures { IsBound bounds part result }
 {
     match part {
         Part::Whole => Some(1),

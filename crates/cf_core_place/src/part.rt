@@ -1,6 +1,4 @@
-ghost use Rattle.std.specs.Prelude.{◌≡◌, ◌∷◌, IfSome};
-ghost use Rattle.cf_core.specs.Core as core;
-ghost use Rattle.cf_core_place.specs.Routes.{route_of};
+ghost use Rattle.cf_core_place.specs.Routes.{IsElement};
 
 /// A part of an object, or an end of an array in it.
 #[derive(Clone, Copy, Debug, PartialEq, Eq)]
@@ -21,9 +19,9 @@ pub struct Place {
     pub part: Part,
 }
 
-/// The element of this index of a part that is an array. Arrays of arrays of arrays are not built.
+/// The element of this index of a part that is an array. Ends have none, and arrays of arrays of arrays are not built.
 pub fn item(part: Part, index: u32) -> Option<Part>
-    ensures { IfSome result (λ q. route_of q ≡ core.item index ∷ route_of part) }
+    ensures { IsElement part index result }
 {
     match part {
         Part::Whole => Some(Part::Item(index)),

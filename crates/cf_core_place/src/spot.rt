@@ -1,4 +1,4 @@
-ghost use Rattle.std.specs.Prelude.{◌≡◌, ℕ, List, [], IfSome, Some};
+ghost use Rattle.std.specs.Prelude.{◌≡◌, ◌<◌, ◌^◌, ℕ, List, [], IfSome, Some};
 ghost use Rattle.cf_core_place.specs.Routes.{list_of, route_of};
 ghost use Rattle.cf_core_place.specs.Spots.{spot_of, item_of, past_of};
 
@@ -18,22 +18,23 @@ pub struct Spot {
 
 /// Where a part lies in an object of these bounds, if so many arrays stand there.
 pub fn find(bounds: Bounds, part: Part) -> Option<Spot>
-    ensures { IfSome result (λ s. spot_of (list_of bounds) (route_of part) ≡ Some s) }
+    ensures { spot_of (list_of bounds) (route_of part) ≡ result }
 {
     match part {
         Part::Whole => Some(top()),
         Part::Past => Some(behind(top())),
-        Part::Item(index) => item_in(bounds, top(), index as usize),
+        Part::Item(index) => item_in(bounds, top(), index),
         Part::Inner(row, index) => {
-            let row = item_in(bounds, top(), row as usize)?;
-            item_in(bounds, row, index as usize)
+            let row = item_in(bounds, top(), row)?;
+            item_in(bounds, row, index)
         }
     }
 }
 
 /// The whole object.
 fn top() -> Spot
-    ensures { (bounds : List ℕ) → spot_of bounds [] ≡ Some result }
+    ensures spot { (bounds : List ℕ) → spot_of bounds [] ≡ Some result }
+    ensures number { result.number ≡ 0 }
 {
     Spot {
         depth: 0,
@@ -54,14 +55,16 @@ fn behind(spot: Spot) -> Spot
 }
 
 /// The item of this index of what stands at a spot.
-fn item_in(bounds: Bounds, row: Spot, index: usize) -> Option<Spot>
-    ensures { IfSome result (λ s. item_of (list_of bounds) index (Some row) ≡ Some s) }
+#[tactic(auto, using(crate::proofs::Products::product_fits))]
+fn item_in(bounds: Bounds, row: Spot, index: u32) -> Option<Spot>
+    requires { row.number < 2 ^ 32 }
+    ensures spot { item_of (list_of bounds) index (Some row) ≡ result }
+    ensures number { row.number ≡ 0 → IfSome result (λ s. s.number < 2 ^ 32) }
 {
-    let bound = bound_at(bounds, row.depth)? as usize;
-    let number = row.number.checked_mul(bound)?.checked_add(index)?;
+    let bound = bound_at(bounds, row.depth)?;
     Some(Spot {
         depth: row.depth + 1,
-        number,
+        number: row.number * bound as usize + index as usize,
         is_inside: index < bound && row.is_inside,
     })
 }

@@ -24,3 +24,5 @@ mod streams;
 mod ticks;
 #[cfg(test)]
 mod trial;
+#[cfg(test)]
+mod units;
