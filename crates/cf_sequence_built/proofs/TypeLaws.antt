@@ -1,9 +1,9 @@
 -- What a type by its number is, by what stands in the table.
-use Rattle.std.proofs.Common.{◌≡◌, ◌∙◌, ℕ, ◌<◌, Bool, true, false, not, ◌&&◌, List, [], ◌∷◌, map, length, Option, Some, None, slice_get, All, ap, sym, refl, arith}
+use Rattle.std.proofs.Common.{◌≡◌, ◌∙◌, ℕ, ◌<◌, Bool, true, false, not, ◌&&◌, List, [], ◌∷◌, map, length, Option, Some, None, slice_get, All, ap, refl, arith}
 use Rattle.cf_types.specs.declared.ty.Ty.{Ty}
 use Rattle.cf_types.specs.declared.ty.Ty.TheVariants as ty
 use Rattle.cf_types.specs.declared.ty.Fun.{Fun}
-use Rattle.cf_types.specs.Table.{Table, NamesBelow, Names, parts_of_fun}
+use Rattle.cf_types.specs.Table.{NamesBelow, Names, parts_of_fun}
 use Rattle.cf_classes.proofs.Trees.{of_type-at}
 use Rattle.cf_core.specs.Types.{SourceType, void, gives, is_class, result}
 use Rattle.cf_core.specs.FromTypes.{Tables, type_of, type_step, taking, fun_type}

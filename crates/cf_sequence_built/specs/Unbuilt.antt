@@ -1,10 +1,10 @@
 -- The place of the first construct of a core that is not built so far.
-use Rattle.std.specs.Prelude.{ℕ, Bool, true, false, ◌&&◌, ◌||◌, not, ◌==◌, nat_le, if◌then◌else◌, List, [], ◌∷◌, map, length, codes, bytes_eq, suc, Option, Some, None}
+use Rattle.std.specs.Prelude.{ℕ, Bool, true, false, ◌&&◌, ◌||◌, not, ◌==◌, nat_le, if◌then◌else◌, List, [], ◌∷◌, length, codes, bytes_eq, suc, Option, Some, None}
 use Rattle.std.specs.Option.{option_or}
 use Rattle.cf_core.specs.declared.node.Core.{Core as Node, fold-Core}
 use Rattle.cf_core.specs.declared.node.Core.TheOpen.{Core-F}
 use Rattle.cf_core.specs.declared.node.Core.TheFolds.{map-Core}
-use Rattle.cf_core.specs.declared.node.PartStart.{PartStart, PartStart-F, fold-PartStart}
+use Rattle.cf_core.specs.declared.node.PartStart.{PartStart-F}
 use Rattle.cf_core.specs.declared.node.Holder.{Holder}
 use Rattle.cf_core.specs.declared.node.Holder.TheVariants as holder
 use Rattle.cf_core.specs.declared.unit.CoreFn.{CoreFn}

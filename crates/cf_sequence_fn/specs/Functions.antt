@@ -1,10 +1,9 @@
 -- What is written for a function, and for a file of functions.
-use Rattle.std.specs.Prelude.{◌≡◌, ℕ, suc, ◌+◌, List, [], ◌∷◌, length, map}
+use Rattle.std.specs.Prelude.{ℕ, suc, ◌+◌, List, [], ◌∷◌, length, map}
 use Rattle.std.specs.declared.alloc.Global.{Global}
 use Rattle.cf_types.specs.Table.{Table}
 use Rattle.cf_core.specs.declared.unit.CoreFn.{CoreFn}
 use Rattle.cf_core.specs.FromUnit.{Unit}
-use Rattle.cf_plain.specs.declared.statement.Plain.{Plain}
 use Rattle.cf_plain.specs.declared.unit.PlainFn.{PlainFn}
 use Rattle.cf_plain.specs.View as plain
 use Rattle.cf_sequence_expr.specs.declared.writing.Writing.{Writing}
@@ -12,7 +11,7 @@ use Rattle.cf_sequence_expr.specs.Pieces.{piece}
 use Rattle.cf_sequence_stmt.specs.declared.body.Body.{Body}
 use Rattle.cf_sequence_stmt.specs.declared.body.Open.{Open}
 use Rattle.cf_sequence_stmt.specs.Bodies.{left_to}
-use Rattle.cf_sequence_stmt.specs.Steps.{Step, step, inside_loop}
+use Rattle.cf_sequence_stmt.specs.Steps.{step, inside_loop}
 
 -- parameters of these types, numbered from the first
 abbrev pub opens_from : ℕ → List ℕ → List Open

@@ -1,4 +1,4 @@
-use Rattle.std.proofs.Common.{◌≡◌, true, map, drop}
+use Rattle.std.proofs.Common.{◌≡◌, true, drop}
 use Rattle.std.specs.List.{list_all}
 use Rattle.cf_core.specs.FromUnit.{tables_of}
 use Rattle.cf_core.specs.Numbers.{function_known}
