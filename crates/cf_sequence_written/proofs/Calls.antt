@@ -135,7 +135,7 @@ module _ (tables : Tables) (signature : MemberRef → Name) (classes : List Clas
       let T = type_of tables in
       let size : length ts ≡ length (map T ts) = sym (length-map ts T) in
       let count : length ts + length (added (nodes_all es)) ≡ length (parameters (T t) ++ added (nodes_all es)) =
-          ap (λ m. m + length (added (nodes_all es))) (size ∙ ap length params) ∙ sym (length-append (parameters (T t)) (added (nodes_all es))) in
+      ap (λ m. m + length (added (nodes_all es))) (size ∙ ap length params) ∙ sym (length-append (parameters (T t)) (added (nodes_all es))) in
       record {
         code = λ w rest.
             Puts.code (calling x name t ts n w.next all) w rest

@@ -97,7 +97,7 @@ module _ (tables : Tables) where
     body-is =
         let after = (step tables.types f.body).act (inside_loop start) start in
         let count : length f.params + length f.locals ≡ length (parameters F.type) + length F.locals =
-            let one = length-map f.params (type_of tables) in let two = length-map f.locals (type_of tables) in let three = ap length params-are in omega (arith, one, two, three) in
+        let one = length-map f.params (type_of tables) in let two = length-map f.locals (type_of tables) in let three = ap length params-are in omega (arith, one, two, three) in
         sym (followed-end tables signature (Writing.code (Body.writing (left_to 0 after))))
         ∙ Goes.code (goes-left tables signature 0 after) nothing
         ∙ Goes.code goes (finished (ends tables (drop 0 after.scope)) nothing)

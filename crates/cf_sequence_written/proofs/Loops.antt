@@ -51,8 +51,8 @@ module _ (tables : Tables) (signature : MemberRef → Name) where
   goes-held classes b (one_part s e w) =
       let r = behind_flags 0 s.piece in
       let out : plain_of tables signature (code.If r [] (code.Break ∷ [])) ≡ branch (0 + width e) nothing (more leave nothing) =
-          of-If tables signature r [] (code.Break ∷ []) ∙ ap (λ q. branch q nothing (more (plain_of tables signature code.Break) nothing)) (register tables signature w)
-          ∙ ap (λ s. branch (0 + width e) nothing (more s nothing)) (of-Break tables signature) in
+      of-If tables signature r [] (code.Break ∷ []) ∙ ap (λ q. branch q nothing (more (plain_of tables signature code.Break) nothing)) (register tables signature w)
+      ∙ ap (λ s. branch (0 + width e) nothing (more s nothing)) (of-Break tables signature) in
       goes-as tables signature
       (goes-rest tables signature (goes-tested tables signature classes b w) (goes-stated tables signature (code.If r [] (code.Break ∷ [])) _ (tested s.piece b) out))
       (λ rest. condition-is tables signature classes e (Whole.start w) (Writing.next b.writing) (λ n. more (branch n nothing (more leave nothing)) rest)) refl
@@ -141,7 +141,7 @@ module _ (tables : Tables) (signature : MemberRef → Name) where
         let z = with_code ss (begun second) in
         let scope : Body.scope z ≡ b.scope = scope-with_code tables signature ss (begun second) ∙ scope-begun tables signature second ∙ scope-second in
         let there : Writing.next (Body.writing z) ≡ start + width_maybe c + width_maybe e =
-            next-with_code tables signature ss (begun second) ∙ next-begun tables signature second ∙ at-second in
+        next-with_code tables signature ss (begun second) ∙ next-begun tables signature second ∙ at-second in
         let goes = goes-turn one ok f ways z (subst (Stands tables f ways) (sym scope) at) in
         looped z [] (Writing.code (Body.writing second)) _ _ goes scope there
         (sym (followed-end tables signature (Writing.code (Body.writing (turn s z)))) ∙ Goes.code goes nothing

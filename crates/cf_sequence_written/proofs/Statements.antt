@@ -26,7 +26,7 @@ use Rattle.cf_sequence_expr.specs.Writes.{branched}
 use Rattle.cf_sequence_expr.specs.Pieces.{Piece}
 use Rattle.cf_sequence_stmt.specs.declared.body.Body.{Body}
 use Rattle.cf_sequence_stmt.specs.declared.body.Ways.{Ways}
-use Rattle.cf_sequence_stmt.specs.Bodies.{begun, chosen, left_to, stated, behind_flags, tested} 
+use Rattle.cf_sequence_stmt.specs.Bodies.{begun, chosen, left_to, stated, behind_flags, tested}
 use Rattle.cf_sequence_stmt.specs.Bodies as bodies
 use Rattle.cf_sequence_stmt.specs.Steps.{Step, in_order, or_nothing, block, choice, returned}
 use Rattle.cf_sequence_written.proofs.Views.{of-Case, of-Default, of-Break, of-Continue, of-Return}
@@ -104,7 +104,7 @@ module _ (tables : Tables) (signature : MemberRef → Name) where
     acts = λ ok f ways b at.
         let first = one.acts ok.0 f ways b at in
         let behind : Stands tables (declares (declared c) f) ways (Body.scope (s.act ways b)) =
-            subst (Stands tables (declares (declared c) f) ways) (sym first.scope) (stands-more tables first.opens (declared c) first.ends at) in
+        subst (Stands tables (declares (declared c) f) ways) (sym first.scope) (stands-more tables first.opens (declared c) first.ends at) in
         goes-as tables signature (goes-then tables signature first (all.acts ok.1 (declares (declared c) f) ways (s.act ways b) behind)) (λ rest. refl)
         (nodes-count (nodes c) (nodes_all cs));
   }
@@ -137,7 +137,7 @@ module _ (tables : Tables) (signature : MemberRef → Name) where
   goes-chosen {g = g} {h = h} {i = i} {m = m} {n = n} {o = o} {b = b} {t = t} {first = first} {other = other} r q same test one two =
       let there : Writing.next t.writing ≡ Writing.next b.writing + m = test.next in
       let further : Writing.next first.writing ≡ Writing.next b.writing + m + n =
-          let begins = next-begun tables signature t in let goes = one.next in omega (arith, there, begins, goes) in
+      let begins = next-begun tables signature t in let goes = one.next in omega (arith, there, begins, goes) in
       record {
         code = λ rest.
             followed-branch tables signature r (Writing.code t.writing) (Writing.code first.writing) (h (Writing.next b.writing + m) nothing) (i (Writing.next b.writing + m + n) nothing)
@@ -161,11 +161,11 @@ module _ (tables : Tables) (signature : MemberRef → Name) where
   goes-choice s {t} {o} {c} {a} {d} w one other m ok ok-other f ways b at =
       let test = goes-tested tables signature f.classes b w in
       let at-one : Stands tables f ways (Body.scope (begun (tested s.piece b))) =
-          subst (Stands tables f ways) (sym (scope-begun tables signature (tested s.piece b) ∙ same-scope tables signature test)) at in
+      subst (Stands tables f ways) (sym (scope-begun tables signature (tested s.piece b) ∙ same-scope tables signature test)) at in
       let first = goes-declares tables signature (one.acts (stated-statement m a (both (not (declares_here a)) (is_statement m a) ok).1) f ways (begun (tested s.piece b)) at-one)
-          (undeclared-inner m a ok) in
+      (undeclared-inner m a ok) in
       let at-two : Stands tables f ways (Body.scope (begun (t.act ways (begun (tested s.piece b))))) =
-          subst (Stands tables f ways) (sym (scope-begun tables signature (t.act ways (begun (tested s.piece b))) ∙ same-scope tables signature first)) at-one in
+      subst (Stands tables f ways) (sym (scope-begun tables signature (t.act ways (begun (tested s.piece b))) ∙ same-scope tables signature first)) at-one in
       let second = other.acts m ok-other f ways (begun (t.act ways (begun (tested s.piece b)))) at-two in
       goes-as tables signature (goes-chosen (behind_flags 0 s.piece) (0 + width c) (register tables signature w) test first second)
       (λ rest. condition-is tables signature f.classes c (Whole.start w) (Writing.next b.writing)
