@@ -1,5 +1,5 @@
 -- Small files, as elaboration makes them.
-use Rattle.std.specs.Prelude.{ℕ, pos, List, [], ◌∷◌, Some, false, codes}
+use Rattle.std.specs.Prelude.{ℕ, pos, [], ◌∷◌, Some, false, codes}
 use Rattle.cf_base.specs.declared.kind.Kind.TheVariants.{Int}
 use Rattle.cf_types.specs.declared.ty.Ty.TheVariants as ty
 use Rattle.cf_core.specs.declared.node.Core.{Core}
