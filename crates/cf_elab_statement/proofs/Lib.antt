@@ -1,0 +1,6 @@
+pub mod JumpLaws
+pub mod LoopLaws
+pub mod Onward
+pub mod Rows
+pub mod SimpleLaws
+pub mod SwitchLaws
