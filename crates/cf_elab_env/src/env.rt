@@ -5,6 +5,7 @@ ghost use Rattle.cf_elab.specs.Answer.{Made};
 ghost use Rattle.cf_elab_env.specs.Holds.{IsEnv, EnumGiven, IsEntry, IsType, HasNoClass};
 ghost use Rattle.cf_elab_env.specs.Shut as shut;
 
+use crate::declared::Declared;
 use crate::entity::Entity;
 use crate::extent::Extent;
 use crate::functions::FunctionEntry;
@@ -33,7 +34,7 @@ pub struct Env {
     /// The names that the file's own declarations define.
     pub(crate) defines: Items<Name>,
     pub(crate) types: Types,
-    pub(crate) classes: Classes,
+    pub(crate) classes: Declared,
     pub(crate) scopes: Scopes,
     pub(crate) entities: Vec<Entity>,
     pub(crate) linked: Items<Linked>,
@@ -77,7 +78,7 @@ impl Env {
             extent,
             defines,
             types,
-            classes: Classes::new(alloc),
+            classes: Declared::new(alloc),
             scopes: Scopes::new(alloc),
             entities: Vec::new(alloc),
             linked: Items::new(alloc),
@@ -110,7 +111,14 @@ impl Env {
         ensures enums { All (EnumGiven (length self.now.classes.enums)) self.now.types.types }
         ensures no_outer { All (λ l. l.outer ≡ None) self.now.classes.enums }
     {
-        &self.classes
+        self.classes.classes()
+    }
+
+    /// How many enumerations there are.
+    pub fn enum_count(&self) -> u32
+        ensures { result ≡ length self.now.classes.enums }
+    {
+        self.classes.enum_count()
     }
 
     /// The forms of the language that are built.

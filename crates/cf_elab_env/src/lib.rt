@@ -6,6 +6,7 @@
 
 mod added;
 mod at_hand;
+mod declared;
 mod entity;
 mod env;
 mod extent;

@@ -1,5 +1,6 @@
-ghost use Rattle.std.specs.Prelude.{◌≡◌, ◌<◌, length, slice_get, Some, IfSome, true, false};
+ghost use Rattle.std.specs.Prelude.{◌≡◌, ◌<◌, length, slice_get, Some, All, IfOk, IfSome, true, false};
 ghost use Rattle.std.specs.Option.{option_map, option_copied};
+ghost use Rattle.cf_lookup.specs.Scope.{all_found};
 ghost use Rattle.cf_elab.specs.Names as names;
 ghost use Rattle.cf_elab.specs.Paths.{found_alone, entity as entity_found};
 ghost use Rattle.cf_elab_env.specs.Holds.{IsEntity, IsEntry};
@@ -8,6 +9,7 @@ ghost use Rattle.cf_elab_env.specs.Seen.{entity_seen};
 use crate::entity::Entity;
 use crate::env::Env;
 use crate::functions::FunctionEntry;
+use cf_base::Memory;
 
 impl Env {
     /// What a name stands for: what the innermost scope that has it declares it as (3.2).
@@ -17,6 +19,16 @@ impl Env {
     {
         let id = self.scopes.find(name)?;
         Some(self.entity(id.number()))
+    }
+
+    /// All that the open scopes declare a name as, by the numbers of the entities: the innermost scope first, and in each in order.
+    pub fn find_all(&self, name: &[u8]) -> Result<Vec<u32>, Memory>
+        ensures value { IfOk result (λ numbers. numbers.items ≡ all_found name.now self.now.scopes) }
+        ensures known { IfOk result (λ numbers. All (λ number. number < length self.now.entities) numbers.items) }
+    {
+        let ids = self.scopes.find_all(name)?;
+        let numbers = ids.iter().map(|id| id.number()).collect(self.alloc)?;
+        Ok(numbers)
     }
 
     /// What the file's own scope declares a name as, which `::` asks (5.1).

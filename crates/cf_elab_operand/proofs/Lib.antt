@@ -1,6 +1,7 @@
 pub mod ByteLaws
 pub mod EachLaws
 pub mod FunctionLaws
+pub mod Grown
 pub mod LiteralLaws
 pub mod NameLaws
 pub mod ObjectLaws

@@ -1,5 +1,5 @@
 -- Scopes of names (3.2).
-use Rattle.std.specs.Prelude.{◌≡◌, ℕ, nat_eq, List, [], ◌∷◌, ◌++◌, Option, None}
+use Rattle.std.specs.Prelude.{◌≡◌, ℕ, nat_eq, List, [], ◌∷◌, ◌++◌, map, filter, Option, None}
 use Rattle.std.specs.Cmp.Lexicographic.{pointwise}
 use Rattle.std.specs.Map.{lookup}
 use Rattle.std.specs.Option.{option_or}
@@ -20,6 +20,18 @@ found_in name (scope ∷ inner) = option_or (found_in name inner) (in_scope name
 
 abbrev pub found : List ℕ → OpenScopes → Option ℕ
 found name scopes = found_in name (scopes.outer ++ scopes.inner ∷ [])
+
+-- all that a scope declares the name as, in order
+abbrev pub named_in : List ℕ → List (List ℕ × ℕ) → List ℕ
+named_in name scope = map (λ x. x.1) (filter (λ x. pointwise nat_eq name x.0) scope)
+
+-- all that a name is declared as in the open scopes, the innermost scope first
+abbrev pub all_in : List ℕ → List (List (List ℕ × ℕ)) → List ℕ
+all_in name [] = []
+all_in name (scope ∷ inner) = all_in name inner ++ named_in name scope
+
+abbrev pub all_found : List ℕ → OpenScopes → List ℕ
+all_found name scopes = all_in name (scopes.outer ++ scopes.inner ∷ [])
 
 -- the file's own scope
 abbrev pub file_scope : OpenScopes → List (List ℕ × ℕ)

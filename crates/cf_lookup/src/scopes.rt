@@ -1,5 +1,5 @@
 ghost use Rattle.std.specs.Prelude.{◌≡◌, ℕ, ◌<◌, ◌≤◌, ◌-◌, ◌↔◌, List, [], ◌∷◌, ◌++◌, length, map, take, IsTrue, IfOk, OnOk, OnErr, is_none};
-ghost use Rattle.cf_lookup.specs.Scope.{found, found_in, in_scope, file_scope, StillTells};
+ghost use Rattle.cf_lookup.specs.Scope.{all_found, all_in, found, found_in, in_scope, named_in, file_scope, StillTells};
 
 use cf_base::Memory;
 use indexmap::IndexMap;
@@ -78,6 +78,19 @@ impl Scope {
         ensures { result ≡ in_scope name.now self.now }
     {
         self.first.get(name).copied()
+    }
+
+    /// Notes all that the scope declares the name as, in order.
+    fn add_named(&self, name: &[u8], found: &mut Vec<EntityId>) -> Result<(), Memory>
+        ensures { OnOk result (found.new.items ≡ found.old.items ++ named_in name.now self.now) }
+    {
+        let names = self.declared.as_slice();
+        for declared in names {
+            if name == declared.name.as_slice() {
+                found.push(declared.entity)?;
+            }
+        }
+        Ok(())
     }
 
     /// Declares a name behind those that the scope has.
@@ -204,6 +217,29 @@ impl Scopes {
             .get(name)
             .or(find_in(self.outer.as_slice(), name))
     }
+
+    /// All that the name is declared as in the open scopes: the innermost scope first, and in each scope in order of declaration.
+    #[tactic(auto, using(crate::proofs::All::all_found_is))]
+    pub fn find_all(&self, name: &[u8]) -> Result<Vec<EntityId>, Memory>
+        ensures { IfOk result (λ found. found.items ≡ all_found name.now self.now) }
+    {
+        let mut found = Vec::new(self.alloc);
+        self.inner.add_named(name, &mut found)?;
+        add_all(self.outer.as_slice(), name, &mut found)?;
+        Ok(found)
+    }
+}
+
+/// Notes all that these scopes declare the name as, those of the last scope first.
+fn add_all(scopes: &[Scope], name: &[u8], found: &mut Vec<EntityId>) -> Result<(), Memory>
+    ensures { OnOk result (found.new.items ≡ found.old.items ++ all_in name.now scopes.now) }
+{
+    let mut around = scopes.len();
+    while around > 0 {
+        around -= 1;
+        scopes[around].add_named(name, found)?;
+    }
+    Ok(())
 }
 
 /// What the last of these scopes that has the name declares it as.

@@ -1,0 +1,5 @@
+pub mod KeyLaws
+pub mod NamedLaws
+pub mod PathLaws
+pub mod WordLaws
+pub mod WordsLaws
