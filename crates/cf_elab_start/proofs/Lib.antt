@@ -1,0 +1,4 @@
+pub mod CarryLaws
+pub mod StartLaws
+pub mod Weights
+pub mod WrittenLaws
