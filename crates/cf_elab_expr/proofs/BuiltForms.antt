@@ -1,0 +1,188 @@
+-- The forms of expressions that are built are made of parts that are built.
+use Rattle.std.proofs.Common.{◌≡◌, ℕ, zero, suc, ◌<◌, Bool, true, false, List, [], ◌∷◌, map, length, get_or, Option, None, Some, refl, sym, ap, ◌∙◌, if◌then◌else◌, nat_le, arith}
+use Rattle.cf_syntax.specs.declared.declarator.DeclTree.{DeclTree, fold-DeclTree}
+use Rattle.cf_syntax.specs.declared.declarator.DeclTree.TheOpen.{Expr-F}
+use Rattle.cf_syntax.specs.declared.declarator.DeclTree.TheFolds.{fold-roll-Expr, map-Expr}
+use Rattle.cf_syntax.specs.declared.declarator.Param.{Param, fold-Param}
+use Rattle.cf_syntax.specs.declared.declarator.TypeId.{TypeId, fold-TypeId}
+use Rattle.cf_syntax.specs.declared.expression.Expr.{Expr, roll-Expr}
+use Rattle.cf_syntax.specs.declared.expression.Expr.TheVariants as form
+use Rattle.cf_syntax.specs.declared.name.Name.{Name as WrittenName}
+use Rattle.cf_syntax.specs.declared.name.Path.{Path}
+use Rattle.cf_syntax.specs.declared.operator.AssignOp.{AssignOp}
+use Rattle.cf_syntax.specs.declared.operator.BinaryOp.{BinaryOp}
+use Rattle.cf_syntax.specs.declared.operator.PrefixOp.{PrefixOp}
+use Rattle.cf_syntax.specs.declared.operator.StepOp.{StepOp}
+use Rattle.cf_syntax.specs.declared.specifier.BasicType.{BasicType}
+use Rattle.cf_syntax.specs.declared.specifier.Pointer.{Pointer}
+use Rattle.cf_syntax.specs.declared.specifier.TypeSpecifier.{TypeSpecifier}
+use Rattle.cf_elab.specs.Built as built
+use Rattle.cf_elab.specs.Built.{Place, first, first_of}
+use Rattle.cf_elab_expr.specs.Forms.{place, form_step}
+use Rattle.cf_elab_expr.specs.Shut.{IsBuilt}
+
+abbrev of_tree : DeclTree → Place
+of_tree = fold-DeclTree Place Place Place Place built.tree_step form_step built.param_step built.type_step
+
+abbrev of_param : Param → Place
+of_param = fold-Param Place Place Place Place built.tree_step form_step built.param_step built.type_step
+
+abbrev of_type : TypeId → Place
+of_type = fold-TypeId Place Place Place Place built.tree_step form_step built.param_step built.type_step
+
+seen : (x : Expr-F DeclTree Expr Param TypeId)
+    → place (roll-Expr x) ≡ form_step (map-Expr DeclTree Expr Param TypeId Place Place Place Place of_tree place of_param of_type x)
+seen x = fold-roll-Expr Place Place Place Place built.tree_step form_step built.param_step built.type_step x
+
+pub left : (a b : Place) → first a b ≡ None → a ≡ None
+left None b h = refl
+left (Some n) None h = h
+left (Some n) (Some m) h = by (nat_le n m) h
+  where
+    by : (t : Bool) → (if t then Some n else Some m) ≡ None → Some n ≡ None
+    by true h = h
+    by false h = cc
+
+pub right : (a b : Place) → first a b ≡ None → b ≡ None
+right None b h = h
+right (Some n) None h = refl
+right (Some n) (Some m) h = by (nat_le n m) h
+  where
+    by : (t : Bool) → (if t then Some n else Some m) ≡ None → Some m ≡ None
+    by true h = cc
+    by false h = h
+
+module _ (at : ℕ) where
+  pub paren_inside : (a : Expr) → IsBuilt (form.Paren at a) → IsBuilt a
+  unfolding IsBuilt roll-Expr denote.Hole.Carrier.roll
+  paren_inside a h = sym (seen (Expr-F.Paren at a)) ∙ h
+
+  pub before_inside : (op : StepOp) (a : Expr) → IsBuilt (form.StepBefore at op a) → IsBuilt a
+  unfolding IsBuilt roll-Expr denote.Hole.Carrier.roll
+  before_inside op a h = sym (seen (Expr-F.StepBefore at op a)) ∙ h
+
+  pub behind_inside : (op : StepOp) (a : Expr) → IsBuilt (form.StepAfter at op a) → IsBuilt a
+  unfolding IsBuilt roll-Expr denote.Hole.Carrier.roll
+  behind_inside op a h = sym (seen (Expr-F.StepAfter at op a)) ∙ h
+
+  pub prefix_inside : (op : PrefixOp) (a : Expr) → IsBuilt (form.Prefix at op a) → IsBuilt a
+  unfolding IsBuilt roll-Expr denote.Hole.Carrier.roll
+  prefix_inside op a h = sym (seen (Expr-F.Prefix at op a)) ∙ h
+
+  pub size_inside : (a : Expr) → IsBuilt (form.SizeofExpr at a) → IsBuilt a
+  unfolding IsBuilt roll-Expr denote.Hole.Carrier.roll
+  size_inside a h = sym (seen (Expr-F.SizeofExpr at a)) ∙ h
+
+  pub index_left : (a b : Expr) → IsBuilt (form.Index at a b) → IsBuilt a
+  unfolding IsBuilt roll-Expr denote.Hole.Carrier.roll
+  index_left a b h = left (place a) (place b) (sym (seen (Expr-F.Index at a b)) ∙ h)
+
+  pub index_right : (a b : Expr) → IsBuilt (form.Index at a b) → IsBuilt b
+  unfolding IsBuilt roll-Expr denote.Hole.Carrier.roll
+  index_right a b h = right (place a) (place b) (sym (seen (Expr-F.Index at a b)) ∙ h)
+
+  pub assign_left : (op : AssignOp) (a b : Expr) → IsBuilt (form.Assign at op a b) → IsBuilt a
+  unfolding IsBuilt roll-Expr denote.Hole.Carrier.roll
+  assign_left op a b h = left (place a) (place b) (sym (seen (Expr-F.Assign at op a b)) ∙ h)
+
+  pub assign_right : (op : AssignOp) (a b : Expr) → IsBuilt (form.Assign at op a b) → IsBuilt b
+  unfolding IsBuilt roll-Expr denote.Hole.Carrier.roll
+  assign_right op a b h = right (place a) (place b) (sym (seen (Expr-F.Assign at op a b)) ∙ h)
+
+  module _ (op : BinaryOp) (a b : Expr) (h : IsBuilt (form.Binary at op a b)) where
+    abbrev both : Place
+    both = first (place a) (place b)
+
+    all_three : first (built.of_binary at op) both ≡ None
+    unfolding IsBuilt roll-Expr denote.Hole.Carrier.roll
+    all_three = sym (seen (Expr-F.Binary at op a b)) ∙ h
+
+    pub binary_op : built.of_binary at op ≡ None
+    binary_op = left (built.of_binary at op) both all_three
+
+    pub binary_left : IsBuilt a
+    unfolding IsBuilt
+    binary_left = left (place a) (place b) (right (built.of_binary at op) both all_three)
+
+    pub binary_right : IsBuilt b
+    unfolding IsBuilt
+    binary_right = right (place a) (place b) (right (built.of_binary at op) both all_three)
+
+  module _ (c a b : Expr) (h : IsBuilt (form.Conditional at c a b)) where
+    abbrev pair : Place
+    pair = first (place a) (place b)
+
+    of_three : first (place c) pair ≡ None
+    unfolding IsBuilt roll-Expr denote.Hole.Carrier.roll
+    of_three = sym (seen (Expr-F.Conditional at c a b)) ∙ h
+
+    pub conditional_first : IsBuilt c
+    unfolding IsBuilt
+    conditional_first = left (place c) pair of_three
+
+    pub conditional_second : IsBuilt a
+    unfolding IsBuilt
+    conditional_second = left (place a) (place b) (right (place c) pair of_three)
+
+    pub conditional_third : IsBuilt b
+    unfolding IsBuilt
+    conditional_third = right (place a) (place b) (right (place c) pair of_three)
+
+  -- ---- forms that are not built
+
+  pub no_call : (f : Expr) (es : List Expr) → IsBuilt (form.Call at f es) → ⊥
+  unfolding IsBuilt roll-Expr denote.Hole.Carrier.roll
+  no_call f es h = let e : Some at ≡ None = sym (seen (Expr-F.Call at f es)) ∙ h in absurd cc
+
+  pub no_comma : (es : List Expr) → IsBuilt (form.Comma at es) → ⊥
+  unfolding IsBuilt roll-Expr denote.Hole.Carrier.roll
+  no_comma es h = let e : Some at ≡ None = sym (seen (Expr-F.Comma at es)) ∙ h in absurd cc
+
+  pub no_basic : (b : BasicType) (es : List Expr) → IsBuilt (form.BasicCall at b es) → ⊥
+  unfolding IsBuilt roll-Expr denote.Hole.Carrier.roll
+  no_basic b es h = let e : Some at ≡ None = sym (seen (Expr-F.BasicCall at b es)) ∙ h in absurd cc
+
+  pub no_typed : (p : Path) (es : List Expr) → IsBuilt (form.TypeCall at p es) → ⊥
+  unfolding IsBuilt roll-Expr denote.Hole.Carrier.roll
+  no_typed p es h = let e : Some at ≡ None = sym (seen (Expr-F.TypeCall at p es)) ∙ h in absurd cc
+
+  pub no_size_of_type : (t : TypeId) → IsBuilt (form.SizeofType at t) → ⊥
+  unfolding IsBuilt roll-Expr denote.Hole.Carrier.roll
+  no_size_of_type t h = let e : Some at ≡ None = sym (seen (Expr-F.SizeofType at t)) ∙ h in absurd cc
+
+  pub no_cast : (t : TypeId) (a : Expr) → IsBuilt (form.Cast at t a) → ⊥
+  unfolding IsBuilt roll-Expr denote.Hole.Carrier.roll
+  no_cast t a h = let e : Some at ≡ None = sym (seen (Expr-F.Cast at t a)) ∙ h in absurd cc
+
+  pub no_this : IsBuilt (form.This at) → ⊥
+  unfolding IsBuilt roll-Expr denote.Hole.Carrier.roll
+  no_this h = let e : Some at ≡ None = sym (seen (Expr-F.This at)) ∙ h in absurd cc
+
+  no_first : (a : Place) → first (Some at) a ≡ None → ⊥
+  no_first a h = let e : Some at ≡ None = left (Some at) a h in absurd cc
+
+  pub no_dot : (a : Expr) (n : WrittenName) → IsBuilt (form.Dot at a n) → ⊥
+  unfolding IsBuilt roll-Expr denote.Hole.Carrier.roll
+  no_dot a n h = no_first (place a) (sym (seen (Expr-F.Dot at a n)) ∙ h)
+
+  pub no_arrow : (a : Expr) (n : WrittenName) → IsBuilt (form.Arrow at a n) → ⊥
+  unfolding IsBuilt roll-Expr denote.Hole.Carrier.roll
+  no_arrow a n h = no_first (place a) (sym (seen (Expr-F.Arrow at a n)) ∙ h)
+
+  pub no_delete : (file is_array : Bool) (a : Expr) → IsBuilt (form.Delete at file is_array a) → ⊥
+  unfolding IsBuilt roll-Expr denote.Hole.Carrier.roll
+  no_delete file is_array a h = let e : Some at ≡ None = sym (seen (Expr-F.Delete at file is_array a)) ∙ h in absurd cc
+
+  pub no_new : (file : Bool) (ss : List TypeSpecifier) (ps : List Pointer) (bs : List Expr) (has : Bool) (es : List Expr) → IsBuilt (form.New at file ss ps bs has es) → ⊥
+  unfolding IsBuilt roll-Expr denote.Hole.Carrier.roll
+  no_new file ss ps bs has es h = let e : Some at ≡ None = sym (seen (Expr-F.New at file ss ps bs has es)) ∙ h in absurd cc
+
+  pub no_bracketed : (file : Bool) (t : TypeId) (has : Bool) (es : List Expr) → IsBuilt (form.NewBracketed at file t has es) → ⊥
+  unfolding IsBuilt roll-Expr denote.Hole.Carrier.roll
+  no_bracketed file t has es h = let e : Some at ≡ None = sym (seen (Expr-F.NewBracketed at file t has es)) ∙ h in absurd cc
+
+pub name_built : (n : WrittenName) → IsBuilt (form.Named n) → built.of_name n ≡ None
+unfolding IsBuilt roll-Expr denote.Hole.Carrier.roll
+name_built n h = sym (seen (Expr-F.Named n)) ∙ h
+
+pub ruleset unbuilt_laws = (no_call, no_comma, no_basic, no_typed, no_size_of_type, no_cast, no_this, no_dot, no_arrow, no_delete, no_new, no_bracketed)

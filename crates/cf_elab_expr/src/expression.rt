@@ -1,0 +1,88 @@
+ghost use Rattle.std.specs.Prelude.{◌≡◌, IfOk, OnOk};
+ghost use Rattle.cf_elab_env.specs.Answered.{Agrees, AgreesAs};
+ghost use Rattle.cf_elab_env.specs.SeenOperand.{operand_seen};
+ghost use Rattle.cf_elab_env.specs.Holds.{Known, Grows};
+ghost use Rattle.cf_elab_operand.specs.Operands.{IsOperand};
+ghost use Rattle.cf_elab_expr.specs.Shut as shut;
+
+use crate::{built, forms};
+use cf_elab_env::{Env, Operand, Stop, Value};
+use cf_elab_operand::value_of;
+use cf_syntax::Expr;
+
+/// What an expression is: its parts from left to right, and then what its construct asks of them (5).
+#[cycle(expressions)]
+#[tactic(auto, using(crate::proofs::BuiltForms::unbuilt_laws, crate::proofs::Parts::paren_is, crate::proofs::Parts::index_is, crate::proofs::Parts::binary_is, crate::proofs::Parts::assign_is, crate::proofs::Parts::conditional_is, crate::proofs::Grown::operand_laws))]
+pub fn operand(e: &Expr, env: &mut Env) -> Result<Operand, Stop>
+    requires { shut.IsBuilt e.now }
+    ensures made { AgreesAs operand_seen (shut.run e.now env.old) result env.new }
+    ensures known { IfOk result (λ o. IsOperand env.new.types o) }
+    ensures grows { OnOk result (Grows env.old.types env.new.types) }
+{
+    match e {
+        Expr::Int(at, number, kind) => forms::integer(*at, *number, *kind, env),
+        Expr::Char(at, value) => forms::character(*at, *value, env),
+        Expr::Text(at, bytes) => forms::text(*at, bytes, env),
+        Expr::Paren(at, inside) => {
+            built::paren(*at, inside);
+            let found = operand(inside.get(), env)?;
+            Ok(found)
+        }
+        Expr::Named(name) => forms::named(name, env),
+        Expr::Index(at, a, b) => {
+            built::index(*at, a, b);
+            let o = operand(a.get(), env)?;
+            let found = forms::index(b, *at, o, env)?;
+            Ok(found)
+        }
+        Expr::StepAfter(at, op, a) => forms::behind(a, *at, *op, env),
+        Expr::StepBefore(at, op, a) => forms::before(a, *at, *op, env),
+        Expr::Prefix(at, op, a) => forms::prefix(a, *at, *op, env),
+        Expr::SizeofExpr(at, a) => forms::size(a, *at, env),
+        Expr::Binary(at, op, a, b) => {
+            built::binary(*at, *op, a, b);
+            let o = operand(a.get(), env)?;
+            let found = forms::binary(b, *at, *op, o, env)?;
+            Ok(found)
+        }
+        Expr::Conditional(at, c, a, b) => {
+            built::conditional(*at, c, a, b);
+            let o = operand(c.get(), env)?;
+            let p = operand(a.get(), env)?;
+            let found = forms::conditional(b, *at, o, p, env)?;
+            Ok(found)
+        }
+        Expr::Assign(at, op, a, b) => {
+            built::assign(*at, *op, a, b);
+            let o = operand(a.get(), env)?;
+            let found = forms::assign(b, *at, *op, o, env)?;
+            Ok(found)
+        }
+        Expr::Call(_, _, _)
+        | Expr::Comma(_, _)
+        | Expr::BasicCall(_, _, _)
+        | Expr::TypeCall(_, _, _)
+        | Expr::SizeofType(_, _)
+        | Expr::Cast(_, _, _)
+        | Expr::This(_)
+        | Expr::Dot(_, _, _)
+        | Expr::Arrow(_, _, _)
+        | Expr::Delete(_, _, _, _)
+        | Expr::New(_, _, _, _, _, _, _)
+        | Expr::NewBracketed(_, _, _, _, _) => unreachable!(),
+    }
+}
+
+/// The one value of an expression.
+#[cycle(expressions)]
+#[tactic(auto, using(crate::proofs::Parts::valued_is))]
+pub fn evaluated(e: &Expr, env: &mut Env) -> Result<Value, Stop>
+    requires { shut.IsBuilt e.now }
+    ensures made { Agrees (shut.valued e.now env.old) result env.new }
+    ensures known { IfOk result (λ v. Known env.new.types v) }
+    ensures grows { OnOk result (Grows env.old.types env.new.types) }
+{
+    let found = operand(e, env)?;
+    let value = value_of(env, found)?;
+    Ok(value)
+}

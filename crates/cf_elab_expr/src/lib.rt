@@ -1,0 +1,12 @@
+//! Expressions with all that is in them while a file is elaborated (5).
+//!
+//! `specs/Shut` names what an expression is by the definitions of elaboration; the forms that are not built are kept out by `IsBuilt`.
+#![tactic(auto)]
+
+mod built;
+mod expression;
+mod forms;
+mod names;
+
+pub use expression::{evaluated, operand};
+pub use names::call_place;
