@@ -1,12 +1,10 @@
 ghost use Rattle.std.specs.Prelude.{◌≡◌, map, true};
-ghost use Rattle.std.specs.Option.{option_map};
 ghost use Rattle.cf_core.specs.FromUnit.{tables_of};
-ghost use Rattle.cf_core.specs.Numbers.{are_known, all_of, maybe_of};
+ghost use Rattle.cf_core.specs.Numbers.{are_known, all_of};
 ghost use Rattle.cf_sequence_built.specs.Unbuilt as spec;
 ghost use Rattle.cf_sequence_built.specs.Unbuilt.{test};
 
 use crate::types::is_called;
-use cf_base::Boxed;
 use cf_core::{Core, CoreUnit, Holder};
 
 /// The place of the first construct of an expression that is not built.

@@ -1,22 +1,21 @@
 -- The locals that the code adds for a tree are those of the definition.
-use Rattle.std.proofs.Common.{◌≡◌, ℕ, ◌+◌, List, [], ◌∷◌, ◌++◌, map, length, Option, Some, None, option_map, refl, ap, sym, subst, ◌∙◌, append_assoc}
+use Rattle.std.proofs.Common.{◌≡◌, ℕ, List, [], ◌∷◌, ◌++◌, map, length, Option, Some, None, option_map, ap, sym, subst, ◌∙◌, append_assoc}
 use Rattle.std.proofs.lemmas.List.{map-append, length-map, append-nil}
 use Rattle.std.proofs.lemmas.Grind.{flat_map-append}
 use Rattle.cf_classes.specs.declared.class.MemberRef.{MemberRef}
-use Rattle.cf_core.specs.declared.node.Core.{Core as Node, fold-Core, roll-Core, ind-Core}
+use Rattle.cf_core.specs.declared.node.Core.{Core as Node, roll-Core, ind-Core}
 use Rattle.cf_core.specs.declared.node.Core.TheOpen.{Core-F}
 use Rattle.cf_core.specs.declared.node.Core.TheFolds.{fold-roll-Core, map-Core, fold-roll-PartStart, map-PartStart}
 use Rattle.cf_core.specs.declared.node.PartStart.{PartStart, PartStart-F, fold-PartStart, roll-PartStart}
 use Rattle.cf_core.specs.Types.{Name, SourceType, parameters}
-use Rattle.cf_core.specs.Core.{Core, Cores, MaybeCore, Parts}
+use Rattle.cf_core.specs.Core.{Core}
 use Rattle.cf_core.specs.Nodes.{nodes, nodes_all, nodes_maybe, nodes_parts}
 use Rattle.cf_core.specs.FromTypes.{Tables, type_of}
-use Rattle.cf_core.specs.View as view
 use Rattle.cf_core.specs.View.{Started, core_step, started_step, core_of, listed, maybe, in_order}
 use Rattle.cf_sequence.specs.Made.{makes, added, width}
 use Rattle.cf_sequence_expr.specs.Parameters.{parameters_at}
 use Rattle.cf_sequence_expr.specs.Pieces as pieces
-use Rattle.cf_sequence_expr.specs.Pieces.{Piece, piece, part_piece, piece_step, in_two, in_three, in_all, in_maybe}
+use Rattle.cf_sequence_expr.specs.Pieces.{Piece, piece, part_piece, piece_step, in_two, in_all, in_maybe}
 
 module _ (tables : Tables) where
   -- a list of types goes on by these

@@ -1,6 +1,6 @@
 -- How a body goes on: what the definition has in the place of the statements that were written, the locals that were added, and those that were
 -- declared in the scope at hand, the newest first.
-use Rattle.std.proofs.Common.{◌≡◌, ℕ, zero, suc, ◌+◌, ◌≤◌, List, [], ◌∷◌, ◌++◌, length, take, drop, refl, ap, sym, subst, ◌∙◌, append_assoc, append-nil, length-append, arith}
+use Rattle.std.proofs.Common.{◌≡◌, ℕ, ◌+◌, List, [], ◌∷◌, ◌++◌, length, take, drop, refl, ap, sym, ◌∙◌, append_assoc, append-nil, arith}
 use Rattle.cf_classes.specs.declared.class.MemberRef.{MemberRef}
 use Rattle.cf_core.specs.Types.{Name}
 use Rattle.cf_core.specs.FromTypes.{Tables, type_of}
@@ -13,7 +13,6 @@ use Rattle.cf_plain.specs.View.{plain_of, plains_of}
 use Rattle.cf_sequence.specs.Made.{Local}
 use Rattle.cf_sequence.specs.Expressions.{finished}
 use Rattle.cf_sequence_expr.specs.declared.writing.Writing.{Writing}
-use Rattle.cf_sequence_expr.specs.Writes.{put, act, emptied}
 use Rattle.cf_sequence_stmt.specs.declared.body.Body.{Body}
 use Rattle.cf_sequence_stmt.specs.declared.body.Open.{Open}
 use Rattle.cf_sequence_stmt.specs.Bodies.{on, opened, ended, left_to, closed_to, stated, begun, turned, switched, with_code}

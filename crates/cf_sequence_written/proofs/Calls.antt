@@ -1,5 +1,5 @@
 -- What is written for arguments and calls is the definition's.
-use Rattle.std.proofs.Common.{◌≡◌, ℕ, zero, suc, ◌+◌, ◌-◌, ◌<◌, ◌≤◌, Bool, true, false, List, [], ◌∷◌, ◌++◌, map, length, refl, ap, sym, ◌∙◌, subst, arith, drop, drop-cons, length-drop, length-append, get_or}
+use Rattle.std.proofs.Common.{◌≡◌, ℕ, zero, suc, ◌+◌, ◌-◌, ◌<◌, ◌≤◌, false, List, [], ◌∷◌, ◌++◌, map, length, refl, ap, sym, ◌∙◌, subst, arith, drop, drop-cons, length-drop, length-append, get_or}
 use Rattle.std.specs.Prelude.{Option, Some, None, slice_get, if◌then◌else◌}
 use Rattle.std.proofs.lemmas.Option.{slice_get_past, slice_get-get_or}
 use Rattle.std.proofs.lemmas.List.{length-map}
@@ -14,15 +14,14 @@ use Rattle.cf_core.specs.FromTypes.{Tables, type_of}
 use Rattle.cf_plain.specs.declared.action.Action.TheVariants as action
 use Rattle.cf_plain.specs.Plain.{Plains, more, set as sets, act as acts}
 use Rattle.cf_plain.specs.Plain as plain
-use Rattle.cf_sequence.specs.Made.{makes, added, width, numbers}
+use Rattle.cf_sequence.specs.Made.{added, width, numbers}
 use Rattle.cf_sequence.specs.Expressions.{Full, Destination, destination, settled, builds, value, arguments, result_register}
-use Rattle.cf_sequence_expr.specs.declared.writing.Writing.{Writing}
 use Rattle.cf_sequence_expr.specs.Writes.{set, act, passed}
 use Rattle.cf_sequence_expr.specs.Parameters.{parameters_at, counted}
 use Rattle.cf_sequence_expr.specs.Pieces as pieces
 use Rattle.cf_sequence_expr.specs.Pieces.{Piece, piece_step, argument, called}
 use Rattle.cf_sequence_written.proofs.Followed.{followed}
-use Rattle.cf_sequence_written.proofs.Puts.{Puts, Still, still-set, still-act, puts-none, puts-as, puts-wide, puts-passed, puts-still, still-puts, puts-then}
+use Rattle.cf_sequence_written.proofs.Puts.{Puts, still-set, still-act, puts-none, puts-as, puts-wide, puts-passed, puts-still, still-puts, puts-then}
 use Rattle.cf_sequence_written.proofs.Values.{Writes, nodes-count}
 
 -- Lists.

@@ -1,8 +1,8 @@
 -- What is written for a built expression is the definition's.
-use Rattle.std.proofs.Common.{◌≡◌, ℕ, Bool, true, false, not, ◌&&◌, List, [], ◌∷◌, map, length, Option, Some, None, option_map, refl, ap, sym, subst, ◌∙◌}
+use Rattle.std.proofs.Common.{◌≡◌, ℕ, Bool, true, false, not, ◌&&◌, List, [], ◌∷◌, map, None, refl, sym, subst}
 use Rattle.cf_base.proofs.Tests.{both}
 use Rattle.cf_classes.specs.declared.class.MemberRef.{MemberRef}
-use Rattle.cf_core.specs.declared.node.Core.{Core as Node, fold-Core, roll-Core, ind-Core}
+use Rattle.cf_core.specs.declared.node.Core.{Core as Node, roll-Core, ind-Core}
 use Rattle.cf_core.specs.declared.node.Core.TheOpen.{Core-F}
 use Rattle.cf_core.specs.declared.node.Core.TheFolds.{fold-roll-Core, map-Core}
 use Rattle.cf_core.specs.declared.node.PartStart.{PartStart, fold-PartStart}
@@ -10,9 +10,9 @@ use Rattle.cf_core.specs.declared.node.Holder.TheVariants as holder
 use Rattle.cf_core.specs.Types.{Name, parameters, result, is_class}
 use Rattle.cf_core.specs.Classes.{Class}
 use Rattle.cf_core.specs.Core as core
-use Rattle.cf_core.specs.Core.{Core, Cores, MaybeCore, no_temporary, absent, given}
+use Rattle.cf_core.specs.Core.{Core, Cores, absent, given}
 use Rattle.cf_core.specs.FromTypes.{Tables, type_of}
-use Rattle.cf_core.specs.View.{Started, core_step, started_step, core_of, listed, change_of}
+use Rattle.cf_core.specs.View.{Started, core_step, started_step, core_of, listed}
 use Rattle.cf_sequence.specs.Built.{is_value, is_start, are_values, are_arguments, is_chain}
 use Rattle.cf_sequence.specs.Expressions.{builds}
 use Rattle.cf_sequence.proofs.Calling.{never}

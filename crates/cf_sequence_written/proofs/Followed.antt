@@ -1,5 +1,5 @@
 -- The statements that the code has written, and then a rest.
-use Rattle.std.proofs.Common.{◌≡◌, ℕ, ◌+◌, List, [], ◌∷◌, ◌++◌, refl, ap, sym, ◌∙◌}
+use Rattle.std.proofs.Common.{◌≡◌, ℕ, ◌+◌, List, [], ◌∷◌, ◌++◌, refl, ap, ◌∙◌}
 use Rattle.cf_classes.specs.declared.class.MemberRef.{MemberRef}
 use Rattle.cf_core.specs.Types.{Name}
 use Rattle.cf_core.specs.FromTypes.{Tables}
@@ -11,7 +11,7 @@ use Rattle.cf_plain.specs.Plain as plain
 use Rattle.cf_plain.specs.View.{action_of, plain_of, plains_of}
 use Rattle.cf_sequence.specs.Expressions.{used as use_of}
 use Rattle.cf_sequence_expr.specs.declared.writing.Writing.{Writing}
-use Rattle.cf_sequence_expr.specs.Writes.{put, set, act, used, emptied, branched, within, passed}
+use Rattle.cf_sequence_expr.specs.Writes.{put, set, act, used, emptied, branched, passed}
 use Rattle.cf_sequence_written.proofs.Views.{of-Act, of-Set, of-If}
 
 module _ (tables : Tables) (signature : MemberRef → Name) where

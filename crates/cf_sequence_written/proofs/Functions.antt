@@ -1,36 +1,33 @@
 -- What is written for a built function is the definition's.
-use Rattle.std.proofs.Common.{◌≡◌, ℕ, zero, suc, ◌+◌, ◌≤◌, Bool, true, false, not, ◌&&◌, ◌||◌, List, [], ◌∷◌, ◌++◌, map, length, drop, reverse, refl, ap, sym, subst, ◌∙◌, arith, cond}
-use Rattle.std.specs.Prelude.{Option, Some, None, if◌then◌else◌}
+use Rattle.std.proofs.Common.{◌≡◌, ℕ, suc, ◌+◌, true, false, not, List, [], ◌∷◌, ◌++◌, map, length, drop, reverse, refl, ap, sym, ◌∙◌, arith}
+use Rattle.std.specs.Prelude.{if◌then◌else◌}
 use Rattle.std.specs.declared.alloc.Global.{Global}
 use Rattle.std.proofs.lemmas.List.{length-map, reverse-append}
 use Rattle.cf_base.proofs.Tests.{both}
 use Rattle.cf_classes.specs.declared.class.MemberRef.{MemberRef}
 use Rattle.cf_core.specs.declared.unit.CoreFn.{CoreFn}
-use Rattle.cf_core.specs.Types.{Name, SourceType, takes, gives, parameters, result, is_class}
+use Rattle.cf_core.specs.Types.{Name, SourceType, parameters, result, is_class}
 use Rattle.cf_core.specs.Classes.{Class}
-use Rattle.cf_core.specs.Core.{Core, Function, Static}
-use Rattle.cf_core.specs.Nodes.{nodes}
-use Rattle.cf_core.specs.FromTypes.{Tables, type_of, taking}
+use Rattle.cf_core.specs.Core.{Function, Static}
+use Rattle.cf_core.specs.FromTypes.{Tables, type_of}
 use Rattle.cf_core.specs.FromClasses.{signature_of}
 use Rattle.cf_core.specs.FromUnit.{function_of}
-use Rattle.cf_core.specs.View.{core_of}
-use Rattle.cf_plain.specs.Plain.{Plains, PlainFunction, nothing}
+use Rattle.cf_plain.specs.Plain.{Plains, nothing}
 use Rattle.cf_plain.specs.View as plain
 use Rattle.cf_plain.specs.View.{plains_of}
 use Rattle.cf_sequence.specs.Built.{is_statement, is_body}
-use Rattle.cf_sequence.specs.Made.{Local, added, width, numbered, declared}
+use Rattle.cf_sequence.specs.Made.{Local, width, numbered, declared}
 use Rattle.cf_sequence.specs.Expressions.{finished}
 use Rattle.cf_sequence.specs.Statements.{Inside, statement}
 use Rattle.cf_sequence.specs.Sequenced.{inside, flowed_off, sequenced_body, sequenced_function}
 use Rattle.cf_sequence_expr.specs.declared.writing.Writing.{Writing}
 use Rattle.cf_sequence_expr.specs.Parameters.{parameters_at}
 use Rattle.cf_sequence_stmt.specs.declared.body.Body.{Body}
-use Rattle.cf_sequence_stmt.specs.declared.body.Open.{Open}
 use Rattle.cf_sequence_stmt.specs.Bodies.{left_to}
 use Rattle.cf_sequence_stmt.specs.Steps.{step, inside_loop}
 use Rattle.cf_sequence_fn.specs.Functions.{opens_from, begun, written_body, written_function}
-use Rattle.cf_sequence_written.proofs.Followed.{followed, followed-end}
-use Rattle.cf_sequence_written.proofs.Parameters.{parameters-taking, result-taking}
+use Rattle.cf_sequence_written.proofs.Followed.{followed-end}
+use Rattle.cf_sequence_written.proofs.Parameters.{parameters-taking}
 use Rattle.cf_sequence_written.proofs.Evaluated.{is-false}
 use Rattle.cf_sequence_written.proofs.Adding.{adding, Adds}
 use Rattle.cf_sequence_written.proofs.Opens.{ends, ends-more, finished-more}

@@ -18,3 +18,7 @@ pub mod Units
 pub mod Meaning
 pub mod Tested
 pub mod TestedFiles
+pub mod Known
+pub mod KnownPieces
+pub mod KnownSteps
+pub mod KnownFiles

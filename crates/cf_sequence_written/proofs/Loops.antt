@@ -1,5 +1,5 @@
 -- What is written for loops and switches is the definition's.
-use Rattle.std.proofs.Common.{◌≡◌, ℕ, suc, ◌+◌, Bool, true, false, not, ◌&&◌, List, [], ◌∷◌, ◌++◌, length, refl, ap, sym, subst, ◌∙◌, append-nil, arith}
+use Rattle.std.proofs.Common.{◌≡◌, ℕ, ◌+◌, true, List, [], ◌∷◌, ◌++◌, length, refl, ap, sym, subst, ◌∙◌, append-nil, arith}
 use Rattle.std.specs.Prelude.{Option, Some, None}
 use Rattle.cf_classes.specs.declared.class.MemberRef.{MemberRef}
 use Rattle.cf_core.specs.declared.operators.LoopForm.{LoopForm}
@@ -15,25 +15,25 @@ use Rattle.cf_plain.specs.declared.statement.Plain.TheVariants as code
 use Rattle.cf_plain.specs.Plain.{Plains, nothing, more, branch, leave}
 use Rattle.cf_plain.specs.Plain as plain
 use Rattle.cf_plain.specs.View.{plain_of, plains_of}
-use Rattle.cf_sequence.specs.Built.{is_statement, are_cases}
+use Rattle.cf_sequence.specs.Built.{are_cases}
 use Rattle.cf_sequence.specs.Made.{Local, added, width, width_maybe, declared, declared_all}
 use Rattle.cf_sequence.specs.Expressions.{finished, value, used as use_of}
-use Rattle.cf_sequence.specs.Statements.{Inside, statement, statements, in_loop, in_switch, looping, passed, passing}
+use Rattle.cf_sequence.specs.Statements.{Inside, statement, statements, in_loop, in_switch, passed, passing}
 use Rattle.cf_sequence.specs.Statements as definition
 use Rattle.cf_sequence_expr.specs.declared.writing.Writing.{Writing}
 use Rattle.cf_sequence_stmt.specs.declared.body.Body.{Body}
 use Rattle.cf_sequence_stmt.specs.declared.body.Ways.{Ways}
-use Rattle.cf_sequence_stmt.specs.Bodies.{begun, tested, stated, turned, with_code, switched, behind_flags}
+use Rattle.cf_sequence_stmt.specs.Bodies.{begun, tested, turned, with_code, behind_flags}
 use Rattle.cf_sequence_stmt.specs.Bodies as bodies
 use Rattle.cf_sequence_stmt.specs.Steps.{Step, held, stepped, turn, loop, cases, selection, inside_loop, inside_switch}
 use Rattle.cf_sequence_written.proofs.Views.{of-If, of-Break}
 use Rattle.cf_sequence_written.proofs.Followed.{followed, followed-end}
 use Rattle.cf_sequence_written.proofs.Values.{nodes-count}
-use Rattle.cf_sequence_written.proofs.Bodies.{Goes, goes-none, goes-as, goes-rest, goes-declares, goes-stated, goes-closed, goes-alone, code-begun, next-begun, scope-begun, same-scope, code-turned, next-turned, scope-turned, code-switched, next-switched, scope-switched, code-with_code, next-with_code, scope-with_code}
+use Rattle.cf_sequence_written.proofs.Bodies.{Goes, goes-none, goes-as, goes-rest, goes-stated, goes-closed, goes-alone, code-begun, next-begun, scope-begun, same-scope, code-turned, next-turned, scope-turned, code-switched, next-switched, scope-switched, code-with_code, next-with_code, scope-with_code}
 use Rattle.cf_sequence_written.proofs.Opens.{no-opens}
 use Rattle.cf_sequence_written.proofs.Standing.{Stands, stands-in_loop, stands-in_switch}
 use Rattle.cf_sequence_written.proofs.Wholes.{Whole, whole-start, first_at, register, goes-full, goes-given, goes-tested, condition-is}
-use Rattle.cf_sequence_written.proofs.Statements.{Acts, ActsAll, IsStated, AllStated, undeclared-cases, stated-cases}
+use Rattle.cf_sequence_written.proofs.Statements.{Acts, ActsAll, IsStated, undeclared-cases, stated-cases}
 
 maybe-count : (c : MaybeCore) → width_maybe c ≡ length (added (nodes_maybe c))
 maybe-count absent = refl

@@ -1,6 +1,6 @@
 -- What is written for files of built functions has the meaning of their cores.
-use Rattle.std.proofs.Common.{◌≡◌, ℕ, true, List, [], ◌∷◌, map, refl, ap, sym, ◌∙◌, ◌&&◌}
-use Rattle.std.specs.Prelude.{Option, Some}
+use Rattle.std.proofs.Common.{◌≡◌, ℕ, true, List, [], ◌∷◌, map, refl, ap, ◌∙◌, ◌&&◌}
+use Rattle.std.specs.Prelude.{Some}
 use Rattle.std.specs.List.{list_all}
 use Rattle.std.specs.declared.alloc.Global.{Global}
 use Rattle.cf_base.specs.World.{Outcome}
@@ -14,7 +14,7 @@ use Rattle.cf_plain.specs.View as plain
 use Rattle.cf_sequence.specs.Built.{is_built_file}
 use Rattle.cf_sequence.specs.Sequenced.{sequenced_file}
 use Rattle.cf_sequence_fn.specs.Functions.{written_unit}
-use Rattle.cf_sequence_written.specs.Built.{IsBuilt, AreBuilt}
+use Rattle.cf_sequence_written.specs.Built.{AreBuilt}
 use Rattle.cf_sequence_written.proofs.Units.{file-is}
 
 module _ (alloc : Global) (frames : CoreUnit → List ℕ) where

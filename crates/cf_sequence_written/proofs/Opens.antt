@@ -1,5 +1,5 @@
 -- The locals whose scopes are open, the newest first, as the definition ends them.
-use Rattle.std.proofs.Common.{◌≡◌, ℕ, zero, suc, ◌+◌, ◌≤◌, List, [], ◌∷◌, ◌++◌, length, take, drop, refl, ap, sym, ◌∙◌, append_assoc, append-nil, length-append, arith}
+use Rattle.std.proofs.Common.{◌≡◌, ◌+◌, List, [], ◌∷◌, ◌++◌, length, take, drop, refl, ap, sym, ◌∙◌, append_assoc, append-nil, length-append, arith}
 use Rattle.cf_core.specs.FromTypes.{Tables, type_of}
 use Rattle.cf_plain.specs.Plain.{Plains, more}
 use Rattle.cf_plain.specs.Plain as plain

@@ -1,11 +1,11 @@
 -- The parameters of a type by its number are those of the type.
-use Rattle.std.proofs.Common.{◌≡◌, ◌∙◌, ℕ, zero, suc, ◌<◌, ◌≤◌, ◌==◌, Bool, true, false, List, [], ◌∷◌, length, map, reverse, Option, Some, None, slice_get, All, refl, ap, sym, subst, arith}
+use Rattle.std.proofs.Common.{◌≡◌, ◌∙◌, ℕ, zero, suc, ◌<◌, ◌≤◌, ◌==◌, Bool, true, false, List, [], ◌∷◌, length, map, reverse, Option, Some, None, slice_get, All, refl, ap, sym, arith}
 use Rattle.std.proofs.lemmas.List.{length-reverse}
 use Rattle.std.proofs.lemmas.Bool.{eqb-true}
 use Rattle.cf_types.specs.declared.ty.Ty.{Ty}
 use Rattle.cf_types.specs.declared.ty.Ty.TheVariants as ty
 use Rattle.cf_types.specs.declared.ty.Fun.{Fun}
-use Rattle.cf_types.specs.Table.{Table, Names, parts_of_fun}
+use Rattle.cf_types.specs.Table.{Names, parts_of_fun}
 use Rattle.cf_classes.specs.TypeTree.{of_types, params_of, fun_of}
 use Rattle.cf_classes.proofs.Trees.{of_type-at}
 use Rattle.cf_core.specs.Types.{SourceType, void, gives, parameters, result}

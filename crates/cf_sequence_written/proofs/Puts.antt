@@ -1,5 +1,5 @@
 -- What the code writes on the way, and what the definition has in its place before a rest. `Still` adds no local.
-use Rattle.std.proofs.Common.{◌≡◌, ℕ, ◌+◌, List, [], refl, ap, sym, ◌∙◌, arith}
+use Rattle.std.proofs.Common.{◌≡◌, ℕ, ◌+◌, refl, ap, sym, ◌∙◌, arith}
 use Rattle.cf_classes.specs.declared.class.MemberRef.{MemberRef}
 use Rattle.cf_core.specs.Types.{Name}
 use Rattle.cf_core.specs.FromTypes.{Tables}
@@ -10,7 +10,7 @@ use Rattle.cf_plain.specs.Plain as plain
 use Rattle.cf_plain.specs.View.{action_of, plain_of, plains_of}
 use Rattle.cf_sequence.specs.Expressions.{used as use_of}
 use Rattle.cf_sequence_expr.specs.declared.writing.Writing.{Writing}
-use Rattle.cf_sequence_expr.specs.Writes.{put, set, act, used, emptied, branched, within, passed}
+use Rattle.cf_sequence_expr.specs.Writes.{put, set, act, used, emptied, within, passed}
 use Rattle.cf_sequence_written.proofs.Followed.{followed, followed-end, followed-put, followed-set, followed-act, followed-used, followed-branch, next-put, next-set, next-act, next-used, next-emptied, code-emptied, next-branched, next-passed, code-passed}
 
 module _ (tables : Tables) (signature : MemberRef → Name) where

@@ -1,5 +1,5 @@
 -- Where a statement stands: the locals whose scopes are open are those that the definition ends on each way out.
-use Rattle.std.proofs.Common.{◌≡◌, ℕ, zero, suc, ◌+◌, ◌≤◌, false, List, [], ◌∷◌, ◌++◌, length, drop, refl, ap, sym, ◌∙◌, subst, append_assoc, append-nil, length-append, arith}
+use Rattle.std.proofs.Common.{◌≡◌, ℕ, zero, suc, ◌≤◌, false, List, [], ◌∷◌, ◌++◌, length, drop, refl, ap, sym, ◌∙◌, append_assoc, length-append, arith}
 use Rattle.cf_core.specs.Types.{is_class}
 use Rattle.cf_core.specs.FromTypes.{Tables}
 use Rattle.cf_sequence.specs.Made.{Local}

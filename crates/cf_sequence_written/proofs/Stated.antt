@@ -1,28 +1,28 @@
 -- What is written for a built statement is the definition's.
-use Rattle.std.proofs.Common.{◌≡◌, ℕ, Bool, true, false, not, ◌&&◌, List, [], ◌∷◌, map, length, Option, Some, None, option_map, refl, ap, sym, subst, ◌∙◌}
+use Rattle.std.proofs.Common.{◌≡◌, ℕ, true, not, ◌&&◌, List, [], ◌∷◌, map, length, Option, Some, None, refl, ap, sym, subst, ◌∙◌}
 use Rattle.std.specs.Prelude.{nat_le}
 use Rattle.cf_base.proofs.Tests.{both}
 use Rattle.cf_classes.specs.declared.class.MemberRef.{MemberRef}
-use Rattle.cf_core.specs.declared.node.Core.{Core as Node, fold-Core, roll-Core, ind-Core}
+use Rattle.cf_core.specs.declared.node.Core.{Core as Node, roll-Core, ind-Core}
 use Rattle.cf_core.specs.declared.node.Core.TheOpen.{Core-F}
 use Rattle.cf_core.specs.declared.node.Core.TheFolds.{fold-roll-Core, map-Core}
 use Rattle.cf_core.specs.declared.node.PartStart.{PartStart, fold-PartStart}
 use Rattle.cf_core.specs.declared.operators.LoopForm.{LoopForm}
 use Rattle.cf_core.specs.Types.{Name, parameters}
 use Rattle.cf_core.specs.Core as core
-use Rattle.cf_core.specs.Core.{Core, Cores, MaybeCore, local_temporary, absent, given}
+use Rattle.cf_core.specs.Core.{Core, Cores, MaybeCore, absent, given}
 use Rattle.cf_core.specs.Joined.{is_nothing}
 use Rattle.cf_core.specs.FromTypes.{Tables, type_of}
 use Rattle.cf_core.specs.View.{Started, core_step, started_step, core_of, listed}
 use Rattle.cf_plain.specs.declared.statement.Plain.TheVariants as code
 use Rattle.cf_plain.specs.Plain as plain
-use Rattle.cf_sequence.specs.Built.{is_value, is_start, is_condition, is_statement, is_inner_or, are_cases, declares_here}
+use Rattle.cf_sequence.specs.Built.{is_value, is_start, is_statement, is_inner_or, are_cases, declares_here}
 use Rattle.cf_sequence.specs.Made.{held_by}
 use Rattle.cf_sequence.specs.Expressions.{builds}
 use Rattle.cf_sequence.proofs.Calling.{never}
 use Rattle.cf_sequence.proofs.Fulls.{held-none}
 use Rattle.cf_sequence_expr.specs.Parameters.{parameters_at}
-use Rattle.cf_sequence_expr.specs.Pieces.{Piece, piece}
+use Rattle.cf_sequence_expr.specs.Pieces.{Piece}
 use Rattle.cf_sequence_stmt.specs.Steps.{Step, step, step_step}
 use Rattle.cf_sequence_stmt.specs.Steps as steps
 use Rattle.cf_sequence_stmt.proofs.Pieces.{same_piece}
@@ -32,7 +32,7 @@ use Rattle.cf_sequence_written.proofs.Values.{Writes}
 use Rattle.cf_sequence_written.proofs.Evaluated.{written-start, gives-value, value-start}
 use Rattle.cf_sequence_written.proofs.Bodies.{goes-stated, goes-declares}
 use Rattle.cf_sequence_written.proofs.Wholes.{Whole, goes-full, goes-declared}
-use Rattle.cf_sequence_written.proofs.Statements.{Acts, ActsAll, ActsOr, IsStated, stated-statement, stated-all, acts-none, acts-more, acts-absent, acts-given, goes-block, goes-choice, goes-leave, goes-continue, goes-give, goes-given_back}
+use Rattle.cf_sequence_written.proofs.Statements.{Acts, ActsAll, stated-statement, stated-all, acts-none, acts-more, acts-absent, acts-given, goes-block, goes-choice, goes-leave, goes-continue, goes-give, goes-given_back}
 use Rattle.cf_sequence_written.proofs.Loops.{Part, no_part, one_part, goes-loop, goes-switch}
 
 held-start : (e : Core) → is_start e ≡ true → held_by e ≡ []

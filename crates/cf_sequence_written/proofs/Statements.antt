@@ -1,35 +1,30 @@
 -- What is written for statements without loops and switches is the definition's.
-use Rattle.std.proofs.Common.{◌≡◌, ℕ, suc, ◌+◌, Bool, true, false, not, ◌&&◌, ◌||◌, List, [], ◌∷◌, ◌++◌, length, drop, refl, ap, sym, subst, ◌∙◌, arith}
-use Rattle.std.specs.Prelude.{ℤ, Option, Some, None, if◌then◌else◌}
+use Rattle.std.proofs.Common.{◌≡◌, ℕ, ◌+◌, Bool, true, false, not, ◌&&◌, ◌||◌, List, [], ◌∷◌, ◌++◌, length, refl, ap, sym, subst, ◌∙◌, arith}
+use Rattle.std.specs.Prelude.{Option, Some, None, if◌then◌else◌}
 use Rattle.cf_base.proofs.Tests.{both}
 use Rattle.cf_classes.specs.declared.class.MemberRef.{MemberRef}
 use Rattle.cf_core.specs.Types.{Name, is_class}
 use Rattle.cf_core.specs.Core as core
 use Rattle.cf_core.specs.Core.{Core, Cores, MaybeCore, absent, given}
 use Rattle.cf_core.specs.Nodes.{nodes, nodes_all, nodes_maybe}
-use Rattle.cf_core.specs.Joined.{is_nothing}
 use Rattle.cf_core.specs.Valid.{is_label}
-use Rattle.cf_core.specs.FromTypes.{Tables, type_of}
-use Rattle.cf_plain.specs.declared.statement.Plain.{Plain}
+use Rattle.cf_core.specs.FromTypes.{Tables}
 use Rattle.cf_plain.specs.declared.statement.Plain.TheVariants as code
-use Rattle.cf_plain.specs.Plain.{Plains, nothing, more, branch, leave, continue, give, case_label, default_label, set as sets}
+use Rattle.cf_plain.specs.Plain.{Plains, nothing, more, branch, leave, continue, give, set as sets}
 use Rattle.cf_plain.specs.Plain as plain
-use Rattle.cf_plain.specs.View.{plains_of}
 use Rattle.cf_sequence.specs.Built.{is_statement, is_inner_or, are_statements, are_cases, declares_here, next_local}
-use Rattle.cf_sequence.specs.Made.{Local, added, width, declared, declared_all}
+use Rattle.cf_sequence.specs.Made.{added, width, declared, declared_all}
 use Rattle.cf_sequence.specs.Expressions.{finished, value, whole, used as use_of}
-use Rattle.cf_sequence.specs.Statements.{Inside, statement, statements, statement_or, declares, condition}
+use Rattle.cf_sequence.specs.Statements.{Inside, statement, statements, statement_or, declares}
 use Rattle.cf_sequence.specs.Statements as definition
 use Rattle.cf_sequence.proofs.Calling.{never}
 use Rattle.cf_sequence_expr.specs.declared.writing.Writing.{Writing}
-use Rattle.cf_sequence_expr.specs.Writes.{branched}
-use Rattle.cf_sequence_expr.specs.Pieces.{Piece}
 use Rattle.cf_sequence_stmt.specs.declared.body.Body.{Body}
 use Rattle.cf_sequence_stmt.specs.declared.body.Ways.{Ways}
 use Rattle.cf_sequence_stmt.specs.Bodies.{begun, chosen, left_to, stated, behind_flags, tested}
 use Rattle.cf_sequence_stmt.specs.Bodies as bodies
 use Rattle.cf_sequence_stmt.specs.Steps.{Step, in_order, or_nothing, block, choice, returned}
-use Rattle.cf_sequence_written.proofs.Views.{of-Case, of-Default, of-Break, of-Continue, of-Return}
+use Rattle.cf_sequence_written.proofs.Views.{of-Break, of-Continue, of-Return}
 use Rattle.cf_sequence_written.proofs.Followed.{followed, followed-branch, next-branched}
 use Rattle.cf_sequence_written.proofs.Values.{nodes-count}
 use Rattle.cf_sequence_written.proofs.Opens.{no-opens}

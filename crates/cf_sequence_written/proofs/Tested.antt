@@ -1,16 +1,14 @@
 -- A file is built where the test finds no construct that is not.
-use Rattle.std.proofs.Common.{◌≡◌, ℕ, zero, suc, ◌==◌, Bool, true, false, not, ◌&&◌, ◌||◌, List, [], ◌∷◌, map, length, Option, Some, None, option_map, refl, ap, sym, subst, ◌∙◌}
-use Rattle.std.specs.Prelude.{nat_le, if◌then◌else◌, bytes_eq, codes}
-use Rattle.std.specs.List.{list_all}
+use Rattle.std.proofs.Common.{◌≡◌, ℕ, Bool, true, false, not, ◌&&◌, ◌||◌, List, [], ◌∷◌, map, Option, Some, None, option_map, refl, ap, sym, subst, ◌∙◌}
+use Rattle.std.specs.Prelude.{nat_le, if◌then◌else◌}
 use Rattle.std.specs.Option.{option_or}
 use Rattle.cf_classes.specs.declared.class.MemberRef.{MemberRef}
-use Rattle.cf_core.specs.declared.node.Core.{Core as Node, fold-Core, roll-Core, ind-Core}
+use Rattle.cf_core.specs.declared.node.Core.{Core as Node, roll-Core, ind-Core}
 use Rattle.cf_core.specs.declared.node.Core.TheOpen.{Core-F}
 use Rattle.cf_core.specs.declared.node.Core.TheFolds.{fold-roll-Core, map-Core}
 use Rattle.cf_core.specs.declared.node.PartStart.{PartStart, fold-PartStart}
 use Rattle.cf_core.specs.declared.node.Holder.TheVariants as holder
-use Rattle.cf_core.specs.Types.{Name, SourceType, takes, gives, result, is_class}
-use Rattle.cf_core.specs.Core as core
+use Rattle.cf_core.specs.Types.{Name, SourceType, takes, result, is_class}
 use Rattle.cf_core.specs.Core.{Core, Cores, MaybeCore}
 use Rattle.cf_core.specs.Joined.{is_nothing}
 use Rattle.cf_core.specs.Valid.{is_label}

@@ -1,6 +1,6 @@
 -- A file is built where the test finds nothing in it.
-use Rattle.std.proofs.Common.{◌≡◌, ℕ, zero, suc, ◌==◌, Bool, true, false, not, ◌&&◌, ◌||◌, List, [], ◌∷◌, map, length, Option, Some, None, refl, ap, sym, ◌∙◌, arith}
-use Rattle.std.specs.Prelude.{if◌then◌else◌, is_some, bytes_eq, codes}
+use Rattle.std.proofs.Common.{◌≡◌, ℕ, suc, ◌==◌, Bool, true, false, not, ◌&&◌, ◌||◌, List, [], ◌∷◌, map, length, Option, Some, None, refl, ap, sym, ◌∙◌, arith}
+use Rattle.std.specs.Prelude.{is_some, bytes_eq, codes}
 use Rattle.std.specs.List.{list_all}
 use Rattle.std.proofs.lemmas.Bool.{eqb-true}
 use Rattle.std.proofs.lemmas.List.{length-map}
@@ -9,13 +9,13 @@ use Rattle.cf_core.specs.declared.unit.CoreFn.{CoreFn}
 use Rattle.cf_core.specs.declared.unit.CoreStatic.{CoreStatic}
 use Rattle.cf_core.specs.declared.unit.Role.{Role}
 use Rattle.cf_core.specs.declared.unit.Role.TheVariants as role
-use Rattle.cf_core.specs.Types.{SourceType, gives, parameters, result, is_class}
+use Rattle.cf_core.specs.Types.{SourceType, gives, parameters, is_class}
 use Rattle.cf_core.specs.Core.{Function}
 use Rattle.cf_core.specs.NodePlace.{place}
 use Rattle.cf_core.specs.FromTypes.{Tables, type_of, taking}
 use Rattle.cf_core.specs.FromClasses.{signature_of, classes_in}
 use Rattle.cf_core.specs.FromUnit.{Unit as CoreUnit, tables_of, file_of, function_of, static_of, role_of}
-use Rattle.cf_sequence.specs.Built.{is_statement, is_chain, is_plain_role, is_none, is_body, is_built_function, is_built_file}
+use Rattle.cf_sequence.specs.Built.{is_statement, is_chain, is_plain_role, is_none, is_built_function, is_built_file}
 use Rattle.cf_sequence_built.specs.Unbuilt.{test, is_plain, takes_nothing, is_usual, in_function, in_functions, in_statics, in_file}
 use Rattle.cf_sequence_written.proofs.Parameters.{parameters-taking, result-taking}
 use Rattle.cf_sequence_written.proofs.Tested.{clear, and-is, where-true, Tests, tested}

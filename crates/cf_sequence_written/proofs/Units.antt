@@ -1,16 +1,14 @@
 -- What is written for a file of built functions is the definition's, and so it has the meaning of the file's core.
-use Rattle.std.proofs.Common.{◌≡◌, ℕ, Bool, true, false, not, ◌&&◌, ◌||◌, List, [], ◌∷◌, map, length, refl, ap, sym, subst, ◌∙◌}
+use Rattle.std.proofs.Common.{◌≡◌, ℕ, Bool, true, not, ◌&&◌, ◌||◌, List, [], ◌∷◌, map, refl, ap, ◌∙◌}
 use Rattle.std.specs.Prelude.{bytes_eq, codes}
 use Rattle.std.specs.List.{list_all}
 use Rattle.std.specs.declared.alloc.Global.{Global}
 use Rattle.cf_base.proofs.Tests.{both}
 use Rattle.cf_core.specs.declared.unit.CoreFn.{CoreFn}
-use Rattle.cf_core.specs.declared.unit.CoreStatic.{CoreStatic}
 use Rattle.cf_core.specs.Types.{parameters}
 use Rattle.cf_core.specs.Classes.{Class}
 use Rattle.cf_core.specs.Core.{Function, Static}
 use Rattle.cf_core.specs.FromTypes.{Tables}
-use Rattle.cf_core.specs.FromClasses.{classes_in}
 use Rattle.cf_core.specs.FromUnit.{Unit, IsValid, tables_of, file_of, function_of, static_of}
 use Rattle.cf_plain.specs.Plain.{PlainFunction, PlainStatic}
 use Rattle.cf_plain.specs.View as plain

@@ -1,6 +1,6 @@
 -- What is written for each kind of expression is the definition's.
-use Rattle.std.proofs.Common.{◌≡◌, ℕ, zero, suc, ◌+◌, Bool, true, false, not, List, [], ◌∷◌, ◌++◌, map, length, refl, ap, sym, ◌∙◌, subst, length-append, arith}
-use Rattle.std.specs.Prelude.{ℤ, pos, Option, Some, None, if◌then◌else◌}
+use Rattle.std.proofs.Common.{◌≡◌, ℕ, suc, ◌+◌, Bool, true, false, List, [], ◌∷◌, ◌++◌, length, ap, sym, ◌∙◌, length-append, arith}
+use Rattle.std.specs.Prelude.{ℤ, pos, Option, None}
 use Rattle.std.proofs.lemmas.Grind.{flat_map-append}
 use Rattle.cf_base.specs.declared.arith.Arith.{Arith}
 use Rattle.cf_base.specs.declared.kind.Kind.{Kind}
@@ -9,10 +9,10 @@ use Rattle.cf_core.specs.declared.operators.UnaryOperator.{UnaryOperator}
 use Rattle.cf_core.specs.declared.operators.PointerOperator.{PointerOperator}
 use Rattle.cf_core.specs.declared.node.Change.{Change}
 use Rattle.cf_core.specs.declared.node.Core.TheOpen.{Core-F}
-use Rattle.cf_core.specs.Types.{Name, SourceType}
+use Rattle.cf_core.specs.Types.{Name}
 use Rattle.cf_core.specs.Classes.{Class}
 use Rattle.cf_core.specs.Core as core
-use Rattle.cf_core.specs.Core.{Core, Cores, no_temporary}
+use Rattle.cf_core.specs.Core.{Core, Cores}
 use Rattle.cf_core.specs.Nodes.{nodes, nodes_all}
 use Rattle.cf_core.specs.FromTypes.{Tables, type_of}
 use Rattle.cf_core.specs.View.{change_of}
@@ -21,12 +21,12 @@ use Rattle.cf_plain.specs.declared.action.Action.TheVariants as action
 use Rattle.cf_plain.specs.Plain.{Plains, nothing, more, branch, set as sets, act as acts}
 use Rattle.cf_plain.specs.Plain as plain
 use Rattle.cf_plain.specs.View.{action_of}
-use Rattle.cf_sequence.specs.Made.{makes, added, width, width_all}
+use Rattle.cf_sequence.specs.Made.{makes, added, width}
 use Rattle.cf_sequence.specs.Expressions.{Full, Destination, value, values, used as use_of}
 use Rattle.cf_sequence_expr.specs.declared.writing.Writing.{Writing}
-use Rattle.cf_sequence_expr.specs.Writes.{set, act, used, within}
-use Rattle.cf_sequence_expr.specs.Pieces.{Piece, piece_step, left, two, truth, all_values, updated, stepped, stepped_behind, by_increment}
-use Rattle.cf_sequence_written.proofs.Puts.{Puts, Still, still-set, still-act, still-used, still-then, puts-none, puts-as, puts-wide, puts-still, still-puts, puts-then, puts-within}
+use Rattle.cf_sequence_expr.specs.Writes.{set}
+use Rattle.cf_sequence_expr.specs.Pieces.{Piece, piece_step, left, two, truth, all_values, updated, stepped, stepped_behind}
+use Rattle.cf_sequence_written.proofs.Puts.{Puts, Still, still-set, still-act, still-used, still-then, puts-none, puts-as, puts-wide, puts-still, puts-then, puts-within}
 
 pub nodes-count : (ms ns : List Core) → length (added ms) + length (added ns) ≡ length (added (ms ++ ns))
 nodes-count ms ns = sym (length-append (added ms) (added ns)) ∙ ap length (sym (flat_map-append makes ms ns))

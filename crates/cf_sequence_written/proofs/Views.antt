@@ -1,5 +1,5 @@
 -- What each statement that the code writes is as plain data.
-use Rattle.std.proofs.Common.{◌≡◌, ℕ, List, map, ap, sym, ◌∙◌}
+use Rattle.std.proofs.Common.{◌≡◌, ℕ, List, ap, sym, ◌∙◌}
 use Rattle.std.specs.Prelude.{ℤ, Option}
 use Rattle.cf_classes.specs.declared.class.MemberRef.{MemberRef}
 use Rattle.cf_core.specs.Types.{Name}
@@ -11,7 +11,6 @@ use Rattle.cf_plain.specs.declared.statement.Plain.TheFolds.{fold-roll-Plain}
 use Rattle.cf_plain.specs.declared.statement.Plain.TheVariants as code
 use Rattle.cf_plain.specs.declared.statement.Plain.TheVariants.{rolls-Act, rolls-Set, rolls-If, rolls-Loop, rolls-Switch, rolls-Case, rolls-Default, rolls-Break, rolls-Continue, rolls-Return}
 use Rattle.cf_plain.specs.Plain as plain
-use Rattle.cf_plain.specs.View as view
 use Rattle.cf_plain.specs.View.{Built, action_of, plain_of, plains_of, plain_step, part_step}
 
 module _ (tables : Tables) (signature : MemberRef → Name) where

@@ -1,6 +1,6 @@
 -- Full expressions of a body, and initialisers of locals.
-use Rattle.std.proofs.Common.{◌≡◌, ℕ, suc, ◌+◌, Bool, true, false, List, [], ◌∷◌, ◌++◌, length, refl, ap, sym, subst, ◌∙◌, arith}
-use Rattle.std.specs.Prelude.{Option, Some, None, if◌then◌else◌}
+use Rattle.std.proofs.Common.{◌≡◌, ℕ, ◌+◌, Bool, true, false, List, [], ◌∷◌, length, refl, ap, sym, subst, ◌∙◌}
+use Rattle.std.specs.Prelude.{Option, None, if◌then◌else◌}
 use Rattle.cf_classes.specs.declared.class.MemberRef.{MemberRef}
 use Rattle.cf_core.specs.Types.{Name}
 use Rattle.cf_core.specs.Classes.{Class}
@@ -11,16 +11,15 @@ use Rattle.cf_plain.specs.declared.action.Action.TheVariants as action
 use Rattle.cf_plain.specs.Plain.{Register, Plains, more, set as sets, act as acts}
 use Rattle.cf_plain.specs.Plain as plain
 use Rattle.cf_sequence.specs.Built.{is_start}
-use Rattle.cf_sequence.specs.Made.{Local, width}
+use Rattle.cf_sequence.specs.Made.{width}
 use Rattle.cf_sequence.specs.Expressions.{Full, Destination, destination, value, whole, builds, used as use_of}
 use Rattle.cf_sequence.specs.Statements.{Inside, statement, condition}
 use Rattle.cf_sequence.specs.Statements as definition
 use Rattle.cf_sequence.proofs.Fulls.{whole-is}
-use Rattle.cf_sequence_expr.specs.declared.writing.Writing.{Writing}
-use Rattle.cf_sequence_expr.specs.Writes.{set, act, used}
+use Rattle.cf_sequence_expr.specs.Writes.{used}
 use Rattle.cf_sequence_expr.specs.Pieces.{Piece, truth}
 use Rattle.cf_sequence_stmt.specs.declared.body.Body.{Body}
-use Rattle.cf_sequence_stmt.specs.Bodies.{on, behind_flags, full, given, tested, started, declared}
+use Rattle.cf_sequence_stmt.specs.Bodies.{behind_flags, full, given, tested, started, declared}
 use Rattle.cf_sequence_written.proofs.Puts.{Puts, still-set, still-act, still-used, puts-as, puts-at, puts-still, still-puts}
 use Rattle.cf_sequence_written.proofs.Values.{Writes, puts-truth}
 use Rattle.cf_sequence_written.proofs.Bodies.{Goes, goes-on, goes-opened}

@@ -5,15 +5,17 @@
 #![tactic(auto)]
 
 ghost use Rattle.std.specs.Prelude.{◌≡◌, ℕ, List, Some, is_some, map, not, true};
+ghost use Rattle.std.specs.List.{list_all};
 ghost use Rattle.std.specs.declared.alloc.Global.{Global};
 ghost use Rattle.cf_base.specs.World.{Outcome};
-ghost use Rattle.cf_core.specs.FromUnit.{Unit, IsValid, file_of, units_mean};
+ghost use Rattle.cf_core.specs.FromUnit.{Unit, IsValid, file_of, tables_of, units_mean};
 ghost use Rattle.cf_plain.specs.Joined.{files_mean};
+ghost use Rattle.cf_plain.specs.Numbers.{function_known};
 ghost use Rattle.cf_plain.specs.View as plain;
 ghost use Rattle.cf_sequence.specs.Built.{is_built_file};
 ghost use Rattle.cf_sequence.specs.Sequenced.{sequenced_file};
 ghost use Rattle.cf_sequence_built.specs.Unbuilt.{in_file};
-ghost use Rattle.cf_sequence_fn.specs.Functions.{written_unit};
+ghost use Rattle.cf_sequence_fn.specs.Functions.{written_unit, written_function};
 ghost use Rattle.cf_sequence_written.specs.Built.{AreBuilt};
 
 /// The law that what is written for a valid file of built functions is its plain file. It does nothing.
@@ -33,4 +35,10 @@ pub fn written_files_keep_the_meaning()
 /// The law that in a file a construct that is not built is found just where the file is not one of built functions. It does nothing.
 pub fn what_is_found_is_not_built()
     ensures { (unit : Unit) → is_some (in_file unit) ≡ not (is_built_file (file_of unit)) }
+{}
+
+/// The law that each number of a type in what is written for a valid file is there in the file's tables. It does nothing.
+pub fn written_numbers_are_known()
+    ensures { (alloc : Global) (unit : Unit) → IsValid unit
+        → list_all (function_known (tables_of unit)) (map (written_function unit.types alloc) unit.functions) ≡ true }
 {}
