@@ -21,7 +21,7 @@ use Rattle.cf_elab_shape.specs.Shut as shut
 -- ---- what stays true as the table grows
 
 pub parameter_grown : (a b : Table) (p : Parameter) → Grows a b → IsParameter a p → IsParameter b p
-parameter_grown a b p g k = record { typed = type_grown a b p.type g k.typed; object = ap is_void (g.sorts p.type k.typed) ∙ k.object }
+parameter_grown a b p g k = record { typed = type_grown a b p.type g k.typed; object = ap is_void (g.sorts p.type k.typed) ∙ k.object; no_default = k.no_default }
 
 pub objects_grown : (a b : Table) (ps : List Parameter) → Grows a b → AreObjects a ps → AreObjects b ps
 objects_grown a b ps g all = All-into (IsParameter a) (IsParameter b) ps (λ p. parameter_grown a b p g) all

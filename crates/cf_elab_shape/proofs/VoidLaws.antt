@@ -1,5 +1,5 @@
 -- Parameters that are objects, and `(void)`.
-use Rattle.std.proofs.Common.{◌≡◌, ◌==◌, Bool, true, false, not, if◌then◌else◌, List, [], ◌∷◌, length, All, refl, sym, ap, subst, ◌∙◌, arith, true≢false}
+use Rattle.std.proofs.Common.{None, ◌≡◌, ◌==◌, Bool, true, false, not, if◌then◌else◌, List, [], ◌∷◌, length, All, refl, sym, ap, subst, ◌∙◌, arith, true≢false}
 use Rattle.std.proofs.Math.Dec.{eqb-suc-zero}
 use Rattle.std.proofs.lemmas.List.Elements.{All-cons, All-head, All-tail}
 use Rattle.cf_types.specs.Table.{Table}
@@ -112,9 +112,9 @@ no_objects types ps is = λ k d h. absurd (omega (arith, ap length is))
 pub none_objects : (types : Table) (ps : List Parameter) → length ps ≡ 0 → AreObjects types ps
 none_objects types ps none = λ k d h. absurd (omega arith)
 
-pub more_objects : (types : Table) (ps rest : List Parameter) (p : Parameter) → ps ≡ p ∷ rest → IsType types p.type → is_void (sort_of types p.type) ≡ false → AreObjects types rest
+pub more_objects : (types : Table) (ps rest : List Parameter) (p : Parameter) → ps ≡ p ∷ rest → IsType types p.type → is_void (sort_of types p.type) ≡ false → p.default ≡ None → AreObjects types rest
     → AreObjects types ps
-more_objects types ps rest p is typed object all = let P : List Parameter → Type 0 = AreObjects types in subst P (sym is) (All-cons (λ p. IsParameter types p) p rest (record { typed = typed; object = object }) all)
+more_objects types ps rest p is typed object none all = let P : List Parameter → Type 0 = AreObjects types in subst P (sym is) (All-cons (λ p. IsParameter types p) p rest (record { typed = typed; object = object; no_default = none }) all)
 
 pub first_typed : (types : Table) (ps rest : List Parameter) (p : Parameter) → ps ≡ p ∷ rest → All (λ p. IsType types p.type) ps → IsType types p.type
 first_typed types ps rest p is all = let P : List Parameter → Type 0 = All (λ p. IsType types p.type) in All-head (λ p. IsType types p.type) p rest (subst P is all)

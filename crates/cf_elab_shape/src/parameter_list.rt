@@ -1,4 +1,4 @@
-ghost use Rattle.std.specs.Prelude.{◌≡◌, ◌∷◌, [], ◌&&◌, not, is_some, false, All, IfOk, OnOk};
+ghost use Rattle.std.specs.Prelude.{◌≡◌, false, None, All, IfOk, OnOk};
 ghost use Rattle.cf_elab.specs.Declarator as declarator;
 ghost use Rattle.cf_elab.specs.Operand.{sort_of, is_void as void};
 ghost use Rattle.cf_elab_env.specs.Answered.{Agrees};
@@ -69,6 +69,7 @@ fn check_object(env: &Env, parameter: &Parameter) -> Result<(), Stop>
     requires { IsType env.now.types parameter.now.type }
     ensures made { Agrees (shut.no_void parameter.now env.now) result env.now }
     ensures object { OnOk result (void (sort_of env.now.types parameter.now.type) ≡ false) }
+    ensures no_default { OnOk result (parameter.now.default ≡ None) }
 {
     if is_void(env.sort_of(parameter.ty)) {
         Err(Stop::Broken(broken(26, named_at(parameter))))

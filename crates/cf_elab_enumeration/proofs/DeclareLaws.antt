@@ -1,0 +1,69 @@
+-- Enumerations and enumerators that are declared: no class is open, so the innermost scope has them.
+use Rattle.std.proofs.Common.{◌≡◌, ℕ, Bool, true, false, if◌then◌else◌, List, [], ◌∷◌, length, Option, Some, All, IsTrue, ℤ, sym, ap, subst, ◌∙◌}
+use Rattle.std.proofs.lemmas.List.Elements.{All-head, All-tail}
+use Rattle.cf_base.specs.Integers.{fits}
+use Rattle.cf_base.specs.declared.kind.Kind.TheVariants as kind
+use Rattle.cf_types.specs.Table.{Table}
+use Rattle.cf_classes.specs.declared.class.What.TheVariants as what
+use Rattle.cf_elab.specs.Answer.{Answer, Made, onward}
+use Rattle.cf_elab.specs.ClassScope.{add_plain}
+use Rattle.cf_elab.specs.Enumeration.{Counted, number_or_zero}
+use Rattle.cf_elab.specs.Env.{Env, Name, OpenClass, enum_name, enumerator}
+use Rattle.cf_elab.specs.Names as names
+use Rattle.cf_elab.specs.Operand.{Sort, enumeral, sort_of}
+use Rattle.cf_elab_env.specs.Holds.{IsEnv, IsType, IsEntity, fits_sort}
+use Rattle.cf_elab_env.specs.Shut as made
+use Rattle.cf_elab_enumeration.specs.Shut as shut
+use Rattle.cf_elab_enumeration.proofs.CheckLaws.{empty, IsInt}
+
+abbrev in_some : List OpenClass → Bool
+in_some [] = false
+in_some (o ∷ rest) = true
+
+module _ (env : Env) (e : IsEnv env) where
+  pub name_is : (n t at : ℕ) (name : Name) (r : Answer (Unit {0})) → made.declare name (enum_name n) env ≡ r → shut.name_declared n t (Some (at, name)) env ≡ r
+  unfolding shut.name_declared made.declare
+  name_is n t at name r h = ap (λ os. (if in_some os then add_plain name at what.Alias t else names.declare name (enum_name n)) env) e.no_open_class ∙ h
+
+  pub one_is : (t : ℕ) (c : Counted) → shut.declare_one t c env ≡ shut.declare_counted t c env
+  unfolding shut.declare_one shut.declare_counted
+  one_is t c =
+      ap (λ os. (if in_some os then add_plain c.name c.at (what.Enumerator (number_or_zero c.number)) t else names.declare c.name (enumerator t (number_or_zero c.number))) env) e.no_open_class
+
+pub counted_is : (t : ℕ) (c : Counted) (name : Name) (z : ℤ) (env : Env) (r : Answer (Unit {0})) → name ≡ c.name → z ≡ number_or_zero c.number → made.declare name (enumerator t z) env ≡ r
+    → shut.declare_counted t c env ≡ r
+unfolding shut.declare_counted made.declare
+counted_is t c name z env r is number h =
+    ap (λ n. names.declare n (enumerator t (number_or_zero c.number)) env) (sym is) ∙ ap (λ w. names.declare name (enumerator t w) env) (sym number) ∙ h
+
+-- a constant of an enumeration is an int
+pub enumerator_known : (types : Table) (count t n : ℕ) (z : ℤ) (number : Option ℤ) → IsType types t → sort_of types t ≡ enumeral n → z ≡ number_or_zero number
+    → IsTrue (fits kind.Int (number_or_zero number)) → IsEntity types count (enumerator t z)
+enumerator_known types count t n z number known is same int =
+    let P : Sort → Type 0 = λ s. IsTrue (fits_sort s z) in
+    let Q : ℤ → Type 0 = λ w. IsTrue (fits kind.Int w) in
+    (known, subst P (sym is) (subst Q (sym same) int))
+
+pub none_declared : (t : ℕ) (cs : List Counted) (env : Env) → length cs ≡ 0 → shut.declare_all t cs env ≡ Made tt env
+unfolding shut.declare_all
+none_declared t cs env none = ap (λ cs. shut.declare_all t cs env) (empty cs none)
+
+pub all_is : (t : ℕ) (cs rest : List Counted) (c : Counted) (env mid : Env) (r : Answer (Unit {0})) → cs ≡ c ∷ rest → shut.declare_one t c env ≡ Made tt mid → shut.declare_all t rest mid ≡ r
+    → shut.declare_all t cs env ≡ r
+unfolding shut.declare_all shut.declare_one
+all_is t cs rest c env mid r is first h =
+    ap (λ cs. shut.declare_all t cs env) is ∙ ap (λ a. onward a (λ _ e. shut.declare_all t rest e)) first ∙ h
+
+pub first_int : (cs rest : List Counted) (c : Counted) → cs ≡ c ∷ rest → All IsInt cs → IsInt c
+first_int cs rest c is all = let P : List Counted → Type 0 = All IsInt in All-head IsInt c rest (subst P is all)
+
+pub rest_ints : (cs rest : List Counted) (c : Counted) → cs ≡ c ∷ rest → All IsInt cs → All IsInt rest
+rest_ints cs rest c is all = let P : List Counted → Type 0 = All IsInt in All-tail IsInt c rest (subst P is all)
+
+pub ruleset name_laws = (name_is)
+
+pub ruleset one_laws = (one_is)
+
+pub ruleset counted_laws = (counted_is, enumerator_known)
+
+pub ruleset all_laws = (none_declared, all_is, first_int, rest_ints)

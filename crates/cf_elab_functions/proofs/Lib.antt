@@ -1,0 +1,10 @@
+pub mod AgainLaws
+pub mod CheckLaws
+pub mod DeclareLaws
+pub mod EntityLaws
+pub mod EntryLaws
+pub mod JoinLaws
+pub mod LinkLaws
+pub mod NewLaws
+pub mod TypeLaws
+pub mod Without
