@@ -19,7 +19,7 @@ use Rattle.cf_syntax.specs.declared.specifier.TypeSpecifier.{TypeSpecifier}
 use Rattle.cf_elab.specs.Built as built
 use Rattle.cf_elab.specs.Built.{Place, first, first_of}
 use Rattle.cf_elab_expr.specs.Forms.{place, form_step}
-use Rattle.cf_elab_expr.specs.Shut.{IsBuilt}
+use Rattle.cf_elab_expr.specs.Shut.{IsBuilt, AreBuilt}
 
 abbrev of_tree : DeclTree → Place
 of_tree = fold-DeclTree Place Place Place Place built.tree_step form_step built.param_step built.type_step
@@ -128,15 +128,19 @@ module _ (at : ℕ) where
     unfolding IsBuilt
     conditional_third = right (place a) (place b) (right (place c) pair of_three)
 
+  pub comma_inside : (es : List Expr) → IsBuilt (form.Comma at es) → AreBuilt es
+  unfolding IsBuilt AreBuilt roll-Expr denote.Hole.Carrier.roll
+  comma_inside es h = sym (seen (Expr-F.Comma at es)) ∙ h
+
+  pub call_called : (f : Expr) (es : List Expr) → IsBuilt (form.Call at f es) → IsBuilt f
+  unfolding IsBuilt roll-Expr denote.Hole.Carrier.roll
+  call_called f es h = left (place f) (first_of (map place es)) (sym (seen (Expr-F.Call at f es)) ∙ h)
+
+  pub call_arguments : (f : Expr) (es : List Expr) → IsBuilt (form.Call at f es) → AreBuilt es
+  unfolding IsBuilt AreBuilt roll-Expr denote.Hole.Carrier.roll
+  call_arguments f es h = right (place f) (first_of (map place es)) (sym (seen (Expr-F.Call at f es)) ∙ h)
+
   -- ---- forms that are not built
-
-  pub no_call : (f : Expr) (es : List Expr) → IsBuilt (form.Call at f es) → ⊥
-  unfolding IsBuilt roll-Expr denote.Hole.Carrier.roll
-  no_call f es h = let e : Some at ≡ None = sym (seen (Expr-F.Call at f es)) ∙ h in absurd cc
-
-  pub no_comma : (es : List Expr) → IsBuilt (form.Comma at es) → ⊥
-  unfolding IsBuilt roll-Expr denote.Hole.Carrier.roll
-  no_comma es h = let e : Some at ≡ None = sym (seen (Expr-F.Comma at es)) ∙ h in absurd cc
 
   pub no_basic : (b : BasicType) (es : List Expr) → IsBuilt (form.BasicCall at b es) → ⊥
   unfolding IsBuilt roll-Expr denote.Hole.Carrier.roll
@@ -185,4 +189,11 @@ pub name_built : (n : WrittenName) → IsBuilt (form.Named n) → built.of_name 
 unfolding IsBuilt roll-Expr denote.Hole.Carrier.roll
 name_built n h = sym (seen (Expr-F.Named n)) ∙ h
 
-pub ruleset unbuilt_laws = (no_call, no_comma, no_basic, no_typed, no_size_of_type, no_cast, no_this, no_dot, no_arrow, no_delete, no_new, no_bracketed)
+-- each of several
+pub one_built : (es : List Expr) (i : ℕ) (e : Expr) → AreBuilt es → i < length es → e ≡ get_or es i e → IsBuilt e
+unfolding AreBuilt IsBuilt
+one_built [] i e h lt is = absurd (omega arith)
+one_built (x ∷ es) zero e h lt is = ap place is ∙ left (place x) (first_of (map place es)) h
+one_built (x ∷ es) (suc i) e h lt is = one_built es i e (right (place x) (first_of (map place es)) h) (omega arith) is
+
+pub ruleset unbuilt_laws = (no_basic, no_typed, no_size_of_type, no_cast, no_this, no_dot, no_arrow, no_delete, no_new, no_bracketed)

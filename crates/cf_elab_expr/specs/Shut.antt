@@ -2,6 +2,7 @@
 use Rattle.std.specs.Prelude.{◌≡◌, ℕ, List, map, Option, None}
 use Rattle.cf_syntax.specs.declared.expression.Expr.{Expr}
 use Rattle.cf_elab.specs.Answer.{Elab, ◌>>=◌, gives, all}
+use Rattle.cf_elab.specs.Built.{first_of}
 use Rattle.cf_elab.specs.Choice.{conditional, sequence}
 use Rattle.cf_elab.specs.Expression as expression
 use Rattle.cf_elab.specs.Expression.{elaborated}
@@ -56,6 +57,9 @@ values es = expression.values (map elaborated es)
 unfoldable pub last_name : Expr → Option ℕ
 last_name e = (elaborated e).last_name
 
--- whether all forms in it are built
+-- whether all forms in it are built, and none names a type
 unfoldable pub IsBuilt : Expr → Type 0
 IsBuilt e = place e ≡ None
+
+unfoldable pub AreBuilt : List Expr → Type 0
+AreBuilt es = first_of (map place es) ≡ None

@@ -2,7 +2,7 @@
 
 ghost use Rattle.cf_elab_expr.specs.Shut as shut;
 
-use cf_base::Boxed;
+use cf_base::{Boxed, Items};
 use cf_syntax::{AssignOp, BinaryOp, Expr};
 
 #[tactic(auto, using(crate::proofs::BuiltForms::paren_inside))]
@@ -38,4 +38,17 @@ pub(crate) fn conditional(_at: u32, _c: &Boxed<Expr>, _a: &Boxed<Expr>, _b: &Box
     ensures first { shut.IsBuilt _c.now }
     ensures second { shut.IsBuilt _a.now }
     ensures third { shut.IsBuilt _b.now }
+{}
+
+#[tactic(auto, using(crate::proofs::BuiltForms::call_called, crate::proofs::BuiltForms::call_arguments))]
+pub(crate) fn call(_at: u32, _called: &Boxed<Expr>, _arguments: &Items<Expr>)
+    requires { shut.IsBuilt (Expr.Call _at _called.now _arguments.now) }
+    ensures called { shut.IsBuilt _called.now }
+    ensures arguments { shut.AreBuilt _arguments.now }
+{}
+
+#[tactic(auto, using(crate::proofs::BuiltForms::comma_inside))]
+pub(crate) fn comma(_at: u32, _all: &Items<Expr>)
+    requires { shut.IsBuilt (Expr.Comma _at _all.now) }
+    ensures { shut.AreBuilt _all.now }
 {}

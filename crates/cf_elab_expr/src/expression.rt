@@ -5,14 +5,15 @@ ghost use Rattle.cf_elab_env.specs.Holds.{Known, Grows};
 ghost use Rattle.cf_elab_operand.specs.Operands.{IsOperand};
 ghost use Rattle.cf_elab_expr.specs.Shut as shut;
 
-use crate::{built, forms};
+use crate::names::call_place;
+use crate::{built, forms, lists};
 use cf_elab_env::{Env, Operand, Stop, Value};
 use cf_elab_operand::value_of;
 use cf_syntax::Expr;
 
 /// What an expression is: its parts from left to right, and then what its construct asks of them (5).
 #[cycle(expressions)]
-#[tactic(auto, using(crate::proofs::BuiltForms::unbuilt_laws, crate::proofs::Parts::paren_is, crate::proofs::Parts::index_is, crate::proofs::Parts::binary_is, crate::proofs::Parts::assign_is, crate::proofs::Parts::conditional_is, crate::proofs::Grown::operand_laws))]
+#[tactic(auto, using(crate::proofs::BuiltForms::unbuilt_laws, crate::proofs::Parts::paren_is, crate::proofs::Parts::call_is, crate::proofs::Parts::comma_is, crate::proofs::Parts::index_is, crate::proofs::Parts::binary_is, crate::proofs::Parts::assign_is, crate::proofs::Parts::conditional_is, crate::proofs::Grown::operand_laws))]
 pub fn operand(e: &Expr, env: &mut Env) -> Result<Operand, Stop>
     requires { shut.IsBuilt e.now }
     ensures made { AgreesAs operand_seen (shut.run e.now env.old) result env.new }
@@ -39,6 +40,18 @@ pub fn operand(e: &Expr, env: &mut Env) -> Result<Operand, Stop>
         Expr::StepBefore(at, op, a) => forms::before(a, *at, *op, env),
         Expr::Prefix(at, op, a) => forms::prefix(a, *at, *op, env),
         Expr::SizeofExpr(at, a) => forms::size(a, *at, env),
+        Expr::Call(at, called, arguments) => {
+            built::call(*at, called, arguments);
+            let o = operand(called.get(), env)?;
+            let place = call_place(*at, called.get());
+            let found = lists::call(arguments.as_slice(), place, o, env)?;
+            Ok(found)
+        }
+        Expr::Comma(at, all) => {
+            built::comma(*at, all);
+            let found = lists::comma(all.as_slice(), *at, env)?;
+            Ok(found)
+        }
         Expr::Binary(at, op, a, b) => {
             built::binary(*at, *op, a, b);
             let o = operand(a.get(), env)?;
@@ -58,9 +71,7 @@ pub fn operand(e: &Expr, env: &mut Env) -> Result<Operand, Stop>
             let found = forms::assign(b, *at, *op, o, env)?;
             Ok(found)
         }
-        Expr::Call(_, _, _)
-        | Expr::Comma(_, _)
-        | Expr::BasicCall(_, _, _)
+        Expr::BasicCall(_, _, _)
         | Expr::TypeCall(_, _, _)
         | Expr::SizeofType(_, _)
         | Expr::Cast(_, _, _)

@@ -6,7 +6,8 @@
 mod built;
 mod expression;
 mod forms;
+mod lists;
 mod names;
 
 pub use expression::{evaluated, operand};
-pub use names::call_place;
+pub use lists::values;

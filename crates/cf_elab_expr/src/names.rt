@@ -7,7 +7,7 @@ ghost use Rattle.cf_elab_expr.specs.Shut as shut;
 use cf_syntax::Expr;
 
 /// The byte place of a call: the last name of what is called, or else the bracket (5.2.2).
-pub fn call_place(at: u32, called: &Expr) -> u32
+pub(crate) fn call_place(at: u32, called: &Expr) -> u32
     ensures { result ≡ expression.call_place at (shut.last_name called.now) }
 {
     match last_name(called) {
