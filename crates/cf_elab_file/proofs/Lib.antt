@@ -1,0 +1,3 @@
+pub mod DefinedLaws
+pub mod LibraryLaws
+pub mod LinkageLaws
