@@ -142,13 +142,17 @@ module _ (at : ℕ) where
 
   -- ---- forms that are not built
 
-  pub no_basic : (b : BasicType) (es : List Expr) → IsBuilt (form.BasicCall at b es) → ⊥
-  unfolding IsBuilt roll-Expr denote.Hole.Carrier.roll
-  no_basic b es h = let e : Some at ≡ None = sym (seen (Expr-F.BasicCall at b es)) ∙ h in absurd cc
+  pub basic_arguments : (b : BasicType) (es : List Expr) → IsBuilt (form.BasicCall at b es) → AreBuilt es
+  unfolding IsBuilt AreBuilt roll-Expr denote.Hole.Carrier.roll
+  basic_arguments b es h = sym (seen (Expr-F.BasicCall at b es)) ∙ h
 
-  pub no_typed : (p : Path) (es : List Expr) → IsBuilt (form.TypeCall at p es) → ⊥
+  pub typed_path : (p : Path) (es : List Expr) → IsBuilt (form.TypeCall at p es) → built.of_path p ≡ None
   unfolding IsBuilt roll-Expr denote.Hole.Carrier.roll
-  no_typed p es h = let e : Some at ≡ None = sym (seen (Expr-F.TypeCall at p es)) ∙ h in absurd cc
+  typed_path p es h = left (built.of_path p) (first_of (map place es)) (sym (seen (Expr-F.TypeCall at p es)) ∙ h)
+
+  pub typed_arguments : (p : Path) (es : List Expr) → IsBuilt (form.TypeCall at p es) → AreBuilt es
+  unfolding IsBuilt AreBuilt roll-Expr denote.Hole.Carrier.roll
+  typed_arguments p es h = right (built.of_path p) (first_of (map place es)) (sym (seen (Expr-F.TypeCall at p es)) ∙ h)
 
   pub no_size_of_type : (t : TypeId) → IsBuilt (form.SizeofType at t) → ⊥
   unfolding IsBuilt roll-Expr denote.Hole.Carrier.roll
@@ -196,4 +200,4 @@ one_built [] i e h lt is = absurd (omega arith)
 one_built (x ∷ es) zero e h lt is = ap place is ∙ left (place x) (first_of (map place es)) h
 one_built (x ∷ es) (suc i) e h lt is = one_built es i e (right (place x) (first_of (map place es)) h) (omega arith) is
 
-pub ruleset unbuilt_laws = (no_basic, no_typed, no_size_of_type, no_cast, no_this, no_dot, no_arrow, no_delete, no_new, no_bracketed)
+pub ruleset unbuilt_laws = (no_size_of_type, no_cast, no_this, no_dot, no_arrow, no_delete, no_new, no_bracketed)

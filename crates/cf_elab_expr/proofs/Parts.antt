@@ -1,5 +1,5 @@
 -- What an expression is by its parts (5).
-use Rattle.std.proofs.Common.{◌≡◌, ℕ, zero, suc, Bool, true, false, List, [], ◌∷◌, map, Option, None, Some, ℤ, pos, refl, sym, ap, ◌∙◌, if◌then◌else◌, nat_le}
+use Rattle.std.proofs.Common.{◌≡◌, ℕ, zero, suc, Bool, true, false, List, [], ◌∷◌, map, Option, None, Some, ℤ, pos, refl, sym, ap, ◌∙◌, if◌then◌else◌, is_some, not, ◌||◌, true≢false}
 use Rattle.cf_base.specs.declared.kind.Kind.{Kind}
 use Rattle.cf_base.specs.declared.kind.Kind.TheVariants as kind
 use Rattle.cf_syntax.specs.declared.declarator.TypeId.{TypeId, fold-TypeId}
@@ -10,6 +10,8 @@ use Rattle.cf_syntax.specs.declared.declarator.Param.{Param, fold-Param}
 use Rattle.cf_syntax.specs.declared.expression.Expr.{Expr, roll-Expr, ind-Expr}
 use Rattle.cf_syntax.specs.declared.expression.Expr.TheVariants as form
 use Rattle.cf_syntax.specs.declared.name.Name.{Name as WrittenName}
+use Rattle.cf_syntax.specs.declared.name.Path.{Path}
+use Rattle.cf_syntax.specs.declared.specifier.BasicType.{BasicType}
 use Rattle.cf_syntax.specs.declared.operator.AssignOp.{AssignOp}
 use Rattle.cf_syntax.specs.declared.operator.BinaryOp.{BinaryOp}
 use Rattle.cf_syntax.specs.declared.operator.BinaryOp.TheVariants as binary
@@ -22,12 +24,19 @@ use Rattle.cf_elab.specs.Env.{Env}
 use Rattle.cf_elab.specs.Declarator.{Declared, declared_step, parameter_step, type_id_step}
 use Rattle.cf_elab.specs.Expression as expression
 use Rattle.cf_elab.specs.Expression.{elaborated, declared, expression_step, call_place, binary_row, prefix_row, address_row}
+use Rattle.cf_elab.specs.Members.{class_number}
 use Rattle.cf_elab.specs.Paths.{named_in_class, in_class_alone}
 use Rattle.cf_elab.specs.Shape.{Parameter}
+use Rattle.cf_elab.specs.Specifiers.{gathered, basic_word, conflicts, fits_basics, with_basic, no_basics, nothing_gathered}
 use Rattle.cf_elab.specs.Unary.{size_constant}
-use Rattle.cf_elab.specs.Operand.{Value, Operand, Part, value, value_of}
+use Rattle.cf_elab.specs.Operand.{Value, Operand, Part, value, value_of, sort_of, Sort, is_class, class_sort}
 use Rattle.cf_elab_choice.specs.Shut as choice
+use Rattle.cf_elab_env.specs.Holds.{IsEnv, IsType}
 use Rattle.cf_elab_call.specs.Shut as call_row
+use Rattle.cf_elab_cast.specs.Shut as cast_row
+use Rattle.cf_elab_choice.proofs.ClassFree.{no_class}
+use Rattle.cf_elab_specifiers.specs.Shut as specifier
+use Rattle.cf_elab_type_names.specs.Shut as type_name
 use Rattle.cf_elab_operand.specs.Shut as operand_row
 use Rattle.cf_elab_operators.specs.Shut as operator
 use Rattle.cf_elab_expr.specs.Shut as shut
@@ -76,6 +85,27 @@ pub third_is : (at : ℕ) (o p : Operand) (b : Expr) (env : Env)
 unfolding shut.third operand_row.value_of choice.conditional
 third_is at o p b env = refl
 
+pub of_type_is : (at t : ℕ) (es : List Expr) (env : Env) → shut.of_type at t es env ≡ onward (shut.values es env) (λ vs env. as_operand (shut.given_to at t vs env))
+unfolding shut.of_type shut.values shut.given_to
+of_type_is at t es env = refl
+
+no_number : (s : Sort) → is_class s ≡ false → class_number s ≡ None
+no_number (class_sort c) h = absurd (true≢false h)
+no_number other h = refl
+
+pub given_is : (at t : ℕ) (vs : List Value) (env : Env) → IsEnv env → IsType env.types t → shut.given_to at t vs env ≡ cast_row.from_arguments at t vs env
+unfolding shut.given_to cast_row.from_arguments
+given_is at t vs env e k =
+    ap (λ c. expression.from_type at t vs c env) (no_number (sort_of env.types t) (no_class env.types t e.table e.no_class_type k))
+
+-- one fundamental type names none
+pub basic_named : (at : ℕ) (b : BasicType) → (gathered (basic_word at b ∷ [])).named ≡ None
+basic_named at b = by (is_some nothing_gathered.named || not (fits_basics b no_basics))
+  where
+    by : (x : Bool) → (conflicts x at (record nothing_gathered { basics = with_basic b no_basics; is_empty = false })).named ≡ None
+    by true = refl
+    by false = refl
+
 pub called_is : (at : ℕ) (o : Operand) (es : List Expr) (env : Env) → shut.called at o es env ≡ onward (shut.values es env) (λ vs env. as_operand (call_row.call_operand at o vs env))
 unfolding shut.called shut.values call_row.call_operand
 called_is at o es env = refl
@@ -97,6 +127,15 @@ unfolding shut.values shut.runs operand_row.values
 values_is es env = ap (λ l. onward (all l env) (λ os env. operand_row.values os env)) (runs_map es)
 
 module _ (at : ℕ) (env : Env) where
+  pub basic_is : (b : BasicType) (es : List Expr)
+      → shut.run (form.BasicCall at b es) env ≡ onward (specifier.base_type (gathered (basic_word at b ∷ [])) env) (λ t env. shut.of_type at t es env)
+  unfolding shut.run shut.of_type shut.given_to specifier.base_type roll-Expr denote.Hole.Carrier.roll
+  basic_is b es = ran (Expr-F.BasicCall at b es) env
+
+  pub typed_is : (p : Path) (es : List Expr) → shut.run (form.TypeCall at p es) env ≡ onward (type_name.type_at_path p env) (λ t env. shut.of_type at t es env)
+  unfolding shut.run shut.of_type shut.given_to type_name.type_at_path roll-Expr denote.Hole.Carrier.roll
+  typed_is p es = ran (Expr-F.TypeCall at p es) env
+
   pub binary_is : (op : BinaryOp) (a b : Expr) → shut.IsBuilt (form.Binary at op a b)
       → shut.run (form.Binary at op a b) env ≡ onward (shut.run a env) (λ o env. shut.two (operator.binary_operator at op) o b env)
   unfolding shut.run operator.binary_operator roll-Expr denote.Hole.Carrier.roll

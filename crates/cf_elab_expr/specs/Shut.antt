@@ -1,12 +1,13 @@
 -- An expression with its parts, under names that do not unfold. `Rattle.cf_elab_expr.proofs` says what each is by its parts.
 use Rattle.std.specs.Prelude.{◌≡◌, ℕ, List, map, Option, None}
 use Rattle.cf_syntax.specs.declared.expression.Expr.{Expr}
-use Rattle.cf_elab.specs.Answer.{Elab, ◌>>=◌, gives, all}
+use Rattle.cf_elab.specs.Answer.{Elab, ◌>>=◌, gives, known, all}
 use Rattle.cf_elab.specs.Built.{first_of}
 use Rattle.cf_elab.specs.Choice.{conditional, sequence}
 use Rattle.cf_elab.specs.Expression as expression
 use Rattle.cf_elab.specs.Expression.{elaborated}
-use Rattle.cf_elab.specs.Operand.{Value, Operand, evaluated, value_of}
+use Rattle.cf_elab.specs.Members.{class_number}
+use Rattle.cf_elab.specs.Operand.{Value, Operand, evaluated, value_of, sort_of}
 use Rattle.cf_elab_expr.specs.Forms.{place}
 
 -- what an expression is, and its one value
@@ -45,6 +46,13 @@ called at o es = expression.values (map elaborated es) >>= (λ vs. expression.on
 unfoldable pub between : ℕ → List Expr → Elab Operand
 between at es = expression.one (expression.values (map elaborated es) >>= sequence at)
 
+-- a type with arguments, which are elaborated or not yet
+unfoldable pub given_to : ℕ → ℕ → List Value → Elab Value
+given_to at t vs = known >>= (λ env. expression.from_type at t vs (class_number (sort_of env.types t)))
+
+unfoldable pub of_type : ℕ → ℕ → List Expr → Elab Operand
+of_type at t es = expression.values (map elaborated es) >>= (λ vs. expression.one (given_to at t vs))
+
 -- in order
 unfoldable pub runs : List Expr → Elab (List Operand)
 runs es = all (map run es)
@@ -57,7 +65,7 @@ values es = expression.values (map elaborated es)
 unfoldable pub last_name : Expr → Option ℕ
 last_name e = (elaborated e).last_name
 
--- whether all forms in it are built, and none names a type
+-- whether all forms in it are built, and no type stands in brackets
 unfoldable pub IsBuilt : Expr → Type 0
 IsBuilt e = place e ≡ None
 

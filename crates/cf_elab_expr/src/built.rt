@@ -1,9 +1,11 @@
 //! The parts of a form that is built are built. These functions do nothing: their contracts tell the caller.
 
+ghost use Rattle.std.specs.Prelude.{◌≡◌, None};
+ghost use Rattle.cf_elab.specs.Built.{of_path};
 ghost use Rattle.cf_elab_expr.specs.Shut as shut;
 
 use cf_base::{Boxed, Items};
-use cf_syntax::{AssignOp, BinaryOp, Expr};
+use cf_syntax::{AssignOp, BasicType, BinaryOp, Expr, Path};
 
 #[tactic(auto, using(crate::proofs::BuiltForms::paren_inside))]
 pub(crate) fn paren(_at: u32, _a: &Boxed<Expr>)
@@ -51,4 +53,17 @@ pub(crate) fn call(_at: u32, _called: &Boxed<Expr>, _arguments: &Items<Expr>)
 pub(crate) fn comma(_at: u32, _all: &Items<Expr>)
     requires { shut.IsBuilt (Expr.Comma _at _all.now) }
     ensures { shut.AreBuilt _all.now }
+{}
+
+#[tactic(auto, using(crate::proofs::BuiltForms::basic_arguments))]
+pub(crate) fn basic(_at: u32, _basic: BasicType, _arguments: &Items<Expr>)
+    requires { shut.IsBuilt (Expr.BasicCall _at _basic _arguments.now) }
+    ensures { shut.AreBuilt _arguments.now }
+{}
+
+#[tactic(auto, using(crate::proofs::BuiltForms::typed_path, crate::proofs::BuiltForms::typed_arguments))]
+pub(crate) fn typed(_at: u32, _path: &Path, _arguments: &Items<Expr>)
+    requires { shut.IsBuilt (Expr.TypeCall _at _path.now _arguments.now) }
+    ensures path { of_path _path.now ≡ None }
+    ensures arguments { shut.AreBuilt _arguments.now }
 {}

@@ -6,14 +6,15 @@ ghost use Rattle.cf_elab_operand.specs.Operands.{IsOperand};
 ghost use Rattle.cf_elab_expr.specs.Shut as shut;
 
 use crate::names::call_place;
-use crate::{built, forms, lists};
+use crate::{built, forms, lists, types};
 use cf_elab_env::{Env, Operand, Stop, Value};
 use cf_elab_operand::value_of;
+use cf_elab_type_names::type_at_path;
 use cf_syntax::Expr;
 
 /// What an expression is: its parts from left to right, and then what its construct asks of them (5).
 #[cycle(expressions)]
-#[tactic(auto, using(crate::proofs::BuiltForms::unbuilt_laws, crate::proofs::Parts::paren_is, crate::proofs::Parts::call_is, crate::proofs::Parts::comma_is, crate::proofs::Parts::index_is, crate::proofs::Parts::binary_is, crate::proofs::Parts::assign_is, crate::proofs::Parts::conditional_is, crate::proofs::Grown::operand_laws))]
+#[tactic(auto, using(crate::proofs::BuiltForms::unbuilt_laws, crate::proofs::Parts::paren_is, crate::proofs::Parts::basic_is, crate::proofs::Parts::typed_is, crate::proofs::Parts::call_is, crate::proofs::Parts::comma_is, crate::proofs::Parts::index_is, crate::proofs::Parts::binary_is, crate::proofs::Parts::assign_is, crate::proofs::Parts::conditional_is, crate::proofs::Grown::operand_laws))]
 pub fn operand(e: &Expr, env: &mut Env) -> Result<Operand, Stop>
     requires { shut.IsBuilt e.now }
     ensures made { AgreesAs operand_seen (shut.run e.now env.old) result env.new }
@@ -40,6 +41,18 @@ pub fn operand(e: &Expr, env: &mut Env) -> Result<Operand, Stop>
         Expr::StepBefore(at, op, a) => forms::before(a, *at, *op, env),
         Expr::Prefix(at, op, a) => forms::prefix(a, *at, *op, env),
         Expr::SizeofExpr(at, a) => forms::size(a, *at, env),
+        Expr::BasicCall(at, basic, arguments) => {
+            built::basic(*at, *basic, arguments);
+            let ty = types::basic_type(env, *at, *basic)?;
+            let found = lists::of_type(arguments.as_slice(), *at, ty, env)?;
+            Ok(found)
+        }
+        Expr::TypeCall(at, path, arguments) => {
+            built::typed(*at, path, arguments);
+            let ty = type_at_path(env, path)?;
+            let found = lists::of_type(arguments.as_slice(), *at, ty, env)?;
+            Ok(found)
+        }
         Expr::Call(at, called, arguments) => {
             built::call(*at, called, arguments);
             let o = operand(called.get(), env)?;
@@ -71,9 +84,7 @@ pub fn operand(e: &Expr, env: &mut Env) -> Result<Operand, Stop>
             let found = forms::assign(b, *at, *op, o, env)?;
             Ok(found)
         }
-        Expr::BasicCall(_, _, _)
-        | Expr::TypeCall(_, _, _)
-        | Expr::SizeofType(_, _)
+        Expr::SizeofType(_, _)
         | Expr::Cast(_, _, _)
         | Expr::This(_)
         | Expr::Dot(_, _, _)

@@ -8,6 +8,7 @@ mod expression;
 mod forms;
 mod lists;
 mod names;
+mod types;
 
 pub use expression::{evaluated, operand};
 pub use lists::values;

@@ -3,7 +3,7 @@
 ghost use Rattle.std.specs.Prelude.{◌≡◌, IfOk, OnOk, All, map};
 ghost use Rattle.cf_elab_env.specs.Answered.{Agrees, AgreesAs};
 ghost use Rattle.cf_elab_env.specs.SeenOperand.{operand_seen};
-ghost use Rattle.cf_elab_env.specs.Holds.{Known, Grows};
+ghost use Rattle.cf_elab_env.specs.Holds.{Known, Grows, IsType};
 ghost use Rattle.cf_elab_operand.specs.Operands.{IsOperand};
 ghost use Rattle.cf_elab_expr.specs.Seen.{operands_seen};
 ghost use Rattle.cf_elab_expr.specs.Shut as shut;
@@ -11,10 +11,12 @@ ghost use Rattle.cf_elab_expr.specs.Shut as shut;
 use crate::expression::operand;
 use cf_base::Items;
 use cf_elab_call::call_operand;
+use cf_elab_cast::from_arguments;
 use cf_elab_choice::sequence;
 use cf_elab_env::{Env, Operand, Stop, Value};
 use cf_elab_operand as operands;
 use cf_syntax::Expr;
+use cf_types::TyId;
 
 /// What several expressions are, in order.
 #[cycle(expressions)]
@@ -72,5 +74,21 @@ pub(crate) fn comma(all: &[Expr], at: u32, env: &mut Env) -> Result<Operand, Sto
 {
     let values = values(all, env)?;
     let value = sequence(env, at, values)?;
+    Ok(Operand::Value(value))
+}
+
+/// A type that is no class, with these arguments (5.2.3).
+#[cycle(expressions)]
+#[tactic(auto, using(crate::proofs::Parts::of_type_is, crate::proofs::Parts::given_is, crate::proofs::Grown::operand_laws))]
+pub(crate) fn of_type(arguments: &[Expr], at: u32, ty: TyId, env: &mut Env) -> Result<Operand, Stop>
+    requires typed { IsType env.old.types ty }
+    requires built { shut.AreBuilt arguments.now }
+    ensures made { AgreesAs operand_seen (shut.of_type at ty arguments.now env.old) result env.new }
+    ensures known { IfOk result (λ o. IsOperand env.new.types o) }
+    ensures grows { OnOk result (Grows env.old.types env.new.types) }
+{
+    let values = values(arguments, env)?;
+    env.holds();
+    let value = from_arguments(env, at, ty, values)?;
     Ok(Operand::Value(value))
 }
