@@ -1,5 +1,4 @@
 pub mod BuiltForms
-pub mod Grown
 pub mod InOrder
 pub mod LastNames
 pub mod Numbers

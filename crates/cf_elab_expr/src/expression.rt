@@ -14,7 +14,7 @@ use cf_syntax::Expr;
 
 /// What an expression is: its parts from left to right, and then what its construct asks of them (5).
 #[cycle(expressions)]
-#[tactic(auto, using(crate::proofs::BuiltForms::unbuilt_laws, crate::proofs::Parts::paren_is, crate::proofs::Parts::basic_is, crate::proofs::Parts::typed_is, crate::proofs::Parts::call_is, crate::proofs::Parts::comma_is, crate::proofs::Parts::index_is, crate::proofs::Parts::binary_is, crate::proofs::Parts::assign_is, crate::proofs::Parts::conditional_is, crate::proofs::Grown::operand_laws))]
+#[tactic(auto, using(crate::proofs::BuiltForms::unbuilt_laws, crate::proofs::Parts::paren_is, crate::proofs::Parts::basic_is, crate::proofs::Parts::typed_is, crate::proofs::Parts::call_is, crate::proofs::Parts::comma_is, crate::proofs::Parts::index_is, crate::proofs::Parts::binary_is, crate::proofs::Parts::assign_is, crate::proofs::Parts::conditional_is, cf_elab_operand::proofs::Grown::operand_grown, cf_elab_env::proofs::Growth::grown_laws))]
 pub fn operand(e: &Expr, env: &mut Env) -> Result<Operand, Stop>
     requires { shut.IsBuilt e.now }
     ensures made { AgreesAs operand_seen (shut.run e.now env.old) result env.new }

@@ -68,7 +68,7 @@ pub(crate) fn text(at: u32, bytes: &Bytes, env: &mut Env) -> Result<Operand, Sto
 }
 
 /// A name (5.1).
-#[tactic(auto, using(crate::proofs::Parts::named_is, crate::proofs::BuiltForms::name_built, crate::proofs::Grown::operand_laws))]
+#[tactic(auto, using(crate::proofs::Parts::named_is, crate::proofs::BuiltForms::name_built, cf_elab_operand::proofs::Grown::operand_grown, cf_elab_env::proofs::Growth::grown_laws))]
 pub(crate) fn named(name: &Name, env: &mut Env) -> Result<Operand, Stop>
     requires { shut.IsBuilt (Expr.Named name.now) }
     ensures made { AgreesAs operand_seen (shut.run (Expr.Named name.now) env.old) result env.new }
@@ -109,7 +109,7 @@ pub(crate) fn before(a: &Boxed<Expr>, at: u32, op: StepOp, env: &mut Env) -> Res
 
 /// The values of two, of which the first is elaborated.
 #[cycle(expressions)]
-#[tactic(auto, using(crate::proofs::Parts::second_is, crate::proofs::Grown::operand_laws))]
+#[tactic(auto, using(crate::proofs::Parts::second_is, cf_elab_operand::proofs::Grown::operand_grown, cf_elab_env::proofs::Growth::grown_laws))]
 fn second(b: &Boxed<Expr>, o: Operand, env: &mut Env) -> Result<(Value, Value), Stop>
     requires first { IsOperand env.old.types o }
     requires built { shut.IsBuilt b.now }
@@ -125,7 +125,7 @@ fn second(b: &Boxed<Expr>, o: Operand, env: &mut Env) -> Result<(Value, Value), 
 
 /// `a[i]` (5.2.1)
 #[cycle(expressions)]
-#[tactic(auto, using(crate::proofs::Parts::two_is, crate::proofs::Grown::operand_laws))]
+#[tactic(auto, using(crate::proofs::Parts::two_is, cf_elab_operand::proofs::Grown::operand_grown, cf_elab_env::proofs::Growth::grown_laws))]
 pub(crate) fn index(b: &Boxed<Expr>, at: u32, o: Operand, env: &mut Env) -> Result<Operand, Stop>
     requires first { IsOperand env.old.types o }
     requires built { shut.IsBuilt b.now }
@@ -140,7 +140,7 @@ pub(crate) fn index(b: &Boxed<Expr>, at: u32, o: Operand, env: &mut Env) -> Resu
 
 /// A binary operator with its operands (5.5 to 5.15).
 #[cycle(expressions)]
-#[tactic(auto, using(crate::proofs::Parts::two_is, crate::proofs::Grown::operand_laws))]
+#[tactic(auto, using(crate::proofs::Parts::two_is, cf_elab_operand::proofs::Grown::operand_grown, cf_elab_env::proofs::Growth::grown_laws))]
 pub(crate) fn binary(
     b: &Boxed<Expr>,
     at: u32,
@@ -161,7 +161,7 @@ pub(crate) fn binary(
 
 /// `a=b` and its kin (5.17)
 #[cycle(expressions)]
-#[tactic(auto, using(crate::proofs::Parts::two_is, crate::proofs::Grown::operand_laws))]
+#[tactic(auto, using(crate::proofs::Parts::two_is, cf_elab_operand::proofs::Grown::operand_grown, cf_elab_env::proofs::Growth::grown_laws))]
 pub(crate) fn assign(
     b: &Boxed<Expr>,
     at: u32,
@@ -182,7 +182,7 @@ pub(crate) fn assign(
 
 /// `c?a:b` (5.16)
 #[cycle(expressions)]
-#[tactic(auto, using(crate::proofs::Parts::third_is, crate::proofs::Grown::operand_laws))]
+#[tactic(auto, using(crate::proofs::Parts::third_is, cf_elab_operand::proofs::Grown::operand_grown, cf_elab_env::proofs::Growth::grown_laws))]
 pub(crate) fn conditional(
     b: &Boxed<Expr>,
     at: u32,
@@ -221,7 +221,7 @@ pub(crate) fn prefix(a: &Boxed<Expr>, at: u32, op: PrefixOp, env: &mut Env) -> R
 
 /// `sizeof e`: the operand is elaborated and not evaluated, so its literals are none of the function's (5.3.2).
 #[cycle(expressions)]
-#[tactic(auto, using(crate::proofs::Parts::size_is, crate::proofs::BuiltForms::size_inside, crate::proofs::Grown::operand_laws))]
+#[tactic(auto, using(crate::proofs::Parts::size_is, crate::proofs::BuiltForms::size_inside, cf_elab_operand::proofs::Grown::operand_grown, cf_elab_env::proofs::Growth::grown_laws))]
 pub(crate) fn size(a: &Boxed<Expr>, at: u32, env: &mut Env) -> Result<Operand, Stop>
     requires { shut.IsBuilt (Expr.SizeofExpr at a.now) }
     ensures made { AgreesAs operand_seen (shut.run (Expr.SizeofExpr at a.now) env.old) result env.new }

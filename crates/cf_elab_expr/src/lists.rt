@@ -20,7 +20,7 @@ use cf_types::TyId;
 
 /// What several expressions are, in order.
 #[cycle(expressions)]
-#[tactic(auto, using(crate::proofs::Grown::operand_laws))]
+#[tactic(auto, using(cf_elab_operand::proofs::Grown::operand_grown, cf_elab_env::proofs::Growth::grown_laws))]
 fn run(all: &[Expr], env: &mut Env) -> Result<Items<Operand>, Stop>
     requires { shut.AreBuilt all.now }
     ensures made { AgreesAs operands_seen (shut.runs all.now env.old) result env.new }
@@ -50,7 +50,7 @@ pub fn values(all: &[Expr], env: &mut Env) -> Result<Items<Value>, Stop>
 
 /// A call of what is elaborated, with these arguments (5.2.2).
 #[cycle(expressions)]
-#[tactic(auto, using(crate::proofs::Parts::called_is, crate::proofs::Grown::operand_laws))]
+#[tactic(auto, using(crate::proofs::Parts::called_is, cf_elab_operand::proofs::Grown::operand_grown, cf_elab_env::proofs::Growth::grown_laws))]
 pub(crate) fn call(arguments: &[Expr], at: u32, o: Operand, env: &mut Env) -> Result<Operand, Stop>
     requires first { IsOperand env.old.types o }
     requires built { shut.AreBuilt arguments.now }
@@ -65,7 +65,7 @@ pub(crate) fn call(arguments: &[Expr], at: u32, o: Operand, env: &mut Env) -> Re
 
 /// `a, b` (5.18)
 #[cycle(expressions)]
-#[tactic(auto, using(crate::proofs::Parts::comma_of, crate::proofs::Grown::operand_laws))]
+#[tactic(auto, using(crate::proofs::Parts::comma_of, cf_elab_operand::proofs::Grown::operand_grown, cf_elab_env::proofs::Growth::grown_laws))]
 pub(crate) fn comma(all: &[Expr], at: u32, env: &mut Env) -> Result<Operand, Stop>
     requires { shut.AreBuilt all.now }
     ensures made { AgreesAs operand_seen (shut.between at all.now env.old) result env.new }
@@ -79,7 +79,7 @@ pub(crate) fn comma(all: &[Expr], at: u32, env: &mut Env) -> Result<Operand, Sto
 
 /// A type that is no class, with these arguments (5.2.3).
 #[cycle(expressions)]
-#[tactic(auto, using(crate::proofs::Parts::of_type_is, crate::proofs::Parts::given_is, crate::proofs::Grown::operand_laws))]
+#[tactic(auto, using(crate::proofs::Parts::of_type_is, crate::proofs::Parts::given_is, cf_elab_operand::proofs::Grown::operand_grown, cf_elab_env::proofs::Growth::grown_laws))]
 pub(crate) fn of_type(arguments: &[Expr], at: u32, ty: TyId, env: &mut Env) -> Result<Operand, Stop>
     requires typed { IsType env.old.types ty }
     requires built { shut.AreBuilt arguments.now }

@@ -12,7 +12,7 @@ use Rattle.cf_elab_operand.specs.Operands.{IsOperand}
 use Rattle.cf_elab_expr.specs.Seen.{operands_seen}
 use Rattle.cf_elab_expr.specs.Shut as shut
 use Rattle.cf_elab_expr.proofs.BuiltForms.{one_built}
-use Rattle.cf_elab_expr.proofs.Grown.{operands_grown}
+use Rattle.cf_elab_operand.proofs.Grown.{operands_grown}
 use Rattle.cf_elab_expr.proofs.InOrder.{behind, stopped, going, all_more, at_end}
 use Rattle.cf_elab_expr.proofs.+expressions.Goals as goal
 
