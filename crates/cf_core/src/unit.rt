@@ -140,4 +140,13 @@ impl CoreUnit {
     {
         self.statics.as_slice()
     }
+
+    /// Its tables, for what is made of it.
+    pub fn into_tables(self) -> (Types, Classes)
+        ensures types { result.0 ≡ self.types }
+        ensures classes { result.1 ≡ self.classes }
+    {
+        let CoreUnit { types, classes, .. } = self;
+        (types, classes)
+    }
 }

@@ -16,7 +16,7 @@ use Rattle.cf_core.specs.declared.operators.PointerOperator.TheVariants as point
 use Rattle.cf_core.specs.declared.node.Core.TheVariants as node
 use Rattle.cf_elab.specs.Answer.{Elab, ◌>>=◌, ◌>>◌, gives, breaks, need, known}
 use Rattle.cf_elab.specs.Made.{int, pointer_to, const_if}
-use Rattle.cf_elab.specs.Operand.{Value, val, defs, computed, is_zero, plain, Sort, sort_of, arithmetic, object_pointer, void_pointer, data_pointer, method_pointer}
+use Rattle.cf_elab.specs.Operand.{Value, val, defs, computed, is_zero, plain, Sort, sort_of, arithmetic, object_pointer, void_pointer, data_pointer, method_pointer, void_sort}
 use Rattle.cf_elab.specs.Fit.{fit, converted, to_kind}
 use Rattle.cf_elab.specs.Arithmetic.{on_kinds, conjunction, disjunction}
 use Rattle.cf_elab.specs.Complete.{complete}
@@ -163,6 +163,8 @@ abbrev pub by_sorts : ℕ → BinaryOp → Value → Value → Sort → Sort →
 by_sorts at op x y s r (Some k) (Some l) = by_kinds at op (integer_operator op) k l x y
 by_sorts at op x y (object_pointer t) s None (Some l) = pointer_and_integer at op (add_or_subtract op) x t l y
 by_sorts at op x y s (object_pointer t) (Some k) None = integer_and_pointer at op x k y t
+by_sorts at op x y void_sort r None (Some l) = breaks 18 at
+by_sorts at op x y s void_sort (Some k) None = breaks 18 at
 by_sorts at op x y s r None (Some l) = with_null at op x y
 by_sorts at op x y s r (Some k) None = with_null at op x y
 by_sorts at op x y (object_pointer t) (object_pointer u) None None = same_objects at x y t u (ordering op) (equality op)

@@ -44,12 +44,16 @@ abbrev pub number_or_zero : Option ℤ → ℤ
 number_or_zero None = pos 0
 number_or_zero (Some z) = z
 
+-- what an enumerator counts as in the expressions behind it: one past int, which is refused at the end, as 0
+abbrev pub int_or_zero : Option ℤ → ℤ
+int_or_zero z = elim (fits kind.Int (number_or_zero z)) [ true ↦ number_or_zero z | false ↦ pos 0 ]
+
 -- the expressions in order, each with the enumerators before it
 abbrev pub counted : ℕ → Option ℤ → List Item → Elab (List Counted)
 counted t next [] = gives []
 counted t next (e ∷ es) = do
   v ← maybe evaluated e.value
-  declare e.name (enumerator t (number_or_zero (number_of next v)))
+  declare e.name (enumerator t (int_or_zero (number_of next v)))
   rest ← counted t (one_more (number_of next v)) es
   gives (record { at = e.at; name = e.name; number = number_of next v } ∷ rest)
 

@@ -2,7 +2,7 @@
 -- switch stands in one.
 use Rattle.std.specs.Prelude.{ℕ, Bool, true, false, ◌&&◌, ◌||◌, not, nat_lt, List, [], ◌∷◌, ◌++◌, map, length, Option, Some, None, slice_get}
 use Rattle.std.specs.List.{list_all}
-use Rattle.cf_core.specs.Types.{SourceType, type_eq, parameters, result as result_type}
+use Rattle.cf_core.specs.Types.{SourceType, same_but_const, parameters, result as result_type}
 use Rattle.cf_core.specs.Classes.{Class}
 use Rattle.cf_core.specs.Core.{Role, constructor}
 use Rattle.cf_core.specs.Places.{part_eq}
@@ -12,9 +12,10 @@ use Rattle.cf_core.specs.Valid.{classes_fit, overriders_exist, all_differ, is_co
 use Rattle.cf_plain.specs.Plain.{Action, local, declare, finish, call, virtual_call, pointer_call, build, Plain, Plains, PlainParts, act, set, branch, loop, switch, case_label, default_label, leave, continue, give, parts, nothing, more, no_parts, part, PlainFunction, PlainStatic, PlainFile}
 use Rattle.cf_plain.specs.Running.{has_case}
 
+-- whether a local is there and has this type, which may differ in const
 abbrev pub is_of : Option SourceType → SourceType → Bool
 is_of None t = false
-is_of (Some u) t = type_eq u t
+is_of (Some u) t = same_but_const u t
 
 module _ (locals : List SourceType) where
   -- the locals that are the objects of parameters of these types
