@@ -6,10 +6,10 @@ use Rattle.cf_syntax.specs.declared.operator.BinaryOp.{BinaryOp}
 use Rattle.cf_elab.specs.Answer.{Answer, Refused}
 use Rattle.cf_elab.specs.Binary as binary
 use Rattle.cf_elab.specs.Env.{Env}
-use Rattle.cf_elab.specs.Operand.{Value, Sort, sort_of, arithmetic, object_pointer, void_pointer, data_pointer, method_pointer}
+use Rattle.cf_elab.specs.Operand.{Value, Sort, sort_of, arithmetic, object_pointer, void_pointer, data_pointer, method_pointer, void_sort, is_void}
 use Rattle.cf_elab_arith.specs.Shut as arith
 use Rattle.cf_elab_arith.specs.Sorts.{kind_at, object_at, object_of, void_at, is_void_pointer, member_at, is_member}
-use Rattle.cf_elab_binary.specs.Asked.{pointed}
+use Rattle.cf_elab_binary.specs.Asked.{pointed, void_type_at}
 use Rattle.cf_elab_binary.specs.Shut as shut
 
 module _ (at : ℕ) (op : BinaryOp) (x y : Value) (env : Env) where
@@ -39,14 +39,24 @@ module _ (at : ℕ) (op : BinaryOp) (x y : Value) (env : Env) where
           let same : u ≡ t = cc in ap (by_types (object_pointer u) second None) f ∙ ap (λ t. shut.pointer_and_integer at op x t l y env) same
       by other e = cc
 
-  pub other_first : (l : Kind) → kind_at env.types x.type ≡ None → object_at env.types x.type ≡ None → kind_at env.types y.type ≡ Some l
+  pub other_first : (l : Kind) → kind_at env.types x.type ≡ None → object_at env.types x.type ≡ None → void_type_at env.types x.type ≡ false → kind_at env.types y.type ≡ Some l
       → shut.by_sorts at op x y env ≡ shut.with_null at op x y env
-  unfolding shut.by_sorts shut.with_null object_at kind_at
-  other_first l n e f = ap (λ a. by_types first second a (arithmetic second)) n ∙ ap (by_types first second None) f ∙ by first second e
+  unfolding shut.by_sorts shut.with_null object_at kind_at void_type_at
+  other_first l n e v f = ap (λ a. by_types first second a (arithmetic second)) n ∙ ap (by_types first second None) f ∙ by first second e v
     where
-      by : (s r : Sort) → object_of s ≡ None → by_types s r None (Some l) ≡ binary.with_null at op x y env
-      by (object_pointer u) r e = cc
-      by other r e = refl
+      by : (s r : Sort) → object_of s ≡ None → is_void s ≡ false → by_types s r None (Some l) ≡ binary.with_null at op x y env
+      by (object_pointer u) r e v = cc
+      by void_sort r e v = cc
+      by other r e v = refl
+
+  pub void_first : (l : Kind) → kind_at env.types x.type ≡ None → void_type_at env.types x.type ≡ true → kind_at env.types y.type ≡ Some l
+      → shut.by_sorts at op x y env ≡ Refused 18 at
+  unfolding shut.by_sorts kind_at void_type_at
+  void_first l n v f = ap (λ a. by_types first second a (arithmetic second)) n ∙ ap (by_types first second None) f ∙ by first second v
+    where
+      by : (s r : Sort) → is_void s ≡ true → by_types s r None (Some l) ≡ Refused 18 at
+      by void_sort r v = refl
+      by other r v = cc
 
   pub pointer_second : (k : Kind) (t : ℕ) → kind_at env.types x.type ≡ Some k → object_at env.types y.type ≡ Some t
       → shut.by_sorts at op x y env ≡ shut.integer_and_pointer at op x k y t env
@@ -57,14 +67,24 @@ module _ (at : ℕ) (op : BinaryOp) (x y : Value) (env : Env) where
       by s (object_pointer u) f = let same : u ≡ t = cc in ap (λ t. shut.integer_and_pointer at op x k y t env) same
       by s other f = cc
 
-  pub other_second : (k : Kind) → kind_at env.types x.type ≡ Some k → kind_at env.types y.type ≡ None → object_at env.types y.type ≡ None
+  pub other_second : (k : Kind) → kind_at env.types x.type ≡ Some k → kind_at env.types y.type ≡ None → object_at env.types y.type ≡ None → void_type_at env.types y.type ≡ false
       → shut.by_sorts at op x y env ≡ shut.with_null at op x y env
-  unfolding shut.by_sorts shut.with_null object_at kind_at
-  other_second k e n f = ap (λ a. by_types first second a (arithmetic second)) e ∙ ap (by_types first second (Some k)) n ∙ by first second f
+  unfolding shut.by_sorts shut.with_null object_at kind_at void_type_at
+  other_second k e n f v = ap (λ a. by_types first second a (arithmetic second)) e ∙ ap (by_types first second (Some k)) n ∙ by first second f v
     where
-      by : (s r : Sort) → object_of r ≡ None → by_types s r (Some k) None ≡ binary.with_null at op x y env
-      by s (object_pointer u) f = cc
-      by s other f = refl
+      by : (s r : Sort) → object_of r ≡ None → is_void r ≡ false → by_types s r (Some k) None ≡ binary.with_null at op x y env
+      by s (object_pointer u) f v = cc
+      by s void_sort f v = cc
+      by s other f v = refl
+
+  pub void_second : (k : Kind) → kind_at env.types x.type ≡ Some k → kind_at env.types y.type ≡ None → void_type_at env.types y.type ≡ true
+      → shut.by_sorts at op x y env ≡ Refused 18 at
+  unfolding shut.by_sorts kind_at void_type_at
+  void_second k e n v = ap (λ a. by_types first second a (arithmetic second)) e ∙ ap (by_types first second (Some k)) n ∙ by first second v
+    where
+      by : (s r : Sort) → is_void r ≡ true → by_types s r (Some k) None ≡ Refused 18 at
+      by s void_sort v = refl
+      by s other v = cc
 
   -- ---- with no integer
 
@@ -147,11 +167,11 @@ pub ruleset by_kinds_laws = (on_integers, no_operator)
 
 pub ruleset by_sorts_laws = (both_integers)
 
-pub ruleset integer_left_laws = (both_integers, pointer_second, other_second)
+pub ruleset integer_left_laws = (both_integers, pointer_second, void_second, other_second)
 
 pub ruleset no_integer_left_laws = (no_integer)
 
-pub ruleset integer_right_laws = (pointer_first, other_first)
+pub ruleset integer_right_laws = (pointer_first, void_first, other_first)
 
 pub ruleset no_integers_laws = (no_pointer)
 

@@ -5,7 +5,7 @@ use Rattle.cf_convert.specs.Converts.{steps}
 use Rattle.cf_convert.specs.declared.conv.ConvStep.{ConvStep}
 use Rattle.cf_elab.specs.Binary as binary
 use Rattle.cf_elab.specs.Env.{Env}
-use Rattle.cf_elab.specs.Operand.{Value, val, defs}
+use Rattle.cf_elab.specs.Operand.{Value, val, defs, sort_of, is_void}
 use Rattle.cf_elab_arith.specs.Sorts.{complete_at}
 
 -- the steps of a value to a type, if it is converted to it
@@ -19,3 +19,7 @@ pointed = binary.pointed
 -- whether objects of both types hold no class that is not defined
 unfoldable pub are_complete : Env → ℕ → ℕ → Bool
 are_complete env t u = complete_at env t && complete_at env u
+
+-- whether it is void, which no operand is
+unfoldable pub void_type_at : Table → ℕ → Bool
+void_type_at types t = is_void (sort_of types t)

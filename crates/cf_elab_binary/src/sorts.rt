@@ -8,7 +8,7 @@ use crate::moves::{integer_and_pointer, pointer_and_integer};
 use crate::nulls::with_null;
 use crate::operators::integer_operator;
 use crate::pairs::same_objects;
-use crate::void_pointers::{pointed, void_equality};
+use crate::void_pointers::{is_void, pointed, void_equality};
 use cf_base::Kind;
 use cf_elab_arith::{broken, is_void_pointer, kind_at, object_at, on_kinds};
 use cf_elab_env::{Env, Stop, Value};
@@ -69,6 +69,9 @@ fn integer_left(
             Ok(value)
         }
         None => {
+            if is_void(env, y.ty()) {
+                return Err(Stop::Broken(broken(18, at)));
+            }
             let value = with_null(env, at, op, x, y)?;
             Ok(value)
         }
@@ -121,6 +124,9 @@ fn integer_right(
             Ok(value)
         }
         None => {
+            if is_void(env, x.ty()) {
+                return Err(Stop::Broken(broken(18, at)));
+            }
             let value = with_null(env, at, op, x, y)?;
             Ok(value)
         }

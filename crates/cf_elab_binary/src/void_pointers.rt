@@ -1,12 +1,14 @@
 ghost use Rattle.std.specs.Prelude.{◌≡◌, IfOk, OnOk};
+ghost use Rattle.cf_elab.specs.Operand as operand;
 ghost use Rattle.cf_elab_binary.specs.Asked as asked;
 ghost use Rattle.cf_elab_binary.specs.Shut as shut;
 ghost use Rattle.cf_elab_env.specs.Answered.{Agrees};
 ghost use Rattle.cf_elab_env.specs.Holds.{Known, Grows, IsType};
+ghost use Rattle.cf_elab_env.specs.Seen.{sort_seen};
 
 use crate::nulls::with_other;
 use crate::operators::equality;
-use cf_elab_env::{Env, Stop, Value};
+use cf_elab_env::{Env, Sort, Stop, Value};
 use cf_syntax::BinaryOp;
 use cf_types::{Ty, TyId};
 
@@ -22,6 +24,20 @@ pub(crate) fn pointed(env: &Env, ty: TyId) -> TyId
         Ty::Ptr(to) => to,
         _ => ty,
     }
+}
+
+/// Whether it is `void`, which no operand is (3.6.1).
+pub(crate) fn is_void(env: &Env, ty: TyId) -> bool
+    requires { IsType env.now.types ty }
+    ensures { result ≡ asked.void_type_at env.now.types ty }
+{
+    is_void_sort(env.sort_of(ty))
+}
+
+fn is_void_sort(sort: Sort) -> bool
+    ensures { result ≡ operand.is_void (sort_seen sort) }
+{
+    matches!(sort, Sort::Void)
 }
 
 /// A pointer to this `void` type and a pointer to the other type, compared as pointers to `void`, with const where the other has it; another
