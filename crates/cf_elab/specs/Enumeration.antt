@@ -1,5 +1,5 @@
 -- Enumerations (7.2).
-use Rattle.std.specs.Prelude.{ℕ, not, ◌&&◌, ◌||◌, List, [], ◌∷◌, ◌++◌, length, map, ℤ, pos, ◌+ℤ◌, Option, None, Some, is_some, bytes_eq}
+use Rattle.std.specs.Prelude.{ℕ, if◌then◌else◌, not, ◌&&◌, ◌||◌, List, [], ◌∷◌, ◌++◌, length, map, ℤ, pos, ◌+ℤ◌, Option, None, Some, is_some, bytes_eq}
 use Rattle.std.specs.List.{list_any}
 use Rattle.std.specs.Option.{option_map}
 use Rattle.cf_base.specs.declared.kind.Kind.TheVariants as kind
@@ -46,7 +46,7 @@ number_or_zero (Some z) = z
 
 -- what an enumerator counts as in the expressions behind it: one past int, which is refused at the end, as 0
 abbrev pub int_or_zero : Option ℤ → ℤ
-int_or_zero z = elim (fits kind.Int (number_or_zero z)) [ true ↦ number_or_zero z | false ↦ pos 0 ]
+int_or_zero z = if fits kind.Int (number_or_zero z) then number_or_zero z else pos 0
 
 -- the expressions in order, each with the enumerators before it
 abbrev pub counted : ℕ → Option ℤ → List Item → Elab (List Counted)
