@@ -27,6 +27,7 @@ pub(crate) fn pointed(env: &Env, ty: TyId) -> TyId
 }
 
 /// Whether it is `void`, which no operand is (3.6.1).
+#[tactic(auto, unfolding(crate::specs::Asked::void_type_at))]
 pub(crate) fn is_void(env: &Env, ty: TyId) -> bool
     requires { IsType env.now.types ty }
     ensures { result ≡ asked.void_type_at env.now.types ty }
