@@ -1,5 +1,5 @@
 -- Enumerations and enumerators that are declared: no class is open, so the innermost scope has them.
-use Rattle.std.proofs.Common.{◌≡◌, ℕ, Bool, true, false, if◌then◌else◌, List, [], ◌∷◌, length, Option, Some, All, IsTrue, ℤ, sym, ap, subst, ◌∙◌}
+use Rattle.std.proofs.Common.{◌≡◌, ℕ, Bool, true, false, if◌then◌else◌, List, [], ◌∷◌, length, Option, Some, All, IsTrue, ℤ, pos, refl, sym, ap, subst, ◌∙◌}
 use Rattle.std.proofs.lemmas.List.Elements.{All-head, All-tail}
 use Rattle.cf_base.specs.Integers.{fits}
 use Rattle.cf_base.specs.declared.kind.Kind.TheVariants as kind
@@ -7,7 +7,7 @@ use Rattle.cf_types.specs.Table.{Table}
 use Rattle.cf_classes.specs.declared.class.What.TheVariants as what
 use Rattle.cf_elab.specs.Answer.{Answer, Made, onward}
 use Rattle.cf_elab.specs.ClassScope.{add_plain}
-use Rattle.cf_elab.specs.Enumeration.{Counted, number_or_zero}
+use Rattle.cf_elab.specs.Enumeration.{Counted, number_or_zero, int_or_zero}
 use Rattle.cf_elab.specs.Env.{Env, Name, OpenClass, enum_name, enumerator}
 use Rattle.cf_elab.specs.Names as names
 use Rattle.cf_elab.specs.Operand.{Sort, enumeral, sort_of}
@@ -15,6 +15,12 @@ use Rattle.cf_elab_env.specs.Holds.{IsEnv, IsType, IsEntity, fits_sort}
 use Rattle.cf_elab_env.specs.Shut as made
 use Rattle.cf_elab_enumeration.specs.Shut as shut
 use Rattle.cf_elab_enumeration.proofs.CheckLaws.{empty, IsInt}
+
+declared : (t : ℕ) (own : Name) (number : ℤ) (name : Name) (z : ℤ) (env : Env) (r : Answer (Unit {0})) → name ≡ own → z ≡ number → made.declare name (enumerator t z) env ≡ r
+    → names.declare own (enumerator t number) env ≡ r
+unfolding made.declare
+declared t own number name z env r is same h =
+    ap (λ n. names.declare n (enumerator t number) env) (sym is) ∙ ap (λ w. names.declare name (enumerator t w) env) (sym same) ∙ h
 
 abbrev in_some : List OpenClass → Bool
 in_some [] = false
@@ -25,24 +31,37 @@ module _ (env : Env) (e : IsEnv env) where
   unfolding shut.name_declared made.declare
   name_is n t at name r h = ap (λ os. (if in_some os then add_plain name at what.Alias t else names.declare name (enum_name n)) env) e.no_open_class ∙ h
 
-  pub one_is : (t : ℕ) (c : Counted) → shut.declare_one t c env ≡ shut.declare_counted t c env
-  unfolding shut.declare_one shut.declare_counted
-  one_is t c =
+  pub one_is : (t : ℕ) (c : Counted) (name : Name) (z : ℤ) (r : Answer (Unit {0})) → name ≡ c.name → z ≡ number_or_zero c.number → made.declare name (enumerator t z) env ≡ r
+      → shut.declare_one t c env ≡ r
+  unfolding shut.declare_one made.declare
+  one_is t c name z r is number h =
       ap (λ os. (if in_some os then add_plain c.name c.at (what.Enumerator (number_or_zero c.number)) t else names.declare c.name (enumerator t (number_or_zero c.number))) env) e.no_open_class
+      ∙ declared t c.name (number_or_zero c.number) name z env r is number h
 
-pub counted_is : (t : ℕ) (c : Counted) (name : Name) (z : ℤ) (env : Env) (r : Answer (Unit {0})) → name ≡ c.name → z ≡ number_or_zero c.number → made.declare name (enumerator t z) env ≡ r
+pub counted_is : (t : ℕ) (c : Counted) (name : Name) (z : ℤ) (env : Env) (r : Answer (Unit {0})) → name ≡ c.name → z ≡ int_or_zero c.number → made.declare name (enumerator t z) env ≡ r
     → shut.declare_counted t c env ≡ r
-unfolding shut.declare_counted made.declare
-counted_is t c name z env r is number h =
-    ap (λ n. names.declare n (enumerator t (number_or_zero c.number)) env) (sym is) ∙ ap (λ w. names.declare name (enumerator t w) env) (sym number) ∙ h
+unfolding shut.declare_counted
+counted_is t c name z env r is number h = declared t c.name (int_or_zero c.number) name z env r is number h
 
 -- a constant of an enumeration is an int
+an_int : (types : Table) (count t n : ℕ) (z : ℤ) → IsType types t → sort_of types t ≡ enumeral n → IsTrue (fits kind.Int z) → IsEntity types count (enumerator t z)
+an_int types count t n z known is int = let P : Sort → Type 0 = λ s. IsTrue (fits_sort s z) in (known, subst P (sym is) int)
+
 pub enumerator_known : (types : Table) (count t n : ℕ) (z : ℤ) (number : Option ℤ) → IsType types t → sort_of types t ≡ enumeral n → z ≡ number_or_zero number
     → IsTrue (fits kind.Int (number_or_zero number)) → IsEntity types count (enumerator t z)
 enumerator_known types count t n z number known is same int =
-    let P : Sort → Type 0 = λ s. IsTrue (fits_sort s z) in
-    let Q : ℤ → Type 0 = λ w. IsTrue (fits kind.Int w) in
-    (known, subst P (sym is) (subst Q (sym same) int))
+    let P : ℤ → Type 0 = λ w. IsTrue (fits kind.Int w) in an_int types count t n z known is (subst P (sym same) int)
+
+pub int_fits : (number : Option ℤ) → IsTrue (fits kind.Int (int_or_zero number))
+int_fits number = by (fits kind.Int (number_or_zero number)) refl
+  where
+    by : (b : Bool) → fits kind.Int (number_or_zero number) ≡ b → IsTrue (fits kind.Int (if b then number_or_zero number else pos 0))
+    by true h = h
+    by false h = refl
+
+pub counted_known : (types : Table) (count t n : ℕ) (z : ℤ) (number : Option ℤ) → IsType types t → sort_of types t ≡ enumeral n → z ≡ int_or_zero number → IsEntity types count (enumerator t z)
+counted_known types count t n z number known is same =
+    let P : ℤ → Type 0 = λ w. IsTrue (fits kind.Int w) in an_int types count t n z known is (subst P (sym same) (int_fits number))
 
 pub none_declared : (t : ℕ) (cs : List Counted) (env : Env) → length cs ≡ 0 → shut.declare_all t cs env ≡ Made tt env
 unfolding shut.declare_all
@@ -62,8 +81,8 @@ rest_ints cs rest c is all = let P : List Counted → Type 0 = All IsInt in All-
 
 pub ruleset name_laws = (name_is)
 
-pub ruleset one_laws = (one_is)
+pub ruleset one_laws = (one_is, enumerator_known)
 
-pub ruleset counted_laws = (counted_is, enumerator_known)
+pub ruleset counted_laws = (counted_is, counted_known)
 
 pub ruleset all_laws = (none_declared, all_is, first_int, rest_ints)

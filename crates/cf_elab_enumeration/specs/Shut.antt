@@ -27,9 +27,9 @@ all_ints = enumeration.all_ints
 unfoldable pub declare_all : ℕ → List Counted → Elab (Unit {0})
 declare_all = enumeration.declare_all
 
--- an enumerator, for the expressions behind it
+-- an enumerator, for the expressions behind it, where one past int counts as 0
 unfoldable pub declare_counted : ℕ → Counted → Elab (Unit {0})
-declare_counted t c = declare c.name (enumerator t (enumeration.number_or_zero c.number))
+declare_counted t c = declare c.name (enumerator t (enumeration.int_or_zero c.number))
 
 unfoldable pub declare_one : ℕ → Counted → Elab (Unit {0})
 declare_one t c = declare_enumerator c.name c.at t (enumeration.number_or_zero c.number)

@@ -1,7 +1,7 @@
 ghost use Rattle.std.specs.Prelude.{◌≡◌, is_some};
 ghost use Rattle.cf_elab.specs.Enumeration as spec;
 
-use crate::numbers::number_or_zero;
+use crate::numbers::{int_or_zero, number_or_zero};
 use cf_base::Name;
 use std::marker::Model;
 
@@ -45,6 +45,13 @@ impl Counted {
         ensures { result ≡ spec.number_or_zero self.now.number }
     {
         number_or_zero(self.number)
+    }
+
+    /// What it counts as in the expressions behind it; one past `int` as 0, since K5 comes later.
+    pub fn counts_as(&self) -> i64
+        ensures { result ≡ spec.int_or_zero self.now.number }
+    {
+        int_or_zero(self.number)
     }
 
     pub fn name(&self) -> &Name

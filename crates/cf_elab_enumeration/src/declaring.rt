@@ -58,20 +58,23 @@ fn declare_one(env: &mut Env, number: u32, ty: TyId, one: &Counted) -> Result<()
     ensures types { env.new.types ≡ env.old.types }
 {
     env.holds();
-    declare_counted(env, number, ty, one)?;
+    let _enumeration = number;
+    env.declare(one.name().as_slice(), Entity::Enumerator(ty, one.value()))?;
     Ok(())
 }
 
-/// An enumerator is declared for the expressions behind it (3.2).
+/// An enumerator is declared for the expressions behind it (3.2). One past `int` counts as 0 there, since K5 comes behind them.
 #[tactic(auto, using(crate::proofs::DeclareLaws::counted_laws))]
 pub fn declare_counted(env: &mut Env, number: u32, ty: TyId, one: &Counted) -> Result<(), Memory>
     requires known { IsType env.old.types ty }
     requires enumeration { sort_of env.old.types ty ≡ enumeral number }
-    requires int { IsTrue (fits Kind.Int (its_number one.now.number)) }
     ensures made { OnOk result (shut.declare_counted ty one.now env.old ≡ Made tt env.new) }
     ensures types { env.new.types ≡ env.old.types }
 {
     let _enumeration = number;
-    env.declare(one.name().as_slice(), Entity::Enumerator(ty, one.value()))?;
+    env.declare(
+        one.name().as_slice(),
+        Entity::Enumerator(ty, one.counts_as()),
+    )?;
     Ok(())
 }

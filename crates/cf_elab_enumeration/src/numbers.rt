@@ -36,3 +36,15 @@ pub fn number_or_zero(number: Option<i64>) -> i64
         None => 0,
     }
 }
+
+/// What an enumerator of this number counts as in the expressions behind it: one past `int` as 0, since K5 comes later.
+pub fn int_or_zero(number: Option<i64>) -> i64
+    ensures { result ≡ spec.int_or_zero number }
+{
+    let value = number_or_zero(number);
+    if i32::try_from(value).is_ok() {
+        value
+    } else {
+        0
+    }
+}
