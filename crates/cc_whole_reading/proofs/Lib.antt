@@ -1,0 +1,9 @@
+pub mod Magnitudes
+pub mod Decides
+pub mod Shapes
+pub mod Choices
+pub mod Ways
+pub mod Chains
+pub mod Steps
+pub mod ConstantLaws
+pub mod Alike
