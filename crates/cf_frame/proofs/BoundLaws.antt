@@ -6,10 +6,9 @@ use Rattle.std.proofs.lemmas.List.Elements.{All-nil, All-cons}
 use Rattle.std.proofs.lemmas.Bool.Decides.{nat_tests}
 use Rattle.cf_base.proofs.Tests.{both}
 use Rattle.cf_core.specs.Numbers.{function_known, role_known, has_type, are_known}
-use Rattle.std.specs.List.{sum, sum_by}
+use Rattle.std.specs.List.{sum, sum_by, flat_map}
 use Rattle.std.proofs.Math.Nat.{max-zero, zero-max, zero-add, add_comm}
 use Rattle.std.proofs.lemmas.List.Sums.{sum_by-append, sum_by-cons, sum-map}
-use Rattle.cf_classes.specs.Fit.{Fit}
 use Rattle.cf_core.specs.declared.node.Core.{Core}
 use Rattle.cf_core.specs.declared.unit.CoreFn.{CoreFn}
 use Rattle.cf_core.specs.declared.unit.CoreStatic.{CoreStatic}
@@ -24,10 +23,10 @@ use Rattle.cf_core.specs.View.{core_of}
 use Rattle.cf_core.specs.Nodes.{nodes}
 use Rattle.cf_core.specs.Frame.{slot, loop_bytes, node_cost, greatest, initialiser_cost, starts_cost, is_owned_by, frame_bound, initialiser_bound}
 use Rattle.cf_frame.specs.Costed.{most, up_to_most, costed}
-use Rattle.cf_frame.specs.Bound.{AreSmall, bound_of_found, frame_of, slots_of, slots_after, costliest_after, is_local_of, is_of_file, function_total, initialiser_total}
+use Rattle.cf_frame.specs.Bound.{makes_none, nodes_of, frames_of, AreSmall, bound_of_found, frame_of, slots_of, slots_after, costliest_after, is_local_of, is_of_file, function_total, initialiser_total}
 use Rattle.cf_frame.proofs.Sums.{of_sum, of_max, further}
-use Rattle.cf_frame.proofs.NoClass.{none_declared, taking-parameters}
-use Rattle.cf_frame.proofs.Walked.{Weighs, weighed}
+use Rattle.cf_frame.proofs.Taking.{taking-parameters}
+use Rattle.cf_frame.proofs.Walked.{Weighs, weighed, none-both}
 
 slots-is : (u : Unit) (n : ℕ) (ts : List ℕ) → n ≤ most → slots_after u n ts ≡ up_to_most (n + slots_of u ts)
 slots-is u n [] h = omega (arith, h)
@@ -45,9 +44,12 @@ sum_by-map : {A B : Type 0} (f : B → ℕ) (g : A → B) (xs : List A) → sum_
 sum_by-map f g [] = refl
 sum_by-map f g (x ∷ xs) = sum_by-cons f (g x) (map g xs) ∙ ap (λ n. f (g x) + n) (sum_by-map f g xs) ∙ sym (sum_by-cons (λ x. f (g x)) x xs)
 
-module _ (u : Unit) (fit : Fit u.types u.classes) (none : u.classes.labels ≡ []) where
+module _ (u : Unit) where
   weighed-at : (n : Core) → Weighs (core_of (tables_of u) (signature_of (tables_of u)) n) (costed n)
-  weighed-at n = weighed (tables_of u) (signature_of (tables_of u)) (none_declared u.types u.classes fit none) n
+  weighed-at n = weighed (tables_of u) (signature_of (tables_of u)) n
+
+  abbrev object_nodes : List CoreStatic → List plain.Core
+  object_nodes xs = flat_map (λ (x : Static). nodes x.start) (map (static_of (tables_of u)) xs)
 
   abbrev cost_of : Static → ℕ
   cost_of x = initialiser_cost x.start []
@@ -61,13 +63,14 @@ module _ (u : Unit) (fit : Fit u.types u.classes) (none : u.classes.labels ≡ [
   chosen false x rest = refl
 
   costliest-is : (counts : CoreStatic → Bool) (counted : Static → Bool) → ((x : CoreStatic) → counted (static_of (tables_of u) x) ≡ counts x) → (g : ℕ) (xs : List CoreStatic)
-      → costliest_after counts g xs ≡ max g (up_to_most (starts_cost [] (filter counted (statics_of xs))))
-  costliest-is counts counted same g [] = sym (max-zero g)
-  costliest-is counts counted same g (x ∷ xs) =
+      → makes_none (object_nodes xs) → costliest_after counts g xs ≡ max g (up_to_most (starts_cost [] (filter counted (statics_of xs))))
+  costliest-is counts counted same g [] free = sym (max-zero g)
+  costliest-is counts counted same g (x ∷ xs) free =
+      let parts = none-both (nodes (core_of (tables_of u) (signature_of (tables_of u)) x.start)) (object_nodes xs) free in
       let made = static_of (tables_of u) x in
       let rest = filter counted (statics_of xs) in
-      costliest-is counts counted same (if counts x then max g (costed x.start).start else g) xs
-      ∙ pick (counts x) g (costed x.start).start (cost_of made) (starts_cost [] rest) (weighed-at x.start).start
+      costliest-is counts counted same (if counts x then max g (costed x.start).start else g) xs parts.1
+      ∙ pick (counts x) g (costed x.start).start (cost_of made) (starts_cost [] rest) (Weighs.start (weighed-at x.start) parts.0)
       ∙ ap (λ n. max g (up_to_most n)) (sym (chosen (counts x) made rest) ∙ ap (λ b. starts_cost [] (cond b (made ∷ rest) rest)) (sym (same x)))
 
   abbrev expressions_of : CoreFn → List plain.Core
@@ -83,8 +86,8 @@ module _ (u : Unit) (fit : Fit u.types u.classes) (none : u.classes.labels ≡ [
       ∙ ap (λ n. n + sum_by (slot []) ls) (sum_by-map (slot []) (type_of (tables_of u)) f.params)
       ∙ ap (λ n. slots_of u f.params + n) (sum_by-map (slot []) (type_of (tables_of u)) f.locals)
 
-  pub function-is : (f : CoreFn) → function_total u f ≡ up_to_most (frame_bound [] (file_of u).statics (function_of (tables_of u) f))
-  function-is f =
+  pub function-is : (f : CoreFn) → makes_none (expressions_of f) → makes_none (object_nodes u.statics) → function_total u f ≡ up_to_most (frame_bound [] (file_of u).statics (function_of (tables_of u) f))
+  function-is f free objects_free =
       let xs = expressions_of f in
       let w = weighed-at f.body in
       let dear = greatest (map (node_cost []) xs) in
@@ -95,22 +98,22 @@ module _ (u : Unit) (fit : Fit u.types u.classes) (none : u.classes.labels ≡ [
       let p : up_to_most ps ≡ slots_after u 0 f.params = ap up_to_most (sym (zero-add ps)) ∙ sym (slots-is u 0 f.params (omega arith)) in
       let q : up_to_most ls ≡ slots_after u 0 f.locals = ap up_to_most (sym (zero-add ls)) ∙ sym (slots-is u 0 f.locals (omega arith)) in
       let s : up_to_most start ≡ costliest_after (is_local_of f.name) 0 u.statics =
-      sym (costliest-is (is_local_of f.name) (λ (x : Static). is_owned_by f.name x.owner) (λ x. refl) 0 u.statics ∙ zero-max (up_to_most start)) in
+      sym (costliest-is (is_local_of f.name) (λ (x : Static). is_owned_by f.name x.owner) (λ x. refl) 0 u.statics objects_free ∙ zero-max (up_to_most start)) in
       let objects = of_sum ps ls _ _ p q in
       let base = of_sum (ps + ls) 64 _ 64 objects refl in
       let looped = of_sum ((ps + ls) + 64) loops _ _ base w.sums.loops in
-      let dearest = of_max dear start _ _ w.sums.dearest s in
+      let dearest = of_max dear start _ _ (w.sums.dearest free) s in
       let all = of_sum (((ps + ls) + 64) + loops) (max dear start) _ _ looped dearest in
       let order : ((ps + ls) + 64) + loops + max dear start ≡ 64 + (ps + ls) + loops + max dear start = omega arith in
       let bound : 64 + (ps + ls) + loops + max dear start ≡ frame_bound [] (file_of u).statics (function_of (tables_of u) f) =
       sym (ap (λ n. 64 + n + sum (map loop_bytes xs) + max dear start) (objects-is f) ∙ ap (λ n. 64 + (ps + ls) + n + max dear start) (sum-map loop_bytes xs)) in
       sym all ∙ ap up_to_most (order ∙ bound)
 
-  pub initialiser-is : initialiser_total u ≡ up_to_most (initialiser_bound [] (file_of u).statics)
-  initialiser-is =
+  pub initialiser-is : makes_none (object_nodes u.statics) → initialiser_total u ≡ up_to_most (initialiser_bound [] (file_of u).statics)
+  initialiser-is objects_free =
       let start = starts_cost [] (filter (λ (x : Static). not (is_some x.owner)) (file_of u).statics) in
       let s : up_to_most start ≡ costliest_after is_of_file 0 u.statics =
-      sym (costliest-is is_of_file (λ (x : Static). not (is_some x.owner)) (λ x. refl) 0 u.statics ∙ zero-max (up_to_most start)) in
+      sym (costliest-is is_of_file (λ (x : Static). not (is_some x.owner)) (λ x. refl) 0 u.statics objects_free ∙ zero-max (up_to_most start)) in
       sym (of_sum start 64 _ 64 s refl) ∙ ap up_to_most (add_comm start 64)
 
 -- What stands at a place of a list.
@@ -167,7 +170,7 @@ functions-none tables [] i e = refl
 functions-none tables (x ∷ xs) zero e = cc
 functions-none tables (x ∷ xs) (suc i) e = functions-none tables xs i e
 
-module _ (u : Unit) (valid : IsValid u) (undeclared : u.classes.labels ≡ []) (undefined : u.classes.defined ≡ []) where
+module _ (u : Unit) (valid : IsValid u) (free : makes_none (nodes_of (file_of u))) (undefined : u.classes.defined ≡ []) where
   pub are-small : AreSmall u
   are-small = small-of u valid undefined
 
@@ -177,14 +180,41 @@ module _ (u : Unit) (valid : IsValid u) (undeclared : u.classes.labels ≡ []) (
   classes-none : (file_of u).classes ≡ []
   classes-none = ap (classes_in (tables_of u)) undefined
 
+  abbrev function_nodes : List CoreFn → List plain.Core
+  function_nodes fs = flat_map (λ (f : Function). nodes f.body) (map (function_of (tables_of u)) fs)
+
+  free-parts : makes_none (function_nodes u.functions) × makes_none (object_nodes u u.statics)
+  free-parts = none-both (function_nodes u.functions) (object_nodes u u.statics) free
+
+  free-at : (fs : List CoreFn) (i : ℕ) (f : CoreFn) → slice_get fs i ≡ Some f → makes_none (function_nodes fs) → makes_none (expressions_of u f)
+  free-at [] i f e none = cc
+  free-at (x ∷ xs) zero f e none =
+      let q : x ≡ f = cc in subst (λ f. makes_none (expressions_of u f)) q (none-both (expressions_of u x) (function_nodes xs) none).0
+  free-at (x ∷ xs) (suc i) f e none = free-at xs i f e (none-both (expressions_of u x) (function_nodes xs) none).1
+
   pub of_some : (i : ℕ) (f : CoreFn) → slice_get u.functions i ≡ Some f → function_total u f ≡ up_to_most (frame_of u i)
   of_some i f e =
-      function-is u valid.fit undeclared f
+      function-is u f (free-at u.functions i f e free-parts.0) free-parts.1
       ∙ ap (λ cs. up_to_most (frame_bound cs (file_of u).statics (function_of (tables_of u) f))) (sym classes-none)
       ∙ ap (λ o. up_to_most (bound_of_found u o)) (sym (functions-at (tables_of u) u.functions i f e))
 
   pub of_none : (i : ℕ) → slice_get u.functions i ≡ None → initialiser_total u ≡ up_to_most (frame_of u i)
   of_none i e =
-      initialiser-is u valid.fit undeclared
+      initialiser-is u free-parts.1
       ∙ ap (λ cs. up_to_most (initialiser_bound cs (file_of u).statics)) (sym classes-none)
       ∙ ap (λ o. up_to_most (bound_of_found u o)) (sym (functions-none (tables_of u) u.functions i e))
+
+  -- of all functions in order
+  totals-of : (fs : List CoreFn) → makes_none (function_nodes fs)
+      → map (function_total u) fs ≡ map (λ f. up_to_most (frame_bound [] (file_of u).statics f)) (map (function_of (tables_of u)) fs)
+  totals-of [] none = refl
+  totals-of (f ∷ fs) none =
+      let parts = none-both (expressions_of u f) (function_nodes fs) none in
+      ap (λ n. n ∷ map (function_total u) fs) (function-is u f parts.0 free-parts.1)
+      ∙ ap (λ l. up_to_most (frame_bound [] (file_of u).statics (function_of (tables_of u) f)) ∷ l) (totals-of fs parts.1)
+
+  pub all-frames : map (function_total u) u.functions ++ initialiser_total u ∷ [] ≡ frames_of (file_of u)
+  all-frames =
+      ap (λ l. l ++ initialiser_total u ∷ []) (totals-of u.functions free-parts.0)
+      ∙ ap (λ n. map (λ f. up_to_most (frame_bound [] (file_of u).statics f)) (file_of u).functions ++ n ∷ []) (initialiser-is u free-parts.1)
+      ∙ ap (λ cs. map (λ f. up_to_most (frame_bound cs (file_of u).statics f)) (file_of u).functions ++ up_to_most (initialiser_bound cs (file_of u).statics) ∷ []) (sym classes-none)

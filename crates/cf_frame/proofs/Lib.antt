@@ -1,5 +1,5 @@
 pub mod Sums
 pub mod BoundLaws
-pub mod NoClass
+pub mod Taking
 pub mod SizeLaws
 pub mod Walked

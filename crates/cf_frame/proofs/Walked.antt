@@ -1,5 +1,5 @@
 -- One walk over the tree tells what the sums over its nodes are.
-use Rattle.std.proofs.Common.{◌≡◌, ℕ, ◌+◌, ◌*◌, max, List, [], ◌∷◌, ◌++◌, length, map, Option, Some, None, option_map, refl, ap, sym, subst, ◌∙◌, arith, append-nil, append_assoc, length-append, reverse}
+use Rattle.std.proofs.Common.{◌≡◌, ℕ, ◌+◌, ◌*◌, max, List, [], ◌∷◌, ◌++◌, length, map, Option, Some, None, option_map, refl, ap, sym, subst, ◌∙◌, arith, append-nil, append_assoc, length-append}
 use Rattle.std.specs.List.{sum, sum_by, flat_map}
 use Rattle.std.proofs.lemmas.List.Sums.{sum_by-append, sum_by-cons}
 use Rattle.std.proofs.lemmas.List.{map-append}
@@ -19,67 +19,75 @@ use Rattle.cf_core.specs.Types.{Name, SourceType}
 use Rattle.cf_core.specs.FromTypes.{Tables, type_of}
 use Rattle.cf_core.specs.View.{Started, core_step, started_step, listed, maybe as maybe_core, in_order}
 use Rattle.cf_core.specs.Nodes.{nodes, nodes_all, nodes_maybe, nodes_parts}
-use Rattle.cf_core.specs.Frame.{made_by, node_cost, loop_bytes, greatest, expression_cost, maybe_cost, initialiser_cost, initialiser_costs, class_bytes}
+use Rattle.cf_core.specs.Frame.{made_by, node_cost, loop_bytes, greatest, expression_cost, maybe_cost, initialiser_cost, initialiser_costs}
 use Rattle.cf_frame.specs.declared.costs.Costs.{Costs}
+use Rattle.cf_frame.specs.Bound.{makes_none}
 use Rattle.cf_frame.specs.Costed.{up_to_most, nothing, both, around, with_expression, with_loop, with_start, blank, each, list, expression, initialiser, choice, turns, selection, building, all, all_after, maybe, step, part_step, costed, costed_part}
 use Rattle.cf_frame.proofs.Sums.{of_sum, of_max, greatest-append}
-use Rattle.cf_frame.proofs.NoClass.{NoClasses, parameters_make_none, object_makes_none, copied_none, assigned_none}
 
 -- the sums over these nodes
 pub record Sums (xs : List plain.Core) (c : Costs) : Type 0 where
   pub nodes : up_to_most (length xs) ≡ c.nodes
   pub loops : up_to_most (sum_by loop_bytes xs) ≡ c.loops
-  pub dearest : up_to_most (greatest (map (node_cost []) xs)) ≡ c.dearest
-  pub made : flat_map (made_by []) xs ≡ []
+  pub dearest : makes_none xs → up_to_most (greatest (map (node_cost []) xs)) ≡ c.dearest
 
 -- and the costs of one of them with all that is in it
 pub record Weighs (e : plain.Core) (c : Costs) : Type 0 where
   pub sums : Sums (nodes e) c
-  pub whole : up_to_most (expression_cost [] e) ≡ c.whole
-  pub start : up_to_most (initialiser_cost e []) ≡ c.start
+  pub whole : makes_none (nodes e) → up_to_most (expression_cost [] e) ≡ c.whole
+  pub start : makes_none (nodes e) → up_to_most (initialiser_cost e []) ≡ c.start
+
+nil-both : {A : Type 0} (xs ys : List A) → xs ++ ys ≡ [] → (xs ≡ []) × (ys ≡ [])
+nil-both [] ys e = (refl, e)
+nil-both (x ∷ xs) ys e = absurd (cc)
+
+-- where nodes make no class object, some of them make free
+pub none-both : (xs ys : List plain.Core) → makes_none (xs ++ ys) → makes_none xs × makes_none ys
+none-both xs ys free = nil-both (flat_map (made_by []) xs) (flat_map (made_by []) ys) (sym (flat_map-append (made_by []) xs ys) ∙ free)
+
+none-more : (x : plain.Core) (xs : List plain.Core) → makes_none (x ∷ xs) → makes_none xs
+none-more x xs free = (nil-both (made_by [] x) (flat_map (made_by []) xs) free).1
 
 sums-none : Sums [] nothing
 unfolding nothing
-sums-none = record { nodes = refl; loops = refl; dearest = refl; made = refl }
+sums-none = record { nodes = refl; loops = refl; dearest = λ free. refl }
 
 sums-both : (xs ys : List plain.Core) (a b : Costs) → Sums xs a → Sums ys b → Sums (xs ++ ys) (both a b)
 unfolding both
 sums-both xs ys a b p q = record {
   nodes = ap up_to_most (length-append xs ys) ∙ of_sum (length xs) (length ys) a.nodes b.nodes p.nodes q.nodes;
   loops = ap up_to_most (sum_by-append loop_bytes xs ys) ∙ of_sum (sum_by loop_bytes xs) (sum_by loop_bytes ys) a.loops b.loops p.loops q.loops;
-  dearest = ap (λ l. up_to_most (greatest l)) (map-append (node_cost []) xs ys) ∙ ap up_to_most (greatest-append (map (node_cost []) xs) (map (node_cost []) ys))
-      ∙ of_max (greatest (map (node_cost []) xs)) (greatest (map (node_cost []) ys)) a.dearest b.dearest p.dearest q.dearest;
-  made = flat_map-append (made_by []) xs ys ∙ ap (λ l. l ++ flat_map (made_by []) ys) p.made ∙ q.made;
+  dearest = λ free.
+      let parts = none-both xs ys free in
+      ap (λ l. up_to_most (greatest l)) (map-append (node_cost []) xs ys) ∙ ap up_to_most (greatest-append (map (node_cost []) xs) (map (node_cost []) ys))
+      ∙ of_max (greatest (map (node_cost []) xs)) (greatest (map (node_cost []) ys)) a.dearest b.dearest (p.dearest parts.0) (q.dearest parts.1);
 }
 
--- a node before the nodes that are in it; it makes no class objects
-sums-around : (x : plain.Core) (xs : List plain.Core) (c : Costs) → Sums xs c → made_by [] x ≡ [] → node_cost [] x ≡ 0 → loop_bytes x ≡ 0 → Sums (x ∷ xs) (around c)
+-- a node before the nodes that are in it
+sums-around : (x : plain.Core) (xs : List plain.Core) (c : Costs) → Sums xs c → node_cost [] x ≡ 0 → loop_bytes x ≡ 0 → Sums (x ∷ xs) (around c)
 unfolding around
-sums-around x xs c p made cost loops = record {
+sums-around x xs c p cost loops = record {
   nodes = let h = p.nodes in omega (arith, h);
   loops = ap up_to_most (sum_by-cons loop_bytes x xs) ∙ ap (λ n. up_to_most (n + sum_by loop_bytes xs)) loops ∙ ap up_to_most (zero-add (sum_by loop_bytes xs)) ∙ p.loops;
-  dearest = ap (λ n. up_to_most (max n (greatest (map (node_cost []) xs)))) cost ∙ ap up_to_most (zero-max (greatest (map (node_cost []) xs))) ∙ p.dearest;
-  made = ap (λ l. l ++ flat_map (made_by []) xs) made ∙ p.made;
+  dearest = λ free. ap (λ n. up_to_most (max n (greatest (map (node_cost []) xs)))) cost ∙ ap up_to_most (zero-max (greatest (map (node_cost []) xs))) ∙ p.dearest (none-more x xs free);
 }
 
-sums-statement : (x : plain.Core) (xs : List plain.Core) (c : Costs) (n : ℕ) → Sums xs c → made_by [] x ≡ [] → up_to_most (node_cost [] x) ≡ n → loop_bytes x ≡ 0
+sums-statement : (x : plain.Core) (xs : List plain.Core) (c : Costs) (n : ℕ) → Sums xs c → (makes_none xs → up_to_most (node_cost [] x) ≡ n) → loop_bytes x ≡ 0
     → Sums (x ∷ xs) (with_expression n (around c))
 unfolding around with_expression
-sums-statement x xs c n p made cost loops = record {
+sums-statement x xs c n p cost loops = record {
   nodes = let h = p.nodes in omega (arith, h);
   loops = ap up_to_most (sum_by-cons loop_bytes x xs) ∙ ap (λ m. up_to_most (m + sum_by loop_bytes xs)) loops ∙ ap up_to_most (zero-add (sum_by loop_bytes xs)) ∙ p.loops;
-  dearest = of_max (node_cost [] x) (greatest (map (node_cost []) xs)) n c.dearest cost p.dearest;
-  made = ap (λ l. l ++ flat_map (made_by []) xs) made ∙ p.made;
+  dearest = λ free. let inner = none-more x xs free in of_max (node_cost [] x) (greatest (map (node_cost []) xs)) n c.dearest (cost inner) (p.dearest inner);
 }
 
-sums-loop : (x : plain.Core) (xs : List plain.Core) (c : Costs) (n : ℕ) → Sums xs c → made_by [] x ≡ [] → up_to_most (node_cost [] x) ≡ n → loop_bytes x ≡ 8
+sums-loop : (x : plain.Core) (xs : List plain.Core) (c : Costs) (n : ℕ) → Sums xs c → (makes_none xs → up_to_most (node_cost [] x) ≡ n) → loop_bytes x ≡ 8
     → Sums (x ∷ xs) (with_loop (with_expression n (around c)))
 unfolding around with_expression with_loop
-sums-loop x xs c n p made cost loops = record {
+sums-loop x xs c n p cost loops = record {
   nodes = let h = p.nodes in omega (arith, h);
   loops = let h = p.loops in ap up_to_most (sum_by-cons loop_bytes x xs) ∙ ap (λ m. up_to_most (m + sum_by loop_bytes xs)) loops ∙ omega (arith, h);
-  dearest = of_max (node_cost [] x) (greatest (map (node_cost []) xs)) n c.dearest cost p.dearest;
-  made = ap (λ l. l ++ flat_map (made_by []) xs) made ∙ p.made;
+  dearest = λ free. let inner = none-more x xs free in of_max (node_cost [] x) (greatest (map (node_cost []) xs)) n c.dearest (cost inner) (p.dearest inner);
 }
 
 -- the price of nodes that make no class objects
@@ -89,60 +97,62 @@ price xs n p made = ap (λ l. up_to_most (32 * length xs + sum l)) made ∙ omeg
 weighs-of : (x : plain.Core) (xs : List plain.Core) (d : Costs) → nodes x ≡ x ∷ xs → Sums (x ∷ xs) d → d.whole ≡ up_to_most (d.nodes * 32) → d.start ≡ d.whole
     → expression_cost [] x ≡ 32 * length (nodes x) + sum (flat_map (made_by []) (nodes x)) → initialiser_cost x [] ≡ expression_cost [] x → Weighs x d
 weighs-of x xs d is p priced started whole start =
-    let w : up_to_most (expression_cost [] x) ≡ d.whole =
-    ap up_to_most whole ∙ ap (λ ns. up_to_most (32 * length ns + sum (flat_map (made_by []) ns))) is ∙ price (x ∷ xs) d.nodes p.nodes p.made ∙ sym priced in
+    let w : makes_none (nodes x) → up_to_most (expression_cost [] x) ≡ d.whole =
+    λ free. ap up_to_most whole ∙ ap (λ ns. up_to_most (32 * length ns + sum (flat_map (made_by []) ns))) is ∙ price (x ∷ xs) d.nodes p.nodes (subst makes_none is free) ∙ sym priced in
     record {
       sums = subst (λ ns. Sums ns d) (sym is) p;
       whole = w;
-      start = ap up_to_most start ∙ w ∙ sym started;
+      start = λ free. ap up_to_most start ∙ w free ∙ sym started;
     }
 
 -- a node of an expression or initialiser
-around-is : (x : plain.Core) (xs : List plain.Core) (c : Costs) → nodes x ≡ x ∷ xs → Sums xs c → made_by [] x ≡ [] → node_cost [] x ≡ 0 → loop_bytes x ≡ 0
+around-is : (x : plain.Core) (xs : List plain.Core) (c : Costs) → nodes x ≡ x ∷ xs → Sums xs c → node_cost [] x ≡ 0 → loop_bytes x ≡ 0
     → expression_cost [] x ≡ 32 * length (nodes x) + sum (flat_map (made_by []) (nodes x)) → initialiser_cost x [] ≡ expression_cost [] x → Weighs x (around c)
 unfolding around
-around-is x xs c is p made cost loops whole start = weighs-of x xs (around c) is (sums-around x xs c p made cost loops) refl refl whole start
+around-is x xs c is p cost loops whole start = weighs-of x xs (around c) is (sums-around x xs c p cost loops) refl refl whole start
 
 -- its sums and its bytes alone
-around-is-whole : (x : plain.Core) (xs : List plain.Core) (c : Costs) → nodes x ≡ x ∷ xs → Sums xs c → made_by [] x ≡ [] → node_cost [] x ≡ 0 → loop_bytes x ≡ 0
-    → expression_cost [] x ≡ 32 * length (nodes x) + sum (flat_map (made_by []) (nodes x)) → Sums (nodes x) (around c) × (up_to_most (expression_cost [] x) ≡ (around c).whole)
+around-is-whole : (x : plain.Core) (xs : List plain.Core) (c : Costs) → nodes x ≡ x ∷ xs → Sums xs c → node_cost [] x ≡ 0 → loop_bytes x ≡ 0
+    → expression_cost [] x ≡ 32 * length (nodes x) + sum (flat_map (made_by []) (nodes x)) → Sums (nodes x) (around c) × (makes_none (nodes x) → up_to_most (expression_cost [] x) ≡ (around c).whole)
 unfolding around
-around-is-whole x xs c is p made cost loops whole =
-    let q = sums-around x xs c p made cost loops in (
+around-is-whole x xs c is p cost loops whole =
+    let q = sums-around x xs c p cost loops in (
       subst (λ ns. Sums ns (around c)) (sym is) q,
-      ap up_to_most whole ∙ ap (λ ns. up_to_most (32 * length ns + sum (flat_map (made_by []) ns))) is ∙ price (x ∷ xs) (around c).nodes q.nodes q.made,
+      λ free.
+          ap up_to_most whole ∙ ap (λ ns. up_to_most (32 * length ns + sum (flat_map (made_by []) ns))) is ∙ price (x ∷ xs) (around c).nodes q.nodes (subst makes_none is free),
     )
 
 -- a statement with a full expression
-statement-is : (x : plain.Core) (xs : List plain.Core) (c : Costs) (n : ℕ) → nodes x ≡ x ∷ xs → Sums xs c → made_by [] x ≡ [] → up_to_most (node_cost [] x) ≡ n → loop_bytes x ≡ 0
+statement-is : (x : plain.Core) (xs : List plain.Core) (c : Costs) (n : ℕ) → nodes x ≡ x ∷ xs → Sums xs c → (makes_none xs → up_to_most (node_cost [] x) ≡ n) → loop_bytes x ≡ 0
     → expression_cost [] x ≡ 32 * length (nodes x) + sum (flat_map (made_by []) (nodes x)) → initialiser_cost x [] ≡ expression_cost [] x
     → Weighs x (with_expression n (around c))
 unfolding around with_expression
-statement-is x xs c n is p made cost loops whole start =
-    weighs-of x xs (with_expression n (around c)) is (sums-statement x xs c n p made cost loops) refl refl whole start
+statement-is x xs c n is p cost loops whole start =
+    weighs-of x xs (with_expression n (around c)) is (sums-statement x xs c n p cost loops) refl refl whole start
 
-loop-is : (x : plain.Core) (xs : List plain.Core) (c : Costs) (n : ℕ) → nodes x ≡ x ∷ xs → Sums xs c → made_by [] x ≡ [] → up_to_most (node_cost [] x) ≡ n → loop_bytes x ≡ 8
+loop-is : (x : plain.Core) (xs : List plain.Core) (c : Costs) (n : ℕ) → nodes x ≡ x ∷ xs → Sums xs c → (makes_none xs → up_to_most (node_cost [] x) ≡ n) → loop_bytes x ≡ 8
     → expression_cost [] x ≡ 32 * length (nodes x) + sum (flat_map (made_by []) (nodes x)) → initialiser_cost x [] ≡ expression_cost [] x
     → Weighs x (with_loop (with_expression n (around c)))
 unfolding around with_expression with_loop
-loop-is x xs c n is p made cost loops whole start =
-    weighs-of x xs (with_loop (with_expression n (around c))) is (sums-loop x xs c n p made cost loops) refl refl whole start
+loop-is x xs c n is p cost loops whole start =
+    weighs-of x xs (with_loop (with_expression n (around c))) is (sums-loop x xs c n p cost loops) refl refl whole start
 
 -- an initialiser whose elements are full expressions by themselves
-start-is : (x : plain.Core) (c : Costs) (n : ℕ) → Sums (nodes x) c → up_to_most (expression_cost [] x) ≡ c.whole → up_to_most (initialiser_cost x []) ≡ n
+start-is : (x : plain.Core) (c : Costs) (n : ℕ) → Sums (nodes x) c → (makes_none (nodes x) → up_to_most (expression_cost [] x) ≡ c.whole)
+    → (makes_none (nodes x) → up_to_most (initialiser_cost x []) ≡ n)
     → Weighs x (with_start n c)
 unfolding with_start
 start-is x c n p whole start = record {
-  sums = record { nodes = p.nodes; loops = p.loops; dearest = p.dearest; made = p.made };
+  sums = record { nodes = p.nodes; loops = p.loops; dearest = p.dearest };
   whole = whole;
   start = start;
 }
 
 blank-is : Weighs plain.blank blank
 unfolding blank around nothing
-blank-is = record { sums = record { nodes = refl; loops = refl; dearest = refl; made = refl }; whole = refl; start = refl }
+blank-is = record { sums = record { nodes = refl; loops = refl; dearest = λ free. refl }; whole = λ free. refl; start = λ free. refl }
 
-module _ (tables : Tables) (signature : MemberRef → Name) (no_class : NoClasses (reverse tables.types.types)) where
+module _ (tables : Tables) (signature : MemberRef → Name) where
   abbrev core_of : Core → plain.Core
   core_of = fold-Core plain.Core Started (core_step tables signature) (started_step tables signature)
 
@@ -185,15 +195,16 @@ module _ (tables : Tables) (signature : MemberRef → Name) (no_class : NoClasse
   unfolding nothing
   nothing-start = refl
 
-  starts_after : (t : Costs) (xs : List Child) → (all_after t (costs_of xs)).start ≡ max t.start (up_to_most (initialiser_costs (listed_of xs) []))
-  starts_after t [] = sym (max-zero t.start)
-  starts_after t (x ∷ xs) =
-      let h = x.1.start in
+  starts_after : (t : Costs) (xs : List Child) → makes_none (nodes_all (listed_of xs)) → (all_after t (costs_of xs)).start ≡ max t.start (up_to_most (initialiser_costs (listed_of xs) []))
+  starts_after t [] free = sym (max-zero t.start)
+  starts_after t (x ∷ xs) free =
+      let parts = none-both (nodes (core_of x.0)) (nodes_all (listed_of xs)) free in
+      let h = x.1.start parts.0 in
       let r = both-start t (costed x.0) in
-      starts_after (both t (costed x.0)) xs ∙ omega (arith, h, r)
+      starts_after (both t (costed x.0)) xs parts.1 ∙ omega (arith, h, r)
 
-  starts : (xs : List Child) → up_to_most (initialiser_costs (listed_of xs) []) ≡ (all (costs_of xs)).start
-  starts xs = let h = starts_after nothing xs in let z = nothing-start in omega (arith, h, z)
+  starts : (xs : List Child) → makes_none (nodes_all (listed_of xs)) → up_to_most (initialiser_costs (listed_of xs) []) ≡ (all (costs_of xs)).start
+  starts xs free = let h = starts_after nothing xs free in let z = nothing-start in omega (arith, h, z)
 
   abbrev parts_of : List PartChild → Parts
   parts_of xs = in_order (map started_of (map (λ (c : PartChild). c.0) xs))
@@ -210,16 +221,17 @@ module _ (tables : Tables) (signature : MemberRef → Name) (no_class : NoClasse
   part_row : (xs : List PartChild) → Sums (nodes_parts (parts_of xs)) (all (part_costs xs))
   part_row xs = part_row_after [] nothing sums-none xs
 
-  part_starts_after : (t : Costs) (xs : List PartChild) (s : plain.Core)
+  part_starts_after : (t : Costs) (xs : List PartChild) (s : plain.Core) → makes_none (nodes_parts (parts_of xs))
       → (all_after t (part_costs xs)).start ≡ max t.start (up_to_most (node_cost [] (plain.parts (parts_of xs) s)))
-  part_starts_after t [] s = sym (max-zero t.start)
-  part_starts_after t (x ∷ xs) s =
-      let h = x.1.start in
+  part_starts_after t [] s free = sym (max-zero t.start)
+  part_starts_after t (x ∷ xs) s free =
+      let parts = none-both (nodes (started_of x.0).start) (nodes_parts (parts_of xs)) free in
+      let h = x.1.start parts.0 in
       let r = both-start t (costed_part x.0) in
-      part_starts_after (both t (costed_part x.0)) xs s ∙ omega (arith, h, r)
+      part_starts_after (both t (costed_part x.0)) xs s parts.1 ∙ omega (arith, h, r)
 
-  part_starts : (xs : List PartChild) (s : plain.Core) → up_to_most (node_cost [] (plain.parts (parts_of xs) s)) ≡ (all (part_costs xs)).start
-  part_starts xs s = let h = part_starts_after nothing xs s in let z = nothing-start in omega (arith, h, z)
+  part_starts : (xs : List PartChild) (s : plain.Core) → makes_none (nodes_parts (parts_of xs)) → up_to_most (node_cost [] (plain.parts (parts_of xs) s)) ≡ (all (part_costs xs)).start
+  part_starts xs s free = let h = part_starts_after nothing xs s free in let z = nothing-start in omega (arith, h, z)
 
   abbrev maybe_of : Option Child → MaybeCore
   maybe_of x = maybe_core (option_map core_of (option_map (λ (c : Child). c.0) x))
@@ -231,18 +243,18 @@ module _ (tables : Tables) (signature : MemberRef → Name) (no_class : NoClasse
   sums-maybe None = sums-none
   sums-maybe (Some x) = x.1.sums
 
-  whole-maybe : (x : Option Child) → up_to_most (maybe_cost [] (maybe_of x)) ≡ (maybe_costs x).whole
+  whole-maybe : (x : Option Child) → makes_none (nodes_maybe (maybe_of x)) → up_to_most (maybe_cost [] (maybe_of x)) ≡ (maybe_costs x).whole
   unfolding nothing
-  whole-maybe None = refl
-  whole-maybe (Some x) = x.1.whole
+  whole-maybe None free = refl
+  whole-maybe (Some x) free = x.1.whole free
 
-  start-maybe : (x : Option Child) → up_to_most (node_cost [] (plain.give (maybe_of x))) ≡ (maybe_costs x).start
+  start-maybe : (x : Option Child) → makes_none (nodes_maybe (maybe_of x)) → up_to_most (node_cost [] (plain.give (maybe_of x))) ≡ (maybe_costs x).start
   unfolding nothing
-  start-maybe None = refl
-  start-maybe (Some x) = x.1.start
+  start-maybe None free = refl
+  start-maybe (Some x) free = x.1.start free
 
   -- a node with no parts, with one, and with several
-  leaf : (x : plain.Core) → nodes x ≡ x ∷ [] → made_by [] x ≡ [] → node_cost [] x ≡ 0 → loop_bytes x ≡ 0
+  leaf : (x : plain.Core) → nodes x ≡ x ∷ [] → node_cost [] x ≡ 0 → loop_bytes x ≡ 0
       → expression_cost [] x ≡ 32 * length (nodes x) + sum (flat_map (made_by []) (nodes x)) → initialiser_cost x [] ≡ expression_cost [] x → Weighs x (around nothing)
   leaf x is = around-is x [] nothing is sums-none
 
@@ -257,34 +269,36 @@ module _ (tables : Tables) (signature : MemberRef → Name) (no_class : NoClasse
   list-is xs r =
       let x = plain.list (listed_of xs) (core_of r.0) in
       let inner = sums-both (nodes_all (listed_of xs)) (nodes (core_of r.0)) (all (costs_of xs)) (costed r.0) (row xs) r.1.sums in
-      let w = around-is-whole x (nodes_all (listed_of xs) ++ nodes (core_of r.0)) (both (all (costs_of xs)) (costed r.0)) refl inner refl refl refl refl in
-      let s = starts xs in
-      let h = r.1.start in
+      let w = around-is-whole x (nodes_all (listed_of xs) ++ nodes (core_of r.0)) (both (all (costs_of xs)) (costed r.0)) refl inner refl refl refl in
+      start-is x (around (both (all (costs_of xs)) (costed r.0))) (both (all (costs_of xs)) (costed r.0)).start w.0 w.1 (λ free.
+      let parts = none-both (nodes_all (listed_of xs)) (nodes (core_of r.0)) free in
+      let s = starts xs parts.0 in
+      let h = r.1.start parts.1 in
       let b = both-start (all (costs_of xs)) (costed r.0) in
-      start-is x (around (both (all (costs_of xs)) (costed r.0))) (both (all (costs_of xs)) (costed r.0)).start w.0 w.1 (omega (arith, s, h, b))
+      omega (arith, s, h, b))
 
   each-is : (e : Child) → Weighs (plain.each (core_of e.0)) (each (costed e.0))
   unfolding each
   each-is e =
       let x = plain.each (core_of e.0) in
-      let w = around-is-whole x (nodes (core_of e.0)) (costed e.0) refl e.1.sums refl refl refl refl in
+      let w = around-is-whole x (nodes (core_of e.0)) (costed e.0) refl e.1.sums refl refl refl in
       start-is x (around (costed e.0)) (costed e.0).start w.0 w.1 e.1.start
 
   expression-is : (e : Child) → Weighs (plain.full (core_of e.0)) (expression (costed e.0))
   unfolding expression
-  expression-is e = statement-is _ (nodes (core_of e.0)) (costed e.0) (costed e.0).whole refl e.1.sums refl e.1.whole refl refl refl
+  expression-is e = statement-is _ (nodes (core_of e.0)) (costed e.0) (costed e.0).whole refl e.1.sums e.1.whole refl refl refl
 
   declare-is : (i : ℕ) (t : SourceType) (e : Child) → Weighs (plain.declare i t (core_of e.0)) (initialiser (costed e.0))
   unfolding initialiser
-  declare-is i t e = statement-is _ (nodes (core_of e.0)) (costed e.0) (costed e.0).start refl e.1.sums refl e.1.start refl refl refl
+  declare-is i t e = statement-is _ (nodes (core_of e.0)) (costed e.0) (costed e.0).start refl e.1.sums e.1.start refl refl refl
 
   once-is : (n : Name) (e : Child) → Weighs (plain.once n (core_of e.0)) (initialiser (costed e.0))
   unfolding initialiser
-  once-is n e = statement-is _ (nodes (core_of e.0)) (costed e.0) (costed e.0).start refl e.1.sums refl e.1.start refl refl refl
+  once-is n e = statement-is _ (nodes (core_of e.0)) (costed e.0) (costed e.0).start refl e.1.sums e.1.start refl refl refl
 
   return-is : (e : Option Child) → Weighs (plain.give (maybe_of e)) (initialiser (maybe_costs e))
   unfolding initialiser
-  return-is e = statement-is _ (nodes_maybe (maybe_of e)) (maybe_costs e) (maybe_costs e).start refl (sums-maybe e) refl (start-maybe e) refl refl refl
+  return-is e = statement-is _ (nodes_maybe (maybe_of e)) (maybe_costs e) (maybe_costs e).start refl (sums-maybe e) (start-maybe e) refl refl refl
 
   choice-is : (c a : Child) (b : Option Child) → Weighs (plain.branch (core_of c.0) (core_of a.0) (maybe_of b)) (choice (costed c.0) (costed a.0) (maybe_costs b))
   unfolding choice
@@ -292,19 +306,20 @@ module _ (tables : Tables) (signature : MemberRef → Name) (no_class : NoClasse
       let x = plain.branch (core_of c.0) (core_of a.0) (maybe_of b) in
       statement-is x (nodes (core_of c.0) ++ (nodes (core_of a.0) ++ nodes_maybe (maybe_of b))) (both (costed c.0) (both (costed a.0) (maybe_costs b))) (costed c.0).whole
       (ap (λ l. x ∷ l) (append_assoc (nodes (core_of c.0)) (nodes (core_of a.0)) (nodes_maybe (maybe_of b))))
-      (joined _ _ _ _ c.1.sums (joined _ _ _ _ a.1.sums (sums-maybe b))) refl c.1.whole refl refl refl
+      (joined _ _ _ _ c.1.sums (joined _ _ _ _ a.1.sums (sums-maybe b)))
+      (λ free. c.1.whole (none-both (nodes (core_of c.0)) (nodes (core_of a.0) ++ nodes_maybe (maybe_of b)) free).0) refl refl refl
 
   selection-is : (e : Child) (es : List Child) → Weighs (plain.switch (core_of e.0) (listed_of es)) (selection (costed e.0) (all (costs_of es)))
   unfolding selection
   selection-is e es =
       loop-is _ (nodes (core_of e.0) ++ nodes_all (listed_of es)) (both (costed e.0) (all (costs_of es))) (costed e.0).whole refl
-      (joined _ _ _ _ e.1.sums (row es)) refl e.1.whole refl refl refl
+      (joined _ _ _ _ e.1.sums (row es)) (λ free. e.1.whole (none-both (nodes (core_of e.0)) (nodes_all (listed_of es)) free).0) refl refl refl
 
   building-is : (ps : List PartChild) (s : Child) → Weighs (plain.parts (parts_of ps) (core_of s.0)) (building (all (part_costs ps)) (costed s.0))
   unfolding building
   building-is ps s =
       statement-is _ (nodes_parts (parts_of ps) ++ nodes (core_of s.0)) (both (all (part_costs ps)) (costed s.0)) (all (part_costs ps)).start refl
-      (joined _ _ _ _ (part_row ps) s.1.sums) refl (part_starts ps (core_of s.0)) refl refl refl
+      (joined _ _ _ _ (part_row ps) s.1.sums) (λ free. part_starts ps (core_of s.0) (none-both (nodes_parts (parts_of ps)) (nodes (core_of s.0)) free).0) refl refl refl
 
   abbrev loop_nodes : Option Child → Option Child → Child → List plain.Core
   loop_nodes c e s = nodes_maybe (maybe_of c) ++ (nodes_maybe (maybe_of e) ++ nodes (core_of s.0))
@@ -317,94 +332,98 @@ module _ (tables : Tables) (signature : MemberRef → Name) (no_class : NoClasse
   loop_parts : (c e : Option Child) (s : Child) → Sums (nodes_maybe (maybe_of c) ++ (nodes_maybe (maybe_of e) ++ nodes (core_of s.0))) (both (maybe_costs c) (both (maybe_costs e) (costed s.0)))
   loop_parts c e s = joined _ _ _ _ (sums-maybe c) (joined _ _ _ _ (sums-maybe e) s.1.sums)
 
-  loop_cost : (c e : Option Child) → up_to_most (max (maybe_cost [] (maybe_of c)) (maybe_cost [] (maybe_of e))) ≡ max (maybe_costs c).whole (maybe_costs e).whole
-  loop_cost c e = of_max (maybe_cost [] (maybe_of c)) (maybe_cost [] (maybe_of e)) (maybe_costs c).whole (maybe_costs e).whole (whole-maybe c) (whole-maybe e)
+  loop_cost : (c e : Option Child) (s : Child) → makes_none (loop_nodes c e s)
+      → up_to_most (max (maybe_cost [] (maybe_of c)) (maybe_cost [] (maybe_of e))) ≡ max (maybe_costs c).whole (maybe_costs e).whole
+  loop_cost c e s free =
+      let one = none-both (nodes_maybe (maybe_of c)) (nodes_maybe (maybe_of e) ++ nodes (core_of s.0)) free in
+      let two = none-both (nodes_maybe (maybe_of e)) (nodes (core_of s.0)) one.1 in
+      of_max (maybe_cost [] (maybe_of c)) (maybe_cost [] (maybe_of e)) (maybe_costs c).whole (maybe_costs e).whole (whole-maybe c one.0) (whole-maybe e two.0)
 
   turns-is : (f : LoopForm) (c e : Option Child) (s : Child)
       → Weighs (plain.loop f (maybe_of c) (maybe_of e) (core_of s.0)) (turns f (maybe_costs c) (maybe_costs e) (costed s.0))
   unfolding turns
-  turns-is form.While c e s = statement-is _ (loop_nodes c e s) _ _ (loop_order form.While c e s) (loop_parts c e s) refl (loop_cost c e) refl refl refl
-  turns-is form.Do c e s = loop-is _ (loop_nodes c e s) _ _ (loop_order form.Do c e s) (loop_parts c e s) refl (loop_cost c e) refl refl refl
-  turns-is form.For c e s = loop-is _ (loop_nodes c e s) _ _ (loop_order form.For c e s) (loop_parts c e s) refl (loop_cost c e) refl refl refl
+  turns-is form.While c e s = statement-is _ (loop_nodes c e s) _ _ (loop_order form.While c e s) (loop_parts c e s) (loop_cost c e s) refl refl refl
+  turns-is form.Do c e s = loop-is _ (loop_nodes c e s) _ _ (loop_order form.Do c e s) (loop_parts c e s) (loop_cost c e s) refl refl refl
+  turns-is form.For c e s = loop-is _ (loop_nodes c e s) _ _ (loop_order form.For c e s) (loop_parts c e s) (loop_cost c e s) refl refl refl
 
   call-is : (f : Name) (t : ℕ) (object : Option Child) (es : List Child)
       → Weighs (plain.call f (type_of tables t) (maybe_of object) (listed_of es)) (around (both (maybe_costs object) (all (costs_of es))))
   call-is f t object es =
       around-is _ (nodes_maybe (maybe_of object) ++ nodes_all (listed_of es)) (both (maybe_costs object) (all (costs_of es))) refl
-      (joined _ _ _ _ (sums-maybe object) (row es)) (parameters_make_none tables no_class t) refl refl refl refl
+      (joined _ _ _ _ (sums-maybe object) (row es)) refl refl refl refl
 
   pointer-is : (object : Option Child) (e : Child) (t : ℕ) (es : List Child)
       → Weighs (plain.pointer_call (maybe_of object) (core_of e.0) (type_of tables t) (listed_of es)) (around (both (maybe_costs object) (both (costed e.0) (all (costs_of es)))))
   pointer-is object e t es =
       let x = plain.pointer_call (maybe_of object) (core_of e.0) (type_of tables t) (listed_of es) in
       around-is x (nodes_maybe (maybe_of object) ++ (nodes (core_of e.0) ++ nodes_all (listed_of es))) (both (maybe_costs object) (both (costed e.0) (all (costs_of es)))) (ap (λ l. x ∷ l) (append_assoc (nodes_maybe (maybe_of object)) (nodes (core_of e.0)) (nodes_all (listed_of es))))
-      (joined _ _ _ _ (sums-maybe object) (joined _ _ _ _ e.1.sums (row es))) (parameters_make_none tables no_class t) refl refl refl refl
+      (joined _ _ _ _ (sums-maybe object) (joined _ _ _ _ e.1.sums (row es))) refl refl refl refl
 
   -- a layer of the tree, once its parts are weighed
   layer : (y : Core-F Child PartChild)
       → Weighs (core_step tables signature (map-Core _ _ _ _ core_of started_of (map-Core _ _ _ _ (λ (c : Child). c.0) (λ (c : PartChild). c.0) y)))
       (step (map-Core _ _ _ _ costed costed_part (map-Core _ _ _ _ (λ (c : Child). c.0) (λ (c : PartChild). c.0) y)))
-  layer (Core-F.Number at z) = leaf _ refl refl refl refl refl refl
-  layer (Core-F.Text at j bytes) = leaf _ refl refl refl refl refl refl
-  layer (Core-F.This at) = leaf _ refl refl refl refl refl refl
-  layer (Core-F.Local at i) = leaf _ refl refl refl refl refl refl
-  layer (Core-F.Static at n t) = leaf _ refl refl refl refl refl refl
-  layer (Core-F.Function at n t) = leaf _ refl refl refl refl refl refl
-  layer (Core-F.Member at e i) = around-is _ (nodes (core_of e.0)) (costed e.0) refl e.1.sums refl refl refl refl refl
-  layer (Core-F.Read at e) = around-is _ (nodes (core_of e.0)) (costed e.0) refl e.1.sums refl refl refl refl refl
-  layer (Core-F.Address at e) = around-is _ (nodes (core_of e.0)) (costed e.0) refl e.1.sums refl refl refl refl refl
-  layer (Core-F.Dereference at e) = around-is _ (nodes (core_of e.0)) (costed e.0) refl e.1.sums refl refl refl refl refl
-  layer (Core-F.Decay at e) = around-is _ (nodes (core_of e.0)) (costed e.0) refl e.1.sums refl refl refl refl refl
-  layer (Core-F.Index at a b) = around-is _ (nodes (core_of a.0) ++ nodes (core_of b.0)) (both (costed a.0) (costed b.0)) refl (two _ _ _ _ a.1 b.1) refl refl refl refl refl
-  layer (Core-F.Convert at t e) = around-is _ (nodes (core_of e.0)) (costed e.0) refl e.1.sums refl refl refl refl refl
-  layer (Core-F.Up at path e) = around-is _ (nodes (core_of e.0)) (costed e.0) refl e.1.sums refl refl refl refl refl
-  layer (Core-F.Down at c path e) = around-is _ (nodes (core_of e.0)) (costed e.0) refl e.1.sums refl refl refl refl refl
-  layer (Core-F.FromVoid at t e) = around-is _ (nodes (core_of e.0)) (costed e.0) refl e.1.sums refl refl refl refl refl
-  layer (Core-F.ToMember at path e) = around-is _ (nodes (core_of e.0)) (costed e.0) refl e.1.sums refl refl refl refl refl
-  layer (Core-F.DataPointer at i) = leaf _ refl refl refl refl refl refl
-  layer (Core-F.FunctionPointer at t) = leaf _ refl refl refl refl refl refl
-  layer (Core-F.Through at a b) = around-is _ (nodes (core_of a.0) ++ nodes (core_of b.0)) (both (costed a.0) (costed b.0)) refl (two _ _ _ _ a.1 b.1) refl refl refl refl refl
-  layer (Core-F.Operate at op k a b) = around-is _ (nodes (core_of a.0) ++ nodes (core_of b.0)) (both (costed a.0) (costed b.0)) refl (two _ _ _ _ a.1 b.1) refl refl refl refl refl
-  layer (Core-F.Unary at op k e) = around-is _ (nodes (core_of e.0)) (costed e.0) refl e.1.sums refl refl refl refl refl
-  layer (Core-F.Not at e) = around-is _ (nodes (core_of e.0)) (costed e.0) refl e.1.sums refl refl refl refl refl
-  layer (Core-F.And at a b) = around-is _ (nodes (core_of a.0) ++ nodes (core_of b.0)) (both (costed a.0) (costed b.0)) refl (two _ _ _ _ a.1 b.1) refl refl refl refl refl
-  layer (Core-F.Or at a b) = around-is _ (nodes (core_of a.0) ++ nodes (core_of b.0)) (both (costed a.0) (costed b.0)) refl (two _ _ _ _ a.1 b.1) refl refl refl refl refl
-  layer (Core-F.PointerOperate at op a b) = around-is _ (nodes (core_of a.0) ++ nodes (core_of b.0)) (both (costed a.0) (costed b.0)) refl (two _ _ _ _ a.1 b.1) refl refl refl refl refl
+  layer (Core-F.Number at z) = leaf _ refl refl refl refl refl
+  layer (Core-F.Text at j bytes) = leaf _ refl refl refl refl refl
+  layer (Core-F.This at) = leaf _ refl refl refl refl refl
+  layer (Core-F.Local at i) = leaf _ refl refl refl refl refl
+  layer (Core-F.Static at n t) = leaf _ refl refl refl refl refl
+  layer (Core-F.Function at n t) = leaf _ refl refl refl refl refl
+  layer (Core-F.Member at e i) = around-is _ (nodes (core_of e.0)) (costed e.0) refl e.1.sums refl refl refl refl
+  layer (Core-F.Read at e) = around-is _ (nodes (core_of e.0)) (costed e.0) refl e.1.sums refl refl refl refl
+  layer (Core-F.Address at e) = around-is _ (nodes (core_of e.0)) (costed e.0) refl e.1.sums refl refl refl refl
+  layer (Core-F.Dereference at e) = around-is _ (nodes (core_of e.0)) (costed e.0) refl e.1.sums refl refl refl refl
+  layer (Core-F.Decay at e) = around-is _ (nodes (core_of e.0)) (costed e.0) refl e.1.sums refl refl refl refl
+  layer (Core-F.Index at a b) = around-is _ (nodes (core_of a.0) ++ nodes (core_of b.0)) (both (costed a.0) (costed b.0)) refl (two _ _ _ _ a.1 b.1) refl refl refl refl
+  layer (Core-F.Convert at t e) = around-is _ (nodes (core_of e.0)) (costed e.0) refl e.1.sums refl refl refl refl
+  layer (Core-F.Up at path e) = around-is _ (nodes (core_of e.0)) (costed e.0) refl e.1.sums refl refl refl refl
+  layer (Core-F.Down at c path e) = around-is _ (nodes (core_of e.0)) (costed e.0) refl e.1.sums refl refl refl refl
+  layer (Core-F.FromVoid at t e) = around-is _ (nodes (core_of e.0)) (costed e.0) refl e.1.sums refl refl refl refl
+  layer (Core-F.ToMember at path e) = around-is _ (nodes (core_of e.0)) (costed e.0) refl e.1.sums refl refl refl refl
+  layer (Core-F.DataPointer at i) = leaf _ refl refl refl refl refl
+  layer (Core-F.FunctionPointer at t) = leaf _ refl refl refl refl refl
+  layer (Core-F.Through at a b) = around-is _ (nodes (core_of a.0) ++ nodes (core_of b.0)) (both (costed a.0) (costed b.0)) refl (two _ _ _ _ a.1 b.1) refl refl refl refl
+  layer (Core-F.Operate at op k a b) = around-is _ (nodes (core_of a.0) ++ nodes (core_of b.0)) (both (costed a.0) (costed b.0)) refl (two _ _ _ _ a.1 b.1) refl refl refl refl
+  layer (Core-F.Unary at op k e) = around-is _ (nodes (core_of e.0)) (costed e.0) refl e.1.sums refl refl refl refl
+  layer (Core-F.Not at e) = around-is _ (nodes (core_of e.0)) (costed e.0) refl e.1.sums refl refl refl refl
+  layer (Core-F.And at a b) = around-is _ (nodes (core_of a.0) ++ nodes (core_of b.0)) (both (costed a.0) (costed b.0)) refl (two _ _ _ _ a.1 b.1) refl refl refl refl
+  layer (Core-F.Or at a b) = around-is _ (nodes (core_of a.0) ++ nodes (core_of b.0)) (both (costed a.0) (costed b.0)) refl (two _ _ _ _ a.1 b.1) refl refl refl refl
+  layer (Core-F.PointerOperate at op a b) = around-is _ (nodes (core_of a.0) ++ nodes (core_of b.0)) (both (costed a.0) (costed b.0)) refl (two _ _ _ _ a.1 b.1) refl refl refl refl
   layer (Core-F.Conditional at c a b) =
       let x = plain.conditional (core_of c.0) (core_of a.0) (core_of b.0) in
       around-is x (nodes (core_of c.0) ++ (nodes (core_of a.0) ++ nodes (core_of b.0))) (both (costed c.0) (both (costed a.0) (costed b.0))) (ap (λ l. x ∷ l) (append_assoc (nodes (core_of c.0)) (nodes (core_of a.0)) (nodes (core_of b.0))))
-      (joined _ _ _ _ c.1.sums (joined _ _ _ _ a.1.sums b.1.sums)) refl refl refl refl refl
-  layer (Core-F.Comma at es) = around-is _ (nodes_all (listed_of es)) (all (costs_of es)) refl (row es) refl refl refl refl refl
-  layer (Core-F.Store at a b) = around-is _ (nodes (core_of a.0) ++ nodes (core_of b.0)) (both (costed a.0) (costed b.0)) refl (two _ _ _ _ a.1 b.1) refl refl refl refl refl
-  layer (Core-F.Update at a c b) = around-is _ (nodes (core_of a.0) ++ nodes (core_of b.0)) (both (costed a.0) (costed b.0)) refl (two _ _ _ _ a.1 b.1) refl refl refl refl refl
-  layer (Core-F.Increment at is_postfix c e) = around-is _ (nodes (core_of e.0)) (costed e.0) refl e.1.sums refl refl refl refl refl
+      (joined _ _ _ _ c.1.sums (joined _ _ _ _ a.1.sums b.1.sums)) refl refl refl refl
+  layer (Core-F.Comma at es) = around-is _ (nodes_all (listed_of es)) (all (costs_of es)) refl (row es) refl refl refl refl
+  layer (Core-F.Store at a b) = around-is _ (nodes (core_of a.0) ++ nodes (core_of b.0)) (both (costed a.0) (costed b.0)) refl (two _ _ _ _ a.1 b.1) refl refl refl refl
+  layer (Core-F.Update at a c b) = around-is _ (nodes (core_of a.0) ++ nodes (core_of b.0)) (both (costed a.0) (costed b.0)) refl (two _ _ _ _ a.1 b.1) refl refl refl refl
+  layer (Core-F.Increment at is_postfix c e) = around-is _ (nodes (core_of e.0)) (costed e.0) refl e.1.sums refl refl refl refl
   layer (Core-F.Assign at t a b es) =
       let x = plain.assign (type_of tables t) (core_of a.0) (core_of b.0) (listed_of es) in
       around-is x (nodes (core_of a.0) ++ (nodes (core_of b.0) ++ nodes_all (listed_of es))) (both (costed a.0) (both (costed b.0) (all (costs_of es)))) (ap (λ l. x ∷ l) (append_assoc (nodes (core_of a.0)) (nodes (core_of b.0)) (nodes_all (listed_of es))))
-      (joined _ _ _ _ a.1.sums (joined _ _ _ _ b.1.sums (row es))) (ap (class_bytes []) (assigned_none (type_of tables t))) refl refl refl refl
-  layer (Core-F.Temporary at t e) = around-is _ (nodes (core_of e.0)) (costed e.0) refl (e.1.sums) (object_makes_none tables no_class t) refl refl refl refl
+      (joined _ _ _ _ a.1.sums (joined _ _ _ _ b.1.sums (row es))) refl refl refl refl
+  layer (Core-F.Temporary at t e) = around-is _ (nodes (core_of e.0)) (costed e.0) refl (e.1.sums) refl refl refl refl
   layer (Core-F.Call at f t None es) = call-is f t None es
   layer (Core-F.Call at f t (Some o) es) = call-is f t (Some o) es
-  layer (Core-F.VirtualCall at m t e es) = around-is _ (nodes (core_of e.0) ++ nodes_all (listed_of es)) (both (costed e.0) (all (costs_of es))) refl (joined _ _ _ _ (e.1.sums) (row es)) (parameters_make_none tables no_class t) refl refl refl refl
+  layer (Core-F.VirtualCall at m t e es) = around-is _ (nodes (core_of e.0) ++ nodes_all (listed_of es)) (both (costed e.0) (all (costs_of es))) refl (joined _ _ _ _ (e.1.sums) (row es)) refl refl refl refl
   layer (Core-F.PointerCall at None e t es) = pointer-is None e t es
   layer (Core-F.PointerCall at (Some o) e t es) = pointer-is (Some o) e t es
-  layer (Core-F.New at t e) = around-is _ (nodes (core_of e.0)) (costed e.0) refl e.1.sums refl refl refl refl refl
-  layer (Core-F.NewArray at t n e) = around-is _ (nodes (core_of n.0) ++ nodes (core_of e.0)) (both (costed n.0) (costed e.0)) refl (two _ _ _ _ n.1 e.1) refl refl refl refl refl
-  layer (Core-F.Delete at t e) = around-is _ (nodes (core_of e.0)) (costed e.0) refl e.1.sums refl refl refl refl refl
-  layer (Core-F.DeleteArray at t e) = around-is _ (nodes (core_of e.0)) (costed e.0) refl e.1.sums refl refl refl refl refl
-  layer (Core-F.Build at f t es) = around-is _ (nodes_all (listed_of es)) (all (costs_of es)) refl (row es) (parameters_make_none tables no_class t) refl refl refl refl
-  layer (Core-F.Copy at t e es) = around-is _ (nodes (core_of e.0) ++ nodes_all (listed_of es)) (both (costed e.0) (all (costs_of es))) refl (joined _ _ _ _ (e.1.sums) (row es)) (ap (class_bytes []) (copied_none (type_of tables t))) refl refl refl refl
+  layer (Core-F.New at t e) = around-is _ (nodes (core_of e.0)) (costed e.0) refl e.1.sums refl refl refl refl
+  layer (Core-F.NewArray at t n e) = around-is _ (nodes (core_of n.0) ++ nodes (core_of e.0)) (both (costed n.0) (costed e.0)) refl (two _ _ _ _ n.1 e.1) refl refl refl refl
+  layer (Core-F.Delete at t e) = around-is _ (nodes (core_of e.0)) (costed e.0) refl e.1.sums refl refl refl refl
+  layer (Core-F.DeleteArray at t e) = around-is _ (nodes (core_of e.0)) (costed e.0) refl e.1.sums refl refl refl refl
+  layer (Core-F.Build at f t es) = around-is _ (nodes_all (listed_of es)) (all (costs_of es)) refl (row es) refl refl refl refl
+  layer (Core-F.Copy at t e es) = around-is _ (nodes (core_of e.0) ++ nodes_all (listed_of es)) (both (costed e.0) (all (costs_of es))) refl (joined _ _ _ _ (e.1.sums) (row es)) refl refl refl refl
   layer (Core-F.Each at e) = each-is e
   layer (Core-F.List at es rest) = list-is es rest
-  layer (Core-F.Characters at bytes) = leaf _ refl refl refl refl refl refl
-  layer (Core-F.Bind at holder.NoTemporary e) = around-is _ (nodes (core_of e.0)) (costed e.0) refl e.1.sums refl refl refl refl refl
-  layer (Core-F.Bind at (holder.LocalTemporary i t) e) = around-is _ (nodes (core_of e.0)) (costed e.0) refl e.1.sums refl refl refl refl refl
-  layer (Core-F.Bind at (holder.StaticTemporary n) e) = around-is _ (nodes (core_of e.0)) (costed e.0) refl e.1.sums refl refl refl refl refl
-  layer (Core-F.Zeros at) = leaf _ refl refl refl refl refl refl
+  layer (Core-F.Characters at bytes) = leaf _ refl refl refl refl refl
+  layer (Core-F.Bind at holder.NoTemporary e) = around-is _ (nodes (core_of e.0)) (costed e.0) refl e.1.sums refl refl refl refl
+  layer (Core-F.Bind at (holder.LocalTemporary i t) e) = around-is _ (nodes (core_of e.0)) (costed e.0) refl e.1.sums refl refl refl refl
+  layer (Core-F.Bind at (holder.StaticTemporary n) e) = around-is _ (nodes (core_of e.0)) (costed e.0) refl e.1.sums refl refl refl refl
+  layer (Core-F.Zeros at) = leaf _ refl refl refl refl refl
   layer (Core-F.Blank at) = blank-is
   layer (Core-F.Full at e) = expression-is e
-  layer (Core-F.Block at es) = around-is _ (nodes_all (listed_of es)) (all (costs_of es)) refl (row es) refl refl refl refl refl
-  layer (Core-F.Sequence at es) = around-is _ (nodes_all (listed_of es)) (all (costs_of es)) refl (row es) refl refl refl refl refl
+  layer (Core-F.Block at es) = around-is _ (nodes_all (listed_of es)) (all (costs_of es)) refl (row es) refl refl refl refl
+  layer (Core-F.Sequence at es) = around-is _ (nodes_all (listed_of es)) (all (costs_of es)) refl (row es) refl refl refl refl
   layer (Core-F.Declare at i t e) = declare-is i (type_of tables t) e
   layer (Core-F.Once at n e) = once-is n e
   layer (Core-F.If at c a None) = choice-is c a None
@@ -414,10 +433,10 @@ module _ (tables : Tables) (signature : MemberRef → Name) (no_class : NoClasse
   layer (Core-F.Loop at f (Some c) None s) = turns-is f (Some c) None s
   layer (Core-F.Loop at f (Some c) (Some e) s) = turns-is f (Some c) (Some e) s
   layer (Core-F.Switch at e es) = selection-is e es
-  layer (Core-F.Case at z) = leaf _ refl refl refl refl refl refl
-  layer (Core-F.Default at) = leaf _ refl refl refl refl refl refl
-  layer (Core-F.Break at) = leaf _ refl refl refl refl refl refl
-  layer (Core-F.Continue at) = leaf _ refl refl refl refl refl refl
+  layer (Core-F.Case at z) = leaf _ refl refl refl refl refl
+  layer (Core-F.Default at) = leaf _ refl refl refl refl refl
+  layer (Core-F.Break at) = leaf _ refl refl refl refl refl
+  layer (Core-F.Continue at) = leaf _ refl refl refl refl refl
   layer (Core-F.Return at None) = return-is None
   layer (Core-F.Return at (Some e)) = return-is (Some e)
   layer (Core-F.Parts at ps s) = building-is ps s

@@ -1,14 +1,15 @@
 -- The frame bound of a file's function by its number.
-use Rattle.std.specs.Prelude.{◌∷◌, ◌+◌, Bool, not, max, is_some, if◌then◌else◌, ℕ, ◌<◌, ◌≤◌, ◌^◌, List, [], Option, Some, None, length, slice_get, ◌/◌}
-use Rattle.std.specs.List.{sum_by}
+use Rattle.std.specs.Prelude.{◌≡◌, ◌∷◌, ◌++◌, ◌+◌, Bool, not, max, is_some, if◌then◌else◌, ℕ, ◌<◌, ◌≤◌, ◌^◌, List, [], Option, Some, None, length, map, slice_get, ◌/◌}
+use Rattle.std.specs.List.{flat_map, sum_by}
 use Rattle.cf_base.specs.Integers.{width}
 use Rattle.cf_types.specs.declared.ty.Ty.{Ty}
 use Rattle.cf_types.specs.declared.ty.Ty.TheVariants as ty
-use Rattle.cf_core.specs.Core.{Function}
+use Rattle.cf_core.specs.Core.{Core, Function, Static, CoreFile}
+use Rattle.cf_core.specs.Nodes.{nodes}
 use Rattle.cf_core.specs.FromTypes.{type_of}
 use Rattle.cf_core.specs.FromUnit.{Unit, tables_of, file_of}
 use Rattle.cf_core.specs.Size.{size}
-use Rattle.cf_core.specs.Frame.{slot, is_owned_by, frame_bound, initialiser_bound}
+use Rattle.cf_core.specs.Frame.{made_by, slot, is_owned_by, frame_bound, initialiser_bound}
 use Rattle.cf_core.specs.Types.{Name}
 use Rattle.cf_core.specs.declared.unit.CoreFn.{CoreFn}
 use Rattle.cf_core.specs.declared.unit.CoreStatic.{CoreStatic}
@@ -22,6 +23,19 @@ bound_of_found unit (Some f) = frame_bound (file_of unit).classes (file_of unit)
 -- of the function of this number; the number after the last stands for the file's initialising function
 abbrev pub frame_of : Unit → ℕ → ℕ
 frame_of unit i = bound_of_found unit (slice_get (file_of unit).functions i)
+
+-- nodes that make no class object
+abbrev pub makes_none : List Core → Type 0
+makes_none xs = flat_map (made_by []) xs ≡ []
+
+-- all nodes of a file
+abbrev pub nodes_of : CoreFile → List Core
+nodes_of file = flat_map (λ (f : Function). nodes f.body) file.functions ++ flat_map (λ (x : Static). nodes x.start) file.statics
+
+-- of each function in order, and behind them that of the file's initialising function
+abbrev pub frames_of : CoreFile → List ℕ
+frames_of file =
+    map (λ f. up_to_most (frame_bound file.classes file.statics f)) file.functions ++ up_to_most (initialiser_bound file.classes file.statics) ∷ []
 
 -- each type has a size that is accepted; no class is there
 abbrev pub AreSmall : Unit → Type 0

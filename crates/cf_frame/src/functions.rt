@@ -1,17 +1,20 @@
-ghost use Rattle.std.specs.Prelude.{◌≡◌, ◌≤◌, ◌<◌, [], All, length};
+ghost use Rattle.std.specs.Prelude.{◌≡◌, ◌≤◌, ◌<◌, [], All, IfOk, length};
+ghost use Rattle.cf_core.specs.FromUnit.{file_of};
 ghost use Rattle.cf_frame.specs.Bound as spec;
 ghost use Rattle.cf_frame.specs.Bound.{AreSmall};
 ghost use Rattle.cf_frame.specs.Costed.{up_to_most};
 
 use crate::sizes::slots;
 use crate::walk::costs;
+use cf_base::{Items, Memory};
 use cf_core::{CoreFn, CoreStatic, CoreUnit};
+use std::alloc::Global;
 
 /// The bound of the frame of a function, by its number; the number after the last function stands for the file's initialising function.
-/// At most the greatest `u64`. No class is declared in the file.
+/// At most the greatest `u64`. No class is defined in the file, and nothing in it makes a class object.
 pub fn frame(unit: &CoreUnit, function: u32) -> u64
     requires number { function ≤ length unit.now.functions }
-    requires none_declared { unit.now.classes.labels ≡ [] }
+    requires none_made { spec.makes_none (spec.nodes_of (file_of unit.now)) }
     requires none_defined { unit.now.classes.defined ≡ [] }
     ensures { result ≡ up_to_most (spec.frame_of unit.now function) }
 {
@@ -20,6 +23,21 @@ pub fn frame(unit: &CoreUnit, function: u32) -> u64
         Some(found) => function_frame(unit, found),
         None => initialiser_frame(unit),
     }
+}
+
+/// The bound of the frame of each function in order, and behind them that of the file's initialising function, each at most the greatest `u64`.
+/// No class is defined in the file, and nothing in it makes a class object.
+pub fn frames(alloc: Global, unit: &CoreUnit) -> Result<Items<u64>, Memory>
+    requires none_made { spec.makes_none (spec.nodes_of (file_of unit.now)) }
+    requires none_defined { unit.now.classes.defined ≡ [] }
+    ensures { IfOk result (λ all. all ≡ spec.frames_of (file_of unit.now)) }
+{
+    let mut all = Items::new(alloc);
+    for function in unit.functions() {
+        all.push(function_frame(unit, function))?;
+    }
+    all.push(initialiser_frame(unit))?;
+    Ok(all)
 }
 
 /// The bound of a function of the file.

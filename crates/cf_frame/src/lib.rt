@@ -10,4 +10,4 @@ mod sizes;
 mod tests;
 mod walk;
 
-pub use functions::frame;
+pub use functions::{frame, frames};

@@ -1,0 +1,7 @@
+pub mod Complete
+pub mod Files
+pub mod Fine
+pub mod Serves
+pub mod Stands
+pub mod Statements
+pub mod Values

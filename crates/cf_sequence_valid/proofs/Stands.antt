@@ -1,0 +1,124 @@
+-- Where locals stand among those of a function.
+use Rattle.std.proofs.Common.{◌≡◌, ℕ, suc, zero, ◌+◌, Bool, true, false, List, [], ◌∷◌, ◌++◌, length, length-append, refl, ap, ◌∙◌, subst, arith}
+use Rattle.std.specs.Prelude.{Some, slice_get, bytes_eq, ◌==◌}
+use Rattle.std.specs.List.{list_all}
+use Rattle.std.proofs.lemmas.List.Concat.{flat_map-append}
+use Rattle.cf_base.proofs.Tests.{all_of, bytes_same, both}
+use Rattle.cf_base.specs.declared.kind.Kind.{Kind}
+use Rattle.cf_base.specs.declared.kind.Kind.TheVariants.{Char, SChar, UChar, Short, UShort, Int, UInt, Long, ULong}
+use Rattle.std.proofs.lemmas.Bool.Decides.{nat_tests}
+use Rattle.cf_core.specs.Types.{SourceType, void, integer, enumeration, class, pointer, reference, array, takes, gives, data_member, function_member, const, kind_number, bool_eq, type_eq, without_const}
+use Rattle.cf_core.specs.Core.{Core}
+use Rattle.cf_plain.specs.Valid.{is_of, are_arguments}
+use Rattle.cf_sequence.specs.Made.{Local, added, makes, numbered, numbers}
+
+-- A type is the same as itself.
+
+kind-same : (k : Kind) → (kind_number k == kind_number k) ≡ true
+kind-same Char = refl
+kind-same SChar = refl
+kind-same UChar = refl
+kind-same Short = refl
+kind-same UShort = refl
+kind-same Int = refl
+kind-same UInt = refl
+kind-same Long = refl
+kind-same ULong = refl
+
+flag-same : (b : Bool) → bool_eq b b ≡ true
+flag-same true = refl
+flag-same false = refl
+
+nat-same : (n : ℕ) → (n == n) ≡ true
+nat-same n = grind (arith, nat_tests)
+
+type-same : (t : SourceType) → type_eq t t ≡ true
+type-same void = refl
+type-same (integer k) = kind-same k
+type-same (enumeration e) = bytes_same e e refl
+type-same (class c) = bytes_same c c refl
+type-same (pointer t) = type-same t
+type-same (reference t) = type-same t
+type-same (array t n) = all_of (type_eq t t) (n == n) (type-same t) (nat-same n)
+type-same (takes p t) = all_of (type_eq p p) (type_eq t t) (type-same p) (type-same t)
+type-same (gives t c) = all_of (type_eq t t) (bool_eq c c) (type-same t) (flag-same c)
+type-same (data_member c t) = all_of (bytes_eq c c) (type_eq t t) (bytes_same c c refl) (type-same t)
+type-same (function_member c t) = all_of (bytes_eq c c) (type_eq t t) (bytes_same c c refl) (type-same t)
+type-same (const t) = type-same t
+
+module _ (locals : List SourceType) where
+  -- the locals from a number on have these types
+  abbrev pub Stand : ℕ → List SourceType → Type 0
+  Stand k [] = Unit {0}
+  Stand k (t ∷ ts) = (slice_get locals k ≡ Some t) × Stand (suc k) ts
+
+  pub stand-first : (k : ℕ) (xs ys : List SourceType) → Stand k (xs ++ ys) → Stand k xs
+  stand-first k [] ys st = tt
+  stand-first k (x ∷ xs) ys st = (st.0, stand-first (suc k) xs ys st.1)
+
+  pub stand-second : (k : ℕ) (xs ys : List SourceType) → Stand k (xs ++ ys) → Stand (k + length xs) ys
+  stand-second k [] ys st = let e : k ≡ k + 0 = omega arith in subst (λ n. Stand n ys) e st
+  stand-second k (x ∷ xs) ys st =
+      let e : suc k + length xs ≡ k + suc (length xs) = omega arith in subst (λ n. Stand n ys) e (stand-second (suc k) xs ys st.1)
+
+  -- of two rows of nodes
+  pub stand-left : (k : ℕ) (xs ys : List Core) → Stand k (added (xs ++ ys)) → Stand k (added xs)
+  stand-left k xs ys st = stand-first k (added xs) (added ys) (subst (Stand k) (flat_map-append makes xs ys) st)
+
+  pub stand-right : (k : ℕ) (xs ys : List Core) → Stand k (added (xs ++ ys)) → Stand (k + length (added xs)) (added ys)
+  stand-right k xs ys st = stand-second k (added xs) (added ys) (subst (Stand k) (flat_map-append makes xs ys) st)
+
+  -- of three rows
+  pub stand-third : (k : ℕ) (xs ys zs : List Core) → Stand k (added (xs ++ ys ++ zs)) → Stand (k + length (added xs) + length (added ys)) (added zs)
+  stand-third k xs ys zs st =
+      let two : length (added (xs ++ ys)) ≡ length (added xs) + length (added ys) = ap length (flat_map-append makes xs ys) ∙ length-append (added xs) (added ys) in
+      let e : k + length (added (xs ++ ys)) ≡ k + length (added xs) + length (added ys) = omega (arith, two) in
+      subst (λ n. Stand n (added zs)) e (stand-right k (xs ++ ys) zs st)
+
+  pub of-itself : (k : ℕ) (t : SourceType) → slice_get locals k ≡ Some t → is_of (slice_get locals k) t ≡ true
+  of-itself k t e = ap (λ o. is_of o t) e ∙ type-same (without_const t)
+
+  -- a local that is there, with its type
+  abbrev pub is_there : Local → Bool
+  is_there x = is_of (slice_get locals x.number) x.type
+
+  abbrev pub are_there : List Local → Bool
+  are_there xs = list_all is_there xs
+
+  pub numbered-there : (k : ℕ) (ts : List SourceType) → Stand k ts → are_there (numbered k ts) ≡ true
+  numbered-there k [] st = refl
+  numbered-there k (t ∷ ts) st = all_of (is_of (slice_get locals k) t) (are_there (numbered (suc k) ts)) (of-itself k t st.0) (numbered-there (suc k) ts st.1)
+
+  pub numbers-fit : (k : ℕ) (ts : List SourceType) → Stand k ts → are_arguments locals ts (numbers k ts) ≡ true
+  numbers-fit k [] st = refl
+  numbers-fit k (t ∷ ts) st = all_of (is_of (slice_get locals k) t) (are_arguments locals ts (numbers (suc k) ts)) (of-itself k t st.0) (numbers-fit (suc k) ts st.1)
+
+  pub there-two : (xs ys : List Local) → are_there xs ≡ true → are_there ys ≡ true → are_there (xs ++ ys) ≡ true
+  there-two [] ys p q = q
+  there-two (x ∷ xs) ys p q = let parts = both (is_there x) (are_there xs) p in all_of (is_there x) (are_there (xs ++ ys)) parts.0 (there-two xs ys parts.1 q)
+
+-- what stands behind other locals
+pub stand-behind : (before ts after : List SourceType) → Stand (before ++ (ts ++ after)) (length before) ts
+stand-behind before [] after = tt
+stand-behind before (t ∷ ts) after = (at before (ts ++ after), moved (stand-behind (before ++ t ∷ []) ts after))
+  where
+    at : (xs ys : List SourceType) → slice_get (xs ++ t ∷ ys) (length xs) ≡ Some t
+    at [] ys = refl
+    at (x ∷ xs) ys = at xs ys
+
+    together : (xs ys : List SourceType) → (xs ++ t ∷ []) ++ ys ≡ xs ++ t ∷ ys
+    together [] ys = refl
+    together (x ∷ xs) ys = ap (λ l. x ∷ l) (together xs ys)
+
+    longer : (xs : List SourceType) → length (xs ++ t ∷ []) ≡ suc (length xs)
+    longer [] = refl
+    longer (x ∷ xs) = ap suc (longer xs)
+
+    moved : Stand ((before ++ t ∷ []) ++ (ts ++ after)) (length (before ++ t ∷ [])) ts → Stand (before ++ t ∷ (ts ++ after)) (suc (length before)) ts
+    moved st = subst (λ n. Stand (before ++ t ∷ (ts ++ after)) n ts) (longer before) (subst (λ l. Stand l (length (before ++ t ∷ [])) ts) (together before (ts ++ after)) st)
+
+-- a local is still there where more come behind
+pub still-there : (xs ys : List SourceType) (i : ℕ) (t : SourceType) → slice_get xs i ≡ Some t → slice_get (xs ++ ys) i ≡ Some t
+still-there [] ys i t e = absurd (cc)
+still-there (x ∷ xs) ys zero t e = e
+still-there (x ∷ xs) ys (suc i) t e = still-there xs ys i t e
