@@ -1,0 +1,9 @@
+pub mod Calls
+pub mod Choices
+pub mod Conversions
+pub mod Operators
+pub mod Places
+pub mod Pointers
+pub mod Same
+pub mod Starts
+pub mod Values
