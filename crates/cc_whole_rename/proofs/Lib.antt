@@ -1,0 +1,2 @@
+mod HiddenInside
+mod OneMore
