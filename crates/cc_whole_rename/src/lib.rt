@@ -10,4 +10,4 @@ mod items;
 mod names;
 
 pub use items::renamed_item;
-pub use names::Statics;
+pub use names::{Statics, longer, renamed};
