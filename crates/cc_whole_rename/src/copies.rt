@@ -44,7 +44,10 @@ fn copied_parameter(alloc: Global, one: &CParameter) -> Result<CParameter, Memor
     })
 }
 
-pub(crate) fn copied_parameters(alloc: Global, all: &[CParameter]) -> Result<Items<CParameter>, Memory>
+pub(crate) fn copied_parameters(
+    alloc: Global,
+    all: &[CParameter],
+) -> Result<Items<CParameter>, Memory>
     ensures { IfOk result (λ made. made ≡ all.now) }
 {
     let mut made = Items::new(alloc);

@@ -25,7 +25,10 @@ pub(crate) fn expression(
         CExpression::Unary(op, inner) => {
             CExpression::Unary(*op, boxed(alloc, statics, hidden, inner)?)
         }
-        CExpression::Cast(ty, inner) => CExpression::Cast(*ty, boxed(alloc, statics, hidden, inner)?),
+        CExpression::Cast(ty, inner) => CExpression::Cast(
+            *ty,
+            boxed(alloc, statics, hidden, inner)?,
+        ),
         CExpression::AddressOf(name) => {
             CExpression::AddressOf(used(alloc, statics, hidden, name.as_slice())?)
         }

@@ -16,9 +16,7 @@ fn same_statement(a: &CStatement, b: &CStatement) -> bool
             same_place(p, q) && same_expression(x.get(), y.get())
         }
         (CStatement::Call(p, c, xs), CStatement::Call(q, d, ys)) => {
-            same_target(p, q)
-                && same_callee(c, d)
-                && same_expressions(xs.as_slice(), ys.as_slice())
+            same_target(p, q) && same_callee(c, d) && same_expressions(xs.as_slice(), ys.as_slice())
         }
         (CStatement::Block(x), CStatement::Block(y)) => same_body(x.get(), y.get()),
         (CStatement::Break, CStatement::Break) => true,

@@ -60,10 +60,7 @@ pub(crate) fn same_target(a: &Option<CPlace>, b: &Option<CPlace>) -> bool
 }
 
 /// What is returned, if anything is.
-pub(crate) fn same_given(
-    a: &Option<Boxed<CExpression>>,
-    b: &Option<Boxed<CExpression>>,
-) -> bool
+pub(crate) fn same_given(a: &Option<Boxed<CExpression>>, b: &Option<Boxed<CExpression>>) -> bool
     ensures { IsTrue result ↔ (a.now ≡ b.now) }
 {
     match (a, b) {

@@ -17,7 +17,9 @@ fn same_prototype(a: &CPrototype, b: &CPrototype) -> bool
 fn same_function(a: &CFunction, b: &CFunction) -> bool
     ensures { IsTrue result ↔ (a.now ≡ b.now) }
 {
-    a.is_shared == b.is_shared && same_prototype(&a.prototype, &b.prototype) && same_body(&a.body, &b.body)
+    a.is_shared == b.is_shared
+        && same_prototype(&a.prototype, &b.prototype)
+        && same_body(&a.body, &b.body)
 }
 
 /// The function of a pair.
