@@ -1,0 +1,236 @@
+-- What the registers of plain statements hold, as far as the statements before tell it, and whether the operands of each action are what it takes.
+-- Const does not matter here. Of classes, lists and the free store nothing is told yet.
+use Rattle.std.specs.Prelude.{ℕ, Bool, true, false, ◌&&◌, ◌||◌, ◌==◌, if◌then◌else◌, List, [], ◌∷◌, ◌++◌, length, Option, Some, None, is_some, slice_get}
+use Rattle.std.specs.List.{list_all}
+use Rattle.cf_base.specs.declared.kind.Kind.TheVariants.{Char}
+use Rattle.cf_core.specs.declared.operators.PointerOperator.{PointerOperator}
+use Rattle.cf_core.specs.declared.operators.PointerOperator.TheVariants as pointer_operator
+use Rattle.cf_core.specs.Types.{SourceType, void, integer, enumeration, pointer, reference, array, takes, gives, data_member, function_member, const, same_but_const, is_void, parameters, result as result_type}
+use Rattle.cf_core.specs.Core.{Change, arithmetic, moved}
+use Rattle.cf_plain.specs.Plain.{Register, Action, number, text, local, static_object, function, read, dereference, decay, index, convert, from_void, operate, unary, truth, logical_not, pointer_operate, changed, store, declare, first, finish, call, Plain, Plains, act, set, branch, loop, switch, case_label, default_label, leave, continue, give, nothing, more, PlainFunction, PlainFile}
+
+-- What a register holds behind the action that has set it.
+pub data Kept : Type 0 where
+  no_value : Kept  -- of an action that gives none
+  an_integer : Kept  -- of any kind, or of an enumeration
+  a_place : SourceType → Kept  -- a place of this type or a pointer to one; of a function type, the function
+  a_member : SourceType → Kept  -- a pointer to a member, of this type
+  an_object : ℕ → SourceType → Kept  -- the object of the local of this number and type, which has no first value yet
+
+-- what each register holds, if it is set
+abbrev pub Keeping : Type 0
+Keeping = Register → Option Kept
+
+abbrev pub nothing_set : Keeping
+nothing_set r = None
+
+abbrev pub keep : Keeping → Register → Kept → Keeping
+keep g r x q = if q == r then Some x else g q
+
+-- a scalar of this type
+abbrev pub kept_of : SourceType → Option Kept
+kept_of (integer k) = Some an_integer
+kept_of (enumeration e) = Some an_integer
+kept_of (pointer t) = Some (a_place t)
+kept_of (reference t) = Some (a_place t)
+kept_of (data_member c t) = Some (a_member (data_member c t))
+kept_of (function_member c t) = Some (a_member (function_member c t))
+kept_of (const t) = kept_of t
+kept_of t = None
+
+-- what a call of this result type gives
+abbrev pub value_of : SourceType → Kept
+value_of t = or_none (kept_of t)
+  where
+    or_none : Option Kept → Kept
+    or_none None = no_value
+    or_none (Some x) = x
+
+-- the same, types but for const
+abbrev pub same_kept : Kept → Kept → Bool
+same_kept no_value no_value = true
+same_kept an_integer an_integer = true
+same_kept (a_place t) (a_place u) = same_but_const t u
+same_kept (a_member t) (a_member u) = same_but_const t u
+same_kept (an_object i t) (an_object j u) = (i == j) && same_but_const t u
+same_kept x y = false
+
+abbrev pub is_value : Option Kept → Kept → Bool
+is_value None x = false
+is_value (Some y) x = same_kept x y
+
+-- what both hold
+abbrev pub common : Keeping → Keeping → Keeping
+common g h r = both (g r) (h r)
+  where
+    both : Option Kept → Option Kept → Option Kept
+    both (Some x) (Some y) = if same_kept x y then Some x else None
+    both x y = None
+
+-- Actions, by what their operands hold.
+
+-- the place that a name of this type stands for: a reference is another name for a place (8.4.3)
+abbrev pub named : Option SourceType → Option Kept
+named None = None
+named (Some (reference t)) = Some (a_place t)
+named (Some t) = Some (a_place t)
+
+abbrev pub read_kept : Option Kept → Option Kept
+read_kept (Some (a_place t)) = kept_of t
+read_kept x = None
+
+abbrev pub pointed_kept : Option Kept → Option Kept
+pointed_kept (Some (a_place t)) = Some (a_place t)
+pointed_kept x = None
+
+-- the first element of an array; a function stays itself (4.6)
+abbrev pub decayed : SourceType → Option Kept
+decayed (array t n) = Some (a_place t)
+decayed (takes p t) = Some (a_place (takes p t))
+decayed (gives t c) = Some (a_place (gives t c))
+decayed (const t) = decayed t
+decayed t = None
+
+abbrev pub decayed_kept : Option Kept → Option Kept
+decayed_kept (Some (a_place t)) = decayed t
+decayed_kept x = None
+
+-- a pointer and an integer
+abbrev pub forth : Option Kept → Option Kept → Option Kept
+forth (Some (a_place t)) (Some an_integer) = Some (a_place t)
+forth x y = None
+
+abbrev pub moved_kept : Option Kept → Option Kept → Option Kept
+moved_kept (Some an_integer) (Some (a_place t)) = Some (a_place t)
+moved_kept x y = forth x y
+
+-- from a constant 0 or a pointer of this type
+abbrev pub to_pointer : Kept → Option Kept → Option Kept
+to_pointer y (Some an_integer) = Some y
+to_pointer y (Some x) = if same_kept x y then Some y else None
+to_pointer y None = None
+
+abbrev pub to_place : SourceType → Option Kept → Option Kept
+to_place t (Some (a_place u)) = if is_void t || same_but_const u t then Some (a_place t) else None
+to_place t x = to_pointer (a_place t) x
+
+abbrev pub integers : Option Kept → Option Kept → Option Kept
+integers (Some an_integer) (Some an_integer) = Some an_integer
+integers x y = None
+
+abbrev pub an_integer_of : Option Kept → Option Kept
+an_integer_of (Some an_integer) = Some an_integer
+an_integer_of x = None
+
+-- to this type (4)
+abbrev pub converted : SourceType → Option Kept → Option Kept
+converted void None = None
+converted void (Some x) = Some no_value
+converted (integer k) x = an_integer_of x
+converted (enumeration e) x = an_integer_of x
+converted (pointer t) x = to_place t x
+converted (data_member c t) x = to_pointer (a_member (data_member c t)) x
+converted (function_member c t) x = to_pointer (a_member (function_member c t)) x
+converted (const t) x = converted t x
+converted t x = None
+
+abbrev pub from_void_kept : SourceType → Option Kept → Option Kept
+from_void_kept t (Some (a_place u)) = if is_void u then Some (a_place t) else None
+from_void_kept t x = None
+
+-- what is true or not
+abbrev pub tested : Option Kept → Option Kept
+tested (Some an_integer) = Some an_integer
+tested (Some (a_place t)) = Some an_integer
+tested (Some (a_member t)) = Some an_integer
+tested x = None
+
+-- two pointers of one type
+abbrev pub compared : Option Kept → Option Kept → Option Kept
+compared (Some (a_place t)) (Some (a_place u)) = if same_but_const t u then Some an_integer else None
+compared (Some (a_member t)) (Some (a_member u)) = if same_but_const t u then Some an_integer else None
+compared x y = None
+
+abbrev pub pointer_operated : PointerOperator → Option Kept → Option Kept → Option Kept
+pointer_operated pointer_operator.Add x y = moved_kept x y
+pointer_operated pointer_operator.Subtract x y = forth x y
+pointer_operated op x y = compared x y
+
+-- the new value of a scalar that is changed in place (5.17)
+abbrev pub changed_kept : Change → Option Kept → Option Kept → Option Kept
+changed_kept (arithmetic op k to) x y = integers x y
+changed_kept (moved back) x y = forth x y
+
+-- a value to a place of its type
+abbrev pub stored : Option Kept → Option Kept → Option Kept
+stored (Some (a_place t)) (Some x) = if is_value (kept_of t) x then Some no_value else None
+stored x y = None
+
+-- the first value of an object
+abbrev pub begun : Option Kept → Option Kept → Option Kept
+begun (Some (an_object i t)) (Some x) = if is_value (kept_of t) x then Some no_value else None
+begun x y = None
+
+module _ (locals : List SourceType) (result : SourceType) where
+  -- what an action gives; none where its operands are not what it takes
+  abbrev pub kept_by : Keeping → Action → Option Kept
+  kept_by g (number z) = Some an_integer
+  kept_by g (text j bytes) = Some (a_place (array (integer Char) (length bytes)))
+  kept_by g (local i) = named (slice_get locals i)
+  kept_by g (static_object name t) = named (Some t)
+  kept_by g (function name t) = Some (a_place t)
+  kept_by g (read r) = read_kept (g r)
+  kept_by g (dereference r) = pointed_kept (g r)
+  kept_by g (decay r) = decayed_kept (g r)
+  kept_by g (index r q) = moved_kept (g r) (g q)
+  kept_by g (convert t r) = converted t (g r)
+  kept_by g (from_void t r) = from_void_kept t (g r)
+  kept_by g (operate op k r q) = integers (g r) (g q)
+  kept_by g (unary op k r) = an_integer_of (g r)
+  kept_by g (truth r) = tested (g r)
+  kept_by g (logical_not r) = tested (g r)
+  kept_by g (pointer_operate op r q) = pointer_operated op (g r) (g q)
+  kept_by g (changed change r q) = changed_kept change (g r) (g q)
+  kept_by g (store r q) = stored (g r) (g q)
+  kept_by g (declare i t) = Some (an_object i t)
+  kept_by g (first r q) = begun (g r) (g q)
+  kept_by g (finish t i) = Some no_value
+  kept_by g (call name t None is None) = Some (value_of (result_type t))
+  kept_by g a = None
+
+  -- what is returned
+  abbrev pub returned : Option Kept → Bool
+  returned None = false
+  returned (Some x) = is_value (kept_of result) x
+
+  abbrev pub joined : Option Keeping → Option Keeping → Option Keeping
+  joined (Some g) (Some h) = Some (common g h)
+  joined g h = None
+
+  -- What the registers hold behind a statement that falls through; none where an operand in it is not what is taken. A turn of a loop, and what stands
+  -- behind a label, a loop or a switch, may come from several places: of these nothing is told.
+  abbrev mutual
+    pub after : Plain → Keeping → Option Keeping
+    after (act a) g = elim (kept_by g a) [ None ↦ None | Some x ↦ Some g ]
+    after (set r a) g = elim (kept_by g a) [ None ↦ None | Some x ↦ Some (keep g r x) ]
+    after (branch r ss ts) g = if is_some (an_integer_of (g r)) then joined (after_all ss g) (after_all ts g) else None
+    after (loop ss ts) g = if is_some (after_all ss nothing_set) && is_some (after_all ts nothing_set) then Some nothing_set else None
+    after (switch r ss) g = if is_some (an_integer_of (g r)) && is_some (after_all ss nothing_set) then Some nothing_set else None
+    after (case_label z) g = Some nothing_set
+    after default_label g = Some nothing_set
+    after leave g = Some g
+    after continue g = Some g
+    after (give None) g = Some g
+    after (give (Some r)) g = if returned (g r) then Some g else None
+    after s g = None
+
+    pub after_all : Plains → Keeping → Option Keeping
+    after_all nothing g = Some g
+    after_all (more s rest) g = elim (after s g) [ None ↦ None | Some h ↦ after_all rest h ]
+
+-- In a function each register is set before it is used, and holds what is taken.
+abbrev pub function_kept : PlainFunction → Bool
+function_kept f = is_some (after_all (parameters f.type ++ f.locals) (result_type f.type) f.body nothing_set)
+
+abbrev pub functions_kept : PlainFile → Bool
+functions_kept file = list_all function_kept file.functions
