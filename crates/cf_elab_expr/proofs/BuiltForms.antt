@@ -1,10 +1,10 @@
 -- The forms of expressions that are built are made of parts that are built.
-use Rattle.std.proofs.Common.{◌≡◌, ℕ, zero, suc, ◌<◌, Bool, true, false, List, [], ◌∷◌, map, length, get_or, Option, None, Some, refl, sym, ap, ◌∙◌, if◌then◌else◌, nat_le, arith}
-use Rattle.cf_syntax.specs.declared.declarator.DeclTree.{DeclTree, fold-DeclTree}
+use Rattle.std.proofs.Common.{◌≡◌, ℕ, zero, suc, ◌<◌, Bool, true, false, List, [], ◌∷◌, map, length, get_or, None, Some, refl, sym, ap, ◌∙◌, if◌then◌else◌, nat_le, arith}
+use Rattle.cf_syntax.specs.declared.declarator.DeclTree.{DeclTree}
 use Rattle.cf_syntax.specs.declared.declarator.DeclTree.TheOpen.{Expr-F}
 use Rattle.cf_syntax.specs.declared.declarator.DeclTree.TheFolds.{fold-roll-Expr, map-Expr}
-use Rattle.cf_syntax.specs.declared.declarator.Param.{Param, fold-Param}
-use Rattle.cf_syntax.specs.declared.declarator.TypeId.{TypeId, fold-TypeId}
+use Rattle.cf_syntax.specs.declared.declarator.Param.{Param}
+use Rattle.cf_syntax.specs.declared.declarator.TypeId.{TypeId}
 use Rattle.cf_syntax.specs.declared.expression.Expr.{Expr, roll-Expr}
 use Rattle.cf_syntax.specs.declared.expression.Expr.TheVariants as form
 use Rattle.cf_syntax.specs.declared.name.Name.{Name as WrittenName}
@@ -18,21 +18,14 @@ use Rattle.cf_syntax.specs.declared.specifier.Pointer.{Pointer}
 use Rattle.cf_syntax.specs.declared.specifier.TypeSpecifier.{TypeSpecifier}
 use Rattle.cf_elab.specs.Built as built
 use Rattle.cf_elab.specs.Built.{Place, first, first_of}
-use Rattle.cf_elab_expr.specs.Forms.{place, form_step}
-use Rattle.cf_elab_expr.specs.Shut.{IsBuilt, AreBuilt}
+use Rattle.cf_elab_expr.specs.Shut.{IsBuilt, AreBuilt, TypeIsBuilt, parameter_place, type_place}
 
-abbrev of_tree : DeclTree → Place
-of_tree = fold-DeclTree Place Place Place Place built.tree_step form_step built.param_step built.type_step
-
-abbrev of_param : Param → Place
-of_param = fold-Param Place Place Place Place built.tree_step form_step built.param_step built.type_step
-
-abbrev of_type : TypeId → Place
-of_type = fold-TypeId Place Place Place Place built.tree_step form_step built.param_step built.type_step
+abbrev place : Expr → Place
+place = built.expression
 
 seen : (x : Expr-F DeclTree Expr Param TypeId)
-    → place (roll-Expr x) ≡ form_step (map-Expr DeclTree Expr Param TypeId Place Place Place Place of_tree place of_param of_type x)
-seen x = fold-roll-Expr Place Place Place Place built.tree_step form_step built.param_step built.type_step x
+    → place (roll-Expr x) ≡ built.expression_step (map-Expr DeclTree Expr Param TypeId Place Place Place Place built.declarator place parameter_place type_place x)
+seen x = fold-roll-Expr Place Place Place Place built.tree_step built.expression_step built.param_step built.type_step x
 
 pub left : (a b : Place) → first a b ≡ None → a ≡ None
 left None b h = refl
@@ -140,8 +133,6 @@ module _ (at : ℕ) where
   unfolding IsBuilt AreBuilt roll-Expr denote.Hole.Carrier.roll
   call_arguments f es h = right (place f) (first_of (map place es)) (sym (seen (Expr-F.Call at f es)) ∙ h)
 
-  -- ---- forms that are not built
-
   pub basic_arguments : (b : BasicType) (es : List Expr) → IsBuilt (form.BasicCall at b es) → AreBuilt es
   unfolding IsBuilt AreBuilt roll-Expr denote.Hole.Carrier.roll
   basic_arguments b es h = sym (seen (Expr-F.BasicCall at b es)) ∙ h
@@ -154,13 +145,19 @@ module _ (at : ℕ) where
   unfolding IsBuilt AreBuilt roll-Expr denote.Hole.Carrier.roll
   typed_arguments p es h = right (built.of_path p) (first_of (map place es)) (sym (seen (Expr-F.TypeCall at p es)) ∙ h)
 
-  pub no_size_of_type : (t : TypeId) → IsBuilt (form.SizeofType at t) → ⊥
-  unfolding IsBuilt roll-Expr denote.Hole.Carrier.roll
-  no_size_of_type t h = let e : Some at ≡ None = sym (seen (Expr-F.SizeofType at t)) ∙ h in absurd cc
+  pub size_of_type : (t : TypeId) → IsBuilt (form.SizeofType at t) → TypeIsBuilt t
+  unfolding IsBuilt TypeIsBuilt roll-Expr denote.Hole.Carrier.roll
+  size_of_type t h = sym (seen (Expr-F.SizeofType at t)) ∙ h
 
-  pub no_cast : (t : TypeId) (a : Expr) → IsBuilt (form.Cast at t a) → ⊥
+  pub cast_type : (t : TypeId) (a : Expr) → IsBuilt (form.Cast at t a) → TypeIsBuilt t
+  unfolding IsBuilt TypeIsBuilt roll-Expr denote.Hole.Carrier.roll
+  cast_type t a h = left (type_place t) (place a) (sym (seen (Expr-F.Cast at t a)) ∙ h)
+
+  pub cast_value : (t : TypeId) (a : Expr) → IsBuilt (form.Cast at t a) → IsBuilt a
   unfolding IsBuilt roll-Expr denote.Hole.Carrier.roll
-  no_cast t a h = let e : Some at ≡ None = sym (seen (Expr-F.Cast at t a)) ∙ h in absurd cc
+  cast_value t a h = right (type_place t) (place a) (sym (seen (Expr-F.Cast at t a)) ∙ h)
+
+  -- ---- forms that are not built
 
   pub no_this : IsBuilt (form.This at) → ⊥
   unfolding IsBuilt roll-Expr denote.Hole.Carrier.roll
@@ -200,4 +197,13 @@ one_built [] i e h lt is = absurd (omega arith)
 one_built (x ∷ es) zero e h lt is = ap place is ∙ left (place x) (first_of (map place es)) h
 one_built (x ∷ es) (suc i) e h lt is = one_built es i e (right (place x) (first_of (map place es)) h) (omega arith) is
 
-pub ruleset unbuilt_laws = (no_size_of_type, no_cast, no_this, no_dot, no_arrow, no_delete, no_new, no_bracketed)
+pub ruleset unbuilt_laws = (no_this, no_dot, no_arrow, no_delete, no_new, no_bracketed)
+
+-- as `built.expression` says it
+pub is_built : (e : Expr) → built.expression e ≡ None → IsBuilt e
+unfolding IsBuilt
+is_built e h = h
+
+pub are_built : (es : List Expr) → first_of (map built.expression es) ≡ None → AreBuilt es
+unfolding AreBuilt
+are_built es h = h

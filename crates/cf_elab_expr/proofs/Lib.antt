@@ -1,5 +1,10 @@
 pub mod BuiltForms
+pub mod BuiltTrees
+pub mod Identifiers
 pub mod InOrder
+pub mod Known
 pub mod LastNames
 pub mod Numbers
 pub mod Parts
+pub mod Several
+pub mod Trees

@@ -42,10 +42,10 @@ use Rattle.cf_elab_operators.specs.Shut as operator
 use Rattle.cf_elab_expr.specs.Shut as shut
 use Rattle.cf_elab_expr.proofs.BuiltForms.{binary_op, prefix_inside, name_built}
 
-abbrev parameter : Param → Elab Parameter
+abbrev pub parameter : Param → Elab Parameter
 parameter = fold-Param Declared Part (Elab Parameter) (Elab ℕ) declared_step expression_step parameter_step type_id_step
 
-abbrev type_of : TypeId → Elab ℕ
+abbrev pub type_of : TypeId → Elab ℕ
 type_of = fold-TypeId Declared Part (Elab Parameter) (Elab ℕ) declared_step expression_step parameter_step type_id_step
 
 -- an expression is made of what its parts are
@@ -65,7 +65,7 @@ unfolding shut.valued shut.run operand_row.value_of
 valued_is e env = refl
 
 -- what comes behind the second comes behind the first and the second
-through : {A B C : Type 0} (a : Answer A) (f : A → Env → Answer B) (g : B → Env → Answer C) → onward (onward a f) g ≡ onward a (λ x env. onward (f x env) g)
+pub through : {A B C : Type 0} (a : Answer A) (f : A → Env → Answer B) (g : B → Env → Answer C) → onward (onward a f) g ≡ onward a (λ x env. onward (f x env) g)
 through (Made x env) f g = refl
 through (Refused rule at) f g = refl
 through (Passed bound most) f g = refl
@@ -177,6 +177,18 @@ module _ (at : ℕ) (env : Env) where
     where
       sized : Value → Env → Answer Operand
       sized v behind = expression.one (size_constant at v.type) (record behind { hand = record behind.hand { literals = env.hand.literals } })
+
+  pub size_of_type_is : (t : TypeId) → shut.run (form.SizeofType at t) env ≡ onward (shut.type_of t env) (λ u env. as_operand (operand_row.size_constant at u env))
+  unfolding shut.run shut.type_of operand_row.size_constant roll-Expr denote.Hole.Carrier.roll
+  size_of_type_is t = ran (Expr-F.SizeofType at t) env
+
+  pub cast_is : (t : TypeId) (a : Expr) → shut.run (form.Cast at t a) env ≡ onward (shut.type_of t env) (λ u env. shut.cast_to at u a env)
+  unfolding shut.run shut.type_of shut.cast_to roll-Expr denote.Hole.Carrier.roll
+  cast_is t a = ran (Expr-F.Cast at t a) env
+
+  pub cast_to_is : (t : ℕ) (a : Expr) → shut.cast_to at t a env ≡ as_operand (onward (shut.valued a env) (λ x env. cast_row.cast_operator at t x env))
+  unfolding shut.cast_to shut.valued cast_row.cast_operator
+  cast_to_is t a = refl
 
   pub call_is : (f : Expr) (es : List Expr) → shut.run (form.Call at f es) env ≡ onward (shut.run f env) (λ o env. shut.called (call_place at (shut.last_name f)) o es env)
   unfolding shut.run shut.called shut.last_name roll-Expr denote.Hole.Carrier.roll

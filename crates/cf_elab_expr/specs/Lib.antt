@@ -1,3 +1,2 @@
-pub mod Forms
 pub mod Seen
 pub mod Shut

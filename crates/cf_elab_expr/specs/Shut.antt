@@ -1,14 +1,26 @@
 -- An expression with its parts, under names that do not unfold. `Rattle.cf_elab_expr.proofs` says what each is by its parts.
-use Rattle.std.specs.Prelude.{◌≡◌, ℕ, List, map, Option, None}
+use Rattle.std.specs.Prelude.{◌≡◌, ℕ, Bool, List, map, Option, None}
+use Rattle.std.specs.Option.{option_map}
+use Rattle.cf_syntax.specs.declared.declarator.DeclTree.{DeclTree}
+use Rattle.cf_syntax.specs.declared.declarator.Param.{Param, fold-Param}
+use Rattle.cf_syntax.specs.declared.declarator.TypeId.{TypeId, fold-TypeId}
 use Rattle.cf_syntax.specs.declared.expression.Expr.{Expr}
-use Rattle.cf_elab.specs.Answer.{Elab, ◌>>=◌, gives, known, all}
-use Rattle.cf_elab.specs.Built.{first_of}
+use Rattle.cf_syntax.specs.declared.name.Name.{Name as WrittenName}
+use Rattle.cf_syntax.specs.declared.specifier.TypeSpecifier.{TypeSpecifier}
+use Rattle.cf_elab.specs.Answer.{Elab, ◌>>=◌, gives, known, all, maybe}
+use Rattle.cf_elab.specs.Built as built
+use Rattle.cf_elab.specs.Built.{Place, first_of}
 use Rattle.cf_elab.specs.Choice.{conditional, sequence}
+use Rattle.cf_elab.specs.ClassOperators.{cast_operator}
+use Rattle.cf_elab.specs.Declarator as declarator
+use Rattle.cf_elab.specs.Declarator.{Declared, declared_step, parameter_step, type_id_step}
 use Rattle.cf_elab.specs.Expression as expression
-use Rattle.cf_elab.specs.Expression.{elaborated}
+use Rattle.cf_elab.specs.Expression.{elaborated, declared, expression_step}
 use Rattle.cf_elab.specs.Members.{class_number}
-use Rattle.cf_elab.specs.Operand.{Value, Operand, evaluated, value_of, sort_of}
-use Rattle.cf_elab_expr.specs.Forms.{place}
+use Rattle.cf_elab.specs.Operand.{Value, Operand, Part, evaluated, value_of, sort_of}
+use Rattle.cf_elab.specs.Shape as shape
+use Rattle.cf_elab.specs.Shape.{Parameter, Shape}
+use Rattle.cf_elab_type_id.specs.Shut.{parameter_behind}
 
 -- what an expression is, and its one value
 unfoldable pub run : Expr → Elab Operand
@@ -65,9 +77,76 @@ values es = expression.values (map elaborated es)
 unfoldable pub last_name : Expr → Option ℕ
 last_name e = (elaborated e).last_name
 
--- whether all forms in it are built, and no type stands in brackets
+-- ---- types in brackets, and declarators (8)
+
+unfoldable pub type_of : TypeId → Elab ℕ
+type_of = fold-TypeId Declared Part (Elab Parameter) (Elab ℕ) declared_step expression_step parameter_step type_id_step
+
+-- the type of specifiers and a declarator, in brackets
+unfoldable pub type_by : List TypeSpecifier → DeclTree → Elab ℕ
+type_by ss d = declarator.type_from ss (declared d).shape
+
+-- a value cast to a type, which is not elaborated yet
+unfoldable pub cast_to : ℕ → ℕ → Expr → Elab Operand
+cast_to at t e = expression.one (evaluated (elaborated e) >>= cast_operator at t)
+
+-- what a declarator declares: its name, if it has one, and its operators with their bounds and parameters
+unfoldable pub name_of : DeclTree → Option WrittenName
+name_of d = (declared d).name
+
+unfoldable pub shape_of : DeclTree → Elab Shape
+shape_of d = (declared d).shape
+
+-- the bound of an array, if there is one
+unfoldable pub bound : Option Expr → Elab (Option Value)
+bound b = maybe evaluated (option_map elaborated b)
+
+unfoldable pub parameter : Param → Elab Parameter
+parameter = fold-Param Declared Part (Elab Parameter) (Elab ℕ) declared_step expression_step parameter_step type_id_step
+
+-- the parameter of specifiers and a declarator at its first token, which has no default argument
+unfoldable pub parameter_by : ℕ → List TypeSpecifier → DeclTree → Elab Parameter
+parameter_by at ss d = do
+  ws ← declarator.words_of ss
+  s ← (declared d).shape
+  t ← parameter_behind ws s
+  gives (record { at = at; name = (declared d).name; type = t; default = None })
+
+unfoldable pub parameters : List Param → Elab (List Parameter)
+parameters ps = all (map parameter ps)
+
+-- a declarator of a function, and of an array, whose inside is elaborated
+unfoldable pub taking : ℕ → List Param → Bool → Shape → Elab Shape
+taking at ps is_const s = all (map parameter ps) >>= declarator.parameters >>= (λ qs. gives (shape.taking at qs is_const s))
+
+unfoldable pub holding : ℕ → Option Expr → Shape → Elab Shape
+holding at b s = maybe evaluated (option_map elaborated b) >>= (λ v. gives (shape.holding at v s))
+
+-- ---- whether all forms in it are built
+
 unfoldable pub IsBuilt : Expr → Type 0
-IsBuilt e = place e ≡ None
+IsBuilt e = built.expression e ≡ None
 
 unfoldable pub AreBuilt : List Expr → Type 0
-AreBuilt es = first_of (map place es) ≡ None
+AreBuilt es = first_of (map built.expression es) ≡ None
+
+unfoldable pub BoundIsBuilt : Option Expr → Type 0
+BoundIsBuilt b = built.maybe (option_map built.expression b) ≡ None
+
+unfoldable pub TreeIsBuilt : DeclTree → Type 0
+TreeIsBuilt d = built.declarator d ≡ None
+
+abbrev pub parameter_place : Param → Place
+parameter_place = fold-Param Place Place Place Place built.tree_step built.expression_step built.param_step built.type_step
+
+unfoldable pub ParameterIsBuilt : Param → Type 0
+ParameterIsBuilt p = parameter_place p ≡ None
+
+unfoldable pub ParametersAreBuilt : List Param → Type 0
+ParametersAreBuilt ps = first_of (map parameter_place ps) ≡ None
+
+abbrev pub type_place : TypeId → Place
+type_place = fold-TypeId Place Place Place Place built.tree_step built.expression_step built.param_step built.type_step
+
+unfoldable pub TypeIsBuilt : TypeId → Type 0
+TypeIsBuilt t = type_place t ≡ None

@@ -6,7 +6,8 @@ ghost use Rattle.cf_elab_operand.specs.Operands.{IsOperand};
 ghost use Rattle.cf_elab_expr.specs.Shut as shut;
 
 use crate::names::call_place;
-use crate::{built, forms, lists, types};
+use crate::types::{basic_type, type_of};
+use crate::{built, forms, lists};
 use cf_elab_env::{Env, Operand, Stop, Value};
 use cf_elab_operand::value_of;
 use cf_elab_type_names::type_at_path;
@@ -14,7 +15,7 @@ use cf_syntax::Expr;
 
 /// What an expression is: its parts from left to right, and then what its construct asks of them (5).
 #[cycle(expressions)]
-#[tactic(auto, using(crate::proofs::BuiltForms::unbuilt_laws, crate::proofs::Parts::paren_is, crate::proofs::Parts::basic_is, crate::proofs::Parts::typed_is, crate::proofs::Parts::call_is, crate::proofs::Parts::comma_is, crate::proofs::Parts::index_is, crate::proofs::Parts::binary_is, crate::proofs::Parts::assign_is, crate::proofs::Parts::conditional_is, cf_elab_operand::proofs::Grown::operand_grown, cf_elab_env::proofs::Growth::grown_laws))]
+#[tactic(auto, using(crate::proofs::BuiltForms::unbuilt_laws, crate::proofs::Parts::paren_is, crate::proofs::Parts::basic_is, crate::proofs::Parts::typed_is, crate::proofs::Parts::call_is, crate::proofs::Parts::comma_is, crate::proofs::Parts::index_is, crate::proofs::Parts::binary_is, crate::proofs::Parts::assign_is, crate::proofs::Parts::conditional_is, crate::proofs::Parts::cast_is, cf_elab_operand::proofs::Grown::operand_grown, cf_elab_env::proofs::Growth::grown_laws))]
 pub fn operand(e: &Expr, env: &mut Env) -> Result<Operand, Stop>
     requires { shut.IsBuilt e.now }
     ensures made { AgreesAs operand_seen (shut.run e.now env.old) result env.new }
@@ -41,9 +42,16 @@ pub fn operand(e: &Expr, env: &mut Env) -> Result<Operand, Stop>
         Expr::StepBefore(at, op, a) => forms::before(a, *at, *op, env),
         Expr::Prefix(at, op, a) => forms::prefix(a, *at, *op, env),
         Expr::SizeofExpr(at, a) => forms::size(a, *at, env),
+        Expr::SizeofType(at, t) => forms::size_of_type(t, *at, env),
+        Expr::Cast(at, t, a) => {
+            built::cast(*at, t, a);
+            let ty = type_of(t.get(), env)?;
+            let found = forms::cast(a, *at, ty, env)?;
+            Ok(found)
+        }
         Expr::BasicCall(at, basic, arguments) => {
             built::basic(*at, *basic, arguments);
-            let ty = types::basic_type(env, *at, *basic)?;
+            let ty = basic_type(env, *at, *basic)?;
             let found = lists::of_type(arguments.as_slice(), *at, ty, env)?;
             Ok(found)
         }
@@ -84,9 +92,7 @@ pub fn operand(e: &Expr, env: &mut Env) -> Result<Operand, Stop>
             let found = forms::assign(b, *at, *op, o, env)?;
             Ok(found)
         }
-        Expr::SizeofType(_, _)
-        | Expr::Cast(_, _, _)
-        | Expr::This(_)
+        Expr::This(_)
         | Expr::Dot(_, _, _)
         | Expr::Arrow(_, _, _)
         | Expr::Delete(_, _, _, _)

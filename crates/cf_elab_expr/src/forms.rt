@@ -3,7 +3,7 @@
 ghost use Rattle.std.specs.Prelude.{◌≡◌, IfOk, OnOk};
 ghost use Rattle.cf_elab_env.specs.Answered.{Agrees, AgreesAs};
 ghost use Rattle.cf_elab_env.specs.SeenOperand.{operand_seen};
-ghost use Rattle.cf_elab_env.specs.Holds.{Known, Grows};
+ghost use Rattle.cf_elab_env.specs.Holds.{Known, Grows, IsType};
 ghost use Rattle.cf_elab.specs.Answer.{Made};
 ghost use Rattle.cf_elab_operand.specs.Operands.{IsOperand};
 ghost use Rattle.cf_elab_operand.specs.Shut as row;
@@ -11,13 +11,15 @@ ghost use Rattle.cf_elab_operators.specs.Shut as operator;
 ghost use Rattle.cf_elab_expr.specs.Shut as shut;
 
 use crate::expression::{evaluated, operand};
+use crate::types::type_of;
 use cf_base::{Boxed, Bytes, Kind, Memory};
+use cf_elab_cast::cast as cast_value;
 use cf_elab_choice::conditional as chosen;
 use cf_elab_env::{Env, Operand, Stop, Value};
 use cf_elab_operand::{self as operands, value_of};
 use cf_elab_operators as operators;
-use cf_syntax::{AssignOp, BinaryOp, Expr, Name, PrefixOp, StepOp};
-use cf_types::convert_int;
+use cf_syntax::{AssignOp, BinaryOp, Expr, Name, PrefixOp, StepOp, TypeId};
+use cf_types::{TyId, convert_int};
 
 /// An integer constant (2.5.1).
 #[tactic(auto, using(crate::proofs::Parts::int_is))]
@@ -232,4 +234,33 @@ pub(crate) fn size(a: &Boxed<Expr>, at: u32, env: &mut Env) -> Result<Operand, S
     let o = operand(a.get(), env)?;
     let found = operands::size_behind(env, at, literals, o)?;
     Ok(found)
+}
+
+/// `sizeof` of a type in brackets (5.3.2).
+#[cycle(expressions)]
+#[tactic(auto, using(crate::proofs::Parts::size_of_type_is, crate::proofs::BuiltForms::size_of_type, cf_elab_env::proofs::Growth::grown_laws))]
+pub(crate) fn size_of_type(t: &Boxed<TypeId>, at: u32, env: &mut Env) -> Result<Operand, Stop>
+    requires { shut.IsBuilt (Expr.SizeofType at t.now) }
+    ensures made { AgreesAs operand_seen (shut.run (Expr.SizeofType at t.now) env.old) result env.new }
+    ensures known { IfOk result (λ o. IsOperand env.new.types o) }
+    ensures grows { OnOk result (Grows env.old.types env.new.types) }
+{
+    let ty = type_of(t.get(), env)?;
+    let value = operands::size_constant(env, at, ty)?;
+    Ok(Operand::Value(value))
+}
+
+/// `(T)e`, where the type is elaborated (5.4).
+#[cycle(expressions)]
+#[tactic(auto, using(crate::proofs::Parts::cast_to_is, cf_elab_env::proofs::Growth::grown_laws))]
+pub(crate) fn cast(a: &Boxed<Expr>, at: u32, ty: TyId, env: &mut Env) -> Result<Operand, Stop>
+    requires typed { IsType env.old.types ty }
+    requires built { shut.IsBuilt a.now }
+    ensures made { AgreesAs operand_seen (shut.cast_to at ty a.now env.old) result env.new }
+    ensures known { IfOk result (λ o. IsOperand env.new.types o) }
+    ensures grows { OnOk result (Grows env.old.types env.new.types) }
+{
+    let x = evaluated(a.get(), env)?;
+    let value = cast_value(env, at, ty, x)?;
+    Ok(Operand::Value(value))
 }

@@ -1,10 +1,15 @@
-//! Where the place of a call is.
+//! Names in trees: where the place of a call is, and what a declarator declares.
 
-ghost use Rattle.std.specs.Prelude.{◌≡◌};
+ghost use Rattle.std.specs.Prelude.{◌≡◌, None, IfOk};
+ghost use Rattle.std.specs.Option.{option_copied};
+ghost use Rattle.cf_elab.specs.Built.{of_name};
 ghost use Rattle.cf_elab.specs.Expression as expression;
 ghost use Rattle.cf_elab_expr.specs.Shut as shut;
 
-use cf_syntax::Expr;
+use crate::built;
+use cf_base::{Bytes, Items, Memory};
+use cf_syntax::{DeclTree, Expr, Last, Name};
+use std::alloc::Global;
 
 /// The byte place of a call: the last name of what is called, or else the bracket (5.2.2).
 pub(crate) fn call_place(at: u32, called: &Expr) -> u32
@@ -47,5 +52,76 @@ fn last_name(e: &Expr) -> Option<u32>
         | Expr::Conditional(_, _, _, _)
         | Expr::Assign(_, _, _, _)
         | Expr::Comma(_, _) => None,
+    }
+}
+
+/// The name that a declarator declares, if it has one (8). In one that is built it is an identifier.
+#[tactic(auto, using(crate::proofs::Trees::name_laws))]
+pub fn declared_name(d: &DeclTree) -> Option<&Name>
+    ensures { option_copied result ≡ shut.name_of d.now }
+{
+    match d {
+        DeclTree::Unnamed => None,
+        DeclTree::Declared(name) => Some(name),
+        DeclTree::Pointed(_, inside)
+        | DeclTree::Bracketed(_, inside)
+        | DeclTree::Function(_, inside, _, _)
+        | DeclTree::Array(_, inside, _) => declared_name(inside.get()),
+    }
+}
+
+/// A copy of the name that a declarator declares, if it has one (8).
+#[tactic(auto, using(crate::proofs::Trees::name_laws, crate::proofs::BuiltTrees::declared_name))]
+pub(crate) fn copied_name(d: &DeclTree, alloc: Global) -> Result<Option<Name>, Memory>
+    requires { shut.TreeIsBuilt d.now }
+    ensures { IfOk result (λ name. name ≡ shut.name_of d.now) }
+{
+    match d {
+        DeclTree::Unnamed => Ok(None),
+        DeclTree::Declared(name) => {
+            let name = copied(alloc, name)?;
+            Ok(Some(name))
+        }
+        DeclTree::Pointed(pointer, inside) => {
+            built::pointed(pointer, inside);
+            let name = copied_name(inside.get(), alloc)?;
+            Ok(name)
+        }
+        DeclTree::Bracketed(at, inside) => {
+            built::bracketed(*at, inside);
+            let name = copied_name(inside.get(), alloc)?;
+            Ok(name)
+        }
+        DeclTree::Function(at, inside, all, is_const) => {
+            built::function(*at, inside, all, *is_const);
+            let name = copied_name(inside.get(), alloc)?;
+            Ok(name)
+        }
+        DeclTree::Array(at, inside, bound) => {
+            built::array(*at, inside, bound);
+            let name = copied_name(inside.get(), alloc)?;
+            Ok(name)
+        }
+    }
+}
+
+/// A copy of a name that is an identifier.
+#[tactic(auto, using(crate::proofs::Identifiers::name_laws))]
+fn copied(alloc: Global, name: &Name) -> Result<Name, Memory>
+    requires { of_name name.now ≡ None }
+    ensures { IfOk result (λ made. made ≡ name.now) }
+{
+    match &name.last {
+        Last::Ident(bytes) => {
+            let bytes = Bytes::from_slice(alloc, bytes.as_slice())?;
+            Ok(Name {
+                at: name.at,
+                from_file: false,
+                scopes: Items::new(alloc),
+                last_at: name.last_at,
+                last: Last::Ident(bytes),
+            })
+        }
+        Last::Destructor(_) | Last::Operator(_) | Last::Conversion(_, _) => unreachable!(),
     }
 }
