@@ -1,14 +1,14 @@
 -- Elements of arrays: where a pointer stands that is moved within its array.
-use Rattle.std.proofs.Common.{◌≡◌, ℕ, zero, suc, ◌+◌, ◌*◌, ◌≤◌, ◌<◌, Bool, true, false, not, ◌&&◌, ◌||◌, ◌==◌, nat_lt, nat_le, List, [], ◌∷◌, refl, sym, ◌∙◌, ap, subst, arith}
+use Rattle.std.proofs.Common.{◌≡◌, ℕ, zero, suc, ◌+◌, ◌*◌, ◌≤◌, Bool, true, false, ◌&&◌, ◌||◌, nat_lt, nat_le, List, [], ◌∷◌, refl, subst, arith}
 use Rattle.std.proofs.lemmas.Bool.Decides.{nat_tests}
 use Rattle.cf_base.proofs.Tests.{both, all_of}
-use Rattle.cf_core.specs.Types.{SourceType, void, integer, enumeration, class, pointer, reference, array, takes, gives, data_member, function_member, const, plain, element}
+use Rattle.cf_core.specs.Types.{SourceType, array, const, plain, element}
 use Rattle.cf_core.specs.Classes.{Class}
-use Rattle.cf_core.specs.Core.{Part, item, past, field, within}
-use Rattle.cf_core.specs.Places.{Route, type_at, bound}
-use Rattle.cf_core.specs.Pointers.{Element, element_of, route_of, lone_route, lone_bound, bound_of}
+use Rattle.cf_core.specs.Core.{item, past, field, within}
+use Rattle.cf_core.specs.Places.{Route, type_at, bound, is_inside}
+use Rattle.cf_core.specs.Pointers.{element_of, route_of, lone_route, lone_bound, bound_of}
 use Rattle.cf_core.specs.Size.{size}
-use Rattle.cf_lower_layout.specs.Layout.{has_item, has, before, offset, leads, ends_item, is_lone, ends, points}
+use Rattle.cf_lower_layout.specs.Layout.{has_item, offset, leads, ends_item, is_lone, ends, points}
 use Rattle.cf_lower_layout.proofs.Parts.{route-inside, size-plain}
 
 -- an element of an array, or its end
@@ -125,3 +125,30 @@ module _ (cs : List Class) (t : SourceType) where
       by_test : (b : Bool) → leads cs t π ≡ b → b || ends cs t π ≡ true → offset cs t π ≤ size cs t
       by_test true l h = let r = route-inside cs t π l in omega (arith, r)
       by_test false l h = ends-inside π h
+
+  -- ---- inside
+
+  bound-inside : (u : SourceType) (i : ℕ) → ends_item u i ≡ true → nat_lt i (bound u) ≡ true → ⊥
+  bound-inside (array u n) i h k = grind (arith, nat_tests, h, k)
+  bound-inside u i h k = absurd (cc)
+
+  end-outside : (u : SourceType) (i : ℕ) → ends_item (plain u) i ≡ true → nat_lt i (bound u) ≡ true → ⊥
+  end-outside (const u) i h k = bound-inside u i h k
+  end-outside (array u n) i h k = bound-inside (array u n) i h k
+  end-outside u i h k = absurd (cc)
+
+  -- where a pointer may point that isn't the end of an array, there is a part
+  pub inside-leads : (π : Route) → points cs t π ≡ true → is_inside cs t π ≡ true → leads cs t π ≡ true
+  inside-leads [] h k = refl
+  inside-leads (item i ∷ π) h k =
+      let parts = points-item (leads cs t π) (has_item (plain (type_at cs t π)) i) (ends_item (plain (type_at cs t π)) i) h in
+      all_of (leads cs t π) (has_item (plain (type_at cs t π)) i) parts.0
+      (item-there (has_item (plain (type_at cs t π)) i) (ends_item (plain (type_at cs t π)) i) parts.1
+      (λ e. end-outside (type_at cs t π) i e (both (nat_lt i (bound (type_at cs t π))) (is_inside cs t π) k).0))
+    where
+      item-there : (a b : Bool) → a || b ≡ true → (b ≡ true → ⊥) → a ≡ true
+      item-there true b e f = refl
+      item-there false b e f = absurd (f e)
+  inside-leads (past ∷ π) h k = absurd (cc)
+  inside-leads (field j ∷ π) h k = absurd (no-part (leads cs t π) h)
+  inside-leads (within s ∷ π) h k = absurd (no-part (leads cs t π) h)

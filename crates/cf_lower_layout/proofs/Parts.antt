@@ -1,15 +1,15 @@
 -- Parts lie inside, and two parts of one object lie one in the other or apart.
-use Rattle.std.proofs.Common.{◌≡◌, ℕ, zero, suc, ◌+◌, ◌*◌, ◌≤◌, ◌<◌, Bool, true, false, ◌&&◌, ◌||◌, ◌==◌, nat_lt, nat_le, List, [], ◌∷◌, ◌++◌, refl, sym, ◌∙◌, ap, subst, arith, append-nil, append_assoc, ◌⊎◌, inl, inr}
+use Rattle.std.proofs.Common.{◌≡◌, ℕ, suc, ◌+◌, ◌*◌, ◌≤◌, ◌<◌, Bool, true, false, ◌==◌, nat_lt, List, [], ◌∷◌, ◌++◌, refl, sym, ◌∙◌, ap, subst, arith, append-nil, append_assoc, ◌⊎◌, inl, inr}
 use Rattle.std.proofs.Math.Nat.{suc-mul, mul-le-mul_right}
 use Rattle.std.proofs.lemmas.Bool.Decides.{nat_tests}
-use Rattle.cf_base.proofs.Tests.{both, same_bytes}
-use Rattle.cf_core.specs.Types.{SourceType, void, integer, enumeration, class, pointer, reference, array, takes, gives, data_member, function_member, const, plain, element}
+use Rattle.cf_base.proofs.Tests.{all_of, both, bytes_same, same_bytes}
+use Rattle.cf_core.specs.Types.{SourceType, array, const, plain, element}
 use Rattle.cf_core.specs.Classes.{Class}
 use Rattle.cf_core.specs.Subobjects.{Step, base, virtual, step_eq}
 use Rattle.cf_core.specs.Core.{Part, item, past, field, within}
-use Rattle.cf_core.specs.Places.{Route, part_eq, part_type, type_at, is_scalar}
+use Rattle.cf_core.specs.Places.{Route, part_eq, route_eq, part_type, type_at, is_scalar}
 use Rattle.cf_core.specs.Size.{size}
-use Rattle.cf_lower_layout.specs.Layout.{has_item, has, before, offset, leads, ends_item, is_lone, ends, points, Apart}
+use Rattle.cf_lower_layout.specs.Layout.{has_item, has, before, offset, leads, Apart}
 
 -- ---- one step
 
@@ -120,6 +120,28 @@ same-part (within s) (item j) e = absurd (cc)
 same-part (within s) past e = absurd (cc)
 same-part (within s) (field j) e = absurd (cc)
 same-part (within s) (within r) e = ap within (same-step s r e)
+
+pub same-route : (π ρ : Route) → route_eq π ρ ≡ true → π ≡ ρ
+same-route [] [] e = refl
+same-route [] (r ∷ ρ) e = absurd (cc)
+same-route (s ∷ π) [] e = absurd (cc)
+same-route (s ∷ π) (r ∷ ρ) e =
+    let parts = both (part_eq s r) (route_eq π ρ) e in
+    ap (λ (x : Part). x ∷ π) (same-part s r parts.0) ∙ ap (λ (x : Route). r ∷ x) (same-route π ρ parts.1)
+
+number-self : (i : ℕ) → i == i ≡ true
+number-self i = grind (arith, nat_tests)
+
+part-self : (s : Part) → part_eq s s ≡ true
+part-self (item i) = number-self i
+part-self past = refl
+part-self (field i) = number-self i
+part-self (within (base i)) = number-self i
+part-self (within (virtual c)) = bytes_same c c refl
+
+pub route-self : (π : Route) → route_eq π π ≡ true
+route-self [] = refl
+route-self (s ∷ π) = all_of (part_eq s s) (route_eq π π) (part-self s) (route-self π)
 
 -- a route that isn't empty has a first step from the root, which stands last
 record First (s : Part) (σ : Route) : Type 0 where

@@ -1,0 +1,128 @@
+-- Constant initialisers: what their statements store is known beforehand, so each store stands by itself, and no C local is used (8.4).
+use Rattle.std.specs.Prelude.{ℕ, ◌+◌, ◌*◌, ◌-◌, nat_le, Bool, true, false, if◌then◌else◌, List, [], ◌∷◌, ◌++◌, length, ℤ, pos, negsuc, neg_ℤ, Option, Some, None, Result, Ok, Err}
+use Rattle.cf_base.specs.declared.kind.Kind.TheVariants.{Char, Int}
+use Rattle.cf_base.specs.declared.arith.Arith.TheVariants as arith
+use Rattle.cf_base.specs.Integers.{int_op, convert as converted}
+use Rattle.cf_core.specs.declared.operators.PointerOperator.{PointerOperator}
+use Rattle.cf_core.specs.declared.operators.PointerOperator.TheVariants as pointer
+use Rattle.cf_core.specs.declared.operators.UnaryOperator.TheVariants as sign
+use Rattle.cf_core.specs.Types.{Name, SourceType, integer, array, plain, element}
+use Rattle.cf_core.specs.Classes.{Class}
+use Rattle.cf_core.specs.Size.{size}
+use Rattle.cf_lower_layout.specs.Sorts.{Sort, number, address, code, sort_of}
+use Rattle.cf_plain.specs.Plain as plain
+use Rattle.cf_plain.specs.Plain.{Register, Action, Plains, act, set, nothing, more}
+use Rattle.cc_whole.specs.declared.types.CConstant.TheVariants as constants
+use Rattle.cc_whole.specs.Plain.{Expression, Statement, named, constant, load, address as address_of}
+use Rattle.cf_lower.specs.Written.{literal_name}
+use Rattle.cf_lower.specs.Expressions.{zero}
+use Rattle.cf_lower.specs.Statements.{put, put_bytes, behind}
+
+-- what a register holds: a number, null, so many bytes behind the start of an object a place of this type, a function
+pub data Known : Type 0 where
+  unknown : Known
+  a_number : ℤ → Known
+  null : Known
+  at : Name → ℕ → SourceType → Known
+  a_function : Name → Known
+
+abbrev pub nothing_known : Register → Known
+nothing_known r = unknown
+
+abbrev pub know : (Register → Known) → Register → Known → Register → Known
+know g r x q = if Rattle.std.specs.Prelude.nat_eq q r then x else g q
+
+abbrev pub computed : Result ℤ ℕ → Known
+computed (Ok z) = a_number z
+computed (Err e) = unknown
+
+-- a number of bytes further, or before
+abbrev pub further : Name → SourceType → ℕ → ℕ → ℤ → Known
+further n t at_byte bytes (pos k) = at n (at_byte + k * bytes) t
+further n t at_byte bytes (negsuc k) = at n (at_byte - (k + 1) * bytes) t
+
+abbrev pub decayed : Known → Known
+decayed (at n o t) = at n o (element (plain t))
+decayed x = x
+
+module _ (classes : List Class) where
+  abbrev pub moved : Known → ℤ → Known
+  moved (at n o t) z = further n t o (size classes t) z
+  moved x z = unknown
+
+  abbrev pub sum : Known → Known → Known
+  sum (a_number z) y = moved y z
+  sum x (a_number z) = moved x z
+  sum x y = unknown
+
+  abbrev pub pointer_known : PointerOperator → Known → Known → Known
+  pointer_known pointer.Add x y = sum x y
+  pointer_known pointer.Subtract x (a_number z) = moved x (neg_ℤ z)
+  pointer_known o x y = unknown
+
+  abbrev pub converted_known : Option Sort → Known → Known
+  converted_known (Some (number k)) (a_number z) = a_number (converted k z)
+  converted_known (Some (address t)) (a_number z) = null
+  converted_known (Some (code t)) (a_number z) = null
+  converted_known (Some (address t)) (at n o u) = at n o t
+  converted_known s x = x
+
+  abbrev pub known_by : Name → (Register → Known) → Action → Known
+  known_by f g (plain.number z) = a_number z
+  known_by f g (plain.text j bytes) = at (literal_name f j) 0 (array (integer Char) (length bytes))
+  known_by f g (plain.static_object name t) = at name 0 t
+  known_by f g (plain.function name t) = a_function name
+  known_by f g (plain.dereference r) = g r
+  known_by f g (plain.decay r) = decayed (g r)
+  known_by f g (plain.index r q) = sum (g r) (g q)
+  known_by f g (plain.convert t r) = converted_known (sort_of t) (g r)
+  known_by f g (plain.from_void t r) = converted_known (Some (address t)) (g r)
+  known_by f g (plain.operate op k r q) = of_numbers (g r) (g q)
+    where
+      of_numbers : Known → Known → Known
+      of_numbers (a_number x) (a_number y) = computed (int_op op k x y)
+      of_numbers x y = unknown
+  known_by f g (plain.unary sign.Negate k r) = of_number (g r)
+    where
+      of_number : Known → Known
+      of_number (a_number x) = computed (int_op arith.Subtract k (pos 0) x)
+      of_number x = unknown
+  known_by f g (plain.unary sign.Complement k r) = of_number (g r)
+    where
+      of_number : Known → Known
+      of_number (a_number x) = computed (int_op arith.Xor k x (converted k (negsuc 0)))
+      of_number x = unknown
+  known_by f g (plain.pointer_operate op r q) = pointer_known op (g r) (g q)
+  known_by f g a = unknown
+
+  -- a known value, for a store
+  abbrev pub written : Known → Expression
+  written (a_number z) = constant (constants.Signed (converted Int z))
+  written (at n o t) = behind (address_of n) o
+  written (a_function name) = load (named name)
+  written x = zero
+
+  abbrev pub stored : Known → Known → List Statement
+  stored (at n o t) v = of_sort (sort_of t)
+    where
+      of_sort : Option Sort → List Statement
+      of_sort None = []
+      of_sort (Some s) = put s (behind (address_of n) o) (written v) ∷ []
+  stored x v = []
+
+  abbrev pub stored_bytes : Known → List ℕ → List Statement
+  stored_bytes (at n o t) bytes = put_bytes (behind (address_of n) o) 0 bytes
+  stored_bytes x bytes = []
+
+  -- Static storage is 0 before, so zeros need no store.
+  abbrev pub constant_done : (Register → Known) → Action → List Statement
+  constant_done g (plain.first r q) = stored (g r) (g q)
+  constant_done g (plain.bytes r bytes) = stored_bytes (g r) bytes
+  constant_done g a = []
+
+  -- the stores of an initialiser whose literals are those of this function
+  abbrev pub constant_code : Plains → Name → (Register → Known) → List Statement
+  constant_code nothing f g = []
+  constant_code (more (act a) ss) f g = constant_done g a ++ constant_code ss f g
+  constant_code (more (set r a) ss) f g = constant_code ss f (know g r (known_by f g a))
+  constant_code (more s ss) f g = constant_code ss f g

@@ -1,0 +1,9 @@
+pub mod Births
+pub mod Bits
+pub mod Cells
+pub mod Memory
+pub mod Moves
+pub mod Objects
+pub mod Sorts
+pub mod Values
+pub mod Words

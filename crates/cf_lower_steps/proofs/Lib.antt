@@ -1,0 +1,12 @@
+pub mod Between
+pub mod Branches
+pub mod Holding
+pub mod Lowered
+pub mod Narrower
+pub mod Operators
+pub mod Registers
+pub mod Results
+pub mod Statements
+pub mod Stores
+pub mod Tests
+pub mod Values

@@ -1,0 +1,4 @@
+pub mod Steps
+pub mod Own
+pub mod Flows
+pub mod Lowering
