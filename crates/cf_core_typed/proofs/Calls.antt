@@ -1,12 +1,12 @@
 -- Calls and what they give (5.2.2), and expressions in order (5.18).
-use Rattle.std.proofs.Common.{◌≡◌, Bool, true, false, ◌&&◌, ◌||◌, List, [], ◌∷◌, Option, Some, None, refl, sym, ap, subst, ◌∙◌, true≢false}
-use Rattle.cf_core.specs.Types.{Name, SourceType, void, integer, enumeration, class, pointer, reference, array, takes, gives, data_member, function_member, const, plain, without_const, is_class, parameters, result}
-use Rattle.cf_core.specs.Core.{Core, Cores, MaybeCore, none, more, absent, call, pointer_call, comma}
-use Rattle.cf_core.specs.Typing.{Scope, Typing, allowed, is_function, of_value, of_place, of_name, of_result, is_expression, same_type}
-use Rattle.cf_core.specs.Typed.{fit, is_called, on_object, typing, typings, typing_maybe, last_typing, is_reference}
-use Rattle.cf_core_typed.specs.Same.{Same, is_bare, takes_const, is_normal}
+use Rattle.std.proofs.Common.{◌≡◌, Bool, true, false, ◌&&◌, ◌||◌, refl, sym, ap, true≢false}
+use Rattle.cf_core.specs.Types.{Name, SourceType, void, integer, enumeration, class, pointer, reference, array, takes, gives, data_member, function_member, const, parameters, result}
+use Rattle.cf_core.specs.Core.{Core, Cores, none, more, absent, call, pointer_call, comma}
+use Rattle.cf_core.specs.Typing.{Scope, Typing, is_function, of_result, is_expression, same_type}
+use Rattle.cf_core.specs.Typed.{fit, typing, typings, last_typing}
+use Rattle.cf_core_typed.specs.Same.{is_bare, takes_const, is_normal}
 use Rattle.cf_core_typed.specs.Meets.{IsPlace, IsValue}
-use Rattle.cf_core_typed.proofs.Same.{and-both, and-right, same-told}
+use Rattle.cf_core_typed.proofs.Same.{and-both, and-right}
 use Rattle.cf_core_typed.proofs.Values.{allow, of_value-is, of_place-is, value-same}
 
 -- what a function of this result gives: a place, or a value

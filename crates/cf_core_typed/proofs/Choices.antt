@@ -1,13 +1,12 @@
 -- One of two expressions (5.16).
-use Rattle.std.proofs.Common.{◌≡◌, Bool, true, false, ◌&&◌, ◌⊎◌, inl, inr, if◌then◌else◌, Option, Some, None, refl, sym, ap, subst, ◌∙◌, true≢false}
-use Rattle.cf_core.specs.Types.{SourceType, same_but_const}
+use Rattle.std.proofs.Common.{◌≡◌, ◌&&◌, ◌⊎◌, inl, inr, if◌then◌else◌, Some, None, refl, sym, ap, ◌∙◌}
+use Rattle.cf_core.specs.Types.{SourceType}
 use Rattle.cf_core.specs.Places.{is_scalar}
 use Rattle.cf_core.specs.Typing.{Typing, either}
 use Rattle.cf_core.specs.Typing as typing
 use Rattle.cf_core_typed.specs.Same.{Same}
 use Rattle.cf_core_typed.specs.Meets.{IsPlace, Typed, Untyped, IsValue, wide}
 use Rattle.cf_core_typed.proofs.Same.{and-both, same-told, same-scalar}
-use Rattle.cf_core_typed.proofs.Values.{value-same}
 
 both-told : (a b : SourceType) → Same a b → typing.both (Some a) (Some b) ≡ Some a
 both-told a b e = ap (λ c. if c then Some a else None) (same-told a b e)

@@ -1,12 +1,12 @@
 -- Conversions (4, 5.4).
-use Rattle.std.proofs.Common.{◌≡◌, Bool, true, false, ◌&&◌, ◌||◌, Option, Some, None, ℤ, pos, refl, sym, ap, subst, ◌∙◌, true≢false}
-use Rattle.cf_core.specs.Types.{SourceType, void, integer, enumeration, class, pointer, reference, array, takes, gives, data_member, function_member, const, plain, without_const, same_but_const, is_void}
-use Rattle.cf_core.specs.Typing.{Scope, Typing, allowed, is_integral, of_value, null_if, is_zero, is_integer, is_expression, pointed, converts, to_pointer}
+use Rattle.std.proofs.Common.{◌≡◌, Bool, true, false, ◌||◌, Option, ℤ, refl, sym, ap, ◌∙◌, true≢false}
+use Rattle.cf_core.specs.Types.{SourceType, void, integer, enumeration, class, pointer, reference, array, takes, gives, data_member, function_member, const, plain, same_but_const, is_void}
+use Rattle.cf_core.specs.Typing.{Scope, Typing, allowed, is_integral, of_value, null_if, is_zero, is_integer, pointed, converts, to_pointer}
 use Rattle.cf_core.specs.Typed.{void_pointer}
-use Rattle.cf_core_typed.specs.Same.{Same, is_bare, is_normal}
+use Rattle.cf_core_typed.specs.Same.{is_bare, is_normal}
 use Rattle.cf_core_typed.specs.Meets.{IsValue, Points}
-use Rattle.cf_core_typed.proofs.Same.{same-void, plain-bare, plain-normal}
-use Rattle.cf_core_typed.proofs.Values.{allow, of_value-is, of_plain-is, null_if-is, value-same}
+use Rattle.cf_core_typed.proofs.Same.{same-void, plain-bare}
+use Rattle.cf_core_typed.proofs.Values.{allow, of_value-is, of_plain-is, null_if-is}
 
 -- what a conversion node is, by its operand
 abbrev pub converted : SourceType → Typing → Typing

@@ -1,15 +1,15 @@
 -- Operators on integers, conditions, and changes in place (5.2.5, 5.3, 5.6 to 5.15, 5.17).
-use Rattle.std.proofs.Common.{◌≡◌, Bool, true, false, ◌&&◌, not, if◌then◌else◌, Option, Some, None, pos, refl, sym, ap, subst, ◌∙◌, true≢false}
+use Rattle.std.proofs.Common.{◌≡◌, Bool, true, false, ◌&&◌, not, if◌then◌else◌, Some, pos, refl, sym, ap, subst, ◌∙◌}
 use Rattle.cf_base.specs.declared.kind.Kind.{Kind}
-use Rattle.cf_base.specs.declared.kind.Kind.TheVariants.{Char, SChar, UChar, Short, UShort, Int, UInt, Long, ULong}
+use Rattle.cf_base.specs.declared.kind.Kind.TheVariants.{Int}
 use Rattle.cf_base.specs.declared.arith.Arith.{Arith}
 use Rattle.cf_types.specs.Operators.{is_shift}
-use Rattle.cf_core.specs.Types.{SourceType, void, integer, enumeration, class, pointer, reference, array, takes, gives, data_member, function_member, const, plain, without_const, same_but_const, is_void}
+use Rattle.cf_core.specs.Types.{SourceType, void, integer, enumeration, class, pointer, reference, array, takes, gives, data_member, function_member, const, plain, same_but_const, is_void}
 use Rattle.cf_core.specs.Places.{is_scalar}
 use Rattle.cf_core.specs.Core.{Change, arithmetic, moved}
-use Rattle.cf_core.specs.Typing.{Scope, Typing, allowed, is_function, of_value, of_number, of_place, is_integer, is_condition, is_comparison, operated_type, is_right_operand, changes}
+use Rattle.cf_core.specs.Typing.{Scope, Typing, allowed, is_function, of_value, of_number, of_place, is_integer, is_comparison, operated_type, is_right_operand, changes}
 use Rattle.cf_core.specs.Typed.{stored, changed_in_place, stepped}
-use Rattle.cf_core_typed.specs.Same.{Same, is_bare, is_normal}
+use Rattle.cf_core_typed.specs.Same.{Same, is_normal}
 use Rattle.cf_core_typed.specs.Meets.{IsPlace, IsValue}
 use Rattle.cf_core_typed.proofs.Same.{and-both, same-told, same-scalar, same-plain, same-function, same-void, plain-bare, plain-normal, pointer-form}
 use Rattle.cf_core_typed.proofs.Values.{allow, of_value-is, of_plain-is, of_place-is, place-same, value-same, value-integer}

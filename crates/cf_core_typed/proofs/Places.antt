@@ -1,13 +1,13 @@
 -- Places and the values read from them (3.7, 4.1, 4.6, 5.2.1, 5.3).
-use Rattle.std.proofs.Common.{◌≡◌, ℕ, Bool, true, false, ◌&&◌, not, ◌⊎◌, inl, inr, if◌then◌else◌, Option, Some, None, refl, sym, ap, subst, ◌∙◌, true≢false}
-use Rattle.cf_core.specs.Types.{SourceType, void, integer, enumeration, class, pointer, reference, array, takes, gives, data_member, function_member, const, plain, without_const, is_void}
+use Rattle.std.proofs.Common.{◌≡◌, ℕ, Bool, true, false, ◌&&◌, ◌⊎◌, inl, inr, if◌then◌else◌, Some, None, refl, sym, ap, subst, ◌∙◌, true≢false}
+use Rattle.cf_core.specs.Types.{SourceType, void, integer, enumeration, class, pointer, reference, array, takes, gives, data_member, function_member, const, plain, without_const}
 use Rattle.cf_core.specs.Places.{is_scalar}
-use Rattle.cf_core.specs.Typing.{Scope, Typing, no_typing, allowed, is_integral, is_function, of_value, of_place, is_integer, pointed, points_to_object}
+use Rattle.cf_core.specs.Typing.{Scope, Typing, no_typing, is_integral, is_function, of_value, of_place, is_integer, pointed, points_to_object}
 use Rattle.cf_core.specs.Typed.{read_type, address_type, pointed_place, decayed_type, indexed_type}
-use Rattle.cf_core_typed.specs.Same.{Same, is_bare, is_normal}
+use Rattle.cf_core_typed.specs.Same.{is_normal}
 use Rattle.cf_core_typed.specs.Meets.{IsPlace, Typed, Untyped, IsValue, Points}
-use Rattle.cf_core_typed.proofs.Same.{and-both, and-left, same-scalar, array-form, integral-bare, same-function}
-use Rattle.cf_core_typed.proofs.Values.{allow, place-same, value-same, of_value-is, of_plain-is, of_place-is, points-object}
+use Rattle.cf_core_typed.proofs.Same.{and-both, same-scalar, array-form, integral-bare, same-function}
+use Rattle.cf_core_typed.proofs.Values.{allow, place-same, value-same, of_value-is, of_plain-is, of_place-is}
 
 -- a value of an integer type points to nothing
 points_nowhere : (t : SourceType) → is_integral t ≡ true → pointed (Some t) ≡ None

@@ -1,14 +1,14 @@
 -- Pointers: sums, differences and comparisons (5.7, 5.9, 5.10).
-use Rattle.std.proofs.Common.{◌≡◌, Bool, true, false, ◌&&◌, ◌||◌, not, if◌then◌else◌, Option, Some, None, refl, sym, ap, subst, ◌∙◌, true≢false}
+use Rattle.std.proofs.Common.{◌≡◌, Bool, true, false, ◌&&◌, ◌||◌, not, refl, sym, ap, subst, ◌∙◌, true≢false}
 use Rattle.cf_base.specs.declared.kind.Kind.TheVariants.{Int}
 use Rattle.cf_core.specs.declared.operators.PointerOperator.{PointerOperator}
 use Rattle.cf_core.specs.declared.operators.PointerOperator.TheVariants as ptr
-use Rattle.cf_core.specs.Types.{SourceType, integer, pointer, is_void}
-use Rattle.cf_core.specs.Typing.{Typing, no_typing, allowed, is_function, of_value, is_integer, points_to_object, pointers_alike, compares_with_null, may_be_equal, pointer_operated, scalar_type, integral_type}
-use Rattle.cf_core_typed.specs.Same.{Same, is_bare, is_normal}
+use Rattle.cf_core.specs.Types.{SourceType, integer, pointer}
+use Rattle.cf_core.specs.Typing.{Typing, is_function, of_value, is_integer, points_to_object, pointers_alike, compares_with_null, may_be_equal, pointer_operated}
+use Rattle.cf_core_typed.specs.Same.{is_normal}
 use Rattle.cf_core_typed.specs.Meets.{IsValue, Points}
 use Rattle.cf_core_typed.proofs.Same.{and-both, same-function}
-use Rattle.cf_core_typed.proofs.Values.{allow, of_value-is, value-same, value-points}
+use Rattle.cf_core_typed.proofs.Values.{of_value-is, value-same}
 use Rattle.cf_core_typed.proofs.Operators.{truth-is}
 
 moved-is : (x : Typing) (t : SourceType) (p : Points x t) → IsValue (of_value (pointer p.type)) (pointer t)

@@ -1,13 +1,14 @@
 -- Types that are the same but for const answer alike.
-use Rattle.std.proofs.Common.{◌≡◌, ℕ, Bool, true, false, ◌&&◌, ◌||◌, not, List, [], ◌∷◌, ◌==◌, bytes_eq, nat_eq, refl, sym, ap, subst, ◌∙◌, true≢false, arith}
+use Rattle.std.proofs.Common.{◌≡◌, ℕ, Bool, true, false, ◌&&◌, List, [], ◌∷◌, ◌==◌, bytes_eq, nat_eq, if◌then◌else◌, refl, sym, ap, ◌∙◌, true≢false, arith}
+use Rattle.std.specs.Cmp.Lexicographic.{same_text}
 use Rattle.std.proofs.lemmas.Bool.{eqb-true}
 use Rattle.std.proofs.lemmas.Bool.Decides.{nat_tests}
 use Rattle.cf_base.specs.declared.kind.Kind.{Kind}
 use Rattle.cf_base.specs.declared.kind.Kind.TheVariants.{Char, SChar, UChar, Short, UShort, Int, UInt, Long, ULong}
 use Rattle.cf_core.specs.Types.{SourceType, void, integer, enumeration, class, pointer, reference, array, takes, gives, data_member, function_member, const, plain, without_const, kind_number, bool_eq, type_eq, same_but_const, is_void}
-use Rattle.cf_core.specs.Places.{is_scalar}
+use Rattle.cf_core.specs.Places.{is_scalar, is_reference}
 use Rattle.cf_core.specs.Typing.{is_integral, is_function}
-use Rattle.cf_core_typed.specs.Same.{Same, is_bare, takes_const, is_normal}
+use Rattle.cf_core_typed.specs.Same.{Same, is_bare, takes_const, is_normal, is_operand}
 
 -- ---- a type is the same as itself
 
@@ -248,3 +249,144 @@ array-form (takes p t) u n h e = absurd cc
 array-form (gives t c) u n h e = absurd cc
 array-form (data_member c t) u n h e = absurd cc
 array-form (function_member c t) u n h e = absurd cc
+
+pub reference-plain : (t : SourceType) → is_reference (without_const t) ≡ is_reference t
+reference-plain void = refl
+reference-plain (integer k) = refl
+reference-plain (enumeration e) = refl
+reference-plain (class c) = refl
+reference-plain (pointer t) = refl
+reference-plain (reference t) = refl
+reference-plain (array t n) = refl
+reference-plain (takes p t) = refl
+reference-plain (gives t c) = refl
+reference-plain (data_member c t) = refl
+reference-plain (function_member c t) = refl
+reference-plain (const t) = reference-plain t
+
+pub same-reference : (t u : SourceType) → Same t u → is_reference t ≡ is_reference u
+same-reference t u h = sym (reference-plain t) ∙ ap is_reference h ∙ reference-plain u
+
+pub operand-plain : (t : SourceType) → is_operand (without_const t) ≡ is_operand t
+operand-plain void = refl
+operand-plain (integer k) = refl
+operand-plain (enumeration e) = refl
+operand-plain (class c) = refl
+operand-plain (pointer t) = refl
+operand-plain (reference t) = refl
+operand-plain (array t n) = refl
+operand-plain (takes p t) = refl
+operand-plain (gives t c) = refl
+operand-plain (data_member c t) = refl
+operand-plain (function_member c t) = refl
+operand-plain (const t) = operand-plain t
+
+pub same-operand : (t u : SourceType) → Same t u → is_operand t ≡ is_operand u
+same-operand t u h = sym (operand-plain t) ∙ ap is_operand h ∙ operand-plain u
+
+-- an operand is a scalar, or void; and it is no reference
+pub operand-scalar : (t : SourceType) → is_operand t ≡ true → is_void t ≡ false → is_scalar t ≡ true
+operand-scalar void h v = absurd (true≢false v)
+operand-scalar (integer k) h v = refl
+operand-scalar (enumeration e) h v = refl
+operand-scalar (class c) h v = absurd (true≢false (sym h))
+operand-scalar (pointer t) h v = refl
+operand-scalar (reference t) h v = absurd (true≢false (sym h))
+operand-scalar (array t n) h v = absurd (true≢false (sym h))
+operand-scalar (takes p t) h v = absurd (true≢false (sym h))
+operand-scalar (gives t c) h v = absurd (true≢false (sym h))
+operand-scalar (data_member c t) h v = refl
+operand-scalar (function_member c t) h v = refl
+operand-scalar (const t) h v = operand-scalar t h v
+
+pub operand-reference : (t : SourceType) → is_operand t ≡ true → is_reference t ≡ false
+operand-reference void h = refl
+operand-reference (integer k) h = refl
+operand-reference (enumeration e) h = refl
+operand-reference (class c) h = absurd (true≢false (sym h))
+operand-reference (pointer t) h = refl
+operand-reference (reference t) h = absurd (true≢false (sym h))
+operand-reference (array t n) h = absurd (true≢false (sym h))
+operand-reference (takes p t) h = absurd (true≢false (sym h))
+operand-reference (gives t c) h = absurd (true≢false (sym h))
+operand-reference (data_member c t) h = refl
+operand-reference (function_member c t) h = refl
+operand-reference (const t) h = operand-reference t h
+
+pub scalar-operand : (t : SourceType) → is_scalar t ≡ true → is_reference t ≡ false → is_operand t ≡ true
+scalar-operand void h r = absurd (true≢false (sym h))
+scalar-operand (integer k) h r = refl
+scalar-operand (enumeration e) h r = refl
+scalar-operand (class c) h r = absurd (true≢false (sym h))
+scalar-operand (pointer t) h r = refl
+scalar-operand (reference t) h r = absurd (true≢false r)
+scalar-operand (array t n) h r = absurd (true≢false (sym h))
+scalar-operand (takes p t) h r = absurd (true≢false (sym h))
+scalar-operand (gives t c) h r = absurd (true≢false (sym h))
+scalar-operand (data_member c t) h r = refl
+scalar-operand (function_member c t) h r = refl
+scalar-operand (const t) h r = scalar-operand t h r
+
+pub function-operand : (t : SourceType) → is_function t ≡ true → (is_operand t ≡ false) × (is_reference t ≡ false) × (is_void t ≡ false)
+function-operand void h = absurd (true≢false (sym h))
+function-operand (integer k) h = absurd (true≢false (sym h))
+function-operand (enumeration e) h = absurd (true≢false (sym h))
+function-operand (class c) h = absurd (true≢false (sym h))
+function-operand (pointer t) h = absurd (true≢false (sym h))
+function-operand (reference t) h = absurd (true≢false (sym h))
+function-operand (array t n) h = absurd (true≢false (sym h))
+function-operand (takes p t) h = (refl, refl, refl)
+function-operand (gives t c) h = (refl, refl, refl)
+function-operand (data_member c t) h = absurd (true≢false (sym h))
+function-operand (function_member c t) h = absurd (true≢false (sym h))
+function-operand (const t) h = absurd (true≢false (sym h))
+
+-- ---- types that are found to be the same are equal
+
+kind_of : ℕ → Kind
+kind_of n =
+    if n == 0 then Char else (if n == 1 then SChar else (if n == 2 then UChar else (if n == 3 then Short else (if n == 4 then UShort
+    else (if n == 5 then Int else (if n == 6 then UInt else (if n == 7 then Long else ULong)))))))
+
+kind_known : (k : Kind) → kind_of (kind_number k) ≡ k
+unfolding kind_of
+kind_known Char = refl
+kind_known SChar = refl
+kind_known UChar = refl
+kind_known Short = refl
+kind_known UShort = refl
+kind_known Int = refl
+kind_known UInt = refl
+kind_known Long = refl
+kind_known ULong = refl
+
+kind-equal : (k l : Kind) → (kind_number k == kind_number l) ≡ true → k ≡ l
+kind-equal k l h = sym (kind_known k) ∙ ap kind_of (eqb-true (kind_number k) (kind_number l) h) ∙ kind_known l
+
+bytes-equal : (xs ys : List ℕ) → bytes_eq xs ys ≡ true → xs ≡ ys
+bytes-equal xs ys h = same_text xs ys (sym h)
+
+bool-equal : (a b : Bool) → bool_eq a b ≡ true → a ≡ b
+bool-equal true b h = sym h
+bool-equal false true h = h
+bool-equal false false h = refl
+
+pub type-equal : (t u : SourceType) → type_eq t u ≡ true → t ≡ u
+type-equal void void h = refl
+type-equal (integer k) (integer l) h = ap integer (kind-equal k l h)
+type-equal (enumeration e) (enumeration f) h = ap enumeration (bytes-equal e f h)
+type-equal (class c) (class d) h = ap class (bytes-equal c d h)
+type-equal (pointer t) (pointer u) h = ap pointer (type-equal t u h)
+type-equal (reference t) (reference u) h = ap reference (type-equal t u h)
+type-equal (array t n) (array u m) h =
+    ap (λ x. array x n) (type-equal t u (and-left (type_eq t u) (n == m) h)) ∙ ap (array u) (eqb-true n m (and-right (type_eq t u) (n == m) h))
+type-equal (takes p t) (takes q u) h =
+    ap (λ x. takes x t) (type-equal p q (and-left (type_eq p q) (type_eq t u) h)) ∙ ap (takes q) (type-equal t u (and-right (type_eq p q) (type_eq t u) h))
+type-equal (gives t c) (gives u d) h =
+    ap (λ x. gives x c) (type-equal t u (and-left (type_eq t u) (bool_eq c d) h)) ∙ ap (gives u) (bool-equal c d (and-right (type_eq t u) (bool_eq c d) h))
+type-equal (data_member c t) (data_member d u) h =
+    ap (λ x. data_member x t) (bytes-equal c d (and-left (bytes_eq c d) (type_eq t u) h)) ∙ ap (data_member d) (type-equal t u (and-right (bytes_eq c d) (type_eq t u) h))
+type-equal (function_member c t) (function_member d u) h =
+    ap (λ x. function_member x t) (bytes-equal c d (and-left (bytes_eq c d) (type_eq t u) h)) ∙ ap (function_member d) (type-equal t u (and-right (bytes_eq c d) (type_eq t u) h))
+type-equal (const t) (const u) h = ap const (type-equal t u h)
+type-equal t u h = absurd (true≢false (sym h))

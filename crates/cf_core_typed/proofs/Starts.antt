@@ -1,15 +1,13 @@
 -- Initialisers of scalars, references and arrays (8.4).
-use Rattle.std.proofs.Common.{◌≡◌, ℕ, Bool, true, false, ◌&&◌, ◌||◌, not, nat_le, List, [], ◌∷◌, length, find, Option, Some, None, bytes_eq, slice_get, refl, sym, ap, subst, ◌∙◌, true≢false}
-use Rattle.cf_base.specs.declared.kind.Kind.TheVariants.{Char, SChar, UChar}
-use Rattle.cf_core.specs.Types.{Name, SourceType, void, integer, enumeration, class, pointer, reference, array, takes, gives, data_member, function_member, const, plain, without_const, same_but_const}
-use Rattle.cf_core.specs.Places.{is_scalar}
+use Rattle.std.proofs.Common.{◌≡◌, ℕ, Bool, true, false, ◌&&◌, ◌||◌, not, nat_le, List, length, find, Some, bytes_eq, slice_get, refl, ap, ◌∙◌}
+use Rattle.cf_core.specs.Types.{Name, SourceType, reference, array, same_but_const}
 use Rattle.cf_core.specs.Core.{Core, Cores, Static, no_temporary, local_temporary, static_temporary, bind, temporary, list, string, zeros, blank, none, more}
-use Rattle.cf_core.specs.Typing.{Scope, Typing, allowed, of_place, same_type}
-use Rattle.cf_core.specs.Typed.{typing, typings, binds, all_start, list_starts, is_char, string_starts, is_reference, holds_for}
-use Rattle.cf_core_typed.specs.Same.{Same, is_bare, takes_const, is_normal}
-use Rattle.cf_core_typed.specs.Meets.{IsPlace, IsValue}
+use Rattle.cf_core.specs.Typing.{Scope, of_place, same_type}
+use Rattle.cf_core.specs.Typed.{typing, typings, all_start, is_char, is_reference, holds_for}
+use Rattle.cf_core_typed.specs.Same.{Same, is_normal}
+use Rattle.cf_core_typed.specs.Meets.{IsPlace}
 use Rattle.cf_core_typed.proofs.Same.{and-both, same-told}
-use Rattle.cf_core_typed.proofs.Values.{allow, of_place-is, place-is, place-same}
+use Rattle.cf_core_typed.proofs.Values.{allow, of_place-is, place-is}
 
 module _ (scope : Scope) where
   -- ---- references

@@ -1,15 +1,15 @@
 -- Values and places of a type: what operands may ask of them.
-use Rattle.std.proofs.Common.{◌≡◌, ℕ, zero, suc, ◌<◌, ◌≤◌, Bool, true, false, ◌&&◌, ◌||◌, not, nat_lt, ℤ, pos, negsuc, ◌⊎◌, inl, inr, Option, Some, None, is_some, refl, sym, ap, subst, ◌∙◌, true≢false, arith}
+use Rattle.std.proofs.Common.{◌≡◌, ℕ, ◌≤◌, Bool, true, false, ◌&&◌, ◌||◌, not, nat_lt, ℤ, pos, negsuc, ◌⊎◌, inl, inr, Some, is_some, refl, sym, ap, subst, ◌∙◌, true≢false, arith}
 use Rattle.std.proofs.lemmas.Bool.Decides.{nat_tests}
 use Rattle.cf_base.specs.declared.kind.Kind.{Kind}
 use Rattle.cf_base.specs.declared.kind.Kind.TheVariants.{Char, SChar, UChar, Short, UShort, Int, UInt, Long, ULong}
 use Rattle.cf_base.specs.Integers.{fits}
-use Rattle.cf_core.specs.Types.{SourceType, void, integer, enumeration, class, pointer, reference, array, takes, gives, data_member, function_member, const, plain, without_const, type_eq, same_but_const, is_void}
+use Rattle.cf_core.specs.Types.{SourceType, void, integer, enumeration, class, pointer, reference, array, takes, gives, data_member, function_member, const, plain, without_const, is_void}
 use Rattle.cf_core.specs.Places.{is_scalar}
-use Rattle.cf_core.specs.Typing.{Typing, no_typing, allowed, is_integral, is_function, of_value, of_number, of_place, of_name, null_if, holds_number, integral_type, is_integer, scalar_type, is_condition, is_expression, pointed, points_to_object, same_type}
-use Rattle.cf_core_typed.specs.Same.{Same, is_bare, takes_const, is_normal}
+use Rattle.cf_core.specs.Typing.{Typing, allowed, is_integral, is_function, of_value, of_number, of_place, null_if, holds_number, integral_type, is_integer, scalar_type, is_condition, is_expression, points_to_object, same_type}
+use Rattle.cf_core_typed.specs.Same.{Same, is_bare, is_normal}
 use Rattle.cf_core_typed.specs.Meets.{IsPlace, Typed, Untyped, IsValue, Points, wide, wide_kind}
-use Rattle.cf_core_typed.proofs.Same.{and-both, and-left, and-right, same-told, same-itself, same-scalar, same-void, same-function, scalar-plain, void-plain, integral-bare, pointer-form, same-plain, plain-bare, plain-normal}
+use Rattle.cf_core_typed.proofs.Same.{and-both, same-told, same-scalar, same-void, same-function, integral-bare, pointer-form, same-plain, plain-bare, plain-normal}
 
 -- ---- what is allowed
 

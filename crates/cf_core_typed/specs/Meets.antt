@@ -1,8 +1,8 @@
 -- What a node of an expression is, by its type: a place, or a value that a scalar may take.
-use Rattle.std.specs.Prelude.{◌≡◌, ◌⊎◌, Bool, true, false, Option, Some, None}
+use Rattle.std.specs.Prelude.{◌≡◌, ◌⊎◌, true, Some, None}
 use Rattle.cf_base.specs.declared.kind.Kind.{Kind}
-use Rattle.cf_base.specs.declared.kind.Kind.TheVariants.{Char, SChar, UChar, Short, UShort, Int, UInt, Long, ULong}
-use Rattle.cf_core.specs.Types.{SourceType, void, integer, enumeration, class, pointer, reference, array, takes, gives, data_member, function_member, const, without_const}
+use Rattle.cf_base.specs.declared.kind.Kind.TheVariants.{Int, UInt, ULong}
+use Rattle.cf_core.specs.Types.{SourceType, integer, pointer, const, without_const}
 use Rattle.cf_core.specs.Places.{is_scalar}
 use Rattle.cf_core.specs.Typing.{Typing, is_integral}
 use Rattle.cf_core_typed.specs.Same.{Same, is_bare, is_normal}

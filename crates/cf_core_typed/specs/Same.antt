@@ -34,3 +34,14 @@ is_normal (gives t c) = is_normal t
 is_normal (data_member c t) = is_normal t
 is_normal (function_member c t) = is_normal t
 is_normal (const t) = takes_const t && is_normal t
+
+-- what a value has that is no object of its own: a scalar that is no reference, or nothing
+abbrev pub is_operand : SourceType → Bool
+is_operand void = true
+is_operand (integer k) = true
+is_operand (enumeration e) = true
+is_operand (pointer t) = true
+is_operand (data_member c t) = true
+is_operand (function_member c t) = true
+is_operand (const t) = is_operand t
+is_operand t = false

@@ -1,0 +1,25 @@
+mod Gaps
+pub mod Alike
+pub mod Arithmetic
+pub mod Assign
+pub mod Beginning
+pub mod Binary
+pub mod Calls
+pub mod Cast
+pub mod Choice
+pub mod Early
+pub mod EarlyTrees
+pub mod Fit
+pub mod FitRows
+pub mod Initial
+pub mod Making
+pub mod Names
+pub mod Nodes
+pub mod Picks
+pub mod Plain
+pub mod Stepping
+pub mod Steps
+pub mod Trees
+pub mod Unary
+pub mod Values
+pub mod Ways

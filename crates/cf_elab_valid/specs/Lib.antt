@@ -1,0 +1,4 @@
+pub mod Answers
+pub mod Conversion
+pub mod Scene
+pub mod Sorts

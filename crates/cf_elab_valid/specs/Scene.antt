@@ -1,0 +1,163 @@
+-- What is fixed of a file and of a function in it once elaboration has ended, and what holds of an environment and of a value on the way there.
+--
+-- Nodes are typed by the tables of the end. An environment on the way has the first types of them, so nothing has to be said of a node when its
+-- tables grow.
+use Rattle.std.specs.Prelude.{◌≡◌, ℕ, ◌<◌, Bool, true, false, not, ◌||◌, List, [], ◌∷◌, ◌++◌, length, map, None, Some, slice_get}
+use Rattle.cf_types.specs.declared.ty.Ty.{Ty}
+use Rattle.cf_types.specs.declared.ty.Ty.TheVariants as ty
+use Rattle.cf_types.specs.Table.{IsTable}
+use Rattle.cf_classes.specs.declared.label.Label.{Label}
+use Rattle.cf_lookup.specs.Scope.{found}
+use Rattle.cf_core.specs.declared.node.Core.{Core as Node}
+use Rattle.cf_core.specs.Core.{Core, Static}
+use Rattle.cf_core.specs.FromClasses.{signature_of}
+use Rattle.cf_core.specs.FromTypes.{Tables, type_of}
+use Rattle.cf_core.specs.Numbers.{are_known}
+use Rattle.cf_core.specs.Typed.{typing}
+use Rattle.cf_core.specs.Places.{is_reference}
+use Rattle.cf_core.specs.Types.{SourceType, is_void}
+use Rattle.cf_core.specs.Typing.{Scope, Typing, holds_number}
+use Rattle.cf_core.specs.View.{core_of}
+use Rattle.cf_core_typed.specs.Meets.{IsPlace, IsValue}
+use Rattle.cf_core_typed.specs.Same.{Same, is_operand}
+use Rattle.cf_elab.specs.Env.{Env, Name, Home, local_home, static_home, Entity, object, functions, alias, class_name, enum_name, enumerator, FunctionEntry}
+use Rattle.cf_elab.specs.Members.{class_of_body}
+use Rattle.cf_elab.specs.Operand.{Value, Operand, value, functions as named_functions}
+use Rattle.cf_elab_env.specs.Holds.{HasNoClass}
+use Rattle.cf_elab_valid.specs.Sorts.{NoneToReference}
+
+-- ---- the end
+
+-- the tables and the static objects of the file, and of the function at hand the types of its locals and of its result
+pub record Scene : Type 0 where
+  pub tables : Tables
+  pub statics : List Static
+  pub locals : List ℕ
+  pub result : ℕ
+
+abbrev pub tree : Scene → ℕ → SourceType
+tree s t = type_of s.tables t
+
+-- no classes are defined, and no function is a member
+abbrev pub scope_of : Scene → Scope
+scope_of s = record { classes = []; statics = s.statics; locals = map (tree s) s.locals; this = None }
+
+abbrev pub core : Scene → Node → Core
+core s n = core_of s.tables (signature_of s.tables) n
+
+-- what a node is there
+abbrev pub typed : Scene → Node → Typing
+typed s n = typing (scope_of s) (core s n)
+
+pub record IsScene (s : Scene) : Type 0 where
+  pub table : IsTable s.tables.types
+  pub no_class : HasNoClass s.tables.types
+  pub none_to_reference : NoneToReference s.tables
+
+-- ---- on the way
+
+-- the list is the first part of the other
+pub record Begins {A : Type 0} (xs ys : List A) : Type 0 where
+  pub more : List A
+  pub all : ys ≡ xs ++ more
+
+-- what an environment has of types, of enumerations and of locals stands first at the end
+pub record Within (env : Env) (s : Scene) : Type 0 where
+  pub types : Begins env.types.types s.tables.types.types
+  pub funs : Begins env.types.funs s.tables.types.funs
+  pub enums : Begins env.classes.enums s.tables.classes.enums
+  pub locals : Begins env.hand.locals s.locals
+
+-- nothing of types, enumerations and locals is lost or changed
+pub record Steps (old new : Env) : Type 0 where
+  pub types : Begins old.types.types new.types.types
+  pub funs : Begins old.types.funs new.types.funs
+  pub enums : Begins old.classes.enums new.classes.enums
+  pub locals : Begins old.hand.locals new.hand.locals
+
+-- a type of this number is there already
+abbrev pub Inside : Env → ℕ → Type 0
+Inside env t = t < length env.types.types
+
+-- ---- names
+
+abbrev pub HomeFits : Scene → ℕ → Home → Type 0
+HomeFits s t (local_home i) = slice_get s.locals i ≡ Some t
+HomeFits s t (static_home name) = Unit {0}
+
+abbrev pub EntityFits : Scene → Env → Entity → Type 0
+EntityFits s env (object x) = Inside env x.type × HomeFits s x.type x.home × (is_void (tree s x.type) ≡ false)
+EntityFits s env (functions fs) = Unit {0}
+EntityFits s env (alias t) = Inside env t
+EntityFits s env (class_name c) = ⊥
+EntityFits s env (enum_name e) = Unit {0}
+EntityFits s env (enumerator t z) = Inside env t × (holds_number z (tree s t) ≡ true)
+
+pub record EntryFits (s : Scene) (env : Env) (f : FunctionEntry) : Type 0 where
+  pub fun : ℕ
+  pub here : slice_get env.types.types f.type ≡ Some (ty.Fun fun)
+
+-- the function type or the enumeration that a type names is there already
+abbrev pub PartInside : Env → Ty → Type 0
+PartInside env (ty.Fun f) = f < length env.types.funs
+PartInside env (ty.Enum e) = e < length env.classes.enums
+PartInside env other = Unit {0}
+
+-- there is no class, no type names one, and no function has default arguments
+pub record Classless (env : Env) : Type 0 where
+  pub none : env.classes.defined ≡ []
+  pub none_open : env.open_classes ≡ []
+  pub no_body : class_of_body env.hand.kind ≡ None
+  pub no_type : HasNoClass env.types
+  pub no_defaults : (n : ℕ) (f : FunctionEntry) → slice_get env.entries n ≡ Some f → f.defaults ≡ []
+
+-- what can be named fits
+pub record Holds (s : Scene) (env : Env) : Type 0 where
+  pub parts : (t : ℕ) (v : Ty) → slice_get env.types.types t ≡ Some v → PartInside env v
+  pub no_outer : (n : ℕ) (l : Label) → slice_get env.classes.enums n ≡ Some l → l.outer ≡ None
+  pub entities : (name : Name) (n : ℕ) (e : Entity) → found name env.scopes ≡ Some n → slice_get env.entities n ≡ Some e → EntityFits s env e
+  pub entries : (n : ℕ) (f : FunctionEntry) → slice_get env.entries n ≡ Some f → EntryFits s env f
+  pub result : env.hand.result ≡ s.result
+
+-- ---- values
+
+-- a place, or a value
+abbrev pub Meets : Bool → Typing → SourceType → Type 0
+Meets true x t = IsPlace x t
+Meets false x t = IsValue x t
+
+-- no place is a reference or of void, and no value is a reference, an array or a function
+abbrev pub is_allowed : Bool → SourceType → Bool
+is_allowed true t = not (is_void t || is_reference t)
+is_allowed false t = is_operand t
+
+-- the node is one of its type, and all its numbers are there
+pub record Fits (s : Scene) (env : Env) (v : Value) : Type 0 where
+  pub inside : Inside env v.type
+  pub numbers : are_known s.tables v.node ≡ true
+  pub allowed : is_allowed v.is_lvalue (tree s v.type) ≡ true
+  pub meets : Meets v.is_lvalue (typed s v.node) (tree s v.type)
+
+-- a value that is no place, of a type that is the same as this one but for const
+pub record IsPlain (s : Scene) (t : SourceType) (v : Value) (env : Env) : Type 0 where
+  pub fits : Fits s env v
+  pub no_place : v.is_lvalue ≡ false
+  pub same : Same (tree s v.type) t
+
+-- each of several fits
+abbrev pub AllFit : Scene → Env → List Value → Type 0
+AllFit s env [] = Unit {0}
+AllFit s env (v ∷ vs) = Fits s env v × AllFit s env vs
+
+-- ---- operands
+
+-- a value, or functions by their name
+abbrev pub OperandFits : Scene → Operand → Env → Type 0
+OperandFits s (value v) env = Fits s env v
+OperandFits s other env = Unit {0}
+
+-- nothing of a class
+abbrev pub IsShown : Operand → Type 0
+IsShown (value v) = Unit {0}
+IsShown (named_functions at fs) = Unit {0}
+IsShown other = ⊥
