@@ -1,27 +1,24 @@
 -- Reading bodies with some constants, and with all, is alike.
-use Rattle.std.proofs.Common.{◌≡◌, ℕ, zero, suc, List, [], ◌∷◌, Option, Some, None, refl, ap, sym, ◌∙◌}
+use Rattle.std.proofs.Common.{◌≡◌, ℕ, zero, suc, List, [], Some, None, refl, ap, ◌∙◌}
 use Rattle.cc_whole_tokens.specs.declared.mark.Mark.TheVariants as mark
 use Rattle.cc_whole.specs.declared.expression.CPlace.{CPlace}
 use Rattle.cc_whole.specs.declared.expression.CExpression.{CExpression}
-use Rattle.cc_whole.specs.declared.statement.CLocal.{CLocal}
 use Rattle.cc_whole.specs.declared.statement.CCallee.{CCallee}
 use Rattle.cc_whole.specs.declared.statement.CBody.{CBody}
 use Rattle.cc_whole.specs.declared.statement.CStatement.{CStatement}
 use Rattle.cc_whole.specs.declared.statement.CStatement.TheVariants as statement
-use Rattle.cc_whole.specs.declared.statement.CSwitchItem.{CSwitchItem}
 use Rattle.cc_whole.specs.declared.statement.CSwitchItem.TheVariants as part
 use Rattle.cc_whole.specs.Build.{made_body}
 use Rattle.cc_whole_reading.specs.declared.constants.Constants.{Constants}
-use Rattle.cc_whole_reading.specs.Parse.{Parse, ◌>>=◌, pure, sees, sees_not, expect}
+use Rattle.cc_whole_reading.specs.Parse.{Parse, ◌>>=◌, pure, sees_not, expect}
 use Rattle.cc_whole_reading.specs.Constants.{keeps, constant}
 use Rattle.cc_whole_reading.proofs.ConstantLaws.{all_kept}
-use Rattle.cc_whole_reading.proofs.Alike.{Alike, AsTheyStand, alike_pure, alike_itself, alike_then, alike_next, alike_made, alike_if, alike_past, alike_sight, alike_either, alike_all, alike_constant}
+use Rattle.cc_whole_reading.proofs.Alike.{Alike, AsTheyStand, alike_pure, alike_itself, alike_then, alike_next, alike_made, alike_if, alike_sight, alike_either, alike_all, alike_constant}
 use Rattle.cc_whole_read_types.specs.ReadTypes.{sees_type, one_local}
 use Rattle.cc_whole_read_types.proofs.VariableLaws.{alike_local}
 use Rattle.cc_whole_read_expr.specs.ReadExpr.{expression, one_place, arguments, callee}
 use Rattle.cc_whole_read_expr.proofs.AlikeExpressions.{alike_expression, alike_place, alike_arguments, alike_callee}
 use Rattle.cc_whole_read_body.specs.declared.effects.CallParts.{CallParts}
-use Rattle.cc_whole_read_body.specs.declared.effects.Right.{Right}
 use Rattle.cc_whole_read_body.specs.declared.effects.Right.TheVariants as right
 use Rattle.cc_whole_read_body.specs.ReadBody.{local_line, locals, called_of, called, right_call, value, right_side, stored, store_to, store, unstored, call, effect, block, leaves, continues, condition, some_body, otherwise, branches, conditional, forever, label, default_label, inner, switch_item, switch_items, cases, switch, gives, returned, plain, leaving, statement_by, statements, body_by, one_statement, body}
 

@@ -1,10 +1,9 @@
 -- Reading statements and bodies decides how they are spelled.
-use Rattle.std.specs.Prelude.{if◌then◌else◌, not}
-use Rattle.std.proofs.Common.{◌≡◌, ℕ, zero, suc, ◌-◌, ◌+◌, ◌≤◌, ◌<◌, true, false, List, [], ◌∷◌, ◌++◌, length, Option, Some, None, refl, ap, sym, ◌∙◌, subst, arith, append_assoc}
+use Rattle.std.specs.Prelude.{not}
+use Rattle.std.proofs.Common.{◌≡◌, ℕ, zero, suc, ◌-◌, ◌≤◌, ◌<◌, true, false, List, ◌++◌, length, Some, None, refl, ap, ◌∙◌, arith, append_assoc}
 use Rattle.cc_whole_tokens.specs.declared.mark.Mark.{Mark}
 use Rattle.cc_whole_tokens.specs.declared.mark.Mark.TheVariants as mark
 use Rattle.cc_whole_tokens.specs.declared.token.Token.{Token}
-use Rattle.cc_whole_tokens.specs.declared.token.Token.TheVariants as token
 use Rattle.cc_whole_tokens.specs.Mark.{same_mark}
 use Rattle.cc_whole.specs.declared.expression.CExpression.{CExpression}
 use Rattle.cc_whole.specs.declared.statement.CLocal.{CLocal}
@@ -19,11 +18,11 @@ use Rattle.cc_whole.specs.Spells.{SpellsLocals, SpellsBody, SpellsStatements, Sp
 use Rattle.cc_whole.specs.Spells as g
 use Rattle.cc_whole_reading.specs.Parse.{Parse, ◌>>=◌, pure, past, sees, sees_not, expect, if_next}
 use Rattle.cc_whole_reading.specs.Constants.{constant}
-use Rattle.cc_whole_reading.proofs.Decides.{SameFront, Spelling, Follow, any, Decides, Example, decides_as, decides_follow, decides_less, decides_none, Done, done, decides_pure}
+use Rattle.cc_whole_reading.proofs.Decides.{SameFront, Spelling, Follow, any, Decides, Example, decides_as, decides_follow, decides_less, decides_none, Done, decides_pure}
 use Rattle.cc_whole_reading.proofs.Shapes.{Seq, seq, After, after, Made, made, Either, one, other, decides_then, decides_made, sees_is}
 use Rattle.cc_whole_reading.proofs.Choices.{decides_sign, decides_mark, decides_past, sees_same, sees_there}
-use Rattle.cc_whole_reading.proofs.Ways.{Apart, Tells, decides_if, decides_next, decides_sight, apart_after, apart_either, apart_done, apart_made}
-use Rattle.cc_whole_reading.proofs.Chains.{Many, none, more, decides_all}
+use Rattle.cc_whole_reading.proofs.Ways.{Apart, Tells, decides_if, decides_sight, apart_after, apart_either, apart_done, apart_made}
+use Rattle.cc_whole_reading.proofs.Chains.{Many, decides_all}
 use Rattle.cc_whole_reading.proofs.ConstantLaws.{all_kept, decides_constant}
 use Rattle.cc_whole_read_types.specs.ReadTypes.{sees_type}
 use Rattle.cc_whole_read_expr.specs.ReadExpr.{expression}
@@ -33,7 +32,7 @@ use Rattle.cc_whole_read_expr.proofs.OperandLaws.{Whole, close_follows}
 use Rattle.cc_whole_read_expr.proofs.ExpressionLaws.{decides_expression}
 use Rattle.cc_whole_read_body.specs.ReadBody.{locals, effect, block, leaves, continues, condition, some_body, otherwise, branches, conditional, forever, label, default_label, inner, switch_item, switch_items, cases, switch, gives, returned, plain, leaving, statement_by, statements, body_by, one_statement, body}
 use Rattle.cc_whole_read_body.proofs.EffectLaws.{IsEffect, assigns, stores, calls, decides_effects}
-use Rattle.cc_whole_read_body.proofs.PartLaws.{Front, statement_front, statement_some, no_type, decides_locals}
+use Rattle.cc_whole_read_body.proofs.PartLaws.{statement_front, statement_some, no_type, decides_locals}
 use Rattle.cc_whole_read_body.proofs.StatementLaws.{LabelShape, DefaultShape, InnerShape, OtherItem, ItemShape, statements_shape, of_statements, BodyEnd, BodyTail, BodyShape, body_shape, of_body, IsCondition, ConditionShape, condition_shape, of_condition, ElseShape, BranchShape, IfShape, ForShape, SwitchEnd, CasesShape, SwitchShape, GivesShape, ReturnShape, BreakShape, ContinueShape, PlainShape, ReturningShape, ContinuingShape, LeavingShape, SwitchingShape, LoopingShape, StatementShape, statement_shape, of_statement}
 
 -- ---- what may follow

@@ -1,9 +1,8 @@
 -- Reading an assignment or a call decides how they are spelled.
-use Rattle.std.proofs.Common.{◌≡◌, ℕ, false, List, [], ◌∷◌, ◌++◌, length, Option, Some, None, refl, ap, sym, ◌∙◌, subst, append_assoc}
+use Rattle.std.proofs.Common.{◌≡◌, ℕ, List, ◌∷◌, ◌++◌, Option, Some, None, refl, ap, sym, ◌∙◌, subst, append_assoc}
 use Rattle.cc_whole_tokens.specs.declared.mark.Mark.TheVariants as mark
 use Rattle.cc_whole_tokens.specs.declared.token.Token.{Token}
 use Rattle.cc_whole_tokens.specs.declared.token.Token.TheVariants as token
-use Rattle.cc_whole_tokens.specs.Mark.{same_mark}
 use Rattle.cc_whole.specs.declared.types.CSignature.{CSignature}
 use Rattle.cc_whole.specs.declared.expression.CPlace.{CPlace}
 use Rattle.cc_whole.specs.declared.expression.CExpression.{CExpression}
@@ -13,8 +12,8 @@ use Rattle.cc_whole.specs.declared.statement.CStatement.TheVariants as statement
 use Rattle.cc_whole.specs.SpellsTypes.{sign, result_tokens, types_tokens, signature_tokens}
 use Rattle.cc_whole.specs.Spells.{SpellsPlace, SpellsExpression, SpellsArguments, SpellsCallee, SpellsTarget, SpellsStatement, bracketed}
 use Rattle.cc_whole.specs.Spells as g
-use Rattle.cc_whole_reading.specs.Parse.{Parse, ◌>>=◌, pure, sees, expect, either}
-use Rattle.cc_whole_reading.proofs.Decides.{Spelling, Follow, any, Decides, decides_as, decides_follow, Done, done, decides_pure}
+use Rattle.cc_whole_reading.specs.Parse.{Parse, ◌>>=◌, pure, expect}
+use Rattle.cc_whole_reading.proofs.Decides.{Spelling, any, Decides, decides_as, Done, done, decides_pure}
 use Rattle.cc_whole_reading.proofs.Shapes.{Seq, seq, After, after, Made, made, Either, one, other, decides_then, decides_made}
 use Rattle.cc_whole_reading.proofs.Choices.{decides_sign}
 use Rattle.cc_whole_reading.proofs.Ways.{Differ, decides_either}

@@ -1,11 +1,10 @@
 -- What statements begin with, and that reading locals decides how they are spelled.
-use Rattle.std.proofs.Common.{◌≡◌, ℕ, ◌+◌, ◌<◌, true, false, List, [], ◌∷◌, ◌++◌, length, refl, ap, sym, ◌∙◌, subst, arith, append_assoc, length-append}
+use Rattle.std.proofs.Common.{◌≡◌, ℕ, ◌<◌, true, false, List, [], ◌∷◌, ◌++◌, length, refl, ap, sym, ◌∙◌, subst, arith, append_assoc, length-append}
 use Rattle.std.specs.Prelude.{◌||◌}
 use Rattle.cc_whole_tokens.specs.declared.mark.Mark.TheVariants as mark
 use Rattle.cc_whole_tokens.specs.declared.token.Token.{Token}
 use Rattle.cc_whole_tokens.specs.declared.token.Token.TheVariants as token
 use Rattle.cc_whole_tokens.specs.Mark.{same_mark}
-use Rattle.cc_whole.specs.declared.types.CType.{CType}
 use Rattle.cc_whole.specs.declared.types.CType.TheVariants as ty
 use Rattle.cc_whole.specs.declared.types.CLocalType.{CLocalType}
 use Rattle.cc_whole.specs.declared.statement.CLocal.{CLocal}
@@ -14,8 +13,8 @@ use Rattle.cc_whole.specs.SpellsTypes.{sign, type_tokens, SpellsLocal}
 use Rattle.cc_whole.specs.SpellsTypes as c
 use Rattle.cc_whole.specs.Spells.{SpellsPlace, SpellsCallee, SpellsTarget, SpellsLocals, SpellsBody, SpellsStatement}
 use Rattle.cc_whole.specs.Spells as g
-use Rattle.cc_whole_reading.specs.Parse.{Parse, ◌>>=◌, pure, sees, sees_not, expect}
-use Rattle.cc_whole_reading.proofs.Decides.{SameFront, Spelling, Follow, any, Decides, decides_as, decides_follow, Done, done, decides_pure}
+use Rattle.cc_whole_reading.specs.Parse.{◌>>=◌, pure, sees, expect}
+use Rattle.cc_whole_reading.proofs.Decides.{SameFront, Spelling, Follow, any, Decides, decides_as, Done, done, decides_pure}
 use Rattle.cc_whole_reading.proofs.Shapes.{Seq, seq, After, after, decides_then}
 use Rattle.cc_whole_reading.proofs.Choices.{decides_sign, sees_same}
 use Rattle.cc_whole_reading.proofs.Chains.{Many, none, more, decides_all}

@@ -1,8 +1,7 @@
 -- Reading expressions with some constants, and with all, is alike.
-use Rattle.std.proofs.Common.{◌≡◌, ℕ, zero, suc, List, [], ◌∷◌, length, Option, Some, None, Result, Ok, Err, refl, ap, sym, ◌∙◌, subst}
+use Rattle.std.proofs.Common.{◌≡◌, ℕ, zero, suc, [], length, Option, Some, None, Ok, refl, ap, ◌∙◌}
 use Rattle.cf_base.specs.declared.arith.Arith.{Arith}
 use Rattle.cc_whole_tokens.specs.declared.mark.Mark.TheVariants as mark
-use Rattle.cc_whole_tokens.specs.declared.token.Token.{Token}
 use Rattle.cc_whole.specs.declared.types.CType.{CType}
 use Rattle.cc_whole.specs.declared.types.CSignature.{CSignature}
 use Rattle.cc_whole.specs.declared.expression.Prefix.{Prefix}
@@ -13,10 +12,10 @@ use Rattle.cc_whole.specs.declared.expression.CExpression.TheVariants as tree
 use Rattle.cc_whole.specs.declared.statement.CCallee.TheVariants as to
 use Rattle.cc_whole.specs.Operators.{loosest}
 use Rattle.cc_whole_reading.specs.declared.constants.Constants.{Constants}
-use Rattle.cc_whole_reading.specs.Parse.{Parse, and_then, ◌>>=◌, pure, past, if_next, sees, behind, expect, name}
+use Rattle.cc_whole_reading.specs.Parse.{Parse, and_then, pure, past, behind, expect}
 use Rattle.cc_whole_reading.specs.Constants.{keeps, constant}
 use Rattle.cc_whole_reading.proofs.ConstantLaws.{all_kept}
-use Rattle.cc_whole_reading.proofs.Alike.{Alike, SameResult, AsTheyStand, alike_pure, alike_itself, alike_then, alike_next, alike_made, alike_if, alike_past, alike_sight, alike_all, alike_separated, alike_constant}
+use Rattle.cc_whole_reading.proofs.Alike.{Alike, SameResult, AsTheyStand, alike_pure, alike_itself, alike_then, alike_next, alike_made, alike_if, alike_sight, alike_separated, alike_constant}
 use Rattle.cc_whole_read_types.specs.ReadTypes.{type_name, pointed_type, sees_type, signature}
 use Rattle.cc_whole_read_expr.specs.ReadExpr as spec
 use Rattle.cc_whole_read_expr.specs.ReadExpr.{prefixed, casted, address, typed_operand, cast, enclosed, brackets, place_at, loaded, variable, number, leaf, signed, operand_by, operator_above, if_some, more_operands, binary, operand, expression, named_place, one_place, some_arguments, arguments, called_name, called_with, called_pointer, callee}

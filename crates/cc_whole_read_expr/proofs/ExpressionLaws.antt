@@ -1,6 +1,5 @@
 -- Reading expressions, places, arguments and callees decides how they are spelled.
-use Rattle.std.specs.Prelude.{if◌then◌else◌}
-use Rattle.std.proofs.Common.{◌≡◌, ℕ, zero, suc, ◌≤◌, ◌<◌, true, false, List, [], ◌∷◌, ◌++◌, length, refl, ap, sym, ◌∙◌, subst, arith, append_assoc}
+use Rattle.std.proofs.Common.{◌≡◌, ℕ, zero, suc, true, false, List, [], ◌∷◌, ◌++◌, refl, ap, sym, ◌∙◌, subst, append_assoc}
 use Rattle.cc_whole_tokens.specs.declared.mark.Mark.TheVariants as mark
 use Rattle.cc_whole_tokens.specs.declared.token.Token.{Token}
 use Rattle.cc_whole_tokens.specs.declared.token.Token.TheVariants as token
@@ -16,20 +15,20 @@ use Rattle.cc_whole.specs.SpellsTypes.{sign, signature_tokens}
 use Rattle.cc_whole.specs.SpellsTypes as c
 use Rattle.cc_whole.specs.Spells.{SpellsPlace, SpellsExpression, SpellsSome, SpellsArguments, SpellsCallee, bracketed}
 use Rattle.cc_whole.specs.Spells as g
-use Rattle.cc_whole_reading.specs.Parse.{Parse, ◌>>=◌, pure, past, if_next, sees, expect, name}
+use Rattle.cc_whole_reading.specs.Parse.{Parse, ◌>>=◌, pure, sees, expect}
 use Rattle.cc_whole_reading.proofs.Decides.{Spelling, Follow, any, Decides, Example, decides_as, decides_follow, decides_none, Done, done, decides_pure}
-use Rattle.cc_whole_reading.proofs.Shapes.{Seq, seq, After, after, Named, named, Made, made, Either, one, other, decides_then, decides_made}
+use Rattle.cc_whole_reading.proofs.Shapes.{Seq, seq, After, after, Named, named, Either, one, other, decides_then}
 use Rattle.cc_whole_reading.proofs.Choices.{decides_sign, decides_word, sees_same}
-use Rattle.cc_whole_reading.proofs.Ways.{Apart, Tells, decides_if, decides_sight, apart_named}
+use Rattle.cc_whole_reading.proofs.Ways.{Tells, decides_if, decides_sight, apart_named}
 use Rattle.cc_whole_reading.proofs.Chains.{Separated, last, more, decides_separated}
 use Rattle.cc_whole_reading.proofs.ConstantLaws.{all_kept}
 use Rattle.cc_whole_read_types.specs.ReadTypes.{signature}
 use Rattle.cc_whole_read_types.proofs.SignatureLaws.{IsSignature, is_signature, decides_signature}
 use Rattle.cc_whole_read_expr.specs.ReadExpr as spec
 use Rattle.cc_whole_read_expr.specs.ReadExpr.{operand, expression, named_place, one_place, some_arguments, arguments, called_name, called_with, called_pointer, callee}
-use Rattle.cc_whole_read_expr.proofs.Firsts.{Front, front, some}
+use Rattle.cc_whole_read_expr.proofs.Firsts.{front, some}
 use Rattle.cc_whole_read_expr.proofs.OperatorLaws.{ends, stops, decides_binary}
-use Rattle.cc_whole_read_expr.proofs.OperandLaws.{Whole, Small, PlaceTail, place_tail, pointed_place, place_tokens, decides_tail, ends_close, close_follows}
+use Rattle.cc_whole_read_expr.proofs.OperandLaws.{Whole, Small, PlaceTail, place_tail, pointed_place, decides_tail, ends_close, close_follows}
 use Rattle.cc_whole_read_expr.proofs.OperandReads.{decides_operand_by}
 
 -- ---- expressions

@@ -1,6 +1,5 @@
 -- That reading an operand decides operands, where reading the expressions and operands in it decides those: part by part.
-use Rattle.std.specs.Prelude.{if◌then◌else◌}
-use Rattle.std.proofs.Common.{◌≡◌, ℕ, zero, suc, ◌≤◌, true, false, List, [], ◌∷◌, ◌++◌, length, refl, ap, sym, ◌∙◌, subst, arith, append_assoc}
+use Rattle.std.proofs.Common.{◌≡◌, ℕ, suc, true, false, List, [], ◌∷◌, ◌++◌, refl, ap, ◌∙◌, append_assoc}
 use Rattle.cc_whole_tokens.specs.declared.mark.Mark.{Mark}
 use Rattle.cc_whole_tokens.specs.declared.mark.Mark.TheVariants as mark
 use Rattle.cc_whole_tokens.specs.declared.token.Token.{Token}
@@ -8,7 +7,6 @@ use Rattle.cc_whole_tokens.specs.declared.token.Token.TheVariants as token
 use Rattle.cc_whole_tokens.specs.Mark.{same_mark}
 use Rattle.cc_whole.specs.declared.types.CType.{CType}
 use Rattle.cc_whole.specs.declared.types.CType.TheVariants as ty
-use Rattle.cc_whole.specs.declared.types.CConstant.{CConstant}
 use Rattle.cc_whole.specs.declared.expression.Prefix.{Prefix}
 use Rattle.cc_whole.specs.declared.expression.Prefix.TheVariants as prefix
 use Rattle.cc_whole.specs.declared.expression.CPlace.TheVariants as place
@@ -17,18 +15,18 @@ use Rattle.cc_whole.specs.declared.expression.CExpression.TheVariants as tree
 use Rattle.cc_whole.specs.Spells.{SpellsExpression}
 use Rattle.cc_whole.specs.SpellsTypes.{SpellsConstant}
 use Rattle.cc_whole.specs.SpellsTypes as c
-use Rattle.cc_whole_reading.specs.Parse.{Parse, ◌>>=◌, pure, past, if_next, sees, sees_a, is_name, expect, name}
+use Rattle.cc_whole_reading.specs.Parse.{Parse, ◌>>=◌, pure, if_next, sees_a, is_name, expect}
 use Rattle.cc_whole_reading.specs.Constants.{constant}
-use Rattle.cc_whole_reading.proofs.Decides.{SameFront, Spelling, Follow, any, Decides, DecidesIf, decides_as, decides_follow, decides_less, Done, done, decides_pure}
-use Rattle.cc_whole_reading.proofs.Shapes.{Seq, seq, After, after, Named, named, Made, made, Either, one, other, decides_then, decides_made}
-use Rattle.cc_whole_reading.proofs.Choices.{decides_sign, decides_word, sees_same, sees_a_same}
+use Rattle.cc_whole_reading.proofs.Decides.{SameFront, Spelling, any, Decides, decides_as, Done, decides_pure}
+use Rattle.cc_whole_reading.proofs.Shapes.{seq, After, after, Named, named, Made, made, decides_then, decides_made}
+use Rattle.cc_whole_reading.proofs.Choices.{decides_sign, decides_word, sees_a_same}
 use Rattle.cc_whole_reading.proofs.Ways.{Apart, Tells, decides_if, decides_next, decides_sight, apart_after, apart_either, apart_named, apart_made}
 use Rattle.cc_whole_reading.proofs.ConstantLaws.{all_kept, decides_constant}
 use Rattle.cc_whole_read_types.specs.ReadTypes.{sees_type, type_name}
 use Rattle.cc_whole_read_types.proofs.TypeLaws.{IsType, is_type, TypeEnds, decides_type}
 use Rattle.cc_whole_read_expr.specs.ReadExpr as spec
 use Rattle.cc_whole_read_expr.specs.ReadExpr.{prefixed, casted, address, typed_operand, cast, enclosed, brackets, loaded, variable, number, leaf, signed, operand_by}
-use Rattle.cc_whole_read_expr.proofs.Firsts.{Front, front}
+use Rattle.cc_whole_read_expr.proofs.Firsts.{front}
 use Rattle.cc_whole_read_expr.proofs.OperatorLaws.{ends}
 use Rattle.cc_whole_read_expr.proofs.OperandLaws.{Whole, Small, PlaceTail, TypedTail, CastShape, EnclosedShape, BracketsShape, LeafShape, NotShape, ComplementShape, SignedShape, StarShape, OperandShape, close_follows, decides_tail, operand_shape, of_operand}
 

@@ -1,5 +1,5 @@
 -- Reading operands with operators between them decides each level of expressions, where reading an operand decides operands.
-use Rattle.std.proofs.Common.{◌≡◌, ℕ, zero, suc, ◌+◌, ◌<◌, ◌≤◌, Bool, true, false, List, [], ◌∷◌, ◌++◌, length, Option, Some, None, Result, Ok, Err, refl, ap, sym, ◌∙◌, subst, arith, append-nil, append_assoc, length-append}
+use Rattle.std.proofs.Common.{◌≡◌, ℕ, zero, suc, ◌+◌, ◌<◌, ◌≤◌, Bool, true, false, List, [], ◌∷◌, ◌++◌, length, Option, Some, None, Ok, refl, ap, sym, ◌∙◌, subst, arith, append-nil, append_assoc}
 use Rattle.std.specs.Prelude.{if◌then◌else◌, ◌==◌}
 use Rattle.std.proofs.lemmas.Bool.{eqb-true}
 use Rattle.std.proofs.lemmas.Bool.Decides.{nat_tests}
@@ -7,13 +7,11 @@ use Rattle.cf_base.specs.declared.arith.Arith.{Arith}
 use Rattle.cc_whole_tokens.specs.declared.token.Token.{Token}
 use Rattle.cc_whole.specs.declared.expression.CExpression.{CExpression}
 use Rattle.cc_whole.specs.declared.expression.CExpression.TheVariants as tree
-use Rattle.cc_whole.specs.Operators.{joins, loosest}
+use Rattle.cc_whole.specs.Operators.{joins}
 use Rattle.cc_whole.specs.Spells.{SpellsExpression}
 use Rattle.cc_whole.specs.Spells as g
-use Rattle.cc_whole_reading.specs.declared.stop.Stop.{Stop}
-use Rattle.cc_whole_reading.specs.declared.stop.Stop.TheVariants as stop
-use Rattle.cc_whole_reading.specs.Parse.{Parse, and_then, ◌>>=◌, pure, behind}
-use Rattle.cc_whole_reading.proofs.Decides.{SameFront, Spelling, Follow, any, SameReading, Took, Answer, Decides, decides_as, decides_follow, decides_less, none_left}
+use Rattle.cc_whole_reading.specs.Parse.{Parse, and_then, ◌>>=◌, behind}
+use Rattle.cc_whole_reading.proofs.Decides.{SameFront, Spelling, Follow, any, SameReading, Took, Answer, Decides, decides_as, decides_follow, decides_less}
 use Rattle.cc_whole_reading.proofs.Shapes.{Seq, seq, decides_then}
 use Rattle.cc_whole_reading.proofs.Choices.{answer_front}
 use Rattle.cc_whole_read_expr.specs.ReadExpr.{above, operator_above, if_some, more_operands, binary}

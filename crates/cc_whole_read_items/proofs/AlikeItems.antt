@@ -1,5 +1,5 @@
 -- Reading items with some constants, and with all, is alike.
-use Rattle.std.proofs.Common.{◌≡◌, ℕ, Bool, true, false, List, [], ◌∷◌, Option, Some, None, refl, ap, ◌∙◌}
+use Rattle.std.proofs.Common.{◌≡◌, ℕ, Bool, true, false, List, [], Option, Some, None, refl, ap, ◌∙◌}
 use Rattle.cc_whole_tokens.specs.declared.mark.Mark.TheVariants as mark
 use Rattle.cc_whole.specs.declared.types.CConstant.{CConstant}
 use Rattle.cc_whole.specs.declared.statement.CBody.{CBody}
@@ -10,7 +10,7 @@ use Rattle.cc_whole.specs.declared.unit.CInitialiser.TheVariants as initialiser
 use Rattle.cc_whole.specs.declared.unit.CItem.{CItem}
 use Rattle.cc_whole.specs.declared.unit.CItem.TheVariants as item
 use Rattle.cc_whole_reading.specs.declared.constants.Constants.{Constants}
-use Rattle.cc_whole_reading.specs.Parse.{Parse, ◌>>=◌, pure, past, sees_a, is_text, is_shared, goes_on, expect, end}
+use Rattle.cc_whole_reading.specs.Parse.{◌>>=◌, pure, past, sees_a, is_text, is_shared, goes_on, expect, end}
 use Rattle.cc_whole_reading.specs.Constants.{keeps, constant}
 use Rattle.cc_whole_reading.proofs.ConstantLaws.{all_kept}
 use Rattle.cc_whole_reading.proofs.Alike.{Alike, AsTheyStand, alike_pure, alike_itself, alike_then, alike_next, alike_made, alike_if, alike_past, alike_sight, alike_either, alike_all, alike_separated, alike_constant}

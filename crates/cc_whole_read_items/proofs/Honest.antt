@@ -1,6 +1,6 @@
 -- What reading takes stands at the front, and where a constant stops it that constant stands in the tokens: carried from parts to wholes.
 use Rattle.std.specs.Prelude.{if◌then◌else◌, nat_le, bytes_eq}
-use Rattle.std.proofs.Common.{◌≡◌, ℕ, zero, suc, Bool, true, false, List, [], ◌∷◌, ◌++◌, length, pos, neg_ℤ, Option, Some, None, Result, Ok, Err, refl, ap, sym, ◌∙◌, subst, append_assoc}
+use Rattle.std.proofs.Common.{◌≡◌, ℕ, zero, suc, Bool, true, false, List, [], ◌∷◌, ◌++◌, length, pos, neg_ℤ, Option, Some, None, Result, Ok, Err, refl, ap, sym, ◌∙◌, append_assoc}
 use Rattle.std.specs.Str.Parse.{digits_value}
 use Rattle.cc_whole_tokens.specs.declared.mark.Mark.{Mark}
 use Rattle.cc_whole_tokens.specs.declared.mark.Mark.TheVariants as mark
@@ -10,7 +10,7 @@ use Rattle.cc_whole.specs.declared.types.CConstant.{CConstant}
 use Rattle.cc_whole.specs.declared.types.CConstant.TheVariants as int
 use Rattle.cc_whole_reading.specs.declared.stop.Stop.{Stop}
 use Rattle.cc_whole_reading.specs.declared.stop.Stop.TheVariants as stop
-use Rattle.cc_whole_reading.specs.Parse.{Parse, and_then, ◌>>=◌, pure, refuse, behind, sees, sees_a, is_dash, past, if_test, if_next, later_of, or_after, or_else, either, many, all_of, expect, name, text, nought, end}
+use Rattle.cc_whole_reading.specs.Parse.{Parse, and_then, ◌>>=◌, pure, behind, sees, sees_a, is_dash, past, if_test, if_next, or_after, or_else, either, many, all_of, expect, name, text, nought, end}
 use Rattle.cc_whole_reading.specs.Constants.{Keep, converted, positive, negative, constant}
 use Rattle.cc_whole_reading.proofs.Chains.{separated}
 use Rattle.cc_whole_read_items.specs.Answers.{IsNumber, plain, negated, unsigned}

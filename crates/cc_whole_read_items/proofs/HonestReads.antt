@@ -1,10 +1,8 @@
 -- Where reading items stops at a constant, that constant stands in the tokens.
-use Rattle.std.proofs.Common.{◌≡◌, ℕ, zero, suc, Bool, true, false, List, [], ◌∷◌, length, Option, Some, None, Result, Ok, refl}
+use Rattle.std.proofs.Common.{ℕ, zero, suc, Bool, true, false, List, [], length, Option, Some, None, Result, Ok}
 use Rattle.cf_base.specs.declared.arith.Arith.{Arith}
 use Rattle.cc_whole_tokens.specs.declared.mark.Mark.TheVariants as mark
 use Rattle.cc_whole_tokens.specs.declared.token.Token.{Token}
-use Rattle.cc_whole.specs.declared.types.CType.{CType}
-use Rattle.cc_whole.specs.declared.types.CSignature.{CSignature}
 use Rattle.cc_whole.specs.declared.expression.Prefix.{Prefix}
 use Rattle.cc_whole.specs.declared.expression.CExpression.{CExpression}
 use Rattle.cc_whole.specs.declared.expression.CExpression.TheVariants as tree
@@ -12,7 +10,7 @@ use Rattle.cc_whole.specs.declared.statement.CBody.{CBody}
 use Rattle.cc_whole.specs.declared.statement.CStatement.{CStatement}
 use Rattle.cc_whole.specs.Operators.{loosest}
 use Rattle.cc_whole_reading.specs.declared.stop.Stop.{Stop}
-use Rattle.cc_whole_reading.specs.Parse.{Parse, and_then, ◌>>=◌, pure, past, if_next, behind, sees, sees_not, goes_on, expect, name, end}
+use Rattle.cc_whole_reading.specs.Parse.{Parse, and_then, ◌>>=◌, past, behind, sees_not, goes_on, expect, name, end}
 use Rattle.cc_whole_reading.specs.Constants.{Keep, constant}
 use Rattle.cc_whole_read_types.specs.ReadTypes as types
 use Rattle.cc_whole_read_types.specs.ReadTypes.{char_type, unsigned_type, function_pointer, other_type, type_name, some_type, result_type, pointed_char, pointed_other, pointed_type, some_types, parameters_of, signature, size, ints, local_of, local_named, one_local, array, variable_named, variable_typed, one_variable}

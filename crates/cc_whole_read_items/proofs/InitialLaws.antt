@@ -1,5 +1,5 @@
 -- Reading what stands in a variable before a run decides how it is spelled.
-use Rattle.std.proofs.Common.{◌≡◌, ℕ, suc, ◌≤◌, Bool, true, false, List, [], ◌∷◌, ◌++◌, length, Option, Some, None, Result, Ok, Err, refl, ap, sym, ◌∙◌, subst, arith}
+use Rattle.std.proofs.Common.{◌≡◌, ℕ, suc, Bool, true, false, List, [], ◌∷◌, ◌++◌, length, Option, Some, None, Ok, Err, refl, sym, subst}
 use Rattle.std.specs.Prelude.{if◌then◌else◌, bytes_eq}
 use Rattle.cf_base.proofs.Tests.{same_bytes, bytes_same}
 use Rattle.cc_whole_tokens.specs.declared.mark.Mark.TheVariants as mark
@@ -13,13 +13,13 @@ use Rattle.cc_whole.specs.declared.unit.CInitialiser.TheVariants as initialiser
 use Rattle.cc_whole.specs.SpellsTypes.{sign, SpellsConstant}
 use Rattle.cc_whole.specs.SpellsItems.{function_tokens, SpellsPair, SpellsPairs, SpellsInitialiser}
 use Rattle.cc_whole.specs.SpellsItems as g
-use Rattle.cc_whole_reading.specs.Parse.{Parse, ◌>>=◌, pure, sees, sees_a, is_name, is_text, expect, name, text, nought}
+use Rattle.cc_whole_reading.specs.Parse.{◌>>=◌, pure, sees, sees_a, is_name, is_text, expect, text, nought}
 use Rattle.cc_whole_reading.specs.declared.stop.Stop.TheVariants as stop
 use Rattle.cc_whole_reading.specs.Constants.{constant}
 use Rattle.cc_whole_reading.proofs.Decides.{SameFront, Spelling, Follow, any, SameReading, Took, Stuck, Answer, Decides, decides_as, decides_follow, Done, done, decides_pure, stuck_here}
 use Rattle.cc_whole_reading.proofs.Shapes.{Seq, seq, After, after, Named, named, Made, made, Either, one, other, decides_then, decides_made}
 use Rattle.cc_whole_reading.proofs.Choices.{decides_sign, decides_word, sees_a_same}
-use Rattle.cc_whole_reading.proofs.Ways.{Apart, Tells, decides_if, decides_sight, apart_done}
+use Rattle.cc_whole_reading.proofs.Ways.{Tells, decides_if, decides_sight, apart_done}
 use Rattle.cc_whole_reading.proofs.Chains.{Separated, last, more, decides_separated}
 use Rattle.cc_whole_reading.proofs.ConstantLaws.{all_kept, decides_constant}
 use Rattle.cc_whole_read_items.specs.ReadItems.{some_function, no_function, pair_function, pair_of, pair, some_pairs, string, pairs, values, start}

@@ -1,5 +1,5 @@
 -- Reading an item decides how it is spelled.
-use Rattle.std.proofs.Common.{◌≡◌, ℕ, zero, suc, ◌≤◌, ◌<◌, ◌+◌, Bool, true, false, List, [], ◌∷◌, ◌++◌, length, Option, Some, None, refl, ap, sym, ◌∙◌, subst, arith, append_assoc, length-append}
+use Rattle.std.proofs.Common.{◌≡◌, ℕ, Bool, true, false, List, [], ◌∷◌, ◌++◌, length, Option, Some, None, refl, ap, sym, ◌∙◌, subst, arith, append_assoc}
 use Rattle.cc_whole_tokens.specs.declared.mark.Mark.{Mark}
 use Rattle.cc_whole_tokens.specs.declared.mark.Mark.TheVariants as mark
 use Rattle.cc_whole_tokens.specs.declared.token.Token.{Token}
@@ -10,8 +10,6 @@ use Rattle.cc_whole.specs.declared.types.CType.TheVariants as ty
 use Rattle.cc_whole.specs.declared.types.CVariableType.{CVariableType}
 use Rattle.cc_whole.specs.declared.statement.CBody.{CBody}
 use Rattle.cc_whole.specs.declared.unit.CPrototype.{CPrototype}
-use Rattle.cc_whole.specs.declared.unit.CFunction.{CFunction}
-use Rattle.cc_whole.specs.declared.unit.CVariable.{CVariable}
 use Rattle.cc_whole.specs.declared.unit.CInitialiser.{CInitialiser}
 use Rattle.cc_whole.specs.declared.unit.CItem.{CItem}
 use Rattle.cc_whole.specs.declared.unit.CItem.TheVariants as item
@@ -21,21 +19,17 @@ use Rattle.cc_whole.specs.Spells.{bracketed, SpellsBody}
 use Rattle.cc_whole.specs.Spells as b
 use Rattle.cc_whole.specs.SpellsItems.{static_tokens, parameters_tokens, prototype_tokens, SpellsInitialiser, SpellsItem}
 use Rattle.cc_whole.specs.SpellsItems as g
-use Rattle.cc_whole_reading.specs.Parse.{Parse, ◌>>=◌, pure, past, either, sees, sees_a, is_shared, expect}
-use Rattle.cc_whole_reading.proofs.Decides.{SameFront, Spelling, Follow, any, Decides, DecidesIf, decides_as, decides_follow, decides_one, Done, done, decides_pure}
-use Rattle.cc_whole_reading.proofs.Shapes.{Seq, seq, After, after, Made, made, Either, one, other, decides_then, decides_made}
-use Rattle.cc_whole_reading.proofs.Choices.{decides_sign, sees_same, sees_a_same, sees_there, answer_front}
-use Rattle.cc_whole_reading.proofs.Ways.{Apart, Tells, Differ, decides_if, decides_sight, decides_either, apart_either}
-use Rattle.cc_whole_reading.proofs.ConstantLaws.{all_kept}
-use Rattle.cc_whole_read_types.specs.ReadTypes.{result_type, one_variable}
+use Rattle.cc_whole_reading.specs.Parse.{sees, sees_a, is_shared}
+use Rattle.cc_whole_reading.proofs.Decides.{Spelling, any, decides_one, Done}
+use Rattle.cc_whole_reading.proofs.Shapes.{Seq, seq, After, after, Made, made, Either, one, other}
+use Rattle.cc_whole_reading.proofs.Choices.{sees_there}
+use Rattle.cc_whole_reading.proofs.Ways.{Apart, Tells, Differ}
+use Rattle.cc_whole_read_types.specs.ReadTypes.{result_type}
 use Rattle.cc_whole_read_types.specs.declared.variable.Declared.{Declared}
 use Rattle.cc_whole_read_types.proofs.TypeLaws.{TypeEnds, no_type, IsResult, is_result, decides_result}
-use Rattle.cc_whole_read_types.proofs.VariableLaws.{IsVariable, no_size, decides_variable}
-use Rattle.cc_whole_read_body.specs.ReadBody.{body}
-use Rattle.cc_whole_read_body.proofs.BodyLaws.{decides_body}
-use Rattle.cc_whole_read_items.specs.ReadItems.{static_word, prototype, start, prototype_line, extern_line, function_of, function, variable_of, variable_behind, variable, definition, declaration, unmarked, marked, one_item}
-use Rattle.cc_whole_read_items.proofs.PrototypeLaws.{IsStatic, is_static, no_static, decides_static, IsPrototype, is_prototype, decides_prototype, result_no_static}
-use Rattle.cc_whole_read_items.proofs.InitialLaws.{no_assign, decides_start}
+use Rattle.cc_whole_read_types.proofs.VariableLaws.{IsVariable}
+use Rattle.cc_whole_read_items.specs.ReadItems.{prototype}
+use Rattle.cc_whole_read_items.proofs.PrototypeLaws.{IsStatic, is_static, IsPrototype, is_prototype, decides_prototype}
 
 -- ---- the shapes of items
 

@@ -1,5 +1,5 @@
 -- Reading a prototype decides how it is spelled.
-use Rattle.std.proofs.Common.{◌≡◌, ℕ, Bool, true, false, List, [], ◌∷◌, ◌++◌, length, Option, Some, None, refl, ap, sym, ◌∙◌, subst, append_assoc}
+use Rattle.std.proofs.Common.{◌≡◌, ℕ, Bool, true, false, List, [], ◌∷◌, ◌++◌, Option, Some, None, refl, ap, sym, ◌∙◌, subst, append_assoc}
 use Rattle.cc_whole_tokens.specs.declared.mark.Mark.TheVariants as mark
 use Rattle.cc_whole_tokens.specs.declared.token.Token.{Token}
 use Rattle.cc_whole_tokens.specs.declared.token.Token.TheVariants as token
@@ -10,8 +10,8 @@ use Rattle.cc_whole.specs.declared.unit.CPrototype.{CPrototype}
 use Rattle.cc_whole.specs.SpellsTypes.{sign, type_tokens, result_tokens}
 use Rattle.cc_whole.specs.SpellsItems.{static_tokens, parameters_tokens, prototype_tokens}
 use Rattle.cc_whole.specs.SpellsItems as g
-use Rattle.cc_whole_reading.specs.Parse.{Parse, ◌>>=◌, pure, sees, expect, name}
-use Rattle.cc_whole_reading.proofs.Decides.{Spelling, Follow, any, Decides, decides_as, decides_follow, Done, done, decides_pure}
+use Rattle.cc_whole_reading.specs.Parse.{◌>>=◌, pure, sees, expect}
+use Rattle.cc_whole_reading.proofs.Decides.{Spelling, Follow, any, Decides, decides_as, Done, done, decides_pure}
 use Rattle.cc_whole_reading.proofs.Shapes.{Seq, seq, After, after, Named, named, Either, one, other, decides_then}
 use Rattle.cc_whole_reading.proofs.Choices.{decides_sign, decides_word}
 use Rattle.cc_whole_reading.proofs.Ways.{Apart, decides_sight, apart_done}

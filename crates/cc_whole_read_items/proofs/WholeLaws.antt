@@ -1,6 +1,6 @@
 -- What the two passes over all tokens tell.
-use Rattle.std.specs.Prelude.{if◌then◌else◌, not}
-use Rattle.std.proofs.Common.{◌≡◌, ℕ, suc, ◌-◌, ◌+◌, ◌<◌, ◌≤◌, Bool, true, false, Option, Some, None, List, [], ◌∷◌, ◌++◌, length, Result, Ok, Err, refl, ap, sym, ◌∙◌, subst, arith, append-nil, append_assoc, length-append}
+use Rattle.std.specs.Prelude.{if◌then◌else◌}
+use Rattle.std.proofs.Common.{◌≡◌, ℕ, suc, ◌-◌, ◌+◌, ◌<◌, Bool, true, false, Option, Some, None, List, [], ◌∷◌, ◌++◌, length, Result, Ok, Err, refl, ap, sym, ◌∙◌, subst, arith, append-nil, append_assoc, length-append}
 use Rattle.cc_whole_tokens.specs.declared.token.Token.{Token}
 use Rattle.cc_whole.specs.declared.unit.CItem.{CItem}
 use Rattle.cc_whole.specs.SpellsItems.{SpellsItem, SpellsItems}
@@ -10,7 +10,7 @@ use Rattle.cc_whole_reading.specs.declared.stop.Stop.{Stop}
 use Rattle.cc_whole_reading.specs.declared.stop.Stop.TheVariants as stop
 use Rattle.cc_whole_reading.specs.declared.constants.Constants.{Constants}
 use Rattle.cc_whole_reading.specs.declared.constants.Constants.TheVariants as constants
-use Rattle.cc_whole_reading.specs.Parse.{Parse, and_then, ◌>>=◌, pure, goes_on, end}
+use Rattle.cc_whole_reading.specs.Parse.{and_then, ◌>>=◌, pure, goes_on, end}
 use Rattle.cc_whole_reading.specs.Constants.{keeps, fitting, zero_of, or_zero}
 use Rattle.cc_whole.specs.declared.types.CConstant.{CConstant}
 use Rattle.cc_whole.specs.Numbers.{fits_constant}

@@ -1,5 +1,5 @@
 -- What reading the items of tokens answers.
-use Rattle.std.specs.Prelude.{◌≡◌, ℕ, ◌+◌, false, pos, neg_ℤ, List, [], ◌∷◌, ◌++◌, length, Result, Ok, Err}
+use Rattle.std.specs.Prelude.{◌≡◌, ℕ, false, pos, neg_ℤ, List, [], ◌∷◌, ◌++◌, length, Result, Ok, Err}
 use Rattle.std.specs.Str.Parse.{digits_value}
 use Rattle.cc_whole_tokens.specs.declared.token.Token.{Token}
 use Rattle.cc_whole_tokens.specs.declared.token.Token.TheVariants as token

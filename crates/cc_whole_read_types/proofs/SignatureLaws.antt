@@ -8,8 +8,8 @@ use Rattle.cc_whole.specs.declared.types.CType.{CType}
 use Rattle.cc_whole.specs.declared.types.CSignature.{CSignature}
 use Rattle.cc_whole.specs.SpellsTypes.{type_tokens, types_tokens, signature_tokens}
 use Rattle.cc_whole.specs.SpellsTypes as g
-use Rattle.cc_whole_reading.specs.Parse.{Parse, ◌>>=◌, pure, if_next, sees, expect}
-use Rattle.cc_whole_reading.proofs.Decides.{Spelling, Follow, any, Decides, decides_as, Done, done, decides_pure}
+use Rattle.cc_whole_reading.specs.Parse.{◌>>=◌, pure, sees, expect}
+use Rattle.cc_whole_reading.proofs.Decides.{Spelling, any, Decides, decides_as, Done, done, decides_pure}
 use Rattle.cc_whole_reading.proofs.Shapes.{Seq, seq, After, after, Either, one, other, decides_then}
 use Rattle.cc_whole_reading.proofs.Choices.{decides_sign}
 use Rattle.cc_whole_reading.proofs.Ways.{Apart, decides_sight}

@@ -1,18 +1,17 @@
 -- Reading a type decides how types are spelled.
-use Rattle.std.proofs.Common.{◌≡◌, ℕ, Bool, true, false, List, [], ◌∷◌, ◌++◌, Option, Some, None, refl, ap, sym, subst}
+use Rattle.std.proofs.Common.{◌≡◌, ℕ, false, List, [], ◌++◌, Option, Some, None, refl}
 use Rattle.cc_whole_tokens.specs.declared.mark.Mark.{Mark}
 use Rattle.cc_whole_tokens.specs.declared.mark.Mark.TheVariants as mark
 use Rattle.cc_whole_tokens.specs.declared.token.Token.{Token}
-use Rattle.cc_whole_tokens.specs.declared.token.Token.TheVariants as token
 use Rattle.cc_whole_tokens.specs.Mark.{same_mark}
 use Rattle.cc_whole.specs.declared.types.CType.{CType}
 use Rattle.cc_whole.specs.declared.types.CType.TheVariants as ty
 use Rattle.cc_whole.specs.SpellsTypes.{sign, type_tokens, result_tokens}
-use Rattle.cc_whole_reading.specs.Parse.{Parse, ◌>>=◌, pure, if_next, sees, expect}
-use Rattle.cc_whole_reading.proofs.Decides.{Spelling, Follow, any, Decides, decides_as, decides_follow, Done, done, decides_pure}
+use Rattle.cc_whole_reading.specs.Parse.{◌>>=◌, pure, if_next, sees, expect}
+use Rattle.cc_whole_reading.proofs.Decides.{Spelling, Follow, Decides, decides_as, decides_follow, Done, done, decides_pure}
 use Rattle.cc_whole_reading.proofs.Shapes.{Seq, seq, After, after, Made, made, Either, one, other, decides_then, decides_made}
 use Rattle.cc_whole_reading.proofs.Choices.{decides_sign}
-use Rattle.cc_whole_reading.proofs.Ways.{Apart, decides_sight, apart_after, apart_either, apart_done, apart_seq, apart_made}
+use Rattle.cc_whole_reading.proofs.Ways.{Apart, decides_sight, apart_after, apart_either, apart_done, apart_seq}
 use Rattle.cc_whole_read_types.specs.ReadTypes.{char_type, unsigned_type, function_pointer, other_type, type_name, some_type, result_type, pointed_char, pointed_other, pointed_type}
 
 pub data IsType : CType → List Token → Type 0 where

@@ -1,6 +1,6 @@
 -- Reading a local or a variable decides how it is spelled.
 use Rattle.std.specs.Prelude.{if◌then◌else◌}
-use Rattle.std.proofs.Common.{◌≡◌, ℕ, true, false, List, [], ◌∷◌, ◌++◌, refl, ap, ◌∙◌, append_assoc}
+use Rattle.std.proofs.Common.{◌≡◌, ℕ, false, List, [], ◌∷◌, ◌++◌, refl}
 use Rattle.cc_whole_tokens.specs.declared.mark.Mark.TheVariants as mark
 use Rattle.cc_whole_tokens.specs.declared.token.Token.{Token}
 use Rattle.cc_whole_tokens.specs.declared.token.Token.TheVariants as token
@@ -15,16 +15,16 @@ use Rattle.cc_whole.specs.declared.types.CLocalType.TheVariants as «local»
 use Rattle.cc_whole.specs.declared.statement.CLocal.{CLocal}
 use Rattle.cc_whole.specs.SpellsTypes.{sign, type_tokens, SpellsConstant, SpellsLocal, SpellsVariable}
 use Rattle.cc_whole.specs.SpellsTypes as g
-use Rattle.cc_whole_reading.specs.Parse.{Parse, ◌>>=◌, pure, past, sees, expect, name}
-use Rattle.cc_whole_reading.specs.Constants.{Keep, keeps, constant}
+use Rattle.cc_whole_reading.specs.Parse.{◌>>=◌, pure, past, sees, expect, name}
+use Rattle.cc_whole_reading.specs.Constants.{keeps, constant}
 use Rattle.cc_whole_reading.specs.declared.constants.Constants.{Constants}
 use Rattle.cc_whole_reading.proofs.Decides.{Spelling, Follow, any, Decides, decides_as, decides_follow, Done, done, decides_pure}
 use Rattle.cc_whole_reading.proofs.Shapes.{Seq, seq, After, after, Named, named, Made, made, Either, one, other, decides_then, decides_made}
 use Rattle.cc_whole_reading.proofs.Choices.{decides_sign, decides_word}
-use Rattle.cc_whole_reading.proofs.Ways.{Apart, decides_sight, apart_done, apart_seq}
+use Rattle.cc_whole_reading.proofs.Ways.{decides_sight, apart_done, apart_seq}
 use Rattle.cc_whole_reading.proofs.ConstantLaws.{all_kept, decides_constant}
 use Rattle.cc_whole_reading.proofs.Alike.{Alike, AsTheyStand, alike_then, alike_next, alike_pure, alike_itself, alike_if, alike_past, alike_sight, alike_made, alike_constant}
-use Rattle.cc_whole_read_types.specs.ReadTypes.{is_int, is_char, array_of, type_name, size, ints, local_of, local_named, one_local, array, variable_of, variable_named, variable_typed, pairs, one_variable}
+use Rattle.cc_whole_read_types.specs.ReadTypes.{array_of, type_name, size, ints, local_of, local_named, one_local, array, variable_of, variable_named, variable_typed, pairs, one_variable}
 use Rattle.cc_whole_read_types.specs.declared.variable.Declared.{Declared}
 use Rattle.cc_whole_read_types.proofs.TypeLaws.{IsType, is_type, TypeEnds, decides_type, no_type}
 

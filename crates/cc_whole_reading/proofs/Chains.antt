@@ -1,10 +1,10 @@
 -- Reading one thing after another, or with commas between, decides lists.
-use Rattle.std.proofs.Common.{◌≡◌, ℕ, zero, suc, ◌≤◌, ◌<◌, ◌+◌, Bool, true, false, List, [], ◌∷◌, ◌++◌, length, Result, Ok, Err, refl, ap, sym, ◌∙◌, subst, arith, append-nil, append_assoc, length-append}
+use Rattle.std.proofs.Common.{◌≡◌, ℕ, zero, suc, ◌≤◌, ◌<◌, ◌+◌, Bool, true, false, List, [], ◌∷◌, ◌++◌, length, refl, ap, sym, ◌∙◌, subst, arith, append-nil, append_assoc}
 use Rattle.cc_whole_tokens.specs.declared.mark.Mark.TheVariants as mark
 use Rattle.cc_whole_tokens.specs.declared.token.Token.{Token}
 use Rattle.cc_whole_tokens.specs.declared.token.Token.TheVariants as token
 use Rattle.cc_whole_reading.specs.Parse.{Parse, ◌>>=◌, pure, sees, past, many, all_of}
-use Rattle.cc_whole_reading.proofs.Decides.{SameFront, same_itself, Spelling, Follow, any, SameReading, Took, Answer, Decides, DecidesIf, decides_as, decides_less, Done, done, decides_pure, none_left}
+use Rattle.cc_whole_reading.proofs.Decides.{SameFront, Spelling, Follow, SameReading, Took, Decides, DecidesIf, decides_as, Done, done, decides_pure, none_left}
 use Rattle.cc_whole_reading.proofs.Shapes.{Seq, seq, After, after, Either, one, other, decides_then, decides_then_if}
 use Rattle.cc_whole_reading.proofs.Choices.{decides_past, sees_same, sees_there}
 use Rattle.cc_whole_reading.proofs.Ways.{Tells, decides_if}

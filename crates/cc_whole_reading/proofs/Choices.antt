@@ -1,14 +1,13 @@
 -- Reading that looks at the next token, or tries one way and then another, decides what the ways decide.
-use Rattle.std.proofs.Common.{◌≡◌, ℕ, zero, suc, ◌≤◌, ◌<◌, ◌+◌, Bool, true, false, nat_le, List, [], ◌∷◌, ◌++◌, length, Result, Ok, Err, refl, ap, sym, ◌∙◌, subst, arith, rules, append-nil, append_assoc, length-append}
+use Rattle.std.proofs.Common.{◌≡◌, ℕ, suc, ◌≤◌, Bool, true, false, List, [], ◌∷◌, ◌++◌, length, Result, Ok, Err, refl, ap, sym, ◌∙◌, subst, arith}
 use Rattle.std.specs.Prelude.{if◌then◌else◌}
-use Rattle.std.proofs.lemmas.Bool.Decides.{nat_tests}
 use Rattle.cc_whole_tokens.specs.declared.mark.Mark.{Mark}
 use Rattle.cc_whole_tokens.specs.declared.token.Token.{Token}
 use Rattle.cc_whole_tokens.specs.declared.token.Token.TheVariants as token
 use Rattle.cc_whole_reading.specs.declared.stop.Stop.{Stop}
 use Rattle.cc_whole_reading.specs.declared.stop.Stop.TheVariants as stop
-use Rattle.cc_whole_reading.specs.Parse.{Parse, and_then, ◌>>=◌, pure, behind, sees, sees_a, is_name, past, if_test, if_next, or_else, either, expect, name}
-use Rattle.cc_whole_reading.proofs.Decides.{SameFront, same_itself, same_behind, Spelling, Follow, any, SameReading, Took, Stuck, Answer, Decides, DecidesIf, answer_at, decides_less, Example, decides_some}
+use Rattle.cc_whole_reading.specs.Parse.{Parse, and_then, ◌>>=◌, behind, sees, sees_a, is_name, past, expect, name}
+use Rattle.cc_whole_reading.proofs.Decides.{SameFront, same_behind, Spelling, Follow, SameReading, Stuck, Answer, Decides, DecidesIf, decides_less, decides_some}
 use Rattle.cc_whole_reading.proofs.Shapes.{After, after, Named, named, Either, one, other, sees_is, same_mark-self}
 
 -- ---- a token in front

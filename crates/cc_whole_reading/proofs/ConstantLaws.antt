@@ -1,5 +1,5 @@
 -- Reading a constant decides how constants are spelled, where all may be read.
-use Rattle.std.proofs.Common.{◌≡◌, ℕ, suc, ◌≤◌, List, [], ◌∷◌, ◌++◌, length, pos, neg_ℤ, Option, Some, refl, ap, sym, ◌∙◌, subst, arith}
+use Rattle.std.proofs.Common.{◌≡◌, ℕ, List, [], ◌∷◌, ◌++◌, length, pos, neg_ℤ, Some, refl, ap, sym, subst, arith}
 use Rattle.std.specs.Str.Parse.{digits_value}
 use Rattle.cc_whole_tokens.specs.declared.token.Token.{Token}
 use Rattle.cc_whole_tokens.specs.declared.token.Token.TheVariants as token
@@ -7,8 +7,8 @@ use Rattle.cc_whole.specs.declared.types.CConstant.{CConstant}
 use Rattle.cc_whole.specs.declared.types.CConstant.TheVariants as int
 use Rattle.cc_whole.specs.SpellsTypes.{SpellsConstant}
 use Rattle.cc_whole.specs.SpellsTypes as g
-use Rattle.cc_whole_reading.specs.Constants.{Keep, converted, positive, negative, constant}
-use Rattle.cc_whole_reading.proofs.Decides.{SameFront, any, SameReading, Took, Stuck, Decides, Example, stuck_here}
+use Rattle.cc_whole_reading.specs.Constants.{Keep, positive, negative, constant}
+use Rattle.cc_whole_reading.proofs.Decides.{SameFront, any, SameReading, Stuck, Decides, stuck_here}
 use Rattle.cc_whole_reading.proofs.Choices.{answer_front}
 
 -- every constant of a text may be read

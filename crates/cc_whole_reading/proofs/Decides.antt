@@ -1,11 +1,11 @@
 -- What it means that reading decides a way of spelling. Where it gives a tree, the tokens up to there spell it, and no text with the same
 -- tokens up to there and the same next token is read otherwise. Where it stops, the tokens before begin a text, and none that goes on with
 -- the token at which it stops.
-use Rattle.std.proofs.Common.{◌≡◌, ℕ, zero, suc, ◌≤◌, ◌<◌, ◌+◌, Bool, true, false, List, [], ◌∷◌, ◌++◌, length, Result, Ok, Err, refl, ap, sym, ◌∙◌, subst, arith, append-nil, append_assoc, length-append}
+use Rattle.std.proofs.Common.{◌≡◌, ℕ, ◌≤◌, ◌<◌, Bool, true, List, [], ◌∷◌, ◌++◌, length, Result, Ok, Err, refl, sym, ◌∙◌, subst, arith}
 use Rattle.cc_whole_tokens.specs.declared.token.Token.{Token}
 use Rattle.cc_whole_reading.specs.declared.stop.Stop.{Stop}
 use Rattle.cc_whole_reading.specs.declared.stop.Stop.TheVariants as stop
-use Rattle.cc_whole_reading.specs.Parse.{Parse, and_then, ◌>>=◌, pure, refuse}
+use Rattle.cc_whole_reading.specs.Parse.{Parse, pure, refuse}
 
 -- they begin with one token, or both are at the end
 abbrev pub SameFront : List Token → List Token → Type 0

@@ -1,6 +1,5 @@
 -- Spellings made of spellings, and that what reads the parts in turn decides the whole.
-use Rattle.std.proofs.Common.{◌≡◌, ℕ, zero, suc, ◌≤◌, ◌<◌, ◌+◌, Bool, true, false, List, [], ◌∷◌, ◌++◌, length, Result, Ok, Err, refl, ap, sym, ◌∙◌, subst, arith, rules, append-nil, append_assoc, length-append}
-use Rattle.std.specs.Prelude.{if◌then◌else◌}
+use Rattle.std.proofs.Common.{◌≡◌, ℕ, ◌≤◌, ◌+◌, Bool, true, false, List, [], ◌∷◌, ◌++◌, length, Result, Ok, Err, refl, ap, sym, ◌∙◌, subst, arith, rules, append-nil, append_assoc, length-append}
 use denote.Enum.Bare.{same_true, same_false}
 use Rattle.cc_whole_tokens.specs.contracts.mark.Mark.{the_type}
 use Rattle.cc_whole_tokens.specs.declared.mark.Mark.{Mark}
@@ -9,8 +8,8 @@ use Rattle.cc_whole_tokens.specs.declared.token.Token.TheVariants as token
 use Rattle.cc_whole_tokens.specs.Mark.{same_mark}
 use Rattle.cc_whole_reading.specs.declared.stop.Stop.{Stop}
 use Rattle.cc_whole_reading.specs.declared.stop.Stop.TheVariants as stop
-use Rattle.cc_whole_reading.specs.Parse.{Parse, and_then, ◌>>=◌, pure, behind, sees, past, if_test, if_next, expect, name}
-use Rattle.cc_whole_reading.proofs.Decides.{SameFront, same_itself, same_behind, Spelling, Follow, SameReading, Took, Stuck, Answer, Decides, DecidesIf, answer_at, answer_as, decides_as, Example, decides_some, Done, done, decides_pure}
+use Rattle.cc_whole_reading.specs.Parse.{Parse, and_then, ◌>>=◌, pure, behind, sees}
+use Rattle.cc_whole_reading.proofs.Decides.{SameFront, same_behind, Spelling, Follow, Took, Stuck, Answer, Decides, DecidesIf, decides_as, Example, decides_some, Done, done, decides_pure}
 
 -- ---- one after another
 

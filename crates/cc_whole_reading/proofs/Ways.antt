@@ -1,16 +1,15 @@
 -- One way or another: by a test of the next token, by the next sign, or by trying both.
-use Rattle.std.proofs.Common.{◌≡◌, ℕ, zero, suc, ◌≤◌, ◌<◌, ◌+◌, Bool, true, false, nat_le, List, [], ◌∷◌, ◌++◌, length, Result, Ok, Err, refl, ap, sym, ◌∙◌, subst, arith, rules, append-nil, append_assoc, length-append}
+use Rattle.std.proofs.Common.{◌≡◌, ℕ, suc, ◌≤◌, Bool, true, false, nat_le, List, [], ◌∷◌, ◌++◌, length, Result, Ok, Err, refl, ap, sym, ◌∙◌, subst, arith, append_assoc, length-append}
 use Rattle.std.specs.Prelude.{if◌then◌else◌}
 use Rattle.std.proofs.lemmas.Bool.Decides.{nat_tests}
 use Rattle.cc_whole_tokens.specs.declared.mark.Mark.{Mark}
 use Rattle.cc_whole_tokens.specs.declared.token.Token.{Token}
-use Rattle.cc_whole_tokens.specs.declared.token.Token.TheVariants as token
 use Rattle.cc_whole_tokens.specs.Mark.{same_mark}
 use Rattle.cc_whole_reading.specs.declared.stop.Stop.{Stop}
 use Rattle.cc_whole_reading.specs.declared.stop.Stop.TheVariants as stop
-use Rattle.cc_whole_reading.specs.Parse.{Parse, behind, sees, past, if_test, if_next, or_after, later_of, or_else, either}
-use Rattle.cc_whole_reading.proofs.Decides.{SameFront, same_itself, same_behind, Spelling, Follow, any, SameReading, Took, Stuck, Answer, Decides, DecidesIf, answer_as, decides_less, Done, done}
-use Rattle.cc_whole_reading.proofs.Shapes.{After, after, Seq, seq, Named, named, Made, made, Either, one, other, same_mark-true}
+use Rattle.cc_whole_reading.specs.Parse.{Parse, sees, past, if_test, if_next, or_after, or_else, either}
+use Rattle.cc_whole_reading.proofs.Decides.{SameFront, same_behind, Spelling, Follow, any, SameReading, Took, Stuck, Answer, Decides, DecidesIf, answer_as, Done, done}
+use Rattle.cc_whole_reading.proofs.Shapes.{After, after, Seq, seq, Named, named, Made, made, Either, one, other}
 use Rattle.cc_whole_reading.proofs.Choices.{answer_one, decides_past, sees_same, sees_there}
 
 pub swapped : {B : Type 0} (U V : Spelling B) (b : B) (xs : List Token) → Either U V b xs → Either V U b xs

@@ -1,12 +1,10 @@
 -- How the code reads integer constants.
-use Rattle.std.specs.Prelude.{ℕ, suc, ◌^◌, nat_lt, Bool, if◌then◌else◌, List, ◌∷◌, length, pos, neg_ℤ, Option, Some, None, Result, Ok, Err}
+use Rattle.std.specs.Prelude.{ℕ, suc, if◌then◌else◌, ◌∷◌, length, pos, neg_ℤ, Option, Some, None, Ok, Err}
 use Rattle.std.specs.Str.Parse.{digits_value}
-use Rattle.cc_whole_tokens.specs.declared.token.Token.{Token}
 use Rattle.cc_whole_tokens.specs.declared.token.Token.TheVariants as token
 use Rattle.cc_whole.specs.declared.types.CConstant.{CConstant}
 use Rattle.cc_whole.specs.declared.types.CConstant.TheVariants as int
 use Rattle.cc_whole.specs.Numbers.{fits_constant}
-use Rattle.cc_whole_reading.specs.declared.stop.Stop.{Stop}
 use Rattle.cc_whole_reading.specs.declared.stop.Stop.TheVariants as stop
 use Rattle.cc_whole_reading.specs.declared.constants.Constants.{Constants}
 use Rattle.cc_whole_reading.specs.declared.constants.Constants.TheVariants as constants

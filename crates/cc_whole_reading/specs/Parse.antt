@@ -1,5 +1,5 @@
 -- How the code reads from a list of tokens: what it takes, and what is left behind. A refusal tells how many tokens are left at its place.
-use Rattle.std.specs.Prelude.{◌≡◌, ℕ, zero, suc, Bool, true, false, if◌then◌else◌, List, [], ◌∷◌, ◌++◌, length, not, Option, Some, None, nat_le, bytes_eq, Result, Ok, Err}
+use Rattle.std.specs.Prelude.{◌≡◌, ℕ, zero, suc, Bool, true, false, if◌then◌else◌, List, [], ◌∷◌, ◌++◌, length, not, nat_le, bytes_eq, Result, Ok, Err}
 use Rattle.cc_whole_tokens.specs.declared.mark.Mark.{Mark}
 use Rattle.cc_whole_tokens.specs.declared.token.Token.{Token}
 use Rattle.cc_whole_tokens.specs.declared.token.Token.TheVariants as token
