@@ -1,0 +1,6 @@
+mod BreakLaws
+mod DifferLaws
+mod FirstLaws
+mod KeptLaws
+mod LinkLaws
+mod SeenLaws
