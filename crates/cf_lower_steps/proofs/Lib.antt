@@ -1,5 +1,6 @@
 pub mod Between
 pub mod Branches
+pub mod Conversions
 pub mod Holding
 pub mod Lowered
 pub mod Narrower
@@ -9,4 +10,5 @@ pub mod Results
 pub mod Statements
 pub mod Stores
 pub mod Tests
+pub mod Truths
 pub mod Values
