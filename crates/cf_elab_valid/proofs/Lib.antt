@@ -15,6 +15,8 @@ pub mod Initial
 pub mod Making
 pub mod Names
 pub mod Nodes
+pub mod Operands
+pub mod Parts
 pub mod Picks
 pub mod Plain
 pub mod Stepping
