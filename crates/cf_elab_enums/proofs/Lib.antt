@@ -1,0 +1,4 @@
+pub mod CheckingLaws
+pub mod CountingLaws
+pub mod DefiningLaws
+pub mod MakingLaws

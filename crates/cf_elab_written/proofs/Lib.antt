@@ -1,0 +1,7 @@
+pub mod BuiltParts
+pub mod InOrder
+pub mod Several
+pub mod TextLaws
+pub mod TreeLaws
+pub mod TreesKnown
+pub mod WrittenRows

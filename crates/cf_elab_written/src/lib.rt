@@ -1,0 +1,13 @@
+//! Initialisers with the expressions in them, while a file is elaborated (8.4).
+//!
+//! `specs/Shut` names the rows of the definitions of elaboration that the contracts cite; forms of expressions that are not built are kept out by
+//! `IsBuilt` and its kin.
+#![tactic(auto)]
+
+mod built;
+mod expressions;
+mod initialisers;
+mod trees;
+
+pub use initialisers::{initial_at, parts_of, written};
+pub use trees::tree_of;
