@@ -10,12 +10,7 @@ ghost use Rattle.cf_elab_enums.specs.Shut as shut;
 
 use cf_base::{Items, Kind, Memory, Name};
 use cf_elab_enumeration::{
-    Counted,
-    check_all_new,
-    check_constant,
-    check_ints,
-    check_name,
-    check_place,
+    Counted, check_all_new, check_constant, check_ints, check_name, check_place,
 };
 use cf_elab_env::{Env, Stop};
 use std::alloc::Global;

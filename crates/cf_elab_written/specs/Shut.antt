@@ -13,7 +13,7 @@ use Rattle.cf_elab.specs.Expression.{elaborated}
 use Rattle.cf_elab.specs.Lists as lists
 use Rattle.cf_elab.specs.Lists.{Tree}
 use Rattle.cf_elab.specs.Objects.{Written}
-use Rattle.cf_elab_expr.specs.Forms.{place}
+use Rattle.cf_elab.specs.Built.{expression as place}
 use Rattle.cf_elab_written.specs.Given.{given}
 
 -- ---- values in an initialiser
