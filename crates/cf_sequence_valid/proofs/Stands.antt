@@ -32,7 +32,7 @@ flag-same false = refl
 nat-same : (n : ℕ) → (n == n) ≡ true
 nat-same n = grind (arith, nat_tests)
 
-type-same : (t : SourceType) → type_eq t t ≡ true
+pub type-same : (t : SourceType) → type_eq t t ≡ true
 type-same void = refl
 type-same (integer k) = kind-same k
 type-same (enumeration e) = bytes_same e e refl

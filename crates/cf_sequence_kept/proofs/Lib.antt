@@ -1,0 +1,9 @@
+pub mod Expressions
+pub mod Files
+pub mod Operands
+pub mod Related
+pub mod Statements
+pub mod Steps
+pub mod Suits
+pub mod Values
+pub mod Whole

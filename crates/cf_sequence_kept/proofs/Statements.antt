@@ -1,0 +1,296 @@
+-- Statements: each register is set before it is used, and holds there what is taken.
+use Rattle.std.proofs.Common.{◌≡◌, ℕ, ◌+◌, ◌<◌, Bool, true, false, ◌&&◌, not, nat_le, if◌then◌else◌, List, [], ◌∷◌, ◌++◌, refl, ap, ◌∙◌, arith}
+use Rattle.std.specs.Prelude.{Option, Some, None, is_some, slice_get}
+use Rattle.cf_base.proofs.Tests.{both, all_of}
+use Rattle.cf_core.specs.declared.operators.LoopForm.{LoopForm}
+use Rattle.cf_core.specs.declared.operators.LoopForm.TheVariants as form
+use Rattle.cf_core.specs.Types.{SourceType, is_class}
+use Rattle.cf_core.specs.Core as core
+use Rattle.cf_core.specs.Core.{Core, Cores, MaybeCore, none, absent, given as some_core}
+use Rattle.cf_core.specs.Joined.{is_nothing}
+use Rattle.cf_core.specs.Typing.{Scope, Typing, is_integer, is_expression, same_type}
+use Rattle.cf_core.specs.Typing as typed
+use Rattle.cf_core.specs.Typed.{typing}
+use Rattle.cf_core.specs.Valid as valid
+use Rattle.cf_core.specs.Valid.{Body, is_complete, fits, all_fit, fits_maybe, labelled_fit, condition_fits, expression_fits, passes_none, is_label}
+use Rattle.cf_plain.specs.Plain.{Register, Plain, Plains, act, set, branch, loop, switch, leave, continue, give, nothing, more}
+use Rattle.cf_plain.specs.Plain as plain
+use Rattle.cf_plain_kept.specs.Kept as kept
+use Rattle.cf_plain_kept.specs.Kept.{Kept, no_value, an_object, a_truth, Keeping, keep, nothing_set, common, tested, given, integer_in, suits, after, after_all}
+use Rattle.cf_sequence.specs.Built.{is_value, is_condition, is_start, declares_here, is_statement, is_inner_or, are_cases, are_statements, next_local}
+use Rattle.cf_sequence.specs.Made.{Local, width, width_maybe, declared, declared_all}
+use Rattle.cf_sequence.specs.Expressions.{Full, Destination, destination, value, whole, settled, finished, used}
+use Rattle.cf_sequence.specs.Statements.{Inside, declares, opened, in_loop, in_switch, held, stepped, started, passed, looping, statement, statement_or, statements}
+use Rattle.cf_sequence.proofs.Calling.{never}
+use Rattle.cf_sequence.proofs.Fulls.{whole-is, nothing-is}
+use Rattle.cf_sequence.proofs.Labels.{cases-declare, not-passed}
+use Rattle.cf_sequence_kept.proofs.Suits.{scalar-tested, integer-tested}
+use Rattle.cf_sequence_kept.proofs.Related.{conditions-kept, integers-kept}
+use Rattle.cf_sequence_kept.proofs.Values.{keep-at, runs, set-runs, act-runs, Keeps, use-runs}
+use Rattle.cf_sequence_kept.proofs.Expressions.{truth-of}
+use Rattle.cf_sequence_kept.proofs.Whole.{keeps-value, settled-put}
+use Rattle.cf_sequence_valid.proofs.Serves.{Serves, as_start, either-true, integers-serve, conditions-serve, expressions-serve}
+use Rattle.cf_sequence_valid.proofs.Values as locals_of
+
+module _ (body : Body) (locals : List SourceType) (keeps : locals_of.Kept body.scope locals) where
+  abbrev scope : Scope
+  scope = body.scope
+
+  abbrev run : Plains → Keeping → Option Keeping
+  run ss g = runs locals body.result ss g
+
+  -- code that runs from what is held, whatever comes behind it
+  pub record Runs (g : Keeping) (code : Plains → Plains) : Type 0 where
+    pub now : Keeping
+    pub goes : (rest : Plains) → run (code rest) g ≡ run rest now
+
+  runs-none : (g : Keeping) → Runs g (λ rest. rest)
+  runs-none g = record { now = g; goes = λ rest. refl }
+
+  runs-by : (F G : Plains → Plains) (g : Keeping) → ((rest : Plains) → F rest ≡ G rest) → Runs g G → Runs g F
+  runs-by F G g same p = record { now = p.now; goes = λ rest. ap (λ ss. run ss g) (same rest) ∙ p.goes rest }
+
+  runs-then : (F G : Plains → Plains) (g : Keeping) (p : Runs g F) → Runs p.now G → Runs g (λ rest. F (G rest))
+  runs-then F G g p q = record { now = q.now; goes = λ rest. p.goes (G rest) ∙ q.goes rest }
+
+  pub runs-finished : (xs : List Local) (g : Keeping) → Runs g (finished xs)
+  runs-finished [] g = runs-none g
+  runs-finished (x ∷ xs) g =
+      let q = runs-finished xs g in
+      record { now = q.now; goes = λ rest. act-runs locals body.result g (plain.finish x.type x.number) no_value (finished xs rest) refl ∙ q.goes rest }
+
+  then_rest : Plains → Option Keeping → Option Keeping
+  then_rest rest o = elim o as (λ _. Option Keeping) [ None ↦ None | Some h ↦ after_all locals body.result rest h ]
+
+  is-there : (o : Option Keeping) (h : Keeping) → o ≡ Some h → is_some o ≡ true
+  is-there o h e = ap is_some e
+
+  -- an expression's value
+  valued : (f : Inside) (e : Core) → is_value e ≡ true → Serves (typing scope e) → (x : Full) (into : Option Destination) (n k : ℕ) (g : Keeping)
+      → Keeps locals body.result (typing scope e) n g (value f.classes x e into n k)
+  valued f e ok s x into n k g = keeps-value locals body.result f.classes scope keeps e ok s x into n k g
+
+  full-serves : (b c : Bool) (e : Core) → is_value e ≡ true → fits body b c (core.full e) ≡ true → Serves (typing scope e)
+  full-serves b c core.blank ok is = never ok
+  full-serves b c e ok is = expressions-serve (typing scope e) is
+
+  runs-started : (f : Inside) (i : ℕ) (t : SourceType) (e : Core) → is_start e ≡ true → (is_value e ≡ true → (typing scope e).start t ≡ true) → (k : ℕ) (g : Keeping)
+      → g 0 ≡ Some (an_object i t) → Runs g (started f.classes t e 0 k)
+  runs-started f i t e ok s k g at =
+      either-true (is_nothing e) (is_value e) ok
+      (λ blank. runs-by (started f.classes t e 0 k) (λ rest. rest) g (λ rest. ap (λ e. started f.classes t e 0 k rest) (nothing-is e blank)) (runs-none g))
+      (λ is.
+      let x : Full = record { first = k; base = 1 } in
+      let p = valued f e is (as_start t (s is)) x (destination 0 t) (1 + width e) k g in
+      let low : 0 < 1 + width e = omega arith in
+      record {
+        now = p.now;
+        goes = λ rest.
+            ap (λ ss. run ss g) (whole-is e is 1 k (λ x m rest. value f.classes x e (destination 0 t) m k rest) (λ m. settled e 0 m rest)) ∙ p.goes (settled e 0 (1 + width e) rest)
+            ∙ ap (λ ss. run ss p.now) (settled-put e is 0 (1 + width e) rest)
+            ∙ act-runs locals body.result p.now (plain.first 0 (1 + width e)) no_value rest
+            (ap (λ o. kept.begun o (p.now (1 + width e))) (p.below 0 low ∙ at) ∙ ap (kept.begun (Some (an_object i t))) p.at ∙ ap (λ b. given b no_value) (p.related.start t (s is)));
+      })
+
+  -- a condition, 1 or 0 in its register
+  pub record Tested (f : Inside) (q : Core) (k : ℕ) (g : Keeping) : Type 0 where
+    pub now : Keeping
+    pub at : now (0 + width q) ≡ Some a_truth
+    pub goes : (rest : Register → Plains) → run (whole q 0 k (λ x n rest. value f.classes x q None n k (more (set n (plain.truth n)) rest)) rest) g ≡ run (rest (0 + width q)) now
+
+  test-runs : (f : Inside) (q : Core) → is_value q ≡ true → typed.is_condition (typing scope q) ≡ true → (k : ℕ) (g : Keeping) → Tested f q k g
+  test-runs f q is ok k g =
+      let p = valued f q is (conditions-serve (typing scope q) ok) (record { first = k; base = 0 }) None (0 + width q) k g in
+      let t = truth-of locals body.result (value f.classes (record { first = k; base = 0 }) q None (0 + width q) k) p (conditions-kept (typing scope q) p.kept p.related ok) in
+      record {
+        now = t.now;
+        at = t.at;
+        goes = λ rest. ap (λ ss. run ss g) (whole-is q is 0 k (λ x n rest. value f.classes x q None n k (more (set n (plain.truth n)) rest)) rest) ∙ t.goes (rest (0 + width q));
+      }
+
+  branch-runs : (g : Keeping) (n : Register) (ss ts : Plains) (h j : Keeping) → integer_in (g n) ≡ true → run ss g ≡ Some h → run ts g ≡ Some j → Runs g (λ rest. more (branch n ss ts) rest)
+  unfolding then_rest
+  branch-runs g n ss ts h j int first second = record {
+    now = common h j;
+    goes = λ rest.
+        ap (λ b. then_rest rest (if b then kept.joined locals body.result (run ss g) (run ts g) else None)) int
+        ∙ ap (λ o. then_rest rest (kept.joined locals body.result o (run ts g))) first ∙ ap (λ o. then_rest rest (kept.joined locals body.result (Some h) o)) second;
+  }
+
+  loop-runs : (g : Keeping) (ss ts : Plains) (h j : Keeping) → run ss nothing_set ≡ Some h → run ts nothing_set ≡ Some j → Runs g (λ rest. more (loop ss ts) rest)
+  unfolding then_rest
+  loop-runs g ss ts h j first second = record {
+    now = nothing_set;
+    goes = λ rest.
+        ap (λ b. then_rest rest (if b then Some nothing_set else None))
+        (all_of (is_some (run ss nothing_set)) (is_some (run ts nothing_set)) (is-there (run ss nothing_set) h first) (is-there (run ts nothing_set) j second));
+  }
+
+  switch-runs : (g : Keeping) (n : Register) (ss : Plains) (h : Keeping) → integer_in (g n) ≡ true → run ss nothing_set ≡ Some h → Runs g (λ rest. more (switch n ss) rest)
+  unfolding then_rest
+  switch-runs g n ss h int inner = record {
+    now = nothing_set;
+    goes = λ rest.
+        ap (λ b. then_rest rest (if b then Some nothing_set else None)) (all_of (integer_in (g n)) (is_some (run ss nothing_set)) int (is-there (run ss nothing_set) h inner));
+  }
+
+  -- a loop is left where its condition doesn't hold
+  held-runs : (f : Inside) (q : MaybeCore) → is_condition q ≡ true → condition_fits body q ≡ true → (k : ℕ) (g : Keeping) → Runs g (held f.classes q k)
+  held-runs f absent ok is k g = runs-none g
+  held-runs f (some_core q) ok is k g =
+      let t = test-runs f q ok is k g in
+      let b = branch-runs t.now (0 + width q) nothing (more leave nothing) t.now t.now (ap integer_in t.at) refl refl in
+      record { now = b.now; goes = λ rest. t.goes (λ n. more (branch n nothing (more leave nothing)) rest) ∙ b.goes rest }
+
+  pub record Ends (g : Keeping) (code : Plains) : Type 0 where
+    pub now : Keeping
+    pub is : run code g ≡ Some now
+
+  stepped-ends : (f : Inside) (q : MaybeCore) → is_condition q ≡ true → expression_fits body q ≡ true → (k : ℕ) (g : Keeping) → Ends g (stepped f.classes q k)
+  stepped-ends f absent ok is k g = record { now = g; is = refl }
+  stepped-ends f (some_core e) ok is k g =
+      let p = valued f e ok (expressions-serve (typing scope e) is) (record { first = k; base = 0 }) None (0 + width e) k g in
+      record { now = p.now; is = ap (λ ss. run ss g) (whole-is e ok 0 k (λ x n rest. value f.classes x e None n k rest) (λ n. nothing)) ∙ p.goes nothing }
+
+  loop-ends : (how : LoopForm) (f : Inside) (q e : MaybeCore) (s : Core) → is_condition q ≡ true → is_condition e ≡ true → condition_fits body q ≡ true → expression_fits body e ≡ true
+      → ((k : ℕ) (g : Keeping) → Runs g (statement (in_loop f) s k)) → (k : ℕ) (g : Keeping) → Runs g (statement f (core.loop how q e s) k)
+  loop-ends how f q e s test next tested_fits next_fits turned k g =
+      let code : Plains = statement (in_loop f) s (k + width_maybe q + width_maybe e) (finished (declared s) nothing) in
+      let inner : (g : Keeping) → Ends g code = λ g.
+      let b = turned (k + width_maybe q + width_maybe e) g in
+      let c = runs-finished (declared s) b.now in
+      record { now = c.now; is = b.goes (finished (declared s) nothing) ∙ c.goes nothing } in
+      let h = held-runs f q test tested_fits k nothing_set in
+      let first = inner h.now in
+      let plain_first = inner nothing_set in
+      let later = stepped-ends f e next next_fits (k + width_maybe q) nothing_set in
+      by how (loop-runs g (held f.classes q k code) (stepped f.classes e (k + width_maybe q)) first.now later.now (h.goes code ∙ first.is) later.is)
+      (loop-runs g code (held f.classes q k nothing) plain_first.now h.now plain_first.is (h.goes nothing))
+    where
+      by : (how : LoopForm) → Runs g (looping f.classes q e k (statement (in_loop f) s (k + width_maybe q + width_maybe e) (finished (declared s) nothing)))
+          → Runs g (λ rest. more (loop (statement (in_loop f) s (k + width_maybe q + width_maybe e) (finished (declared s) nothing)) (held f.classes q k nothing)) rest)
+          → Runs g (statement f (core.loop how q e s) k)
+      by form.While p q = p
+      by form.For p q = p
+      by form.Do p q = q
+
+  keeps-registers : (xs : List Local) (g : Keeping) → (runs-finished xs g).now ≡ g
+  unfolding runs-finished runs-none
+  keeps-registers [] g = refl
+  keeps-registers (x ∷ xs) g = keeps-registers xs g
+
+  returned-runs : (f : Inside) → is_class f.result ≡ false → (e : Core) → is_value e ≡ true → (typing scope e).start body.result ≡ true → (k : ℕ) (g : Keeping)
+      → Runs g (statement f (core.give (some_core e)) k)
+  returned-runs f scalar_result e is ok k g =
+      let n : ℕ = 0 + width e in
+      let p = valued f e is (as_start body.result ok) (record { first = k; base = 0 }) None n k g in
+      let F : Plains → Plains = value f.classes (record { first = k; base = 0 }) e None n k in
+      let by_value : Plains → Plains = λ rest.
+      whole e 0 k (λ x n rest. value f.classes x e None n k (used n rest)) (λ n. finished (f.here ++ f.returns) (more (give (Some n)) rest)) in
+      let in_place : Plains → Plains = λ rest.
+      more (set 0 plain.result) (started f.classes f.result e 0 k (finished (f.here ++ f.returns) (more (give None) rest))) in
+      let t = scalar-tested body.result p.kept (p.related.scalar body.result ok) (p.related.start body.result ok) in
+      let c = runs-finished (f.here ++ f.returns) p.now in
+      let same = keeps-registers (f.here ++ f.returns) p.now in
+      record {
+        now = c.now;
+        goes = λ rest.
+            ap (λ b. run (if b then in_place rest else by_value rest) g) scalar_result
+            ∙ ap (λ ss. run ss g) (whole-is e is 0 k (λ x n rest. value f.classes x e None n k (used n rest)) (λ n. finished (f.here ++ f.returns) (more (give (Some n)) rest)))
+            ∙ use-runs locals body.result F p t (finished (f.here ++ f.returns) (more (give (Some n)) rest))
+            ∙ c.goes (more (give (Some n)) rest)
+            ∙ ap (λ b. elim (if b then Some c.now else None) as (λ _. Option Keeping) [ None ↦ None | Some h ↦ run rest h ]) (ap (λ g. kept.returned locals body.result (g n)) same ∙ ap (kept.returned locals body.result) p.at ∙ p.related.start body.result ok);
+      }
+
+  mutual
+    pub runs-statement : (s : Core) (m : ℕ) (b c : Bool) → is_statement m s ≡ true → fits body b c s ≡ true → (f : Inside) → is_class f.result ≡ false → (k : ℕ) (g : Keeping)
+        → Runs g (statement f s k)
+    runs-statement (core.full e) m b c ok is f sr k g =
+        either-true (is_nothing e) (is_value e) ok
+        (λ blank. runs-by (statement f (core.full e) k) (λ rest. rest) g (λ rest. ap (λ e. statement f (core.full e) k rest) (nothing-is e blank)) (runs-none g))
+        (λ v.
+        let p = valued f e v (full-serves b c e v is) (record { first = k; base = 0 }) None (0 + width e) k g in
+        record { now = p.now; goes = λ rest. ap (λ ss. run ss g) (whole-is e v 0 k (λ x n rest. value f.classes x e None n k rest) (λ n. rest)) ∙ p.goes rest })
+    runs-statement (core.block es) m b c ok is f sr k g =
+        let q = runs-statements es m b c ok is (opened f) sr k g in
+        runs-then (statements (opened f) es k) (finished (declared_all es)) g q (runs-finished (declared_all es) q.now)
+    runs-statement (core.sequence es) m b c ok is f sr k g = runs-statements es m b c ok is f sr k g
+    runs-statement (core.declare i t e) m b c ok is f sr k g =
+        let start = (both (nat_le m i) (is_start e) ok).1 in
+        let parts = both (nat_le body.parameters i && same_type (slice_get scope.locals i) t && is_complete scope.classes t) ((typing scope e).start t) is in
+        let first : Keeping = keep g 0 (an_object i t) in
+        let q = runs-started f i t e start (λ v. parts.1) k first (keep-at g 0 (an_object i t)) in
+        record { now = q.now; goes = λ rest. set-runs locals body.result g 0 (plain.declare i t) (an_object i t) (started f.classes t e 0 k rest) refl ∙ q.goes rest }
+    runs-statement (core.branch q a o) m b c ok is f sr k g =
+        let forms = both (is_value q) ((not (declares_here a) && is_statement m a) && is_inner_or m o) ok in
+        let arms = both (not (declares_here a) && is_statement m a) (is_inner_or m o) forms.1 in
+        let parts = both (typed.is_condition (typing scope q) && fits body b c a) (fits_maybe body b c o) is in
+        let tests = both (typed.is_condition (typing scope q)) (fits body b c a) parts.0 in
+        let t = test-runs f q forms.0 tests.0 k g in
+        let left = runs-statement a m b c (both (not (declares_here a)) (is_statement m a) arms.0).1 tests.1 f sr (k + width q) t.now in
+        let right = runs-or o m b c arms.1 parts.1 f sr (k + width q + width a) t.now in
+        let left_code : Plains = statement f a (k + width q) nothing in
+        let right_code : Plains = statement_or f o (k + width q + width a) nothing in
+        let w = branch-runs t.now (0 + width q) left_code right_code left.now right.now (ap integer_in t.at) (left.goes nothing) (right.goes nothing) in
+        record { now = w.now; goes = λ rest. t.goes (λ n. more (branch n left_code right_code) rest) ∙ w.goes rest }
+    runs-statement (core.loop how q e s) m b c ok is f sr k g =
+        let forms = both (is_condition q) (is_condition e && is_statement m s) ok in
+        let inner = both (is_condition e) (is_statement m s) forms.1 in
+        let parts = both (condition_fits body q && expression_fits body e) (fits body true true s) is in
+        let tests = both (condition_fits body q) (expression_fits body e) parts.0 in
+        loop-ends how f q e s forms.0 inner.0 tests.0 tests.1 (λ k g. runs-statement s m true true inner.1 parts.1 (in_loop f) sr k g) k g
+    runs-statement (core.switch e es) m b c ok is f sr k g =
+        let forms = both (is_value e) (are_cases m es) ok in
+        let parts = both (is_integer (typing scope e) && valid.labels_differ es && passes_none es) (labelled_fit body true c es) is in
+        let tests = both (is_integer (typing scope e) && valid.labels_differ es) (passes_none es) parts.0 in
+        let int = (both (is_integer (typing scope e)) (valid.labels_differ es) tests.0).0 in
+        let n : ℕ = 0 + width e in
+        let F : Plains → Plains = value f.classes (record { first = k; base = 0 }) e None n k in
+        let p = valued f e forms.0 (integers-serve (typing scope e) int) (record { first = k; base = 0 }) None n k g in
+        let held_int = integers-kept (typing scope e) p.kept p.related int in
+        let inner = runs-cases es m c forms.1 parts.1 (in_switch f) sr (k + width e) nothing_set in
+        let ended = runs-finished (declared_all es) inner.now in
+        let code : Plains = statements (in_switch f) es (k + width e) (finished (declared_all es) nothing) in
+        let w = switch-runs p.now n code ended.now (ap integer_in p.at ∙ held_int) (inner.goes (finished (declared_all es) nothing) ∙ ended.goes nothing) in
+        record {
+          now = w.now;
+          goes = λ rest.
+              ap (λ ss. run ss g) (whole-is e forms.0 0 k (λ x n rest. value f.classes x e None n k (used n rest)) (λ n. passed n es (more (switch n code) rest)))
+              ∙ ap (λ ss. run (F (used n ss)) g) (not-passed n es (more (switch n code) rest) (cases-declare m es forms.1))
+              ∙ use-runs locals body.result F p (integer-tested p.kept held_int) (more (switch n code) rest) ∙ w.goes rest;
+        }
+    runs-statement core.leave m b c ok is f sr k g =
+        let q = runs-finished (f.here ++ f.breaks) g in record { now = q.now; goes = λ rest. q.goes (more leave rest) }
+    runs-statement core.continue m b c ok is f sr k g =
+        let q = runs-finished (f.here ++ f.continues) g in record { now = q.now; goes = λ rest. q.goes (more continue rest) }
+    runs-statement (core.give absent) m b c ok is f sr k g =
+        let q = runs-finished (f.here ++ f.returns) g in record { now = q.now; goes = λ rest. q.goes (more (give None) rest) }
+    runs-statement (core.give (some_core e)) m b c ok is f sr k g = returned-runs f sr e ok is k g
+    runs-statement s m b c ok is f sr k g = never ok
+
+    runs-or : (o : MaybeCore) (m : ℕ) (b c : Bool) → is_inner_or m o ≡ true → fits_maybe body b c o ≡ true → (f : Inside) → is_class f.result ≡ false → (k : ℕ) (g : Keeping)
+        → Runs g (statement_or f o k)
+    runs-or absent m b c ok is f sr k g = runs-none g
+    runs-or (some_core s) m b c ok is f sr k g = runs-statement s m b c (both (not (declares_here s)) (is_statement m s) ok).1 is f sr k g
+
+    runs-statements : (es : Cores) (m : ℕ) (b c : Bool) → are_statements m es ≡ true → all_fit body b c es ≡ true → (f : Inside) → is_class f.result ≡ false → (k : ℕ) (g : Keeping)
+        → Runs g (statements f es k)
+    runs-statements none m b c ok is f sr k g = runs-none g
+    runs-statements (core.more s es) m b c ok is f sr k g =
+        let forms = both (is_statement m s) (are_statements (next_local m s) es) ok in
+        let parts = both (fits body b c s) (all_fit body b c es) is in
+        let p = runs-statement s m b c forms.0 parts.0 f sr k g in
+        runs-then (statement f s k) (statements (declares (declared s) f) es (k + width s)) g p (runs-statements es (next_local m s) b c forms.1 parts.1 (declares (declared s) f) sr (k + width s) p.now)
+
+    runs-cases : (es : Cores) (m : ℕ) (c : Bool) → are_cases m es ≡ true → labelled_fit body true c es ≡ true → (f : Inside) → is_class f.result ≡ false → (k : ℕ) (g : Keeping)
+        → Runs g (statements f es k)
+    runs-cases none m c ok is f sr k g = runs-none g
+    runs-cases (core.more (core.case_label y) es) m c ok is f sr k g =
+        let q = runs-cases es m c ok is f sr (k + 0) nothing_set in record { now = q.now; goes = λ rest. q.goes rest }
+    runs-cases (core.more core.default_label es) m c ok is f sr k g =
+        let q = runs-cases es m c ok is f sr (k + 0) nothing_set in record { now = q.now; goes = λ rest. q.goes rest }
+    runs-cases (core.more s es) m c ok is f sr k g =
+        let forms = both (not (declares_here s) && is_statement m s) (are_cases m es) ok in
+        let parts = both (fits body true c s) (labelled_fit body true c es) is in
+        let p = runs-statement s m true c (both (not (declares_here s)) (is_statement m s) forms.0).1 parts.0 f sr k g in
+        runs-then (statement f s k) (statements (declares (declared s) f) es (k + width s)) g p (runs-cases es m c forms.1 parts.1 (declares (declared s) f) sr (k + width s) p.now)

@@ -1,0 +1,198 @@
+-- Every expression: each register is set before it is used, and holds there what is taken.
+use Rattle.std.proofs.Common.{◌≡◌, ℕ, suc, ◌+◌, ◌<◌, Bool, true, false, ◌&&◌, not, if◌then◌else◌, List, [], ◌∷◌, length, refl, ap, ◌∙◌, arith}
+use Rattle.std.specs.Prelude.{Option, Some, None}
+use Rattle.cf_base.specs.declared.kind.Kind.TheVariants.{Char, Int}
+use Rattle.cf_base.specs.Integers.{fits}
+use Rattle.cf_base.proofs.Tests.{both}
+use Rattle.cf_core.specs.Types.{SourceType, integer, pointer, array, plain as unqualified, parameters, result, is_class}
+use Rattle.cf_core.specs.Classes.{Class}
+use Rattle.cf_core.specs.Core as core
+use Rattle.cf_core.specs.Core.{Core, Cores, no_temporary, none, absent}
+use Rattle.cf_core.specs.Typing.{Scope, is_function, of_value, of_result, is_condition, is_expression, is_right_operand, pointed, either, converts}
+use Rattle.cf_core.specs.Typed.{typing, typings, last_typing, typing_maybe, fit, on_object, read_type, pointed_place, address_type, decayed_type, stepped, void_pointer}
+use Rattle.cf_plain.specs.Plain.{Register, Plains, act, set, more}
+use Rattle.cf_plain.specs.Plain as plain
+use Rattle.cf_plain_kept.specs.Kept as kept
+use Rattle.cf_plain_kept.specs.Kept.{Kept, no_value, an_integer, a_place, an_object, Keeping, keep, value_of, suits, given, kept_by}
+use Rattle.cf_sequence.specs.Built.{is_value, are_values, are_arguments, is_chain}
+use Rattle.cf_sequence.specs.Made.{width, numbers}
+use Rattle.cf_sequence.specs.Expressions.{Full, Destination, destination, value, values, arguments, settled, builds, result_register}
+use Rattle.cf_sequence.proofs.Calling.{never}
+use Rattle.cf_sequence_kept.proofs.Suits.{same-itself}
+use Rattle.cf_sequence_kept.proofs.Related.{of-number, of-place, of-name, of-result, of-allowed, of-bind}
+use Rattle.cf_sequence_kept.proofs.Values.{keep-at, keep-below, runs, set-runs, act-runs, Keeps, leaf, named-keeps, read-keeps, address-keeps, dereference-keeps, decay-keeps, from-void-keeps}
+use Rattle.cf_sequence_kept.proofs.Expressions.{and-keeps, or-keeps, conditional-keeps, index-keeps, pointers-keep, operate-keeps, convert-keeps, unary-keeps, not-keeps, store-keeps}
+use Rattle.cf_sequence_kept.proofs.Steps.{update-keeps, prefix-keeps, postfix-keeps}
+use Rattle.cf_sequence_valid.proofs.Serves.{Serves, as_value, as_start, allowed-is, allowed-serves, by-place, by-type, by-pointed, conditions-serve, expressions-serve, right-serves, index-serves, pointer-serves, either-serves, store-serves, update-serves, converts-serve, bind-serves}
+use Rattle.cf_sequence_valid.proofs.Values as locals_of
+
+negated : (b : Bool) → not b ≡ true → b ≡ false
+negated true e = never e
+negated false e = refl
+
+-- an expression gives its value
+pub value-put : (e : Core) → is_value e ≡ true → builds e ≡ false
+value-put core.blank ok = never ok
+value-put core.zeros ok = never ok
+value-put (core.string bytes) ok = never ok
+value-put (core.build name t args) ok = never ok
+value-put (core.copy t e args) ok = never ok
+value-put (core.each e) ok = never ok
+value-put (core.list es rest) ok = never ok
+value-put (core.virtual_call f t e args) ok = never ok
+value-put (core.pointer_call object e t args) ok = never ok
+value-put (core.call name t absent args) ok = negated (is_class (result t)) (both (not (is_class (result t))) (is_chain t && are_arguments args) ok).0
+value-put (core.call name t (core.given e) args) ok = never ok
+value-put e ok = refl
+
+pub settled-put : (e : Core) → is_value e ≡ true → (p n : Register) (rest : Plains) → settled e p n rest ≡ more (act (plain.first p n)) rest
+settled-put e ok p n rest = ap (λ b. if b then rest else more (act (plain.first p n)) rest) (value-put e ok)
+
+module _ (locals : List SourceType) (R : SourceType) (classes : List Class) (scope : Scope) (keeps : locals_of.Kept scope locals) where
+  -- code that leaves the registers below n as they are
+  pub record Passes (n : ℕ) (g : Keeping) (code : Plains → Plains) : Type 0 where
+    pub now : Keeping
+    pub below : (r : ℕ) → r < n → now r ≡ g r
+    pub goes : (rest : Plains) → runs locals R (code rest) g ≡ runs locals R rest now
+
+  no-result : (t : SourceType) (into : Option Destination) → is_class (result t) ≡ false → result_register t into ≡ None
+  no-result t None e = refl
+  no-result t (Some d) e = ap (λ b. if b then Some d.register else None) e
+
+  mutual
+    pub keeps-value : (e : Core) → is_value e ≡ true → Serves (typing scope e) → (x : Full) (into : Option Destination) (n k : ℕ) (g : Keeping)
+        → Keeps locals R (typing scope e) n g (value classes x e into n k)
+    keeps-value (core.number z) ok s x into n k g = leaf locals R (typing scope (core.number z)) n g (plain.number z) (an_integer (λ j. fits j z)) refl (of-number z)
+    keeps-value (core.local i) ok s x into n k g = named-keeps locals R classes scope keeps i n g s
+    keeps-value (core.text j bytes) ok s x into n k g =
+        let t : SourceType = array (integer Char) (length bytes) in leaf locals R (typing scope (core.text j bytes)) n g (plain.text j bytes) (a_place t) refl (of-place t (a_place t) (same-itself t))
+    keeps-value (core.static_object name t) ok s x into n k g =
+        let m = of-name t in leaf locals R (typing scope (core.static_object name t)) n g (plain.static_object name t) m.kept m.is m.related
+    keeps-value (core.read e) ok s x into n k g =
+        read-keeps locals R classes scope keeps (value classes x e None n k) (keeps-value e ok (by-place (typing scope e) (read_type scope) refl s) x None n k g) s
+    keeps-value (core.address e) ok s x into n k g =
+        address-keeps locals R classes scope keeps (value classes x e None n k) (keeps-value e ok (by-place (typing scope e) (address_type scope) refl s) x None n k g) s
+    keeps-value (core.dereference e) ok s x into n k g =
+        dereference-keeps locals R classes scope keeps (value classes x e None n k) (keeps-value e ok (by-pointed (typing scope e) (pointed_place scope) refl s) x None n k g) s
+    keeps-value (core.decay e) ok s x into n k g =
+        decay-keeps locals R classes scope keeps (value classes x e None n k) (keeps-value e ok (by-place (typing scope e) (decayed_type scope) refl s) x None n k g) s
+    keeps-value (core.from_void t e) ok s x into n k g =
+        from-void-keeps locals R classes scope keeps (value classes x e None n k)
+        (keeps-value e ok (by-type (typing scope e) (λ o. void_pointer scope (pointed o)) refl (allowed-is (void_pointer scope (pointed (typing scope e).type)) (of_value (pointer t)) s)) x None n k g) t s
+    keeps-value (core.index a b) ok s x into n k g =
+        let parts = both (is_value a) (is_value b) ok in
+        let serve = index-serves scope (typing scope a) (typing scope b) s in
+        index-keeps locals R classes scope keeps a b (keeps-value a parts.0 serve.0) (keeps-value b parts.1 serve.1) s x into n k g
+    keeps-value (core.pointer_operate op a b) ok s x into n k g =
+        let parts = both (is_value a) (is_value b) ok in
+        let serve = pointer-serves op (typing scope a) (typing scope b) s in
+        pointers-keep locals R classes scope keeps op a b (keeps-value a parts.0 serve.0) (keeps-value b parts.1 serve.1) s x into n k g
+    keeps-value (core.convert t e) ok s x into n k g =
+        convert-keeps locals R classes scope keeps t e (keeps-value e ok (converts-serve (unqualified t) (typing scope e) (allowed-is (converts (unqualified t) (typing scope e)) _ s))) s x into n k g
+    keeps-value (core.operate op kind a b) ok s x into n k g =
+        let parts = both (is_value a) (is_value b) ok in
+        let fits_left = (typing scope a).value (integer kind) in
+        let serve = both fits_left (is_right_operand op kind (typing scope b)) (allowed-is (fits_left && is_right_operand op kind (typing scope b)) _ s) in
+        operate-keeps locals R classes scope keeps op kind a b (keeps-value a parts.0 (as_value (integer kind) serve.0)) (keeps-value b parts.1 (right-serves op kind (typing scope b) serve.1)) s x into n k g
+    keeps-value (core.unary op kind e) ok s x into n k g =
+        unary-keeps locals R classes scope keeps op kind e (keeps-value e ok (as_value (integer kind) (allowed-is ((typing scope e).value (integer kind)) (of_value (integer kind)) s))) s x into n k g
+    keeps-value (core.logical_not e) ok s x into n k g =
+        not-keeps locals R classes scope keeps e (keeps-value e ok (conditions-serve (typing scope e) (allowed-is (is_condition (typing scope e)) (of_value (integer Int)) s))) s x into n k g
+    keeps-value (core.logical_and a b) ok s x into n k g =
+        let parts = both (is_value a) (is_value b) ok in
+        let there = allowed-is (is_condition (typing scope a) && is_condition (typing scope b)) (of_value (integer Int)) s in
+        let test = both (is_condition (typing scope a)) (is_condition (typing scope b)) there in
+        and-keeps locals R classes scope keeps a b (keeps-value a parts.0 (conditions-serve (typing scope a) test.0)) (keeps-value b parts.1 (conditions-serve (typing scope b) test.1)) there x into n k g
+    keeps-value (core.logical_or a b) ok s x into n k g =
+        let parts = both (is_value a) (is_value b) ok in
+        let there = allowed-is (is_condition (typing scope a) && is_condition (typing scope b)) (of_value (integer Int)) s in
+        let test = both (is_condition (typing scope a)) (is_condition (typing scope b)) there in
+        or-keeps locals R classes scope keeps a b (keeps-value a parts.0 (conditions-serve (typing scope a) test.0)) (keeps-value b parts.1 (conditions-serve (typing scope b) test.1)) there x into n k g
+    keeps-value (core.conditional c a b) ok s x into n k g =
+        let parts = both (is_value c) (is_value a && is_value b) ok in
+        let arms = both (is_value a) (is_value b) parts.1 in
+        let there = allowed-is (is_condition (typing scope c)) (either (typing scope a) (typing scope b)) s in
+        let serve = either-serves (typing scope a) (typing scope b) (allowed-serves (is_condition (typing scope c)) (either (typing scope a) (typing scope b)) s) in
+        conditional-keeps locals R classes scope keeps c a b (keeps-value c parts.0 (conditions-serve (typing scope c) there)) (keeps-value a arms.0 serve.0) (keeps-value b arms.1 serve.1) s x into n k g
+    keeps-value (core.comma es) ok s x into n k g = keeps-values es ok s x n k g
+    keeps-value (core.store a b) ok s x into n k g =
+        let parts = both (is_value a) (is_value b) ok in
+        let serve = store-serves scope (typing scope a) (typing scope b) s in
+        store-keeps locals R classes scope keeps a b (keeps-value a parts.0 serve.0) (keeps-value b parts.1 serve.1) s x into n k g
+    keeps-value (core.update a change b) ok s x into n k g =
+        let parts = both (is_value a) (is_value b) ok in
+        let serve = update-serves scope change (typing scope a) (typing scope b) s in
+        update-keeps locals R classes scope a b change (keeps-value a parts.0 serve.0) (keeps-value b parts.1 serve.1) s x into n k g
+    keeps-value (core.step false change e) ok s x into n k g =
+        prefix-keeps locals R classes scope e change (keeps-value e ok (by-place (typing scope e) (stepped scope false change) refl s)) s x into n k g
+    keeps-value (core.step true change e) ok s x into n k g =
+        postfix-keeps locals R classes scope e change (keeps-value e ok (by-place (typing scope e) (stepped scope true change) refl s)) s x into n k g
+    keeps-value (core.bind no_temporary e) ok s x into n k g =
+        let p = keeps-value e ok (bind-serves scope (typing scope e) s) x None n k g in
+        record { kept = p.kept; now = p.now; related = of-bind scope (typing scope e) p.kept p.related; at = p.at; below = p.below; goes = p.goes }
+    keeps-value (core.call name t absent args) ok s x into n k g =
+        let forms = both (not (is_class (result t))) (is_chain t && are_arguments args) ok in
+        let scalar = negated (is_class (result t)) forms.0 in
+        let called = is_function t && on_object scope (typing_maybe scope absent) in
+        let good = allowed-is (called && fit scope (parameters t) (typings scope args)) (of_result (result t)) s in
+        let fits_all = (both called (fit scope (parameters t) (typings scope args)) good).1 in
+        let p = passes-arguments (parameters t) args (both (is_chain t) (are_arguments args) forms.1).1 fits_all x n k (k + length (parameters t) + 0) g in
+        let call_is : kept_by locals R p.now (plain.call name t None (numbers k (parameters t)) (result_register t into)) ≡ Some (value_of (result t)) =
+        ap (λ o. kept_by locals R p.now (plain.call name t None (numbers k (parameters t)) o)) (no-result t into scalar) in
+        record {
+          kept = value_of (result t);
+          now = keep p.now n (value_of (result t));
+          related = of-allowed (called && fit scope (parameters t) (typings scope args)) (of_result (result t)) (value_of (result t)) good (of-result (result t) scalar);
+          at = keep-at p.now n (value_of (result t));
+          below = λ r lt. keep-below p.now n r (value_of (result t)) lt ∙ p.below r lt;
+          goes = λ rest.
+              let last : Plains = more (set n (plain.call name t None (numbers k (parameters t)) (result_register t into))) rest in
+              act-runs locals R g (plain.function name t) (a_place t) (arguments classes x (parameters t) args n k (k + length (parameters t) + 0) last) refl ∙ p.goes last
+              ∙ set-runs locals R p.now n (plain.call name t None (numbers k (parameters t)) (result_register t into)) (value_of (result t)) rest call_is;
+        }
+    keeps-value e ok s x into n k g = never ok
+
+    keeps-values : (es : Cores) → are_values es ≡ true → Serves (last_typing scope es) → (x : Full) (n k : ℕ) (g : Keeping)
+        → Keeps locals R (last_typing scope es) n g (values classes x es n k)
+    keeps-values none ok s x n k g = never ok
+    keeps-values (core.more e none) ok s x n k g = keeps-value e ok s x None n k g
+    keeps-values (core.more e (core.more f es)) ok s x n k g =
+        let parts = both (is_value e) (are_values (core.more f es)) ok in
+        let there = allowed-is (is_expression (typing scope e)) (last_typing scope (core.more f es)) s in
+        let last = allowed-serves (is_expression (typing scope e)) (last_typing scope (core.more f es)) s in
+        let p = keeps-value e parts.0 (expressions-serve (typing scope e) there) x None n k g in
+        let q = keeps-values (core.more f es) parts.1 last x n (k + width e) p.now in
+        record {
+          kept = q.kept;
+          now = q.now;
+          related = of-allowed (is_expression (typing scope e)) (last_typing scope (core.more f es)) q.kept there q.related;
+          at = q.at;
+          below = λ r lt. q.below r lt ∙ p.below r lt;
+          goes = λ rest. p.goes (values classes x (core.more f es) n (k + width e) rest) ∙ q.goes rest;
+        }
+
+    passes-arguments : (ts : List SourceType) (es : Cores) → are_arguments es ≡ true → fit scope ts (typings scope es) ≡ true → (x : Full) (n i k : ℕ) (g : Keeping)
+        → Passes n g (arguments classes x ts es n i k)
+    passes-arguments [] none ok fits_all x n i k g = record { now = g; below = λ r lt. refl; goes = λ rest. refl }
+    passes-arguments [] (core.more e es) ok fits_all x n i k g = never fits_all
+    passes-arguments (t ∷ ts) none ok fits_all x n i k g = never fits_all
+    passes-arguments (t ∷ ts) (core.more e es) ok fits_all x n i k g =
+        let parts = both (is_value e) (are_arguments es) ok in
+        let starts = both ((typing scope e).start t) (fit scope ts (typings scope es)) fits_all in
+        let first : Keeping = keep g n (an_object i t) in
+        let p = keeps-value e parts.0 (as_start t starts.0) x (destination n t) (suc n) k first in
+        let q = passes-arguments ts es parts.1 starts.1 x n (suc i) (k + width e) p.now in
+        let up : n < suc n = omega arith in
+        let object_there : p.now n ≡ Some (an_object i t) = p.below n up ∙ keep-at g n (an_object i t) in
+        record {
+          now = q.now;
+          below = λ r lt. let near : r < suc n = omega (arith, lt) in q.below r lt ∙ p.below r near ∙ keep-below g n r (an_object i t) lt;
+          goes = λ rest.
+              let others : Plains = arguments classes x ts es n (suc i) (k + width e) rest in
+              set-runs locals R g n (plain.declare i t) (an_object i t) (value classes x e (destination n t) (suc n) k (settled e n (suc n) others)) refl
+              ∙ p.goes (settled e n (suc n) others)
+              ∙ ap (λ ss. runs locals R ss p.now) (settled-put e parts.0 n (suc n) others)
+              ∙ act-runs locals R p.now (plain.first n (suc n)) no_value others
+              (ap (λ o. kept.begun o (p.now (suc n))) object_there ∙ ap (kept.begun (Some (an_object i t))) p.at ∙ ap (λ b. given b no_value) (p.related.start t starts.0))
+              ∙ q.goes rest;
+        }
