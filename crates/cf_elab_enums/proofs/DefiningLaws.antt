@@ -1,10 +1,8 @@
 -- An enumeration by its steps.
-use Rattle.std.proofs.Common.{◌≡◌, ℕ, List, Option, None, Some, is_some, ℤ, pos, refl, sym, ◌∙◌}
-use Rattle.cf_types.specs.declared.ty.Ty.TheVariants as ty
+use Rattle.std.proofs.Common.{◌≡◌, ℕ, List, Option, None, Some, is_some, pos, refl, sym, ◌∙◌}
 use Rattle.cf_unit.specs.declared.enumeration.EnumDef.{EnumDef}
 use Rattle.cf_unit.specs.declared.enumeration.Enumerator.{Enumerator}
 use Rattle.cf_elab.specs.Answer.{Answer, Elab, Made, Refused, Passed, onward}
-use Rattle.cf_elab.specs.Enumeration as spec
 use Rattle.cf_elab.specs.Enumeration.{Counted, label_name, own_names}
 use Rattle.cf_elab.specs.Env.{Env, Name}
 use Rattle.cf_elab_env.specs.Shut as made

@@ -1,5 +1,5 @@
 -- A new enumeration and its type.
-use Rattle.std.proofs.Common.{◌≡◌, ℕ, ◌<◌, List, [], ◌∷◌, ◌++◌, length, Some, slice_get, unwrap_or, sym, ap, ◌∙◌, arith, length-append, refl}
+use Rattle.std.proofs.Common.{◌≡◌, ℕ, ◌<◌, List, [], ◌∷◌, ◌++◌, length, Some, slice_get, unwrap_or, ap, ◌∙◌, arith, length-append, refl}
 use Rattle.cf_classes.specs.declared.label.Label.{Label}
 use Rattle.cf_types.specs.Table.{Table}
 use Rattle.cf_types.specs.declared.ty.Ty.TheVariants as ty

@@ -5,7 +5,7 @@ use Rattle.cf_syntax.specs.declared.expression.Expr.{Expr}
 use Rattle.cf_types.specs.declared.ty.Ty.TheVariants as ty
 use Rattle.cf_unit.specs.declared.enumeration.EnumDef.{EnumDef}
 use Rattle.cf_unit.specs.declared.enumeration.Enumerator.{Enumerator}
-use Rattle.cf_elab.specs.Answer.{Elab, ◌>>=◌, ◌>>◌, gives, known, need, maybe}
+use Rattle.cf_elab.specs.Answer.{Elab, ◌>>=◌, ◌>>◌, gives, maybe}
 use Rattle.cf_elab.specs.Enumeration as spec
 use Rattle.cf_elab.specs.Enumeration.{Counted, item_of, number_of, own_names}
 use Rattle.cf_elab.specs.Env.{Name}

@@ -1,13 +1,13 @@
 -- The parts of an initialiser that is built are built.
-use Rattle.std.proofs.Common.{◌≡◌, ℕ, zero, suc, ◌<◌, Bool, true, false, if◌then◌else◌, nat_le, List, [], ◌∷◌, map, length, get_or, Option, None, Some, refl, sym, ap, ◌∙◌, arith}
+use Rattle.std.proofs.Common.{◌≡◌, ℕ, zero, suc, ◌<◌, List, [], ◌∷◌, map, length, get_or, Some, sym, ap, ◌∙◌, arith}
 use Rattle.cf_syntax.specs.declared.expression.Expr.{Expr}
-use Rattle.cf_unit.specs.declared.initialiser.Init.{Init, roll-Init, fold-roll-Init}
+use Rattle.cf_unit.specs.declared.initialiser.Init.{Init, fold-roll-Init}
 use Rattle.cf_unit.specs.declared.initialiser.Init.TheOpen.{Init-F}
 use Rattle.cf_unit.specs.declared.initialiser.Init.TheVariants as form
 use Rattle.cf_unit.specs.declared.initialiser.Init.TheVariants.{rolls-Value, rolls-List}
 use Rattle.cf_unit.specs.declared.initialiser.Initialiser.{Initialiser}
 use Rattle.cf_unit.specs.declared.initialiser.Initialiser.TheVariants as initialiser
-use Rattle.cf_elab.specs.Built.{Place, first, first_of}
+use Rattle.cf_elab.specs.Built.{Place, first_of}
 use Rattle.cf_elab_expr.specs.Shut as expression
 use Rattle.cf_elab_expr.proofs.BuiltForms.{left, right}
 use Rattle.cf_elab_written.specs.Shut.{init_step, init_place, IsBuilt, AreBuilt, InitialiserIsBuilt, PartsAreBuilt}

@@ -9,7 +9,7 @@ use Rattle.cf_syntax.specs.declared.expression.Expr.{Expr, roll-Expr, ind-Expr}
 use Rattle.cf_syntax.specs.declared.expression.Expr.TheVariants as form
 use Rattle.cf_syntax.specs.declared.expression.Expr.TheVariants.{rolls-Text}
 use Rattle.cf_types.specs.Table.{Table}
-use Rattle.cf_elab.specs.Answer.{Answer, Elab, Made, onward}
+use Rattle.cf_elab.specs.Answer.{Elab, Made, onward}
 use Rattle.cf_elab.specs.Declarator.{Declared, declared_step, parameter_step, type_id_step}
 use Rattle.cf_elab.specs.Env.{Env}
 use Rattle.cf_elab.specs.Expression.{elaborated, declared, expression_step}

@@ -1,12 +1,12 @@
 -- Values in initialisers by their forms.
-use Rattle.std.proofs.Common.{◌≡◌, ℕ, List, refl, sym, ap, subst, ◌∙◌}
+use Rattle.std.proofs.Common.{◌≡◌, ℕ, List, sym, ap, subst, ◌∙◌}
 use Rattle.cf_syntax.specs.declared.expression.Expr.{Expr}
 use Rattle.cf_types.specs.Table.{Table}
 use Rattle.cf_unit.specs.declared.initialiser.Init.{Init, fold-roll-Init}
 use Rattle.cf_unit.specs.declared.initialiser.Init.TheOpen.{Init-F}
 use Rattle.cf_unit.specs.declared.initialiser.Init.TheVariants as form
 use Rattle.cf_unit.specs.declared.initialiser.Init.TheVariants.{rolls-Value, rolls-List}
-use Rattle.cf_elab.specs.Answer.{Answer, Elab, Made, onward}
+use Rattle.cf_elab.specs.Answer.{Elab, Made, onward}
 use Rattle.cf_elab.specs.Env.{Env}
 use Rattle.cf_elab.specs.Lists as lists
 use Rattle.cf_elab_env.proofs.Growth.{grown_laws}

@@ -1,5 +1,5 @@
 -- Initialisers that are known stay so as the table of types grows.
-use Rattle.std.proofs.Common.{◌≡◌, List, [], ◌∷◌, ◌++◌, sym, subst}
+use Rattle.std.proofs.Common.{List, [], ◌∷◌, ◌++◌, sym, subst}
 use Rattle.std.proofs.lemmas.List.{map-append}
 use Rattle.cf_types.specs.Table.{Table}
 use Rattle.cf_elab.specs.Lists as lists

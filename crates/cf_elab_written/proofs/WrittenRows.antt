@@ -1,10 +1,10 @@
 -- Initialisers of declarators by their forms.
-use Rattle.std.proofs.Common.{◌≡◌, ℕ, List, [], ◌∷◌, map, Option, None, Some, refl, sym, ap, ◌∙◌}
+use Rattle.std.proofs.Common.{◌≡◌, ℕ, List, [], ◌∷◌, map, None, Some, refl, ap}
 use Rattle.cf_syntax.specs.declared.expression.Expr.{Expr}
 use Rattle.cf_unit.specs.declared.initialiser.Init.{Init}
 use Rattle.cf_unit.specs.declared.initialiser.Initialiser.{Initialiser}
 use Rattle.cf_unit.specs.declared.initialiser.Initialiser.TheVariants as initialiser
-use Rattle.cf_elab.specs.Answer.{Answer, Elab, Made, onward, each, all}
+use Rattle.cf_elab.specs.Answer.{Made, onward, each}
 use Rattle.cf_elab.specs.Env.{Env}
 use Rattle.cf_elab.specs.Expression.{elaborated}
 use Rattle.cf_elab.specs.Lists as lists

@@ -1,6 +1,6 @@
 -- An initialiser of a declarator, if it has one.
-use Rattle.std.specs.Prelude.{ℕ, Option, None, Some}
-use Rattle.std.specs.Option.{option_map, option_map_or}
+use Rattle.std.specs.Prelude.{ℕ, Option}
+use Rattle.std.specs.Option.{option_map}
 use Rattle.cf_unit.specs.declared.initialiser.Initialiser.{Initialiser}
 use Rattle.cf_elab.specs.Declaration.{Initial, initial_of, initial_place}
 use Rattle.cf_elab.specs.Objects as objects

@@ -1,7 +1,6 @@
-use Rattle.std.proofs.Common.{rules, ◌≤◌, ◌≡◌, ◌∙◌, ap, sym, subst, List, [], ◌∷◌, ◌++◌, drop, ◌+◌, length, Option, Some, ℤ, pos}
+use Rattle.std.proofs.Common.{rules, ◌≤◌, ◌∙◌, ap, sym, List, [], ◌∷◌, ◌++◌, drop, ◌+◌, length, Option, Some, ℤ, pos}
 use Rattle.std.proofs.lemmas.Result.{err_from_is_err_and}
 use Rattle.cf_elab.specs.Enumeration.{Counted, one_more}
-use Rattle.cf_elab.specs.Operand.{enumeral, sort_of}
 use Rattle.cf_elab_env.proofs.Growth.{grows_through, grows-refl, type_grown}
 use Rattle.cf_elab_enums.specs.Shut as shut
 use Rattle.cf_elab_enums.proofs.CountingLaws.{behind, none_yet, at_end, stopped, going, one_built}

@@ -1,4 +1,4 @@
-use Rattle.std.proofs.Common.{rules, ◌≤◌, ◌≡◌, ◌∙◌, ap, sym, subst, List, drop, ◌+◌, length}
+use Rattle.std.proofs.Common.{rules, ◌≤◌, ◌∙◌, ap, sym, subst, List, drop, ◌+◌, length}
 use Rattle.std.proofs.lemmas.Result.{err_from_is_err_and}
 use Rattle.cf_elab_env.proofs.Growth.{grows_through, grows-refl}
 use Rattle.cf_elab_expr.proofs.BuiltForms.{one_built}

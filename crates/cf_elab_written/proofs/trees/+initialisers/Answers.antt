@@ -1,4 +1,4 @@
-use Rattle.std.proofs.Common.{rules, arith, ◌≤◌, ◌≡◌, ◌∙◌, ap, sym, subst, List, drop, ◌+◌, length}
+use Rattle.std.proofs.Common.{rules, arith, ◌≤◌, ◌∙◌, ap, sym, subst, List, drop, ◌+◌, length}
 use Rattle.std.proofs.lemmas.Result.{err_from_is_err_and}
 use denote.Param.Weighed.{most, at_most}
 use Rattle.cf_unit.proofs.initialiser.Init.TheLaws.{the_size}
