@@ -1,0 +1,4 @@
+pub mod BuiltForms
+pub mod InTurn
+pub mod MaybeLaws
+pub mod Parts

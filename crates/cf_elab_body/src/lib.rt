@@ -1,0 +1,14 @@
+//! Statements with all that is in them while a file is elaborated (6).
+//!
+//! `specs/Shut` names what a statement is by the definitions of elaboration; the forms that are not built are kept out by `IsBuilt`.
+#![tactic(auto)]
+
+mod built;
+mod forms;
+mod lists;
+mod loops;
+mod simple;
+mod values;
+
+pub use forms::statement;
+pub use lists::statements;
