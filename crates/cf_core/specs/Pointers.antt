@@ -54,6 +54,7 @@ up_to n (Some i) = need (nat_le i n) outside_array >> gives i
 abbrev pub moved_place : List Class → Place → ℤ → Act Value
 moved_place classes p z = do
   s ← state
+  need (not (is_dead classes (s.object p.object) p.route)) not_alive
   let e = element_of p.route
   i ← up_to (bound_of classes (s.object p.object).type e) (further e.index z)
   gives (At (record p { route = route_of e i }))
@@ -125,10 +126,10 @@ is_end classes s p = not (is_inside classes (s.object p.object).type p.route)
 abbrev pub in_array : Place → Place → Bool
 in_array p end = (p.object == end.object) && is_beyond p.route (element_of end.route).array
 
--- The end of an array is compared with pointers into that array alone, and two places of which one lies in the other with neither.
+-- The end of an array is compared with pointers into that array alone, not with another end, and two places of which one lies in the other with neither.
 abbrev pub comparable : List Class → State → Place → Place → Bool
 comparable classes s p q =
-    place_eq p q || (ends p q && ends q p && not (lies p q) && not (lies q p))
+    place_eq p q || (not (is_end classes s p && is_end classes s q) && ends p q && ends q p && not (lies p q) && not (lies q p))
   where
     ends : Place → Place → Bool
     ends p q = not (is_end classes s p) || in_array q p

@@ -33,7 +33,8 @@ within false b most = passes b most
 abbrev pub type_within : ℕ → Elab (Unit {0})
 type_within t = known >>= (λ env. within (nat_le (bytes_of env t) most_bytes) bound.Size most_bytes)
 
-abbrev numbers_from : {A : Type 0} → ℕ → List A → List ℕ
+-- the numbers of the items of a list whose first has this number
+abbrev pub numbers_from : {A : Type 0} → ℕ → List A → List ℕ
 numbers_from n [] = []
 numbers_from n (x ∷ xs) = n ∷ numbers_from (n + 1) xs
 

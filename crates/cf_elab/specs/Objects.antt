@@ -265,6 +265,7 @@ define_static x = changed (λ env. record env { statics = env.statics ++ x ∷ [
 -- the temporary of a static reference is an object of the file, which that reference's initialiser builds
 abbrev pub static_keeper : Name → Option Name → ℕ → ℕ → Elab Keeper
 static_keeper reference owner at u = do
+  name_within (temporary_name reference)
   define_static (static_of (temporary_name reference) u (node.Blank at) owner true true)
   gives (kept (holder.StaticTemporary (temporary_name reference)))
 

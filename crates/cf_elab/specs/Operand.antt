@@ -202,9 +202,13 @@ is_testable other = false
 
 -- ---- plain values
 
+-- what reads an lvalue; a number that is known stands for itself (5.19)
+abbrev pub read_node : Value → Node
+read_node v = option_map_or (λ z. node.Number v.at z) v.number (node.Read v.at v.node)
+
 abbrev pub read_value : Table → Value → Value
 read_value types v =
-    if v.is_lvalue then record v { node = node.Read v.at v.node; type = bare types v.type; is_lvalue = false; is_fixed = false }
+    if v.is_lvalue then record v { node = read_node v; type = bare types v.type; is_lvalue = false; is_fixed = false }
     else record v { type = bare types v.type }
 
 abbrev pub decayed : Value → ℕ → Elab Value

@@ -40,6 +40,13 @@ impl Types {
         }
     }
 
+    /// How many types there are: their numbers are those below it.
+    pub fn count(&self) -> usize
+        ensures { result ≡ length self.now.types }
+    {
+        self.types.len()
+    }
+
     /// The type of this number.
     pub fn get(&self, id: TyId) -> &Ty
         requires { id < length self.now.types }
