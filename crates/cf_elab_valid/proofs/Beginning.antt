@@ -1,9 +1,11 @@
 -- The first environment of a file keeps the invariants, and there are ends to which they apply.
-use Rattle.std.proofs.Common.{◌≡◌, ℕ, zero, suc, List, [], ◌∷◌, Some, IsTrue, slice_get, refl, sym, subst, arith, lit≤}
+use Rattle.std.proofs.Common.{◌≡◌, ℕ, zero, suc, ◌<◌, ◌≤◌, List, [], ◌∷◌, Some, IsTrue, slice_get, refl, sym, subst, arith, lit≤}
 use Rattle.cf_base.specs.declared.kind.Kind.TheVariants.{Int}
 use Rattle.cf_types.specs.declared.ty.Ty.{Ty}
 use Rattle.cf_types.specs.declared.ty.Ty.TheVariants as ty
 use Rattle.cf_types.specs.Table.{Names, is_normal}
+use Rattle.cf_classes.specs.Layout.{extent}
+use Rattle.cf_elab.specs.Complete.{most_bytes}
 use Rattle.cf_elab.specs.Env.{Extent, Name}
 use Rattle.cf_elab.specs.File.{first_env}
 use Rattle.cf_elab_env.specs.Holds.{HasNoClass}
@@ -11,7 +13,7 @@ use Rattle.cf_elab_valid.specs.Scene.{Scene, IsScene, Within, Classless, Holds}
 use Rattle.cf_elab_valid.specs.Sorts.{Aims}
 
 pub first-classless : (extent : Extent) (names : List Name) → Classless (first_env extent names)
-first-classless extent names = record { none = refl; none_open = refl; no_body = refl; no_type = λ i d w. absurd (omega arith); no_defaults = λ n f h. absurd cc }
+first-classless extent names = record { none = refl; none_open = refl; no_body = refl; no_type = λ i d w. absurd (omega arith); no_name = λ n c h. absurd cc; no_defaults = λ n f h. absurd cc }
 
 pub first-within : (s : Scene) (extent : Extent) (names : List Name) → Within (first_env extent names) s
 first-within s extent names = record {
@@ -26,6 +28,7 @@ first-holds s r extent names = record {
   parts = λ t v h. absurd cc;
   no_outer = λ n l h. absurd cc;
   entities = λ name n x f h. absurd cc;
+  named_types = λ n x h. absurd cc;
   entries = λ n f h. absurd cc;
   result = sym r;
 }
@@ -52,6 +55,7 @@ int_is_a_scene = record {
   };
   no_class = plain;
   none_to_reference = λ t v h. subst (λ w. Aims of_int.tables w) (only_int t v h) tt;
+  sizes = small;
 }
   where
     both : (i j : ℕ) (v : Ty) → slice_get (ty.Int Int ∷ []) i ≡ Some v → slice_get (ty.Int Int ∷ []) j ≡ Some v → i ≡ j
@@ -62,3 +66,7 @@ int_is_a_scene = record {
     plain : HasNoClass (record { types = ty.Int Int ∷ []; funs = [] })
     plain zero d w = refl
     plain (suc i) d w = absurd (omega arith)
+
+    small : (t : ℕ) → t < 1 → (extent of_int.tables.types [] t).size ≤ most_bytes
+    small zero h = lit≤ tt
+    small (suc t) h = absurd (omega arith)

@@ -2,10 +2,11 @@
 --
 -- Nodes are typed by the tables of the end. An environment on the way has the first types of them, so nothing has to be said of a node when its
 -- tables grow.
-use Rattle.std.specs.Prelude.{◌≡◌, ℕ, ◌<◌, Bool, true, false, not, ◌||◌, List, [], ◌∷◌, ◌++◌, length, map, None, Some, slice_get}
+use Rattle.std.specs.Prelude.{◌≡◌, ℕ, ◌<◌, ◌≤◌, Bool, true, false, not, ◌||◌, List, [], ◌∷◌, ◌++◌, length, map, ℤ, Option, None, Some, slice_get}
 use Rattle.cf_types.specs.declared.ty.Ty.{Ty}
 use Rattle.cf_types.specs.declared.ty.Ty.TheVariants as ty
 use Rattle.cf_types.specs.Table.{IsTable}
+use Rattle.cf_classes.specs.Layout.{extent}
 use Rattle.cf_classes.specs.declared.label.Label.{Label}
 use Rattle.cf_lookup.specs.Scope.{found}
 use Rattle.cf_core.specs.declared.node.Core.{Core as Node}
@@ -20,6 +21,7 @@ use Rattle.cf_core.specs.Typing.{Scope, Typing, holds_number}
 use Rattle.cf_core.specs.View.{core_of}
 use Rattle.cf_core_typed.specs.Meets.{IsPlace, IsValue}
 use Rattle.cf_core_typed.specs.Same.{Same, is_operand}
+use Rattle.cf_elab.specs.Complete.{most_bytes}
 use Rattle.cf_elab.specs.Env.{Env, Name, Home, local_home, static_home, Entity, object, functions, alias, class_name, enum_name, enumerator, FunctionEntry}
 use Rattle.cf_elab.specs.Members.{class_of_body}
 use Rattle.cf_elab.specs.Operand.{Value, Operand, value, functions as named_functions}
@@ -53,6 +55,7 @@ pub record IsScene (s : Scene) : Type 0 where
   pub table : IsTable s.tables.types
   pub no_class : HasNoClass s.tables.types
   pub none_to_reference : NoneToReference s.tables
+  pub sizes : (t : ℕ) → t < length s.tables.types.types → (extent s.tables.types [] t).size ≤ most_bytes
 
 -- ---- on the way
 
@@ -85,13 +88,24 @@ abbrev pub HomeFits : Scene → ℕ → Home → Type 0
 HomeFits s t (local_home i) = slice_get s.locals i ≡ Some t
 HomeFits s t (static_home name) = Unit {0}
 
+-- a number that is known is one of the type
+abbrev pub HoldsKnown : Option ℤ → SourceType → Type 0
+HoldsKnown None t = Unit {0}
+HoldsKnown (Some z) t = holds_number z t ≡ true
+
 abbrev pub EntityFits : Scene → Env → Entity → Type 0
-EntityFits s env (object x) = Inside env x.type × HomeFits s x.type x.home × (is_void (tree s x.type) ≡ false)
+EntityFits s env (object x) = Inside env x.type × HomeFits s x.type x.home × (is_void (tree s x.type) ≡ false) × HoldsKnown x.number (tree s x.type)
 EntityFits s env (functions fs) = Unit {0}
 EntityFits s env (alias t) = Inside env t
 EntityFits s env (class_name c) = ⊥
-EntityFits s env (enum_name e) = Unit {0}
+EntityFits s env (enum_name e) = e < length env.classes.enums
 EntityFits s env (enumerator t z) = Inside env t × (holds_number z (tree s t) ≡ true)
+
+-- a type that a name stands for, whether the name is hidden or not
+abbrev pub TypeFits : Env → Entity → Type 0
+TypeFits env (alias t) = Inside env t
+TypeFits env (enum_name e) = e < length env.classes.enums
+TypeFits env other = Unit {0}
 
 pub record EntryFits (s : Scene) (env : Env) (f : FunctionEntry) : Type 0 where
   pub fun : ℕ
@@ -103,12 +117,13 @@ PartInside env (ty.Fun f) = f < length env.types.funs
 PartInside env (ty.Enum e) = e < length env.classes.enums
 PartInside env other = Unit {0}
 
--- there is no class, no type names one, and no function has default arguments
+-- there is no class, no type or name stands for one, and no function has default arguments
 pub record Classless (env : Env) : Type 0 where
   pub none : env.classes.defined ≡ []
   pub none_open : env.open_classes ≡ []
   pub no_body : class_of_body env.hand.kind ≡ None
   pub no_type : HasNoClass env.types
+  pub no_name : (n c : ℕ) → slice_get env.entities n ≡ Some (class_name c) → ⊥
   pub no_defaults : (n : ℕ) (f : FunctionEntry) → slice_get env.entries n ≡ Some f → f.defaults ≡ []
 
 -- what can be named fits
@@ -116,6 +131,7 @@ pub record Holds (s : Scene) (env : Env) : Type 0 where
   pub parts : (t : ℕ) (v : Ty) → slice_get env.types.types t ≡ Some v → PartInside env v
   pub no_outer : (n : ℕ) (l : Label) → slice_get env.classes.enums n ≡ Some l → l.outer ≡ None
   pub entities : (name : Name) (n : ℕ) (e : Entity) → found name env.scopes ≡ Some n → slice_get env.entities n ≡ Some e → EntityFits s env e
+  pub named_types : (n : ℕ) (e : Entity) → slice_get env.entities n ≡ Some e → TypeFits env e
   pub entries : (n : ℕ) (f : FunctionEntry) → slice_get env.entries n ≡ Some f → EntryFits s env f
   pub result : env.hand.result ≡ s.result
 
@@ -131,12 +147,13 @@ abbrev pub is_allowed : Bool → SourceType → Bool
 is_allowed true t = not (is_void t || is_reference t)
 is_allowed false t = is_operand t
 
--- the node is one of its type, and all its numbers are there
+-- the node is one of its type, and all its numbers are there; a known number is one of the type
 pub record Fits (s : Scene) (env : Env) (v : Value) : Type 0 where
   pub inside : Inside env v.type
   pub numbers : are_known s.tables v.node ≡ true
   pub allowed : is_allowed v.is_lvalue (tree s v.type) ≡ true
   pub meets : Meets v.is_lvalue (typed s v.node) (tree s v.type)
+  pub number : HoldsKnown v.number (tree s v.type)
 
 -- a value that is no place, of a type that is the same as this one but for const
 pub record IsPlain (s : Scene) (t : SourceType) (v : Value) (env : Env) : Type 0 where
