@@ -38,7 +38,7 @@ use Rattle.cf_lower_steps.proofs.Holding.{has-value}
 
 -- ---- the source's registers
 
-same-register : (i j : ℕ) → i == j ≡ true → i ≡ j
+pub same-register : (i j : ℕ) → i == j ≡ true → i ≡ j
 same-register i j e = grind (arith, nat_tests, e)
 
 -- what the source's `keep` gives, by the test of numbers
@@ -46,7 +46,7 @@ kept-same : (g : Registers) (r : Register) (v : source.Value) → keep_value g r
 kept-same g zero v = refl
 kept-same g (suc r) v = kept-same (λ q. g (suc q)) r v
 
-kept-other : (g : Registers) (r q : Register) (v : source.Value) → q == r ≡ false → keep_value g r v q ≡ g q
+pub kept-other : (g : Registers) (r q : Register) (v : source.Value) → q == r ≡ false → keep_value g r v q ≡ g q
 kept-other g zero zero v e = absurd (grind (arith, nat_tests, e))
 kept-other g zero (suc q) v e = refl
 kept-other g (suc r) zero v e = refl
@@ -56,7 +56,7 @@ kept-other g (suc r) (suc q) v e = kept-other (λ i. g (suc i)) r q v (grind (ar
 
 module _ (K : Fixed) (F : Map) where
   -- what a register holds is of its C type
-  local-type : (x : Kept) (t : Sort) (v : source.Value) (c : Value) → local_kept x ≡ Some t → InLocal K F x v c → type_of c ≡ scalar_of (register_type t)
+  pub local-type : (x : Kept) (t : Sort) (v : source.Value) (c : Value) → local_kept x ≡ Some t → InLocal K F x v c → type_of c ≡ scalar_of (register_type t)
   local-type (integer_of f) t (source.Number z) c e h = ap type_of h.is ∙ ap (λ u. scalar_of (register_type u)) (sort-eq e)
   local-type (holds (address a)) t source.Null c e h = ap type_of h ∙ ap (λ u. scalar_of (register_type u)) (sort-eq e)
   local-type (holds (address a)) t (source.At p) c e h = ap type_of h.is ∙ ap (λ u. scalar_of (register_type u)) (sort-eq e)
@@ -65,7 +65,7 @@ module _ (K : Fixed) (F : Map) where
   local-type x t v c e h = absurd h
 
   -- and stays what it is there
-  local-stays : (x : Kept) (t : Sort) (v : source.Value) (c : Value) → local_kept x ≡ Some t → InLocal K F x v c → as_scalar (scalar_of (register_type t)) c ≡ Some c
+  pub local-stays : (x : Kept) (t : Sort) (v : source.Value) (c : Value) → local_kept x ≡ Some t → InLocal K F x v c → as_scalar (scalar_of (register_type t)) c ≡ Some c
   local-stays (integer_of f) t (source.Number z) c e h =
       ap (λ u. as_scalar (scalar_of (register_type u)) c) (sym (sort-eq e))
       ∙ ap (as_scalar (scalar_of ty.Int)) h.is ∙ ap (λ y. Some (value.Number Int y)) (convert-int Int z) ∙ ap (λ (y : Value). Some y) (sym h.is)
