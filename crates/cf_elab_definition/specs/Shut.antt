@@ -1,15 +1,19 @@
 -- Functions with a body, in steps under names that do not unfold. `Rattle.cf_elab_definition.proofs` says that a definition is these steps.
-use Rattle.std.specs.Prelude.{ℕ, true, is_some, if◌then◌else◌, List, [], ◌∷◌, ◌++◌, drop, length, map, Option, None, Some, slice_get}
+use Rattle.std.specs.Prelude.{◌≡◌, ℕ, true, is_some, if◌then◌else◌, List, [], ◌∷◌, ◌++◌, drop, length, map, Option, None, Some, slice_get}
 use Rattle.cf_core.specs.declared.node.Core.{Core as Node}
+use Rattle.cf_syntax.specs.declared.declarator.DeclTree.{DeclTree}
 use Rattle.cf_syntax.specs.declared.name.Last.{Last}
 use Rattle.cf_syntax.specs.declared.name.Last.TheVariants as last
 use Rattle.cf_syntax.specs.declared.name.Name.{Name as WrittenName}
+use Rattle.cf_unit.specs.declared.class.FunctionDef.{FunctionDef}
+use Rattle.cf_unit.specs.declared.specifier.Specifier.{Specifier}
 use Rattle.cf_unit.specs.declared.statement.Stmt.{Stmt}
 use Rattle.cf_elab.specs.Access.{outside}
 use Rattle.cf_elab.specs.Answer.{Elab, ◌>>=◌, ◌>>◌, gives, done, breaks, none_at, known, changed, hand_changed}
 use Rattle.cf_elab.specs.Declaration.{no_definition, function_says}
 use Rattle.cf_elab.specs.Definition as definition
 use Rattle.cf_elab.specs.Env.{Hand, FunctionEntry, main_body, plain_body, local_home}
+use Rattle.cf_elab.specs.Expression.{declared}
 use Rattle.cf_elab.specs.Functions.{Says, declare_function}
 use Rattle.cf_elab.specs.Made.{int}
 use Rattle.cf_elab.specs.Names.{is_main, enter_scope, leave_scope}
@@ -17,6 +21,8 @@ use Rattle.cf_elab.specs.Objects.{block_object, declare_in_block}
 use Rattle.cf_elab.specs.Shape.{Parameter, Shape, inner, function_of, nowhere, typed, bounds_constant}
 use Rattle.cf_elab.specs.Specifiers.{Gathered, base_type}
 use Rattle.cf_elab.specs.Trees as tree
+use Rattle.cf_elab_built.specs.Parts as place
+use Rattle.cf_elab_declaration.specs.Shut.{specifier}
 
 -- the hand of a function
 abbrev pub hand_of : FunctionEntry → ℕ → List Parameter → Hand
@@ -106,3 +112,20 @@ define_shape s d at body = do
 -- the definition, without initialisers of members
 unfoldable pub named : Gathered → ℕ → Shape → WrittenName → ℕ → List Stmt → Elab (Unit {0})
 named g at s n body_at body = definition.named_definition g at s [] (definition.body_of body_at (map tree.statement body)) n
+
+-- ---- by its tree
+
+-- behind the specifiers
+unfoldable pub behind_specifiers : Gathered → ℕ → DeclTree → ℕ → List Stmt → Elab (Unit {0})
+behind_specifiers g at d body_at body =
+    definition.with_written_name g at (declared d).shape [] (definition.body_of body_at (map tree.statement body)) (declared d).name
+
+unfoldable pub of_parts : List Specifier → ℕ → DeclTree → ℕ → List Stmt → Elab (Unit {0})
+of_parts ss at d body_at body = tree.definition_row (map specifier ss) at (declared d) [] (definition.body_of body_at (map tree.statement body))
+
+unfoldable pub function : FunctionDef → Elab (Unit {0})
+function f = (tree.definition f).in_file
+
+-- whether all forms in it are built
+unfoldable pub IsBuilt : FunctionDef → Type 0
+IsBuilt f = place.function f ≡ None

@@ -21,7 +21,7 @@ use std::alloc::Global;
 
 /// The function of this number with the statements of its body and the place of its `{`, which the file defines from here on (8.3).
 #[tactic(auto, using(crate::proofs::BodyLaws::at_laws))]
-pub fn define_function(
+pub(crate) fn define_function(
     body: &[Stmt],
     at: u32,
     parameters: &[Parameter],

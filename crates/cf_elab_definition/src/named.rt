@@ -27,7 +27,7 @@ use std::alloc::Global;
 /// type that is defined as its result, at a type that can't be made, and where it names no function; K19 at a bound; the checks of its declaration;
 /// and then its body, with the place of its `{` (8.3).
 #[tactic(auto, using(crate::proofs::NamedLaws::named_laws))]
-pub fn define_named(
+pub(crate) fn define_named(
     body: &[Stmt],
     body_at: u32,
     gathered: &Gathered,
