@@ -1,12 +1,13 @@
 -- Values that are read, and arrays and functions as pointers.
-use Rattle.std.proofs.Common.{◌≡◌, ℕ, Bool, true, false, Some, slice_get, if◌then◌else◌, refl, sym, ap, subst, ◌∙◌}
+use Rattle.std.proofs.Common.{◌≡◌, ℕ, ℤ, Bool, true, false, Option, None, Some, slice_get, if◌then◌else◌, refl, sym, ap, subst, ◌∙◌}
+use Rattle.std.specs.Option.{option_map_or}
 use Rattle.cf_types.specs.declared.ty.Ty.TheVariants as ty
 use Rattle.cf_types.specs.Table.{Table, IsTable}
 use Rattle.cf_convert.specs.Constness.{bare}
 use Rattle.cf_core.specs.declared.node.Core.TheVariants as node
 use Rattle.cf_elab.specs.Answer.{Answer, Made, onward, gives}
 use Rattle.cf_elab.specs.Env.{Env}
-use Rattle.cf_elab.specs.Operand.{Value, read_value, sort_of, plain_sort}
+use Rattle.cf_elab.specs.Operand.{Value, read_node, read_value, sort_of, plain_sort}
 use Rattle.cf_elab_env.specs.Holds.{Known, IsType, IsSort, FitsIn}
 use Rattle.cf_elab_env.specs.Seen.{sort_seen}
 use Rattle.cf_elab_env.specs.declared.sort.Sort.{Sort}
@@ -19,14 +20,20 @@ use Rattle.cf_elab_fit.specs.Steps.{StaysKnown}
 
 -- ---- reading
 
+pub node_known : (v : Value) (z : ℤ) → v.number ≡ Some z → read_node v ≡ node.Number v.at z
+node_known v z h = ap (λ n. option_map_or (λ z. node.Number v.at z) n (node.Read v.at v.node)) h
+
+pub node_read : (v : Value) → v.number ≡ None → read_node v ≡ node.Read v.at v.node
+node_read v h = ap (λ n. option_map_or (λ z. node.Number v.at z) n (node.Read v.at v.node)) h
+
 pub read_place : (types : Table) (v : Value) → v.is_lvalue ≡ true
-    → read_value types v ≡ record v { node = node.Read v.at v.node; type = bare types v.type; is_lvalue = false; is_fixed = false }
+    → read_value types v ≡ record v { node = read_node v; type = bare types v.type; is_lvalue = false; is_fixed = false }
 read_place types v h =
-    ap (λ b. if b then record v { node = node.Read v.at v.node; type = bare types v.type; is_lvalue = false; is_fixed = false } else record v { type = bare types v.type }) h
+    ap (λ b. if b then record v { node = read_node v; type = bare types v.type; is_lvalue = false; is_fixed = false } else record v { type = bare types v.type }) h
 
 pub read_result : (types : Table) (v : Value) → v.is_lvalue ≡ false → read_value types v ≡ record v { type = bare types v.type }
 read_result types v h =
-    ap (λ b. if b then record v { node = node.Read v.at v.node; type = bare types v.type; is_lvalue = false; is_fixed = false } else record v { type = bare types v.type }) h
+    ap (λ b. if b then record v { node = read_node v; type = bare types v.type; is_lvalue = false; is_fixed = false } else record v { type = bare types v.type }) h
 
 pub read_known : (types : Table) (v r : Value) → IsTable types → Known types v → r ≡ read_value types v → Known types r
 read_known types v r table k e = subst (Known types) (sym e) (by v.is_lvalue)
@@ -37,7 +44,7 @@ read_known types v r table k e = subst (Known types) (sym e) (by v.is_lvalue)
     number : FitsIn types (bare types v.type) v.number
     number = known_bare types table v.type k.typed v.number k.number
 
-    by : (b : Bool) → Known types (if b then record v { node = node.Read v.at v.node; type = bare types v.type; is_lvalue = false; is_fixed = false } else record v { type = bare types v.type })
+    by : (b : Bool) → Known types (if b then record v { node = read_node v; type = bare types v.type; is_lvalue = false; is_fixed = false } else record v { type = bare types v.type })
     by true = record { typed = typed; number = number }
     by false = record { typed = typed; number = number }
 

@@ -9,6 +9,7 @@ use cf_base::{Boxed, Memory};
 use cf_core::Core;
 use cf_elab_env::{Env, Sort, Value};
 use cf_types::TyId;
+use std::alloc::Global;
 
 /// The value of an lvalue, without a const of its own (4.1).
 #[tactic(auto, using(crate::proofs::ReadLaws::read_known))]
@@ -33,12 +34,27 @@ pub(crate) fn read_typed(env: &Env, value: Value) -> Result<Value, Memory>
     if value.is_lvalue() {
         let at = value.at();
         let number = value.number();
-        let place = value.into_node();
-        let node = Boxed::new(env.alloc(), Core::Read { at, place })?;
+        let node = read_node(env.alloc(), value)?;
         Ok(Value::computed(at, node, ty).with_number(number))
     } else {
         Ok(value.with_type(ty))
     }
+}
+
+/// What reads the place. A number that is known stands for itself (5.19).
+#[tactic(auto, using(crate::proofs::ReadLaws::node_known, crate::proofs::ReadLaws::node_read))]
+fn read_node(alloc: Global, value: Value) -> Result<Boxed<Core>, Memory>
+    ensures { IfOk result (λ n. n ≡ operand.read_node value) }
+{
+    let at = value.at();
+    let node = match value.number() {
+        Some(value) => Boxed::new(alloc, Core::Number { at, value })?,
+        None => {
+            let place = value.into_node();
+            Boxed::new(alloc, Core::Read { at, place })?
+        }
+    };
+    Ok(node)
 }
 
 /// An array or a function as a pointer to this type (4.6).

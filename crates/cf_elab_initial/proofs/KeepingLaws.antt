@@ -1,16 +1,19 @@
 -- A temporary that a reference binds, by how long it is kept.
-use Rattle.std.proofs.Common.{◌≡◌, ℕ, Option, sym, ap, subst, ◌∙◌}
+use Rattle.std.proofs.Common.{◌≡◌, ℕ, Bool, true, false, length, nat_le, Option, refl, sym, ap, subst, ◌∙◌}
+use Rattle.cf_base.specs.declared.limit.Bound.TheVariants as bound
 use Rattle.cf_types.specs.Table.{Table}
 use Rattle.cf_core.specs.declared.node.Holder.TheVariants as holder
-use Rattle.cf_elab.specs.Answer.{Answer, Made, onward}
+use Rattle.cf_elab.specs.Answer.{Answer, Made, onward, gives}
+use Rattle.cf_elab.specs.Complete.{within, name_within, most_name}
 use Rattle.cf_elab.specs.Env.{Env, Name}
-use Rattle.cf_elab.specs.Initial.{Start, full_expression, keeps}
-use Rattle.cf_elab.specs.Objects.{local_keeper, static_keeper}
+use Rattle.cf_elab.specs.Initial.{Start, full_expression, kept, keeps}
+use Rattle.cf_elab.specs.Objects.{local_keeper, static_keeper, define_static}
 use Rattle.cf_elab.specs.Operand.{Value}
 use Rattle.cf_classes.specs.OwnedName.{temporary_name}
 use Rattle.cf_elab_env.specs.Holds.{Grows}
 use Rattle.cf_elab_env.specs.Shut as made
 use Rattle.cf_elab_env.proofs.Growth.{grows-refl}
+use Rattle.cf_elab_links.specs.Shut as links
 use Rattle.cf_elab_initial.specs.Keeping.{keeping_seen, kept_start, temporary_of}
 use Rattle.cf_elab_initial.specs.Shut as shut
 use Rattle.cf_elab_initial.specs.declared.keeping.Keeping.{Keeping}
@@ -26,9 +29,9 @@ module _ (k : Keeping) (at u : ℕ) (x : Value) (env : Env) where
   pub held_local : (r : Answer Start) → k ≡ keeping.Local → shut.held local_keeper at u x env ≡ r → shut.held (keeping_seen k) at u x env ≡ r
   held_local r is h = ap (λ k. shut.held (keeping_seen k) at u x env) is ∙ h
 
-  pub held_static : (reference : Name) (owner : Option Name) (place : ℕ) (r : Answer Start) → k ≡ keeping.Static reference owner place
-      → shut.held (static_keeper reference owner place) at u x env ≡ r → shut.held (keeping_seen k) at u x env ≡ r
-  held_static reference owner place r is h = ap (λ k. shut.held (keeping_seen k) at u x env) is ∙ h
+  pub held_static : (reference : Name) (owner : Option Name) (place : ℕ) → k ≡ keeping.Static reference owner place
+      → shut.held (keeping_seen k) at u x env ≡ shut.held (static_keeper reference owner place) at u x env
+  held_static reference owner place is = ap (λ k. shut.held (keeping_seen k) at u x env) is
 
 -- ---- temporaries with homes of their own
 
@@ -37,11 +40,20 @@ module _ (at u : ℕ) (x : Value) (env next : Env) where
   unfolding shut.held made.new_local
   local_held i s new e = ap (λ a. onward a (λ i env. Made (kept_start at (holder.LocalTemporary i u) x) env)) new ∙ ap (λ s. Made s next) (sym e)
 
-  pub static_held : (reference : Name) (owner : Option Name) (place : ℕ) (s : Start) → made.define_static (temporary_of reference owner place u) env ≡ Made tt next
-      → s ≡ kept_start at (holder.StaticTemporary (temporary_name reference)) x → shut.held (static_keeper reference owner place) at u x env ≡ Made s next
-  unfolding shut.held made.define_static
-  static_held reference owner place s new e =
-      ap (λ a. onward a (λ _ env. Made (kept_start at (holder.StaticTemporary (temporary_name reference)) x) env)) new ∙ ap (λ s. Made s next) (sym e)
+-- a static one, once its link name is within the limit
+module _ (at u : ℕ) (x : Value) (env : Env) (reference name : Name) (owner : Option Name) (place : ℕ) (is : name ≡ temporary_name reference) where
+  abbrev kept_behind : Name → Env → Answer Start
+  kept_behind n e = onward (made.define_static (temporary_of n owner place u) e) (λ _ e. Made (kept_start at (holder.StaticTemporary n) x) e)
+
+  named : (n : Name) (b : Bool) → onward (onward (onward (within b bound.Names most_name env) (λ _. define_static (temporary_of n owner place u))) (λ _. gives (kept (holder.StaticTemporary n)))) (λ k. gives (keeps at u k x))
+      ≡ onward (within b bound.Names most_name env) (λ _ e. kept_behind n e)
+  unfolding made.define_static
+  named n true = refl
+  named n false = refl
+
+  pub static_is : shut.held (static_keeper reference owner place) at u x env ≡ onward (links.name_within name env) (λ _ e. kept_behind name e)
+  unfolding shut.held links.name_within made.define_static
+  static_is = named (temporary_name reference) (nat_le (length (temporary_name reference)) most_name) ∙ ap (λ n. onward (name_within n env) (λ _ e. kept_behind n e)) (sym is)
 
 pub same_types : (old new : Table) → new ≡ old → Grows old new
 same_types old new e = subst (Grows old) (sym e) (grows-refl old)
@@ -50,4 +62,4 @@ pub ruleset held_laws = (held_expression, held_local, held_static, same_types, g
 
 pub ruleset local_laws = (local_held)
 
-pub ruleset static_laws = (static_held)
+pub ruleset static_laws = (static_is)

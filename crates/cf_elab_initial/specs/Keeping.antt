@@ -5,7 +5,6 @@ use Rattle.cf_core.specs.declared.node.Core.TheVariants as node
 use Rattle.cf_core.specs.declared.node.Holder.{Holder}
 use Rattle.cf_elab.specs.Initial.{Start, Keeper, no_keeper, fixed_start, is_constant_value}
 use Rattle.cf_elab.specs.Operand.{Value}
-use Rattle.cf_classes.specs.OwnedName.{temporary_name}
 use Rattle.cf_core.specs.declared.unit.CoreStatic.{CoreStatic}
 use Rattle.cf_elab.specs.Env.{Name}
 use Rattle.cf_elab.specs.Objects.{local_keeper, static_keeper, static_of}
@@ -21,6 +20,6 @@ keeping_seen (keeping.Static reference owner at) = static_keeper reference owner
 abbrev pub kept_start : ℕ → Holder → Value → Start
 kept_start at h v = fixed_start (node.Bind at h v.node) (is_constant_value v)
 
--- the static object that is the temporary of a static reference
+-- the static object of this link name that is the temporary of a static reference
 abbrev pub temporary_of : Name → Option Name → ℕ → ℕ → CoreStatic
-temporary_of reference owner at t = static_of (temporary_name reference) t (node.Blank at) owner true true
+temporary_of name owner at t = static_of name t (node.Blank at) owner true true

@@ -1,8 +1,8 @@
 ghost use Rattle.std.specs.Prelude.{◌≡◌, None, IfOk, OnOk};
-ghost use Rattle.cf_classes.specs.OwnedName as owned;
 ghost use Rattle.cf_elab.specs.Answer.{Made};
 ghost use Rattle.cf_elab.specs.Initial as initials;
 ghost use Rattle.cf_elab.specs.Objects.{local_keeper, static_keeper};
+ghost use Rattle.cf_elab_env.specs.Answered.{Agrees};
 ghost use Rattle.cf_elab_env.specs.Holds.{Grows, IsType};
 ghost use Rattle.cf_elab_initial.specs.Keeping.{keeping_seen, kept_start, temporary_of};
 ghost use Rattle.cf_elab_initial.specs.Shut as shut;
@@ -10,7 +10,8 @@ ghost use Rattle.cf_elab_initial.specs.Shut as shut;
 use crate::start::{Start, is_constant_value};
 use cf_base::{Boxed, Items, Memory, Name};
 use cf_core::{Core, CoreStatic, Holder};
-use cf_elab_env::{Env, Value};
+use cf_elab_env::{Env, Stop, Value};
+use cf_elab_links::{check_link, temporary_name};
 use cf_types::TyId;
 use std::alloc::Global;
 
@@ -30,7 +31,7 @@ pub enum Keeping {
     },
 }
 
-/// A reference to a temporary of this type that the value initialises.
+/// A reference to a temporary of this type that the value initialises. A static one whose link name is too long passes the limit on names.
 #[tactic(auto, using(crate::proofs::KeepingLaws::held_laws))]
 pub(crate) fn held(
     env: &mut Env,
@@ -38,9 +39,9 @@ pub(crate) fn held(
     at: u32,
     to: TyId,
     value: Value,
-) -> Result<Start, Memory>
+) -> Result<Start, Stop>
     requires { IsType env.old.types to }
-    ensures made { IfOk result (λ s. shut.held (keeping_seen keeping.now) at to value env.old ≡ Made s env.new) }
+    ensures made { Agrees (shut.held (keeping_seen keeping.now) at to value env.old) result env.new }
     ensures number { IfOk result (λ s. s.number ≡ None) }
     ensures grows { OnOk result (Grows env.old.types env.new.types) }
 {
@@ -111,7 +112,7 @@ fn in_local(env: &mut Env, at: u32, to: TyId, value: Value) -> Result<Start, Mem
     Ok(start)
 }
 
-/// A temporary that is a new static object, beside the reference of this link name.
+/// A temporary that is a new static object, beside the reference of this link name. Its own link name may pass the limit on names.
 #[tactic(auto, using(crate::proofs::KeepingLaws::static_laws))]
 fn in_static(
     env: &mut Env,
@@ -121,32 +122,32 @@ fn in_static(
     at: u32,
     to: TyId,
     value: Value,
-) -> Result<Start, Memory>
+) -> Result<Start, Stop>
     requires { IsType env.old.types to }
-    ensures made { IfOk result (λ s. shut.held (static_keeper reference.now owner.now place) at to value env.old ≡ Made s env.new) }
+    ensures made { Agrees (shut.held (static_keeper reference.now owner.now place) at to value env.old) result env.new }
     ensures number { IfOk result (λ s. s.number ≡ None) }
     ensures types { OnOk result (env.new.types ≡ env.old.types) }
 {
-    let alloc = env.alloc();
-    let object = temporary(alloc, reference, owner, place, to)?;
+    let name = temporary_name(env.alloc(), reference.as_slice())?;
+    check_link(env, name.as_slice())?;
+    let object = temporary(env.alloc(), &name, owner, place, to)?;
     env.add_static(object)?;
-    let name = temporary_name(alloc, reference.as_slice())?;
     let start = kept(env, Holder::StaticTemporary(name), at, value)?;
     Ok(start)
 }
 
-/// The static object that is the temporary of a static reference. The reference's initialiser builds it.
+/// The static object of this link name that is the temporary of a static reference. The reference's initialiser builds it.
 fn temporary(
     alloc: Global,
-    reference: &Name,
+    name: &Name,
     owner: &Option<Name>,
     at: u32,
     ty: TyId,
 ) -> Result<CoreStatic, Memory>
-    ensures { IfOk result (λ x. x ≡ temporary_of reference.now owner.now at ty) }
+    ensures { IfOk result (λ x. x ≡ temporary_of name.now owner.now at ty) }
 {
     Ok(CoreStatic {
-        name: temporary_name(alloc, reference.as_slice())?,
+        name: Items::from_slice(alloc, name.as_slice())?,
         ty,
         start: Core::Blank { at },
         owner: copied(alloc, owner)?,
@@ -164,13 +165,4 @@ fn copied(alloc: Global, name: &Option<Name>) -> Result<Option<Name>, Memory>
         Some(name) => Ok(Some(Items::from_slice(alloc, name.as_slice())?)),
         None => Ok(None),
     }
-}
-
-/// The link name of the temporary that the static reference of this one binds.
-fn temporary_name(alloc: Global, reference: &[u8]) -> Result<Name, Memory>
-    ensures { IfOk result (λ name. name ≡ owned.temporary_name reference.now) }
-{
-    let mut name = Vec::from_slice(alloc, reference)?;
-    name.extend_from_slice(b"__t")?;
-    Ok(Items::from_vec(name))
 }

@@ -16,6 +16,7 @@ use Rattle.cf_elab_env.specs.declared.object.Object.{Object as HeldObject}
 use Rattle.cf_elab_env.specs.Holds.{IsObject}
 use Rattle.cf_elab_env.specs.Seen.{entity_seen, object_seen}
 use Rattle.cf_elab_env.specs.Shut as made
+use Rattle.cf_elab_links.specs.Shut as links
 use Rattle.cf_elab_objects.specs.Shut as shut
 use Rattle.cf_elab_objects.proofs.States.{redeclared_count, found_last}
 
@@ -129,17 +130,13 @@ module _ (d : Says) (env : Env) where
   pub nowhere_defined : shut.is_defined_somewhere env d ≡ false → shut.check_new d env ≡ Refused 48 d.at
   nowhere_defined h = new_opened ∙ ap (λ a. new_checked a (nat_le (length (variable_link d.name)) most_name)) h
 
-  name_checked : (b : Bool) → shut.is_defined_somewhere env d ≡ true → nat_le (length (variable_link d.name)) most_name ≡ b → shut.check_new d env ≡ new_checked true b
-  name_checked b h k = new_opened ∙ ap (λ a. new_checked a (nat_le (length (variable_link d.name)) most_name)) h ∙ ap (new_checked true) k
+  pub name_checked : (link : List ℕ) → shut.is_defined_somewhere env d ≡ true → link ≡ variable_link d.name
+      → shut.check_new d env ≡ links.name_within link env
+  unfolding links.name_within
+  name_checked link h is =
+      new_opened ∙ ap (λ a. new_checked a (nat_le (length (variable_link d.name)) most_name)) h ∙ ap (λ l. within (nat_le (length l) most_name) bound.Names most_name env) (sym is)
 
-  pub short_name : (link : List ℕ) → shut.is_defined_somewhere env d ≡ true → link ≡ variable_link d.name → nat_le (length link) 1048576 ≡ true → shut.check_new d env ≡ Made tt env
-  short_name link h is short = name_checked true h (ap (λ l. nat_le (length l) most_name) (sym is) ∙ short)
-
-  pub long_name : (link : List ℕ) → shut.is_defined_somewhere env d ≡ true → link ≡ variable_link d.name → nat_le (length link) 1048576 ≡ false
-      → shut.check_new d env ≡ Passed bound.Names 1048576
-  long_name link h is long = name_checked false h (ap (λ l. nat_le (length l) most_name) (sym is) ∙ long)
-
-pub ruleset new_laws = (nowhere_defined, short_name, long_name)
+pub ruleset new_laws = (nowhere_defined, name_checked)
 
 pub ruleset elsewhere_laws = (linked_elsewhere, linked_nowhere)
 

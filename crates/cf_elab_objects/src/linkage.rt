@@ -1,6 +1,5 @@
-ghost use Rattle.std.specs.Prelude.{◌≡◌, ◌<◌, length, None, IfOk, OnOk, bytes_eq, nat_le};
+ghost use Rattle.std.specs.Prelude.{◌≡◌, ◌<◌, length, None, IfOk, OnOk, bytes_eq};
 ghost use Rattle.std.specs.List.{list_any};
-ghost use Rattle.cf_elab.specs.Complete.{most_name};
 ghost use Rattle.cf_elab.specs.Names as names;
 ghost use Rattle.cf_elab.specs.Objects as objects;
 ghost use Rattle.cf_elab.specs.Answer.{Made};
@@ -11,11 +10,9 @@ ghost use Rattle.cf_elab_objects.specs.Seen.{says_seen};
 ghost use Rattle.cf_elab_objects.specs.Shut as shut;
 
 use crate::says::Says;
-use cf_base::{Bound, Broken, Items, Limit, Memory, Name, Rule};
+use cf_base::{Broken, Items, Memory, Name, Rule};
 use cf_elab_env::{Entity, Env, Object, Stop};
-
-/// The greatest length of a link name, in bytes.
-const MOST_NAME: usize = 1 << 20;
+use cf_elab_links::check_link;
 
 /// An object with linkage, whose link name is given: the same as one that is declared, else a new one. It gives whether the name is local to the
 /// file. K8 where the object may not be declared again, K9 where its linkage would change, and K48 where no file defines it (3.3).
@@ -157,13 +154,9 @@ fn check_new(env: &Env, says: &Says, link: &[u8]) -> Result<(), Stop>
             rule: Rule::new(48),
             at: says.at,
         }))
-    } else if link.len() <= MOST_NAME {
-        Ok(())
     } else {
-        Err(Stop::Passed(Limit {
-            bound: Bound::Names,
-            most: MOST_NAME as u64,
-        }))
+        check_link(env, link)?;
+        Ok(())
     }
 }
 

@@ -1,4 +1,3 @@
-mod Gaps
 pub mod Alike
 pub mod Arithmetic
 pub mod Assign
@@ -7,6 +6,7 @@ pub mod Binary
 pub mod Calls
 pub mod Cast
 pub mod Choice
+mod Constants
 pub mod Early
 pub mod EarlyTrees
 pub mod Fit
