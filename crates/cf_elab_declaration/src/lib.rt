@@ -6,8 +6,8 @@
 
 mod alias;
 mod built;
-mod declaring;
 mod declarators;
+mod declaring;
 mod specifiers;
 
 pub use declaring::declaration;

@@ -172,13 +172,7 @@ fn given_row(
         defines,
     )?;
     let begun = begin(env, in_file, &says)?;
-    let reached = finish(
-        env,
-        begun,
-        &says,
-        Some(place_of(initialiser)),
-        Some(value),
-    )?;
+    let reached = finish(env, begun, &says, Some(place_of(initialiser)), Some(value))?;
     check_type(env, ty)?;
     Ok(reached)
 }

@@ -108,15 +108,15 @@ no_other n h other = let a = alone n h in other a.name a.last
 pub said_is : (g : Gathered) (n : WrittenName) (t : ℕ) (name : Name) → n.last ≡ last.Ident name
     → shut.says_of g n t
     ≡ record {
-        name = name;
-        called = if bytes_eq name (codes "main") then link.Main else link.Plain name;
-        at = n.last_at;
-        type = t;
-        parameters = [];
-        is_static = is_static g;
-        is_inline = is_some g.inline_at;
-        defines = true;
-      }
+      name = name;
+      called = if bytes_eq name (codes "main") then link.Main else link.Plain name;
+      at = n.last_at;
+      type = t;
+      parameters = [];
+      is_static = is_static g;
+      is_inline = is_some g.inline_at;
+      defines = true;
+    }
 unfolding shut.says_of
 said_is g n t name is = ap (λ l. declaration.function_says g (record n { last = l }) t inner true) is
 

@@ -130,17 +130,17 @@ module _ (before : Hand) (f : FunctionEntry) (r : ℕ) (ps : List Parameter) (n 
   pub ended : (out back new : Env) (hand : Hand) (params locals : List ℕ) → scope.leave_scope env ≡ Done tt out → hand ≡ out.hand → back ≡ record out { hand = before }
       → params ≡ definition.own_types ps → locals ≡ drop (length ps) hand.locals
       → new ≡ record back {
-          functions = back.functions ++ record {
-            name = f.link;
-            role = role.Plain;
-            result = r;
-            params = params;
-            locals = locals;
-            body = n;
-            is_shared = false;
-            is_local = f.is_internal;
-          } ∷ [];
-        }
+        functions = back.functions ++ record {
+          name = f.link;
+          role = role.Plain;
+          result = r;
+          params = params;
+          locals = locals;
+          body = n;
+          is_shared = false;
+          is_local = f.is_internal;
+        } ∷ [];
+      }
       → shut.end_body before f r ps n env ≡ Done tt new
   ended out back new hand params locals left at_hand held given behind is =
       end_is ∙ ap (λ a. onward a (λ _ e. made_of f r ps before n e)) left
