@@ -46,16 +46,16 @@ pub plain_built : (s : TypeSpecifier) → SpecifierIsBuilt (form.Plain s) → bu
 unfolding SpecifierIsBuilt roll-Specifier denote.Hole.Carrier.roll
 plain_built s h = sym (seen (Specifier-F.Plain s)) ∙ h
 
+value_built : (v : Option (ℕ × Expr)) → built.of_value v ≡ None → enumerators.IsBuilt v
+unfolding expression.IsBuilt
+value_built None h = tt
+value_built (Some x) h = h
+
 values_built : (es : List Enumerator) → first_of (map built.of_enumerator es) ≡ None → enumerators.AreBuilt es
 values_built [] h = λ i d lt. absurd (omega arith)
 values_built (e ∷ es) h =
-    All-cons (λ (e : Enumerator). enumerators.IsBuilt e.value) e es (by e.value (left (built.of_enumerator e) (first_of (map built.of_enumerator es)) h))
+    All-cons (λ (e : Enumerator). enumerators.IsBuilt e.value) e es (value_built e.value (left (built.of_enumerator e) (first_of (map built.of_enumerator es)) h))
     (values_built es (right (built.of_enumerator e) (first_of (map built.of_enumerator es)) h))
-  where
-    by : (v : Option (ℕ × Expr)) → built.of_value v ≡ None → enumerators.IsBuilt v
-    unfolding expression.IsBuilt
-    by None h = tt
-    by (Some x) h = h
 
 pub enumeration_built : (d : EnumDef) → SpecifierIsBuilt (form.Enumeration d) → enumerators.AreBuilt d.enumerators
 unfolding SpecifierIsBuilt roll-Specifier denote.Hole.Carrier.roll

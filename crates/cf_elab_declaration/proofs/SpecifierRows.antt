@@ -59,7 +59,7 @@ alone (Refused rule at) = refl
 alone (Passed bound most) = refl
 
 defined : (at : ℕ) (a : Answer ℕ)
-    → onward (onward (onward a (λ t env. Done (t, done) env)) (λ t env. let s : Specified = record { word = defined_word at t.0; later = t.1 } in Done s env)) (λ x env. Done x.word env)
+    → onward (onward (onward a (λ t env. let pair : ℕ × Elab (Unit {0}) = (t, done) in Done pair env)) (λ t env. let s : Specified = record { word = defined_word at t.0; later = t.1 } in Done s env)) (λ x env. Done x.word env)
     ≡ onward a (λ t env. Done (defined_word at t) env)
 defined at (Done t env) = refl
 defined at (Refused rule place) = refl

@@ -1,5 +1,5 @@
 -- Specifiers that are built leave nothing for later, so they are their words.
-use Rattle.std.proofs.Common.{◌≡◌, List, [], ◌∷◌, map, Option, None, refl, sym, ap, ◌∙◌}
+use Rattle.std.proofs.Common.{◌≡◌, ℕ, List, [], ◌∷◌, map, Option, None, refl, sym, ap, ◌∙◌}
 use Rattle.cf_unit.specs.declared.class.ClassDef.{ClassDef}
 use Rattle.cf_unit.specs.declared.class.FunctionDef.{FunctionDef}
 use Rattle.cf_unit.specs.declared.class.Member.{Member}
@@ -36,7 +36,7 @@ module _ (alias : Option Name) (env : Env) where
   by_plain (Passed bound most) = refl
 
   by_definition : (at : ℕ) (a : Answer ℕ)
-      → IsWord (onward (onward a (λ t env. Done (t, done) env)) (λ t env. let s : Specified = record { word = defined_word at t.0; later = t.1 } in Done s env))
+      → IsWord (onward (onward a (λ t env. let pair : ℕ × Elab (Unit {0}) = (t, done) in Done pair env)) (λ t env. let s : Specified = record { word = defined_word at t.0; later = t.1 } in Done s env))
   by_definition at (Done t env) = refl
   by_definition at (Refused rule place) = refl
   by_definition at (Passed bound most) = refl
@@ -65,7 +65,7 @@ unfolding shut.words
 all_words alias [] env h = refl
 all_words alias (s ∷ ss) env h =
     ap (λ a. onward a (λ y env. onward (all (runs alias ss) env) (λ ys env. Done (y ∷ ys) env))) (is_word alias env s (left (place.specifier s) (first_of (map place.specifier ss)) h))
-    ∙ by (shut.word alias s env)
+    ∙ by (λ env. all_words alias ss env (right (place.specifier s) (first_of (map place.specifier ss)) h)) (shut.word alias s env)
   where
     rest : (w : Word) (a : Answer (List Word)) → onward (onward a (λ ws env. Done (map only ws) env)) (λ ys env. Done (only w ∷ ys) env)
         ≡ onward (onward a (λ ws env. Done (w ∷ ws) env)) (λ ws env. Done (map only ws) env)
@@ -73,13 +73,12 @@ all_words alias (s ∷ ss) env h =
     rest w (Refused rule at) = refl
     rest w (Passed bound most) = refl
 
-    by : (a : Answer Word) → onward (onward a (λ w env. Done (only w) env)) (λ y env. onward (all (runs alias ss) env) (λ ys env. Done (y ∷ ys) env))
+    by : ((env : Env) → all (runs alias ss) env ≡ onward (shut.words alias ss env) (λ ws env. Done (map only ws) env)) → (a : Answer Word)
+        → onward (onward a (λ w env. Done (only w) env)) (λ y env. onward (all (runs alias ss) env) (λ ys env. Done (y ∷ ys) env))
         ≡ onward (onward a (λ w env. onward (all (map (shut.word alias) ss) env) (λ ws env. Done (w ∷ ws) env))) (λ ws env. Done (map only ws) env)
-    by (Done w env) =
-        ap (λ a. onward a (λ ys env. Done (only w ∷ ys) env)) (all_words alias ss env (right (place.specifier s) (first_of (map place.specifier ss)) h))
-        ∙ rest w (shut.words alias ss env)
-    by (Refused rule at) = refl
-    by (Passed bound most) = refl
+    by later (Done w env) = ap (λ a. onward a (λ ys env. Done (only w ∷ ys) env)) (later env) ∙ rest w (shut.words alias ss env)
+    by later (Refused rule at) = refl
+    by later (Passed bound most) = refl
 
 nothing_later : (ws : List Word) (env : Env) → for_each (λ (x : Specified). x.later) (map only ws) env ≡ Done tt env
 nothing_later [] env = refl
