@@ -1,5 +1,5 @@
 -- The types from a number on, one after the other.
-use Rattle.std.proofs.Common.{◌≡◌, ◌∙◌, ℕ, suc, ◌+◌, ◌<◌, ◌≤◌, Bool, true, false, ◌&&◌, nat_le, List, [], ◌∷◌, length, drop, get_or, refl, sym, ap, subst, drop-cons, drop_of_length-le, add-one}
+use Rattle.std.proofs.Common.{◌≡◌, ◌∙◌, ℕ, suc, ◌+◌, ◌<◌, ◌≤◌, Bool, true, false, ◌&&◌, nat_le, List, ◌∷◌, length, drop, get_or, refl, sym, ap, drop-cons, drop_of_length-le, add-one}
 use Rattle.std.specs.List.{list_all}
 use Rattle.cf_base.specs.declared.limit.Bound.TheVariants as bound
 use Rattle.cf_types.specs.declared.ty.Ty.{Ty}
