@@ -45,7 +45,7 @@ module _ (at u : ℕ) (x : Value) (env : Env) (reference name : Name) (owner : O
   abbrev kept_behind : Name → Env → Answer Start
   kept_behind n e = onward (made.define_static (temporary_of n owner place u) e) (λ _ e. Made (kept_start at (holder.StaticTemporary n) x) e)
 
-  named : (n : Name) (b : Bool) → onward (onward (onward (within b bound.Names most_name env) (λ _. define_static (temporary_of n owner place u))) (λ _. gives (kept (holder.StaticTemporary n)))) (λ k. gives (keeps at u k x))
+  named : (n : Name) (b : Bool) → onward (onward (within b bound.Names most_name env) (λ _ e. onward (define_static (temporary_of n owner place u) e) (λ _. gives (kept (holder.StaticTemporary n))))) (λ k. gives (keeps at u k x))
       ≡ onward (within b bound.Names most_name env) (λ _ e. kept_behind n e)
   unfolding made.define_static
   named n true = refl
