@@ -3,40 +3,37 @@ use Rattle.std.proofs.Common.{◌≡◌, ℕ, zero, suc, ◌<◌, List, [], ◌�
 use Rattle.std.specs.Option.{option_map}
 use Rattle.cf_syntax.specs.declared.expression.Expr.{Expr}
 use Rattle.cf_unit.specs.declared.class.ClassDef.{ClassDef, fold-ClassDef}
-use Rattle.cf_unit.specs.declared.class.FunctionDef.{FunctionDef, fold-FunctionDef}
+use Rattle.cf_unit.specs.declared.class.FunctionDef.{FunctionDef}
 use Rattle.cf_unit.specs.declared.class.Member.{Member, fold-Member}
 use Rattle.cf_unit.specs.declared.class.Member.TheOpen.{Stmt-F}
-use Rattle.cf_unit.specs.declared.class.Member.TheFolds.{fold-roll-Stmt, map-Stmt, fold_out-Declaration}
-use Rattle.cf_unit.specs.declared.declaration.Declaration.{Declaration, fold-Declaration, out-Declaration}
-use Rattle.cf_unit.specs.declared.specifier.Specifier.{Specifier, fold-Specifier}
+use Rattle.cf_unit.specs.declared.class.Member.TheFolds.{fold-roll-Stmt, map-Stmt}
+use Rattle.cf_unit.specs.declared.declaration.Declaration.{Declaration}
+use Rattle.cf_unit.specs.declared.specifier.Specifier.{Specifier}
 use Rattle.cf_unit.specs.declared.statement.Stmt.{Stmt, roll-Stmt}
 use Rattle.cf_unit.specs.declared.statement.Stmt.TheVariants as form
 use Rattle.cf_elab.specs.Built as built
-use Rattle.cf_elab.specs.Built.{Place, first, first_of, maybe}
+use Rattle.cf_elab.specs.Built.{Place, first, first_of, maybe, maybe_expression, member_step, specifier_step, statement_step, class_step, function_step, declaration_step}
+use Rattle.cf_elab_built.specs.Parts.{specifier, function, declaration}
+use Rattle.cf_elab_built.specs.Parts.{statement as place}
+use Rattle.cf_elab_declaration.specs.Shut as declarations
 use Rattle.cf_elab_expr.specs.Shut as expression_built
 use Rattle.cf_elab_expr.proofs.BuiltForms.{left, right}
-use Rattle.cf_elab_body.specs.Forms.{place, maybe_expression, statement_step, declaration_step}
 use Rattle.cf_elab_body.specs.Shut.{IsBuilt, AreBuilt, MaybeBuilt, HasBuilt}
 
 abbrev of_member : Member → Place
-of_member = fold-Member Place Place Place Place Place Place built.member_step built.specifier_step statement_step built.class_step built.function_step declaration_step
-
-abbrev of_specifier : Specifier → Place
-of_specifier = fold-Specifier Place Place Place Place Place Place built.member_step built.specifier_step statement_step built.class_step built.function_step declaration_step
+of_member = fold-Member Place Place Place Place Place Place member_step specifier_step statement_step class_step function_step declaration_step
 
 abbrev of_class : ClassDef → Place
-of_class = fold-ClassDef Place Place Place Place Place Place built.member_step built.specifier_step statement_step built.class_step built.function_step declaration_step
-
-abbrev of_function : FunctionDef → Place
-of_function = fold-FunctionDef Place Place Place Place Place Place built.member_step built.specifier_step statement_step built.class_step built.function_step declaration_step
-
-abbrev of_declaration : Declaration → Place
-of_declaration = fold-Declaration Place Place Place Place Place Place built.member_step built.specifier_step statement_step built.class_step built.function_step declaration_step
+of_class = fold-ClassDef Place Place Place Place Place Place member_step specifier_step statement_step class_step function_step declaration_step
 
 seen : (x : Stmt-F Member Specifier Stmt ClassDef FunctionDef Declaration)
     → place (roll-Stmt x)
-    ≡ statement_step (map-Stmt Member Specifier Stmt ClassDef FunctionDef Declaration Place Place Place Place Place Place of_member of_specifier place of_class of_function of_declaration x)
-seen x = fold-roll-Stmt Place Place Place Place Place Place built.member_step built.specifier_step statement_step built.class_step built.function_step declaration_step x
+    ≡ statement_step (map-Stmt Member Specifier Stmt ClassDef FunctionDef Declaration Place Place Place Place Place Place of_member specifier place of_class function declaration x)
+seen x = fold-roll-Stmt Place Place Place Place Place Place member_step specifier_step statement_step class_step function_step declaration_step x
+
+pub declaration_inside : (d : Declaration) → IsBuilt (form.Declaration d) → declarations.IsBuilt d
+unfolding IsBuilt declarations.IsBuilt roll-Stmt denote.Hole.Carrier.roll
+declaration_inside d h = sym (seen (Stmt-F.Stmt::Declaration d)) ∙ h
 
 module _ (at : ℕ) where
   pub block_inside : (ss : List Stmt) → IsBuilt (form.Block at ss) → AreBuilt ss
@@ -143,15 +140,6 @@ module _ (at : ℕ) where
     pub for_body : IsBuilt s
     unfolding IsBuilt
     for_body = right (maybe_expression step) (place s) rest
-
--- ---- a form that is not built
-
-none_stands : (d : Declaration) → of_declaration d ≡ Some (out-Declaration d).at
-none_stands d = fold_out-Declaration Place Place Place Place Place Place built.member_step built.specifier_step statement_step built.class_step built.function_step declaration_step d
-
-pub no_declaration : (d : Declaration) → IsBuilt (form.Declaration d) → ⊥
-unfolding IsBuilt roll-Stmt denote.Hole.Carrier.roll
-no_declaration d h = let e : Some (out-Declaration d).at ≡ None = sym (none_stands d) ∙ sym (seen (Stmt-F.Stmt::Declaration d)) ∙ h in absurd cc
 
 -- ---- several, or one that may be left out
 

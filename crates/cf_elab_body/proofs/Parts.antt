@@ -8,8 +8,8 @@ use Rattle.cf_unit.specs.declared.class.ClassDef.{ClassDef, fold-ClassDef}
 use Rattle.cf_unit.specs.declared.class.FunctionDef.{FunctionDef}
 use Rattle.cf_unit.specs.declared.class.Member.{Member, fold-Member}
 use Rattle.cf_unit.specs.declared.class.Member.TheOpen.{Stmt-F}
-use Rattle.cf_unit.specs.declared.class.Member.TheFolds.{fold-roll-Stmt, map-Stmt}
-use Rattle.cf_unit.specs.declared.declaration.Declaration.{Declaration}
+use Rattle.cf_unit.specs.declared.class.Member.TheFolds.{fold-roll-Stmt, map-Stmt, fold_out-Declaration}
+use Rattle.cf_unit.specs.declared.declaration.Declaration.{Declaration, out-Declaration}
 use Rattle.cf_unit.specs.declared.specifier.Specifier.{Specifier, fold-Specifier}
 use Rattle.cf_unit.specs.declared.statement.Stmt.{Stmt, roll-Stmt}
 use Rattle.cf_unit.specs.declared.statement.Stmt.TheVariants as form
@@ -21,6 +21,7 @@ use Rattle.cf_elab.specs.Statement as row
 use Rattle.cf_elab.specs.Statement.{Made}
 use Rattle.cf_elab.specs.Trees as tree
 use Rattle.cf_elab.specs.Trees.{MemberRow, SpecifierRow, ClassRow, FunctionRow, DeclarationRow, member_step, specifier_step, statement_step, class_step, definition_step, declaration_step}
+use Rattle.cf_elab_declaration.specs.Shut as declarations
 use Rattle.cf_elab_env.specs.Answered.{Stops}
 use Rattle.cf_elab_env.specs.Shut as scope
 use Rattle.cf_elab_env.specs.declared.stop.Stop.{Stop}
@@ -107,6 +108,14 @@ chosen_then x a go env =
     ∙ onward-same (expression.valued x env) (λ v env. onward (onward (shut.statement a env) (λ m env. Done (v, m) env)) (λ vm env. go vm.0 vm.1 env))
     (λ v env. onward (shut.statement a env) (λ m env. go v m env))
     (λ v env. onward-assoc (shut.statement a env) (λ m env. Done (v, m) env) (λ vm env. go vm.0 vm.1 env)))
+
+pub declaration_is : (d : Declaration) (env : Env)
+    → shut.statement (form.Declaration d) env ≡ onward (declarations.declaration d env) (λ rs env. Done (row.declaration_made (out-Declaration d).at rs) env)
+unfolding shut.statement declarations.declaration roll-Stmt denote.Hole.Carrier.roll
+declaration_is d env =
+    made_of (Stmt-F.Stmt::Declaration d) env
+    ∙ ap (λ (r : DeclarationRow). onward ((tree.declaration d).run env) (λ rs env. Done (row.declaration_made r.at rs) env))
+    (fold_out-Declaration MemberRow SpecifierRow (Elab Made) ClassRow FunctionRow DeclarationRow member_step specifier_step statement_step class_step definition_step declaration_step d)
 
 module _ (at : ℕ) (env : Env) where
   pub empty_is : shut.statement (form.Empty at) env ≡ Done (row.made at (node.Full at (node.Blank at))) env

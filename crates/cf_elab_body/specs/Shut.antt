@@ -13,7 +13,7 @@ use Rattle.cf_elab.specs.Statement as row
 use Rattle.cf_elab.specs.Statement.{Made}
 use Rattle.cf_elab.specs.Trees as tree
 use Rattle.cf_elab_statement.specs.Shut as step
-use Rattle.cf_elab_body.specs.Forms.{place, maybe_expression}
+use Rattle.cf_elab_built.specs.Parts as place
 
 -- what a statement is, and what several are in order
 unfoldable pub statement : Stmt → Elab Made
@@ -63,13 +63,13 @@ for_rest at first x next body = maybe_value x >>= (λ v. for_behind at first v n
 
 -- whether all forms in it are built
 unfoldable pub IsBuilt : Stmt → Type 0
-IsBuilt s = place s ≡ None
+IsBuilt s = place.statement s ≡ None
 
 unfoldable pub AreBuilt : List Stmt → Type 0
-AreBuilt ss = first_of (map place ss) ≡ None
+AreBuilt ss = first_of (map place.statement ss) ≡ None
 
 unfoldable pub MaybeBuilt : Option Stmt → Type 0
-MaybeBuilt s = built.maybe (option_map place s) ≡ None
+MaybeBuilt s = built.maybe (option_map place.statement s) ≡ None
 
 unfoldable pub HasBuilt : Option Expr → Type 0
-HasBuilt x = maybe_expression x ≡ None
+HasBuilt x = built.maybe_expression x ≡ None

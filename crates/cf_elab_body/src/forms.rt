@@ -10,14 +10,14 @@ use cf_unit::Stmt;
 
 /// What a statement is: its parts from left to right, and then what its construct asks of them (6).
 #[cycle(statements)]
-#[tactic(auto, using(crate::proofs::BuiltForms::no_declaration, crate::proofs::Parts::if_is, crate::proofs::Parts::for_is, cf_elab_env::proofs::Growth::grown_laws))]
+#[tactic(auto, using(crate::proofs::Parts::if_is, crate::proofs::Parts::for_is, cf_elab_env::proofs::Growth::grown_laws))]
 pub fn statement(s: &Stmt, env: &mut Env) -> Result<Made, Stop>
     requires { shut.IsBuilt s.now }
     ensures made { Agrees (shut.statement s.now env.old) result env.new }
     ensures grows { OnOk result (Grows env.old.types env.new.types) }
 {
     match s {
-        Stmt::Declaration(_) => unreachable!(),
+        Stmt::Declaration(d) => simple::declaration(d, env),
         Stmt::Block(at, all) => lists::block(all, *at, env),
         Stmt::Empty(at) => simple::empty(*at, env),
         Stmt::Expression(at, e) => simple::expression(e, *at, env),

@@ -1,4 +1,4 @@
-//! Statements with all that is in them while a file is elaborated (6).
+//! Statements with all that is in them, while a file is elaborated (6).
 //!
 //! `specs/Shut` names what a statement is by the definitions of elaboration; the forms that are not built are kept out by `IsBuilt`.
 #![tactic(auto)]

@@ -7,12 +7,25 @@ ghost use Rattle.cf_elab_body.specs.Shut as shut;
 
 use crate::values::maybe_value;
 use cf_base::Boxed;
+use cf_elab_declaration::declaration as declared;
 use cf_elab_env::{Env, Stop};
 use cf_elab_expr::evaluated;
 use cf_elab_made::Made;
 use cf_elab_statement as steps;
 use cf_syntax::Expr;
-use cf_unit::Stmt;
+use cf_unit::{Declaration, Stmt};
+
+/// A declaration (6.7).
+#[tactic(auto, using(crate::proofs::Parts::declaration_is, crate::proofs::BuiltForms::declaration_inside, cf_elab_env::proofs::Growth::grown_laws))]
+pub(crate) fn declaration(d: &Boxed<Declaration>, env: &mut Env) -> Result<Made, Stop>
+    requires { shut.IsBuilt (Stmt.Declaration d.now) }
+    ensures made { Agrees (shut.statement (Stmt.Declaration d.now) env.old) result env.new }
+    ensures grows { OnOk result (Grows env.old.types env.new.types) }
+{
+    let reached = declared(d.get(), env)?;
+    let made = steps::declaration(env.alloc(), d.get().at, reached)?;
+    Ok(made)
+}
 
 /// `;` alone (6.2).
 #[tactic(auto, using(crate::proofs::Parts::empty_is, cf_elab_env::proofs::Growth::grown_laws))]

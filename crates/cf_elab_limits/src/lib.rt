@@ -6,4 +6,4 @@
 mod bytes;
 mod within;
 
-pub use within::check_type;
+pub use within::{check_type, check_types};

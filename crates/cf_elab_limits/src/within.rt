@@ -9,6 +9,26 @@ use cf_base::{Bound, Limit};
 use cf_elab_env::{Env, Stop};
 use cf_types::TyId;
 
+/// Each type that was made since there were so many is no larger than the limit on sizes.
+pub fn check_types(env: &Env, count: usize) -> Result<(), Stop>
+    ensures { Agrees (shut.types_within count env.now) result env.now }
+{
+    for number in count..env.types().count() {
+        check_number(env, number)?;
+    }
+    Ok(())
+}
+
+/// The type of this number is no larger than the limit on sizes.
+fn check_number(env: &Env, number: usize) -> Result<(), Stop>
+    requires { IsType env.now.types number }
+    ensures { Agrees (shut.type_within number env.now) result env.now }
+{
+    let _types = env.types();
+    let ty = TyId::new(number as u32);
+    check_type(env, ty)
+}
+
 /// The type is no larger than the limit on sizes.
 #[tactic(auto, using(crate::proofs::WithinLaws::type_laws))]
 pub fn check_type(env: &Env, ty: TyId) -> Result<(), Stop>

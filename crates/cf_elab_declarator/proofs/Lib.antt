@@ -1,0 +1,4 @@
+pub mod BoundRows
+pub mod KindRows
+pub mod NamedRows
+pub mod ObjectRows

@@ -1,0 +1,48 @@
+-- The rows of declarators with their initialisers, each under a name of its own that does not unfold. `Rattle.cf_elab_declarator.proofs` says what each is.
+use Rattle.std.specs.Prelude.{ℕ, Bool, List, Option, Some}
+use Rattle.cf_syntax.specs.declared.name.Name.{Name as WrittenName}
+use Rattle.cf_unit.specs.declared.initialiser.Initialiser.{Initialiser}
+use Rattle.cf_elab.specs.Answer.{Elab, ◌>>=◌, gives}
+use Rattle.cf_elab.specs.Declaration as declaration
+use Rattle.cf_elab.specs.Declaration.{initial_of}
+use Rattle.cf_elab.specs.Objects.{Says, Written, Reached}
+use Rattle.cf_elab.specs.Shape as shape
+use Rattle.cf_elab.specs.Shape.{Shape, Shaped}
+use Rattle.cf_elab.specs.Specifiers.{Gathered}
+use Rattle.cf_elab_declare.specs.Shut as declare
+use Rattle.cf_elab_written.specs.Given.{given, place_of}
+use Rattle.cf_elab_written.specs.Shut as written
+
+-- an object before its initialiser, the initialiser, and the object behind it
+unfoldable pub nodes : Bool → Says → Option Initialiser → Elab (List Reached)
+nodes in_file d i = do
+  b ← declare.begin in_file d
+  w ← written.parts_of i
+  declare.finish b d (place_of i) w
+
+unfoldable pub object_row : Bool → Gathered → WrittenName → ℕ → Option Initialiser → Elab (List Reached)
+object_row in_file g n t i = do
+  name ← declaration.plain_name n n.last
+  declaration.object_row in_file g name n.last_at t (declaration.parts_of (given i)) (given i)
+
+-- an array whose initialiser is written and gave its bound
+unfoldable pub given_row : Bool → Gathered → WrittenName → ℕ → Initialiser → Written → Elab (List Reached)
+given_row in_file g n t i w = do
+  name ← declaration.plain_name n n.last
+  declaration.object_row in_file g name n.last_at t (gives (Some w)) (Some (initial_of i))
+
+-- an array whose initialiser gives the bound
+unfoldable pub unbounded : Bool → Gathered → WrittenName → Option Initialiser → ℕ → Elab (List Reached)
+unbounded in_file g n i u = declaration.by_shape in_file g n shape.inner (given i) (shape.unbounded u)
+
+unfoldable pub bounded : Bool → Gathered → WrittenName → Initialiser → ℕ → Elab (List Reached)
+bounded in_file g n i u = unbounded in_file g n (Some i) u
+
+unfoldable pub by_kind : Bool → Gathered → WrittenName → Shape → Option Initialiser → ℕ → Elab (List Reached)
+by_kind in_file g n s i t = declaration.by_kind in_file g n s (given i) t
+
+unfoldable pub by_shape : Bool → Gathered → WrittenName → Shape → Option Initialiser → Shaped → Elab (List Reached)
+by_shape in_file g n s i t = declaration.by_shape in_file g n s (given i) t
+
+unfoldable pub named_declarator : Gathered → ℕ → Option Initialiser → Shape → WrittenName → Elab (List Reached)
+named_declarator g at i s n = declaration.named_declarator g at (given i) s n

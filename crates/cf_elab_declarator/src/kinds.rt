@@ -1,0 +1,96 @@
+ghost use Rattle.std.specs.Prelude.{◌≡◌, None, OnOk};
+ghost use Rattle.cf_elab.specs.Built.{of_name};
+ghost use Rattle.cf_elab.specs.Operand as operand;
+ghost use Rattle.cf_elab_declarator.specs.Shut as shut;
+ghost use Rattle.cf_elab_define.specs.Reached.{maybe_reached};
+ghost use Rattle.cf_elab_env.specs.Answered.{AgreesAs};
+ghost use Rattle.cf_elab_env.specs.Holds.{Grows, IsType};
+ghost use Rattle.cf_elab_env.specs.Seen.{sort_seen};
+ghost use Rattle.cf_elab_shape.specs.Holds.{IsShape};
+ghost use Rattle.cf_elab_shape.specs.Seen.{shape_seen, shaped_seen, type_of};
+ghost use Rattle.cf_elab_written.specs.Shut as written;
+
+use crate::objects::{object_row, unbounded};
+use cf_elab_declare::{function_row, identifier};
+use cf_elab_env::{Env, Sort, Stop};
+use cf_elab_made::Reached;
+use cf_elab_objects::typedef_row;
+use cf_elab_shape::{Shape, Shaped};
+use cf_elab_specifiers::Gathered;
+use cf_elab_written::initial_at;
+use cf_syntax::Name;
+use cf_types::TyId;
+use cf_unit::Initialiser;
+
+/// What a name is declared as, where an array's initialiser may give its bound (8.2.4).
+#[tactic(auto, using(crate::proofs::KindRows::shape_laws))]
+pub(crate) fn by_shape(
+    initialiser: &Option<Initialiser>,
+    name: &Name,
+    shape: &Shape,
+    gathered: &Gathered,
+    in_file: bool,
+    shaped: Shaped,
+    env: &mut Env,
+) -> Result<Option<Reached>, Stop>
+    requires built { written.PartsAreBuilt initialiser.now }
+    requires plain { of_name name.now ≡ None }
+    requires shape_known { IsShape env.old.types (shape_seen shape.now) }
+    requires typed { IsType env.old.types (type_of (shaped_seen shaped)) }
+    ensures made { AgreesAs maybe_reached (shut.by_shape in_file gathered.now name.now (shape_seen shape.now) initialiser.now (shaped_seen shaped) env.old) result env.new }
+    ensures grows { OnOk result (Grows env.old.types env.new.types) }
+{
+    match shaped {
+        Shaped::Whole(ty) => {
+            let reached = by_kind(initialiser, name, shape, gathered, in_file, ty, env)?;
+            Ok(reached)
+        }
+        Shaped::Unbounded(element) => {
+            let reached = unbounded(initialiser, name, gathered, in_file, element, env)?;
+            Ok(reached)
+        }
+    }
+}
+
+/// A name of this type: a type itself, a function, or an object.
+#[tactic(auto, using(crate::proofs::KindRows::kind_laws))]
+fn by_kind(
+    initialiser: &Option<Initialiser>,
+    name: &Name,
+    shape: &Shape,
+    gathered: &Gathered,
+    in_file: bool,
+    ty: TyId,
+    env: &mut Env,
+) -> Result<Option<Reached>, Stop>
+    requires built { written.PartsAreBuilt initialiser.now }
+    requires plain { of_name name.now ≡ None }
+    requires shape_known { IsShape env.old.types (shape_seen shape.now) }
+    requires typed { IsType env.old.types ty }
+    ensures made { AgreesAs maybe_reached (shut.by_kind in_file gathered.now name.now (shape_seen shape.now) initialiser.now ty env.old) result env.new }
+    ensures grows { OnOk result (Grows env.old.types env.new.types) }
+{
+    if gathered.is_typedef() {
+        let own = identifier(name);
+        typedef_row(
+            env,
+            own.as_slice(),
+            name.last_at,
+            ty,
+            initial_at(initialiser),
+        )?;
+        Ok(None)
+    } else if is_function(env.sort_of(ty)) {
+        function_row(env, gathered, name, shape, ty, initial_at(initialiser))?;
+        Ok(None)
+    } else {
+        let reached = object_row(initialiser, name, gathered, in_file, ty, env)?;
+        Ok(reached)
+    }
+}
+
+fn is_function(sort: Sort) -> bool
+    ensures { result ≡ operand.is_function (sort_seen sort) }
+{
+    matches!(sort, Sort::Function(_))
+}

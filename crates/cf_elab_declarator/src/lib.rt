@@ -1,0 +1,11 @@
+//! Declarators of a file or a block with their initialisers, while a file is elaborated (7.1, 8.1, 8.4).
+//!
+//! A declarator's own bounds and parameters are elaborated before. Each contract cites a row of the definitions of elaboration by its name in
+//! `specs/Shut`.
+#![tactic(auto)]
+
+mod kinds;
+mod named;
+mod objects;
+
+pub use named::named_declarator;
