@@ -13,9 +13,8 @@ use Rattle.cf_core.specs.Scalars as scalars
 use Rattle.cf_core.specs.Store.{Value, Number, At, is_dead}
 use Rattle.cf_core.specs.Places.{type_at}
 use Rattle.cf_core_place.specs.declared.part.Part.{Part}
-use Rattle.cf_core_place.specs.Routes.{route_of}
-use Rattle.cf_core_place.specs.Spots.{kept_to}
-use Rattle.cf_core_place.proofs.SpotLaws.{same-some}
+use Rattle.cf_core_place.specs.Routes.{route_of, kept_to}
+use Rattle.cf_core_place.proofs.PartLaws.{same-some}
 use Rattle.cf_core_objects.specs.declared.answer.Stop.{Stop}
 use Rattle.cf_core_objects.specs.declared.answer.Value.{Value as Given}
 use Rattle.cf_core_objects.specs.declared.answer.Value.TheVariants as given

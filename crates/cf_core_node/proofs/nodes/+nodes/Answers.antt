@@ -27,7 +27,7 @@ all-node-requires t c =
 
 pub all-returns-in_err-node : goal.all-returns-in_err-node
 all-returns-in_err-node t c =
-    let f = node_of c.args.unit.now.types c.args.own.now in
+    let f = node_of c.args.unit.now.types c.args.defined.now in
     let p = err_from_is_err_and c.from_residual.result c.from_residual.ensures.1 in
     rw (p.1, p.2)
     (subst (λ (l : List Core). Gives (all (map f l)) (Err c.in_err-node.field-0.0)) c.as_slice-e-items.ensures
@@ -36,7 +36,7 @@ all-returns-in_err-node t c =
 
 pub all-loop-e-preserved : goal.all-loop-e-preserved
 all-loop-e-preserved t c =
-    let f = node_of c.args.unit.now.types c.args.own.now in
+    let f = node_of c.args.unit.now.types c.args.defined.now in
     let items = c.as_slice-e-items.result.now in
     let i = c.loop-e.e-index in
     ap (λ (l : List Node). in_front l (all (map f (drop (i + 1) items))))
