@@ -52,13 +52,14 @@ fn lies(is_inside: bool, p: Place, q: Place) -> bool
     is_inside && p.object == q.object && lies_in(p.part, q.part)
 }
 
-/// Whether two places may be compared: the end of an array is compared with pointers into that array alone, and two places of which
-/// one lies in the other with neither.
+/// Whether two places may be compared: the end of an array is compared with pointers into that array alone and not with another end,
+/// and two places of which one lies in the other with neither.
 fn comparable(is_inside: bool, other_inside: bool, p: Place, q: Place) -> bool
     ensures { result ≡ compared.comparable is_inside other_inside (place_of p) (place_of q) }
 {
     same_place(p, q)
-        || (ends(is_inside, p, q)
+        || ((is_inside || other_inside)
+            && ends(is_inside, p, q)
             && ends(other_inside, q, p)
             && !lies(is_inside, p, q)
             && !lies(other_inside, q, p))

@@ -15,11 +15,14 @@ ghost use Rattle.cf_core_store.specs.Compared.{first_of};
 use cf_core_objects::{Objects, Sort, Stop, Value, site_at};
 use cf_core_place::{Place, further, index, item, with_index};
 
-/// A place moved by a number of elements, within its array or to its end (5.7).
+/// A place of an object that has not ended, moved by a number of elements, within its array or to its end (5.7).
 fn moved_place<'a>(objects: &Objects<'_>, place: Place, by: i128) -> Result<Value<'a>, Stop>
     ensures { (T : Tables) (e : Enter) (w : World) → Told value_of result (state_of T e objects.now) w (pointers.moved_place [] (place_of place) by (state_of T e objects.now) w) }
 {
     let site = site_at(objects, place);
+    if site.is_gone {
+        return Err(Stop::Act(5));
+    }
     match further(index(place.part), by, site.bound) {
         None => Err(Stop::Act(6)),
         Some(index) => Ok(Value::At(Place {
