@@ -55,7 +55,7 @@ up-some n (Some i) k s w h = by (nat_le i n) h
     by false h = absurd (cc)
 
 -- a place that is moved, of which it is told whether its object has ended
-moving : Bool → State → Place → ℤ → World → Ran (Did Value)
+abbrev moving : Bool → State → Place → ℤ → World → Ran (Did Value)
 moving g s p z w =
     (need (not g) not_alive
     >> (up_to (bound_of [] (s.object p.object).type (element_of p.route)) (further (element_of p.route).index z)
