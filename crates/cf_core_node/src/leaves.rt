@@ -7,9 +7,7 @@ ghost use Rattle.cf_core_node.specs.Gives.{Gives};
 ghost use Rattle.cf_core_node.specs.Known.{type_known};
 ghost use Rattle.cf_core_node.specs.Nodes as spec;
 
-use crate::defined::{
-    Defined, FunctionHead, function_named, has_type, same_head, static_named,
-};
+use crate::defined::{Defined, FunctionHead, function_named, has_type, same_head, static_named};
 use crate::fault::NotLoaded;
 use crate::names::linked;
 use cf_base::{Boxed, Bytes, Name};
