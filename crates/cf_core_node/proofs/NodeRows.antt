@@ -19,11 +19,11 @@ use Rattle.cf_core_node.specs.Nodes.{node_of, step, no_part}
 abbrev types : Table
 types = record { types = ty.Int Int ∷ (ty.Fun 0 ∷ []); funs = record { result = 0; params = []; is_const = false } ∷ [] }
 
--- in a file whose function `f` is static, and whose function `h` takes an int
+-- in a file with a name `f` of its own, whose function `h` takes an int
 abbrev file : Defined
 file = record {
   own = codes "f" ∷ [];
-  functions = record { name = in_file 1 (codes "f"); params = []; result = 0 } ∷ (record { name = codes "h"; params = 0 ∷ []; result = 0 } ∷ []);
+  functions = record { name = codes "h"; params = 0 ∷ []; result = 0 } ∷ [];
   statics = [];
 }
 

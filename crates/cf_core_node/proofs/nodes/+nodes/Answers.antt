@@ -10,6 +10,7 @@ use Rattle.cf_core_node.specs.Known.{all_known}
 use Rattle.cf_core_node.specs.Nodes.{node_of}
 use Rattle.cf_core_node.proofs.Known.{known_at}
 use Rattle.cf_core_node.proofs.Loops.{in_front, stopped, going}
+use Rattle.cf_core_node.proofs.Naming.{gives-static, gives-function}
 use Rattle.cf_core_node.proofs.nodes.+nodes.Goals as goal
 
 pub all-node-requires : goal.all-node-requires
@@ -42,3 +43,11 @@ all-loop-e-preserved t c =
     ap (λ (l : List Node). in_front l (all (map f (drop (i + 1) items))))
     (c.in_ok-push.ensures.ok ∙ ap (λ (y : Node). c.loop-e.found ++ y ∷ []) c.into_inner.ensures)
     ∙ going f c.loop-e.found items i c.e-item.result c.loop-e.invariant c.loop-e-test.true c.e-item.is c.in_ok-node.field-0 c.in_ok-node.ensures
+
+pub node-returns-in-Static : goal.node-returns-in-Static
+node-returns-in-Static t c =
+    gives-static c.args.unit.now.types c.args.defined.now c.args.e.now c.in-Static.at c.in-Static.name c.in-Static.ty c.static_object.result c.in-Static.is c.static_object.ensures
+
+pub node-returns-in-Function : goal.node-returns-in-Function
+node-returns-in-Function t c =
+    gives-function c.args.unit.now.types c.args.defined.now c.args.e.now c.in-Function.at c.in-Function.name c.in-Function.ty c.function.result c.in-Function.is c.function.ensures
