@@ -1,4 +1,4 @@
-use Rattle.std.proofs.Common.{◌≡◌, ◌∙◌, List, Option, find, bytes_eq, option_copied, slice_get, ap, sym}
+use Rattle.std.proofs.Common.{◌∙◌, List, Option, find, bytes_eq, option_copied, slice_get, ap, sym}
 use Rattle.cf_classes.specs.TypeTree.{fun_of}
 use Rattle.cf_core_node.specs.declared.defined.FunctionHead.{FunctionHead}
 use Rattle.cf_core_node.specs.Defined as heads

@@ -1,4 +1,4 @@
-use Rattle.std.proofs.Common.{◌≡◌, ◌∙◌, List, Option, find, bytes_eq, option_copied, ap, sym}
+use Rattle.std.proofs.Common.{◌∙◌, List, Option, find, bytes_eq, option_copied, ap, sym}
 use Rattle.cf_core_node.specs.declared.defined.StaticHead.{StaticHead}
 use Rattle.cf_core_node.specs.Defined as heads
 use Rattle.cf_core_node.proofs.leaves.agrees_object.Goals as goal
