@@ -38,9 +38,9 @@ module _ (ahead : Ahead) (means : Meaning) where
   }
 
   -- A function is entered.
-  pub going-enters : (m new : Machine) (a b : Streams) (c : Stream) (t u : Tally) (name : List ℕ) → Going ahead means m a b t
-      → ((rest : List ℕ) (events : List Event) → ahead m rest events ≡ ahead new rest (events ++ Enter name ∷ [])) → Counts b.out c t u → Going ahead means new a (streams b.input c) u
-  going-enters m new a b c t u name g h counts = subst (λ (s : Stream). Going ahead means new a (streams b.input s) u) (sym counts.stream) (record {
+  pub going-enters : (m new : Machine) (a b : Streams) (t u : Tally) (name : List ℕ) → Going ahead means m a b t
+      → ((rest : List ℕ) (events : List Event) → ahead m rest events ≡ ahead new rest (events ++ Enter name ∷ [])) → Counts t u → Going ahead means new a b u
+  going-enters m new a b t u name g h counts = record {
     events = g.events ++ Enter name ∷ [];
     same = λ rest k. ap means (quiet-bytes g.events (Enter name) rest refl) ∙ g.same rest (λ x. k (counts.at_end ∙ x)) ∙ h rest g.events;
     held = λ k. g.held k ∙ sym (quiet-bytes g.events (Enter name) b.input.bytes refl);
@@ -49,12 +49,12 @@ module _ (ahead : Ahead) (means : Meaning) where
     told = record { input = g.told.input; out = g.told.out };
     counts = record { input = g.counts.input; out = g.counts.out };
     counted = counts.entered ∙ ap (λ k. min (k + 1) (2 ^ 64 - 1)) g.counted ∙ next-count g.events name;
-  })
+  }
 
   -- A byte is put.
-  pub going-puts : (m new : Machine) (a b : Streams) (c : Stream) (t u : Tally) (byte : ℕ) → Going ahead means m a b t
-      → ((rest : List ℕ) (events : List Event) → ahead m rest events ≡ ahead new rest (events ++ Out byte ∷ [])) → PutByte byte b.out c t u → Going ahead means new a (streams b.input c) u
-  going-puts m new a b c t u byte g h put = subst (λ (v : Tally). Going ahead means new a (streams b.input c) v) (sym put.tally) (record {
+  pub going-puts : (m new : Machine) (a b : Streams) (c : Stream) (t : Tally) (byte : ℕ) → Going ahead means m a b t
+      → ((rest : List ℕ) (events : List Event) → ahead m rest events ≡ ahead new rest (events ++ Out byte ∷ [])) → PutByte byte b.out c → Going ahead means new a (streams b.input c) t
+  going-puts m new a b c t byte g h put = record {
     events = g.events ++ Out byte ∷ [];
     same = λ rest k. ap means (quiet-bytes g.events (Out byte) rest refl) ∙ g.same rest k ∙ h rest g.events;
     held = λ k. g.held k ∙ sym (quiet-bytes g.events (Out byte) b.input.bytes refl);
@@ -64,7 +64,7 @@ module _ (ahead : Ahead) (means : Meaning) where
     told = record { input = g.told.input; out = λ k. g.told.out (put.told k) };
     counts = record { input = g.counts.input; out = put.faults ∙ g.counts.out };
     counted = g.counted ∙ same-count g.events (Out byte ∷ []) refl;
-  })
+  }
 
   -- A byte is taken.
   pub going-takes : (m new : Machine) (a b : Streams) (c : Stream) (t u : Tally) (byte : ℕ) → Going ahead means m a b t
@@ -164,7 +164,7 @@ module _ (ahead : Ahead) (means : Meaning) where
 
   -- A byte is not put.
 
-  module _ (m new : Machine) (a b : Streams) (c : Stream) (t u : Tally) (byte : ℕ) (g : Going ahead means m a b t) (h : (rest : List ℕ) (events : List Event) → ahead m rest events ≡ ahead new rest (events ++ Out byte ∷ [])) (put : PutNot byte b.out c t u) where
+  module _ (m new : Machine) (a b : Streams) (c : Stream) (t : Tally) (byte : ℕ) (g : Going ahead means m a b t) (h : (rest : List ℕ) (events : List Event) → ahead m rest events ≡ ahead new rest (events ++ Out byte ∷ [])) (put : PutNot byte b.out c) where
     with-byte : (IsTrue c.told → c.bytes ≡ b.out.bytes ++ byte ∷ []) → OutputFailed ahead means a (streams b.input c) t.entered
     with-byte bytes =
         let events = g.events ++ Out byte ∷ [] in
@@ -209,8 +209,8 @@ module _ (ahead : Ahead) (means : Meaning) where
       input = g.counts.input;
     }
 
-    pub going-not_put : OutputFailed ahead means a (streams b.input c) u.entered
-    going-not_put = subst (λ (v : Tally). OutputFailed ahead means a (streams b.input c) v.entered) (sym put.tally) (go (flag c.told))
+    pub going-not_put : OutputFailed ahead means a (streams b.input c) t.entered
+    going-not_put = go (flag c.told)
       where
         parts : (x : AddsFront (byte ∷ []) b.out.bytes c.bytes) → (x.front ≡ []) ⊎ (x.front ≡ byte ∷ []) → OutputFailed ahead means a (streams b.input c) t.entered
         parts x (inl none) = without-byte (λ k. x.added ∙ ap (λ l. b.out.bytes ++ l) none ∙ append-nil b.out.bytes)

@@ -1,7 +1,8 @@
 -- What a step, or a byte of the input, makes of what lies ahead.
 use Rattle.std.proofs.Common.{◌≡◌, ◌∙◌, ℕ, List, [], ◌∷◌, ◌++◌, Option, Some, None, Result, Ok, Err, ap, sym, subst}
 use Rattle.cf_base.specs.Stream.{Stream}
-use Rattle.cf_base.specs.Event.{Event, Enter, In, Out, Undefined, Ended as EndedAt, Ticks, Depth}
+use Rattle.std.specs.Borrow.{Bor}
+use Rattle.cf_base.specs.Event.{Event, In, Out, Undefined, Ended as EndedAt, Ticks, Depth}
 use Rattle.cf_core.specs.FromTypes.{Tables}
 use Rattle.cf_core.specs.Calls.{byte_value}
 use Rattle.cf_core.specs.Run.{gives}
@@ -11,12 +12,11 @@ use Rattle.cf_core_objects.specs.declared.answer.Value.{Value as Given}
 use Rattle.cf_core_objects.specs.Store.{value_of}
 use Rattle.cf_core_run.specs.declared.mark.Doing.TheVariants as doing
 use Rattle.cf_core_run.specs.declared.state.Machine.{Machine}
-use Rattle.cf_core_run.specs.declared.state.Event.{Event as Seen}
 use Rattle.cf_core_run.specs.declared.state.RunEnd.{RunEnd}
 use Rattle.cf_core_run.specs.declared.state.RunEnd.TheVariants as run_ending
 use Rattle.cf_core_run.specs.declared.state.Step.{Step}
 use Rattle.cf_core_run.specs.declared.state.Step.TheVariants as step
-use Rattle.cf_core_run.specs.Going.{Comes, GoesOn, total, from_doing, from_value, event_of, end_of as end_at}
+use Rattle.cf_core_run.specs.Going.{Comes, GoesOn, total, from_doing, from_value, end_of as end_at}
 use Rattle.cf_core_run.specs.Whole.{Around}
 use Rattle.cf_run_tree.specs.declared.program.Program.{Program}
 use Rattle.cf_core_drive.specs.declared.types.End.{End}
@@ -24,9 +24,9 @@ use Rattle.cf_core_drive.specs.declared.types.End.TheVariants as ended
 use Rattle.cf_core_drive.specs.declared.types.Fault.{Fault}
 use Rattle.cf_core_drive.specs.declared.types.Fault.TheVariants as fault
 use Rattle.cf_core_drive.specs.declared.types.Tally.{Tally}
-use Rattle.cf_core_drive.specs.Run.{Streams, streams, ahead_of, LeavesAt, Broken}
-use Rattle.cf_core_drive.specs.Going.{Turns, Carries, Answers, TookNot, run_end}
-use Rattle.cf_core_drive.proofs.GoingLaws.{going-on, going-enters, going-puts, going-not_put, going-whole, going-none, going-broken, going-answers, going-not_taken}
+use Rattle.cf_core_drive.specs.Run.{Streams, streams, ahead_of, LeavesAt}
+use Rattle.cf_core_drive.specs.Going.{Turns, Counts, Puts, Answers, TookNot, run_end}
+use Rattle.cf_core_drive.proofs.GoingLaws.{going-on, going-enters, going-puts, going-not_put, going-whole, going-none, going-answers, going-not_taken}
 
 module _ (p : Program) (m new : Machine) (a : Streams) (t : Tally) (r : Result Step Stop) (h : Comes p (λ T o. total T p m o) r new) where
   pub turns-on : r ≡ Ok step.On → Turns p m new a a t t (Ok None)
@@ -56,31 +56,27 @@ module _ (p : Program) (m new : Machine) (a : Streams) (t : Tally) (r : Result S
       at run_ending.Ticks s = λ T around means old g. going-whole (ahead_of T p around) means m old a t Ticks g (s T around)
       at run_ending.Depth s = λ T around means old g. going-whole (ahead_of T p around) means m old a t Depth g (s T around)
 
-  -- what lies ahead goes on with this event
-  abbrev Shows : Event → Type 0
-  Shows e = (T : Tables) (around : Around) (rest : List ℕ) (events : List Event) → ahead_of T p around m rest events ≡ ahead_of T p around new rest (events ++ e ∷ [])
+  -- a function is entered
+  pub turns-enters : (name : Bor (List ℕ)) (u : Tally) → r ≡ Ok (step.Enters name) → Counts t u → Turns p m new a a t u (Ok None)
+  turns-enters name u is counts = λ T around means old g.
+      let s = subst (λ (r : Result Step Stop). Comes p (λ T o. total T p m o) r new) is h in
+      going-enters (ahead_of T p around) means m new old a t u name.now g
+      (λ rest events. s.same T (record { input = rest; heap = around.heap; trace = events; bound = around.bound; depth = around.depth })) counts
 
-  -- an event is shown, and carried out
-  pub turns-shows : (e : Seen) (c : Stream) (u : Tally) (answer : Result (Option End) Fault) → r ≡ Ok (step.Shows e) → Carries (event_of e) a.out c t u answer
-      → Turns p m new a (streams a.input c) t u answer
-  turns-shows e c u answer is carries =
-      by (event_of e) answer (λ T around rest events. s.same T (record { input = rest; heap = around.heap; trace = events; bound = around.bound; depth = around.depth })) carries
+  -- a byte is put, or is not
+  pub turns-puts : (byte : ℕ) (c : Stream) (answer : Option End) → r ≡ Ok (step.Puts byte) → Puts byte a.out c answer → Turns p m new a (streams a.input c) t t (Ok answer)
+  turns-puts byte c answer is puts = by answer puts
     where
-      s : GoesOn p (λ T o. total T p m o) (Some (event_of e)) new
+      s : GoesOn p (λ T o. total T p m o) (Some (Out byte)) new
       s = subst (λ (r : Result Step Stop). Comes p (λ T o. total T p m o) r new) is h
 
-      by : (e : Event) (answer : Result (Option End) Fault) → Shows e → Carries e a.out c t u answer → Turns p m new a (streams a.input c) t u answer
-      by (Enter name) (Ok None) s k = λ T around means old g. going-enters (ahead_of T p around) means m new old a c t u name g (s T around) k
-      by (Enter name) (Ok (Some x)) s k = absurd k
-      by (Enter name) (Err x) s k = absurd k
-      by (Out byte) (Ok None) s k = λ T around means old g. going-puts (ahead_of T p around) means m new old a c t u byte g (s T around) k
-      by (Out byte) (Ok (Some ended.SinkFault)) s k = λ T around means old g. going-not_put (ahead_of T p around) means m new old a c t u byte g (s T around) k
-      by (Out byte) (Ok (Some x)) s k = absurd k
-      by (Out byte) (Err x) s k = absurd k
-      by (In byte) (Ok x) s k = absurd k
-      by (In byte) (Err fault.NotBuilt) s k = λ T around means old g.
-          subst (λ (x : Stream). Broken (ahead_of T p around) means old (streams a.input x)) (sym k.0) (going-broken (ahead_of T p around) means m old a t g)
-      by (In byte) (Err x) s k = absurd k
+      ahead : (T : Tables) (around : Around) (rest : List ℕ) (events : List Event) → ahead_of T p around m rest events ≡ ahead_of T p around new rest (events ++ Out byte ∷ [])
+      ahead T around rest events = s.same T (record { input = rest; heap = around.heap; trace = events; bound = around.bound; depth = around.depth })
+
+      by : (answer : Option End) → Puts byte a.out c answer → Turns p m new a (streams a.input c) t t (Ok answer)
+      by None k = λ T around means old g. going-puts (ahead_of T p around) means m new old a c t byte g (ahead T around) k
+      by (Some ended.SinkFault) k = λ T around means old g. going-not_put (ahead_of T p around) means m new old a c t byte g (ahead T around) k
+      by (Some x) k = absurd k
 
 -- A byte that is awaited is taken, or the end of the input is met.
 module _ (p : Program) (m new : Machine) (v : Given) (asks : m.doing ≡ doing.Asks) (is : new ≡ record m { doing = doing.Gives v }) where

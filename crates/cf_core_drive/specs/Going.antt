@@ -3,7 +3,7 @@ use Rattle.std.specs.Prelude.{◌≡◌, ℕ, ◌+◌, ◌-◌, ◌^◌, min, Bo
 use Rattle.cf_base.specs.declared.memory.Failed.{Failed}
 use Rattle.cf_base.specs.Rose.{Rose}
 use Rattle.cf_base.specs.Stream.{Stream, AddsFront}
-use Rattle.cf_base.specs.Event.{Event, Enter, In, Out, in_bytes, out_bytes}
+use Rattle.cf_base.specs.Event.{Event, in_bytes, out_bytes}
 use Rattle.cf_core.specs.FromTypes.{Tables}
 use Rattle.cf_core.specs.Store.{Value}
 use Rattle.cf_core.specs.Calls as calls
@@ -16,7 +16,6 @@ use Rattle.cf_core_drive.specs.declared.types.Driven.{Driven}
 use Rattle.cf_core_drive.specs.declared.types.End.{End}
 use Rattle.cf_core_drive.specs.declared.types.End.TheVariants as end
 use Rattle.cf_core_drive.specs.declared.types.Fault.{Fault}
-use Rattle.cf_core_drive.specs.declared.types.Fault.TheVariants as fault
 use Rattle.cf_core_drive.specs.declared.types.Tally.{Tally}
 use Rattle.cf_core_drive.specs.Run.{Streams, StillTold, SameCounts, Ahead, Meaning, LeavesAt, LeavesBy, Fails, ahead_of, entered_count}
 
@@ -57,35 +56,26 @@ Goes p first old new result =
     (T : Tables) (around : Around) (means : Meaning) → ((input : List ℕ) → means input ≡ ahead_of T p around first input [])
     → LeavesBy (ahead_of T p around) means old new result
 
--- an event was carried out: nothing was done for one that enters a function but that it counts, and a byte was put
-pub record Counts (a b : Stream) (t u : Tally) : Type 0 where
+-- a function that was entered counts
+pub record Counts (t u : Tally) : Type 0 where
   pub entered : u.entered ≡ min (t.entered + 1) (2 ^ 64 - 1)
   pub at_end : u.at_end ≡ t.at_end
-  pub stream : b ≡ a
 
-pub record PutByte (byte : ℕ) (a b : Stream) (t u : Tally) : Type 0 where
+-- a byte was put, or was not
+pub record PutByte (byte : ℕ) (a b : Stream) : Type 0 where
   pub told : IsTrue b.told → IsTrue a.told
   pub bytes : IsTrue b.told → b.bytes ≡ a.bytes ++ byte ∷ []
   pub faults : b.faults ≡ a.faults
-  pub tally : u ≡ t
 
-pub record PutNot (byte : ℕ) (a b : Stream) (t u : Tally) : Type 0 where
+pub record PutNot (byte : ℕ) (a b : Stream) : Type 0 where
   pub told : IsTrue b.told → IsTrue a.told
   pub bytes : IsTrue b.told → AddsFront (byte ∷ []) a.bytes b.bytes
   pub rose : Rose a.faults b.faults
-  pub tally : u ≡ t
 
-abbrev pub Carries : Event → Stream → Stream → Tally → Tally → Result (Option End) Fault → Type 0
-Carries (Enter name) a b t u (Ok None) = Counts a b t u
-Carries (Enter name) a b t u (Ok (Some e)) = ⊥
-Carries (Enter name) a b t u (Err f) = ⊥
-Carries (Out byte) a b t u (Ok None) = PutByte byte a b t u
-Carries (Out byte) a b t u (Ok (Some end.SinkFault)) = PutNot byte a b t u
-Carries (Out byte) a b t u (Ok (Some e)) = ⊥
-Carries (Out byte) a b t u (Err f) = ⊥
-Carries (In byte) a b t u (Ok e) = ⊥
-Carries (In byte) a b t u (Err fault.NotBuilt) = (b ≡ a) × (u ≡ t)
-Carries (In byte) a b t u (Err f) = ⊥
+abbrev pub Puts : ℕ → Stream → Stream → Option End → Type 0
+Puts byte a b None = PutByte byte a b
+Puts byte a b (Some end.SinkFault) = PutNot byte a b
+Puts byte a b (Some e) = ⊥
 
 -- the next byte of an input was taken, or its end was met before or now
 pub record Took (a b : Stream) (byte : ℕ) (before now : Bool) : Type 0 where

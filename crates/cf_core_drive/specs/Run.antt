@@ -106,7 +106,6 @@ LeavesAt ahead means old new count ended.SinkFault = OutputFailed ahead means ol
 
 abbrev pub Fails : Ahead → Meaning → Streams → Streams → Fault → Type 0
 Fails ahead means old new fault.Malformed = Meaningless ahead means old new
-Fails ahead means old new fault.NotBuilt = Broken ahead means old new
 Fails ahead means old new fault.Memory = Broken ahead means old new
 
 abbrev pub LeavesBy : Ahead → Meaning → Streams → Streams → Result Driven Fault → Type 0

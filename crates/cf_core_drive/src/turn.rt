@@ -1,15 +1,14 @@
 ghost use Rattle.std.specs.Prelude.{◌≡◌};
 ghost use Rattle.cf_run_tree.specs.declared.program.Program.{Program};
-ghost use Rattle.cf_core_run.specs.Going.{event_of};
 ghost use Rattle.cf_core_run.specs.declared.mark.Doing.TheVariants as doing;
 ghost use Rattle.cf_core_objects.specs.Store.{value_of};
 ghost use Rattle.cf_core_drive.specs.Run.{streams};
-ghost use Rattle.cf_core_drive.specs.Going.{Answers, Turns, Carries, run_end, given_byte};
+ghost use Rattle.cf_core_drive.specs.Going.{Answers, Turns, Counts, Puts, run_end, given_byte};
 
 use crate::types::{End, Fault, Tally};
 use cf_base::{Failed, Sink, Source};
 use cf_core_objects::{Stop, Value};
-use cf_core_run::{Doing, Event, Machine, RunEnd, Step};
+use cf_core_run::{Doing, Machine, RunEnd, Step};
 use cf_run_tree::Program;
 
 /// How a run ends where a step ends it.
@@ -45,21 +44,20 @@ fn take<I: Source>(input: &mut I, at_end: &mut bool) -> Result<Option<u8>, Faile
     Ok(byte)
 }
 
-/// An event is carried out: a function that is entered counts, and a byte that is put goes to the output. The answer is the end of the
-/// run, where that fails.
-fn carry<O: Sink>(event: Event<'_>, out: &mut O, tally: &mut Tally) -> Result<Option<End>, Fault>
-    ensures { Carries (event_of event.entry) (O.stream out.old) (O.stream out.new) tally.old tally.new result }
+/// A function that is entered counts.
+fn count(tally: &mut Tally)
+    ensures { Counts tally.old tally.new }
 {
-    match event {
-        Event::Enter(_) => {
-            tally.entered = tally.entered.saturating_add(1);
-            Ok(None)
-        }
-        Event::Out(byte) => match out.put(&[byte]) {
-            Err(Failed) => Ok(Some(End::SinkFault)),
-            Ok(()) => Ok(None),
-        },
-        Event::In(_) => Err(Fault::NotBuilt),
+    tally.entered = tally.entered.saturating_add(1);
+}
+
+/// A byte goes to the output. The answer is the end of the run, where that fails.
+fn put<O: Sink>(byte: u8, out: &mut O) -> Option<End>
+    ensures { Puts byte (O.stream out.old) (O.stream out.new) result }
+{
+    match out.put(&[byte]) {
+        Err(Failed) => Some(End::SinkFault),
+        Ok(()) => None,
     }
 }
 
@@ -97,11 +95,14 @@ fn advance<'a, I: Source, O: Sink>(
     match machine.step(program) {
         Err(Stop::Act(act)) => Ok(Some(End::Undefined(act))),
         Err(Stop::Malformed) => Err(Fault::Malformed),
-        Err(Stop::NotBuilt) => Err(Fault::NotBuilt),
         Err(Stop::Memory) => Err(Fault::Memory),
         Ok(Step::On) => Ok(None),
         Ok(Step::Ends(end)) => Ok(Some(end_of(end))),
-        Ok(Step::Shows(event)) => carry(event, out, tally),
+        Ok(Step::Enters(_)) => {
+            count(tally);
+            Ok(None)
+        }
+        Ok(Step::Puts(byte)) => Ok(put(byte, out)),
     }
 }
 

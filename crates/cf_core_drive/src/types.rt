@@ -31,9 +31,6 @@ pub enum Fault {
     /// The core is none that elaboration makes.
     #[error("the core is malformed")]
     Malformed,
-    /// The plain program does not follow the core.
-    #[error("the core is not built in the plain program")]
-    NotBuilt,
     #[error("out of memory")]
     Memory,
 }

@@ -16,6 +16,9 @@ use Rattle.cf_run_tree.specs.declared.program.RunStatic.{RunStatic}
 use Rattle.cf_run_tree.specs.declared.program.Program.{Program}
 use Rattle.cf_run_tree.specs.declared.program.Signature.{Signature}
 use Rattle.cf_core_shape.specs.Shapes.{each, object_type_of, signature}
+use Rattle.cf_core_node.specs.declared.defined.Defined.{Defined}
+use Rattle.cf_core_node.specs.declared.defined.FunctionHead.{FunctionHead}
+use Rattle.cf_core_node.specs.declared.defined.StaticHead.{StaticHead}
 use Rattle.cf_core_node.specs.Formed.{Formed, placed, after, made, all}
 use Rattle.cf_core_node.specs.Nodes.{node_of}
 
@@ -33,6 +36,20 @@ own_statics xs = flat_map (λ (x : CoreStatic). own_name x.is_local x.name) xs
 abbrev pub own_names : Unit → List Name
 own_names unit = own_functions unit.functions ++ own_statics unit.statics
 
+-- what the file defines, by link names
+abbrev pub function_head : List Name → CoreFn → FunctionHead
+function_head own f = record { name = name_in 1 own f.name; params = f.params; result = f.result }
+
+abbrev pub static_head : List Name → CoreStatic → StaticHead
+static_head own x = record { name = name_in 1 own x.name; ty = x.ty }
+
+abbrev pub defined : Unit → Defined
+defined unit = record {
+  own = own_names unit;
+  functions = map (function_head (own_names unit)) unit.functions;
+  statics = map (static_head (own_names unit)) unit.statics;
+}
+
 -- no member of a class
 abbrev pub plain_head : Role → Option Signature → Option Signature
 plain_head role.Plain s = s
@@ -44,35 +61,35 @@ plain_head (role.Destructor c) s = None
 abbrev pub starts_alone : CoreStatic → Bool
 starts_alone x = x.is_constant || is_some x.owner
 
-module _ (types : Table) (own : List Name) where
+module _ (types : Table) (file : Defined) where
   abbrev pub function : CoreFn → Formed RunFn
   function f =
       after (placed (place f.body) (plain_head f.role (signature types f.params f.result))) (λ s.
       after (placed (place f.body) (each (object_type_of types) f.locals)) (λ locals.
       made (λ body. record {
-        name = name_in 1 own f.name;
+        name = name_in 1 file.own f.name;
         signature = s;
         locals = locals;
         body = body;
         is_shared = f.is_shared;
         is_local = f.is_local;
-      }) (node_of types own f.body)))
+      }) (node_of types file f.body)))
 
   abbrev pub object : CoreStatic → Formed RunStatic
   object x =
       after (placed (place x.start) (if starts_alone x then object_type_of types x.ty else None)) (λ t.
       made (λ start. record {
-        name = name_in 1 own x.name;
+        name = name_in 1 file.own x.name;
         ty = t;
         start = start;
-        owner = option_map (name_in 1 own) x.owner;
+        owner = option_map (name_in 1 file.own) x.owner;
         is_constant = x.is_constant;
         is_shared = x.is_shared;
         is_local = x.is_local;
-      }) (node_of types own x.start))
+      }) (node_of types file x.start))
 
 -- of a file without classes
 abbrev pub program_of : Unit → Formed Program
 program_of unit =
-    after (all (map (function unit.types (own_names unit)) unit.functions)) (λ fs.
-    made (λ xs. record { functions = fs; statics = xs }) (all (map (object unit.types (own_names unit)) unit.statics)))
+    after (all (map (function unit.types (defined unit)) unit.functions)) (λ fs.
+    made (λ xs. record { functions = fs; statics = xs }) (all (map (object unit.types (defined unit)) unit.statics)))

@@ -1,7 +1,6 @@
 //! A file.
 
-ghost use Rattle.std.specs.Prelude.{◌≡◌, ◌++◌, ◌∷◌, [], ℕ, List, map, filter, IfOk, OnOk};
-ghost use Rattle.std.specs.Option.{option_map};
+ghost use Rattle.std.specs.Prelude.{◌≡◌, ◌++◌, ◌∷◌, [], ℕ, List, map, IfOk, OnOk};
 ghost use Rattle.cf_core.specs.FromUnit.{tables_of, file_of, units_mean};
 ghost use Rattle.cf_core.specs.Joined.{program_of as joined};
 ghost use Rattle.cf_core.specs.Program.{Mean};
@@ -15,7 +14,7 @@ use crate::functions::functions;
 use crate::statics::objects;
 use cf_base::{Items, Memory, Name};
 use cf_core::{CoreFn, CoreStatic, CoreUnit};
-use cf_core_node::NotLoaded;
+use cf_core_node::{Defined, FunctionHead, NotLoaded, StaticHead, linked};
 use cf_run_tree::Program;
 use cf_types::ClassId;
 use std::alloc::Global;
@@ -66,6 +65,71 @@ fn own_names(alloc: Global, unit: &CoreUnit) -> Result<Items<Name>, Memory>
     Ok(names)
 }
 
+/// A function by its link name and type.
+fn function_head(alloc: Global, own: &[Name], f: &CoreFn) -> Result<FunctionHead, Memory>
+    ensures { IfOk result (λ h. h ≡ spec.function_head own.now f.now) }
+{
+    let name = linked(alloc, own, f.name.as_slice())?;
+    let params = Items::from_slice(alloc, f.params.as_slice())?;
+    Ok(FunctionHead {
+        name,
+        params,
+        result: f.result,
+    })
+}
+
+/// Functions by their link names and types.
+fn function_heads(
+    alloc: Global,
+    own: &[Name],
+    all: &[CoreFn],
+) -> Result<Items<FunctionHead>, Memory>
+    ensures { IfOk result (λ heads. heads ≡ map (spec.function_head own.now) all.now) }
+{
+    let mut heads = Items::new(alloc);
+    for f in all {
+        heads.push(function_head(alloc, own, f)?)?;
+    }
+    Ok(heads)
+}
+
+/// A static object by its link name and type.
+fn static_head(alloc: Global, own: &[Name], x: &CoreStatic) -> Result<StaticHead, Memory>
+    ensures { IfOk result (λ h. h ≡ spec.static_head own.now x.now) }
+{
+    let name = linked(alloc, own, x.name.as_slice())?;
+    Ok(StaticHead { name, ty: x.ty })
+}
+
+/// Static objects by their link names and types.
+fn static_heads(
+    alloc: Global,
+    own: &[Name],
+    all: &[CoreStatic],
+) -> Result<Items<StaticHead>, Memory>
+    ensures { IfOk result (λ heads. heads ≡ map (spec.static_head own.now) all.now) }
+{
+    let mut heads = Items::new(alloc);
+    for x in all {
+        heads.push(static_head(alloc, own, x)?)?;
+    }
+    Ok(heads)
+}
+
+/// What the file defines.
+fn defined(alloc: Global, unit: &CoreUnit) -> Result<Defined, Memory>
+    ensures { IfOk result (λ d. d ≡ spec.defined unit.now) }
+{
+    let own = own_names(alloc, unit)?;
+    let functions = function_heads(alloc, own.as_slice(), unit.functions())?;
+    let statics = static_heads(alloc, own.as_slice(), unit.statics())?;
+    Ok(Defined {
+        own,
+        functions,
+        statics,
+    })
+}
+
 /// The first class that the file defines.
 #[tactic(auto, using(crate::proofs::Loading::first_none, crate::proofs::Loading::first_some))]
 fn first_class_of(unit: &CoreUnit) -> Option<ClassId>
@@ -83,9 +147,9 @@ fn first_class_of(unit: &CoreUnit) -> Option<ClassId>
 fn program(alloc: Global, unit: &CoreUnit) -> Result<Program, NotLoaded>
     ensures { Gives (spec.program_of unit.now) result }
 {
-    let own = own_names(alloc, unit)?;
-    let functions = functions(alloc, unit, own.as_slice(), unit.functions())?;
-    let statics = objects(alloc, unit, own.as_slice(), unit.statics())?;
+    let defined = defined(alloc, unit)?;
+    let functions = functions(alloc, unit, &defined, unit.functions())?;
+    let statics = objects(alloc, unit, &defined, unit.statics())?;
     Ok(Program { functions, statics })
 }
 
@@ -107,8 +171,9 @@ fn loaded(alloc: Global, unit: &CoreUnit) -> Result<Program, LoadFault>
 /// and so it means the same.
 ///
 /// A fault is the first class that the file defines, or else the place of its first construct without a form, functions first: what names a class
-/// or its members, the free store, an initialiser that is run when it is first reached or before `main`, and types but void, integers, enumerations,
-/// pointers, references, arrays of these, and functions over these.
+/// or its members, the free store, an initialiser that is run when it is first reached or before `main`, types but void, integers, enumerations,
+/// pointers, references, arrays of these, arrays of such arrays, and functions over these, and what is named by another type than that of its
+/// definition in the file.
 pub fn load(alloc: Global, unit: &CoreUnit) -> Result<Program, LoadFault>
     ensures value { Loads unit.now result }
     ensures program { IfOk result (λ p. tree.program_of (tables_of unit.now) p ≡ joined (file_of unit.now ∷ [])) }

@@ -10,9 +10,9 @@ ghost use Rattle.cf_core_node.specs.Formed.{placed, all as in_order};
 ghost use Rattle.cf_core_node.specs.Gives.{Gives};
 ghost use Rattle.cf_core_load.specs.Files as spec;
 
-use cf_base::{Items, Name};
+use cf_base::Items;
 use cf_core::{CoreFn, CoreUnit, Role};
-use cf_core_node::{NotLoaded, linked, node};
+use cf_core_node::{Defined, NotLoaded, linked, node};
 use cf_core_shape::{object_types, signature};
 use cf_run_tree::{ObjectType, RunFn, Signature};
 use std::alloc::Global;
@@ -48,16 +48,21 @@ fn locals(alloc: Global, unit: &CoreUnit, f: &CoreFn) -> Result<Items<ObjectType
     }
 }
 
-/// A function, where these names are local to the file.
+/// A function of a file that defines this.
 #[tactic(auto, using(crate::proofs::Knowing::body_known))]
-fn function(alloc: Global, unit: &CoreUnit, own: &[Name], f: &CoreFn) -> Result<RunFn, NotLoaded>
+fn function(
+    alloc: Global,
+    unit: &CoreUnit,
+    defined: &Defined,
+    f: &CoreFn,
+) -> Result<RunFn, NotLoaded>
     requires { function_known (tables_of unit.now) f.now ≡ true }
-    ensures { Gives (spec.function unit.now.types own.now f.now) result }
+    ensures { Gives (spec.function unit.now.types defined.now f.now) result }
 {
     let signature = head(alloc, unit, f)?;
     let locals = locals(alloc, unit, f)?;
-    let name = linked(alloc, own, f.name.as_slice())?;
-    let body = node(alloc, unit, own, &f.body)?;
+    let name = linked(alloc, defined.own.as_slice(), f.name.as_slice())?;
+    let body = node(alloc, unit, defined, &f.body)?;
     Ok(RunFn {
         name,
         signature,
@@ -72,15 +77,15 @@ fn function(alloc: Global, unit: &CoreUnit, own: &[Name], f: &CoreFn) -> Result<
 pub(crate) fn functions(
     alloc: Global,
     unit: &CoreUnit,
-    own: &[Name],
+    defined: &Defined,
     all: &[CoreFn],
 ) -> Result<Items<RunFn>, NotLoaded>
     requires { list_all (function_known (tables_of unit.now)) all.now ≡ true }
-    ensures { Gives (in_order (map (spec.function unit.now.types own.now) all.now)) result }
+    ensures { Gives (in_order (map (spec.function unit.now.types defined.now) all.now)) result }
 {
     let mut found = Items::new(alloc);
     for f in all {
-        found.push(function(alloc, unit, own, f)?)?;
+        found.push(function(alloc, unit, defined, f)?)?;
     }
     Ok(found)
 }

@@ -13,14 +13,14 @@ ghost use Rattle.cf_core_load.specs.Files as spec;
 
 use cf_base::{Items, Memory, Name};
 use cf_core::{CoreStatic, CoreUnit};
-use cf_core_node::{NotLoaded, linked, node};
+use cf_core_node::{Defined, NotLoaded, linked, node};
 use cf_core_shape::object_type_of;
 use cf_run_tree::{ObjectType, RunStatic};
 use std::alloc::Global;
 
 /// The type of a static object whose initialiser is constant, or stands in the function whose local it is (6.7, 8.4).
 #[tactic(auto, using(crate::proofs::Knowing::object_known))]
-fn type_of(alloc: Global, unit: &CoreUnit, x: &CoreStatic) -> Result<ObjectType, NotLoaded>
+fn type_of(unit: &CoreUnit, x: &CoreStatic) -> Result<ObjectType, NotLoaded>
     requires { static_known (tables_of unit.now) x.now ≡ true }
     ensures { Gives (placed (place x.now.start) (if spec.starts_alone x.now then object_form unit.now.types x.now.ty else None)) result }
 {
@@ -28,37 +28,37 @@ fn type_of(alloc: Global, unit: &CoreUnit, x: &CoreStatic) -> Result<ObjectType,
     if !(x.is_constant || x.owner.is_some()) {
         return Err(NotLoaded::NotBuilt { at });
     }
-    match object_type_of(alloc, unit, x.ty)? {
+    match object_type_of(unit, x.ty) {
         Some(found) => Ok(found),
         None => Err(NotLoaded::NotBuilt { at }),
     }
 }
 
 /// The link name of the function whose local an object is.
-fn owner_of(alloc: Global, own: &[Name], owner: &Option<Name>) -> Result<Option<Name>, Memory>
-    ensures { IfOk result (λ found. found ≡ option_map (name_in 1 own.now) owner.now) }
+fn owner_of(alloc: Global, defined: &Defined, owner: &Option<Name>) -> Result<Option<Name>, Memory>
+    ensures { IfOk result (λ found. found ≡ option_map (name_in 1 defined.now.own) owner.now) }
 {
     match owner {
         None => Ok(None),
-        Some(name) => Ok(Some(linked(alloc, own, name.as_slice())?)),
+        Some(name) => Ok(Some(linked(alloc, defined.own.as_slice(), name.as_slice())?)),
     }
 }
 
-/// A static object, where these names are local to the file.
+/// A static object of a file that defines this.
 #[tactic(auto, using(crate::proofs::Knowing::start_known))]
 fn object(
     alloc: Global,
     unit: &CoreUnit,
-    own: &[Name],
+    defined: &Defined,
     x: &CoreStatic,
 ) -> Result<RunStatic, NotLoaded>
     requires { static_known (tables_of unit.now) x.now ≡ true }
-    ensures { Gives (spec.object unit.now.types own.now x.now) result }
+    ensures { Gives (spec.object unit.now.types defined.now x.now) result }
 {
-    let ty = type_of(alloc, unit, x)?;
-    let name = linked(alloc, own, x.name.as_slice())?;
-    let owner = owner_of(alloc, own, &x.owner)?;
-    let start = node(alloc, unit, own, &x.start)?;
+    let ty = type_of(unit, x)?;
+    let name = linked(alloc, defined.own.as_slice(), x.name.as_slice())?;
+    let owner = owner_of(alloc, defined, &x.owner)?;
+    let start = node(alloc, unit, defined, &x.start)?;
     Ok(RunStatic {
         name,
         ty,
@@ -74,15 +74,15 @@ fn object(
 pub(crate) fn objects(
     alloc: Global,
     unit: &CoreUnit,
-    own: &[Name],
+    defined: &Defined,
     all: &[CoreStatic],
 ) -> Result<Items<RunStatic>, NotLoaded>
     requires { list_all (static_known (tables_of unit.now)) all.now ≡ true }
-    ensures { Gives (in_order (map (spec.object unit.now.types own.now) all.now)) result }
+    ensures { Gives (in_order (map (spec.object unit.now.types defined.now) all.now)) result }
 {
     let mut found = Items::new(alloc);
     for x in all {
-        found.push(object(alloc, unit, own, x)?)?;
+        found.push(object(alloc, unit, defined, x)?)?;
     }
     Ok(found)
 }

@@ -1,5 +1,6 @@
 pub mod Known
 pub mod Loops
 pub mod NameLaws
+mod Naming
 pub mod NodeLaws
 mod NodeRows

@@ -1,5 +1,7 @@
 -- A node that has a form is what its tree is, under the names that it goes by in a program of its file alone.
-use Rattle.std.proofs.Common.{◌≡◌, ◌∙◌, ℕ, List, [], ◌∷◌, map, Option, Some, None, Ok, Err, option_map, refl, ap, sym, subst}
+use Rattle.std.proofs.Common.{◌≡◌, ◌∙◌, ℕ, Bool, true, false, List, [], ◌∷◌, map, Option, Some, None, Ok, Err, option_map, slice_get, refl, ap, sym, subst}
+use Rattle.cf_types.specs.Table.{Table}
+use Rattle.cf_classes.specs.TypeTree.{fun_of}
 use Rattle.cf_classes.specs.declared.class.MemberRef.{MemberRef}
 use Rattle.cf_core.specs.Types.{Name}
 use Rattle.cf_core.specs.FromTypes.{Tables, type_of}
@@ -25,19 +27,30 @@ use Rattle.cf_run_tree.specs.Tree as tree
 use Rattle.cf_run_tree.proofs.Views.{core-Number, core-Text, core-Function, core-Local, core-Static, core-Apply, core-Join, core-And, core-Or, core-Conditional, core-Comma, core-Temporary, core-Call, core-PointerCall, core-Bind, core-Hold, core-List, core-Characters, core-Zeros, core-Blank, core-Full, core-Block, core-Sequence, core-Declare, core-If, core-Loop, core-Switch, core-Case, core-Default, core-Break, core-Continue, core-Return}
 use Rattle.cf_core_shape.specs.Shapes.{shape_of, object_type_of, signature_of}
 use Rattle.cf_core_shape.proofs.TypeLaws.{IsOrdered, shape-type, object-type, function-type}
-use Rattle.cf_core_node.specs.Formed.{Formed, placed, after, made, all, maybe}
-use Rattle.cf_core_node.specs.Nodes.{change_of, node_of, step, no_part}
+use Rattle.cf_run_tree.specs.declared.shape.ObjectType.{ObjectType}
+use Rattle.cf_run_tree.specs.declared.program.Program.{Program}
+use Rattle.cf_run_tree.specs.declared.program.Signature.{Signature}
+use Rattle.cf_core_node.specs.declared.defined.Defined.{Defined}
+use Rattle.cf_core_node.specs.Defined.{agrees, agrees_object, function_defined, static_defined}
+use Rattle.cf_core_node.specs.Formed.{Formed, placed, allowed, after, made, all, maybe}
+use Rattle.cf_core_node.specs.Nodes.{change_of, node_of, named_function, named_object, step, no_part}
 
 changed : (c : CoreChange) → tree.change_of (change_of c) ≡ plain_change c
 changed (core_change.Arithmetic op k to) = refl
 changed (core_change.Moved back) = refl
 
-module _ (tables : Tables) (ordered : IsOrdered tables.types) (own : List Name) (signature : MemberRef → Name) where
+-- What is named in a program has the type that a file names it with, where that is the type of its definition in the file.
+pub record Agreed (types : Table) (defined : Defined) (p : Program) : Type 0 where
+  pub functions : (n : Name) (t : ℕ) (s : Signature) → signature_of types t ≡ Some s → agrees (function_defined defined n) (fun_of types (slice_get types.types t)) ≡ true
+      → tree.function_head p n s ≡ s
+  pub statics : (n : Name) (t : ℕ) (o : ObjectType) → object_type_of types t ≡ Some o → agrees_object (static_defined defined n) t ≡ true → tree.static_type p n o ≡ o
+
+module _ (tables : Tables) (ordered : IsOrdered tables.types) (defined : Defined) (signature : MemberRef → Name) (p : Program) (agreed : Agreed tables.types defined p) where
   abbrev r : Name → Name
-  r = name_in 1 own
+  r = name_in 1 defined.own
 
   abbrev view : Node → plain.Core
-  view = tree.core_of tables
+  view = tree.core_of tables p
 
   abbrev core_of : Core → plain.Core
   core_of = fold-Core plain.Core Started (core_step tables signature) (started_step tables signature)
@@ -46,10 +59,10 @@ module _ (tables : Tables) (ordered : IsOrdered tables.types) (own : List Name) 
   started_of = fold-PartStart plain.Core Started (core_step tables signature) (started_step tables signature)
 
   abbrev formed : Core → Formed Node
-  formed = node_of tables.types own
+  formed = node_of tables.types defined
 
   abbrev part_of : PartStart → Unit {0}
-  part_of = fold-PartStart (Formed Node) (Unit {0}) (step tables.types own) no_part
+  part_of = fold-PartStart (Formed Node) (Unit {0}) (step tables.types defined) no_part
 
   -- a form is that of this core
   abbrev Views : Formed Node → plain.Core → Type 0
@@ -148,12 +161,12 @@ module _ (tables : Tables) (ordered : IsOrdered tables.types) (own : List Name) 
 
   apply : (op : Unary) (g : plain.Core → plain.Core) → ((a : plain.Core) → tree.applied tables op a ≡ g a) → (e : Child)
       → Views (made (λ e. node.Apply op e) (formed e.0)) (g (renamed r (core_of e.0)))
-  apply op g law e = of_one (node.Apply op) g (λ a. core-Apply tables op a ∙ law (view a)) (formed e.0) (renamed r (core_of e.0)) e.1
+  apply op g law e = of_one (node.Apply op) g (λ a. core-Apply tables p op a ∙ law (view a)) (formed e.0) (renamed r (core_of e.0)) e.1
 
   join : (op : Binary) (g : plain.Core → plain.Core → plain.Core) → ((a b : plain.Core) → tree.joined tables op a b ≡ g a b) → (a b : Child)
       → Views (after (formed a.0) (λ a. made (λ b. node.Join op a b) (formed b.0))) (g (renamed r (core_of a.0)) (renamed r (core_of b.0)))
   join op g law a b =
-      of_two (node.Join op) g (λ a b. core-Join tables op a b ∙ law (view a) (view b)) (formed a.0) (renamed r (core_of a.0)) a.1 (formed b.0) (renamed r (core_of b.0)) b.1
+      of_two (node.Join op) g (λ a b. core-Join tables p op a b ∙ law (view a) (view b)) (formed a.0) (renamed r (core_of a.0)) a.1 (formed b.0) (renamed r (core_of b.0)) b.1
 
   convert-is : (at t : ℕ) (e : Child) → Views (after (placed at (shape_of tables.types.types t)) (λ s. made (λ e. node.Apply (one.Convert s) e) (formed e.0)))
       (plain.convert (type_of tables t) (renamed r (core_of e.0)))
@@ -165,7 +178,7 @@ module _ (tables : Tables) (ordered : IsOrdered tables.types) (own : List Name) 
       (plain.temporary (type_of tables t) (renamed r (core_of e.0)))
   temporary-is at t e =
       of_placed at (shape_of tables.types.types t) _ _
-      (λ s h. of_one (node.Temporary s) (plain.temporary (type_of tables t)) (λ a. core-Temporary tables s a ∙ ap (λ w. plain.temporary w (view a)) (sym (shape-type tables ordered t s h)))
+      (λ s h. of_one (node.Temporary s) (plain.temporary (type_of tables t)) (λ a. core-Temporary tables p s a ∙ ap (λ w. plain.temporary w (view a)) (sym (shape-type tables ordered t s h)))
       (formed e.0) (renamed r (core_of e.0)) e.1)
 
   hold-is : (at i t : ℕ) (e : Child) → Views (after (placed at (shape_of tables.types.types t)) (λ s. made (λ e. node.Hold i s e) (formed e.0)))
@@ -173,22 +186,52 @@ module _ (tables : Tables) (ordered : IsOrdered tables.types) (own : List Name) 
   hold-is at i t e =
       of_placed at (shape_of tables.types.types t) _ _
       (λ s h. of_one (node.Hold i s) (plain.bind (plain.local_temporary i (type_of tables t)))
-      (λ a. core-Hold tables i s a ∙ ap (λ w. plain.bind (plain.local_temporary i w) (view a)) (sym (shape-type tables ordered t s h))) (formed e.0) (renamed r (core_of e.0)) e.1)
+      (λ a. core-Hold tables p i s a ∙ ap (λ w. plain.bind (plain.local_temporary i w) (view a)) (sym (shape-type tables ordered t s h))) (formed e.0) (renamed r (core_of e.0)) e.1)
 
   declare-is : (at i t : ℕ) (e : Child) → Views (after (placed at (object_type_of tables.types t)) (λ s. made (λ e. node.Declare i s e) (formed e.0)))
       (plain.declare i (type_of tables t) (renamed r (core_of e.0)))
   declare-is at i t e =
       of_placed at (object_type_of tables.types t) _ _
-      (λ s h. of_one (node.Declare i s) (plain.declare i (type_of tables t)) (λ a. core-Declare tables i s a ∙ ap (λ w. plain.declare i w (view a)) (sym (object-type tables ordered t s h)))
+      (λ s h. of_one (node.Declare i s) (plain.declare i (type_of tables t)) (λ a. core-Declare tables p i s a ∙ ap (λ w. plain.declare i w (view a)) (sym (object-type tables ordered t s h)))
       (formed e.0) (renamed r (core_of e.0)) e.1)
 
-  call-is : (at t : ℕ) (f : Name) (es : List Child)
-      → Views (after (placed at (signature_of tables.types t)) (λ s. made (λ es. node.Call (r f) s es) (all (map formed (map (λ (c : Child). c.0) es)))))
-      (plain.call (r f) (type_of tables t) absent (renamed_all r (listed (map core_of (map (λ (c : Child). c.0) es)))))
-  call-is at t f es =
-      of_placed at (signature_of tables.types t) _ _
-      (λ s h. of_all (node.Call (r f) s) (plain.call (r f) (type_of tables t) absent)
-      (λ ns. core-Call tables (r f) s ns ∙ ap (λ w. plain.call (r f) w absent (listed (map view ns))) (sym (function-type tables ordered t s h))) _ _ (row es))
+  -- what stands behind a test that holds
+  of_allowed : {A : Type 0} (at : ℕ) (b : Bool) (x : Formed A) (go : A → Formed Node) (c : plain.Core) → (b ≡ true → Views (after x go) c) → Views (after (allowed at b x) go) c
+  of_allowed at true x go c h = h refl
+  of_allowed at false x go c h = tt
+
+  made-after : {A : Type 0} (f : A → Node) (x : Formed A) (c : plain.Core) → Views (after x (λ a. Ok (f a))) c → Views (made f x) c
+  made-after f (Ok a) c h = h
+  made-after f (Err at) c h = tt
+
+  function-type-is : (t : ℕ) (n : Name) (s : Signature) → signature_of tables.types t ≡ Some s → agrees (function_defined defined n) (fun_of tables.types (slice_get tables.types.types t)) ≡ true
+      → tree.signature_type tables (tree.function_head p n s) ≡ type_of tables t
+  function-type-is t n s h k = ap (tree.signature_type tables) (agreed.functions n t s h k) ∙ sym (function-type tables ordered t s h)
+
+  object-type-is : (t : ℕ) (n : Name) (o : ObjectType) → object_type_of tables.types t ≡ Some o → agrees_object (static_defined defined n) t ≡ true
+      → tree.object_type tables (tree.static_type p n o) ≡ type_of tables t
+  object-type-is t n o h k = ap (tree.object_type tables) (agreed.statics n t o h k) ∙ sym (object-type tables ordered t o h)
+
+  static-is : (at t : ℕ) (n : Name) → Views (made (λ s. node.Static n s) (named_object tables.types defined at n t)) (plain.static_object n (type_of tables t))
+  static-is at t n =
+      made-after (node.Static n) (named_object tables.types defined at n t) _
+      (of_allowed at (agrees_object (static_defined defined n) t) _ _ _
+      (λ k. of_placed at (object_type_of tables.types t) _ _ (λ s h. core-Static tables p n s ∙ ap (plain.static_object n) (object-type-is t n s h k))))
+
+  function-is : (at t : ℕ) (n : Name) → Views (made (λ s. node.Function n s) (named_function tables.types defined at n t)) (plain.function n (type_of tables t))
+  function-is at t n =
+      made-after (node.Function n) (named_function tables.types defined at n t) _
+      (of_allowed at (agrees (function_defined defined n) (fun_of tables.types (slice_get tables.types.types t))) _ _ _
+      (λ k. of_placed at (signature_of tables.types t) _ _ (λ s h. core-Function tables p n s ∙ ap (plain.function n) (function-type-is t n s h k))))
+
+  call-is : (at t : ℕ) (n : Name) (es : List Child)
+      → Views (after (named_function tables.types defined at n t) (λ s. made (λ es. node.Call n s es) (all (map formed (map (λ (c : Child). c.0) es)))))
+      (plain.call n (type_of tables t) absent (renamed_all r (listed (map core_of (map (λ (c : Child). c.0) es)))))
+  call-is at t n es =
+      of_allowed at (agrees (function_defined defined n) (fun_of tables.types (slice_get tables.types.types t))) _ _ _
+      (λ k. of_placed at (signature_of tables.types t) _ _
+      (λ s h. of_all (node.Call n s) (plain.call n (type_of tables t) absent)
+      (λ ns. core-Call tables p n s ns ∙ ap (λ w. plain.call n w absent (listed (map view ns))) (function-type-is t n s h k)) _ _ (row es)))
 
   pointer-is : (at t : ℕ) (e : Child) (es : List Child)
       → Views (after (placed at (signature_of tables.types t)) (λ s. after (formed e.0) (λ e. made (λ es. node.PointerCall e s es) (all (map formed (map (λ (c : Child). c.0) es))))))
@@ -198,7 +241,7 @@ module _ (tables : Tables) (ordered : IsOrdered tables.types) (own : List Name) 
       of_placed at (signature_of tables.types t) _ _
       (λ s h. first _ (λ c. plain.pointer_call absent c (type_of tables t) cs) (formed e.0) (renamed r (core_of e.0)) e.1
       (λ a. of_all (λ es. node.PointerCall a s es) (plain.pointer_call absent (view a) (type_of tables t))
-      (λ ns. core-PointerCall tables a s ns ∙ ap (λ w. plain.pointer_call absent (view a) w (listed (map view ns))) (sym (function-type tables ordered t s h))) _ _ (row es)))
+      (λ ns. core-PointerCall tables p a s ns ∙ ap (λ w. plain.pointer_call absent (view a) w (listed (map view ns))) (sym (function-type tables ordered t s h))) _ _ (row es)))
 
   loop-is : (how : LoopForm) (c e : Option Child) (s : Child)
       → Views (after (maybe (option_map formed (option_map (λ (c : Child). c.0) c))) (λ c. after (maybe (option_map formed (option_map (λ (c : Child). c.0) e))) (λ e. made (λ s. node.Loop how c e s) (formed s.0))))
@@ -209,7 +252,7 @@ module _ (tables : Tables) (ordered : IsOrdered tables.types) (own : List Name) 
       let b = renamed r (core_of s.0) in
       first_maybe _ (λ c. plain.loop how c m b) _ _ (perhaps c)
       (λ n. first_maybe _ (λ e. plain.loop how (maybe_core (option_map view n)) e b) _ _ (perhaps e)
-      (λ k. of_one (node.Loop how n k) (plain.loop how (maybe_core (option_map view n)) (maybe_core (option_map view k))) (λ a. core-Loop tables how n k a) (formed s.0) b s.1))
+      (λ k. of_one (node.Loop how n k) (plain.loop how (maybe_core (option_map view n)) (maybe_core (option_map view k))) (λ a. core-Loop tables p how n k a) (formed s.0) b s.1))
 
   if-is : (c a : Child) (b : Option Child)
       → Views (after (formed c.0) (λ c. after (formed a.0) (λ a. made (λ b. node.If c a b) (maybe (option_map formed (option_map (λ (c : Child). c.0) b))))))
@@ -218,7 +261,7 @@ module _ (tables : Tables) (ordered : IsOrdered tables.types) (own : List Name) 
       let m = renamed_maybe r (maybe_core (option_map core_of (option_map (λ (c : Child). c.0) b))) in
       first _ (λ x. plain.branch x (renamed r (core_of a.0)) m) (formed c.0) (renamed r (core_of c.0)) c.1
       (λ x. first _ (λ y. plain.branch (view x) y m) (formed a.0) (renamed r (core_of a.0)) a.1
-      (λ y. of_maybe (λ b. node.If x y b) (plain.branch (view x) (view y)) (λ n. core-If tables x y n) _ _ (perhaps b)))
+      (λ y. of_maybe (λ b. node.If x y b) (plain.branch (view x) (view y)) (λ n. core-If tables p x y n) _ _ (perhaps b)))
 
   switch-is : (e : Child) (es : List Child)
       → Views (after (formed e.0) (λ e. made (λ es. node.Switch e es) (all (map formed (map (λ (c : Child). c.0) es)))))
@@ -226,7 +269,7 @@ module _ (tables : Tables) (ordered : IsOrdered tables.types) (own : List Name) 
   switch-is e es =
       let cs = renamed_all r (listed (map core_of (map (λ (c : Child). c.0) es))) in
       first _ (λ x. plain.switch x cs) (formed e.0) (renamed r (core_of e.0)) e.1
-      (λ x. of_all (λ es. node.Switch x es) (plain.switch (view x)) (λ ns. core-Switch tables x ns) _ _ (row es))
+      (λ x. of_all (λ es. node.Switch x es) (plain.switch (view x)) (λ ns. core-Switch tables p x ns) _ _ (row es))
 
   list-is : (es : List Child) (e : Child)
       → Views (after (all (map formed (map (λ (c : Child). c.0) es))) (λ es. made (λ rest. node.List es rest) (formed e.0)))
@@ -234,23 +277,23 @@ module _ (tables : Tables) (ordered : IsOrdered tables.types) (own : List Name) 
   list-is es e =
       let rest = renamed r (core_of e.0) in
       first_all _ (λ cs. plain.list cs rest) _ _ (row es)
-      (λ ns. of_one (λ rest. node.List ns rest) (plain.list (listed (map view ns))) (λ a. core-List tables ns a) (formed e.0) rest e.1)
+      (λ ns. of_one (λ rest. node.List ns rest) (plain.list (listed (map view ns))) (λ a. core-List tables p ns a) (formed e.0) rest e.1)
 
   return-is : (e : Option Child)
       → Views (made (λ e. node.Return e) (maybe (option_map formed (option_map (λ (c : Child). c.0) e))))
       (plain.give (renamed_maybe r (maybe_core (option_map core_of (option_map (λ (c : Child). c.0) e)))))
-  return-is e = of_maybe (λ e. node.Return e) plain.give (core-Return tables) _ _ (perhaps e)
+  return-is e = of_maybe (λ e. node.Return e) plain.give (core-Return tables p) _ _ (perhaps e)
 
   -- a layer of the tree, once its parts are viewed
   layer : (y : Core-F Child PartChild)
-      → Views (step tables.types own (map-Core _ _ _ _ formed part_of (map-Core _ _ _ _ (λ (c : Child). c.0) (λ (c : PartChild). c.0) y)))
+      → Views (step tables.types defined (map-Core _ _ _ _ formed part_of (map-Core _ _ _ _ (λ (c : Child). c.0) (λ (c : PartChild). c.0) y)))
       (renamed r (core_step tables signature (map-Core _ _ _ _ core_of started_of (map-Core _ _ _ _ (λ (c : Child). c.0) (λ (c : PartChild). c.0) y))))
-  layer (Core-F.Number at z) = core-Number tables z
-  layer (Core-F.Text at j bytes) = core-Text tables j bytes
+  layer (Core-F.Number at z) = core-Number tables p z
+  layer (Core-F.Text at j bytes) = core-Text tables p j bytes
   layer (Core-F.This at) = tt
-  layer (Core-F.Local at i) = core-Local tables i
-  layer (Core-F.Static at n t) = of_leaf at (object_type_of tables.types t) (node.Static (r n)) _ (λ s h. core-Static tables (r n) s ∙ ap (plain.static_object (r n)) (sym (object-type tables ordered t s h)))
-  layer (Core-F.Function at n t) = of_leaf at (signature_of tables.types t) (node.Function (r n)) _ (λ s h. core-Function tables (r n) s ∙ ap (plain.function (r n)) (sym (function-type tables ordered t s h)))
+  layer (Core-F.Local at i) = core-Local tables p i
+  layer (Core-F.Static at n t) = static-is at t (r n)
+  layer (Core-F.Function at n t) = function-is at t (r n)
   layer (Core-F.Member at e i) = tt
   layer (Core-F.Read at e) = apply one.Read plain.read (λ a. refl) e
   layer (Core-F.Address at e) = apply one.Address plain.address (λ a. refl) e
@@ -268,17 +311,17 @@ module _ (tables : Tables) (ordered : IsOrdered tables.types) (own : List Name) 
   layer (Core-F.Operate at op k a b) = join (two.Operate op k) (plain.operate op k) (λ a b. refl) a b
   layer (Core-F.Unary at op k e) = apply (one.Sign op k) (plain.unary op k) (λ a. refl) e
   layer (Core-F.Not at e) = apply one.Not plain.logical_not (λ a. refl) e
-  layer (Core-F.And at a b) = of_two node.And plain.logical_and (core-And tables) _ _ a.1 _ _ b.1
-  layer (Core-F.Or at a b) = of_two node.Or plain.logical_or (core-Or tables) _ _ a.1 _ _ b.1
+  layer (Core-F.And at a b) = of_two node.And plain.logical_and (core-And tables p) _ _ a.1 _ _ b.1
+  layer (Core-F.Or at a b) = of_two node.Or plain.logical_or (core-Or tables p) _ _ a.1 _ _ b.1
   layer (Core-F.PointerOperate at op a b) = join (two.Point op) (plain.pointer_operate op) (λ a b. refl) a b
-  layer (Core-F.Conditional at c a b) = of_three node.Conditional plain.conditional (core-Conditional tables) _ _ c.1 _ _ a.1 _ _ b.1
-  layer (Core-F.Comma at es) = of_all node.Comma plain.comma (core-Comma tables) _ _ (row es)
+  layer (Core-F.Conditional at c a b) = of_three node.Conditional plain.conditional (core-Conditional tables p) _ _ c.1 _ _ a.1 _ _ b.1
+  layer (Core-F.Comma at es) = of_all node.Comma plain.comma (core-Comma tables p) _ _ (row es)
   layer (Core-F.Store at a b) = join two.Store plain.store (λ a b. refl) a b
   layer (Core-F.Update at a c b) = join (two.Update (change_of c)) (λ a b. plain.update a (plain_change c) b) (λ a b. ap (λ w. plain.update a w b) (changed c)) a b
   layer (Core-F.Increment at is_postfix c e) = apply (one.Increment is_postfix (change_of c)) (plain.step is_postfix (plain_change c)) (λ a. ap (λ w. plain.step is_postfix w a) (changed c)) e
   layer (Core-F.Assign at t a b es) = tt
   layer (Core-F.Temporary at t e) = temporary-is at t e
-  layer (Core-F.Call at f t None es) = call-is at t f es
+  layer (Core-F.Call at f t None es) = call-is at t (r f) es
   layer (Core-F.Call at f t (Some o) es) = tt
   layer (Core-F.VirtualCall at m t e es) = tt
   layer (Core-F.PointerCall at None e t es) = pointer-is at t e es
@@ -291,15 +334,15 @@ module _ (tables : Tables) (ordered : IsOrdered tables.types) (own : List Name) 
   layer (Core-F.Copy at t e es) = tt
   layer (Core-F.Each at e) = tt
   layer (Core-F.List at es rest) = list-is es rest
-  layer (Core-F.Characters at bytes) = core-Characters tables bytes
-  layer (Core-F.Bind at holder.NoTemporary e) = of_one node.Bind (plain.bind plain.no_temporary) (core-Bind tables) _ _ e.1
+  layer (Core-F.Characters at bytes) = core-Characters tables p bytes
+  layer (Core-F.Bind at holder.NoTemporary e) = of_one node.Bind (plain.bind plain.no_temporary) (core-Bind tables p) _ _ e.1
   layer (Core-F.Bind at (holder.LocalTemporary i t) e) = hold-is at i t e
   layer (Core-F.Bind at (holder.StaticTemporary n) e) = tt
-  layer (Core-F.Zeros at) = core-Zeros tables
-  layer (Core-F.Blank at) = core-Blank tables
-  layer (Core-F.Full at e) = of_one node.Full plain.full (core-Full tables) _ _ e.1
-  layer (Core-F.Block at es) = of_all node.Block plain.block (core-Block tables) _ _ (row es)
-  layer (Core-F.Sequence at es) = of_all node.Sequence plain.sequence (core-Sequence tables) _ _ (row es)
+  layer (Core-F.Zeros at) = core-Zeros tables p
+  layer (Core-F.Blank at) = core-Blank tables p
+  layer (Core-F.Full at e) = of_one node.Full plain.full (core-Full tables p) _ _ e.1
+  layer (Core-F.Block at es) = of_all node.Block plain.block (core-Block tables p) _ _ (row es)
+  layer (Core-F.Sequence at es) = of_all node.Sequence plain.sequence (core-Sequence tables p) _ _ (row es)
   layer (Core-F.Declare at i t e) = declare-is at i t e
   layer (Core-F.Once at n e) = tt
   layer (Core-F.If at c a None) = if-is c a None
@@ -309,19 +352,19 @@ module _ (tables : Tables) (ordered : IsOrdered tables.types) (own : List Name) 
   layer (Core-F.Loop at how (Some c) None s) = loop-is how (Some c) None s
   layer (Core-F.Loop at how (Some c) (Some e) s) = loop-is how (Some c) (Some e) s
   layer (Core-F.Switch at e es) = switch-is e es
-  layer (Core-F.Case at z) = core-Case tables z
-  layer (Core-F.Default at) = core-Default tables
-  layer (Core-F.Break at) = core-Break tables
-  layer (Core-F.Continue at) = core-Continue tables
+  layer (Core-F.Case at z) = core-Case tables p z
+  layer (Core-F.Default at) = core-Default tables p
+  layer (Core-F.Break at) = core-Break tables p
+  layer (Core-F.Continue at) = core-Continue tables p
   layer (Core-F.Return at None) = return-is None
   layer (Core-F.Return at (Some e)) = return-is (Some e)
   layer (Core-F.Parts at ps s) = tt
 
   viewed-roll : (x : Core-F Core PartStart)
-      → Views (step tables.types own (map-Core _ _ _ _ formed part_of x)) (renamed r (core_step tables signature (map-Core _ _ _ _ core_of started_of x))) → IsViewed (roll-Core x)
+      → Views (step tables.types defined (map-Core _ _ _ _ formed part_of x)) (renamed r (core_step tables signature (map-Core _ _ _ _ core_of started_of x))) → IsViewed (roll-Core x)
   viewed-roll x v =
-      subst (λ f. Views f (renamed r (core_of (roll-Core x)))) (sym (fold-roll-Core (Formed Node) (Unit {0}) (step tables.types own) no_part x))
-      (subst (λ c. Views (step tables.types own (map-Core _ _ _ _ formed part_of x)) (renamed r c))
+      subst (λ f. Views f (renamed r (core_of (roll-Core x)))) (sym (fold-roll-Core (Formed Node) (Unit {0}) (step tables.types defined) no_part x))
+      (subst (λ c. Views (step tables.types defined (map-Core _ _ _ _ formed part_of x)) (renamed r c))
       (sym (fold-roll-Core plain.Core Started (core_step tables signature) (started_step tables signature) x)) v)
 
   viewed : (n : Core) → IsViewed n
@@ -329,5 +372,5 @@ module _ (tables : Tables) (ordered : IsOrdered tables.types) (own : List Name) 
       (λ x y is. subst (λ z. IsViewed (roll-Core z)) is (viewed-roll (map-Core _ _ _ _ (λ (c : Child). c.0) (λ (c : PartChild). c.0) y) (layer y)))
       (λ _ _ _. tt)
 
-  pub node_views : (n : Core) (m : Node) → node_of tables.types own n ≡ Ok m → tree.core_of tables m ≡ renamed (name_in 1 own) (core_of n)
+  pub node_views : (n : Core) (m : Node) → node_of tables.types defined n ≡ Ok m → tree.core_of tables p m ≡ renamed (name_in 1 defined.own) (core_of n)
   node_views n m e = let P : Formed Node → Type 0 = λ f. Views f (renamed r (core_of n)) in subst P e (viewed n)

@@ -1,6 +1,6 @@
 -- A part of a core that has a form in the plain program's trees, or the place of the first construct in it that has none. A construct comes before
 -- its parts, and parts come in their order.
-use Rattle.std.specs.Prelude.{ℕ, List, [], ◌∷◌, Option, Some, None, Result, Ok, Err}
+use Rattle.std.specs.Prelude.{ℕ, Bool, true, false, List, [], ◌∷◌, Option, Some, None, Result, Ok, Err}
 
 abbrev pub Formed : Type 0 → Type 0
 Formed A = Result A ℕ
@@ -9,6 +9,11 @@ Formed A = Result A ℕ
 abbrev pub placed : {A : Type 0} → ℕ → Option A → Formed A
 placed at (Some a) = Ok a
 placed at None = Err at
+
+-- where it may stand there
+abbrev pub allowed : {A : Type 0} → ℕ → Bool → Formed A → Formed A
+allowed at true x = x
+allowed at false x = Err at
 
 -- one part, and what it makes of another behind it
 abbrev pub after : {A B : Type 0} → Formed A → (A → Formed B) → Formed B

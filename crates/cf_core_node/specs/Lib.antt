@@ -1,3 +1,4 @@
+pub mod Defined
 pub mod Formed
 pub mod Gives
 pub mod Known

@@ -1,7 +1,9 @@
 -- The tree of the plain program that a node of a file's core is, or the place of its first construct that has no form there: what names a class or
--- its members, the free store, initialisers that are run when they are first reached, and types but void, scalars, arrays of them and functions.
-use Rattle.std.specs.Prelude.{ℕ, List, Option, Some, None, Ok, Err}
+-- its members, the free store, initialisers that are run when they are first reached, types but void, scalars, arrays of them and functions, and what is named by another type than
+-- that of its definition in the file.
+use Rattle.std.specs.Prelude.{ℕ, List, Option, Some, None, Ok, Err, slice_get}
 use Rattle.cf_types.specs.Table.{Table}
+use Rattle.cf_classes.specs.TypeTree.{fun_of}
 use Rattle.cf_core.specs.Types.{Name}
 use Rattle.cf_core.specs.Joined.{name_in}
 use Rattle.cf_core.specs.declared.node.Core.{Core, fold-Core}
@@ -21,7 +23,10 @@ use Rattle.cf_run_tree.specs.declared.node.Binary.{Binary}
 use Rattle.cf_run_tree.specs.declared.node.Binary.TheVariants as two
 use Rattle.cf_run_tree.specs.declared.program.Signature.{Signature}
 use Rattle.cf_core_shape.specs.Shapes.{shape_of, object_type_of, signature_of}
-use Rattle.cf_core_node.specs.Formed.{Formed, placed, after, made, all, maybe}
+use Rattle.cf_run_tree.specs.declared.shape.ObjectType.{ObjectType}
+use Rattle.cf_core_node.specs.declared.defined.Defined.{Defined}
+use Rattle.cf_core_node.specs.Defined.{agrees, agrees_object, function_defined, static_defined}
+use Rattle.cf_core_node.specs.Formed.{Formed, placed, allowed, after, made, all, maybe}
 
 abbrev pub change_of : CoreChange → Change
 change_of (core_change.Arithmetic op k to) = change.Arithmetic (record { op = op; at = k; to = to })
@@ -48,10 +53,10 @@ module _ (types : Table) where
   abbrev pub temporary : ℕ → ℕ → Formed Node → Formed Node
   temporary at t e = after (placed at (shape_of types.types t)) (λ s. made (λ e. node.Temporary s e) e)
 
-  -- the type of a function that is called on no object
-  abbrev pub callee : {A : Type 0} → ℕ → Option A → ℕ → Formed Signature
-  callee at None t = placed at (signature_of types t)
-  callee at (Some object) t = Err at
+  -- the type of functions on no object that is called through a pointer
+  abbrev pub pointer_callee : {A : Type 0} → ℕ → Option A → ℕ → Formed Signature
+  pointer_callee at None t = placed at (signature_of types t)
+  pointer_callee at (Some object) t = Err at
 
   abbrev pub bound : ℕ → Holder → Formed Node → Formed Node
   bound at holder.NoTemporary e = made (λ e. node.Bind e) e
@@ -61,18 +66,34 @@ module _ (types : Table) where
   abbrev pub declaration : ℕ → ℕ → ℕ → Formed Node → Formed Node
   declaration at i t e = after (placed at (object_type_of types t)) (λ s. made (λ e. node.Declare i s e) e)
 
--- and by its local names
-module _ (types : Table) (own : List Name) where
+-- and by what it defines
+module _ (types : Table) (defined : Defined) where
+  -- the link name
+  abbrev pub link : Name → Name
+  link n = name_in 1 defined.own n
+
+  -- the type of what is named: that of its definition, where the file has one
+  abbrev pub named_function : ℕ → Name → ℕ → Formed Signature
+  named_function at n t = allowed at (agrees (function_defined defined n) (fun_of types (slice_get types.types t))) (placed at (signature_of types t))
+
+  abbrev pub named_object : ℕ → Name → ℕ → Formed ObjectType
+  named_object at n t = allowed at (agrees_object (static_defined defined n) t) (placed at (object_type_of types t))
+
+  -- a function that is called on no object
+  abbrev pub callee : {A : Type 0} → ℕ → Option A → Name → ℕ → Formed Signature
+  callee at None n t = named_function at n t
+  callee at (Some object) n t = Err at
+
   abbrev pub called : Formed Signature → Name → List (Formed Node) → Formed Node
-  called s f es = after s (λ s. made (λ es. node.Call (name_in 1 own f) s es) (all es))
+  called s f es = after s (λ s. made (λ es. node.Call f s es) (all es))
 
   abbrev pub step : Core-F (Formed Node) (Unit {0}) → Formed Node
   step (Core-F.Number at z) = Ok (node.Number z)
   step (Core-F.Text at j bytes) = Ok (node.Text j bytes)
   step (Core-F.This at) = Err at
   step (Core-F.Local at i) = Ok (node.Local i)
-  step (Core-F.Static at n t) = made (λ s. node.Static (name_in 1 own n) s) (placed at (object_type_of types t))
-  step (Core-F.Function at n t) = made (λ s. node.Function (name_in 1 own n) s) (placed at (signature_of types t))
+  step (Core-F.Static at n t) = made (λ s. node.Static (link n) s) (named_object at (link n) t)
+  step (Core-F.Function at n t) = made (λ s. node.Function (link n) s) (named_function at (link n) t)
   step (Core-F.Member at e i) = Err at
   step (Core-F.Read at e) = applied one.Read e
   step (Core-F.Address at e) = applied one.Address e
@@ -100,9 +121,9 @@ module _ (types : Table) (own : List Name) where
   step (Core-F.Increment at is_postfix c e) = applied (one.Increment is_postfix (change_of c)) e
   step (Core-F.Assign at t a b es) = Err at
   step (Core-F.Temporary at t e) = temporary types at t e
-  step (Core-F.Call at f t object es) = called (callee types at object t) f es
+  step (Core-F.Call at f t object es) = called (callee at object (link f) t) (link f) es
   step (Core-F.VirtualCall at m t e es) = Err at
-  step (Core-F.PointerCall at object e t es) = pointer_called (callee types at object t) e es
+  step (Core-F.PointerCall at object e t es) = pointer_called (pointer_callee types at object t) e es
   step (Core-F.New at t e) = Err at
   step (Core-F.NewArray at t n e) = Err at
   step (Core-F.Delete at t e) = Err at

@@ -1,12 +1,13 @@
 //! The trees of the plain program that a core's nodes are. Not every node has one: `specs/` says by the cases of the core which have.
 #![tactic(auto)]
 
+mod defined;
 mod fault;
 mod leaves;
 mod names;
 mod nodes;
 
+pub use defined::{Defined, FunctionHead, StaticHead};
 pub use fault::NotLoaded;
-pub use leaves::{function_type, object};
 pub use names::{is_among, linked};
 pub use nodes::node;

@@ -3,7 +3,6 @@
 ghost use Rattle.std.specs.Prelude.{◌≡◌, ◌&&◌, true, map};
 ghost use Rattle.std.specs.Option.{option_map};
 ghost use Rattle.cf_core.specs.FromUnit.{tables_of};
-ghost use Rattle.cf_core.specs.Joined.{name_in};
 ghost use Rattle.cf_core.specs.Numbers.{has_holder};
 ghost use Rattle.cf_core_node.specs.Formed.{after, made, all as in_order, maybe as if_there};
 ghost use Rattle.cf_core_node.specs.Gives.{Gives};
@@ -11,9 +10,11 @@ ghost use Rattle.cf_core_node.specs.Known.{type_known, known, all_known, maybe_k
 ghost use Rattle.cf_core_node.specs.Nodes as spec;
 ghost use Rattle.cf_core_node.specs.Nodes.{node_of};
 
+use crate::defined::Defined;
 use crate::fault::NotLoaded;
 use crate::leaves::{
-    boxed, change_of, characters, function, function_type, object, shape, static_object, text,
+    boxed, change_of, characters, function, function_type, named_function, object, shape,
+    static_object, text,
 };
 use crate::names::linked;
 use cf_base::{Boxed, Items, Name};
@@ -22,36 +23,36 @@ use cf_run_tree::{Binary, Node, Signature, Unary};
 use cf_types::TyId;
 use std::alloc::Global;
 
-/// The tree that a node is, or the place of its first construct that has none. These names are local to the file.
+/// The tree that a node is, or the place of its first construct that has none. The file defines this.
 #[cycle(nodes)]
 pub fn node(
     alloc: Global,
     unit: &CoreUnit,
-    own: &[Name],
+    defined: &Defined,
     e: &Core,
 ) -> Result<Boxed<Node>, NotLoaded>
     requires { known unit.now e.now ≡ true }
-    ensures { Gives (node_of unit.now.types own.now e.now) result }
+    ensures { Gives (node_of unit.now.types defined.now e.now) result }
 {
     match e {
         Core::Number { value, .. } => boxed(alloc, Node::Number(*value)),
         Core::Text { number, bytes, .. } => text(alloc, *number, bytes),
         Core::This { at } => Err(NotLoaded::NotBuilt { at: *at }),
         Core::Local { number, .. } => boxed(alloc, Node::Local(*number)),
-        Core::Static { at, name, ty } => static_object(alloc, unit, own, *at, name, *ty),
-        Core::Function { at, name, ty } => function(alloc, unit, own, *at, name, *ty),
+        Core::Static { at, name, ty } => static_object(alloc, unit, defined, *at, name, *ty),
+        Core::Function { at, name, ty } => function(alloc, unit, defined, *at, name, *ty),
         Core::Member { at, .. } => Err(NotLoaded::NotBuilt { at: *at }),
-        Core::Read { place, .. } => applied(alloc, unit, own, Unary::Read, place),
-        Core::Address { place, .. } => applied(alloc, unit, own, Unary::Address, place),
+        Core::Read { place, .. } => applied(alloc, unit, defined, Unary::Read, place),
+        Core::Address { place, .. } => applied(alloc, unit, defined, Unary::Address, place),
         Core::Dereference { pointer, .. } => {
-            applied(alloc, unit, own, Unary::Dereference, pointer)
+            applied(alloc, unit, defined, Unary::Dereference, pointer)
         }
-        Core::Decay { array, .. } => applied(alloc, unit, own, Unary::Decay, array),
+        Core::Decay { array, .. } => applied(alloc, unit, defined, Unary::Decay, array),
         Core::Index { left, right, .. } => {
-            let left = node(alloc, unit, own, left.get())?;
-            joined(alloc, unit, own, Binary::Index, right, left)
+            let left = node(alloc, unit, defined, left.get())?;
+            joined(alloc, unit, defined, Binary::Index, right, left)
         }
-        Core::Convert { at, ty, operand } => converted(alloc, unit, own, *at, *ty, operand),
+        Core::Convert { at, ty, operand } => converted(alloc, unit, defined, *at, *ty, operand),
         Core::Up { at, .. } => Err(NotLoaded::NotBuilt { at: *at }),
         Core::Down { at, .. } => Err(NotLoaded::NotBuilt { at: *at }),
         Core::FromVoid { at, .. } => Err(NotLoaded::NotBuilt { at: *at }),
@@ -66,23 +67,30 @@ pub fn node(
             right,
             ..
         } => {
-            let left = node(alloc, unit, own, left.get())?;
-            joined(alloc, unit, own, Binary::Operate(*op, *kind), right, left)
+            let left = node(alloc, unit, defined, left.get())?;
+            joined(
+                alloc,
+                unit,
+                defined,
+                Binary::Operate(*op, *kind),
+                right,
+                left,
+            )
         }
         Core::Unary {
             op,
             kind,
             operand,
             ..
-        } => { applied(alloc, unit, own, Unary::Sign(*op, *kind), operand) }
-        Core::Not { operand, .. } => applied(alloc, unit, own, Unary::Not, operand),
+        } => { applied(alloc, unit, defined, Unary::Sign(*op, *kind), operand) }
+        Core::Not { operand, .. } => applied(alloc, unit, defined, Unary::Not, operand),
         Core::And { left, right, .. } => {
-            let left = node(alloc, unit, own, left.get())?;
-            and(alloc, unit, own, right, left)
+            let left = node(alloc, unit, defined, left.get())?;
+            and(alloc, unit, defined, right, left)
         }
         Core::Or { left, right, .. } => {
-            let left = node(alloc, unit, own, left.get())?;
-            or(alloc, unit, own, right, left)
+            let left = node(alloc, unit, defined, left.get())?;
+            or(alloc, unit, defined, right, left)
         }
         Core::PointerOperate {
             op,
@@ -90,8 +98,8 @@ pub fn node(
             right,
             ..
         } => {
-            let left = node(alloc, unit, own, left.get())?;
-            joined(alloc, unit, own, Binary::Point(*op), right, left)
+            let left = node(alloc, unit, defined, left.get())?;
+            joined(alloc, unit, defined, Binary::Point(*op), right, left)
         }
         Core::Conditional {
             condition,
@@ -99,17 +107,17 @@ pub fn node(
             no,
             ..
         } => {
-            let condition = node(alloc, unit, own, condition.get())?;
-            let yes = node(alloc, unit, own, yes.get())?;
-            conditional(alloc, unit, own, no, condition, yes)
+            let condition = node(alloc, unit, defined, condition.get())?;
+            let yes = node(alloc, unit, defined, yes.get())?;
+            conditional(alloc, unit, defined, no, condition, yes)
         }
         Core::Comma { operands, .. } => {
-            let operands = all(alloc, unit, own, operands)?;
+            let operands = all(alloc, unit, defined, operands)?;
             boxed(alloc, Node::Comma(operands))
         }
         Core::Store { place, value, .. } => {
-            let place = node(alloc, unit, own, place.get())?;
-            joined(alloc, unit, own, Binary::Store, value, place)
+            let place = node(alloc, unit, defined, place.get())?;
+            joined(alloc, unit, defined, Binary::Store, value, place)
         }
         Core::Update {
             place,
@@ -117,11 +125,11 @@ pub fn node(
             value,
             ..
         } => {
-            let place = node(alloc, unit, own, place.get())?;
+            let place = node(alloc, unit, defined, place.get())?;
             joined(
                 alloc,
                 unit,
-                own,
+                defined,
                 Binary::Update(change_of(*change)),
                 value,
                 place,
@@ -136,13 +144,13 @@ pub fn node(
             applied(
                 alloc,
                 unit,
-                own,
+                defined,
                 Unary::Increment(*is_postfix, change_of(*change)),
                 place,
             )
         }
         Core::Assign { at, .. } => Err(NotLoaded::NotBuilt { at: *at }),
-        Core::Temporary { at, ty, start } => temporary(alloc, unit, own, *at, *ty, start),
+        Core::Temporary { at, ty, start } => temporary(alloc, unit, defined, *at, *ty, start),
         Core::Call {
             at,
             object: Some(_),
@@ -155,8 +163,9 @@ pub fn node(
             object: None,
             arguments,
         } => {
-            let signature = function_type(alloc, unit, *at, *ty)?;
-            called(alloc, unit, own, arguments, function, signature)
+            let name = linked(alloc, defined.own.as_slice(), function.as_slice())?;
+            let signature = named_function(alloc, unit, defined, *at, name.as_slice(), *ty)?;
+            called(alloc, unit, defined, arguments, name, signature)
         }
         Core::VirtualCall { at, .. } => Err(NotLoaded::NotBuilt { at: *at }),
         Core::PointerCall {
@@ -172,8 +181,8 @@ pub fn node(
             arguments,
         } => {
             let signature = function_type(alloc, unit, *at, *ty)?;
-            let pointer = node(alloc, unit, own, pointer.get())?;
-            pointer_called(alloc, unit, own, arguments, pointer, signature)
+            let pointer = node(alloc, unit, defined, pointer.get())?;
+            pointer_called(alloc, unit, defined, arguments, pointer, signature)
         }
         Core::New { at, .. } => Err(NotLoaded::NotBuilt { at: *at }),
         Core::NewArray { at, .. } => Err(NotLoaded::NotBuilt { at: *at }),
@@ -183,27 +192,27 @@ pub fn node(
         Core::Copy { at, .. } => Err(NotLoaded::NotBuilt { at: *at }),
         Core::Each { at, .. } => Err(NotLoaded::NotBuilt { at: *at }),
         Core::List { starts, rest, .. } => {
-            let starts = all(alloc, unit, own, starts)?;
-            list(alloc, unit, own, rest, starts)
+            let starts = all(alloc, unit, defined, starts)?;
+            list(alloc, unit, defined, rest, starts)
         }
         Core::Characters { bytes, .. } => characters(alloc, bytes),
         Core::Bind {
             at,
             holder,
             operand,
-        } => bound(alloc, unit, own, operand, *at, holder),
+        } => bound(alloc, unit, defined, operand, *at, holder),
         Core::Zeros { .. } => boxed(alloc, Node::Zeros),
         Core::Blank { .. } => boxed(alloc, Node::Blank),
         Core::Full { expression, .. } => {
-            let expression = node(alloc, unit, own, expression.get())?;
+            let expression = node(alloc, unit, defined, expression.get())?;
             boxed(alloc, Node::Full(expression))
         }
         Core::Block { statements, .. } => {
-            let statements = all(alloc, unit, own, statements)?;
+            let statements = all(alloc, unit, defined, statements)?;
             boxed(alloc, Node::Block(statements))
         }
         Core::Sequence { statements, .. } => {
-            let statements = all(alloc, unit, own, statements)?;
+            let statements = all(alloc, unit, defined, statements)?;
             boxed(alloc, Node::Sequence(statements))
         }
         Core::Declare {
@@ -211,7 +220,7 @@ pub fn node(
             local,
             ty,
             start,
-        } => { declaration(alloc, unit, own, *at, *local, *ty, start) }
+        } => { declaration(alloc, unit, defined, *at, *local, *ty, start) }
         Core::Once { at, .. } => Err(NotLoaded::NotBuilt { at: *at }),
         Core::If {
             condition,
@@ -219,9 +228,9 @@ pub fn node(
             no,
             ..
         } => {
-            let condition = node(alloc, unit, own, condition.get())?;
-            let yes = node(alloc, unit, own, yes.get())?;
-            branch(alloc, unit, own, no, condition, yes)
+            let condition = node(alloc, unit, defined, condition.get())?;
+            let yes = node(alloc, unit, defined, yes.get())?;
+            branch(alloc, unit, defined, no, condition, yes)
         }
         Core::Loop {
             form,
@@ -230,20 +239,20 @@ pub fn node(
             body,
             ..
         } => {
-            let condition = maybe(alloc, unit, own, condition)?;
-            let step = maybe(alloc, unit, own, step)?;
-            turning(alloc, unit, own, body, *form, condition, step)
+            let condition = maybe(alloc, unit, defined, condition)?;
+            let step = maybe(alloc, unit, defined, step)?;
+            turning(alloc, unit, defined, body, *form, condition, step)
         }
         Core::Switch { operand, body, .. } => {
-            let operand = node(alloc, unit, own, operand.get())?;
-            switch(alloc, unit, own, body, operand)
+            let operand = node(alloc, unit, defined, operand.get())?;
+            switch(alloc, unit, defined, body, operand)
         }
         Core::Case { value, .. } => boxed(alloc, Node::Case(*value)),
         Core::Default { .. } => boxed(alloc, Node::Default),
         Core::Break { .. } => boxed(alloc, Node::Break),
         Core::Continue { .. } => boxed(alloc, Node::Continue),
         Core::Return { value, .. } => {
-            let value = maybe(alloc, unit, own, value)?;
+            let value = maybe(alloc, unit, defined, value)?;
             boxed(alloc, Node::Return(value))
         }
         Core::Parts { at, .. } => Err(NotLoaded::NotBuilt { at: *at }),
@@ -255,14 +264,14 @@ pub fn node(
 fn applied(
     alloc: Global,
     unit: &CoreUnit,
-    own: &[Name],
+    defined: &Defined,
     op: Unary,
     e: &Boxed<Core>,
 ) -> Result<Boxed<Node>, NotLoaded>
     requires { known unit.now e.now ≡ true }
-    ensures { Gives (spec.applied op (node_of unit.now.types own.now e.now)) result }
+    ensures { Gives (spec.applied op (node_of unit.now.types defined.now e.now)) result }
 {
-    let e = node(alloc, unit, own, e.get())?;
+    let e = node(alloc, unit, defined, e.get())?;
     boxed(alloc, Node::Apply(op, e))
 }
 
@@ -271,15 +280,15 @@ fn applied(
 fn joined(
     alloc: Global,
     unit: &CoreUnit,
-    own: &[Name],
+    defined: &Defined,
     op: Binary,
     right: &Boxed<Core>,
     left: Boxed<Node>,
 ) -> Result<Boxed<Node>, NotLoaded>
     requires { known unit.now right.now ≡ true }
-    ensures { Gives (made (λ b. Node.Join op left b) (node_of unit.now.types own.now right.now)) result }
+    ensures { Gives (made (λ b. Node.Join op left b) (node_of unit.now.types defined.now right.now)) result }
 {
-    let right = node(alloc, unit, own, right.get())?;
+    let right = node(alloc, unit, defined, right.get())?;
     boxed(alloc, Node::Join(op, left, right))
 }
 
@@ -288,14 +297,14 @@ fn joined(
 fn and(
     alloc: Global,
     unit: &CoreUnit,
-    own: &[Name],
+    defined: &Defined,
     right: &Boxed<Core>,
     left: Boxed<Node>,
 ) -> Result<Boxed<Node>, NotLoaded>
     requires { known unit.now right.now ≡ true }
-    ensures { Gives (made (λ b. Node.And left b) (node_of unit.now.types own.now right.now)) result }
+    ensures { Gives (made (λ b. Node.And left b) (node_of unit.now.types defined.now right.now)) result }
 {
-    let right = node(alloc, unit, own, right.get())?;
+    let right = node(alloc, unit, defined, right.get())?;
     boxed(alloc, Node::And(left, right))
 }
 
@@ -304,14 +313,14 @@ fn and(
 fn or(
     alloc: Global,
     unit: &CoreUnit,
-    own: &[Name],
+    defined: &Defined,
     right: &Boxed<Core>,
     left: Boxed<Node>,
 ) -> Result<Boxed<Node>, NotLoaded>
     requires { known unit.now right.now ≡ true }
-    ensures { Gives (made (λ b. Node.Or left b) (node_of unit.now.types own.now right.now)) result }
+    ensures { Gives (made (λ b. Node.Or left b) (node_of unit.now.types defined.now right.now)) result }
 {
-    let right = node(alloc, unit, own, right.get())?;
+    let right = node(alloc, unit, defined, right.get())?;
     boxed(alloc, Node::Or(left, right))
 }
 
@@ -320,15 +329,15 @@ fn or(
 fn conditional(
     alloc: Global,
     unit: &CoreUnit,
-    own: &[Name],
+    defined: &Defined,
     no: &Boxed<Core>,
     condition: Boxed<Node>,
     yes: Boxed<Node>,
 ) -> Result<Boxed<Node>, NotLoaded>
     requires { known unit.now no.now ≡ true }
-    ensures { Gives (made (λ b. Node.Conditional condition yes b) (node_of unit.now.types own.now no.now)) result }
+    ensures { Gives (made (λ b. Node.Conditional condition yes b) (node_of unit.now.types defined.now no.now)) result }
 {
-    let no = node(alloc, unit, own, no.get())?;
+    let no = node(alloc, unit, defined, no.get())?;
     boxed(alloc, Node::Conditional(condition, yes, no))
 }
 
@@ -337,16 +346,16 @@ fn conditional(
 fn converted(
     alloc: Global,
     unit: &CoreUnit,
-    own: &[Name],
+    defined: &Defined,
     at: u32,
     ty: TyId,
     e: &Boxed<Core>,
 ) -> Result<Boxed<Node>, NotLoaded>
     requires { (type_known unit.now ty && known unit.now e.now) ≡ true }
-    ensures { Gives (spec.converted unit.now.types at ty (node_of unit.now.types own.now e.now)) result }
+    ensures { Gives (spec.converted unit.now.types at ty (node_of unit.now.types defined.now e.now)) result }
 {
     let shape = shape(unit, at, ty)?;
-    let e = node(alloc, unit, own, e.get())?;
+    let e = node(alloc, unit, defined, e.get())?;
     boxed(alloc, Node::Apply(Unary::Convert(shape), e))
 }
 
@@ -355,16 +364,16 @@ fn converted(
 fn temporary(
     alloc: Global,
     unit: &CoreUnit,
-    own: &[Name],
+    defined: &Defined,
     at: u32,
     ty: TyId,
     start: &Boxed<Core>,
 ) -> Result<Boxed<Node>, NotLoaded>
     requires { (type_known unit.now ty && known unit.now start.now) ≡ true }
-    ensures { Gives (spec.temporary unit.now.types at ty (node_of unit.now.types own.now start.now)) result }
+    ensures { Gives (spec.temporary unit.now.types at ty (node_of unit.now.types defined.now start.now)) result }
 {
     let shape = shape(unit, at, ty)?;
-    let start = node(alloc, unit, own, start.get())?;
+    let start = node(alloc, unit, defined, start.get())?;
     boxed(alloc, Node::Temporary(shape, start))
 }
 
@@ -373,16 +382,15 @@ fn temporary(
 fn called(
     alloc: Global,
     unit: &CoreUnit,
-    own: &[Name],
+    defined: &Defined,
     arguments: &Items<Core>,
-    name: &Name,
+    name: Name,
     signature: Signature,
 ) -> Result<Boxed<Node>, NotLoaded>
     requires { all_known unit.now arguments.now ≡ true }
-    ensures { Gives (made (λ es. Node.Call (name_in 1 own.now name.now) signature es) (in_order (map (node_of unit.now.types own.now) arguments.now))) result }
+    ensures { Gives (made (λ es. Node.Call name signature es) (in_order (map (node_of unit.now.types defined.now) arguments.now))) result }
 {
-    let arguments = all(alloc, unit, own, arguments)?;
-    let name = linked(alloc, own, name.as_slice())?;
+    let arguments = all(alloc, unit, defined, arguments)?;
     boxed(alloc, Node::Call(name, signature, arguments))
 }
 
@@ -391,15 +399,15 @@ fn called(
 fn pointer_called(
     alloc: Global,
     unit: &CoreUnit,
-    own: &[Name],
+    defined: &Defined,
     arguments: &Items<Core>,
     pointer: Boxed<Node>,
     signature: Signature,
 ) -> Result<Boxed<Node>, NotLoaded>
     requires { all_known unit.now arguments.now ≡ true }
-    ensures { Gives (made (λ es. Node.PointerCall pointer signature es) (in_order (map (node_of unit.now.types own.now) arguments.now))) result }
+    ensures { Gives (made (λ es. Node.PointerCall pointer signature es) (in_order (map (node_of unit.now.types defined.now) arguments.now))) result }
 {
-    let arguments = all(alloc, unit, own, arguments)?;
+    let arguments = all(alloc, unit, defined, arguments)?;
     boxed(alloc, Node::PointerCall(pointer, signature, arguments))
 }
 
@@ -408,14 +416,14 @@ fn pointer_called(
 fn list(
     alloc: Global,
     unit: &CoreUnit,
-    own: &[Name],
+    defined: &Defined,
     rest: &Boxed<Core>,
     starts: Items<Node>,
 ) -> Result<Boxed<Node>, NotLoaded>
     requires { known unit.now rest.now ≡ true }
-    ensures { Gives (made (λ rest. Node.List starts rest) (node_of unit.now.types own.now rest.now)) result }
+    ensures { Gives (made (λ rest. Node.List starts rest) (node_of unit.now.types defined.now rest.now)) result }
 {
-    let rest = node(alloc, unit, own, rest.get())?;
+    let rest = node(alloc, unit, defined, rest.get())?;
     boxed(alloc, Node::List(starts, rest))
 }
 
@@ -424,22 +432,22 @@ fn list(
 fn bound(
     alloc: Global,
     unit: &CoreUnit,
-    own: &[Name],
+    defined: &Defined,
     operand: &Boxed<Core>,
     at: u32,
     holder: &Holder,
 ) -> Result<Boxed<Node>, NotLoaded>
     requires { (has_holder (tables_of unit.now) holder.now && known unit.now operand.now) ≡ true }
-    ensures { Gives (spec.bound unit.now.types at holder.now (node_of unit.now.types own.now operand.now)) result }
+    ensures { Gives (spec.bound unit.now.types at holder.now (node_of unit.now.types defined.now operand.now)) result }
 {
     match holder {
         Holder::NoTemporary => {
-            let operand = node(alloc, unit, own, operand.get())?;
+            let operand = node(alloc, unit, defined, operand.get())?;
             boxed(alloc, Node::Bind(operand))
         }
         Holder::LocalTemporary { local, ty } => {
             let shape = shape(unit, at, *ty)?;
-            let operand = node(alloc, unit, own, operand.get())?;
+            let operand = node(alloc, unit, defined, operand.get())?;
             boxed(alloc, Node::Hold(*local, shape, operand))
         }
         Holder::StaticTemporary(_) => Err(NotLoaded::NotBuilt { at }),
@@ -451,17 +459,17 @@ fn bound(
 fn declaration(
     alloc: Global,
     unit: &CoreUnit,
-    own: &[Name],
+    defined: &Defined,
     at: u32,
     local: u32,
     ty: TyId,
     start: &Boxed<Core>,
 ) -> Result<Boxed<Node>, NotLoaded>
     requires { (type_known unit.now ty && known unit.now start.now) ≡ true }
-    ensures { Gives (spec.declaration unit.now.types at local ty (node_of unit.now.types own.now start.now)) result }
+    ensures { Gives (spec.declaration unit.now.types at local ty (node_of unit.now.types defined.now start.now)) result }
 {
-    let ty = object(alloc, unit, at, ty)?;
-    let start = node(alloc, unit, own, start.get())?;
+    let ty = object(unit, at, ty)?;
+    let start = node(alloc, unit, defined, start.get())?;
     boxed(alloc, Node::Declare(local, ty, start))
 }
 
@@ -470,15 +478,15 @@ fn declaration(
 fn branch(
     alloc: Global,
     unit: &CoreUnit,
-    own: &[Name],
+    defined: &Defined,
     no: &Option<Boxed<Core>>,
     condition: Boxed<Node>,
     yes: Boxed<Node>,
 ) -> Result<Boxed<Node>, NotLoaded>
     requires { maybe_known unit.now no.now ≡ true }
-    ensures { Gives (made (λ b. Node.If condition yes b) (if_there (option_map (node_of unit.now.types own.now) no.now))) result }
+    ensures { Gives (made (λ b. Node.If condition yes b) (if_there (option_map (node_of unit.now.types defined.now) no.now))) result }
 {
-    let no = maybe(alloc, unit, own, no)?;
+    let no = maybe(alloc, unit, defined, no)?;
     boxed(alloc, Node::If(condition, yes, no))
 }
 
@@ -487,16 +495,16 @@ fn branch(
 fn turning(
     alloc: Global,
     unit: &CoreUnit,
-    own: &[Name],
+    defined: &Defined,
     body: &Boxed<Core>,
     form: LoopForm,
     condition: Option<Boxed<Node>>,
     step: Option<Boxed<Node>>,
 ) -> Result<Boxed<Node>, NotLoaded>
     requires { known unit.now body.now ≡ true }
-    ensures { Gives (made (λ s. Node.Loop form condition step s) (node_of unit.now.types own.now body.now)) result }
+    ensures { Gives (made (λ s. Node.Loop form condition step s) (node_of unit.now.types defined.now body.now)) result }
 {
-    let body = node(alloc, unit, own, body.get())?;
+    let body = node(alloc, unit, defined, body.get())?;
     boxed(alloc, Node::Loop(form, condition, step, body))
 }
 
@@ -505,14 +513,14 @@ fn turning(
 fn switch(
     alloc: Global,
     unit: &CoreUnit,
-    own: &[Name],
+    defined: &Defined,
     body: &Items<Core>,
     operand: Boxed<Node>,
 ) -> Result<Boxed<Node>, NotLoaded>
     requires { all_known unit.now body.now ≡ true }
-    ensures { Gives (made (λ es. Node.Switch operand es) (in_order (map (node_of unit.now.types own.now) body.now))) result }
+    ensures { Gives (made (λ es. Node.Switch operand es) (in_order (map (node_of unit.now.types defined.now) body.now))) result }
 {
-    let body = all(alloc, unit, own, body)?;
+    let body = all(alloc, unit, defined, body)?;
     boxed(alloc, Node::Switch(operand, body))
 }
 
@@ -521,15 +529,15 @@ fn switch(
 fn all(
     alloc: Global,
     unit: &CoreUnit,
-    own: &[Name],
+    defined: &Defined,
     nodes: &Items<Core>,
 ) -> Result<Items<Node>, NotLoaded>
     requires { all_known unit.now nodes.now ≡ true }
-    ensures { Gives (in_order (map (node_of unit.now.types own.now) nodes.now)) result }
+    ensures { Gives (in_order (map (node_of unit.now.types defined.now) nodes.now)) result }
 {
     let mut found = Items::new(alloc);
     for e in nodes.as_slice() {
-        found.push(node(alloc, unit, own, e)?.into_inner())?;
+        found.push(node(alloc, unit, defined, e)?.into_inner())?;
     }
     Ok(found)
 }
@@ -539,16 +547,16 @@ fn all(
 fn maybe(
     alloc: Global,
     unit: &CoreUnit,
-    own: &[Name],
+    defined: &Defined,
     e: &Option<Boxed<Core>>,
 ) -> Result<Option<Boxed<Node>>, NotLoaded>
     requires { maybe_known unit.now e.now ≡ true }
-    ensures { Gives (if_there (option_map (node_of unit.now.types own.now) e.now)) result }
+    ensures { Gives (if_there (option_map (node_of unit.now.types defined.now) e.now)) result }
 {
     match e {
         None => Ok(None),
         Some(e) => {
-            let e = node(alloc, unit, own, e.get())?;
+            let e = node(alloc, unit, defined, e.get())?;
             Ok(Some(e))
         }
     }

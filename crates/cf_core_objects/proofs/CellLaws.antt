@@ -1,5 +1,5 @@
 -- What the runner's objects and locals become, as the meaning sees them.
-use Rattle.std.proofs.Common.{◌≡◌, ◌∙◌, ℕ, zero, suc, ◌<◌, Bool, true, false, ◌==◌, ◌+◌, if◌then◌else◌, List, [], ◌∷◌, ◌++◌, length, map, reverse, get_or, slice_get, slice_set, Option, Some, refl, ap, sym, arith, length-append}
+use Rattle.std.proofs.Common.{◌≡◌, ◌∙◌, ℕ, zero, suc, ◌<◌, Bool, true, false, ◌==◌, ◌+◌, if◌then◌else◌, List, [], ◌∷◌, ◌++◌, length, map, reverse, get_or, slice_get, slice_set, Option, Some, None, refl, ap, sym, arith, length-append}
 use Rattle.std.proofs.lemmas.Bool.Decides.{nat_tests}
 use Rattle.std.proofs.lemmas.List.{length-set}
 use Rattle.std.proofs.lemmas.Option.{slice_get_within, slice_get-get_or}
@@ -52,11 +52,15 @@ objects-push T cells new = let h : (o : ℕ) → objects_of T (cells ++ new ∷ 
     λ o. ap (object_of T) (got-push cells o new) ∙ through (object_of T) (o == length cells) (Some new) (slice_get cells o) in
     λ j o. h o j
 
-pub locals-set : (locals : List (Option ℕ)) (i o : ℕ) → i < length locals
-    → (let f : ℕ → Option ℕ = λ k. local_object (slice_get (slice_set locals i (Some o)) k) in f) ≡ upd i (Some o) (λ k. local_object (slice_get locals k))
-locals-set locals i o lt = let h : (k : ℕ) → local_object (slice_get (slice_set locals i (Some o)) k) ≡ upd i (Some o) (λ k. local_object (slice_get locals k)) k =
-    λ k. ap local_object (got-set locals i k (Some o) lt) ∙ through local_object (k == i) (Some (Some o)) (slice_get locals k) in
-    λ j k. h k j
+pub local-set : (locals : List (Option ℕ)) (i o k : ℕ) → i < length locals → local_object (slice_get (slice_set locals i (Some o)) k) ≡ upd i (Some o) (λ k. local_object (slice_get locals k)) k
+local-set locals i o k lt = ap local_object (got-set locals i k (Some o) lt) ∙ through local_object (k == i) (Some (Some o)) (slice_get locals k)
+
+-- one behind the others that has no object
+pub none-pushed : (locals : List (Option ℕ)) (k : ℕ) → local_object (slice_get (locals ++ None ∷ []) k) ≡ local_object (slice_get locals k)
+none-pushed [] zero = refl
+none-pushed [] (suc k) = refl
+none-pushed (x ∷ locals) zero = refl
+none-pushed (x ∷ locals) (suc k) = none-pushed locals k
 
 pub length-push : {A : Type 0} (xs : List A) (v : A) → length (xs ++ v ∷ []) ≡ suc (length xs)
 length-push xs v = length-append xs (v ∷ []) ∙ let h : length xs + 1 ≡ suc (length xs) = omega arith in h

@@ -3,7 +3,7 @@ use Rattle.std.proofs.Common.{◌≡◌, ◌∙◌, ℕ, zero, suc, ◌<◌, ◌
 use Rattle.std.specs.Prelude.{◌||◌}
 use Rattle.std.proofs.lemmas.Bool.{eqb-true}
 use Rattle.std.proofs.lemmas.Option.{slice_get-get_or}
-use Rattle.cf_core_place.proofs.SpotLaws.{same-some}
+use Rattle.cf_core_place.proofs.PartLaws.{same-some}
 use Rattle.cf_core.specs.Types.{SourceType}
 use Rattle.cf_core.specs.Core.{item, past, field, within}
 use Rattle.cf_core.specs.Places.{Route, route_eq, beyond, is_beyond, type_at}

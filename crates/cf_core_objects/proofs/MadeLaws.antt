@@ -13,20 +13,21 @@ use Rattle.cf_core.specs.Core.{item}
 use Rattle.cf_core.specs.Places.{Route, Place, inner, type_at}
 use Rattle.cf_core.specs.Program.{static_object_of, length_of, first_state}
 use Rattle.cf_core.specs.Store.{Value, Number, Object, hold, hold_all, zero_of, zeroed_object}
-use Rattle.cf_core.specs.Run.{State, Did, Gives, Act, ◌>>=◌, ◌>>◌, gives, valid, for_all, with_object, object_changed, gone, some_or, Frame, lists_local, declared_object, frame_changed, changed, born}
+use Rattle.cf_core.specs.Run.{State, Did, Gives, Act, ◌>>=◌, ◌>>◌, gives, valid, for_all, with_object, object_changed, gone, some_or, Frame, upd, lists_local, declared_object, frame_changed, changed, born}
 use Rattle.cf_core.specs.Run as run
 use Rattle.cf_core.specs.Access as access
 use Rattle.cf_core.specs.Objects as objects
 use Rattle.cf_core.specs.Objects.{found_literal, byte_at}
 use Rattle.cf_base.specs.declared.kind.Kind.TheVariants.{Char}
-use Rattle.cf_core_place.specs.declared.bounds.Bounds.TheVariants as bounds
+use Rattle.cf_run_tree.specs.declared.shape.Bounds.{Bounds}
+use Rattle.cf_run_tree.specs.declared.shape.Bounds.TheVariants as bounds
 use Rattle.cf_core_objects.specs.declared.object.Storage.TheVariants as storage
 use Rattle.cf_run_tree.specs.declared.shape.Form.TheVariants as form
 use Rattle.cf_run_tree.specs.declared.program.Program.{Program}
 use Rattle.cf_run_tree.specs.declared.program.RunStatic.{RunStatic}
-use Rattle.cf_run_tree.specs.Tree.{arrays, shape_type, static_of, program_of}
+use Rattle.cf_run_tree.specs.Tree.{list_of, arrays, shape_type, object_type, static_of, program_of}
 use Rattle.cf_core_place.specs.declared.part.Part.{Part}
-use Rattle.cf_core_place.specs.Routes.{route_of, list_of}
+use Rattle.cf_core_place.specs.Routes.{route_of}
 use Rattle.cf_core_objects.specs.declared.answer.Stop.{Stop}
 use Rattle.cf_core_objects.specs.declared.answer.Value.{Value as Given}
 use Rattle.cf_core_objects.specs.declared.object.Cell.{Cell}
@@ -40,7 +41,7 @@ use Rattle.cf_core_objects.specs.Made.{new_literal}
 use Rattle.cf_core_objects.specs.Answer.{Stopped}
 use Rattle.cf_core_objects.specs.Then.{◌▷◌}
 use Rattle.cf_core_objects.proofs.ThenLaws.{stops-on}
-use Rattle.cf_core_objects.proofs.CellLaws.{SameNames, changed-state, born-state, held-state, locals-set, state_with}
+use Rattle.cf_core_objects.proofs.CellLaws.{SameNames, changed-state, born-state, held-state, state_with}
 use Rattle.cf_core.specs.Store.{literal}
 
 -- one object gets a value
@@ -86,28 +87,27 @@ born-goes T e x new c w cells same empty live =
     ap (λ (y : Object). born y (state_of T e x) w) is ∙ ap (λ (s : State). Went (Gives (length x.cells.items) s) w) (born-state T e x new c cells same)
 
 -- a local gets the object that was made
-frames : (e new : Entered) (i o : ℕ) → i < length e.locals.items → new.locals.items ≡ slice_set e.locals.items i (Some o) → new.name ≡ e.name → new.depth ≡ e.depth → new.scope ≡ e.scope → new.temporaries ≡ e.temporaries
+frames : (e new : Entered) (i o : ℕ) → ((k : ℕ) → local_object (slice_get new.locals.items k) ≡ upd i (Some o) (λ k. local_object (slice_get e.locals.items k)) k) → new.count ≡ e.count → new.name ≡ e.name → new.depth ≡ e.depth → new.scope ≡ e.scope → new.temporaries ≡ e.temporaries
     → lists_local i o (frame_of e) ≡ frame_of new
-frames e new i o lt locals n d sc te =
+frames e new i o locals count n d sc te =
     let mkf : ℕ → (ℕ → Option ℕ) → Frame = λ k f. record { function = new.name.now; count = k; this = None; result = None; depth = new.depth; locals = f; scope = reverse new.scope.items; temporaries = reverse new.temporaries.items } in
-    sym (ap (λ (l : List (Option ℕ)). mkf (length l) (λ k. local_object (slice_get l k))) locals
-    ∙ ap (λ k. mkf k (λ k. local_object (slice_get (slice_set e.locals.items i (Some o)) k))) (length-set e.locals.items i (Some o))
-    ∙ ap (mkf (length e.locals.items)) (locals-set e.locals.items i o lt)
+    sym (ap (λ k. mkf k (λ k. local_object (slice_get new.locals.items k))) count
+    ∙ ap (mkf e.count) (λ j k. locals k j)
     ∙ ap (λ (x : Bor (List ℕ)). record (lists_local i o (frame_of e)) { function = x.now; depth = new.depth; scope = reverse new.scope.items; temporaries = reverse new.temporaries.items }) n
     ∙ ap (λ k. record (lists_local i o (frame_of e)) { depth = k; scope = reverse new.scope.items; temporaries = reverse new.temporaries.items }) d
     ∙ ap (λ (x : Vec ℕ Global). record (lists_local i o (frame_of e)) { scope = reverse x.items; temporaries = reverse new.temporaries.items }) sc
     ∙ ap (λ (x : Vec ℕ Global). record (lists_local i o (frame_of e)) { temporaries = reverse x.items }) te)
 
-pub local-as : (T : Tables) (e : Entered) (x : Objects) (i : ℕ) (t : SourceType) (w : World) → i < length e.locals.items
+pub local-as : (T : Tables) (e : Entered) (x : Objects) (i : ℕ) (t : SourceType) (w : World) → i < e.count
     → objects.new_local i t (state_of T e x) w ≡ (declared_object t >>= (λ o. frame_changed (lists_local i o) >> gives o)) (state_of T e x) w
 local-as T e x i t w lt = ap (λ (b : Bool). (valid b >> (declared_object t >>= (λ o. frame_changed (lists_local i o) >> gives o))) (state_of T e x) w)
-    (let h : nat_lt i (length e.locals.items) ≡ true = grind (arith, nat_tests) in h)
+    (let h : nat_lt i e.count ≡ true = grind (arith, nat_tests) in h)
 
-pub local-listed : (T : Tables) (e new : Entered) (x : Objects) (i o : ℕ) (w : World) → i < length e.locals.items → new.locals.items ≡ slice_set e.locals.items i (Some o)
+pub local-listed : (T : Tables) (e new : Entered) (x : Objects) (i o : ℕ) (w : World) → ((k : ℕ) → local_object (slice_get new.locals.items k) ≡ upd i (Some o) (λ k. local_object (slice_get e.locals.items k)) k) → new.count ≡ e.count
     → new.name ≡ e.name → new.depth ≡ e.depth → new.scope ≡ e.scope → new.temporaries ≡ e.temporaries
     → (frame_changed (lists_local i o) >> gives o) (state_of T e x) w ≡ Went (Gives o (state_of T new x)) w
-local-listed T e new x i o w lt locals n d sc te =
-    ap (λ (f : Frame). Went (Gives o (record (state_of T e x) { frame = f })) w) (frames e new i o lt locals n d sc te)
+local-listed T e new x i o w locals count n d sc te =
+    ap (λ (f : Frame). Went (Gives o (record (state_of T e x) { frame = f })) w) (frames e new i o locals count n d sc te)
 
 -- The object of a string literal.
 pub text-fresh : (T : Tables) (bytes : Bor (List ℕ)) (n : ℕ) → n ≡ length bytes.now
@@ -162,23 +162,23 @@ pub literal-as : (T : Tables) (e : Entered) (x : Objects) (j : ℕ) (bytes : Lis
 literal-as T e x j bytes o w h = ap (λ (o : Option ℕ). some_or o (new_literal j bytes e.name.now) (state_of T e x) w) h
 
 -- Static objects.
-pub zeroed-cell : (T : Tables) (c : Cell) (x : RunStatic) → c.shape ≡ x.ty.shape → list_of c.bounds ≡ x.ty.bounds → c.storage ≡ storage.Permanent → c.log.items ≡ [] → c.is_gone ≡ false
-    → object_of T (Some c) ≡ zeroed_object [] (static_of T x).type
+pub zeroed-cell : (T : Tables) (c : Cell) (x : RunStatic) → c.shape ≡ x.ty.shape → c.bounds ≡ x.ty.bounds → c.storage ≡ storage.Permanent → c.log.items ≡ [] → c.is_gone ≡ false
+    → object_of T (Some c) ≡ zeroed_object [] (object_type T x.ty)
 zeroed-cell T c x shape bounds st log live =
     let mk : SourceType → _ → List _ → Bool → Object = λ t st log b. record { type = t; held = logged t (first_held t st) log; life = λ π. None; storage = stored st; is_gone = b } in
     ap (λ s. mk (arrays (list_of c.bounds) (shape_type T s)) c.storage c.log.items c.is_gone) shape
-    ∙ ap (λ l. mk (arrays l (shape_type T x.ty.shape)) c.storage c.log.items c.is_gone) bounds
-    ∙ ap (λ st. mk (static_of T x).type st c.log.items c.is_gone) st
-    ∙ ap (λ log. mk (static_of T x).type storage.Permanent log c.is_gone) log
-    ∙ ap (λ b. mk (static_of T x).type storage.Permanent [] b) live
+    ∙ ap (λ (b : Bounds). mk (arrays (list_of b) (shape_type T x.ty.shape)) c.storage c.log.items c.is_gone) bounds
+    ∙ ap (λ st. mk (object_type T x.ty) st c.log.items c.is_gone) st
+    ∙ ap (λ log. mk (object_type T x.ty) storage.Permanent log c.is_gone) log
+    ∙ ap (λ b. mk (object_type T x.ty) storage.Permanent [] b) live
 
 abbrev pub made_of : Tables → List Cell → List Object
 made_of T cells = map (λ (c : Cell). object_of T (Some c)) cells
 
 abbrev pub zeroed_of : Tables → List RunStatic → List Object
-zeroed_of T statics = map (λ x. zeroed_object [] (static_of T x).type) statics
+zeroed_of T statics = map (λ (x : RunStatic). zeroed_object [] (object_type T x.ty)) statics
 
-pub statics-push : (T : Tables) (old : List Cell) (c : Cell) (x : RunStatic) (xs rest : List RunStatic) (made new : List Cell) → xs ≡ x ∷ rest → object_of T (Some c) ≡ zeroed_object [] (static_of T x).type
+pub statics-push : (T : Tables) (old : List Cell) (c : Cell) (x : RunStatic) (xs rest : List RunStatic) (made new : List Cell) → xs ≡ x ∷ rest → object_of T (Some c) ≡ zeroed_object [] (object_type T x.ty)
     → made ≡ old ++ c ∷ [] → made_of T new ≡ made_of T made ++ zeroed_of T rest → made_of T new ≡ made_of T old ++ zeroed_of T xs
 statics-push T old c x xs rest made new is zeroed pushed h =
     h ∙ ap (λ l. made_of T l ++ zeroed_of T rest) pushed
@@ -191,27 +191,27 @@ statics-push T old c x xs rest made new is zeroed pushed h =
     joined [] x rest = refl
     joined (y ∷ xs) x rest = ap (λ l. y ∷ l) (joined xs x rest)
 
-statics-at : (T : Tables) (cells : List Cell) (statics : List RunStatic) (o : ℕ) → made_of T cells ≡ zeroed_of T statics → object_of T (slice_get cells o) ≡ static_object_of [] (slice_get (map (static_of T) statics) o)
-statics-at T [] [] o h = refl
-statics-at T [] (x ∷ statics) o h = absurd (cc)
-statics-at T (c ∷ cells) [] o h = absurd (cc)
-statics-at T (c ∷ cells) (x ∷ statics) zero h = ap (λ (l : List Object). elim l [ [] ↦ object_of T (Some c) | y ∷ rest ↦ y ]) h
-statics-at T (c ∷ cells) (x ∷ statics) (suc o) h = statics-at T cells statics o (ap (λ (l : List Object). elim l [ [] ↦ [] | y ∷ rest ↦ rest ]) h)
+statics-at : (T : Tables) (p : Program) (cells : List Cell) (statics : List RunStatic) (o : ℕ) → made_of T cells ≡ zeroed_of T statics → object_of T (slice_get cells o) ≡ static_object_of [] (slice_get (map (static_of T p) statics) o)
+statics-at T p [] [] o h = refl
+statics-at T p [] (x ∷ statics) o h = absurd (cc)
+statics-at T p (c ∷ cells) [] o h = absurd (cc)
+statics-at T p (c ∷ cells) (x ∷ statics) zero h = ap (λ (l : List Object). elim l [ [] ↦ object_of T (Some c) | y ∷ rest ↦ y ]) h
+statics-at T p (c ∷ cells) (x ∷ statics) (suc o) h = statics-at T p cells statics o (ap (λ (l : List Object). elim l [ [] ↦ [] | y ∷ rest ↦ rest ]) h)
 
-statics-long : (T : Tables) (cells : List Cell) (statics : List RunStatic) → made_of T cells ≡ zeroed_of T statics → length cells ≡ length_of (map (static_of T) statics)
-statics-long T [] [] h = refl
-statics-long T [] (x ∷ statics) h = absurd (cc)
-statics-long T (c ∷ cells) [] h = absurd (cc)
-statics-long T (c ∷ cells) (x ∷ statics) h = ap suc (statics-long T cells statics (ap (λ (l : List Object). elim l [ [] ↦ [] | y ∷ rest ↦ rest ]) h))
+statics-long : (T : Tables) (p : Program) (cells : List Cell) (statics : List RunStatic) → made_of T cells ≡ zeroed_of T statics → length cells ≡ length_of (map (static_of T p) statics)
+statics-long T p [] [] h = refl
+statics-long T p [] (x ∷ statics) h = absurd (cc)
+statics-long T p (c ∷ cells) [] h = absurd (cc)
+statics-long T p (c ∷ cells) (x ∷ statics) h = ap suc (statics-long T p cells statics (ap (λ (l : List Object). elim l [ [] ↦ [] | y ∷ rest ↦ rest ]) h))
 
 pub statics-state : (T : Tables) (e : Entered) (p : Program) (x : Objects) → x.literals.items ≡ [] → x.reached.items ≡ [] → made_of T x.cells.items ≡ zeroed_of T p.statics
     → state_of T e x ≡ record (first_state (program_of T p) e.depth) { frame = frame_of e }
 statics-state T e p x literals reached h =
-    let object : ℕ → Object = λ o. static_object_of [] (slice_get (map (static_of T) p.statics) o) in
+    let object : ℕ → Object = λ o. static_object_of [] (slice_get (map (static_of T p) p.statics) o) in
     ap (λ l. state_with (length x.cells.items) (objects_of T x.cells.items) (reverse (map literal_of l)) (reverse (map (λ name. name.now) x.reached.items)) (frame_of e)) literals
     ∙ ap (λ l. state_with (length x.cells.items) (objects_of T x.cells.items) [] (reverse (map (λ name. name.now) l)) (frame_of e)) reached
-    ∙ ap (λ n. state_with n (objects_of T x.cells.items) [] [] (frame_of e)) (statics-long T x.cells.items p.statics h)
-    ∙ ap (λ f. state_with (length_of (map (static_of T) p.statics)) f [] [] (frame_of e)) (λ j o. statics-at T x.cells.items p.statics o h j)
+    ∙ ap (λ n. state_with n (objects_of T x.cells.items) [] [] (frame_of e)) (statics-long T p x.cells.items p.statics h)
+    ∙ ap (λ f. state_with (length_of (map (static_of T p) p.statics)) f [] [] (frame_of e)) (λ j o. statics-at T p x.cells.items p.statics o h j)
 
 pub byte-next : (p : Place) (i next b : ℕ) (bytes rest : List ℕ) (s : State) (w : World) → bytes ≡ b ∷ rest → next ≡ i + 1
     → objects.write_bytes p i bytes s w ≡ (access.first_value (inner (item i) p) (Number (converted Char (pos b))) s w ▷ (λ _. objects.write_bytes p next rest))

@@ -1,30 +1,28 @@
 -- What a place is, by where it lies in its object.
-use Rattle.std.proofs.Common.{◌≡◌, ◌∙◌, ℕ, zero, suc, ◌≤◌, Bool, true, false, ◌==◌, if◌then◌else◌, List, [], ◌∷◌, length, drop, slice_get, Option, Some, None, refl, ap, sym, arith}
-use Rattle.std.proofs.lemmas.Bool.Decides.{nat_tests}
+use Rattle.std.proofs.Common.{◌≡◌, ◌∙◌, ℕ, Bool, true, false, true≢false, [], slice_get, Option, Some, None, refl, ap, sym}
 use Rattle.cf_core.specs.FromTypes.{Tables}
-use Rattle.cf_core.specs.Types.{SourceType, void, integer, enumeration, class, pointer, reference, array, takes, gives, data_member, function_member, const, is_array, is_class}
+use Rattle.cf_core.specs.Types.{SourceType, void, integer, enumeration, class, pointer, reference, array, takes, gives, data_member, function_member, const, plain, is_array, is_class}
 use Rattle.cf_core.specs.Objects.{element_count}
-use Rattle.cf_core.specs.Places.{Route, type_at, is_scalar, is_reference, is_const}
+use Rattle.cf_core.specs.Places.{Route, type_at, is_inside, is_scalar, is_reference, is_const}
 use Rattle.cf_core.specs.Pointers.{element_of, bound_of}
 use Rattle.cf_core.specs.Store.{Value, Object, zero_of, is_constant_place, automatic}
 use Rattle.cf_run_tree.specs.declared.shape.Form.{Form}
 use Rattle.cf_run_tree.specs.declared.shape.Form.TheVariants as form
 use Rattle.cf_run_tree.specs.declared.shape.Shape.{Shape}
-use Rattle.cf_run_tree.specs.Tree.{arrays, shape_type, form_type, kept}
+use Rattle.cf_run_tree.specs.declared.shape.Bounds.{Bounds}
+use Rattle.cf_run_tree.specs.declared.shape.Bounds.TheVariants as bounds
+use Rattle.cf_run_tree.specs.Tree.{list_of, arrays, shape_type, form_type, kept}
 use Rattle.cf_core_place.specs.declared.part.Part.{Part}
-use Rattle.cf_core_place.specs.declared.spot.Spot.{Spot}
-use Rattle.cf_core_place.specs.Routes.{list_of, route_of}
-use Rattle.cf_core_place.specs.Spots.{spot_of}
-use Rattle.cf_core_place.proofs.SpotLaws.{type-of, depth-of, inside-of, constant-of, permanent-constant, literal-constant, usable, dead, plain_object}
-use Rattle.cf_core_objects.specs.declared.object.Cell.{Cell}
+use Rattle.cf_core_place.specs.declared.part.Part.TheVariants as part
+use Rattle.cf_core_place.specs.Routes.{route_of, depth}
+use Rattle.cf_core_place.proofs.PartLaws.{single, type_in, type-of, none_deeper, constant-of, permanent-constant, literal-constant, usable, dead, plain_object}
 use Rattle.cf_core_objects.specs.declared.object.Storage.{Storage}
 use Rattle.cf_core_objects.specs.declared.object.Storage.TheVariants as storage
 use Rattle.cf_core_objects.specs.declared.site.Site.{Site}
 use Rattle.cf_core_objects.specs.declared.site.Sort.{Sort}
 use Rattle.cf_core_objects.specs.declared.site.Sort.TheVariants as sort
-use Rattle.cf_core_objects.specs.Site.{sort_of, scalar_sort, reference_sort, array_sort, zero_sort, sort_with, constant_with, IsSite, HasElements, HasNone}
-use Rattle.cf_core_objects.specs.Store.{object_of, stored, first_held}
-use Rattle.cf_core_objects.specs.Log.{logged}
+use Rattle.cf_core_objects.specs.Site.{sort_of, scalar_sort, reference_sort, array_sort, zero_sort, sort_with, constant_with, IsSite, HasItems, HasElements, HasNone}
+use Rattle.cf_core_objects.specs.Store.{stored}
 
 -- What the meaning asks of a type, its sort tells.
 pub scalar-as : (t : SourceType) → is_scalar t ≡ scalar_sort (sort_of t)
@@ -131,23 +129,65 @@ const-form T false (form.Enumeration e) = refl
 const-form T false (form.Pointer t) = refl
 const-form T false (form.Reference t) = refl
 
-sort-at : (T : Tables) (s : Shape) (bounds : List ℕ) (k : ℕ) → sort_of (arrays (drop k bounds) (shape_type T s)) ≡ sort_with s.form (slice_get bounds k)
-sort-at T s [] zero = sort-form T s.is_const s.form
-sort-at T s [] (suc k) = sort-form T s.is_const s.form
-sort-at T s (n ∷ bounds) zero = refl
-sort-at T s (n ∷ bounds) (suc k) = sort-at T s bounds k
+sort-plain : (t : SourceType) → sort_of (plain t) ≡ sort_of t
+sort-plain (const t) = refl
+sort-plain void = refl
+sort-plain (integer k) = refl
+sort-plain (enumeration e) = refl
+sort-plain (class c) = refl
+sort-plain (pointer t) = refl
+sort-plain (reference t) = refl
+sort-plain (array t n) = refl
+sort-plain (takes p t) = refl
+sort-plain (gives t c) = refl
+sort-plain (data_member c t) = refl
+sort-plain (function_member c t) = refl
 
-class-at : (T : Tables) (s : Shape) (bounds : List ℕ) → is_class (arrays bounds (shape_type T s)) ≡ false
-class-at T s [] = class-form T s.is_const s.form
-class-at T s (n ∷ bounds) = refl
+class-plain : (t : SourceType) → is_class (plain t) ≡ is_class t
+class-plain (const t) = refl
+class-plain void = refl
+class-plain (integer k) = refl
+class-plain (enumeration e) = refl
+class-plain (class c) = refl
+class-plain (pointer t) = refl
+class-plain (reference t) = refl
+class-plain (array t n) = refl
+class-plain (takes p t) = refl
+class-plain (gives t c) = refl
+class-plain (data_member c t) = refl
+class-plain (function_member c t) = refl
 
-const-at : (T : Tables) (s : Shape) (bounds : List ℕ) (k : ℕ) → k ≤ length bounds → (if k == length bounds then is_const (shape_type T s) else false) ≡ constant_with storage.Automatic s.is_const (slice_get bounds k)
-const-at T s [] zero h = const-form T s.is_const s.form
-const-at T s [] (suc k) h = absurd (omega (arith, h))
-const-at T s (n ∷ bounds) zero h = ap (λ b. if b then is_const (shape_type T s) else false) (let g : (0 == suc (length bounds)) ≡ false = grind (arith, nat_tests) in g)
-const-at T s (n ∷ bounds) (suc k) h =
-    ap (λ b. if b then is_const (shape_type T s) else false) (let g : (suc k == suc (length bounds)) ≡ (k == length bounds) = grind (arith, nat_tests) in g)
-    ∙ const-at T s bounds k (omega (arith, h))
+sort-in : (b : Bounds) (q : Part) (t : SourceType) (f : Form) → sort_of t ≡ sort_with f None → sort_of (type_in b q t) ≡ sort_with f (slice_get (list_of b) (depth q))
+sort-in bounds.None part.Whole t f h = h
+sort-in (bounds.One n) part.Whole t f h = refl
+sort-in (bounds.Two n m) part.Whole t f h = refl
+sort-in bounds.None part.Past t f h = h
+sort-in (bounds.One n) part.Past t f h = refl
+sort-in (bounds.Two n m) part.Past t f h = refl
+sort-in bounds.None (part.Item i) t f h = sort-plain t ∙ h
+sort-in (bounds.One n) (part.Item i) t f h = h
+sort-in (bounds.Two n m) (part.Item i) t f h = refl
+sort-in bounds.None (part.Inner i j) t f h = sort-plain t ∙ h
+sort-in (bounds.One n) (part.Inner i j) t f h = sort-plain t ∙ h
+sort-in (bounds.Two n m) (part.Inner i j) t f h = h
+
+class-in : (b : Bounds) (q : Part) (t : SourceType) → is_class t ≡ false → is_class (type_in b q t) ≡ false
+class-in bounds.None part.Whole t h = h
+class-in (bounds.One n) part.Whole t h = refl
+class-in (bounds.Two n m) part.Whole t h = refl
+class-in bounds.None part.Past t h = h
+class-in (bounds.One n) part.Past t h = refl
+class-in (bounds.Two n m) part.Past t h = refl
+class-in bounds.None (part.Item i) t h = class-plain t ∙ h
+class-in (bounds.One n) (part.Item i) t h = h
+class-in (bounds.Two n m) (part.Item i) t h = refl
+class-in bounds.None (part.Inner i j) t h = class-plain t ∙ h
+class-in (bounds.One n) (part.Inner i j) t h = class-plain t ∙ h
+class-in (bounds.Two n m) (part.Inner i j) t h = h
+
+const-in : (t : SourceType) (b : Bool) (count : Option ℕ) → is_const t ≡ b → elim count [ None ↦ is_const t | Some n ↦ false ] ≡ constant_with storage.Automatic b count
+const-in t b None h = h
+const-in t b (Some n) h = refl
 
 stored-const : (t : SourceType) (held : Route → Option Value) (st : Storage) (is_gone : Bool) (π : Route) (b : Bool) (count : Option ℕ)
     → is_constant_place [] (plain_object t held automatic is_gone) π ≡ constant_with storage.Automatic b count
@@ -157,26 +197,49 @@ stored-const t held storage.Permanent is_gone π b None h = permanent-constant t
 stored-const t held storage.Permanent is_gone π b (Some n) h = permanent-constant t held is_gone π ∙ h
 stored-const t held (storage.Literal bytes) is_gone π b count h = literal-constant t held is_gone π
 
-pub site-of : (T : Tables) (c : Cell) (q : Part) (s : Spot) (n : ℕ) (so : Sort) (is_constant : Bool) (count : Option ℕ) → spot_of (list_of c.bounds) (route_of q) ≡ Some s
-    → ((t : SourceType) → bound_of [] (arrays (list_of c.bounds) t) (element_of (route_of q)) ≡ n) → count ≡ slice_get (list_of c.bounds) s.depth → so ≡ sort_with c.shape.form count
-    → is_constant ≡ constant_with c.storage c.shape.is_const count
-    → IsSite (object_of T (Some c)) (route_of q) (record { sort = so; is_inside = s.is_inside; is_gone = c.is_gone; is_constant = is_constant; bound = n })
-site-of T c q s n so is_constant count is bound counts sorts constant =
-    let t = shape_type T c.shape in
-    let bounds = list_of c.bounds in
+pub site-of : (T : Tables) (shape : Shape) (b : Bounds) (q : Part) (held : Route → Option Value) (st : Storage) (is_gone : Bool) (n : ℕ) (so : Sort) (inside is_constant : Bool) (count : Option ℕ)
+    → count ≡ slice_get (list_of b) (depth q) → so ≡ sort_with shape.form count → is_inside [] (arrays (list_of b) (shape_type T shape)) (route_of q) ≡ inside
+    → is_constant ≡ constant_with st shape.is_const count → bound_of [] (arrays (list_of b) (shape_type T shape)) (element_of (route_of q)) ≡ n
+    → IsSite (plain_object (arrays (list_of b) (shape_type T shape)) held (stored st) is_gone) (route_of q)
+    (record { sort = so; is_inside = inside; is_gone = is_gone; is_constant = is_constant; bound = n })
+site-of T shape b q held st is_gone n so inside is_constant count counts sorts insides constant bounded =
+    let t = shape_type T shape in
     let π = route_of q in
-    let h = logged (arrays bounds t) (first_held (arrays bounds t) c.storage) c.log.items in
+    let all = arrays (list_of b) t in
+    let type = type-of t (single T shape) b q in
     record {
-      sort = ap sort_of (type-of bounds t π s is) ∙ sort-at T c.shape bounds s.depth ∙ ap (sort_with c.shape.form) (sym counts) ∙ sym sorts;
-      is_no_class = ap is_class (type-of bounds t π s is) ∙ class-at T c.shape (drop s.depth bounds);
-      is_inside = inside-of bounds t π s is;
-      is_usable = usable (arrays bounds t) h (stored c.storage) c.is_gone π;
-      is_dead = dead (arrays bounds t) h (stored c.storage) c.is_gone π;
-      is_constant = stored-const (arrays bounds t) h c.storage c.is_gone π c.shape.is_const (slice_get bounds s.depth)
-          (constant-of bounds t h c.is_gone π s is ∙ const-at T c.shape bounds s.depth (depth-of bounds π s is))
-          ∙ ap (constant_with c.storage c.shape.is_const) (sym counts) ∙ sym constant;
-      bound = bound t;
+      sort = ap sort_of type ∙ sort-in b q t shape.form (sort-form T shape.is_const shape.form) ∙ ap (sort_with shape.form) (sym counts) ∙ sym sorts;
+      is_no_class = ap is_class type ∙ class-in b q t (class-form T shape.is_const shape.form);
+      is_inside = insides;
+      is_usable = usable all held (stored st) is_gone π;
+      is_dead = dead all held (stored st) is_gone π;
+      is_constant = stored-const all held st is_gone π shape.is_const (slice_get (list_of b) (depth q))
+          (constant-of t (single T shape) held is_gone b q ∙ const-in t shape.is_const (slice_get (list_of b) (depth q)) (const-form T shape.is_const shape.form))
+          ∙ ap (constant_with st shape.is_const) (sym counts) ∙ sym constant;
+      bound = bounded;
     }
+
+-- Which arrays have elements.
+no-array : (f : Form) → array_sort (sort_with f None) ≡ false
+no-array form.Void = refl
+no-array (form.Integer k) = refl
+no-array (form.Enumeration e) = refl
+no-array (form.Pointer t) = refl
+no-array (form.Reference t) = refl
+
+pub items-of : (f : Form) (b : Bounds) (q : Part) (site : Site) → site.sort ≡ sort_with f (slice_get (list_of b) (depth q)) → (q ≡ part.Past → site.is_inside ≡ false) → HasItems q site
+items-of f b part.Whole site sorts end = record { shallow = λ a d. absurd (cc); inside = λ a i. refl }
+items-of f b part.Past site sorts end = record { shallow = λ a d. absurd (cc); inside = λ a i. sym (end refl) ∙ i }
+items-of f b (part.Item i) site sorts end = record { shallow = λ a d. absurd (cc); inside = λ a i. refl }
+items-of f b (part.Inner i j) site sorts end =
+    let none : array_sort site.sort ≡ false = ap array_sort sorts ∙ ap (λ o. array_sort (sort_with f o)) (sym (none_deeper b)) ∙ no-array f in
+    record { shallow = λ a d. true≢false (sym a ∙ none); inside = λ a i. absurd (true≢false (sym a ∙ none)) }
+
+pub none-empty : (q : Part) → None ≡ slice_get (list_of bounds.None) (depth q)
+none-empty part.Whole = refl
+none-empty part.Past = refl
+none-empty (part.Item i) = refl
+none-empty (part.Inner i j) = refl
 
 pub elements-of : (x : Object) (π : Route) (site : Site) (n : ℕ) → IsSite x π site → site.sort ≡ sort.Array n → HasElements (type_at [] x.type π) n
 elements-of x π site n is h = record {

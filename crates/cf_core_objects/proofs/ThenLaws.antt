@@ -36,5 +36,4 @@ told-ok {A} view r a s w x is h = subst (λ (r : Result A Stop). Told view r s w
 pub stops-on : {A B : Type 0} (e : Stop) (x : Ran (Did A)) (go : A → Act B) (w : World) → Stopped e w x → Stopped e w (x ▷ go)
 stops-on {A} (stop.Act n) x go w h = ap (λ (r : Ran (Did A)). r ▷ go) h
 stops-on {A} stop.Malformed x go w h = ap (λ (r : Ran (Did A)). r ▷ go) h
-stops-on stop.NotBuilt x go w h = tt
 stops-on stop.Memory x go w h = tt

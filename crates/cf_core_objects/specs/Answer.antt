@@ -10,7 +10,6 @@ use Rattle.cf_core_objects.specs.declared.answer.Stop.TheVariants as stop
 abbrev pub Stopped : {B : Type 0} → Stop → World → Ran (Did B) → Type 0
 Stopped (stop.Act n) w r = r ≡ Stops (Undefined n) w.trace
 Stopped stop.Malformed w r = r ≡ Went Malformed w
-Stopped stop.NotBuilt w r = Unit {0}
 Stopped stop.Memory w r = Unit {0}
 
 -- the run has given this in this state, or stops as the answer says; the world is as before

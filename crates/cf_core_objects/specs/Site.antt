@@ -9,6 +9,10 @@ use Rattle.cf_core_objects.specs.declared.answer.Stop.{Stop}
 use Rattle.cf_core_objects.specs.declared.answer.Stop.TheVariants as stop
 use Rattle.cf_run_tree.specs.declared.shape.Form.{Form}
 use Rattle.cf_run_tree.specs.declared.shape.Form.TheVariants as form
+use Rattle.cf_core_place.specs.declared.goal.Goal.{Goal}
+use Rattle.cf_core_place.specs.declared.part.Part.{Part}
+use Rattle.cf_core_place.specs.Routes.{depth, has_items, goal_place, row_place}
+use Rattle.cf_core_objects.specs.declared.filling.Array.{Array}
 use Rattle.cf_core_objects.specs.declared.object.Storage.{Storage}
 use Rattle.cf_core_objects.specs.declared.object.Storage.TheVariants as storage
 use Rattle.cf_core_objects.specs.declared.site.Site.{Site}
@@ -83,6 +87,11 @@ pub record IsSite (x : Object) (π : Route) (site : Site) : Type 0 where
   pub is_constant : is_constant_place [] x π ≡ site.is_constant
   pub bound : bound_of [] x.type (element_of π) ≡ site.bound
 
+-- An array is no element of an element, and one that is no end has elements.
+pub record HasItems (q : Part) (site : Site) : Type 0 where
+  pub shallow : array_sort site.sort ≡ true → depth q ≡ 2 → ⊥
+  pub inside : array_sort site.sort ≡ true → site.is_inside ≡ true → has_items q ≡ true
+
 -- an array of this type has so many elements
 pub record HasElements (t : SourceType) (n : ℕ) : Type 0 where
   pub array : is_array t ≡ true
@@ -94,9 +103,9 @@ pub record HasNone (t : SourceType) : Type 0 where
   pub array : is_array t ≡ false
   pub class : is_class t ≡ false
 
-abbrev pub Counted : SourceType → Result ℕ Stop → Type 0
-Counted t (Ok n) = HasElements t n
-Counted t (Err (stop.Act act)) = ⊥
-Counted t (Err stop.Malformed) = HasNone t
-Counted t (Err stop.NotBuilt) = Unit {0}
-Counted t (Err stop.Memory) = ⊥
+-- what a place is as an array
+abbrev pub Counted : SourceType → Goal → Result Array Stop → Type 0
+Counted t g (Ok a) = HasElements t a.count × (row_place a.row ≡ goal_place g)
+Counted t g (Err stop.Malformed) = HasNone t
+Counted t g (Err (stop.Act act)) = ⊥
+Counted t g (Err stop.Memory) = ⊥

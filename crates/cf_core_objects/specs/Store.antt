@@ -8,10 +8,9 @@ use Rattle.cf_core.specs.Store.{Value, Object, automatic, permanent, literal, ze
 use Rattle.cf_core.specs.Store as store
 use Rattle.cf_core.specs.Run.{State, Frame}
 use Rattle.cf_core.specs.Run as run
-use Rattle.cf_run_tree.specs.Tree.{arrays, shape_type}
+use Rattle.cf_run_tree.specs.Tree.{list_of, arrays, shape_type}
+use Rattle.cf_run_tree.specs.declared.shape.Bounds.{Bounds}
 use Rattle.cf_run_tree.specs.declared.shape.Shape.{Shape}
-use Rattle.cf_core_place.specs.declared.bounds.Bounds.{Bounds}
-use Rattle.cf_core_place.specs.Routes.{list_of}
 use Rattle.cf_core_objects.specs.declared.object.Storage.{Storage}
 use Rattle.cf_core_objects.specs.declared.object.Storage.TheVariants as storage
 use Rattle.cf_core_objects.specs.declared.object.Cell.{Cell}
@@ -46,7 +45,7 @@ local_object (Some o) = o
 abbrev pub frame_of : Entered → Frame
 frame_of e = record {
   function = e.name.now;
-  count = length e.locals.items;
+  count = e.count;
   this = None;
   result = None;
   depth = e.depth;

@@ -19,7 +19,7 @@ ghost use Rattle.cf_core_objects.specs.declared.object.Entered.{Entered as Enter
 use crate::answer::{Stop, Value};
 use crate::log::{note, value_at};
 use crate::object::{Cell, Entered, Objects};
-use crate::site::{Site, Sort, first, is_scalar, site_at, site_in, zero};
+use crate::site::{Site, Sort, first, is_scalar, site_at, zero};
 use cf_core_place::{Part, Place};
 
 /// A value that is used.
@@ -91,30 +91,40 @@ fn value_held<'a>(held: Option<Value<'a>>) -> Result<Value<'a>, Stop>
     }
 }
 
-/// The value that a part of an object holds, where a scalar stands there (4.1).
-fn read_part<'a>(cell: &Cell<'a>, part: Part) -> Result<Value<'a>, Stop>
-    ensures { (T : Tables) (s : State) (o : ℕ) (w : World) → s.object o ≡ object_of T (Some cell.now) → Told value_of result s w (read_place [] (record { object = o; route = route_of part }) s w) }
+/// What a place holds that is of this sort; an object that was not made holds zeros.
+fn held_at<'a>(objects: &Objects<'a>, place: Place, sort: Sort) -> Option<Value<'a>>
+    ensures { (T : Tables) → zero_of (type_at [] (objects_of T objects.now.cells.items place.object).type (route_of place.part)) ≡ zero_sort sort → (objects_of T objects.now.cells.items place.object).held (route_of place.part) ≡ option_map value_of result }
 {
-    match site_in(cell, part) {
-        None => Err(Stop::NotBuilt),
-        Some(site) => match readable(site) {
-            Err(stop) => Err(stop),
-            Ok(()) => value_held(held(cell, part, site.sort)),
-        },
+    match objects.cells.get(place.object) {
+        None => Some(zero(sort)),
+        Some(cell) => held(cell, place.part, sort),
     }
+}
+
+/// What an object holds as a whole: of a scalar its value, if it has one.
+pub fn whole_held<'a>(objects: &Objects<'a>, object: usize) -> Option<Value<'a>>
+    ensures { (T : Tables) → (objects_of T objects.now.cells.items object).held [] ≡ option_map value_of result }
+{
+    let place = Place {
+        object,
+        part: Part::Whole,
+    };
+    let site = site_at(objects, place);
+    held_at(objects, place, site.sort)
 }
 
 /// The value that a scalar holds (4.1).
 pub fn read<'a>(objects: &Objects<'a>, place: Place) -> Result<Value<'a>, Stop>
     ensures { (T : Tables) (e : Enter) (w : World) → Told value_of result (state_of T e objects.now) w (read_place [] (place_of place) (state_of T e objects.now) w) }
 {
-    match objects.cells.get(place.object) {
-        None => Err(Stop::NotBuilt),
-        Some(cell) => read_part(cell, place.part),
+    let site = site_at(objects, place);
+    match readable(site) {
+        Err(stop) => Err(stop),
+        Ok(()) => value_held(held_at(objects, place, site.sort)),
     }
 }
 
-/// A scalar gets a value, whatever it held before.
+/// A scalar gets a value, whatever it held before. A run gives values only to objects that it made.
 pub fn first_value<'a>(
     objects: &mut Objects<'a>,
     place: Place,
@@ -124,7 +134,7 @@ pub fn first_value<'a>(
 {
     let object = place.object;
     if object >= objects.cells.len() {
-        return Err(Stop::NotBuilt);
+        return Err(Stop::Memory);
     }
     note(&mut objects.cells[object].log, place.part, value)?;
     Ok(())
@@ -134,12 +144,10 @@ pub fn first_value<'a>(
 pub fn write<'a>(objects: &mut Objects<'a>, place: Place, value: Value<'a>) -> Result<(), Stop>
     ensures { (T : Tables) (e : Enter) (w : World) → Told (λ u. tt) result (state_of T e objects.new) w (write_place [] (place_of place) (value_of value.entry) (state_of T e objects.old) w) }
 {
-    match site_at(objects, place) {
-        None => Err(Stop::NotBuilt),
-        Some(site) => match writable(site) {
-            Err(stop) => Err(stop),
-            Ok(()) => first_value(objects, place, value),
-        },
+    let site = site_at(objects, place);
+    match writable(site) {
+        Err(stop) => Err(stop),
+        Ok(()) => first_value(objects, place, value),
     }
 }
 
@@ -157,17 +165,13 @@ pub fn settle<'a>(objects: &mut Objects<'a>, place: Place, value: Value<'a>) -> 
 fn settle_value<'a>(objects: &mut Objects<'a>, place: Place, value: Value<'a>) -> Result<(), Stop>
     ensures { (T : Tables) (e : Enter) (w : World) → Told (λ u. tt) result (state_of T e objects.new) w (settled_value (place_of place) (value_of value.entry) (state_of T e objects.old) w) }
 {
-    match site_at(objects, place) {
-        None => Err(Stop::NotBuilt),
-        Some(site) => {
-            if !is_scalar(site.sort) {
-                return Err(Stop::Malformed);
-            }
-            match used(value) {
-                Err(stop) => Err(stop),
-                Ok(first) => first_value(objects, place, first),
-            }
-        }
+    let site = site_at(objects, place);
+    if !is_scalar(site.sort) {
+        return Err(Stop::Malformed);
+    }
+    match used(value) {
+        Err(stop) => Err(stop),
+        Ok(first) => first_value(objects, place, first),
     }
 }
 
@@ -175,12 +179,10 @@ fn settle_value<'a>(objects: &mut Objects<'a>, place: Place, value: Value<'a>) -
 pub fn followed<'a>(place: Place, objects: &Objects<'a>) -> Result<Value<'a>, Stop>
     ensures { (T : Tables) (e : Enter) (w : World) → Told value_of result (state_of T e objects.now) w (access.followed [] (place_of place) (state_of T e objects.now) w) }
 {
-    match site_at(objects, place) {
-        None => Err(Stop::NotBuilt),
-        Some(site) => match site.sort {
-            Sort::Reference => bound(read(objects, place)),
-            _ => Ok(Value::At(place)),
-        },
+    let site = site_at(objects, place);
+    match site.sort {
+        Sort::Reference => bound(read(objects, place)),
+        _ => Ok(Value::At(place)),
     }
 }
 
@@ -225,8 +227,11 @@ pub fn local_value<'a>(
 ) -> Result<Value<'a>, Stop>
     ensures { (T : Tables) (w : World) → Told value_of result (state_of T entered.now objects.now) w (named number (state_of T entered.now objects.now) w) }
 {
+    if number as usize >= entered.count {
+        return Err(Stop::Malformed);
+    }
     match entered.locals.get(number as usize) {
-        None => Err(Stop::Malformed),
+        None => Err(Stop::Act(5)),
         Some(None) => Err(Stop::Act(5)),
         Some(Some(object)) => static_value(*object, objects),
     }

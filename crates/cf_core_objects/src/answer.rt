@@ -25,10 +25,6 @@ pub enum Stop {
     Act(u8),
     /// The core is none that elaboration makes.
     Malformed,
-    /// The runner does not follow it: a function is called by another type than the very one of its definition, or entered with another
-    /// number of parameters; a node or a mark stands where one of another sort belongs; an object has more than two bounds; or a place
-    /// is none of an object that was made.
-    NotBuilt,
     Memory,
 }
 

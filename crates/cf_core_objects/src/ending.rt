@@ -9,12 +9,12 @@ ghost use Rattle.cf_core_objects.specs.declared.object.Entered.{Entered as Enter
 use crate::answer::Stop;
 use crate::object::{Entered, Objects};
 
-/// An object that was made ends.
+/// An object ends. A run ends only objects that it made.
 fn end_object(objects: &mut Objects<'_>, object: usize) -> Result<(), Stop>
     ensures { (T : Tables) (e : Enter) (w : World) → Told (λ u. tt) result (state_of T e objects.new) w (object_changed object gone (state_of T e objects.old) w) }
 {
     if object >= objects.cells.len() {
-        return Err(Stop::NotBuilt);
+        return Err(Stop::Memory);
     }
     objects.cells[object].is_gone = true;
     Ok(())

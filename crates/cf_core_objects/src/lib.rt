@@ -14,10 +14,10 @@ mod making;
 mod object;
 mod site;
 
-pub use access::{followed, local_value, read, settle, static_value, used, write};
+pub use access::{followed, local_value, read, settle, static_value, used, whole_held, write};
 pub use answer::{Stop, Value};
 pub use ending::{end_objects, end_scope, end_temporaries};
-pub use filling::{element, elements, fill_zeros, reach, write_bytes};
+pub use filling::{Array, elements, fill_zeros, reach, write_bytes};
 pub use integer::Integer;
 pub use making::{literal_object, new_local, new_object, new_scalar, static_objects};
 pub use object::{Cell, Entered, Held, Literal, Objects, Storage};

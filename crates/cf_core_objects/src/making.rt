@@ -1,26 +1,25 @@
-ghost use Rattle.std.specs.Prelude.{◌≡◌, [], ◌++◌, ◌&&◌, ◌==◌, map, reverse, find, bytes_eq, IfOk, Some};
+ghost use Rattle.std.specs.Prelude.{◌≡◌, ℕ, [], ◌++◌, ◌&&◌, ◌==◌, map, reverse, find, slice_get, bytes_eq, IfOk, Some};
 ghost use Rattle.cf_base.specs.World.{World};
 ghost use Rattle.cf_core.specs.FromTypes.{Tables};
 ghost use Rattle.cf_core.specs.Objects as meaning;
 ghost use Rattle.cf_core.specs.Objects.{found_literal};
 ghost use Rattle.cf_core.specs.Program.{first_state};
-ghost use Rattle.cf_core.specs.Run.{Literal as Text, declared_object};
+ghost use Rattle.cf_core.specs.Run.{Literal as Text, declared_object, upd};
 ghost use Rattle.cf_core.specs.Run as run;
 ghost use Rattle.cf_core.specs.Store.{zeroed_object};
-ghost use Rattle.cf_core_place.specs.Routes.{list_of};
-ghost use Rattle.cf_run_tree.specs.Tree.{arrays, object_type, program_of, shape_type, static_of};
+ghost use Rattle.cf_run_tree.specs.Tree.{list_of, arrays, object_type, program_of, shape_type};
+ghost use Rattle.cf_run_tree.specs.declared.program.RunStatic.{RunStatic as Static};
 ghost use Rattle.cf_core_objects.specs.Answer.{Told};
 ghost use Rattle.cf_core_objects.specs.Made.{new_literal as its_new_literal};
-ghost use Rattle.cf_core_objects.specs.Store.{frame_of, fresh, literal_of, object_of, state_of};
+ghost use Rattle.cf_core_objects.specs.Store.{frame_of, fresh, literal_of, local_object, object_of, state_of};
 ghost use Rattle.cf_core_objects.specs.declared.object.Cell.{Cell as Kept};
 ghost use Rattle.cf_core_objects.specs.declared.object.Entered.{Entered as Enter};
 
 use crate::answer::Stop;
 use crate::object::{Cell, Entered, Literal, Objects, Storage};
 use cf_base::Kind;
-use cf_core_place::Bounds;
-use cf_run_tree::{Form, ObjectType, Program, RunStatic, Shape};
-use std::alloc::Global;
+use cf_run_tree::{Bounds, Form, ObjectType, Program, RunStatic, Shape};
+use std::alloc::{AllocError, Global};
 
 /// One more object is made.
 fn born<'a>(
@@ -50,6 +49,21 @@ pub fn new_object(shape: Shape, objects: &mut Objects<'_>) -> Result<usize, Stop
     born(objects, shape, Bounds::None, Storage::Automatic)
 }
 
+/// A local gets an object; those before it that were not reached stay without one.
+fn list_local(
+    locals: &mut Vec<Option<usize>>,
+    index: usize,
+    object: usize,
+) -> Result<(), AllocError>
+    ensures { IfOk result (λ u. (k : ℕ) → local_object (slice_get locals.new.items k) ≡ upd index (Some object) (λ k. local_object (slice_get locals.old.items k)) k) }
+{
+    while locals.len() <= index {
+        locals.push(None)?;
+    }
+    locals[index] = Some(object);
+    Ok(())
+}
+
 /// A local of these bounds is reached: it gets a new object.
 fn bounded_local(
     number: u32,
@@ -61,13 +75,13 @@ fn bounded_local(
     ensures { (T : Tables) (w : World) → Told (λ o. o) result (state_of T entered.new objects.new) w (meaning.new_local number (arrays (list_of bounds) (shape_type T shape)) (state_of T entered.old objects.old) w) }
 {
     let index = number as usize;
-    if index >= entered.locals.len() {
+    if index >= entered.count {
         return Err(Stop::Malformed);
     }
     match born(objects, shape, bounds, Storage::Automatic) {
         Err(stop) => Err(stop),
         Ok(object) => {
-            entered.locals[index] = Some(object);
+            list_local(&mut entered.locals, index, object)?;
             Ok(object)
         }
     }
@@ -82,10 +96,7 @@ pub fn new_local(
 ) -> Result<usize, Stop>
     ensures { (T : Tables) (w : World) → Told (λ o. o) result (state_of T entered.new objects.new) w (meaning.new_local number (object_type T ty.now) (state_of T entered.old objects.old) w) }
 {
-    match Bounds::of(ty.bounds.as_slice()) {
-        None => Err(Stop::NotBuilt),
-        Some(bounds) => bounded_local(number, ty.shape, bounds, entered, objects),
-    }
+    bounded_local(number, ty.shape, ty.bounds, entered, objects)
 }
 
 /// A local that is a scalar gets a new object.
@@ -123,7 +134,7 @@ fn made_literal(literals: &[Literal<'_>], function: &[u8], number: u32) -> Optio
     }
 }
 
-/// The object of a literal is made.
+/// The object of a literal is made. There is no room for one of 2 ^ 32 bytes.
 fn new_literal<'a>(
     number: u32,
     bytes: &'a [u8],
@@ -137,7 +148,7 @@ fn new_literal<'a>(
         form: Form::Integer(Kind::Char),
     };
     match u32::try_from(bytes.len()) {
-        Err(_) => Err(Stop::NotBuilt),
+        Err(_) => Err(Stop::Memory),
         Ok(count) => match born(objects, char, Bounds::One(count), Storage::Literal(bytes)) {
             Err(stop) => Err(stop),
             Ok(object) => {
@@ -168,39 +179,38 @@ pub fn literal_object<'a>(
 }
 
 /// The objects of static objects are made behind others, zeroed (8.4).
-fn push_statics(alloc: Global, cells: &mut Vec<Cell<'_>>, statics: &[RunStatic]) -> Result<(), Stop>
-    ensures { IfOk result (λ u. (T : Tables) → map (λ (c : Kept). object_of T (Some c)) cells.new.items ≡ map (λ (c : Kept). object_of T (Some c)) cells.old.items ++ map (λ x. zeroed_object [] (static_of T x).type) statics.now) }
+fn push_statics(
+    alloc: Global,
+    cells: &mut Vec<Cell<'_>>,
+    statics: &[RunStatic],
+) -> Result<(), AllocError>
+    ensures { IfOk result (λ u. (T : Tables) → map (λ (c : Kept). object_of T (Some c)) cells.new.items ≡ map (λ (c : Kept). object_of T (Some c)) cells.old.items ++ map (λ (x : Static). zeroed_object [] (object_type T x.ty)) statics.now) }
 {
     match statics.split_first() {
         None => Ok(()),
-        Some((first, rest)) => match Bounds::of(first.ty.bounds.as_slice()) {
-            None => Err(Stop::NotBuilt),
-            Some(bounds) => {
-                cells.push(Cell {
-                    shape: first.ty.shape,
-                    bounds,
-                    storage: Storage::Permanent,
-                    log: Vec::new(alloc),
-                    is_gone: false,
-                })?;
-                push_statics(alloc, cells, rest)
-            }
-        },
+        Some((first, rest)) => {
+            cells.push(Cell {
+                shape: first.ty.shape,
+                bounds: first.ty.bounds,
+                storage: Storage::Permanent,
+                log: Vec::new(alloc),
+                is_gone: false,
+            })?;
+            push_statics(alloc, cells, rest)
+        }
     }
 }
 
 /// What stands before a run: its static objects, zeroed, by their numbers (3.5, 8.4).
-pub fn static_objects<'a>(alloc: Global, program: &Program) -> Result<Objects<'a>, Stop>
+pub fn static_objects<'a>(alloc: Global, program: &Program) -> Result<Objects<'a>, AllocError>
     ensures { IfOk result (λ x. (T : Tables) (e : Enter) → state_of T e x ≡ record (first_state (program_of T program.now) e.depth) { frame = frame_of e }) }
 {
     let mut cells = Vec::new(alloc);
-    match push_statics(alloc, &mut cells, program.statics.as_slice()) {
-        Err(stop) => Err(stop),
-        Ok(()) => Ok(Objects {
-            alloc,
-            cells,
-            literals: Vec::new(alloc),
-            reached: Vec::new(alloc),
-        }),
-    }
+    push_statics(alloc, &mut cells, program.statics.as_slice())?;
+    Ok(Objects {
+        alloc,
+        cells,
+        literals: Vec::new(alloc),
+        reached: Vec::new(alloc),
+    })
 }

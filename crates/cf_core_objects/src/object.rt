@@ -1,6 +1,6 @@
 use crate::answer::Value;
-use cf_core_place::{Bounds, Part};
-use cf_run_tree::Shape;
+use cf_core_place::Part;
+use cf_run_tree::{Bounds, Shape};
 use std::alloc::Global;
 
 /// Where an object is stored, and so what it holds at first.
@@ -63,7 +63,9 @@ pub struct Entered<'a> {
     pub name: &'a [u8],
     /// How many more functions may be entered.
     pub depth: u32,
-    /// The objects of its parameters, and of its locals that were reached.
+    /// How many parameters and locals it has.
+    pub count: usize,
+    /// The objects of its parameters, and of its locals that were reached; the last ones may be left out that were not.
     pub locals: Vec<Option<usize>>,
     /// The objects declared in the innermost open scope, the oldest first.
     pub scope: Vec<usize>,

@@ -9,13 +9,13 @@ ghost use Rattle.cf_core.specs.Types.{SourceType};
 ghost use Rattle.cf_core_place.specs.Routes.{route_of};
 ghost use Rattle.cf_core_objects.specs.Log.{value_of};
 ghost use Rattle.cf_core_objects.specs.Site as sites;
-ghost use Rattle.cf_core_objects.specs.Site.{IsSite, sort_with, constant_with};
+ghost use Rattle.cf_core_objects.specs.Site.{IsSite, HasItems, sort_with, constant_with};
 ghost use Rattle.cf_core_objects.specs.Store.{first_held, object_of, objects_of};
 
 use crate::answer::Value;
 use crate::object::{Cell, Objects, Storage};
-use cf_core_place::{Part, Place, bound, bound_at, find};
-use cf_run_tree::{Form, Shape};
+use cf_core_place::{Part, Place, bound, count, is_inside};
+use cf_run_tree::{Bounds, Form, Shape};
 
 /// What a type is, as far as objects go.
 #[derive(Clone, Copy, Debug)]
@@ -135,27 +135,41 @@ fn is_constant(cell: &Cell<'_>, count: Option<u32>) -> bool
 }
 
 /// What is at a part of an object.
-pub fn site_in(cell: &Cell<'_>, part: Part) -> Option<Site>
-    ensures { IfSome result (λ site. (T : Tables) → IsSite (object_of T (Some cell.now)) (route_of part) site) }
+pub fn site_in(cell: &Cell<'_>, part: Part) -> Site
+    ensures site { (T : Tables) → IsSite (object_of T (Some cell.now)) (route_of part) result }
+    ensures items { HasItems part result }
 {
-    let spot = find(cell.bounds, part)?;
-    let bound = bound(cell.bounds, part)?;
-    let count = bound_at(cell.bounds, spot.depth);
-    Some(Site {
+    let count = count(cell.bounds, part);
+    Site {
         sort: sort_at(cell.shape, count),
-        is_inside: spot.is_inside,
+        is_inside: is_inside(cell.bounds, part),
         is_gone: cell.is_gone,
         is_constant: is_constant(cell, count),
-        bound,
-    })
+        bound: bound(cell.bounds, part),
+    }
 }
 
-/// What is at a place, if it is one of an object that was made.
-pub fn site_at(objects: &Objects<'_>, place: Place) -> Option<Site>
-    ensures { IfSome result (λ site. (T : Tables) → IsSite (objects_of T objects.now.cells.items place.object) (route_of place.part) site) }
+/// What is at a part of an object that was not made: such a one is void.
+fn nowhere(part: Part) -> Site
+    ensures site { (T : Tables) → IsSite (object_of T None) (route_of part) result }
+    ensures items { HasItems part result }
+{
+    Site {
+        sort: Sort::Void,
+        is_inside: is_inside(Bounds::None, part),
+        is_gone: false,
+        is_constant: false,
+        bound: bound(Bounds::None, part),
+    }
+}
+
+/// What is at a place.
+pub fn site_at(objects: &Objects<'_>, place: Place) -> Site
+    ensures site { (T : Tables) → IsSite (objects_of T objects.now.cells.items place.object) (route_of place.part) result }
+    ensures items { HasItems place.part result }
 {
     match objects.cells.get(place.object) {
-        None => None,
+        None => nowhere(place.part),
         Some(cell) => site_in(cell, place.part),
     }
 }

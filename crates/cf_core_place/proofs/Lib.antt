@@ -1,2 +1,1 @@
-mod Products
-pub mod SpotLaws
+pub mod PartLaws

@@ -1,22 +1,16 @@
--- The bounds and places of the meaning that those of the runner are.
-use Rattle.std.specs.Prelude.{◌≡◌, ℕ, ◌<◌, List, length, Bool, true, false, not, ◌&&◌, [], ◌∷◌, Option, Some, None}
+-- The places of the meaning that those of the runner are.
+use Rattle.std.specs.Prelude.{◌≡◌, ℕ, Bool, true, false, not, ◌&&◌, nat_lt, nat_le, if◌then◌else◌, [], ◌∷◌, Option, Some, None}
 use Rattle.cf_core.specs.Core.{item, past}
 use Rattle.cf_core.specs.Places.{Route, route_eq}
 use Rattle.cf_core.specs.Places as places
 use Rattle.cf_core.specs.Pointers.{element_of}
-use Rattle.cf_core.specs.Pointers as pointers
-use Rattle.cf_core.specs.Types.{SourceType}
-use Rattle.cf_run_tree.specs.Tree.{arrays}
-use Rattle.cf_core_place.specs.declared.bounds.Bounds.{Bounds}
-use Rattle.cf_core_place.specs.declared.bounds.Bounds.TheVariants as bounds
+use Rattle.cf_core_place.specs.declared.goal.Goal.{Goal}
+use Rattle.cf_core_place.specs.declared.goal.Inside.{Inside}
+use Rattle.cf_core_place.specs.declared.goal.Inside.TheVariants as inside
+use Rattle.cf_core_place.specs.declared.goal.Row.{Row}
 use Rattle.cf_core_place.specs.declared.part.Part.{Part}
 use Rattle.cf_core_place.specs.declared.part.Part.TheVariants as part
 use Rattle.cf_core_place.specs.declared.part.Place.{Place}
-
-abbrev pub list_of : Bounds → List ℕ
-list_of bounds.None = []
-list_of (bounds.One n) = n ∷ []
-list_of (bounds.Two n m) = n ∷ m ∷ []
 
 abbrev pub route_of : Part → Route
 route_of part.Whole = []
@@ -35,11 +29,6 @@ both_lone false b = not b
 abbrev pub same_element : Route → Route → Bool
 same_element π ρ = route_eq (element_of π).array (element_of ρ).array && both_lone (element_of π).is_lone (element_of ρ).is_lone
 
--- the numbers of elements of an object, the outermost first, unless they are more than two
-abbrev pub AreBounds : List ℕ → Option Bounds → Type 0
-AreBounds list (Some b) = list_of b ≡ list
-AreBounds list None = 2 < length list
-
 -- no end, and not two arrays deep
 abbrev pub has_items : Part → Bool
 has_items part.Whole = true
@@ -52,7 +41,47 @@ abbrev pub IsElement : Part → ℕ → Option Part → Type 0
 IsElement p i (Some q) = route_of q ≡ item i ∷ route_of p
 IsElement p i None = has_items p ≡ false
 
--- how many elements the array has of which a part is an element, unless fewer arrays stand there
-abbrev pub IsBound : Bounds → Part → Option ℕ → Type 0
-IsBound bounds p (Some n) = (t : SourceType) → pointers.bound_of [] (arrays (list_of bounds) t) (element_of (route_of p)) ≡ n
-IsBound bounds p None = length (list_of bounds) < length (route_of p)
+-- how many arrays a part lies in; the end of an object stands behind it
+abbrev pub depth : Part → ℕ
+depth part.Whole = 0
+depth part.Past = 0
+depth (part.Item i) = 1
+depth (part.Inner i j) = 2
+
+-- what is no array counts as an array of one (5.7)
+abbrev pub or_one : Option ℕ → ℕ
+or_one None = 1
+or_one (Some n) = n
+
+abbrev pub is_item : Option ℕ → ℕ → Bool
+is_item count i = nat_lt i (or_one count)
+
+-- an index that is at most this
+abbrev pub kept_to : ℕ → Option ℕ → Option ℕ
+kept_to n None = None
+kept_to n (Some i) = if nat_le i n then Some i else None
+
+-- Parts that are no ends.
+
+abbrev pub part_of : Inside → Part
+part_of inside.Whole = part.Whole
+part_of (inside.Item i) = part.Item i
+part_of (inside.Inner i j) = part.Inner i j
+
+abbrev pub placed : Goal → Place
+placed g = record { object = g.object; part = part_of g.part }
+
+abbrev pub goal_place : Goal → places.Place
+goal_place g = place_of (placed g)
+
+abbrev pub row_route : Option ℕ → Route
+row_route None = []
+row_route (Some i) = item i ∷ []
+
+abbrev pub row_place : Row → places.Place
+row_place r = record { object = r.object; route = row_route r.item }
+
+-- the same as an array, or an element of an element
+abbrev pub IsRow : Goal → Option Row → Type 0
+IsRow g (Some r) = row_place r ≡ goal_place g
+IsRow g None = depth (part_of g.part) ≡ 2

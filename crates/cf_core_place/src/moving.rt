@@ -1,26 +1,11 @@
 ghost use Rattle.std.specs.Prelude.{◌≡◌, ◌<◌, ◌+◌, [], pos, neg_ℤ, Some};
 ghost use Rattle.cf_core.specs.Pointers as pointers;
 ghost use Rattle.cf_core.specs.Pointers.{element_of};
-ghost use Rattle.cf_core_place.specs.Routes.{route_of, IsBound};
-ghost use Rattle.cf_core_place.specs.Spots.{kept_to};
+ghost use Rattle.cf_core_place.specs.Routes.{route_of, kept_to};
 
-use crate::bounds::{Bounds, bound_at};
 use crate::part::Part;
 
-/// How many elements the array has of which a part is an element; an object that is none counts as the one element of an array (5.7). There is no
-/// such number where fewer arrays stand there.
-pub fn bound(bounds: Bounds, part: Part) -> Option<u32>
-    ensures { IsBound bounds part result }
-{
-    match part {
-        Part::Whole => Some(1),
-        Part::Past => Some(1),
-        Part::Item(_) => bound_at(bounds, 0),
-        Part::Inner(_, _) => bound_at(bounds, 1),
-    }
-}
-
-/// The index of a part in that array.
+/// The index of a part in the array of which it is an element; an object that is none counts as the one element of an array (5.7).
 pub fn index(part: Part) -> u32
     ensures { (element_of (route_of part)).index ≡ result }
 {
@@ -61,32 +46,32 @@ fn lone(index: u32) -> Part
 }
 
 /// The index that is so many further, where it is at most the bound.
-pub fn further(index: u32, by: i64, bound: u32) -> Option<u32>
+pub fn further(index: u32, by: i128, bound: u32) -> Option<u32>
     ensures { result ≡ kept_to bound (pointers.further index by) }
 {
     if by >= 0 {
-        forward(index, by as u64, bound)
+        forward(index, by as u128, bound)
     } else {
         back(index, by.unsigned_abs(), bound)
     }
 }
 
 /// The index that is so many further on, where it is at most the bound.
-fn forward(index: u32, by: u64, bound: u32) -> Option<u32>
+fn forward(index: u32, by: u128, bound: u32) -> Option<u32>
     ensures { result ≡ kept_to bound (Some (index + by)) }
 {
-    if index > bound || by > (bound - index) as u64 {
+    if index > bound || by > (bound - index) as u128 {
         return None;
     }
     Some(index + by as u32)
 }
 
 /// The index that is so many before, where it is at most the bound.
-fn back(index: u32, by: u64, bound: u32) -> Option<u32>
+fn back(index: u32, by: u128, bound: u32) -> Option<u32>
     requires { 0 < by }
     ensures { result ≡ kept_to bound (pointers.further index (neg_ℤ (pos by))) }
 {
-    if by > index as u64 {
+    if by > index as u128 {
         return None;
     }
     let moved = index - by as u32;

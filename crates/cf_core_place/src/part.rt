@@ -19,7 +19,7 @@ pub struct Place {
     pub part: Part,
 }
 
-/// The element of this index of a part that is an array. Ends have none, and arrays of arrays of arrays are not built.
+/// The element of this index of a part that is an array. Ends have none, and elements of elements are no arrays.
 pub fn item(part: Part, index: u32) -> Option<Part>
     ensures { IsElement part index result }
 {

@@ -1,5 +1,5 @@
 -- How a call passes its arguments, how a function is entered, and how it ends.
-use Rattle.std.proofs.Common.{◌≡◌, ◌∙◌, ℕ, zero, suc, ◌+◌, ◌-◌, Bool, true, false, if◌then◌else◌, List, [], ◌∷◌, ◌++◌, length, slice_get, codes, bytes_eq, Option, Some, None, option_map, Bor, refl, ap, sym, subst, map, reverse, replicate, arith, length-append}
+use Rattle.std.proofs.Common.{◌≡◌, ◌∙◌, ℕ, zero, suc, ◌+◌, ◌-◌, Bool, true, false, if◌then◌else◌, List, [], ◌∷◌, ◌++◌, length, slice_get, codes, bytes_eq, Option, Some, None, option_map, Bor, refl, ap, sym, subst, map, reverse, find, cond, arith}
 use Rattle.std.proofs.lemmas.List.{append-nil}
 use Rattle.std.proofs.Common.{append_assoc}
 use Rattle.std.specs.Global.{Global}
@@ -8,11 +8,11 @@ use Rattle.cf_base.specs.Event.{Enter, Ticks, Depth}
 use Rattle.cf_base.specs.World.{World, Ran, Went, spend_of, deeper, show}
 use Rattle.cf_core.specs.FromTypes.{Tables, taking}
 use Rattle.cf_core.specs.Types.{SourceType, parameters, result, is_class, gives as gives_type}
-use Rattle.cf_core.specs.Core.{Core, more, absent, pointer_call}
-use Rattle.cf_core.specs.Access.{used, place_type, use_place, read_place}
-use Rattle.cf_core.specs.Places.{Place, is_scalar, is_inside}
-use Rattle.cf_core.specs.Store.{Value, Code, new_object, automatic, is_usable}
-use Rattle.cf_core.specs.Run.{State, Frame, Did, Gives, Malformed, valid, need, undefined, outside_array, not_alive, no_value, Act, ◌>>=◌, ◌>>◌, gives, malformed, some_or, when, upd, changed, with_frame, for_all, state}
+use Rattle.cf_core.specs.Core.{Core, Function, more, absent, pointer_call}
+use Rattle.cf_core.specs.Access.{used}
+use Rattle.cf_core.specs.Places.{Place}
+use Rattle.cf_core.specs.Store.{Value, Code, new_object, automatic}
+use Rattle.cf_core.specs.Run.{State, Frame, Did, Gives, Malformed, need, done, cast_from_void, Act, ◌>>=◌, ◌>>◌, gives, malformed, some_or, when, upd, changed, with_frame, for_all, state}
 use Rattle.cf_core.specs.Objects.{settle, settled, result_place, run_pointer}
 use Rattle.cf_core.specs.Calls.{Flow, Falls, body, root, enter, returned, local_count, end_object, name_function}
 use Rattle.cf_core.specs.Calls as calls
@@ -25,7 +25,7 @@ use Rattle.cf_run_tree.specs.declared.program.Signature.{Signature}
 use Rattle.cf_run_tree.specs.declared.shape.Form.{Form}
 use Rattle.cf_run_tree.specs.declared.shape.Form.TheVariants as form
 use Rattle.cf_run_tree.specs.declared.shape.Shape.{Shape}
-use Rattle.cf_run_tree.specs.Tree.{core_of, kept, form_type, shape_type, object_type, signature_type, function_of, program_of}
+use Rattle.cf_run_tree.specs.Tree.{core_of, kept, form_type, shape_type, object_type, signature_type, head_or, function_head, function_of, program_of}
 use Rattle.cf_core_objects.specs.declared.object.Entered.{Entered}
 use Rattle.cf_core_objects.specs.declared.object.Objects.{Objects}
 use Rattle.cf_core_objects.specs.declared.answer.Value.{Value as Given}
@@ -41,6 +41,7 @@ use Rattle.cf_core_objects.specs.Then.{◌▷◌}
 use Rattle.cf_core_run.specs.Going.{on_value, on_flow, finish, from_value, from_flow, world_of, GoesOn, EndsAs, OpensScope, valued, performed, cores, scoped, again, called, passing, pass_next, starting, go_callee, go_argument, go_parameters, library_by}
 use Rattle.cf_core_objects.proofs.ThenLaws.{then-assoc, then-same}
 use Rattle.cf_core_run.proofs.Laws.{pushed, value-stops}
+use Rattle.cf_core_run.proofs.ShapeLaws.{same-itself}
 use Rattle.cf_core_run.proofs.Goes.{flow-pushed}
 
 taking-params : (ts : List SourceType) (r : SourceType) → parameters (taking ts (gives_type r false)) ≡ ts
@@ -109,9 +110,9 @@ pub passing-next : (T : Tables) (p : Program) (k : ℕ) (c left : Calling) (t : 
 passing-next T p k c left t e s w ep er en em =
     ap (λ (ps : List Shape). (arguments (again T p k) (program_of T p) (map (shape_type T) ps) (cores T p c.rest.now) >>= (λ os. called T p k (value_of c.callee) (c.made.items ++ os))) s w) ep
     ∙ ap (λ (es : List Node). (arguments (again T p k) (program_of T p) (shape_type T t ∷ map (shape_type T) left.params.now) (cores T p es) >>= (λ os. called T p k (value_of c.callee) (c.made.items ++ os))) s w) er
-    ∙ ap (λ (n : Given). (arguments (again T p k) (program_of T p) (shape_type T t ∷ map (shape_type T) left.params.now) (more (core_of T e) (cores T p left.rest.now)) >>= (λ os. called T p k (value_of n) (c.made.items ++ os))) s w) (sym en)
-    ∙ ap (λ (made : List ℕ). (arguments (again T p k) (program_of T p) (shape_type T t ∷ map (shape_type T) left.params.now) (more (core_of T e) (cores T p left.rest.now)) >>= (λ os. called T p k (value_of left.callee) (made ++ os))) s w) (sym em)
-    ∙ behind (settled [] (root s.next) (valued T p k (core_of T e) (Some (root s.next)))
+    ∙ ap (λ (n : Given). (arguments (again T p k) (program_of T p) (shape_type T t ∷ map (shape_type T) left.params.now) (more (core_of T p e) (cores T p left.rest.now)) >>= (λ os. called T p k (value_of n) (c.made.items ++ os))) s w) (sym en)
+    ∙ ap (λ (made : List ℕ). (arguments (again T p k) (program_of T p) (shape_type T t ∷ map (shape_type T) left.params.now) (more (core_of T p e) (cores T p left.rest.now)) >>= (λ os. called T p k (value_of left.callee) (made ++ os))) s w) (sym em)
+    ∙ behind (settled [] (root s.next) (valued T p k (core_of T p e) (Some (root s.next)))
     (record s { next = suc s.next; object = upd s.next (new_object (shape_type T t) automatic) s.object }) w)
     (arguments (again T p k) (program_of T p) (map (shape_type T) left.params.now) (cores T p left.rest.now)) s.next (λ os. called T p k (value_of left.callee) (left.made.items ++ os))
   where
@@ -123,13 +124,13 @@ passing-next T p k c left t e s w ep er en em =
 -- what is left of a parameter once its object is there
 abbrev pub pass_rest : Tables → Program → ℕ → Calling → Node → ℕ → Act Value
 pass_rest T p k left e o =
-    settled [] (root o) (valued T p k (core_of T e) (Some (root o)))
+    settled [] (root o) (valued T p k (core_of T p e) (Some (root o)))
     >> (arguments (again T p k) (program_of T p) (map (shape_type T) left.params.now) (cores T p left.rest.now) >>= (λ os. called T p k (value_of left.callee) (left.made.items ++ o ∷ os)))
 
 pub pass-goes : (T : Tables) (p : Program) (k : ℕ) (left : Calling) (e : Node) (o : ℕ) (s : State) (w : World)
-    → pass_rest T p k left e o s w ≡ (valued T p k (core_of T e) (Some (root o)) s w ▷ go_argument T p k left o)
+    → pass_rest T p k left e o s w ≡ (valued T p k (core_of T p e) (Some (root o)) s w ▷ go_argument T p k left o)
 pass-goes T p k left e o s w =
-    then-assoc (valued T p k (core_of T e) (Some (root o)) s w) (settle [] (root o))
+    then-assoc (valued T p k (core_of T p e) (Some (root o)) s w) (settle [] (root o))
     (λ u. arguments (again T p k) (program_of T p) (map (shape_type T) left.params.now) (cores T p left.rest.now) >>= (λ os. called T p k (value_of left.callee) (left.made.items ++ o ∷ os)))
 
 -- A function is entered.
@@ -144,11 +145,11 @@ deepens (suc d) w go h = ap go (let e : d ≡ suc d - 1 = omega arith in e)
 -- what a call of a function is once its tick and its level of depth are spent
 abbrev entering : Tables → Program → ℕ → RunFn → List ℕ → State → ℕ → World → Ran (Did Value)
 entering T p k f args s depth w =
-    (again T p k (body (function_of T f) args) >>= (λ flow. changed (with_frame s.frame) >> returned (result (signature_type T f.signature)) flow))
-    (with_frame (calls.frame_of f.name (local_count (function_of T f)) args None None depth) s) (show (Enter f.name) w)
+    (again T p k (body (function_of T p f) args) >>= (λ flow. changed (with_frame s.frame) >> returned (result (signature_type T f.signature)) flow))
+    (with_frame (calls.frame_of f.name (local_count (function_of T p f)) args None None depth) s) (show (Enter f.name) w)
 
 pub enter-ticks : (p : Program) (m : Machine) (f : RunFn) (args : List ℕ) → m.ticks ≡ 0
-    → EndsAs (λ T o. from_value T p m (enter (again T p m.fuel) (function_of T f) args None None) o) Ticks
+    → EndsAs (λ T o. from_value T p m (enter (again T p m.fuel) (function_of T p f) args None None) o) Ticks
 enter-ticks p m f args h = record {
   same = λ T o. ap (λ t. finish T p o (on_value T p (reverse m.stack.items)
       (spend_of t (world_of m.ticks o) (λ w. deeper m.entered.depth w (λ depth. entering T p m.fuel f args (state_of T m.entered m.objects) depth w))))) h
@@ -156,7 +157,7 @@ enter-ticks p m f args h = record {
 }
 
 pub enter-depth : (p : Program) (m : Machine) (f : RunFn) (args : List ℕ) → (m.ticks ≡ 0 → ⊥) → m.entered.depth ≡ 0
-    → EndsAs (λ T o. from_value T p m (enter (again T p m.fuel) (function_of T f) args None None) o) Depth
+    → EndsAs (λ T o. from_value T p m (enter (again T p m.fuel) (function_of T p f) args None None) o) Depth
 enter-depth p m f args h d = record {
   same = λ T o. ap (λ r. finish T p o (on_value T p (reverse m.stack.items) r))
       (spends m.ticks (world_of m.ticks o) (λ w. deeper m.entered.depth w (λ depth. entering T p m.fuel f args (state_of T m.entered m.objects) depth w)) h
@@ -164,53 +165,46 @@ enter-depth p m f args h d = record {
       ∙ ap (finish T p o) (value-stops T p (reverse m.stack.items) Depth o.trace);
 }
 
-some-behind : (args : List ℕ) (n i : ℕ) → local_object (slice_get (map Some args ++ replicate n None) i) ≡ slice_get args i
-some-behind [] zero i = refl
-some-behind [] (suc n) zero = refl
-some-behind [] (suc n) (suc i) = some-behind [] n i
-some-behind (x ∷ args) n zero = refl
-some-behind (x ∷ args) n (suc i) = some-behind args n i
+some-map : (args : List ℕ) (i : ℕ) → local_object (slice_get (map Some args) i) ≡ slice_get args i
+some-map [] i = refl
+some-map (x ∷ args) zero = refl
+some-map (x ∷ args) (suc i) = some-map args i
 
 length-map : {A B : Type 0} (f : A → B) (xs : List A) → length (map f xs) ≡ length xs
 length-map f [] = refl
 length-map f (x ∷ xs) = ap suc (length-map f xs)
 
-length-nones : (n : ℕ) → (let xs : List (Option ℕ) = replicate n None in length xs) ≡ n
-length-nones zero = refl
-length-nones (suc n) = ap suc (length-nones n)
-
-pub entered-frame : (T : Tables) (f : RunFn) (args : List ℕ) (e : Entered) → e.name.now ≡ f.name → e.locals.items ≡ map Some args ++ replicate (length f.locals) None → e.scope.items ≡ [] → e.temporaries.items ≡ []
-    → length args ≡ length f.signature.params → frame_of e ≡ calls.frame_of f.name (local_count (function_of T f)) args None None e.depth
-entered-frame T f args e en el es et ea =
+pub entered-frame : (T : Tables) (p : Program) (f : RunFn) (args : List ℕ) (e : Entered) → e.name.now ≡ f.name → e.locals.items ≡ map Some args → e.scope.items ≡ [] → e.temporaries.items ≡ []
+    → e.count ≡ length f.signature.params + length f.locals → frame_of e ≡ calls.frame_of f.name (local_count (function_of T p f)) args None None e.depth
+entered-frame T p f args e en el es et ec =
     let mk : List ℕ → ℕ → (ℕ → Option ℕ) → List ℕ → Frame = λ n c l s. record { function = n; count = c; this = None; result = None; depth = e.depth; locals = l; scope = s; temporaries = [] } in
     ap (λ (l : List ℕ). record (frame_of e) { temporaries = reverse l }) et
-    ∙ ap (λ (l : List (Option ℕ)). mk e.name.now (length l) (λ i. local_object (slice_get l i)) (reverse e.scope.items)) el
-    ∙ ap (λ n. mk n (length (map Some args ++ replicate (length f.locals) None)) (λ i. local_object (slice_get (map Some args ++ replicate (length f.locals) None) i)) (reverse e.scope.items)) en
-    ∙ ap (λ (s : List ℕ). mk f.name (length (map Some args ++ replicate (length f.locals) None)) (λ i. local_object (slice_get (map Some args ++ replicate (length f.locals) None) i)) (reverse s)) es
-    ∙ ap (λ c. mk f.name c (λ i. local_object (slice_get (map Some args ++ replicate (length f.locals) None) i)) []) counts
-    ∙ ap (λ (l : ℕ → Option ℕ). mk f.name (local_count (function_of T f)) l []) (λ j i. some-behind args (length f.locals) i j)
+    ∙ ap (λ (l : List (Option ℕ)). mk e.name.now e.count (λ i. local_object (slice_get l i)) (reverse e.scope.items)) el
+    ∙ ap (λ n. mk n e.count (λ i. local_object (slice_get (map Some args) i)) (reverse e.scope.items)) en
+    ∙ ap (λ (s : List ℕ). mk f.name e.count (λ i. local_object (slice_get (map Some args) i)) (reverse s)) es
+    ∙ ap (λ c. mk f.name c (λ i. local_object (slice_get (map Some args) i)) []) (ec ∙ counts)
+    ∙ ap (λ (l : ℕ → Option ℕ). mk f.name (local_count (function_of T p f)) l []) (λ j i. some-map args i j)
   where
-    counts : length (map Some args ++ replicate (length f.locals) None) ≡ local_count (function_of T f)
-    counts = length-append (map Some args) (replicate (length f.locals) None)
-        ∙ ap (λ n. n + length (let xs : List (Option ℕ) = replicate (length f.locals) None in xs)) (length-map Some args ∙ ea ∙ sym (ap length (signature-params T f.signature) ∙ length-map (shape_type T) f.signature.params))
-        ∙ ap (λ n. length (parameters (signature_type T f.signature)) + n) (length-nones (length f.locals) ∙ sym (length-map (object_type T) f.locals))
+    counts : length f.signature.params + length f.locals ≡ local_count (function_of T p f)
+    counts = ap (λ n. n + length f.locals) (sym (ap length (signature-params T f.signature) ∙ length-map (shape_type T) f.signature.params))
+        ∙ ap (λ n. length (parameters (signature_type T f.signature)) + n) (sym (length-map (object_type T) f.locals))
 
 pub enter-goes : (p : Program) (m : Machine) (f : Bor RunFn) (args : Vec ℕ Global) (e : Entered) (stack : Vec Mark Global) → (m.ticks ≡ 0 → ⊥) → (m.entered.depth ≡ 0 → ⊥)
-    → e.name.now ≡ f.now.name → e.locals.items ≡ map Some args.items ++ replicate (length f.now.locals) None → e.scope.items ≡ [] → e.temporaries.items ≡ [] → length args.items ≡ length f.now.signature.params
+    → e.name.now ≡ f.now.name → e.locals.items ≡ map Some args.items → e.scope.items ≡ [] → e.temporaries.items ≡ [] → e.count ≡ length f.now.signature.params + length f.now.locals
     → e.depth ≡ m.entered.depth - 1 → stack.items ≡ m.stack.items ++ mark.Back m.fuel f.now.signature.result m.entered ∷ []
-    → GoesOn p (λ T o. from_value T p m (enter (again T p m.fuel) (function_of T f.now) args.items None None) o) (Some (Enter f.now.name))
+    → GoesOn p (λ T o. from_value T p m (enter (again T p m.fuel) (function_of T p f.now) args.items None None) o) (Some (Enter f.now.name))
     (record m { stack = stack; entered = e; ticks = m.ticks - 1; doing = doing.Body f args })
 enter-goes p m f args e stack ht hd en el es et ea ed ei = record {
   same = λ T o.
       let S = state_of T m.entered m.objects in
       let w : World = record (world_of m.ticks o) { ticks = m.ticks - 1 } in
       let v : World = show (Enter f.now.name) w in
-      let R : State → Ran (Did Flow) = λ s. again T p m.fuel (body (function_of T f.now) args.items) s v in
+      let R : State → Ran (Did Flow) = λ s. again T p m.fuel (body (function_of T p f.now) args.items) s v in
       ap (λ r. finish T p o (on_value T p (reverse m.stack.items) r))
       (spends m.ticks (world_of m.ticks o) (λ w. deeper m.entered.depth w (λ depth. entering T p m.fuel f.now args.items S depth w)) ht
       ∙ deepens m.entered.depth w (λ depth. entering T p m.fuel f.now args.items S depth w) hd
       ∙ ap (λ depth. entering T p m.fuel f.now args.items S depth w) (sym ed)
-      ∙ ap (λ (fr : Frame). (R (with_frame fr S) ▷ (λ flow. changed (with_frame (frame_of m.entered)) >> returned (result (signature_type T f.now.signature)) flow))) (sym (entered-frame T f.now args.items e en el es et ea))
+      ∙ ap (λ (fr : Frame). (R (with_frame fr S) ▷ (λ flow. changed (with_frame (frame_of m.entered)) >> returned (result (signature_type T f.now.signature)) flow))) (sym (entered-frame T p f.now args.items e en el es et ea))
       ∙ ap (λ t. (R (state_of T e m.objects) ▷ (λ flow. changed (with_frame (frame_of m.entered)) >> returned t flow))) (signature-result T f.now.signature))
       ∙ sym (ap (λ (ms : List Mark). finish T p o (on_flow T p (reverse ms) (R (state_of T e m.objects)))) ei
       ∙ ap (λ (ms : List Mark). finish T p o (on_flow T p ms (R (state_of T e m.objects)))) (pushed m.stack.items (mark.Back m.fuel f.now.signature.result m.entered)));
@@ -218,23 +212,23 @@ enter-goes p m f args e stack ht hd en el es et ea ed ei = record {
 
 -- The body of a function.
 pub body-starts : (T : Tables) (p : Program) (n : ℕ) (f : RunFn) (args : List ℕ) (s : State) (w : World)
-    → again T p (suc n) (body (function_of T f) args) s w ≡ (scoped T p n (performed T p n (core_of T f.body)) s w ▷ go_parameters T p n args)
+    → again T p (suc n) (body (function_of T p f) args) s w ≡ (scoped T p n (performed T p n (core_of T p f.body)) s w ▷ go_parameters T p n args)
 body-starts T p n f args s w =
-    then-same (scoped T p n (performed T p n (core_of T f.body)) s w) _ (go_parameters T p n args)
+    then-same (scoped T p n (performed T p n (core_of T p f.body)) s w) _ (go_parameters T p n args)
     (λ flow s w. ap (λ b. (ended_well b flow >> (for_all (reverse args) (end_object (again T p n) (program_of T p)) >> gives flow)) s w) (class-none T f.signature))
 
 pub begin-goes : (p : Program) (m opened : Machine) (f : Bor RunFn) (args : Vec ℕ Global) (b : Bor Node) (stack : Vec Mark Global) → (m.fuel ≡ 0 → ⊥)
     → stack.items ≡ m.stack.items ++ mark.Flow (m.fuel - 1) (part.Parameters args) ∷ [] → OpensScope (record m { fuel = m.fuel - 1; stack = stack }) opened → b.now ≡ f.now.body
-    → GoesOn p (λ T o. from_flow T p m (again T p m.fuel (body (function_of T f.now) args.items)) o) None (record opened { doing = doing.Perform b })
+    → GoesOn p (λ T o. from_flow T p m (again T p m.fuel (body (function_of T p f.now) args.items)) o) None (record opened { doing = doing.Perform b })
 begin-goes p m opened f args b stack hf ei opens is = record {
   same = λ T o.
       let k = m.fuel - 1 in
-      ap (λ n. from_flow T p m (again T p n (body (function_of T f.now) args.items)) o) (let h : m.fuel ≡ suc (m.fuel - 1) = omega (arith, hf) in h)
+      ap (λ n. from_flow T p m (again T p n (body (function_of T p f.now) args.items)) o) (let h : m.fuel ≡ suc (m.fuel - 1) = omega (arith, hf) in h)
       ∙ ap (λ r. finish T p o (on_flow T p (reverse m.stack.items) r)) (body-starts T p k f.now args.items (state_of T m.entered m.objects) (world_of m.ticks o))
-      ∙ sym (flow-pushed T p (record m { fuel = k }) stack k (part.Parameters args) (scoped T p k (performed T p k (core_of T f.now.body))) o ei)
-      ∙ opens.same T p (performed T p k (core_of T f.now.body)) o
-      ∙ ap (λ (n : Node). from_flow T p opened (performed T p k (core_of T n)) o) (sym is)
-      ∙ ap (λ k. from_flow T p opened (performed T p k (core_of T b.now)) o) (sym opens.fuel);
+      ∙ sym (flow-pushed T p (record m { fuel = k }) stack k (part.Parameters args) (scoped T p k (performed T p k (core_of T p f.now.body))) o ei)
+      ∙ opens.same T p (performed T p k (core_of T p f.now.body)) o
+      ∙ ap (λ (n : Node). from_flow T p opened (performed T p k (core_of T p n)) o) (sym is)
+      ∙ ap (λ k. from_flow T p opened (performed T p k (core_of T p b.now)) o) (sym opens.fuel);
 }
 
 -- a parameter has its value, and the other arguments come
@@ -276,35 +270,51 @@ called-function T p k name args s w is = ap (λ (b : Bool). let r : Act Value = 
   | false ↦ calls.enter_found (again T p k) (calls.function_named (program_of T p) name) args None None
 ] in r s w) is
 
--- What stands behind a test that was passed.
-module _ (x : Value) (s : State) (w : World) where
-  behind-valid : (b : Bool) (next : Act Value) → (valid b >> next) s w ≡ Went (Gives x s) w → next s w ≡ Went (Gives x s) w
-  behind-valid true next e = e
-  behind-valid false next e = absurd (cc)
+-- A function that is named.
+cond-map : {A B : Type 0} (f : A → B) (b : Bool) (x : A) (r : Option A) → cond b (Some (f x)) (option_map f r) ≡ option_map f (cond b (Some x) r)
+cond-map f true x r = refl
+cond-map f false x r = refl
 
-  behind-need : (b : Bool) (act : ℕ) (next : Act Value) → (need b act >> next) s w ≡ Went (Gives x s) w → next s w ≡ Went (Gives x s) w
-  behind-need true act next e = e
-  behind-need false act next e = absurd (cc)
+pub find-map : {A B : Type 0} (test : B → Bool) (f : A → B) (xs : List A) → find test (map f xs) ≡ option_map f (find (λ a. test (f a)) xs)
+find-map test f [] = refl
+find-map test f (x ∷ xs) = ap (λ r. cond (test (f x)) (Some (f x)) r) (find-map test f xs) ∙ cond-map f (test (f x)) x (find (λ a. test (f a)) xs)
 
-  some-there : (r : Option Value) → some_or r (undefined no_value) s w ≡ Went (Gives x s) w → r ≡ Some x
-  some-there None e = absurd (cc)
-  some-there (Some v) e = ap Some (let z : v ≡ x = cc in z)
+abbrev pub defined : Program → List ℕ → Option RunFn
+defined p name = find (λ (f : RunFn). bytes_eq f.name name) p.functions
 
-  -- a value that was read stands there
-  read-found : (q : Place) → read_place [] q s w ≡ Went (Gives x s) w → (s.object q.object).held q.route ≡ Some x
-  read-found q e =
-      let rest : Act Value = state >>= (λ t. some_or ((t.object q.object).held q.route) (undefined no_value)) in
-      let c = is_inside [] (s.object q.object).type q.route in
-      let d = is_usable [] (s.object q.object) q.route in
-      some-there ((s.object q.object).held q.route)
-      (behind-need d not_alive rest
-      (behind-need c outside_array (need d not_alive >> rest)
-      (sym (then-assoc (need c outside_array s w) (λ u. need d not_alive) (λ u. rest))
-      ∙ behind-valid (is_scalar (place_type [] s q)) (use_place [] q >> rest) e)))
+pub function-as : (T : Tables) (p : Program) (name : List ℕ) (o : Option RunFn) → defined p name ≡ o → calls.function_named (program_of T p) name ≡ option_map (function_of T p) o
+function-as T p name o is = find-map (λ (f : Function). bytes_eq f.name name) (function_of T p) p.functions ∙ ap (option_map (function_of T p)) is
 
--- the value of the first parameter
-pub first-found : (T : Tables) (e : Entered) (objects : Objects) (made rest : List ℕ) (object : ℕ) (v : Given) (w : World) → made ≡ object ∷ rest
-    → read_place [] (root object) (state_of T e objects) w ≡ Went (Gives (value_of v) (state_of T e objects)) w
-    → option_map value_of (Some v) ≡ calls.argument made (state_of T e objects)
-first-found T e objects made rest object v w is h =
-    sym (read-found (value_of v) (state_of T e objects) w (root object) h) ∙ sym (ap (λ (l : List ℕ). calls.argument l (state_of T e objects)) is)
+abbrev naming_with : Tables → Bool → Option Function → SourceType → Act (Unit {0})
+naming_with T b f t = when b done (calls.has_type f t)
+
+pub named-library : (T : Tables) (p : Program) (name : List ℕ) (t : SourceType) (s : State) (w : World) → calls.is_library name ≡ true
+    → name_function (program_of T p) name t s w ≡ Went (Gives tt s) w
+named-library T p name t s w is = ap (λ b. naming_with T b (calls.function_named (program_of T p) name) t s w) is
+
+pub named-none : (T : Tables) (p : Program) (name : List ℕ) (t : SourceType) (s : State) (w : World) → calls.is_library name ≡ false → defined p name ≡ None
+    → name_function (program_of T p) name t s w ≡ Went Malformed w
+named-none T p name t s w is none =
+    ap (λ b. naming_with T b (calls.function_named (program_of T p) name) t s w) is
+    ∙ ap (λ f. naming_with T false f t s w) (function-as T p name None none)
+
+pub named-some : (T : Tables) (p : Program) (name : List ℕ) (g : Signature) (f : RunFn) (s : State) (w : World) → calls.is_library name ≡ false → defined p name ≡ Some f
+    → name_function (program_of T p) name (signature_type T (function_head p name g)) s w ≡ Went (Gives tt s) w
+named-some T p name g f s w is found =
+    ap (λ b. naming_with T b (calls.function_named (program_of T p) name) (signature_type T (function_head p name g)) s w) is
+    ∙ ap (λ h. naming_with T false h (signature_type T (function_head p name g)) s w) (function-as T p name (Some f) found)
+    ∙ ap (λ (o : Option RunFn). naming_with T false (Some (function_of T p f)) (signature_type T (head_or o g)) s w) found
+    ∙ ap (λ b. need b cast_from_void s w) (same-itself (signature_type T f.signature))
+
+-- More or fewer arguments than parameters.
+pub passing-many : (T : Tables) (p : Program) (k : ℕ) (c : Calling) (e : Node) (es : List Node) (s : State) (w : World) → c.params.now ≡ [] → c.rest.now ≡ e ∷ es
+    → passing T p k c s w ≡ Went Malformed w
+passing-many T p k c e es s w ep er =
+    ap (λ (ps : List Shape). (arguments (again T p k) (program_of T p) (map (shape_type T) ps) (cores T p c.rest.now) >>= (λ os. called T p k (value_of c.callee) (c.made.items ++ os))) s w) ep
+    ∙ ap (λ (es : List Node). (arguments (again T p k) (program_of T p) [] (cores T p es) >>= (λ os. called T p k (value_of c.callee) (c.made.items ++ os))) s w) er
+
+pub passing-few : (T : Tables) (p : Program) (k : ℕ) (c : Calling) (t : Shape) (ts : List Shape) (s : State) (w : World) → c.params.now ≡ t ∷ ts → c.rest.now ≡ []
+    → passing T p k c s w ≡ Went Malformed w
+passing-few T p k c t ts s w ep er =
+    ap (λ (ps : List Shape). (arguments (again T p k) (program_of T p) (map (shape_type T) ps) (cores T p c.rest.now) >>= (λ os. called T p k (value_of c.callee) (c.made.items ++ os))) s w) ep
+    ∙ ap (λ (es : List Node). (arguments (again T p k) (program_of T p) (shape_type T t ∷ map (shape_type T) ts) (cores T p es) >>= (λ os. called T p k (value_of c.callee) (c.made.items ++ os))) s w) er

@@ -4,6 +4,7 @@ use Rattle.std.specs.Global.{Global}
 use Rattle.std.specs.Prelude.{Vec}
 use Rattle.cf_base.specs.World.{Went}
 use Rattle.cf_core.specs.FromTypes.{Tables}
+use Rattle.cf_core.specs.Places.{Place}
 use Rattle.cf_core.specs.Store.{Value}
 use Rattle.cf_core.specs.Run.{Gives, Act, gives}
 use Rattle.cf_core.specs.Calls.{Flow, root}
@@ -11,8 +12,8 @@ use Rattle.cf_run_tree.specs.declared.node.Node.{Node}
 use Rattle.cf_run_tree.specs.declared.program.Program.{Program}
 use Rattle.cf_run_tree.specs.Tree.{core_of}
 use Rattle.cf_core_objects.specs.declared.object.Entered.{Entered}
-use Rattle.cf_core_place.specs.declared.part.Place.{Place as Spot}
-use Rattle.cf_core_place.specs.Routes.{place_of}
+use Rattle.cf_core_place.specs.declared.goal.Goal.{Goal}
+use Rattle.cf_core_place.specs.Routes.{goal_place}
 use Rattle.cf_core_run.specs.declared.mark.ValueMark.{ValueMark}
 use Rattle.cf_core_run.specs.declared.mark.ValueMark.TheVariants as vm
 use Rattle.cf_core_run.specs.declared.mark.TestMark.{TestMark}
@@ -25,40 +26,41 @@ use Rattle.cf_core_run.specs.declared.mark.Doing.TheVariants as doing
 use Rattle.cf_core_run.specs.declared.state.Machine.{Machine}
 use Rattle.cf_core_objects.specs.Store.{state_of, frame_of}
 use Rattle.cf_core_objects.specs.Then.{◌▷◌}
-use Rattle.cf_core_run.specs.Going.{whole_place, OpensInner, on_value, on_flow, finish, from_value, from_flow, world_of, Outside, GoesOn, OpensScope, valued, go_value, go_test, go_flow, go_scope, go_declared, OpensWhole, full, closed}
+use Rattle.cf_core_run.specs.Going.{OpensInner, on_value, on_flow, finish, from_value, from_flow, world_of, Outside, GoesOn, OpensScope, valued, go_value, go_test, go_flow, go_scope, go_declared, OpensWhole, full, closed}
 use Rattle.cf_core_run.proofs.Laws.{pushed}
 
 -- a part is evaluated first
 pub down-goes : (p : Program) (old : Machine) (stack : Vec Mark Global) (m : ValueMark) (n : Node) (e : Bor Node)
     → stack.items ≡ old.stack.items ++ mark.Value old.fuel m ∷ [] → e.now ≡ n
-    → GoesOn p (λ T o. from_value T p old (λ s w. valued T p old.fuel (core_of T n) None s w ▷ go_value T p old.fuel m) o) None
+    → GoesOn p (λ T o. from_value T p old (λ s w. valued T p old.fuel (core_of T p n) None s w ▷ go_value T p old.fuel m) o) None
     (record old { stack = stack; doing = doing.Evaluate e None })
 down-goes p old stack m n e items is = record {
   same = λ T o.
       let S = state_of T old.entered old.objects in
       let w = world_of old.ticks o in
-      sym (ap (λ (ms : List Mark). finish T p o (on_value T p (reverse ms) (valued T p old.fuel (core_of T e.now) None S w))) items
-      ∙ ap (λ (ms : List Mark). finish T p o (on_value T p ms (valued T p old.fuel (core_of T e.now) None S w))) (pushed old.stack.items (mark.Value old.fuel m))
-      ∙ ap (λ (n : Node). finish T p o (on_value T p (reverse old.stack.items) (valued T p old.fuel (core_of T n) None S w ▷ go_value T p old.fuel m))) is);
+      sym (ap (λ (ms : List Mark). finish T p o (on_value T p (reverse ms) (valued T p old.fuel (core_of T p e.now) None S w))) items
+      ∙ ap (λ (ms : List Mark). finish T p o (on_value T p ms (valued T p old.fuel (core_of T p e.now) None S w))) (pushed old.stack.items (mark.Value old.fuel m))
+      ∙ ap (λ (n : Node). finish T p o (on_value T p (reverse old.stack.items) (valued T p old.fuel (core_of T p n) None S w ▷ go_value T p old.fuel m))) is);
 }
 
 -- a full expression is evaluated first, or an initialiser of an object
 pub test-goes : (p : Program) (old opened : Machine) (m : TestMark) (n : Node) (e : Bor Node) → OpensWhole old opened m → e.now ≡ n
-    → GoesOn p (λ T o. from_flow T p old (λ s w. full T p old.fuel (valued T p old.fuel (core_of T n) None) s w ▷ go_test T p old.fuel m) o) None
+    → GoesOn p (λ T o. from_flow T p old (λ s w. full T p old.fuel (valued T p old.fuel (core_of T p n) None) s w ▷ go_test T p old.fuel m) o) None
     (record opened { doing = doing.Evaluate e None })
 test-goes p old opened m n e opens is = record {
-  same = λ T o. opens.same T p (valued T p old.fuel (core_of T n) None) o
-      ∙ ap (λ k. from_value T p opened (valued T p k (core_of T n) None) o) (sym opens.fuel)
-      ∙ ap (λ (n : Node). from_value T p opened (valued T p opened.fuel (core_of T n) None) o) (sym is);
+  same = λ T o. opens.same T p (valued T p old.fuel (core_of T p n) None) o
+      ∙ ap (λ k. from_value T p opened (valued T p k (core_of T p n) None) o) (sym opens.fuel)
+      ∙ ap (λ (n : Node). from_value T p opened (valued T p opened.fuel (core_of T p n) None) o) (sym is);
 }
 
-pub initialise-goes : (p : Program) (old opened : Machine) (object : ℕ) (n : Node) (e : Bor Node) → OpensWhole old opened (test.Declared object) → e.now ≡ n
-    → GoesOn p (λ T o. from_flow T p old (λ s w. full T p old.fuel (valued T p old.fuel (core_of T n) (Some (root object))) s w ▷ go_declared T p old.fuel object) o) None
-    (record opened { doing = doing.Evaluate e (Some (whole_place object)) })
-initialise-goes p old opened object n e opens is = record {
-  same = λ T o. opens.same T p (valued T p old.fuel (core_of T n) (Some (root object))) o
-      ∙ ap (λ k. from_value T p opened (valued T p k (core_of T n) (Some (root object))) o) (sym opens.fuel)
-      ∙ ap (λ (n : Node). from_value T p opened (valued T p opened.fuel (core_of T n) (Some (root object))) o) (sym is);
+pub initialise-goes : (p : Program) (old opened : Machine) (object : ℕ) (g : Goal) (n : Node) (e : Bor Node) → OpensWhole old opened (test.Declared object) → e.now ≡ n → goal_place g ≡ root object
+    → GoesOn p (λ T o. from_flow T p old (λ s w. full T p old.fuel (valued T p old.fuel (core_of T p n) (Some (root object))) s w ▷ go_declared T p old.fuel object) o) None
+    (record opened { doing = doing.Evaluate e (Some g) })
+initialise-goes p old opened object g n e opens is goes = record {
+  same = λ T o. opens.same T p (valued T p old.fuel (core_of T p n) (Some (root object))) o
+      ∙ ap (λ k. from_value T p opened (valued T p k (core_of T p n) (Some (root object))) o) (sym opens.fuel)
+      ∙ ap (λ (n : Node). from_value T p opened (valued T p opened.fuel (core_of T p n) (Some (root object))) o) (sym is)
+      ∙ ap (λ (q : Place). from_value T p opened (valued T p opened.fuel (core_of T p e.now) (Some q)) o) (sym goes);
 }
 
 -- the newest mark gets a value, or the way in which a statement ended
@@ -134,24 +136,25 @@ inner-opens old first stack m temporaries one two is = record {
 }
 
 -- an initialiser in a full expression inside an expression
-pub inner-goes : (p : Program) (old opened : Machine) (m : ValueMark) (q : Spot) (e : Bor Node) → OpensInner old opened m
-    → GoesOn p (λ T o. from_value T p old (λ s w. full T p old.fuel (valued T p old.fuel (core_of T e.now) (Some (place_of q))) s w ▷ go_value T p old.fuel m) o) None
+pub inner-goes : (p : Program) (old opened : Machine) (m : ValueMark) (q : Goal) (e : Bor Node) → OpensInner old opened m
+    → GoesOn p (λ T o. from_value T p old (λ s w. full T p old.fuel (valued T p old.fuel (core_of T p e.now) (Some (goal_place q))) s w ▷ go_value T p old.fuel m) o) None
     (record opened { doing = doing.Evaluate e (Some q) })
 inner-goes p old opened m q e opens = record {
-  same = λ T o. opens.same T p (valued T p old.fuel (core_of T e.now) (Some (place_of q))) o
-      ∙ ap (λ k. from_value T p opened (valued T p k (core_of T e.now) (Some (place_of q))) o) (sym opens.fuel);
+  same = λ T o. opens.same T p (valued T p old.fuel (core_of T p e.now) (Some (goal_place q))) o
+      ∙ ap (λ k. from_value T p opened (valued T p k (core_of T p e.now) (Some (goal_place q))) o) (sym opens.fuel);
 }
 
 -- an initialiser of an object comes first, and the mark says what its value leads to
-pub object-goes : (p : Program) (old : Machine) (stack : Vec Mark Global) (m : ValueMark) (object : ℕ) (n : Node) (e : Bor Node)
-    → stack.items ≡ old.stack.items ++ mark.Value old.fuel m ∷ [] → e.now ≡ n
-    → GoesOn p (λ T o. from_value T p old (λ s w. valued T p old.fuel (core_of T n) (Some (root object)) s w ▷ go_value T p old.fuel m) o) None
-    (record old { stack = stack; doing = doing.Evaluate e (Some (whole_place object)) })
-object-goes p old stack m object n e items is = record {
+pub object-goes : (p : Program) (old : Machine) (stack : Vec Mark Global) (m : ValueMark) (object : ℕ) (g : Goal) (n : Node) (e : Bor Node)
+    → stack.items ≡ old.stack.items ++ mark.Value old.fuel m ∷ [] → e.now ≡ n → goal_place g ≡ root object
+    → GoesOn p (λ T o. from_value T p old (λ s w. valued T p old.fuel (core_of T p n) (Some (root object)) s w ▷ go_value T p old.fuel m) o) None
+    (record old { stack = stack; doing = doing.Evaluate e (Some g) })
+object-goes p old stack m object g n e items is goes = record {
   same = λ T o.
       let S = state_of T old.entered old.objects in
       let w = world_of old.ticks o in
-      sym (ap (λ (ms : List Mark). finish T p o (on_value T p (reverse ms) (valued T p old.fuel (core_of T e.now) (Some (root object)) S w))) items
-      ∙ ap (λ (ms : List Mark). finish T p o (on_value T p ms (valued T p old.fuel (core_of T e.now) (Some (root object)) S w))) (pushed old.stack.items (mark.Value old.fuel m))
-      ∙ ap (λ (n : Node). finish T p o (on_value T p (reverse old.stack.items) (valued T p old.fuel (core_of T n) (Some (root object)) S w ▷ go_value T p old.fuel m))) is);
+      sym (ap (λ (q : Place). finish T p o (on_value T p (reverse stack.items) (valued T p old.fuel (core_of T p e.now) (Some q) S w))) goes
+      ∙ ap (λ (ms : List Mark). finish T p o (on_value T p (reverse ms) (valued T p old.fuel (core_of T p e.now) (Some (root object)) S w))) items
+      ∙ ap (λ (ms : List Mark). finish T p o (on_value T p ms (valued T p old.fuel (core_of T p e.now) (Some (root object)) S w))) (pushed old.stack.items (mark.Value old.fuel m))
+      ∙ ap (λ (n : Node). finish T p o (on_value T p (reverse old.stack.items) (valued T p old.fuel (core_of T p n) (Some (root object)) S w ▷ go_value T p old.fuel m))) is);
 }

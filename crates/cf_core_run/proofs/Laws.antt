@@ -94,7 +94,6 @@ value-stopped p m act stop.Malformed h = record {
   same = λ T o. ap (λ r. finish T p o (on_value T p (reverse m.stack.items) r)) (h T (world_of m.ticks o))
       ∙ ap (finish T p o) (value-fails T p (reverse m.stack.items) (world_of m.ticks o));
 }
-value-stopped p m act stop.NotBuilt h = tt
 value-stopped p m act stop.Memory h = tt
 
 pub flow-stopped : (p : Program) (m : Machine) (act : Tables → Act Flow) (e : Stop)
@@ -107,7 +106,6 @@ flow-stopped p m act stop.Malformed h = record {
   same = λ T o. ap (λ r. finish T p o (on_flow T p (reverse m.stack.items) r)) (h T (world_of m.ticks o))
       ∙ ap (finish T p o) (flow-fails T p (reverse m.stack.items) (world_of m.ticks o));
 }
-flow-stopped p m act stop.NotBuilt h = tt
 flow-stopped p m act stop.Memory h = tt
 
 -- The act has given a value, which is given on.
@@ -124,11 +122,11 @@ flow-ends p m entered objects act flow h = record { same = λ T o. ap (λ r. fin
 -- What lies ahead is the same.
 pub comes-by : (p : Program) (ahead other : Ahead) (r : Result Step Stop) (new : Machine) → ((T : Tables) (o : Outside) → ahead T o ≡ other T o) → Comes p other r new → Comes p ahead r new
 comes-by p ahead other (Ok step.On) new e h = record { same = λ T o. e T o ∙ h.same T o }
-comes-by p ahead other (Ok (step.Shows x)) new e h = record { same = λ T o. e T o ∙ h.same T o }
+comes-by p ahead other (Ok (step.Enters x)) new e h = record { same = λ T o. e T o ∙ h.same T o }
+comes-by p ahead other (Ok (step.Puts x)) new e h = record { same = λ T o. e T o ∙ h.same T o }
 comes-by p ahead other (Ok (step.Ends x)) new e h = record { same = λ T o. e T o ∙ h.same T o }
 comes-by p ahead other (Err (stop.Act n)) new e h = record { same = λ T o. e T o ∙ h.same T o }
 comes-by p ahead other (Err stop.Malformed) new e h = record { same = λ T o. e T o ∙ h.same T o }
-comes-by p ahead other (Err stop.NotBuilt) new e h = tt
 comes-by p ahead other (Err stop.Memory) new e h = tt
 
 pub value-as : (p : Program) (m : Machine) (act other : Tables → Act Value) (r : Result Step Stop) (new : Machine)

@@ -1,42 +1,8 @@
--- `==` on types tells them apart, and a type is the same as itself.
-use Rattle.std.proofs.Common.{◌≡◌, ℕ, Bool, true, false, ◌&&◌, List, [], ◌∷◌, refl, sym, ap, true≢false, arith, ◌==◌, bytes_eq, nat_eq}
-use Rattle.std.proofs.lemmas.Bool.{eqb-true}
+-- A type is the same as itself.
+use Rattle.std.proofs.Common.{◌≡◌, ℕ, Bool, true, false, ◌&&◌, List, [], ◌∷◌, refl, arith, ◌==◌, bytes_eq, nat_eq}
 use Rattle.std.proofs.lemmas.Bool.Decides.{nat_tests}
-use mathlib.Core.Bool.{beq}
-use denote.Enum.Bare.{same_true}
 use Rattle.cf_base.specs.declared.kind.Kind.{Kind}
-use Rattle.cf_base.specs.contracts.kind.Kind.{the_type}
-use Rattle.cf_run_tree.specs.declared.shape.Form.{Form}
-use Rattle.cf_run_tree.specs.declared.shape.Form.TheVariants as form
-use Rattle.cf_run_tree.specs.declared.shape.Shape.{Shape}
-use Rattle.cf_run_tree.specs.contracts.shape.FormPartialEq.TheImpl.{ghosts as forms}
-use Rattle.cf_run_tree.specs.contracts.shape.ShapePartialEq.TheImpl.{ghosts as shapes}
 use Rattle.cf_core.specs.Types.{SourceType, void, integer, enumeration, class, pointer, reference, array, takes, gives, data_member, function_member, const, type_eq, kind_number, bool_eq, same_but_const, without_const}
-
-both : (x y : Bool) → (x && y) ≡ true → (x ≡ true) × (y ≡ true)
-both true y h = (refl, h)
-both false y h = absurd (true≢false (sym h))
-
-same_form : (a b : Form) → forms.eq a b ≡ true → a ≡ b
-same_form form.Void form.Void h = refl
-same_form (form.Integer k) (form.Integer l) h = ap form.Integer (same_true the_type tt k l h)
-same_form (form.Enumeration m) (form.Enumeration n) h = ap form.Enumeration (eqb-true m n h)
-same_form (form.Pointer t) (form.Pointer u) h = ap form.Pointer (eqb-true t u h)
-same_form (form.Reference t) (form.Reference u) h = ap form.Reference (eqb-true t u h)
-same_form a b h = absurd (true≢false (sym h))
-
-same_bool : (x y : Bool) → beq x y ≡ true → x ≡ y
-same_bool true true h = refl
-same_bool true false h = sym h
-same_bool false true h = h
-same_bool false false h = refl
-
-pub same_shape : (a b : Shape) → shapes.eq a b ≡ true → a ≡ b
-same_shape a b h =
-    let e = both _ _ h in
-    let p = same_bool a.is_const b.is_const e.0 in
-    let q = same_form a.form b.form e.1 in
-    λ i. record { is_const = p i; form = q i }
 
 nat-same : (n : ℕ) → (n == n) ≡ true
 nat-same n = grind (arith, nat_tests)

@@ -80,18 +80,18 @@ truth-whole T p k V K s w =
     ∙ ap (λ (r : Ran (Did Value)). (r ▷ closed T p k around) ▷ (λ v. truth_of v >>= K)) (then-assoc (V S w) truth_of (λ b. gives (truth_value b)))
 
 pub full-goes : (T : Tables) (p : Program) (k : ℕ) (e : Entered) (objects : Objects) (n : Node) (x : Node) (w : World) → n ≡ node.Full x
-    → performed T p k (core_of T n) (state_of T e objects) w ≡ (full T p k (valued T p k (core_of T x) None) (state_of T e objects) w ▷ go_test T p k test.Statement)
-full-goes T p k e objects n x w is = ap (λ c. performed T p k c (state_of T e objects) w) (ap (core_of T) is ∙ core-Full T x)
+    → performed T p k (core_of T p n) (state_of T e objects) w ≡ (full T p k (valued T p k (core_of T p x) None) (state_of T e objects) w ▷ go_test T p k test.Statement)
+full-goes T p k e objects n x w is = ap (λ c. performed T p k c (state_of T e objects) w) (ap (core_of T p) is ∙ core-Full T p x)
 
 pub if-goes : (T : Tables) (p : Program) (k : ℕ) (e : Entered) (objects : Objects) (n c a : Node) (b : Option Node) (w : World) → n ≡ node.If c a b
-    → performed T p k (core_of T n) (state_of T e objects) w ≡ (full T p k (valued T p k (core_of T c) None >>= of_value T applied.Truth) (state_of T e objects) w ▷ go_if T p k a b)
+    → performed T p k (core_of T p n) (state_of T e objects) w ≡ (full T p k (valued T p k (core_of T p c) None >>= of_value T applied.Truth) (state_of T e objects) w ▷ go_if T p k a b)
 if-goes T p k e objects n c a b w is =
-    ap (λ c. performed T p k c (state_of T e objects) w) (ap (core_of T) is ∙ core-If T c a b)
-    ∙ truth-whole T p k (valued T p k (core_of T c) None) _ (state_of T e objects) w
+    ap (λ c. performed T p k c (state_of T e objects) w) (ap (core_of T p) is ∙ core-If T p c a b)
+    ∙ truth-whole T p k (valued T p k (core_of T p c) None) _ (state_of T e objects) w
 
 pub return-goes : (T : Tables) (p : Program) (k : ℕ) (e : Entered) (objects : Objects) (n : Option Node) (x : Node) (w : World) → n ≡ Some x
     → performed T p k (give (maybe_core T p n)) (state_of T e objects) w
-    ≡ (full T p k (valued T p k (core_of T x) None >>= of_value T applied.Used) (state_of T e objects) w ▷ go_test T p k test.Result)
+    ≡ (full T p k (valued T p k (core_of T p x) None >>= of_value T applied.Used) (state_of T e objects) w ▷ go_test T p k test.Result)
 return-goes T p k e objects n x w is = ap (λ (n : Option Node). performed T p k (give (maybe_core T p n)) (state_of T e objects) w) is
 
 pub declare-goes : (T : Tables) (p : Program) (k : ℕ) (e : Entered) (objects : Objects) (c : Core) (o : ℕ) (w : World)
@@ -157,10 +157,10 @@ pub body-goes : (p : Program) (old opened : Machine) (stack : Vec Mark Global) (
     → GoesOn p (λ T o. from_flow T p old (body_turn T p old.fuel r) o) None (record opened { doing = doing.Perform b })
 body-goes p old opened stack r b items opens is = record {
   same = λ T o.
-      sym (flow-pushed T p old stack old.fuel (part.Turn r) (scoped T p old.fuel (performed T p old.fuel (core_of T r.body.now))) o items)
-      ∙ opens.same T p (performed T p old.fuel (core_of T r.body.now)) o
-      ∙ ap (λ (n : Node). from_flow T p opened (performed T p old.fuel (core_of T n)) o) (sym is)
-      ∙ ap (λ k. from_flow T p opened (performed T p k (core_of T b.now)) o) (sym opens.fuel);
+      sym (flow-pushed T p old stack old.fuel (part.Turn r) (scoped T p old.fuel (performed T p old.fuel (core_of T p r.body.now))) o items)
+      ∙ opens.same T p (performed T p old.fuel (core_of T p r.body.now)) o
+      ∙ ap (λ (n : Node). from_flow T p opened (performed T p old.fuel (core_of T p n)) o) (sym is)
+      ∙ ap (λ k. from_flow T p opened (performed T p k (core_of T p b.now)) o) (sym opens.fuel);
 }
 
 pub block-goes : (p : Program) (old opened : Machine) (all : Bor (List Node)) → OpensScope old opened
@@ -176,7 +176,7 @@ pub follow-goes : (p : Program) (old : Machine) (stack : Vec Mark Global) (all :
     → GoesOn p (λ T o. from_flow T p old (performed_all T p old.fuel (cores T p all)) o) None (record old { stack = stack; doing = doing.Perform first })
 follow-goes p old stack all first rest items is = record {
   same = λ T o. ap (λ (l : List Node). from_flow T p old (performed_all T p old.fuel (cores T p l)) o) is
-      ∙ sym (flow-pushed T p old stack old.fuel (part.Rest rest) (performed T p old.fuel (core_of T first.now)) o items);
+      ∙ sym (flow-pushed T p old stack old.fuel (part.Rest rest) (performed T p old.fuel (core_of T p first.now)) o items);
 }
 
 -- Objects end without a destructor.
@@ -219,11 +219,11 @@ end-all T p k (o ∷ os) s w =
     ∙ end-all T p k os _ w
 
 pub switch-goes : (T : Tables) (p : Program) (k : ℕ) (e : Entered) (objects : Objects) (n x : Node) (all : List Node) (es : Bor (List Node)) (w : World) → n ≡ node.Switch x all → es.now ≡ all
-    → performed T p k (core_of T n) (state_of T e objects) w
-    ≡ (full T p k (valued T p k (core_of T x) None >>= of_value T applied.Used) (state_of T e objects) w ▷ go_test T p k (test.Switch es))
+    → performed T p k (core_of T p n) (state_of T e objects) w
+    ≡ (full T p k (valued T p k (core_of T p x) None >>= of_value T applied.Used) (state_of T e objects) w ▷ go_test T p k (test.Switch es))
 switch-goes T p k e objects n x all es w is same =
-    let F = full T p k (valued T p k (core_of T x) None >>= of_value T applied.Used) (state_of T e objects) w in
+    let F = full T p k (valued T p k (core_of T p x) None >>= of_value T applied.Used) (state_of T e objects) w in
     let go = selected T p k (cores T p es.now) in
-    ap (λ c. performed T p k c (state_of T e objects) w) (ap (core_of T) is ∙ core-Switch T x all)
-    ∙ ap (λ (l : List Node). performed T p k (switch (core_of T x) (cores T p l)) (state_of T e objects) w) (sym same)
+    ap (λ c. performed T p k c (state_of T e objects) w) (ap (core_of T p) is ∙ core-Switch T p x all)
+    ∙ ap (λ (l : List Node). performed T p k (switch (core_of T p x) (cores T p l)) (state_of T e objects) w) (sym same)
     ∙ then-assoc F number_of go

@@ -40,10 +40,10 @@ map-more f (x ∷ xs) y = ap (λ l. f x ∷ l) (map-more f xs y)
 pub turns-on : (p : Program) (old new : Machine) (s : Seen) (r : Result Step Stop) → r ≡ Ok step.On → Comes p (λ T o. total T p old o) r new → Turns p old new s s (Ok None)
 turns-on p old new s r is h = λ T a. (subst (λ (r : Result Step Stop). Comes p (λ T o. total T p old o) r new) is h).same T (outside s a)
 
-pub turns-shows : (p : Program) (old new : Machine) (s t : Seen) (e : Event) (r : Result Step Stop) → r ≡ Ok (step.Shows e) → Comes p (λ T o. total T p old o) r new
+pub turns-shows : (p : Program) (old new : Machine) (s t : Seen) (e : Event) → GoesOn p (λ T o. total T p old o) (Some (event_of e)) new
     → t.rest.now ≡ s.rest.now → t.trace.items ≡ s.trace.items ++ e ∷ [] → Turns p old new s t (Ok None)
-turns-shows p old new s t e r is h er et = λ T a.
-    (subst (λ (r : Result Step Stop). Comes p (λ T o. total T p old o) r new) is h).same T (outside s a)
+turns-shows p old new s t e h er et = λ T a.
+    h.same T (outside s a)
     ∙ ap (λ l. total T p new (record (outside s a) { trace = l })) (sym (ap (map event_of) et ∙ map-more event_of s.trace.items e))
     ∙ ap (λ l. total T p new (record (outside t a) { input = l })) (sym er)
 
@@ -64,7 +64,6 @@ turns-fails p old new s r is h = λ T a. (subst (λ (r : Result Step Stop). Come
 pub asks-err : (p : Program) (old new : Machine) (s t : Seen) (e : Stop) → Reads s t (Err e) → Turns p old new s t (Err e)
 asks-err p old new s t (stop.Act n) h = h
 asks-err p old new s t stop.Malformed h = absurd h
-asks-err p old new s t stop.NotBuilt h = tt
 asks-err p old new s t stop.Memory h = tt
 
 pub goes-on : (p : Program) (first m new : Machine) (begun s t : Seen) (r : Result (Option End) Stop) → r ≡ Ok None → Goes p first begun m s → Turns p m new s t r → Goes p first begun new t
@@ -83,7 +82,6 @@ module _ (p : Program) (limits : Limits) (input : List ℕ) (first : Machine) (b
       at : (e : Stop) → Turns p m new s t (Err e) → Runs p limits input (Err e)
       at (stop.Act n) h = h
       at stop.Malformed h = λ T heap. begins T heap ∙ g.same T _ ∙ h T _
-      at stop.NotBuilt h = tt
       at stop.Memory h = tt
 
   pub runs-ends : (m new : Machine) (s t : Seen) (e : End) (ran : Ran) (r : Result (Option End) Stop) → r ≡ Ok (Some e) → Goes p first begun m s → Turns p m new s t r
@@ -109,22 +107,22 @@ first-goes p limits alloc stack e objects hs hd = record {
 }
 
 -- The static objects are there, and nothing was entered.
-begun-frame : (e : Entered) → e.name.now ≡ [] → e.locals.items ≡ [] → e.scope.items ≡ [] → e.temporaries.items ≡ [] → frame_of e ≡ no_frame e.depth
-begun-frame e en el es et =
-    let mk : List ℕ → List (Option ℕ) → List ℕ → Frame = λ n l s. record { function = n; count = length l; this = None; result = None; depth = e.depth; locals = λ i. local_object (slice_get l i); scope = reverse s; temporaries = [] } in
-    ap (λ (l : List ℕ). record (frame_of e) { temporaries = reverse l }) et ∙ ap (λ n. mk n e.locals.items e.scope.items) en ∙ ap (λ l. mk [] l e.scope.items) el ∙ ap (λ s. mk [] [] s) es
+begun-frame : (e : Entered) → e.count ≡ 0 → e.name.now ≡ [] → e.locals.items ≡ [] → e.scope.items ≡ [] → e.temporaries.items ≡ [] → frame_of e ≡ no_frame e.depth
+begun-frame e ec en el es et =
+    let mk : List ℕ → List (Option ℕ) → List ℕ → Frame = λ n l s. record { function = n; count = 0; this = None; result = None; depth = e.depth; locals = λ i. local_object (slice_get l i); scope = reverse s; temporaries = [] } in
+    ap (λ (l : List ℕ). record (frame_of e) { temporaries = reverse l }) et ∙ ap (λ c. record (frame_of e) { count = c; temporaries = [] }) ec ∙ ap (λ n. mk n e.locals.items e.scope.items) en ∙ ap (λ l. mk [] l e.scope.items) el ∙ ap (λ s. mk [] [] s) es
 
 pub begun-goes : (p : Program) (old : Machine) (e : Entered) (objects : Objects) (xs : Bor (List RunStatic))
     → ((T : Tables) (e : Entered) → state_of T e objects ≡ record (first_state (program_of T p) e.depth) { frame = frame_of e })
-    → e.name.now ≡ [] → e.locals.items ≡ [] → e.scope.items ≡ [] → e.temporaries.items ≡ [] → e.depth ≡ old.entered.depth → xs.now ≡ p.statics
+    → e.count ≡ 0 → e.name.now ≡ [] → e.locals.items ≡ [] → e.scope.items ≡ [] → e.temporaries.items ≡ [] → e.depth ≡ old.entered.depth → xs.now ≡ p.statics
     → GoesOn p (λ T o. from_value T p old (λ s w. setting T p old.fuel p.statics (first_state (program_of T p) old.entered.depth) w) o) None
     (record old { entered = e; objects = objects; doing = doing.Sets xs })
-begun-goes p old e objects xs made en el es et ed ex = record {
+begun-goes p old e objects xs made ec en el es et ed ex = record {
   same = λ T o.
       let w = world_of old.ticks o in
       sym (ap (λ (l : List RunStatic). finish T p o (on_value T p (reverse old.stack.items) (setting T p old.fuel l (state_of T e objects) w))) ex
       ∙ ap (λ (s : State). finish T p o (on_value T p (reverse old.stack.items) (setting T p old.fuel p.statics s w)))
-      (made T e ∙ ap (λ (f : Frame). record (first_state (program_of T p) e.depth) { frame = f }) (begun-frame e en el es et))
+      (made T e ∙ ap (λ (f : Frame). record (first_state (program_of T p) e.depth) { frame = f }) (begun-frame e ec en el es et))
       ∙ ap (λ d. finish T p o (on_value T p (reverse old.stack.items) (setting T p old.fuel p.statics (first_state (program_of T p) d) w))) ed);
 }
 

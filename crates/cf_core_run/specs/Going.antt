@@ -1,5 +1,5 @@
 -- What a state of the runner means: the rest of the run.
-use Rattle.std.specs.Prelude.{◌≡◌, bytes_eq, codes, ℕ, suc, Bool, true, false, List, [], ◌∷◌, ◌++◌, reverse, map, option_map, ℤ, Option, Some, None, Result, Ok, Err}
+use Rattle.std.specs.Prelude.{◌≡◌, bytes_eq, codes, ℕ, zero, suc, ◌-◌, Bool, true, false, List, [], ◌∷◌, ◌++◌, reverse, map, option_map, ℤ, Option, Some, None, Result, Ok, Err}
 use Rattle.cf_base.specs.Event.{Event, Enter, In, Out, End, Ended, Ticks, Depth, Undefined}
 use Rattle.cf_base.specs.World.{World, Ran, and_then, Outcome}
 use Rattle.cf_core.specs.FromTypes.{Tables}
@@ -10,7 +10,7 @@ use Rattle.cf_core.specs.Places.{Place, inner}
 use Rattle.cf_core.specs.Joined.{in_file, constant_setting}
 use Rattle.cf_core.specs.Store.{Value, Built, At, Code}
 use Rattle.cf_core.specs.Pointers.{truth_value}
-use Rattle.cf_core.specs.Run.{Did, Act, ◌>>=◌, ◌>>◌, gives, malformed, state, changed, when, for_all, for_each, with_frame, frame_changed, lists_in_scope, lists_temporary, declared_object, some_or}
+use Rattle.cf_core.specs.Run.{Did, Act, ◌>>=◌, ◌>>◌, gives, malformed, state, changed, when, for_all, with_frame, frame_changed, lists_in_scope, lists_temporary, declared_object, some_or}
 use Rattle.cf_core.specs.Access.{used, number_of, fill_zeros}
 use Rattle.cf_core.specs.Scalars.{truth_of}
 use Rattle.cf_core.specs.Objects.{settle, settled, result_place, run_pointer, write_bytes}
@@ -29,7 +29,8 @@ use Rattle.cf_run_tree.specs.declared.shape.Shape.{Shape}
 use Rattle.cf_run_tree.specs.Tree.{core_of, shape_type, signature_type, function_of, static_of, constants_of, program_of}
 use Rattle.cf_core_place.specs.declared.part.Part.TheVariants as site
 use Rattle.cf_core_place.specs.declared.part.Place.{Place as Spot}
-use Rattle.cf_core_place.specs.Routes.{place_of}
+use Rattle.cf_core_place.specs.declared.goal.Goal.{Goal}
+use Rattle.cf_core_place.specs.Routes.{goal_place, row_place}
 use Rattle.cf_core_objects.specs.declared.answer.Stop.{Stop}
 use Rattle.cf_core_objects.specs.declared.answer.Stop.TheVariants as stop
 use Rattle.cf_core_objects.specs.declared.object.Entered.{Entered}
@@ -87,13 +88,13 @@ noted (Some event) o = record o { trace = o.trace ++ event ∷ [] }
 
 module _ (T : Tables) (p : Program) where
   abbrev pub core : Node → Core
-  core e = core_of T e
+  core e = core_of T p e
 
   abbrev pub cores : List Node → Cores
-  cores es = listed (map (core_of T) es)
+  cores es = listed (map (core_of T p) es)
 
   abbrev pub maybe_core : Option Node → MaybeCore
-  maybe_core e = maybe (option_map (core_of T) e)
+  maybe_core e = maybe (option_map (core_of T p) e)
 
   abbrev pub loop_of : Repeated → Core
   loop_of r = loop r.form (maybe_core r.condition.now) (maybe_core r.step.now) (core r.body.now)
@@ -144,7 +145,7 @@ module _ (T : Tables) (p : Program) where
   abbrev pub pass_next : ℕ → Calling → Shape → Node → Act Value
   pass_next k c s e = do
     o ← declared_object (shape_type T s)
-    settled [] (root o) (valued k (core_of T e) (Some (root o)))
+    settled [] (root o) (valued k (core_of T p e) (Some (root o)))
     os ← arguments (again k) (program_of T p) (map (shape_type T) c.params.now) (cores c.rest.now)
     called k (value_of c.callee) (c.made.items ++ o ∷ os)
 
@@ -187,7 +188,7 @@ module _ (T : Tables) (p : Program) where
 
   -- 1 if an expression counts as true, or 0
   abbrev pub truth_by : ℕ → Node → Act Value
-  truth_by k b = valued k (core_of T b) None >>= truth_of >>= (λ y. gives (truth_value y))
+  truth_by k b = valued k (core_of T p b) None >>= truth_of >>= (λ y. gives (truth_value y))
 
   abbrev pub go_and : ℕ → Node → Value → Act Value
   go_and k b v =
@@ -198,10 +199,10 @@ module _ (T : Tables) (p : Program) where
       truth_of v >>= (λ x. when x (gives (truth_value true)) (truth_by k b))
 
   abbrev pub go_choice : ℕ → Node → Node → Value → Act Value
-  go_choice k a b v = truth_of v >>= (λ x. when x (valued k (core_of T a) None) (valued k (core_of T b) None))
+  go_choice k a b v = truth_of v >>= (λ x. when x (valued k (core_of T p a) None) (valued k (core_of T p b) None))
 
   abbrev pub go_right : ℕ → Binary → Node → Value → Act Value
-  go_right k op b v = ready op v >>= (λ x. valued k (core_of T b) None >>= of_two op x)
+  go_right k op b v = ready op v >>= (λ x. valued k (core_of T p b) None >>= of_two op x)
 
   abbrev pub go_argument : ℕ → Calling → ℕ → Value → Act Value
   go_argument k c o v =
@@ -225,37 +226,38 @@ module _ (T : Tables) (p : Program) where
 
   -- the element of an array at an index is initialised (8.4.1)
   abbrev pub one_element : ℕ → ℕ → Place → Node → Act (Unit {0})
-  one_element k i q e = settled [] (inner (item i) q) (full k (valued k (core_of T e) (Some (inner (item i) q))))
+  one_element k i q e = settled [] (inner (item i) q) (full k (valued k (core_of T p e) (Some (inner (item i) q))))
 
-  -- from an index on the elements with initialisers of their own, and then so many by one
-  abbrev pub elements_from : ℕ → ℕ → Place → List Node → ℕ → Node → Act Value
-  elements_from k i q [] n filler = for_each i n (λ i. one_element k i q filler) >> gives Built
-  elements_from k i q (e ∷ es) n filler = one_element k i q e >> elements_from k (suc i) q es n filler
+  -- so many elements from an index on, by initialisers of their own while there are some, and then by one
+  abbrev pub elements_from : ℕ → ℕ → Place → ℕ → List Node → Node → Act Value
+  elements_from k i q zero es filler = gives Built
+  elements_from k i q (suc n) [] filler = one_element k i q filler >> elements_from k (suc i) q n [] filler
+  elements_from k i q (suc n) (e ∷ es) filler = one_element k i q e >> elements_from k (suc i) q n es filler
 
   abbrev pub listing : ℕ → Listing → Act Value
-  listing k l = elements_from k l.index (place_of l.array) l.rest.now l.left l.filler.now
+  listing k l = elements_from k l.index (row_place l.array) (l.count - l.index) l.rest.now l.filler.now
 
   -- the next element is initialised so, and then come the others
   abbrev pub listing_with : ℕ → Listing → Node → Act Value
-  listing_with k l e = one_element k l.index (place_of l.array) e >> elements_from k (suc l.index) (place_of l.array) l.rest.now l.left l.filler.now
+  listing_with k l e = one_element k l.index (row_place l.array) e >> elements_from k (suc l.index) (row_place l.array) (l.count - suc l.index) l.rest.now l.filler.now
 
-  abbrev pub go_element : ℕ → Spot → Listing → Value → Act Value
-  go_element k q l v = settle [] (place_of q) v >>= (λ u. listing k l)
+  abbrev pub go_element : ℕ → Goal → Listing → Value → Act Value
+  go_element k q l v = settle [] (goal_place q) v >>= (λ u. listing k l)
 
   -- the constant initialisers of these static objects, and then `main`
   abbrev pub setting : ℕ → List RunStatic → Act Value
   setting k xs =
-      for_all (constants_of T (map (static_of T) xs)) (set_constant (again k) (program_of T p)) >> called k (Code (codes "__main")) []
+      for_all (constants_of (map (static_of T p) xs)) (set_constant (again k) (program_of T p)) >> called k (Code (codes "__main")) []
 
   abbrev pub setting_with : ℕ → RunStatic → List RunStatic → Act Value
   setting_with k x xs =
-      set_constant (again k) (program_of T p) (constant_setting (in_file 1 (codes "__sti")) (static_of T x)) >> setting k xs
+      set_constant (again k) (program_of T p) (constant_setting (in_file 1 (codes "__sti")) (static_of T p x)) >> setting k xs
 
   -- control has reached the static object of this number
   abbrev pub reaching : ℕ → RunStatic → ℕ → List RunStatic → Act Value
   reaching k x o xs = do
     changed (λ s. record s { reached = x.name ∷ s.reached })
-    settled [] (root o) (full k (valued k (core_of T x.start) (Some (root o))))
+    settled [] (root o) (full k (valued k (core_of T p x.start) (Some (root o))))
     setting k xs
 
   abbrev pub go_constant : ℕ → ℕ → List RunStatic → Value → Act Value
@@ -310,7 +312,7 @@ module _ (T : Tables) (p : Program) where
   performed_other k b = does_maybe (again k) (program_of T p) (maybe_core b)
 
   abbrev pub go_if : ℕ → Node → Option Node → Value → Act Flow
-  go_if k a b v = truth_of v >>= (λ t. when t (performed k (core_of T a)) (performed_other k b))
+  go_if k a b v = truth_of v >>= (λ t. when t (performed k (core_of T p a)) (performed_other k b))
 
   abbrev pub go_first : ℕ → Repeated → Value → Act Flow
   go_first k r v = truth_of v >>= (λ t. when t (body_turn k r) (gives Falls))
@@ -367,12 +369,12 @@ module _ (T : Tables) (p : Program) where
   abbrev pub from_doing : Doing → Machine → Outside → Option Outcome
   from_doing doing.Starts m o = from_value m (λ s w. setting m.fuel p.statics (first_state (program_of T p) m.entered.depth) w) o
   from_doing (doing.Sets xs) m o = from_value m (setting m.fuel xs.now) o
-  from_doing (doing.Evaluate e into) m o = from_value m (valued m.fuel (core e.now) (option_map place_of into)) o
+  from_doing (doing.Evaluate e into) m o = from_value m (valued m.fuel (core e.now) (option_map goal_place into)) o
   from_doing (doing.Gives v) m o = from_value m (gives (value_of v)) o
   from_doing (doing.Lists l) m o = from_value m (listing m.fuel l) o
   from_doing (doing.Passes c) m o = from_value m (passing m.fuel c) o
-  from_doing (doing.Enter f args) m o = from_value m (enter (again m.fuel) (function_of T f.now) args.items None None) o
-  from_doing (doing.Body f args) m o = from_flow m (again m.fuel (body (function_of T f.now) args.items)) o
+  from_doing (doing.Enter f args) m o = from_value m (enter (again m.fuel) (function_of T p f.now) args.items None None) o
+  from_doing (doing.Body f args) m o = from_flow m (again m.fuel (body (function_of T p f.now) args.items)) o
   from_doing (doing.Perform s) m o = from_flow m (performed m.fuel (core s.now)) o
   from_doing (doing.Follow es) m o = from_flow m (performed_all m.fuel (cores es.now)) o
   from_doing (doing.Case z es) m o = from_flow m (from_case (again m.fuel) (program_of T p) z (cores es.now)) o
@@ -413,13 +415,13 @@ end_of ending.Depth = Depth
 abbrev pub StopsAt : Ahead → Stop → Type 0
 StopsAt ahead (stop.Act act) = EndsAs ahead (Undefined act)
 StopsAt ahead stop.Malformed = HasNone ahead
-StopsAt ahead stop.NotBuilt = Unit {0}
 StopsAt ahead stop.Memory = Unit {0}
 
 -- what a step comes to, where this lies ahead
 abbrev pub Comes : Program → Ahead → Result Step Stop → Machine → Type 0
 Comes p ahead (Ok step.On) new = GoesOn p ahead None new
-Comes p ahead (Ok (step.Shows s)) new = GoesOn p ahead (Some (event_of s)) new
+Comes p ahead (Ok (step.Enters name)) new = GoesOn p ahead (Some (Enter name.now)) new
+Comes p ahead (Ok (step.Puts byte)) new = GoesOn p ahead (Some (Out byte)) new
 Comes p ahead (Ok (step.Ends e)) new = EndsAs ahead (end_of e)
 Comes p ahead (Err stop) new = StopsAt ahead stop
 

@@ -9,10 +9,11 @@ use Rattle.cf_core.specs.Run.{Act, ◌>>=◌, ◌>>◌, frame_changed, lists_in_
 use Rattle.cf_core.specs.Calls.{Flow}
 use Rattle.cf_core.specs.Statements.{passes}
 use Rattle.cf_run_tree.specs.declared.node.Node.{Node}
+use Rattle.cf_run_tree.specs.declared.program.Program.{Program}
 use Rattle.cf_run_tree.specs.Tree.{core_of}
 
-abbrev pub row : Tables → List Node → Cores
-row T es = listed (map (core_of T) es)
+abbrev pub row : Tables → Program → List Node → Cores
+row T p es = listed (map (core_of T p) es)
 
 -- the label for a number
 abbrev pub is_case : ℤ → Core → Bool

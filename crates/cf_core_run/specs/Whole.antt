@@ -44,7 +44,6 @@ pub record Starts (p : Program) (limits : Limits) (m : Machine) : Type 0 where
 abbrev pub Reads : Seen → Seen → Result Given Stop → Type 0
 Reads old new (Ok v) = (T : Tables) (p : Program) (m : Machine) (a : Around) → from_value T p m get (outside old a) ≡ from_value T p m (gives (value_of v)) (outside new a)
 Reads old new (Err stop.Memory) = Unit {0}
-Reads old new (Err stop.NotBuilt) = ⊥
 Reads old new (Err stop.Malformed) = ⊥
 Reads old new (Err (stop.Act n)) = ⊥
 
@@ -53,7 +52,6 @@ abbrev pub Turns : Program → Machine → Machine → Seen → Seen → Result 
 Turns p old new s t (Ok None) = (T : Tables) (a : Around) → total T p old (outside s a) ≡ total T p new (outside t a)
 Turns p old new s t (Ok (Some end)) = (T : Tables) (a : Around) → total T p old (outside s a) ≡ Some (record { end = end_of end; trace = map event_of t.trace.items })
 Turns p old new s t (Err stop.Malformed) = (T : Tables) (a : Around) → total T p old (outside s a) ≡ None
-Turns p old new s t (Err stop.NotBuilt) = Unit {0}
 Turns p old new s t (Err stop.Memory) = Unit {0}
 Turns p old new s t (Err (stop.Act n)) = ⊥
 
@@ -62,7 +60,6 @@ abbrev pub Runs : Program → Limits → List ℕ → Result Ran Stop → Type 0
 Runs p limits input (Ok ran) = (T : Tables) (heap : ℕ) → Mean (program_of T p) input heap limits.depth limits.ticks
     ≡ Some (record { end = end_of ran.end; trace = map event_of ran.trace.items })
 Runs p limits input (Err stop.Malformed) = (T : Tables) (heap : ℕ) → Mean (program_of T p) input heap limits.depth limits.ticks ≡ None
-Runs p limits input (Err stop.NotBuilt) = Unit {0}
 Runs p limits input (Err stop.Memory) = Unit {0}
 Runs p limits input (Err (stop.Act n)) = ⊥
 

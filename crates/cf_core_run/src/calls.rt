@@ -1,4 +1,4 @@
-ghost use Rattle.std.specs.Prelude.{◌≡◌, [], ◌∷◌, ◌++◌, map, replicate, Some, None, Option, option_map, IsTrue, IfOk};
+ghost use Rattle.std.specs.Prelude.{◌≡◌, [], ◌∷◌, map, find, bytes_eq, Some, None, Option, option_map, IfOk};
 ghost use Rattle.std.specs.Option.{option_copied};
 ghost use Rattle.cf_base.specs.Integers.{bits_of};
 ghost use Rattle.cf_base.specs.World.{World};
@@ -9,7 +9,9 @@ ghost use Rattle.cf_core.specs.FromTypes.{Tables};
 ghost use Rattle.cf_core.specs.Places as places;
 ghost use Rattle.cf_core.specs.Run.{State};
 ghost use Rattle.cf_core.specs.Store.{Code};
-ghost use Rattle.cf_run_tree.specs.Tree.{core_of, signature_type, function_of, program_of};
+ghost use Rattle.cf_run_tree.specs.Tree.{core_of, signature_type, function_head, function_of, program_of};
+ghost use Rattle.cf_run_tree.specs.declared.program.RunFn.{RunFn as Defined};
+ghost use Rattle.cf_run_tree.specs.declared.program.Signature.{Signature as Head};
 ghost use Rattle.cf_core_objects.specs.Answer.{Told};
 ghost use Rattle.cf_core_objects.specs.Then.{◌▷◌};
 ghost use Rattle.cf_core_run.specs.Going.{Comes, from_value, from_flow, valued, passing, called, again, starting, OpensScope};
@@ -18,16 +20,16 @@ ghost use Rattle.cf_core_objects.specs.declared.object.Entered.{Entered};
 ghost use Rattle.cf_core_objects.specs.Store.{state_of, value_of};
 
 use crate::mark::{Calling, Doing, FlowMark, Mark, ValueMark};
-use crate::state::{Event, Machine, RunEnd, Step};
-use cf_core_objects::{Entered, Integer, Stop, Value, new_object, read, used};
-use cf_core_place::{Part, Place};
+use crate::state::{Machine, RunEnd, Step};
+use cf_core_objects::{Entered, Integer, Stop, Value, new_object, used, whole_held};
+use cf_core_place::Goal;
 use cf_run_tree::{Node, Program, RunFn, Shape, Signature};
 use std::alloc::{AllocError, Global};
 use std::mem::replace;
 
 /// The function that a program defines by this name.
 fn function_named<'a>(program: &'a Program, name: &[u8]) -> Option<&'a RunFn>
-    ensures { (T : Tables) → option_map (function_of T) (option_copied result) ≡ calls.function_named (program_of T program.now) name.now }
+    ensures { option_copied result ≡ find (λ (f : Defined). bytes_eq f.name name.now) program.now.functions }
 {
     for f in program.functions.as_slice() {
         if f.name.as_slice() == name {
@@ -55,72 +57,36 @@ fn byte_of(value: i64) -> u8
     }
 }
 
-/// Whether two types are the same.
-pub fn same_shape(a: Shape, b: Shape) -> bool
-    ensures { IsTrue result → a ≡ b }
+/// The type of a function that is named: that of its definition in the program, or else the one that it is declared with.
+fn head<'a>(program: &'a Program, name: &[u8], declared: &'a Signature) -> &'a Signature
+    ensures { result.now ≡ function_head program.now name.now declared.now }
 {
-    a == b
-}
-
-/// Whether two lists of types are the same.
-fn same_shapes(a: &[Shape], b: &[Shape]) -> bool
-    ensures { IsTrue result → a.now ≡ b.now }
-{
-    match a.split_first() {
-        None => b.is_empty(),
-        Some((x, rest)) => match b.split_first() {
-            None => false,
-            Some((y, others)) => {
-                if same_shape(*x, *y) {
-                    same_shapes(rest, others)
-                } else {
-                    false
-                }
-            }
-        },
+    match function_named(program, name) {
+        None => declared,
+        Some(f) => &f.signature,
     }
 }
 
-/// Whether two functions have one type.
-fn same_signature(a: &Signature, b: &Signature) -> bool
-    ensures { IsTrue result → a.now ≡ b.now }
-{
-    if same_shape(a.result, b.result) {
-        same_shapes(a.params.as_slice(), b.params.as_slice())
-    } else {
-        false
-    }
-}
-
-/// A function is named that a file declares with this type. Other types that are the same but for const are not built.
-fn declared_alike(program: &Program, name: &[u8], signature: &Signature) -> Result<(), Stop>
-    ensures { (T : Tables) (s : State) (w : World) → Told (λ u. tt) result s w (name_function (program_of T program.now) name.now (signature_type T signature.now) s w) }
+/// A function is named, as the program defines it, or as the library has it.
+fn named(program: &Program, name: &[u8]) -> Result<(), Stop>
+    ensures { (T : Tables) (declared : Head) (s : State) (w : World) → Told (λ u. tt) result s w (name_function (program_of T program.now) name.now (signature_type T (function_head program.now name.now declared)) s w) }
 {
     if is_library(name) {
         return Ok(());
     }
     match function_named(program, name) {
         None => Err(Stop::Malformed),
-        Some(f) => {
-            if same_signature(&f.signature, signature) {
-                Ok(())
-            } else {
-                Err(Stop::NotBuilt)
-            }
-        }
+        Some(_) => Ok(()),
     }
 }
 
-/// The objects of the parameters, and room for so many locals.
-fn locals_of(alloc: Global, made: &[usize], count: usize) -> Result<Vec<Option<usize>>, AllocError>
-    ensures { IfOk result (λ found. found.items ≡ map Some made.now ++ replicate count None) }
+/// The objects of the parameters, as those of the first locals.
+fn locals_of(alloc: Global, made: &[usize]) -> Result<Vec<Option<usize>>, AllocError>
+    ensures { IfOk result (λ found. found.items ≡ map Some made.now) }
 {
     let mut found = Vec::new(alloc);
     for object in made {
         found.push(Some(*object))?;
-    }
-    for _ in 0..count {
-        found.push(None)?;
     }
     Ok(found)
 }
@@ -134,11 +100,11 @@ impl<'a> Machine<'a> {
         all: &'a [Node],
         program: &'a Program,
     ) -> Result<Step<'a>, Stop>
-        ensures { (into : Option places.Place) → Comes program.now (λ T o. from_value T program.now self.old (valued T program.now self.old.fuel (cores.call name.now (signature_type T signature.now) cores.absent (going.cores T program.now all.now)) into) o) result self.new }
+        ensures { (into : Option places.Place) → Comes program.now (λ T o. from_value T program.now self.old (valued T program.now self.old.fuel (cores.call name.now (signature_type T (function_head program.now name.now signature.now)) cores.absent (going.cores T program.now all.now)) into) o) result self.new }
     {
-        match declared_alike(program, name, signature) {
+        match named(program, name) {
             Err(stop) => Err(stop),
-            Ok(()) => self.start_call(Value::Code(name), signature, all),
+            Ok(()) => self.start_call(Value::Code(name), head(program, name, signature), all),
         }
     }
 
@@ -149,9 +115,9 @@ impl<'a> Machine<'a> {
         signature: &'a Signature,
         program: &'a Program,
     ) -> Result<Step<'a>, Stop>
-        ensures { Comes program.now (λ T o. from_value T program.now self.old (going.naming T program.now name.now (signature_type T signature.now)) o) result self.new }
+        ensures { Comes program.now (λ T o. from_value T program.now self.old (going.naming T program.now name.now (signature_type T (function_head program.now name.now signature.now))) o) result self.new }
     {
-        match declared_alike(program, name, signature) {
+        match named(program, name) {
             Err(stop) => Err(stop),
             Ok(()) => {
                 self.doing = Doing::Gives(Value::Code(name));
@@ -210,7 +176,7 @@ impl<'a> Machine<'a> {
     {
         match calling.rest.split_first() {
             None => self.call_with(calling.callee, calling.made, program),
-            Some(_) => Err(Stop::NotBuilt),
+            Some(_) => Err(Stop::Malformed),
         }
     }
 
@@ -225,7 +191,7 @@ impl<'a> Machine<'a> {
         ensures { (p : Program) → Comes p (λ T o. from_value T p self.old (passing T p self.old.fuel calling.entry) o) result self.new }
     {
         match calling.rest.split_first() {
-            None => Err(Stop::NotBuilt),
+            None => Err(Stop::Malformed),
             Some((first, rest)) => {
                 let left = Calling {
                     callee: calling.callee,
@@ -260,17 +226,11 @@ impl<'a> Machine<'a> {
         object: usize,
         first: &'a Node,
     ) -> Result<Step<'a>, Stop>
-        ensures { (p : Program) → Comes p (λ T o. from_value T p self.old (λ s w. valued T p self.old.fuel (core_of T first.now) (Some (root object)) s w ▷ going.go_argument T p self.old.fuel left.entry object) o) result self.new }
+        ensures { (p : Program) → Comes p (λ T o. from_value T p self.old (λ s w. valued T p self.old.fuel (core_of T p first.now) (Some (root object)) s w ▷ going.go_argument T p self.old.fuel left.entry object) o) result self.new }
     {
         self.stack
             .push(Mark::Value(self.fuel, ValueMark::Argument(left, object)))?;
-        self.doing = Doing::Evaluate(
-            first,
-            Some(Place {
-                object,
-                part: Part::Whole,
-            }),
-        );
+        self.doing = Doing::Evaluate(first, Some(Goal::whole(object)));
         Ok(Step::On)
     }
 
@@ -345,9 +305,8 @@ impl<'a> Machine<'a> {
         ensures { (p : Program) → Comes p (λ T o. from_value T p self.old (going.library_on T p name.now made.now) o) result self.new }
     {
         match self.first_argument(made) {
-            Err(_) => Err(Stop::NotBuilt),
-            Ok(None) => Err(Stop::Malformed),
-            Ok(Some(v)) => self.put_or_exit(name, v),
+            None => Err(Stop::Malformed),
+            Some(v) => self.put_or_exit(name, v),
         }
     }
 
@@ -361,22 +320,13 @@ impl<'a> Machine<'a> {
         }
     }
 
-    /// The value of the first parameter.
-    fn first_argument(&self, made: &[usize]) -> Result<Option<Value<'a>>, Stop>
-        ensures { IfOk result (λ v. (T : Tables) → option_map value_of v ≡ argument made.now (state_of T self.now.entered self.now.objects)) }
+    /// What the first parameter holds.
+    fn first_argument(&self, made: &[usize]) -> Option<Value<'a>>
+        ensures { (T : Tables) → option_map value_of result ≡ argument made.now (state_of T self.now.entered self.now.objects) }
     {
         match made.split_first() {
-            None => Ok(None),
-            Some((object, _)) => {
-                let place = Place {
-                    object: *object,
-                    part: Part::Whole,
-                };
-                match read(&self.objects, place) {
-                    Err(_) => Err(Stop::NotBuilt),
-                    Ok(v) => Ok(Some(v)),
-                }
-            }
+            None => None,
+            Some((object, _)) => whole_held(&self.objects, *object),
         }
     }
 
@@ -388,7 +338,7 @@ impl<'a> Machine<'a> {
             Value::Number(number) => {
                 let byte = byte_of(number);
                 self.doing = Doing::Gives(Value::Number(i64::from(byte)));
-                Ok(Step::Shows(Event::Out(byte)))
+                Ok(Step::Puts(byte))
             }
             Value::Nothing => Err(Stop::Malformed),
             Value::Missing => Err(Stop::Malformed),
@@ -416,7 +366,7 @@ impl<'a> Machine<'a> {
 
     /// A function is entered: a tick and a level of depth are spent, and it shows.
     pub fn enter(&mut self, f: &'a RunFn, made: Vec<usize>) -> Result<Step<'a>, Stop>
-        ensures { (p : Program) → Comes p (λ T o. from_value T p self.old (calls.enter (again T p self.old.fuel) (function_of T f.now) made.items None None) o) result self.new }
+        ensures { (p : Program) → Comes p (λ T o. from_value T p self.old (calls.enter (again T p self.old.fuel) (function_of T p f.now) made.items None None) o) result self.new }
     {
         if self.ticks == 0 {
             return Ok(Step::Ends(RunEnd::Ticks));
@@ -424,14 +374,14 @@ impl<'a> Machine<'a> {
         if self.entered.depth == 0 {
             return Ok(Step::Ends(RunEnd::Depth));
         }
-        if made.len() != f.signature.params.len() {
-            return Err(Stop::NotBuilt);
-        }
         let name = f.name.as_slice();
-        let locals = locals_of(self.alloc, made.as_slice(), f.locals.len())?;
+        let params = f.signature.params.as_slice();
+        let count = params.len() + f.locals.as_slice().len();
+        let locals = locals_of(self.alloc, made.as_slice())?;
         let entered = Entered {
             name,
             depth: self.entered.depth - 1,
+            count,
             locals,
             scope: Vec::new(self.alloc),
             temporaries: Vec::new(self.alloc),
@@ -441,12 +391,12 @@ impl<'a> Machine<'a> {
         self.stack
             .push(Mark::Back(self.fuel, f.signature.result, caller))?;
         self.doing = Doing::Body(f, made);
-        Ok(Step::Shows(Event::Enter(name)))
+        Ok(Step::Enters(name))
     }
 
     /// The body of a function begins.
     pub fn begin_body(&mut self, f: &'a RunFn, made: Vec<usize>) -> Result<Step<'a>, Stop>
-        ensures { (p : Program) → Comes p (λ T o. from_flow T p self.old (again T p self.old.fuel (body (function_of T f.now) made.items)) o) result self.new }
+        ensures { (p : Program) → Comes p (λ T o. from_flow T p self.old (again T p self.old.fuel (body (function_of T p f.now) made.items)) o) result self.new }
     {
         if self.fuel == 0 {
             return Ok(Step::Ends(RunEnd::Ticks));

@@ -4,7 +4,7 @@ ghost use Rattle.cf_core.specs.Places as places;
 ghost use Rattle.cf_core.specs.Run.{gives, when};
 ghost use Rattle.cf_run_tree.specs.Tree.{core_of};
 ghost use Rattle.cf_core_objects.specs.Named.{named};
-ghost use Rattle.cf_core_place.specs.Routes.{place_of};
+ghost use Rattle.cf_core_place.specs.Routes.{goal_place};
 ghost use Rattle.cf_core_objects.specs.Then.{◌▷◌};
 ghost use Rattle.cf_core_run.specs.Going.{Comes, from_value, valued, go_value, go_and, go_or, go_choice, go_right, go_argument, last_of, truth_by};
 ghost use Rattle.cf_core_store.specs.Values.{of_value};
@@ -16,7 +16,7 @@ use crate::state::{Machine, Step};
 use crate::temporaries::settle_object;
 use cf_base::Boxed;
 use cf_core_objects::{Stop, Value, literal_object, local_value};
-use cf_core_place::{Part, Place};
+use cf_core_place::{Goal, Part, Place};
 use cf_core_store::{Applied, apply, ready, truth, truth_number};
 use cf_run_tree::{Binary, Node, Program};
 
@@ -25,10 +25,10 @@ impl<'a> Machine<'a> {
     pub fn begin(
         &mut self,
         e: &'a Node,
-        into: Option<Place>,
+        into: Option<Goal>,
         program: &'a Program,
     ) -> Result<Step<'a>, Stop>
-        ensures { Comes program.now (λ T o. from_value T program.now self.old (valued T program.now self.old.fuel (core_of T e.now) (option_map place_of into)) o) result self.new }
+        ensures { Comes program.now (λ T o. from_value T program.now self.old (valued T program.now self.old.fuel (core_of T program.now e.now) (option_map goal_place into)) o) result self.new }
     {
         match e {
             Node::Number(value) => {
@@ -40,7 +40,7 @@ impl<'a> Machine<'a> {
                 self.function(name.as_slice(), signature, program)
             }
             Node::Local(number) => self.name_local(*number),
-            Node::Static(name, ty) => self.name_static(name.as_slice(), ty, program),
+            Node::Static(name, _) => self.name_static(name.as_slice(), program),
             Node::Apply(op, a) => self.down(ValueMark::Apply(Applied::One(op)), a),
             Node::Join(op, a, b) => self.down(ValueMark::Right(*op, b), a),
             Node::And(a, b) => self.down(ValueMark::And(b), a),
@@ -69,13 +69,13 @@ impl<'a> Machine<'a> {
                 self.doing = Doing::Gives(Value::Built);
                 Ok(Step::On)
             }
-            _ => Err(Stop::NotBuilt),
+            _ => Err(Stop::Malformed),
         }
     }
 
     /// A part is evaluated first, and the mark says what follows.
     pub fn down(&mut self, mark: ValueMark<'a>, a: &'a Boxed<Node>) -> Result<Step<'a>, Stop>
-        ensures { (p : Program) → Comes p (λ T o. from_value T p self.old (λ s w. valued T p self.old.fuel (core_of T a.now) None s w ▷ go_value T p self.old.fuel mark.entry) o) result self.new }
+        ensures { (p : Program) → Comes p (λ T o. from_value T p self.old (λ s w. valued T p self.old.fuel (core_of T p a.now) None s w ▷ go_value T p self.old.fuel mark.entry) o) result self.new }
     {
         self.stack.push(Mark::Value(self.fuel, mark))?;
         self.doing = Doing::Evaluate(a.get(), None);
@@ -84,7 +84,7 @@ impl<'a> Machine<'a> {
 
     /// A part is evaluated, and nothing is left of what it is a part of.
     fn turn_to(&mut self, a: &'a Boxed<Node>) -> Result<Step<'a>, Stop>
-        ensures { (p : Program) → Comes p (λ T o. from_value T p self.old (valued T p self.old.fuel (core_of T a.now) None) o) result self.new }
+        ensures { (p : Program) → Comes p (λ T o. from_value T p self.old (valued T p self.old.fuel (core_of T p a.now) None) o) result self.new }
     {
         self.doing = Doing::Evaluate(a.get(), None);
         Ok(Step::On)
@@ -134,7 +134,7 @@ impl<'a> Machine<'a> {
 
     /// An expression is next, and nothing is left of what it is a part of.
     fn evaluate(&mut self, e: &'a Node) -> Result<Step<'a>, Stop>
-        ensures { (p : Program) → Comes p (λ T o. from_value T p self.old (valued T p self.old.fuel (core_of T e.now) None) o) result self.new }
+        ensures { (p : Program) → Comes p (λ T o. from_value T p self.old (valued T p self.old.fuel (core_of T p e.now) None) o) result self.new }
     {
         self.doing = Doing::Evaluate(e, None);
         Ok(Step::On)
@@ -142,7 +142,7 @@ impl<'a> Machine<'a> {
 
     /// An expression comes, and then the others of a comma.
     fn comma_rest(&mut self, first: &'a Node, rest: &'a [Node]) -> Result<Step<'a>, Stop>
-        ensures { (p : Program) → Comes p (λ T o. from_value T p self.old (λ s w. valued T p self.old.fuel (core_of T first.now) None s w ▷ (λ v. last_of T p self.old.fuel rest.now)) o) result self.new }
+        ensures { (p : Program) → Comes p (λ T o. from_value T p self.old (λ s w. valued T p self.old.fuel (core_of T p first.now) None s w ▷ (λ v. last_of T p self.old.fuel rest.now)) o) result self.new }
     {
         self.stack
             .push(Mark::Value(self.fuel, ValueMark::Comma(rest)))?;
@@ -232,7 +232,7 @@ impl<'a> Machine<'a> {
         a: &'a Boxed<Node>,
         b: &'a Boxed<Node>,
     ) -> Result<Step<'a>, Stop>
-        ensures { (p : Program) → Comes p (λ T o. from_value T p self.old (when holds (valued T p self.old.fuel (core_of T a.now) None) (valued T p self.old.fuel (core_of T b.now) None)) o) result self.new }
+        ensures { (p : Program) → Comes p (λ T o. from_value T p self.old (when holds (valued T p self.old.fuel (core_of T p a.now) None) (valued T p self.old.fuel (core_of T p b.now) None)) o) result self.new }
     {
         if holds {
             self.turn_to(a)

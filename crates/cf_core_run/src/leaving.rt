@@ -19,6 +19,9 @@ use cf_core_objects::{Entered, Integer, Stop, Value, end_objects, end_scope};
 use cf_core_store::truth;
 use cf_run_tree::{Form, Node, Shape};
 
+/// A mark goes that waits for something else.
+fn lost(_mark: Mark<'_>) {}
+
 impl<'a> Machine<'a> {
     /// A value is there: the newest mark says what follows.
     pub fn take(&mut self, v: Value<'a>) -> Result<Step<'a>, Stop>
@@ -34,7 +37,14 @@ impl<'a> Machine<'a> {
                 self.fuel = fuel;
                 self.take_test(mark, v)
             }
-            Some(_) => Err(Stop::NotBuilt),
+            Some(Mark::Flow(fuel, mark)) => {
+                lost(Mark::Flow(fuel, mark));
+                Err(Stop::Malformed)
+            }
+            Some(Mark::Back(fuel, shape, entered)) => {
+                lost(Mark::Back(fuel, shape, entered));
+                Err(Stop::Malformed)
+            }
         }
     }
 
@@ -75,7 +85,7 @@ impl<'a> Machine<'a> {
         yes: &'a Boxed<Node>,
         no: &'a Option<Boxed<Node>>,
     ) -> Result<Step<'a>, Stop>
-        ensures { (p : Program) → Comes p (λ T o. from_flow T p self.old (when holds (performed T p self.old.fuel (core_of T yes.now)) (performed_other T p self.old.fuel no.now)) o) result self.new }
+        ensures { (p : Program) → Comes p (λ T o. from_flow T p self.old (when holds (performed T p self.old.fuel (core_of T p yes.now)) (performed_other T p self.old.fuel no.now)) o) result self.new }
     {
         if holds {
             self.perform_next(yes)
@@ -126,7 +136,7 @@ impl<'a> Machine<'a> {
 
     /// A statement is next.
     fn perform_next(&mut self, s: &'a Boxed<Node>) -> Result<Step<'a>, Stop>
-        ensures { (p : Program) → Comes p (λ T o. from_flow T p self.old (performed T p self.old.fuel (core_of T s.now)) o) result self.new }
+        ensures { (p : Program) → Comes p (λ T o. from_flow T p self.old (performed T p self.old.fuel (core_of T p s.now)) o) result self.new }
     {
         self.doing = Doing::Perform(s.get());
         Ok(Step::On)
@@ -177,7 +187,14 @@ impl<'a> Machine<'a> {
                 self.fuel = fuel;
                 self.go_back(shape, entered, flow)
             }
-            Some(_) => Err(Stop::NotBuilt),
+            Some(Mark::Value(fuel, mark)) => {
+                lost(Mark::Value(fuel, mark));
+                Err(Stop::Malformed)
+            }
+            Some(Mark::Test(fuel, mark)) => {
+                lost(Mark::Test(fuel, mark));
+                Err(Stop::Malformed)
+            }
         }
     }
 

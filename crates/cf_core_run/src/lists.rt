@@ -1,10 +1,10 @@
-ghost use Rattle.std.specs.Prelude.{◌≡◌, nat_le, [], ◌∷◌, Some, option_map, Option};
+ghost use Rattle.std.specs.Prelude.{◌≡◌, ◌<◌, ◌^◌, nat_le, [], length, Some, option_map, Option};
 ghost use Rattle.cf_core.specs.Access.{place_type};
 ghost use Rattle.cf_core.specs.Core as cores;
 ghost use Rattle.cf_core.specs.FromTypes.{Tables};
 ghost use Rattle.cf_run_tree.specs.Tree.{core_of};
 ghost use Rattle.cf_run_tree.specs.declared.program.Program.{Program};
-ghost use Rattle.cf_core_place.specs.Routes.{place_of};
+ghost use Rattle.cf_core_place.specs.Routes.{goal_place, row_place};
 ghost use Rattle.cf_core_objects.specs.Site.{HasElements};
 ghost use Rattle.cf_core_objects.specs.Store.{state_of, value_of};
 ghost use Rattle.cf_core_objects.specs.Then.{◌▷◌};
@@ -13,15 +13,15 @@ ghost use Rattle.cf_core_run.specs.Going.{Comes, from_value, valued, full, cores
 use crate::mark::{Doing, Listing, Mark, ValueMark};
 use crate::state::{Machine, Step};
 use cf_base::Boxed;
-use cf_core_objects::{Stop, Value, element, elements, fill_zeros, settle, write_bytes};
-use cf_core_place::Place;
+use cf_core_objects::{Array, Stop, Value, elements, fill_zeros, settle, write_bytes};
+use cf_core_place::{Goal, Row};
 use cf_run_tree::Node;
 
 /// Whether so many are at most this.
-fn fits(given: usize, count: usize) -> bool
+fn fits(given: usize, count: u32) -> bool
     ensures { result ≡ nat_le given count }
 {
-    given <= count
+    given <= count as usize
 }
 
 impl<'a> Machine<'a> {
@@ -30,13 +30,13 @@ impl<'a> Machine<'a> {
         &mut self,
         all: &'a [Node],
         filler: &'a Boxed<Node>,
-        into: Option<Place>,
+        into: Option<Goal>,
     ) -> Result<Step<'a>, Stop>
-        ensures { (p : Program) → Comes p (λ T o. from_value T p self.old (valued T p self.old.fuel (cores.list (row T p all.now) (core_of T filler.now)) (option_map place_of into)) o) result self.new }
+        ensures { (p : Program) → Comes p (λ T o. from_value T p self.old (valued T p self.old.fuel (cores.list (row T p all.now) (core_of T p filler.now)) (option_map goal_place into)) o) result self.new }
     {
         match into {
             None => Err(Stop::Malformed),
-            Some(array) => self.begin_array(all, filler, array),
+            Some(goal) => self.begin_array(all, filler, goal),
         }
     }
 
@@ -45,13 +45,13 @@ impl<'a> Machine<'a> {
         &mut self,
         all: &'a [Node],
         filler: &'a Boxed<Node>,
-        array: Place,
+        goal: Goal,
     ) -> Result<Step<'a>, Stop>
-        ensures { (p : Program) → Comes p (λ T o. from_value T p self.old (valued T p self.old.fuel (cores.list (row T p all.now) (core_of T filler.now)) (Some (place_of array))) o) result self.new }
+        ensures { (p : Program) → Comes p (λ T o. from_value T p self.old (valued T p self.old.fuel (cores.list (row T p all.now) (core_of T p filler.now)) (Some (goal_place goal))) o) result self.new }
     {
-        match elements(&self.objects, array) {
+        match elements(&self.objects, goal) {
             Err(stop) => Err(stop),
-            Ok(count) => self.begin_elements(all, filler, array, count as usize),
+            Ok(array) => self.begin_elements(all, filler, array),
         }
     }
 
@@ -60,19 +60,17 @@ impl<'a> Machine<'a> {
         &mut self,
         all: &'a [Node],
         filler: &'a Boxed<Node>,
-        array: Place,
-        count: usize,
+        array: Array,
     ) -> Result<Step<'a>, Stop>
-        requires { (T : Tables) → HasElements (place_type [] (state_of T self.old.entered self.old.objects) (place_of array)) count }
-        ensures { (p : Program) → Comes p (λ T o. from_value T p self.old (valued T p self.old.fuel (cores.list (row T p all.now) (core_of T filler.now)) (Some (place_of array))) o) result self.new }
+        requires { (T : Tables) → HasElements (place_type [] (state_of T self.old.entered self.old.objects) (row_place array.row)) array.count }
+        ensures { (p : Program) → Comes p (λ T o. from_value T p self.old (valued T p self.old.fuel (cores.list (row T p all.now) (core_of T p filler.now)) (Some (row_place array.row))) o) result self.new }
     {
-        let given = all.len();
-        if fits(given, count) {
+        if fits(all.len(), array.count) {
             self.doing = Doing::Lists(Listing {
-                array,
+                array: array.row,
                 index: 0,
+                count: array.count,
                 rest: all,
-                left: count - given,
                 filler,
             });
             Ok(Step::On)
@@ -85,8 +83,12 @@ impl<'a> Machine<'a> {
     pub fn next_element(&mut self, listing: Listing<'a>) -> Result<Step<'a>, Stop>
         ensures { (p : Program) → Comes p (λ T o. from_value T p self.old (listed T p self.old.fuel listing.entry) o) result self.new }
     {
+        if listing.index >= listing.count {
+            self.doing = Doing::Gives(Value::Built);
+            return Ok(Step::On);
+        }
         match listing.rest.split_first() {
-            None => self.fill(listing),
+            None => self.initialise_element(listing.filler.get(), listing),
             Some((first, rest)) => {
                 let others = Listing { rest, ..listing };
                 self.initialise_element(first, others)
@@ -94,62 +96,43 @@ impl<'a> Machine<'a> {
         }
     }
 
-    /// An element that comes behind those with initialisers of their own.
-    fn fill(&mut self, listing: Listing<'a>) -> Result<Step<'a>, Stop>
-        requires { listing.rest.now ≡ [] }
-        ensures { (p : Program) → Comes p (λ T o. from_value T p self.old (listed T p self.old.fuel listing.entry) o) result self.new }
-    {
-        if listing.left == 0 {
-            self.doing = Doing::Gives(Value::Built);
-            return Ok(Step::On);
-        }
-        let others = Listing {
-            left: listing.left - 1,
-            ..listing
-        };
-        self.initialise_element(listing.filler.get(), others)
-    }
-
     /// The next element is initialised so, and then the others.
     fn initialise_element(&mut self, e: &'a Node, others: Listing<'a>) -> Result<Step<'a>, Stop>
+        requires { others.index < others.count }
         ensures { (p : Program) → Comes p (λ T o. from_value T p self.old (listing_with T p self.old.fuel others.entry e.now) o) result self.new }
     {
-        match element(others.array, others.index) {
-            None => Err(Stop::NotBuilt),
-            Some(place) => match others.index.checked_add(1) {
-                None => Err(Stop::NotBuilt),
-                Some(index) => {
-                    let others = Listing { index, ..others };
-                    self.open_element(e, place, others)
-                }
-            },
-        }
+        let goal = others.array.element(others.index);
+        let others = Listing {
+            index: others.index + 1,
+            ..others
+        };
+        self.open_element(e, goal, others)
     }
 
-    /// The initialiser of the element at this place.
+    /// The initialiser of this element.
     fn open_element(
         &mut self,
         e: &'a Node,
-        place: Place,
+        goal: Goal,
         others: Listing<'a>,
     ) -> Result<Step<'a>, Stop>
-        ensures { (p : Program) → Comes p (λ T o. from_value T p self.old (λ s w. full T p self.old.fuel (valued T p self.old.fuel (core_of T e.now) (Some (place_of place))) s w ▷ go_element T p self.old.fuel place others.entry) o) result self.new }
+        ensures { (p : Program) → Comes p (λ T o. from_value T p self.old (λ s w. full T p self.old.fuel (valued T p self.old.fuel (core_of T p e.now) (Some (goal_place goal))) s w ▷ go_element T p self.old.fuel goal others.entry) o) result self.new }
     {
-        self.open_inner(ValueMark::Element(place, others))?;
-        self.doing = Doing::Evaluate(e, Some(place));
+        self.open_inner(ValueMark::Element(goal, others))?;
+        self.doing = Doing::Evaluate(e, Some(goal));
         Ok(Step::On)
     }
 
     /// The value of an element is there.
     pub fn element(
         &mut self,
-        place: Place,
+        goal: Goal,
         others: Listing<'a>,
         v: Value<'a>,
     ) -> Result<Step<'a>, Stop>
-        ensures { (p : Program) → Comes p (λ T o. from_value T p self.old (go_element T p self.old.fuel place others.entry (value_of v.entry)) o) result self.new }
+        ensures { (p : Program) → Comes p (λ T o. from_value T p self.old (go_element T p self.old.fuel goal others.entry (value_of v.entry)) o) result self.new }
     {
-        match settle(&mut self.objects, place, v) {
+        match settle(&mut self.objects, goal.place(), v) {
             Err(stop) => Err(stop),
             Ok(()) => {
                 self.doing = Doing::Lists(others);
@@ -159,53 +142,54 @@ impl<'a> Machine<'a> {
     }
 
     /// A char array is initialised by these bytes (8.4.2).
-    pub fn characters(&mut self, bytes: &'a [u8], into: Option<Place>) -> Result<Step<'a>, Stop>
-        ensures { (p : Program) → Comes p (λ T o. from_value T p self.old (valued T p self.old.fuel (cores.string bytes.now) (option_map place_of into)) o) result self.new }
+    pub fn characters(&mut self, bytes: &'a [u8], into: Option<Goal>) -> Result<Step<'a>, Stop>
+        ensures { (p : Program) → Comes p (λ T o. from_value T p self.old (valued T p self.old.fuel (cores.string bytes.now) (option_map goal_place into)) o) result self.new }
     {
         match into {
             None => Err(Stop::Malformed),
-            Some(array) => self.string(bytes, array),
+            Some(goal) => self.string(bytes, goal),
         }
     }
 
-    /// The char array at this place.
-    fn string(&mut self, bytes: &'a [u8], array: Place) -> Result<Step<'a>, Stop>
-        ensures { (p : Program) → Comes p (λ T o. from_value T p self.old (valued T p self.old.fuel (cores.string bytes.now) (Some (place_of array))) o) result self.new }
+    /// The char array that these bytes initialise.
+    fn string(&mut self, bytes: &'a [u8], goal: Goal) -> Result<Step<'a>, Stop>
+        ensures { (p : Program) → Comes p (λ T o. from_value T p self.old (valued T p self.old.fuel (cores.string bytes.now) (Some (goal_place goal))) o) result self.new }
     {
-        match elements(&self.objects, array) {
+        match elements(&self.objects, goal) {
             Err(stop) => Err(stop),
-            Ok(count) => self.string_of(bytes, array, count as usize),
+            Ok(array) => self.string_of(bytes, array),
         }
     }
 
     /// The char array has so many elements.
-    fn string_of(&mut self, bytes: &'a [u8], array: Place, count: usize) -> Result<Step<'a>, Stop>
-        requires { (T : Tables) → HasElements (place_type [] (state_of T self.old.entered self.old.objects) (place_of array)) count }
-        ensures { (p : Program) → Comes p (λ T o. from_value T p self.old (valued T p self.old.fuel (cores.string bytes.now) (Some (place_of array))) o) result self.new }
+    fn string_of(&mut self, bytes: &'a [u8], array: Array) -> Result<Step<'a>, Stop>
+        requires { (T : Tables) → HasElements (place_type [] (state_of T self.old.entered self.old.objects) (row_place array.row)) array.count }
+        ensures { (p : Program) → Comes p (λ T o. from_value T p self.old (valued T p self.old.fuel (cores.string bytes.now) (Some (row_place array.row))) o) result self.new }
     {
-        let given = bytes.len();
-        if fits(given, count) {
-            self.write(bytes, array)
+        if fits(bytes.len(), array.count) {
+            self.write(bytes, array.row)
         } else {
             Err(Stop::Malformed)
         }
     }
 
     /// Zeros come into a char array, and then the bytes of a string.
-    fn write(&mut self, bytes: &'a [u8], array: Place) -> Result<Step<'a>, Stop>
-        ensures { (p : Program) → Comes p (λ T o. from_value T p self.old (writing T p (place_of array) bytes.now) o) result self.new }
+    fn write(&mut self, bytes: &'a [u8], row: Row) -> Result<Step<'a>, Stop>
+        requires { length bytes.now < 2 ^ 32 }
+        ensures { (p : Program) → Comes p (λ T o. from_value T p self.old (writing T p (row_place row) bytes.now) o) result self.new }
     {
-        match fill_zeros(&mut self.objects, array) {
+        match fill_zeros(&mut self.objects, row.place()) {
             Err(stop) => Err(stop),
-            Ok(()) => self.put_bytes(bytes, array),
+            Ok(()) => self.put_bytes(bytes, row),
         }
     }
 
     /// The bytes of a string come into an array of zeros.
-    fn put_bytes(&mut self, bytes: &'a [u8], array: Place) -> Result<Step<'a>, Stop>
-        ensures { (p : Program) → Comes p (λ T o. from_value T p self.old (putting_bytes T p (place_of array) bytes.now) o) result self.new }
+    fn put_bytes(&mut self, bytes: &'a [u8], row: Row) -> Result<Step<'a>, Stop>
+        requires { length bytes.now < 2 ^ 32 }
+        ensures { (p : Program) → Comes p (λ T o. from_value T p self.old (putting_bytes T p (row_place row) bytes.now) o) result self.new }
     {
-        match write_bytes(&mut self.objects, array, bytes) {
+        match write_bytes(&mut self.objects, row, bytes) {
             Err(stop) => Err(stop),
             Ok(()) => {
                 self.doing = Doing::Gives(Value::Built);
@@ -215,20 +199,20 @@ impl<'a> Machine<'a> {
     }
 
     /// Every scalar is 0 or null.
-    pub fn zeros(&mut self, into: Option<Place>) -> Result<Step<'a>, Stop>
-        ensures { (p : Program) → Comes p (λ T o. from_value T p self.old (valued T p self.old.fuel cores.zeros (option_map place_of into)) o) result self.new }
+    pub fn zeros(&mut self, into: Option<Goal>) -> Result<Step<'a>, Stop>
+        ensures { (p : Program) → Comes p (λ T o. from_value T p self.old (valued T p self.old.fuel cores.zeros (option_map goal_place into)) o) result self.new }
     {
         match into {
             None => Err(Stop::Malformed),
-            Some(place) => self.zeros_at(place),
+            Some(goal) => self.zeros_at(goal),
         }
     }
 
-    /// Every scalar at this place is 0 or null.
-    fn zeros_at(&mut self, place: Place) -> Result<Step<'a>, Stop>
-        ensures { (p : Program) → Comes p (λ T o. from_value T p self.old (zeroing T p (place_of place)) o) result self.new }
+    /// Every scalar of this goal is 0 or null.
+    fn zeros_at(&mut self, goal: Goal) -> Result<Step<'a>, Stop>
+        ensures { (p : Program) → Comes p (λ T o. from_value T p self.old (zeroing T p (goal_place goal)) o) result self.new }
     {
-        match fill_zeros(&mut self.objects, place) {
+        match fill_zeros(&mut self.objects, goal.place()) {
             Err(stop) => Err(stop),
             Ok(()) => {
                 self.doing = Doing::Gives(Value::Built);

@@ -47,6 +47,7 @@ pub fn start<'a>(alloc: Global, limits: Limits) -> Machine<'a>
         entered: Entered {
             name: b"".as_slice(),
             depth: limits.depth,
+            count: 0,
             locals: Vec::new(alloc),
             scope: Vec::new(alloc),
             temporaries: Vec::new(alloc),
@@ -105,12 +106,15 @@ fn advance<'a>(
     match machine.step(program) {
         Err(Stop::Act(act)) => Ok(Some(End::Undefined(act))),
         Err(Stop::Malformed) => Err(Stop::Malformed),
-        Err(Stop::NotBuilt) => Err(Stop::NotBuilt),
         Err(Stop::Memory) => Err(Stop::Memory),
         Ok(Step::On) => Ok(None),
         Ok(Step::Ends(end)) => Ok(Some(whole_end(end))),
-        Ok(Step::Shows(event)) => {
-            seen.trace.push(event)?;
+        Ok(Step::Enters(name)) => {
+            seen.trace.push(Event::Enter(name))?;
+            Ok(None)
+        }
+        Ok(Step::Puts(byte)) => {
+            seen.trace.push(Event::Out(byte))?;
             Ok(None)
         }
     }

@@ -1,7 +1,7 @@
 use cf_base::Boxed;
 use cf_core::LoopForm;
 use cf_core_objects::{Entered, Integer, Value};
-use cf_core_place::Place;
+use cf_core_place::{Goal, Row};
 use cf_core_store::Applied;
 use cf_run_tree::{Binary, Node, RunFn, RunStatic, Shape, Signature};
 
@@ -29,13 +29,13 @@ pub struct Calling<'a> {
 /// A list of the elements of an array, of which some are initialised (8.4.1).
 #[derive(Clone, Copy)]
 pub struct Listing<'a> {
-    pub array: Place,
-    /// The next element.
+    pub array: Row,
+    /// The next element, and how many there are.
     pub index: u32,
+    pub count: u32,
     /// The initialisers that are left.
     pub rest: &'a [Node],
-    /// How many elements come behind these, and the initialiser of each.
-    pub left: usize,
+    /// The initialiser of each element behind these.
     pub filler: &'a Boxed<Node>,
 }
 
@@ -66,8 +66,8 @@ pub enum ValueMark<'a> {
     Temporary(usize),
     /// The temporary with this object gets the value, and lives as long as a local.
     Held(usize),
-    /// The element of an array at this place gets the value, and the others come.
-    Element(Place, Listing<'a>),
+    /// This element of an array gets the value, and the others come.
+    Element(Goal, Listing<'a>),
     /// The static object of this number gets the value, and these others come.
     Constant(usize, &'a [RunStatic]),
     /// A full expression ends, and the one around it has these temporaries.
@@ -123,8 +123,8 @@ pub enum Doing<'a> {
     Starts,
     /// These static objects get their constant initialisers, and then `main` is called.
     Sets(&'a [RunStatic]),
-    /// An expression, or an initialiser of this place.
-    Evaluate(&'a Node, Option<Place>),
+    /// An expression, or an initialiser of this goal.
+    Evaluate(&'a Node, Option<Goal>),
     Gives(Value<'a>),
     /// The next element of an array.
     Lists(Listing<'a>),

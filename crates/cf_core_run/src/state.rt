@@ -35,7 +35,10 @@ pub enum RunEnd {
 #[derive(Clone, Copy)]
 pub enum Step<'a> {
     On,
-    Shows(Event<'a>),
+    /// A function of this link name is entered.
+    Enters(&'a [u8]),
+    /// A byte is put.
+    Puts(u8),
     Ends(RunEnd),
 }
 

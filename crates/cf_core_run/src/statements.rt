@@ -13,14 +13,14 @@ use crate::state::{Machine, RunEnd, Step};
 use cf_base::Boxed;
 use cf_core::LoopForm;
 use cf_core_objects::{Stop, Value, new_local};
-use cf_core_place::{Part, Place};
+use cf_core_place::Goal;
 use cf_core_store::Applied;
 use cf_run_tree::{Node, ObjectType};
 
 impl<'a> Machine<'a> {
     /// A statement begins.
     pub fn perform(&mut self, s: &'a Node) -> Result<Step<'a>, Stop>
-        ensures { (p : Program) → Comes p (λ T o. from_flow T p self.old (performed T p self.old.fuel (core_of T s.now)) o) result self.new }
+        ensures { (p : Program) → Comes p (λ T o. from_flow T p self.old (performed T p self.old.fuel (core_of T p s.now)) o) result self.new }
     {
         match s {
             Node::Full(e) => self.test(TestMark::Statement, e),
@@ -47,7 +47,7 @@ impl<'a> Machine<'a> {
             Node::Break => self.ends(Flow::Breaks),
             Node::Continue => self.ends(Flow::Continues),
             Node::Return(value) => self.give(value),
-            _ => Err(Stop::NotBuilt),
+            _ => Err(Stop::Malformed),
         }
     }
 
@@ -71,7 +71,7 @@ impl<'a> Machine<'a> {
 
     /// A full expression is evaluated first, and the mark says what follows.
     pub fn test(&mut self, mark: TestMark<'a>, e: &'a Boxed<Node>) -> Result<Step<'a>, Stop>
-        ensures { (p : Program) → Comes p (λ T o. from_flow T p self.old (λ s w. full T p self.old.fuel (valued T p self.old.fuel (core_of T e.now) None) s w ▷ go_test T p self.old.fuel mark.entry) o) result self.new }
+        ensures { (p : Program) → Comes p (λ T o. from_flow T p self.old (λ s w. full T p self.old.fuel (valued T p self.old.fuel (core_of T p e.now) None) s w ▷ go_test T p self.old.fuel mark.entry) o) result self.new }
     {
         self.open_whole(mark)?;
         self.doing = Doing::Evaluate(e.get(), None);
@@ -85,7 +85,7 @@ impl<'a> Machine<'a> {
         mark: TestMark<'a>,
         e: &'a Boxed<Node>,
     ) -> Result<Step<'a>, Stop>
-        ensures { (p : Program) → Comes p (λ T o. from_flow T p self.old (λ s w. full_by T p self.old.fuel (core_of T e.now) op.entry s w ▷ go_test T p self.old.fuel mark.entry) o) result self.new }
+        ensures { (p : Program) → Comes p (λ T o. from_flow T p self.old (λ s w. full_by T p self.old.fuel (core_of T p e.now) op.entry s w ▷ go_test T p self.old.fuel mark.entry) o) result self.new }
     {
         self.open_whole(mark)?;
         self.down(ValueMark::Apply(op), e)
@@ -122,7 +122,7 @@ impl<'a> Machine<'a> {
         ty: &'a ObjectType,
         start: &'a Boxed<Node>,
     ) -> Result<Step<'a>, Stop>
-        ensures { (p : Program) → Comes p (λ T o. from_flow T p self.old (performed T p self.old.fuel (nodes.declare number (object_type T ty.now) (core_of T start.now))) o) result self.new }
+        ensures { (p : Program) → Comes p (λ T o. from_flow T p self.old (performed T p self.old.fuel (nodes.declare number (object_type T ty.now) (core_of T p start.now))) o) result self.new }
     {
         match new_local(number, ty, &mut self.entered, &mut self.objects) {
             Err(stop) => Err(stop),
@@ -132,16 +132,10 @@ impl<'a> Machine<'a> {
 
     /// The initialiser of a local with this object.
     fn initialise(&mut self, object: usize, start: &'a Boxed<Node>) -> Result<Step<'a>, Stop>
-        ensures { (p : Program) → Comes p (λ T o. from_flow T p self.old (λ s w. full T p self.old.fuel (valued T p self.old.fuel (core_of T start.now) (Some (root object))) s w ▷ go_declared T p self.old.fuel object) o) result self.new }
+        ensures { (p : Program) → Comes p (λ T o. from_flow T p self.old (λ s w. full T p self.old.fuel (valued T p self.old.fuel (core_of T p start.now) (Some (root object))) s w ▷ go_declared T p self.old.fuel object) o) result self.new }
     {
         self.open_whole(TestMark::Declared(object))?;
-        self.doing = Doing::Evaluate(
-            start.get(),
-            Some(Place {
-                object,
-                part: Part::Whole,
-            }),
-        );
+        self.doing = Doing::Evaluate(start.get(), Some(Goal::whole(object)));
         Ok(Step::On)
     }
 

@@ -1,4 +1,4 @@
-ghost use Rattle.std.specs.Prelude.{◌≡◌, [], IsTrue, Option, Some, codes};
+ghost use Rattle.std.specs.Prelude.{◌≡◌, [], Option, Some, codes};
 ghost use Rattle.cf_core.specs.Access.{followed};
 ghost use Rattle.cf_core.specs.Calls.{root};
 ghost use Rattle.cf_core.specs.Core as cores;
@@ -8,19 +8,19 @@ ghost use Rattle.cf_core.specs.Objects.{static_number};
 ghost use Rattle.cf_core.specs.Places as places;
 ghost use Rattle.cf_core.specs.Program.{first_state};
 ghost use Rattle.cf_core.specs.Store.{Code};
-ghost use Rattle.cf_run_tree.specs.Tree.{core_of, object_type, program_of, static_of};
+ghost use Rattle.cf_run_tree.specs.Tree.{core_of, object_type, program_of, static_of, static_type};
+ghost use Rattle.cf_run_tree.specs.declared.shape.ObjectType.{ObjectType as Declared};
 ghost use Rattle.cf_run_tree.specs.declared.program.Program.{Program};
 ghost use Rattle.cf_core_objects.specs.Store.{value_of};
 ghost use Rattle.cf_core_objects.specs.Then.{◌▷◌};
 ghost use Rattle.cf_core_run.specs.Going.{Comes, from_value, valued, full, called, setting, setting_with, reaching, go_constant};
 
-use crate::calls::same_shape;
 use crate::mark::{Calling, Doing, ValueMark};
 use crate::state::{Machine, Step};
 use crate::temporaries::settle_object;
 use cf_core_objects::{Entered, Stop, Value, reach, static_objects, static_value};
-use cf_core_place::{Part, Place};
-use cf_run_tree::{Node, ObjectType, Program, RunStatic};
+use cf_core_place::Goal;
+use cf_run_tree::{Node, Program, RunStatic};
 
 /// The number of the static object that a program defines by this name.
 fn static_named(program: &Program, name: &[u8]) -> Option<usize>
@@ -36,53 +36,16 @@ fn static_named(program: &Program, name: &[u8]) -> Option<usize>
     None
 }
 
-/// Whether two numbers of elements are the same.
-fn same_bound(a: u32, b: u32) -> bool
-    ensures { IsTrue result → a ≡ b }
-{
-    a == b
-}
-
-/// Whether two arrays have the same numbers of elements.
-fn same_bounds(a: &[u32], b: &[u32]) -> bool
-    ensures { IsTrue result → a.now ≡ b.now }
-{
-    match a.split_first() {
-        None => b.is_empty(),
-        Some((x, rest)) => match b.split_first() {
-            None => false,
-            Some((y, others)) => {
-                if same_bound(*x, *y) {
-                    same_bounds(rest, others)
-                } else {
-                    false
-                }
-            }
-        },
-    }
-}
-
-/// Whether two objects have one type.
-fn same_type(a: &ObjectType, b: &ObjectType) -> bool
-    ensures { IsTrue result → a.now ≡ b.now }
-{
-    if same_shape(a.shape, b.shape) {
-        same_bounds(a.bounds.as_slice(), b.bounds.as_slice())
-    } else {
-        false
-    }
-}
-
 /// Whether a static object has a constant initialiser that does something.
 fn sets_constant(x: &RunStatic) -> bool
-    ensures { (T : Tables) → result ≡ files.sets_constant (static_of T x.now) }
+    ensures { (T : Tables) (p : Program) → result ≡ files.sets_constant (static_of T p x.now) }
 {
     x.is_constant && !is_blank(&x.start)
 }
 
 /// Whether an initialiser does nothing.
 fn is_blank(start: &Node) -> bool
-    ensures { (T : Tables) → result ≡ files.is_nothing (core_of T start.now) }
+    ensures { (T : Tables) (p : Program) → result ≡ files.is_nothing (core_of T p start.now) }
 {
     match start {
         Node::Blank => true,
@@ -92,7 +55,7 @@ fn is_blank(start: &Node) -> bool
 
 /// The function in which the literals of a constant initialiser are numbered: its own, or the one that initialises the file.
 fn setter(x: &RunStatic) -> &[u8]
-    ensures { (T : Tables) → result.now ≡ files.owner_or (files.in_file 1 (codes "__sti")) (static_of T x.now).owner }
+    ensures { (T : Tables) (p : Program) → result.now ≡ files.owner_or (files.in_file 1 (codes "__sti")) (static_of T p x.now).owner }
 {
     match &x.owner {
         None => b"__sti__u1".as_slice(),
@@ -101,27 +64,13 @@ fn setter(x: &RunStatic) -> &[u8]
 }
 
 impl<'a> Machine<'a> {
-    /// A static object is named, with the type that it is declared with. Other types that are the same but for const are not built.
-    pub fn name_static(
-        &mut self,
-        name: &'a [u8],
-        ty: &'a ObjectType,
-        program: &'a Program,
-    ) -> Result<Step<'a>, Stop>
-        ensures { (into : Option places.Place) → Comes program.now (λ T o. from_value T program.now self.old (valued T program.now self.old.fuel (cores.static_object name.now (object_type T ty.now)) into) o) result self.new }
+    /// A static object is named.
+    pub fn name_static(&mut self, name: &'a [u8], program: &'a Program) -> Result<Step<'a>, Stop>
+        ensures { (ty : Declared) (into : Option places.Place) → Comes program.now (λ T o. from_value T program.now self.old (valued T program.now self.old.fuel (cores.static_object name.now (object_type T (static_type program.now name.now ty))) into) o) result self.new }
     {
         match static_named(program, name) {
             None => Err(Stop::Malformed),
-            Some(number) => match program.statics.as_slice().get(number) {
-                None => Err(Stop::NotBuilt),
-                Some(x) => {
-                    if same_type(&x.ty, ty) {
-                        self.follow_static(number)
-                    } else {
-                        Err(Stop::NotBuilt)
-                    }
-                }
-            },
+            Some(number) => self.follow_static(number),
         }
     }
 
@@ -142,22 +91,18 @@ impl<'a> Machine<'a> {
     pub fn start_program(&mut self, program: &'a Program) -> Result<Step<'a>, Stop>
         ensures { Comes program.now (λ T o. from_value T program.now self.old (λ s w. setting T program.now self.old.fuel program.now.statics (first_state (program_of T program.now) self.old.entered.depth) w) o) result self.new }
     {
-        match static_objects(self.alloc, program) {
-            Err(Stop::Memory) => Err(Stop::Memory),
-            Err(_) => Err(Stop::NotBuilt),
-            Ok(objects) => {
-                self.entered = Entered {
-                    name: b"".as_slice(),
-                    depth: self.entered.depth,
-                    locals: Vec::new(self.alloc),
-                    scope: Vec::new(self.alloc),
-                    temporaries: Vec::new(self.alloc),
-                };
-                self.objects = objects;
-                self.doing = Doing::Sets(program.statics.as_slice());
-                Ok(Step::On)
-            }
-        }
+        let objects = static_objects(self.alloc, program)?;
+        self.entered = Entered {
+            name: b"".as_slice(),
+            depth: self.entered.depth,
+            count: 0,
+            locals: Vec::new(self.alloc),
+            scope: Vec::new(self.alloc),
+            temporaries: Vec::new(self.alloc),
+        };
+        self.objects = objects;
+        self.doing = Doing::Sets(program.statics.as_slice());
+        Ok(Step::On)
     }
 
     /// The next static object gets its constant initialiser, or `main` is called.
@@ -230,16 +175,10 @@ impl<'a> Machine<'a> {
         number: usize,
         rest: &'a [RunStatic],
     ) -> Result<Step<'a>, Stop>
-        ensures { (p : Program) → Comes p (λ T o. from_value T p self.old (λ s w. full T p self.old.fuel (valued T p self.old.fuel (core_of T start.now) (Some (root number))) s w ▷ go_constant T p self.old.fuel number rest.now) o) result self.new }
+        ensures { (p : Program) → Comes p (λ T o. from_value T p self.old (λ s w. full T p self.old.fuel (valued T p self.old.fuel (core_of T p start.now) (Some (root number))) s w ▷ go_constant T p self.old.fuel number rest.now) o) result self.new }
     {
         self.open_inner(ValueMark::Constant(number, rest))?;
-        self.doing = Doing::Evaluate(
-            start,
-            Some(Place {
-                object: number,
-                part: Part::Whole,
-            }),
-        );
+        self.doing = Doing::Evaluate(start, Some(Goal::whole(number)));
         Ok(Step::On)
     }
 

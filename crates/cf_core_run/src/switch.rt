@@ -17,7 +17,7 @@ use cf_run_tree::{Node, ObjectType};
 
 /// Whether a statement is the label for this number.
 fn is_case(number: Integer, s: &Node) -> bool
-    ensures { (T : Tables) → result ≡ its_case number (core_of T s.now) }
+    ensures { (T : Tables) (p : Program) → result ≡ its_case number (core_of T p s.now) }
 {
     match s {
         Node::Case(value) => *value == number.get(),
@@ -27,7 +27,7 @@ fn is_case(number: Integer, s: &Node) -> bool
 
 /// Whether a statement is the label `default`.
 fn is_default(s: &Node) -> bool
-    ensures { (T : Tables) → result ≡ its_default (core_of T s.now) }
+    ensures { (T : Tables) (p : Program) → result ≡ its_default (core_of T p s.now) }
 {
     match s {
         Node::Default => true,
@@ -37,7 +37,7 @@ fn is_default(s: &Node) -> bool
 
 /// Whether there is a label for this number (6.4.2).
 fn has_case(number: Integer, all: &[Node]) -> bool
-    ensures { (T : Tables) → result ≡ statements.has_case number (row T all.now) }
+    ensures { (T : Tables) (p : Program) → result ≡ statements.has_case number (row T p all.now) }
 {
     for s in all {
         if is_case(number, s) {
@@ -49,7 +49,7 @@ fn has_case(number: Integer, all: &[Node]) -> bool
 
 /// Whether there is a label `default`.
 fn has_default(all: &[Node]) -> bool
-    ensures { (T : Tables) → result ≡ statements.has_default (row T all.now) }
+    ensures { (T : Tables) (p : Program) → result ≡ statements.has_default (row T p all.now) }
 {
     for s in all {
         if is_default(s) {
@@ -62,7 +62,7 @@ fn has_default(all: &[Node]) -> bool
 /// A label passes a statement: a local that is declared without an initialiser is there (6.7).
 #[cycle(pass_over)]
 fn pass_over(s: &Node, entered: &mut Entered<'_>, objects: &mut Objects<'_>) -> Result<(), Stop>
-    ensures { (T : Tables) (w : World) → Told (λ u. tt) result (state_of T entered.new objects.new) w (statements.passes (core_of T s.now) (state_of T entered.old objects.old) w) }
+    ensures { (T : Tables) (p : Program) (w : World) → Told (λ u. tt) result (state_of T entered.new objects.new) w (statements.passes (core_of T p s.now) (state_of T entered.old objects.old) w) }
 {
     match s {
         Node::Declare(number, ty, start) => pass_declared(*number, ty, start, entered, objects),
@@ -74,7 +74,7 @@ fn pass_over(s: &Node, entered: &mut Entered<'_>, objects: &mut Objects<'_>) -> 
 /// Statements are passed in order.
 #[cycle(pass_over)]
 fn pass_all(all: &[Node], entered: &mut Entered<'_>, objects: &mut Objects<'_>) -> Result<(), Stop>
-    ensures { (T : Tables) (w : World) → Told (λ u. tt) result (state_of T entered.new objects.new) w (statements.passes_all (row T all.now) (state_of T entered.old objects.old) w) }
+    ensures { (T : Tables) (p : Program) (w : World) → Told (λ u. tt) result (state_of T entered.new objects.new) w (statements.passes_all (row T p all.now) (state_of T entered.old objects.old) w) }
 {
     for s in all {
         match pass_over(s, entered, objects) {
@@ -93,7 +93,7 @@ fn pass_declared(
     entered: &mut Entered<'_>,
     objects: &mut Objects<'_>,
 ) -> Result<(), Stop>
-    ensures { (T : Tables) (w : World) → Told (λ u. tt) result (state_of T entered.new objects.new) w (passes_local number (object_type T ty.now) (core_of T start.now) (state_of T entered.old objects.old) w) }
+    ensures { (T : Tables) (p : Program) (w : World) → Told (λ u. tt) result (state_of T entered.new objects.new) w (passes_local number (object_type T ty.now) (core_of T p start.now) (state_of T entered.old objects.old) w) }
 {
     match start.get() {
         Node::Blank => pass_blank(number, ty, entered, objects),
@@ -182,7 +182,7 @@ impl<'a> Machine<'a> {
         first: &'a Node,
         rest: &'a [Node],
     ) -> Result<Step<'a>, Stop>
-        ensures { (p : Program) → Comes p (λ T o. from_flow T p self.old (passes_before (core_of T first.now) (statements.from_case (again T p self.old.fuel) (program_of T p) number (cores T p rest.now))) o) result self.new }
+        ensures { (p : Program) → Comes p (λ T o. from_flow T p self.old (passes_before (core_of T p first.now) (statements.from_case (again T p self.old.fuel) (program_of T p) number (cores T p rest.now))) o) result self.new }
     {
         match pass_over(first, &mut self.entered, &mut self.objects) {
             Err(stop) => Err(stop),
@@ -211,7 +211,7 @@ impl<'a> Machine<'a> {
 
     /// A statement before `default` is passed.
     fn pass_to_default(&mut self, first: &'a Node, rest: &'a [Node]) -> Result<Step<'a>, Stop>
-        ensures { (p : Program) → Comes p (λ T o. from_flow T p self.old (passes_before (core_of T first.now) (statements.from_default (again T p self.old.fuel) (program_of T p) (cores T p rest.now))) o) result self.new }
+        ensures { (p : Program) → Comes p (λ T o. from_flow T p self.old (passes_before (core_of T p first.now) (statements.from_default (again T p self.old.fuel) (program_of T p) (cores T p rest.now))) o) result self.new }
     {
         match pass_over(first, &mut self.entered, &mut self.objects) {
             Err(stop) => Err(stop),

@@ -17,7 +17,7 @@ use crate::mark::{Doing, Mark, TestMark, ValueMark};
 use crate::state::{Machine, Step};
 use cf_base::Boxed;
 use cf_core_objects::{Objects, Stop, Value, end_temporaries, new_object, new_scalar, settle};
-use cf_core_place::{Part, Place};
+use cf_core_place::{Goal, Part, Place};
 use cf_run_tree::{Node, Shape};
 use std::alloc::AllocError;
 use std::mem::replace;
@@ -72,7 +72,7 @@ impl<'a> Machine<'a> {
 
     /// A temporary of the full expression is made.
     pub fn temporary(&mut self, shape: Shape, start: &'a Boxed<Node>) -> Result<Step<'a>, Stop>
-        ensures { (p : Program) (into : Option places.Place) → Comes p (λ T o. from_value T p self.old (valued T p self.old.fuel (cores.temporary (shape_type T shape) (core_of T start.now)) into) o) result self.new }
+        ensures { (p : Program) (into : Option places.Place) → Comes p (λ T o. from_value T p self.old (valued T p self.old.fuel (cores.temporary (shape_type T shape) (core_of T p start.now)) into) o) result self.new }
     {
         match new_object(shape, &mut self.objects) {
             Err(stop) => Err(stop),
@@ -82,17 +82,11 @@ impl<'a> Machine<'a> {
 
     /// The initialiser of a temporary with this object.
     fn make(&mut self, object: usize, start: &'a Boxed<Node>) -> Result<Step<'a>, Stop>
-        ensures { (p : Program) → Comes p (λ T o. from_value T p self.old (λ s w. valued T p self.old.fuel (core_of T start.now) (Some (root object)) s w ▷ go_temporary T p self.old.fuel object) o) result self.new }
+        ensures { (p : Program) → Comes p (λ T o. from_value T p self.old (λ s w. valued T p self.old.fuel (core_of T p start.now) (Some (root object)) s w ▷ go_temporary T p self.old.fuel object) o) result self.new }
     {
         self.stack
             .push(Mark::Value(self.fuel, ValueMark::Temporary(object)))?;
-        self.doing = Doing::Evaluate(
-            start.get(),
-            Some(Place {
-                object,
-                part: Part::Whole,
-            }),
-        );
+        self.doing = Doing::Evaluate(start.get(), Some(Goal::whole(object)));
         Ok(Step::On)
     }
 
@@ -120,7 +114,7 @@ impl<'a> Machine<'a> {
         shape: Shape,
         start: &'a Boxed<Node>,
     ) -> Result<Step<'a>, Stop>
-        ensures { (p : Program) (into : Option places.Place) → Comes p (λ T o. from_value T p self.old (valued T p self.old.fuel (cores.bind (cores.local_temporary number (shape_type T shape)) (core_of T start.now)) into) o) result self.new }
+        ensures { (p : Program) (into : Option places.Place) → Comes p (λ T o. from_value T p self.old (valued T p self.old.fuel (cores.bind (cores.local_temporary number (shape_type T shape)) (core_of T p start.now)) into) o) result self.new }
     {
         match new_scalar(number, shape, &mut self.entered, &mut self.objects) {
             Err(stop) => Err(stop),
@@ -130,17 +124,11 @@ impl<'a> Machine<'a> {
 
     /// The initialiser of such a temporary with this object.
     fn hold_in(&mut self, object: usize, start: &'a Boxed<Node>) -> Result<Step<'a>, Stop>
-        ensures { (p : Program) → Comes p (λ T o. from_value T p self.old (λ s w. valued T p self.old.fuel (core_of T start.now) (Some (root object)) s w ▷ go_held T p self.old.fuel object) o) result self.new }
+        ensures { (p : Program) → Comes p (λ T o. from_value T p self.old (λ s w. valued T p self.old.fuel (core_of T p start.now) (Some (root object)) s w ▷ go_held T p self.old.fuel object) o) result self.new }
     {
         self.stack
             .push(Mark::Value(self.fuel, ValueMark::Held(object)))?;
-        self.doing = Doing::Evaluate(
-            start.get(),
-            Some(Place {
-                object,
-                part: Part::Whole,
-            }),
-        );
+        self.doing = Doing::Evaluate(start.get(), Some(Goal::whole(object)));
         Ok(Step::On)
     }
 

@@ -1,12 +1,6 @@
 -- Lists that grow by one part after the other.
 use Rattle.std.proofs.Common.{◌≡◌, ◌∙◌, ap, sym, refl, ℕ, List, [], ◌∷◌, ◌++◌, Option, Some, None, append_assoc}
 use Rattle.cf_core_shape.specs.Shapes.{joined, each, in_front}
-use Rattle.cf_run_tree.specs.declared.shape.ObjectType.{ObjectType}
-
--- the bounds that were found, and those of the elements behind them
-abbrev pub bounded : List ℕ → Option ObjectType → Option ObjectType
-bounded bounds (Some o) = Some (record { shape = o.shape; bounds = bounds ++ o.bounds })
-bounded bounds None = None
 
 appended : {B : Type 0} (found : List B) (y : B) (rest : Option (List B)) → in_front (found ++ y ∷ []) rest ≡ in_front found (joined (λ y ys. y ∷ ys) (Some y) rest)
 appended found y None = refl

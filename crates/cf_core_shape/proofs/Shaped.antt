@@ -5,11 +5,7 @@ use Rattle.cf_types.specs.declared.ty.Ty.{Ty}
 use Rattle.cf_types.specs.declared.ty.Ty.TheVariants as ty
 use Rattle.cf_types.specs.declared.ty.Fun.{Fun}
 use Rattle.cf_types.specs.Table.{Table, NamesBelow, Names, fun_parts, parts_of_fun}
-use Rattle.cf_classes.proofs.Trees.{of_type-at}
-use Rattle.cf_run_tree.specs.declared.shape.Shape.{Shape}
-use Rattle.cf_run_tree.specs.declared.shape.ObjectType.{ObjectType}
-use Rattle.cf_core_shape.specs.Shapes.{form_of, shaped, shape_in, shape_of, single, repeated, object_in, object_type_of}
-use Rattle.cf_core_shape.proofs.Loops.{bounded}
+use Rattle.cf_core_shape.specs.Shapes.{form_of, shaped, shape_in, shape_of, row_in, array_of, object_in, object_type_of}
 
 pub shape_of_const : (types : List Ty) (t u : ℕ) (v : Ty) → slice_get types t ≡ Some (ty.Const u) → slice_get types u ≡ Some v
     → shape_of types t ≡ option_map (shaped true) (form_of v)
@@ -23,45 +19,12 @@ pub shape_of_other : (types : List Ty) (t : ℕ) (v : Ty) → slice_get types t 
     → shape_of types t ≡ option_map (shaped false) (form_of v)
 shape_of_other types t v h k = ap (option_and_then (shape_in types)) h ∙ shape_in_other types v k
 
--- an object's type is made from that of its elements, or is a shape alone
-object-at : (types : Table) (t : ℕ) (v : Ty) → slice_get types.types t ≡ Some v → NamesBelow t v → object_type_of types t ≡ object_in types.types (object_type_of types) v
-object-at types t ty.Void h below = (of_type-at None (object_in types.types) types t ty.Void h).2
-object-at types t (ty.Int k) h below = (of_type-at None (object_in types.types) types t (ty.Int k) h).2
-object-at types t (ty.Enum e) h below = (of_type-at None (object_in types.types) types t (ty.Enum e) h).2
-object-at types t (ty.Class c) h below = (of_type-at None (object_in types.types) types t (ty.Class c) h).2
-object-at types t (ty.Ptr u) h below = (of_type-at None (object_in types.types) types t (ty.Ptr u) h).2
-object-at types t (ty.Ref u) h below = (of_type-at None (object_in types.types) types t (ty.Ref u) h).2
-object-at types t (ty.Array u n) h below = let r = of_type-at None (object_in types.types) types t (ty.Array u n) h in r.2 ∙ ap (option_map (repeated n)) (r.1 u below)
-object-at types t (ty.Fun f) h below = (of_type-at None (object_in types.types) types t (ty.Fun f) h).2
-object-at types t (ty.MemData c u) h below = (of_type-at None (object_in types.types) types t (ty.MemData c u) h).2
-object-at types t (ty.MemFun c f) h below = (of_type-at None (object_in types.types) types t (ty.MemFun c f) h).2
-object-at types t (ty.Const u) h below = (of_type-at None (object_in types.types) types t (ty.Const u) h).2
+-- an object's type, by what its number leads to
+pub object_at : (types : Table) (t : ℕ) (v : Ty) → slice_get types.types t ≡ Some v → object_type_of types t ≡ object_in types.types t v
+object_at types t v h = ap (option_and_then (object_in types.types t)) h
 
-bounded-repeated : (bounds : List ℕ) (n : ℕ) (o : Option ObjectType) → bounded (bounds ++ n ∷ []) o ≡ bounded bounds (option_map (repeated n) o)
-bounded-repeated bounds n None = refl
-bounded-repeated bounds n (Some o) = ap (λ (l : List ℕ). Some (record { shape = o.shape; bounds = l })) (append_assoc bounds (n ∷ []) o.bounds)
-
-bounded-none : (o : Option ObjectType) → bounded [] o ≡ o
-bounded-none None = refl
-bounded-none (Some o) = refl
-
-pub at_array : (types : Table) (bounds : List ℕ) (t u n : ℕ) → slice_get types.types t ≡ Some (ty.Array u n) → NamesBelow t (ty.Array u n)
-    → bounded (bounds ++ n ∷ []) (object_type_of types u) ≡ bounded bounds (object_type_of types t)
-at_array types bounds t u n h below = bounded-repeated bounds n (object_type_of types u) ∙ ap (bounded bounds) (sym (object-at types t (ty.Array u n) h below))
-
-single-in : (types : List Ty) (rec : ℕ → Option ObjectType) (v : Ty) → ((u n : ℕ) → v ≡ ty.Array u n → ⊥) → object_in types rec v ≡ option_map single (shape_in types v)
-single-in types rec (ty.Array u n) h = absurd (h u n refl)
-single-in types rec v h = refl
-
-bounded-single : (bounds : List ℕ) (s : Option Shape) → bounded bounds (option_map single s) ≡ option_map (λ (s : Shape). record { shape = s; bounds = bounds }) s
-bounded-single bounds None = refl
-bounded-single bounds (Some s) = ap (λ (l : List ℕ). Some (record { shape = s; bounds = l })) (append-nil bounds)
-
-pub at_element : (types : Table) (bounds : List ℕ) (t : ℕ) (v : Ty) → slice_get types.types t ≡ Some v → NamesBelow t v → ((u n : ℕ) → v ≡ ty.Array u n → ⊥)
-    → option_map (λ (s : Shape). record { shape = s; bounds = bounds }) (shape_of types.types t) ≡ bounded bounds (object_type_of types t)
-at_element types bounds t v h below other =
-    ap (λ (o : Option Ty). option_map (λ (s : Shape). record { shape = s; bounds = bounds }) (option_and_then (shape_in types.types) o)) h
-    ∙ sym (bounded-single bounds (shape_in types.types v)) ∙ ap (bounded bounds) (sym (object-at types t v h below ∙ single-in types.types (object_type_of types) v other))
+pub row_at : (types : List Ty) (n t : ℕ) (v : Ty) → slice_get types t ≡ Some v → array_of types n t ≡ row_in types n t v
+row_at types n t v h = ap (option_and_then (row_in types n t)) h
 
 -- what the parts of a function type are known as
 pub params_known : (f : Fun) (n : ℕ) → All (λ t. t < n) (fun_parts f) → All (λ t. t < n) f.params

@@ -15,18 +15,15 @@ use Rattle.cf_core.specs.FromTypes.{Tables, type_of, type_step, taking, fun_type
 use Rattle.cf_run_tree.specs.declared.shape.Form.{Form}
 use Rattle.cf_run_tree.specs.declared.shape.Form.TheVariants as form
 use Rattle.cf_run_tree.specs.declared.shape.Shape.{Shape}
+use Rattle.cf_run_tree.specs.declared.shape.Bounds.{Bounds}
+use Rattle.cf_run_tree.specs.declared.shape.Bounds.TheVariants as bounds
 use Rattle.cf_run_tree.specs.declared.shape.ObjectType.{ObjectType}
 use Rattle.cf_run_tree.specs.declared.program.Signature.{Signature}
-use Rattle.cf_run_tree.specs.Tree.{form_type, shape_type, object_type, signature_type}
-use Rattle.cf_core_shape.specs.Shapes.{form_of, shaped, shape_in, shape_of, single, repeated, object_in, object_type_of, joined, each, signature, function_signature, signature_of}
+use Rattle.cf_run_tree.specs.Tree.{list_of, arrays, form_type, shape_type, object_type, signature_type}
+use Rattle.cf_core_shape.specs.Shapes.{form_of, shaped, shape_in, shape_of, bounded, row_in, object_in, object_type_of, joined, each, signature, function_signature, signature_of}
 
 same : {A : Type 0} (a b : A) → Some a ≡ Some b → a ≡ b
 same a b e = cc
-
-past : (xs : List Ty) (t : ℕ) → slice_get xs t ≡ None → length xs ≤ t
-past [] t h = omega arith
-past (x ∷ xs) zero h = cc
-past (x ∷ xs) (suc t) h = let le = past xs t h in omega (arith, le)
 
 -- each type names types before it alone
 abbrev pub IsOrdered : Table → Type 0
@@ -98,65 +95,54 @@ module _ (tables : Tables) (ordered : IsOrdered tables.types) where
 
   -- objects
 
-  object-at : (t : ℕ) (v : Ty) → slice_get tables.types.types t ≡ Some v
-      → (rec : ℕ → Option ObjectType) × ((u : ℕ) → u < t → rec u ≡ object_type_of tables.types u) × (object_type_of tables.types t ≡ object_in tables.types.types rec v)
-  object-at t v h = of_type-at None (object_in tables.types.types) tables.types t v h
+  bounded-type : (t : ℕ) (p : Option Shape) → shape_of tables.types.types t ≡ p → (b : Bounds) (o : ObjectType) → option_map (bounded b) p ≡ Some o
+      → arrays (list_of b) (type_of tables t) ≡ object_type tables o
+  bounded-type t None h b o e = cc
+  bounded-type t (Some s) h b o e = ap (arrays (list_of b)) (shape-type t s h) ∙ ap (object_type tables) (same (bounded b s) o e)
 
-  single-object : (t : ℕ) (v : Ty) → slice_get tables.types.types t ≡ Some v → (p : Option Shape) → shape_in tables.types.types v ≡ p
-      → (o : ObjectType) → option_map single p ≡ Some o → type_of tables t ≡ object_type tables o
-  single-object t v h None k o e = cc
-  single-object t v h (Some s) k o e = shape-in t v h s k ∙ ap (object_type tables) (same (single s) o e)
+  -- an array is one of its elements' type
+  array-type : (t u n : ℕ) → slice_get tables.types.types t ≡ Some (ty.Array u n) → type_of tables t ≡ array (type_of tables u) n
+  array-type t u n h = let r = at t (ty.Array u n) h in r.2 ∙ ap (λ w. array w n) (r.1 u (below t u (ty.Array u n) h refl))
 
-  array-object : (t u n : ℕ) → slice_get tables.types.types t ≡ Some (ty.Array u n) → ((o : ObjectType) → object_type_of tables.types u ≡ Some o → type_of tables u ≡ object_type tables o)
-      → (p : Option ObjectType) → object_type_of tables.types u ≡ p → (o : ObjectType) → option_map (repeated n) p ≡ Some o → type_of tables t ≡ object_type tables o
-  array-object t u n h inner None k o e = cc
-  array-object t u n h inner (Some q) k o e =
-      let r = at t (ty.Array u n) h in
-      r.2 ∙ ap (λ w. array w n) (r.1 u (below t u (ty.Array u n) h refl)) ∙ ap (λ w. array w n) (inner q k) ∙ ap (object_type tables) (same (repeated n q) o e)
+  row-type : (t : ℕ) (v : Ty) → slice_get tables.types.types t ≡ Some v → (n : ℕ) (o : ObjectType) → row_in tables.types.types n t v ≡ Some o
+      → array (type_of tables t) n ≡ object_type tables o
+  row-type t (ty.Array u m) h n o e = ap (λ w. array w n) (array-type t u m h) ∙ bounded-type u _ refl (bounds.Two n m) o e
+  row-type t ty.Void h n o e = bounded-type t _ refl (bounds.One n) o e
+  row-type t (ty.Int k) h n o e = bounded-type t _ refl (bounds.One n) o e
+  row-type t (ty.Enum k) h n o e = bounded-type t _ refl (bounds.One n) o e
+  row-type t (ty.Class c) h n o e = bounded-type t _ refl (bounds.One n) o e
+  row-type t (ty.Ptr u) h n o e = bounded-type t _ refl (bounds.One n) o e
+  row-type t (ty.Ref u) h n o e = bounded-type t _ refl (bounds.One n) o e
+  row-type t (ty.Fun k) h n o e = bounded-type t _ refl (bounds.One n) o e
+  row-type t (ty.MemData c u) h n o e = bounded-type t _ refl (bounds.One n) o e
+  row-type t (ty.MemFun c k) h n o e = bounded-type t _ refl (bounds.One n) o e
+  row-type t (ty.Const u) h n o e = bounded-type t _ refl (bounds.One n) o e
 
-  module _ (t : ℕ) (before : (u : ℕ) → u < t → (o : ObjectType) → object_type_of tables.types u ≡ Some o → type_of tables u ≡ object_type tables o) where
-    object-in : (v : Ty) → slice_get tables.types.types t ≡ Some v → (o : ObjectType) → object_type_of tables.types t ≡ Some o → type_of tables t ≡ object_type tables o
-    object-in (ty.Array u n) h o e =
-        let r = object-at t (ty.Array u n) h in
-        let lt = below t u (ty.Array u n) h refl in
-        array-object t u n h (before u lt) (object_type_of tables.types u) refl o (ap (option_map (repeated n)) (sym (r.1 u lt)) ∙ sym r.2 ∙ e)
-    object-in ty.Void h o e = single-object t ty.Void h _ refl o (sym (object-at t ty.Void h).2 ∙ e)
-    object-in (ty.Int k) h o e = single-object t (ty.Int k) h _ refl o (sym (object-at t (ty.Int k) h).2 ∙ e)
-    object-in (ty.Enum n) h o e = single-object t (ty.Enum n) h _ refl o (sym (object-at t (ty.Enum n) h).2 ∙ e)
-    object-in (ty.Class c) h o e = single-object t (ty.Class c) h _ refl o (sym (object-at t (ty.Class c) h).2 ∙ e)
-    object-in (ty.Ptr u) h o e = single-object t (ty.Ptr u) h _ refl o (sym (object-at t (ty.Ptr u) h).2 ∙ e)
-    object-in (ty.Ref u) h o e = single-object t (ty.Ref u) h _ refl o (sym (object-at t (ty.Ref u) h).2 ∙ e)
-    object-in (ty.Fun k) h o e = single-object t (ty.Fun k) h _ refl o (sym (object-at t (ty.Fun k) h).2 ∙ e)
-    object-in (ty.MemData c u) h o e = single-object t (ty.MemData c u) h _ refl o (sym (object-at t (ty.MemData c u) h).2 ∙ e)
-    object-in (ty.MemFun c k) h o e = single-object t (ty.MemFun c k) h _ refl o (sym (object-at t (ty.MemFun c k) h).2 ∙ e)
-    object-in (ty.Const u) h o e = single-object t (ty.Const u) h _ refl o (sym (object-at t (ty.Const u) h).2 ∙ e)
+  rows-type : (t : ℕ) (p : Option Ty) → slice_get tables.types.types t ≡ p → (n : ℕ) (o : ObjectType) → option_and_then (row_in tables.types.types n t) p ≡ Some o
+      → array (type_of tables t) n ≡ object_type tables o
+  rows-type t None h n o e = cc
+  rows-type t (Some v) h n o e = row-type t v h n o e
 
-  -- a number past the table has no form
-  beyond : (xs : List Ty) (t : ℕ) → length xs ≤ t → of_types None (object_in tables.types.types) xs t ≡ None
-  beyond [] t h = refl
-  beyond (x ∷ xs) t h = by (t == length xs) refl ∙ beyond xs t (omega arith)
-    where
-      by : (b : Bool) → (t == length xs) ≡ b
-          → elim b as (λ _. Option ObjectType) [
-            | true ↦ object_in tables.types.types (of_types None (object_in tables.types.types) xs) x
-            | false ↦ of_types None (object_in tables.types.types) xs t
-          ] ≡ of_types None (object_in tables.types.types) xs t
-      by true e = absurd (omega (arith, eqb-true t (length xs) e))
-      by false e = refl
+  object-in : (t : ℕ) (v : Ty) → slice_get tables.types.types t ≡ Some v → (o : ObjectType) → object_in tables.types.types t v ≡ Some o → type_of tables t ≡ object_type tables o
+  object-in t (ty.Array u n) h o e = array-type t u n h ∙ rows-type u _ refl n o e
+  object-in t ty.Void h o e = bounded-type t _ refl bounds.None o e
+  object-in t (ty.Int k) h o e = bounded-type t _ refl bounds.None o e
+  object-in t (ty.Enum k) h o e = bounded-type t _ refl bounds.None o e
+  object-in t (ty.Class c) h o e = bounded-type t _ refl bounds.None o e
+  object-in t (ty.Ptr u) h o e = bounded-type t _ refl bounds.None o e
+  object-in t (ty.Ref u) h o e = bounded-type t _ refl bounds.None o e
+  object-in t (ty.Fun k) h o e = bounded-type t _ refl bounds.None o e
+  object-in t (ty.MemData c u) h o e = bounded-type t _ refl bounds.None o e
+  object-in t (ty.MemFun c k) h o e = bounded-type t _ refl bounds.None o e
+  object-in t (ty.Const u) h o e = bounded-type t _ refl bounds.None o e
 
-  object-found : (t : ℕ) (before : (u : ℕ) → u < t → (o : ObjectType) → object_type_of tables.types u ≡ Some o → type_of tables u ≡ object_type tables o) (p : Option Ty)
-      → slice_get tables.types.types t ≡ p → (o : ObjectType) → object_type_of tables.types t ≡ Some o → type_of tables t ≡ object_type tables o
-  object-found t before None h o e =
-      let none : object_type_of tables.types t ≡ None =
-      beyond (reverse tables.types.types) t (subst (λ n. n ≤ t) (sym (length-reverse tables.types.types)) (past tables.types.types t h)) in cc
-  object-found t before (Some v) h o e = object-in t before v h o e
-
-  object-below : (n t : ℕ) → t < n → (o : ObjectType) → object_type_of tables.types t ≡ Some o → type_of tables t ≡ object_type tables o
-  object-below zero t lt = absurd (omega arith)
-  object-below (suc n) t lt = object-found t (λ u le. object-below n u (omega arith)) (slice_get tables.types.types t) refl
+  object-found : (t : ℕ) (p : Option Ty) → slice_get tables.types.types t ≡ p → (o : ObjectType) → option_and_then (object_in tables.types.types t) p ≡ Some o
+      → type_of tables t ≡ object_type tables o
+  object-found t None h o e = cc
+  object-found t (Some v) h o e = object-in t v h o e
 
   pub object-type : (t : ℕ) (o : ObjectType) → object_type_of tables.types t ≡ Some o → type_of tables t ≡ object_type tables o
-  object-type t = object-below (suc t) t (omega arith)
+  object-type t o e = object-found t (slice_get tables.types.types t) refl o e
 
   -- functions
 

@@ -1,15 +1,17 @@
 -- Which types of a file's table have a form in the plain program's trees (3.6, 8.2.4, 8.2.5): void and scalars but pointers to members, arrays of
--- them, and functions over them.
+-- them and arrays of these, and functions over them.
 use Rattle.std.specs.Prelude.{ℕ, Bool, true, false, if◌then◌else◌, List, [], ◌∷◌, ◌++◌, Option, Some, None, slice_get}
 use Rattle.std.specs.Option.{option_map, option_and_then}
 use Rattle.cf_types.specs.declared.ty.Ty.{Ty}
 use Rattle.cf_types.specs.declared.ty.Ty.TheVariants as ty
 use Rattle.cf_types.specs.declared.ty.Fun.{Fun}
 use Rattle.cf_types.specs.Table.{Table}
-use Rattle.cf_classes.specs.TypeTree.{of_type, fun_of}
+use Rattle.cf_classes.specs.TypeTree.{fun_of}
 use Rattle.cf_run_tree.specs.declared.shape.Form.{Form}
 use Rattle.cf_run_tree.specs.declared.shape.Form.TheVariants as form
 use Rattle.cf_run_tree.specs.declared.shape.Shape.{Shape}
+use Rattle.cf_run_tree.specs.declared.shape.Bounds.{Bounds}
+use Rattle.cf_run_tree.specs.declared.shape.Bounds.TheVariants as bounds
 use Rattle.cf_run_tree.specs.declared.shape.ObjectType.{ObjectType}
 use Rattle.cf_run_tree.specs.declared.program.Signature.{Signature}
 
@@ -39,20 +41,25 @@ shape_in types v = option_map (shaped false) (form_of v)
 abbrev pub shape_of : List Ty → ℕ → Option Shape
 shape_of types t = option_and_then (shape_in types) (slice_get types t)
 
-abbrev pub single : Shape → ObjectType
-single s = record { shape = s; bounds = [] }
+-- the type of objects of this shape, in an array of these bounds
+abbrev pub bounded : Bounds → Shape → ObjectType
+bounded b s = record { shape = s; bounds = b }
 
--- an array of so many
-abbrev pub repeated : ℕ → ObjectType → ObjectType
-repeated n o = record { shape = o.shape; bounds = n ∷ o.bounds }
+-- an array of so many elements of a type
+abbrev pub row_in : List Ty → ℕ → ℕ → Ty → Option ObjectType
+row_in types n t (ty.Array u m) = option_map (bounded (bounds.Two n m)) (shape_of types u)
+row_in types n t v = option_map (bounded (bounds.One n)) (shape_of types t)
 
-abbrev pub object_in : List Ty → (ℕ → Option ObjectType) → Ty → Option ObjectType
-object_in types rec (ty.Array t n) = option_map (repeated n) (rec t)
-object_in types rec v = option_map single (shape_in types v)
+abbrev pub array_of : List Ty → ℕ → ℕ → Option ObjectType
+array_of types n t = option_and_then (row_in types n t) (slice_get types t)
 
--- the type of objects that the type of this number is
+abbrev pub object_in : List Ty → ℕ → Ty → Option ObjectType
+object_in types t (ty.Array u n) = array_of types n u
+object_in types t v = option_map (bounded bounds.None) (shape_of types t)
+
+-- the type of objects that the type of this number is: a scalar, an array of scalars or an array of such arrays
 abbrev pub object_type_of : Table → ℕ → Option ObjectType
-object_type_of types t = of_type None (object_in types.types) types t
+object_type_of types t = option_and_then (object_in types.types t) (slice_get types.types t)
 
 -- both, made into one
 abbrev pub joined : {A B C : Type 0} → (A → B → C) → Option A → Option B → Option C

@@ -19,7 +19,6 @@ use Rattle.cf_core_objects.specs.Store.{value_of}
 pub stops-then : {A B : Type 0} (e : Stop) (act : Act A) (go : A → Act B) (s : State) (w : World) → Stopped e w (act s w) → Stopped e w ((act >>= go) s w)
 stops-then {A} {B} (stop.Act n) act go s w h = ap (λ (r : Ran (Did A)). and_then r (λ did w. onward did go w)) h
 stops-then {A} {B} stop.Malformed act go s w h = ap (λ (r : Ran (Did A)). and_then r (λ did w. onward did go w)) h
-stops-then stop.NotBuilt act go s w h = tt
 stops-then stop.Memory act go s w h = tt
 
 pub goes-then : {A B : Type 0} (act : Act A) (go : A → Act B) (a : A) (s t : State) (w v : World) → act s w ≡ Went (Gives a t) v → (act >>= go) s w ≡ go a t v

@@ -8,14 +8,13 @@ use Rattle.cf_core.specs.Core.{item}
 use Rattle.cf_core.specs.Places.{Route, Place, inner, is_inside, place_eq}
 use Rattle.cf_core.specs.Pointers as pointers
 use Rattle.cf_core.specs.Pointers.{element_of, up_to, further, bound_of, same_array, truth_value}
-use Rattle.cf_core.specs.Run.{State, Did, Gives, Malformed, ◌>>◌, gives, need, valid, outside_array, compared}
+use Rattle.cf_core.specs.Run.{State, Did, Gives, Malformed, ◌>>=◌, ◌>>◌, gives, need, valid, not_alive, outside_array, compared}
 use Rattle.cf_core.specs.Scalars as scalars
 use Rattle.cf_core.specs.Store.{Value, Number, At, is_dead}
 use Rattle.cf_core.specs.Places.{type_at}
 use Rattle.cf_core_place.specs.declared.part.Part.{Part}
-use Rattle.cf_core_place.specs.Routes.{route_of}
-use Rattle.cf_core_place.specs.Spots.{kept_to}
-use Rattle.cf_core_place.proofs.SpotLaws.{same-some}
+use Rattle.cf_core_place.specs.Routes.{route_of, kept_to}
+use Rattle.cf_core_place.proofs.PartLaws.{same-some}
 use Rattle.cf_core_objects.specs.declared.answer.Stop.{Stop}
 use Rattle.cf_core_objects.specs.declared.answer.Value.{Value as Given}
 use Rattle.cf_core_objects.specs.declared.answer.Value.TheVariants as given
@@ -55,23 +54,35 @@ up-some n (Some i) k s w h = by (nat_le i n) h
     by true h = ap (λ j. Went (Gives j s) w) (same-some i k h)
     by false h = absurd (cc)
 
-moved-as : (s : State) (p : Place) (site : Site) (i : ℕ) (z : ℤ) (w : World) → IsSite (s.object p.object) p.route site → (element_of p.route).index ≡ i
+-- a place that is moved, of which it is told whether its object has ended
+abbrev moving : Bool → State → Place → ℤ → World → Ran (Did Value)
+moving g s p z w =
+    (need (not g) not_alive
+    >> (up_to (bound_of [] (s.object p.object).type (element_of p.route)) (further (element_of p.route).index z)
+    >>= (λ k. gives (At (record p { route = pointers.route_of (element_of p.route) k }))))) s w
+
+pub moved-dead : (s : State) (p : Place) (site : Site) (z : ℤ) (w : World) → IsSite (s.object p.object) p.route site → site.is_gone ≡ true
+    → pointers.moved_place [] p z s w ≡ Stops (Undefined not_alive) w.trace
+moved-dead s p site z w is gone = ap (λ g. moving g s p z w) (is.is_dead ∙ gone)
+
+moved-as : (s : State) (p : Place) (site : Site) (i : ℕ) (z : ℤ) (w : World) → IsSite (s.object p.object) p.route site → site.is_gone ≡ false → (element_of p.route).index ≡ i
     → pointers.moved_place [] p z s w ≡ (up_to site.bound (further i z) s w ▷ (λ k. gives (At (record p { route = pointers.route_of (element_of p.route) k }))))
-moved-as s p site i z w is index =
-    ap (λ n. up_to n (further (element_of p.route).index z) s w ▷ (λ k. gives (At (record p { route = pointers.route_of (element_of p.route) k })))) is.bound
+moved-as s p site i z w is alive index =
+    ap (λ g. moving g s p z w) (is.is_dead ∙ alive)
+    ∙ ap (λ n. up_to n (further (element_of p.route).index z) s w ▷ (λ k. gives (At (record p { route = pointers.route_of (element_of p.route) k })))) is.bound
     ∙ ap (λ j. up_to site.bound (further j z) s w ▷ (λ k. gives (At (record p { route = pointers.route_of (element_of p.route) k })))) index
 
-pub moved-none : (s : State) (p : Place) (site : Site) (i : ℕ) (z : ℤ) (w : World) → IsSite (s.object p.object) p.route site → (element_of p.route).index ≡ i → kept_to site.bound (further i z) ≡ None
-    → pointers.moved_place [] p z s w ≡ Stops (Undefined outside_array) w.trace
-moved-none s p site i z w is index h =
-    moved-as s p site i z w is index
+pub moved-none : (s : State) (p : Place) (site : Site) (i : ℕ) (z : ℤ) (w : World) → IsSite (s.object p.object) p.route site → site.is_gone ≡ false → (element_of p.route).index ≡ i
+    → kept_to site.bound (further i z) ≡ None → pointers.moved_place [] p z s w ≡ Stops (Undefined outside_array) w.trace
+moved-none s p site i z w is alive index h =
+    moved-as s p site i z w is alive index
     ∙ ap (λ x. x ▷ (λ k. gives (At (record p { route = pointers.route_of (element_of p.route) k })))) (up-none site.bound (further i z) s w h)
 
-pub moved-some : (s : State) (p : Place) (site : Site) (i : ℕ) (z : ℤ) (k : ℕ) (q : Part) (w : World) → IsSite (s.object p.object) p.route site → (element_of p.route).index ≡ i
+pub moved-some : (s : State) (p : Place) (site : Site) (i : ℕ) (z : ℤ) (k : ℕ) (q : Part) (w : World) → IsSite (s.object p.object) p.route site → site.is_gone ≡ false → (element_of p.route).index ≡ i
     → kept_to site.bound (further i z) ≡ Some k → route_of q ≡ pointers.route_of (element_of p.route) k
     → pointers.moved_place [] p z s w ≡ Went (Gives (At (record { object = p.object; route = route_of q })) s) w
-moved-some s p site i z k q w is index h part =
-    moved-as s p site i z w is index
+moved-some s p site i z k q w is alive index h part =
+    moved-as s p site i z w is alive index
     ∙ ap (λ x. x ▷ (λ k. gives (At (record p { route = pointers.route_of (element_of p.route) k })))) (up-some site.bound (further i z) k s w h)
     ∙ ap (λ (π : Route). Went (Gives (At (record { object = p.object; route = π })) s) w) (sym part)
 

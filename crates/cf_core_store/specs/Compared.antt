@@ -34,7 +34,7 @@ abbrev pub lies : Bool → Place → Place → Bool
 lies is_inside p q = not (not is_inside) && (p.object == q.object) && is_beyond p.route q.route
 
 abbrev pub comparable : Bool → Bool → Place → Place → Bool
-comparable i j p q = place_eq p q || (ends i p q && ends j q p && not (lies i p q) && not (lies j q p))
+comparable i j p q = place_eq p q || (not (not i && not j) && ends i p q && ends j q p && not (lies i p q) && not (lies j q p))
 
 -- what is at two places
 pub record AreSites (s : State) (p q : Place) (both : Both) : Type 0 where

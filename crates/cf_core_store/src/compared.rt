@@ -1,4 +1,4 @@
-ghost use Rattle.std.specs.Prelude.{◌≡◌, [], IfSome};
+ghost use Rattle.std.specs.Prelude.{◌≡◌, []};
 ghost use Rattle.cf_base.specs.World.{World};
 ghost use Rattle.cf_core.specs.FromTypes.{Tables};
 ghost use Rattle.cf_core.specs.Places as places;
@@ -52,13 +52,14 @@ fn lies(is_inside: bool, p: Place, q: Place) -> bool
     is_inside && p.object == q.object && lies_in(p.part, q.part)
 }
 
-/// Whether two places may be compared: the end of an array is compared with pointers into that array alone, and two places of which
-/// one lies in the other with neither.
+/// Whether two places may be compared: the end of an array is compared with pointers into that array alone and not with another end,
+/// and two places of which one lies in the other with neither.
 fn comparable(is_inside: bool, other_inside: bool, p: Place, q: Place) -> bool
     ensures { result ≡ compared.comparable is_inside other_inside (place_of p) (place_of q) }
 {
     same_place(p, q)
-        || (ends(is_inside, p, q)
+        || ((is_inside || other_inside)
+            && ends(is_inside, p, q)
             && ends(other_inside, q, p)
             && !lies(is_inside, p, q)
             && !lies(other_inside, q, p))
@@ -71,17 +72,12 @@ struct Both {
     second: Site,
 }
 
-/// What is at two places, if both are of objects that were made.
-fn both_at(objects: &Objects<'_>, p: Place, q: Place) -> Option<Both>
-    ensures { IfSome result (λ both. (T : Tables) (e : Enter) → AreSites (state_of T e objects.now) (place_of p) (place_of q) both) }
+fn both_at(objects: &Objects<'_>, p: Place, q: Place) -> Both
+    ensures { (T : Tables) (e : Enter) → AreSites (state_of T e objects.now) (place_of p) (place_of q) result }
 {
-    match site_at(objects, p) {
-        None => None,
-        Some(first) => match site_at(objects, q) {
-            None => None,
-            Some(second) => Some(Both { first, second }),
-        },
-    }
+    let first = site_at(objects, p);
+    let second = site_at(objects, q);
+    Both { first, second }
 }
 
 /// How many elements lead from the second place to the first (5.7).
@@ -106,10 +102,7 @@ fn distance<'a>(both: Both, p: Place, q: Place) -> Result<Value<'a>, Stop>
 fn distance_at<'a>(objects: &Objects<'_>, p: Place, q: Place) -> Result<Value<'a>, Stop>
     ensures { (T : Tables) (e : Enter) (w : World) → Told value_of result (state_of T e objects.now) w (pointers.difference_of [] (At (place_of p)) (At (place_of q)) (state_of T e objects.now) w) }
 {
-    match both_at(objects, p, q) {
-        None => Err(Stop::NotBuilt),
-        Some(both) => distance(both, p, q),
-    }
+    distance(both_at(objects, p, q), p, q)
 }
 
 /// The difference of two pointers (5.7).
@@ -169,10 +162,7 @@ fn order_at<'a>(
 ) -> Result<Value<'a>, Stop>
     ensures { (T : Tables) (e : Enter) (w : World) → Told value_of result (state_of T e objects.now) w (pointers.ordered [] (less_of op) (At (place_of p)) (At (place_of q)) (state_of T e objects.now) w) }
 {
-    match both_at(objects, p, q) {
-        None => Err(Stop::NotBuilt),
-        Some(both) => order(op, both, p, q),
-    }
+    order(op, both_at(objects, p, q), p, q)
 }
 
 /// The order of two pointers (5.9).
@@ -219,10 +209,7 @@ fn equality(both: Both, p: Place, q: Place) -> Result<bool, Stop>
 fn equal_at(objects: &Objects<'_>, p: Place, q: Place) -> Result<bool, Stop>
     ensures { (T : Tables) (e : Enter) (w : World) → Told (λ b. b) result (state_of T e objects.now) w (pointers.equal_values [] (At (place_of p)) (At (place_of q)) (state_of T e objects.now) w) }
 {
-    match both_at(objects, p, q) {
-        None => Err(Stop::NotBuilt),
-        Some(both) => equality(both, p, q),
-    }
+    equality(both_at(objects, p, q), p, q)
 }
 
 /// Whether two pointers are equal (5.10).

@@ -1,4 +1,4 @@
-ghost use Rattle.std.specs.Prelude.{◌≡◌, [], IfSome};
+ghost use Rattle.std.specs.Prelude.{◌≡◌, [], true};
 ghost use Rattle.cf_base.specs.World.{World};
 ghost use Rattle.cf_core.specs.Core as core;
 ghost use Rattle.cf_core.specs.FromTypes.{Tables};
@@ -6,33 +6,34 @@ ghost use Rattle.cf_core.specs.Pointers as pointers;
 ghost use Rattle.cf_core.specs.Run.{State};
 ghost use Rattle.cf_core.specs.Scalars as scalars;
 ghost use Rattle.cf_core.specs.Store.{At};
-ghost use Rattle.cf_core_place.specs.Routes.{place_of};
+ghost use Rattle.cf_core_place.specs.Routes.{place_of, has_items};
 ghost use Rattle.cf_core_objects.specs.Answer.{Told};
 ghost use Rattle.cf_core_objects.specs.Store.{state_of, value_of};
 ghost use Rattle.cf_core_objects.specs.declared.object.Entered.{Entered as Enter};
 ghost use Rattle.cf_core_store.specs.Compared.{first_of};
 
-use cf_core_objects::{Objects, Sort, Stop, Value, element, site_at};
-use cf_core_place::{Place, further, index, with_index};
+use cf_core_objects::{Objects, Sort, Stop, Value, site_at};
+use cf_core_place::{Place, further, index, item, with_index};
 
-/// A place moved by a number of elements, within its array or to its end (5.7).
-fn moved_place<'a>(objects: &Objects<'_>, place: Place, by: i64) -> Result<Value<'a>, Stop>
+/// A place of an object that has not ended, moved by a number of elements, within its array or to its end (5.7).
+fn moved_place<'a>(objects: &Objects<'_>, place: Place, by: i128) -> Result<Value<'a>, Stop>
     ensures { (T : Tables) (e : Enter) (w : World) → Told value_of result (state_of T e objects.now) w (pointers.moved_place [] (place_of place) by (state_of T e objects.now) w) }
 {
-    match site_at(objects, place) {
-        None => Err(Stop::NotBuilt),
-        Some(site) => match further(index(place.part), by, site.bound) {
-            None => Err(Stop::Act(6)),
-            Some(index) => Ok(Value::At(Place {
-                object: place.object,
-                part: with_index(place.part, index),
-            })),
-        },
+    let site = site_at(objects, place);
+    if site.is_gone {
+        return Err(Stop::Act(5));
+    }
+    match further(index(place.part), by, site.bound) {
+        None => Err(Stop::Act(6)),
+        Some(index) => Ok(Value::At(Place {
+            object: place.object,
+            part: with_index(place.part, index),
+        })),
     }
 }
 
 /// A pointer moved by a number of elements.
-fn moved_value<'a>(objects: &Objects<'_>, v: Value<'a>, by: i64) -> Result<Value<'a>, Stop>
+fn moved_value<'a>(objects: &Objects<'_>, v: Value<'a>, by: i128) -> Result<Value<'a>, Stop>
     ensures { (T : Tables) (e : Enter) (w : World) → Told value_of result (state_of T e objects.now) w (pointers.moved_value [] (value_of v.entry) by (state_of T e objects.now) w) }
 {
     match v {
@@ -47,7 +48,7 @@ pub fn moved_by<'a>(objects: &Objects<'_>, v: Value<'a>, by: Value<'_>) -> Resul
     ensures { (T : Tables) (e : Enter) (w : World) → Told value_of result (state_of T e objects.now) w (scalars.moved_by [] (value_of v.entry) (value_of by.entry) (state_of T e objects.now) w) }
 {
     match by {
-        Value::Number(by) => moved_value(objects, v, by),
+        Value::Number(by) => moved_value(objects, v, i128::from(by)),
         _ => Err(Stop::Malformed),
     }
 }
@@ -57,21 +58,8 @@ pub fn indexed<'a>(objects: &Objects<'_>, x: Value<'a>, y: Value<'a>) -> Result<
     ensures { (T : Tables) (e : Enter) (w : World) → Told value_of result (state_of T e objects.now) w (scalars.indexed [] (value_of x.entry) (value_of y.entry) (state_of T e objects.now) w) }
 {
     match x {
-        Value::Number(by) => moved_value(objects, y, by),
+        Value::Number(by) => moved_value(objects, y, i128::from(by)),
         _ => moved_by(objects, x, y),
-    }
-}
-
-/// A number with the other sign, if it has one; any other value.
-fn minus<'a>(v: Value<'a>) -> Option<Value<'a>>
-    ensures { IfSome result (λ u. value_of u ≡ scalars.minus (value_of v.entry)) }
-{
-    match v {
-        Value::Number(number) => match number.checked_neg() {
-            None => None,
-            Some(negative) => Some(Value::Number(negative)),
-        },
-        _ => Some(v),
     }
 }
 
@@ -79,9 +67,9 @@ fn minus<'a>(v: Value<'a>) -> Option<Value<'a>>
 fn changed_back<'a>(objects: &Objects<'_>, v: Value<'a>, by: Value<'a>) -> Result<Value<'a>, Stop>
     ensures { (T : Tables) (e : Enter) (w : World) → Told value_of result (state_of T e objects.now) w (scalars.moved_by [] (value_of v.entry) (scalars.minus (value_of by.entry)) (state_of T e objects.now) w) }
 {
-    match minus(by) {
-        None => Err(Stop::NotBuilt),
-        Some(by) => moved_by(objects, v, by),
+    match by {
+        Value::Number(number) => moved_value(objects, v, -i128::from(number)),
+        _ => Err(Stop::Malformed),
     }
 }
 
@@ -106,10 +94,7 @@ pub fn moved_back<'a>(objects: &Objects<'_>, v: Value<'a>, by: Value<'_>) -> Res
     ensures { (T : Tables) (e : Enter) (w : World) → Told value_of result (state_of T e objects.now) w (pointers.moved_back [] (value_of v.entry) (value_of by.entry) (state_of T e objects.now) w) }
 {
     match by {
-        Value::Number(number) => match number.checked_neg() {
-            None => Err(Stop::NotBuilt),
-            Some(negative) => moved_value(objects, v, negative),
-        },
+        Value::Number(number) => moved_value(objects, v, -i128::from(number)),
         _ => Err(Stop::Malformed),
     }
 }
@@ -118,25 +103,27 @@ pub fn moved_back<'a>(objects: &Objects<'_>, v: Value<'a>, by: Value<'_>) -> Res
 fn decayed_place<'a>(objects: &Objects<'_>, place: Place) -> Result<Value<'a>, Stop>
     ensures { (T : Tables) (e : Enter) (w : World) → Told value_of result (state_of T e objects.now) w (scalars.decayed [] (At (place_of place)) (state_of T e objects.now) w) }
 {
-    match site_at(objects, place) {
-        None => Err(Stop::NotBuilt),
-        Some(site) => match site.sort {
-            Sort::Array(_) => first_element(place, site.is_inside),
-            _ => Err(Stop::Malformed),
-        },
+    let site = site_at(objects, place);
+    match site.sort {
+        Sort::Array(_) => first_element(place, site.is_inside),
+        _ => Err(Stop::Malformed),
     }
 }
 
 /// The first element of a place, where that is no end of an array.
 fn first_element<'a>(place: Place, is_inside: bool) -> Result<Value<'a>, Stop>
+    requires { is_inside ≡ true → has_items place.part ≡ true }
     ensures { (s : State) (w : World) → Told value_of result s w (first_of is_inside (place_of place) s w) }
 {
     if !is_inside {
         return Err(Stop::Act(6));
     }
-    match element(place, 0) {
-        None => Err(Stop::NotBuilt),
-        Some(first) => Ok(Value::At(first)),
+    match item(place.part, 0) {
+        None => Err(Stop::Malformed),
+        Some(part) => Ok(Value::At(Place {
+            object: place.object,
+            part,
+        })),
     }
 }
 

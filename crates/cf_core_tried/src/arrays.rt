@@ -6,6 +6,7 @@ use crate::shapes::{ints, pointer, scalar};
 use crate::trial::{comes_to, ended};
 use cf_core::PointerOperator;
 use cf_core_run::End;
+use cf_run_tree::Unary;
 use std::process::Abort;
 use std::test::Fail;
 
@@ -65,4 +66,20 @@ fn end_is_reached(rt: HostRuntime) -> Result<(), Fail> {
 fn end_is_passed(rt: HostRuntime) -> Result<(), Fail> {
     let b = Build { alloc: rt.alloc() };
     ends(&rt, b, moved(b, 4).then(distance(b)), End::Undefined(6))
+}
+
+/// `(void*)(&a+1)==(void*)(a+3)`
+fn ends_compared(b: Build) -> Tree {
+    let array = b.apply(Unary::Address, b.named(b"a".as_slice(), ints(3)));
+    let behind = b.point(PointerOperator::Add, array, b.number(1));
+    let last = b.point(PointerOperator::Add, start(b), b.number(3));
+    b.point(PointerOperator::Equal, behind, last)
+}
+
+/// The end of an array and the end behind its last element are two ends, and are not compared.
+#[test]
+fn two_ends(rt: HostRuntime) -> Result<(), Fail> {
+    let b = Build { alloc: rt.alloc() };
+    let statements = moved(b, 0).then(b.give(ends_compared(b)));
+    ends(&rt, b, statements, End::Undefined(10))
 }

@@ -1,9 +1,9 @@
 //! Trees by their parts. A part that there was no memory for is passed on as such, so that a tree is one expression.
 
-use crate::shapes::{Declared, INT, object_type, open, signature};
+use crate::shapes::{INT, open, signature};
 use cf_base::{Arith, Boxed, Items, Kind, Memory, Name};
 use cf_core::{LoopForm, PointerOperator};
-use cf_run_tree::{Binary, Form, Node, Shape, Unary};
+use cf_run_tree::{Binary, Form, Node, ObjectType, Shape, Unary};
 use std::alloc::Global;
 
 /// A tree, or want of memory.
@@ -109,9 +109,8 @@ impl Build {
     }
 
     /// The static object of this name and type.
-    pub fn named(self, name: &[u8], declared: Declared) -> Tree {
+    pub fn named(self, name: &[u8], ty: ObjectType) -> Tree {
         let name = Name::from_slice(self.alloc, name)?;
-        let ty = object_type(self.alloc, declared)?;
         self.node(Node::Static(name, ty))
     }
 
@@ -163,9 +162,8 @@ impl Build {
     }
 
     /// A local of this number and type, with its initialiser.
-    pub fn declare(self, number: u32, declared: Declared, start: Tree) -> Tree {
+    pub fn declare(self, number: u32, ty: ObjectType, start: Tree) -> Tree {
         let start = start?;
-        let ty = object_type(self.alloc, declared)?;
         self.node(Node::Declare(number, ty, start))
     }
 

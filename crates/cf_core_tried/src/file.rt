@@ -1,9 +1,9 @@
 //! Files by their parts.
 
 use crate::build::{Build, List, Tree};
-use crate::shapes::{Declared, object_type, object_types, signature};
+use crate::shapes::signature;
 use cf_base::{Items, Memory, Name};
-use cf_run_tree::{Node, Program, RunFn, RunStatic, Shape};
+use cf_run_tree::{Node, ObjectType, Program, RunFn, RunStatic, Shape};
 use std::alloc::Global;
 
 /// A file, or want of memory.
@@ -31,7 +31,7 @@ impl File {
         self,
         name: &[u8],
         params: &[Shape],
-        locals: &[Declared],
+        locals: &[ObjectType],
         statements: List,
     ) -> File {
         let File { alloc, program } = self;
@@ -57,16 +57,16 @@ impl File {
     }
 
     /// And `main`, with its locals and its statements.
-    pub fn main(self, locals: &[Declared], statements: List) -> File {
+    pub fn main(self, locals: &[ObjectType], statements: List) -> File {
         self.function(b"__main".as_slice(), &[], locals, statements)
     }
 
     /// And a static object of this name and type, with its constant initialiser.
-    pub fn object(self, name: &[u8], declared: Declared, start: Tree) -> File {
+    pub fn object(self, name: &[u8], ty: ObjectType, start: Tree) -> File {
         let File { alloc, program } = self;
         File {
             alloc,
-            program: with_object(alloc, program, name, declared, start),
+            program: with_object(alloc, program, name, ty, start),
         }
     }
 }
@@ -76,13 +76,13 @@ impl File {
 struct Head<'a> {
     name: &'a [u8],
     params: &'a [Shape],
-    locals: &'a [Declared],
+    locals: &'a [ObjectType],
 }
 
 fn function_of(alloc: Global, head: Head<'_>, statements: Items<Node>) -> Result<RunFn, Memory> {
     let name = Name::from_slice(alloc, head.name)?;
     let signature = signature(alloc, head.params)?;
-    let locals = object_types(alloc, head.locals)?;
+    let locals = Items::from_slice(alloc, head.locals)?;
     Ok(RunFn {
         name,
         signature,
@@ -107,14 +107,8 @@ fn with_function(
     Ok(program)
 }
 
-fn object_of(
-    alloc: Global,
-    name: &[u8],
-    declared: Declared,
-    start: Tree,
-) -> Result<RunStatic, Memory> {
+fn object_of(alloc: Global, name: &[u8], ty: ObjectType, start: Tree) -> Result<RunStatic, Memory> {
     let name = Name::from_slice(alloc, name)?;
-    let ty = object_type(alloc, declared)?;
     let start = start?;
     Ok(RunStatic {
         name,
@@ -131,12 +125,10 @@ fn with_object(
     alloc: Global,
     program: Result<Program, Memory>,
     name: &[u8],
-    declared: Declared,
+    ty: ObjectType,
     start: Tree,
 ) -> Result<Program, Memory> {
     let mut program = program?;
-    program
-        .statics
-        .push(object_of(alloc, name, declared, start)?)?;
+    program.statics.push(object_of(alloc, name, ty, start)?)?;
     Ok(program)
 }

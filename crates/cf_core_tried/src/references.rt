@@ -5,6 +5,7 @@ use crate::file::File;
 use crate::shapes::{INT, const_reference, pointer, reference, scalar};
 use crate::trial::{comes_to, ended};
 use cf_base::{Arith, Kind};
+use cf_core::PointerOperator;
 use cf_core_run::End;
 use cf_run_tree::Unary;
 use std::test::Fail;
@@ -54,18 +55,38 @@ fn objects_and_temporaries(rt: HostRuntime) -> Result<(), Fail> {
     comes_to(&rt, file, b"(__main)(f__FRCi)(f__FRCi)", ended(7))
 }
 
-/// `int*p=` the address of a temporary of 2; `return *p;`
-fn outlived(b: Build) -> List {
+/// `int*p=` the address of a temporary of 2; and then this
+fn outlived(b: Build, then: Tree) -> List {
     let address = b.apply(Unary::Address, b.temporary(b.number(2)));
     b.list()
         .then(b.declare(0, scalar(pointer()), address))
-        .then(b.give(b.read(b.behind(b.held(0)))))
+        .then(then)
+}
+
+/// `return *p;`
+fn read_behind(b: Build) -> Tree {
+    b.give(b.read(b.behind(b.held(0))))
 }
 
 /// A temporary ends with its full expression, and is not read behind it.
 #[test]
 fn temporary_has_ended(rt: HostRuntime) -> Result<(), Fail> {
     let b = Build { alloc: rt.alloc() };
-    let file = File::new(b).main(&[scalar(pointer())], outlived(b));
+    let file = File::new(b).main(&[scalar(pointer())], outlived(b, read_behind(b)));
+    comes_to(&rt, file, b"(__main)", End::Undefined(5))
+}
+
+/// `return p+0==0;`
+fn move_behind(b: Build) -> Tree {
+    let moved = b.point(PointerOperator::Add, b.held(0), b.number(0));
+    let null = b.apply(Unary::Convert(pointer()), b.number(0));
+    b.give(b.point(PointerOperator::Equal, moved, null))
+}
+
+/// Nor is a pointer to it moved, even by no element.
+#[test]
+fn pointer_to_ended_is_moved(rt: HostRuntime) -> Result<(), Fail> {
+    let b = Build { alloc: rt.alloc() };
+    let file = File::new(b).main(&[scalar(pointer())], outlived(b, move_behind(b)));
     comes_to(&rt, file, b"(__main)", End::Undefined(5))
 }

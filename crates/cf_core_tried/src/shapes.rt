@@ -1,16 +1,9 @@
 //! Types of objects and functions.
 
 use cf_base::{Items, Kind, Memory};
-use cf_run_tree::{Form, ObjectType, Shape, Signature};
+use cf_run_tree::{Bounds, Form, ObjectType, Shape, Signature};
 use cf_types::TyId;
 use std::alloc::Global;
-
-/// The type of an object: a scalar, or an array of so many.
-#[derive(Clone, Copy)]
-pub struct Declared {
-    pub shape: Shape,
-    pub bound: Option<u32>,
-}
 
 pub const INT: Shape = Shape {
     is_const: false,
@@ -41,36 +34,19 @@ pub fn const_reference() -> Shape {
 }
 
 /// An object of this type that is no array.
-pub fn scalar(shape: Shape) -> Declared {
-    Declared { shape, bound: None }
+pub fn scalar(shape: Shape) -> ObjectType {
+    ObjectType {
+        shape,
+        bounds: Bounds::None,
+    }
 }
 
 /// An array of so many ints.
-pub fn ints(bound: u32) -> Declared {
-    Declared {
+pub fn ints(bound: u32) -> ObjectType {
+    ObjectType {
         shape: INT,
-        bound: Some(bound),
+        bounds: Bounds::One(bound),
     }
-}
-
-/// The type as a tree has it.
-pub fn object_type(alloc: Global, declared: Declared) -> Result<ObjectType, Memory> {
-    let mut bounds = Items::new(alloc);
-    if let Some(bound) = declared.bound {
-        bounds.push(bound)?;
-    }
-    Ok(ObjectType {
-        shape: declared.shape,
-        bounds,
-    })
-}
-
-pub fn object_types(alloc: Global, all: &[Declared]) -> Result<Items<ObjectType>, Memory> {
-    let mut found = Items::new(alloc);
-    for declared in all {
-        found.push(object_type(alloc, *declared)?)?;
-    }
-    Ok(found)
 }
 
 /// The type of a function with these parameters that gives an int.

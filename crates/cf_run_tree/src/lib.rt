@@ -8,4 +8,4 @@ mod shape;
 
 pub use node::{Binary, Change, Node, Operation, Unary};
 pub use program::{Program, RunFn, RunStatic, Signature};
-pub use shape::{Form, ObjectType, Shape};
+pub use shape::{Bounds, Form, ObjectType, Shape};

@@ -60,11 +60,11 @@ pub enum Node {
     Number(i64),
     /// The string literal of this number in its function, with its ending 0 (2.5.4).
     Text(u32, Bytes),
-    /// A function by its link name, with the type that it is declared with.
+    /// A function by its link name. Its type is that of its definition, or this one where the program defines none of that name.
     Function(Name, Signature),
     /// A parameter or local; parameters come first.
     Local(u32),
-    /// A static object by its link name, with the type that it is declared with.
+    /// A static object by its link name. Its type is that of its definition, or this one where the program defines none of that name.
     Static(Name, ObjectType),
     Apply(Unary, Boxed<Node>),
     Join(Binary, Boxed<Node>, Boxed<Node>),
@@ -74,7 +74,7 @@ pub enum Node {
     Comma(Items<Node>),
     /// A temporary of the full expression, of this type and with its initialiser (12.2).
     Temporary(Shape, Boxed<Node>),
-    /// Of a function by its link name, with the type that it is declared with (5.2.2).
+    /// Of a function by its link name, whose type is as that of a function that is named (5.2.2).
     Call(Name, Signature, Items<Node>),
     /// Of what a pointer to a function of this type points to (5.2.2).
     PointerCall(Boxed<Node>, Signature, Items<Node>),

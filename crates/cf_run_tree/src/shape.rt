@@ -1,4 +1,4 @@
-use cf_base::{Items, Kind};
+use cf_base::Kind;
 use cf_types::TyId;
 
 /// What a type is, const aside.
@@ -21,10 +21,18 @@ pub struct Shape {
     pub form: Form,
 }
 
+/// The numbers of elements of an object, the outermost first (8.2.4). Arrays of arrays of arrays have no form.
+#[derive(Clone, Copy, Debug, PartialEq, Eq)]
+pub enum Bounds {
+    /// It is no array.
+    None,
+    One(u32),
+    Two(u32, u32),
+}
+
 /// The type of an object: a scalar or, with bounds, an array of scalars.
-#[derive(Debug, Drop)]
+#[derive(Clone, Copy, Debug, PartialEq, Eq)]
 pub struct ObjectType {
     pub shape: Shape,
-    /// The numbers of elements, the outermost first; none where it is no array (8.2.4).
-    pub bounds: Items<u32>,
+    pub bounds: Bounds,
 }

@@ -17,11 +17,11 @@ pub returns-in_err-function : goal.returns-in_err-function
 returns-in_err-function c =
     let p = err_from_is_err_and c.from_residual.result c.from_residual.ensures.1 in
     rw (p.1, p.2)
-    (stopped (function c.args.unit.now.types c.args.own.now) c.loop-f.found c.args.all.now c.loop-f.f-index c.f-item.result c.loop-f.invariant c.loop-f-test.true c.f-item.is
+    (stopped (function c.args.unit.now.types c.args.defined.now) c.loop-f.found c.args.all.now c.loop-f.f-index c.f-item.result c.loop-f.invariant c.loop-f-test.true c.f-item.is
     c.in_err-function.field-0.0 c.in_err-function.ensures)
 
 pub loop-f-preserved : goal.loop-f-preserved
 loop-f-preserved c =
-    let f = function c.args.unit.now.types c.args.own.now in
+    let f = function c.args.unit.now.types c.args.defined.now in
     ap (λ (l : List RunFn). in_front l (all (map f (drop (c.loop-f.f-index + 1) c.args.all.now)))) c.in_ok-push.ensures.ok
     ∙ going f c.loop-f.found c.args.all.now c.loop-f.f-index c.f-item.result c.loop-f.invariant c.loop-f-test.true c.f-item.is c.in_ok-function.field-0 c.in_ok-function.ensures

@@ -17,11 +17,11 @@ pub returns-in_err-object : goal.returns-in_err-object
 returns-in_err-object c =
     let p = err_from_is_err_and c.from_residual.result c.from_residual.ensures.1 in
     rw (p.1, p.2)
-    (stopped (object c.args.unit.now.types c.args.own.now) c.loop-x.found c.args.all.now c.loop-x.x-index c.x-item.result c.loop-x.invariant c.loop-x-test.true c.x-item.is
+    (stopped (object c.args.unit.now.types c.args.defined.now) c.loop-x.found c.args.all.now c.loop-x.x-index c.x-item.result c.loop-x.invariant c.loop-x-test.true c.x-item.is
     c.in_err-object.field-0.0 c.in_err-object.ensures)
 
 pub loop-x-preserved : goal.loop-x-preserved
 loop-x-preserved c =
-    let f = object c.args.unit.now.types c.args.own.now in
+    let f = object c.args.unit.now.types c.args.defined.now in
     ap (λ (l : List RunStatic). in_front l (all (map f (drop (c.loop-x.x-index + 1) c.args.all.now)))) c.in_ok-push.ensures.ok
     ∙ going f c.loop-x.found c.args.all.now c.loop-x.x-index c.x-item.result c.loop-x.invariant c.loop-x-test.true c.x-item.is c.in_ok-object.field-0 c.in_ok-object.ensures

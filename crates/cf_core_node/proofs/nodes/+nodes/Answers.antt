@@ -10,6 +10,7 @@ use Rattle.cf_core_node.specs.Known.{all_known}
 use Rattle.cf_core_node.specs.Nodes.{node_of}
 use Rattle.cf_core_node.proofs.Known.{known_at}
 use Rattle.cf_core_node.proofs.Loops.{in_front, stopped, going}
+use Rattle.cf_core_node.proofs.Naming.{gives-static, gives-function}
 use Rattle.cf_core_node.proofs.nodes.+nodes.Goals as goal
 
 pub all-node-requires : goal.all-node-requires
@@ -27,7 +28,7 @@ all-node-requires t c =
 
 pub all-returns-in_err-node : goal.all-returns-in_err-node
 all-returns-in_err-node t c =
-    let f = node_of c.args.unit.now.types c.args.own.now in
+    let f = node_of c.args.unit.now.types c.args.defined.now in
     let p = err_from_is_err_and c.from_residual.result c.from_residual.ensures.1 in
     rw (p.1, p.2)
     (subst (λ (l : List Core). Gives (all (map f l)) (Err c.in_err-node.field-0.0)) c.as_slice-e-items.ensures
@@ -36,9 +37,17 @@ all-returns-in_err-node t c =
 
 pub all-loop-e-preserved : goal.all-loop-e-preserved
 all-loop-e-preserved t c =
-    let f = node_of c.args.unit.now.types c.args.own.now in
+    let f = node_of c.args.unit.now.types c.args.defined.now in
     let items = c.as_slice-e-items.result.now in
     let i = c.loop-e.e-index in
     ap (λ (l : List Node). in_front l (all (map f (drop (i + 1) items))))
     (c.in_ok-push.ensures.ok ∙ ap (λ (y : Node). c.loop-e.found ++ y ∷ []) c.into_inner.ensures)
     ∙ going f c.loop-e.found items i c.e-item.result c.loop-e.invariant c.loop-e-test.true c.e-item.is c.in_ok-node.field-0 c.in_ok-node.ensures
+
+pub node-returns-in-Static : goal.node-returns-in-Static
+node-returns-in-Static t c =
+    gives-static c.args.unit.now.types c.args.defined.now c.args.e.now c.in-Static.at c.in-Static.name c.in-Static.ty c.static_object.result c.in-Static.is c.static_object.ensures
+
+pub node-returns-in-Function : goal.node-returns-in-Function
+node-returns-in-Function t c =
+    gives-function c.args.unit.now.types c.args.defined.now c.args.e.now c.in-Function.at c.in-Function.name c.in-Function.ty c.function.result c.in-Function.is c.function.ensures

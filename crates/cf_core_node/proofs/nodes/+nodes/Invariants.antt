@@ -5,4 +5,4 @@ use Rattle.cf_core_node.proofs.Loops.{in_front}
 use Rattle.cf_core_node.proofs.nodes.+nodes.Given as goal
 
 abbrev pub invariant-all-loop-e : goal.invariant-all-loop-e
-invariant-all-loop-e l = in_front l.found (all (map (node_of l.unit.types l.own) (drop l.e-index l.e-items))) ≡ all (map (node_of l.unit.types l.own) l.e-items)
+invariant-all-loop-e l = in_front l.found (all (map (node_of l.unit.types l.defined) (drop l.e-index l.e-items))) ≡ all (map (node_of l.unit.types l.defined) l.e-items)

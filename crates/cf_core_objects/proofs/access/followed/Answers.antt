@@ -16,12 +16,12 @@ returns-in-Reference c = λ T e w.
     let s = state_of T e c.args.objects.now in
     let p = place_of c.args.place in
     subst (λ (r : Ran (Did _)). Told value_of c.bound.result s w r)
-    (sym (followed-as p s w c.in-Some.site (c.in-Some.ensures T) ∙ ap (λ so. when (reference_sort so) (read_place [] p >>= bound_to) (gives (At p)) s w) c.in-Reference.is))
+    (sym (followed-as p s w c.site_at-site.result (c.site_at-site.ensures.site T) ∙ ap (λ so. when (reference_sort so) (read_place [] p >>= bound_to) (gives (At p)) s w) c.in-Reference.is))
     (c.bound.ensures (read_place [] p) s w (c.read.ensures T e w))
 
 pub returns-in_default : goal.returns-in_default
 returns-in_default c = λ T e w.
     let s = state_of T e c.args.objects.now in
     let p = place_of c.args.place in
-    followed-as p s w c.in-Some.site (c.in-Some.ensures T)
-    ∙ ap (λ b. when b (read_place [] p >>= bound_to) (gives (At p)) s w) (not-reference c.in-Some.site.sort c.in_default.not-Reference)
+    followed-as p s w c.site_at-site.result (c.site_at-site.ensures.site T)
+    ∙ ap (λ b. when b (read_place [] p >>= bound_to) (gives (At p)) s w) (not-reference c.site_at-site.result.sort c.in_default.not-Reference)

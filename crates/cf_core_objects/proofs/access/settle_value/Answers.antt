@@ -16,9 +16,9 @@ returns-in-Err c = λ T e w.
     let p = place_of c.args.place in
     let v = value_of c.args.value in
     let holds : c.is_scalar.result ≡ true = search rules in
-    let is : scalar_sort c.in-Some.site.sort ≡ true = sym c.is_scalar.ensures ∙ holds in
+    let is : scalar_sort c.site_at-site.result.sort ≡ true = sym c.is_scalar.ensures ∙ holds in
     subst (λ (r : Ran (Did (Unit {0}))). Stopped c.in-Err.stop w r)
-    (sym (settle-as p s w c.in-Some.site v (c.in-Some.ensures T) ∙ ap (λ b. when b (used v >>= first_value p) malformed s w) is))
+    (sym (settle-as p s w c.site_at-site.result v (c.site_at-site.ensures.site T) ∙ ap (λ b. when b (used v >>= first_value p) malformed s w) is))
     (err-then value_of c.used.result c.in-Err.stop s s w (used v) (first_value p) c.in-Err.is (c.used.ensures s w))
 
 pub returns-in-Ok : goal.returns-in-Ok
@@ -27,8 +27,8 @@ returns-in-Ok c = λ T e w.
     let p = place_of c.args.place in
     let v = value_of c.args.value in
     let holds : c.is_scalar.result ≡ true = search rules in
-    let is : scalar_sort c.in-Some.site.sort ≡ true = sym c.is_scalar.ensures ∙ holds in
+    let is : scalar_sort c.site_at-site.result.sort ≡ true = sym c.is_scalar.ensures ∙ holds in
     subst (λ (r : Ran (Did (Unit {0}))). Told (λ u. tt) c.first_value.result (state_of T e c.first_value.new.objects) w r)
-    (sym (settle-as p s w c.in-Some.site v (c.in-Some.ensures T) ∙ ap (λ b. when b (used v >>= first_value p) malformed s w) is
+    (sym (settle-as p s w c.site_at-site.result v (c.site_at-site.ensures.site T) ∙ ap (λ b. when b (used v >>= first_value p) malformed s w) is
     ∙ ok-then value_of c.used.result c.in-Ok.first s s w (used v) (first_value p) c.in-Ok.is (c.used.ensures s w)))
     (c.first_value.ensures T e w)

@@ -1,8 +1,5 @@
-use Rattle.std.proofs.Common.{◌≡◌, ◌++◌, map, take, replicate, Some, None}
+use Rattle.std.proofs.Common.{◌≡◌, map, take, Some}
 use Rattle.cf_core_run.proofs.calls.locals_of.Given as goal
 
 abbrev pub invariant-loop-object : goal.invariant-loop-object
 invariant-loop-object l = l.found.items ≡ map Some (take l.object-index l.made)
-
-abbrev pub invariant-loop : goal.invariant-loop
-invariant-loop l = l.found.items ≡ map Some l.made ++ replicate l.counter None

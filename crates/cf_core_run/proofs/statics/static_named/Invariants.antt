@@ -6,4 +6,4 @@ use Rattle.cf_core_run.proofs.StaticLaws.{number_behind}
 use Rattle.cf_core_run.proofs.statics.static_named.Given as goal
 
 abbrev pub invariant-loop-x : goal.invariant-loop-x
-invariant-loop-x l = (l.number ≡ l.x-index) × ((T : Tables) → number_behind T l.name l.x-items l.x-index ≡ static_number (program_of T l.program) l.name)
+invariant-loop-x l = (l.number ≡ l.x-index) × ((T : Tables) → number_behind T l.program l.name l.x-items l.x-index ≡ static_number (program_of T l.program) l.name)

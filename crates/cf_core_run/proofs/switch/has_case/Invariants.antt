@@ -1,8 +1,9 @@
 use Rattle.std.proofs.Common.{◌≡◌, drop}
 use Rattle.cf_core.specs.FromTypes.{Tables}
 use Rattle.cf_core.specs.Statements.{has_case}
+use Rattle.cf_run_tree.specs.declared.program.Program.{Program}
 use Rattle.cf_core_run.specs.Labels.{row}
 use Rattle.cf_core_run.proofs.switch.has_case.Given as goal
 
 abbrev pub invariant-loop-s : goal.invariant-loop-s
-invariant-loop-s l = (T : Tables) → has_case l.number (row T (drop l.s-index l.all)) ≡ has_case l.number (row T l.all)
+invariant-loop-s l = (T : Tables) (p : Program) → has_case l.number (row T p (drop l.s-index l.all)) ≡ has_case l.number (row T p l.all)

@@ -7,6 +7,6 @@ use Rattle.cf_core_run.proofs.LabelLaws.{declared-start}
 use Rattle.cf_core_run.proofs.switch.pass_declared.Goals as goal
 
 pub returns-in_default : goal.returns-in_default
-returns-in_default c = λ T w.
-    ap (λ (n : Node). passes_local c.args.number (object_type T c.args.ty.now) (core_of T n) (state_of T c.args.entered.now c.args.objects.now) w) (sym c.get.ensures)
-    ∙ ap (λ act. act (state_of T c.args.entered.now c.args.objects.now) w) (declared-start T c.args.number (object_type T c.args.ty.now) c.get.result.now c.in_default.not-Blank)
+returns-in_default c = λ T p w.
+    ap (λ (n : Node). passes_local c.args.number (object_type T c.args.ty.now) (core_of T p n) (state_of T c.args.entered.now c.args.objects.now) w) (sym c.get.ensures)
+    ∙ ap (λ act. act (state_of T c.args.entered.now c.args.objects.now) w) (declared-start T p c.args.number (object_type T c.args.ty.now) c.get.result.now c.in_default.not-Blank)

@@ -8,7 +8,7 @@ use Rattle.cf_core_objects.specs.Store.{state_of, value_of}
 use Rattle.cf_core_store.proofs.StoreLaws.{order-as}
 use Rattle.cf_core_store.proofs.compared.order_at.Goals as goal
 
-pub returns-in-Some : goal.returns-in-Some
-returns-in-Some c = λ T e w.
+pub returns : goal.returns
+returns c = λ T e w.
     subst (λ (r : Ran (Did Value)). Told value_of c.order.result (state_of T e c.args.objects.now) w r)
-    (sym (order-as c.args.op (state_of T e c.args.objects.now) (place_of c.args.p) (place_of c.args.q) c.in-Some.both w (c.in-Some.ensures T e))) (c.order.ensures (state_of T e c.args.objects.now) w)
+    (sym (order-as c.args.op (state_of T e c.args.objects.now) (place_of c.args.p) (place_of c.args.q) c.both_at.result w (c.both_at.ensures T e))) (c.order.ensures (state_of T e c.args.objects.now) w)

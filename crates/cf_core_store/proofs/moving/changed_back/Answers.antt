@@ -1,10 +1,25 @@
-use Rattle.std.proofs.Common.{[], subst}
+use Rattle.std.proofs.Common.{◌≡◌, ◌∙◌, [], ℤ, pos, ◌-ℤ◌, FitsSigned, to_z, of_z, to_z-of_z, rules, ap, sym, subst}
+use Rattle.std.specs.Int.{w128}
+use Rattle.std.specs.Prelude.{neg_ℤ}
+use Rattle.cf_core.specs.Pointers as pointers
 use Rattle.cf_core.specs.Scalars as scalars
 use Rattle.cf_core.specs.Store.{Value}
+use Rattle.cf_core_objects.specs.declared.answer.Value.{Value as Given}
 use Rattle.cf_core_objects.specs.Answer.{Told}
 use Rattle.cf_core_objects.specs.Store.{state_of, value_of}
+use Rattle.std.proofs.Common.{refl}
+use Rattle.cf_core_store.proofs.StoreLaws.{minus-as}
 use Rattle.cf_core_store.proofs.moving.changed_back.Goals as goal
 
-pub returns-in-Some : goal.returns-in-Some
-returns-in-Some c = λ T e w.
-    subst (λ (u : Value). Told value_of c.moved_by.result (state_of T e c.args.objects.now) w (scalars.moved_by [] (value_of c.args.v) u (state_of T e c.args.objects.now) w)) c.in-Some.ensures (c.moved_by.ensures T e w)
+pub returns-in-Number : goal.returns-in-Number
+returns-in-Number c = λ T e w.
+    let inner_fits : FitsSigned w128 c.from.result = search rules in
+    let from : c.from.result ≡ c.in-Number.number = search rules in
+    let inner : to_z w128 (of_z w128 c.from.result) ≡ c.in-Number.number = to_z-of_z {w = w128} {z = c.from.result} inner_fits ∙ from in
+    let fits : FitsSigned w128 (pos 0 -ℤ to_z w128 (of_z w128 c.from.result)) = search rules in
+    let minus : (pos 0 -ℤ c.in-Number.number) ≡ neg_ℤ c.in-Number.number = search rules in
+    let eb : to_z w128 (of_z w128 (pos 0 -ℤ to_z w128 (of_z w128 c.from.result))) ≡ neg_ℤ c.in-Number.number =
+    to_z-of_z {w = w128} {z = pos 0 -ℤ to_z w128 (of_z w128 c.from.result)} fits ∙ ap (λ z. pos 0 -ℤ z) inner ∙ minus in
+    subst (λ (u : Value). Told value_of c.moved_value.result (state_of T e c.args.objects.now) w (scalars.moved_by [] (value_of c.args.v) u (state_of T e c.args.objects.now) w))
+    (minus-as c.in-Number.number (neg_ℤ c.in-Number.number) refl ∙ ap (λ (x : Given). scalars.minus (value_of x)) (sym c.in-Number.is))
+    (subst (λ (n : ℤ). Told value_of c.moved_value.result (state_of T e c.args.objects.now) w (pointers.moved_value [] (value_of c.args.v) n (state_of T e c.args.objects.now) w)) eb (c.moved_value.ensures T e w))

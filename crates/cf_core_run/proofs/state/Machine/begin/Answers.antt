@@ -1,15 +1,16 @@
 use Rattle.cf_core.specs.Core as nodes
-use Rattle.cf_run_tree.specs.Tree.{signature_type, shape_type, object_type}
+use Rattle.cf_run_tree.specs.Tree.{signature_type, function_head, static_type, shape_type, object_type}
 use Rattle.cf_run_tree.proofs.Views.{core-Call, core-Temporary, core-Hold, core-Text, core-Function, core-Static, core-List, core-Characters, core-Zeros}
 use Rattle.std.proofs.Common.{◌∙◌, List, ℕ, option_map, ap, sym, rules, FitsSigned, w64, to_z-of_z}
-use Rattle.cf_core_place.specs.Routes.{place_of}
+use Rattle.cf_core_place.specs.Routes.{goal_place}
 use Rattle.cf_run_tree.specs.Tree.{core_of}
+use Rattle.cf_core_objects.specs.declared.answer.Stop.TheVariants as stop
 use Rattle.cf_core_objects.specs.declared.answer.Value.TheVariants as given
 use Rattle.cf_core_run.specs.Going.{valued}
 use Rattle.cf_core_objects.specs.Store.{state_of}
 use Rattle.cf_core_objects.specs.Named.{named}
-use Rattle.cf_core_run.proofs.Laws.{value-as, value-gives}
-use Rattle.cf_core_run.proofs.Nodes.{node-Apply, node-Join, node-And, node-Or, node-Conditional, node-PointerCall}
+use Rattle.cf_core_run.proofs.Laws.{value-as, value-gives, value-stopped}
+use Rattle.cf_core_run.proofs.Nodes.{no-value, node-Apply, node-Join, node-And, node-Or, node-Conditional, node-PointerCall}
 use Rattle.cf_run_tree.proofs.Views.{core-Number, core-Local, core-Comma, core-Bind, core-Blank}
 use Rattle.cf_core_run.proofs.state.Machine.begin.Goals as goal
 use Rattle.std.proofs.Common.{map}
@@ -20,115 +21,142 @@ use Rattle.cf_core_run.specs.Going.{from_value}
 
 pub returns-in-Number : goal.returns-in-Number
 returns-in-Number c =
-    value-gives c.args.program.now c.args.self.now c.args.self.now.entered c.args.self.now.objects (λ T. valued T c.args.program.now c.args.self.now.fuel (core_of T c.args.e.now) (option_map place_of c.args.into)) _
-    (λ T w. ap (λ n. valued T c.args.program.now c.args.self.now.fuel n (option_map place_of c.args.into) (state_of T c.args.self.now.entered c.args.self.now.objects) w)
-    (ap (core_of T) c.in-Number.is ∙ core-Number T c.in-Number.value ∙ ap nodes.number (sym (to_z-of_z {w = w64} {z = c.in-Number.value} (let fits : FitsSigned w64 c.in-Number.value = search rules in fits)))))
+    value-gives c.args.program.now c.args.self.now c.args.self.now.entered c.args.self.now.objects (λ T. valued T c.args.program.now c.args.self.now.fuel (core_of T c.args.program.now c.args.e.now) (option_map goal_place c.args.into)) _
+    (λ T w. ap (λ n. valued T c.args.program.now c.args.self.now.fuel n (option_map goal_place c.args.into) (state_of T c.args.self.now.entered c.args.self.now.objects) w)
+    (ap (core_of T c.args.program.now) c.in-Number.is ∙ core-Number T c.args.program.now c.in-Number.value ∙ ap nodes.number (sym (to_z-of_z {w = w64} {z = c.in-Number.value} (let fits : FitsSigned w64 c.in-Number.value = search rules in fits)))))
 
 pub returns-in-Local : goal.returns-in-Local
 returns-in-Local c =
-    value-as c.args.program.now c.args.self.now (λ T. valued T c.args.program.now c.args.self.now.fuel (core_of T c.args.e.now) (option_map place_of c.args.into)) (λ T. named c.in-Local.number) c.name_local.result c.name_local.new.self (c.name_local.ensures c.args.program.now)
-    (λ T s w. ap (λ n. valued T c.args.program.now c.args.self.now.fuel n (option_map place_of c.args.into) s w) (ap (core_of T) c.in-Local.is ∙ core-Local T c.in-Local.number))
+    value-as c.args.program.now c.args.self.now (λ T. valued T c.args.program.now c.args.self.now.fuel (core_of T c.args.program.now c.args.e.now) (option_map goal_place c.args.into)) (λ T. named c.in-Local.number) c.name_local.result c.name_local.new.self (c.name_local.ensures c.args.program.now)
+    (λ T s w. ap (λ n. valued T c.args.program.now c.args.self.now.fuel n (option_map goal_place c.args.into) s w) (ap (core_of T c.args.program.now) c.in-Local.is ∙ core-Local T c.args.program.now c.in-Local.number))
 
 pub returns-in-Apply : goal.returns-in-Apply
 returns-in-Apply c =
-    value-as c.args.program.now c.args.self.now (λ T. valued T c.args.program.now c.args.self.now.fuel (core_of T c.args.e.now) (option_map place_of c.args.into)) _ c.down.result c.down.new.self (c.down.ensures c.args.program.now)
-    (λ T s w. node-Apply T c.args.program.now c.args.self.now.fuel c.args.e.now c.in-Apply.op c.in-Apply.a (option_map place_of c.args.into) s w c.in-Apply.is)
+    value-as c.args.program.now c.args.self.now (λ T. valued T c.args.program.now c.args.self.now.fuel (core_of T c.args.program.now c.args.e.now) (option_map goal_place c.args.into)) _ c.down.result c.down.new.self (c.down.ensures c.args.program.now)
+    (λ T s w. node-Apply T c.args.program.now c.args.self.now.fuel c.args.e.now c.in-Apply.op c.in-Apply.a (option_map goal_place c.args.into) s w c.in-Apply.is)
 
 pub returns-in-Join : goal.returns-in-Join
 returns-in-Join c =
-    value-as c.args.program.now c.args.self.now (λ T. valued T c.args.program.now c.args.self.now.fuel (core_of T c.args.e.now) (option_map place_of c.args.into)) _ c.down-in-Join.result c.down-in-Join.new.self (c.down-in-Join.ensures c.args.program.now)
-    (λ T s w. node-Join T c.args.program.now c.args.self.now.fuel c.args.e.now c.in-Join.op c.in-Join.a c.in-Join.b (option_map place_of c.args.into) s w c.in-Join.is)
+    value-as c.args.program.now c.args.self.now (λ T. valued T c.args.program.now c.args.self.now.fuel (core_of T c.args.program.now c.args.e.now) (option_map goal_place c.args.into)) _ c.down-in-Join.result c.down-in-Join.new.self (c.down-in-Join.ensures c.args.program.now)
+    (λ T s w. node-Join T c.args.program.now c.args.self.now.fuel c.args.e.now c.in-Join.op c.in-Join.a c.in-Join.b (option_map goal_place c.args.into) s w c.in-Join.is)
 
 pub returns-in-And : goal.returns-in-And
 returns-in-And c =
-    value-as c.args.program.now c.args.self.now (λ T. valued T c.args.program.now c.args.self.now.fuel (core_of T c.args.e.now) (option_map place_of c.args.into)) _ c.down-in-And.result c.down-in-And.new.self (c.down-in-And.ensures c.args.program.now)
-    (λ T s w. node-And T c.args.program.now c.args.self.now.fuel c.args.e.now c.in-And.a c.in-And.b (option_map place_of c.args.into) s w c.in-And.is)
+    value-as c.args.program.now c.args.self.now (λ T. valued T c.args.program.now c.args.self.now.fuel (core_of T c.args.program.now c.args.e.now) (option_map goal_place c.args.into)) _ c.down-in-And.result c.down-in-And.new.self (c.down-in-And.ensures c.args.program.now)
+    (λ T s w. node-And T c.args.program.now c.args.self.now.fuel c.args.e.now c.in-And.a c.in-And.b (option_map goal_place c.args.into) s w c.in-And.is)
 
 pub returns-in-Or : goal.returns-in-Or
 returns-in-Or c =
-    value-as c.args.program.now c.args.self.now (λ T. valued T c.args.program.now c.args.self.now.fuel (core_of T c.args.e.now) (option_map place_of c.args.into)) _ c.down-in-Or.result c.down-in-Or.new.self (c.down-in-Or.ensures c.args.program.now)
-    (λ T s w. node-Or T c.args.program.now c.args.self.now.fuel c.args.e.now c.in-Or.a c.in-Or.b (option_map place_of c.args.into) s w c.in-Or.is)
+    value-as c.args.program.now c.args.self.now (λ T. valued T c.args.program.now c.args.self.now.fuel (core_of T c.args.program.now c.args.e.now) (option_map goal_place c.args.into)) _ c.down-in-Or.result c.down-in-Or.new.self (c.down-in-Or.ensures c.args.program.now)
+    (λ T s w. node-Or T c.args.program.now c.args.self.now.fuel c.args.e.now c.in-Or.a c.in-Or.b (option_map goal_place c.args.into) s w c.in-Or.is)
 
 pub returns-in-Conditional : goal.returns-in-Conditional
 returns-in-Conditional c =
-    value-as c.args.program.now c.args.self.now (λ T. valued T c.args.program.now c.args.self.now.fuel (core_of T c.args.e.now) (option_map place_of c.args.into)) _ c.down-in-Conditional.result c.down-in-Conditional.new.self (c.down-in-Conditional.ensures c.args.program.now)
-    (λ T s w. node-Conditional T c.args.program.now c.args.self.now.fuel c.args.e.now c.in-Conditional.condition c.in-Conditional.a c.in-Conditional.b (option_map place_of c.args.into) s w c.in-Conditional.is)
+    value-as c.args.program.now c.args.self.now (λ T. valued T c.args.program.now c.args.self.now.fuel (core_of T c.args.program.now c.args.e.now) (option_map goal_place c.args.into)) _ c.down-in-Conditional.result c.down-in-Conditional.new.self (c.down-in-Conditional.ensures c.args.program.now)
+    (λ T s w. node-Conditional T c.args.program.now c.args.self.now.fuel c.args.e.now c.in-Conditional.condition c.in-Conditional.a c.in-Conditional.b (option_map goal_place c.args.into) s w c.in-Conditional.is)
 
 pub returns-in-Comma : goal.returns-in-Comma
 returns-in-Comma c =
-    value-as c.args.program.now c.args.self.now (λ T. valued T c.args.program.now c.args.self.now.fuel (core_of T c.args.e.now) (option_map place_of c.args.into)) _ c.comma.result c.comma.new.self (c.comma.ensures c.args.program.now)
-    (λ T s w. ap (λ n. valued T c.args.program.now c.args.self.now.fuel n (option_map place_of c.args.into) s w)
-    (ap (core_of T) c.in-Comma.is ∙ core-Comma T c.in-Comma.all ∙ ap (λ (l : List Node). comma (listed (map (core_of T) l))) (sym c.as_slice-in-Comma.ensures)))
+    value-as c.args.program.now c.args.self.now (λ T. valued T c.args.program.now c.args.self.now.fuel (core_of T c.args.program.now c.args.e.now) (option_map goal_place c.args.into)) _ c.comma.result c.comma.new.self (c.comma.ensures c.args.program.now)
+    (λ T s w. ap (λ n. valued T c.args.program.now c.args.self.now.fuel n (option_map goal_place c.args.into) s w)
+    (ap (core_of T c.args.program.now) c.in-Comma.is ∙ core-Comma T c.args.program.now c.in-Comma.all ∙ ap (λ (l : List Node). comma (listed (map (core_of T c.args.program.now) l))) (sym c.as_slice-in-Comma.ensures)))
 
 pub returns-in-Bind : goal.returns-in-Bind
 returns-in-Bind c = record {
-  same = λ T o. ap (λ n. from_value T c.args.program.now c.args.self.now (valued T c.args.program.now c.args.self.now.fuel n (option_map place_of c.args.into)) o)
-      (ap (core_of T) c.in-Bind.is ∙ core-Bind T c.in-Bind.a ∙ ap (λ (n : Node). bind no_temporary (core_of T n)) (sym c.get.ensures));
+  same = λ T o. ap (λ n. from_value T c.args.program.now c.args.self.now (valued T c.args.program.now c.args.self.now.fuel n (option_map goal_place c.args.into)) o)
+      (ap (core_of T c.args.program.now) c.in-Bind.is ∙ core-Bind T c.args.program.now c.in-Bind.a ∙ ap (λ (n : Node). bind no_temporary (core_of T c.args.program.now n)) (sym c.get.ensures));
 }
 
 pub returns-in-Blank : goal.returns-in-Blank
 returns-in-Blank c =
-    value-gives c.args.program.now c.args.self.now c.args.self.now.entered c.args.self.now.objects (λ T. valued T c.args.program.now c.args.self.now.fuel (core_of T c.args.e.now) (option_map place_of c.args.into)) given.Built
-    (λ T w. ap (λ n. valued T c.args.program.now c.args.self.now.fuel n (option_map place_of c.args.into) (state_of T c.args.self.now.entered c.args.self.now.objects) w) (ap (core_of T) c.in-Blank.is ∙ core-Blank T))
+    value-gives c.args.program.now c.args.self.now c.args.self.now.entered c.args.self.now.objects (λ T. valued T c.args.program.now c.args.self.now.fuel (core_of T c.args.program.now c.args.e.now) (option_map goal_place c.args.into)) given.Built
+    (λ T w. ap (λ n. valued T c.args.program.now c.args.self.now.fuel n (option_map goal_place c.args.into) (state_of T c.args.self.now.entered c.args.self.now.objects) w) (ap (core_of T c.args.program.now) c.in-Blank.is ∙ core-Blank T c.args.program.now))
 
 pub returns-in-Call : goal.returns-in-Call
 returns-in-Call c =
-    value-as c.args.program.now c.args.self.now (λ T. valued T c.args.program.now c.args.self.now.fuel (core_of T c.args.e.now) (option_map place_of c.args.into)) (λ T. valued T c.args.program.now c.args.self.now.fuel (nodes.call c.as_slice-in-Call.result.now (signature_type T c.in-Call.signature) nodes.absent (listed (map (core_of T) c.as_slice-in-Call-2.result.now))) (option_map place_of c.args.into))
-    c.call.result c.call.new.self (c.call.ensures (option_map place_of c.args.into))
-    (λ T s w. ap (λ n. valued T c.args.program.now c.args.self.now.fuel n (option_map place_of c.args.into) s w)
-    (ap (core_of T) c.in-Call.is ∙ core-Call T c.in-Call.name c.in-Call.signature c.in-Call.all
-    ∙ ap (λ (x : List ℕ). nodes.call x (signature_type T c.in-Call.signature) nodes.absent (listed (map (core_of T) c.in-Call.all))) (sym c.as_slice-in-Call.ensures)
-    ∙ ap (λ (l : List Node). nodes.call c.as_slice-in-Call.result.now (signature_type T c.in-Call.signature) nodes.absent (listed (map (core_of T) l))) (sym c.as_slice-in-Call-2.ensures)))
+    value-as c.args.program.now c.args.self.now (λ T. valued T c.args.program.now c.args.self.now.fuel (core_of T c.args.program.now c.args.e.now) (option_map goal_place c.args.into)) (λ T. valued T c.args.program.now c.args.self.now.fuel (nodes.call c.as_slice-in-Call.result.now (signature_type T (function_head c.args.program.now c.as_slice-in-Call.result.now c.in-Call.signature)) nodes.absent (listed (map (core_of T c.args.program.now) c.as_slice-in-Call-2.result.now))) (option_map goal_place c.args.into))
+    c.call.result c.call.new.self (c.call.ensures (option_map goal_place c.args.into))
+    (λ T s w. ap (λ n. valued T c.args.program.now c.args.self.now.fuel n (option_map goal_place c.args.into) s w)
+    (ap (core_of T c.args.program.now) c.in-Call.is ∙ core-Call T c.args.program.now c.in-Call.name c.in-Call.signature c.in-Call.all
+    ∙ ap (λ (x : List ℕ). nodes.call x (signature_type T (function_head c.args.program.now x c.in-Call.signature)) nodes.absent (listed (map (core_of T c.args.program.now) c.in-Call.all))) (sym c.as_slice-in-Call.ensures)
+    ∙ ap (λ (l : List Node). nodes.call c.as_slice-in-Call.result.now (signature_type T (function_head c.args.program.now c.as_slice-in-Call.result.now c.in-Call.signature)) nodes.absent (listed (map (core_of T c.args.program.now) l))) (sym c.as_slice-in-Call-2.ensures)))
 
 pub returns-in-Temporary : goal.returns-in-Temporary
 returns-in-Temporary c =
-    value-as c.args.program.now c.args.self.now (λ T. valued T c.args.program.now c.args.self.now.fuel (core_of T c.args.e.now) (option_map place_of c.args.into)) (λ T. valued T c.args.program.now c.args.self.now.fuel (nodes.temporary (shape_type T c.in-Temporary.shape) (core_of T c.in-Temporary.start)) (option_map place_of c.args.into))
-    c.temporary.result c.temporary.new.self (c.temporary.ensures c.args.program.now (option_map place_of c.args.into))
-    (λ T s w. ap (λ n. valued T c.args.program.now c.args.self.now.fuel n (option_map place_of c.args.into) s w) (ap (core_of T) c.in-Temporary.is ∙ core-Temporary T c.in-Temporary.shape c.in-Temporary.start))
+    value-as c.args.program.now c.args.self.now (λ T. valued T c.args.program.now c.args.self.now.fuel (core_of T c.args.program.now c.args.e.now) (option_map goal_place c.args.into)) (λ T. valued T c.args.program.now c.args.self.now.fuel (nodes.temporary (shape_type T c.in-Temporary.shape) (core_of T c.args.program.now c.in-Temporary.start)) (option_map goal_place c.args.into))
+    c.temporary.result c.temporary.new.self (c.temporary.ensures c.args.program.now (option_map goal_place c.args.into))
+    (λ T s w. ap (λ n. valued T c.args.program.now c.args.self.now.fuel n (option_map goal_place c.args.into) s w) (ap (core_of T c.args.program.now) c.in-Temporary.is ∙ core-Temporary T c.args.program.now c.in-Temporary.shape c.in-Temporary.start))
 
 pub returns-in-Hold : goal.returns-in-Hold
 returns-in-Hold c =
-    value-as c.args.program.now c.args.self.now (λ T. valued T c.args.program.now c.args.self.now.fuel (core_of T c.args.e.now) (option_map place_of c.args.into)) (λ T. valued T c.args.program.now c.args.self.now.fuel (nodes.bind (nodes.local_temporary c.in-Hold.number (shape_type T c.in-Hold.shape)) (core_of T c.in-Hold.start)) (option_map place_of c.args.into))
-    c.hold.result c.hold.new.self (c.hold.ensures c.args.program.now (option_map place_of c.args.into))
-    (λ T s w. ap (λ n. valued T c.args.program.now c.args.self.now.fuel n (option_map place_of c.args.into) s w) (ap (core_of T) c.in-Hold.is ∙ core-Hold T c.in-Hold.number c.in-Hold.shape c.in-Hold.start))
+    value-as c.args.program.now c.args.self.now (λ T. valued T c.args.program.now c.args.self.now.fuel (core_of T c.args.program.now c.args.e.now) (option_map goal_place c.args.into)) (λ T. valued T c.args.program.now c.args.self.now.fuel (nodes.bind (nodes.local_temporary c.in-Hold.number (shape_type T c.in-Hold.shape)) (core_of T c.args.program.now c.in-Hold.start)) (option_map goal_place c.args.into))
+    c.hold.result c.hold.new.self (c.hold.ensures c.args.program.now (option_map goal_place c.args.into))
+    (λ T s w. ap (λ n. valued T c.args.program.now c.args.self.now.fuel n (option_map goal_place c.args.into) s w) (ap (core_of T c.args.program.now) c.in-Hold.is ∙ core-Hold T c.args.program.now c.in-Hold.number c.in-Hold.shape c.in-Hold.start))
 
 pub returns-in-Text : goal.returns-in-Text
 returns-in-Text c =
-    value-as c.args.program.now c.args.self.now (λ T. valued T c.args.program.now c.args.self.now.fuel (core_of T c.args.e.now) (option_map place_of c.args.into)) (λ T. valued T c.args.program.now c.args.self.now.fuel (nodes.text c.in-Text.number c.as_slice.result.now) (option_map place_of c.args.into))
-    c.text.result c.text.new.self (c.text.ensures c.args.program.now (option_map place_of c.args.into))
-    (λ T s w. ap (λ n. valued T c.args.program.now c.args.self.now.fuel n (option_map place_of c.args.into) s w) (ap (core_of T) c.in-Text.is ∙ core-Text T c.in-Text.number c.in-Text.bytes ∙ ap (nodes.text c.in-Text.number) (sym c.as_slice.ensures)))
+    value-as c.args.program.now c.args.self.now (λ T. valued T c.args.program.now c.args.self.now.fuel (core_of T c.args.program.now c.args.e.now) (option_map goal_place c.args.into)) (λ T. valued T c.args.program.now c.args.self.now.fuel (nodes.text c.in-Text.number c.as_slice.result.now) (option_map goal_place c.args.into))
+    c.text.result c.text.new.self (c.text.ensures c.args.program.now (option_map goal_place c.args.into))
+    (λ T s w. ap (λ n. valued T c.args.program.now c.args.self.now.fuel n (option_map goal_place c.args.into) s w) (ap (core_of T c.args.program.now) c.in-Text.is ∙ core-Text T c.args.program.now c.in-Text.number c.in-Text.bytes ∙ ap (nodes.text c.in-Text.number) (sym c.as_slice.ensures)))
 
 pub returns-in-Function : goal.returns-in-Function
 returns-in-Function c =
-    value-as c.args.program.now c.args.self.now (λ T. valued T c.args.program.now c.args.self.now.fuel (core_of T c.args.e.now) (option_map place_of c.args.into)) (λ T. valued T c.args.program.now c.args.self.now.fuel (nodes.function c.as_slice-in-Function.result.now (signature_type T c.in-Function.signature)) (option_map place_of c.args.into))
+    value-as c.args.program.now c.args.self.now (λ T. valued T c.args.program.now c.args.self.now.fuel (core_of T c.args.program.now c.args.e.now) (option_map goal_place c.args.into)) (λ T. valued T c.args.program.now c.args.self.now.fuel (nodes.function c.as_slice-in-Function.result.now (signature_type T (function_head c.args.program.now c.as_slice-in-Function.result.now c.in-Function.signature))) (option_map goal_place c.args.into))
     c.function.result c.function.new.self (c.function.ensures)
-    (λ T s w. ap (λ n. valued T c.args.program.now c.args.self.now.fuel n (option_map place_of c.args.into) s w) (ap (core_of T) c.in-Function.is ∙ core-Function T c.in-Function.name c.in-Function.signature ∙ ap (λ (x : List ℕ). nodes.function x (signature_type T c.in-Function.signature)) (sym c.as_slice-in-Function.ensures)))
+    (λ T s w. ap (λ n. valued T c.args.program.now c.args.self.now.fuel n (option_map goal_place c.args.into) s w) (ap (core_of T c.args.program.now) c.in-Function.is ∙ core-Function T c.args.program.now c.in-Function.name c.in-Function.signature ∙ ap (λ (x : List ℕ). nodes.function x (signature_type T (function_head c.args.program.now x c.in-Function.signature))) (sym c.as_slice-in-Function.ensures)))
 
 pub returns-in-Static : goal.returns-in-Static
 returns-in-Static c =
-    value-as c.args.program.now c.args.self.now (λ T. valued T c.args.program.now c.args.self.now.fuel (core_of T c.args.e.now) (option_map place_of c.args.into)) (λ T. valued T c.args.program.now c.args.self.now.fuel (nodes.static_object c.as_slice-in-Static.result.now (object_type T c.in-Static.ty)) (option_map place_of c.args.into))
-    c.name_static.result c.name_static.new.self (c.name_static.ensures (option_map place_of c.args.into))
-    (λ T s w. ap (λ n. valued T c.args.program.now c.args.self.now.fuel n (option_map place_of c.args.into) s w) (ap (core_of T) c.in-Static.is ∙ core-Static T c.in-Static.name c.in-Static.ty ∙ ap (λ (x : List ℕ). nodes.static_object x (object_type T c.in-Static.ty)) (sym c.as_slice-in-Static.ensures)))
+    value-as c.args.program.now c.args.self.now (λ T. valued T c.args.program.now c.args.self.now.fuel (core_of T c.args.program.now c.args.e.now) (option_map goal_place c.args.into)) (λ T. valued T c.args.program.now c.args.self.now.fuel (nodes.static_object c.as_slice-in-Static.result.now (object_type T (static_type c.args.program.now c.as_slice-in-Static.result.now c.in-Static.field-1))) (option_map goal_place c.args.into))
+    c.name_static.result c.name_static.new.self (c.name_static.ensures c.in-Static.field-1 (option_map goal_place c.args.into))
+    (λ T s w. ap (λ n. valued T c.args.program.now c.args.self.now.fuel n (option_map goal_place c.args.into) s w) (ap (core_of T c.args.program.now) c.in-Static.is ∙ core-Static T c.args.program.now c.in-Static.name c.in-Static.field-1 ∙ ap (λ (x : List ℕ). nodes.static_object x (object_type T (static_type c.args.program.now x c.in-Static.field-1))) (sym c.as_slice-in-Static.ensures)))
 
 pub returns-in-PointerCall : goal.returns-in-PointerCall
 returns-in-PointerCall c =
-    value-as c.args.program.now c.args.self.now (λ T. valued T c.args.program.now c.args.self.now.fuel (core_of T c.args.e.now) (option_map place_of c.args.into)) _ c.down-in-PointerCall.result c.down-in-PointerCall.new.self (c.down-in-PointerCall.ensures c.args.program.now)
-    (λ T s w. node-PointerCall T c.args.program.now c.args.self.now.fuel c.args.e.now c.in-PointerCall.callee c.in-PointerCall.signature c.in-PointerCall.all c.as_slice-in-PointerCall.result (option_map place_of c.args.into) s w c.in-PointerCall.is c.as_slice-in-PointerCall.ensures)
+    value-as c.args.program.now c.args.self.now (λ T. valued T c.args.program.now c.args.self.now.fuel (core_of T c.args.program.now c.args.e.now) (option_map goal_place c.args.into)) _ c.down-in-PointerCall.result c.down-in-PointerCall.new.self (c.down-in-PointerCall.ensures c.args.program.now)
+    (λ T s w. node-PointerCall T c.args.program.now c.args.self.now.fuel c.args.e.now c.in-PointerCall.callee c.in-PointerCall.signature c.in-PointerCall.all c.as_slice-in-PointerCall.result (option_map goal_place c.args.into) s w c.in-PointerCall.is c.as_slice-in-PointerCall.ensures)
 
 pub returns-in-List : goal.returns-in-List
 returns-in-List c =
-    value-as c.args.program.now c.args.self.now (λ T. valued T c.args.program.now c.args.self.now.fuel (core_of T c.args.e.now) (option_map place_of c.args.into)) (λ T. valued T c.args.program.now c.args.self.now.fuel (nodes.list (listed (map (core_of T) c.as_slice-in-List.result.now)) (core_of T c.in-List.rest)) (option_map place_of c.args.into))
+    value-as c.args.program.now c.args.self.now (λ T. valued T c.args.program.now c.args.self.now.fuel (core_of T c.args.program.now c.args.e.now) (option_map goal_place c.args.into)) (λ T. valued T c.args.program.now c.args.self.now.fuel (nodes.list (listed (map (core_of T c.args.program.now) c.as_slice-in-List.result.now)) (core_of T c.args.program.now c.in-List.rest)) (option_map goal_place c.args.into))
     c.begin_list.result c.begin_list.new.self (c.begin_list.ensures c.args.program.now)
-    (λ T s w. ap (λ n. valued T c.args.program.now c.args.self.now.fuel n (option_map place_of c.args.into) s w) (ap (core_of T) c.in-List.is ∙ core-List T c.in-List.all c.in-List.rest ∙ ap (λ (l : List Node). nodes.list (listed (map (core_of T) l)) (core_of T c.in-List.rest)) (sym c.as_slice-in-List.ensures)))
+    (λ T s w. ap (λ n. valued T c.args.program.now c.args.self.now.fuel n (option_map goal_place c.args.into) s w) (ap (core_of T c.args.program.now) c.in-List.is ∙ core-List T c.args.program.now c.in-List.all c.in-List.rest ∙ ap (λ (l : List Node). nodes.list (listed (map (core_of T c.args.program.now) l)) (core_of T c.args.program.now c.in-List.rest)) (sym c.as_slice-in-List.ensures)))
 
 pub returns-in-Characters : goal.returns-in-Characters
 returns-in-Characters c =
-    value-as c.args.program.now c.args.self.now (λ T. valued T c.args.program.now c.args.self.now.fuel (core_of T c.args.e.now) (option_map place_of c.args.into)) (λ T. valued T c.args.program.now c.args.self.now.fuel (nodes.string c.as_slice-in-Characters.result.now) (option_map place_of c.args.into))
+    value-as c.args.program.now c.args.self.now (λ T. valued T c.args.program.now c.args.self.now.fuel (core_of T c.args.program.now c.args.e.now) (option_map goal_place c.args.into)) (λ T. valued T c.args.program.now c.args.self.now.fuel (nodes.string c.as_slice-in-Characters.result.now) (option_map goal_place c.args.into))
     c.characters.result c.characters.new.self (c.characters.ensures c.args.program.now)
-    (λ T s w. ap (λ n. valued T c.args.program.now c.args.self.now.fuel n (option_map place_of c.args.into) s w) (ap (core_of T) c.in-Characters.is ∙ core-Characters T c.in-Characters.bytes ∙ ap nodes.string (sym c.as_slice-in-Characters.ensures)))
+    (λ T s w. ap (λ n. valued T c.args.program.now c.args.self.now.fuel n (option_map goal_place c.args.into) s w) (ap (core_of T c.args.program.now) c.in-Characters.is ∙ core-Characters T c.args.program.now c.in-Characters.bytes ∙ ap nodes.string (sym c.as_slice-in-Characters.ensures)))
 
 pub returns-in-Zeros : goal.returns-in-Zeros
 returns-in-Zeros c =
-    value-as c.args.program.now c.args.self.now (λ T. valued T c.args.program.now c.args.self.now.fuel (core_of T c.args.e.now) (option_map place_of c.args.into)) (λ T. valued T c.args.program.now c.args.self.now.fuel nodes.zeros (option_map place_of c.args.into))
+    value-as c.args.program.now c.args.self.now (λ T. valued T c.args.program.now c.args.self.now.fuel (core_of T c.args.program.now c.args.e.now) (option_map goal_place c.args.into)) (λ T. valued T c.args.program.now c.args.self.now.fuel nodes.zeros (option_map goal_place c.args.into))
     c.zeros.result c.zeros.new.self (c.zeros.ensures c.args.program.now)
-    (λ T s w. ap (λ n. valued T c.args.program.now c.args.self.now.fuel n (option_map place_of c.args.into) s w) (ap (core_of T) c.in-Zeros.is ∙ core-Zeros T))
+    (λ T s w. ap (λ n. valued T c.args.program.now c.args.self.now.fuel n (option_map goal_place c.args.into) s w) (ap (core_of T c.args.program.now) c.in-Zeros.is ∙ core-Zeros T c.args.program.now))
+
+pub returns-in_default : goal.returns-in_default
+returns-in_default c =
+    value-stopped c.args.program.now c.args.self.now (λ T. valued T c.args.program.now c.args.self.now.fuel (core_of T c.args.program.now c.args.e.now) (option_map goal_place c.args.into)) stop.Malformed
+    (λ T w. no-value T c.args.program.now c.args.self.now.fuel c.args.e.now (option_map goal_place c.args.into) (state_of T c.args.self.now.entered c.args.self.now.objects) w
+    (record {
+      number = c.in_default.not-Number;
+      text = c.in_default.not-Text;
+      function = c.in_default.not-Function;
+      local = c.in_default.not-Local;
+      static = c.in_default.not-Static;
+      apply = c.in_default.not-Apply;
+      join = c.in_default.not-Join;
+      and = c.in_default.not-And;
+      or = c.in_default.not-Or;
+      conditional = c.in_default.not-Conditional;
+      comma = c.in_default.not-Comma;
+      call = c.in_default.not-Call;
+      pointer_call = c.in_default.not-PointerCall;
+      bind = c.in_default.not-Bind;
+      temporary = c.in_default.not-Temporary;
+      hold = c.in_default.not-Hold;
+      list = c.in_default.not-List;
+      characters = c.in_default.not-Characters;
+      zeros = c.in_default.not-Zeros;
+      blank = c.in_default.not-Blank;
+    }))

@@ -7,7 +7,7 @@ use Rattle.cf_core_run.proofs.CallLaws.{begin-goes}
 use Rattle.cf_core_run.proofs.state.Machine.begin_body.Goals as goal
 
 pub returns-then-self-eq0 : goal.returns-then-self-eq0
-returns-then-self-eq0 c = λ p. again-none p c.args.self.now (λ T. calls.body (function_of T c.args.f.now) c.args.made.items) c.if-self-eq0.true
+returns-then-self-eq0 c = λ p. again-none p c.args.self.now (λ T. calls.body (function_of T p c.args.f.now) c.args.made.items) c.if-self-eq0.true
 
 pub returns : goal.returns
 returns c = λ p. begin-goes p c.args.self.now c.open_scope.new.self c.args.f c.args.made _ c.push.new.self c.if-self-eq0.false c.in_ok-push.ensures.items c.in_ok-open_scope.ensures refl

@@ -1,8 +1,8 @@
 use Rattle.std.proofs.Common.{Option, Some, option_map, ap}
 use Rattle.cf_core.specs.Core.{list}
 use Rattle.cf_run_tree.specs.Tree.{core_of}
-use Rattle.cf_core_place.specs.declared.part.Place.{Place as Spot}
-use Rattle.cf_core_place.specs.Routes.{place_of}
+use Rattle.cf_core_place.specs.declared.goal.Goal.{Goal}
+use Rattle.cf_core_place.specs.Routes.{goal_place}
 use Rattle.cf_core_objects.specs.declared.answer.Stop.TheVariants as stop
 use Rattle.cf_core_objects.specs.Store.{state_of}
 use Rattle.cf_core_run.specs.Going.{valued, cores}
@@ -10,9 +10,9 @@ use Rattle.cf_core_run.proofs.Laws.{value-as, value-stopped}
 use Rattle.cf_core_run.proofs.state.Machine.begin_list.Goals as goal
 
 pub returns-in-None : goal.returns-in-None
-returns-in-None c = λ p. value-stopped p c.args.self.now (λ T. valued T p c.args.self.now.fuel (list (cores T p c.args.all.now) (core_of T c.args.filler.now)) (option_map place_of c.args.into)) stop.Malformed
-    (λ T w. ap (λ (i : Option Spot). valued T p c.args.self.now.fuel (list (cores T p c.args.all.now) (core_of T c.args.filler.now)) (option_map place_of i) (state_of T c.args.self.now.entered c.args.self.now.objects) w) c.in-None.is)
+returns-in-None c = λ p. value-stopped p c.args.self.now (λ T. valued T p c.args.self.now.fuel (list (cores T p c.args.all.now) (core_of T p c.args.filler.now)) (option_map goal_place c.args.into)) stop.Malformed
+    (λ T w. ap (λ (i : Option Goal). valued T p c.args.self.now.fuel (list (cores T p c.args.all.now) (core_of T p c.args.filler.now)) (option_map goal_place i) (state_of T c.args.self.now.entered c.args.self.now.objects) w) c.in-None.is)
 
 pub returns-in-Some : goal.returns-in-Some
-returns-in-Some c = λ p. value-as p c.args.self.now (λ T. valued T p c.args.self.now.fuel (list (cores T p c.args.all.now) (core_of T c.args.filler.now)) (option_map place_of c.args.into)) (λ T. valued T p c.args.self.now.fuel (list (cores T p c.args.all.now) (core_of T c.args.filler.now)) (Some (place_of c.in-Some.array)))
-    c.begin_array.result c.begin_array.new.self (c.begin_array.ensures p) (λ T s w. ap (λ (i : Option Spot). valued T p c.args.self.now.fuel (list (cores T p c.args.all.now) (core_of T c.args.filler.now)) (option_map place_of i) s w) c.in-Some.is)
+returns-in-Some c = λ p. value-as p c.args.self.now (λ T. valued T p c.args.self.now.fuel (list (cores T p c.args.all.now) (core_of T p c.args.filler.now)) (option_map goal_place c.args.into)) (λ T. valued T p c.args.self.now.fuel (list (cores T p c.args.all.now) (core_of T p c.args.filler.now)) (Some (goal_place c.in-Some.goal)))
+    c.begin_array.result c.begin_array.new.self (c.begin_array.ensures p) (λ T s w. ap (λ (i : Option Goal). valued T p c.args.self.now.fuel (list (cores T p c.args.all.now) (core_of T p c.args.filler.now)) (option_map goal_place i) s w) c.in-Some.is)

@@ -7,7 +7,7 @@ use Rattle.cf_core_run.proofs.Laws.{flow-as}
 use Rattle.cf_core_run.proofs.state.Machine.choose_on.Goals as goal
 
 pub returns-then-holds : goal.returns-then-holds
-returns-then-holds c = λ p. flow-as p c.args.self.now (λ T. when c.args.holds (performed T p c.args.self.now.fuel (core_of T c.args.yes.now)) (performed_other T p c.args.self.now.fuel c.args.no.now)) (λ T. performed T p c.args.self.now.fuel (core_of T c.args.yes.now)) c.perform_next.result c.perform_next.new.self (c.perform_next.ensures p) (λ T w. ap (λ h. when h (performed T p c.args.self.now.fuel (core_of T c.args.yes.now)) (performed_other T p c.args.self.now.fuel c.args.no.now) (state_of T c.args.self.now.entered c.args.self.now.objects) w) c.if-holds.true)
+returns-then-holds c = λ p. flow-as p c.args.self.now (λ T. when c.args.holds (performed T p c.args.self.now.fuel (core_of T p c.args.yes.now)) (performed_other T p c.args.self.now.fuel c.args.no.now)) (λ T. performed T p c.args.self.now.fuel (core_of T p c.args.yes.now)) c.perform_next.result c.perform_next.new.self (c.perform_next.ensures p) (λ T w. ap (λ h. when h (performed T p c.args.self.now.fuel (core_of T p c.args.yes.now)) (performed_other T p c.args.self.now.fuel c.args.no.now) (state_of T c.args.self.now.entered c.args.self.now.objects) w) c.if-holds.true)
 
 pub returns-else-holds : goal.returns-else-holds
-returns-else-holds c = λ p. flow-as p c.args.self.now (λ T. when c.args.holds (performed T p c.args.self.now.fuel (core_of T c.args.yes.now)) (performed_other T p c.args.self.now.fuel c.args.no.now)) (λ T. performed_other T p c.args.self.now.fuel c.args.no.now) c.perform_other.result c.perform_other.new.self (c.perform_other.ensures p) (λ T w. ap (λ h. when h (performed T p c.args.self.now.fuel (core_of T c.args.yes.now)) (performed_other T p c.args.self.now.fuel c.args.no.now) (state_of T c.args.self.now.entered c.args.self.now.objects) w) c.if-holds.false)
+returns-else-holds c = λ p. flow-as p c.args.self.now (λ T. when c.args.holds (performed T p c.args.self.now.fuel (core_of T p c.args.yes.now)) (performed_other T p c.args.self.now.fuel c.args.no.now)) (λ T. performed_other T p c.args.self.now.fuel c.args.no.now) c.perform_other.result c.perform_other.new.self (c.perform_other.ensures p) (λ T w. ap (λ h. when h (performed T p c.args.self.now.fuel (core_of T p c.args.yes.now)) (performed_other T p c.args.self.now.fuel c.args.no.now) (state_of T c.args.self.now.entered c.args.self.now.objects) w) c.if-holds.false)

@@ -21,4 +21,4 @@ returns-in-None-split_first c = λ p. value-as p c.args.self.now (λ T. last_of 
 pub returns-in-Some-split_first : goal.returns-in-Some-split_first
 returns-in-Some-split_first c = λ p. value-as p c.args.self.now (λ T. last_of T p c.args.self.now.fuel c.args.all.now) _ c.comma_rest.result c.comma_rest.new.self (c.comma_rest.ensures p)
     (λ T s w. ap (λ (l : List Node). last_of T p c.args.self.now.fuel l s w) (c.in-Some.ensures.cases.0 ∙ ap (λ l. c.in-Some.first.now ∷ l) c.in-Some-split_first.ensures.cases.0)
-    ∙ ap (λ (l : List Node). (valued T p c.args.self.now.fuel (core_of T c.in-Some.first.now) None s w ▷ (λ v. last_of T p c.args.self.now.fuel l))) (sym c.in-Some-split_first.ensures.cases.0))
+    ∙ ap (λ (l : List Node). (valued T p c.args.self.now.fuel (core_of T p c.in-Some.first.now) None s w ▷ (λ v. last_of T p c.args.self.now.fuel l))) (sym c.in-Some-split_first.ensures.cases.0))

@@ -16,5 +16,5 @@ returns-in-None c = λ p. record {
 }
 
 pub returns-in-Some : goal.returns-in-Some
-returns-in-Some c = λ p. flow-as p c.args.self.now (λ T. turned T p c.args.self.now.fuel c.args.repeated true) (λ T s w. full T p c.args.self.now.fuel (valued T p c.args.self.now.fuel (core_of T c.in-Some.e) None) s w ▷ go_test T p c.args.self.now.fuel (test.Stepped c.args.repeated)) c.test.result c.test.new.self (c.test.ensures p)
+returns-in-Some c = λ p. flow-as p c.args.self.now (λ T. turned T p c.args.self.now.fuel c.args.repeated true) (λ T s w. full T p c.args.self.now.fuel (valued T p c.args.self.now.fuel (core_of T p c.in-Some.e) None) s w ▷ go_test T p c.args.self.now.fuel (test.Stepped c.args.repeated)) c.test.result c.test.new.self (c.test.ensures p)
     (λ T w. ap (λ (x : Option Node). step_and (again T p c.args.self.now.fuel) (program_of T p) (maybe_core T p x) (again T p c.args.self.now.fuel (turn (loop_of T p c.args.repeated))) (state_of T c.args.self.now.entered c.args.self.now.objects) w) c.in-Some.is)

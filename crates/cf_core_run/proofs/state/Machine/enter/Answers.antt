@@ -2,7 +2,7 @@ use Rattle.cf_base.specs.Event.{Enter}
 use Rattle.cf_core.specs.Calls as calls
 use Rattle.cf_core_run.specs.declared.mark.Doing.TheVariants as doing
 use Rattle.cf_core_run.specs.Going.{GoesOn, again}
-use Rattle.std.proofs.Common.{◌≡◌, ◌∙◌, ◌-◌, ◌++◌, ◌∷◌, [], List, ℕ, Some, None, ap, sym, subst, map, replicate, length, rules}
+use Rattle.std.proofs.Common.{◌≡◌, ◌∙◌, ◌+◌, ◌-◌, ◌++◌, ◌∷◌, [], List, ℕ, Some, None, ap, sym, subst, map, length, rules}
 use Rattle.cf_core.specs.Calls.{name_function, run_library, root}
 use Rattle.cf_run_tree.specs.Tree.{function_of}
 use Rattle.cf_core_objects.specs.declared.object.Entered.{Entered}
@@ -20,9 +20,9 @@ returns-then-self-eq0-2 c = λ p. enter-depth p c.args.self.now c.args.f.now c.a
 pub returns : goal.returns
 returns c = λ p.
     let e = c.replace-caller.new.dest in
-    let locals : c.in_ok-locals.locals.items ≡ map Some c.args.made.items ++ replicate (length c.args.f.now.locals) None = search rules in
-    let count : length c.args.made.items ≡ length c.args.f.now.signature.params = search rules in
-    subst (λ (n : List ℕ). GoesOn p (λ T o. from_value T p c.args.self.now (calls.enter (again T p c.args.self.now.fuel) (function_of T c.args.f.now) c.args.made.items None None) o) (Some (Enter n))
+    let locals : c.in_ok-locals.locals.items ≡ map Some c.args.made.items = search rules in
+    let count : e.count ≡ length c.args.f.now.signature.params + length c.args.f.now.locals = ap (λ (x : Entered). x.count) c.replace-caller.ensures.after ∙ search rules in
+    subst (λ (n : List ℕ). GoesOn p (λ T o. from_value T p c.args.self.now (calls.enter (again T p c.args.self.now.fuel) (function_of T p c.args.f.now) c.args.made.items None None) o) (Some (Enter n))
     (record c.args.self.now { stack = c.push.new.self; entered = e; ticks = c.args.self.now.ticks - 1; doing = doing.Body c.args.f c.args.made })) (sym c.as_slice-name.ensures)
     (enter-goes p c.args.self.now c.args.f c.args.made e c.push.new.self c.if-self-eq0.false c.if-self-eq0-2.false
     (ap (λ (x : Entered). x.name.now) c.replace-caller.ensures.after ∙ c.as_slice-name.ensures)

@@ -22,5 +22,5 @@ returns-in-None c = λ p. flow-as p c.args.self.now (λ T. performed T p c.args.
     (λ T w. ap (λ (x : Option Node). performed T p c.args.self.now.fuel (nodes.give (maybe_core T p x)) (state_of T c.args.self.now.entered c.args.self.now.objects) w) c.in-None.is)
 
 pub returns-in-Some : goal.returns-in-Some
-returns-in-Some c = λ p. flow-as p c.args.self.now (λ T. performed T p c.args.self.now.fuel (nodes.give (maybe_core T p c.args.value.now))) (λ T s w. full T p c.args.self.now.fuel (valued T p c.args.self.now.fuel (core_of T c.in-Some.e) None >>= of_value T applied.Used) s w ▷ go_test T p c.args.self.now.fuel test.Result) c.test_by.result c.test_by.new.self (c.test_by.ensures p)
+returns-in-Some c = λ p. flow-as p c.args.self.now (λ T. performed T p c.args.self.now.fuel (nodes.give (maybe_core T p c.args.value.now))) (λ T s w. full T p c.args.self.now.fuel (valued T p c.args.self.now.fuel (core_of T p c.in-Some.e) None >>= of_value T applied.Used) s w ▷ go_test T p c.args.self.now.fuel test.Result) c.test_by.result c.test_by.new.self (c.test_by.ensures p)
     (λ T w. return-goes T p c.args.self.now.fuel c.args.self.now.entered c.args.self.now.objects c.args.value.now c.in-Some.e w c.in-Some.is)

@@ -3,4 +3,4 @@ use Rattle.cf_core_run.proofs.Goes.{object-goes}
 use Rattle.cf_core_run.proofs.state.Machine.hold_in.Goals as goal
 
 pub returns : goal.returns
-returns c = λ p. object-goes p c.args.self.now c.push.new.self (vm.Held c.args.object) c.args.object c.args.start.now c.get.result c.in_ok-push.ensures.items c.get.ensures
+returns c = λ p. object-goes p c.args.self.now c.push.new.self (vm.Held c.args.object) c.args.object c.whole.result c.args.start.now c.get.result c.in_ok-push.ensures.items c.get.ensures c.whole.ensures

@@ -25,3 +25,15 @@ returns-in-Some-Back c = λ p. comes-by p (λ T o. from_flow T p c.args.self.now
     (λ T o. from_value T p (record c.args.self.now { stack = c.pop.new.self; fuel = c.in-Some-Back.fuel }) (go_back T p c.in-Some-Back.fuel c.in-Some-Back.shape c.in-Some-Back.entered (flow_of c.args.flow)) o) c.go_back.result c.go_back.new.self
     (λ T o. flow-pops T p c.args.self.now c.pop.new.self.items (mark.Back c.in-Some-Back.fuel c.in-Some-Back.shape c.in-Some-Back.entered) (flow_of c.args.flow) o
     (c.in-Some-Back.ensures.items ∙ ap (λ (x : Mark). c.pop.new.self.items ++ x ∷ []) c.in-Some-Back.field-0-is)) (c.go_back.ensures p)
+
+pub returns-in-Some-Value : goal.returns-in-Some-Value
+returns-in-Some-Value c = λ p. record {
+  same = λ T o. flow-pops T p c.args.self.now c.pop.new.self.items (mark.Value c.in-Some-Value.fuel c.in-Some-Value.mark) (flow_of c.args.flow) o
+      (c.in-Some-Value.ensures.items ∙ ap (λ (x : Mark). c.pop.new.self.items ++ x ∷ []) c.in-Some-Value.field-0-is);
+}
+
+pub returns-in-Some-Test : goal.returns-in-Some-Test
+returns-in-Some-Test c = λ p. record {
+  same = λ T o. flow-pops T p c.args.self.now c.pop.new.self.items (mark.Test c.in-Some-Test.fuel c.in-Some-Test.mark) (flow_of c.args.flow) o
+      (c.in-Some-Test.ensures.items ∙ ap (λ (x : Mark). c.pop.new.self.items ++ x ∷ []) c.in-Some-Test.field-0-is);
+}

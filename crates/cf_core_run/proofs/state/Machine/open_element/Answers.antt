@@ -3,4 +3,4 @@ use Rattle.cf_core_run.proofs.Goes.{inner-goes}
 use Rattle.cf_core_run.proofs.state.Machine.open_element.Goals as goal
 
 pub returns : goal.returns
-returns c = λ p. inner-goes p c.args.self.now c.open_inner.new.self (vm.Element c.args.place c.args.others) c.args.place c.args.e c.in_ok-open_inner.ensures
+returns c = λ p. inner-goes p c.args.self.now c.open_inner.new.self (vm.Element c.args.goal c.args.others) c.args.goal c.args.e c.in_ok-open_inner.ensures

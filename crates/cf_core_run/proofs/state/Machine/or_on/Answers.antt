@@ -10,7 +10,7 @@ use Rattle.cf_core_run.proofs.state.Machine.or_on.Goals as goal
 
 pub returns-else-holds : goal.returns-else-holds
 returns-else-holds c = λ p. value-as p c.args.self.now (λ T. when c.args.holds (gives (truth_value true)) (truth_by T p c.args.self.now.fuel c.args.b.now)) _ c.down.result c.down.new.self (c.down.ensures p)
-    (λ T s w. ap (λ h. when h (gives (truth_value true)) (truth_by T p c.args.self.now.fuel c.args.b.now) s w) c.if-holds.false ∙ then-assoc (valued T p c.args.self.now.fuel (core_of T c.args.b.now) None s w) truth_of _)
+    (λ T s w. ap (λ h. when h (gives (truth_value true)) (truth_by T p c.args.self.now.fuel c.args.b.now) s w) c.if-holds.false ∙ then-assoc (valued T p c.args.self.now.fuel (core_of T p c.args.b.now) None s w) truth_of _)
 
 pub returns-then-holds : goal.returns-then-holds
 returns-then-holds c = λ p. value-as p c.args.self.now (λ T. when c.args.holds (gives (truth_value true)) (truth_by T p c.args.self.now.fuel c.args.b.now)) _ c.gives_truth.result c.gives_truth.new.self (c.gives_truth.ensures p) (λ T s w. ap (λ h. when h (gives (truth_value true)) (truth_by T p c.args.self.now.fuel c.args.b.now) s w) c.if-holds.true)

@@ -4,4 +4,4 @@ use Rattle.cf_core_run.proofs.Goes.{object-goes}
 use Rattle.cf_core_run.proofs.state.Machine.pass_in.Goals as goal
 
 pub returns : goal.returns
-returns c = λ p. object-goes p c.args.self.now c.push.new.self (vm.Argument c.args.left c.args.object) c.args.object c.args.first.now c.args.first c.in_ok-push.ensures.items refl
+returns c = λ p. object-goes p c.args.self.now c.push.new.self (vm.Argument c.args.left c.args.object) c.args.object c.whole.result c.args.first.now c.args.first c.in_ok-push.ensures.items refl c.whole.ensures

@@ -13,5 +13,5 @@ returns-in-None c = λ p. flow-as p c.args.self.now (λ T. performed_other T p c
     (λ T w. ap (λ (x : Option Node). performed_other T p c.args.self.now.fuel x (state_of T c.args.self.now.entered c.args.self.now.objects) w) c.in-None.is)
 
 pub returns-in-Some : goal.returns-in-Some
-returns-in-Some c = λ p. flow-as p c.args.self.now (λ T. performed_other T p c.args.self.now.fuel c.args.no.now) (λ T. performed T p c.args.self.now.fuel (core_of T c.in-Some.s)) c.perform_next.result c.perform_next.new.self (c.perform_next.ensures p)
+returns-in-Some c = λ p. flow-as p c.args.self.now (λ T. performed_other T p c.args.self.now.fuel c.args.no.now) (λ T. performed T p c.args.self.now.fuel (core_of T p c.in-Some.s)) c.perform_next.result c.perform_next.new.self (c.perform_next.ensures p)
     (λ T w. ap (λ (x : Option Node). performed_other T p c.args.self.now.fuel x (state_of T c.args.self.now.entered c.args.self.now.objects) w) c.in-Some.is)

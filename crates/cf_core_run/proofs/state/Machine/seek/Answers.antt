@@ -12,22 +12,22 @@ pub returns-then-has_case : goal.returns-then-has_case
 returns-then-has_case c = λ p. record {
   same = λ T o. ap (λ (b : Bool). from_flow T p c.args.self.now (when b (from_case (again T p c.args.self.now.fuel) (program_of T p) c.args.number (cores T p c.args.all.now))
       (when (has_default (cores T p c.args.all.now)) (from_default (again T p c.args.self.now.fuel) (program_of T p) (cores T p c.args.all.now)) (gives Falls))) o)
-      (sym (c.has_case.ensures T) ∙ c.if-has_case.true);
+      (sym (c.has_case.ensures T p) ∙ c.if-has_case.true);
 }
 
 pub returns-then-has_default : goal.returns-then-has_default
 returns-then-has_default c = λ p. record {
   same = λ T o. ap (λ (b : Bool). from_flow T p c.args.self.now (when b (from_case (again T p c.args.self.now.fuel) (program_of T p) c.args.number (cores T p c.args.all.now))
       (when (has_default (cores T p c.args.all.now)) (from_default (again T p c.args.self.now.fuel) (program_of T p) (cores T p c.args.all.now)) (gives Falls))) o)
-      (sym (c.has_case.ensures T) ∙ c.if-has_case.false)
+      (sym (c.has_case.ensures T p) ∙ c.if-has_case.false)
       ∙ ap (λ (b : Bool). from_flow T p c.args.self.now (when b (from_default (again T p c.args.self.now.fuel) (program_of T p) (cores T p c.args.all.now)) (gives Falls)) o)
-      (sym (c.has_default.ensures T) ∙ c.if-has_default.true);
+      (sym (c.has_default.ensures T p) ∙ c.if-has_default.true);
 }
 
 pub returns : goal.returns
 returns c = λ p. flow-as p c.args.self.now (λ T. labelled T p c.args.self.now.fuel c.args.number (cores T p c.args.all.now)) (λ T. gives Falls) c.ends.result c.ends.new.self (c.ends.ensures p)
     (λ T w. ap (λ (b : Bool). when b (from_case (again T p c.args.self.now.fuel) (program_of T p) c.args.number (cores T p c.args.all.now))
     (when (has_default (cores T p c.args.all.now)) (from_default (again T p c.args.self.now.fuel) (program_of T p) (cores T p c.args.all.now)) (gives Falls)) (state_of T c.args.self.now.entered c.args.self.now.objects) w)
-    (sym (c.has_case.ensures T) ∙ c.if-has_case.false)
+    (sym (c.has_case.ensures T p) ∙ c.if-has_case.false)
     ∙ ap (λ (b : Bool). when b (from_default (again T p c.args.self.now.fuel) (program_of T p) (cores T p c.args.all.now)) (gives Falls) (state_of T c.args.self.now.entered c.args.self.now.objects) w)
-    (sym (c.has_default.ensures T) ∙ c.if-has_default.false))
+    (sym (c.has_default.ensures T p) ∙ c.if-has_default.false))

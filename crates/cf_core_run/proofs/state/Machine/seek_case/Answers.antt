@@ -18,14 +18,14 @@ pub returns-then-is_case : goal.returns-then-is_case
 returns-then-is_case c = λ p. record {
   same = λ T o. ap (λ (l : List Node). from_flow T p c.args.self.now (from_case (again T p c.args.self.now.fuel) (program_of T p) c.args.number (cores T p l)) o) c.in-Some.ensures.cases.0
       ∙ ap (λ r. finish T p o (on_flow T p (reverse c.args.self.now.stack.items) r))
-      (case-next (again T p c.args.self.now.fuel) (program_of T p) c.args.number (core_of T c.in-Some.first.now) (cores T p c.in-Some.rest.now) (state_of T c.args.self.now.entered c.args.self.now.objects) (world_of c.args.self.now.ticks o)
-      ∙ ap (λ (b : Bool). when b (performed_all T p c.args.self.now.fuel (cores T p c.in-Some.rest.now)) (passes (core_of T c.in-Some.first.now) >> from_case (again T p c.args.self.now.fuel) (program_of T p) c.args.number (cores T p c.in-Some.rest.now)) (state_of T c.args.self.now.entered c.args.self.now.objects) (world_of c.args.self.now.ticks o))
-      (sym (c.is_case.ensures T) ∙ c.if-is_case.true));
+      (case-next (again T p c.args.self.now.fuel) (program_of T p) c.args.number (core_of T p c.in-Some.first.now) (cores T p c.in-Some.rest.now) (state_of T c.args.self.now.entered c.args.self.now.objects) (world_of c.args.self.now.ticks o)
+      ∙ ap (λ (b : Bool). when b (performed_all T p c.args.self.now.fuel (cores T p c.in-Some.rest.now)) (passes (core_of T p c.in-Some.first.now) >> from_case (again T p c.args.self.now.fuel) (program_of T p) c.args.number (cores T p c.in-Some.rest.now)) (state_of T c.args.self.now.entered c.args.self.now.objects) (world_of c.args.self.now.ticks o))
+      (sym (c.is_case.ensures T p) ∙ c.if-is_case.true));
 }
 
 pub returns-else-is_case : goal.returns-else-is_case
-returns-else-is_case c = λ p. flow-as p c.args.self.now (λ T. from_case (again T p c.args.self.now.fuel) (program_of T p) c.args.number (cores T p c.args.all.now)) (λ T. passes (core_of T c.in-Some.first.now) >> from_case (again T p c.args.self.now.fuel) (program_of T p) c.args.number (cores T p c.in-Some.rest.now)) c.pass_to_case.result c.pass_to_case.new.self (c.pass_to_case.ensures p)
+returns-else-is_case c = λ p. flow-as p c.args.self.now (λ T. from_case (again T p c.args.self.now.fuel) (program_of T p) c.args.number (cores T p c.args.all.now)) (λ T. passes (core_of T p c.in-Some.first.now) >> from_case (again T p c.args.self.now.fuel) (program_of T p) c.args.number (cores T p c.in-Some.rest.now)) c.pass_to_case.result c.pass_to_case.new.self (c.pass_to_case.ensures p)
     (λ T w. ap (λ (l : List Node). from_case (again T p c.args.self.now.fuel) (program_of T p) c.args.number (cores T p l) (state_of T c.args.self.now.entered c.args.self.now.objects) w) c.in-Some.ensures.cases.0
-    ∙ case-next (again T p c.args.self.now.fuel) (program_of T p) c.args.number (core_of T c.in-Some.first.now) (cores T p c.in-Some.rest.now) (state_of T c.args.self.now.entered c.args.self.now.objects) w
-    ∙ ap (λ (b : Bool). when b (performed_all T p c.args.self.now.fuel (cores T p c.in-Some.rest.now)) (passes (core_of T c.in-Some.first.now) >> from_case (again T p c.args.self.now.fuel) (program_of T p) c.args.number (cores T p c.in-Some.rest.now)) (state_of T c.args.self.now.entered c.args.self.now.objects) w)
-    (sym (c.is_case.ensures T) ∙ c.if-is_case.false))
+    ∙ case-next (again T p c.args.self.now.fuel) (program_of T p) c.args.number (core_of T p c.in-Some.first.now) (cores T p c.in-Some.rest.now) (state_of T c.args.self.now.entered c.args.self.now.objects) w
+    ∙ ap (λ (b : Bool). when b (performed_all T p c.args.self.now.fuel (cores T p c.in-Some.rest.now)) (passes (core_of T p c.in-Some.first.now) >> from_case (again T p c.args.self.now.fuel) (program_of T p) c.args.number (cores T p c.in-Some.rest.now)) (state_of T c.args.self.now.entered c.args.self.now.objects) w)
+    (sym (c.is_case.ensures T p) ∙ c.if-is_case.false))

@@ -18,14 +18,14 @@ pub returns-then-is_default : goal.returns-then-is_default
 returns-then-is_default c = λ p. record {
   same = λ T o. ap (λ (l : List Node). from_flow T p c.args.self.now (from_default (again T p c.args.self.now.fuel) (program_of T p) (cores T p l)) o) c.in-Some.ensures.cases.0
       ∙ ap (λ r. finish T p o (on_flow T p (reverse c.args.self.now.stack.items) r))
-      (default-next (again T p c.args.self.now.fuel) (program_of T p) (core_of T c.in-Some.first.now) (cores T p c.in-Some.rest.now) (state_of T c.args.self.now.entered c.args.self.now.objects) (world_of c.args.self.now.ticks o)
-      ∙ ap (λ (b : Bool). when b (performed_all T p c.args.self.now.fuel (cores T p c.in-Some.rest.now)) (passes (core_of T c.in-Some.first.now) >> from_default (again T p c.args.self.now.fuel) (program_of T p) (cores T p c.in-Some.rest.now)) (state_of T c.args.self.now.entered c.args.self.now.objects) (world_of c.args.self.now.ticks o))
-      (sym (c.is_default.ensures T) ∙ c.if-is_default.true));
+      (default-next (again T p c.args.self.now.fuel) (program_of T p) (core_of T p c.in-Some.first.now) (cores T p c.in-Some.rest.now) (state_of T c.args.self.now.entered c.args.self.now.objects) (world_of c.args.self.now.ticks o)
+      ∙ ap (λ (b : Bool). when b (performed_all T p c.args.self.now.fuel (cores T p c.in-Some.rest.now)) (passes (core_of T p c.in-Some.first.now) >> from_default (again T p c.args.self.now.fuel) (program_of T p) (cores T p c.in-Some.rest.now)) (state_of T c.args.self.now.entered c.args.self.now.objects) (world_of c.args.self.now.ticks o))
+      (sym (c.is_default.ensures T p) ∙ c.if-is_default.true));
 }
 
 pub returns-else-is_default : goal.returns-else-is_default
-returns-else-is_default c = λ p. flow-as p c.args.self.now (λ T. from_default (again T p c.args.self.now.fuel) (program_of T p) (cores T p c.args.all.now)) (λ T. passes (core_of T c.in-Some.first.now) >> from_default (again T p c.args.self.now.fuel) (program_of T p) (cores T p c.in-Some.rest.now)) c.pass_to_default.result c.pass_to_default.new.self (c.pass_to_default.ensures p)
+returns-else-is_default c = λ p. flow-as p c.args.self.now (λ T. from_default (again T p c.args.self.now.fuel) (program_of T p) (cores T p c.args.all.now)) (λ T. passes (core_of T p c.in-Some.first.now) >> from_default (again T p c.args.self.now.fuel) (program_of T p) (cores T p c.in-Some.rest.now)) c.pass_to_default.result c.pass_to_default.new.self (c.pass_to_default.ensures p)
     (λ T w. ap (λ (l : List Node). from_default (again T p c.args.self.now.fuel) (program_of T p) (cores T p l) (state_of T c.args.self.now.entered c.args.self.now.objects) w) c.in-Some.ensures.cases.0
-    ∙ default-next (again T p c.args.self.now.fuel) (program_of T p) (core_of T c.in-Some.first.now) (cores T p c.in-Some.rest.now) (state_of T c.args.self.now.entered c.args.self.now.objects) w
-    ∙ ap (λ (b : Bool). when b (performed_all T p c.args.self.now.fuel (cores T p c.in-Some.rest.now)) (passes (core_of T c.in-Some.first.now) >> from_default (again T p c.args.self.now.fuel) (program_of T p) (cores T p c.in-Some.rest.now)) (state_of T c.args.self.now.entered c.args.self.now.objects) w)
-    (sym (c.is_default.ensures T) ∙ c.if-is_default.false))
+    ∙ default-next (again T p c.args.self.now.fuel) (program_of T p) (core_of T p c.in-Some.first.now) (cores T p c.in-Some.rest.now) (state_of T c.args.self.now.entered c.args.self.now.objects) w
+    ∙ ap (λ (b : Bool). when b (performed_all T p c.args.self.now.fuel (cores T p c.in-Some.rest.now)) (passes (core_of T p c.in-Some.first.now) >> from_default (again T p c.args.self.now.fuel) (program_of T p) (cores T p c.in-Some.rest.now)) (state_of T c.args.self.now.entered c.args.self.now.objects) w)
+    (sym (c.is_default.ensures T p) ∙ c.if-is_default.false))

@@ -12,10 +12,10 @@ returns-in-None c = value-as c.args.program.now c.args.self.now (λ T. setting T
 
 pub returns-then-sets_constant : goal.returns-then-sets_constant
 returns-then-sets_constant c = value-as c.args.program.now c.args.self.now (λ T. setting T c.args.program.now c.args.self.now.fuel c.args.all.now) (λ T. setting_with T c.args.program.now c.args.self.now.fuel c.in-Some.first.now c.in-Some.rest.now) c.set.result c.set.new.self c.set.ensures
-    (λ T s w. setting-sets T c.args.program.now c.args.self.now.fuel c.args.all.now c.in-Some.first.now c.in-Some.rest.now s w c.in-Some.ensures.cases.0 (sym (c.sets_constant.ensures T) ∙ c.if-sets_constant.true))
+    (λ T s w. setting-sets T c.args.program.now c.args.self.now.fuel c.args.all.now c.in-Some.first.now c.in-Some.rest.now s w c.in-Some.ensures.cases.0 (sym (c.sets_constant.ensures T c.args.program.now) ∙ c.if-sets_constant.true))
 
 pub returns-else-sets_constant : goal.returns-else-sets_constant
 returns-else-sets_constant c = record {
   same = λ T o. ap (λ r. finish T c.args.program.now o (on_value T c.args.program.now (reverse c.args.self.now.stack.items) r))
-      (setting-skips T c.args.program.now c.args.self.now.fuel c.args.all.now c.in-Some.first.now c.in-Some.rest.now (state_of T c.args.self.now.entered c.args.self.now.objects) (world_of c.args.self.now.ticks o) c.in-Some.ensures.cases.0 (sym (c.sets_constant.ensures T) ∙ c.if-sets_constant.false));
+      (setting-skips T c.args.program.now c.args.self.now.fuel c.args.all.now c.in-Some.first.now c.in-Some.rest.now (state_of T c.args.self.now.entered c.args.self.now.objects) (world_of c.args.self.now.ticks o) c.in-Some.ensures.cases.0 (sym (c.sets_constant.ensures T c.args.program.now) ∙ c.if-sets_constant.false));
 }

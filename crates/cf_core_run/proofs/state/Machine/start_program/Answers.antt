@@ -1,7 +1,7 @@
-use Rattle.std.proofs.Common.{◌≡◌, ◌∙◌, ap, subst, refl, Ok, rules}
+use Rattle.std.proofs.Common.{refl}
 use Rattle.cf_core_run.proofs.WholeLaws.{begun-goes}
 use Rattle.cf_core_run.proofs.state.Machine.start_program.Goals as goal
 
-pub returns-in-Ok : goal.returns-in-Ok
-returns-in-Ok c = begun-goes c.args.program.now c.args.self.now (record { name = c.as_slice.result; depth = c.args.self.now.entered.depth; locals = c.new.result; scope = c.new-in-Ok.result; temporaries = c.new-in-Ok-2.result }) c.in-Ok.objects c.as_slice-in-Ok.result
-    (search rules) c.as_slice.ensures c.new.ensures.items c.new-in-Ok.ensures.items c.new-in-Ok-2.ensures.items refl c.as_slice-in-Ok.ensures
+pub returns : goal.returns
+returns c = begun-goes c.args.program.now c.args.self.now (record { name = c.as_slice.result; depth = c.args.self.now.entered.depth; count = 0; locals = c.new.result; scope = c.new-2.result; temporaries = c.new-3.result }) c.in_ok-objects.objects c.as_slice-2.result
+    c.in_ok-objects.ensures refl c.as_slice.ensures c.new.ensures.items c.new-2.ensures.items c.new-3.ensures.items refl c.as_slice-2.ensures

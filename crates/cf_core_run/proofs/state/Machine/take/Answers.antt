@@ -27,3 +27,15 @@ returns-in-Some-Test c = λ p. comes-by p (λ T o. from_value T p c.args.self.no
     (λ T o. from_flow T p (record c.args.self.now { stack = c.pop.new.self; fuel = c.in-Some-Test.fuel }) (go_test T p c.in-Some-Test.fuel c.in-Some-Test.mark (value_of c.args.v)) o) c.take_test.result c.take_test.new.self
     (λ T o. value-pops T p c.args.self.now c.pop.new.self.items (mark.Test c.in-Some-Test.fuel c.in-Some-Test.mark) (value_of c.args.v) o
     (c.in-Some-Test.ensures.items ∙ ap (λ (x : Mark). c.pop.new.self.items ++ x ∷ []) c.in-Some-Test.field-0-is)) (c.take_test.ensures p)
+
+pub returns-in-Some-Flow : goal.returns-in-Some-Flow
+returns-in-Some-Flow c = λ p. record {
+  same = λ T o. value-pops T p c.args.self.now c.pop.new.self.items (mark.Flow c.in-Some-Flow.fuel c.in-Some-Flow.mark) (value_of c.args.v) o
+      (c.in-Some-Flow.ensures.items ∙ ap (λ (x : Mark). c.pop.new.self.items ++ x ∷ []) c.in-Some-Flow.field-0-is);
+}
+
+pub returns-in-Some-Back : goal.returns-in-Some-Back
+returns-in-Some-Back c = λ p. record {
+  same = λ T o. value-pops T p c.args.self.now c.pop.new.self.items (mark.Back c.in-Some-Back.fuel c.in-Some-Back.shape c.in-Some-Back.entered) (value_of c.args.v) o
+      (c.in-Some-Back.ensures.items ∙ ap (λ (x : Mark). c.pop.new.self.items ++ x ∷ []) c.in-Some-Back.field-0-is);
+}

@@ -9,8 +9,8 @@ use Rattle.cf_core_run.proofs.state.Machine.test_by.Goals as goal
 
 pub returns : goal.returns
 returns c = λ p. comes-by p
-    (λ T o. from_flow T p c.args.self.now (λ s w. full T p c.args.self.now.fuel (valued T p c.args.self.now.fuel (core_of T c.args.e.now) None >>= of_value T c.args.op) s w ▷ go_test T p c.args.self.now.fuel c.args.mark) o)
-    (λ T o. from_value T p c.open_whole.new.self (valued T p c.open_whole.new.self.fuel (core_of T c.args.e.now) None >>= of_value T c.args.op) o) c.down.result c.down.new.self
-    (λ T o. c.in_ok-open_whole.ensures.same T p (valued T p c.args.self.now.fuel (core_of T c.args.e.now) None >>= of_value T c.args.op) o
-    ∙ ap (λ k. from_value T p c.open_whole.new.self (valued T p k (core_of T c.args.e.now) None >>= of_value T c.args.op) o) (sym c.in_ok-open_whole.ensures.fuel))
+    (λ T o. from_flow T p c.args.self.now (λ s w. full T p c.args.self.now.fuel (valued T p c.args.self.now.fuel (core_of T p c.args.e.now) None >>= of_value T c.args.op) s w ▷ go_test T p c.args.self.now.fuel c.args.mark) o)
+    (λ T o. from_value T p c.open_whole.new.self (valued T p c.open_whole.new.self.fuel (core_of T p c.args.e.now) None >>= of_value T c.args.op) o) c.down.result c.down.new.self
+    (λ T o. c.in_ok-open_whole.ensures.same T p (valued T p c.args.self.now.fuel (core_of T p c.args.e.now) None >>= of_value T c.args.op) o
+    ∙ ap (λ k. from_value T p c.open_whole.new.self (valued T p k (core_of T p c.args.e.now) None >>= of_value T c.args.op) o) (sym c.in_ok-open_whole.ensures.fuel))
     (c.down.ensures p)

@@ -19,6 +19,6 @@ returns-in-None c = λ p. flow-as p c.args.self.now (λ T. first_turn T p c.args
     (λ T w. ap (λ (x : Option Node). (holds (again T p c.args.self.now.fuel) (program_of T p) (maybe_core T p x) >>= (λ t. when t (body_turn T p c.args.self.now.fuel c.args.repeated) (gives Falls))) (state_of T c.args.self.now.entered c.args.self.now.objects) w) c.in-None.is)
 
 pub returns-in-Some : goal.returns-in-Some
-returns-in-Some c = λ p. flow-as p c.args.self.now (λ T. first_turn T p c.args.self.now.fuel c.args.repeated) (λ T s w. full T p c.args.self.now.fuel (valued T p c.args.self.now.fuel (core_of T c.in-Some.e) None >>= of_value T applied.Truth) s w ▷ go_first T p c.args.self.now.fuel c.args.repeated) c.test_by.result c.test_by.new.self (c.test_by.ensures p)
+returns-in-Some c = λ p. flow-as p c.args.self.now (λ T. first_turn T p c.args.self.now.fuel c.args.repeated) (λ T s w. full T p c.args.self.now.fuel (valued T p c.args.self.now.fuel (core_of T p c.in-Some.e) None >>= of_value T applied.Truth) s w ▷ go_first T p c.args.self.now.fuel c.args.repeated) c.test_by.result c.test_by.new.self (c.test_by.ensures p)
     (λ T w. ap (λ (x : Option Node). (holds (again T p c.args.self.now.fuel) (program_of T p) (maybe_core T p x) >>= (λ t. when t (body_turn T p c.args.self.now.fuel c.args.repeated) (gives Falls))) (state_of T c.args.self.now.entered c.args.self.now.objects) w) c.in-Some.is
-    ∙ truth-whole T p c.args.self.now.fuel (valued T p c.args.self.now.fuel (core_of T c.in-Some.e) None) _ (state_of T c.args.self.now.entered c.args.self.now.objects) w)
+    ∙ truth-whole T p c.args.self.now.fuel (valued T p c.args.self.now.fuel (core_of T p c.in-Some.e) None) _ (state_of T c.args.self.now.entered c.args.self.now.objects) w)

@@ -1,15 +1,17 @@
-use Rattle.std.proofs.Common.{[]}
+use Rattle.std.proofs.Common.{[], subst}
 use Rattle.cf_core.specs.Access.{fill_zeros}
-use Rattle.cf_core_place.specs.Routes.{place_of}
+use Rattle.cf_core_place.specs.Routes.{row_place}
+use Rattle.cf_core.specs.Places.{Place}
+use Rattle.cf_core_objects.specs.Answer.{Told}
 use Rattle.cf_core_objects.specs.Store.{state_of}
 use Rattle.cf_core_run.specs.Going.{putting_bytes}
 use Rattle.cf_core_run.proofs.Laws.{value-err, value-ok}
 use Rattle.cf_core_run.proofs.state.Machine.write.Goals as goal
 
 pub returns-in-Err : goal.returns-in-Err
-returns-in-Err c = λ p. value-err p c.args.self.now (λ u. tt) c.fill_zeros.result c.in-Err.stop (λ T. fill_zeros [] (place_of c.args.array)) (λ T u. putting_bytes T p (place_of c.args.array) c.args.bytes.now)
-    (λ T. state_of T c.args.self.now.entered c.fill_zeros.new.objects) c.in-Err.is (λ T w. c.fill_zeros.ensures T c.args.self.now.entered w)
+returns-in-Err c = λ p. value-err p c.args.self.now (λ u. tt) c.fill_zeros.result c.in-Err.stop (λ T. fill_zeros [] (row_place c.args.row)) (λ T u. putting_bytes T p (row_place c.args.row) c.args.bytes.now)
+    (λ T. state_of T c.args.self.now.entered c.fill_zeros.new.objects) c.in-Err.is (λ T w. subst (λ (q : Place). Told (λ u. tt) c.fill_zeros.result (state_of T c.args.self.now.entered c.fill_zeros.new.objects) w (fill_zeros [] q (state_of T c.args.self.now.entered c.args.self.now.objects) w)) c.place.ensures (c.fill_zeros.ensures T c.args.self.now.entered w))
 
 pub returns-in-Ok : goal.returns-in-Ok
-returns-in-Ok c = λ p. value-ok p c.args.self.now c.args.self.now.entered c.fill_zeros.new.objects (λ u. tt) c.fill_zeros.result tt (λ T. fill_zeros [] (place_of c.args.array)) (λ T u. putting_bytes T p (place_of c.args.array) c.args.bytes.now)
-    c.put_bytes.result c.put_bytes.new.self c.in-Ok.is (λ T w. c.fill_zeros.ensures T c.args.self.now.entered w) (c.put_bytes.ensures p)
+returns-in-Ok c = λ p. value-ok p c.args.self.now c.args.self.now.entered c.fill_zeros.new.objects (λ u. tt) c.fill_zeros.result tt (λ T. fill_zeros [] (row_place c.args.row)) (λ T u. putting_bytes T p (row_place c.args.row) c.args.bytes.now)
+    c.put_bytes.result c.put_bytes.new.self c.in-Ok.is (λ T w. subst (λ (q : Place). Told (λ u. tt) c.fill_zeros.result (state_of T c.args.self.now.entered c.fill_zeros.new.objects) w (fill_zeros [] q (state_of T c.args.self.now.entered c.args.self.now.objects) w)) c.place.ensures (c.fill_zeros.ensures T c.args.self.now.entered w)) (c.put_bytes.ensures p)
