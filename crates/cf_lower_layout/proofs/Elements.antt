@@ -25,7 +25,7 @@ up_to-bound (array t n) i h j le = array-bound (array t n) i h j le
 up_to-bound t i h j le = absurd (cc)
 
 -- what is true of a part or of the end
-points-item : (a b c : Bool) → (a && b) || (a && c) ≡ true → (a ≡ true) × (b || c ≡ true)
+pub points-item : (a b c : Bool) → (a && b) || (a && c) ≡ true → (a ≡ true) × (b || c ≡ true)
 points-item true b c h = (refl, h)
 points-item false b c h = absurd (cc)
 
@@ -33,11 +33,11 @@ item-points : (a b c : Bool) → a ≡ true → b || c ≡ true → (a && b) || 
 item-points true b c h k = k
 item-points false b c h k = absurd (cc)
 
-or-left : (a b : Bool) → a ≡ true → a || b ≡ true
+pub or-left : (a b : Bool) → a ≡ true → a || b ≡ true
 or-left true b h = refl
 or-left false b h = absurd (cc)
 
-no-part : (a : Bool) → (a && false) || false ≡ true → ⊥
+pub no-part : (a : Bool) → (a && false) || false ≡ true → ⊥
 no-part true h = cc
 no-part false h = cc
 

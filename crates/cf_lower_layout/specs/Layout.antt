@@ -1,9 +1,9 @@
 -- Where the parts of an object lie in its bytes (8.2.4). Routes have their last step first. Of arrays alone: classes have no parts here yet.
-use Rattle.std.specs.Prelude.{ℕ, ◌+◌, ◌*◌, ◌≤◌, Bool, true, false, ◌&&◌, ◌||◌, ◌==◌, nat_lt, List, [], ◌∷◌, ◌⊎◌}
+use Rattle.std.specs.Prelude.{◌≡◌, ℕ, ◌+◌, ◌*◌, ◌^◌, ◌≤◌, Bool, true, false, not, ◌&&◌, ◌||◌, ◌==◌, nat_lt, List, [], ◌∷◌, ◌⊎◌}
 use Rattle.cf_core.specs.Types.{SourceType, class, array, const, plain, element}
 use Rattle.cf_core.specs.Classes.{Class}
 use Rattle.cf_core.specs.Core.{Part, item, past, field, within}
-use Rattle.cf_core.specs.Places.{Route, type_at}
+use Rattle.cf_core.specs.Places.{Route, type_at, is_const}
 use Rattle.cf_core.specs.Size.{size}
 
 -- the element of this number, of an array
@@ -66,6 +66,18 @@ has_bytes (class c) = false
 has_bytes (array t n) = nat_lt 0 n && has_bytes t
 has_bytes (const t) = has_bytes t
 has_bytes t = true
+
+-- whether no const stands directly on const in an object's type, nor in that of its elements
+abbrev pub const_once : SourceType → Bool
+const_once (const t) = not (is_const t) && const_once t
+const_once (array t n) = const_once t
+const_once t = true
+
+-- a type whose objects are laid out here, of so many bytes at most
+pub record LaidOut (classes : List Class) (t : SourceType) : Type 0 where
+  pub small : size classes t ≤ 2 ^ 22
+  pub some : has_bytes t ≡ true
+  pub once : const_once t ≡ true
 
 -- n bytes from p on and k bytes from q on have none in common
 abbrev pub Apart : ℕ → ℕ → ℕ → ℕ → Type 0

@@ -5,6 +5,7 @@ use Rattle.cf_core.specs.Types.{SourceType}
 use Rattle.cf_core.specs.Store.{Object}
 use Rattle.cf_core.specs.Run.{State, upd, gone, with_object}
 use Rattle.cc_whole_memory.specs.Blocks.{Memory}
+use Rattle.cf_lower_layout.specs.Layout.{LaidOut}
 use Rattle.cf_lower_relate.specs.Map.{Fixed, Map, Stage, hidden, shown, ended, is_ended, is_shown, is_hidden, Grows, extended, entered, without}
 use Rattle.cf_lower_relate.specs.Relation.{Stands, Rel}
 use Rattle.cf_lower_relate.proofs.Objects.{upd-cases, upd-same, upd-other, below-apart, stands-kept}
@@ -70,15 +71,16 @@ grows-entered F o b is = record {
 module _ (K : Fixed) (F : Map) (s : State) (m : Memory) (r : Rel K F s m) where
   -- ---- an object begins, in a block where none stands
 
-  pub rel-born : (x : Object) (b n : ℕ) (st : Stage) → is_ended st ≡ false → x.is_gone ≡ false → b < m.next
+  pub rel-born : (x : Object) (b n : ℕ) (st : Stage) → LaidOut K.classes x.type → is_ended st ≡ false → x.is_gone ≡ false → b < m.next
       → ((p : ℕ) → p < F.count → is_ended (F.stage p) ≡ false → F.block p ≡ b → ⊥)
       → Stands K (extended s.next x.type b n st F) s.next x m
       → Rel K (extended s.next x.type b n st F) (record s { next = suc s.next; object = upd s.next x s.object }) m
-  rel-born x b n st live there below free h = record {
+  rel-born x b n st laid live there below free h = record {
     count = refl;
     type = λ p lt. upd-cases (λ (z : Object). z.type ≡ upd s.next x.type F.type p) s.next p x s.object
         (λ e. sym (ap (upd s.next x.type F.type) e ∙ upd-same s.next x.type F.type))
         (λ ne. r.type p (old p lt ne) ∙ sym (upd-other s.next p x.type F.type ne));
+    laid = λ p lt. upd-cases (λ (u : SourceType). LaidOut K.classes u) s.next p x.type F.type (λ e. laid) (λ ne. r.laid p (old p lt ne));
     gone = λ p lt. upd-cases (λ (z : Object). z.is_gone ≡ is_ended (upd s.next st F.stage p)) s.next p x s.object
         (λ e. there ∙ sym live ∙ sym (ap is_ended (ap (upd s.next st F.stage) e ∙ upd-same s.next st F.stage)))
         (λ ne. r.gone p (old p lt ne) ∙ sym (ap is_ended (upd-other s.next p st F.stage ne)));
@@ -127,6 +129,7 @@ module _ (K : Fixed) (F : Map) (s : State) (m : Memory) (r : Rel K F s m) where
     count = r.count;
     type = λ p lt. upd-cases (λ (z : Object). z.type ≡ F.type p) o p (gone (s.object o)) s.object
         (λ e. subst (λ q. (s.object q).type ≡ F.type p) e (r.type p lt)) (λ ne. r.type p lt);
+    laid = r.laid;
     gone = λ p lt. upd-cases (λ (z : Object). z.is_gone ≡ is_ended (upd o ended F.stage p)) o p (gone (s.object o)) s.object
         (λ e. sym (ap is_ended (ap (upd o ended F.stage) e ∙ upd-same o ended F.stage)))
         (λ ne. r.gone p lt ∙ sym (ap is_ended (upd-other o p ended F.stage ne)));
@@ -151,6 +154,7 @@ module _ (K : Fixed) (F : Map) (s : State) (m : Memory) (r : Rel K F s m) where
   rel-entered o b is below free h = record {
     count = r.count;
     type = r.type;
+    laid = r.laid;
     gone = λ p lt. upd-cases (λ (st : Stage). (s.object p).is_gone ≡ is_ended st) o p shown F.stage
         (λ e. r.gone p lt ∙ ap (λ q. is_ended (F.stage q)) e ∙ stage-ended (F.stage o) is) (λ ne. r.gone p lt);
     stands = λ p lt k. by_test p lt k (p == o) refl;

@@ -1,6 +1,8 @@
 pub mod Births
 pub mod Bits
 pub mod Cells
+pub mod Comparisons
+pub mod Counts
 pub mod Memory
 pub mod Moves
 pub mod Objects

@@ -19,13 +19,13 @@ use Rattle.cf_lower_relate.specs.Relation.{Stands, Rel}
 
 -- ---- numbers
 
-less : (q p m : ℕ) → q ≡ p + m → pos q +ℤ neg_ℤ (pos m) ≡ pos p
+pub less : (q p m : ℕ) → q ≡ p + m → pos q +ℤ neg_ℤ (pos m) ≡ pos p
 less q p zero e = ap pos (let h : q + 0 ≡ p = omega (arith, e) in h)
 less q p (suc m) e =
     ap (λ b. if b then negsuc (suc m - suc q) else pos (q - suc m)) (let t : nat_lt q (suc m) ≡ false = grind (arith, nat_tests, e) in t)
     ∙ ap pos (let h : q - suc m ≡ p = omega (arith, e) in h)
 
-some-same : {i j : ℕ} → Some i ≡ Some j → i ≡ j
+pub some-same : {i j : ℕ} → Some i ≡ Some j → i ≡ j
 some-same e = cc
 
 -- elements of n bytes: so many further is so many bytes further

@@ -64,6 +64,7 @@ module _ (K : Fixed) where
     rel-other m' le same = record {
       count = r.count;
       type = r.type;
+      laid = r.laid;
       gone = r.gone;
       stands = λ o lt e. let h = r.stands o lt e in record { block = h.block; there = same o lt e ∙ h.there; size = h.size; cells = h.cells };
       below = λ o lt e. let b = r.below o lt e in omega (arith, b, le);
@@ -78,6 +79,7 @@ module _ (K : Fixed) where
     rel-changed o y x lo eo type live h = record {
       count = r.count;
       type = λ p lt. upd-cases (λ (z : Object). z.type ≡ F.type p) o p y s.object (λ e. type ∙ ap F.type (sym e)) (λ ne. r.type p lt);
+      laid = r.laid;
       gone = λ p lt. upd-cases (λ (z : Object). z.is_gone ≡ is_ended (F.stage p)) o p y s.object
           (λ e. live ∙ sym eo ∙ ap (λ q. is_ended (F.stage q)) (sym e)) (λ ne. r.gone p lt);
       stands = λ p lt e. upd-cases (λ (z : Object). Stands K F p z (record m { block = put_block (F.block o) x m.block })) o p y s.object

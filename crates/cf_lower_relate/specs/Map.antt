@@ -1,5 +1,5 @@
 -- Which block each object of the source stands in, and what values of the source are in the small C.
-use Rattle.std.specs.Prelude.{◌≡◌, ℕ, suc, ◌+◌, ◌<◌, ◌≤◌, Bool, true, false, ◌||◌, List, ℤ, ◌⊎◌}
+use Rattle.std.specs.Prelude.{◌≡◌, ℕ, suc, ◌+◌, ◌<◌, ◌≤◌, Bool, true, false, ◌||◌, ◌==◌, List, ℤ, ◌⊎◌}
 use Rattle.cf_base.specs.declared.kind.Kind.TheVariants.{Int, UInt}
 use Rattle.cf_base.specs.Integers.{fits}
 use Rattle.cf_core.specs.Types.{Name, SourceType, void, without_const}
@@ -41,11 +41,17 @@ is_hidden hidden = true
 is_hidden shown = false
 is_hidden ended = false
 
--- what doesn't change in a run: the classes, and the number and the type of each function
+-- what doesn't change in a run: the classes, which names are functions, and the number and the type of each
 pub record Fixed : Type 0 where
   pub classes : List Class
+  pub is_function : Name → Bool
   pub function : Name → ℕ
   pub signature : Name → SourceType
+
+-- each function has a number of its own, from 1 on
+pub record Numbered (K : Fixed) : Type 0 where
+  pub some : (f : Name) → K.is_function f ≡ true → K.function f == 0 ≡ false
+  pub apart : (f g : Name) → K.is_function f ≡ true → K.is_function g ≡ true → K.function f ≡ K.function g → f ≡ g
 
 -- The objects below a number, each with its block, how many bytes it stands behind the block's start, and its type.
 pub record Map : Type 0 where
@@ -115,6 +121,7 @@ module _ (K : Fixed) where
   -- a function of this type, by its number
   pub record Calls (t : SourceType) (name : Name) (c : Value) : Type 0 where
     pub is : c ≡ value.Function (K.function name)
+    pub known : K.is_function name ≡ true
     pub type : without_const (K.signature name) ≡ t
 
   -- A value of the source that a scalar holds, and its value in a scalar of the C's memory.

@@ -5,7 +5,7 @@ use Rattle.cf_core.specs.Store as source
 use Rattle.cf_core.specs.Store.{Object}
 use Rattle.cf_core.specs.Run.{State}
 use Rattle.cf_core.specs.Size.{size}
-use Rattle.cf_lower_layout.specs.Layout.{offset, leads}
+use Rattle.cf_lower_layout.specs.Layout.{offset, leads, LaidOut}
 use Rattle.cc_whole_memory.specs.declared.value.Value.{Value}
 use Rattle.cc_whole_memory.specs.Cells.{Cells, load}
 use Rattle.cc_whole_memory.specs.Blocks.{Block, Memory}
@@ -32,10 +32,12 @@ module _ (K : Fixed) where
     pub size : F.base o + size K.classes x.type ≤ block.size
     pub cells : InCells F x (F.base o) block.cells
 
-  -- The objects of a state and a memory: each object whose storage hasn't ended stands in a block of its own.
+  -- The objects of a state and a memory: each object is of a type that is laid out, and stands in a block of its own
+  -- until its storage ends.
   pub record Rel (F : Map) (s : State) (m : Memory) : Type 0 where
     pub count : F.count ≡ s.next
     pub type : (o : ℕ) → o < F.count → (s.object o).type ≡ F.type o
+    pub laid : (o : ℕ) → o < F.count → LaidOut K.classes (F.type o)
     pub gone : (o : ℕ) → o < F.count → (s.object o).is_gone ≡ is_ended (F.stage o)
     pub stands : (o : ℕ) → o < F.count → is_ended (F.stage o) ≡ false → Stands F o (s.object o) m
     pub below : (o : ℕ) → o < F.count → is_ended (F.stage o) ≡ false → F.block o < m.next

@@ -56,7 +56,7 @@ kept-other g (suc r) (suc q) v e = kept-other (λ i. g (suc i)) r q v (grind (ar
 
 module _ (K : Fixed) (F : Map) where
   -- what a register holds is of its C type
-  local-type : (x : Kept) (t : Sort) (v : source.Value) (c : Value) → local_kept x ≡ Some t → InLocal K F x v c → type_of c ≡ scalar_of (register_type t)
+  pub local-type : (x : Kept) (t : Sort) (v : source.Value) (c : Value) → local_kept x ≡ Some t → InLocal K F x v c → type_of c ≡ scalar_of (register_type t)
   local-type (integer_of f) t (source.Number z) c e h = ap type_of h.is ∙ ap (λ u. scalar_of (register_type u)) (sort-eq e)
   local-type (holds (address a)) t source.Null c e h = ap type_of h ∙ ap (λ u. scalar_of (register_type u)) (sort-eq e)
   local-type (holds (address a)) t (source.At p) c e h = ap type_of h.is ∙ ap (λ u. scalar_of (register_type u)) (sort-eq e)
@@ -65,7 +65,7 @@ module _ (K : Fixed) (F : Map) where
   local-type x t v c e h = absurd h
 
   -- and stays what it is there
-  local-stays : (x : Kept) (t : Sort) (v : source.Value) (c : Value) → local_kept x ≡ Some t → InLocal K F x v c → as_scalar (scalar_of (register_type t)) c ≡ Some c
+  pub local-stays : (x : Kept) (t : Sort) (v : source.Value) (c : Value) → local_kept x ≡ Some t → InLocal K F x v c → as_scalar (scalar_of (register_type t)) c ≡ Some c
   local-stays (integer_of f) t (source.Number z) c e h =
       ap (λ u. as_scalar (scalar_of (register_type u)) c) (sym (sort-eq e))
       ∙ ap (as_scalar (scalar_of ty.Int)) h.is ∙ ap (λ y. Some (value.Number Int y)) (convert-int Int z) ∙ ap (λ (y : Value). Some y) (sym h.is)

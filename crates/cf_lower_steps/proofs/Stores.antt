@@ -40,7 +40,7 @@ use Rattle.cf_lower.specs.Kept.{Kept, integer_of, holds, Keeping, local_kept}
 use Rattle.cf_lower.specs.Written.{c_type}
 use Rattle.cf_lower.specs.Expressions.{address_in, in_register, local_value, as_stored}
 use Rattle.cf_lower_steps.specs.Steps.{InLocal, HasValue, KeptAs, InRegisters}
-use Rattle.cf_lower_steps.specs.Lowering.{Takes}
+use Rattle.cf_lower_steps.specs.Lowering.{Takes, fixed_of}
 use Rattle.cf_lower_steps.proofs.Holding.{usable, usable-has}
 use Rattle.cf_lower_steps.proofs.Registers.{fitted-stays}
 use Rattle.cf_lower_steps.proofs.Tests.{test-used, test-place, test-valid-on, test-need-on, test-needs-on}
@@ -109,7 +109,7 @@ pub record Stores (Kx : Fixed) (F : Map) (ran : Ran (Did source.Value)) (w : Wor
 
 module _ (P : Program) (function : Name → ℕ) (signature : Name → SourceType) (F : Map) where
   abbrev KP : Fixed
-  KP = record { classes = P.classes; function = function; signature = signature }
+  KP = fixed_of P function signature
 
   module _ (again : core.Again) (s : State) (m : Memory) (rel : Rel KP F s m) (w : World) (scope : Scope) (kept : Keeping) (g : Registers)
       (regs : InRegisters KP F kept g scope m) (r q : Register) (t : SourceType) (u : Sort) (x : Kept) (b : Sort)

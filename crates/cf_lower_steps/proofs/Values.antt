@@ -42,6 +42,7 @@ use Rattle.cf_lower_steps.proofs.Holding.{usable}
 use Rattle.cf_lower_steps.proofs.Tests.{test-valid, test-need, test-needs, test-used, test-place}
 use Rattle.cf_lower_steps.proofs.Narrower.{within-fits}
 use Rattle.cf_lower_steps.specs.Steps.{HasValue, KeptAs, GivenAs, InRegisters, Step}
+use Rattle.cf_lower_steps.specs.Lowering.{fixed_of}
 
 -- ---- facts apart from any run
 
@@ -85,7 +86,7 @@ place-sort u t a (inr e) h = ap scalar_sort (sym (without-twice u) ∙ ap withou
 
 module _ (P : Program) (function : Name → ℕ) (signature : Name → SourceType) (F : Map) where
   abbrev pub K : Fixed
-  K = record { classes = P.classes; function = function; signature = signature }
+  K = fixed_of P function signature
 
   module _ (s : State) (w : World) (x : Kept) (found : Result Value ℕ) where
     pub step-gives : (v : source.Value) → GivenAs K F x v found → Step K F (gives v s w) s w x found

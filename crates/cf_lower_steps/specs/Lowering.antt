@@ -1,8 +1,8 @@
 -- What the laws of lowered statements speak of.
-use Rattle.std.specs.Prelude.{◌≡◌, ℕ, ◌<◌, Bool, true, List, Some}
+use Rattle.std.specs.Prelude.{◌≡◌, ℕ, ◌<◌, Bool, true, ◌||◌, List, Some, is_some}
 use Rattle.cf_base.specs.World.{World, Ran}
 use Rattle.cf_core.specs.Types.{Name, SourceType}
-use Rattle.cf_core.specs.Calls.{Program}
+use Rattle.cf_core.specs.Calls.{Program, is_library, function_named}
 use Rattle.cf_lower_layout.specs.Sorts.{Sort, number, address, code}
 use Rattle.cf_plain.specs.Plain.{Register}
 use Rattle.cc_whole.specs.Plain.{Statement, in_order}
@@ -14,9 +14,13 @@ use Rattle.cf_lower.specs.Kept.{Kept, integer_of, holds, Keeping, local_kept}
 use Rattle.cf_lower_steps.specs.Own.{Own}
 use Rattle.cf_lower_steps.specs.Flows.{Ways}
 
+-- the functions of a program, and the library's
+abbrev pub is_function : Program → Name → Bool
+is_function P name = is_library name || is_some (function_named P name)
+
 -- a program's classes, and the numbers and types of its functions
 abbrev pub fixed_of : Program → (Name → ℕ) → (Name → SourceType) → Fixed
-fixed_of P function signature = record { classes = P.classes; function = function; signature = signature }
+fixed_of P function signature = record { classes = P.classes; is_function = is_function P; function = function; signature = signature }
 
 -- what a list of C statements does
 abbrev pub runs : mean.Again → mean.Again → mean.Program → Bool → Scope → ℕ → List Statement → c.State → World → Ran c.Flow

@@ -1,0 +1,5 @@
+pub mod Answers
+pub mod Comparing
+pub mod Moved
+pub mod Moving
+pub mod Operands

@@ -1,0 +1,2 @@
+//! Actions on pointers beside their C. As laws; nothing here runs.
+#![tactic(auto)]
