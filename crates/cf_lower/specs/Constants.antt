@@ -14,7 +14,7 @@ use Rattle.cf_plain.specs.Plain as plain
 use Rattle.cf_plain.specs.Plain.{Register, Action, Plains, act, set, nothing, more}
 use Rattle.cc_whole.specs.declared.types.CConstant.TheVariants as constants
 use Rattle.cc_whole.specs.Plain.{Expression, Statement, named, constant, load, address as address_of}
-use Rattle.cf_lower.specs.Written.{literal_name}
+use Rattle.cf_lower.specs.Written.{if_scalar, literal_name}
 use Rattle.cf_lower.specs.Expressions.{zero}
 use Rattle.cf_lower.specs.Statements.{put, put_bytes, behind}
 
@@ -103,11 +103,7 @@ module _ (classes : List Class) where
   written x = zero
 
   abbrev pub stored : Known → Known → List Statement
-  stored (at n o t) v = of_sort (sort_of t)
-    where
-      of_sort : Option Sort → List Statement
-      of_sort None = []
-      of_sort (Some s) = put s (behind (address_of n) o) (written v) ∷ []
+  stored (at n o t) v = if_scalar (sort_of t) [] (λ s. put s (behind (address_of n) o) (written v) ∷ [])
   stored x v = []
 
   abbrev pub stored_bytes : Known → List ℕ → List Statement

@@ -93,12 +93,12 @@ abbrev pub moved_by : Arith → Expression → ℕ → Expression → Expression
 moved_by o p n e = binary o p (binary op.Multiply e (constant (int_constant n)))
 
 -- a pointer and an integer, in either order
+abbrev pub sum_by : List Class → Kept → Kept → Register → Register → Expression
+sum_by classes (holds (address t)) y r q = moved_by op.Add (address_in r) (size classes t) (integer_in q)
+sum_by classes x y r q = moved_by op.Add (address_in q) (element_bytes classes y) (integer_in r)
+
 abbrev pub sum_of : List Class → Keeping → Register → Register → Expression
-sum_of classes g r q = of_kept (g r)
-  where
-    of_kept : Kept → Expression
-    of_kept (holds (address t)) = moved_by op.Add (address_in r) (size classes t) (integer_in q)
-    of_kept x = moved_by op.Add (address_in q) (element_bytes classes (g q)) (integer_in r)
+sum_of classes g r q = sum_by classes (g r) (g q) r q
 
 abbrev pub pointer_operated : List Class → PointerOperator → Keeping → Register → Register → Expression
 pointer_operated classes pointer.Add g r q = sum_of classes g r q

@@ -19,7 +19,7 @@ use Rattle.cc_whole.specs.declared.unit.CVariable.{CVariable}
 use Rattle.cc_whole.specs.declared.unit.CInitialiser.TheVariants as initialiser
 use Rattle.cc_whole.specs.Plain.{Statement, Function, Item, declares, defines, defines_variable, body, in_order}
 use Rattle.cf_lower.specs.Kept.{Locals, nothing_kept}
-use Rattle.cf_lower.specs.Written.{c_type, int_constant, local_type, variable_type, result_of, local_name, register_name, flag_name, result_name, literal_name, type_number}
+use Rattle.cf_lower.specs.Written.{if_scalar, c_type, int_constant, local_type, variable_type, result_of, local_name, register_name, flag_name, result_name, literal_name, type_number}
 use Rattle.cf_lower.specs.Statements.{Inside, all_lowered, no_value}
 use Rattle.cf_lower.specs.Constants.{nothing_known, constant_code}
 
@@ -80,16 +80,8 @@ abbrev mutual
 
 -- the C types of what is called gives
 abbrev pub result_at : Action → List CType
-result_at (plain.call name t object is into) = of_option (result_of (result_type t))
-  where
-    of_option : Option CType → List CType
-    of_option None = []
-    of_option (Some t) = t ∷ []
-result_at (plain.pointer_call object r t is into) = of_option (result_of (result_type t))
-  where
-    of_option : Option CType → List CType
-    of_option None = []
-    of_option (Some t) = t ∷ []
+result_at (plain.call name t object is into) = if_scalar (sort_of (result_type t)) [] (λ s. c_type s ∷ [])
+result_at (plain.pointer_call object r t is into) = if_scalar (sort_of (result_type t)) [] (λ s. c_type s ∷ [])
 result_at a = []
 
 abbrev pub each_once : List CType → List CType
@@ -126,11 +118,8 @@ inside classes f = record {
 -- the parameters, from a number on
 abbrev pub lowered_parameters : ℕ → List SourceType → List CParameter
 lowered_parameters i [] = []
-lowered_parameters i (t ∷ ts) = of_sort (sort_of t) (lowered_parameters (suc i) ts)
-  where
-    of_sort : Option Sort → List CParameter → List CParameter
-    of_sort None rest = rest
-    of_sort (Some s) rest = record { ty = c_type s; name = local_name i } ∷ rest
+lowered_parameters i (t ∷ ts) =
+    if_scalar (sort_of t) (lowered_parameters (suc i) ts) (λ s. record { ty = c_type s; name = local_name i } ∷ lowered_parameters (suc i) ts)
 
 abbrev pub prototype : PlainFunction → CPrototype
 prototype f = record {

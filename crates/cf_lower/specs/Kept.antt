@@ -131,12 +131,12 @@ pub record Locals : Type 0 where
   pub types : List SourceType
   pub arguments : List ℕ
 
+abbrev pub type_or_void : Option SourceType → SourceType
+type_or_void None = void
+type_or_void (Some t) = t
+
 abbrev pub type_of_local : Locals → ℕ → SourceType
-type_of_local x i = found (slice_get x.types i)
-  where
-    found : Option SourceType → SourceType
-    found None = void
-    found (Some t) = t
+type_of_local x i = type_or_void (slice_get x.types i)
 
 abbrev pub is_argument : Locals → ℕ → Bool
 is_argument x i = list_any (λ (j : ℕ). j == i) x.arguments

@@ -15,7 +15,7 @@ use Rattle.cc_whole.specs.declared.types.CSignature.{CSignature}
 use Rattle.cc_whole.specs.Plain as c
 use Rattle.cc_whole.specs.Plain.{Expression, Statement, SwitchItems, Body, named, pointed, constant, load, binary, Callee, by_name, by_pointer, body, in_order}
 use Rattle.cf_lower.specs.Kept.{Kept, holds, argument, Keeping, local_kept, Locals, kept_by, after, untouched}
-use Rattle.cf_lower.specs.Written.{c_type, int_constant, result_of, local_name, register_name, flag_name, result_name}
+use Rattle.cf_lower.specs.Written.{if_scalar, c_type, int_constant, result_of, local_name, register_name, flag_name, result_name}
 use Rattle.cf_lower.specs.Expressions as value
 use Rattle.cf_lower.specs.Expressions.{zero as nought, in_register, integer_in, address_in, value_in, as_value, as_stored}
 
@@ -43,8 +43,7 @@ put s p e = c.assign (pointed (c_type s) p) (as_stored s e)
 
 -- to the scalar whose place is in the first register, by the value in the second
 abbrev pub stored : Option Sort → Register → Expression → List Statement
-stored None r e = []
-stored (Some s) r e = put s (address_in r) e ∷ []
+stored s r e = if_scalar s [] (λ s. put s (address_in r) e ∷ [])
 
 abbrev pub stored_in : Kept → Register → Expression → List Statement
 stored_in (holds (address t)) r e = stored (sort_of t) r e
@@ -52,11 +51,7 @@ stored_in x r e = []
 
 -- the object of a parameter of a call is the C local that is passed
 abbrev pub first_in : Kept → Register → Expression → List Statement
-first_in (argument i t) r e = of_sort (sort_of t)
-  where
-    of_sort : Option Sort → List Statement
-    of_sort None = []
-    of_sort (Some s) = c.assign (named (local_name i)) (as_stored s e) ∷ []
+first_in (argument i t) r e = if_scalar (sort_of t) [] (λ s. c.assign (named (local_name i)) (as_stored s e) ∷ [])
 first_in x r e = stored_in x r e
 
 abbrev pub behind : Expression → ℕ → Expression
@@ -71,11 +66,7 @@ for_each i (suc n) f = f i ++ for_each (suc i) n f
 abbrev pub zeros : List Class → SourceType → Expression → ℕ → List Statement
 zeros classes (array t n) p at = for_each 0 n (λ i. zeros classes t p (at + i * size classes t))
 zeros classes (const t) p at = zeros classes t p at
-zeros classes t p at = of_sort (sort_of t)
-  where
-    of_sort : Option Sort → List Statement
-    of_sort None = []
-    of_sort (Some s) = put s (behind p at) nought ∷ []
+zeros classes t p at = if_scalar (sort_of t) [] (λ s. put s (behind p at) nought ∷ [])
 
 abbrev pub zeros_in : List Class → Kept → Register → List Statement
 zeros_in classes (holds (address t)) r = zeros classes t (address_in r) 0
@@ -96,11 +87,7 @@ passed is = map (λ i. load (named (local_name i))) is
 
 abbrev pub c_types : List SourceType → List CType
 c_types [] = []
-c_types (t ∷ ts) = of_sort (sort_of t) (c_types ts)
-  where
-    of_sort : Option Sort → List CType → List CType
-    of_sort None rest = rest
-    of_sort (Some s) rest = c_type s ∷ rest
+c_types (t ∷ ts) = if_scalar (sort_of t) (c_types ts) (λ s. c_type s ∷ c_types ts)
 
 abbrev pub signature : SourceType → CSignature
 signature t = record { result = result_of (result_type t); parameters = c_types (parameters t) }
@@ -108,12 +95,9 @@ signature t = record { result = result_of (result_type t); parameters = c_types 
 -- A call, whose result goes through a C local of its type to the register.
 abbrev pub called : Callee → SourceType → List ℕ → Option Register → List Statement
 called f t is None = c.call None f (passed is) ∷ []
-called f t is (Some r) = of_sort (sort_of (result_type t))
-  where
-    of_sort : Option Sort → List Statement
-    of_sort None = c.call None f (passed is) ∷ []
-    of_sort (Some s) =
-        c.call (Some (named (result_name (c_type s)))) f (passed is) ∷ set_register s r (as_value s (load (named (result_name (c_type s))))) ∷ []
+called f t is (Some r) =
+    if_scalar (sort_of (result_type t)) (c.call None f (passed is) ∷ []) (λ s.
+    c.call (Some (named (result_name (c_type s)))) f (passed is) ∷ set_register s r (as_value s (load (named (result_name (c_type s))))) ∷ [])
 
 abbrev pub through : Register → SourceType → Callee
 through r t = by_pointer (signature t) (in_register (code t) r)
@@ -143,18 +127,10 @@ module _ (x : Inside) where
 
 -- what a function gives that ends without a value: nothing can use it
 abbrev pub no_value : SourceType → List Statement
-no_value t = of_sort (sort_of t)
-  where
-    of_sort : Option Sort → List Statement
-    of_sort None = c.give None ∷ []
-    of_sort (Some s) = c.give (Some (as_stored s nought)) ∷ []
+no_value t = if_scalar (sort_of t) (c.give None ∷ []) (λ s. c.give (Some (as_stored s nought)) ∷ [])
 
 abbrev pub given : SourceType → Expression → List Statement
-given t e = of_sort (sort_of t)
-  where
-    of_sort : Option Sort → List Statement
-    of_sort None = c.give None ∷ []
-    of_sort (Some s) = c.give (Some (as_stored s e)) ∷ []
+given t e = if_scalar (sort_of t) (c.give None ∷ []) (λ s. c.give (Some (as_stored s e)) ∷ [])
 
 -- the flag of a loop or switch
 abbrev pub flag_set : ℕ → ℕ → Statement

@@ -33,6 +33,11 @@ c_type (number k) = c_integer k
 c_type (address t) = ty.Pointer
 c_type (code t) = ty.FunctionPointer
 
+-- what there is for a scalar, or for what is none
+abbrev pub if_scalar : {A : Type 0} → Option Sort → A → (Sort → A) → A
+if_scalar None a f = a
+if_scalar (Some s) a f = f s
+
 -- of the register that holds it
 abbrev pub register_type : Sort → CType
 register_type (number k) = ty.Int
@@ -47,26 +52,14 @@ words classes t = int_constant ((size classes t + 3) / 4)
 
 -- a scalar is one; any other object is an array of ints
 abbrev pub local_type : List Class → SourceType → CLocalType
-local_type classes t = of_sort (sort_of t)
-  where
-    of_sort : Option Sort → CLocalType
-    of_sort None = local.Ints (words classes t)
-    of_sort (Some s) = local.Scalar (c_type s)
+local_type classes t = if_scalar (sort_of t) (local.Ints (words classes t)) (λ s. local.Scalar (c_type s))
 
 abbrev pub variable_type : List Class → SourceType → CVariableType
-variable_type classes t = of_sort (sort_of t)
-  where
-    of_sort : Option Sort → CVariableType
-    of_sort None = variable.Ints (words classes t)
-    of_sort (Some s) = variable.Scalar (c_type s)
+variable_type classes t = if_scalar (sort_of t) (variable.Ints (words classes t)) (λ s. variable.Scalar (c_type s))
 
 -- what a function gives; nothing where it is void
 abbrev pub result_of : SourceType → Option CType
-result_of t = of_sort (sort_of t)
-  where
-    of_sort : Option Sort → Option CType
-    of_sort None = None
-    of_sort (Some s) = Some (c_type s)
+result_of t = if_scalar (sort_of t) None (λ s. Some (c_type s))
 
 -- ---- names
 

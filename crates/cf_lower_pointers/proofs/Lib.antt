@@ -1,5 +1,10 @@
 pub mod Answers
+pub mod Casting
 pub mod Comparing
+pub mod Lowered
 pub mod Moved
 pub mod Moving
 pub mod Operands
+pub mod Setting
+pub mod Signs
+pub mod Testing

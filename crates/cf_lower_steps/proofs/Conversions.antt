@@ -26,12 +26,12 @@ use Rattle.cf_lower_steps.proofs.Operators.{kind-value, bits-value, number-in, i
 use Rattle.cf_lower_steps.proofs.Results.{convert-fits}
 use Rattle.cf_lower_steps.proofs.Values.{K}
 
-pointer-sort : (t : SourceType) (k : Kind) → Some (sort_to t) ≡ Some (number k) → ⊥
+pub pointer-sort : (t : SourceType) (k : Kind) → Some (sort_to t) ≡ Some (number k) → ⊥
 pointer-sort (takes p t) k e = absurd (cc)
 pointer-sort (gives_type t b) k e = absurd (cc)
 pointer-sort t k e = absurd (cc)
 
-some-number : (j k : Kind) → Some (number j) ≡ Some (number k) → j ≡ k
+pub some-number : (j k : Kind) → Some (number j) ≡ Some (number k) → j ≡ k
 some-number j k e = cc
 
 -- a number converted to a type of this kind

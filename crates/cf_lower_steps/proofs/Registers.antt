@@ -38,7 +38,7 @@ use Rattle.cf_lower_steps.proofs.Holding.{has-value}
 
 -- ---- the source's registers
 
-same-register : (i j : ℕ) → i == j ≡ true → i ≡ j
+pub same-register : (i j : ℕ) → i == j ≡ true → i ≡ j
 same-register i j e = grind (arith, nat_tests, e)
 
 -- what the source's `keep` gives, by the test of numbers
@@ -46,7 +46,7 @@ kept-same : (g : Registers) (r : Register) (v : source.Value) → keep_value g r
 kept-same g zero v = refl
 kept-same g (suc r) v = kept-same (λ q. g (suc q)) r v
 
-kept-other : (g : Registers) (r q : Register) (v : source.Value) → q == r ≡ false → keep_value g r v q ≡ g q
+pub kept-other : (g : Registers) (r q : Register) (v : source.Value) → q == r ≡ false → keep_value g r v q ≡ g q
 kept-other g zero zero v e = absurd (grind (arith, nat_tests, e))
 kept-other g zero (suc q) v e = refl
 kept-other g (suc r) zero v e = refl
