@@ -29,7 +29,6 @@ never true true h = absurd (cc)
 never true false h = absurd (cc)
 never false b h = absurd (cc)
 
-
 same-lone : (o n : ℕ) (π ρ : Route) → same_array (record { object = o; route = π }) (record { object = n; route = ρ }) ≡ true
     → (element_of π).is_lone ≡ (element_of ρ).is_lone
 same-lone o n (item i ∷ π) (item j ∷ ρ) h = refl

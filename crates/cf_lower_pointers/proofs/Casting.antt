@@ -184,30 +184,30 @@ module _ (P : Program) (function : Name → ℕ) (signature : Name → SourceTyp
   -- what a conversion to a pointer's type does, but for one to a reference, which sequencing doesn't make
   pointer-conversion : (t : SourceType) (b : Sort) (v : source.Value) (z : Kept) (found : Result Value ℕ) → sort_of t ≡ Some b → ((k : Kind) → b ≡ number k → ⊥)
       → Step (K P function signature F) F ((used v >>= as_pointer) s w) s w z found → Step (K P function signature F) F (converted_value t v s w) s w z found
-  pointer-conversion (pointer t) b v z found e no h = h
-  pointer-conversion (const t) b v z found e no h = pointer-conversion t b v z found e no h
-  pointer-conversion (reference t) b v z found e no h = record { by = tt }
-  pointer-conversion (integer k) b v z found e no h = absurd (no k (some-same e))
+  pointer-conversion (pointer t) b v z found e unlike h = h
+  pointer-conversion (const t) b v z found e unlike h = pointer-conversion t b v z found e unlike h
+  pointer-conversion (reference t) b v z found e unlike h = record { by = tt }
+  pointer-conversion (integer k) b v z found e unlike h = absurd (unlike k (some-same e))
     where
       some-same : Some (number k) ≡ Some b → b ≡ number k
       some-same q = cc
-  pointer-conversion (enumeration n) b v z found e no h = absurd (no Int (some-same e))
+  pointer-conversion (enumeration n) b v z found e unlike h = absurd (unlike Int (some-same e))
     where
       some-same : Some (number Int) ≡ Some b → b ≡ number Int
       some-same q = cc
-  pointer-conversion t b v z found e no h = absurd (cc)
+  pointer-conversion t b v z found e unlike h = absurd (cc)
 
   -- the constant 0, or a pointer, as a pointer of this sort
-  module _ (t : SourceType) (b : Sort) (e : sort_of t ≡ Some b) (no : (k : Kind) → b ≡ number k → ⊥) (r : Register) where
+  module _ (t : SourceType) (b : Sort) (e : sort_of t ≡ Some b) (unlike : (k : Kind) → b ≡ number k → ⊥) (r : Register) where
     -- from the constant 0
     module _ (f : Kind → Bool) (kr : kept r ≡ integer_of f) where
       abbrev null_value : Result Value ℕ
       null_value = value_of (as_value b c.zero) scope m
 
       null-given : (x : Sort) → ((k : Kind) → x ≡ number k → ⊥) → HasValue (K P function signature F) F (holds x) source.Null (value_of (as_value x c.zero) scope m)
-      null-given (number k) no = absurd (no k refl)
-      null-given (address u) no = record { value = value.Address pointer_value.Null; is = refl; same = refl }
-      null-given (code u) no = record { value = value.Function 0; is = refl; same = refl }
+      null-given (number k) other = absurd (other k refl)
+      null-given (address u) other = record { value = value.Address pointer_value.Null; is = refl; same = refl }
+      null-given (code u) other = record { value = value.Function 0; is = refl; same = refl }
 
       pub null-step : Step (K P function signature F) F (acts again P g (plain_action.convert t r) s w) s w (holds b) null_value
       null-step = by_value (g r) refl
@@ -218,12 +218,12 @@ module _ (P : Program) (function : Name → ℕ) (signature : Name → SourceTyp
           by_value : (y : Option source.Value) → g r ≡ y → Step (K P function signature F) F ((some_or y malformed >>= converted_value t) s w) s w (holds b) null_value
           by_value None q = record { by = tt }
           by_value (Some (source.Number (pos zero))) q =
-              pointer-conversion t b (source.Number (pos zero)) (holds b) null_value e no (record { by = (refl, refl, null-given b no) })
-          by_value (Some (source.Number (pos (suc n)))) q = pointer-conversion t b (source.Number (pos (suc n))) (holds b) null_value e no (record { by = tt })
-          by_value (Some (source.Number (negsuc n))) q = pointer-conversion t b (source.Number (negsuc n)) (holds b) null_value e no (record { by = tt })
-          by_value (Some source.Nothing) q = pointer-conversion t b source.Nothing (holds b) null_value e no (record { by = tt })
-          by_value (Some source.Missing) q = pointer-conversion t b source.Missing (holds b) null_value e no (record { by = refl })
-          by_value (Some source.Built) q = pointer-conversion t b source.Built (holds b) null_value e no (record { by = tt })
+              pointer-conversion t b (source.Number (pos zero)) (holds b) null_value e unlike (record { by = (refl, refl, null-given b unlike) })
+          by_value (Some (source.Number (pos (suc n)))) q = pointer-conversion t b (source.Number (pos (suc n))) (holds b) null_value e unlike (record { by = tt })
+          by_value (Some (source.Number (negsuc n))) q = pointer-conversion t b (source.Number (negsuc n)) (holds b) null_value e unlike (record { by = tt })
+          by_value (Some source.Nothing) q = pointer-conversion t b source.Nothing (holds b) null_value e unlike (record { by = tt })
+          by_value (Some source.Missing) q = pointer-conversion t b source.Missing (holds b) null_value e unlike (record { by = refl })
+          by_value (Some source.Built) q = pointer-conversion t b source.Built (holds b) null_value e unlike (record { by = tt })
           by_value (Some v) q = absurd (known v q refl).same
 
   -- from a pointer to the same type, or to `void*`

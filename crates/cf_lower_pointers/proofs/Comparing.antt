@@ -194,7 +194,7 @@ module _ (P : Program) (function : Name → ℕ) (signature : Name → SourceTyp
           where
             by_tests : (a b : Bool) → both_stand P.classes s p q' ≡ a → comparable P.classes s p q' ≡ b
                 → Step (K P function signature F) F
-                ((need a 10 >> need b 10 >> gives (place_eq p q') >>= (λ b. gives (truth_value (turn b)))) s w)
+                (((need a 10 >> (need b 10 >> gives (place_eq p q'))) >>= (λ b. gives (truth_value (turn b)))) s w)
                 s w a_truth (compared o)
             by_tests true true stand fit = record { by = (refl, refl, of-places p q' hp hq stand fit) }
             by_tests true false stand fit = record { by = refl }

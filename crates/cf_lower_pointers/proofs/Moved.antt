@@ -1,5 +1,5 @@
 -- A pointer is moved in both: the C moves it by the bytes of so many elements.
-use Rattle.std.proofs.Common.{◌≡◌, ℕ, ◌+◌, ◌*◌, ◌≤◌, ◌<◌, nat_le, Bool, true, false, not, ◌||◌, [], ◌∷◌, Option, Some, None, Result, Ok, ℤ, pos, negsuc, neg_ℤ, ◌*ℤ◌, refl, sym, ◌∙◌, ap, subst, arith, ◌⊎◌, inl, inr}
+use Rattle.std.proofs.Common.{◌≡◌, ℕ, ◌+◌, ◌*◌, ◌≤◌, ◌<◌, nat_le, Bool, true, false, not, ◌||◌, List, [], ◌∷◌, Option, Some, None, Result, Ok, ℤ, pos, negsuc, neg_ℤ, ◌*ℤ◌, refl, sym, ◌∙◌, ap, subst, arith, ◌⊎◌, inl, inr}
 use Rattle.std.proofs.lemmas.Bool.Decides.{nat_tests}
 use Rattle.cf_base.specs.declared.kind.Kind.{Kind}
 use Rattle.cf_base.specs.declared.kind.Kind.TheVariants.{Int}

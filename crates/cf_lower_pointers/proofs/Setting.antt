@@ -83,7 +83,7 @@ module _ (at : Moment) (h : Stands at) where
         }))
     silent-gives (Went (Exits z s) w) found step = absurd step.by
     silent-gives (Went Malformed w) found step = record { by = tt }
-    silent-gives (Stops (Undefined act) trace) found step =
+    silent-gives (Stops (Undefined n) trace) found step =
         record { by = subst (λ t. Begins t at.world.trace) (sym step.by) (record { rest = []; parts = sym (append-nil at.world.trace) }) }
     silent-gives (Stops (Ended status) trace) found step = absurd step.by
     silent-gives (Stops Ticks trace) found step = absurd step.by
@@ -114,7 +114,7 @@ module _ (at : Moment) (h : Stands at) where
       }))
   dropped (Went (Exits z s) w) x found step = absurd step.by
   dropped (Went Malformed w) x found step = record { by = tt }
-  dropped (Stops (Undefined act) trace) x found step =
+  dropped (Stops (Undefined n) trace) x found step =
       record { by = subst (λ t. Begins t at.world.trace) (sym step.by) (record { rest = []; parts = sym (append-nil at.world.trace) }) }
   dropped (Stops (Ended status) trace) x found step = absurd step.by
   dropped (Stops Ticks trace) x found step = absurd step.by

@@ -1,5 +1,5 @@
 -- A moment between two statements of a function, in both, and when the next statement is lowered rightly.
-use Rattle.std.specs.Prelude.{ℕ, Bool}
+use Rattle.std.specs.Prelude.{◌≡◌, ℕ, Bool}
 use Rattle.cf_base.specs.World.{World}
 use Rattle.cf_core.specs.Types.{Name, SourceType}
 use Rattle.cf_core.specs.Run as source
