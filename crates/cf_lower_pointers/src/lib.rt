@@ -1,7 +1,7 @@
 //! Actions on pointers, and on integers but for the operators of `cf_lower_steps`, beside their C: what a register is set to stands in its C local too. As laws; nothing here runs.
 #![tactic(auto)]
 
-ghost use Rattle.std.specs.Prelude.{◌≡◌, ◌⊎◌, Bool, Some};
+ghost use Rattle.std.specs.Prelude.{◌≡◌, ◌⊎◌, Bool, true, false, Some};
 ghost use Rattle.cf_base.specs.declared.kind.Kind.{Kind};
 ghost use Rattle.cf_base.specs.declared.kind.Kind.TheVariants.{Int};
 ghost use Rattle.cf_base.specs.declared.arith.Arith.{Arith};
