@@ -1,14 +1,14 @@
 -- Where two places of one object lie: elements of one array by their numbers, places that may be compared at different bytes.
-use Rattle.std.proofs.Common.{◌≡◌, ℕ, zero, suc, ◌+◌, ◌*◌, ◌≤◌, ◌<◌, Bool, true, false, not, ◌&&◌, ◌||◌, ◌==◌, nat_lt, nat_le, List, [], ◌∷◌, ◌++◌, refl, sym, ◌∙◌, ap, subst, arith, inl, inr}
+use Rattle.std.proofs.Common.{◌≡◌, ℕ, ◌+◌, ◌*◌, ◌≤◌, ◌<◌, Bool, true, false, ◌&&◌, ◌||◌, ◌==◌, nat_lt, List, [], ◌∷◌, ◌++◌, refl, sym, ◌∙◌, ap, subst, arith, inl, inr}
 use Rattle.std.proofs.lemmas.Bool.Decides.{nat_tests}
 use Rattle.cf_base.proofs.Tests.{both, all_of}
 use Rattle.cf_core.specs.Types.{SourceType, array, const, plain, element}
 use Rattle.cf_core.specs.Classes.{Class}
 use Rattle.cf_core.specs.Core.{item, past, field, within}
-use Rattle.cf_core.specs.Places.{Route, Place, type_at, bound, is_inside, is_beyond, route_eq}
+use Rattle.cf_core.specs.Places.{Route, type_at, bound, is_inside, is_beyond, route_eq}
 use Rattle.cf_core.specs.Pointers.{element_of, lone_bound, bound_of, same_array}
 use Rattle.cf_core.specs.Size.{size}
-use Rattle.cf_lower_layout.specs.Layout.{has_item, offset, leads, ends_item, is_lone, ends, points, LaidOut, Apart}
+use Rattle.cf_lower_layout.specs.Layout.{has_item, offset, leads, ends_item, is_lone, ends, points, LaidOut}
 use Rattle.cf_lower_layout.proofs.Elements.{points-item, no-part, inside-leads}
 use Rattle.cf_lower_layout.proofs.Laid.{laid-part}
 use Rattle.cf_lower_layout.proofs.Parts.{Placed, lies_in, holds, apart, placed, front-inside, leads-step, route-inside, route-self, same-route, size-plain}
