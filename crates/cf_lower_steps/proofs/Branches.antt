@@ -114,6 +114,7 @@ module _ (K : Fixed) (own : Own) (scope : Scope) (F : Map) (one two : Keeping) (
         rel = h.stays.between.rel;
         registers = wider h.stays.map g h.after.memory h.stays.between.registers;
         blocks = h.stays.between.blocks;
+        locals = h.stays.between.locals;
       };
     };
   }
