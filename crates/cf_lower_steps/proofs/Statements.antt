@@ -85,7 +85,7 @@ module _ (again helps : mean.Again) (p : Program) (inside : Bool) (scope : Scope
         (below : (q : Register) (u : Sort) → local_kept (kept q) ≡ Some u → q < own.bound)
         (x : Kept) (a : Sort) (r : Register) (lt : r < own.bound) (local : local_kept x ≡ Some a) (e : Expression) (no_load : source_of e scope t.memory ≡ None)
         (ways : Ways) where
-      set-value : (v : source.Value) → GivenAs K F x v (value_of e scope t.memory)
+      pub set-value : (v : source.Value) → GivenAs K F x v (value_of e scope t.memory)
           → Simulates (Ends K own scope F (keep kept r x) ways) (Went (Gives (Falls (plain.keep g r v)) s) w) (runs (set_register a r e ∷ []) t w)
       set-value v given =
           let h = given-value x a v (value_of e scope t.memory) local given in

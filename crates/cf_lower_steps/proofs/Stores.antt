@@ -136,14 +136,12 @@ module _ (P : Program) (function : Name → ℕ) (signature : Name → SourceTyp
         (subst (λ a. KeptAs KP F x v (value_of (local_value a q) scope m)) lx
         (subst (λ y. KeptAs KP F y v (value_of (local_value (local_kept y) q) scope m)) kq (regs q v is)))
 
-    done-there : (p : Place) (v : source.Value) → HasValue KP F (holds (address t)) (source.At p) (value_of (in_register (address t) r) scope m)
+    -- what a store to a scalar of an object that stands does
+    pub done-live : (p : Place) (v : source.Value) → HasValue KP F (holds (address t)) (source.At p) (value_of (in_register (address t) r) scope m)
         → HasValue KP F x v (value_of (local_value (Some b) q) scope m)
-        → is_inside P.classes (s.object p.object).type p.route ≡ true → is_usable P.classes (s.object p.object) p.route ≡ true
+        → is_ended (F.stage p.object) ≡ false → leads P.classes (F.type p.object) p.route ≡ true
         → Stored KP F s (with_object p.object (hold p.route (Some v)) s) m written
-    done-there p v hp hv inside usable =
-        let live : is_ended (F.stage p.object) ≡ false = sym (rel.gone p.object hp.same.known) ∙ usable-stands P.classes (s.object p.object) p.route usable in
-        let there : leads P.classes (F.type p.object) p.route ≡ true =
-        inside-leads P.classes (F.type p.object) p.route hp.same.inside (subst (λ z. is_inside P.classes z p.route ≡ true) (rel.type p.object hp.same.known) inside) in
+    done-live p v hp hv live there =
         let y = as-stored-value KP F u x v hv.value takes hv.same in
         let done = write-place KP F s m rel p u hp.same.known live there (place-sort (type_of_place KP F p) t u hp.same.type e) v y.value y.same in
         record {
@@ -163,6 +161,14 @@ module _ (P : Program) (function : Name → ℕ) (signature : Name → SourceTyp
           live = live;
           elsewhere = done.elsewhere;
         }
+
+    done-there : (p : Place) (v : source.Value) → HasValue KP F (holds (address t)) (source.At p) (value_of (in_register (address t) r) scope m)
+        → HasValue KP F x v (value_of (local_value (Some b) q) scope m)
+        → is_inside P.classes (s.object p.object).type p.route ≡ true → is_usable P.classes (s.object p.object) p.route ≡ true
+        → Stored KP F s (with_object p.object (hold p.route (Some v)) s) m written
+    done-there p v hp hv inside usable =
+        done-live p v hp hv (sym (rel.gone p.object hp.same.known) ∙ usable-stands P.classes (s.object p.object) p.route usable)
+        (inside-leads P.classes (F.type p.object) p.route hp.same.inside (subst (λ z. is_inside P.classes z p.route ≡ true) (rel.type p.object hp.same.known) inside))
 
     pub store-step : Stores KP F (acts again P g (plain.store r q) s w) s w m written
     store-step =
