@@ -97,13 +97,17 @@ module _ (again helps : mean.Again) (p : Program) (inside : Bool) (scope : Scope
               related = record {
                 after = in_memory t done.after;
                 is = refl;
-                stays = record { map = F; grows = grows-same F; between = record {
-                  rel = done.rel;
-                  registers = done.registers;
-                  blocks = done.own_blocks;
-                  locals = locals-elsewhere K own F scope s t.memory b.locals done.after
-                      (λ i li. done.elsewhere (own.local i) (different (own.local i) (own.block a r) (λ e. (b.locals.blocks i li).apart a r lt (sym e)))) done.next;
-                } };
+                stays = record {
+                  map = F;
+                  grows = grows-same F;
+                  between = record {
+                    rel = done.rel;
+                    registers = done.registers;
+                    blocks = done.own_blocks;
+                    locals = locals-elsewhere K own F scope s t.memory b.locals done.after
+                        (λ i li. done.elsewhere (own.local i) (different (own.local i) (own.block a r) (λ e. (b.locals.blocks i li).apart a r lt (sym e)))) done.next;
+                  };
+                };
               };
             };
           }
