@@ -141,7 +141,7 @@ no-ending (Went (c.Returns v s) w) b = refl
 no-ending (Went (c.Exits z s) w) b = refl
 no-ending (Stops end trace) b = refl
 
-falls-on : (r : Ran c.Flow) → and_then r (falling (λ s w. Went (c.Falls s) w)) ≡ r
+pub falls-on : (r : Ran c.Flow) → and_then r (falling (λ s w. Went (c.Falls s) w)) ≡ r
 falls-on (Went (c.Falls s) w) = refl
 falls-on (Went (c.Breaks s) w) = refl
 falls-on (Went (c.Continues s) w) = refl
