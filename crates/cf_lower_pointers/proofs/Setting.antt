@@ -76,7 +76,7 @@ module _ (at : Moment) (h : Stands at) where
               stays = record {
                 map = at.map;
                 grows = grows-same at.map;
-                between = record { rel = h.between.rel; registers = registers-with y none r v; blocks = h.between.blocks };
+                between = record { rel = h.between.rel; registers = registers-with y none r v; blocks = h.between.blocks; locals = h.between.locals };
               };
             };
           };

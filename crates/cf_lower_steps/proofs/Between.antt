@@ -29,15 +29,16 @@ use Rattle.cf_lower.specs.Kept.{Keeping, local_kept}
 use Rattle.cf_lower.specs.Written.{register_type}
 use Rattle.cf_lower.specs.Expressions.{local_value}
 use Rattle.cf_lower_steps.specs.Steps.{KeptAs}
-use Rattle.cf_lower_steps.specs.Own.{Own}
+use Rattle.cf_lower_steps.specs.Own.{Own, InLocals}
 use Rattle.cf_lower_steps.specs.Flows.{Between, Simulates, Ways, Ends}
-use Rattle.cf_lower_steps.proofs.Statements.{runs, grows-assign, runs-one}
+use Rattle.cf_lower_steps.proofs.Locals.{locals-stored}
+use Rattle.cf_lower_steps.proofs.Statements.{runs, grows-assign, runs-one, different}
 use Rattle.cf_lower_steps.proofs.Stores.{Stored, Stores}
 
 module _ (K : Fixed) (own : Own) (scope : Scope) (F : Map) where
   -- ---- the C's own blocks are left alone
 
-  module _ (kept : Keeping) (g : Registers) (s t : State) (m m' : Memory) (b : Between K own scope F kept g s m) (rel : Rel K F t m')
+  module _ (kept : Keeping) (g : Registers) (s t : State) (m m' : Memory) (b : Between K own scope F kept g s m) (rel : Rel K F t m') (locals : InLocals K own F scope t m')
       (below : (q : Register) (u : Sort) → local_kept (kept q) ≡ Some u → q < own.bound)
       (same : (u : Sort) (r : Register) → r < own.bound → m'.block (own.block u r) ≡ m.block (own.block u r)) where
     local-same : (u : Sort) (r : Register) → r < own.bound → value_of (local_value (Some u) r) scope m' ≡ value_of (local_value (Some u) r) scope m
@@ -60,21 +61,15 @@ module _ (K : Fixed) (own : Own) (scope : Scope) (F : Map) where
         apart = b.blocks.apart;
         free = b.blocks.free;
       };
+      locals = locals;
     }
-
-  different : (i j : ℕ) → (i ≡ j → ⊥) → i == j ≡ false
-  different i j f = by_test (i == j) refl
-    where
-      by_test : (b : Bool) → i == j ≡ b → i == j ≡ false
-      by_test false e = e
-      by_test true e = absurd (f (grind (arith, nat_tests, e)))
 
   -- ---- a store as a statement
 
   module _ (again helps : mean.Again) (p : Program) (helper : Bool) (depth : ℕ) (kept : Keeping) (g : Registers) (s : State) (t : c.State) (w : World)
       (b : Between K own scope F kept g s t.memory) (below : (q : Register) (u : Sort) → local_kept (kept q) ≡ Some u → q < own.bound)
       (ways : Ways) (place : Place) (e : Expression) where
-    stored-there : (u : State) → Stored K F u t.memory (assigned place e scope t.memory)
+    stored-there : (u : State) → Stored K F s u t.memory (assigned place e scope t.memory)
         → Simulates (Ends K own scope F kept ways) (Went (Gives (Falls g) u) w) (runs again helps p helper scope depth (assign place e ∷ []) t w)
     stored-there u h = record {
       by = record {
@@ -86,14 +81,15 @@ module _ (K : Fixed) (own : Own) (scope : Scope) (F : Map) where
           stays = record {
             map = F;
             grows = grows-same F;
-            between = between-elsewhere kept g s u t.memory h.after b h.rel below
+            between = between-elsewhere kept g s u t.memory h.after b h.rel
+                (locals-stored K own F scope s t.memory b.locals u h.after h.rel h.frame h.next h.object h.known h.live h.elsewhere) below
                 (λ a r lt. h.elsewhere (own.block a r) (different (own.block a r) (F.block h.object) (λ q. b.blocks.free a r lt h.object h.known h.live (sym q))));
           };
         };
       };
     }
 
-    pub stores-there : (ran : Ran (Did source.Value)) → Stores K F ran w t.memory (assigned place e scope t.memory)
+    pub stores-there : (ran : Ran (Did source.Value)) → Stores K F ran s w t.memory (assigned place e scope t.memory)
         → Simulates (Ends K own scope F kept ways) (and_then ran (λ did w. onward did (λ v. gives (Falls g)) w)) (runs again helps p helper scope depth (assign place e ∷ []) t w)
     stores-there (Went (Gives v u) w') h =
         subst (λ z. Simulates (Ends K own scope F kept ways) (Went (Gives (Falls g) u) z) (runs again helps p helper scope depth (assign place e ∷ []) t w)) (sym h.by.0)

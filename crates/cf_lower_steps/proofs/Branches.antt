@@ -114,6 +114,7 @@ module _ (K : Fixed) (own : Own) (scope : Scope) (F : Map) (one two : Keeping) (
         rel = h.stays.between.rel;
         registers = wider h.stays.map g h.after.memory h.stays.between.registers;
         blocks = h.stays.between.blocks;
+        locals = h.stays.between.locals;
       };
     };
   }
@@ -140,7 +141,7 @@ no-ending (Went (c.Returns v s) w) b = refl
 no-ending (Went (c.Exits z s) w) b = refl
 no-ending (Stops end trace) b = refl
 
-falls-on : (r : Ran c.Flow) → and_then r (falling (λ s w. Went (c.Falls s) w)) ≡ r
+pub falls-on : (r : Ran c.Flow) → and_then r (falling (λ s w. Went (c.Falls s) w)) ≡ r
 falls-on (Went (c.Falls s) w) = refl
 falls-on (Went (c.Breaks s) w) = refl
 falls-on (Went (c.Continues s) w) = refl

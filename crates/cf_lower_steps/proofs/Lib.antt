@@ -2,6 +2,7 @@ pub mod Between
 pub mod Branches
 pub mod Conversions
 pub mod Holding
+pub mod Locals
 pub mod Lowered
 pub mod Narrower
 pub mod Operators

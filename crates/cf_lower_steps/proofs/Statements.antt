@@ -1,5 +1,5 @@
 -- Statements that set registers and store, and statements one behind the other.
-use Rattle.std.proofs.Common.{◌≡◌, ℕ, ◌<◌, Bool, List, [], ◌∷◌, ◌++◌, refl, sym, ◌∙◌, ap, subst}
+use Rattle.std.proofs.Common.{◌≡◌, ℕ, ◌<◌, Bool, true, false, ◌==◌, List, [], ◌∷◌, ◌++◌, refl, sym, ◌∙◌, ap, subst}
 use Rattle.std.specs.Prelude.{Some, None, Result}
 use Rattle.cf_base.specs.Event.{Ended, Ticks, Depth, Undefined}
 use Rattle.cf_base.specs.World.{World, Ran, Went, Stops, and_then, shown}
@@ -29,7 +29,15 @@ use Rattle.cf_lower.specs.Statements.{set_register}
 use Rattle.cf_lower_steps.specs.Steps.{HasValue, GivenAs, Step}
 use Rattle.cf_lower_steps.specs.Own.{Own}
 use Rattle.cf_lower_steps.specs.Flows.{Between, Stays, Leaves, Simulates, Ways, Ends}
-use Rattle.cf_lower_steps.proofs.Registers.{assign-register}
+use Rattle.cf_lower_steps.proofs.Locals.{locals-elsewhere}
+use Rattle.cf_lower_steps.proofs.Registers.{assign-register, same-register}
+
+pub different : (i j : ℕ) → (i ≡ j → ⊥) → i == j ≡ false
+different i j f = by_test (i == j) refl
+  where
+    by_test : (b : Bool) → i == j ≡ b → i == j ≡ false
+    by_test false e = e
+    by_test true e = absurd (f (same-register i j e))
 
 -- ---- the C's statements, one list behind the other
 
@@ -77,7 +85,7 @@ module _ (again helps : mean.Again) (p : Program) (inside : Bool) (scope : Scope
         (below : (q : Register) (u : Sort) → local_kept (kept q) ≡ Some u → q < own.bound)
         (x : Kept) (a : Sort) (r : Register) (lt : r < own.bound) (local : local_kept x ≡ Some a) (e : Expression) (no_load : source_of e scope t.memory ≡ None)
         (ways : Ways) where
-      set-value : (v : source.Value) → GivenAs K F x v (value_of e scope t.memory)
+      pub set-value : (v : source.Value) → GivenAs K F x v (value_of e scope t.memory)
           → Simulates (Ends K own scope F (keep kept r x) ways) (Went (Gives (Falls (plain.keep g r v)) s) w) (runs (set_register a r e ∷ []) t w)
       set-value v given =
           let h = given-value x a v (value_of e scope t.memory) local given in
@@ -89,7 +97,17 @@ module _ (again helps : mean.Again) (p : Program) (inside : Bool) (scope : Scope
               related = record {
                 after = in_memory t done.after;
                 is = refl;
-                stays = record { map = F; grows = grows-same F; between = record { rel = done.rel; registers = done.registers; blocks = done.own_blocks } };
+                stays = record {
+                  map = F;
+                  grows = grows-same F;
+                  between = record {
+                    rel = done.rel;
+                    registers = done.registers;
+                    blocks = done.own_blocks;
+                    locals = locals-elsewhere K own F scope s t.memory b.locals done.after
+                        (λ i li. done.elsewhere (own.local i) (different (own.local i) (own.block a r) (λ e. (b.locals.blocks i li).apart a r lt (sym e)))) done.next;
+                  };
+                };
               };
             };
           }

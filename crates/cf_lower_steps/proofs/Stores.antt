@@ -88,24 +88,25 @@ module _ (Kx : Fixed) (F : Map) where
       fitted-stays Kx F (scalar_of (c_type u)) c (is-type u v c h ∙ sym (stored-scalar u)) (ap (λ a. as_scalar a c) (stored-scalar u) ∙ is-scalar Kx F u v c h)
 
 -- What a store has done: the objects of the new state stand in the new memory, and no block but an object's has changed.
-pub record Stored (Kx : Fixed) (F : Map) (t : State) (m : Memory) (found : Result Memory ℕ) : Type 0 where
+pub record Stored (Kx : Fixed) (F : Map) (s t : State) (m : Memory) (found : Result Memory ℕ) : Type 0 where
   pub after : Memory
   pub is : found ≡ Ok after
   pub rel : Rel Kx F t after
+  pub frame : t.frame ≡ s.frame
   pub next : after.next ≡ m.next
   pub object : ℕ
   pub known : object < F.count
   pub live : is_ended (F.stage object) ≡ false
   pub elsewhere : (c : ℕ) → c == F.block object ≡ false → after.block c ≡ m.block c
 
-abbrev pub StoresFrom : Fixed → Map → Ran (Did source.Value) → World → Memory → Result Memory ℕ → Type 0
-StoresFrom Kx F (Went (Gives v t) u) w m found = (u ≡ w) × Stored Kx F t m found
-StoresFrom Kx F (Went Malformed u) w m found = Unit {0}
-StoresFrom Kx F (Stops (Undefined act) trace) w m found = trace ≡ w.trace
-StoresFrom Kx F ran w m found = ⊥
+abbrev pub StoresFrom : Fixed → Map → Ran (Did source.Value) → State → World → Memory → Result Memory ℕ → Type 0
+StoresFrom Kx F (Went (Gives v t) u) s w m found = (u ≡ w) × Stored Kx F s t m found
+StoresFrom Kx F (Went Malformed u) s w m found = Unit {0}
+StoresFrom Kx F (Stops (Undefined act) trace) s w m found = trace ≡ w.trace
+StoresFrom Kx F ran s w m found = ⊥
 
-pub record Stores (Kx : Fixed) (F : Map) (ran : Ran (Did source.Value)) (w : World) (m : Memory) (found : Result Memory ℕ) : Type 0 where
-  pub by : StoresFrom Kx F ran w m found
+pub record Stores (Kx : Fixed) (F : Map) (ran : Ran (Did source.Value)) (s : State) (w : World) (m : Memory) (found : Result Memory ℕ) : Type 0 where
+  pub by : StoresFrom Kx F ran s w m found
 
 module _ (P : Program) (function : Name → ℕ) (signature : Name → SourceType) (F : Map) where
   abbrev KP : Fixed
@@ -118,7 +119,7 @@ module _ (P : Program) (function : Name → ℕ) (signature : Name → SourceTyp
     written = assigned (pointed (c_type u) (address_in r)) (as_stored u (local_value (Some b) q)) scope m
 
     abbrev Q : Ran (Did source.Value) → Type 0
-    Q ran = Stores KP F ran w m written
+    Q ran = Stores KP F ran s w m written
 
     wrong : Q (Went Malformed w)
     wrong = record { by = tt }
@@ -135,14 +136,12 @@ module _ (P : Program) (function : Name → ℕ) (signature : Name → SourceTyp
         (subst (λ a. KeptAs KP F x v (value_of (local_value a q) scope m)) lx
         (subst (λ y. KeptAs KP F y v (value_of (local_value (local_kept y) q) scope m)) kq (regs q v is)))
 
-    done-there : (p : Place) (v : source.Value) → HasValue KP F (holds (address t)) (source.At p) (value_of (in_register (address t) r) scope m)
+    -- what a store to a scalar of an object that stands does
+    pub done-live : (p : Place) (v : source.Value) → HasValue KP F (holds (address t)) (source.At p) (value_of (in_register (address t) r) scope m)
         → HasValue KP F x v (value_of (local_value (Some b) q) scope m)
-        → is_inside P.classes (s.object p.object).type p.route ≡ true → is_usable P.classes (s.object p.object) p.route ≡ true
-        → Stored KP F (with_object p.object (hold p.route (Some v)) s) m written
-    done-there p v hp hv inside usable =
-        let live : is_ended (F.stage p.object) ≡ false = sym (rel.gone p.object hp.same.known) ∙ usable-stands P.classes (s.object p.object) p.route usable in
-        let there : leads P.classes (F.type p.object) p.route ≡ true =
-        inside-leads P.classes (F.type p.object) p.route hp.same.inside (subst (λ z. is_inside P.classes z p.route ≡ true) (rel.type p.object hp.same.known) inside) in
+        → is_ended (F.stage p.object) ≡ false → leads P.classes (F.type p.object) p.route ≡ true
+        → Stored KP F s (with_object p.object (hold p.route (Some v)) s) m written
+    done-live p v hp hv live there =
         let y = as-stored-value KP F u x v hv.value takes hv.same in
         let done = write-place KP F s m rel p u hp.same.known live there (place-sort (type_of_place KP F p) t u hp.same.type e) v y.value y.same in
         record {
@@ -155,6 +154,7 @@ module _ (P : Program) (function : Name → ℕ) (signature : Name → SourceTyp
               ∙ ap (λ a. on_ok a (λ z. write (pointer_to KP F p) z m)) (stored-stays KP F u v y.value y.same)
               ∙ done.is;
           rel = done.rel;
+          frame = refl;
           next = done.next;
           object = p.object;
           known = hp.same.known;
@@ -162,7 +162,15 @@ module _ (P : Program) (function : Name → ℕ) (signature : Name → SourceTyp
           elsewhere = done.elsewhere;
         }
 
-    pub store-step : Stores KP F (acts again P g (plain.store r q) s w) w m written
+    done-there : (p : Place) (v : source.Value) → HasValue KP F (holds (address t)) (source.At p) (value_of (in_register (address t) r) scope m)
+        → HasValue KP F x v (value_of (local_value (Some b) q) scope m)
+        → is_inside P.classes (s.object p.object).type p.route ≡ true → is_usable P.classes (s.object p.object) p.route ≡ true
+        → Stored KP F s (with_object p.object (hold p.route (Some v)) s) m written
+    done-there p v hp hv inside usable =
+        done-live p v hp hv (sym (rel.gone p.object hp.same.known) ∙ usable-stands P.classes (s.object p.object) p.route usable)
+        (inside-leads P.classes (F.type p.object) p.route hp.same.inside (subst (λ z. is_inside P.classes z p.route ≡ true) (rel.type p.object hp.same.known) inside))
+
+    pub store-step : Stores KP F (acts again P g (plain.store r q) s w) s w m written
     store-step =
         test-place Q s w wrong ends g r (λ p. used_in g q >>= (λ v. doing (write_place P.classes p v))) (λ p isp.
         test-used Q s w wrong ends g q (λ v. doing (write_place P.classes p v)) (λ v isv us.

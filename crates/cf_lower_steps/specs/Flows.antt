@@ -14,13 +14,14 @@ use Rattle.cf_lower_relate.specs.Map.{Fixed, Map, Grows}
 use Rattle.cf_lower_relate.specs.Relation.{Rel}
 use Rattle.cf_lower.specs.Kept.{Keeping}
 use Rattle.cf_lower_steps.specs.Steps.{InRegisters}
-use Rattle.cf_lower_steps.specs.Own.{Own, OwnBlocks}
+use Rattle.cf_lower_steps.specs.Own.{Own, OwnBlocks, InLocals}
 
--- The objects stand in the memory, and the C locals of registers have what is kept.
+-- The objects stand in the memory, those of parameters and locals in theirs, and the C locals of registers have what is kept.
 pub record Between (K : Fixed) (own : Own) (scope : Scope) (F : Map) (kept : Keeping) (g : Registers) (s : source.State) (m : Memory) : Type 0 where
   pub rel : Rel K F s m
   pub registers : InRegisters K F kept g scope m
   pub blocks : OwnBlocks own F scope m
+  pub locals : InLocals K own F scope s m
 
 -- So it is again, for a later map.
 pub record Stays (K : Fixed) (own : Own) (scope : Scope) (F : Map) (kept : Keeping) (g : Registers) (s : source.State) (t : c.State) : Type 0 where

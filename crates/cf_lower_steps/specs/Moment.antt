@@ -41,11 +41,12 @@ pub record Moment : Type 0 where
 abbrev pub fixed : Moment → Fixed
 fixed at = fixed_of at.program at.function at.signature
 
--- The objects stand in the memory, the registers in their C locals, and the C is that of the program's classes.
+-- The objects stand in the memory, the registers in their C locals, and the C is that of the program's classes and the function's locals.
 pub record Stands (at : Moment) : Type 0 where
   pub between : Between (fixed at) at.own at.scope at.map at.kept at.registers at.state at.memory.memory
   pub below : Below at.own at.kept
   pub classes : at.inside.classes ≡ at.program.classes
+  pub locals : at.inside.locals ≡ at.own.locals
 
 -- the statement and its C do the same, and the registers hold this behind it
 abbrev pub Lowers : Moment → Plain → Keeping → Ways → Type 0

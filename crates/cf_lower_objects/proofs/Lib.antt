@@ -1,0 +1,5 @@
+pub mod Declaring
+pub mod Finishing
+pub mod First
+pub mod Growth
+pub mod Naming
