@@ -29,15 +29,17 @@ use Rattle.cf_elab.specs.Env.{Env}
 use Rattle.cf_elab.specs.Fit.{to_kind, truth}
 use Rattle.cf_elab.specs.Made.{of_kind}
 use Rattle.cf_elab.specs.Operand.{Value, Sort, integral, enumeral, object_pointer, void_pointer, function_pointer, data_pointer, method_pointer, class_sort, array_sort, function_sort, void_sort, reference_sort, sort_of, is_testable, known_number, computed, plain}
+use Rattle.cf_elab_numbers.specs.Numbers.{negative, complement}
 use Rattle.cf_elab_valid.specs.Answers.{Fine}
-use Rattle.cf_elab_valid.specs.Scene.{Scene, IsScene, tree, typed, scope_of, Within, Steps, Classless, Holds, Fits, IsPlain}
+use Rattle.cf_elab_valid.specs.Scene.{Scene, IsScene, tree, typed, scope_of, Within, Steps, Classless, Holds, HoldsKnown, Fits, IsPlain}
 use Rattle.cf_elab_valid.specs.Sorts.{SortIs}
 use Rattle.cf_elab_valid.proofs.Early.{early-sort-is}
 use Rattle.cf_elab_valid.proofs.FitRows.{to_kind-fine}
 use Rattle.cf_elab_valid.proofs.Making.{IsType, of_kind-fine}
 use Rattle.cf_elab_valid.proofs.Nodes.{core-Operate, core-Unary, core-Not, core-And, core-Or, known-Operate, known-Unary, known-Not, known-And, known-Or}
+use Rattle.cf_elab_valid.proofs.Numbers.{operated-holds, negative-holds, complement-holds, inverted-holds, joined-holds}
 use Rattle.cf_elab_valid.proofs.Plain.{decayed_tree, plain-fine}
-use Rattle.cf_elab_valid.proofs.Values.{plain-when, plain-value, value-plain, type-tree}
+use Rattle.cf_elab_valid.proofs.Values.{plain-when, plain-value, plain-number, value-plain, type-tree}
 use Rattle.cf_elab_valid.proofs.Ways.{fits-when, fine-as, made-fine, onward-fine, steps-through, within-before, When}
 
 -- a plain value of its own type
@@ -128,6 +130,7 @@ module _ (s : Scene) (scene : IsScene s) where
           (known-Operate s.tables at op k a.node b.node ∙ and-both (are_known s.tables a.node) (are_known s.tables b.node) pa.fits.numbers pb.fits.numbers) refl
           (subst (λ c. IsValue (typing (scope_of s) c) (integer (result_kind op k))) (sym (core-Operate s.tables (signature_of s.tables) at op k a.node b.node))
           (subst (λ u. IsValue (allowed ((typed s a.node).value (integer k) && is_right_operand op k (typed s b.node)) (of_value (operated_type op k))) u) (sym (kind_told op k)) value))
+          (operated-holds op k a.number b.number (plain-number s (integer k) a e3 pa))
 
   pub on_kinds-fine : (at : ℕ) (op : Arith) (k l : Kind) (x y : Value) (e : Env) → Classless e → When s e (Holds s e) → When s e (Fits s e x) → When s e (Fits s e y)
       → Fine s (IsOperand s) e (row.on_kinds at op k l x y e)
@@ -138,9 +141,9 @@ module _ (s : Scene) (scene : IsScene s) where
       by false is = fine-as s (IsPlain s (integer (result_kind op (usual k l)))) (IsOperand s) e _ (λ v f p. plain-operand s (integer (result_kind op (usual k l))) v f p) (operated-fine at op (usual k l) (usual k l) x y e (λ _. refl) c h fx fy)
 
   -- - and ~
-  pub signed-fine : (at : ℕ) (op : UnaryOperator) (k : Kind) (number : Option ℤ → Option ℤ) (x : Value) (e : Env) → Classless e → When s e (Holds s e) → When s e (Fits s e x)
+  pub signed-fine : (at : ℕ) (op : UnaryOperator) (k : Kind) (number : Option ℤ → Option ℤ) → ((z : Option ℤ) → HoldsKnown (number z) (integer k)) → (x : Value) (e : Env) → Classless e → When s e (Holds s e) → When s e (Fits s e x)
       → Fine s (IsPlain s (integer k)) e (onward (to_kind k x e) (λ a f. onward (of_kind k f) (λ t g. Made (record (computed at (node.Unary at op k a.node) t) { number = number a.number }) g)))
-  signed-fine at op k number x e c h fx =
+  signed-fine at op k number fits x e c h fx =
       onward-fine s (IsPlain s (integer k)) (IsPlain s (integer k)) e (to_kind k x e) _ (to_kind-fine s scene k x e c h fx)
       (λ a e1 g1 c1 h1 pa. of_kind-then k (value_of a) (IsPlain s (integer k)) e1 c1 h1 (λ t e2 g2 w is. signed a t e2 w (plain-when s (integer k) e1 e2 a g2 pa w) is))
     where
@@ -151,12 +154,13 @@ module _ (s : Scene) (scene : IsScene s) where
       signed a t e2 w pa is =
           value-plain s e2 (integer k) at t (node.Unary at op k a.node) (number a.number) false is.inside (int-tree k t e2 w is) (known-Unary s.tables at op k a.node ∙ pa.fits.numbers) refl
           (subst (λ c. IsValue (typing (scope_of s) c) (integer k)) (sym (core-Unary s.tables (signature_of s.tables) at op k a.node)) (unary-is k (typed s a.node) (plain-value s (integer k) a e2 pa)))
+          (fits a.number)
 
   pub negated-fine : (at : ℕ) (k : Kind) (x : Value) (e : Env) → Classless e → When s e (Holds s e) → When s e (Fits s e x) → Fine s (IsPlain s (integer k)) e (row.negated at k x e)
-  negated-fine at k x e c h fx = signed-fine at unary.Negate k _ x e c h fx
+  negated-fine at k x e c h fx = signed-fine at unary.Negate k (negative k) (negative-holds k) x e c h fx
 
   pub complemented-fine : (at : ℕ) (k : Kind) (x : Value) (e : Env) → Classless e → When s e (Holds s e) → When s e (Fits s e x) → Fine s (IsPlain s (integer k)) e (row.complemented at k x e)
-  complemented-fine at k x e c h fx = signed-fine at unary.Complement k _ x e c h fx
+  complemented-fine at k x e c h fx = signed-fine at unary.Complement k (complement k) (complement-holds k) x e c h fx
 
   -- !
   pub negation-fine : (at : ℕ) (x : Value) (e : Env) → Classless e → When s e (Holds s e) → When s e (Fits s e x) → Fine s (IsPlain s (integer kind.Int)) e (row.negation at x e)
@@ -171,6 +175,7 @@ module _ (s : Scene) (scene : IsScene s) where
       turned a t e2 w pa is =
           value-plain s e2 (integer kind.Int) at t (node.Not at a.node) (row.inverted a.number) false is.inside (int-tree kind.Int t e2 w is) (known-Not s.tables at a.node ∙ pa.plain.fits.numbers) refl
           (subst (λ c. IsValue (typing (scope_of s) c) (integer kind.Int)) (sym (core-Not s.tables (signature_of s.tables) at a.node)) (truth-is (is_condition (typed s a.node)) (tested-condition s a e2 pa)))
+          (inverted-holds a.number)
 
   -- && and ||
   logical-fine : (at : ℕ) (make : ℕ → Node → Node → Node) (join : Bool → Bool → Bool) (x y : Value) (e : Env)
@@ -191,6 +196,7 @@ module _ (s : Scene) (scene : IsScene s) where
           value-plain s e3 (integer kind.Int) at t (make at a.node b.node) (row.two_numbers (λ z w. Some (row.truth_number (join (row.is_nonzero z) (row.is_nonzero w)))) a.number b.number) false is.inside (int-tree kind.Int t e3 w is)
           (known a.node b.node pa.plain.fits.numbers pb.plain.fits.numbers) refl
           (value a.node b.node (and-both (is_condition (typed s a.node)) (is_condition (typed s b.node)) (tested-condition s a e3 pa) (tested-condition s b e3 pb)))
+          (joined-holds join a.number b.number)
 
   pub conjunction-fine : (at : ℕ) (x y : Value) (e : Env) → Classless e → When s e (Holds s e) → When s e (Fits s e x) → When s e (Fits s e y)
       → Fine s (IsPlain s (integer kind.Int)) e (row.conjunction at x y e)

@@ -83,7 +83,7 @@ module _ (s : Scene) (scene : IsScene s) where
       place-fits s e at v.type (node.Update at v.node c x.node) None false f.inside (known-Update s.tables at v.node c x.node ∙ and-both (are_known s.tables v.node) (are_known s.tables x.node) f.numbers known)
       (place-no-void v.is_lvalue (tree s v.type) l f.allowed) (place-no-reference v.is_lvalue (tree s v.type) l f.allowed)
       (subst (λ n. IsPlace (typing (scope_of s) n) (tree s v.type)) (sym (core-Update s.tables (signature_of s.tables) at v.node c x.node))
-      (update-is (scope_of s) (typed s v.node) (tree s v.type) (changes (change_of c) (typed s v.node).place (typed s x.node)) ok (lvalue_place v e l f)))
+      (update-is (scope_of s) (typed s v.node) (tree s v.type) (changes (change_of c) (typed s v.node).place (typed s x.node)) ok (lvalue_place v e l f))) tt
 
   -- `=`
   pub stored-fine : (at : ℕ) (v x : Value) (e : Env) → Classless e → When s e (Holds s e) → When s e (Fits s e v) → When s e (Fits s e x)
@@ -95,7 +95,7 @@ module _ (s : Scene) (scene : IsScene s) where
           place-fits s e1 at v.type (node.Store at v.node a.node) None false f.inside (known-Store s.tables at v.node a.node ∙ and-both (are_known s.tables v.node) (are_known s.tables a.node) f.numbers p.fits.numbers)
           (place-no-void v.is_lvalue (tree s v.type) l f.allowed) (place-no-reference v.is_lvalue (tree s v.type) l f.allowed)
           (subst (λ n. IsPlace (typing (scope_of s) n) (tree s v.type)) (sym (core-Store s.tables (signature_of s.tables) at v.node a.node))
-          (store-is (scope_of s) (typed s v.node) (typed s a.node) (tree s v.type) scalar (lvalue_place v e1 l f) (plain-value s (tree s v.type) a e1 p)))
+          (store-is (scope_of s) (typed s v.node) (typed s a.node) (tree s v.type) scalar (lvalue_place v e1 l f) (plain-value s (tree s v.type) a e1 p))) tt
 
       by : (m : Bool) → modifiable e v ≡ m → Fine s (IsOperand s) e (onward (need m 12 at e) (λ _ k. onward (fit at x v.type k) (λ a n. Made (place_of at (node.Store at v.node a.node) v.type false) n)))
       by false is = tt

@@ -48,7 +48,7 @@ module _ (s : Scene) (scene : IsScene s) where
       plain-operand s (pointing (tree s t)) (record (computed at (node.PointerOperate at op a.node b.node) p.type) { is_fixed = fixed }) e
       (value-plain s e (pointing (tree s t)) at p.type (node.PointerOperate at op a.node b.node) None fixed q.fits.inside same
       (known-PointerOperate s.tables at op a.node b.node ∙ and-both (are_known s.tables a.node) (are_known s.tables b.node) ka kb) refl
-      (subst (λ c. IsValue (typing (scope_of s) c) (pointing (tree s t))) (sym (core-PointerOperate s.tables (signature_of s.tables) at op a.node b.node)) value))
+      (subst (λ c. IsValue (typing (scope_of s) c) (pointing (tree s t))) (sym (core-PointerOperate s.tables (signature_of s.tables) at op a.node b.node)) value) tt)
 
   moved_value : (op : PointerOperator) (x y : Typing) (t : SourceType) → moves op ≡ true → points_to_object x ≡ true → Points x t → is_integer y ≡ true → IsValue (pointer_operated op x y) (pointing t)
   moved_value pointer.Add x y t m o p i = add-is x y t o p i

@@ -165,7 +165,7 @@ module _ (s : Scene) (scene : IsScene s) where
           let operand = operand_there (is_operand (tree s r)) (tree_is_reference (tree s r)) (fine w) no_reference in
           plain-operand s (tree s r) (computed at n (bare e.types r)) e
           (value-plain s e (tree s r) at (bare e.types r) n None false (early-inside s.tables scene.table e.types w.types r (i w)) (sym (early-bare s.tables scene.table e.types w.types r (i w))) (known w) operand
-          (subst (λ y. IsValue y (tree s r)) (sym (is w)) (result-value (tree s r) normal (plain_result (tree s r) operand)))))
+          (subst (λ y. IsValue y (tree s r)) (sym (is w)) (result-value (tree s r) normal (plain_result (tree s r) operand))) tt))
 
       returned : (x : Ty) → type_at e.types r ≡ x → Fine s (IsOperand s) e (Made (returned_value e (result_step at n r x)) e)
       returned (ty.Ref u) at_r =
@@ -176,7 +176,7 @@ module _ (s : Scene) (scene : IsScene s) where
           let inside : Inside e u = let r_in = i w in omega arith in
           let aims = scene.none_to_reference r (ty.Ref u) there in
           place-fits s e at u n None false inside (known w) aims.1 aims.0
-          (subst (λ y. IsPlace y (tree s u)) (sym (is w ∙ ap of_result whole)) (result-place (tree s u) (tree-normal s.tables scene.table u (early-known s.tables scene.table e.types w.types u inside)))))
+          (subst (λ y. IsPlace y (tree s u)) (sym (is w ∙ ap of_result whole)) (result-place (tree s u) (tree-normal s.tables scene.table u (early-known s.tables scene.table e.types w.types u inside)))) tt)
       returned ty.Void at_r = value_there ty.Void at_r refl
       returned (ty.Int k) at_r = value_there (ty.Int k) at_r refl
       returned (ty.Enum k) at_r = value_there (ty.Enum k) at_r refl

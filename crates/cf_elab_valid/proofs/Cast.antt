@@ -29,16 +29,18 @@ use Rattle.cf_elab.specs.Members.{class_number}
 use Rattle.cf_elab.specs.Operand.{Value, Sort, integral, enumeral, object_pointer, void_pointer, function_pointer, data_pointer, method_pointer, class_sort, array_sort, function_sort, void_sort, reference_sort, is_reference, is_zero, sort_of, computed, plain as plain_row}
 use Rattle.cf_elab_valid.specs.Answers.{Fine}
 use Rattle.cf_elab_valid.specs.Conversion.{BothIntegral, IsPointer}
-use Rattle.cf_elab_valid.specs.Scene.{Scene, IsScene, tree, typed, scope_of, Within, Inside, Classless, Holds, Fits, IsPlain, Meets, is_allowed}
+use Rattle.cf_elab_valid.specs.Scene.{Scene, IsScene, tree, typed, scope_of, Within, Inside, Classless, Holds, HoldsKnown, Fits, IsPlain, Meets, is_allowed}
 use Rattle.cf_elab_valid.specs.Sorts.{SortIs}
 use Rattle.cf_elab_valid.proofs.Arithmetic.{IsOperand, plain-operand}
-use Rattle.cf_elab_valid.proofs.Choice.{fits-expression, void-told}
+use Rattle.cf_elab_valid.proofs.Choice.{fits-expression}
 use Rattle.cf_elab_valid.proofs.Early.{SortInside, early-sort, early-inside, early-known, early-sort-is, early-sort-inside}
 use Rattle.cf_elab_valid.proofs.EarlyTrees.{same_types-end}
 use Rattle.cf_elab_valid.proofs.Fit.{convert-plain, leads-fine, retyped-plain}
 use Rattle.cf_elab_valid.proofs.FitRows.{fit-fine}
 use Rattle.cf_elab_valid.proofs.Nodes.{core-FromVoid, known-FromVoid}
+use Rattle.cf_elab_valid.proofs.Numbers.{convert-holds, enumerator-holds}
 use Rattle.cf_elab_valid.proofs.Plain.{decayed_tree, plain-fine}
+use Rattle.cf_elab_valid.proofs.Sorts.{void-told}
 use Rattle.cf_elab_valid.proofs.Trees.{tree-normal}
 use Rattle.cf_elab_valid.proofs.Unary.{bare_sort, plain-own, sorted, points-to, classless-number, unused-node}
 use Rattle.cf_elab_valid.proofs.Values.{plain-value, value-plain, has_type-is}
@@ -59,10 +61,11 @@ module _ (s : Scene) (scene : IsScene s) where
 
   -- from an integer type to an integer type or an enumeration
   integer-fine : (at t : ℕ) (x : Value) (z : Option ℤ) (e : Env) → Classless e → When s e (Holds s e) → When s e (Inside e t) → When s e (IsPlain s (tree s x.type) x e) → When s e (BothIntegral (tree s x.type) (tree s t))
+      → When s e (HoldsKnown z (tree s t))
       → Fine s (IsPlain s (tree s t)) e (Made (record x { at = at; node = node.Convert at t x.node; type = t; number = z }) e)
-  integer-fine at t x z e c h i p both =
+  integer-fine at t x z e c h i p both known =
       made-fine s (IsPlain s (tree s t)) e (record x { at = at; node = node.Convert at t x.node; type = t; number = z }) c h
-      (λ w. convert-plain s scene e w t (i w) at at x.node x.is_lvalue z x.is_fixed (p w).no_place (p w).fits.numbers (integral_operand (tree s t) (both w).to) (converts_there w))
+      (λ w. convert-plain s scene e w t (i w) at at x.node x.is_lvalue z x.is_fixed (p w).no_place (p w).fits.numbers (integral_operand (tree s t) (both w).to) (converts_there w) (known w))
     where
       integral_operand : (u : SourceType) → is_integral (without_const u) ≡ true → is_operand u ≡ true
       integral_operand u h = sym (operand-plain u) ∙ by (without_const u) h
@@ -90,7 +93,7 @@ module _ (s : Scene) (scene : IsScene s) where
       (known-FromVoid s.tables at u x.node ∙ and-both (has_type s.tables u) (are_known s.tables x.node) (has_type-is s e u w part) (p w).fits.numbers) (same-operand (tree s t) (pointer (tree s u)) o.same)
       (subst (λ n. IsValue (typing (scope_of s) n) (tree s t)) (sym (core-FromVoid s.tables (signature_of s.tables) at u x.node))
       (value-same (allowed (typed_row.void_pointer (scope_of s) (pointed (typed s x.node).type)) (of_value (pointer (tree s u)))) (pointer (tree s u)) (tree s t) (sym o.same)
-      (from-void-is (scope_of s) (tree s u) (tree s v.pointee) (typed s x.node) (tree-normal s.tables scene.table u (early-known s.tables scene.table e.types w.types u part)) v.to_void (points-to s scene x e w (p w) v.pointee v.same)))))
+      (from-void-is (scope_of s) (tree s u) (tree s v.pointee) (typed s x.node) (tree-normal s.tables scene.table u (early-known s.tables scene.table e.types w.types u part)) v.to_void (points-to s scene x e w (p w) v.pointee v.same)))) tt)
 
   -- a pointer to a pointer to void
   to_void-fine : (at t v : ℕ) (x : Value) (e : Env) → Classless e → When s e (Holds s e) → When s e (Inside e t) → When s e (IsPlain s (tree s x.type) x e)
@@ -102,7 +105,7 @@ module _ (s : Scene) (scene : IsScene s) where
       let f = pointer-form (plain (tree s t)) (tree s d.pointee) (plain-bare (tree s t) (normal_type e w t (i w))) (same-plain (tree s t) ∙ d.same) in
       convert-plain s scene e w t (i w) at at x.node false None x.is_fixed refl (p w).fits.numbers (same-operand (tree s t) (pointer (tree s d.pointee)) d.same)
       (ap (λ u. converts u (typed s x.node)) f.1
-      ∙ to-void-pointer f.0 (tree s v) (typed s x.node) (subst (λ u. is_normal u ≡ true) f.1 (plain-normal (tree s t) (normal_type e w t (i w)))) (same-void f.0 (tree s d.pointee) f.2 ∙ d.to_void) (points-to s scene x e w (p w) v o.same)))
+      ∙ to-void-pointer f.0 (tree s v) (typed s x.node) (subst (λ u. is_normal u ≡ true) f.1 (plain-normal (tree s t) (normal_type e w t (i w)))) (same-void f.0 (tree s d.pointee) f.2 ∙ d.to_void) (points-to s scene x e w (p w) v o.same)) tt)
 
   -- ---- the same type but for const
 
@@ -121,7 +124,7 @@ module _ (s : Scene) (scene : IsScene s) where
       by false is = tt
       by true is =
           made-fine s (IsOperand s) e (record x { type = t; number = None }) c h
-          (λ w. let q = retyped-plain s scene e w t (i w) x (tree s x.type) (p w) (m is w) in record { inside = q.fits.inside; numbers = q.fits.numbers; allowed = q.fits.allowed; meets = q.fits.meets })
+          (λ w. let q = retyped-plain s scene e w t (i w) x (tree s x.type) (p w) (m is w) in record { inside = q.fits.inside; numbers = q.fits.numbers; allowed = q.fits.allowed; meets = q.fits.meets; number = tt })
 
   -- ---- to a type that is no reference and not void
 
@@ -145,14 +148,16 @@ module _ (s : Scene) (scene : IsScene s) where
   scalar-fine at t x e c h i p (enumeral n) (integral k) to from =
       fine-as s (IsPlain s (tree s t)) (IsOperand s) e (Made (row.as_enumeration at t x) e) (λ v f q. plain-operand s (tree s t) v f q)
       (integer-fine at t x (option_map (convert kind.Int) x.number) e c h i p
-      (λ w. record { from = ap is_integral (sorted s scene x e w (p w) (integral k) from); to = ap is_integral (type_sort e w t (i w) (enumeral n) (to w)).same }))
+      (λ w. record { from = ap is_integral (sorted s scene x e w (p w) (integral k) from); to = ap is_integral (type_sort e w t (i w) (enumeral n) (to w)).same })
+      (λ w. let k = type_sort e w t (i w) (enumeral n) (to w) in enumerator-holds k.name x.number (tree s t) k.same))
   scalar-fine at t x e c h i p (enumeral m) (enumeral n) to from = by (m == n) refl
     where
       by : (b : Bool) → (m == n) ≡ b → (let run : Elab Value = if b then gives (record x { type = t }) else gives (row.as_enumeration at t x) in Fine s (IsOperand s) e (run e))
       by false is =
           fine-as s (IsPlain s (tree s t)) (IsOperand s) e (Made (row.as_enumeration at t x) e) (λ v f q. plain-operand s (tree s t) v f q)
           (integer-fine at t x (option_map (convert kind.Int) x.number) e c h i p
-          (λ w. record { from = ap is_integral (sorted s scene x e w (p w) (enumeral n) from).same; to = ap is_integral (type_sort e w t (i w) (enumeral m) (to w)).same }))
+          (λ w. record { from = ap is_integral (sorted s scene x e w (p w) (enumeral n) from).same; to = ap is_integral (type_sort e w t (i w) (enumeral m) (to w)).same })
+          (λ w. let k = type_sort e w t (i w) (enumeral m) (to w) in enumerator-holds k.name x.number (tree s t) k.same))
       by true is =
           made-fine s (IsOperand s) e (record x { type = t }) c h
           (λ w. let a = sorted s scene x e w (p w) (enumeral n) from in
@@ -209,7 +214,7 @@ module _ (s : Scene) (scene : IsScene s) where
       made-fine s (IsOperand s) e (row.to_nothing e at t v) c h
       (λ w. subst (λ x. Fits s e (computed at (node.Convert at t x) t)) (sym (unused-node e c v))
       (plain-operand s (tree s t) (computed at (node.Convert at t v.node) t) e
-      (convert-plain s scene e w t (i w) at at v.node false None false refl (f w).numbers (same-operand (tree s t) void (void-told (tree s t) (n w))) (void_converts w))))
+      (convert-plain s scene e w t (i w) at at v.node false None false refl (f w).numbers (same-operand (tree s t) void (void-told (tree s t) (n w))) (void_converts w) tt)))
     where
       void_bare : (u : SourceType) → is_bare u ≡ true → is_void u ≡ true → u ≡ void
       void_bare void b h = refl
@@ -235,6 +240,7 @@ module _ (s : Scene) (scene : IsScene s) where
             numbers = (f w).numbers;
             allowed = subst (λ b. is_allowed b (tree s u) ≡ true) (sym l) (allowed_there (subst (λ b. is_allowed b (tree s v.type) ≡ true) l (f w).allowed) same);
             meets = subst (λ b. Meets b (typed s v.node) (tree s u)) (sym l) (place-same (typed s v.node) (tree s v.type) (tree s u) same (subst (λ b. Meets b (typed s v.node) (tree s v.type)) l (f w).meets));
+            number = tt;
           })
         where
           allowed_there : is_allowed true (tree s v.type) ≡ true → Same (tree s v.type) (tree s u) → is_allowed true (tree s u) ≡ true

@@ -34,24 +34,12 @@ use Rattle.cf_elab_valid.specs.Scene.{Scene, IsScene, tree, typed, core, scope_o
 use Rattle.cf_elab_valid.proofs.Arithmetic.{IsOperand, IsTested, tested-condition, tested-when, truth-fine, of_kind-then, int-tree, plain-operand}
 use Rattle.cf_elab_valid.proofs.FitRows.{to_kind-fine, converted-fine}
 use Rattle.cf_elab_valid.proofs.Nodes.{core-Conditional, core-Comma, known-Conditional, known-Comma}
+use Rattle.cf_elab_valid.proofs.Numbers.{chosen-holds}
 use Rattle.cf_elab_valid.proofs.Plain.{decayed_tree, plain-fine}
 use Rattle.cf_elab_valid.proofs.Unary.{plain-own, sorted, classless-number, no-reference-type, unused-node}
+use Rattle.cf_elab_valid.proofs.Sorts.{void-told}
 use Rattle.cf_elab_valid.proofs.Values.{plain-when, plain-value, value-plain, place-fits, place-no-void, place-no-reference}
 use Rattle.cf_elab_valid.proofs.Ways.{fits-when, made-fine, onward-fine, steps-through, When}
-
-pub void-told : (t : SourceType) → is_void t ≡ true → Same t void
-void-told void h = refl
-void-told (const t) h = void-told t h
-void-told (integer k) h = absurd (true≢false (sym h))
-void-told (enumeration n) h = absurd (true≢false (sym h))
-void-told (class c) h = absurd (true≢false (sym h))
-void-told (pointer t) h = absurd (true≢false (sym h))
-void-told (reference t) h = absurd (true≢false (sym h))
-void-told (array t n) h = absurd (true≢false (sym h))
-void-told (takes p t) h = absurd (true≢false (sym h))
-void-told (gives t c) h = absurd (true≢false (sym h))
-void-told (data_member c t) h = absurd (true≢false (sym h))
-void-told (function_member c t) h = absurd (true≢false (sym h))
 
 module _ (s : Scene) (scene : IsScene s) where
   -- ---- the node
@@ -70,6 +58,7 @@ module _ (s : Scene) (scene : IsScene s) where
       value-plain s e u at t (node.Conditional at c.node a.node b.node) (row.chosen c.number a.number b.number) false i same
       (all_known at c.node a.node b.node pc.plain.fits.numbers pa.fits.numbers pb.fits.numbers) (allowed_plain a.is_lvalue pa.no_place pa.fits.allowed)
       (chosen (λ x. IsValue x u) at c.node a.node b.node (tested-condition s c e pc) (either-value (typed s a.node) (typed s b.node) u (plain-value s u a e pa) (plain-value s u b e pb)))
+      (chosen-holds c.number a.number b.number u (plain-number s u a e pa) (plain-number s u b e pb))
     where
       allowed_plain : (l : Bool) → l ≡ false → is_allowed l (tree s a.type) ≡ true → is_allowed false u ≡ true
       allowed_plain true h x = absurd (true≢false h)
@@ -81,7 +70,7 @@ module _ (s : Scene) (scene : IsScene s) where
       place-fits s e at a.type (node.Conditional at c.node a.node b.node) None false fa.inside (all_known at c.node a.node b.node pc.plain.fits.numbers fa.numbers fb.numbers) (place-no-void a.is_lvalue (tree s a.type) la fa.allowed) (place-no-reference a.is_lvalue (tree s a.type) la fa.allowed)
       (chosen (λ x. IsPlace x (tree s a.type)) at c.node a.node b.node (tested-condition s c e pc)
       (either-place (typed s a.node) (typed s b.node) (tree s a.type) (subst (λ l. Meets l (typed s a.node) (tree s a.type)) la fa.meets)
-      (subst (λ t. IsPlace (typed s b.node) (tree s t)) (sym same) (subst (λ l. Meets l (typed s b.node) (tree s b.type)) lb fb.meets))))
+      (subst (λ t. IsPlace (typed s b.node) (tree s t)) (sym same) (subst (λ l. Meets l (typed s b.node) (tree s b.type)) lb fb.meets)))) tt
 
   -- ---- by the types of the two
 
@@ -208,4 +197,5 @@ module _ (s : Scene) (scene : IsScene s) where
         numbers = known-Comma s.tables at (row.in_order e v vs) ∙ all-known e cl v vs all.0 all.1;
         allowed = last.allowed;
         meets = subst (λ n. Meets (row.last_of v vs).is_lvalue (typing (scope_of s) n) (tree s (row.last_of v vs).type)) (sym (core-Comma s.tables (signature_of s.tables) at (row.in_order e v vs))) (last-meets e cl v vs all.0 all.1);
+        number = tt;
       })

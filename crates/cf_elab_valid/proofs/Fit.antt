@@ -18,12 +18,14 @@ use Rattle.cf_core_typed.proofs.Values.{value-same, value-integer, value-points}
 use Rattle.cf_elab.specs.Answer.{onward}
 use Rattle.cf_elab.specs.Env.{Env}
 use Rattle.cf_elab.specs.Fit.{all_steps, stepped}
-use Rattle.cf_elab.specs.Operand.{Value}
+use Rattle.cf_elab.specs.Operand.{Value, sort_of}
 use Rattle.cf_elab_valid.specs.Answers.{Fine}
 use Rattle.cf_elab_valid.specs.Conversion.{Leads, BothIntegral, IsPointer, IntoVoid, is_single, with_last}
-use Rattle.cf_elab_valid.specs.Scene.{Scene, IsScene, tree, typed, core, scope_of, Within, Inside, Classless, Holds, Fits, IsPlain, Meets, is_allowed}
-use Rattle.cf_elab_valid.proofs.Early.{early-known}
+use Rattle.cf_elab_valid.specs.Scene.{Scene, IsScene, tree, typed, core, scope_of, Within, Inside, Classless, Holds, HoldsKnown, Fits, IsPlain, Meets, is_allowed}
+use Rattle.cf_elab_valid.proofs.Early.{early-known, early-sort-is}
 use Rattle.cf_elab_valid.proofs.Nodes.{core-Convert, core-Number, known-Convert, known-Number}
+use Rattle.cf_elab_valid.proofs.Numbers.{holds-same, convert-holds}
+use Rattle.cf_elab_valid.proofs.Sorts.{promoted-holds}
 use Rattle.cf_elab_valid.proofs.Trees.{tree-normal}
 use Rattle.cf_elab_valid.proofs.Ways.{made-fine, inside-end, When}
 
@@ -59,15 +61,16 @@ module _ (s : Scene) (scene : IsScene s) where
 
     -- a value with this node, whatever is known of its number
     pub convert-plain : (at a : ℕ) (n : Node) (l : Bool) (z : Option ℤ) (fixed : Bool) → l ≡ false → are_known s.tables n ≡ true → is_operand (tree s t) ≡ true
-        → converts (plain (tree s t)) (typed s n) ≡ true
+        → converts (plain (tree s t)) (typed s n) ≡ true → HoldsKnown z (tree s t)
         → IsPlain s (tree s t) (record { at = a; node = node.Convert at t n; type = t; is_lvalue = l; number = z; is_fixed = fixed }) e
-    convert-plain at a n l z fixed no_place known scalar fine = record {
+    convert-plain at a n l z fixed no_place known scalar fine number = record {
       fits = record {
         inside = inside;
         numbers = known-Convert s.tables at t n ∙ and-both (has_type s.tables t) (are_known s.tables n) (less-told t (length s.tables.types.types) (inside-end e s t w inside)) known;
         allowed = subst (λ b. is_allowed b (tree s t) ≡ true) (sym no_place) scalar;
         meets = subst (λ b. Meets b (typed s (node.Convert at t n)) (tree s t)) (sym no_place)
             (subst (λ c. IsValue (typing (scope_of s) c) (tree s t)) (sym (core-Convert s.tables (signature_of s.tables) at t n)) (converted-is (tree s t) (typed s n) normal fine));
+        number = number;
       };
       no_place = no_place;
       same = refl;
@@ -76,10 +79,11 @@ module _ (s : Scene) (scene : IsScene s) where
     value_of : (x : Value) → x.is_lvalue ≡ false → Fits s e x → IsValue (typed s x.node) (tree s x.type)
     value_of x l f = subst (λ b. Meets b (typed s x.node) (tree s x.type)) l f.meets
 
-    to_integer_converts : (x : Value) (a : SourceType) → IsPlain s a x e → BothIntegral a (tree s t) → converts (plain (tree s t)) (typed s x.node) ≡ true
-    to_integer_converts x a p b =
-        to-integer (plain (tree s t)) (typed s x.node) (plain_integral (tree s t) normal b.to)
-        (value-integer (typed s x.node) a b.from (value-same (typed s x.node) (tree s x.type) a p.same (value_of x p.no_place p.fits)))
+    to_integer_converts : (x : Value) (a : SourceType) → IsPlain s a x e → is_integral (without_const a) ≡ true → is_integral (without_const (tree s t)) ≡ true
+        → converts (plain (tree s t)) (typed s x.node) ≡ true
+    to_integer_converts x a p from to =
+        to-integer (plain (tree s t)) (typed s x.node) (plain_integral (tree s t) normal to)
+        (value-integer (typed s x.node) a from (value-same (typed s x.node) (tree s x.type) a p.same (value_of x p.no_place p.fits)))
 
     pointer_is : (p : SourceType) → Same (tree s t) (pointer p) → (v : SourceType) × (plain (tree s t) ≡ pointer v) × Same v p
     pointer_is p same = pointer-form (plain (tree s t)) p (plain-bare (tree s t) normal) (same-plain (tree s t) ∙ same)
@@ -106,6 +110,7 @@ module _ (s : Scene) (scene : IsScene s) where
         numbers = p.fits.numbers;
         allowed = by x.is_lvalue p.no_place p.fits.allowed;
         meets = subst (λ b. Meets b (typed s x.node) (tree s t)) (sym p.no_place) (value-same (typed s x.node) (tree s x.type) (tree s t) (p.same ∙ same) (value_of x p.no_place p.fits));
+        number = holds-same x.number (tree s x.type) (tree s t) (p.same ∙ same) p.fits.number;
       };
       no_place = p.no_place;
       same = refl;
@@ -122,14 +127,16 @@ module _ (s : Scene) (scene : IsScene s) where
   leads-fine t [] x a e c h i o p l = made-fine s (IsPlain s (tree s t)) e (record x { type = t }) c h (λ w. retyped-plain e w t (i w) x a (p w) (l w))
   leads-fine t (Promote ∷ []) x a e c h i o p l =
       made-fine s (IsPlain s (tree s t)) e _ c h (λ w. convert-plain e w t (i w) x.at x.at x.node x.is_lvalue _ x.is_fixed (p w).no_place (p w).fits.numbers
-      (integral_operand (tree s t) (l w).to) (to_integer_converts e w t (i w) x a (p w) (l w)))
+      (integral_operand (tree s t) (l w).to) (to_integer_converts e w t (i w) x a (p w) (l w).from (l w).to)
+      (promoted-holds (sort_of e.types t) (tree s t) (early-sort-is s.tables scene.table e.types w.types scene.no_class scene.none_to_reference t (i w)) (l w).to x.number))
   leads-fine t (Integer k ∷ []) x a e c h i o p l =
-      made-fine s (IsPlain s (tree s t)) e _ c h (λ w. convert-plain e w t (i w) x.at x.at x.node x.is_lvalue _ x.is_fixed (p w).no_place (p w).fits.numbers
-      (integral_operand (tree s t) (l w).to) (to_integer_converts e w t (i w) x a (p w) (l w)))
+      made-fine s (IsPlain s (tree s t)) e _ c h (λ w. let to : is_integral (without_const (tree s t)) ≡ true = ap is_integral (l w).to in
+      convert-plain e w t (i w) x.at x.at x.node x.is_lvalue _ x.is_fixed (p w).no_place (p w).fits.numbers (integral_operand (tree s t) to)
+      (to_integer_converts e w t (i w) x a (p w) (l w).from to) (convert-holds k x.number (tree s t) (l w).to))
   leads-fine t (Null ∷ []) x a e c h i o p l =
       made-fine s (IsPlain s (tree s t)) e _ c h (λ w. convert-plain e w t (i w) x.at x.at (node.Number x.at (pos 0)) false None true refl (known-Number s.tables x.at (pos 0))
-      (same-operand (tree s t) (pointer (l w).pointee) (l w).same) (null_converts e w t (i w) x.at (l w)))
+      (same-operand (tree s t) (pointer (l w).pointee) (l w).same) (null_converts e w t (i w) x.at (l w)) tt)
   leads-fine t (ToVoid ∷ []) x a e c h i o p l =
       made-fine s (IsPlain s (tree s t)) e _ c h (λ w. convert-plain e w t (i w) x.at x.at x.node x.is_lvalue None x.is_fixed (p w).no_place (p w).fits.numbers
-      (same-operand (tree s t) (pointer (l w).to) (l w).is_to) (void_converts e w t (i w) x a (p w) (l w)))
+      (same-operand (tree s t) (pointer (l w).to) (l w).is_to) (void_converts e w t (i w) x a (p w) (l w)) tt)
   leads-fine t core x a e c h i o p l = absurd (true≢false (sym o))

@@ -15,10 +15,12 @@ pub mod Initial
 pub mod Making
 pub mod Names
 pub mod Nodes
+pub mod Numbers
 pub mod Operands
 pub mod Parts
 pub mod Picks
 pub mod Plain
+pub mod Sorts
 pub mod Stepping
 pub mod Steps
 pub mod Trees

@@ -68,15 +68,10 @@ module _ (s : Scene) (scene : IsScene s) where
   constant-fits at z t e i h = record {
     inside = i;
     numbers = known-Number s.tables at z;
-    allowed = number_operand (tree s t) h;
+    allowed = number-operand z (tree s t) h;
     meets = subst (λ c. IsValue (typing (scope_of s) c) (tree s t)) (sym (core-Number s.tables (signature_of s.tables) at z)) (of_number-is z (tree s t) h);
+    number = h;
   }
-    where
-      number_operand : (u : SourceType) → holds_number z u ≡ true → is_operand u ≡ true
-      number_operand (integer k) h = refl
-      number_operand (enumeration n) h = refl
-      number_operand (const u) h = number_operand u h
-      number_operand u h = absurd (true≢false (sym h))
 
   -- ---- objects
 
@@ -122,13 +117,13 @@ module _ (s : Scene) (scene : IsScene s) where
     known_node = home_known at x.type x.home (has_type-is s e x.type w f.0)
 
     -- the object itself
-    own_fits : (y : Ty) (z : Option ℤ) (b : Bool) → type_at e.types x.type ≡ y → is_ref s scene y ≡ false
-        → Fits s e (record { at = at; node = (home_node at x.type x.home).node; type = x.type; is_lvalue = true; number = z; is_fixed = b })
-    own_fits y z b is r =
+    own_fits : (y : Ty) (b : Bool) → type_at e.types x.type ≡ y → is_ref s scene y ≡ false
+        → Fits s e (record { at = at; node = (home_node at x.type x.home).node; type = x.type; is_lvalue = true; number = x.number; is_fixed = b })
+    own_fits y b is r =
         let whole = tree-at s.tables scene.table x.type y (at_end y is) in
         let normal = tree-normal s.tables scene.table x.type (early-known s.tables scene.table e.types w.types x.type f.0) in
-        place-fits s e at x.type (home_node at x.type x.home).node z b f.0 known_node f.2 (step_no_reference s scene x.type y normal whole r)
-        (subst (λ p. IsPlace p (tree s x.type)) (sym (home_typed at x.type x.home f.1 ∙ of_name_is x.type y whole r)) (of_place-is (tree s x.type) normal))
+        place-fits s e at x.type (home_node at x.type x.home).node x.number b f.0 known_node f.2 (step_no_reference s scene x.type y normal whole r)
+        (subst (λ p. IsPlace p (tree s x.type)) (sym (home_typed at x.type x.home f.1 ∙ of_name_is x.type y whole r)) (of_place-is (tree s x.type) normal)) f.3
 
     -- what a reference refers to
     referred_fits : (u : ℕ) → type_at e.types x.type ≡ ty.Ref u → Fits s e (place_of at (home_node at x.type x.home).node u false)
@@ -140,7 +135,7 @@ module _ (s : Scene) (scene : IsScene s) where
         let aims = scene.none_to_reference x.type (ty.Ref u) there in
         place-fits s e at u (home_node at x.type x.home).node None false inside known_node aims.1 aims.0
         (subst (λ p. IsPlace p (tree s u)) (sym (home_typed at x.type x.home f.1 ∙ ap (λ t. of_name (Some t)) whole))
-        (of_place-is (tree s u) (tree-normal s.tables scene.table u (early-known s.tables scene.table e.types w.types u inside))))
+        (of_place-is (tree s u) (tree-normal s.tables scene.table u (early-known s.tables scene.table e.types w.types u inside)))) tt
 
     pub object-fits : Fits s e (object_value e at x)
     object-fits = by (type_at e.types x.type) refl
@@ -149,8 +144,8 @@ module _ (s : Scene) (scene : IsScene s) where
         own y is r = as_home x.home refl
           where
             as_home : (h : Home) → x.home ≡ h → Fits s e (record (home_node at x.type x.home) { number = x.number })
-            as_home (local_home i) q = subst (λ k. Fits s e (record (home_node at x.type k) { number = x.number })) (sym q) (subst (λ k. Fits s e (record { at = at; node = (home_node at x.type k).node; type = x.type; is_lvalue = true; number = x.number; is_fixed = false })) q (own_fits y x.number false is r))
-            as_home (static_home name) q = subst (λ k. Fits s e (record (home_node at x.type k) { number = x.number })) (sym q) (subst (λ k. Fits s e (record { at = at; node = (home_node at x.type k).node; type = x.type; is_lvalue = true; number = x.number; is_fixed = true })) q (own_fits y x.number true is r))
+            as_home (local_home i) q = subst (λ k. Fits s e (record (home_node at x.type k) { number = x.number })) (sym q) (subst (λ k. Fits s e (record { at = at; node = (home_node at x.type k).node; type = x.type; is_lvalue = true; number = x.number; is_fixed = false })) q (own_fits y false is r))
+            as_home (static_home name) q = subst (λ k. Fits s e (record (home_node at x.type k) { number = x.number })) (sym q) (subst (λ k. Fits s e (record { at = at; node = (home_node at x.type k).node; type = x.type; is_lvalue = true; number = x.number; is_fixed = true })) q (own_fits y true is r))
 
         by : (y : Ty) → type_at e.types x.type ≡ y
             → Fits s e (let r = result_step at (home_node at x.type x.home).node x.type y in if r.is_lvalue then r else record (home_node at x.type x.home) { number = x.number })
@@ -205,7 +200,7 @@ module _ (s : Scene) (scene : IsScene s) where
       place-fits s e at f.type (node.Function at f.link f.type) None true inside (known-Function s.tables at f.link f.type ∙ has_type-is s e f.type w inside) no.2 no.1
       (subst (λ c. IsPlace (typing (scope_of s) c) (tree s f.type)) (sym (core-Function s.tables (signature_of s.tables) at f.link f.type))
       (allow (λ p. IsPlace p (tree s f.type)) (is_function (tree s f.type)) (of_place (tree s f.type)) fn
-      (of_place-is (tree s f.type) (tree-normal s.tables scene.table f.type (early-known s.tables scene.table e.types w.types f.type inside)))))
+      (of_place-is (tree s f.type) (tree-normal s.tables scene.table f.type (early-known s.tables scene.table e.types w.types f.type inside))))) tt
     where
       is_taking : (ps : List SourceType) (q : SourceType) (b : Bool) → is_function (taking ps (gives q b)) ≡ true
       is_taking [] q b = refl

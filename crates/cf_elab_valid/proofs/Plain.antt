@@ -1,10 +1,13 @@
 -- The value of an lvalue, and of an array or a function the pointer (4.1, 4.6).
-use Rattle.std.proofs.Common.{◌≡◌, ℕ, Bool, true, false, not, ◌||◌, if◌then◌else◌, Some, slice_get, refl, sym, ap, subst, ◌∙◌, true≢false}
+use Rattle.std.proofs.Common.{◌≡◌, ℕ, Bool, true, false, not, ◌||◌, if◌then◌else◌, ℤ, Option, None, Some, slice_get, refl, sym, ap, subst, ◌∙◌, true≢false}
+use Rattle.std.specs.Option.{option_map_or}
 use Rattle.cf_types.specs.declared.ty.Ty.TheVariants as ty
 use Rattle.cf_convert.specs.Constness.{bare}
+use Rattle.cf_core.specs.declared.node.Core.{Core as Node}
 use Rattle.cf_core.specs.declared.node.Core.TheVariants as node
 use Rattle.cf_core.specs.FromClasses.{signature_of}
 use Rattle.cf_core.specs.FromTypes.{Tables}
+use Rattle.cf_core.specs.Numbers.{are_known}
 use Rattle.cf_core.specs.Places.{is_reference}
 use Rattle.cf_core.specs.Typed.{typing, read_type, decayed_type}
 use Rattle.cf_core.specs.Types.{SourceType, integer, enumeration, pointer, array, without_const, is_void}
@@ -12,18 +15,20 @@ use Rattle.cf_core_typed.specs.Same.{Same, is_operand}
 use Rattle.cf_core_typed.specs.Meets.{IsPlace, IsValue}
 use Rattle.cf_core_typed.proofs.Same.{same-operand, operand-scalar, function-operand}
 use Rattle.cf_core_typed.proofs.Places.{read-is, decay-array-is, decay-function-is}
-use Rattle.cf_core_typed.proofs.Values.{place-same, value-same}
+use Rattle.cf_core_typed.proofs.Values.{place-same, value-same, of_number-is}
 use Rattle.cf_elab.specs.Env.{Env}
 use Rattle.cf_elab.specs.Answer.{Answer, Made, Refused, Passed}
 use Rattle.cf_elab.specs.Made.{pointer_to}
-use Rattle.cf_elab.specs.Operand.{Value, Sort, sort_of, integral, enumeral, object_pointer, void_pointer, function_pointer, data_pointer, method_pointer, class_sort, array_sort, function_sort, void_sort, reference_sort, read_value, decayed, plain_sort, plain}
+use Rattle.cf_elab.specs.Operand.{Value, Sort, sort_of, integral, enumeral, object_pointer, void_pointer, function_pointer, data_pointer, method_pointer, class_sort, array_sort, function_sort, void_sort, reference_sort, read_node, read_value, decayed, plain_sort, plain}
 use Rattle.cf_elab_valid.specs.Answers.{Fine}
-use Rattle.cf_elab_valid.specs.Scene.{Scene, IsScene, tree, typed, scope_of, Within, Classless, Holds, Fits, IsPlain, Meets, is_allowed}
-use Rattle.cf_elab_valid.specs.Sorts.{SortIs}
+use Rattle.cf_elab_valid.specs.Scene.{Scene, IsScene, tree, typed, scope_of, Within, Classless, Holds, HoldsKnown, Fits, IsPlain, Meets, is_allowed}
+use Rattle.cf_elab_valid.specs.Sorts.{SortIs, Elements}
 use Rattle.cf_elab_valid.proofs.Early.{early-bare, early-inside, early-known, early-sort-is}
 use Rattle.cf_elab_valid.proofs.Making.{IsType, pointer_to-fine}
-use Rattle.cf_elab_valid.proofs.Nodes.{core-Read, core-Decay, known-Read, known-Decay}
+use Rattle.cf_elab_valid.proofs.Nodes.{core-Number, core-Read, core-Decay, known-Number, known-Read, known-Decay}
+use Rattle.cf_elab_valid.proofs.Numbers.{holds-same, no-number}
 use Rattle.cf_elab_valid.proofs.Trees.{tree-at, tree-normal}
+use Rattle.cf_elab_valid.proofs.Values.{value-plain}
 use Rattle.cf_elab_valid.proofs.Ways.{begins-get, made-fine, onward-fine, fits-when, within-before, When}
 
 -- what a type becomes: an array and a function a pointer
@@ -96,23 +101,28 @@ module _ (s : Scene) (scene : IsScene s) where
         bare_scalar : is_allowed false (tree s (bare e.types v.type)) ≡ true
         bare_scalar = sym (same-operand (tree s v.type) (tree s (bare e.types v.type)) back) ∙ operand
 
+        -- a known number stands for itself
+        abbrev node_by : Option ℤ → Node
+        node_by z = option_map_or (λ n. node.Number v.at n) z (node.Read v.at v.node)
+
+        known_read : (z : Option ℤ) → are_known s.tables (node_by z) ≡ true
+        known_read None = known-Read s.tables v.at v.node ∙ f.numbers
+        known_read (Some n) = known-Number s.tables v.at n
+
+        value_read : IsPlace (typed s v.node) (tree s v.type) → is_void (tree s v.type) ≡ false → (z : Option ℤ) → HoldsKnown z (tree s v.type) → IsValue (typed s (node_by z)) (tree s v.type)
+        value_read place no_void None h =
+            subst (λ c. IsValue (typing (scope_of s) c) (tree s v.type)) (sym (core-Read s.tables (signature_of s.tables) v.at v.node))
+            (read-is (scope_of s) (typed s v.node) (tree s v.type) (operand-scalar (tree s v.type) operand no_void) place)
+        value_read place no_void (Some n) h =
+            subst (λ c. IsValue (typing (scope_of s) c) (tree s v.type)) (sym (core-Number s.tables (signature_of s.tables) v.at n)) (of_number-is n (tree s v.type) h)
+
         by : (b : Bool) → v.is_lvalue ≡ b
             → IsPlain s (tree s v.type)
-            (if b then record v { node = node.Read v.at v.node; type = bare e.types v.type; is_lvalue = false; is_fixed = false } else record v { type = bare e.types v.type }) e
+            (if b then record v { node = read_node v; type = bare e.types v.type; is_lvalue = false; is_fixed = false } else record v { type = bare e.types v.type }) e
         by true l =
-            let place : IsPlace (typed s v.node) (tree s v.type) = subst (λ b. Meets b (typed s v.node) (tree s v.type)) l f.meets in
-            let no_void = place_no_void (tree s v.type) (subst (λ b. is_allowed b (tree s v.type) ≡ true) l f.allowed) in
-            let value = read-is (scope_of s) (typed s v.node) (tree s v.type) (operand-scalar (tree s v.type) operand no_void) place in record {
-              fits = record {
-                inside = early-inside s.tables scene.table e.types w.types v.type f.inside;
-                numbers = known-Read s.tables v.at v.node ∙ f.numbers;
-                allowed = bare_scalar;
-                meets = subst (λ c. IsValue (typing (scope_of s) c) (tree s (bare e.types v.type))) (sym (core-Read s.tables (signature_of s.tables) v.at v.node))
-                    (value-same (read_type (scope_of s) (typed s v.node).place) (tree s v.type) (tree s (bare e.types v.type)) back value);
-              };
-              no_place = refl;
-              same = sym back;
-            }
+            let place = subst (λ b. Meets b (typed s v.node) (tree s v.type)) l f.meets in
+            value-plain s e (tree s v.type) v.at (bare e.types v.type) (read_node v) v.number false (early-inside s.tables scene.table e.types w.types v.type f.inside) (sym back)
+            (known_read v.number) operand (value_read place (place_no_void (tree s v.type) (subst (λ b. is_allowed b (tree s v.type) ≡ true) l f.allowed)) v.number f.number) f.number
         by false l =
             let value : IsValue (typed s v.node) (tree s v.type) = subst (λ b. Meets b (typed s v.node) (tree s v.type)) l f.meets in record {
               fits = record {
@@ -120,6 +130,7 @@ module _ (s : Scene) (scene : IsScene s) where
                 numbers = f.numbers;
                 allowed = subst (λ b. is_allowed b (tree s (bare e.types v.type)) ≡ true) (sym l) bare_scalar;
                 meets = subst (λ b. Meets b (typed s v.node) (tree s (bare e.types v.type))) (sym l) (value-same (typed s v.node) (tree s v.type) (tree s (bare e.types v.type)) back value);
+                number = holds-same v.number (tree s v.type) (tree s (bare e.types v.type)) back f.number;
               };
               no_place = l;
               same = sym back;
@@ -135,9 +146,9 @@ module _ (s : Scene) (scene : IsScene s) where
     sort_of_it w = early-sort-is s.tables scene.table e.types w.types scene.no_class scene.none_to_reference v.type (f w).inside
 
     -- a pointer to it
-    decay-fits : (u p : ℕ) (e1 : Env) → Within e1 s → Fits s e1 v → IsType (ty.Ptr u) p e1 → IsValue (decayed_type (scope_of s) (typed s v.node).place) (pointer (tree s u))
+    decay-fits : (u p : ℕ) (e1 : Env) → Within e1 s → is_operand (tree s v.type) ≡ false → Fits s e1 v → IsType (ty.Ptr u) p e1 → IsValue (decayed_type (scope_of s) (typed s v.node).place) (pointer (tree s u))
         → IsPlain s (pointer (tree s u)) (record v { node = node.Decay v.at v.node; type = p; is_lvalue = false }) e1
-    decay-fits u p e1 w g t value =
+    decay-fits u p e1 w no g t value =
         let at : slice_get s.tables.types.types p ≡ Some (ty.Ptr u) = begins-get e1.types.types s.tables.types.types p (ty.Ptr u) w.types t.here in
         let is : tree s p ≡ pointer (tree s u) = tree-at s.tables scene.table p (ty.Ptr u) at in record {
           fits = record {
@@ -146,6 +157,7 @@ module _ (s : Scene) (scene : IsScene s) where
             allowed = ap (is_allowed false) is;
             meets = subst (λ c. IsValue (typing (scope_of s) c) (tree s p)) (sym (core-Decay s.tables (signature_of s.tables) v.at v.node))
                 (subst (λ x. IsValue (decayed_type (scope_of s) (typed s v.node).place) x) (sym is) value);
+            number = no-number v.number (tree s v.type) (tree s p) no g.number;
           };
           no_place = refl;
           same = ap without_const is;
@@ -155,24 +167,25 @@ module _ (s : Scene) (scene : IsScene s) where
     place_if true n a m = m
     place_if false n a m = absurd (true≢false (sym a ∙ n))
 
-    decay-fine : (u : ℕ) → (When s e (IsValue (decayed_type (scope_of s) (typed s v.node).place) (pointer (tree s u)))) → Fine s (IsPlain s (pointer (tree s u))) e (decayed v u e)
-    decay-fine u value =
+    decay-fine : (u : ℕ) → When s e (is_operand (tree s v.type) ≡ false) → (When s e (IsValue (decayed_type (scope_of s) (typed s v.node).place) (pointer (tree s u)))) → Fine s (IsPlain s (pointer (tree s u))) e (decayed v u e)
+    decay-fine u no value =
         onward-fine s (IsType (ty.Ptr u)) (IsPlain s (pointer (tree s u))) e (pointer_to u e) (λ p e1. Made (record v { node = node.Decay v.at v.node; type = p; is_lvalue = false }) e1)
         (pointer_to-fine s u e c h)
         (λ p e1 g plain held t. made-fine s (IsPlain s (pointer (tree s u))) e1 (record v { node = node.Decay v.at v.node; type = p; is_lvalue = false }) plain held
-        (λ w. decay-fits u p e1 w (fits-when s e e1 v g f w) (t w) (value (within-before e e1 s g w))))
+        (λ w. decay-fits u p e1 w (no (within-before e e1 s g w)) (fits-when s e e1 v g f w) (t w) (value (within-before e e1 s g w))))
 
     plain-sorted : (k : Sort) → sort_of e.types v.type ≡ k → Fine s (IsPlain s (decayed_tree s v.type k)) e (plain_sort e.types v k e)
     plain-sorted (array_sort t n) is =
-        decay-fine t (λ w.
-        let x = subst (λ k. SortIs s.tables k (tree s v.type)) is (sort_of_it w) in
+        decay-fine t
+        (λ w. let x : Elements s.tables t n (tree s v.type) = subst (λ k. SortIs s.tables k (tree s v.type)) is (sort_of_it w) in no_array (tree s v.type) (tree s t) n x.same)
+        (λ w. let x = subst (λ k. SortIs s.tables k (tree s v.type)) is (sort_of_it w) in
         let place = place_if v.is_lvalue (no_array (tree s v.type) (tree s t) n x.same) (f w).allowed (f w).meets in
         decay-array-is (scope_of s) (typed s v.node) (tree s t) n (place-same (typed s v.node) (tree s v.type) (array (tree s t) n) x.same place))
     plain-sorted (function_sort g) is =
         plain-as s (pointer (tree s (bare e.types v.type))) (pointer (tree s v.type)) e (decayed v (bare e.types v.type) e)
         (λ w. ap (λ x. pointer x) (sym (early-bare s.tables scene.table e.types w.types v.type (f w).inside)))
-        (decay-fine (bare e.types v.type) (λ w.
-        let x = subst (λ k. SortIs s.tables k (tree s v.type)) is (sort_of_it w) in
+        (decay-fine (bare e.types v.type) (λ w. (function-operand (tree s v.type) (subst (λ k. SortIs s.tables k (tree s v.type)) is (sort_of_it w))).0)
+        (λ w. let x = subst (λ k. SortIs s.tables k (tree s v.type)) is (sort_of_it w) in
         let same = early-bare s.tables scene.table e.types w.types v.type (f w).inside in
         let place = place_if v.is_lvalue (function-operand (tree s v.type) x).0 (f w).allowed (f w).meets in
         value-same (decayed_type (scope_of s) (typed s v.node).place) (pointer (tree s v.type)) (pointer (tree s (bare e.types v.type))) (ap (λ x. pointer x) same)

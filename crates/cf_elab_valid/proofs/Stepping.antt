@@ -62,11 +62,11 @@ module _ (s : Scene) (scene : IsScene s) where
         (value-plain s e (tree s v.type) at (bare e.types v.type) (node.Increment at true ch v.node) None false (early-inside s.tables scene.table e.types w.types v.type f.inside)
         (sym (early-bare s.tables scene.table e.types w.types v.type f.inside)) (known-Increment s.tables at true ch v.node ∙ f.numbers) operand
         (subst (λ c. IsValue (typing (scope_of s) c) (tree s v.type)) (sym (core-Increment s.tables (signature_of s.tables) at true ch v.node))
-        (step-value-is (scope_of s) (typed s v.node) (tree s v.type) (change_of ch) fine place)))
+        (step-value-is (scope_of s) (typed s v.node) (tree s v.type) (change_of ch) fine place)) tt)
     stepped-fits false =
         place-fits s e at v.type (node.Increment at false ch v.node) None false f.inside (known-Increment s.tables at false ch v.node ∙ f.numbers) (place-no-void v.is_lvalue (tree s v.type) l f.allowed) (place-no-reference v.is_lvalue (tree s v.type) l f.allowed)
         (subst (λ c. IsPlace (typing (scope_of s) c) (tree s v.type)) (sym (core-Increment s.tables (signature_of s.tables) at false ch v.node))
-        (step-place-is (scope_of s) (typed s v.node) (tree s v.type) (change_of ch) fine place))
+        (step-place-is (scope_of s) (typed s v.node) (tree s v.type) (change_of ch) fine place)) tt
 
   pub increment-fine : (at : ℕ) (o : StepOp) (postfix : Bool) (v : Value) (e : Env) → Classless e → When s e (Holds s e) → When s e (Fits s e v) → Fine s (IsOperand s) e (row.increment at o postfix v e)
   increment-fine at o postfix v e c h f = by (modifiable e v) refl

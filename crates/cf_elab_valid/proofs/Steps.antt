@@ -86,13 +86,10 @@ module _ (W : Type 0) (T : Tables) (a b : SourceType) where
       by : (c : Bool) → ghosts.eq k l ≡ c → (d : Bool) → (if c then [] else (if d then Promote ∷ [] else Integer l ∷ [])) ≡ ss → Way Says ss
       by true same d is = alone Says [] ss is refl (λ w. f w ∙ ap (λ n. integer n) (same_true the_type tt k l same) ∙ sym (g w))
       by false same true is = alone Says (Promote ∷ []) ss is refl (λ w. both w)
-      by false same false is = alone Says (Integer l ∷ []) ss is refl (λ w. both w)
+      by false same false is = alone Says (Integer l ∷ []) ss is refl (λ w. record { from = ap is_integral (f w); to = g w })
 
   enum_integer : (l : Kind) (n : List ℕ) (ss : List ConvStep) → Some (enum_to_integer l) ≡ Some ss → (W → Same a (enumeration n)) → (W → Same b (integer l)) → Way Says ss
-  enum_integer l n ss e f g = chosen_steps Says (ghosts.eq kind.Int l) (Promote ∷ []) (Integer l ∷ []) ss (some_is (enum_to_integer l) ss e) refl refl (λ _ w. both w) (λ _ w. both w)
-    where
-      both : W → BothIntegral a b
-      both w = record { from = ap is_integral (f w); to = ap is_integral (g w) }
+  enum_integer l n ss e f g = chosen_steps Says (ghosts.eq kind.Int l) (Promote ∷ []) (Integer l ∷ []) ss (some_is (enum_to_integer l) ss e) refl refl (λ _ w. record { from = ap is_integral (f w); to = ap is_integral (g w) }) (λ _ w. record { from = ap is_integral (f w); to = g w })
 
   enums : (m n : ℕ) (name : ℕ → List ℕ) (ss : List ConvStep) → (if m == n then Some [] else None) ≡ Some ss → (W → Same a (enumeration (name m))) → (W → Same b (enumeration (name n))) → Way Says ss
   enums m n name ss e f g = by (m == n) refl e

@@ -86,7 +86,7 @@ module _ (s : Scene) (scene : IsScene s) where
     dereferenced-fits : (at t : ℕ) (b : Bool) → Inside e t → Same (tree s x.type) (pointer (tree s t)) → is_void (tree s t) ≡ false → tree_is_reference (tree s t) ≡ false → Fits s e (place_of at (node.Dereference at x.node) t b)
     dereferenced-fits at t b i same no_void no_reference =
         place-fits s e at t (node.Dereference at x.node) None b i (known-Dereference s.tables at x.node ∙ p.fits.numbers) no_void no_reference
-        (subst (λ c. IsPlace (typing (scope_of s) c) (tree s t)) (sym (core-Dereference s.tables (signature_of s.tables) at x.node)) (place_at-is (scope_of s) (typed s x.node) (tree s t) (points-to t same)))
+        (subst (λ c. IsPlace (typing (scope_of s) c) (tree s t)) (sym (core-Dereference s.tables (signature_of s.tables) at x.node)) (place_at-is (scope_of s) (typed s x.node) (tree s t) (points-to t same))) tt
 
   -- ---- operands that are read first
 
@@ -118,7 +118,7 @@ module _ (s : Scene) (scene : IsScene s) where
           → IsPlain s (pointer (tree s v.type)) (record (computed at (node.Address at v.node) t) { is_fixed = v.is_fixed }) e1
       pointed t e1 w place known is =
           value-plain s e1 (pointer (tree s v.type)) at t (node.Address at v.node) None v.is_fixed is.inside (ap without_const (type-tree s scene e1 (ty.Ptr v.type) t w is)) (known-Address s.tables at v.node ∙ known) refl
-          (subst (λ c. IsValue (typing (scope_of s) c) (pointer (tree s v.type))) (sym (core-Address s.tables (signature_of s.tables) at v.node)) (address-is (scope_of s) (typed s v.node) (tree s v.type) place))
+          (subst (λ c. IsValue (typing (scope_of s) c) (pointer (tree s v.type))) (sym (core-Address s.tables (signature_of s.tables) at v.node)) (address-is (scope_of s) (typed s v.node) (tree s v.type) place)) tt
 
       by : (b : Bool) → v.is_lvalue ≡ b → Fine s (IsOperand s) e (onward (need b 12 at e) (λ _ f. onward (pointer_to v.type f) (λ t g. Made (value_of t) g)))
       by false l = tt
@@ -163,7 +163,7 @@ module _ (s : Scene) (scene : IsScene s) where
       → IsPlace (indexed_type (scope_of s) (typed s x.node) (typed s y.node)) (tree s t) → Fits s e (place_of at (node.Index at x.node y.node) t b)
   element_fits at t b x y e w i no_void no_reference p q place =
       place-fits s e at t (node.Index at x.node y.node) None b i (known-Index s.tables at x.node y.node ∙ and-both (are_known s.tables x.node) (are_known s.tables y.node) p q) no_void no_reference
-      (subst (λ c. IsPlace (typing (scope_of s) c) (tree s t)) (sym (core-Index s.tables (signature_of s.tables) at x.node y.node)) place)
+      (subst (λ c. IsPlace (typing (scope_of s) c) (tree s t)) (sym (core-Index s.tables (signature_of s.tables) at x.node y.node)) place) tt
 
   element_of-fine : (at t : ℕ) (b : Bool) (x y : Value) (e : Env) → Classless e → When s e (Holds s e) → When s e (Fits s e (place_of at (node.Index at x.node y.node) t b)) → Fine s (IsOperand s) e (row.element_of at t b x y e)
   element_of-fine at t b x y e c h f = by (complete e t)

@@ -54,10 +54,10 @@ pub inside-end : (e : Env) (s : Scene) (t : ℕ) → Within e s → Inside e t �
 inside-end e s t w h = begins-inside e.types.types s.tables.types.types t w.types h
 
 pub fits-later : (s : Scene) (a b : Env) (v : Value) → Steps a b → Fits s a v → Fits s b v
-fits-later s a b v g f = record { inside = inside-later a b v.type g f.inside; numbers = f.numbers; allowed = f.allowed; meets = f.meets }
+fits-later s a b v g f = record { inside = inside-later a b v.type g f.inside; numbers = f.numbers; allowed = f.allowed; meets = f.meets; number = f.number }
 
 pub entity-later : (s : Scene) (a b : Env) (e : Entity) → Steps a b → EntityFits s a e → EntityFits s b e
-entity-later s a b (object x) g f = (inside-later a b x.type g f.0, f.1, f.2)
+entity-later s a b (object x) g f = (inside-later a b x.type g f.0, f.1, f.2, f.3)
 entity-later s a b (functions fs) g f = f
 entity-later s a b (alias t) g f = inside-later a b t g f
 entity-later s a b (class_name c) g f = f

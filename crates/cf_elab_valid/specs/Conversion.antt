@@ -1,14 +1,20 @@
 -- Steps of a conversion that lead from a value of one tree to one of another.
 use Rattle.std.specs.Prelude.{◌≡◌, Bool, true, false, List, [], ◌∷◌, ◌++◌, if◌then◌else◌}
+use Rattle.cf_base.specs.declared.kind.Kind.{Kind}
 use Rattle.cf_convert.specs.declared.conv.ConvStep.{ConvStep}
 use Rattle.cf_convert.specs.declared.conv.ConvStep.TheVariants.{AddConst, Promote, Integer, Null, ToVoid}
-use Rattle.cf_core.specs.Types.{SourceType, pointer, is_void, without_const}
+use Rattle.cf_core.specs.Types.{SourceType, integer, pointer, is_void, without_const}
 use Rattle.cf_core.specs.Typing.{is_integral}
 use Rattle.cf_core_typed.specs.Same.{Same}
 
 pub record BothIntegral (a b : SourceType) : Type 0 where
   pub from : is_integral (without_const a) ≡ true
   pub to : is_integral (without_const b) ≡ true
+
+-- to an integer type of this kind
+pub record IntoInteger (k : Kind) (a b : SourceType) : Type 0 where
+  pub from : is_integral (without_const a) ≡ true
+  pub to : Same b (integer k)
 
 pub record IsPointer (t : SourceType) : Type 0 where
   pub pointee : SourceType
@@ -25,7 +31,7 @@ pub record IntoVoid (a b : SourceType) : Type 0 where
 abbrev pub Leads : SourceType → SourceType → List ConvStep → Type 0
 Leads a b [] = Same a b
 Leads a b (Promote ∷ []) = BothIntegral a b
-Leads a b (Integer k ∷ []) = BothIntegral a b
+Leads a b (Integer k ∷ []) = IntoInteger k a b
 Leads a b (Null ∷ []) = IsPointer b
 Leads a b (ToVoid ∷ []) = IntoVoid a b
 Leads a b other = ⊥

@@ -2,7 +2,7 @@
 --
 -- Nodes are typed by the tables of the end. An environment on the way has the first types of them, so nothing has to be said of a node when its
 -- tables grow.
-use Rattle.std.specs.Prelude.{◌≡◌, ℕ, ◌<◌, Bool, true, false, not, ◌||◌, List, [], ◌∷◌, ◌++◌, length, map, None, Some, slice_get}
+use Rattle.std.specs.Prelude.{◌≡◌, ℕ, ◌<◌, Bool, true, false, not, ◌||◌, List, [], ◌∷◌, ◌++◌, length, map, ℤ, Option, None, Some, slice_get}
 use Rattle.cf_types.specs.declared.ty.Ty.{Ty}
 use Rattle.cf_types.specs.declared.ty.Ty.TheVariants as ty
 use Rattle.cf_types.specs.Table.{IsTable}
@@ -85,8 +85,13 @@ abbrev pub HomeFits : Scene → ℕ → Home → Type 0
 HomeFits s t (local_home i) = slice_get s.locals i ≡ Some t
 HomeFits s t (static_home name) = Unit {0}
 
+-- a number that is known is one of the type
+abbrev pub HoldsKnown : Option ℤ → SourceType → Type 0
+HoldsKnown None t = Unit {0}
+HoldsKnown (Some z) t = holds_number z t ≡ true
+
 abbrev pub EntityFits : Scene → Env → Entity → Type 0
-EntityFits s env (object x) = Inside env x.type × HomeFits s x.type x.home × (is_void (tree s x.type) ≡ false)
+EntityFits s env (object x) = Inside env x.type × HomeFits s x.type x.home × (is_void (tree s x.type) ≡ false) × HoldsKnown x.number (tree s x.type)
 EntityFits s env (functions fs) = Unit {0}
 EntityFits s env (alias t) = Inside env t
 EntityFits s env (class_name c) = ⊥
@@ -131,12 +136,13 @@ abbrev pub is_allowed : Bool → SourceType → Bool
 is_allowed true t = not (is_void t || is_reference t)
 is_allowed false t = is_operand t
 
--- the node is one of its type, and all its numbers are there
+-- the node is one of its type, and all its numbers are there; a known number is one of the type
 pub record Fits (s : Scene) (env : Env) (v : Value) : Type 0 where
   pub inside : Inside env v.type
   pub numbers : are_known s.tables v.node ≡ true
   pub allowed : is_allowed v.is_lvalue (tree s v.type) ≡ true
   pub meets : Meets v.is_lvalue (typed s v.node) (tree s v.type)
+  pub number : HoldsKnown v.number (tree s v.type)
 
 -- a value that is no place, of a type that is the same as this one but for const
 pub record IsPlain (s : Scene) (t : SourceType) (v : Value) (env : Env) : Type 0 where
