@@ -3,6 +3,7 @@ pub mod Beginning
 pub mod Consts
 pub mod Finding
 pub mod Growth
+pub mod InOrder
 pub mod Interned
 pub mod Known
 pub mod Making

@@ -1,7 +1,6 @@
 pub mod BuiltForms
 pub mod BuiltTrees
 pub mod Identifiers
-pub mod InOrder
 pub mod Known
 pub mod LastNames
 pub mod Numbers

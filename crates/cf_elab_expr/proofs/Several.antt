@@ -13,8 +13,8 @@ use Rattle.cf_elab_env.specs.declared.operand.Operand.{Operand}
 use Rattle.cf_elab_env.specs.declared.stop.Stop.{Stop}
 use Rattle.cf_elab_expr.specs.Seen.{operands_seen}
 use Rattle.cf_elab_expr.specs.Shut as shut
-use Rattle.cf_elab_expr.proofs.InOrder as order
-use Rattle.cf_elab_expr.proofs.InOrder.{behind}
+use Rattle.cf_elab_env.proofs.InOrder as order
+use Rattle.cf_elab_env.proofs.InOrder.{behind}
 
 -- ---- operands
 

@@ -1,5 +1,4 @@
 pub mod BuiltParts
-pub mod InOrder
 pub mod Several
 pub mod TextLaws
 pub mod TreeLaws

@@ -7,7 +7,8 @@ use Rattle.cf_elab.specs.Statement.{Made}
 use Rattle.cf_elab_env.proofs.Growth.{grows_through}
 use Rattle.cf_elab_body.specs.Shut as shut
 use Rattle.cf_elab_body.proofs.BuiltForms.{one_built}
-use Rattle.cf_elab_body.proofs.InTurn.{behind, stopped, going, at_end}
+use Rattle.cf_elab_env.proofs.InOrder.{behind}
+use Rattle.cf_elab_body.proofs.InTurn.{stopped, going, at_end}
 use Rattle.cf_elab_body.proofs.Parts.{if_stops}
 use Rattle.cf_elab_body.proofs.+statements.Goals as goal
 

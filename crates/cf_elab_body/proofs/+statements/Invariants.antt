@@ -1,7 +1,7 @@
 use Rattle.std.proofs.Common.{◌≡◌, drop}
 use Rattle.cf_elab_env.specs.Holds.{Grows}
 use Rattle.cf_elab_body.specs.Shut as shut
-use Rattle.cf_elab_body.proofs.InTurn.{behind}
+use Rattle.cf_elab_env.proofs.InOrder.{behind}
 use Rattle.cf_elab_body.proofs.+statements.Given as goal
 
 abbrev pub invariant-lists::statements-loop-s : goal.invariant-lists::statements-loop-s

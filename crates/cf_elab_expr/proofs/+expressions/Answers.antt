@@ -20,7 +20,7 @@ use Rattle.cf_elab_expr.specs.Shut as shut
 use Rattle.cf_elab_expr.proofs.BuiltForms.{one_built}
 use Rattle.cf_elab_operand.proofs.Grown.{operands_grown}
 use Rattle.cf_elab_expr.proofs.BuiltTrees.{one_parameter}
-use Rattle.cf_elab_expr.proofs.InOrder.{behind}
+use Rattle.cf_elab_env.proofs.InOrder.{behind}
 use Rattle.cf_elab_expr.proofs.Several.{operands_stopped, operands_going, operands_end, parameters_stopped, parameters_going, parameters_end}
 use Rattle.cf_elab_expr.proofs.Trees.{array_stopped}
 use Rattle.cf_elab_expr.proofs.+expressions.Goals as goal

@@ -3,7 +3,7 @@ use Rattle.cf_elab_env.specs.Holds.{Grows, IsType}
 use Rattle.cf_elab_env.specs.SeenOperand.{operand_seen}
 use Rattle.cf_elab_operand.specs.Operands.{IsOperand}
 use Rattle.cf_elab_expr.specs.Shut as shut
-use Rattle.cf_elab_expr.proofs.InOrder.{behind}
+use Rattle.cf_elab_env.proofs.InOrder.{behind}
 use Rattle.cf_elab_expr.proofs.+expressions.Given as goal
 
 abbrev pub invariant-lists::run-loop-e : goal.invariant-lists::run-loop-e

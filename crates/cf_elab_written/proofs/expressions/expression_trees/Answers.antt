@@ -6,7 +6,7 @@ use Rattle.cf_elab_lists.specs.Known.{TreesKnown}
 use Rattle.cf_elab_lists.specs.Seen.{trees_seen}
 use Rattle.cf_elab_lists.specs.declared.tree.Tree.{Tree}
 use Rattle.cf_elab_written.specs.Shut as shut
-use Rattle.cf_elab_written.proofs.InOrder.{behind, none_yet}
+use Rattle.cf_elab_env.proofs.InOrder.{behind, none_yet}
 use Rattle.cf_elab_written.proofs.Several.{arguments_end, arguments_stop, arguments_go}
 use Rattle.cf_elab_written.proofs.TreesKnown.{trees_more}
 use Rattle.cf_elab_written.proofs.expressions.expression_trees.Goals as goal

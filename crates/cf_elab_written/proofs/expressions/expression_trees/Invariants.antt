@@ -3,7 +3,7 @@ use Rattle.cf_elab_env.specs.Holds.{Grows}
 use Rattle.cf_elab_lists.specs.Known.{TreesKnown}
 use Rattle.cf_elab_lists.specs.Seen.{trees_seen}
 use Rattle.cf_elab_written.specs.Shut as shut
-use Rattle.cf_elab_written.proofs.InOrder.{behind}
+use Rattle.cf_elab_env.proofs.InOrder.{behind}
 use Rattle.cf_elab_written.proofs.expressions.expression_trees.Given as goal
 
 abbrev pub invariant-loop-e : goal.invariant-loop-e

@@ -9,7 +9,7 @@ use Rattle.cf_elab_lists.specs.Seen.{trees_seen}
 use Rattle.cf_elab_lists.specs.declared.tree.Tree.{Tree}
 use Rattle.cf_elab_written.specs.Shut as shut
 use Rattle.cf_elab_written.proofs.BuiltParts.{one_built}
-use Rattle.cf_elab_written.proofs.InOrder.{behind, none_yet}
+use Rattle.cf_elab_env.proofs.InOrder.{behind, none_yet}
 use Rattle.cf_elab_written.proofs.Several.{list_end, list_stop, list_go}
 use Rattle.cf_elab_written.proofs.TreesKnown.{trees_more}
 use Rattle.cf_elab_written.proofs.trees.+initialisers.Goals as goal

@@ -1,4 +1,4 @@
--- Several expressions or parameters, one after the other.
+-- Several parts that are elaborated one after the other.
 use Rattle.std.proofs.Common.{◌≡◌, ◌∙◌, ℕ, suc, ◌+◌, ◌<◌, ◌≤◌, List, [], ◌∷◌, ◌++◌, length, get_or, drop, map, refl, ap, sym, append_assoc, drop-cons, drop_of_length-le, add-one}
 use Rattle.std.proofs.lemmas.List.{append-nil}
 use Rattle.cf_elab.specs.Answer.{Answer, Made, Refused, Passed, onward, Elab, all}
