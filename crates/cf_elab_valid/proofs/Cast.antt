@@ -38,7 +38,7 @@ use Rattle.cf_elab_valid.proofs.EarlyTrees.{same_types-end}
 use Rattle.cf_elab_valid.proofs.Fit.{convert-plain, leads-fine, retyped-plain}
 use Rattle.cf_elab_valid.proofs.FitRows.{fit-fine}
 use Rattle.cf_elab_valid.proofs.Nodes.{core-FromVoid, known-FromVoid}
-use Rattle.cf_elab_valid.proofs.Numbers.{convert-holds, enumerator-holds}
+use Rattle.cf_elab_valid.proofs.Numbers.{enumerator-holds}
 use Rattle.cf_elab_valid.proofs.Plain.{decayed_tree, plain-fine}
 use Rattle.cf_elab_valid.proofs.Sorts.{void-told}
 use Rattle.cf_elab_valid.proofs.Trees.{tree-normal}

@@ -11,7 +11,7 @@ use Rattle.cf_core.specs.FromClasses.{signature_of}
 use Rattle.cf_core.specs.Numbers.{all_of, are_known}
 use Rattle.cf_core.specs.Core.{none}
 use Rattle.cf_core.specs.Typed.{typing, last_typing}
-use Rattle.cf_core.specs.Types.{SourceType, void, integer, enumeration, class, pointer, reference, array, takes, gives, data_member, function_member, const, is_void}
+use Rattle.cf_core.specs.Types.{SourceType, integer}
 use Rattle.cf_core.specs.Typing.{Typing, either, is_condition, is_expression}
 use Rattle.cf_core.specs.View.{listed}
 use Rattle.cf_core_typed.specs.Same.{Same}
@@ -38,7 +38,7 @@ use Rattle.cf_elab_valid.proofs.Numbers.{chosen-holds}
 use Rattle.cf_elab_valid.proofs.Plain.{decayed_tree, plain-fine}
 use Rattle.cf_elab_valid.proofs.Unary.{plain-own, sorted, classless-number, no-reference-type, unused-node}
 use Rattle.cf_elab_valid.proofs.Sorts.{void-told}
-use Rattle.cf_elab_valid.proofs.Values.{plain-when, plain-value, value-plain, place-fits, place-no-void, place-no-reference}
+use Rattle.cf_elab_valid.proofs.Values.{plain-when, plain-value, plain-number, value-plain, place-fits, place-no-void, place-no-reference}
 use Rattle.cf_elab_valid.proofs.Ways.{fits-when, made-fine, onward-fine, steps-through, When}
 
 module _ (s : Scene) (scene : IsScene s) where

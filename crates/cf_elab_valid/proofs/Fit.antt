@@ -20,7 +20,7 @@ use Rattle.cf_elab.specs.Env.{Env}
 use Rattle.cf_elab.specs.Fit.{all_steps, stepped}
 use Rattle.cf_elab.specs.Operand.{Value, sort_of}
 use Rattle.cf_elab_valid.specs.Answers.{Fine}
-use Rattle.cf_elab_valid.specs.Conversion.{Leads, BothIntegral, IsPointer, IntoVoid, is_single, with_last}
+use Rattle.cf_elab_valid.specs.Conversion.{Leads, IsPointer, IntoVoid, is_single, with_last}
 use Rattle.cf_elab_valid.specs.Scene.{Scene, IsScene, tree, typed, core, scope_of, Within, Inside, Classless, Holds, HoldsKnown, Fits, IsPlain, Meets, is_allowed}
 use Rattle.cf_elab_valid.proofs.Early.{early-known, early-sort-is}
 use Rattle.cf_elab_valid.proofs.Nodes.{core-Convert, core-Number, known-Convert, known-Number}
@@ -128,7 +128,7 @@ module _ (s : Scene) (scene : IsScene s) where
   leads-fine t (Promote ∷ []) x a e c h i o p l =
       made-fine s (IsPlain s (tree s t)) e _ c h (λ w. convert-plain e w t (i w) x.at x.at x.node x.is_lvalue _ x.is_fixed (p w).no_place (p w).fits.numbers
       (integral_operand (tree s t) (l w).to) (to_integer_converts e w t (i w) x a (p w) (l w).from (l w).to)
-      (promoted-holds (sort_of e.types t) (tree s t) (early-sort-is s.tables scene.table e.types w.types scene.no_class scene.none_to_reference t (i w)) (l w).to x.number))
+      (promoted-holds s.tables (sort_of e.types t) (tree s t) (early-sort-is s.tables scene.table e.types w.types scene.no_class scene.none_to_reference t (i w)) (l w).to x.number))
   leads-fine t (Integer k ∷ []) x a e c h i o p l =
       made-fine s (IsPlain s (tree s t)) e _ c h (λ w. let to : is_integral (without_const (tree s t)) ≡ true = ap is_integral (l w).to in
       convert-plain e w t (i w) x.at x.at x.node x.is_lvalue _ x.is_fixed (p w).no_place (p w).fits.numbers (integral_operand (tree s t) to)

@@ -6,6 +6,7 @@ pub mod Binary
 pub mod Calls
 pub mod Cast
 pub mod Choice
+pub mod ConstOf
 mod Constants
 pub mod Early
 pub mod EarlyTrees

@@ -12,9 +12,8 @@ use Rattle.cf_core.specs.FromClasses.{signature_of}
 use Rattle.cf_core.specs.FromTypes.{type_step, fun_type, taking}
 use Rattle.cf_core.specs.Numbers.{are_known, has_type}
 use Rattle.cf_core.specs.Typed.{typing}
-use Rattle.cf_core.specs.Types.{SourceType, integer, enumeration, const, gives}
+use Rattle.cf_core.specs.Types.{SourceType, gives}
 use Rattle.cf_core.specs.Typing.{of_name, of_place, is_function, holds_number}
-use Rattle.cf_core_typed.specs.Same.{is_operand}
 use Rattle.cf_core_typed.specs.Meets.{IsPlace, IsValue}
 use Rattle.cf_core_typed.proofs.Same.{function-operand}
 use Rattle.cf_core_typed.proofs.Values.{allow, of_place-is, of_number-is}
@@ -33,6 +32,7 @@ use Rattle.cf_elab_valid.proofs.Arithmetic.{IsOperand}
 use Rattle.cf_elab_valid.proofs.Calls.{is_ref, step_no_reference, fun-tree, fun-is}
 use Rattle.cf_elab_valid.proofs.Early.{early-known}
 use Rattle.cf_elab_valid.proofs.Nodes.{core-Number, core-Local, core-Static, core-Function, known-Number, known-Local, known-Static, known-Function}
+use Rattle.cf_elab_valid.proofs.Numbers.{number-operand}
 use Rattle.cf_elab_valid.proofs.Trees.{tree-at, tree-normal}
 use Rattle.cf_elab_valid.proofs.Values.{place-fits, has_type-is}
 use Rattle.cf_elab_valid.proofs.Ways.{begins-get, steps-none, steps-through, made-fine, When}

@@ -9,7 +9,7 @@ use Rattle.cf_core.specs.FromClasses.{signature_of}
 use Rattle.cf_core.specs.FromTypes.{Tables}
 use Rattle.cf_core.specs.Numbers.{are_known}
 use Rattle.cf_core.specs.Places.{is_reference}
-use Rattle.cf_core.specs.Typed.{typing, read_type, decayed_type}
+use Rattle.cf_core.specs.Typed.{typing, decayed_type}
 use Rattle.cf_core.specs.Types.{SourceType, integer, enumeration, pointer, array, without_const, is_void}
 use Rattle.cf_core_typed.specs.Same.{Same, is_operand}
 use Rattle.cf_core_typed.specs.Meets.{IsPlace, IsValue}
@@ -102,7 +102,7 @@ module _ (s : Scene) (scene : IsScene s) where
         bare_scalar = sym (same-operand (tree s v.type) (tree s (bare e.types v.type)) back) ∙ operand
 
         -- a known number stands for itself
-        abbrev node_by : Option ℤ → Node
+        node_by : Option ℤ → Node
         node_by z = option_map_or (λ n. node.Number v.at n) z (node.Read v.at v.node)
 
         known_read : (z : Option ℤ) → are_known s.tables (node_by z) ≡ true
@@ -148,7 +148,7 @@ module _ (s : Scene) (scene : IsScene s) where
     -- a pointer to it
     decay-fits : (u p : ℕ) (e1 : Env) → Within e1 s → is_operand (tree s v.type) ≡ false → Fits s e1 v → IsType (ty.Ptr u) p e1 → IsValue (decayed_type (scope_of s) (typed s v.node).place) (pointer (tree s u))
         → IsPlain s (pointer (tree s u)) (record v { node = node.Decay v.at v.node; type = p; is_lvalue = false }) e1
-    decay-fits u p e1 w no g t value =
+    decay-fits u p e1 w apart g t value =
         let at : slice_get s.tables.types.types p ≡ Some (ty.Ptr u) = begins-get e1.types.types s.tables.types.types p (ty.Ptr u) w.types t.here in
         let is : tree s p ≡ pointer (tree s u) = tree-at s.tables scene.table p (ty.Ptr u) at in record {
           fits = record {
@@ -157,7 +157,7 @@ module _ (s : Scene) (scene : IsScene s) where
             allowed = ap (is_allowed false) is;
             meets = subst (λ c. IsValue (typing (scope_of s) c) (tree s p)) (sym (core-Decay s.tables (signature_of s.tables) v.at v.node))
                 (subst (λ x. IsValue (decayed_type (scope_of s) (typed s v.node).place) x) (sym is) value);
-            number = no-number v.number (tree s v.type) (tree s p) no g.number;
+            number = no-number v.number (tree s v.type) (tree s p) apart g.number;
           };
           no_place = refl;
           same = ap without_const is;
@@ -168,11 +168,11 @@ module _ (s : Scene) (scene : IsScene s) where
     place_if false n a m = absurd (true≢false (sym a ∙ n))
 
     decay-fine : (u : ℕ) → When s e (is_operand (tree s v.type) ≡ false) → (When s e (IsValue (decayed_type (scope_of s) (typed s v.node).place) (pointer (tree s u)))) → Fine s (IsPlain s (pointer (tree s u))) e (decayed v u e)
-    decay-fine u no value =
+    decay-fine u apart value =
         onward-fine s (IsType (ty.Ptr u)) (IsPlain s (pointer (tree s u))) e (pointer_to u e) (λ p e1. Made (record v { node = node.Decay v.at v.node; type = p; is_lvalue = false }) e1)
         (pointer_to-fine s u e c h)
         (λ p e1 g plain held t. made-fine s (IsPlain s (pointer (tree s u))) e1 (record v { node = node.Decay v.at v.node; type = p; is_lvalue = false }) plain held
-        (λ w. decay-fits u p e1 w (no (within-before e e1 s g w)) (fits-when s e e1 v g f w) (t w) (value (within-before e e1 s g w))))
+        (λ w. decay-fits u p e1 w (apart (within-before e e1 s g w)) (fits-when s e e1 v g f w) (t w) (value (within-before e e1 s g w))))
 
     plain-sorted : (k : Sort) → sort_of e.types v.type ≡ k → Fine s (IsPlain s (decayed_tree s v.type k)) e (plain_sort e.types v k e)
     plain-sorted (array_sort t n) is =

@@ -1,5 +1,5 @@
 -- Sorts of types, and the trees that they allow.
-use Rattle.std.proofs.Common.{◌≡◌, Bool, true, false, ℤ, Option, refl, sym, ap, ◌∙◌, true≢false}
+use Rattle.std.proofs.Common.{◌≡◌, true, false, ℤ, Option, refl, sym, ap, ◌∙◌, true≢false}
 use Rattle.std.specs.Option.{option_map}
 use Rattle.cf_base.specs.declared.kind.Kind.{Kind}
 use Rattle.cf_base.specs.declared.kind.Kind.TheVariants as kind

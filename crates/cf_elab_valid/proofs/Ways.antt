@@ -100,3 +100,9 @@ pub fine-as : {A : Type 0} (s : Scene) (P Q : A → Env → Type 0) (e : Env) (r
 fine-as s P Q e (Made a b) f g = record { steps = g.steps; classless = g.classless; holds = g.holds; made = λ w. f a b (g.made w) }
 fine-as s P Q e (Refused rule at) f g = tt
 fine-as s P Q e (Passed bound most) f g = tt
+
+-- and in each end that it leads to
+pub fine-within : {A : Type 0} (s : Scene) (P Q : A → Env → Type 0) (e : Env) (r : Answer A) → ((a : A) (b : Env) → Steps e b → Within b s → P a b → Q a b) → Fine s P e r → Fine s Q e r
+fine-within s P Q e (Made a b) f g = record { steps = g.steps; classless = g.classless; holds = g.holds; made = λ w. f a b g.steps w (g.made w) }
+fine-within s P Q e (Refused rule at) f g = tt
+fine-within s P Q e (Passed bound most) f g = tt
