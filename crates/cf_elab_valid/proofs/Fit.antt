@@ -88,7 +88,7 @@ module _ (s : Scene) (scene : IsScene s) where
     pointer_is : (p : SourceType) → Same (tree s t) (pointer p) → (v : SourceType) × (plain (tree s t) ≡ pointer v) × Same v p
     pointer_is p same = pointer-form (plain (tree s t)) p (plain-bare (tree s t) normal) (same-plain (tree s t) ∙ same)
 
-    null_converts : (at : ℕ) → IsPointer (tree s t) → converts (plain (tree s t)) (typed s (node.Number at (pos 0))) ≡ true
+    pub null_converts : (at : ℕ) → IsPointer (tree s t) → converts (plain (tree s t)) (typed s (node.Number at (pos 0))) ≡ true
     null_converts at p =
         let f = pointer_is p.pointee p.same in
         subst (λ c. converts (plain (tree s t)) (typing (scope_of s) c) ≡ true) (sym (core-Number s.tables (signature_of s.tables) at (pos 0)))

@@ -32,13 +32,13 @@ use Rattle.cf_elab_fit.proofs.NoUser.{no_user_function}
 use Rattle.cf_elab_valid.specs.Answers.{Fine}
 use Rattle.cf_elab_valid.specs.Conversion.{with_last}
 use Rattle.cf_elab_valid.specs.Scene.{Scene, IsScene, tree, Within, Steps, Inside, Classless, Holds, Fits, IsPlain}
-use Rattle.cf_elab_valid.proofs.Early.{early-bare, early-form, early-inside, early-part}
+use Rattle.cf_elab_valid.proofs.Early.{early-bare, early-form, early-inside, early-part, early-sort}
 use Rattle.cf_elab_valid.proofs.Fit.{all_steps-const, leads-fine}
 use Rattle.cf_elab_valid.proofs.Making.{IsType, of_kind-fine}
 use Rattle.cf_elab_valid.proofs.Plain.{decayed_tree, is_plain_sort, plain-as, plain-fine, read-fits}
 use Rattle.cf_elab_valid.proofs.Steps.{null-way}
 use Rattle.cf_elab_valid.proofs.Trees.{tree-at}
-use Rattle.cf_elab_valid.proofs.Ways.{begins-get, steps-none, within-before, inside-later, fits-when, made-fine, onward-fine, When}
+use Rattle.cf_elab_valid.proofs.Ways.{begins-get, steps-none, within-before, inside-later, fits-when, made-fine, fine-within, onward-fine, steps-through, When}
 
 -- ---- no type names a class
 
@@ -137,7 +137,7 @@ module _ (types : Table) (ds : List (ℕ × ClassDef)) (v : Val) (t : ℕ) where
   no_reference (ty.Ref u) h = absurd (true≢false h)
   no_reference x h = refl
 
-  steps_at : (x : Ty) → type_at types t ≡ x → is_ref_type x ≡ false → steps types ds v t ≡ to_value types ds v (bare types t)
+  pub steps_at : (x : Ty) → type_at types t ≡ x → is_ref_type x ≡ false → steps types ds v t ≡ to_value types ds v (bare types t)
   steps_at x is h = ap typed_steps is ∙ no_reference x h
 
 module _ (s : Scene) (scene : IsScene s) where
@@ -156,43 +156,56 @@ module _ (s : Scene) (scene : IsScene s) where
   all_steps-never t (ToBase p ∷ ss) x e Q c n = all_steps-never t ss _ e Q c n
   all_steps-never t (ToMember p ∷ ss) x e Q c n = all_steps-never t ss _ e Q c n
 
-  module _ (e : Env) (v : Value) (c : Classless e) (h : When s e (Holds s e)) (f : When s e (Fits s e v)) where
+  -- the steps are told by an environment before the one in which they are done
+  module _ (e0 : Env) (v : Value) (c0 : Classless e0) (f0 : When s e0 (Fits s e0 v)) (e : Env) (g0 : Steps e0 e) (c : Classless e) (h : When s e (Holds s e)) where
+    f : When s e (Fits s e v)
+    f = fits-when s e0 e v g0 f0
+
+    before : Within e s → Within e0 s
+    before w = within-before e0 e s g0 w
+
+    sort_stays : Within e s → sort_of e.types v.type ≡ sort_of e0.types v.type
+    sort_stays w = sym (early-sort s.tables scene.table e.types w.types v.type (f w).inside) ∙ early-sort s.tables scene.table e0.types (before w).types v.type (f0 (before w)).inside
+
     abbrev source : SourceType
-    source = decayed_tree s v.type (sort_of e.types v.type)
+    source = decayed_tree s v.type (sort_of e0.types v.type)
 
     abbrev from : Ty
-    from = type_at e.types (bare e.types v.type)
+    from = type_at e0.types (bare e0.types v.type)
 
     plain_case : (t : ℕ) (rest : List ConvStep) (Q : Value → Env → Type 0)
-        → ((x : Value) (e1 : Env) → Steps e e1 → Classless e1 → When s e1 (Holds s e1) → When s e1 (IsPlain s (decayed_tree s v.type (sort_of e.types v.type)) x e1) → Fine s Q e1 (all_steps t rest x e1))
-        → is_plain_sort (sort_of e.types v.type) ≡ true → (b : Bool) → v.is_lvalue ≡ b → Fine s Q e (all_steps t ((if b then Read ∷ [] else []) ++ rest) v e)
+        → ((x : Value) (e1 : Env) → Steps e e1 → Classless e1 → When s e1 (Holds s e1) → When s e1 (IsPlain s (decayed_tree s v.type (sort_of e0.types v.type)) x e1) → Fine s Q e1 (all_steps t rest x e1))
+        → is_plain_sort (sort_of e0.types v.type) ≡ true → (b : Bool) → v.is_lvalue ≡ b → Fine s Q e (all_steps t ((if b then Read ∷ [] else []) ++ rest) v e)
     plain_case t rest Q next p true l =
         next (read_value e.types v) e (steps-none e) c h
-        (λ w. subst (λ a. IsPlain s a (read_value e.types v) e) (sym (decayed_plain s v.type (sort_of e.types v.type) p)) (read-fits s scene e w v p (f w)))
+        (λ w. subst (λ a. IsPlain s a (read_value e.types v) e) (sym (decayed_plain s v.type (sort_of e0.types v.type) p)) (read-fits s scene e w v (ap is_plain_sort (sort_stays w) ∙ p) (f w)))
     plain_case t rest Q next p false l =
         next v e (steps-none e) c h
-        (λ w. record { fits = f w; no_place = l; same = ap without_const (sym (decayed_plain s v.type (sort_of e.types v.type) p)) })
+        (λ w. record { fits = f w; no_place = l; same = ap without_const (sym (decayed_plain s v.type (sort_of e0.types v.type) p)) })
 
     -- the first step makes a plain value
     first-fine : (t : ℕ) (rest : List ConvStep) (Q : Value → Env → Type 0)
-        → ((x : Value) (e1 : Env) → Steps e e1 → Classless e1 → When s e1 (Holds s e1) → When s e1 (IsPlain s (decayed_tree s v.type (sort_of e.types v.type)) x e1) → Fine s Q e1 (all_steps t rest x e1))
-        → Fine s Q e (all_steps t (first_step v.is_lvalue (type_at e.types (bare e.types v.type)) ++ rest) v e)
-    first-fine t rest Q next = by (type_at e.types (bare e.types v.type)) refl
+        → ((x : Value) (e1 : Env) → Steps e e1 → Classless e1 → When s e1 (Holds s e1) → When s e1 (IsPlain s (decayed_tree s v.type (sort_of e0.types v.type)) x e1) → Fine s Q e1 (all_steps t rest x e1))
+        → Fine s Q e (all_steps t (first_step v.is_lvalue (type_at e0.types (bare e0.types v.type)) ++ rest) v e)
+    first-fine t rest Q next = by (type_at e0.types (bare e0.types v.type)) refl
       where
         decay : Fine s Q e (onward (plain v e) (all_steps t rest))
-        decay = onward-fine s (IsPlain s (decayed_tree s v.type (sort_of e.types v.type))) Q e (plain v e) (all_steps t rest) (plain-fine s scene e v c h f) next
+        decay =
+            onward-fine s (IsPlain s (decayed_tree s v.type (sort_of e0.types v.type))) Q e (plain v e) (all_steps t rest)
+            (fine-within s (IsPlain s (decayed_tree s v.type (sort_of e.types v.type))) (IsPlain s (decayed_tree s v.type (sort_of e0.types v.type))) e (plain v e)
+            (λ x b g w p. subst (λ k. IsPlain s (decayed_tree s v.type k) x b) (sort_stays (within-before e b s g w)) p) (plain-fine s scene e v c h f)) next
 
-        sorted : (w : Ty) → type_at e.types (bare e.types v.type) ≡ w → is_plain_sort (ty_sort e.types w) ≡ true → is_plain_sort (sort_of e.types v.type) ≡ true
-        sorted w is p = ap (λ x. is_plain_sort (ty_sort e.types x)) is ∙ p
+        sorted : (w : Ty) → type_at e0.types (bare e0.types v.type) ≡ w → is_plain_sort (ty_sort e0.types w) ≡ true → is_plain_sort (sort_of e0.types v.type) ≡ true
+        sorted w is p = ap (λ x. is_plain_sort (ty_sort e0.types x)) is ∙ p
 
-        by : (w : Ty) → type_at e.types (bare e.types v.type) ≡ w → Fine s Q e (all_steps t (first_step v.is_lvalue w ++ rest) v e)
+        by : (w : Ty) → type_at e0.types (bare e0.types v.type) ≡ w → Fine s Q e (all_steps t (first_step v.is_lvalue w ++ rest) v e)
         by (ty.Array u n) is = decay
         by (ty.Fun g) is = decay
-        by (ty.Class k) is = absurd (true≢false (sym (subst (λ x. IsTrue (without_class x)) is (classless-type e.types c.no_type (bare e.types v.type)))))
+        by (ty.Class k) is = absurd (true≢false (sym (subst (λ x. IsTrue (without_class x)) is (classless-type e0.types c0.no_type (bare e0.types v.type)))))
         by ty.Void is = plain_case t rest Q next (sorted ty.Void is refl) v.is_lvalue refl
         by (ty.Int k) is = plain_case t rest Q next (sorted (ty.Int k) is refl) v.is_lvalue refl
         by (ty.Enum k) is = plain_case t rest Q next (sorted (ty.Enum k) is refl) v.is_lvalue refl
-        by (ty.Ptr p) is = plain_case t rest Q next (sorted (ty.Ptr p) is (plain_pointer p (type_at e.types (bare e.types p)))) v.is_lvalue refl
+        by (ty.Ptr p) is = plain_case t rest Q next (sorted (ty.Ptr p) is (plain_pointer p (type_at e0.types (bare e0.types p)))) v.is_lvalue refl
         by (ty.Ref p) is = plain_case t rest Q next (sorted (ty.Ref p) is refl) v.is_lvalue refl
         by (ty.MemData k p) is = plain_case t rest Q next (sorted (ty.MemData k p) is refl) v.is_lvalue refl
         by (ty.MemFun k p) is = plain_case t rest Q next (sorted (ty.MemFun k p) is refl) v.is_lvalue refl
@@ -203,16 +216,16 @@ module _ (s : Scene) (scene : IsScene s) where
     abbrev Formed : SourceType → Ty → Type 0
     Formed a w = Same a (type_step s.tables (tree s) w)
 
-    source-formed : Within e s → Formed (decayed_tree s v.type (sort_of e.types v.type)) (decayed (bare e.types v.type) (type_at e.types (bare e.types v.type)))
-    source-formed w = by (type_at e.types (bare e.types v.type)) refl
+    source-formed : Within e0 s → Formed (decayed_tree s v.type (sort_of e0.types v.type)) (decayed (bare e0.types v.type) (type_at e0.types (bare e0.types v.type)))
+    source-formed w = by (type_at e0.types (bare e0.types v.type)) refl
       where
-        form : (x : Ty) → type_at e.types (bare e.types v.type) ≡ x → Formed (tree s v.type) x
-        form x is = early-form s.tables scene.table e.types w.types v.type (f w).inside x is
+        form : (x : Ty) → type_at e0.types (bare e0.types v.type) ≡ x → Formed (tree s v.type) x
+        form x is = early-form s.tables scene.table e0.types w.types v.type (f0 w).inside x is
 
-        by : (x : Ty) → type_at e.types (bare e.types v.type) ≡ x → Formed (decayed_tree s v.type (ty_sort e.types x)) (decayed (bare e.types v.type) x)
+        by : (x : Ty) → type_at e0.types (bare e0.types v.type) ≡ x → Formed (decayed_tree s v.type (ty_sort e0.types x)) (decayed (bare e0.types v.type) x)
         by (ty.Array u n) is = refl
-        by (ty.Fun g) is = ap (λ x. pointer x) (early-bare s.tables scene.table e.types w.types v.type (f w).inside)
-        by (ty.Ptr p) is = ap without_const (decayed_plain s v.type (pointer_sort p (type_at e.types (bare e.types p))) (plain_pointer p (type_at e.types (bare e.types p)))) ∙ form (ty.Ptr p) is
+        by (ty.Fun g) is = ap (λ x. pointer x) (early-bare s.tables scene.table e0.types w.types v.type (f0 w).inside)
+        by (ty.Ptr p) is = ap without_const (decayed_plain s v.type (pointer_sort p (type_at e0.types (bare e0.types p))) (plain_pointer p (type_at e0.types (bare e0.types p)))) ∙ form (ty.Ptr p) is
         by ty.Void is = form ty.Void is
         by (ty.Int k) is = form (ty.Int k) is
         by (ty.Enum k) is = form (ty.Enum k) is
@@ -222,10 +235,10 @@ module _ (s : Scene) (scene : IsScene s) where
         by (ty.MemFun k p) is = form (ty.MemFun k p) is
         by (ty.Const p) is = form (ty.Const p) is
 
-    source-plain : IsTrue (without_class (decayed (bare e.types v.type) (type_at e.types (bare e.types v.type))))
-    source-plain = by (type_at e.types (bare e.types v.type)) (classless-type e.types c.no_type (bare e.types v.type))
+    source-plain : IsTrue (without_class (decayed (bare e0.types v.type) (type_at e0.types (bare e0.types v.type))))
+    source-plain = by (type_at e0.types (bare e0.types v.type)) (classless-type e0.types c0.no_type (bare e0.types v.type))
       where
-        by : (x : Ty) → IsTrue (without_class x) → IsTrue (without_class (decayed (bare e.types v.type) x))
+        by : (x : Ty) → IsTrue (without_class x) → IsTrue (without_class (decayed (bare e0.types v.type) x))
         by (ty.Array u n) h = refl
         by (ty.Fun g) h = refl
         by (ty.Ptr p) h = h
@@ -238,13 +251,13 @@ module _ (s : Scene) (scene : IsScene s) where
         by (ty.MemFun k p) h = h
         by (ty.Const p) h = h
 
-    source-pointee : (p : ℕ) → decayed (bare e.types v.type) (type_at e.types (bare e.types v.type)) ≡ ty.Ptr p → Within e s → Inside e p
-    source-pointee p is w = by (type_at e.types (bare e.types v.type)) refl is
+    source-pointee : (p : ℕ) → decayed (bare e0.types v.type) (type_at e0.types (bare e0.types v.type)) ≡ ty.Ptr p → Within e0 s → Inside e0 p
+    source-pointee p is w = by (type_at e0.types (bare e0.types v.type)) refl is
       where
-        by : (x : Ty) → type_at e.types (bare e.types v.type) ≡ x → decayed (bare e.types v.type) x ≡ ty.Ptr p → Inside e p
-        by (ty.Array u n) at is = subst (Inside e) (same_pointee u p is) (early-part s.tables scene.table e.types w.types v.type (f w).inside (ty.Array u n) u at (λ h. h))
-        by (ty.Fun g) at is = subst (Inside e) (same_pointee (bare e.types v.type) p is) (early-inside s.tables scene.table e.types w.types v.type (f w).inside)
-        by (ty.Ptr q) at is = subst (Inside e) (same_pointee q p is) (early-part s.tables scene.table e.types w.types v.type (f w).inside (ty.Ptr q) q at (λ h. h))
+        by : (x : Ty) → type_at e0.types (bare e0.types v.type) ≡ x → decayed (bare e0.types v.type) x ≡ ty.Ptr p → Inside e0 p
+        by (ty.Array u n) at is = subst (Inside e0) (same_pointee u p is) (early-part s.tables scene.table e0.types w.types v.type (f0 w).inside (ty.Array u n) u at (λ h. h))
+        by (ty.Fun g) at is = subst (Inside e0) (same_pointee (bare e0.types v.type) p is) (early-inside s.tables scene.table e0.types w.types v.type (f0 w).inside)
+        by (ty.Ptr q) at is = subst (Inside e0) (same_pointee q p is) (early-part s.tables scene.table e0.types w.types v.type (f0 w).inside (ty.Ptr q) q at (λ h. h))
         by ty.Void at is = absurd cc
         by (ty.Int k) at is = absurd cc
         by (ty.Enum k) at is = absurd cc
@@ -257,50 +270,55 @@ module _ (s : Scene) (scene : IsScene s) where
     -- ---- the row
 
     -- by the steps to a type without its own const
-    way-fine : (t u : ℕ) (ss : List ConvStep) → When s e (Inside e t) → When s e (Inside e u) → When s e (Same (tree s t) (tree s u)) → to_value e.types (defs e) (val v) u ≡ Some ss
-        → When s e (Formed (tree s u) (type_at e.types u)) → ((q : ℕ) → type_at e.types u ≡ ty.Ptr q → Within e s → Inside e q) → Fine s (IsPlain s (tree s t)) e (all_steps t ss v e)
+    way-fine : (t u : ℕ) (ss : List ConvStep) → When s e0 (Inside e0 t) → When s e0 (Inside e0 u) → When s e0 (Same (tree s t) (tree s u)) → to_value e0.types (defs e0) (val v) u ≡ Some ss
+        → When s e0 (Formed (tree s u) (type_at e0.types u)) → ((q : ℕ) → type_at e0.types u ≡ ty.Ptr q → Within e0 s → Inside e0 q) → Fine s (IsPlain s (tree s t)) e (all_steps t ss v e)
     way-fine t u ss i j same is form part =
-        let found = mapped_some (λ l. first_step v.is_lvalue (type_at e.types (bare e.types v.type)) ++ l) (wanted u) ss is in
-        let way = null-way s.tables scene.table e.types (defs e) (Within e s) (λ w. w.types) (classless-type e.types c.no_type) (decayed_tree s v.type (sort_of e.types v.type)) (tree s t)
-        (is_zero v.number) (decayed (bare e.types v.type) (type_at e.types (bare e.types v.type))) (type_at e.types u) found.0 found.1
-        source-plain (classless-type e.types c.no_type u) source-formed (λ w. same w ∙ form w) source-pointee part in
-        let all : ss ≡ first_step v.is_lvalue (type_at e.types (bare e.types v.type)) ++ with_last way.const way.core = found.2 ∙ ap (λ l. first_step v.is_lvalue (type_at e.types (bare e.types v.type)) ++ l) way.is in
+        let found = mapped_some (λ l. first_step v.is_lvalue (type_at e0.types (bare e0.types v.type)) ++ l) (wanted u) ss is in
+        let way = null-way s.tables scene.table e0.types (defs e0) (Within e0 s) (λ w. w.types) (classless-type e0.types c0.no_type) (decayed_tree s v.type (sort_of e0.types v.type)) (tree s t)
+        (is_zero v.number) (decayed (bare e0.types v.type) (type_at e0.types (bare e0.types v.type))) (type_at e0.types u) found.0 found.1
+        source-plain (classless-type e0.types c0.no_type u) source-formed (λ w. same w ∙ form w) source-pointee part in
+        let all : ss ≡ first_step v.is_lvalue (type_at e0.types (bare e0.types v.type)) ++ with_last way.const way.core = found.2 ∙ ap (λ l. first_step v.is_lvalue (type_at e0.types (bare e0.types v.type)) ++ l) way.is in
         subst (λ l. Fine s (IsPlain s (tree s t)) e (all_steps t l v e)) (sym all)
         (first-fine t (with_last way.const way.core) (IsPlain s (tree s t))
         (λ x e1 g d k p. subst (λ r. Fine s (IsPlain s (tree s t)) e1 r) (sym (all_steps-const t way.const way.core x e1))
-        (leads-fine s scene t way.core x (decayed_tree s v.type (sort_of e.types v.type)) e1 d k (λ w. inside-later e e1 t g (i (within-before e e1 s g w))) way.single p (λ w. way.right (within-before e e1 s g w)))))
+        (leads-fine s scene t way.core x (decayed_tree s v.type (sort_of e0.types v.type)) e1 d k (λ w. inside-later e0 e1 t (steps-through e0 e e1 g0 g) (i (within-before e0 e1 s (steps-through e0 e e1 g0 g) w))) way.single p (λ w. way.right (within-before e0 e1 s (steps-through e0 e e1 g0 g) w)))))
       where
         wanted : ℕ → Option (List ConvStep)
-        wanted u = if is_zero v.number && takes_null (type_at e.types u) then Some (Null ∷ []) else value_steps e.types (defs e) (decayed (bare e.types v.type) (type_at e.types (bare e.types v.type))) (type_at e.types u)
+        wanted u = if is_zero v.number && takes_null (type_at e0.types u) then Some (Null ∷ []) else value_steps e0.types (defs e0) (decayed (bare e0.types v.type) (type_at e0.types (bare e0.types v.type))) (type_at e0.types u)
 
     -- to a type that is no reference
-    steps-fine : (t : ℕ) → When s e (Inside e t) → ((u : ℕ) → type_at e.types t ≡ ty.Ref u → Within e s → ⊥)
-        → (ss : List ConvStep) → steps e.types (defs e) (val v) t ≡ Some ss → Fine s (IsPlain s (tree s t)) e (all_steps t ss v e)
-    steps-fine t i no_ref ss found = by (type_at e.types t) refl
+    steps-fine : (t : ℕ) → When s e0 (Inside e0 t) → ((u : ℕ) → type_at e0.types t ≡ ty.Ref u → Within e0 s → ⊥)
+        → (ss : List ConvStep) → steps e0.types (defs e0) (val v) t ≡ Some ss → Fine s (IsPlain s (tree s t)) e (all_steps t ss v e)
+    steps-fine t i no_ref ss found = by (type_at e0.types t) refl
       where
-        there : to_value e.types (defs e) (val v) (bare e.types t) ≡ Some ss → Fine s (IsPlain s (tree s t)) e (all_steps t ss v e)
+        there : to_value e0.types (defs e0) (val v) (bare e0.types t) ≡ Some ss → Fine s (IsPlain s (tree s t)) e (all_steps t ss v e)
         there h =
-            way-fine t (bare e.types t) ss i (λ w. early-inside s.tables scene.table e.types w.types t (i w)) (λ w. early-bare s.tables scene.table e.types w.types t (i w)) h
-            (λ w. sym (early-bare s.tables scene.table e.types w.types t (i w)) ∙ early-form s.tables scene.table e.types w.types t (i w) (type_at e.types (bare e.types t)) refl)
-            (λ q is w. early-part s.tables scene.table e.types w.types t (i w) (ty.Ptr q) q is (λ h. h))
+            way-fine t (bare e0.types t) ss i (λ w. early-inside s.tables scene.table e0.types w.types t (i w)) (λ w. early-bare s.tables scene.table e0.types w.types t (i w)) h
+            (λ w. sym (early-bare s.tables scene.table e0.types w.types t (i w)) ∙ early-form s.tables scene.table e0.types w.types t (i w) (type_at e0.types (bare e0.types t)) refl)
+            (λ q is w. early-part s.tables scene.table e0.types w.types t (i w) (ty.Ptr q) q is (λ h. h))
 
-        by : (x : Ty) → type_at e.types t ≡ x → Fine s (IsPlain s (tree s t)) e (all_steps t ss v e)
-        by (ty.Ref u) is = all_steps-never t ss v e (IsPlain s (tree s t)) c (no_ref u is)
-        by ty.Void is = there (sym (steps_at e.types (defs e) (val v) t ty.Void is refl) ∙ found)
-        by (ty.Int k) is = there (sym (steps_at e.types (defs e) (val v) t (ty.Int k) is refl) ∙ found)
-        by (ty.Enum k) is = there (sym (steps_at e.types (defs e) (val v) t (ty.Enum k) is refl) ∙ found)
-        by (ty.Class k) is = there (sym (steps_at e.types (defs e) (val v) t (ty.Class k) is refl) ∙ found)
-        by (ty.Ptr p) is = there (sym (steps_at e.types (defs e) (val v) t (ty.Ptr p) is refl) ∙ found)
-        by (ty.Array p n) is = there (sym (steps_at e.types (defs e) (val v) t (ty.Array p n) is refl) ∙ found)
-        by (ty.Fun g) is = there (sym (steps_at e.types (defs e) (val v) t (ty.Fun g) is refl) ∙ found)
-        by (ty.MemData k p) is = there (sym (steps_at e.types (defs e) (val v) t (ty.MemData k p) is refl) ∙ found)
-        by (ty.MemFun k p) is = there (sym (steps_at e.types (defs e) (val v) t (ty.MemFun k p) is refl) ∙ found)
-        by (ty.Const p) is = there (sym (steps_at e.types (defs e) (val v) t (ty.Const p) is refl) ∙ found)
+        by : (x : Ty) → type_at e0.types t ≡ x → Fine s (IsPlain s (tree s t)) e (all_steps t ss v e)
+        by (ty.Ref u) is = all_steps-never t ss v e (IsPlain s (tree s t)) c (λ w. no_ref u is (before w))
+        by ty.Void is = there (sym (steps_at e0.types (defs e0) (val v) t ty.Void is refl) ∙ found)
+        by (ty.Int k) is = there (sym (steps_at e0.types (defs e0) (val v) t (ty.Int k) is refl) ∙ found)
+        by (ty.Enum k) is = there (sym (steps_at e0.types (defs e0) (val v) t (ty.Enum k) is refl) ∙ found)
+        by (ty.Class k) is = there (sym (steps_at e0.types (defs e0) (val v) t (ty.Class k) is refl) ∙ found)
+        by (ty.Ptr p) is = there (sym (steps_at e0.types (defs e0) (val v) t (ty.Ptr p) is refl) ∙ found)
+        by (ty.Array p n) is = there (sym (steps_at e0.types (defs e0) (val v) t (ty.Array p n) is refl) ∙ found)
+        by (ty.Fun g) is = there (sym (steps_at e0.types (defs e0) (val v) t (ty.Fun g) is refl) ∙ found)
+        by (ty.MemData k p) is = there (sym (steps_at e0.types (defs e0) (val v) t (ty.MemData k p) is refl) ∙ found)
+        by (ty.MemFun k p) is = there (sym (steps_at e0.types (defs e0) (val v) t (ty.MemFun k p) is refl) ∙ found)
+        by (ty.Const p) is = there (sym (steps_at e0.types (defs e0) (val v) t (ty.Const p) is refl) ∙ found)
 
+    pub converted-later : (at t : ℕ) → When s e0 (Inside e0 t) → ((u : ℕ) → type_at e0.types t ≡ ty.Ref u → Within e0 s → ⊥)
+        → (ss : List ConvStep) → steps e0.types (defs e0) (val v) t ≡ Some ss → Fine s (IsPlain s (tree s t)) e (row.converted at t ss v e)
+    converted-later at t i no_ref ss found =
+        still-fine s (IsPlain s (tree s t)) e (for_each (step_checked at t v) ss e) (all_steps t ss v) (all_checked e at t v ss) (steps-fine t i no_ref ss found)
+
+  module _ (e : Env) (v : Value) (c : Classless e) (h : When s e (Holds s e)) (f : When s e (Fits s e v)) where
     pub converted-fine : (at t : ℕ) → When s e (Inside e t) → ((u : ℕ) → type_at e.types t ≡ ty.Ref u → Within e s → ⊥)
         → (ss : List ConvStep) → steps e.types (defs e) (val v) t ≡ Some ss → Fine s (IsPlain s (tree s t)) e (row.converted at t ss v e)
-    converted-fine at t i no_ref ss found =
-        still-fine s (IsPlain s (tree s t)) e (for_each (step_checked at t v) ss e) (all_steps t ss v) (all_checked e at t v ss) (steps-fine t i no_ref ss found)
+    converted-fine at t i no_ref ss found = converted-later e v c f e (steps-none e) c h at t i no_ref ss found
 
     -- by a standard conversion, or in another way
     pub fitted-fine : (other : ℕ → Value → ℕ → Elab Value) (at t : ℕ) → When s e (Inside e t) → When s e (is_reference (sort_of e.types t) ≡ false)

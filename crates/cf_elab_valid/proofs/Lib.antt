@@ -6,6 +6,7 @@ pub mod Binary
 pub mod Calls
 pub mod Cast
 pub mod Choice
+pub mod Compared
 pub mod ConstOf
 mod Constants
 pub mod Early
@@ -16,6 +17,7 @@ pub mod Initial
 pub mod Making
 pub mod Names
 pub mod Nodes
+pub mod Nulls
 pub mod Numbers
 pub mod Operands
 pub mod Parts

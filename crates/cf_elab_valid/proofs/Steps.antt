@@ -27,10 +27,10 @@ use Rattle.cf_elab_valid.specs.Scene.{Begins}
 use Rattle.cf_elab_valid.proofs.Alike.{alike-same}
 use Rattle.cf_elab_valid.proofs.Early.{early-form}
 
-none_some : {A : Type 0} (x : A) → None ≡ Some x → ⊥
+pub none_some : {A : Type 0} (x : A) → None ≡ Some x → ⊥
 none_some x h = cc
 
-some_is : {A : Type 0} (x y : A) → Some x ≡ Some y → x ≡ y
+pub some_is : {A : Type 0} (x y : A) → Some x ≡ Some y → x ≡ y
 some_is x y h = cc
 
 no_class : {A : Type 0} → IsTrue false → A
