@@ -260,7 +260,7 @@ module _ (s : Scene) (scene : IsScene s) where
   -- ---- with void*
 
   -- a pointer to void leads to void
-  void_pointee : (y : ℕ) (e : Env) (w : Within e s) (i : Inside e y) → sort_of e.types y ≡ void_pointer → Inside e (row.pointed e.types y) × (is_function (tree s (row.pointed e.types y)) ≡ false)
+  pub void_pointee : (y : ℕ) (e : Env) (w : Within e s) (i : Inside e y) → sort_of e.types y ≡ void_pointer → Inside e (row.pointed e.types y) × (is_function (tree s (row.pointed e.types y)) ≡ false)
   void_pointee y e w i is = by (type_at e.types (bare e.types y)) refl is
     where
       pointee : Ty → ℕ

@@ -20,6 +20,7 @@ pub mod Nodes
 pub mod Nulls
 pub mod Numbers
 pub mod Operands
+pub mod Operations
 pub mod Parts
 pub mod Picks
 pub mod Plain

@@ -89,13 +89,13 @@ null_steps e y to p k at z a =
 abbrev pub Points : Env → ℕ → Type 0
 Points e t = (p : ℕ) × (type_at e.types (bare e.types t) ≡ ty.Ptr p)
 
-abbrev is_pointing : Sort → Bool
+abbrev pub is_pointing : Sort → Bool
 is_pointing (object_pointer t) = true
 is_pointing void_pointer = true
 is_pointing (function_pointer t) = true
 is_pointing other = false
 
-pointing : (e : Env) (t : ℕ) → is_pointing (sort_of e.types t) ≡ true → Points e t
+pub pointing : (e : Env) (t : ℕ) → is_pointing (sort_of e.types t) ≡ true → Points e t
 pointing e t h = by (type_at e.types (bare e.types t)) refl h
   where
     by : (x : Ty) → type_at e.types (bare e.types t) ≡ x → is_pointing (ty_sort e.types x) ≡ true → Points e t

@@ -38,7 +38,7 @@ pub scalar-is : (rule at : ℕ) (v : Value) (e : Env) → Classless e → scalar
 scalar-is rule at v e c = ap (λ o. scalar_of_class rule at v o e) (classless-number e c v.type)
 
 module _ (s : Scene) (scene : IsScene s) where
-  by-scalar : (rule at : ℕ) (v : Value) (go : Value → Elab Value) (e : Env) → Classless e → Fine s (IsOperand s) e (go v e) → Fine s (IsOperand s) e (onward (scalar rule at v e) go)
+  pub by-scalar : (rule at : ℕ) (v : Value) (go : Value → Elab Value) (e : Env) → Classless e → Fine s (IsOperand s) e (go v e) → Fine s (IsOperand s) e (onward (scalar rule at v e) go)
   by-scalar rule at v go e c f = subst (λ r. Fine s (IsOperand s) e (onward r go)) (sym (scalar-is rule at v e c)) f
 
   pub prefix_operator-fine : (at : ℕ) (o : PrefixOp) (v : Value) (e : Env) → Classless e → When s e (Holds s e) → When s e (Fits s e v) → Fine s (IsOperand s) e (row.prefix_operator at o v e)
