@@ -51,7 +51,7 @@ params-later : (s : Scene) (a b : Env) (ps : List ℕ) → Steps a b → ParamsF
 params-later s a b [] g f = tt
 params-later s a b (p ∷ ps) g f = (inside-later a b p g f.0, f.1, params-later s a b ps g f.2)
 
-all-later : (s : Scene) (a b : Env) (vs : List Value) → Steps a b → AllFit s a vs → AllFit s b vs
+pub all-later : (s : Scene) (a b : Env) (vs : List Value) → Steps a b → AllFit s a vs → AllFit s b vs
 all-later s a b [] g f = tt
 all-later s a b (v ∷ vs) g f = (fits-later s a b v g f.0, all-later s a b vs g f.1)
 
@@ -222,11 +222,11 @@ module _ (s : Scene) (scene : IsScene s) where
 
   -- ---- a call of one function, with as many arguments as it has parameters
 
-  taken_parameters : (ps : List SourceType) (r : SourceType) (b : Bool) → parameters (taking ps (gives r b)) ≡ ps
+  pub taken_parameters : (ps : List SourceType) (r : SourceType) (b : Bool) → parameters (taking ps (gives r b)) ≡ ps
   taken_parameters [] r b = refl
   taken_parameters (p ∷ ps) r b = ap (λ l. p ∷ l) (taken_parameters ps r b)
 
-  taken_result : (ps : List SourceType) (r : SourceType) (b : Bool) → result (taking ps (gives r b)) ≡ r
+  pub taken_result : (ps : List SourceType) (r : SourceType) (b : Bool) → result (taking ps (gives r b)) ≡ r
   taken_result [] r b = refl
   taken_result (p ∷ ps) r b = taken_result ps r b
 
@@ -261,32 +261,45 @@ module _ (s : Scene) (scene : IsScene s) where
         parameters-fit e n lt w ps (All-tail (λ q. q < n) p ps below) (All-tail (λ q. IsTrue (passes is_parameter s.tables.types.types q)) p ps fine),
       )
 
-  module _ (at : ℕ) (f : FunctionEntry) (e : Env) (n : ℕ) (entry : slice_get e.entries n ≡ Some f) (g : Fun) (is : fun_at e.types f.type ≡ Some g) where
+  module _ (at : ℕ) (f : FunctionEntry) (e : Env) (there : When s e (EntryFits s e f)) (g : Fun) (is : fun_at e.types f.type ≡ Some g) where
     entry_params : (w : Within e s) → Holds s e → ParamsFit s e g.params
     entry_params w h =
-        let k = h.entries n f entry in
-        let there = type_end e w h f k in
+        let k = there w in
+        let here = type_end e w h f k in
         let of_fun : slice_get s.tables.types.funs k.fun ≡ Some g = fun_end e w h f k ∙ sym (fun-is e w h f k) ∙ is in
-        let names = (scene.table.earlier f.type (ty.Fun k.fun) there).parts_known in
+        let names = (scene.table.earlier f.type (ty.Fun k.fun) here).parts_known in
         let parts : All (λ p. p < f.type) (g.result ∷ g.params) = subst (λ o. All (λ p. p < f.type) (parts_of_fun o)) of_fun names in
         parameters-fit e f.type (slice_get_within e.types.types f.type (ty.Fun k.fun) k.here) w g.params (All-tail (λ p. p < f.type) g.result g.params parts) (scene.table.parameters k.fun g of_fun)
 
     entry_result : (w : Within e s) → Holds s e → Inside e g.result
     entry_result w h =
-        let k = h.entries n f entry in
-        let there = type_end e w h f k in
+        let k = there w in
+        let here = type_end e w h f k in
         let of_fun : slice_get s.tables.types.funs k.fun ≡ Some g = fun_end e w h f k ∙ sym (fun-is e w h f k) ∙ is in
-        let names = (scene.table.earlier f.type (ty.Fun k.fun) there).parts_known in
+        let names = (scene.table.earlier f.type (ty.Fun k.fun) here).parts_known in
         let parts : All (λ p. p < f.type) (g.result ∷ g.params) = subst (λ o. All (λ p. p < f.type) (parts_of_fun o)) of_fun names in
         let first : g.result < f.type = All-head (λ p. p < f.type) g.result g.params parts in
         let inside = slice_get_within e.types.types f.type (ty.Fun k.fun) k.here in
         omega arith
 
+    -- where there are as many arguments as parameters
+    pub fun-call-fine : (make : List Node → Node) → f.defaults ≡ []
+        → ((w : Within e s) → Holds s e → (ns : List Node) → fit (scope_of s) (map (tree s) g.params) (typings (scope_of s) (listed (map (core s) ns))) ≡ true → typed s (make ns) ≡ of_result (tree s g.result))
+        → ((w : Within e s) (ns : List Node) → all_of s.tables (map (are_known s.tables) ns) ≡ true → are_known s.tables (make ns) ≡ true)
+        → (vs : List Value) → Classless e → When s e (Holds s e) → When s e (AllFit s e vs) → When s e (length vs ≡ length g.params)
+        → Fine s (IsOperand s) e (onward (arguments at g.params f.defaults vs e) (λ ns b. row.called at g.result (make ns) b))
+    fun-call-fine make none typing_of known_of vs c h vf count =
+        onward-fine s (ArgumentsFit s g.params vs) (IsOperand s) e (arguments at g.params f.defaults vs e) (λ ns b. row.called at g.result (make ns) b)
+        (arguments-fine at g.params f.defaults vs e none c h (λ w. entry_params w (h w)) vf)
+        (λ ns e1 st c1 h1 q. called-fine at g.result (make ns) e1 c1 h1 (λ w. let early = within-before e e1 s st w in inside-later e e1 g.result st (entry_result early (h early)))
+        (λ w. let early = within-before e e1 s st w in result-fits e early (h early) f (there early) g is)
+        (λ w. known_of (within-before e e1 s st w) ns (q w).numbers)
+        (λ w. let early = within-before e e1 s st w in typing_of early (h early) ns ((q w).starts (count early))))
+
     call_typed : (w : Within e s) → Holds s e → (ns : List Node) → fit (scope_of s) (map (tree s) g.params) (typings (scope_of s) (listed (map (core s) ns))) ≡ true
         → typed s (node.Call at f.link f.type None ns) ≡ of_result (tree s g.result)
     call_typed w h ns fits =
-        let k = h.entries n f entry in
-        let whole = fun-tree e w h f k g is in
+        let whole = fun-tree e w h f (there w) g is in
         let ps = map (tree s) g.params in
         let r = tree s g.result in
         ap (λ c. typing (scope_of s) c) (core-Call s.tables (signature_of s.tables) at f.link f.type ns)
@@ -294,24 +307,28 @@ module _ (s : Scene) (scene : IsScene s) where
         (ap (λ l. fit (scope_of s) l (typings (scope_of s) (listed (map (core s) ns)))) (ap parameters whole ∙ taken_parameters ps r g.is_const) ∙ fits)
         (ap (λ t. of_result (result t)) whole ∙ ap of_result (taken_result ps r g.is_const))
 
-    -- where there are as many arguments as parameters
-    pub fun-call-fine : (vs : List Value) → Classless e → When s e (Holds s e) → When s e (AllFit s e vs) → When s e (length vs ≡ length g.params)
-        → Fine s (IsOperand s) e (onward (arguments at g.params f.defaults vs e) (λ ns b. row.called at g.result (node.Call at f.link f.type None ns) b))
-    fun-call-fine vs c h vf count =
-        onward-fine s (ArgumentsFit s g.params vs) (IsOperand s) e (arguments at g.params f.defaults vs e) (λ ns b. row.called at g.result (node.Call at f.link f.type None ns) b)
-        (arguments-fine at g.params f.defaults vs e (c.no_defaults n f entry) c h (λ w. entry_params w (h w)) vf)
-        (λ ns e1 st c1 h1 q. called-fine at g.result (node.Call at f.link f.type None ns) e1 c1 h1 (λ w. let early = within-before e e1 s st w in inside-later e e1 g.result st (entry_result early (h early)))
-        (λ w. let early = within-before e e1 s st w in result-fits e early (h early) f ((h early).entries n f entry) g is)
-        (λ w. let early = within-before e e1 s st w in
-        let k = (h early).entries n f entry in
+    call_known : (w : Within e s) (ns : List Node) → all_of s.tables (map (are_known s.tables) ns) ≡ true → are_known s.tables (node.Call at f.link f.type None ns) ≡ true
+    call_known w ns known =
+        let k = there w in
         known-Call s.tables at f.link f.type ns
         ∙ and-both (has_type s.tables f.type && true) (all_of s.tables (map (are_known s.tables) ns))
-        (and-both (has_type s.tables f.type) true (has_type-is s e f.type early (slice_get_within e.types.types f.type (ty.Fun k.fun) k.here)) refl) (q w).numbers)
-        (λ w. let early = within-before e e1 s st w in call_typed early (h early) ns ((q w).starts (count early))))
+        (and-both (has_type s.tables f.type) true (has_type-is s e f.type w (slice_get_within e.types.types f.type (ty.Fun k.fun) k.here)) refl) known
+
+    pub named-call-fine : f.defaults ≡ [] → (vs : List Value) → Classless e → When s e (Holds s e) → When s e (AllFit s e vs) → When s e (length vs ≡ length g.params)
+        → Fine s (IsOperand s) e (onward (arguments at g.params f.defaults vs e) (λ ns b. row.called at g.result (node.Call at f.link f.type None ns) b))
+    named-call-fine none vs c h vf count = fun-call-fine (λ ns. node.Call at f.link f.type None ns) none call_typed call_known vs c h vf count
+
+  -- a call that no end is behind
+  pub never-called : (at r : ℕ) (make : List Node → Node) (ps : List ℕ) (ds : List Default) (vs : List Value) (e : Env) → ds ≡ [] → Classless e → When s e (Holds s e) → When s e (AllFit s e vs)
+      → (Within e s → ⊥) → Fine s (IsOperand s) e (onward (arguments at ps ds vs e) (λ ns b. row.called at r (make ns) b))
+  never-called at r make ps ds vs e none c h vf never =
+      onward-fine s (ArgumentsFit s ps vs) (IsOperand s) e (arguments at ps ds vs e) (λ ns b. row.called at r (make ns) b) (arguments-fine at ps ds vs e none c h (λ w. absurd (never w)) vf)
+      (λ ns e1 st c1 h1 q. called-fine at r (make ns) e1 c1 h1 (λ w. absurd (never (within-before e e1 s st w))) (λ w. absurd (never (within-before e e1 s st w)))
+      (λ w. absurd (never (within-before e e1 s st w))) (λ w. absurd (never (within-before e e1 s st w))))
 
   -- a call of a declared function, where there are as many arguments as it has parameters
   pub call_entry-fine : (at : ℕ) (vs : List Value) (f : FunctionEntry) (e : Env) (n : ℕ) → slice_get e.entries n ≡ Some f → (g : Fun) → fun_at e.types f.type ≡ Some g → Classless e → When s e (Holds s e)
       → When s e (AllFit s e vs) → When s e (length vs ≡ length g.params) → Fine s (IsOperand s) e (row.call_entry at vs (Some f) e)
   call_entry-fine at vs f e n entry g is c h vf count =
       subst (λ o. Fine s (IsOperand s) e (onward (arguments at (params_of o) f.defaults vs e) (λ ns b. row.called at (result_of o) (node.Call at f.link f.type None ns) b))) (sym is)
-      (fun-call-fine at f e n entry g is vs c h vf count)
+      (named-call-fine at f e (λ w. (h w).entries n f entry) g is (c.no_defaults n f entry) vs c h vf count)

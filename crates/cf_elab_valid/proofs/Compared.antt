@@ -317,7 +317,7 @@ module _ (s : Scene) (scene : IsScene s) where
           let inside = inside-later e1 e4 a (steps-through e1 e2 e4 g (steps-through e2 e3 e4 g3 g4)) (ka w1).inside in
           let same : Same (tree s t) (pointer (tree s a)) = ap without_const (type-tree s scene e2 (ty.Ptr a) t w2 (ta w2)) in
           let apart : is_function (tree s a) ≡ false =
-              same-function (tree s a) (tree s v) (ka w1).same (tree-normal s.tables scene.table a (early-known s.tables scene.table e1.types w1.types a (ka w1).inside))
-              (tree-normal s.tables scene.table v (early-known s.tables scene.table e1.types w1.types v (pv w1).0)) ∙ (pv w1).1 in
+          same-function (tree s a) (tree s v) (ka w1).same (tree-normal s.tables scene.table a (early-known s.tables scene.table e1.types w1.types a (ka w1).inside))
+          (tree-normal s.tables scene.table v (early-known s.tables scene.table e1.types w1.types v (pv w1).0)) ∙ (pv w1).1 in
           equal a (m, n) e4 w inside
           (record { first = plain_led (tree s t) (pointer (tree s a)) m e4 same (plain-later s (tree s t) e3 e4 m g4 pm); second = plain_led (tree s t) (pointer (tree s a)) n e4 same pn }) q (k q refl) apart)

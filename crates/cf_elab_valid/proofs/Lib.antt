@@ -27,6 +27,7 @@ pub mod Plain
 pub mod Sorts
 pub mod Stepping
 pub mod Steps
+pub mod Through
 pub mod Trees
 pub mod Unary
 pub mod Values

@@ -143,8 +143,8 @@ module _ (s : Scene) (scene : IsScene s) where
     steps_still t u None ss is h = absurd cc
     steps_still t u (Some core) ss is h =
         let way = null-way s.tables scene.table e.types (defs e) (⊥) (λ w. absurd w) (classless-type e.types c.no_type) void void (is_zero x.number) source (type_at e.types u) core
-            (ap (λ y. by_steps y (type_at e.types u)) (sym (undecayed (bare e.types x.type) source quiet)) ∙ is)
-            (classless-type e.types c.no_type (bare e.types x.type)) (classless-type e.types c.no_type u) (λ w. absurd w) (λ w. absurd w) (λ p is w. absurd w) (λ q is w. absurd w) in
+        (ap (λ y. by_steps y (type_at e.types u)) (sym (undecayed (bare e.types x.type) source quiet)) ∙ is)
+        (classless-type e.types c.no_type (bare e.types x.type)) (classless-type e.types c.no_type u) (λ w. absurd w) (λ w. absurd w) (λ p is w. absurd w) (λ q is w. absurd w) in
         let all : first_step x.is_lvalue source ++ core ≡ ss = some_is (first_step x.is_lvalue source ++ core) ss h in
         subst (λ l. Still e (all_steps t l x e))
         (ap (λ l. l ++ with_last way.const way.core) (sym (no_decay x.is_lvalue source quiet)) ∙ ap (λ l. first_step x.is_lvalue source ++ l) (sym way.is) ∙ all)

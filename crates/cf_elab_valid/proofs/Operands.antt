@@ -21,7 +21,7 @@ use Rattle.cf_elab_valid.proofs.Stepping.{increment-fine}
 use Rattle.cf_elab_valid.proofs.Unary.{classless-number, prefixed-fine, subscript-fine}
 use Rattle.cf_elab_valid.proofs.Ways.{fits-when, onward-fine, When}
 
-no-object : (e : Env) → Classless e → (v : Value) → is_object e v ≡ false
+pub no-object : (e : Env) → Classless e → (v : Value) → is_object e v ≡ false
 no-object e c v = ap (λ (o : Option ℕ). elim o as (λ _. Bool) [ None ↦ false | Some k ↦ true ]) (classless-number e c v.type)
 
 no-objects : (e : Env) → Classless e → (vs : List Value) → any_object e vs ≡ false

@@ -22,7 +22,7 @@ use Rattle.cf_elab.specs.Operand.{Value, val, defs}
 use Rattle.cf_elab_valid.specs.Answers.{Fine}
 use Rattle.cf_elab_valid.specs.Scene.{Scene, IsScene, Within, Classless, Holds, AllFit}
 use Rattle.cf_elab_valid.proofs.Arithmetic.{IsOperand}
-use Rattle.cf_elab_valid.proofs.Calls.{ArgumentsFit, arguments-fine, called-fine, call_entry-fine, fun-is}
+use Rattle.cf_elab_valid.proofs.Calls.{never-called, call_entry-fine, fun-is}
 use Rattle.cf_elab_valid.proofs.FitRows.{Still, needed}
 use Rattle.cf_elab_valid.proofs.Ways.{onward-fine, within-before, When}
 
@@ -71,7 +71,7 @@ Picked e P (Made i b) = (b ≡ e) × P i
 Picked e P (Refused rule at) = Unit {0}
 Picked e P (Passed bound most) = Unit {0}
 
-none_some : {A : Type 0} {x : A} → None ≡ Some x → ⊥
+pub none_some : {A : Type 0} {x : A} → None ≡ Some x → ⊥
 none_some h = cc
 
 some_same : {A : Type 0} (x y : A) → Some x ≡ Some y → x ≡ y
@@ -148,10 +148,7 @@ module _ (s : Scene) (scene : IsScene s) where
           let there = declared-entry e fs i f is in
           let never : Within e s → ⊥ = λ w. none_some (sym no_fun ∙ fun-is s scene e w (h w) f ((h w).entries there.number f there.here)) in
           subst (λ o. Fine s (IsOperand s) e (onward (arguments at (params_of o) f.defaults vs e) (λ ns b. row.called at (result_of o) (node.Call at f.link f.type None ns) b))) (sym no_fun)
-          (onward-fine s (ArgumentsFit s [] vs) (IsOperand s) e (arguments at [] f.defaults vs e) (λ ns b. row.called at 0 (node.Call at f.link f.type None ns) b)
-          (arguments-fine s scene at [] f.defaults vs e (c.no_defaults there.number f there.here) c h (λ w. tt) vf)
-          (λ ns e1 st c1 h1 q. called-fine s scene at 0 (node.Call at f.link f.type None ns) e1 c1 h1 (λ w. absurd (never (within-before e e1 s st w))) (λ w. absurd (never (within-before e e1 s st w)))
-          (λ w. absurd (never (within-before e e1 s st w))) (λ w. absurd (never (within-before e e1 s st w)))))
+          (never-called s scene at 0 (λ ns. node.Call at f.link f.type None ns) [] f.defaults vs e (c.no_defaults there.number f there.here) c h vf never)
       by (Some g) has_fun =
           let there = declared-entry e fs i f is in
           call_entry-fine s scene at vs f e there.number there.here g has_fun c h vf (λ w. exact ∙ ap (λ o. length (params_of o)) has_fun)
