@@ -1,9 +1,11 @@
 -- The first environment of a file keeps the invariants, and there are ends to which they apply.
-use Rattle.std.proofs.Common.{◌≡◌, ℕ, zero, suc, List, [], ◌∷◌, Some, IsTrue, slice_get, refl, sym, subst, arith, lit≤}
+use Rattle.std.proofs.Common.{◌≡◌, ℕ, zero, suc, ◌<◌, ◌≤◌, List, [], ◌∷◌, Some, IsTrue, slice_get, refl, sym, subst, arith, lit≤}
 use Rattle.cf_base.specs.declared.kind.Kind.TheVariants.{Int}
 use Rattle.cf_types.specs.declared.ty.Ty.{Ty}
 use Rattle.cf_types.specs.declared.ty.Ty.TheVariants as ty
 use Rattle.cf_types.specs.Table.{Names, is_normal}
+use Rattle.cf_classes.specs.Layout.{extent}
+use Rattle.cf_elab.specs.Complete.{most_bytes}
 use Rattle.cf_elab.specs.Env.{Extent, Name}
 use Rattle.cf_elab.specs.File.{first_env}
 use Rattle.cf_elab_env.specs.Holds.{HasNoClass}
@@ -52,6 +54,7 @@ int_is_a_scene = record {
   };
   no_class = plain;
   none_to_reference = λ t v h. subst (λ w. Aims of_int.tables w) (only_int t v h) tt;
+  sizes = small;
 }
   where
     both : (i j : ℕ) (v : Ty) → slice_get (ty.Int Int ∷ []) i ≡ Some v → slice_get (ty.Int Int ∷ []) j ≡ Some v → i ≡ j
@@ -62,3 +65,7 @@ int_is_a_scene = record {
     plain : HasNoClass (record { types = ty.Int Int ∷ []; funs = [] })
     plain zero d w = refl
     plain (suc i) d w = absurd (omega arith)
+
+    small : (t : ℕ) → t < 1 → (extent of_int.tables.types [] t).size ≤ most_bytes
+    small zero h = lit≤ tt
+    small (suc t) h = absurd (omega arith)

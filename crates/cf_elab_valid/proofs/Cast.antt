@@ -60,7 +60,7 @@ module _ (s : Scene) (scene : IsScene s) where
     normal_type = tree-normal s.tables scene.table t (early-known s.tables scene.table e.types w.types t i)
 
   -- from an integer type to an integer type or an enumeration
-  integer-fine : (at t : ℕ) (x : Value) (z : Option ℤ) (e : Env) → Classless e → When s e (Holds s e) → When s e (Inside e t) → When s e (IsPlain s (tree s x.type) x e) → When s e (BothIntegral (tree s x.type) (tree s t))
+  pub integer-fine : (at t : ℕ) (x : Value) (z : Option ℤ) (e : Env) → Classless e → When s e (Holds s e) → When s e (Inside e t) → When s e (IsPlain s (tree s x.type) x e) → When s e (BothIntegral (tree s x.type) (tree s t))
       → When s e (HoldsKnown z (tree s t))
       → Fine s (IsPlain s (tree s t)) e (Made (record x { at = at; node = node.Convert at t x.node; type = t; number = z }) e)
   integer-fine at t x z e c h i p both known =

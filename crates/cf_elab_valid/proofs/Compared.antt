@@ -80,7 +80,7 @@ module _ (t p : ℕ) (e : Env) (is : IsType (ty.Ptr t) p e) where
   pointer_no_ref : (u : ℕ) → type_at e.types p ≡ ty.Ref u → ⊥
   pointer_no_ref u at = let both : ty.Ptr t ≡ ty.Ref u = sym pointer_at ∙ at in absurd cc
 
-type-later : (v : Ty) (t : ℕ) (a b : Env) → Steps a b → IsType v t a → IsType v t b
+pub type-later : (v : Ty) (t : ℕ) (a b : Env) → Steps a b → IsType v t a → IsType v t b
 type-later v t a b g is = record { inside = inside-later a b t g is.inside; here = begins-get a.types.types b.types.types t v g.types is.here }
 
 ordering_is : (op : BinaryOp) (p : PointerOperator) → row.ordering op ≡ Some p → is_order p ≡ true

@@ -49,7 +49,7 @@ classless-type types all t = by (slice_get types.types t) refl
     by None h = refl
     by (Some v) h = at_place (λ w. IsTrue (without_class w)) types.types t v all h
 
-no_defs : (e : Env) → Classless e → defs e ≡ []
+pub no_defs : (e : Env) → Classless e → defs e ≡ []
 no_defs e c = ap reverse c.none
 
 -- ---- checks leave the environment

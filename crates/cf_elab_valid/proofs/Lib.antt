@@ -9,6 +9,7 @@ pub mod Choice
 pub mod Compared
 pub mod ConstOf
 mod Constants
+pub mod Constructs
 pub mod Early
 pub mod EarlyTrees
 pub mod Fit
@@ -24,6 +25,8 @@ pub mod Operations
 pub mod Parts
 pub mod Picks
 pub mod Plain
+pub mod Several
+pub mod Sizes
 pub mod Sorts
 pub mod Stepping
 pub mod Steps

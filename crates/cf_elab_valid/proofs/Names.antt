@@ -64,7 +64,7 @@ one-fine s e run f = by (run e) f
 module _ (s : Scene) (scene : IsScene s) where
   -- ---- constants
 
-  constant-fits : (at : ℕ) (z : ℤ) (t : ℕ) (e : Env) → Inside e t → holds_number z (tree s t) ≡ true → Fits s e (constant at z t)
+  pub constant-fits : (at : ℕ) (z : ℤ) (t : ℕ) (e : Env) → Inside e t → holds_number z (tree s t) ≡ true → Fits s e (constant at z t)
   constant-fits at z t e i h = record {
     inside = i;
     numbers = known-Number s.tables at z;

@@ -167,7 +167,7 @@ module _ (s : Scene) (scene : IsScene s) where
     zero_typed : typed s (node.Number a (pos 0)) ≡ of_number (pos 0)
     zero_typed = ap (typing (scope_of s)) (core-Number s.tables (signature_of s.tables) a (pos 0))
 
-    null_made : IsNull s (tree s to) (record { at = a; node = node.Convert a to (node.Number a (pos 0)); type = to; is_lvalue = false; number = None; is_fixed = true }) e
+    pub null_made : IsNull s (tree s to) (record { at = a; node = node.Convert a to (node.Number a (pos 0)); type = to; is_lvalue = false; number = None; is_fixed = true }) e
     null_made = record {
       plain = convert-plain s scene e w to i a a (node.Number a (pos 0)) false None true refl (known-Number s.tables a (pos 0)) (same-operand (tree s to) (pointer p.pointee) p.same) (null_converts s scene e w to i a p) tt;
       null = subst (λ n. (typing (scope_of s) n).is_null ≡ true) (sym (core-Convert s.tables (signature_of s.tables) a to (node.Number a (pos 0))))

@@ -13,14 +13,14 @@ use Rattle.cf_elab_valid.proofs.Ways.{fits-later, fits-when, made-fine, onward-f
 pub record IsPart (s : Scene) (p : Part) : Type 0 where
   pub run : (e : Env) → Classless e → When s e (Holds s e) → FineOperand s e (p.run e)
 
-operand-later : (s : Scene) (a b : Env) (o : Operand) → Steps a b → OperandFits s o a → OperandFits s o b
+pub operand-later : (s : Scene) (a b : Env) (o : Operand) → Steps a b → OperandFits s o a → OperandFits s o b
 operand-later s a b (value v) g f = fits-later s a b v g f
 operand-later s a b (functions at fs) g f = f
 operand-later s a b (methods m) g f = f
 operand-later s a b (field_name x y z m) g f = f
 operand-later s a b (bound_method x y z) g f = f
 
-operand-when : (s : Scene) (a b : Env) (o : Operand) → Steps a b → When s a (OperandFits s o a) → When s b (OperandFits s o b)
+pub operand-when : (s : Scene) (a b : Env) (o : Operand) → Steps a b → When s a (OperandFits s o a) → When s b (OperandFits s o b)
 operand-when s a b o g f = λ w. operand-later s a b o g (f (within-before a b s g w))
 
 -- two values

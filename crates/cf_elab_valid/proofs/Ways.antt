@@ -95,6 +95,12 @@ onward-fine {A} {B} s P Q e (Made a e1) go f next = further (go a e1) (next a e1
 onward-fine s P Q e (Refused rule at) go f next = tt
 onward-fine s P Q e (Passed bound most) go f next = tt
 
+-- behind a change that loses nothing
+pub fine-before : {A : Type 0} (s : Scene) (P : A → Env → Type 0) (e f : Env) (r : Answer A) → Steps e f → Fine s P f r → Fine s P e r
+fine-before s P e f (Made a b) g k = record { steps = steps-through e f b g k.steps; classless = k.classless; holds = k.holds; made = k.made }
+fine-before s P e f (Refused rule at) g k = tt
+fine-before s P e f (Passed bound most) g k = tt
+
 -- what is made is something else too
 pub fine-as : {A : Type 0} (s : Scene) (P Q : A → Env → Type 0) (e : Env) (r : Answer A) → ((a : A) (b : Env) → P a b → Q a b) → Fine s P e r → Fine s Q e r
 fine-as s P Q e (Made a b) f g = record { steps = g.steps; classless = g.classless; holds = g.holds; made = λ w. f a b (g.made w) }

@@ -2,10 +2,11 @@
 --
 -- Nodes are typed by the tables of the end. An environment on the way has the first types of them, so nothing has to be said of a node when its
 -- tables grow.
-use Rattle.std.specs.Prelude.{◌≡◌, ℕ, ◌<◌, Bool, true, false, not, ◌||◌, List, [], ◌∷◌, ◌++◌, length, map, ℤ, Option, None, Some, slice_get}
+use Rattle.std.specs.Prelude.{◌≡◌, ℕ, ◌<◌, ◌≤◌, Bool, true, false, not, ◌||◌, List, [], ◌∷◌, ◌++◌, length, map, ℤ, Option, None, Some, slice_get}
 use Rattle.cf_types.specs.declared.ty.Ty.{Ty}
 use Rattle.cf_types.specs.declared.ty.Ty.TheVariants as ty
 use Rattle.cf_types.specs.Table.{IsTable}
+use Rattle.cf_classes.specs.Layout.{extent}
 use Rattle.cf_classes.specs.declared.label.Label.{Label}
 use Rattle.cf_lookup.specs.Scope.{found}
 use Rattle.cf_core.specs.declared.node.Core.{Core as Node}
@@ -20,6 +21,7 @@ use Rattle.cf_core.specs.Typing.{Scope, Typing, holds_number}
 use Rattle.cf_core.specs.View.{core_of}
 use Rattle.cf_core_typed.specs.Meets.{IsPlace, IsValue}
 use Rattle.cf_core_typed.specs.Same.{Same, is_operand}
+use Rattle.cf_elab.specs.Complete.{most_bytes}
 use Rattle.cf_elab.specs.Env.{Env, Name, Home, local_home, static_home, Entity, object, functions, alias, class_name, enum_name, enumerator, FunctionEntry}
 use Rattle.cf_elab.specs.Members.{class_of_body}
 use Rattle.cf_elab.specs.Operand.{Value, Operand, value, functions as named_functions}
@@ -53,6 +55,7 @@ pub record IsScene (s : Scene) : Type 0 where
   pub table : IsTable s.tables.types
   pub no_class : HasNoClass s.tables.types
   pub none_to_reference : NoneToReference s.tables
+  pub sizes : (t : ℕ) → t < length s.tables.types.types → (extent s.tables.types [] t).size ≤ most_bytes
 
 -- ---- on the way
 
