@@ -13,7 +13,7 @@ use Rattle.cf_elab_valid.specs.Scene.{Scene, IsScene, Within, Classless, Holds}
 use Rattle.cf_elab_valid.specs.Sorts.{Aims}
 
 pub first-classless : (extent : Extent) (names : List Name) → Classless (first_env extent names)
-first-classless extent names = record { none = refl; none_open = refl; no_body = refl; no_type = λ i d w. absurd (omega arith); no_defaults = λ n f h. absurd cc }
+first-classless extent names = record { none = refl; none_open = refl; no_body = refl; no_type = λ i d w. absurd (omega arith); no_name = λ n c h. absurd cc; no_defaults = λ n f h. absurd cc }
 
 pub first-within : (s : Scene) (extent : Extent) (names : List Name) → Within (first_env extent names) s
 first-within s extent names = record {
@@ -28,6 +28,7 @@ first-holds s r extent names = record {
   parts = λ t v h. absurd cc;
   no_outer = λ n l h. absurd cc;
   entities = λ name n x f h. absurd cc;
+  named_types = λ n x h. absurd cc;
   entries = λ n f h. absurd cc;
   result = sym r;
 }

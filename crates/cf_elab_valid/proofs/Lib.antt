@@ -16,6 +16,7 @@ pub mod Fit
 pub mod FitRows
 pub mod Initial
 pub mod Making
+pub mod Named
 pub mod Names
 pub mod Nodes
 pub mod Nulls
@@ -26,6 +27,7 @@ pub mod Parts
 pub mod Picks
 pub mod Plain
 pub mod Several
+pub mod Shapes
 pub mod Sizes
 pub mod Sorts
 pub mod Stepping

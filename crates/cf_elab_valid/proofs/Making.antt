@@ -15,7 +15,7 @@ use Rattle.cf_elab.specs.Made.{same_ty, place_in, entered_type, intern, of_kind,
 use Rattle.cf_elab_env.specs.Holds.{without_class}
 use Rattle.cf_elab_valid.specs.Scene.{Scene, Begins, Steps, Inside, PartInside, Classless, Holds}
 use Rattle.cf_elab_valid.specs.Answers.{Fine}
-use Rattle.cf_elab_valid.proofs.Ways.{begins-same, begins-last, steps-none, within-before, entity-later, entry-later, When}
+use Rattle.cf_elab_valid.proofs.Ways.{begins-same, begins-last, steps-none, within-before, entity-later, named-later, entry-later, When}
 
 both : (x y : Bool) → (x && y) ≡ true → (x ≡ true) × (y ≡ true)
 both true y h = (refl, h)
@@ -49,7 +49,7 @@ found-step test k x xs n true e g rest = let same : k ≡ n = cc in record { ind
 found-step test k x xs n false e g rest =
     let r = rest g in record { index = suc r.index; item = r.item; place = r.place ∙ omega arith; here = r.here; passes = r.passes }
 
-place-sound : {A : Type 0} (test : A → Bool) (k : ℕ) (xs : List A) (n : ℕ) → place_in test k xs ≡ Some n → FoundAt test k xs n
+pub place-sound : {A : Type 0} (test : A → Bool) (k : ℕ) (xs : List A) (n : ℕ) → place_in test k xs ≡ Some n → FoundAt test k xs n
 place-sound test k [] n h = absurd cc
 place-sound test k (x ∷ xs) n h = found-step test k x xs n (test x) refl h (λ g. place-sound test (k + 1) xs n g)
 
@@ -68,6 +68,7 @@ holds-types s e types b parts h =
       parts = λ n v at. part_same v (parts n v at);
       no_outer = h.no_outer;
       entities = λ name n x f k. entity-later s e next x g (h.entities name n x f k);
+      named_types = λ n x k. named-later e next x g (h.named_types n x k);
       entries = λ n f k. entry-later s e next f g (h.entries n f k);
       result = h.result;
     }
@@ -107,7 +108,7 @@ intern-fine s t e plain fun c h = by (place_in (same_ty t) 0 e.types.types) refl
         let next : Env = record e { types = record e.types { types = e.types.types ++ t ∷ [] } } in
         let g : Steps e next = record { types = begins-last e.types.types t; funs = begins-same e.types.funs; enums = begins-same e.classes.enums; locals = begins-same e.hand.locals } in record {
           steps = g;
-          classless = record { none = c.none; none_open = c.none_open; no_body = c.no_body; no_type = more_plain e.types.types t c.no_type plain; no_defaults = c.no_defaults };
+          classless = record { none = c.none; none_open = c.none_open; no_body = c.no_body; no_type = more_plain e.types.types t c.no_type plain; no_name = c.no_name; no_defaults = c.no_defaults };
           holds = λ w. let before = within-before e next s g w in
               holds-types s e (e.types.types ++ t ∷ []) (begins-last e.types.types t)
               (λ n v at. elim (get-snoc e.types.types t n v at) [

@@ -38,7 +38,7 @@ use Rattle.cf_elab_valid.proofs.Making.{IsType, intern-fine, of_kind-fine}
 use Rattle.cf_elab_valid.proofs.Names.{constant-fits, one-fine, operand-made}
 use Rattle.cf_elab_valid.proofs.Nodes.{core-Text, known-Text}
 use Rattle.cf_elab_valid.proofs.Values.{place-fits, type-tree}
-use Rattle.cf_elab_valid.proofs.Ways.{begins-get, begins-inside, begins-same, entity-later, entry-later, fine-before, made-fine, onward-fine, within-before, When}
+use Rattle.cf_elab_valid.proofs.Ways.{begins-get, begins-inside, begins-same, entity-later, named-later, entry-later, fine-before, made-fine, onward-fine, within-before, When}
 
 -- ---- sizes
 
@@ -111,7 +111,7 @@ module _ (s : Scene) (scene : IsScene s) where
   counted-steps n e = record { types = begins-same e.types.types; funs = begins-same e.types.funs; enums = begins-same e.classes.enums; locals = begins-same e.hand.locals }
 
   pub counted-classless : (n : ℕ) (e : Env) → Classless e → Classless (counted n e)
-  counted-classless n e c = record { none = c.none; none_open = c.none_open; no_body = c.no_body; no_type = c.no_type; no_defaults = c.no_defaults }
+  counted-classless n e c = record { none = c.none; none_open = c.none_open; no_body = c.no_body; no_type = c.no_type; no_name = c.no_name; no_defaults = c.no_defaults }
 
   pub counted-holds : (n : ℕ) (e : Env) → When s e (Holds s e) → When s (counted n e) (Holds s (counted n e))
   counted-holds n e h w =
@@ -119,6 +119,7 @@ module _ (s : Scene) (scene : IsScene s) where
         parts = k.parts;
         no_outer = k.no_outer;
         entities = λ name i x f at. entity-later s e (counted n e) x (counted-steps n e) (k.entities name i x f at);
+        named_types = λ i x at. named-later e (counted n e) x (counted-steps n e) (k.named_types i x at);
         entries = λ i f at. entry-later s e (counted n e) f (counted-steps n e) (k.entries i f at);
         result = k.result;
       }

@@ -6,8 +6,8 @@ use Rattle.cf_types.proofs.Places.{get-left}
 use Rattle.cf_elab.specs.Env.{Env, Entity, object, functions, alias, class_name, enum_name, enumerator, FunctionEntry}
 use Rattle.cf_elab.specs.Answer.{Answer, Made, Refused, Passed, onward}
 use Rattle.cf_elab.specs.Operand.{Value}
-use Rattle.cf_elab_valid.specs.Scene.{Scene, Begins, Within, Steps, Inside, EntityFits, EntryFits, Classless, Holds, Fits}
-use Rattle.cf_elab_valid.specs.Answers.{Fine}
+use Rattle.cf_elab_valid.specs.Scene.{Scene, Begins, Within, Steps, Inside, EntityFits, TypeFits, EntryFits, Classless, Holds, Fits}
+use Rattle.cf_elab_valid.specs.Answers.{Fine, FineAs}
 
 -- ---- lists that begin another
 
@@ -61,8 +61,16 @@ entity-later s a b (object x) g f = (inside-later a b x.type g f.0, f.1, f.2, f.
 entity-later s a b (functions fs) g f = f
 entity-later s a b (alias t) g f = inside-later a b t g f
 entity-later s a b (class_name c) g f = f
-entity-later s a b (enum_name e) g f = f
+entity-later s a b (enum_name e) g f = begins-inside a.classes.enums b.classes.enums e g.enums f
 entity-later s a b (enumerator t z) g f = (inside-later a b t g f.0, f.1)
+
+pub named-later : (a b : Env) (e : Entity) → Steps a b → TypeFits a e → TypeFits b e
+named-later a b (object x) g f = tt
+named-later a b (functions fs) g f = tt
+named-later a b (alias t) g f = inside-later a b t g f
+named-later a b (class_name c) g f = tt
+named-later a b (enum_name e) g f = begins-inside a.classes.enums b.classes.enums e g.enums f
+named-later a b (enumerator t z) g f = tt
 
 pub entry-later : (s : Scene) (a b : Env) (f : FunctionEntry) → Steps a b → EntryFits s a f → EntryFits s b f
 entry-later s a b f g k = record { fun = k.fun; here = begins-get a.types.types b.types.types f.type (ty.Fun k.fun) g.types k.here }
@@ -112,3 +120,33 @@ pub fine-within : {A : Type 0} (s : Scene) (P Q : A → Env → Type 0) (e : Env
 fine-within s P Q e (Made a b) f g = record { steps = g.steps; classless = g.classless; holds = g.holds; made = λ w. f a b g.steps w (g.made w) }
 fine-within s P Q e (Refused rule at) f g = tt
 fine-within s P Q e (Passed bound most) f g = tt
+
+-- ---- answers of which something is known at once
+
+pub as-before : {A : Type 0} (s : Scene) (Q : A → Type 0) (P : A → Env → Type 0) (e f : Env) (r : Answer A) → Steps e f → FineAs s Q P f r → FineAs s Q P e r
+as-before s Q P e f (Made a b) g k = (record { steps = steps-through e f b g k.0.steps; classless = k.0.classless; holds = k.0.holds; made = k.0.made }, k.1)
+as-before s Q P e f (Refused rule at) g k = tt
+as-before s Q P e f (Passed bound most) g k = tt
+
+pub as-made : {A : Type 0} (s : Scene) (Q : A → Type 0) (P : A → Env → Type 0) (e : Env) (a : A) → Q a → Classless e → When s e (Holds s e) → When s e (P a e) → FineAs s Q P e (Made a e)
+as-made s Q P e a q c h p = (record { steps = steps-none e; classless = c; holds = h; made = p }, q)
+
+-- from such an answer to any
+pub as-then : {A B : Type 0} (s : Scene) (Q : A → Type 0) (P : A → Env → Type 0) (R : B → Env → Type 0) (e : Env) (first : Answer A) (go : A → Env → Answer B) → FineAs s Q P e first
+    → ((a : A) (e1 : Env) → Q a → Steps e e1 → Classless e1 → When s e1 (Holds s e1) → When s e1 (P a e1) → Fine s R e1 (go a e1)) → Fine s R e (onward first go)
+as-then s Q P R e (Made a e1) go f next = fine-before s R e e1 (go a e1) f.0.steps (next a e1 f.1 f.0.steps f.0.classless f.0.holds f.0.made)
+as-then s Q P R e (Refused rule at) go f next = tt
+as-then s Q P R e (Passed bound most) go f next = tt
+
+-- to such an answer from another, and from any
+pub as-onward : {A B : Type 0} (s : Scene) (Q : A → Type 0) (P : A → Env → Type 0) (T : B → Type 0) (R : B → Env → Type 0) (e : Env) (first : Answer A) (go : A → Env → Answer B) → FineAs s Q P e first
+    → ((a : A) (e1 : Env) → Q a → Steps e e1 → Classless e1 → When s e1 (Holds s e1) → When s e1 (P a e1) → FineAs s T R e1 (go a e1)) → FineAs s T R e (onward first go)
+as-onward s Q P T R e (Made a e1) go f next = as-before s T R e e1 (go a e1) f.0.steps (next a e1 f.1 f.0.steps f.0.classless f.0.holds f.0.made)
+as-onward s Q P T R e (Refused rule at) go f next = tt
+as-onward s Q P T R e (Passed bound most) go f next = tt
+
+pub as-behind : {A B : Type 0} (s : Scene) (P : A → Env → Type 0) (T : B → Type 0) (R : B → Env → Type 0) (e : Env) (first : Answer A) (go : A → Env → Answer B) → Fine s P e first
+    → ((a : A) (e1 : Env) → Steps e e1 → Classless e1 → When s e1 (Holds s e1) → When s e1 (P a e1) → FineAs s T R e1 (go a e1)) → FineAs s T R e (onward first go)
+as-behind s P T R e (Made a e1) go f next = as-before s T R e e1 (go a e1) f.steps (next a e1 f.steps f.classless f.holds f.made)
+as-behind s P T R e (Refused rule at) go f next = tt
+as-behind s P T R e (Passed bound most) go f next = tt

@@ -17,8 +17,12 @@ Fine s P before (Made a behind) = Good s P before a behind
 Fine s P before (Refused rule at) = Unit {0}
 Fine s P before (Passed bound most) = Unit {0}
 
+-- of what is made something is known at once
+abbrev pub FineAs : {A : Type 0} → Scene → (A → Type 0) → (A → Env → Type 0) → Env → Answer A → Type 0
+FineAs s Q P before (Made a behind) = Good s P before a behind × Q a
+FineAs s Q P before (Refused rule at) = Unit {0}
+FineAs s Q P before (Passed bound most) = Unit {0}
+
 -- an operand, of which it is known at once that it is nothing of a class
 abbrev pub FineOperand : Scene → Env → Answer Operand → Type 0
-FineOperand s before (Made o behind) = Good s (OperandFits s) before o behind × IsShown o
-FineOperand s before (Refused rule at) = Unit {0}
-FineOperand s before (Passed bound most) = Unit {0}
+FineOperand s before r = FineAs s IsShown (OperandFits s) before r

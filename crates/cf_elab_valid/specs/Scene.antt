@@ -98,8 +98,14 @@ EntityFits s env (object x) = Inside env x.type × HomeFits s x.type x.home × (
 EntityFits s env (functions fs) = Unit {0}
 EntityFits s env (alias t) = Inside env t
 EntityFits s env (class_name c) = ⊥
-EntityFits s env (enum_name e) = Unit {0}
+EntityFits s env (enum_name e) = e < length env.classes.enums
 EntityFits s env (enumerator t z) = Inside env t × (holds_number z (tree s t) ≡ true)
+
+-- a type that a name stands for, whether the name is hidden or not
+abbrev pub TypeFits : Env → Entity → Type 0
+TypeFits env (alias t) = Inside env t
+TypeFits env (enum_name e) = e < length env.classes.enums
+TypeFits env other = Unit {0}
 
 pub record EntryFits (s : Scene) (env : Env) (f : FunctionEntry) : Type 0 where
   pub fun : ℕ
@@ -111,12 +117,13 @@ PartInside env (ty.Fun f) = f < length env.types.funs
 PartInside env (ty.Enum e) = e < length env.classes.enums
 PartInside env other = Unit {0}
 
--- there is no class, no type names one, and no function has default arguments
+-- there is no class, no type or name stands for one, and no function has default arguments
 pub record Classless (env : Env) : Type 0 where
   pub none : env.classes.defined ≡ []
   pub none_open : env.open_classes ≡ []
   pub no_body : class_of_body env.hand.kind ≡ None
   pub no_type : HasNoClass env.types
+  pub no_name : (n c : ℕ) → slice_get env.entities n ≡ Some (class_name c) → ⊥
   pub no_defaults : (n : ℕ) (f : FunctionEntry) → slice_get env.entries n ≡ Some f → f.defaults ≡ []
 
 -- what can be named fits
@@ -124,6 +131,7 @@ pub record Holds (s : Scene) (env : Env) : Type 0 where
   pub parts : (t : ℕ) (v : Ty) → slice_get env.types.types t ≡ Some v → PartInside env v
   pub no_outer : (n : ℕ) (l : Label) → slice_get env.classes.enums n ≡ Some l → l.outer ≡ None
   pub entities : (name : Name) (n : ℕ) (e : Entity) → found name env.scopes ≡ Some n → slice_get env.entities n ≡ Some e → EntityFits s env e
+  pub named_types : (n : ℕ) (e : Entity) → slice_get env.entities n ≡ Some e → TypeFits env e
   pub entries : (n : ℕ) (f : FunctionEntry) → slice_get env.entries n ≡ Some f → EntryFits s env f
   pub result : env.hand.result ≡ s.result
 
