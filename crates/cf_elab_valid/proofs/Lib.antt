@@ -12,6 +12,7 @@ mod Constants
 pub mod Constructs
 pub mod Early
 pub mod EarlyTrees
+pub mod Expressions
 pub mod Fit
 pub mod FitRows
 pub mod Initial

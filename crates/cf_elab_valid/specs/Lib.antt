@@ -1,4 +1,5 @@
 pub mod Answers
+pub mod Constants
 pub mod Conversion
 pub mod Scene
 pub mod Sorts
