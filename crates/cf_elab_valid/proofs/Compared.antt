@@ -1,17 +1,11 @@
 -- Pointers that are compared: with pointers to the same type, with void*, and with the constant 0 (5.9, 5.10).
-use Rattle.std.proofs.Common.{◌≡◌, ◌⊎◌, inl, inr, ℕ, Bool, true, false, ◌&&◌, if◌then◌else◌, List, [], ◌∷◌, ◌++◌, pos, zero, suc, negsuc, ℤ, Option, Some, None, refl, sym, ap, subst, ◌∙◌, true≢false}
-use Rattle.std.specs.Option.{option_map}
-use Rattle.cf_base.specs.declared.kind.Kind.{Kind}
+use Rattle.std.proofs.Common.{◌≡◌, ◌⊎◌, inl, inr, ℕ, Bool, true, false, ◌&&◌, List, Option, Some, None, refl, sym, ap, subst, ◌∙◌}
 use Rattle.cf_base.specs.declared.kind.Kind.TheVariants as kind
-use Rattle.cf_types.specs.Table.{Table}
 use Rattle.cf_types.specs.declared.ty.Ty.{Ty}
 use Rattle.cf_types.specs.declared.ty.Ty.TheVariants as ty
-use Rattle.cf_classes.specs.declared.class.ClassDef.{ClassDef}
 use Rattle.cf_convert.specs.Constness.{type_at, bare, is_const}
-use Rattle.cf_convert.specs.Converts.{steps, to_value, first_step, takes_null}
-use Rattle.cf_convert.specs.declared.conv.Val.{Val}
+use Rattle.cf_convert.specs.Converts.{steps}
 use Rattle.cf_convert.specs.declared.conv.ConvStep.{ConvStep}
-use Rattle.cf_convert.specs.declared.conv.ConvStep.TheVariants.{Null}
 use Rattle.cf_syntax.specs.declared.operator.BinaryOp.{BinaryOp}
 use Rattle.cf_syntax.specs.declared.operator.BinaryOp.TheVariants as binary
 use Rattle.cf_core.specs.declared.operators.PointerOperator.{PointerOperator}
@@ -21,31 +15,29 @@ use Rattle.cf_core.specs.FromClasses.{signature_of}
 use Rattle.cf_core.specs.FromTypes.{type_step}
 use Rattle.cf_core.specs.Numbers.{are_known}
 use Rattle.cf_core.specs.Typed.{typing}
-use Rattle.cf_core.specs.Types.{SourceType, integer, pointer, plain, without_const, is_void}
-use Rattle.cf_core.specs.Typing.{is_function, of_number, pointer_operated}
-use Rattle.cf_core_typed.specs.Same.{Same, is_normal, is_operand}
+use Rattle.cf_core.specs.Types.{SourceType, integer, pointer, without_const, is_void}
+use Rattle.cf_core.specs.Typing.{is_function, pointer_operated}
+use Rattle.cf_core_typed.specs.Same.{Same, is_normal}
 use Rattle.cf_core_typed.specs.Meets.{IsValue}
-use Rattle.cf_core_typed.proofs.Conversions.{null-is}
-use Rattle.cf_core_typed.proofs.Pointers.{is_order, is_equality, order-is, equality-is, objects-equal, null-equal, null-equal-left}
+use Rattle.cf_core_typed.proofs.Pointers.{is_order, is_equality, order-is, equality-is, objects-equal}
 use Rattle.cf_core_typed.proofs.Same.{and-both, function-normal, same-function}
 use Rattle.cf_core_typed.proofs.Values.{points-object, value-points}
 use Rattle.cf_elab.specs.Answer.{Made, onward, need}
 use Rattle.cf_elab.specs.Binary as row
 use Rattle.cf_elab.specs.Complete.{complete}
 use Rattle.cf_elab.specs.Env.{Env}
-use Rattle.cf_elab.specs.Fit.{fit, fitted, no_user, null_of, converted}
+use Rattle.cf_elab.specs.Fit.{fit, converted}
 use Rattle.cf_elab.specs.Made.{const_if, pointer_to}
-use Rattle.cf_elab.specs.Operand.{Value, val, defs, computed, Sort, object_pointer, void_pointer, sort_of, ty_sort, pointer_sort, is_reference, is_zero}
+use Rattle.cf_elab.specs.Operand.{Value, val, defs, computed, object_pointer, void_pointer, sort_of, ty_sort, pointer_sort, is_reference}
 use Rattle.cf_elab_valid.specs.Answers.{Fine}
 use Rattle.cf_elab_valid.specs.Scene.{Scene, IsScene, tree, typed, scope_of, Within, Steps, Inside, Classless, Holds, Fits, IsPlain}
 use Rattle.cf_elab_valid.specs.Sorts.{ObjectPointer}
 use Rattle.cf_elab_valid.proofs.Arithmetic.{IsOperand, plain-operand, of_kind-then, int-tree}
 use Rattle.cf_elab_valid.proofs.ConstOf.{IsAlike, alike-later, const_if-fine}
-use Rattle.cf_elab_valid.proofs.Early.{early-bare, early-form, early-inside, early-known, early-part}
-use Rattle.cf_elab_valid.proofs.Fit.{convert-plain, null_converts}
-use Rattle.cf_elab_valid.proofs.FitRows.{steps_at, converted-fine, converted-later, fit-fine}
+use Rattle.cf_elab_valid.proofs.Early.{early-form, early-known, early-part}
+use Rattle.cf_elab_valid.proofs.FitRows.{converted-fine, converted-later, fit-fine}
 use Rattle.cf_elab_valid.proofs.Making.{IsType, pointer_to-fine}
-use Rattle.cf_elab_valid.proofs.Nodes.{core-Convert, core-Number, core-PointerOperate, known-Number, known-PointerOperate}
+use Rattle.cf_elab_valid.proofs.Nodes.{core-PointerOperate, known-PointerOperate}
 use Rattle.cf_elab_valid.proofs.Steps.{some_is}
 use Rattle.cf_elab_valid.proofs.Trees.{tree-normal}
 use Rattle.cf_elab_valid.proofs.Unary.{part-inside, sorted}

@@ -1,20 +1,18 @@
 -- Constructs on values that are no class objects: assignments, casts, zeros of types, and types with arguments (5.2.3, 5.4, 5.17).
-use Rattle.std.proofs.Common.{◌≡◌, ℕ, Bool, true, false, ◌&&◌, if◌then◌else◌, List, [], ◌∷◌, pos, Option, Some, None, refl, sym, ap, subst, ◌∙◌, true≢false}
+use Rattle.std.proofs.Common.{◌≡◌, ℕ, true, false, List, [], ◌∷◌, pos, Option, Some, None, refl, sym, ap, subst, ◌∙◌, true≢false}
 use Rattle.cf_base.specs.declared.kind.Kind.{Kind}
-use Rattle.cf_types.specs.declared.ty.Ty.{Ty}
-use Rattle.cf_types.specs.declared.ty.Ty.TheVariants as ty
 use Rattle.cf_convert.specs.Constness.{bare}
 use Rattle.cf_syntax.specs.declared.operator.AssignOp.{AssignOp}
 use Rattle.cf_syntax.specs.declared.operator.AssignOp.TheVariants as assign
 use Rattle.cf_core.specs.declared.node.Core.TheVariants as node
 use Rattle.cf_core.specs.FromClasses.{signature_of}
 use Rattle.cf_core.specs.Typed.{typing}
-use Rattle.cf_core.specs.Types.{SourceType, void, integer, enumeration, const, plain, without_const, is_void}
-use Rattle.cf_core.specs.Typing.{is_integral, of_number, converts, is_expression, holds_number}
+use Rattle.cf_core.specs.Types.{SourceType, void, integer, enumeration, const, plain, is_void}
+use Rattle.cf_core.specs.Typing.{is_integral, converts, is_expression}
 use Rattle.cf_core_typed.specs.Same.{Same, is_bare}
 use Rattle.cf_core_typed.proofs.Same.{plain-bare, same-operand, same-plain, same-void}
 use Rattle.cf_core_typed.proofs.Values.{same-holds}
-use Rattle.cf_elab.specs.Answer.{Made, Refused, Elab, onward}
+use Rattle.cf_elab.specs.Answer.{Made, Refused, Elab}
 use Rattle.cf_elab.specs.Cast as row
 use Rattle.cf_elab.specs.Cast.{takes_null}
 use Rattle.cf_elab.specs.Choice.{assignment}
@@ -24,12 +22,11 @@ use Rattle.cf_elab.specs.ClassOperators.{update_number}
 use Rattle.cf_elab.specs.Env.{Env}
 use Rattle.cf_elab.specs.Expression as expression
 use Rattle.cf_elab.specs.Fit.{null_of}
-use Rattle.cf_elab.specs.MethodNode.{unused}
 use Rattle.cf_elab.specs.Operand.{Value, constant, computed, Sort, integral, enumeral, object_pointer, void_pointer, function_pointer, data_pointer, method_pointer, class_sort, array_sort, function_sort, void_sort, reference_sort, sort_of}
 use Rattle.cf_elab_numbers.proofs.Known.{zero_fits}
 use Rattle.cf_elab_valid.specs.Answers.{Fine}
 use Rattle.cf_elab_valid.specs.Conversion.{IsPointer}
-use Rattle.cf_elab_valid.specs.Scene.{Scene, IsScene, tree, typed, scope_of, Within, Inside, Classless, Holds, Fits, IsPlain, AllFit}
+use Rattle.cf_elab_valid.specs.Scene.{Scene, IsScene, tree, typed, scope_of, Inside, Classless, Holds, Fits, IsPlain, AllFit}
 use Rattle.cf_elab_valid.specs.Sorts.{SortIs}
 use Rattle.cf_elab_valid.proofs.Arithmetic.{IsOperand, plain-operand}
 use Rattle.cf_elab_valid.proofs.Assign.{assignment-fine}
@@ -39,7 +36,6 @@ use Rattle.cf_elab_valid.proofs.Fit.{convert-plain}
 use Rattle.cf_elab_valid.proofs.Names.{constant-fits}
 use Rattle.cf_elab_valid.proofs.Nodes.{core-Number, known-Number}
 use Rattle.cf_elab_valid.proofs.Nulls.{null_made}
-use Rattle.cf_elab_valid.proofs.Numbers.{enumerator-holds}
 use Rattle.cf_elab_valid.proofs.Operands.{no-function, no-object, by-scalar}
 use Rattle.cf_elab_valid.proofs.Sorts.{void-told}
 use Rattle.cf_elab_valid.proofs.Trees.{tree-normal}

@@ -1,5 +1,5 @@
 -- Every expression that is built is fine wherever it is elaborated (5).
-use Rattle.std.proofs.Common.{◌≡◌, ℕ, Bool, true, false, ◌&&◌, if◌then◌else◌, List, [], ◌∷◌, map, pos, Option, Some, None, refl, sym, ap, subst, ◌∙◌, true≢false}
+use Rattle.std.proofs.Common.{◌≡◌, ℕ, Bool, true, false, ◌&&◌, if◌then◌else◌, List, [], ◌∷◌, map, pos, Option, Some, None, refl, sym, subst, ◌∙◌}
 use Rattle.cf_base.specs.declared.kind.Kind.TheVariants as kind
 use Rattle.cf_syntax.specs.declared.declarator.DeclTree.{DeclTree, roll-DeclTree, ind-DeclTree}
 use Rattle.cf_syntax.specs.declared.declarator.DeclTree.TheOpen.{DeclTree-F, Expr-F}
@@ -15,6 +15,7 @@ use Rattle.cf_syntax.specs.declared.operator.BinaryOp.TheVariants as binary
 use Rattle.cf_syntax.specs.declared.operator.PrefixOp.{PrefixOp}
 use Rattle.cf_syntax.specs.declared.operator.PrefixOp.TheVariants as prefix
 use Rattle.cf_core_typed.proofs.Same.{and-left, and-right}
+use Rattle.cf_syntax.specs.declared.specifier.TypeSpecifier.{TypeSpecifier}
 use Rattle.cf_elab.specs.Answer.{Answer, Made, Refused, Passed, Elab, onward}
 use Rattle.cf_elab.specs.Built as built
 use Rattle.cf_elab.specs.Built.{Place}
@@ -25,14 +26,14 @@ use Rattle.cf_elab.specs.Expression as row
 use Rattle.cf_elab.specs.Expression.{elaborated, declared, expression_step, with_one, with_two}
 use Rattle.cf_elab.specs.Names.{key}
 use Rattle.cf_elab.specs.Operand.{Value, Operand, Part, part, evaluated}
-use Rattle.cf_elab.specs.Paths.{Found, found_alone, operand_found, named, named_in_class, in_class_alone, name_of_scopes, type_at_path}
+use Rattle.cf_elab.specs.Paths.{found_alone, operand_found, named, named_in_class, in_class_alone, name_of_scopes, type_at_path}
 use Rattle.cf_elab.specs.Shape.{Parameter}
 use Rattle.cf_elab.specs.Specifiers.{gathered, basic_word, base_type}
 use Rattle.cf_elab.specs.Unary.{size_constant}
 use Rattle.cf_elab_valid.specs.Answers.{Fine, FineOperand}
 use Rattle.cf_elab_valid.specs.Constants as constants
 use Rattle.cf_elab_valid.specs.Constants.{constants_fit, declarator_fits, parameter_fits, type_id_fits}
-use Rattle.cf_elab_valid.specs.Scene.{Scene, IsScene, Steps, Inside, Classless, Holds, Fits}
+use Rattle.cf_elab_valid.specs.Scene.{Scene, IsScene, Classless, Holds, Fits}
 use Rattle.cf_elab_valid.proofs.Arithmetic.{IsOperand}
 use Rattle.cf_elab_valid.proofs.Constructs.{assign_operator-fine, cast_operator-fine}
 use Rattle.cf_elab_valid.proofs.Named.{IsThere, none_some, first-none, path-fine, gathered_named, base-fine}
@@ -178,17 +179,19 @@ module _ (s : Scene) (scene : IsScene s) where
       → AreParts s (map elaborated (map (λ (x : Expression). x.0) es))
   parts-of [] b f = tt
   parts-of (x ∷ xs) b f =
-      let split = first-none (built.expression x.0) (built.first_of (map built.expression (map (λ (y : Expression). y.0) xs))) b in
-      ((x.1 split.0 (and-left (constants_fit x.0) (constants.all_of (map constants_fit (map (λ (y : Expression). y.0) xs))) f)).part,
-      parts-of xs split.1 (and-right (constants_fit x.0) (constants.all_of (map constants_fit (map (λ (y : Expression). y.0) xs))) f))
+      let split = first-none (built.expression x.0) (built.first_of (map built.expression (map (λ (y : Expression). y.0) xs))) b in (
+        (x.1 split.0 (and-left (constants_fit x.0) (constants.all_of (map constants_fit (map (λ (y : Expression). y.0) xs))) f)).part,
+        parts-of xs split.1 (and-right (constants_fit x.0) (constants.all_of (map constants_fit (map (λ (y : Expression). y.0) xs))) f),
+      )
 
   parameters-of : (ps : List Parametered) → built.first_of (map parameter_place (map (λ (x : Parametered). x.0) ps)) ≡ None → constants.all_of (map parameter_fits (map (λ (x : Parametered). x.0) ps)) ≡ true
       → AreParameters s (map parameter (map (λ (x : Parametered). x.0) ps))
   parameters-of [] b f = tt
   parameters-of (x ∷ xs) b f =
-      let split = first-none (parameter_place x.0) (built.first_of (map parameter_place (map (λ (y : Parametered). y.0) xs))) b in
-      (x.1 split.0 (and-left (parameter_fits x.0) (constants.all_of (map parameter_fits (map (λ (y : Parametered). y.0) xs))) f),
-      parameters-of xs split.1 (and-right (parameter_fits x.0) (constants.all_of (map parameter_fits (map (λ (y : Parametered). y.0) xs))) f))
+      let split = first-none (parameter_place x.0) (built.first_of (map parameter_place (map (λ (y : Parametered). y.0) xs))) b in (
+        x.1 split.0 (and-left (parameter_fits x.0) (constants.all_of (map parameter_fits (map (λ (y : Parametered). y.0) xs))) f),
+        parameters-of xs split.1 (and-right (parameter_fits x.0) (constants.all_of (map parameter_fits (map (λ (y : Parametered). y.0) xs))) f),
+      )
 
   -- the trees of a layer alone
   abbrev expr_of : Expr-F Tree Expression Parametered Typing → Expr-F DeclTree Expr Param TypeId
@@ -214,8 +217,13 @@ module _ (s : Scene) (scene : IsScene s) where
   expr-layer (Expr-F.Paren at a) b f = record { part = record { run = (a.1 b f).part.run }; alone = refl }
   expr-layer (Expr-F.Named n) b f = record { part = record { run = λ e c h. identifier n e b c h }; alone = alone_name n b }
   expr-layer (Expr-F.BasicCall at x args) b f =
-      record { part = record { run = λ e c h. built-fine s scene at (base_type (gathered (basic_word at x ∷ []))) (map elaborated (map (λ (y : Expression). y.0) args)) e
-          (base-fine s scene (gathered (basic_word at x ∷ [])) e c h (λ w. gathered_named (basic_word at x ∷ []) e (tt, tt))) (parts-of args b f) }; alone = refl }
+      record {
+        part = record {
+          run = λ e c h. built-fine s scene at (base_type (gathered (basic_word at x ∷ []))) (map elaborated (map (λ (y : Expression). y.0) args)) e
+              (base-fine s scene (gathered (basic_word at x ∷ [])) e c h (λ w. gathered_named (basic_word at x ∷ []) e (tt, tt))) (parts-of args b f);
+        };
+        alone = refl;
+      }
   expr-layer (Expr-F.TypeCall at path args) b f =
       let split = first-none (built.of_path path) (built.first_of (map built.expression (map (λ (y : Expression). y.0) args))) b in
       record { part = record { run = λ e c h. built-fine s scene at (type_at_path path) (map elaborated (map (λ (y : Expression). y.0) args)) e (path-fine s path e split.0 c h) (parts-of args split.1 f) }; alone = refl }
@@ -226,8 +234,13 @@ module _ (s : Scene) (scene : IsScene s) where
   expr-layer (Expr-F.Call at g args) b f =
       let split = first-none (built.expression g.0) (built.first_of (map built.expression (map (λ (y : Expression). y.0) args))) b in
       let others = constants.all_of (map constants_fit (map (λ (y : Expression). y.0) args)) in
-      record { part = record { run = λ e c h. call-fine s scene at (elaborated g.0) (map elaborated (map (λ (y : Expression). y.0) args)) e (g.1 split.0 (and-left (constants_fit g.0) others f)).part
-          (parts-of args split.1 (and-right (constants_fit g.0) others f)) c h }; alone = refl }
+      record {
+        part = record {
+          run = λ e c h. call-fine s scene at (elaborated g.0) (map elaborated (map (λ (y : Expression). y.0) args)) e (g.1 split.0 (and-left (constants_fit g.0) others f)).part
+              (parts-of args split.1 (and-right (constants_fit g.0) others f)) c h;
+        };
+        alone = refl;
+      }
   expr-layer (Expr-F.Dot at a n) b f = none_some at (first-none (Some at) (built.expression a.0) b).0
   expr-layer (Expr-F.Arrow at a n) b f = none_some at (first-none (Some at) (built.expression a.0) b).0
   expr-layer (Expr-F.StepAfter at op a) b f = one-part (elaborated a.0) (step_operator at op true) (a.1 b f).part (λ x e1 c1 h1 p. step_operator-fine s scene at op true x e1 c1 h1 p)
@@ -249,8 +262,13 @@ module _ (s : Scene) (scene : IsScene s) where
       let split = first-none (built.expression q.0) (built.first (built.expression x.0) (built.expression y.0)) b in
       let sides = first-none (built.expression x.0) (built.expression y.0) split.1 in
       let two = and-left (constants_fit q.0 && constants_fit x.0) (constants_fit y.0) f in
-      record { part = record { run = λ e c h. conditional_row-fine s scene at (elaborated q.0) (elaborated x.0) (elaborated y.0) e (q.1 split.0 (and-left (constants_fit q.0) (constants_fit x.0) two)).part
-          (x.1 sides.0 (and-right (constants_fit q.0) (constants_fit x.0) two)).part (y.1 sides.1 (and-right (constants_fit q.0 && constants_fit x.0) (constants_fit y.0) f)).part c h }; alone = refl }
+      record {
+        part = record {
+          run = λ e c h. conditional_row-fine s scene at (elaborated q.0) (elaborated x.0) (elaborated y.0) e (q.1 split.0 (and-left (constants_fit q.0) (constants_fit x.0) two)).part
+              (x.1 sides.0 (and-right (constants_fit q.0) (constants_fit x.0) two)).part (y.1 sides.1 (and-right (constants_fit q.0 && constants_fit x.0) (constants_fit y.0) f)).part c h;
+        };
+        alone = refl;
+      }
   expr-layer (Expr-F.Assign at op x y) b f =
       let split = first-none (built.expression x.0) (built.expression y.0) b in
       two-parts (elaborated x.0) (elaborated y.0) (assign_operator at op) (x.1 split.0 (and-left (constants_fit x.0) (constants_fit y.0) f)).part (y.1 split.1 (and-right (constants_fit x.0) (constants_fit y.0) f)).part
@@ -276,3 +294,72 @@ module _ (s : Scene) (scene : IsScene s) where
       let split = first-none (built.declarator d.0) (built.expression x.0) b in
       array-shape s scene at (declared d.0).shape (Some (elaborated x.0)) (d.1 split.0 (and-left (declarator_fits d.0) (constants_fit x.0) f))
       (λ p is. subst (IsPart s) (some_is (elaborated x.0) p is) (x.1 split.1 (and-right (declarator_fits d.0) (constants_fit x.0) f)).part)
+
+  -- ---- parameters and types in brackets
+
+  abbrev param_of : Param-F Tree Expression Parametered Typing → Param-F DeclTree Expr Param TypeId
+  param_of y = map-Param Tree Expression Parametered Typing DeclTree Expr Param TypeId (λ (x : Tree). x.0) (λ (x : Expression). x.0) (λ (x : Parametered). x.0) (λ (x : Typing). x.0) y
+
+  abbrev type_layer_of : TypeId-F Tree Expression Parametered Typing → TypeId-F DeclTree Expr Param TypeId
+  type_layer_of y = map-TypeId Tree Expression Parametered Typing DeclTree Expr Param TypeId (λ (x : Tree). x.0) (λ (x : Expression). x.0) (λ (x : Parametered). x.0) (λ (x : Typing). x.0) y
+
+  abbrev ParamLayer : Param-F Tree Expression Parametered Typing → Type 0
+  ParamLayer y =
+      built.param_step (map-Param DeclTree Expr Param TypeId Place Place Place Place built.declarator built.expression parameter_place type_place (param_of y)) ≡ None
+      → constants.param_step (map-Param DeclTree Expr Param TypeId Bool Bool Bool Bool declarator_fits constants_fit parameter_fits type_id_fits (param_of y)) ≡ true
+      → IsParameter s (parameter_step (map-Param DeclTree Expr Param TypeId Declared Part (Elab Parameter) (Elab ℕ) declared elaborated parameter type_of (param_of y)))
+
+  param-at : (at : ℕ) (ss : List TypeSpecifier) (d : Tree) (o : Option (ℕ × Expression)) → ParamLayer (record { at = at; specifiers = ss; declarator = d; default = o })
+  param-at at ss d None b f =
+      let split = first-none (built.of_specifiers ss) (built.first (built.declarator d.0) None) b in
+      parameter-fine s scene ss (declared d.0).shape split.0 (d.1 (first-none (built.declarator d.0) None split.1).0 f) at (declared d.0).name
+  param-at at ss d (Some x) b f =
+      let split = first-none (built.of_specifiers ss) (built.first (built.declarator d.0) (Some x.0)) b in
+      none_some x.0 (first-none (built.declarator d.0) (Some x.0) split.1).1
+
+  param-layer : (y : Param-F Tree Expression Parametered Typing) → ParamLayer y
+  param-layer y = param-at y.at y.specifiers y.declarator y.default
+
+  type-layer : (y : TypeId-F Tree Expression Parametered Typing)
+      → built.type_step (map-TypeId DeclTree Expr Param TypeId Place Place Place Place built.declarator built.expression parameter_place type_place (type_layer_of y)) ≡ None
+      → constants.type_step (map-TypeId DeclTree Expr Param TypeId Bool Bool Bool Bool declarator_fits constants_fit parameter_fits type_id_fits (type_layer_of y)) ≡ true
+      → IsTypeId s (type_id_step (map-TypeId DeclTree Expr Param TypeId Declared Part (Elab Parameter) (Elab ℕ) declared elaborated parameter type_of (type_layer_of y)))
+  type-layer y b f =
+      let split = first-none (built.of_specifiers y.specifiers) (built.declarator y.declarator.0) b in
+      type-fine s scene y.specifiers (declared y.declarator.0).shape split.0 (y.declarator.1 split.1 f)
+
+  -- ---- the whole
+
+  tree-step : (x : DeclTree-F DeclTree Expr Param TypeId) (y : DeclTree-F Tree Expression Parametered Typing) → tree_of y ≡ x → P-tree (roll-DeclTree x)
+  tree-step x y is = subst (λ z. P-tree (roll-DeclTree z)) is (λ b f.
+      subst (λ (d : Declared). IsShape s scene d.shape) (sym (fold-roll-DeclTree Declared Part (Elab Parameter) (Elab ℕ) declared_step expression_step parameter_step type_id_step (tree_of y)))
+      (tree-layer y (sym (fold-roll-DeclTree Place Place Place Place built.tree_step built.expression_step built.param_step built.type_step (tree_of y)) ∙ b)
+      (sym (fold-roll-DeclTree Bool Bool Bool Bool constants.tree_step constants.expression_step constants.param_step constants.type_step (tree_of y)) ∙ f)))
+
+  expr-step : (x : Expr-F DeclTree Expr Param TypeId) (y : Expr-F Tree Expression Parametered Typing) → expr_of y ≡ x → P-expr (roll-Expr x)
+  expr-step x y is = subst (λ z. P-expr (roll-Expr z)) is (λ b f.
+      subst (IsWhole s) (sym (fold-roll-Expr Declared Part (Elab Parameter) (Elab ℕ) declared_step expression_step parameter_step type_id_step (expr_of y)))
+      (expr-layer y (sym (fold-roll-Expr Place Place Place Place built.tree_step built.expression_step built.param_step built.type_step (expr_of y)) ∙ b)
+      (sym (fold-roll-Expr Bool Bool Bool Bool constants.tree_step constants.expression_step constants.param_step constants.type_step (expr_of y)) ∙ f)))
+
+  param-step : (x : Param-F DeclTree Expr Param TypeId) (y : Param-F Tree Expression Parametered Typing) → param_of y ≡ x → P-param (roll-Param x)
+  param-step x y is = subst (λ z. P-param (roll-Param z)) is (λ b f.
+      subst (IsParameter s) (sym (fold-roll-Param Declared Part (Elab Parameter) (Elab ℕ) declared_step expression_step parameter_step type_id_step (param_of y)))
+      (param-layer y (sym (fold-roll-Param Place Place Place Place built.tree_step built.expression_step built.param_step built.type_step (param_of y)) ∙ b)
+      (sym (fold-roll-Param Bool Bool Bool Bool constants.tree_step constants.expression_step constants.param_step constants.type_step (param_of y)) ∙ f)))
+
+  type-step : (x : TypeId-F DeclTree Expr Param TypeId) (y : TypeId-F Tree Expression Parametered Typing) → type_layer_of y ≡ x → P-type (roll-TypeId x)
+  type-step x y is = subst (λ z. P-type (roll-TypeId z)) is (λ b f.
+      subst (IsTypeId s) (sym (fold-roll-TypeId Declared Part (Elab Parameter) (Elab ℕ) declared_step expression_step parameter_step type_id_step (type_layer_of y)))
+      (type-layer y (sym (fold-roll-TypeId Place Place Place Place built.tree_step built.expression_step built.param_step built.type_step (type_layer_of y)) ∙ b)
+      (sym (fold-roll-TypeId Bool Bool Bool Bool constants.tree_step constants.expression_step constants.param_step constants.type_step (type_layer_of y)) ∙ f)))
+
+  -- an expression of forms that are built, with constants of their types
+  pub expression-whole : (x : Expr) → P-expr x
+  expression-whole = ind-Expr P-tree P-expr P-param P-type tree-step expr-step param-step type-step
+
+  pub declarator-shape : (d : DeclTree) → P-tree d
+  declarator-shape = ind-DeclTree P-tree P-expr P-param P-type tree-step expr-step param-step type-step
+
+  pub type-whole : (t : TypeId) → P-type t
+  type-whole = ind-TypeId P-tree P-expr P-param P-type tree-step expr-step param-step type-step

@@ -1,5 +1,5 @@
 -- Types by their names, and by the words of a declaration (3.2, 7.1).
-use Rattle.std.proofs.Common.{◌≡◌, ℕ, zero, suc, ◌<◌, Bool, true, false, nat_le, is_some, if◌then◌else◌, List, [], ◌∷◌, length, map, Option, Some, None, slice_get, refl, sym, ap, subst, ◌∙◌, true≢false}
+use Rattle.std.proofs.Common.{◌≡◌, ℕ, zero, suc, Bool, true, false, nat_le, is_some, if◌then◌else◌, List, [], ◌∷◌, length, map, Option, Some, None, slice_get, refl, sym, ap, subst, ◌∙◌}
 use Rattle.std.specs.Option.{option_or}
 use Rattle.cf_types.specs.declared.ty.Ty.TheVariants as ty
 use Rattle.cf_lookup.specs.Scope.{found, found_in}
@@ -18,7 +18,7 @@ use Rattle.cf_elab.specs.Made.{intern, of_kind, const_if}
 use Rattle.cf_elab.specs.Members.{class_of_body, classes_around, outwards, innermost}
 use Rattle.cf_elab.specs.Names.{entity_of, type_of_entity}
 use Rattle.cf_elab.specs.Operand.{sort_of}
-use Rattle.cf_elab.specs.Paths.{Found, entity, found_alone, types_in, block_scopes, around_or_type_of_file, type_around, type_found, type_at, type_at_path, keyed_type, type_behind_key}
+use Rattle.cf_elab.specs.Paths.{Found, entity, types_in, block_scopes, around_or_type_of_file, type_around, type_found, type_at, type_at_path, keyed_type, type_behind_key}
 use Rattle.cf_elab.specs.Specifiers.{Word, stored_as, const_word, basic_word, type_word, defined_word, Gathered, nothing_gathered, conflicts, with_storage, with_type, with_basic, gathers, gathered_from, gathered, basic_kind, base_type}
 use Rattle.cf_elab_env.proofs.Finding.{found-alone}
 use Rattle.cf_elab_valid.specs.Answers.{Fine}

@@ -1,22 +1,20 @@
 -- Pointers that are compared with the constant 0 (5.10).
-use Rattle.std.proofs.Common.{◌≡◌, ◌⊎◌, inl, inr, ℕ, Bool, true, false, ◌&&◌, if◌then◌else◌, List, [], ◌∷◌, ◌++◌, pos, zero, ℤ, Option, Some, None, refl, sym, ap, subst, ◌∙◌, true≢false}
+use Rattle.std.proofs.Common.{◌≡◌, ◌⊎◌, inl, inr, ℕ, Bool, true, false, ◌&&◌, if◌then◌else◌, List, [], ◌∷◌, ◌++◌, pos, ℤ, Option, Some, None, refl, sym, ap, subst, ◌∙◌, true≢false}
 use Rattle.std.specs.Option.{option_map}
 use Rattle.cf_base.specs.declared.kind.Kind.{Kind}
 use Rattle.cf_types.specs.Table.{Table}
 use Rattle.cf_types.specs.declared.ty.Ty.{Ty}
 use Rattle.cf_types.specs.declared.ty.Ty.TheVariants as ty
-use Rattle.cf_classes.specs.declared.class.ClassDef.{ClassDef}
 use Rattle.cf_convert.specs.Constness.{type_at, bare}
 use Rattle.cf_convert.specs.Converts.{steps, first_step, takes_null, value_steps, decayed}
-use Rattle.cf_convert.specs.declared.conv.Val.{Val}
 use Rattle.cf_convert.specs.declared.conv.ConvStep.{ConvStep}
-use Rattle.cf_convert.specs.declared.conv.ConvStep.TheVariants.{Read, AddConst, Promote, Integer, Null, ToVoid}
+use Rattle.cf_convert.specs.declared.conv.ConvStep.TheVariants.{Read, Promote, Integer, Null, ToVoid}
 use Rattle.cf_syntax.specs.declared.operator.BinaryOp.{BinaryOp}
 use Rattle.cf_core.specs.declared.operators.PointerOperator.{PointerOperator}
 use Rattle.cf_core.specs.declared.node.Core.TheVariants as node
 use Rattle.cf_core.specs.FromClasses.{signature_of}
 use Rattle.cf_core.specs.Typed.{typing}
-use Rattle.cf_core.specs.Types.{SourceType, void, pointer, plain, without_const}
+use Rattle.cf_core.specs.Types.{SourceType, void, pointer, without_const}
 use Rattle.cf_core.specs.Typing.{is_integral, of_number, is_zero as told_zero}
 use Rattle.cf_core_typed.specs.Same.{Same}
 use Rattle.cf_core_typed.proofs.Conversions.{null-is}
@@ -27,12 +25,11 @@ use Rattle.cf_elab.specs.Answer.{Answer, Made, Refused, Passed, Elab, onward, fo
 use Rattle.cf_elab.specs.Binary as row
 use Rattle.cf_elab.specs.Env.{Env}
 use Rattle.cf_elab.specs.Fit.{fit, fitted, no_user, all_steps, step_checked}
-use Rattle.cf_elab.specs.Operand.{Value, val, defs, Sort, integral, enumeral, object_pointer, void_pointer, function_pointer, data_pointer, method_pointer, class_sort, array_sort, function_sort, void_sort, reference_sort, sort_of, ty_sort, is_reference, is_zero, arithmetic, read_value}
+use Rattle.cf_elab.specs.Operand.{Value, val, defs, Sort, object_pointer, void_pointer, function_pointer, sort_of, ty_sort, is_reference, is_zero, arithmetic, read_value}
 use Rattle.cf_elab_env.proofs.Growth.{here}
 use Rattle.cf_elab_valid.specs.Answers.{Fine}
 use Rattle.cf_elab_valid.specs.Conversion.{IsPointer, is_single, with_last}
-use Rattle.cf_elab_valid.specs.Scene.{Scene, IsScene, tree, typed, scope_of, Within, Steps, Inside, Classless, Holds, HoldsKnown, Fits, IsPlain}
-use Rattle.cf_elab_valid.specs.Sorts.{SortIs}
+use Rattle.cf_elab_valid.specs.Scene.{Scene, IsScene, tree, typed, scope_of, Within, Steps, Inside, Classless, Holds, HoldsKnown, IsPlain}
 use Rattle.cf_elab_valid.proofs.Arithmetic.{IsOperand}
 use Rattle.cf_elab_valid.proofs.Compared.{Compared, no_reference_sort, of_pointers-fine, with_other-by, equality_op}
 use Rattle.cf_elab_valid.proofs.Early.{early-bare, early-form, early-inside, early-sort}
@@ -41,8 +38,7 @@ use Rattle.cf_elab_valid.proofs.FitRows.{Still, all_checked, classless-type, sti
 use Rattle.cf_elab_valid.proofs.Making.{IsType}
 use Rattle.cf_elab_valid.proofs.Nodes.{core-Convert, core-Number, known-Number}
 use Rattle.cf_elab_valid.proofs.Steps.{null-way, some_is}
-use Rattle.cf_elab_valid.proofs.Unary.{sorted}
-use Rattle.cf_elab_valid.proofs.Values.{plain-later, plain-value, plain-number, type-tree}
+use Rattle.cf_elab_valid.proofs.Values.{plain-value, plain-number, type-tree}
 use Rattle.cf_elab_valid.proofs.Ways.{fits-when, inside-later, made-fine, onward-fine, within-before, When}
 
 -- a pointer made of 0

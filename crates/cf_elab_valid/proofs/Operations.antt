@@ -1,5 +1,5 @@
 -- Binary operators by the sorts of their operands (5.6 to 5.15).
-use Rattle.std.proofs.Common.{◌≡◌, inl, inr, ℕ, Bool, true, false, List, [], ◌∷◌, Option, Some, None, refl, sym, ap, subst, ◌∙◌, true≢false}
+use Rattle.std.proofs.Common.{◌≡◌, inl, inr, ℕ, true, false, List, [], ◌∷◌, Option, Some, None, refl, sym, ap, subst, ◌∙◌, true≢false}
 use Rattle.cf_base.specs.declared.kind.Kind.{Kind}
 use Rattle.cf_base.specs.declared.kind.Kind.TheVariants as kind
 use Rattle.cf_convert.specs.Converts.{steps}
@@ -8,7 +8,7 @@ use Rattle.cf_syntax.specs.declared.operator.BinaryOp.{BinaryOp}
 use Rattle.cf_syntax.specs.declared.operator.BinaryOp.TheVariants as binary
 use Rattle.cf_core.specs.declared.operators.PointerOperator.{PointerOperator}
 use Rattle.cf_core.specs.declared.operators.PointerOperator.TheVariants as pointer
-use Rattle.cf_core.specs.Types.{reference, array, integer}
+use Rattle.cf_core.specs.Types.{array, integer}
 use Rattle.cf_core_typed.specs.Same.{is_operand}
 use Rattle.cf_core_typed.proofs.Same.{function-operand, same-operand}
 use Rattle.cf_elab.specs.Answer.{Made, Refused, Elab, onward}
@@ -20,8 +20,7 @@ use Rattle.cf_elab.specs.Env.{Env}
 use Rattle.cf_elab.specs.Fit.{fit, converted}
 use Rattle.cf_elab.specs.Operand.{Value, val, defs, Sort, integral, enumeral, object_pointer, void_pointer, function_pointer, data_pointer, method_pointer, class_sort, array_sort, function_sort, void_sort, reference_sort, sort_of, is_void, arithmetic, plain}
 use Rattle.cf_elab_valid.specs.Answers.{Fine}
-use Rattle.cf_elab_valid.specs.Scene.{Scene, IsScene, tree, Within, Steps, Classless, Holds, Fits, IsPlain, is_allowed}
-use Rattle.cf_elab_valid.specs.Sorts.{SortIs}
+use Rattle.cf_elab_valid.specs.Scene.{Scene, IsScene, tree, Within, Classless, Holds, Fits, IsPlain, is_allowed}
 use Rattle.cf_elab_valid.proofs.Arithmetic.{IsOperand, plain-operand, conjunction-fine, disjunction-fine}
 use Rattle.cf_elab_valid.proofs.Binary.{moves, moved-fine, moved_right-fine, by_kinds-fine}
 use Rattle.cf_elab_valid.proofs.Compared.{of_pointers-fine, same_objects-fine, void_pointee, void_equality-fine}
@@ -30,7 +29,7 @@ use Rattle.cf_elab_valid.proofs.Nulls.{PointsOrNever, is_pointing, pointing, wit
 use Rattle.cf_elab_valid.proofs.Operands.{no-function, by-scalar}
 use Rattle.cf_elab_valid.proofs.Plain.{decayed_tree, plain-fine}
 use Rattle.cf_elab_valid.proofs.Steps.{some_is}
-use Rattle.cf_elab_valid.proofs.Unary.{part-inside, plain-own, sorted}
+use Rattle.cf_elab_valid.proofs.Unary.{plain-own, sorted}
 use Rattle.cf_elab_valid.proofs.Values.{plain-when}
 use Rattle.cf_elab_valid.proofs.Ways.{fine-as, fits-when, made-fine, onward-fine, within-before, When}
 

@@ -24,7 +24,7 @@ use Rattle.cf_elab_valid.specs.Scene.{Scene, IsScene, Within, Classless, Holds, 
 use Rattle.cf_elab_valid.proofs.Arithmetic.{IsOperand}
 use Rattle.cf_elab_valid.proofs.Calls.{never-called, call_entry-fine, fun-is}
 use Rattle.cf_elab_valid.proofs.FitRows.{Still, needed}
-use Rattle.cf_elab_valid.proofs.Ways.{onward-fine, within-before, When}
+use Rattle.cf_elab_valid.proofs.Ways.{When}
 
 -- ---- a property of the numbers in a list
 

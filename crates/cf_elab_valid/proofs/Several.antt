@@ -1,7 +1,6 @@
 -- Several parts, and what is made of their values (5.2.2, 5.2.3, 5.18).
-use Rattle.std.proofs.Common.{◌≡◌, ℕ, List, [], ◌∷◌, map, Option, Some, None, refl, sym, subst}
+use Rattle.std.proofs.Common.{ℕ, List, [], ◌∷◌, map}
 use Rattle.cf_elab.specs.Answer.{Answer, Made, Refused, Passed, Elab, onward, all, each}
-use Rattle.cf_elab.specs.Call.{call_functions}
 use Rattle.cf_elab.specs.Choice.{conditional, sequence}
 use Rattle.cf_elab.specs.Env.{Env}
 use Rattle.cf_elab.specs.Expression as row
@@ -11,10 +10,9 @@ use Rattle.cf_elab.specs.Operand.{Value, Operand, value, functions, methods, fie
 use Rattle.cf_elab_valid.specs.Answers.{Good, Fine, FineOperand}
 use Rattle.cf_elab_valid.specs.Scene.{Scene, IsScene, Steps, Inside, Classless, Holds, Fits, AllFit, OperandFits, IsShown}
 use Rattle.cf_elab_valid.proofs.Arithmetic.{IsOperand}
-use Rattle.cf_elab_valid.proofs.Calls.{all-later}
 use Rattle.cf_elab_valid.proofs.Choice.{conditional-fine, sequence-fine}
 use Rattle.cf_elab_valid.proofs.Constructs.{from_type-fine}
-use Rattle.cf_elab_valid.proofs.Names.{operand-onward, one-fine, value_of-fine}
+use Rattle.cf_elab_valid.proofs.Names.{one-fine, value_of-fine}
 use Rattle.cf_elab_valid.proofs.Parts.{IsPart, operand-later, operand-when}
 use Rattle.cf_elab_valid.proofs.Picks.{call_functions-fine}
 use Rattle.cf_elab_valid.proofs.Through.{call_operator-fine}

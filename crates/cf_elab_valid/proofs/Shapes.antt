@@ -1,5 +1,5 @@
 -- Declarators, and the types that they make (8.1, 8.2).
-use Rattle.std.proofs.Common.{◌≡◌, ℕ, ◌+◌, ◌<◌, Bool, true, false, not, ◌&&◌, ◌||◌, if◌then◌else◌, List, [], ◌∷◌, ◌++◌, length, map, is_some, Option, Some, None, slice_get, refl, sym, ap, subst, ◌∙◌, true≢false, arith, length-append}
+use Rattle.std.proofs.Common.{◌≡◌, ℕ, ◌<◌, Bool, true, false, not, ◌&&◌, ◌||◌, if◌then◌else◌, List, [], ◌∷◌, ◌++◌, length, is_some, Option, Some, None, refl, sym, ap, subst, ◌∙◌, arith, length-append}
 use Rattle.std.proofs.lemmas.Option.{slice_get_within}
 use Rattle.cf_types.specs.declared.ty.Fun.{Fun}
 use Rattle.cf_types.specs.declared.ty.Ty.{Ty}
@@ -15,21 +15,19 @@ use Rattle.cf_elab.specs.Declarator.{pointed, is_nothing, named_at, no_void, all
 use Rattle.cf_elab.specs.Env.{Env}
 use Rattle.cf_elab.specs.Made.{entered_fun, place_in, same_fun, intern, intern_fun, pointer_to, reference_to, array_of, const_if, parameter_step, function_type}
 use Rattle.cf_elab.specs.Operand.{Value, Part, evaluated, Sort, integral, enumeral, object_pointer, void_pointer, function_pointer, data_pointer, method_pointer, class_sort, array_sort, function_sort, void_sort, reference_sort, sort_of, is_array, is_function, is_void, is_reference}
-use Rattle.cf_elab.specs.Shape as row
 use Rattle.cf_elab.specs.Shape.{Parameter, Shape, inner, pointing, referring, to_member, taking, holding, is_inner, Position, nowhere, Shaped, whole, unbounded, fine_bound, count_of, parameter_type, typed, bounds_constant}
 use Rattle.cf_elab.specs.Specifiers.{Gathered, gathered, base_type, parameter_conflict, type_conflict}
 use Rattle.cf_elab_env.proofs.Growth.{here}
 use Rattle.cf_elab_env.proofs.Sorts.{below_at}
 use Rattle.cf_elab_valid.specs.Answers.{Fine, FineAs}
-use Rattle.cf_elab_valid.specs.Scene.{Scene, IsScene, Begins, Within, Steps, Inside, PartInside, Classless, Holds}
+use Rattle.cf_elab_valid.specs.Scene.{Scene, IsScene, Within, Steps, Inside, PartInside, Classless, Holds}
 use Rattle.cf_elab_valid.proofs.Arithmetic.{IsOperand}
 use Rattle.cf_elab_valid.proofs.ConstOf.{IsAlike, const_if-fine}
-use Rattle.cf_elab_valid.proofs.Early.{SortInside, early-sort-inside}
 use Rattle.cf_elab_valid.proofs.FitRows.{Still, needed, still-fine, still-onward}
-use Rattle.cf_elab_valid.proofs.Making.{IsType, FoundAt, place-sound, intern-fine, pointer_to-fine}
+use Rattle.cf_elab_valid.proofs.Making.{IsType, place-sound, intern-fine, pointer_to-fine}
 use Rattle.cf_elab_valid.proofs.Named.{IsThere, none_some, WordsFit, words-later, words-fine, NamedFits, gathered_named, base-fine}
 use Rattle.cf_elab_valid.proofs.Parts.{IsPart, evaluated-fine}
-use Rattle.cf_elab_valid.proofs.Ways.{begins-get, begins-last, begins-same, begins-inside, entity-later, named-later, entry-later, fine-as, fine-before, as-made, as-before, as-then, as-onward, as-behind, inside-later, made-fine, onward-fine, steps-none, steps-through, within-before, When}
+use Rattle.cf_elab_valid.proofs.Ways.{begins-get, begins-last, begins-same, entity-later, named-later, entry-later, fine-as, as-made, as-onward, as-behind, inside-later, made-fine, onward-fine, steps-through, within-before, When}
 
 pub still-as : {A B : Type 0} (s : Scene) (T : B → Type 0) (R : B → Env → Type 0) (e : Env) (r : Answer A) (go : Env → Answer B) → Still e r → FineAs s T R e (go e) → FineAs s T R e (onward r (λ _. go))
 still-as s T R e (Made a b) go h f = subst (λ x. FineAs s T R e (go x)) (sym h) f

@@ -1,5 +1,5 @@
 -- Sizes of types, and the constants and places that expressions begin with (2.5, 5.3.2).
-use Rattle.std.proofs.Common.{◌≡◌, ℕ, zero, suc, ◌+◌, ◌*◌, ◌<◌, ◌≤◌, ◌^◌, Bool, true, false, not, nat_lt, List, [], ◌∷◌, ◌++◌, length, reverse, pos, ℤ, Option, None, Some, slice_get, refl, sym, ap, subst, ◌∙◌, true≢false, arith, length-append}
+use Rattle.std.proofs.Common.{◌≡◌, ℕ, zero, suc, ◌+◌, ◌*◌, ◌<◌, ◌≤◌, Bool, true, false, not, nat_lt, List, [], ◌∷◌, ◌++◌, length, pos, ℤ, None, Some, slice_get, refl, sym, ap, subst, ◌∙◌, arith, length-append}
 use Rattle.std.proofs.lemmas.Bool.Decides.{nat_tests}
 use Rattle.cf_base.specs.Integers.{fits}
 use Rattle.cf_base.specs.declared.kind.Kind.{Kind}
@@ -15,15 +15,15 @@ use Rattle.cf_core.specs.FromClasses.{signature_of}
 use Rattle.cf_core.specs.Typed.{typing}
 use Rattle.cf_core.specs.Places.{is_reference}
 use Rattle.cf_core.specs.Types.{integer, array, is_void}
-use Rattle.cf_core.specs.Typing.{holds_number, of_place}
+use Rattle.cf_core.specs.Typing.{holds_number}
 use Rattle.cf_core_typed.specs.Meets.{IsPlace}
-use Rattle.cf_core_typed.proofs.Values.{of_place-is, same-holds}
+use Rattle.cf_core_typed.proofs.Values.{of_place-is}
 use Rattle.cf_elab.specs.Answer.{Answer, Made, onward, need}
 use Rattle.cf_elab.specs.Complete.{complete, bytes_of}
-use Rattle.cf_elab.specs.Env.{Env, Hand}
+use Rattle.cf_elab.specs.Env.{Env}
 use Rattle.cf_elab.specs.Expression as expression
 use Rattle.cf_elab.specs.Made.{of_kind, array_of}
-use Rattle.cf_elab.specs.Operand.{Value, value, constant, place_of, Sort, reference_sort, sort_of, defs}
+use Rattle.cf_elab.specs.Operand.{Value, constant, place_of, Sort, reference_sort, sort_of}
 use Rattle.cf_elab.specs.Unary as row
 use Rattle.cf_elab.specs.Unary.{is_unsized, referred_type}
 use Rattle.cf_elab_env.proofs.Growth.{here}
@@ -35,7 +35,7 @@ use Rattle.cf_elab_valid.proofs.Compared.{type-later}
 use Rattle.cf_elab_valid.proofs.Early.{SortInside, early-sort-inside}
 use Rattle.cf_elab_valid.proofs.FitRows.{no_defs}
 use Rattle.cf_elab_valid.proofs.Making.{IsType, intern-fine, of_kind-fine}
-use Rattle.cf_elab_valid.proofs.Names.{constant-fits, one-fine, operand-made}
+use Rattle.cf_elab_valid.proofs.Names.{constant-fits, one-fine}
 use Rattle.cf_elab_valid.proofs.Nodes.{core-Text, known-Text}
 use Rattle.cf_elab_valid.proofs.Values.{place-fits, type-tree}
 use Rattle.cf_elab_valid.proofs.Ways.{begins-get, begins-inside, begins-same, entity-later, named-later, entry-later, fine-before, made-fine, onward-fine, within-before, When}

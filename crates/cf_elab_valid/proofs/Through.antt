@@ -1,5 +1,5 @@
 -- Calls of values: of a function through a pointer to it (5.2.2).
-use Rattle.std.proofs.Common.{◌≡◌, ℕ, ◌<◌, Bool, true, false, ◌&&◌, nat_le, length, List, [], ◌∷◌, map, Option, Some, None, slice_get, refl, sym, ap, subst, ◌∙◌, true≢false, arith}
+use Rattle.std.proofs.Common.{◌≡◌, ℕ, ◌<◌, Bool, true, false, ◌&&◌, nat_le, length, List, [], ◌∷◌, map, Option, Some, None, refl, sym, ap, subst, ◌∙◌, true≢false, arith}
 use Rattle.std.proofs.lemmas.Bool.Decides.{nat_tests}
 use Rattle.cf_types.specs.declared.ty.Fun.{Fun}
 use Rattle.cf_types.specs.declared.ty.Ty.{Ty}
@@ -25,7 +25,7 @@ use Rattle.cf_elab.specs.Call as row
 use Rattle.cf_elab.specs.Call.{fits_count}
 use Rattle.cf_elab.specs.ClassOperators as operators
 use Rattle.cf_elab.specs.Env.{Env, FunctionEntry}
-use Rattle.cf_elab.specs.Operand.{Value, val, defs, Sort, integral, enumeral, object_pointer, void_pointer, function_pointer, data_pointer, method_pointer, class_sort, array_sort, function_sort, void_sort, reference_sort, sort_of, plain}
+use Rattle.cf_elab.specs.Operand.{Value, val, defs, Sort, function_pointer, sort_of, plain}
 use Rattle.cf_elab.specs.UserFit.{arguments}
 use Rattle.cf_elab_env.proofs.Growth.{here}
 use Rattle.cf_elab_valid.specs.Answers.{Fine}

@@ -1,5 +1,6 @@
 pub mod Answers
 pub mod Constants
 pub mod Conversion
+pub mod Laws
 pub mod Scene
 pub mod Sorts
