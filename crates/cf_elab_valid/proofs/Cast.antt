@@ -35,7 +35,7 @@ use Rattle.cf_elab_valid.proofs.Arithmetic.{IsOperand, plain-operand}
 use Rattle.cf_elab_valid.proofs.Choice.{fits-expression}
 use Rattle.cf_elab_valid.proofs.Early.{SortInside, early-sort, early-inside, early-known, early-sort-is, early-sort-inside}
 use Rattle.cf_elab_valid.proofs.EarlyTrees.{same_types-end}
-use Rattle.cf_elab_valid.proofs.Fit.{convert-plain, leads-fine, retyped-plain}
+use Rattle.cf_elab_valid.proofs.Fit.{convert-plain, integral_operand, leads-fine, retyped-plain}
 use Rattle.cf_elab_valid.proofs.FitRows.{fit-fine}
 use Rattle.cf_elab_valid.proofs.Nodes.{core-FromVoid, known-FromVoid}
 use Rattle.cf_elab_valid.proofs.Numbers.{enumerator-holds}
@@ -65,16 +65,8 @@ module _ (s : Scene) (scene : IsScene s) where
       → Fine s (IsPlain s (tree s t)) e (Made (record x { at = at; node = node.Convert at t x.node; type = t; number = z }) e)
   integer-fine at t x z e c h i p both known =
       made-fine s (IsPlain s (tree s t)) e (record x { at = at; node = node.Convert at t x.node; type = t; number = z }) c h
-      (λ w. convert-plain s scene e w t (i w) at at x.node x.is_lvalue z x.is_fixed (p w).no_place (p w).fits.numbers (integral_operand (tree s t) (both w).to) (converts_there w) (known w))
+      (λ w. convert-plain s scene e w t (i w) at at x.node x.is_lvalue z x.is_fixed (p w).no_place (p w).fits.numbers (integral_operand s scene (tree s t) (both w).to) (converts_there w) (known w))
     where
-      integral_operand : (u : SourceType) → is_integral (without_const u) ≡ true → is_operand u ≡ true
-      integral_operand u h = sym (operand-plain u) ∙ by (without_const u) h
-        where
-          by : (v : SourceType) → is_integral v ≡ true → is_operand v ≡ true
-          by (integer k) h = refl
-          by (enumeration n) h = refl
-          by v h = absurd (true≢false (sym h))
-
       converts_there : (w : Within e s) → converts (plain (tree s t)) (typed s x.node) ≡ true
       converts_there w =
           to-integer (plain (tree s t)) (typed s x.node)

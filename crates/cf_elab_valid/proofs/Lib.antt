@@ -24,6 +24,7 @@ pub mod Nulls
 pub mod Numbers
 pub mod Operands
 pub mod Operations
+pub mod Options
 pub mod Parts
 pub mod Picks
 pub mod Plain

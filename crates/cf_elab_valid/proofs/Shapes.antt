@@ -25,7 +25,8 @@ use Rattle.cf_elab_valid.proofs.Arithmetic.{IsOperand}
 use Rattle.cf_elab_valid.proofs.ConstOf.{IsAlike, const_if-fine}
 use Rattle.cf_elab_valid.proofs.FitRows.{Still, needed, still-fine, still-onward}
 use Rattle.cf_elab_valid.proofs.Making.{IsType, place-sound, intern-fine, pointer_to-fine}
-use Rattle.cf_elab_valid.proofs.Named.{IsThere, none_some, WordsFit, words-later, words-fine, NamedFits, gathered_named, base-fine}
+use Rattle.cf_elab_valid.proofs.Named.{IsThere, WordsFit, words-later, words-fine, NamedFits, gathered_named, base-fine}
+use Rattle.cf_elab_valid.proofs.Options.{never_none}
 use Rattle.cf_elab_valid.proofs.Parts.{IsPart, evaluated-fine}
 use Rattle.cf_elab_valid.proofs.Ways.{begins-get, begins-last, begins-same, entity-later, named-later, entry-later, fine-as, as-made, as-onward, as-behind, inside-later, made-fine, onward-fine, steps-through, within-before, When}
 
@@ -278,7 +279,7 @@ module _ (s : Scene) (scene : IsScene s) where
       by : (p : Pointer) → built.of_pointer p ≡ None → (x : Shape) (e1 : Env) → IsPlainShape x → Classless e1 → When s e1 (Holds s e1) → When s e1 (ShapeThere x e1) → FineAs s IsPlainShape ShapeThere e1 (pointed p x e1)
       by (pointer.To at q) b x e1 plain c1 h1 f = as-made s IsPlainShape ShapeThere e1 (pointing at q x) plain c1 h1 f
       by (pointer.Reference at) b x e1 plain c1 h1 f = as-made s IsPlainShape ShapeThere e1 (referring at x) plain c1 h1 f
-      by (pointer.ToMember at path q) b x e1 plain c1 h1 f = none_some at b
+      by (pointer.ToMember at path q) b x e1 plain c1 h1 f = never_none at b
 
   pub function-shape : (at : ℕ) (d : Elab Shape) (ps : List (Elab Parameter)) (b : Bool) → IsShape s scene d → AreParameters s ps
       → IsShape s scene (λ e. onward (d e) (λ x f. onward (onward (all ps f) parameters) (λ qs. gives (taking at qs b x))))
