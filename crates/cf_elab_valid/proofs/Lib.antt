@@ -32,6 +32,7 @@ pub mod Several
 pub mod Shapes
 pub mod Sizes
 pub mod Sorts
+pub mod Statements
 pub mod Stepping
 pub mod Steps
 pub mod Through

@@ -28,7 +28,7 @@ use Rattle.cf_elab_valid.proofs.Making.{IsType, place-sound, intern-fine, pointe
 use Rattle.cf_elab_valid.proofs.Named.{IsThere, WordsFit, words-later, words-fine, NamedFits, gathered_named, base-fine}
 use Rattle.cf_elab_valid.proofs.Options.{never_none}
 use Rattle.cf_elab_valid.proofs.Parts.{IsPart, evaluated-fine}
-use Rattle.cf_elab_valid.proofs.Ways.{begins-get, begins-last, begins-same, entity-later, named-later, entry-later, fine-as, as-made, as-onward, as-behind, inside-later, made-fine, onward-fine, steps-through, within-before, When}
+use Rattle.cf_elab_valid.proofs.Ways.{same-hand, begins-get, begins-last, begins-same, entity-later, named-later, entry-later, fine-as, as-made, as-onward, as-behind, inside-later, made-fine, onward-fine, steps-through, within-before, When}
 
 pub still-as : {A B : Type 0} (s : Scene) (T : B → Type 0) (R : B → Env → Type 0) (e : Env) (r : Answer A) (go : Env → Answer B) → Still e r → FineAs s T R e (go e) → FineAs s T R e (onward r (λ _. go))
 still-as s T R e (Made a b) go h f = subst (λ x. FineAs s T R e (go x)) (sym h) f
@@ -98,7 +98,7 @@ module _ (s : Scene) where
           made-fine s FunThere e n c h (λ w. let place = r.place in omega arith)
       by None found =
           let next : Env = record e { types = record e.types { funs = e.types.funs ++ g ∷ [] } } in
-          let step : Steps e next = record { types = begins-same e.types.types; funs = begins-last e.types.funs g; enums = begins-same e.classes.enums; locals = begins-same e.hand.locals } in record {
+          let step : Steps e next = record { types = begins-same e.types.types; funs = begins-last e.types.funs g; enums = begins-same e.classes.enums; locals = begins-same e.hand.locals; hand = same-hand e.hand } in record {
             steps = step;
             classless = record { none = c.none; none_open = c.none_open; no_body = c.no_body; no_type = c.no_type; no_name = c.no_name; no_defaults = c.no_defaults };
             holds = λ w. let k = h (within-before e next s step w) in record {
