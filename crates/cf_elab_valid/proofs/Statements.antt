@@ -1,5 +1,5 @@
 -- Statements that declare nothing: expressions, choices, loops and jumps (6.2 to 6.6).
-use Rattle.std.proofs.Common.{◌≡◌, ℕ, Bool, true, false, not, ◌&&◌, ◌||◌, if◌then◌else◌, Option, Some, None, refl, sym, ap, subst, ◌∙◌, true≢false}
+use Rattle.std.proofs.Common.{◌≡◌, ℕ, Bool, true, false, not, ◌&&◌, ◌||◌, if◌then◌else◌, List, [], ◌∷◌, Option, Some, None, refl, sym, ap, subst, ◌∙◌, true≢false}
 use Rattle.std.specs.Option.{option_map, option_map_or}
 use Rattle.cf_core.specs.declared.operators.LoopForm.{LoopForm}
 use Rattle.cf_core.specs.declared.operators.LoopForm.TheVariants as form
@@ -16,7 +16,7 @@ use Rattle.cf_core.specs.Numbers.{are_known, maybe_of, known_step, known_part}
 use Rattle.cf_core.specs.Types.{integer, enumeration, pointer, array, is_void}
 use Rattle.cf_core.specs.Typed.{typing}
 use Rattle.cf_core.specs.Typing.{is_expression, is_condition}
-use Rattle.cf_core.specs.Valid.{Body, fits, initialises_local}
+use Rattle.cf_core.specs.Valid.{Body, condition_fits, expression_fits, fits, initialises_local}
 use Rattle.cf_core.specs.View.{Started, core_step, started_step, maybe}
 use Rattle.cf_core_typed.proofs.Same.{and-both, function-operand, same-void}
 use Rattle.cf_elab.specs.Answer.{Answer, Made as MadeIn, Refused, Passed, Elab, onward, need, gives, maybe as maybe_run}
@@ -36,11 +36,11 @@ use Rattle.cf_elab_valid.proofs.Arithmetic.{IsOperand, IsTested, tested-conditio
 use Rattle.cf_elab_valid.proofs.Choice.{class_truth-fine, fits-expression}
 use Rattle.cf_elab_valid.proofs.Early.{early-sort-is}
 use Rattle.cf_elab_valid.proofs.Initial.{StartFits, initial-fine}
-use Rattle.cf_elab_valid.proofs.Nodes.{core-Full, core-Blank, core-Break, core-Continue, known-Full, known-Blank, known-Break, known-Continue}
+use Rattle.cf_elab_valid.proofs.Nodes.{core-Sequence, known-Sequence, core-Full, core-Blank, core-Break, core-Continue, known-Full, known-Blank, known-Break, known-Continue}
 use Rattle.cf_elab_valid.proofs.Options.{none_some, some_is}
 use Rattle.cf_elab_valid.proofs.Parts.{IsPart, evaluated-fine}
 use Rattle.cf_elab_valid.proofs.Unary.{unused-node}
-use Rattle.cf_elab_valid.proofs.Ways.{fits-when, fine-before, inside-later, made-fine, onward-fine, steps-through, within-before, When}
+use Rattle.cf_elab_valid.proofs.Ways.{fits-later, fits-when, fine-before, inside-later, made-fine, onward-fine, steps-through, within-before, When}
 
 -- ---- the nodes
 
@@ -412,3 +412,66 @@ module _ (s : Scene) (scene : IsScene s) (n : ℕ) (m : Bool) where
           given : (o : Option Value) (e e1 : Env) → Inner s m e1 → Classless e1 → When s e1 (Holds s e1) → When s e1 (Given o e1) → Fine s (Statement e) e1 (onward (row.returned at o e1) (λ q. gives (made at (node.Return at q))))
           given None e e1 i c h f = behind None e e1 (returned-none at e1 i c h)
           given (Some v) e e1 i c h f = behind (Some v) e e1 (returned-some at v e1 i c h f)
+
+  -- ---- for
+
+  maybe-fine : {A B : Type 0} (P : B → Env → Type 0) (run : A → Elab B) (o : Option A) (e : Env) → Classless e → When s e (Holds s e) → ((a : A) → o ≡ Some a → Fine s P e (run a e)) → Fine s (λ x f. (b : B) → x ≡ Some b → P b f) e (maybe_run run o e)
+  maybe-fine {A} {B} P run None e c h f = made-fine s (λ x f. (b : B) → x ≡ Some b → P b f) e None c h (λ w b is. absurd (none_some b is))
+  maybe-fine {A} {B} P run (Some a) e c h f =
+      onward-fine s P (λ x f. (b : B) → x ≡ Some b → P b f) e (run a e) (λ y. gives (Some y)) (f a refl)
+      (λ y e1 g c1 h1 p. made-fine s (λ x f. (b : B) → x ≡ Some b → P b f) e1 (Some y) c1 h1 (λ w b is. subst (λ z. P z e1) (some_is y b is) (p w)))
+
+  condition_there : (o : Option Node) (e : Env) → ((q : Node) → o ≡ Some q → IsCondition q e) → (maybe_of s.tables (option_map (are_known s.tables) o) ≡ true) × (condition_fits (body_of s n m) (maybe (option_map (core s) o)) ≡ true)
+  condition_there None e f = (refl, refl)
+  condition_there (Some q) e f = ((f q refl).numbers, (f q refl).condition)
+
+  step_there : (o : Option Value) (e : Env) → Classless e → ((v : Value) → o ≡ Some v → Fits s e v)
+      → (maybe_of s.tables (option_map (are_known s.tables) (row.step_node e o)) ≡ true) × (expression_fits (body_of s n m) (maybe (option_map (core s) (row.step_node e o))) ≡ true)
+  step_there None e c f = (refl, refl)
+  step_there (Some v) e c f = (ap (are_known s.tables) (unused-node e c v) ∙ (f v refl).numbers, ap (λ u. is_expression (typed s u)) (unused-node e c v) ∙ fits-expression s scene e v (f v refl))
+
+  for-fits : (at : ℕ) (first : Made) (o : Option Node) (t : Option Value) (b : Made) (breaks continues : Bool) (e : Env) → Classless e → StatementFits s n m breaks continues first e → ((q : Node) → o ≡ Some q → IsCondition q e)
+      → ((v : Value) → t ≡ Some v → Fits s e v) → StatementFits s n m true true b e → StatementFits s n m breaks continues (row.with_first at first b (row.loop_of at form.For o (row.step_node e t) b)) e
+  for-fits at first o t b breaks continues e c ff fo ft fb =
+      let x = row.step_node e t in
+      let loop_node = node.Loop at form.For o x b.node in
+      let ko = condition_there o e fo in
+      let kt = step_there t e c ft in
+      let whole = core-Sequence s.tables (signature_of s.tables) at (first.node ∷ loop_node ∷ []) in
+      let inner = core-Loop s at form.For o x b.node in
+      let fine_loop : fits (body_of s n m) breaks continues (core s loop_node) ≡ true = ap (fits (body_of s n m) breaks continues) inner
+          ∙ and-both (condition_fits (body_of s n m) (maybe (option_map (core s) o)) && expression_fits (body_of s n m) (maybe (option_map (core s) x))) (fits (body_of s n m) true true (core s b.node))
+          (and-both (condition_fits (body_of s n m) (maybe (option_map (core s) o))) (expression_fits (body_of s n m) (maybe (option_map (core s) x))) ko.1 kt.1) fb.fine in
+      let known_loop : are_known s.tables loop_node ≡ true = known-Loop s at form.For o x b.node
+          ∙ and-both (maybe_of s.tables (option_map (are_known s.tables) o) && maybe_of s.tables (option_map (are_known s.tables) x)) (are_known s.tables b.node)
+          (and-both (maybe_of s.tables (option_map (are_known s.tables) o)) (maybe_of s.tables (option_map (are_known s.tables) x)) ko.0 kt.0) fb.numbers in
+      let quiet : initialises_local (core s loop_node) ≡ false = ap initialises_local inner in record {
+        numbers = known-Sequence s.tables at (first.node ∷ loop_node ∷ []) ∙ and-both (are_known s.tables first.node) (are_known s.tables loop_node && true) ff.numbers (and-both (are_known s.tables loop_node) true known_loop refl);
+        unlabelled = refl;
+        fine = ap (fits (body_of s n m) breaks continues) whole
+            ∙ and-both (fits (body_of s n m) breaks continues (core s first.node)) (fits (body_of s n m) breaks continues (core s loop_node) && true) ff.fine (and-both (fits (body_of s n m) breaks continues (core s loop_node)) true fine_loop refl);
+        reached = λ r. reached_by (initialises_local (core s first.node)) (initialises_local (core s loop_node)) first.initialises b.initialises (sym (ap initialises_local whole) ∙ r) quiet ff.reached;
+      }
+    where
+      reached_by : (a l i j : Bool) → (a || (l || false)) ≡ true → l ≡ false → (a ≡ true → i ≡ true) → (i || j) ≡ true
+      reached_by true l i j r q f = ap (λ x. x || j) (f refl)
+      reached_by false true i j r q f = absurd (true≢false q)
+      reached_by false false i j r q f = absurd (true≢false (sym r))
+
+  pub for-statement : (at : ℕ) (first : Elab Made) (x step : Option Part) (body : Elab Made) → IsStatement s n m first → ((p : Part) → x ≡ Some p → IsPart s p) → ((p : Part) → step ≡ Some p → IsPart s p) → IsStatement s n m body
+      → IsStatement s n m (row.for_row at first x step body)
+  for-statement at first x step body k px ps l = record {
+    fine = λ e i c h. onward-fine s (Statement e) (Statement e) e (first e) _ (k.fine e i c h)
+        (λ f e1 g1 c1 h1 ff. onward-fine s (λ o d. (v : Value) → o ≡ Some v → Fits s d v) (Statement e) e1 (maybe_run evaluated x e1) _ (maybe-fine (IsOperand s) evaluated x e1 c1 h1 (λ p is. evaluated-fine s scene p e1 (px p is) c1 h1))
+        (λ v e2 g2 c2 h2 fv. onward-fine s (λ o d. (u : Value) → o ≡ Some u → Fits s d u) (Statement e) e2 (maybe_run evaluated step e2) _ (maybe-fine (IsOperand s) evaluated step e2 c2 h2 (λ p is. evaluated-fine s scene p e2 (ps p is) c2 h2))
+        (λ t e3 g3 c3 h3 ft. let g = steps-through e e2 e3 (steps-through e e1 e2 g1 g2) g3 in
+        onward-fine s (λ b d. StatementFits s n m true true b d) (Statement e) e3 (row.looped body e3) _ (looped-fine body l e3 (inner-later s m e e3 g i) c3 h3)
+        (λ b e4 g4 c4 h4 fb. onward-fine s (λ o d. (q : Node) → o ≡ Some q → IsCondition q d) (Statement e) e4 (maybe_run (row.condition at) v e4) (λ o d. MadeIn (row.with_first at f b (row.loop_of at form.For o (row.step_node d t) b)) d)
+        (maybe-fine IsCondition (row.condition at) v e4 c4 h4 (λ u is. condition-fine at u e4 c4 h4 (fits-when s e2 e4 u (steps-through e2 e3 e4 g3 g4) (λ w. fv w u is))))
+        (λ o e5 g5 c5 h5 fo. made-fine s (Statement e) e5 (row.with_first at f b (row.loop_of at form.For o (row.step_node e5 t) b)) c5 h5
+        (λ w. let w4 = within-before e4 e5 s g5 w in
+        let w3 = within-before e3 e4 s g4 w4 in
+        let w1 = within-before e1 e3 s (steps-through e1 e2 e3 g2 g3) w3 in
+        for-fits at f o t b e.hand.breaks e.hand.continues e5 c5 (same-statement e.hand.breaks e.hand.continues f e1 e5 (ff w1)) (fo w)
+        (λ u is. fits-later s e3 e5 u (steps-through e3 e4 e5 g4 g5) (ft w3 u is)) (same-statement true true b e4 e5 (fb w4))))))));
+  }
