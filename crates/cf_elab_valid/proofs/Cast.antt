@@ -13,12 +13,12 @@ use Rattle.cf_core.specs.Numbers.{are_known, has_type}
 use Rattle.cf_core.specs.Places.{is_reference as tree_is_reference}
 use Rattle.cf_core.specs.Typed as typed_row
 use Rattle.cf_core.specs.Typed.{typing}
-use Rattle.cf_core.specs.Types.{SourceType, void, integer, enumeration, pointer, const, plain, without_const, same_but_const, is_void}
+use Rattle.cf_core.specs.Types.{SourceType, void, enumeration, pointer, const, plain, without_const, same_but_const, is_void}
 use Rattle.cf_core.specs.Typing.{allowed, is_integral, of_value, pointed, converts}
-use Rattle.cf_core_typed.specs.Same.{Same, is_bare, is_normal, is_operand}
+use Rattle.cf_core_typed.specs.Same.{Same, is_bare, is_normal}
 use Rattle.cf_core_typed.specs.Meets.{IsValue}
 use Rattle.cf_core_typed.proofs.Conversions.{to-integer, from-void-is, to-void-pointer}
-use Rattle.cf_core_typed.proofs.Same.{and-both, operand-plain, integral-bare, same-operand, same-void, same-plain, same-reference, pointer-form, plain-bare, plain-normal, type-equal}
+use Rattle.cf_core_typed.proofs.Same.{and-both, integral-bare, same-operand, same-void, same-plain, same-reference, pointer-form, plain-bare, plain-normal, type-equal}
 use Rattle.cf_core_typed.proofs.Values.{place-same, value-same, value-integer}
 use Rattle.cf_elab.specs.Answer.{Made, Refused, Elab, onward, need, gives}
 use Rattle.cf_elab.specs.Cast as row

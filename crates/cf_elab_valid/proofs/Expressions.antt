@@ -30,7 +30,7 @@ use Rattle.cf_elab.specs.Paths.{found_alone, operand_found, named, named_in_clas
 use Rattle.cf_elab.specs.Shape.{Parameter}
 use Rattle.cf_elab.specs.Specifiers.{gathered, basic_word, base_type}
 use Rattle.cf_elab.specs.Unary.{size_constant}
-use Rattle.cf_elab_valid.specs.Answers.{Fine, FineOperand}
+use Rattle.cf_elab_valid.specs.Answers.{Fine, FineOperand, IsPart}
 use Rattle.cf_elab_valid.specs.Constants as constants
 use Rattle.cf_elab_valid.specs.Constants.{constants_fit, declarator_fits, parameter_fits, type_id_fits}
 use Rattle.cf_elab_valid.specs.Scene.{Scene, IsScene, Classless, Holds, Fits}
@@ -41,7 +41,7 @@ use Rattle.cf_elab_valid.proofs.Names.{one-fine, name-fine}
 use Rattle.cf_elab_valid.proofs.Operands.{prefix_operator-fine, step_operator-fine, index_operator-fine}
 use Rattle.cf_elab_valid.proofs.Operations.{binary_operator-fine}
 use Rattle.cf_elab_valid.proofs.Options.{never_none, some_is}
-use Rattle.cf_elab_valid.proofs.Parts.{IsPart, evaluated-fine, with_one-fine, with_two-fine}
+use Rattle.cf_elab_valid.proofs.Parts.{evaluated-fine, with_one-fine, with_two-fine}
 use Rattle.cf_elab_valid.proofs.Several.{AreParts, operand-before, call-fine, built-fine, conditional_row-fine, comma-fine}
 use Rattle.cf_elab_valid.proofs.Shapes.{IsShape, IsParameter, AreParameters, IsTypeId, inner-shape, pointed-shape, function-shape, array-shape, parameter-fine, type-fine}
 use Rattle.cf_elab_valid.proofs.Sizes.{counted, counted-steps, counted-classless, counted-holds, size_constant-fine, integer-fine, literal-fine}

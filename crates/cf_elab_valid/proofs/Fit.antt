@@ -1,6 +1,5 @@
 -- Implicit conversion: a value that it makes is one of the type (4).
-use Rattle.std.proofs.Common.{◌≡◌, ℕ, ◌<◌, nat_lt, arith, Bool, true, false, length, List, [], ◌∷◌, ◌++◌, ℤ, pos, Option, None, refl, sym, ap, subst, ◌∙◌, true≢false}
-use Rattle.std.proofs.lemmas.Bool.Decides.{nat_tests}
+use Rattle.std.proofs.Common.{◌≡◌, ℕ, Bool, true, false, List, [], ◌∷◌, ◌++◌, ℤ, pos, Option, None, refl, sym, ap, subst, ◌∙◌, true≢false}
 use Rattle.cf_convert.specs.declared.conv.ConvStep.{ConvStep}
 use Rattle.cf_convert.specs.declared.conv.ConvStep.TheVariants.{AddConst, Promote, Integer, Null, ToVoid}
 use Rattle.cf_core.specs.declared.node.Core.{Core as Node}
@@ -28,7 +27,7 @@ use Rattle.cf_elab_valid.proofs.Numbers.{holds-same, convert-holds}
 use Rattle.cf_elab_valid.proofs.Sorts.{promoted-holds}
 use Rattle.cf_elab_valid.proofs.Trees.{tree-normal}
 use Rattle.cf_elab_valid.proofs.Values.{has_type-is}
-use Rattle.cf_elab_valid.proofs.Ways.{made-fine, inside-end, When}
+use Rattle.cf_elab_valid.proofs.Ways.{made-fine, When}
 
 -- const that is added last does nothing
 pub all_steps-last : (t : ℕ) (ss : List ConvStep) (x : Value) (e : Env) → all_steps t (ss ++ AddConst ∷ []) x e ≡ all_steps t ss x e

@@ -19,7 +19,7 @@ use Rattle.cf_elab.specs.Shape.{Parameter, Shape, inner, pointing, referring, to
 use Rattle.cf_elab.specs.Specifiers.{Gathered, gathered, base_type, parameter_conflict, type_conflict}
 use Rattle.cf_elab_env.proofs.Growth.{here}
 use Rattle.cf_elab_env.proofs.Sorts.{below_at}
-use Rattle.cf_elab_valid.specs.Answers.{Fine, FineAs}
+use Rattle.cf_elab_valid.specs.Answers.{Fine, FineAs, IsPart}
 use Rattle.cf_elab_valid.specs.Scene.{Scene, IsScene, Within, Steps, Inside, PartInside, Classless, Holds}
 use Rattle.cf_elab_valid.proofs.Arithmetic.{IsOperand}
 use Rattle.cf_elab_valid.proofs.ConstOf.{IsAlike, const_if-fine}
@@ -27,7 +27,7 @@ use Rattle.cf_elab_valid.proofs.FitRows.{Still, needed, still-fine, still-onward
 use Rattle.cf_elab_valid.proofs.Making.{IsType, place-sound, intern-fine, pointer_to-fine}
 use Rattle.cf_elab_valid.proofs.Named.{IsThere, WordsFit, words-later, words-fine, NamedFits, gathered_named, base-fine}
 use Rattle.cf_elab_valid.proofs.Options.{never_none}
-use Rattle.cf_elab_valid.proofs.Parts.{IsPart, evaluated-fine}
+use Rattle.cf_elab_valid.proofs.Parts.{evaluated-fine}
 use Rattle.cf_elab_valid.proofs.Ways.{same-hand, begins-get, begins-last, begins-same, entity-later, named-later, entry-later, fine-as, as-made, as-onward, as-behind, inside-later, made-fine, onward-fine, steps-through, within-before, When}
 
 pub still-as : {A B : Type 0} (s : Scene) (T : B → Type 0) (R : B → Env → Type 0) (e : Env) (r : Answer A) (go : Env → Answer B) → Still e r → FineAs s T R e (go e) → FineAs s T R e (onward r (λ _. go))

@@ -1,5 +1,5 @@
 -- Statements that declare nothing: expressions, choices, loops and jumps (6.2 to 6.6).
-use Rattle.std.proofs.Common.{◌≡◌, ℕ, Bool, true, false, not, ◌&&◌, ◌||◌, if◌then◌else◌, List, [], ◌∷◌, Option, Some, None, refl, sym, ap, subst, ◌∙◌, true≢false}
+use Rattle.std.proofs.Common.{◌≡◌, ℕ, Bool, true, false, not, ◌&&◌, ◌||◌, [], ◌∷◌, Option, Some, None, refl, sym, ap, subst, ◌∙◌, true≢false}
 use Rattle.std.specs.Option.{option_map, option_map_or}
 use Rattle.cf_core.specs.declared.operators.LoopForm.{LoopForm}
 use Rattle.cf_core.specs.declared.operators.LoopForm.TheVariants as form
@@ -10,7 +10,7 @@ use Rattle.cf_core.specs.declared.node.Core.TheFolds.{fold-roll-Core}
 use Rattle.cf_core.specs.declared.node.Core.TheOpen.{Core-F}
 use Rattle.cf_core.specs.declared.node.Core.TheVariants as node
 use Rattle.cf_core.specs.declared.node.Core.TheVariants.{rolls-If, rolls-Loop, rolls-Return}
-use Rattle.cf_core.specs.Core.{Core, blank, full, branch, loop, give, leave, continue}
+use Rattle.cf_core.specs.Core.{Core, blank, full, branch, loop, give}
 use Rattle.cf_core.specs.FromClasses.{signature_of}
 use Rattle.cf_core.specs.Numbers.{are_known, maybe_of, known_step, known_part}
 use Rattle.cf_core.specs.Types.{integer, enumeration, pointer, array, is_void}
@@ -28,8 +28,8 @@ use Rattle.cf_elab.specs.Operand.{Value, Part, Sort, integral, enumeral, object_
 use Rattle.cf_elab.specs.Statement as row
 use Rattle.cf_elab.specs.Statement.{Made, made, no_label, is_main_body}
 use Rattle.cf_elab.specs.UserFit.{initial}
-use Rattle.cf_elab_valid.specs.Answers.{Fine}
-use Rattle.cf_elab_valid.specs.Scene.{Scene, IsScene, tree, typed, core, scope_of, Within, SameHand, Steps, Inside, PartInside, EntityFits, TypeFits, Classless, Holds, Fits}
+use Rattle.cf_elab_valid.specs.Answers.{Fine, IsPart}
+use Rattle.cf_elab_valid.specs.Scene.{Scene, IsScene, tree, typed, core, Within, Steps, Inside, PartInside, EntityFits, TypeFits, Classless, Holds, Fits}
 use Rattle.cf_elab_valid.specs.Sorts.{SortIs}
 use Rattle.cf_elab_valid.specs.Statements.{body_of, StatementFits, Inner, IsStatement}
 use Rattle.cf_elab_valid.proofs.Arithmetic.{IsOperand, IsTested, tested-condition}
@@ -38,9 +38,9 @@ use Rattle.cf_elab_valid.proofs.Early.{early-sort-is}
 use Rattle.cf_elab_valid.proofs.Initial.{StartFits, initial-fine}
 use Rattle.cf_elab_valid.proofs.Nodes.{core-Sequence, known-Sequence, core-Full, core-Blank, core-Break, core-Continue, known-Full, known-Blank, known-Break, known-Continue}
 use Rattle.cf_elab_valid.proofs.Options.{none_some, some_is}
-use Rattle.cf_elab_valid.proofs.Parts.{IsPart, evaluated-fine}
+use Rattle.cf_elab_valid.proofs.Parts.{evaluated-fine}
 use Rattle.cf_elab_valid.proofs.Unary.{unused-node}
-use Rattle.cf_elab_valid.proofs.Ways.{fits-later, fits-when, fine-before, inside-later, made-fine, onward-fine, steps-through, within-before, When}
+use Rattle.cf_elab_valid.proofs.Ways.{fits-later, fits-when, inside-later, made-fine, onward-fine, steps-through, within-before, When}
 
 -- ---- the nodes
 
@@ -440,11 +440,11 @@ module _ (s : Scene) (scene : IsScene s) (n : ℕ) (m : Bool) where
       let whole = core-Sequence s.tables (signature_of s.tables) at (first.node ∷ loop_node ∷ []) in
       let inner = core-Loop s at form.For o x b.node in
       let fine_loop : fits (body_of s n m) breaks continues (core s loop_node) ≡ true = ap (fits (body_of s n m) breaks continues) inner
-          ∙ and-both (condition_fits (body_of s n m) (maybe (option_map (core s) o)) && expression_fits (body_of s n m) (maybe (option_map (core s) x))) (fits (body_of s n m) true true (core s b.node))
-          (and-both (condition_fits (body_of s n m) (maybe (option_map (core s) o))) (expression_fits (body_of s n m) (maybe (option_map (core s) x))) ko.1 kt.1) fb.fine in
+      ∙ and-both (condition_fits (body_of s n m) (maybe (option_map (core s) o)) && expression_fits (body_of s n m) (maybe (option_map (core s) x))) (fits (body_of s n m) true true (core s b.node))
+      (and-both (condition_fits (body_of s n m) (maybe (option_map (core s) o))) (expression_fits (body_of s n m) (maybe (option_map (core s) x))) ko.1 kt.1) fb.fine in
       let known_loop : are_known s.tables loop_node ≡ true = known-Loop s at form.For o x b.node
-          ∙ and-both (maybe_of s.tables (option_map (are_known s.tables) o) && maybe_of s.tables (option_map (are_known s.tables) x)) (are_known s.tables b.node)
-          (and-both (maybe_of s.tables (option_map (are_known s.tables) o)) (maybe_of s.tables (option_map (are_known s.tables) x)) ko.0 kt.0) fb.numbers in
+      ∙ and-both (maybe_of s.tables (option_map (are_known s.tables) o) && maybe_of s.tables (option_map (are_known s.tables) x)) (are_known s.tables b.node)
+      (and-both (maybe_of s.tables (option_map (are_known s.tables) o)) (maybe_of s.tables (option_map (are_known s.tables) x)) ko.0 kt.0) fb.numbers in
       let quiet : initialises_local (core s loop_node) ≡ false = ap initialises_local inner in record {
         numbers = known-Sequence s.tables at (first.node ∷ loop_node ∷ []) ∙ and-both (are_known s.tables first.node) (are_known s.tables loop_node && true) ff.numbers (and-both (are_known s.tables loop_node) true known_loop refl);
         unlabelled = refl;
