@@ -13,12 +13,12 @@ use Rattle.cf_core.specs.Numbers.{are_known, has_type}
 use Rattle.cf_core.specs.Places.{is_reference as tree_is_reference}
 use Rattle.cf_core.specs.Typed as typed_row
 use Rattle.cf_core.specs.Typed.{typing}
-use Rattle.cf_core.specs.Types.{SourceType, void, integer, enumeration, pointer, const, plain, without_const, same_but_const, is_void}
+use Rattle.cf_core.specs.Types.{SourceType, void, enumeration, pointer, const, plain, without_const, same_but_const, is_void}
 use Rattle.cf_core.specs.Typing.{allowed, is_integral, of_value, pointed, converts}
-use Rattle.cf_core_typed.specs.Same.{Same, is_bare, is_normal, is_operand}
+use Rattle.cf_core_typed.specs.Same.{Same, is_bare, is_normal}
 use Rattle.cf_core_typed.specs.Meets.{IsValue}
 use Rattle.cf_core_typed.proofs.Conversions.{to-integer, from-void-is, to-void-pointer}
-use Rattle.cf_core_typed.proofs.Same.{and-both, operand-plain, integral-bare, same-operand, same-void, same-plain, same-reference, pointer-form, plain-bare, plain-normal, type-equal}
+use Rattle.cf_core_typed.proofs.Same.{and-both, integral-bare, same-operand, same-void, same-plain, same-reference, pointer-form, plain-bare, plain-normal, type-equal}
 use Rattle.cf_core_typed.proofs.Values.{place-same, value-same, value-integer}
 use Rattle.cf_elab.specs.Answer.{Made, Refused, Elab, onward, need, gives}
 use Rattle.cf_elab.specs.Cast as row
@@ -35,7 +35,7 @@ use Rattle.cf_elab_valid.proofs.Arithmetic.{IsOperand, plain-operand}
 use Rattle.cf_elab_valid.proofs.Choice.{fits-expression}
 use Rattle.cf_elab_valid.proofs.Early.{SortInside, early-sort, early-inside, early-known, early-sort-is, early-sort-inside}
 use Rattle.cf_elab_valid.proofs.EarlyTrees.{same_types-end}
-use Rattle.cf_elab_valid.proofs.Fit.{convert-plain, leads-fine, retyped-plain}
+use Rattle.cf_elab_valid.proofs.Fit.{convert-plain, integral_operand, leads-fine, retyped-plain}
 use Rattle.cf_elab_valid.proofs.FitRows.{fit-fine}
 use Rattle.cf_elab_valid.proofs.Nodes.{core-FromVoid, known-FromVoid}
 use Rattle.cf_elab_valid.proofs.Numbers.{enumerator-holds}
@@ -65,16 +65,8 @@ module _ (s : Scene) (scene : IsScene s) where
       → Fine s (IsPlain s (tree s t)) e (Made (record x { at = at; node = node.Convert at t x.node; type = t; number = z }) e)
   integer-fine at t x z e c h i p both known =
       made-fine s (IsPlain s (tree s t)) e (record x { at = at; node = node.Convert at t x.node; type = t; number = z }) c h
-      (λ w. convert-plain s scene e w t (i w) at at x.node x.is_lvalue z x.is_fixed (p w).no_place (p w).fits.numbers (integral_operand (tree s t) (both w).to) (converts_there w) (known w))
+      (λ w. convert-plain s scene e w t (i w) at at x.node x.is_lvalue z x.is_fixed (p w).no_place (p w).fits.numbers (integral_operand s scene (tree s t) (both w).to) (converts_there w) (known w))
     where
-      integral_operand : (u : SourceType) → is_integral (without_const u) ≡ true → is_operand u ≡ true
-      integral_operand u h = sym (operand-plain u) ∙ by (without_const u) h
-        where
-          by : (v : SourceType) → is_integral v ≡ true → is_operand v ≡ true
-          by (integer k) h = refl
-          by (enumeration n) h = refl
-          by v h = absurd (true≢false (sym h))
-
       converts_there : (w : Within e s) → converts (plain (tree s t)) (typed s x.node) ≡ true
       converts_there w =
           to-integer (plain (tree s t)) (typed s x.node)

@@ -38,7 +38,7 @@ use Rattle.cf_elab_valid.proofs.Early.{early-form, early-known, early-part}
 use Rattle.cf_elab_valid.proofs.FitRows.{converted-fine, converted-later, fit-fine}
 use Rattle.cf_elab_valid.proofs.Making.{IsType, pointer_to-fine}
 use Rattle.cf_elab_valid.proofs.Nodes.{core-PointerOperate, known-PointerOperate}
-use Rattle.cf_elab_valid.proofs.Steps.{some_is}
+use Rattle.cf_elab_valid.proofs.Options.{some_is}
 use Rattle.cf_elab_valid.proofs.Trees.{tree-normal}
 use Rattle.cf_elab_valid.proofs.Unary.{part-inside, sorted}
 use Rattle.cf_elab_valid.proofs.Values.{plain-later, plain-when, plain-value, value-plain, type-tree}

@@ -30,21 +30,21 @@ use Rattle.cf_elab.specs.Paths.{found_alone, operand_found, named, named_in_clas
 use Rattle.cf_elab.specs.Shape.{Parameter}
 use Rattle.cf_elab.specs.Specifiers.{gathered, basic_word, base_type}
 use Rattle.cf_elab.specs.Unary.{size_constant}
-use Rattle.cf_elab_valid.specs.Answers.{Fine, FineOperand}
+use Rattle.cf_elab_valid.specs.Answers.{Fine, FineOperand, IsPart}
 use Rattle.cf_elab_valid.specs.Constants as constants
 use Rattle.cf_elab_valid.specs.Constants.{constants_fit, declarator_fits, parameter_fits, type_id_fits}
 use Rattle.cf_elab_valid.specs.Scene.{Scene, IsScene, Classless, Holds, Fits}
 use Rattle.cf_elab_valid.proofs.Arithmetic.{IsOperand}
 use Rattle.cf_elab_valid.proofs.Constructs.{assign_operator-fine, cast_operator-fine}
-use Rattle.cf_elab_valid.proofs.Named.{IsThere, none_some, first-none, path-fine, gathered_named, base-fine}
+use Rattle.cf_elab_valid.proofs.Named.{IsThere, first-none, path-fine, gathered_named, base-fine}
 use Rattle.cf_elab_valid.proofs.Names.{one-fine, name-fine}
 use Rattle.cf_elab_valid.proofs.Operands.{prefix_operator-fine, step_operator-fine, index_operator-fine}
 use Rattle.cf_elab_valid.proofs.Operations.{binary_operator-fine}
-use Rattle.cf_elab_valid.proofs.Parts.{IsPart, evaluated-fine, with_one-fine, with_two-fine}
+use Rattle.cf_elab_valid.proofs.Options.{never_none, some_is}
+use Rattle.cf_elab_valid.proofs.Parts.{evaluated-fine, with_one-fine, with_two-fine}
 use Rattle.cf_elab_valid.proofs.Several.{AreParts, operand-before, call-fine, built-fine, conditional_row-fine, comma-fine}
 use Rattle.cf_elab_valid.proofs.Shapes.{IsShape, IsParameter, AreParameters, IsTypeId, inner-shape, pointed-shape, function-shape, array-shape, parameter-fine, type-fine}
 use Rattle.cf_elab_valid.proofs.Sizes.{counted, counted-steps, counted-classless, counted-holds, size_constant-fine, integer-fine, literal-fine}
-use Rattle.cf_elab_valid.proofs.Steps.{some_is}
 use Rattle.cf_elab_valid.proofs.Ways.{inside-later, onward-fine, within-before, When}
 
 abbrev parameter : Param → Elab Parameter
@@ -72,12 +72,12 @@ module _ (s : Scene) (scene : IsScene s) where
     where
       by : (file : Bool) (scopes : List Name) (l : Last) → (if built.is_qualified file scopes then Some n.at else built.of_last n.at l) ≡ None
           → FineOperand s e ((elim scopes as (λ _. Elab Operand) [ [] ↦ (λ env. operand_found n.last_at (found_alone env file (key l)) env) | q ∷ qs ↦ name_of_scopes n (q ∷ qs) ]) e)
-      by true scopes l q = none_some n.at q
-      by false (x ∷ xs) l q = none_some n.at q
+      by true scopes l q = never_none n.at q
+      by false (x ∷ xs) l q = never_none n.at q
       by false [] (last.Ident name) q = name-fine s scene n.last_at name e c h
-      by false [] (last.Destructor name) q = none_some n.at q
-      by false [] (last.Operator o) q = none_some n.at q
-      by false [] (last.Conversion specifiers pointers) q = none_some n.at q
+      by false [] (last.Destructor name) q = never_none n.at q
+      by false [] (last.Operator o) q = never_none n.at q
+      by false [] (last.Conversion specifiers pointers) q = never_none n.at q
 
   alone_name : (n : WrittenName) → built.of_name n ≡ None → named_in_class n ≡ None
   alone_name n b = by n.from_file n.scopes b
@@ -85,8 +85,8 @@ module _ (s : Scene) (scene : IsScene s) where
       by : (file : Bool) (scopes : List Name) → (if built.is_qualified file scopes then Some n.at else built.of_last n.at n.last) ≡ None
           → (elim scopes as (λ _. Option (Elab Operand)) [ [] ↦ None | q ∷ qs ↦ Some (in_class_alone n q qs) ]) ≡ None
       by file [] q = refl
-      by true (x ∷ xs) q = none_some n.at q
-      by false (x ∷ xs) q = none_some n.at q
+      by true (x ∷ xs) q = never_none n.at q
+      by false (x ∷ xs) q = never_none n.at q
 
   -- ---- constructs on one part, and on two
 
@@ -108,8 +108,8 @@ module _ (s : Scene) (scene : IsScene s) where
       by o = plain o
 
   binary-whole : (at : ℕ) (op : BinaryOp) (a b : Part) → built.of_binary at op ≡ None → IsPart s a → IsPart s b → IsWhole s (part (row.binary_row at op a b))
-  binary-whole at binary.DotStar a b h k l = none_some at h
-  binary-whole at binary.ArrowStar a b h k l = none_some at h
+  binary-whole at binary.DotStar a b h k l = never_none at h
+  binary-whole at binary.ArrowStar a b h k l = never_none at h
   binary-whole at op a b h k l = two-parts a b (binary_operator at op) k l (λ x y e1 c1 h1 f g. binary_operator-fine s scene at op x y e1 c1 h1 f g)
 
   -- ---- types in an expression
@@ -213,7 +213,7 @@ module _ (s : Scene) (scene : IsScene s) where
   expr-layer (Expr-F.Int at n k) b f = record { part = record { run = λ e c h. integer-fine s scene at (pos n) k e f c h }; alone = refl }
   expr-layer (Expr-F.Char at z) b f = record { part = record { run = λ e c h. integer-fine s scene at z kind.Char e f c h }; alone = refl }
   expr-layer (Expr-F.Text at bytes) b f = record { part = record { run = λ e c h. literal-fine s scene at bytes e c h }; alone = refl }
-  expr-layer (Expr-F.This at) b f = none_some at b
+  expr-layer (Expr-F.This at) b f = never_none at b
   expr-layer (Expr-F.Paren at a) b f = record { part = record { run = (a.1 b f).part.run }; alone = refl }
   expr-layer (Expr-F.Named n) b f = record { part = record { run = λ e c h. identifier n e b c h }; alone = alone_name n b }
   expr-layer (Expr-F.BasicCall at x args) b f =
@@ -241,16 +241,16 @@ module _ (s : Scene) (scene : IsScene s) where
         };
         alone = refl;
       }
-  expr-layer (Expr-F.Dot at a n) b f = none_some at (first-none (Some at) (built.expression a.0) b).0
-  expr-layer (Expr-F.Arrow at a n) b f = none_some at (first-none (Some at) (built.expression a.0) b).0
+  expr-layer (Expr-F.Dot at a n) b f = never_none at (first-none (Some at) (built.expression a.0) b).0
+  expr-layer (Expr-F.Arrow at a n) b f = never_none at (first-none (Some at) (built.expression a.0) b).0
   expr-layer (Expr-F.StepAfter at op a) b f = one-part (elaborated a.0) (step_operator at op true) (a.1 b f).part (λ x e1 c1 h1 p. step_operator-fine s scene at op true x e1 c1 h1 p)
   expr-layer (Expr-F.StepBefore at op a) b f = one-part (elaborated a.0) (step_operator at op false) (a.1 b f).part (λ x e1 c1 h1 p. step_operator-fine s scene at op false x e1 c1 h1 p)
   expr-layer (Expr-F.Prefix at op a) b f = prefix-whole at op (elaborated a.0) (a.1 b f)
   expr-layer (Expr-F.SizeofExpr at a) b f = sized-part at (elaborated a.0) (a.1 b f).part
   expr-layer (Expr-F.SizeofType at t) b f = sized-type at (type_of t.0) (t.1 b f)
-  expr-layer (Expr-F.Delete at file many a) b f = none_some at b
-  expr-layer (Expr-F.New at file specifiers pointers bounds has args) b f = none_some at b
-  expr-layer (Expr-F.NewBracketed at file t has args) b f = none_some at b
+  expr-layer (Expr-F.Delete at file many a) b f = never_none at b
+  expr-layer (Expr-F.New at file specifiers pointers bounds has args) b f = never_none at b
+  expr-layer (Expr-F.NewBracketed at file t has args) b f = never_none at b
   expr-layer (Expr-F.Cast at t a) b f =
       let split = first-none (type_place t.0) (built.expression a.0) b in
       cast-whole at (type_of t.0) (elaborated a.0) (t.1 split.0 (and-left (type_id_fits t.0) (constants_fit a.0) f)) (a.1 split.1 (and-right (type_id_fits t.0) (constants_fit a.0) f)).part
@@ -289,7 +289,7 @@ module _ (s : Scene) (scene : IsScene s) where
       function-shape s scene at (declared d.0).shape (map parameter (map (λ (x : Parametered). x.0) ps)) q (d.1 split.0 (and-left (declarator_fits d.0) others f)) (parameters-of ps split.1 (and-right (declarator_fits d.0) others f))
   tree-layer (DeclTree-F.Array at d None) b f =
       let split = first-none (built.declarator d.0) None b in
-      array-shape s scene at (declared d.0).shape None (d.1 split.0 (and-left (declarator_fits d.0) true f)) (λ p is. none_some p (sym is))
+      array-shape s scene at (declared d.0).shape None (d.1 split.0 (and-left (declarator_fits d.0) true f)) (λ p is. never_none p (sym is))
   tree-layer (DeclTree-F.Array at d (Some x)) b f =
       let split = first-none (built.declarator d.0) (built.expression x.0) b in
       array-shape s scene at (declared d.0).shape (Some (elaborated x.0)) (d.1 split.0 (and-left (declarator_fits d.0) (constants_fit x.0) f))
@@ -315,7 +315,7 @@ module _ (s : Scene) (scene : IsScene s) where
       parameter-fine s scene ss (declared d.0).shape split.0 (d.1 (first-none (built.declarator d.0) None split.1).0 f) at (declared d.0).name
   param-at at ss d (Some x) b f =
       let split = first-none (built.of_specifiers ss) (built.first (built.declarator d.0) (Some x.0)) b in
-      none_some x.0 (first-none (built.declarator d.0) (Some x.0) split.1).1
+      never_none x.0 (first-none (built.declarator d.0) (Some x.0) split.1).1
 
   param-layer : (y : Param-F Tree Expression Parametered Typing) → ParamLayer y
   param-layer y = param-at y.at y.specifiers y.declarator y.default

@@ -1,6 +1,5 @@
 -- Implicit conversion: a value that it makes is one of the type (4).
-use Rattle.std.proofs.Common.{◌≡◌, ℕ, ◌<◌, nat_lt, arith, Bool, true, false, length, List, [], ◌∷◌, ◌++◌, ℤ, pos, Option, None, refl, sym, ap, subst, ◌∙◌, true≢false}
-use Rattle.std.proofs.lemmas.Bool.Decides.{nat_tests}
+use Rattle.std.proofs.Common.{◌≡◌, ℕ, Bool, true, false, List, [], ◌∷◌, ◌++◌, ℤ, pos, Option, None, refl, sym, ap, subst, ◌∙◌, true≢false}
 use Rattle.cf_convert.specs.declared.conv.ConvStep.{ConvStep}
 use Rattle.cf_convert.specs.declared.conv.ConvStep.TheVariants.{AddConst, Promote, Integer, Null, ToVoid}
 use Rattle.cf_core.specs.declared.node.Core.{Core as Node}
@@ -27,7 +26,8 @@ use Rattle.cf_elab_valid.proofs.Nodes.{core-Convert, core-Number, known-Convert,
 use Rattle.cf_elab_valid.proofs.Numbers.{holds-same, convert-holds}
 use Rattle.cf_elab_valid.proofs.Sorts.{promoted-holds}
 use Rattle.cf_elab_valid.proofs.Trees.{tree-normal}
-use Rattle.cf_elab_valid.proofs.Ways.{made-fine, inside-end, When}
+use Rattle.cf_elab_valid.proofs.Values.{has_type-is}
+use Rattle.cf_elab_valid.proofs.Ways.{made-fine, When}
 
 -- const that is added last does nothing
 pub all_steps-last : (t : ℕ) (ss : List ConvStep) (x : Value) (e : Env) → all_steps t (ss ++ AddConst ∷ []) x e ≡ all_steps t ss x e
@@ -38,16 +38,13 @@ pub all_steps-const : (t : ℕ) (b : Bool) (ss : List ConvStep) (x : Value) (e :
 all_steps-const t true ss x e = all_steps-last t ss x e
 all_steps-const t false ss x e = refl
 
-less-told : (n m : ℕ) → n < m → nat_lt n m ≡ true
-less-told n m h = grind (arith, nat_tests, h)
-
 module _ (s : Scene) (scene : IsScene s) where
   -- ---- one conversion node
 
   plain_integral : (u : SourceType) → is_normal u ≡ true → is_integral (without_const u) ≡ true → is_integral (plain u) ≡ true
   plain_integral u n h = sym (integral-bare (plain u) (plain-bare u n)) ∙ ap is_integral (same-plain u) ∙ h
 
-  integral_operand : (u : SourceType) → is_integral (without_const u) ≡ true → is_operand u ≡ true
+  pub integral_operand : (u : SourceType) → is_integral (without_const u) ≡ true → is_operand u ≡ true
   integral_operand u h = sym (operand-plain u) ∙ by (without_const u) h
     where
       by : (v : SourceType) → is_integral v ≡ true → is_operand v ≡ true
@@ -66,7 +63,7 @@ module _ (s : Scene) (scene : IsScene s) where
     convert-plain at a n l z fixed no_place known scalar fine number = record {
       fits = record {
         inside = inside;
-        numbers = known-Convert s.tables at t n ∙ and-both (has_type s.tables t) (are_known s.tables n) (less-told t (length s.tables.types.types) (inside-end e s t w inside)) known;
+        numbers = known-Convert s.tables at t n ∙ and-both (has_type s.tables t) (are_known s.tables n) (has_type-is s e t w inside) known;
         allowed = subst (λ b. is_allowed b (tree s t) ≡ true) (sym no_place) scalar;
         meets = subst (λ b. Meets b (typed s (node.Convert at t n)) (tree s t)) (sym no_place)
             (subst (λ c. IsValue (typing (scope_of s) c) (tree s t)) (sym (core-Convert s.tables (signature_of s.tables) at t n)) (converted-is (tree s t) (typed s n) normal fine));

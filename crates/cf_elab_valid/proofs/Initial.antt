@@ -36,6 +36,7 @@ use Rattle.cf_elab_valid.proofs.Alike.{alike-same}
 use Rattle.cf_elab_valid.proofs.Early.{SortInside, early-bare, early-inside, early-known, early-sort-is, early-sort-inside}
 use Rattle.cf_elab_valid.proofs.FitRows.{classless-type, all_checked, still-fine, user_fit-fine}
 use Rattle.cf_elab_valid.proofs.Nodes.{core-Bind, core-Temporary, known-Bind, known-Temporary}
+use Rattle.cf_elab_valid.proofs.Options.{none_some, some_is}
 use Rattle.cf_elab_valid.proofs.Trees.{tree-normal}
 use Rattle.cf_elab_valid.proofs.Unary.{bare_once, bare_sort}
 use Rattle.cf_elab_valid.proofs.Values.{plain-value, has_type-is}
@@ -61,9 +62,6 @@ module _ (s : Scene) (scene : IsScene s) where
   bound-known : (at : ℕ) (n : Node) → are_known s.tables n ≡ true → are_known s.tables (node.Bind at holder.NoTemporary n) ≡ true
   bound-known at n h = known-Bind s.tables at holder.NoTemporary n ∙ and-both (has_holder s.tables holder.NoTemporary) (are_known s.tables n) refl h
 
-  none_some : {A : Type 0} (x : A) → None ≡ Some x → ⊥
-  none_some x h = cc
-
   -- no step but const, and the types are alike
   pub record BindsAlike (e : Env) (t u : ℕ) (ss : List ConvStep) : Type 0 where
     pub alike : is_alike e.types t u ≡ true
@@ -86,9 +84,6 @@ module _ (s : Scene) (scene : IsScene s) where
         by (ty.MemData k n) is p = rw is refl
         by (ty.MemFun k n) is p = rw is refl
         by (ty.Const k) is p = rw is refl
-
-    some_is : (x y : List ConvStep) → Some x ≡ Some y → x ≡ y
-    some_is x y h = cc
 
     const_bound : (a b m : Bool) (u : ℕ) (ss : List ConvStep) → is_alike e.types v.type u ≡ m → with_const a b (if m then Some [] else None) ≡ Some ss → BindsAlike e v.type u ss
     const_bound true false m u ss al is = absurd (none_some ss is)

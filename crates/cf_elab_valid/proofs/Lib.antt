@@ -24,6 +24,7 @@ pub mod Nulls
 pub mod Numbers
 pub mod Operands
 pub mod Operations
+pub mod Options
 pub mod Parts
 pub mod Picks
 pub mod Plain
@@ -31,6 +32,7 @@ pub mod Several
 pub mod Shapes
 pub mod Sizes
 pub mod Sorts
+pub mod Statements
 pub mod Stepping
 pub mod Steps
 pub mod Through

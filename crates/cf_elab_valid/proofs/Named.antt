@@ -25,26 +25,24 @@ use Rattle.cf_elab_valid.specs.Answers.{Fine}
 use Rattle.cf_elab_valid.specs.Scene.{Scene, IsScene, Steps, Inside, TypeFits, Classless, Holds}
 use Rattle.cf_elab_valid.proofs.ConstOf.{IsAlike, const_if-fine}
 use Rattle.cf_elab_valid.proofs.Making.{IsType, intern-fine, of_kind-fine}
+use Rattle.cf_elab_valid.proofs.Options.{never_none}
 use Rattle.cf_elab_valid.proofs.Ways.{fine-as, inside-later, made-fine, onward-fine, within-before, When}
 
 -- a type that is there
 abbrev pub IsThere : ℕ → Env → Type 0
 IsThere t e = Inside e t
 
-pub none_some : {A : Type 0} {B : Type 0} (x : A) → Some x ≡ None → B
-none_some x h = absurd cc
-
 -- ---- names
 
 -- the first of several places is none where each is none
 pub first-none : (a b : Option ℕ) → built.first a b ≡ None → (a ≡ None) × (b ≡ None)
 first-none None b h = (refl, h)
-first-none (Some a) None h = none_some a h
+first-none (Some a) None h = never_none a h
 first-none (Some a) (Some b) h = by (nat_le a b) h
   where
     by : (c : Bool) → (if c then Some a else Some b) ≡ None → (Some a ≡ None) × (Some b ≡ None)
-    by true h = none_some a h
-    by false h = none_some b h
+    by true h = never_none a h
+    by false h = never_none b h
 
 no_class_around : (e : Env) → Classless e → classes_around e ≡ []
 no_class_around e c =
@@ -77,8 +75,8 @@ module _ (s : Scene) where
     where
       by : (file : Bool) (names : List Name) → (if built.is_qualified file (built.behind_first names) then Some path.at else None) ≡ None → Fine s IsThere e (type_at path.at file names e)
       by file [] q = tt
-      by true (n ∷ ns) q = none_some path.at q
-      by false (n ∷ m ∷ rest) q = none_some path.at q
+      by true (n ∷ ns) q = never_none path.at q
+      by false (n ∷ m ∷ rest) q = never_none path.at q
       by false (n ∷ []) q =
           subst (λ f. Fine s IsThere e (type_found path.at f e)) (sym (found-alone e n c.none_open c.no_body)) (number-fine path.at (found n e.scopes) e c h)
 
@@ -95,7 +93,7 @@ module _ (s : Scene) where
           subst (λ l. Fine s IsThere e (type_found path.at (around_or_type_of_file e n (type_around e n l)) e)) (sym (no_class_around e c)) (number-fine path.at _ e c h)
 
       by_file : (n : Name) (file : Bool) → (if built.is_qualified file (built.behind_first (n ∷ [])) then Some path.at else None) ≡ None → Fine s IsThere e (type_found path.at (type_behind_key e file n) e)
-      by_file n true q = none_some path.at q
+      by_file n true q = never_none path.at q
       by_file n false q = found_key n (found_in n (map (types_in e) (block_scopes e.scopes)))
 
       by : (names : List Name) → (if built.is_qualified path.from_file (built.behind_first names) then Some path.at else None) ≡ None → Fine s IsThere e (keyed names e)
@@ -137,7 +135,7 @@ module _ (s : Scene) where
     where
       unqualified : (k : ClassKey) → built.of_key at k path ≡ None → built.of_path path ≡ None
       unqualified key.Enum q = q
-      unqualified k q = none_some at q
+      unqualified k q = never_none at q
 
       by : (t : ℕ) (e1 : Env) → Classless e1 → When s e1 (Holds s e1) → When s e1 (IsThere t e1) → (m : Bool)
           → Fine s WordFits e1 (onward (onward (need m 10 path.at e1) (λ _. gives t)) (λ u. gives (type_word at u)))
@@ -185,7 +183,7 @@ all_named g [] e n f = n
 all_named g (x ∷ xs) e n f = all_named (gathers g x) xs e (word_named g x e n f.0) f.1
 
 pub gathered_named : (xs : List Word) (e : Env) → WordsFit xs e → NamedFits (gathered xs) e
-gathered_named xs e f = all_named nothing_gathered xs e (λ t is. none_some t (sym is)) f
+gathered_named xs e f = all_named nothing_gathered xs e (λ t is. never_none t (sym is)) f
 
 module _ (s : Scene) (scene : IsScene s) where
   pub base-fine : (g : Gathered) (e : Env) → Classless e → When s e (Holds s e) → When s e (NamedFits g e) → Fine s IsThere e (base_type g e)

@@ -37,7 +37,8 @@ use Rattle.cf_elab_valid.proofs.Fit.{all_steps-const, convert-plain, null_conver
 use Rattle.cf_elab_valid.proofs.FitRows.{Still, all_checked, classless-type, still-onward, steps_at, fit-fine}
 use Rattle.cf_elab_valid.proofs.Making.{IsType}
 use Rattle.cf_elab_valid.proofs.Nodes.{core-Convert, core-Number, known-Number}
-use Rattle.cf_elab_valid.proofs.Steps.{null-way, some_is}
+use Rattle.cf_elab_valid.proofs.Options.{some_is}
+use Rattle.cf_elab_valid.proofs.Steps.{null-way}
 use Rattle.cf_elab_valid.proofs.Values.{plain-value, plain-number, type-tree}
 use Rattle.cf_elab_valid.proofs.Ways.{fits-when, inside-later, made-fine, onward-fine, within-before, When}
 

@@ -27,8 +27,8 @@ use Rattle.cf_elab_valid.proofs.Compared.{of_pointers-fine, same_objects-fine, v
 use Rattle.cf_elab_valid.proofs.FitRows.{converted-fine, converted-later, fit-fine}
 use Rattle.cf_elab_valid.proofs.Nulls.{PointsOrNever, is_pointing, pointing, with_null-right, with_null-left}
 use Rattle.cf_elab_valid.proofs.Operands.{no-function, by-scalar}
+use Rattle.cf_elab_valid.proofs.Options.{some_is}
 use Rattle.cf_elab_valid.proofs.Plain.{decayed_tree, plain-fine}
-use Rattle.cf_elab_valid.proofs.Steps.{some_is}
 use Rattle.cf_elab_valid.proofs.Unary.{plain-own, sorted}
 use Rattle.cf_elab_valid.proofs.Values.{plain-when}
 use Rattle.cf_elab_valid.proofs.Ways.{fine-as, fits-when, made-fine, onward-fine, within-before, When}

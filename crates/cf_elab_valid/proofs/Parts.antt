@@ -3,15 +3,11 @@ use Rattle.cf_elab.specs.Answer.{Made, Elab, onward}
 use Rattle.cf_elab.specs.Env.{Env}
 use Rattle.cf_elab.specs.Expression.{with_one, with_two}
 use Rattle.cf_elab.specs.Operand.{Value, Operand, value, functions, methods, field_name, bound_method, Part, value_of, evaluated, both}
-use Rattle.cf_elab_valid.specs.Answers.{Fine, FineOperand}
+use Rattle.cf_elab_valid.specs.Answers.{Fine, FineOperand, IsPart}
 use Rattle.cf_elab_valid.specs.Scene.{Scene, IsScene, Steps, Classless, Holds, Fits, OperandFits}
 use Rattle.cf_elab_valid.proofs.Arithmetic.{IsOperand}
 use Rattle.cf_elab_valid.proofs.Names.{operand-onward, one-fine, value_of-fine}
 use Rattle.cf_elab_valid.proofs.Ways.{fits-later, fits-when, made-fine, onward-fine, within-before, When}
-
--- a part is fine wherever it is elaborated
-pub record IsPart (s : Scene) (p : Part) : Type 0 where
-  pub run : (e : Env) → Classless e → When s e (Holds s e) → FineOperand s e (p.run e)
 
 pub operand-later : (s : Scene) (a b : Env) (o : Operand) → Steps a b → OperandFits s o a → OperandFits s o b
 operand-later s a b (value v) g f = fits-later s a b v g f

@@ -24,6 +24,7 @@ use Rattle.cf_elab_valid.specs.Scene.{Scene, IsScene, Within, Classless, Holds, 
 use Rattle.cf_elab_valid.proofs.Arithmetic.{IsOperand}
 use Rattle.cf_elab_valid.proofs.Calls.{never-called, call_entry-fine, fun-is}
 use Rattle.cf_elab_valid.proofs.FitRows.{Still, needed}
+use Rattle.cf_elab_valid.proofs.Options.{none_some, some_is}
 use Rattle.cf_elab_valid.proofs.Ways.{When}
 
 -- ---- a property of the numbers in a list
@@ -71,17 +72,11 @@ Picked e P (Made i b) = (b ≡ e) × P i
 Picked e P (Refused rule at) = Unit {0}
 Picked e P (Passed bound most) = Unit {0}
 
-pub none_some : {A : Type 0} {x : A} → None ≡ Some x → ⊥
-none_some h = cc
-
-some_same : {A : Type 0} (x y : A) → Some x ≡ Some y → x ≡ y
-some_same x y h = cc
-
 best-counts : (e : Env) (cs : List Candidate) (args : List Val) (i : ℕ) → best e.types (defs e) cs args ≡ Chosen i → Counts cs (length args) i
 best-counts e cs args i h =
     chosen-in e.types (defs e) (Counts cs (length args)) (matching e.types (defs e) args 0 cs) i
     (every-match e.types (defs e) args (Counts cs (length args)) 0 cs (λ k c at t d there. let same : 0 + k ≡ k = omega arith in
-    subst (λ x. takes (length args) x ≡ true) (some_same c d (sym at ∙ ap (slice_get cs) (sym same) ∙ there)) t)) h
+    subst (λ x. takes (length args) x ≡ true) (some_is c d (sym at ∙ ap (slice_get cs) (sym same) ∙ there)) t)) h
 
 pick-counts : (at : ℕ) (cs : List Candidate) (vs : List Value) (e : Env) → Picked e (Counts cs (length (map val vs))) (pick at cs vs e)
 pick-counts at cs vs e = by (counted at cs vs e) (still cs)
@@ -146,7 +141,7 @@ module _ (s : Scene) (scene : IsScene s) where
       by : (o : Option Fun) → fun_at e.types f.type ≡ o → Fine s (IsOperand s) e (row.call_entry at vs (Some f) e)
       by None no_fun =
           let there = declared-entry e fs i f is in
-          let never : Within e s → ⊥ = λ w. none_some (sym no_fun ∙ fun-is s scene e w (h w) f ((h w).entries there.number f there.here)) in
+          let never : Within e s → ⊥ = λ w. none_some _ (sym no_fun ∙ fun-is s scene e w (h w) f ((h w).entries there.number f there.here)) in
           subst (λ o. Fine s (IsOperand s) e (onward (arguments at (params_of o) f.defaults vs e) (λ ns b. row.called at (result_of o) (node.Call at f.link f.type None ns) b))) (sym no_fun)
           (never-called s scene at 0 (λ ns. node.Call at f.link f.type None ns) [] f.defaults vs e (c.no_defaults there.number f there.here) c h vf never)
       by (Some g) has_fun =

@@ -7,13 +7,13 @@ use Rattle.cf_elab.specs.Expression as row
 use Rattle.cf_elab.specs.Expression.{values}
 use Rattle.cf_elab.specs.Members.{class_number}
 use Rattle.cf_elab.specs.Operand.{Value, Operand, value, functions, methods, field_name, bound_method, Part, value_of, sort_of}
-use Rattle.cf_elab_valid.specs.Answers.{Good, Fine, FineOperand}
+use Rattle.cf_elab_valid.specs.Answers.{Good, Fine, FineOperand, IsPart}
 use Rattle.cf_elab_valid.specs.Scene.{Scene, IsScene, Steps, Inside, Classless, Holds, Fits, AllFit, OperandFits, IsShown}
 use Rattle.cf_elab_valid.proofs.Arithmetic.{IsOperand}
 use Rattle.cf_elab_valid.proofs.Choice.{conditional-fine, sequence-fine}
 use Rattle.cf_elab_valid.proofs.Constructs.{from_type-fine}
 use Rattle.cf_elab_valid.proofs.Names.{one-fine, value_of-fine}
-use Rattle.cf_elab_valid.proofs.Parts.{IsPart, operand-later, operand-when}
+use Rattle.cf_elab_valid.proofs.Parts.{operand-later, operand-when}
 use Rattle.cf_elab_valid.proofs.Picks.{call_functions-fine}
 use Rattle.cf_elab_valid.proofs.Through.{call_operator-fine}
 use Rattle.cf_elab_valid.proofs.Unary.{classless-number}

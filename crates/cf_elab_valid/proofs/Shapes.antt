@@ -19,15 +19,16 @@ use Rattle.cf_elab.specs.Shape.{Parameter, Shape, inner, pointing, referring, to
 use Rattle.cf_elab.specs.Specifiers.{Gathered, gathered, base_type, parameter_conflict, type_conflict}
 use Rattle.cf_elab_env.proofs.Growth.{here}
 use Rattle.cf_elab_env.proofs.Sorts.{below_at}
-use Rattle.cf_elab_valid.specs.Answers.{Fine, FineAs}
+use Rattle.cf_elab_valid.specs.Answers.{Fine, FineAs, IsPart}
 use Rattle.cf_elab_valid.specs.Scene.{Scene, IsScene, Within, Steps, Inside, PartInside, Classless, Holds}
 use Rattle.cf_elab_valid.proofs.Arithmetic.{IsOperand}
 use Rattle.cf_elab_valid.proofs.ConstOf.{IsAlike, const_if-fine}
 use Rattle.cf_elab_valid.proofs.FitRows.{Still, needed, still-fine, still-onward}
 use Rattle.cf_elab_valid.proofs.Making.{IsType, place-sound, intern-fine, pointer_to-fine}
-use Rattle.cf_elab_valid.proofs.Named.{IsThere, none_some, WordsFit, words-later, words-fine, NamedFits, gathered_named, base-fine}
-use Rattle.cf_elab_valid.proofs.Parts.{IsPart, evaluated-fine}
-use Rattle.cf_elab_valid.proofs.Ways.{begins-get, begins-last, begins-same, entity-later, named-later, entry-later, fine-as, as-made, as-onward, as-behind, inside-later, made-fine, onward-fine, steps-through, within-before, When}
+use Rattle.cf_elab_valid.proofs.Named.{IsThere, WordsFit, words-later, words-fine, NamedFits, gathered_named, base-fine}
+use Rattle.cf_elab_valid.proofs.Options.{never_none}
+use Rattle.cf_elab_valid.proofs.Parts.{evaluated-fine}
+use Rattle.cf_elab_valid.proofs.Ways.{same-hand, begins-get, begins-last, begins-same, entity-later, named-later, entry-later, fine-as, as-made, as-onward, as-behind, inside-later, made-fine, onward-fine, steps-through, within-before, When}
 
 pub still-as : {A B : Type 0} (s : Scene) (T : B → Type 0) (R : B → Env → Type 0) (e : Env) (r : Answer A) (go : Env → Answer B) → Still e r → FineAs s T R e (go e) → FineAs s T R e (onward r (λ _. go))
 still-as s T R e (Made a b) go h f = subst (λ x. FineAs s T R e (go x)) (sym h) f
@@ -97,7 +98,7 @@ module _ (s : Scene) where
           made-fine s FunThere e n c h (λ w. let place = r.place in omega arith)
       by None found =
           let next : Env = record e { types = record e.types { funs = e.types.funs ++ g ∷ [] } } in
-          let step : Steps e next = record { types = begins-same e.types.types; funs = begins-last e.types.funs g; enums = begins-same e.classes.enums; locals = begins-same e.hand.locals } in record {
+          let step : Steps e next = record { types = begins-same e.types.types; funs = begins-last e.types.funs g; enums = begins-same e.classes.enums; locals = begins-same e.hand.locals; hand = same-hand e.hand } in record {
             steps = step;
             classless = record { none = c.none; none_open = c.none_open; no_body = c.no_body; no_type = c.no_type; no_name = c.no_name; no_defaults = c.no_defaults };
             holds = λ w. let k = h (within-before e next s step w) in record {
@@ -278,7 +279,7 @@ module _ (s : Scene) (scene : IsScene s) where
       by : (p : Pointer) → built.of_pointer p ≡ None → (x : Shape) (e1 : Env) → IsPlainShape x → Classless e1 → When s e1 (Holds s e1) → When s e1 (ShapeThere x e1) → FineAs s IsPlainShape ShapeThere e1 (pointed p x e1)
       by (pointer.To at q) b x e1 plain c1 h1 f = as-made s IsPlainShape ShapeThere e1 (pointing at q x) plain c1 h1 f
       by (pointer.Reference at) b x e1 plain c1 h1 f = as-made s IsPlainShape ShapeThere e1 (referring at x) plain c1 h1 f
-      by (pointer.ToMember at path q) b x e1 plain c1 h1 f = none_some at b
+      by (pointer.ToMember at path q) b x e1 plain c1 h1 f = never_none at b
 
   pub function-shape : (at : ℕ) (d : Elab Shape) (ps : List (Elab Parameter)) (b : Bool) → IsShape s scene d → AreParameters s ps
       → IsShape s scene (λ e. onward (d e) (λ x f. onward (onward (all ps f) parameters) (λ qs. gives (taking at qs b x))))

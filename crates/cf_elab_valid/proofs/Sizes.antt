@@ -108,7 +108,7 @@ module _ (s : Scene) (scene : IsScene s) where
   counted n e = record e { hand = record e.hand { literals = n } }
 
   pub counted-steps : (n : ℕ) (e : Env) → Steps e (counted n e)
-  counted-steps n e = record { types = begins-same e.types.types; funs = begins-same e.types.funs; enums = begins-same e.classes.enums; locals = begins-same e.hand.locals }
+  counted-steps n e = record { types = begins-same e.types.types; funs = begins-same e.types.funs; enums = begins-same e.classes.enums; locals = begins-same e.hand.locals; hand = record { kind = refl; result = refl; breaks = refl; continues = refl } }
 
   pub counted-classless : (n : ℕ) (e : Env) → Classless e → Classless (counted n e)
   counted-classless n e c = record { none = c.none; none_open = c.none_open; no_body = c.no_body; no_type = c.no_type; no_name = c.no_name; no_defaults = c.no_defaults }

@@ -26,12 +26,7 @@ use Rattle.cf_elab_valid.specs.Conversion.{Leads, BothIntegral, IsPointer, is_si
 use Rattle.cf_elab_valid.specs.Scene.{Begins}
 use Rattle.cf_elab_valid.proofs.Alike.{alike-same}
 use Rattle.cf_elab_valid.proofs.Early.{early-form}
-
-pub none_some : {A : Type 0} (x : A) → None ≡ Some x → ⊥
-none_some x h = cc
-
-pub some_is : {A : Type 0} (x y : A) → Some x ≡ Some y → x ≡ y
-some_is x y h = cc
+use Rattle.cf_elab_valid.proofs.Options.{none_some, some_is}
 
 no_class : {A : Type 0} → IsTrue false → A
 no_class h = absurd (true≢false (sym h))

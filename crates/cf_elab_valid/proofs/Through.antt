@@ -34,7 +34,7 @@ use Rattle.cf_elab_valid.proofs.Arithmetic.{IsOperand}
 use Rattle.cf_elab_valid.proofs.Calls.{all-later, fun-is, fun-tree, fun-call-fine, never-called, taken_parameters, taken_result}
 use Rattle.cf_elab_valid.proofs.Nodes.{core-PointerCall, known-PointerCall}
 use Rattle.cf_elab_valid.proofs.Operands.{no-object}
-use Rattle.cf_elab_valid.proofs.Picks.{none_some}
+use Rattle.cf_elab_valid.proofs.Options.{none_some}
 use Rattle.cf_elab_valid.proofs.Plain.{decayed_tree, plain-fine}
 use Rattle.cf_elab_valid.proofs.Trees.{tree-at}
 use Rattle.cf_elab_valid.proofs.Unary.{part-inside, plain-own, sorted}
@@ -104,7 +104,7 @@ module _ (s : Scene) (scene : IsScene s) where
     called_fun : (vs : List Value) → When s e (AllFit s e vs) → (o : Option Fun) → fun_at e.types t ≡ o → length vs ≡ length (params_of o)
         → Fine s (IsOperand s) e (onward (arguments at (params_of o) [] vs e) (λ ns b. row.called at (result_of o) (make ns) b))
     called_fun vs vf None found count =
-        never-called s scene at 0 make [] [] vs e refl c h vf (λ w. none_some (sym found ∙ fun-is s scene e w (h w) (entry_of t) (there w)))
+        never-called s scene at 0 make [] [] vs e refl c h vf (λ w. none_some _ (sym found ∙ fun-is s scene e w (h w) (entry_of t) (there w)))
     called_fun vs vf (Some g) found count = fun-call-fine s scene at (entry_of t) e there g found make refl (make_typed g found) make_known vs c h vf (λ w. count)
 
     call_pointer-fine : (vs : List Value) → When s e (AllFit s e vs) → Fine s (IsOperand s) e (row.call_pointer at p t vs e)

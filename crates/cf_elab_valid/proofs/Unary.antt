@@ -47,6 +47,7 @@ use Rattle.cf_elab_valid.proofs.Early.{SortInside, early-bare_is, early-inside, 
 use Rattle.cf_elab_valid.proofs.FitRows.{classless-type, to_kind-fine}
 use Rattle.cf_elab_valid.proofs.Making.{IsType, pointer_to-fine}
 use Rattle.cf_elab_valid.proofs.Nodes.{core-Address, core-Dereference, core-Index, known-Address, known-Dereference, known-Index}
+use Rattle.cf_elab_valid.proofs.Options.{some_is}
 use Rattle.cf_elab_valid.proofs.Plain.{decayed_tree, plain-fine}
 use Rattle.cf_elab_valid.proofs.Trees.{tree-normal}
 use Rattle.cf_elab_valid.proofs.Values.{plain-when, plain-value, value-plain, place-fits, place-no-reference, type-tree}
@@ -211,9 +212,6 @@ module _ (s : Scene) (scene : IsScene s) where
       subst (λ c. changes (change_of c) (typed s v.node).place (of_number (pos 1)) ≡ true) (some_is _ ch found)
       (arithmetic-changes (if goes_back o then op.Subtract else op.Add) (promoted k) k (typed s v.node) (of_number (pos 1)) (right (goes_back o)) (place-same (typed s v.node) (tree s v.type) (integer k) is_tree place))
     where
-      some_is : (a b : Change) → Some a ≡ Some b → a ≡ b
-      some_is a b h = cc
-
       right : (b : Bool) → is_right_operand (if b then op.Subtract else op.Add) (promoted k) (of_number (pos 1)) ≡ true
       right true = one_fits k
       right false = one_fits k
@@ -223,9 +221,6 @@ module _ (s : Scene) (scene : IsScene s) where
       subst (λ c. changes (change_of c) (typed s v.node).place (of_number (pos 1)) ≡ true) (some_is _ ch found)
       (pointer-changes (goes_back o) (tree s t) (typed s v.node) (of_number (pos 1)) (tree-normal s.tables scene.table t (early-known s.tables scene.table e.types w.types t inside)) p.no_function p.no_void refl
       (place-same (typed s v.node) (tree s v.type) (pointer (tree s t)) p.same place))
-    where
-      some_is : (a b : Change) → Some a ≡ Some b → a ≡ b
-      some_is a b h = cc
   changed_place k o v e w is f ch found place = absurd cc
 
 no_number : (k : Sort) → is_class k ≡ false → class_number k ≡ None

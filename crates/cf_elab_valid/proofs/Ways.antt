@@ -3,10 +3,10 @@ use Rattle.std.proofs.Common.{◌≡◌, ℕ, ◌<◌, List, [], ◌∷◌, ◌+
 use Rattle.std.proofs.lemmas.List.{append-nil}
 use Rattle.cf_types.specs.declared.ty.Ty.TheVariants as ty
 use Rattle.cf_types.proofs.Places.{get-left}
-use Rattle.cf_elab.specs.Env.{Env, Entity, object, functions, alias, class_name, enum_name, enumerator, FunctionEntry}
+use Rattle.cf_elab.specs.Env.{Env, Hand, Entity, object, functions, alias, class_name, enum_name, enumerator, FunctionEntry}
 use Rattle.cf_elab.specs.Answer.{Answer, Made, Refused, Passed, onward}
 use Rattle.cf_elab.specs.Operand.{Value}
-use Rattle.cf_elab_valid.specs.Scene.{Scene, Begins, Within, Steps, Inside, EntityFits, TypeFits, EntryFits, Classless, Holds, Fits}
+use Rattle.cf_elab_valid.specs.Scene.{Scene, Begins, Within, SameHand, Steps, Inside, EntityFits, TypeFits, EntryFits, Classless, Holds, Fits}
 use Rattle.cf_elab_valid.specs.Answers.{Fine, FineAs}
 
 -- ---- lists that begin another
@@ -28,8 +28,11 @@ begins-inside xs ys i b h = omega (arith, ap length b.all, length-append xs b.mo
 
 -- ---- steps
 
+pub same-hand : (h : Hand) → SameHand h h
+same-hand h = record { kind = refl; result = refl; breaks = refl; continues = refl }
+
 pub steps-none : (e : Env) → Steps e e
-steps-none e = record { types = begins-same e.types.types; funs = begins-same e.types.funs; enums = begins-same e.classes.enums; locals = begins-same e.hand.locals }
+steps-none e = record { types = begins-same e.types.types; funs = begins-same e.types.funs; enums = begins-same e.classes.enums; locals = begins-same e.hand.locals; hand = same-hand e.hand }
 
 pub steps-through : (a b c : Env) → Steps a b → Steps b c → Steps a c
 steps-through a b c g h = record {
@@ -37,6 +40,12 @@ steps-through a b c g h = record {
   funs = begins-through a.types.funs b.types.funs c.types.funs g.funs h.funs;
   enums = begins-through a.classes.enums b.classes.enums c.classes.enums g.enums h.enums;
   locals = begins-through a.hand.locals b.hand.locals c.hand.locals g.locals h.locals;
+  hand = record {
+    kind = h.hand.kind ∙ g.hand.kind;
+    result = h.hand.result ∙ g.hand.result;
+    breaks = h.hand.breaks ∙ g.hand.breaks;
+    continues = h.hand.continues ∙ g.hand.continues;
+  };
 }
 
 pub within-before : (a b : Env) (s : Scene) → Steps a b → Within b s → Within a s

@@ -1,7 +1,7 @@
 -- What a row of elaboration answers: where it makes something, that is valid in each end that the environment behind it leads to.
 use Rattle.cf_elab.specs.Env.{Env}
 use Rattle.cf_elab.specs.Answer.{Answer, Made, Refused, Passed}
-use Rattle.cf_elab.specs.Operand.{Operand}
+use Rattle.cf_elab.specs.Operand.{Operand, Part}
 use Rattle.cf_elab_valid.specs.Scene.{Scene, Within, Steps, Classless, Holds, OperandFits, IsShown}
 
 -- made on the way from one environment to another
@@ -26,3 +26,7 @@ FineAs s Q P before (Passed bound most) = Unit {0}
 -- an operand, of which it is known at once that it is nothing of a class
 abbrev pub FineOperand : Scene → Env → Answer Operand → Type 0
 FineOperand s before r = FineAs s IsShown (OperandFits s) before r
+
+-- a part of an expression is fine wherever it is elaborated
+pub record IsPart (s : Scene) (p : Part) : Type 0 where
+  pub run : (e : Env) → Classless e → (Within e s → Holds s e) → FineOperand s e (p.run e)

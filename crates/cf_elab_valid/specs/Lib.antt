@@ -4,3 +4,4 @@ pub mod Conversion
 pub mod Laws
 pub mod Scene
 pub mod Sorts
+pub mod Statements

@@ -22,7 +22,7 @@ use Rattle.cf_core.specs.View.{core_of}
 use Rattle.cf_core_typed.specs.Meets.{IsPlace, IsValue}
 use Rattle.cf_core_typed.specs.Same.{Same, is_operand}
 use Rattle.cf_elab.specs.Complete.{most_bytes}
-use Rattle.cf_elab.specs.Env.{Env, Name, Home, local_home, static_home, Entity, object, functions, alias, class_name, enum_name, enumerator, FunctionEntry}
+use Rattle.cf_elab.specs.Env.{Env, Hand, Name, Home, local_home, static_home, Entity, object, functions, alias, class_name, enum_name, enumerator, FunctionEntry}
 use Rattle.cf_elab.specs.Members.{class_of_body}
 use Rattle.cf_elab.specs.Operand.{Value, Operand, value, functions as named_functions}
 use Rattle.cf_elab_env.specs.Holds.{HasNoClass}
@@ -71,12 +71,20 @@ pub record Within (env : Env) (s : Scene) : Type 0 where
   pub enums : Begins env.classes.enums s.tables.classes.enums
   pub locals : Begins env.hand.locals s.locals
 
+-- the function at hand is the same, and `break` and `continue` may stand as before
+pub record SameHand (old new : Hand) : Type 0 where
+  pub kind : new.kind ≡ old.kind
+  pub result : new.result ≡ old.result
+  pub breaks : new.breaks ≡ old.breaks
+  pub continues : new.continues ≡ old.continues
+
 -- nothing of types, enumerations and locals is lost or changed
 pub record Steps (old new : Env) : Type 0 where
   pub types : Begins old.types.types new.types.types
   pub funs : Begins old.types.funs new.types.funs
   pub enums : Begins old.classes.enums new.classes.enums
   pub locals : Begins old.hand.locals new.hand.locals
+  pub hand : SameHand old.hand new.hand
 
 -- a type of this number is there already
 abbrev pub Inside : Env → ℕ → Type 0

@@ -1,0 +1,29 @@
+-- What holds of a statement: it fits the function at hand, and tells whether it initialises a local.
+use Rattle.std.specs.Prelude.{◌≡◌, ℕ, Bool, true}
+use Rattle.cf_core.specs.Numbers.{are_known}
+use Rattle.cf_core.specs.Valid.{Body, fits, initialises_local}
+use Rattle.cf_elab.specs.Answer.{Elab}
+use Rattle.cf_elab.specs.Env.{Env}
+use Rattle.cf_elab.specs.Statement.{Made, no_label, is_main_body}
+use Rattle.cf_elab_valid.specs.Answers.{Fine}
+use Rattle.cf_elab_valid.specs.Scene.{Scene, tree, core, scope_of, Within, Inside, Classless, Holds}
+
+-- the function at hand, with so many parameters
+abbrev pub body_of : Scene → ℕ → Bool → Body
+body_of s parameters is_main = record { scope = scope_of s; parameters = parameters; result = tree s s.result; is_main = is_main }
+
+-- a statement that is no label, where `break` and `continue` may stand or not
+pub record StatementFits (s : Scene) (parameters : ℕ) (is_main breaks continues : Bool) (m : Made) (e : Env) : Type 0 where
+  pub numbers : are_known s.tables m.node ≡ true
+  pub unlabelled : m.label ≡ no_label
+  pub fine : fits (body_of s parameters is_main) breaks continues (core s m.node) ≡ true
+  pub reached : initialises_local (core s m.node) ≡ true → m.initialises ≡ true
+
+-- in the body of a function whose result is there
+pub record Inner (s : Scene) (is_main : Bool) (e : Env) : Type 0 where
+  pub main : is_main_body e.hand.kind ≡ true → is_main ≡ true
+  pub there : Within e s → Inside e e.hand.result
+
+-- a statement that is fine wherever it is elaborated
+pub record IsStatement (s : Scene) (parameters : ℕ) (is_main : Bool) (run : Elab Made) : Type 0 where
+  pub fine : (e : Env) → Inner s is_main e → Classless e → (Within e s → Holds s e) → Fine s (StatementFits s parameters is_main e.hand.breaks e.hand.continues) e (run e)
