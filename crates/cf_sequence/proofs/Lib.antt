@@ -21,6 +21,11 @@ pub mod PlainSteps
 pub mod Pointers
 pub mod Sample
 pub mod StaticObjects
+pub mod SameTypes
+pub mod Constants
+pub mod Settings
+pub mod SameStatics
+pub mod JoinedObjects
 pub mod Steps
 pub mod Switching
 pub mod Whole

@@ -17,6 +17,7 @@ use Rattle.cf_sequence.specs.Made.{added, declared, numbered}
 use Rattle.cf_sequence.specs.Expressions.{finished}
 use Rattle.cf_sequence.specs.Sequenced.{inside, flowed_off, sequenced_function, sequenced_file}
 use Rattle.cf_sequence.proofs.Calling.{never}
+use Rattle.cf_sequence.proofs.JoinedObjects.{is_own}
 use Rattle.cf_sequence_kept.proofs.Values.{runs}
 use Rattle.cf_sequence_kept.proofs.Statements.{runs-statement, runs-finished}
 use Rattle.cf_sequence_valid.proofs.Stands.{still-there}
@@ -82,5 +83,5 @@ module _ (file : CoreFile) where
       let names : List Name = map (λ (f : Function). f.name) file.functions ++ map (λ (x : Static). x.name) file.statics in
       let functions_good : Bool = list_all (valid.function_fits file) file.functions in
       let one = both (classes_good && all_differ names && functions_good) (list_all (valid.static_fits file) file.statics) is in
-      let some = both (is_none file.classes) (is_none file.statics && list_all is_good file.functions) built in
-      all-keep file.functions (both (is_none file.statics) (list_all is_good file.functions) some.1).1 (both (classes_good && all_differ names) functions_good one.0).1
+      let some = both (is_none file.classes) (list_all is_own file.statics && list_all is_good file.functions) built in
+      all-keep file.functions (both (list_all is_own file.statics) (list_all is_good file.functions) some.1).1 (both (classes_good && all_differ names) functions_good one.0).1
