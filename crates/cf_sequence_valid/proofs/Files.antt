@@ -195,9 +195,9 @@ module _ (file : CoreFile) where
 
     -- the initialiser of one that has some
     start-typed : is_nothing x.start ≡ false → (typing outer x.start).start x.type ≡ true
-    start-typed no =
+    start-typed there_is =
         either-true (is_some x.owner && is_nothing x.start) ((typing outer x.start).start x.type) there.1
-        (λ none. never (sym no ∙ (both (is_some x.owner) (is_nothing x.start) none).1)) (λ ok. ok)
+        (λ none. never (sym there_is ∙ (both (is_some x.owner) (is_nothing x.start) none).1)) (λ ok. ok)
 
     set-fits : (b : Bool) → is_nothing x.start ≡ b
         → checks.all_fit [] false false (if b then nothing else initialised file.classes (type_of_static file.statics x.name) x.name x.start 0 nothing) ≡ true
