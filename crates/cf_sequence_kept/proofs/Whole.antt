@@ -8,7 +8,7 @@ use Rattle.cf_core.specs.Types.{SourceType, integer, pointer, array, plain as un
 use Rattle.cf_core.specs.Classes.{Class}
 use Rattle.cf_core.specs.Core as core
 use Rattle.cf_core.specs.Core.{Core, Cores, no_temporary, none, absent}
-use Rattle.cf_core.specs.Typing.{Scope, is_function, of_value, of_result, is_condition, is_expression, is_right_operand, pointed, either, converts}
+use Rattle.cf_core.specs.Typing.{Scope, is_function, of_value, of_place, of_result, is_condition, is_expression, is_right_operand, pointed, either, converts}
 use Rattle.cf_core.specs.Typed.{typing, typings, last_typing, typing_maybe, fit, on_object, read_type, pointed_place, address_type, decayed_type, stepped, void_pointer}
 use Rattle.cf_plain.specs.Plain.{Register, Plains, act, set, more}
 use Rattle.cf_plain.specs.Plain as plain
