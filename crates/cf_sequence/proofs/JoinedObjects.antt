@@ -1,12 +1,12 @@
 -- The static objects of files that are joined: their plain statements and settings are those of the joined program.
 use Rattle.std.proofs.Common.{◌≡◌, Bool, true, false, not, ◌&&◌, ◌||◌, cond, if◌then◌else◌, List, [], ◌∷◌, ◌++◌, map, filter, refl, sym, ◌∙◌, ap, subst}
-use Rattle.std.specs.Prelude.{Option, Some, None, find, bytes_eq, option_map, is_some}
+use Rattle.std.specs.Prelude.{Option, Some, find, bytes_eq, is_some}
 use Rattle.std.specs.List.{list_all, list_any}
 use Rattle.std.proofs.lemmas.List.{map-append}
 use Rattle.std.proofs.lemmas.List.Folds.{list_all-append}
 use Rattle.cf_base.proofs.Tests.{both, all_of, same_bytes, bytes_same}
 use Rattle.cf_core.specs.Types.{Name, SourceType}
-use Rattle.cf_core.specs.Core.{Core, Static}
+use Rattle.cf_core.specs.Core.{Static}
 use Rattle.cf_core.specs.Places.{is_reference}
 use Rattle.cf_core.specs.Calls.{Setting}
 use Rattle.cf_core.specs.Joined as core
@@ -20,7 +20,6 @@ use Rattle.cf_sequence.specs.Sequenced.{sequenced_static}
 use Rattle.cf_sequence.proofs.Calling.{never}
 use Rattle.cf_sequence.proofs.StaticObjects.{type_found}
 use Rattle.cf_sequence.proofs.Constants.{set_as, start-is, constant-object, plain-object, constant-start, something-constant}
-use Rattle.cf_sequence.proofs.SameNames.{kept_name, same-core, same-plains}
 
 -- ---- the type of a name
 
@@ -44,7 +43,7 @@ type-grown (x ∷ xs) zs name there =
     (λ other. type-grown xs zs name (subst (λ b. b || is_among name xs ≡ true) other there))
 
 -- objects of other names before don't matter
-type-behind : (xs zs : List Static) (name : Name) → is_among name xs ≡ false → type_of_static (xs ++ zs) name ≡ type_of_static zs name
+pub type-behind : (xs zs : List Static) (name : Name) → is_among name xs ≡ false → type_of_static (xs ++ zs) name ≡ type_of_static zs name
 type-behind [] zs name none = refl
 type-behind (x ∷ xs) zs name none =
     let parts = or-false (bytes_eq x.name name) (is_among name xs) none in
@@ -351,7 +350,7 @@ settings-joined xs ys name ks good there ok =
           (among-new (xs ++ new) name new (among-all new (xs ++ new) (λ n there. among-right xs new n there) new (their-own new)));
     }
 
--- ---- what is not constant, and names that are local to a file: there are none
+-- ---- what is not constant: there is none
 
 pub none-needed : (ws : List Static) → list_all is_built_static ws ≡ true → filter core.needs_initialiser ws ≡ []
 none-needed [] ok = refl
@@ -365,48 +364,3 @@ none-needed-beside ys (w ∷ ws) ok =
     let parts = both (is_built_static w) (list_all is_built_static ws) ok in
     let others = filter plain.needs_initialiser (map (beside ys) ws) in
     ap (λ b. cond (not b && not (is_some w.owner)) (beside ys w ∷ others) others) (constant-object w parts.0) ∙ none-needed-beside ys ws parts.1
-
-abbrev pub is_own : Static → Bool
-is_own x = is_built_static x && not x.is_local
-
-pub own-built : (xs : List Static) → list_all is_own xs ≡ true → list_all is_built_static xs ≡ true
-own-built [] ok = refl
-own-built (x ∷ xs) ok =
-    let parts = both (is_own x) (list_all is_own xs) ok in
-    all_of (is_built_static x) (list_all is_built_static xs) (both (is_built_static x) (not x.is_local) parts.0).0 (own-built xs parts.1)
-
-pub no-locals : (xs : List Static) → list_all is_own xs ≡ true → filter (λ (x : Static). x.is_local) xs ≡ []
-no-locals [] ok = refl
-no-locals (x ∷ xs) ok =
-    let parts = both (is_own x) (list_all is_own xs) ok in
-    let others = filter (λ (x : Static). x.is_local) xs in
-    ap (λ b. cond b (x ∷ others) others) (absent-is x.is_local (both (is_built_static x) (not x.is_local) parts.0).1) ∙ no-locals xs parts.1
-
-pub no-locals-beside : (ys xs : List Static) → list_all is_own xs ≡ true → filter (λ (x : PlainStatic). x.is_local) (map (beside ys) xs) ≡ []
-no-locals-beside ys [] ok = refl
-no-locals-beside ys (x ∷ xs) ok =
-    let parts = both (is_own x) (list_all is_own xs) ok in
-    let others = filter (λ (x : PlainStatic). x.is_local) (map (beside ys) xs) in
-    ap (λ b. cond b (beside ys x ∷ others) others) (absent-is x.is_local (both (is_built_static x) (not x.is_local) parts.0).1) ∙ no-locals-beside ys xs parts.1
-
--- so their names stay
-same-owner : (o : Option Name) → option_map kept_name o ≡ o
-same-owner None = refl
-same-owner (Some n) = refl
-
-pub objects-kept : (xs : List Static) → map (core.static_in_file kept_name) xs ≡ xs
-objects-kept [] = refl
-objects-kept (x ∷ xs) =
-    ap (λ (e : Core). (let y : Static = record x { start = e; owner = option_map kept_name x.owner } in y) ∷ map (core.static_in_file kept_name) xs) (same-core x.start)
-    ∙ ap (λ o. (let y : Static = record x { owner = o } in y) ∷ map (core.static_in_file kept_name) xs) (same-owner x.owner)
-    ∙ ap (λ (ys : List Static). x ∷ ys) (objects-kept xs)
-
-abbrev pub plain_static_in_file : (Name → Name) → PlainStatic → PlainStatic
-plain_static_in_file r x = record x { name = r x.name; start = plain.renamed_all r x.start; owner = option_map r x.owner }
-
-pub plain-objects-kept : (xs : List PlainStatic) → map (plain_static_in_file kept_name) xs ≡ xs
-plain-objects-kept [] = refl
-plain-objects-kept (x ∷ xs) =
-    ap (λ ss. (let y : PlainStatic = record x { start = ss; owner = option_map kept_name x.owner } in y) ∷ map (plain_static_in_file kept_name) xs) (same-plains x.start)
-    ∙ ap (λ o. (let y : PlainStatic = record x { owner = o } in y) ∷ map (plain_static_in_file kept_name) xs) (same-owner x.owner)
-    ∙ ap (λ (ys : List PlainStatic). x ∷ ys) (plain-objects-kept xs)

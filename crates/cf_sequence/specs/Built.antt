@@ -1,8 +1,8 @@
 -- The cores that are built so far: functions over numbers and pointers, with locals, references to objects, literals, calls by name and all statements,
 -- where a `switch` declares no local in its own block, and static objects with constant initialisers; no class and no temporary.
-use Rattle.std.specs.Prelude.{ℕ, suc, Bool, true, false, ◌&&◌, ◌||◌, not, nat_le, List, [], ◌∷◌, length, bytes_eq, codes}
-use Rattle.std.specs.List.{list_all}
-use Rattle.cf_core.specs.Types.{SourceType, takes, gives, result, is_class, parameters}
+use Rattle.std.specs.Prelude.{ℕ, suc, Bool, true, false, ◌&&◌, ◌||◌, not, nat_le, nat_eq, List, [], ◌∷◌, length, bytes_eq, codes}
+use Rattle.std.specs.List.{list_all, starts_with}
+use Rattle.cf_core.specs.Types.{Name, SourceType, takes, gives, result, is_class, parameters}
 use Rattle.cf_core.specs.Core as core
 use Rattle.cf_core.specs.Core.{Core, Cores, MaybeCore, no_temporary, none, absent, given, Role, plain_function, Function, Static, CoreFile}
 use Rattle.cf_core.specs.Calls.{Program, Setting}
@@ -164,9 +164,16 @@ is_plainly_built P =
     is_none P.classes
     && (list_all (is_built_setting P.statics) P.constants && (is_none P.initialisers && list_all is_built_function P.functions))
 
--- Files of such functions and objects, of which none is local to its file.
+-- whether a name has `__u` in it, which joining puts behind a name that is local to its file
+abbrev pub begins_mark : Name → Bool
+begins_mark n = starts_with nat_eq n (codes "__u")
+
+abbrev pub has_mark : Name → Bool
+has_mark [] = false
+has_mark (b ∷ rest) = begins_mark (b ∷ rest) || has_mark rest
+
+-- Files of such functions and objects, where no object has a name that joining may make.
 abbrev pub is_built_file : CoreFile → Bool
 is_built_file file =
     is_none file.classes
-    && (list_all (λ (x : Static). is_built_static x && not x.is_local) file.statics
-    && list_all (λ (f : Function). is_built_function f && not f.is_local) file.functions)
+    && (list_all (λ (x : Static). is_built_static x && not (has_mark x.name)) file.statics && list_all is_built_function file.functions)

@@ -1,5 +1,6 @@
 -- The place of the first construct of a core that is not built so far.
-use Rattle.std.specs.Prelude.{ℕ, Bool, true, false, ◌&&◌, ◌||◌, not, ◌==◌, nat_le, if◌then◌else◌, List, [], ◌∷◌, length, codes, bytes_eq, suc, Option, Some, None}
+use Rattle.std.specs.Prelude.{ℕ, Bool, true, false, ◌&&◌, ◌||◌, not, ◌==◌, nat_le, nat_eq, if◌then◌else◌, List, [], ◌∷◌, length, codes, bytes_eq, suc, Option, Some, None}
+use Rattle.std.specs.List.{starts_with}
 use Rattle.std.specs.Option.{option_or}
 use Rattle.cf_core.specs.declared.node.Core.{Core as Node, fold-Core}
 use Rattle.cf_core.specs.declared.node.Core.TheOpen.{Core-F}
@@ -166,7 +167,7 @@ module _ (tables : Tables) where
   abbrev pub test : Node → Test
   test = fold-Core Test Test test_step part_step
 
--- A function of numbers and pointers, which is not local to its file; `main` takes nothing.
+-- A function of numbers and pointers; `main` takes nothing.
 abbrev pub is_plain : Role → Bool
 is_plain role.Plain = true
 is_plain r = false
@@ -176,7 +177,7 @@ takes_nothing f = length f.params == 0
 
 abbrev pub is_usual : Tables → CoreFn → Bool
 is_usual tables f =
-    is_plain f.role && ((not (bytes_eq f.name (codes "__main")) || takes_nothing f) && (not (is_class (type_of tables f.result)) && not f.is_local))
+    is_plain f.role && ((not (bytes_eq f.name (codes "__main")) || takes_nothing f) && not (is_class (type_of tables f.result)))
 
 abbrev pub in_function : Tables → CoreFn → Option ℕ
 in_function tables f = if is_usual tables f then (test tables f.body).statement (length f.params) else Some (place f.body)
@@ -211,10 +212,18 @@ constant_part x = x.start
 abbrev pub is_constant : Node → Bool
 is_constant = fold-Core Bool Bool constant_step constant_part
 
--- A static object with a constant initialiser, which is no reference and not local to its file.
+-- whether a name has `__u` in it, which joining puts behind a name that is local to its file
+abbrev pub begins_mark : List ℕ → Bool
+begins_mark bytes = starts_with nat_eq bytes (codes "__u")
+
+abbrev pub has_mark : List ℕ → Bool
+has_mark [] = false
+has_mark (b ∷ rest) = begins_mark (b ∷ rest) || has_mark rest
+
+-- A static object with a constant initialiser, which is no reference.
 abbrev pub is_usual_object : Tables → CoreStatic → Bool
 is_usual_object tables x =
-    x.is_constant && (not (is_reference (type_of tables x.ty)) && (((test tables x.start).is_blank || is_constant x.start) && not x.is_local))
+    x.is_constant && (not (is_reference (type_of tables x.ty)) && (((test tables x.start).is_blank || is_constant x.start) && not (has_mark x.name)))
 
 abbrev pub in_static : Tables → CoreStatic → Option ℕ
 in_static tables x = if is_usual_object tables x then None else Some (place x.start)

@@ -8,7 +8,7 @@ use crate::types::{is_of_class, is_reference};
 use crate::values::is_constant;
 use cf_core::{CoreFn, CoreStatic, CoreUnit, Role};
 
-/// Whether it is a function of numbers and pointers that is not local to its file; `main` takes nothing.
+/// Whether it is a function of numbers and pointers; `main` takes nothing.
 fn is_usual(unit: &CoreUnit, f: &CoreFn) -> bool
     requires { function_known (tables_of unit.now) f.now ≡ true }
     ensures { result ≡ spec.is_usual (tables_of unit.now) f.now }
@@ -16,7 +16,6 @@ fn is_usual(unit: &CoreUnit, f: &CoreFn) -> bool
     matches!(f.role, Role::Plain)
         && (f.name.as_slice() != b"__main".as_slice() || f.params.len() == 0)
         && !is_of_class(unit, f.result)
-        && !f.is_local
 }
 
 /// The place of the first construct of a function that is not built.
@@ -44,7 +43,17 @@ fn in_functions(unit: &CoreUnit) -> Option<u32>
     None
 }
 
-/// Whether it is a static object with a constant initialiser, which is no reference and not local to its file.
+/// Whether a name has `__u` in it, which joining puts behind a name that is local to its file.
+fn has_mark(name: &[u8]) -> bool
+    ensures { result ≡ spec.has_mark name.now }
+{
+    match name {
+        [] => false,
+        [_, rest @ ..] => name.starts_with(b"__u") || has_mark(rest),
+    }
+}
+
+/// Whether it is a static object with a constant initialiser, which is no reference.
 fn is_usual_object(unit: &CoreUnit, x: &CoreStatic) -> bool
     requires { static_known (tables_of unit.now) x.now ≡ true }
     ensures { result ≡ spec.is_usual_object (tables_of unit.now) x.now }
@@ -52,7 +61,7 @@ fn is_usual_object(unit: &CoreUnit, x: &CoreStatic) -> bool
     x.is_constant
         && !is_reference(unit, x.ty)
         && (is_blank(&x.start) || is_constant(&x.start))
-        && !x.is_local
+        && !has_mark(x.name.as_slice())
 }
 
 /// The place of the initialiser of a static object that is not built.

@@ -126,10 +126,8 @@ pub fn is_constant(e: &Core) -> bool
     ensures { result ≡ spec.is_constant e.now }
 {
     match e {
-        Core::Number { .. }
-        | Core::Text { .. }
-        | Core::Static { .. }
-        | Core::Function { .. } => true,
+        Core::Number { .. } | Core::Text { .. } | Core::Static { .. } | Core::Function { .. } =>
+            true,
         Core::Address { place: a, .. }
         | Core::Dereference { pointer: a, .. }
         | Core::Decay { array: a, .. }

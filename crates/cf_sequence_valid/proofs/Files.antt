@@ -18,14 +18,14 @@ use Rattle.cf_core.specs.Valid.{Body, is_complete, all_differ, role_fits, class_
 use Rattle.cf_plain.specs.Plain as plain
 use Rattle.cf_plain.specs.Plain.{Plains, PlainFunction, PlainStatic, nothing}
 use Rattle.cf_plain.specs.Valid as checks
-use Rattle.cf_sequence.specs.Built.{is_built_file, is_built_function, is_built_static, is_body, is_plain_role, is_chain, is_none, is_statement, is_value}
+use Rattle.cf_sequence.specs.Built.{is_built_file, is_built_function, is_built_static, is_body, is_plain_role, is_chain, is_none, is_statement, is_value, has_mark}
 use Rattle.cf_sequence.specs.Made.{Local, makes, added, declared, numbered}
 use Rattle.cf_sequence.specs.Expressions.{finished}
 use Rattle.cf_sequence.specs.Statements.{type_of_static, initialised}
 use Rattle.cf_sequence.specs.Sequenced.{inside, outside, flowed_off, sequenced_body, sequenced_function, sequenced_start, sequenced_static, sequenced_file}
 use Rattle.cf_sequence.proofs.Calling.{never}
 use Rattle.cf_sequence.proofs.Constants.{constant-value, constant-start, something-constant, start-adds, start-is}
-use Rattle.cf_sequence.proofs.JoinedObjects.{is_own}
+use Rattle.cf_sequence.proofs.OwnNames.{is_own}
 use Rattle.cf_sequence_valid.proofs.Serves.{as_start, either-true}
 use Rattle.cf_sequence_valid.proofs.Fine.{Fine, fine-finished}
 use Rattle.cf_sequence_valid.proofs.Stands.{Stand, stand-behind, still-there, are_there, is_there, there-two, numbered-there}
@@ -133,23 +133,19 @@ module _ (file : CoreFile) where
         (all_of (is_function f.type && role_fits file.classes (class_of_role f.role)) (completes locals) two.0 all_complete) one.1)
         (plain-body locals file.classes f.role (sequenced_body file.classes file.statics f) plain_role body-fits)
 
-  abbrev is_good : Function → Bool
-  is_good f = is_built_function f && not f.is_local
-
   -- what is built of a function
-  good-parts : (f : Function) → is_good f ≡ true → (is_plain_role f.role ≡ true) × (is_body f ≡ true)
+  good-parts : (f : Function) → is_built_function f ≡ true → (is_plain_role f.role ≡ true) × (is_body f ≡ true)
   good-parts f ok =
       let start : Bool = not (bytes_eq f.name (codes "__main")) || is_none (parameters f.type) in
-      let one = both (is_built_function f) (not f.is_local) ok in
-      let two = both (is_plain_role f.role) (is_chain f.type && (start && is_body f)) one.0 in
+      let two = both (is_plain_role f.role) (is_chain f.type && (start && is_body f)) ok in
       let three = both (is_chain f.type) (start && is_body f) two.1 in
       (two.0, (both start (is_body f) three.1).1)
 
-  functions-fit : (fs : List Function) → list_all is_good fs ≡ true → list_all (valid.function_fits file) fs ≡ true
+  functions-fit : (fs : List Function) → list_all is_built_function fs ≡ true → list_all (valid.function_fits file) fs ≡ true
       → list_all (checks.function_fits (sequenced_file file)) (map (sequenced_function file.classes file.statics) fs) ≡ true
   functions-fit [] ok is = refl
   functions-fit (f ∷ fs) ok is =
-      let built = both (is_good f) (list_all is_good fs) ok in
+      let built = both (is_built_function f) (list_all is_built_function fs) ok in
       let parts = both (valid.function_fits file f) (list_all (valid.function_fits file) fs) is in
       let good = good-parts f built.0 in
       all_of (checks.function_fits (sequenced_file file) (sequenced_function file.classes file.statics f)) _
@@ -158,10 +154,10 @@ module _ (file : CoreFile) where
   abbrev function_nodes : List Function → List Core
   function_nodes fs = flat_map (λ (f : Function). nodes f.body) fs
 
-  functions-complete : (fs : List Function) → list_all is_good fs ≡ true → list_all (valid.function_fits file) fs ≡ true → completes (added (function_nodes fs)) ≡ true
+  functions-complete : (fs : List Function) → list_all is_built_function fs ≡ true → list_all (valid.function_fits file) fs ≡ true → completes (added (function_nodes fs)) ≡ true
   functions-complete [] ok is = refl
   functions-complete (f ∷ fs) ok is =
-      let built = both (is_good f) (list_all is_good fs) ok in
+      let built = both (is_built_function f) (list_all is_built_function fs) ok in
       let parts = both (valid.function_fits file f) (list_all (valid.function_fits file) fs) is in
       let good = good-parts f built.0 in
       ap completes (flat_map-append makes (nodes f.body) (function_nodes fs))
@@ -223,7 +219,7 @@ module _ (file : CoreFile) where
       let own = both (is_own x) (list_all is_own xs) ok in
       let parts = both (valid.static_fits file x) (list_all (valid.static_fits file) xs) is in
       all_of (checks.static_fits (sequenced_file file) (sequenced_static file.classes file.statics x)) _
-      (static-fits x (both (is_built_static x) (not x.is_local) own.0).0 parts.0) (statics-fit xs own.1 parts.1)
+      (static-fits x (both (is_built_static x) (not (has_mark x.name)) own.0).0 parts.0) (statics-fit xs own.1 parts.1)
 
   -- the objects that are made for calls are of complete types
   pub file-complete : valid.valid_file file ≡ true → is_built_file file ≡ true → completes (added (function_nodes file.functions)) ≡ true
@@ -232,8 +228,8 @@ module _ (file : CoreFile) where
       let names : List Name = map (λ (f : Function). f.name) file.functions ++ map (λ (x : Static). x.name) file.statics in
       let functions_good : Bool = list_all (valid.function_fits file) file.functions in
       let one = both (classes_good && all_differ names && functions_good) (list_all (valid.static_fits file) file.statics) is in
-      let some = both (is_none file.classes) (list_all is_own file.statics && list_all is_good file.functions) built in
-      functions-complete file.functions (both (list_all is_own file.statics) (list_all is_good file.functions) some.1).1 (both (classes_good && all_differ names) functions_good one.0).1
+      let some = both (is_none file.classes) (list_all is_own file.statics && list_all is_built_function file.functions) built in
+      functions-complete file.functions (both (list_all is_own file.statics) (list_all is_built_function file.functions) some.1).1 (both (classes_good && all_differ names) functions_good one.0).1
 
   pub file-fits : valid.valid_file file ≡ true → is_built_file file ≡ true → checks.valid_file (sequenced_file file) ≡ true
   file-fits is built =
@@ -249,8 +245,8 @@ module _ (file : CoreFile) where
       let same : names_now ≡ names =
       ap (λ l. l ++ map (λ (x : PlainStatic). x.name) (map (sequenced_static file.classes file.statics) file.statics)) (same-names file.functions)
       ∙ ap (λ l. map (λ (f : Function). f.name) file.functions ++ l) (same-objects file.statics) in
-      let some = both (is_none file.classes) (list_all is_own file.statics && list_all is_good file.functions) built in
-      let more = both (list_all is_own file.statics) (list_all is_good file.functions) some.1 in
+      let some = both (is_none file.classes) (list_all is_own file.statics && list_all is_built_function file.functions) built in
+      let more = both (list_all is_own file.statics) (list_all is_built_function file.functions) some.1 in
       let functions_now : Bool = list_all (checks.function_fits (sequenced_file file)) (map (sequenced_function file.classes file.statics) file.functions) in
       all_of (classes_good && all_differ names_now && functions_now) (list_all (checks.static_fits (sequenced_file file)) (map (sequenced_static file.classes file.statics) file.statics))
       (all_of (classes_good && all_differ names_now) functions_now (all_of classes_good (all_differ names_now) three.0 (ap all_differ same ∙ three.1)) (functions-fit file.functions more.1 two.1))

@@ -25,13 +25,14 @@ use Rattle.cf_plain.specs.Plain as plain
 use Rattle.cf_plain.specs.Numbers as plain_numbers
 use Rattle.cf_plain.specs.View as view
 use Rattle.cf_plain.specs.View.{plains_of}
-use Rattle.cf_sequence.specs.Built.{is_start, is_constant_start, is_constant_value, is_value, is_built_static}
+use Rattle.cf_sequence.specs.Built.{is_start, is_constant_start, is_constant_value, is_value, is_built_static, has_mark}
 use Rattle.cf_sequence.specs.Made.{added, width}
 use Rattle.cf_sequence.specs.Statements.{type_of_static, initialised}
 use Rattle.cf_sequence.specs.Statements as definition
 use Rattle.cf_sequence.specs.Sequenced.{sequenced_start, sequenced_static}
 use Rattle.cf_sequence.proofs.Constants.{set_as, start-is, constant-start, something-constant, constant-value}
 use Rattle.cf_sequence.proofs.JoinedObjects.{is_among, type-behind}
+use Rattle.cf_sequence.proofs.OwnNames.{is_own}
 use Rattle.cf_sequence.proofs.StaticObjects.{type_found}
 use Rattle.cf_sequence.proofs.Calling.{never}
 use Rattle.cf_sequence_expr.specs.declared.writing.Writing.{Writing}
@@ -158,9 +159,6 @@ module _ (tables : Tables) (params : (t : ℕ) → map (type_of tables) (paramet
 -- ---- all of a file
 
 module _ (tables : Tables) (params : (t : ℕ) → map (type_of tables) (parameters_at tables.types t) ≡ parameters (type_of tables t)) (classes : List Class) (alloc : Global) where
-  abbrev is_own : Static → Bool
-  is_own x = is_built_static x && not x.is_local
-
   abbrev cores : List CoreStatic → List Static
   cores xs = map (static_of tables) xs
 
@@ -177,7 +175,7 @@ module _ (tables : Tables) (params : (t : ℕ) → map (type_of tables) (paramet
       let all = before ++ cores (x ∷ xs) in
       let moved = later before (static_of tables x) (cores xs) in
       ap (λ (y : PlainStatic). y ∷ map (view.static_of tables) (map (written_object tables.types alloc) xs))
-      (object-is tables params classes all alloc x (both (is_built_static (static_of tables x)) (not x.is_local) parts.0).0
+      (object-is tables params classes all alloc x (both (is_built_static (static_of tables x)) (not (has_mark x.name)) parts.0).0
       (own-type before (static_of tables x) (cores xs) (sym (ap all_differ (names-two before (cores (x ∷ xs)))) ∙ differ)))
       ∙ ap (λ (ys : List PlainStatic). sequenced_static classes all (static_of tables x) ∷ ys)
       (objects-behind (before ++ static_of tables x ∷ []) xs parts.1 (ap (λ zs. all_differ (names_of zs)) (sym moved) ∙ differ)

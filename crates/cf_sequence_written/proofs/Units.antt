@@ -13,18 +13,18 @@ use Rattle.cf_core.specs.FromTypes.{Tables}
 use Rattle.cf_core.specs.FromUnit.{Unit, IsValid, tables_of, file_of, function_of}
 use Rattle.cf_plain.specs.Plain.{PlainFunction, PlainStatic}
 use Rattle.cf_plain.specs.View as plain
-use Rattle.cf_sequence.specs.Built.{is_built_file, is_built_function, is_built_static, is_body, is_plain_role, is_chain, is_none}
+use Rattle.cf_sequence.specs.Built.{is_built_file, is_built_function, is_body, is_plain_role, is_chain, is_none}
 use Rattle.cf_sequence.specs.Sequenced.{sequenced_file, sequenced_function}
 use Rattle.cf_sequence_fn.specs.Functions.{written_function, written_unit}
 use Rattle.cf_sequence_written.proofs.Parameters.{parameters-are}
 use Rattle.cf_sequence_written.proofs.Functions.{function-is}
+use Rattle.cf_sequence.proofs.OwnNames.{is_own}
 use Rattle.cf_sequence_written.proofs.Objects.{objects-are}
 
-body-built : (f : Function) → is_built_function f && not f.is_local ≡ true → is_body f ≡ true
+body-built : (f : Function) → is_built_function f ≡ true → is_body f ≡ true
 body-built f ok =
     let start : Bool = not (bytes_eq f.name (codes "__main")) || is_none (parameters f.type) in
-    let one = both (is_built_function f) (not f.is_local) ok in
-    let two = both (is_plain_role f.role) (is_chain f.type && (start && is_body f)) one.0 in
+    let two = both (is_plain_role f.role) (is_chain f.type && (start && is_body f)) ok in
     let three = both (is_chain f.type) (start && is_body f) two.1 in
     (both start (is_body f) three.1).1
 
@@ -38,20 +38,14 @@ module _ (alloc : Global) (frames : List ℕ) (unit : Unit) (valid : IsValid uni
   abbrev statics : List Static
   statics = (file_of unit).statics
 
-  abbrev is_good : Function → Bool
-  is_good f = is_built_function f && not f.is_local
-
-  functions-are : (fs : List CoreFn) → list_all is_good (map (function_of tables) fs) ≡ true
+  functions-are : (fs : List CoreFn) → list_all is_built_function (map (function_of tables) fs) ≡ true
       → map (plain.function_of tables) (map (written_function unit.types alloc) fs) ≡ map (sequenced_function classes statics) (map (function_of tables) fs)
   functions-are [] ok = refl
   functions-are (f ∷ fs) ok =
-      let parts = both (is_good (function_of tables f)) (list_all is_good (map (function_of tables) fs)) ok in
+      let parts = both (is_built_function (function_of tables f)) (list_all is_built_function (map (function_of tables) fs)) ok in
       ap (λ z. z ∷ map (plain.function_of tables) (map (written_function unit.types alloc) fs))
       (function-is tables (parameters-are tables valid.names) classes statics alloc f (body-built (function_of tables f) parts.0))
       ∙ ap (λ l. sequenced_function classes statics (function_of tables f) ∷ l) (functions-are fs parts.1)
-
-  abbrev is_own : Static → Bool
-  is_own x = is_built_static x && not x.is_local
 
   names-differ : checks.all_differ (map (λ (f : Function). f.name) (file_of unit).functions ++ map (λ (x : Static). x.name) statics) ≡ true
   names-differ =
@@ -63,8 +57,8 @@ module _ (alloc : Global) (frames : List ℕ) (unit : Unit) (valid : IsValid uni
 
   pub file-is : plain.file_of (written_unit alloc frames unit) ≡ sequenced_file (file_of unit)
   file-is =
-      let one = both (is_none classes) (list_all is_own statics && list_all is_good (file_of unit).functions) built in
-      let two = both (list_all is_own statics) (list_all is_good (file_of unit).functions) one.1 in
+      let one = both (is_none classes) (list_all is_own statics && list_all is_built_function (file_of unit).functions) built in
+      let two = both (list_all is_own statics) (list_all is_built_function (file_of unit).functions) one.1 in
       ap (λ (fs : List PlainFunction). record (plain.file_of (written_unit alloc frames unit)) { functions = fs }) (functions-are unit.functions two.1)
       ∙ ap (λ (xs : List PlainStatic). record (sequenced_file (file_of unit)) { statics = xs })
       (objects-are tables (parameters-are tables valid.names) classes alloc unit.statics (map (λ (f : Function). f.name) (file_of unit).functions) two.0 names-differ)
