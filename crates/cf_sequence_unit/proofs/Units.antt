@@ -14,7 +14,7 @@ use Rattle.cf_core.specs.declared.unit.CoreStatic.{CoreStatic}
 use Rattle.cf_core.specs.Types.{SourceType}
 use Rattle.cf_core.specs.Core.{Core, Function, Static, CoreFile}
 use Rattle.cf_core.specs.Nodes.{nodes}
-use Rattle.cf_core.specs.Frame.{made_by, frame_bound, initialiser_bound}
+use Rattle.cf_core.specs.Frame.{frame_bound, initialiser_bound}
 use Rattle.cf_core.specs.FromClasses.{classes_in}
 use Rattle.cf_core.specs.FromUnit.{Unit as CoreUnit, IsValid, tables_of, file_of, function_of, is_short}
 use Rattle.cf_core.specs.Valid.{is_complete}

@@ -1,5 +1,5 @@
 -- What the test finds constant is a constant value.
-use Rattle.std.proofs.Common.{◌≡◌, Bool, true, false, ◌&&◌, List, [], ◌∷◌, Option, Some, None, refl, ap, sym, subst, ◌∙◌}
+use Rattle.std.proofs.Common.{◌≡◌, Bool, ◌&&◌, refl, ap, sym, subst, ◌∙◌}
 use Rattle.cf_classes.specs.declared.class.MemberRef.{MemberRef}
 use Rattle.cf_core.specs.declared.node.Core.{Core as Node, roll-Core, ind-Core}
 use Rattle.cf_core.specs.declared.node.Core.TheOpen.{Core-F}

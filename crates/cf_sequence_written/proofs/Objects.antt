@@ -1,18 +1,17 @@
 -- What is written for a built static object is the definition's, and the numbers of types in it are there in the tables.
 use Rattle.std.proofs.Common.{◌≡◌, ℕ, ◌+◌, Bool, true, false, not, ◌&&◌, ◌||◌, cond, List, [], ◌∷◌, ◌++◌, map, length, Some, slice_get, refl, sym, ap, subst, ◌∙◌, if◌then◌else◌}
-use Rattle.std.specs.Prelude.{Option, find, bytes_eq}
+use Rattle.std.specs.Prelude.{find, bytes_eq}
 use Rattle.std.specs.List.{list_all, list_any}
 use Rattle.std.specs.declared.alloc.Global.{Global}
-use Rattle.cf_base.proofs.Tests.{both, all_of, same_bytes, bytes_same}
+use Rattle.cf_base.proofs.Tests.{both, same_bytes, bytes_same}
 use Rattle.cf_classes.specs.declared.class.MemberRef.{MemberRef}
 use Rattle.cf_types.specs.declared.ty.Ty.{Ty}
 use Rattle.cf_types.specs.Table.{Names}
 use Rattle.cf_core.specs.declared.unit.CoreStatic.{CoreStatic}
 use Rattle.cf_core.specs.Types.{Name, SourceType, parameters}
 use Rattle.cf_core.specs.Classes.{Class}
-use Rattle.cf_core.specs.Core.{Core, Static}
+use Rattle.cf_core.specs.Core.{Static}
 use Rattle.cf_core.specs.Joined.{is_nothing}
-use Rattle.cf_core.specs.Nodes.{nodes}
 use Rattle.cf_core.specs.Valid.{all_differ}
 use Rattle.cf_core.specs.FromTypes.{Tables, type_of}
 use Rattle.cf_core.specs.FromClasses.{signature_of}
@@ -25,8 +24,8 @@ use Rattle.cf_plain.specs.Plain as plain
 use Rattle.cf_plain.specs.Numbers as plain_numbers
 use Rattle.cf_plain.specs.View as view
 use Rattle.cf_plain.specs.View.{plains_of}
-use Rattle.cf_sequence.specs.Built.{is_start, is_constant_start, is_constant_value, is_value, is_built_static, has_mark}
-use Rattle.cf_sequence.specs.Made.{added, width}
+use Rattle.cf_sequence.specs.Built.{is_start, is_value, is_built_static, has_mark}
+use Rattle.cf_sequence.specs.Made.{width}
 use Rattle.cf_sequence.specs.Statements.{type_of_static, initialised}
 use Rattle.cf_sequence.specs.Statements as definition
 use Rattle.cf_sequence.specs.Sequenced.{sequenced_start, sequenced_static}
@@ -44,11 +43,11 @@ use Rattle.cf_sequence_stmt.specs.Steps.{step}
 use Rattle.cf_sequence_stmt.proofs.Pieces.{same_piece}
 use Rattle.cf_sequence_fn.specs.Functions.{blank_writing, written_object}
 use Rattle.cf_sequence_written.proofs.Adding.{Adds, adding}
-use Rattle.cf_sequence_written.proofs.Followed.{followed, followed-end}
+use Rattle.cf_sequence_written.proofs.Followed.{followed-end}
 use Rattle.cf_sequence_written.proofs.Puts.{Puts, still-set, still-act, still-then, still-puts, puts-still}
 use Rattle.cf_sequence_written.proofs.Wholes.{Whole, puts-started}
 use Rattle.cf_sequence_written.proofs.Stated.{Stated, written-statement, operand_of, nothing-builds}
-use Rattle.cf_sequence_written.proofs.Known.{KnownPiece, Keeps, keeps-none, keeps-then, keeps-set, keeps-act, and-true}
+use Rattle.cf_sequence_written.proofs.Known.{KnownPiece, Keeps, keeps-then, keeps-set, keeps-act, and-true}
 use Rattle.cf_sequence_written.proofs.KnownPieces.{known-piece}
 use Rattle.cf_sequence_written.proofs.KnownSteps.{keeps-started}
 
