@@ -4,7 +4,7 @@
 #![tactic(auto)]
 
 mod definitions;
-mod objects;
+mod statics;
 
 pub use definitions::{function, functions};
-pub use objects::{object, objects};
+pub use statics::{object, objects};

@@ -3,7 +3,7 @@ use Rattle.std.specs.List.{list_all}
 use Rattle.cf_core.specs.FromUnit.{tables_of}
 use Rattle.cf_core.specs.Numbers.{static_known}
 use Rattle.cf_sequence_fn.specs.Functions.{written_object}
-use Rattle.cf_sequence_fn.proofs.objects.objects.Given as goal
+use Rattle.cf_sequence_fn.proofs.statics.objects.Given as goal
 
 abbrev pub invariant-loop-x : goal.invariant-loop-x
 invariant-loop-x l = record {
