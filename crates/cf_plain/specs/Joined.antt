@@ -1,5 +1,5 @@
 -- The plain units of a program joined by link names, as cores are.
-use Rattle.std.specs.Prelude.{ℕ, suc, Bool, false, not, ◌&&◌, List, [], ◌∷◌, ◌++◌, Option, codes, map, filter, bytes_eq, is_some, option_map}
+use Rattle.std.specs.Prelude.{ℕ, suc, Bool, true, false, not, ◌&&◌, List, [], ◌∷◌, ◌++◌, Option, codes, map, filter, bytes_eq, is_some, option_map}
 use Rattle.std.specs.List.{list_any}
 use Rattle.cf_base.specs.World.{Outcome}
 use Rattle.cf_core.specs.Types.{Name, SourceType, void, gives}
@@ -94,6 +94,16 @@ file_initialiser name (x ∷ rest) = record {
   is_local = false;
 } ∷ []
 
+abbrev pub is_empty : Plains → Bool
+is_empty nothing = true
+is_empty (more s rest) = false
+
+abbrev pub sets_constant : PlainStatic → Bool
+sets_constant x = x.is_constant && not (is_empty x.start)
+
+abbrev pub constant_setting : Name → PlainStatic → PlainSetting
+constant_setting name x = record { function = owner_or name x.owner; start = x.start }
+
 abbrev pub needs_initialiser : PlainStatic → Bool
 needs_initialiser x = not x.is_constant && not (is_some x.owner)
 
@@ -106,7 +116,7 @@ with_file Q k file =
       classes = Q.classes ++ new_classes Q.classes file.classes;
       functions = Q.functions ++ new_functions Q.functions file.functions;
       statics = Q.statics ++ statics;
-      constants = Q.constants ++ map (λ (x : PlainStatic). let s : PlainSetting = record { function = owner_or name x.owner; start = x.start } in s) (filter (λ (x : PlainStatic). x.is_constant) statics);
+      constants = Q.constants ++ map (constant_setting name) (filter sets_constant statics);
       initialisers = Q.initialisers ++ file_initialiser name (filter needs_initialiser statics);
     }
 

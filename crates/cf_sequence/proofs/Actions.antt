@@ -11,7 +11,7 @@ use Rattle.cf_core.specs.Store.{Value, Nothing, Missing, Number, Null, At}
 use Rattle.cf_core.specs.Run.{State, Frame, Gives, Act, ◌>>=◌, ◌>>◌, gives, malformed, done, some_or, need, when, with_frame, cast_from_void}
 use Rattle.cf_core.specs.Access.{used, place_of, number_of, write_place}
 use Rattle.cf_core.specs.Scalars.{operated, minus, moved_by, changed_value}
-use Rattle.cf_core.specs.Pointers.{element_of, route_of}
+use Rattle.cf_core.specs.Pointers.{moved_place}
 use Rattle.cf_core.specs.Calls as calling
 use Rattle.cf_core.specs.Calls.{Program, root, function_named, is_library, name_function, has_type, run_named, run_library, enter_found}
 use Rattle.cf_plain.specs.Plain.{Register, Plain, Plains, act, set, nothing, more}
@@ -26,7 +26,7 @@ use Rattle.cf_sequence.specs.Sequenced.{sequenced}
 use Rattle.cf_sequence.proofs.Following.{on, pull, pull-two, push, pure-steps, pure-then, looks-steps}
 use Rattle.cf_sequence.proofs.Steps.{pure-used, pure-number_of, pure-operated, write-steps}
 use Rattle.cf_sequence.proofs.Calling.{Alike, Bodies, plain_function, same-length, named-header, library-steps, enter-steps}
-use Rattle.cf_sequence.proofs.Pointers.{up_in, looks-up_in}
+use Rattle.cf_sequence.proofs.Pointers.{up_in, looks-up_in, element_at, moved-is}
 use Rattle.cf_sequence.proofs.Kept.{Objects, keep-same, keep-other}
 use Rattle.cf_sequence.proofs.PlainSteps.{Usable, runs_on, set-steps, act-steps, at-two}
 
@@ -80,11 +80,14 @@ module _ (again : running.Again) (H : Program) {A B : Type 0} {S : A → State �
       → Follows S (and_then ((moved_by H.classes x y >>= (λ z. write_place H.classes p z >> gives r)) s w) (on c))
       (and_then ((used x >>= (λ a. moved_by H.classes a y)) (with_frame f s) w) (on (storing again H place to h rest K)))
   moved-steps place to p (At q) (Number z) r h rest c K s f w at-place differs next =
-      let at : ℕ → Value = λ i. At (record q { route = route_of (element_of q.route) i }) in
-      pull-two (up_in H.classes q z s w) (λ i. gives (at i)) (λ z. write_place H.classes p z >> gives r) c _
-      (push (up_in H.classes q z (with_frame f s) w) (λ i. gives (at i)) (storing again H place to h rest K) _
-      (looks-steps (up_in H.classes q z) (looks-up_in H.classes q z) (λ i. (write_place H.classes p (at i) >> gives r) >>= c) (λ i. storing again H place to h rest K (at i)) s f w (λ i.
-      new-value place to p (at i) r h rest c K s f w refl at-place differs next)))
+      let stored : Value → Act Value = λ z. write_place H.classes p z >> gives r in
+      let store : Value → Act B = storing again H place to h rest K in
+      subst (λ x. Follows S (and_then (and_then x (on stored)) (on c)) (and_then (moved_place H.classes q z (with_frame f s) w) (on store))) (sym (moved-is H.classes q z s w))
+      (subst (λ y. Follows S (and_then (and_then ((up_in H.classes q z >>= (λ i. gives (element_at q i))) s w) (on stored)) (on c)) (and_then y (on store))) (sym (moved-is H.classes q z (with_frame f s) w))
+      (pull-two (up_in H.classes q z s w) (λ i. gives (element_at q i)) stored c _
+      (push (up_in H.classes q z (with_frame f s) w) (λ i. gives (element_at q i)) store _
+      (looks-steps (up_in H.classes q z) (looks-up_in H.classes q z) (λ i. stored (element_at q i) >>= c) (λ i. store (element_at q i)) s f w (λ i.
+      new-value place to p (element_at q i) r h rest c K s f w refl at-place differs next)))))
   moved-steps place to p Null (Number z) r h rest c K s f w at-place differs next = record { by = refl }
   moved-steps place to p x (Number z) r h rest c K s f w at-place differs next = record { by = tt }
   moved-steps place to p x y r h rest c K s f w at-place differs next = record { by = tt }

@@ -67,6 +67,12 @@ module _ (again : calling.Again) (again' : running.Again) (P : Program) (bodies 
         (pull (named_object P name t s w) (followed P.classes) c _ (push (named_object P name t (with_frame f s) w) (followed P.classes) G _
         (pure-steps (named_object P name t) (pure-named P name t) (λ p. followed P.classes p >>= c) (λ p. followed P.classes p >>= G) s (with_frame f s) w (λ p.
         looks-steps (followed P.classes p) (looks-followed P.classes p) c G s f w (λ v. next v s (keep g n v) f w (after-set n k g g s.frame f f v s (λ r lt. refl) refl (kept-all k f))))))))
+    follow-value (core.function name t) ok into into' x n k rest g s f w c K ready room next =
+        let G : Value → Act B = λ v. λ t w. runs_on again' (H again again' P) rest (keep g n v) K t w in
+        set-steps again' (H again again' P) n (plain.function name t) rest g K _ (with_frame f s) w
+        (pull (name_function P name t s w) (λ u. gives (Code name)) c _ (push (name_function (H again again' P) name t (with_frame f s) w) (λ u. gives (Code name)) G _
+        (name-steps again again' P name t (λ u. c (Code name)) (λ u. G (Code name)) s (with_frame f s) w (λ callee.
+        next (Code name) s (keep g n (Code name)) f w (after-set n k g g s.frame f f (Code name) s (λ r lt. refl) refl (kept-all k f))))))
     follow-value (core.text j bytes) ok into into' x n k rest g s f w c K ready room next =
         set-steps again' (H again again' P) n (plain.text j bytes) rest g K _ (with_frame f s) w
         (pull (literal_object j bytes s w) (λ o. gives (At (root o))) c _ (push (literal_object j bytes (with_frame f s) w) (λ o. gives (At (root o))) (λ v. λ t w. runs_on again' (H again again' P) rest (keep g n v) K t w) _

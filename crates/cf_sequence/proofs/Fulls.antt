@@ -50,6 +50,7 @@ mutual
       let parts = both (is_value e) (is_value f) ok in empty-two _ _ (no-temporaries e parts.0 b k) (no-temporaries f parts.1 b (k + width e))
   no-temporaries (core.text j bytes) ok b k = refl
   no-temporaries (core.static_object name t) ok b k = refl
+  no-temporaries (core.function name t) ok b k = refl
   no-temporaries (core.unary op t e) ok b k = no-temporaries e ok b k
   no-temporaries (core.logical_not e) ok b k = no-temporaries e ok b k
   no-temporaries (core.operate op t e f) ok b k =

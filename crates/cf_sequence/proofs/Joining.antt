@@ -1,86 +1,30 @@
 -- The files of a program: joining their plain units gives the plain program of the joined cores.
 use Rattle.std.proofs.Common.{◌≡◌, ℕ, suc, Bool, true, false, not, ◌&&◌, ◌||◌, cond, if◌then◌else◌, List, [], ◌∷◌, ◌++◌, map, filter, refl, sym, ◌∙◌, ap, subst}
-use Rattle.std.specs.Prelude.{bytes_eq, Some}
+use Rattle.std.specs.Prelude.{bytes_eq, codes, Some}
 use Rattle.std.specs.List.{list_all, list_any}
 use Rattle.std.proofs.lemmas.List.{map-append}
+use Rattle.std.proofs.lemmas.List.Folds.{list_all-append}
 use Rattle.cf_base.proofs.Tests.{both, all_of}
 use Rattle.cf_base.specs.World.{Outcome}
 use Rattle.cf_core.specs.Types.{Name}
 use Rattle.cf_core.specs.Classes.{Class}
-use Rattle.cf_core.specs.Core.{Core, Function, Static, CoreFile}
+use Rattle.cf_core.specs.Core.{Function, Static, CoreFile}
+use Rattle.cf_core.specs.Calls.{Program, Setting}
 use Rattle.cf_core.specs.Program.{Mean}
 use Rattle.cf_core.specs.Joined as core
-use Rattle.cf_plain.specs.Plain.{Plains, PlainFunction, PlainFile}
-use Rattle.cf_plain.specs.Program.{PlainProgram, PlainMean}
+use Rattle.cf_plain.specs.Plain.{PlainFunction, PlainStatic, PlainFile}
+use Rattle.cf_plain.specs.Program.{PlainProgram, PlainSetting, PlainMean}
 use Rattle.cf_plain.specs.Joined as plain
 use Rattle.cf_plain.specs.Joined.{files_mean}
-use Rattle.cf_sequence.specs.Built.{is_built_function, is_none, is_built_file}
+use Rattle.cf_sequence.specs.Built.{is_built_function, is_built_static, is_built_setting, is_none, is_built_file}
 use Rattle.cf_sequence.specs.Sequenced.{sequenced, sequenced_function, sequenced_file}
-use Rattle.cf_sequence.proofs.Calling.{never}
-use Rattle.cf_sequence.proofs.SameNames.{kept_name, same-core, same-plains}
-use Rattle.cf_sequence.proofs.Whole.{of_functions, empty-list, programs-agree}
-
-abbrev in_file : List Function → CoreFile
-in_file gs = record { classes = []; functions = gs; statics = [] }
+use Rattle.cf_sequence.proofs.Whole.{of_parts, empty-list, programs-agree}
+use Rattle.cf_sequence.proofs.SameStatics.{same-functions}
+use Rattle.cf_sequence.proofs.JoinedObjects.{beside as object_beside, placed, set_among, new-built, new-same as new-same-objects, objects-joined, settings-joined, Set, none-needed, none-needed-beside}
+use Rattle.cf_sequence.proofs.OwnNames.{in_file, is_own, own-functions, own-objects, own-is}
 
 abbrev beside : Function → PlainFunction
 beside f = sequenced_function [] [] f
-
--- ---- no name is local to a file
-
-abbrev is_ours : Function → Bool
-is_ours f = is_built_function f && not f.is_local
-
-no-locals : (gs : List Function) → list_all is_ours gs ≡ true → filter (λ (f : Function). f.is_local) gs ≡ []
-no-locals [] ok = refl
-no-locals (f ∷ gs) ok =
-    let parts = both (is_ours f) (list_all is_ours gs) ok in
-    by-test f.is_local (both (is_built_function f) (not f.is_local) parts.0).1 (no-locals gs parts.1)
-  where
-    by-test : (b : Bool) → not b ≡ true → filter (λ (f : Function). f.is_local) gs ≡ [] → cond b (f ∷ filter (λ (f : Function). f.is_local) gs) (filter (λ (f : Function). f.is_local) gs) ≡ []
-    by-test true e h = never e
-    by-test false e h = h
-
-no-plain-locals : (gs : List Function) → list_all is_ours gs ≡ true → filter (λ (f : PlainFunction). f.is_local) (map beside gs) ≡ []
-no-plain-locals [] ok = refl
-no-plain-locals (f ∷ gs) ok =
-    let parts = both (is_ours f) (list_all is_ours gs) ok in
-    by-test f.is_local (both (is_built_function f) (not f.is_local) parts.0).1 (no-plain-locals gs parts.1)
-  where
-    by-test : (b : Bool) → not b ≡ true → filter (λ (f : PlainFunction). f.is_local) (map beside gs) ≡ []
-        → cond b (beside f ∷ filter (λ (f : PlainFunction). f.is_local) (map beside gs)) (filter (λ (f : PlainFunction). f.is_local) (map beside gs)) ≡ []
-    by-test true e h = never e
-    by-test false e h = h
-
-all-kept : (gs : List Function) → map (core.function_in_file kept_name) gs ≡ gs
-all-kept [] = refl
-all-kept (f ∷ gs) =
-    ap (λ (e : Core). let g : Function = record f { body = e } in g ∷ map (core.function_in_file kept_name) gs) (same-core f.body) ∙ ap (λ (hs : List Function). f ∷ hs) (all-kept gs)
-
-abbrev plain_in_file : (Name → Name) → PlainFunction → PlainFunction
-plain_in_file r f = record f { name = r f.name; body = plain.renamed_all r f.body }
-
-all-plain-kept : (fs : List PlainFunction) → map (plain_in_file kept_name) fs ≡ fs
-all-plain-kept [] = refl
-all-plain-kept (f ∷ fs) =
-    ap (λ (ss : Plains). let g : PlainFunction = record f { body = ss } in g ∷ map (plain_in_file kept_name) fs) (same-plains f.body) ∙ ap (λ (gs : List PlainFunction). f ∷ gs) (all-plain-kept fs)
-
-abbrev renamed_in : ℕ → List Name → List Function → CoreFile
-renamed_in k names gs = record { classes = []; functions = map (core.function_in_file (core.name_in k names)) gs; statics = [] }
-
-own-core : (k : ℕ) (gs : List Function) → list_all is_ours gs ≡ true → core.own_names k (in_file gs) ≡ in_file gs
-own-core k gs ok =
-    ap (λ (fs : List Function). renamed_in k (map (λ (f : Function). f.name) fs ++ []) gs) (no-locals gs ok) ∙ ap in_file (all-kept gs)
-
-abbrev plain_renamed_in : ℕ → List Name → List PlainFunction → PlainFile
-plain_renamed_in k names fs = record { classes = []; functions = map (plain_in_file (core.name_in k names)) fs; statics = [] }
-
-abbrev plain_file : List PlainFunction → PlainFile
-plain_file fs = record { classes = []; functions = fs; statics = [] }
-
-own-plain : (k : ℕ) (gs : List Function) → list_all is_ours gs ≡ true → plain.own_names k (plain_file (map beside gs)) ≡ plain_file (map beside gs)
-own-plain k gs ok =
-    ap (λ (fs : List PlainFunction). plain_renamed_in k (map (λ (f : PlainFunction). f.name) fs ++ []) (map beside gs)) (no-plain-locals gs ok) ∙ ap plain_file (all-plain-kept (map beside gs))
 
 -- ---- shared things stand once
 
@@ -99,19 +43,70 @@ new-same hs (f ∷ gs) =
     pick-new (list_any (λ (g : Function). bytes_eq g.name f.name) hs) (list_any (λ (g : PlainFunction). bytes_eq g.name f.name) (map beside hs)) f (core.new_functions hs gs)
     (plain.new_functions (map beside hs) (map beside gs)) (any-same f.name hs) (new-same hs gs)
 
-abbrev with_functions : List PlainFunction → PlainProgram
-with_functions fs = record { classes = []; functions = fs; statics = []; constants = []; initialisers = [] }
+-- ---- a program and a further file
 
-with-plain : (hs gs : List Function) (k : ℕ) → list_all is_ours gs ≡ true
-    → plain.with_file (sequenced (of_functions [] hs)) k (plain.own_names k (plain_file (map beside gs))) ≡ sequenced (of_functions [] (hs ++ core.new_functions hs gs))
-with-plain hs gs k ok =
-    ap (plain.with_file (sequenced (of_functions [] hs)) k) (own-plain k gs ok)
-    ∙ ap (λ (fs : List PlainFunction). with_functions (map beside hs ++ fs)) (new-same hs gs)
-    ∙ ap with_functions (sym (map-append beside hs (core.new_functions hs gs)))
+abbrev plain_file : List PlainStatic → List PlainFunction → PlainFile
+plain_file xs fs = record { classes = []; functions = fs; statics = xs }
 
-with-core : (hs gs : List Function) (k : ℕ) → list_all is_ours gs ≡ true
-    → core.with_file (of_functions [] hs) k (core.own_names k (in_file gs)) ≡ of_functions [] (hs ++ core.new_functions hs gs)
-with-core hs gs k ok = ap (core.with_file (of_functions [] hs) k) (own-core k gs ok)
+abbrev of_plain : List PlainStatic → List PlainSetting → List PlainFunction → PlainProgram
+of_plain xs ks fs = record { classes = []; functions = fs; statics = xs; constants = ks; initialisers = [] }
+
+-- the name of the function that initialises its objects
+abbrev starter : ℕ → Name
+starter k = core.in_file k (codes "__sti")
+
+module _ (xs ys : List Static) (ks : List Setting) (hs gs : List Function) (k : ℕ) where
+  abbrev new : List Static
+  new = core.new_statics xs ys
+
+  abbrev sets : List Setting
+  sets = map (core.constant_setting (starter k)) (filter core.sets_constant new)
+
+  abbrev functions : List Function
+  functions = hs ++ core.new_functions hs gs
+
+  abbrev so_far : Program
+  so_far = of_parts xs ks hs
+
+  abbrev then_on : Program
+  then_on = of_parts (xs ++ new) (ks ++ sets) functions
+
+  with-core : list_all is_built_static ys ≡ true → core.with_file so_far k (in_file ys gs) ≡ then_on
+  with-core ok =
+      ap (λ (zs : List Static). let R : Program = record { classes = []; functions = functions; statics = xs ++ new; constants = ks ++ sets; initialisers = core.file_initialiser (starter k) zs } in R)
+      (none-needed new (new-built xs ys ok))
+
+  -- the plain program so far, with the functions beside its own
+  plain-so-far : list_all is_built_function hs ≡ true → sequenced so_far ≡ of_plain (map (object_beside xs) xs) (map (placed xs) ks) (map beside hs)
+  plain-so-far built = ap (of_plain (map (object_beside xs) xs) (map (placed xs) ks)) (same-functions xs hs built)
+
+  plain-then-on : list_all is_built_static xs ≡ true → list_all is_built_static ys ≡ true → list_all is_built_function functions ≡ true
+      → sequenced then_on ≡ of_plain (map (object_beside xs) xs ++ map (object_beside ys) new) (map (placed (xs ++ new)) (ks ++ sets)) (map beside functions)
+  plain-then-on olds news built =
+      ap (of_plain (map (object_beside (xs ++ new)) (xs ++ new)) (map (placed (xs ++ new)) (ks ++ sets))) (same-functions (xs ++ new) functions built)
+      ∙ ap (λ (us : List PlainStatic). of_plain us (map (placed (xs ++ new)) (ks ++ sets)) (map beside functions)) (objects-joined xs ys olds news)
+
+  with-plain : list_all is_built_static xs ≡ true → set_among xs ks ≡ true → list_all (is_built_setting xs) ks ≡ true → list_all is_built_function hs ≡ true
+      → list_all is_built_static ys ≡ true → list_all is_built_function gs ≡ true → list_all is_built_function functions ≡ true
+      → plain.with_file (sequenced so_far) k (sequenced_file (in_file ys gs)) ≡ sequenced then_on
+  with-plain olds there set built news ok all =
+      let os = map (object_beside xs) xs in
+      let us = map (object_beside ys) new in
+      let step : List PlainStatic → PlainProgram = λ zs. record {
+        classes = [];
+        functions = map beside hs ++ plain.new_functions (map beside hs) (map beside gs);
+        statics = os ++ zs;
+        constants = map (placed xs) ks ++ map (plain.constant_setting (starter k)) (filter plain.sets_constant zs);
+        initialisers = plain.file_initialiser (starter k) (filter plain.needs_initialiser zs);
+      } in
+      ap (λ (fs : List PlainFunction). plain.with_file (sequenced so_far) k (plain_file (map (object_beside ys) ys) fs)) (same-functions ys gs ok)
+      ∙ ap (λ Q. plain.with_file Q k (plain_file (map (object_beside ys) ys) (map beside gs))) (plain-so-far built)
+      ∙ ap step (new-same-objects xs xs ys ys)
+      ∙ ap (λ (zs : List PlainStatic). let R : PlainProgram = record (step us) { initialisers = plain.file_initialiser (starter k) zs } in R) (none-needed-beside ys new (new-built xs ys news))
+      ∙ ap (λ (fs : List PlainFunction). of_plain (os ++ us) (map (placed xs) ks ++ map (plain.constant_setting (starter k)) (filter plain.sets_constant us)) (map beside hs ++ fs)) (new-same hs gs)
+      ∙ ap (of_plain (os ++ us) (map (placed xs) ks ++ map (plain.constant_setting (starter k)) (filter plain.sets_constant us))) (sym (map-append beside hs (core.new_functions hs gs)))
+      ∙ ap (λ (zs : List PlainSetting). of_plain (os ++ us) zs (map beside functions)) (Set.same (settings-joined xs ys (starter k) ks news there set))
+      ∙ sym (plain-then-on olds news all)
 
 -- ---- what is joined is built
 
@@ -121,51 +116,63 @@ all-both (x ∷ xs) ys a b =
     let parts = both (is_built_function x) (list_all is_built_function xs) a in
     all_of (is_built_function x) (list_all is_built_function (xs ++ ys)) parts.0 (all-both xs ys parts.1 b)
 
-new-built : (hs gs : List Function) → list_all is_ours gs ≡ true → list_all is_built_function (core.new_functions hs gs) ≡ true
-new-built hs [] ok = refl
-new-built hs (f ∷ gs) ok =
-    let parts = both (is_ours f) (list_all is_ours gs) ok in
+functions-built : (hs gs : List Function) → list_all is_built_function gs ≡ true → list_all is_built_function (core.new_functions hs gs) ≡ true
+functions-built hs [] ok = refl
+functions-built hs (f ∷ gs) ok =
+    let parts = both (is_built_function f) (list_all is_built_function gs) ok in
     all-both (if list_any (λ (g : Function). bytes_eq g.name f.name) hs then [] else f ∷ []) (core.new_functions hs gs)
-    (by-test (list_any (λ (g : Function). bytes_eq g.name f.name) hs) (both (is_built_function f) (not f.is_local) parts.0).0) (new-built hs gs parts.1)
+    (by-test (list_any (λ (g : Function). bytes_eq g.name f.name) hs) parts.0) (functions-built hs gs parts.1)
   where
     by-test : (b : Bool) → is_built_function f ≡ true → list_all is_built_function (if b then [] else f ∷ []) ≡ true
     by-test true e = refl
     by-test false e = all_of (is_built_function f) true e refl
 
-record Together (files : List CoreFile) (hs : List Function) (k : ℕ) : Type 0 where
+record Together (files : List CoreFile) (xs : List Static) (ks : List Setting) (hs : List Function) (k : ℕ) : Type 0 where
+  objects : List Static
+  settings : List Setting
   functions : List Function
+  set : list_all (is_built_setting objects) settings ≡ true
   built : list_all is_built_function functions ≡ true
-  in_core : core.with_files (of_functions [] hs) k files ≡ of_functions [] functions
-  in_plain : plain.with_files (sequenced (of_functions [] hs)) k (map sequenced_file files) ≡ sequenced (of_functions [] functions)
+  in_core : core.with_files (of_parts xs ks hs) k files ≡ of_parts objects settings functions
+  in_plain : plain.with_files (sequenced (of_parts xs ks hs)) k (map sequenced_file files) ≡ sequenced (of_parts objects settings functions)
 
-file-is : (file : CoreFile) → is_built_file file ≡ true → file ≡ in_file file.functions
-file-is file ok =
-    let one = both (is_none file.classes) (is_none file.statics && list_all is_ours file.functions) ok in
-    let two = both (is_none file.statics) (list_all is_ours file.functions) one.1 in
-    ap (λ (cs : List Class). let x : CoreFile = record { classes = cs; functions = file.functions; statics = file.statics } in x) (empty-list file.classes one.0)
-    ∙ ap (λ (xs : List Static). let x : CoreFile = record { classes = []; functions = file.functions; statics = xs } in x) (empty-list file.statics two.0)
+file-is : (file : CoreFile) → is_none file.classes ≡ true → file ≡ in_file file.statics file.functions
+file-is file none = ap (λ (cs : List Class). let x : CoreFile = record { classes = cs; functions = file.functions; statics = file.statics } in x) (empty-list file.classes none)
 
-together : (files : List CoreFile) (hs : List Function) (k : ℕ) → list_all is_built_file files ≡ true → list_all is_built_function hs ≡ true → Together files hs k
-together [] hs k ok built = record { functions = hs; built = built; in_core = refl; in_plain = refl }
-together (file ∷ files) hs k ok built =
+together : (files : List CoreFile) (xs : List Static) (ks : List Setting) (hs : List Function) (k : ℕ) → list_all is_built_file files ≡ true → list_all is_built_static xs ≡ true
+    → set_among xs ks ≡ true → list_all (is_built_setting xs) ks ≡ true → list_all is_built_function hs ≡ true → Together files xs ks hs k
+together [] xs ks hs k ok olds there set built = record { objects = xs; settings = ks; functions = hs; set = set; built = built; in_core = refl; in_plain = refl }
+together (file ∷ files) xs ks hs k ok olds there set built =
     let parts = both (is_built_file file) (list_all is_built_file files) ok in
-    let ours = (both (is_none file.statics) (list_all is_ours file.functions) (both (is_none file.classes) (is_none file.statics && list_all is_ours file.functions) parts.0).1).1 in
-    let gs : List Function = file.functions in
-    let next : List Function = hs ++ core.new_functions hs gs in
-    let rest = together files next (suc k) parts.1 (all-both hs (core.new_functions hs gs) built (new-built hs gs ours)) in
+    let one = both (is_none file.classes) (list_all is_own file.statics && list_all is_built_function file.functions) parts.0 in
+    let two = both (list_all is_own file.statics) (list_all is_built_function file.functions) one.1 in
+    let names = core.local_names (in_file file.statics file.functions) in
+    let ys : List Static = map (core.static_in_file (core.name_in k names)) file.statics in
+    let gs : List Function = map (core.function_in_file (core.name_in k names)) file.functions in
+    let news = own-objects k names file.statics two.0 in
+    let good = own-functions k names file.functions two.1 in
+    let all = all-both hs (core.new_functions hs gs) built (functions-built hs gs good) in
+    let now = settings-joined xs ys (starter k) ks news there set in
+    let objects : list_all is_built_static (xs ++ core.new_statics xs ys) ≡ true =
+    list_all-append is_built_static xs (core.new_statics xs ys) ∙ all_of (list_all is_built_static xs) (list_all is_built_static (core.new_statics xs ys)) olds (new-built xs ys news) in
+    let rest = together files (xs ++ core.new_statics xs ys) (ks ++ sets xs ys ks hs gs k) (hs ++ core.new_functions hs gs) (suc k) parts.1 objects now.among now.built all in
     record {
+      objects = rest.objects;
+      settings = rest.settings;
       functions = rest.functions;
+      set = rest.set;
       built = rest.built;
-      in_core = ap (λ x. core.with_files (core.with_file (of_functions [] hs) k (core.own_names k x)) (suc k) files) (file-is file parts.0)
-          ∙ ap (λ P. core.with_files P (suc k) files) (with-core hs gs k ours) ∙ rest.in_core;
-      in_plain = ap (λ x. plain.with_files (plain.with_file (sequenced (of_functions [] hs)) k (plain.own_names k (sequenced_file x))) (suc k) (map sequenced_file files)) (file-is file parts.0)
-          ∙ ap (λ Q. plain.with_files Q (suc k) (map sequenced_file files)) (with-plain hs gs k ours) ∙ rest.in_plain;
+      in_core = ap (λ x. core.with_files (core.with_file (of_parts xs ks hs) k (core.own_names k x)) (suc k) files) (file-is file one.0)
+          ∙ ap (λ P. core.with_files P (suc k) files) (with-core xs ys ks hs gs k news) ∙ rest.in_core;
+      in_plain = ap (λ x. plain.with_files (plain.with_file (sequenced (of_parts xs ks hs)) k (plain.own_names k (sequenced_file x))) (suc k) (map sequenced_file files)) (file-is file one.0)
+          ∙ ap (λ x. plain.with_files (plain.with_file (sequenced (of_parts xs ks hs)) k x) (suc k) (map sequenced_file files)) (own-is k file.statics file.functions two.0 two.1)
+          ∙ ap (λ Q. plain.with_files Q (suc k) (map sequenced_file files)) (with-plain xs ys ks hs gs k olds there set built news good all) ∙ rest.in_plain;
     }
 
 -- The plain units of files have the meaning of their cores.
 pub files-keep : (files : List CoreFile) → list_all is_built_file files ≡ true → (input : List ℕ) (heap depth n : ℕ) (x : Outcome)
     → Mean (core.program_of files) input heap depth n ≡ Some x → files_mean (map sequenced_file files) input heap depth n ≡ Some x
 files-keep files ok input heap depth n x is =
-    let all = together files [] 1 ok refl in
+    let all = together files [] [] [] 1 ok refl refl refl refl in
     ap (λ Q. PlainMean Q input heap depth n) all.in_plain
-    ∙ programs-agree [] all.functions all.built input heap depth n x (sym (ap (λ P. Mean P input heap depth n) all.in_core) ∙ is)
+    ∙ programs-agree all.objects all.settings all.functions all.set all.built input heap depth n x (sym (ap (λ P. Mean P input heap depth n) all.in_core) ∙ is)

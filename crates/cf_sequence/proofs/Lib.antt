@@ -2,9 +2,9 @@ pub mod Actions
 pub mod Calling
 mod ClassRows
 mod ControlRows
+mod OrderRows
 pub mod Doing
 pub mod Loops
-pub mod SameNames
 pub mod Scopes
 pub mod Silent
 pub mod Standing
@@ -21,6 +21,14 @@ pub mod PlainSteps
 pub mod Pointers
 pub mod Sample
 pub mod StaticObjects
+pub mod SameTypes
+pub mod Constants
+pub mod Settings
+pub mod SameStatics
+pub mod JoinedObjects
+pub mod Renamed
+pub mod RenamedCode
+pub mod OwnNames
 pub mod Steps
 pub mod Switching
 pub mod Whole

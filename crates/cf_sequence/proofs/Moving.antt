@@ -23,7 +23,7 @@ use Rattle.cf_sequence.proofs.PlainSteps.{runs_on, act-steps}
 
 -- ---- the ends of objects, where no class has a destructor
 
-no-destructor : (t : SourceType) → has_destructor [] t ≡ false
+pub no-destructor : (t : SourceType) → has_destructor [] t ≡ false
 no-destructor (class c) = refl
 no-destructor (array t n) = no-destructor t
 no-destructor (const t) = no-destructor t

@@ -1,5 +1,5 @@
 -- Steps over pointers, which look at the objects alone and change nothing, and string literals.
-use Rattle.std.proofs.Common.{◌≡◌, ℕ, Bool, true, false, not, ◌&&◌, ◌==◌, nat_lt, nat_le, List, ◌∷◌, refl, sym, ap, subst}
+use Rattle.std.proofs.Common.{◌≡◌, ℕ, Bool, true, false, not, ◌&&◌, ◌==◌, nat_lt, nat_le, List, ◌∷◌, refl, sym, ◌∙◌, ap, subst}
 use Rattle.std.specs.Prelude.{ℤ, pos, ◌-ℤ◌, Option, Some, None, find, bytes_eq}
 use Rattle.cf_base.specs.World.{World, and_then}
 use Rattle.cf_core.specs.declared.operators.PointerOperator.{PointerOperator}
@@ -8,7 +8,7 @@ use Rattle.cf_core.specs.Types.{Name, SourceType, is_array, same_but_const}
 use Rattle.cf_core.specs.Classes.{Class}
 use Rattle.cf_core.specs.Core.{item}
 use Rattle.cf_core.specs.Places.{Place, inner, is_inside, place_eq}
-use Rattle.cf_core.specs.Store.{Value, Number, Null, At, Code, DataMember, FunctionMember}
+use Rattle.cf_core.specs.Store.{Value, Number, Null, At, Code, DataMember, FunctionMember, is_dead}
 use Rattle.cf_core.specs.Run.{State, Frame, Literal, Act, ◌>>=◌, ◌>>◌, gives, malformed, undefined, state, changed, need, valid, some_or, born, with_frame, not_alive, outside_array, compared, cast_from_void}
 use Rattle.cf_core.specs.Access.{place_type, name_part}
 use Rattle.cf_core.specs.Pointers.{element_of, route_of, bound_of, further, up_to, moved_place, moved_value, sum_of, moved_back, same_array, both_stand, truth_value, difference_of, ordered, comparable, unlike_null, equal_values, pointer_op, from_void_value}
@@ -27,20 +27,38 @@ pure-up_to : (n : ℕ) (x : Option ℕ) → Pure (up_to n x)
 pure-up_to n None = pure-undefined outside_array
 pure-up_to n (Some i) = pure-then (need (nat_le i n) outside_array) (λ u. gives i) (pure-need (nat_le i n) outside_array) (λ u. pure-gives i)
 
--- the number of the element that a pointer is moved to
+-- the number of the element that a pointer to an object that stands is moved to
 abbrev pub up_in : List Class → Place → ℤ → Act ℕ
-up_in cs p z = λ s w. up_to (bound_of cs (s.object p.object).type (element_of p.route)) (further (element_of p.route).index z) s w
+up_in cs p z = λ s w. (need (not (is_dead cs (s.object p.object) p.route)) not_alive >> up_to (bound_of cs (s.object p.object).type (element_of p.route)) (further (element_of p.route).index z)) s w
 
 pub looks-up_in : (cs : List Class) (p : Place) (z : ℤ) → Looks (up_in cs p z)
 looks-up_in cs p z =
-    let pure : (s : State) → Pure (up_to (bound_of cs (s.object p.object).type (element_of p.route)) (further (element_of p.route).index z)) =
-    λ s. pure-up_to (bound_of cs (s.object p.object).type (element_of p.route)) (further (element_of p.route).index z) in
+    let alive : State → Act (Unit {0}) = λ s. need (not (is_dead cs (s.object p.object) p.route)) not_alive in
+    let up : State → Act ℕ = λ s. up_to (bound_of cs (s.object p.object).type (element_of p.route)) (further (element_of p.route).index z) in
+    let pure : (s : State) → Pure (alive s >> up s) =
+    λ s. pure-then (alive s) (λ u. up s) (pure-need (not (is_dead cs (s.object p.object) p.route)) not_alive)
+    (λ u. pure-up_to (bound_of cs (s.object p.object).type (element_of p.route)) (further (element_of p.route).index z)) in
     record { answer = λ s. (pure s).answer; runs = λ s w. ap (λ (a : Act _). a s w) (pure s).runs; blind = λ s f. refl }
+
+-- the place of that element
+abbrev pub element_at : Place → ℕ → Value
+element_at p i = At (record p { route = route_of (element_of p.route) i })
+
+pub moved-is : (cs : List Class) (p : Place) (z : ℤ) (s : State) (w : World) → moved_place cs p z s w ≡ (up_in cs p z >>= (λ i. gives (element_at p i))) s w
+moved-is cs p z s w = by-alive (not (is_dead cs (s.object p.object) p.route))
+  where
+    up : Act ℕ
+    up = up_to (bound_of cs (s.object p.object).type (element_of p.route)) (further (element_of p.route).index z)
+
+    by-alive : (b : Bool) → (need b not_alive >> (up >>= (λ i. gives (element_at p i)))) s w ≡ ((need b not_alive >> up) >>= (λ i. gives (element_at p i))) s w
+    by-alive true = refl
+    by-alive false = refl
 
 looks-moved_place : (cs : List Class) (p : Place) (z : ℤ) → Looks (moved_place cs p z)
 looks-moved_place cs p z =
-    looks-then (up_in cs p z) (λ i. gives (At (record p { route = route_of (element_of p.route) i }))) (looks-up_in cs p z)
-    (λ i. looks-pure (gives (At (record p { route = route_of (element_of p.route) i }))) (pure-gives (At (record p { route = route_of (element_of p.route) i }))))
+    let by-number : Looks (up_in cs p z >>= (λ i. gives (element_at p i))) =
+    looks-then (up_in cs p z) (λ i. gives (element_at p i)) (looks-up_in cs p z) (λ i. looks-pure (gives (element_at p i)) (pure-gives (element_at p i))) in
+    record { answer = by-number.answer; runs = λ s w. moved-is cs p z s w ∙ by-number.runs s w; blind = by-number.blind }
 
 looks-moved_value : (cs : List Class) (v : Value) (z : ℤ) → Looks (moved_value cs v z)
 looks-moved_value cs (At p) z = looks-moved_place cs p z

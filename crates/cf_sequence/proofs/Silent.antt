@@ -83,6 +83,7 @@ module _ (again : Again) (H : Program) where
       silent-value (core.local i) ok x into n k = silent-set n (plain.local i)
       silent-value (core.read e) ok x into n k = silent-then (value P.classes x e None n k) (λ rest. more (set n (plain.read n)) rest) (silent-value e ok x None n k) (silent-set n (plain.read n))
       silent-value (core.static_object name t) ok x into n k = silent-set n (plain.static_object name t)
+      silent-value (core.function name t) ok x into n k = silent-set n (plain.function name t)
       silent-value (core.text j bytes) ok x into n k = silent-set n (plain.text j bytes)
       silent-value (core.address e) ok x into n k = silent-then (value P.classes x e None n k) (use_of n) (silent-value e ok x None n k) (silent-used n)
       silent-value (core.dereference e) ok x into n k =

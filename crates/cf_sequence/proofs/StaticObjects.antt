@@ -1,19 +1,27 @@
 -- Static objects: the plain program has the program's, by the same names and numbers and with the same types.
-use Rattle.std.proofs.Common.{◌≡◌, ℕ, zero, suc, ◌+◌, Bool, true, false, not, cond, nat_lt, List, [], ◌∷◌, map, length, refl, ◌∙◌, ap, slice_get}
+use Rattle.std.proofs.Common.{◌≡◌, ℕ, zero, suc, ◌+◌, Bool, true, false, not, cond, nat_lt, List, [], ◌∷◌, ◌&&◌, map, length, refl, ◌∙◌, ap, subst, slice_get, arith}
 use Rattle.std.specs.Prelude.{Option, Some, None, find, bytes_eq, position}
 use Rattle.std.specs.List.{prefix_len}
+use Rattle.std.proofs.lemmas.Bool.Decides.{nat_tests}
+use Rattle.cf_base.proofs.Tests.{all_of}
 use Rattle.cf_core.specs.Types.{Name, SourceType, void, same_but_const}
 use Rattle.cf_core.specs.Classes.{Class}
 use Rattle.cf_core.specs.Core.{Static}
 use Rattle.cf_core.specs.Store.{Object}
-use Rattle.cf_core.specs.Places.{Place}
+use Rattle.cf_core.specs.Places.{Place, is_reference}
 use Rattle.cf_core.specs.Run.{State, Act, ◌>>=◌, ◌>>◌, gives, malformed, need, some_or, cast_from_void}
 use Rattle.cf_core.specs.Calls.{Program, root}
 use Rattle.cf_core.specs.Program.{length_of, static_object_of, first_state, no_frame}
 use Rattle.cf_core.specs.Objects.{static_number, static_type, static_place, same_type}
 use Rattle.cf_plain.specs.Program.{headers, static_header}
+use Rattle.cf_sequence.specs.Statements.{type_of_static}
 use Rattle.cf_sequence.specs.Sequenced.{sequenced, sequenced_static}
+use Rattle.cf_sequence.proofs.Calling.{never}
 use Rattle.cf_sequence.proofs.Following.{Pure, pure-gives, pure-malformed, pure-then, pure-need, pure-some_or}
+
+abbrev pub type_found : Option Static → SourceType
+type_found None = void
+type_found (Some x) = x.type
 
 module _ (cs : List Class) (all : List Static) where
   abbrev pub beside : Static → Static
@@ -34,10 +42,6 @@ module _ (cs : List Class) (all : List Static) where
   same-number name xs =
       ap (λ n. cond (nat_lt n (length (beside_all xs))) (Some n) None) (same-prefix name xs)
       ∙ ap (λ m. cond (nat_lt (prefix_len (λ (x : Static). not (bytes_eq x.name name)) xs) m) (Some (prefix_len (λ (x : Static). not (bytes_eq x.name name)) xs)) None) (same-length xs)
-
-  abbrev type_found : Option Static → SourceType
-  type_found None = void
-  type_found (Some x) = x.type
 
   found-type : (b : Bool) (x : Static) (old new : Option Static) → type_found new ≡ type_found old → type_found (cond b (Some (beside x)) new) ≡ type_found (cond b (Some x) old)
   found-type true x old new e = refl
@@ -69,7 +73,7 @@ same-first P depth =
 abbrev pub named_object : Program → Name → SourceType → Act Place
 named_object P name t = same_type P name t >> static_place P name
 
-abbrev object_at : Option ℕ → SourceType → SourceType → Act Place
+abbrev pub object_at : Option ℕ → SourceType → SourceType → Act Place
 object_at n u t = ((some_or n malformed >>= (λ o. gives (root o))) >> need (same_but_const u t) cast_from_void) >> (some_or n malformed >>= (λ o. gives (root o)))
 
 pub same-named : (P : Program) (name : Name) (t : SourceType) → named_object (headers (sequenced P)) name t ≡ named_object P name t
@@ -83,3 +87,57 @@ pure-named P name t =
     pure-then (some_or (static_number P name) malformed) (λ o. gives (root o)) (pure-some_or (static_number P name) malformed pure-malformed) (λ o. pure-gives (root o)) in
     pure-then (same_type P name t) (λ u. static_place P name)
     (pure-then (static_place P name) (λ u. need (same_but_const (static_type P name) t) cast_from_void) place (λ u. pure-need (same_but_const (static_type P name) t) cast_from_void)) (λ u. place)
+
+-- the place of a name
+abbrev pub place_of_number : Option ℕ → Act Place
+place_of_number n = some_or n malformed >>= (λ o. gives (root o))
+
+pub same-place : (P : Program) (name : Name) → static_place (headers (sequenced P)) name ≡ static_place P name
+same-place P name = ap place_of_number (same-number P.classes P.statics name P.statics)
+
+pub static-type-is : (P : Program) (name : Name) → static_type P name ≡ type_of_static P.statics name
+static-type-is P name = refl
+
+-- ---- the objects of static storage before anything is done
+
+one-less : (m n : ℕ) → nat_lt (1 + m) (suc n) ≡ true → nat_lt m n ≡ true
+one-less m n lt = grind (arith, nat_tests)
+
+module _ (cs : List Class) (name : Name) where
+  abbrev before : List Static → ℕ
+  before xs = prefix_len (λ (x : Static). not (bytes_eq x.name name)) xs
+
+  found-one : (x : Static) (xs : List Static) (n : ℕ) (b : Bool) (others : Option Static)
+      → (b ≡ false → (static_object_of cs (slice_get xs n)).type ≡ type_found others)
+      → (static_object_of cs (slice_get (x ∷ xs) (cond (not b) (1 + n) 0))).type ≡ type_found (cond b (Some x) others)
+  found-one x xs n true others e = refl
+  found-one x xs n false others e = ap (λ m. (static_object_of cs (slice_get (x ∷ xs) m)).type) (let same : 1 + n ≡ suc n = omega arith in same) ∙ e refl
+
+  -- the first object of the name has the type that the name has
+  found-type-first : (xs : List Static) → nat_lt (before xs) (length xs) ≡ true
+      → (static_object_of cs (slice_get xs (before xs))).type ≡ type_of_static xs name
+  found-type-first [] lt = never lt
+  found-type-first (x ∷ xs) lt = found-one x xs (before xs) (bytes_eq x.name name) (find (λ (x : Static). bytes_eq x.name name) xs)
+      (λ other. found-type-first xs (one-less (before xs) (length xs) (subst (λ b. nat_lt (cond (not b) (1 + before xs) 0) (suc (length xs)) ≡ true) other lt)))
+
+length-is : (xs : List Static) → length_of xs ≡ length xs
+length-is [] = refl
+length-is (x ∷ xs) = ap suc (length-is xs)
+
+-- The object of a number is there and is no reference.
+abbrev pub is_plain_object : State → Option ℕ → Bool
+is_plain_object s None = true
+is_plain_object s (Some o) = nat_lt o s.next && not (is_reference (s.object o).type)
+
+pub first-plain : (P : Program) (depth : ℕ) (name : Name) → not (is_reference (type_of_static P.statics name)) ≡ true
+    → is_plain_object (first_state P depth) (static_number P name) ≡ true
+first-plain P depth name ok = by-bound (nat_lt n (length P.statics)) refl
+  where
+    n : ℕ
+    n = prefix_len (λ (x : Static). not (bytes_eq x.name name)) P.statics
+
+    by-bound : (b : Bool) → nat_lt n (length P.statics) ≡ b → is_plain_object (first_state P depth) (cond b (Some n) None) ≡ true
+    by-bound false lt = refl
+    by-bound true lt =
+        all_of (nat_lt n (length_of P.statics)) (not (is_reference (static_object_of P.classes (slice_get P.statics n)).type)) (ap (nat_lt n) (length-is P.statics) ∙ lt)
+        (ap (λ t. not (is_reference t)) (found-type-first P.classes name P.statics lt) ∙ ok)

@@ -16,15 +16,16 @@ use Rattle.cf_core.specs.declared.operators.LoopForm.TheVariants as form
 use Rattle.cf_core.specs.Run.{State, Frame, Did, Gives, Exits, Malformed, Act, ◌>>=◌, ◌>>◌, gives, state, for_all, with_frame}
 use Rattle.cf_core.specs.Calls as calling
 use Rattle.cf_core.specs.Calls.{Program, Setting, root, function_named, frame_of, local_count, run_named, end_object, in_scope, destroy}
-use Rattle.cf_core.specs.Program.{Mean, runs, run_body, status_of, begins, unbuilds, ends, ended_well, first_state, left, destroy_statics, destroy_static, ended_run, run_outcome, resumed}
+use Rattle.cf_core.specs.Program.{Mean, main_run, runs, run_body, status_of, begins, unbuilds, ends, ended_well, first_state, left, destroy_statics, destroy_static, ended_run, run_outcome, resumed}
 use Rattle.cf_core.specs.Statements as does
 use Rattle.cf_plain.specs.Plain.{Plain, Plains, PlainFunction, loop, nothing, more}
 use Rattle.cf_plain.specs.Acts.{Registers, no_registers}
+use Rattle.cf_plain.specs.Program as plain_program
 use Rattle.cf_plain.specs.Program.{PlainMean, headers}
 use Rattle.cf_plain.specs.Running as running
 use Rattle.cf_plain.specs.Running.{Flow, Falls, Breaks, Continues, Returns, calls, core_flow, header, plain_named, all, falling, turning}
 use Rattle.cf_sequence.specs.Follows.{Follows}
-use Rattle.cf_sequence.specs.Built.{is_statement, is_chain, is_body, is_built_function, is_plain_role, is_plainly_built, is_none, next_local}
+use Rattle.cf_sequence.specs.Built.{is_statement, is_chain, is_body, is_built_function, is_plain_role, is_plainly_built, is_built_setting, is_none, next_local}
 use Rattle.cf_sequence.specs.Made.{Local, added, declared, numbered}
 use Rattle.cf_sequence.specs.Expressions.{finished}
 use Rattle.cf_sequence.specs.Statements.{statement}
@@ -32,11 +33,12 @@ use Rattle.cf_sequence.specs.Sequenced.{sequenced, sequenced_function, sequenced
 use Rattle.cf_core.specs.Valid.{class_of_role}
 use Rattle.cf_sequence.proofs.StaticObjects.{same-first}
 use Rattle.cf_sequence.proofs.Following.{on, pull}
-use Rattle.cf_sequence.proofs.Calling.{Bodies, FlowAs, SameObjects, Ended, never, named-header, enter-steps, plain_program, plain_function as beside}
+use Rattle.cf_sequence.proofs.Calling.{Alike, Bodies, FlowAs, SameObjects, Ended, never, named-header, enter-steps, plain_program as plain_of, plain_function as beside}
 use Rattle.cf_sequence.proofs.Moving.{all_gone, gone-frame, gone-append, ends-all, destroy-nothing, Held, held-kept, finished-steps, Moved, with_scope, Beyond}
 use Rattle.cf_sequence.proofs.Standing.{Open, Stands, Turned, Turns, inside_of, turn_code, step_code}
 use Rattle.cf_sequence.proofs.Scopes.{Ways, scope-steps, closing_scope}
 use Rattle.cf_sequence.proofs.Doing.{follow-statement}
+use Rattle.cf_sequence.proofs.Settings.{setting_of, first-all, settings-steps}
 
 -- ---- the objects of parameters
 
@@ -117,10 +119,10 @@ found-built name (x ∷ fs) f e ok =
     by-test true e rest here = subst (λ (y : Option Function). is_built_function (found-or x y) ≡ true) e here
     by-test false e rest here = rest e
 
--- ---- a program of functions alone
+-- ---- a program of functions and static objects
 
-abbrev pub of_functions : List Static → List Function → Program
-of_functions xs fs = record { classes = []; functions = fs; statics = xs; constants = []; initialisers = [] }
+abbrev pub of_parts : List Static → List Setting → List Function → Program
+of_parts xs ks fs = record { classes = []; functions = fs; statics = xs; constants = ks; initialisers = [] }
 
 -- what is entered is a plain function
 abbrev core_body : calling.Again → Program → Role → Bool → Core → List ℕ → Act calling.Flow
@@ -155,14 +157,14 @@ no-result true e = sym e
 no-result false e = refl
 
 -- what a function of the program is
-record Parts (f : Function) : Type 0 where
-  role : f.role ≡ plain_function
-  chain : is_chain f.type ≡ true
-  main : (not (bytes_eq f.name (codes "__main")) || is_none (parameters f.type)) ≡ true
-  scalar : is_class (result f.type) ≡ false
-  statement : is_statement (length (parameters f.type)) f.body ≡ true
+pub record Parts (f : Function) : Type 0 where
+  pub role : f.role ≡ plain_function
+  pub chain : is_chain f.type ≡ true
+  pub main : (not (bytes_eq f.name (codes "__main")) || is_none (parameters f.type)) ≡ true
+  pub scalar : is_class (result f.type) ≡ false
+  pub statement : is_statement (length (parameters f.type)) f.body ≡ true
 
-built-parts : (f : Function) → is_built_function f ≡ true → Parts f
+pub built-parts : (f : Function) → is_built_function f ≡ true → Parts f
 built-parts f ok =
     let main_ok = not (bytes_eq f.name (codes "__main")) || is_none (parameters f.type) in
     let one = both (is_plain_role f.role) (is_chain f.type && (main_ok && is_body f)) ok in
@@ -178,14 +180,14 @@ main-takes-nothing f parts e = by-list (parameters f.type) (subst (λ b. (not b 
     by-list [] ok = refl
     by-list (t ∷ ts) ok = never ok
 
-module _ (again : calling.Again) (again' : running.Again) (xs : List Static) (fs : List Function) (bodies : Bodies again again' (of_functions xs fs))
-    (chains : (name : Name) (f : Function) → function_named (of_functions xs fs) name ≡ Some f → is_chain f.type ≡ true)
-    (turns : Turns again again' (of_functions xs fs)) where
+module _ (again : calling.Again) (again' : running.Again) (xs : List Static) (ks : List Setting) (fs : List Function) (bodies : Bodies again again' (of_parts xs ks fs))
+    (chains : (name : Name) (f : Function) → function_named (of_parts xs ks fs) name ≡ Some f → is_chain f.type ≡ true)
+    (turns : Turns again again' (of_parts xs ks fs)) where
   abbrev P : Program
-  P = of_functions xs fs
+  P = of_parts xs ks fs
 
   abbrev H : Program
-  H = plain_program again again' P
+  H = plain_of again again' P
 
   -- the end of a body: the objects of its parameters end
   parameters-end : (args : List ℕ) (flow : calling.Flow) (t : State) (w : World)
@@ -293,35 +295,35 @@ falls-unit again H (Stops end trace) = refl
 
 -- ---- for each bound of ticks
 
-module _ (xs : List Static) (fs : List Function) (ok : list_all is_built_function fs ≡ true) where
+module _ (xs : List Static) (ks : List Setting) (fs : List Function) (set : list_all (is_built_setting xs) ks ≡ true) (ok : list_all is_built_function fs ≡ true) where
   abbrev Q : Program
-  Q = headers (sequenced (of_functions xs fs))
+  Q = headers (sequenced (of_parts xs ks fs))
 
   abbrev code_of : List PlainFunction
-  code_of = (sequenced (of_functions xs fs)).functions ++ (sequenced (of_functions xs fs)).initialisers
+  code_of = (sequenced (of_parts xs ks fs)).functions ++ (sequenced (of_parts xs ks fs)).initialisers
 
-  chains-of : (name : Name) (f : Function) → function_named (of_functions xs fs) name ≡ Some f → is_chain f.type ≡ true
+  chains-of : (name : Name) (f : Function) → function_named (of_parts xs ks fs) name ≡ Some f → is_chain f.type ≡ true
   chains-of name f e = (built-parts f (found-built name fs f e ok)).chain
 
   record Both (n : ℕ) : Type 0 where
-    bodies : Bodies (runs (of_functions xs fs) n) (running.runs Q code_of n) (of_functions xs fs)
-    turns : Turns (runs (of_functions xs fs) n) (running.runs Q code_of n) (of_functions xs fs)
+    bodies : Bodies (runs (of_parts xs ks fs) n) (running.runs Q code_of n) (of_parts xs ks fs)
+    turns : Turns (runs (of_parts xs ks fs) n) (running.runs Q code_of n) (of_parts xs ks fs)
 
   turn-by : (n : ℕ) (how : LoopForm) (q e : MaybeCore) (body : Core) (o : Open) (D : Beyond) (m k : ℕ) (g : Registers) (s : State) (f : Frame) (w : World) (R C : SourceType)
-      → Follows (Turned D m s f) (and_then (does.does (runs (of_functions xs fs) n) (of_functions xs fs) (core.loop how q e body) s w) (on gives))
-      (and_then (all (running.runs Q code_of n) Q (more (loop (turn_code (inside_of (of_functions xs fs) R C o) how q e body k) (step_code (inside_of (of_functions xs fs) R C o) how q e body k)) nothing) g (with_frame f s) w) (on gives))
-      → Follows (Turned D m s f) (does.does (runs (of_functions xs fs) n) (of_functions xs fs) (core.loop how q e body) s w)
-      (running.does (running.runs Q code_of n) Q (loop (turn_code (inside_of (of_functions xs fs) R C o) how q e body k) (step_code (inside_of (of_functions xs fs) R C o) how q e body k)) g (with_frame f s) w)
+      → Follows (Turned D m s f) (and_then (does.does (runs (of_parts xs ks fs) n) (of_parts xs ks fs) (core.loop how q e body) s w) (on gives))
+      (and_then (all (running.runs Q code_of n) Q (more (loop (turn_code (inside_of (of_parts xs ks fs) R C o) how q e body k) (step_code (inside_of (of_parts xs ks fs) R C o) how q e body k)) nothing) g (with_frame f s) w) (on gives))
+      → Follows (Turned D m s f) (does.does (runs (of_parts xs ks fs) n) (of_parts xs ks fs) (core.loop how q e body) s w)
+      (running.does (running.runs Q code_of n) Q (loop (turn_code (inside_of (of_parts xs ks fs) R C o) how q e body k) (step_code (inside_of (of_parts xs ks fs) R C o) how q e body k)) g (with_frame f s) w)
   turn-by n how q e body o D m k g s f w R C h =
       let again' = running.runs Q code_of n in
-      let the_loop : Plain = loop (turn_code (inside_of (of_functions xs fs) R C o) how q e body k) (step_code (inside_of (of_functions xs fs) R C o) how q e body k) in
-      subst (λ y. Follows (Turned D m s f) (does.does (runs (of_functions xs fs) n) (of_functions xs fs) (core.loop how q e body) s w) y)
+      let the_loop : Plain = loop (turn_code (inside_of (of_parts xs ks fs) R C o) how q e body k) (step_code (inside_of (of_parts xs ks fs) R C o) how q e body k) in
+      subst (λ y. Follows (Turned D m s f) (does.does (runs (of_parts xs ks fs) n) (of_parts xs ks fs) (core.loop how q e body) s w) y)
       (falls-unit again' Q (running.does again' Q the_loop g (with_frame f s) w))
       (subst (λ x. Follows (Turned D m s f) x (and_then (all again' Q (more the_loop nothing) g (with_frame f s) w) (on gives)))
-      (unit-right (does.does (runs (of_functions xs fs) n) (of_functions xs fs) (core.loop how q e body) s w)) h)
+      (unit-right (does.does (runs (of_parts xs ks fs) n) (of_parts xs ks fs) (core.loop how q e body) s w)) h)
 
   turn-ways : (n : ℕ) (b : Both n) (R C : SourceType) (scalar : is_class R ≡ false) (o : Open) (D : Beyond) (m k : ℕ) (s : State) (f : Frame)
-      → Ways (runs (of_functions xs fs) n) (running.runs Q code_of n) (of_functions xs fs) b.bodies chains-of refl b.turns R C scalar calling.Flow Flow (Turned D m s f) D m s f gives gives
+      → Ways (runs (of_parts xs ks fs) n) (running.runs Q code_of n) (of_parts xs ks fs) b.bodies chains-of refl b.turns R C scalar calling.Flow Flow (Turned D m s f) D m s f gives gives
   turn-ways n b R C scalar o D m k s f = record {
     breaks = λ t g h w v. record { by = record { value = Breaks h; after = with_frame g (all_gone (t.frame.scope ++ D.breaks) t); run = refl; related = record { plain = g; moved = v; ends = refl } } };
     continues = λ t g h w v. record { by = record { value = Continues h; after = with_frame g (all_gone (t.frame.scope ++ D.continues) t); run = refl; related = record { plain = g; moved = v; ends = refl } } };
@@ -340,27 +342,27 @@ module _ (xs : List Static) (fs : List Function) (ok : list_all is_built_functio
     };
   }
 
-  next-turns : (n : ℕ) → Both n → Turns (runs (of_functions xs fs) (suc n)) (running.runs Q code_of (suc n)) (of_functions xs fs)
+  next-turns : (n : ℕ) → Both n → Turns (runs (of_parts xs ks fs) (suc n)) (running.runs Q code_of (suc n)) (of_parts xs ks fs)
   next-turns n b R C scalar form.While q e body m is-ok o D k g s f w st room = turn-by n form.While q e body o D m k g s f w R C
-      (follow-statement (runs (of_functions xs fs) n) (running.runs Q code_of n) (of_functions xs fs) b.bodies chains-of refl b.turns R C scalar calling.Flow Flow (Turned D m s f)
+      (follow-statement (runs (of_parts xs ks fs) n) (running.runs Q code_of n) (of_parts xs ks fs) b.bodies chains-of refl b.turns R C scalar calling.Flow Flow (Turned D m s f)
       (core.loop form.While q e body) m is-ok o D k nothing g s f w gives gives st room (turn-ways n b R C scalar o D m k s f) (λ t g h w v held low. turn-falls o D m k s f st t g h w v held))
   next-turns n b R C scalar form.For q e body m is-ok o D k g s f w st room = turn-by n form.For q e body o D m k g s f w R C
-      (follow-statement (runs (of_functions xs fs) n) (running.runs Q code_of n) (of_functions xs fs) b.bodies chains-of refl b.turns R C scalar calling.Flow Flow (Turned D m s f)
+      (follow-statement (runs (of_parts xs ks fs) n) (running.runs Q code_of n) (of_parts xs ks fs) b.bodies chains-of refl b.turns R C scalar calling.Flow Flow (Turned D m s f)
       (core.loop form.For q e body) m is-ok o D k nothing g s f w gives gives st room (turn-ways n b R C scalar o D m k s f) (λ t g h w v held low. turn-falls o D m k s f st t g h w v held))
   next-turns n b R C scalar form.Do q e body m is-ok o D k g s f w st room = turn-by n form.Do q e body o D m k g s f w R C
-      (follow-statement (runs (of_functions xs fs) n) (running.runs Q code_of n) (of_functions xs fs) b.bodies chains-of refl b.turns R C scalar calling.Flow Flow (Turned D m s f)
+      (follow-statement (runs (of_parts xs ks fs) n) (running.runs Q code_of n) (of_parts xs ks fs) b.bodies chains-of refl b.turns R C scalar calling.Flow Flow (Turned D m s f)
       (core.loop form.Do q e body) m is-ok o D k nothing g s f w gives gives st room (turn-ways n b R C scalar o D m k s f) (λ t g h w v held low. turn-falls o D m k s f st t g h w v held))
 
-  next-bodies : (n : ℕ) → Both n → Bodies (runs (of_functions xs fs) (suc n)) (running.runs Q code_of (suc n)) (of_functions xs fs)
+  next-bodies : (n : ℕ) → Both n → Bodies (runs (of_parts xs ks fs) (suc n)) (running.runs Q code_of (suc n)) (of_parts xs ks fs)
   next-bodies n b name f found args many depth s w =
-      let again = runs (of_functions xs fs) n in
+      let again = runs (of_parts xs ks fs) n in
       let again' = running.runs Q code_of n in
-      let t0 : State = with_frame (frame_of f.name (local_count (beside again again' (of_functions xs fs) f)) args None None depth) s in
+      let t0 : State = with_frame (frame_of f.name (local_count (beside again again' (of_parts xs ks fs) f)) args None None depth) s in
       let same : f.name ≡ name = same_bytes f.name name (found-name name fs f found) in
-      let here : function_named (of_functions xs fs) f.name ≡ Some f = subst (λ n. function_named (of_functions xs fs) n ≡ Some f) (sym same) found in
-      subst (λ x. Follows Ended (run_body again (of_functions xs fs) f args (with_frame (frame_of f.name (local_count f) args None None depth) s) w) (running.run_found again' Q x t0 w))
-      (sym (named-plain [] xs f.name fs (sequenced (of_functions xs fs)).initialisers f here))
-      (entered-follows again again' xs fs b.bodies chains-of b.turns f (found-built name fs f found ok) args many depth s w)
+      let here : function_named (of_parts xs ks fs) f.name ≡ Some f = subst (λ n. function_named (of_parts xs ks fs) n ≡ Some f) (sym same) found in
+      subst (λ x. Follows Ended (run_body again (of_parts xs ks fs) f args (with_frame (frame_of f.name (local_count f) args None None depth) s) w) (running.run_found again' Q x t0 w))
+      (sym (named-plain [] xs f.name fs (sequenced (of_parts xs ks fs)).initialisers f here))
+      (entered-follows again again' xs ks fs b.bodies chains-of b.turns f (found-built name fs f found ok) args many depth s w)
 
   both-at : (n : ℕ) → Both n
   both-at zero = record { bodies = λ name f found args many depth s w. record { by = refl }; turns = λ R C scalar how q e body m is-ok o D k g s f w st room. record { by = refl } }
@@ -398,48 +400,54 @@ module _ (xs : List Static) (fs : List Function) (ok : list_all is_built_functio
   left-same depth s t e = ap (left depth) e
 
   outcomes : (a b : calling.Again) (R : Program) → R.classes ≡ [] → (depth n : ℕ) (x y : Ran (Did ℤ)) (o : Outcome) → Follows SameNumber x y
-      → run_outcome (and_then x (ended_run a (of_functions xs fs) depth n)) ≡ Some o → run_outcome (and_then y (ended_run b R depth n)) ≡ Some o
+      → run_outcome (and_then x (ended_run a (of_parts xs ks fs) depth n)) ≡ Some o → run_outcome (and_then y (ended_run b R depth n)) ≡ Some o
   outcomes a b R e depth n (Stops end trace) y o h is = ap (λ y. run_outcome (and_then y (ended_run b R depth n))) h.by ∙ is
   outcomes a b R e depth n (Went Malformed w) y o h is = absurd (cc)
   outcomes a b R e depth n (Went (Exits z s) w) y o h is =
       ap (λ y. run_outcome (and_then y (ended_run b R depth n))) h.by.run
       ∙ ap (λ t. run_outcome (destroy_statics b R depth n z t w)) (left-same depth s h.by.after h.by.same)
-      ∙ ap run_outcome (sym (statics-end a b (of_functions xs fs) R refl e depth n z (left depth s) w)) ∙ is
+      ∙ ap run_outcome (sym (statics-end a b (of_parts xs ks fs) R refl e depth n z (left depth s) w)) ∙ is
   outcomes a b R e depth n (Went (Gives z s) w) y o h is =
       ap (λ y. run_outcome (and_then y (ended_run b R depth n))) h.by.run
       ∙ ap (λ z. run_outcome (destroy_statics b R depth n z (left depth h.by.after) w)) (sym h.by.related.0)
       ∙ ap (λ t. run_outcome (destroy_statics b R depth n z t w)) (left-same depth s h.by.after h.by.related.1)
-      ∙ ap run_outcome (sym (statics-end a b (of_functions xs fs) R refl e depth n z (left depth s) w)) ∙ is
+      ∙ ap run_outcome (sym (statics-end a b (of_parts xs ks fs) R refl e depth n z (left depth s) w)) ∙ is
 
   status-steps : (v : Value) (s : State) (f : Frame) (w : World) → Follows SameNumber (status_of v s w) (status_of v (with_frame f s) w)
   status-steps (Number z) s f w = record { by = record { value = z; after = with_frame f s; run = refl; related = (refl, refl) } }
   status-steps Missing s f w = record { by = record { value = pos 0; after = with_frame f s; run = refl; related = (refl, refl) } }
   status-steps v s f w = record { by = tt }
 
-  main-follows : (n : ℕ) (x : Option Function) → function_named (of_functions xs fs) (codes "__main") ≡ x → (s : State) (w : World)
-      → Follows SameNumber (and_then (run_named (runs (of_functions xs fs) n) (of_functions xs fs) (codes "__main") [] None None s w) (on status_of))
-      (and_then (run_named (calls (running.runs Q code_of n)) Q (codes "__main") [] None None s w) (on status_of))
-  main-follows n None found s w =
-      subst (λ x. Follows SameNumber (and_then (calling.enter_found (runs (of_functions xs fs) n) x [] None None s w) (on status_of))
-      (and_then (run_named (calls (running.runs Q code_of n)) Q (codes "__main") [] None None s w) (on status_of))) (sym found) (record { by = tt })
-  main-follows n (Some f) found s w =
-      let again = runs (of_functions xs fs) n in
+  main-follows : (n : ℕ) (x : Option Function) → function_named (of_parts xs ks fs) (codes "__main") ≡ x → (s : State) (g : Frame) (w : World) → Alike s.frame g
+      → Follows SameNumber (and_then (run_named (runs (of_parts xs ks fs) n) (of_parts xs ks fs) (codes "__main") [] None None s w) (on status_of))
+      (and_then (run_named (calls (running.runs Q code_of n)) Q (codes "__main") [] None None (with_frame g s) w) (on status_of))
+  main-follows n None found s g w alike =
+      subst (λ x. Follows SameNumber (and_then (calling.enter_found (runs (of_parts xs ks fs) n) x [] None None s w) (on status_of))
+      (and_then (run_named (calls (running.runs Q code_of n)) Q (codes "__main") [] None None (with_frame g s) w) (on status_of))) (sym found) (record { by = tt })
+  main-follows n (Some f) found s g w alike =
+      let again = runs (of_parts xs ks fs) n in
       let again' = running.runs Q code_of n in
       let parts = built-parts f (found-built (codes "__main") fs f found ok) in
       subst (λ x. Follows SameNumber (and_then (calling.enter_found again x [] None None s w) (on status_of))
-      (and_then (run_named (calls again') Q (codes "__main") [] None None s w) (on status_of))) (sym found)
+      (and_then (run_named (calls again') Q (codes "__main") [] None None (with_frame g s) w) (on status_of))) (sym found)
       (subst (λ x. Follows SameNumber (and_then (calling.enter again f [] None None s w) (on status_of))
-      (and_then (calling.enter_found (calls again') x [] None None s w) (on status_of))) (sym (named-header [] xs (codes "__main") fs (sequenced (of_functions xs fs)).initialisers f found))
-      (enter-steps again again' (of_functions xs fs) (both-at n).bodies s s.frame status_of status_of (λ v t w same. status-steps v t s.frame w) (codes "__main") f found []
-      (sym (main-takes-nothing f parts (found-name (codes "__main") fs f found))) (record { function = refl; this = refl; result = refl; depth = refl }) w))
+      (and_then (calling.enter_found (calls again') x [] None None (with_frame g s) w) (on status_of))) (sym (named-header [] xs (codes "__main") fs (sequenced (of_parts xs ks fs)).initialisers f found))
+      (enter-steps again again' (of_parts xs ks fs) (both-at n).bodies s g status_of status_of (λ v t w same. status-steps v t g w) (codes "__main") f found []
+      (sym (main-takes-nothing f parts (found-name (codes "__main") fs f found))) alike w))
 
-  pub programs-agree : (input : List ℕ) (heap depth n : ℕ) (o : Outcome) → Mean (of_functions xs fs) input heap depth n ≡ Some o → PlainMean (sequenced (of_functions xs fs)) input heap depth n ≡ Some o
+  pub programs-agree : (input : List ℕ) (heap depth n : ℕ) (o : Outcome) → Mean (of_parts xs ks fs) input heap depth n ≡ Some o → PlainMean (sequenced (of_parts xs ks fs)) input heap depth n ≡ Some o
   programs-agree input heap depth n o is =
-      outcomes (runs (of_functions xs fs) n) (calls (running.runs Q code_of n)) Q refl depth (suc n) _ _ o
-      (subst (λ t. Follows SameNumber (and_then (run_named (runs (of_functions xs fs) n) (of_functions xs fs) (codes "__main") [] None None (first_state (of_functions xs fs) depth) (world_at n input heap)) (on status_of))
-      (and_then (run_named (calls (running.runs Q code_of n)) Q (codes "__main") [] None None t (world_at n input heap)) (on status_of)))
-      (sym (same-first (of_functions xs fs) depth))
-      (main-follows n (function_named (of_functions xs fs) (codes "__main")) refl (first_state (of_functions xs fs) depth) (world_at n input heap))) is
+      let again = runs (of_parts xs ks fs) n in
+      let again' = running.runs Q code_of n in
+      let s : State = first_state (of_parts xs ks fs) depth in
+      outcomes again (calls again') Q refl depth (suc n) _ _ o
+      (subst (λ t. Follows SameNumber (main_run again (of_parts xs ks fs) s (world_at n input heap)) (plain_program.main_run again' Q (map (setting_of (of_parts xs ks fs)) ks) t (world_at n input heap)))
+      (sym (same-first (of_parts xs ks fs) depth))
+      (settings-steps again again' (of_parts xs ks fs) (both-at n).bodies chains-of refl ℤ ℤ SameNumber ks set s s.frame (world_at n input heap)
+      (record { alike = record { function = refl; this = refl; result = refl; depth = refl }; count = omega arith; wide = omega arith; locals = λ i lt. refl })
+      (first-all (of_parts xs ks fs) depth ks set)
+      (λ u. run_named again (of_parts xs ks fs) (codes "__main") [] None None >>= status_of) (λ u. run_named (calls again') Q (codes "__main") [] None None >>= status_of)
+      (λ t g w ready. main-follows n (function_named (of_parts xs ks fs) (codes "__main")) refl t g w ready.alike))) is
 
 pub empty-list : {A : Type 0} (xs : List A) → is_none xs ≡ true → xs ≡ []
 empty-list [] ok = refl
@@ -449,12 +457,12 @@ empty-list (x ∷ xs) ok = never ok
 pub sequencing-keeps : (P : Program) → is_plainly_built P ≡ true → (input : List ℕ) (heap depth n : ℕ) (o : Outcome)
     → Mean P input heap depth n ≡ Some o → PlainMean (sequenced P) input heap depth n ≡ Some o
 sequencing-keeps P ok input heap depth n o is =
-    let one = both (is_none P.classes) (is_none P.constants && (is_none P.initialisers && list_all is_built_function P.functions)) ok in
-    let two = both (is_none P.constants) (is_none P.initialisers && list_all is_built_function P.functions) one.1 in
+    let set : Bool = list_all (is_built_setting P.statics) P.constants in
+    let one = both (is_none P.classes) (set && (is_none P.initialisers && list_all is_built_function P.functions)) ok in
+    let two = both set (is_none P.initialisers && list_all is_built_function P.functions) one.1 in
     let three = both (is_none P.initialisers) (list_all is_built_function P.functions) two.1 in
-    let same : P ≡ of_functions P.statics P.functions =
+    let same : P ≡ of_parts P.statics P.constants P.functions =
     ap (λ (cs : List Class). let R : Program = record { classes = cs; functions = P.functions; statics = P.statics; constants = P.constants; initialisers = P.initialisers } in R) (empty-list P.classes one.0)
-    ∙ ap (λ (xs : List Setting). let R : Program = record { classes = []; functions = P.functions; statics = P.statics; constants = xs; initialisers = P.initialisers } in R) (empty-list P.constants two.0)
-    ∙ ap (λ (xs : List Function). let R : Program = record { classes = []; functions = P.functions; statics = P.statics; constants = []; initialisers = xs } in R) (empty-list P.initialisers three.0) in
+    ∙ ap (λ (xs : List Function). let R : Program = record { classes = []; functions = P.functions; statics = P.statics; constants = P.constants; initialisers = xs } in R) (empty-list P.initialisers three.0) in
     subst (λ (R : Program). Mean R input heap depth n ≡ Some o → PlainMean (sequenced R) input heap depth n ≡ Some o) (sym same)
-    (programs-agree P.statics P.functions three.1 input heap depth n o) is
+    (programs-agree P.statics P.constants P.functions two.0 three.1 input heap depth n o) is

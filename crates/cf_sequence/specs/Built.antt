@@ -1,13 +1,15 @@
 -- The cores that are built so far: functions over numbers and pointers, with locals, references to objects, literals, calls by name and all statements,
--- where a `switch` declares no local in its own block, and static objects without an initialiser; no class and no temporary.
-use Rattle.std.specs.Prelude.{ℕ, suc, Bool, true, false, ◌&&◌, ◌||◌, not, nat_le, List, [], ◌∷◌, length, bytes_eq, codes}
-use Rattle.std.specs.List.{list_all}
-use Rattle.cf_core.specs.Types.{SourceType, takes, gives, result, is_class, parameters}
+-- where a `switch` declares no local in its own block, and static objects with constant initialisers; no class and no temporary.
+use Rattle.std.specs.Prelude.{ℕ, suc, Bool, true, false, ◌&&◌, ◌||◌, not, nat_le, nat_eq, List, [], ◌∷◌, length, bytes_eq, codes}
+use Rattle.std.specs.List.{list_all, starts_with}
+use Rattle.cf_core.specs.Types.{Name, SourceType, takes, gives, result, is_class, parameters}
 use Rattle.cf_core.specs.Core as core
 use Rattle.cf_core.specs.Core.{Core, Cores, MaybeCore, no_temporary, none, absent, given, Role, plain_function, Function, Static, CoreFile}
-use Rattle.cf_core.specs.Calls.{Program}
+use Rattle.cf_core.specs.Calls.{Program, Setting}
+use Rattle.cf_core.specs.Places.{is_reference}
 use Rattle.cf_core.specs.Joined.{is_nothing}
 use Rattle.cf_core.specs.Valid.{is_label}
+use Rattle.cf_sequence.specs.Statements.{type_of_static}
 
 -- a function type: its parameters, and then its result
 abbrev pub is_chain : SourceType → Bool
@@ -21,6 +23,7 @@ abbrev mutual
   is_value (core.local i) = true
   is_value (core.text j bytes) = true
   is_value (core.static_object name t) = true
+  is_value (core.function name t) = true
   is_value (core.read e) = is_value e
   is_value (core.address e) = is_value e
   is_value (core.dereference e) = is_value e
@@ -107,14 +110,37 @@ abbrev mutual
   are_statements m none = true
   are_statements m (core.more s rest) = is_statement m s && are_statements (next_local m s) rest
 
--- A program that is sequenced so far: of functions over numbers.
-abbrev pub is_plain_role : Role → Bool
-is_plain_role plain_function = true
-is_plain_role role = false
+-- what is known before any function is entered: a number, or the place or the address of an object or a function (8.4)
+abbrev pub is_constant_value : Core → Bool
+is_constant_value (core.number z) = true
+is_constant_value (core.text j bytes) = true
+is_constant_value (core.static_object name t) = true
+is_constant_value (core.function name t) = true
+is_constant_value (core.address e) = is_constant_value e
+is_constant_value (core.dereference e) = is_constant_value e
+is_constant_value (core.decay e) = is_constant_value e
+is_constant_value (core.index a b) = is_constant_value a && is_constant_value b
+is_constant_value (core.pointer_operate op a b) = is_constant_value a && is_constant_value b
+is_constant_value (core.convert t e) = is_constant_value e
+is_constant_value (core.operate op k a b) = is_constant_value a && is_constant_value b
+is_constant_value (core.unary op k e) = is_constant_value e
+is_constant_value (core.logical_not e) = is_constant_value e
+is_constant_value (core.logical_and a b) = is_constant_value a && is_constant_value b
+is_constant_value (core.logical_or a b) = is_constant_value a && is_constant_value b
+is_constant_value (core.conditional c a b) = is_constant_value c && (is_constant_value a && is_constant_value b)
+is_constant_value e = false
+
+abbrev pub is_constant_start : Core → Bool
+is_constant_start e = is_nothing e || is_constant_value e
 
 abbrev pub is_none : {A : Type 0} → List A → Bool
 is_none [] = true
 is_none (x ∷ xs) = false
+
+-- A function over numbers and pointers.
+abbrev pub is_plain_role : Role → Bool
+is_plain_role plain_function = true
+is_plain_role role = false
 
 abbrev pub is_body : Function → Bool
 is_body f = not (is_class (result f.type)) && is_statement (length (parameters f.type)) f.body
@@ -124,10 +150,30 @@ abbrev pub is_built_function : Function → Bool
 is_built_function f =
     is_plain_role f.role && (is_chain f.type && ((not (bytes_eq f.name (codes "__main")) || is_none (parameters f.type)) && is_body f))
 
+-- A static object with a constant initialiser, which is no reference.
+abbrev pub is_built_static : Static → Bool
+is_built_static x = x.is_constant && (not (is_reference x.type) && is_constant_start x.start)
+
+-- what sets such an object, in a program
+abbrev pub is_built_setting : List Static → Setting → Bool
+is_built_setting statics x = not (is_reference (type_of_static statics x.object)) && is_constant_value x.start
+
+-- A program of such functions and objects.
 abbrev pub is_plainly_built : Program → Bool
 is_plainly_built P =
-    is_none P.classes && (is_none P.constants && (is_none P.initialisers && list_all is_built_function P.functions))
+    is_none P.classes
+    && (list_all (is_built_setting P.statics) P.constants && (is_none P.initialisers && list_all is_built_function P.functions))
 
--- Files of such functions, of which none is local to its file, without static objects.
+-- whether a name has `__u` in it, which joining puts behind a name that is local to its file
+abbrev pub begins_mark : Name → Bool
+begins_mark n = starts_with nat_eq n (codes "__u")
+
+abbrev pub has_mark : Name → Bool
+has_mark [] = false
+has_mark (b ∷ rest) = begins_mark (b ∷ rest) || has_mark rest
+
+-- Files of such functions and objects, where no object has a name that joining may make.
 abbrev pub is_built_file : CoreFile → Bool
-is_built_file file = is_none file.classes && (is_none file.statics && list_all (λ (f : Function). is_built_function f && not f.is_local) file.functions)
+is_built_file file =
+    is_none file.classes
+    && (list_all (λ (x : Static). is_built_static x && not (has_mark x.name)) file.statics && list_all is_built_function file.functions)

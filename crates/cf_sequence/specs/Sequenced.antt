@@ -54,10 +54,11 @@ outside classes statics =
     record { classes = classes; statics = statics; result = void; class = void; here = []; breaks = []; continues = []; returns = [] }
 
 -- A constant initialiser is done at once, that of another object where it is not yet reached; a local object's stands in its function (6.7, 8.4).
+-- The object has the type that its name has in the file.
 abbrev pub sequenced_start : List Class → List Static → Static → Plains
 sequenced_start classes statics x =
     if x.is_constant || is_some x.owner
-    then (if is_nothing x.start then nothing else initialised classes x.type x.name x.start 0 nothing)
+    then (if is_nothing x.start then nothing else initialised classes (type_of_static statics x.name) x.name x.start 0 nothing)
     else statement (outside classes statics) (once x.name x.start) 0 nothing
 
 abbrev pub sequenced_static : List Class → List Static → Static → PlainStatic

@@ -6,6 +6,7 @@ use Rattle.cf_types.specs.declared.ty.Fun.{Fun}
 use Rattle.cf_types.specs.Table.{NamesBelow, Names, parts_of_fun}
 use Rattle.cf_classes.proofs.Trees.{of_type-at}
 use Rattle.cf_core.specs.Types.{SourceType, void, gives, is_class, result}
+use Rattle.cf_core.specs.Places.{is_reference}
 use Rattle.cf_core.specs.FromTypes.{Tables, type_of, type_step, taking, fun_type}
 use Rattle.cf_sequence_built.specs.Unbuilt.{is_function_type, is_called}
 
@@ -46,6 +47,32 @@ class_by_entry tables t (ty.Const u) h below =
 class_by_entry tables t (ty.Fun f) h below =
     let r = of_type-at void (type_step tables) tables.types t (ty.Fun f) h in ap is_class r.2 ∙ class-fun r.0 (slice_get tables.types.funs f)
 class_by_entry tables t v h below = ap is_class (of_type-at void (type_step tables) tables.types t v h).2
+
+-- whether an entry is a reference
+abbrev pub reference_seen : Tables → Ty → Bool
+reference_seen tables (ty.Ref u) = true
+reference_seen tables (ty.Const u) = is_reference (type_of tables u)
+reference_seen tables v = false
+
+reference-taking : (ps : List SourceType) (r : SourceType) (b : Bool) → is_reference (taking ps (gives r b)) ≡ false
+reference-taking [] r b = refl
+reference-taking (p ∷ ps) r b = refl
+
+reference-fun : (rec : ℕ → SourceType) (o : Option Fun) → is_reference (fun_type rec o) ≡ false
+reference-fun rec None = refl
+reference-fun rec (Some f) = reference-taking (map rec f.params) (rec f.result) f.is_const
+
+pub reference_by_entry : (tables : Tables) (t : ℕ) (v : Ty) → slice_get tables.types.types t ≡ Some v → NamesBelow t v → is_reference (type_of tables t) ≡ reference_seen tables v
+reference_by_entry tables t (ty.Const u) h below =
+    let r = of_type-at void (type_step tables) tables.types t (ty.Const u) h in ap is_reference r.2 ∙ ap is_reference (r.1 u below)
+reference_by_entry tables t (ty.Fun f) h below =
+    let r = of_type-at void (type_step tables) tables.types t (ty.Fun f) h in ap is_reference r.2 ∙ reference-fun r.0 (slice_get tables.types.funs f)
+reference_by_entry tables t v h below = ap is_reference (of_type-at void (type_step tables) tables.types t v h).2
+
+pub reference_seen_other : (tables : Tables) (v : Ty) → ((u : ℕ) → v ≡ ty.Ref u → ⊥) → ((u : ℕ) → v ≡ ty.Const u → ⊥) → reference_seen tables v ≡ false
+reference_seen_other tables (ty.Ref u) no_reference no_const = absurd (no_reference u refl)
+reference_seen_other tables (ty.Const u) no_reference no_const = absurd (no_const u refl)
+reference_seen_other tables v no_reference no_const = refl
 
 -- as `is_called` has it
 abbrev calls : SourceType → Bool

@@ -1,5 +1,6 @@
 -- The place of the first construct of a core that is not built so far.
-use Rattle.std.specs.Prelude.{ℕ, Bool, true, false, ◌&&◌, ◌||◌, not, ◌==◌, nat_le, if◌then◌else◌, List, [], ◌∷◌, length, codes, bytes_eq, suc, Option, Some, None}
+use Rattle.std.specs.Prelude.{ℕ, Bool, true, false, ◌&&◌, ◌||◌, not, ◌==◌, nat_le, nat_eq, if◌then◌else◌, List, [], ◌∷◌, length, codes, bytes_eq, suc, Option, Some, None}
+use Rattle.std.specs.List.{starts_with}
 use Rattle.std.specs.Option.{option_or}
 use Rattle.cf_core.specs.declared.node.Core.{Core as Node, fold-Core}
 use Rattle.cf_core.specs.declared.node.Core.TheOpen.{Core-F}
@@ -12,6 +13,7 @@ use Rattle.cf_core.specs.declared.unit.CoreStatic.{CoreStatic}
 use Rattle.cf_core.specs.declared.unit.Role.{Role}
 use Rattle.cf_core.specs.declared.unit.Role.TheVariants as role
 use Rattle.cf_core.specs.Types.{SourceType, takes, gives, result, is_class}
+use Rattle.cf_core.specs.Places.{is_reference}
 use Rattle.cf_core.specs.FromTypes.{Tables, type_of}
 use Rattle.cf_core.specs.FromUnit.{Unit as CoreUnit, tables_of}
 use Rattle.cf_core.specs.NodePlace.{place, place_step}
@@ -126,6 +128,7 @@ module _ (tables : Tables) where
   value_step (Core-F.Text at j bytes) = None
   value_step (Core-F.Local at i) = None
   value_step (Core-F.Static at n t) = None
+  value_step (Core-F.Function at n t) = None
   value_step (Core-F.Read at e) = e.value
   value_step (Core-F.Address at e) = e.value
   value_step (Core-F.Dereference at e) = e.value
@@ -164,7 +167,7 @@ module _ (tables : Tables) where
   abbrev pub test : Node → Test
   test = fold-Core Test Test test_step part_step
 
--- A function of numbers and pointers, which is not local to its file; `main` takes nothing.
+-- A function of numbers and pointers; `main` takes nothing.
 abbrev pub is_plain : Role → Bool
 is_plain role.Plain = true
 is_plain r = false
@@ -174,7 +177,7 @@ takes_nothing f = length f.params == 0
 
 abbrev pub is_usual : Tables → CoreFn → Bool
 is_usual tables f =
-    is_plain f.role && ((not (bytes_eq f.name (codes "__main")) || takes_nothing f) && (not (is_class (type_of tables f.result)) && not f.is_local))
+    is_plain f.role && ((not (bytes_eq f.name (codes "__main")) || takes_nothing f) && not (is_class (type_of tables f.result)))
 
 abbrev pub in_function : Tables → CoreFn → Option ℕ
 in_function tables f = if is_usual tables f then (test tables f.body).statement (length f.params) else Some (place f.body)
@@ -183,11 +186,53 @@ abbrev pub in_functions : Tables → List CoreFn → Option ℕ
 in_functions tables [] = None
 in_functions tables (f ∷ fs) = option_or (in_function tables f) (in_functions tables fs)
 
-abbrev pub in_statics : List CoreStatic → Option ℕ
-in_statics [] = None
-in_statics (x ∷ xs) = Some (place x.start)
+-- whether an expression is known before any function is entered (8.4)
+abbrev pub constant_step : Core-F Bool Bool → Bool
+constant_step (Core-F.Number at z) = true
+constant_step (Core-F.Text at j bytes) = true
+constant_step (Core-F.Static at n t) = true
+constant_step (Core-F.Function at n t) = true
+constant_step (Core-F.Address at e) = e
+constant_step (Core-F.Dereference at e) = e
+constant_step (Core-F.Decay at e) = e
+constant_step (Core-F.Index at a b) = a && b
+constant_step (Core-F.Convert at t e) = e
+constant_step (Core-F.Operate at op k a b) = a && b
+constant_step (Core-F.Unary at op k e) = e
+constant_step (Core-F.Not at e) = e
+constant_step (Core-F.And at a b) = a && b
+constant_step (Core-F.Or at a b) = a && b
+constant_step (Core-F.PointerOperate at op a b) = a && b
+constant_step (Core-F.Conditional at c a b) = c && (a && b)
+constant_step x = false
 
--- A file has no class and no static object. Where a class is defined, the place is the begin of the file.
+abbrev pub constant_part : PartStart-F Bool Bool → Bool
+constant_part x = x.start
+
+abbrev pub is_constant : Node → Bool
+is_constant = fold-Core Bool Bool constant_step constant_part
+
+-- whether a name has `__u` in it, which joining puts behind a name that is local to its file
+abbrev pub begins_mark : List ℕ → Bool
+begins_mark bytes = starts_with nat_eq bytes (codes "__u")
+
+abbrev pub has_mark : List ℕ → Bool
+has_mark [] = false
+has_mark (b ∷ rest) = begins_mark (b ∷ rest) || has_mark rest
+
+-- A static object with a constant initialiser, which is no reference.
+abbrev pub is_usual_object : Tables → CoreStatic → Bool
+is_usual_object tables x =
+    x.is_constant && (not (is_reference (type_of tables x.ty)) && (((test tables x.start).is_blank || is_constant x.start) && not (has_mark x.name)))
+
+abbrev pub in_static : Tables → CoreStatic → Option ℕ
+in_static tables x = if is_usual_object tables x then None else Some (place x.start)
+
+abbrev pub in_statics : Tables → List CoreStatic → Option ℕ
+in_statics tables [] = None
+in_statics tables (x ∷ xs) = option_or (in_static tables x) (in_statics tables xs)
+
+-- A file has no class. Where a class is defined, the place is the begin of the file.
 abbrev pub in_file : CoreUnit → Option ℕ
 in_file unit =
-    if length unit.classes.defined == 0 then option_or (in_statics unit.statics) (in_functions (tables_of unit) unit.functions) else Some 0
+    if length unit.classes.defined == 0 then option_or (in_statics (tables_of unit) unit.statics) (in_functions (tables_of unit) unit.functions) else Some 0

@@ -1,13 +1,14 @@
 ghost use Rattle.std.specs.Prelude.{◌≡◌, true};
 ghost use Rattle.cf_core.specs.FromUnit.{tables_of};
-ghost use Rattle.cf_core.specs.Numbers.{function_known};
+ghost use Rattle.cf_core.specs.Numbers.{function_known, static_known};
 ghost use Rattle.cf_sequence_built.specs.Unbuilt as spec;
 
-use crate::statements::statement;
-use crate::types::is_of_class;
-use cf_core::{CoreFn, CoreUnit, Role};
+use crate::statements::{is_blank, statement};
+use crate::types::{is_of_class, is_reference};
+use crate::values::is_constant;
+use cf_core::{CoreFn, CoreStatic, CoreUnit, Role};
 
-/// Whether it is a function of numbers and pointers that is not local to its file; `main` takes nothing.
+/// Whether it is a function of numbers and pointers; `main` takes nothing.
 fn is_usual(unit: &CoreUnit, f: &CoreFn) -> bool
     requires { function_known (tables_of unit.now) f.now ≡ true }
     ensures { result ≡ spec.is_usual (tables_of unit.now) f.now }
@@ -15,7 +16,6 @@ fn is_usual(unit: &CoreUnit, f: &CoreFn) -> bool
     matches!(f.role, Role::Plain)
         && (f.name.as_slice() != b"__main".as_slice() || f.params.len() == 0)
         && !is_of_class(unit, f.result)
-        && !f.is_local
 }
 
 /// The place of the first construct of a function that is not built.
@@ -43,14 +43,51 @@ fn in_functions(unit: &CoreUnit) -> Option<u32>
     None
 }
 
-/// The place of the first static object's initialiser.
-fn in_statics(unit: &CoreUnit) -> Option<u32>
-    ensures { result ≡ spec.in_statics unit.now.statics }
+/// Whether a name has `__u` in it, which joining puts behind a name that is local to its file.
+fn has_mark(name: &[u8]) -> bool
+    ensures { result ≡ spec.has_mark name.now }
 {
-    match unit.statics().first() {
-        None => None,
-        Some(first) => Some(first.start.at()),
+    match name {
+        [] => false,
+        [_, rest @ ..] => name.starts_with(b"__u") || has_mark(rest),
     }
+}
+
+/// Whether it is a static object with a constant initialiser, which is no reference.
+fn is_usual_object(unit: &CoreUnit, x: &CoreStatic) -> bool
+    requires { static_known (tables_of unit.now) x.now ≡ true }
+    ensures { result ≡ spec.is_usual_object (tables_of unit.now) x.now }
+{
+    x.is_constant
+        && !is_reference(unit, x.ty)
+        && (is_blank(&x.start) || is_constant(&x.start))
+        && !has_mark(x.name.as_slice())
+}
+
+/// The place of the initialiser of a static object that is not built.
+fn in_static(unit: &CoreUnit, x: &CoreStatic) -> Option<u32>
+    requires { static_known (tables_of unit.now) x.now ≡ true }
+    ensures { result ≡ spec.in_static (tables_of unit.now) x.now }
+{
+    if is_usual_object(unit, x) {
+        None
+    } else {
+        Some(x.start.at())
+    }
+}
+
+/// The same of the static objects in order.
+fn in_statics(unit: &CoreUnit) -> Option<u32>
+    ensures { result ≡ spec.in_statics (tables_of unit.now) unit.now.statics }
+{
+    let _valid = unit.functions();
+    for x in unit.statics() {
+        let found = in_static(unit, x);
+        if found.is_some() {
+            return found;
+        }
+    }
+    None
 }
 
 /// The byte place of the first construct of a file that is not built so far; none where all are. Where the file defines a class it is 0.

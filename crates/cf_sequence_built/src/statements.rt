@@ -32,6 +32,13 @@ fn given(unit: &CoreUnit, e: &Option<Boxed<Core>>) -> Option<u32>
     }
 }
 
+/// Whether an initialiser does nothing.
+pub fn is_blank(e: &Core) -> bool
+    ensures { (tables : Tables) → result ≡ (test tables e.now).is_blank }
+{
+    matches!(e, Core::Blank { .. })
+}
+
 /// Whether a statement declares locals in the scope at hand.
 fn declares(s: &Core) -> bool
     ensures { (tables : Tables) → result ≡ (test tables s.now).declares }

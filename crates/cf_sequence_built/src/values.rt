@@ -14,7 +14,11 @@ pub fn value(unit: &CoreUnit, e: &Core) -> Option<u32>
     ensures { result ≡ (test (tables_of unit.now) e.now).value }
 {
     match e {
-        Core::Number { .. } | Core::Text { .. } | Core::Local { .. } | Core::Static { .. } => None,
+        Core::Number { .. }
+        | Core::Text { .. }
+        | Core::Local { .. }
+        | Core::Static { .. }
+        | Core::Function { .. } => None,
         Core::Read { place: a, .. }
         | Core::Address { place: a, .. }
         | Core::Dereference { pointer: a, .. }
@@ -114,5 +118,53 @@ fn some_values(unit: &CoreUnit, at: u32, all: &[Core]) -> Option<u32>
         Some(at)
     } else {
         each_value(unit, all)
+    }
+}
+
+/// Whether an expression is known before any function is entered: a number, or the place or the address of an object or a function (8.4).
+pub fn is_constant(e: &Core) -> bool
+    ensures { result ≡ spec.is_constant e.now }
+{
+    match e {
+        Core::Number { .. } | Core::Text { .. } | Core::Static { .. } | Core::Function { .. } =>
+            true,
+        Core::Address { place: a, .. }
+        | Core::Dereference { pointer: a, .. }
+        | Core::Decay { array: a, .. }
+        | Core::Convert { operand: a, .. }
+        | Core::Unary { operand: a, .. }
+        | Core::Not { operand: a, .. } => is_constant(a.get()),
+        Core::Index {
+            left: a,
+            right: b,
+            ..
+        }
+        | Core::Operate {
+            left: a,
+            right: b,
+            ..
+        }
+        | Core::And {
+            left: a,
+            right: b,
+            ..
+        }
+        | Core::Or {
+            left: a,
+            right: b,
+            ..
+        }
+        | Core::PointerOperate {
+            left: a,
+            right: b,
+            ..
+        } => is_constant(a.get()) && is_constant(b.get()),
+        Core::Conditional {
+            condition,
+            yes,
+            no,
+            ..
+        } => is_constant(condition.get()) && is_constant(yes.get()) && is_constant(no.get()),
+        _ => false,
     }
 }

@@ -113,7 +113,7 @@ module _ (types : Table) where
   piece_step (Core-F.This at) = record { locals = λ l. l; value = silent }
   piece_step (Core-F.Local at i) = record { locals = λ l. l; value = λ n. set n (action.Local i) }
   piece_step (Core-F.Static at name t) = record { locals = λ l. l; value = λ n. set n (action.Static name t) }
-  piece_step (Core-F.Function at name t) = record { locals = λ l. l; value = silent }
+  piece_step (Core-F.Function at name t) = record { locals = λ l. l; value = λ n. set n (action.Function name t) }
   piece_step (Core-F.Member at e i) = record { locals = e.locals; value = silent }
   piece_step (Core-F.Read at e) = record { locals = e.locals; value = λ n w. set n (action.Read n) (e.value n w) }
   piece_step (Core-F.Address at e) = record { locals = e.locals; value = λ n w. used n (e.value n w) }

@@ -39,6 +39,10 @@ pub fn value(unit: &CoreUnit, e: &Core, n: u32, w: &mut Writing) -> Result<(), M
             let name = copied(w.alloc, name)?;
             w.set(n, Action::Static { name, ty: *ty })
         }
+        Core::Function { name, ty, .. } => {
+            let name = copied(w.alloc, name)?;
+            w.set(n, Action::Function { name, ty: *ty })
+        }
         Core::Read { place, .. } => {
             value(unit, place.get(), n, w)?;
             w.set(n, Action::Read { place: n })
@@ -230,7 +234,6 @@ pub fn value(unit: &CoreUnit, e: &Core, n: u32, w: &mut Writing) -> Result<(), M
             Holder::LocalTemporary { .. } => Ok(()),
         },
         Core::This { .. }
-        | Core::Function { .. }
         | Core::Member { .. }
         | Core::Up { .. }
         | Core::Down { .. }

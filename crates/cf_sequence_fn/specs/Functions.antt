@@ -1,16 +1,18 @@
--- What is written for a function, and for a file of functions.
+-- What is written for a function, for a static object, and for a file.
 use Rattle.std.specs.Prelude.{ℕ, suc, ◌+◌, List, [], ◌∷◌, length, map}
 use Rattle.std.specs.declared.alloc.Global.{Global}
 use Rattle.cf_types.specs.Table.{Table}
 use Rattle.cf_core.specs.declared.unit.CoreFn.{CoreFn}
+use Rattle.cf_core.specs.declared.unit.CoreStatic.{CoreStatic}
 use Rattle.cf_core.specs.FromUnit.{Unit}
 use Rattle.cf_plain.specs.declared.unit.PlainFn.{PlainFn}
+use Rattle.cf_plain.specs.declared.unit.PlainStatic.{PlainStatic}
 use Rattle.cf_plain.specs.View as plain
 use Rattle.cf_sequence_expr.specs.declared.writing.Writing.{Writing}
 use Rattle.cf_sequence_expr.specs.Pieces.{piece}
 use Rattle.cf_sequence_stmt.specs.declared.body.Body.{Body}
 use Rattle.cf_sequence_stmt.specs.declared.body.Open.{Open}
-use Rattle.cf_sequence_stmt.specs.Bodies.{left_to}
+use Rattle.cf_sequence_stmt.specs.Bodies.{left_to, placed}
 use Rattle.cf_sequence_stmt.specs.Steps.{step, inside_loop}
 
 -- parameters of these types, numbered from the first
@@ -47,12 +49,31 @@ written_function types alloc f = record {
   is_local = f.is_local;
 }
 
--- a file of functions, with the frame bounds that are given
+-- nothing is written of an initialiser yet
+abbrev pub blank_writing : Global → Writing
+blank_writing alloc = record { alloc = alloc; code = []; next = 0 }
+
+-- a static object, with the locals that its initialiser adds
+unfoldable pub written_object : Table → Global → CoreStatic → PlainStatic
+written_object types alloc x =
+    let s = step types x.start in
+    record {
+      name = x.name;
+      ty = x.ty;
+      locals = (piece types x.start).locals [];
+      start = Writing.code (placed x.name x.ty s.is_blank s.piece (blank_writing alloc));
+      owner = x.owner;
+      is_constant = x.is_constant;
+      is_shared = x.is_shared;
+      is_local = x.is_local;
+    }
+
+-- a file, with the frame bounds that are given
 abbrev pub written_unit : Global → List ℕ → Unit → plain.Unit
 written_unit alloc frames unit = record {
   types = unit.types;
   classes = unit.classes;
   functions = map (written_function unit.types alloc) unit.functions;
-  statics = [];
+  statics = map (written_object unit.types alloc) unit.statics;
   frames = frames;
 }

@@ -18,7 +18,8 @@ use Rattle.cf_plain_kept.specs.Kept as kept
 use Rattle.cf_plain_kept.specs.Kept.{Kept, no_value, an_integer, a_place, a_member, an_object, Keeping, keep, of_kind, a_truth, value_of, suits, both_kept, common, moved_kept, integer_in, has_kind, converted, tested, given, operated, changed_kept, read_kept, kept_by, after_all}
 use Rattle.cf_sequence.specs.Made.{width}
 use Rattle.cf_sequence.specs.Expressions.{Full, Destination, value, used}
-use Rattle.cf_sequence_kept.proofs.Suits.{same-itself, same-turned, suits-same, own-suits, pointed-to, integer-kept, integer-tested}
+use Rattle.cf_sequence.proofs.SameTypes.{same-itself}
+use Rattle.cf_sequence_kept.proofs.Suits.{same-turned, suits-same, own-suits, pointed-to, integer-kept, integer-tested}
 use Rattle.cf_sequence_kept.proofs.Related.{Relates, of-value, of-null, of-place, of-allowed, conditions-kept, has-kind, Joined, either-joins, of-either}
 use Rattle.cf_sequence_kept.proofs.Operands.{Gives, index-tested, index-gives, operate-gives, converts-gives, converted-plain, pointer-tested, pointer-gives}
 use Rattle.cf_sequence_kept.proofs.Values.{runs, act-runs, Keeps, one, pair, two, on-both}

@@ -17,6 +17,7 @@ use Rattle.cf_sequence.specs.Made.{added, declared, numbered}
 use Rattle.cf_sequence.specs.Expressions.{finished}
 use Rattle.cf_sequence.specs.Sequenced.{inside, flowed_off, sequenced_function, sequenced_file}
 use Rattle.cf_sequence.proofs.Calling.{never}
+use Rattle.cf_sequence.proofs.OwnNames.{is_own}
 use Rattle.cf_sequence_kept.proofs.Values.{runs}
 use Rattle.cf_sequence_kept.proofs.Statements.{runs-statement, runs-finished}
 use Rattle.cf_sequence_valid.proofs.Stands.{still-there}
@@ -56,22 +57,18 @@ module _ (file : CoreFile) where
       (p.goes (finished (declared f.body) (flowed_off f)) ∙ q.goes (flowed_off f)
       ∙ ap (λ b. runs locals (result f.type) (if b then nothing else flowed) q.now) scalar ∙ r.goes nothing)
 
-  abbrev is_good : Function → Bool
-  is_good f = is_built_function f && not f.is_local
-
-  good-parts : (f : Function) → is_good f ≡ true → (is_plain_role f.role ≡ true) × (is_body f ≡ true)
+  good-parts : (f : Function) → is_built_function f ≡ true → (is_plain_role f.role ≡ true) × (is_body f ≡ true)
   good-parts f ok =
       let start : Bool = not (bytes_eq f.name (codes "__main")) || is_none (parameters f.type) in
-      let one = both (is_built_function f) (not f.is_local) ok in
-      let two = both (is_plain_role f.role) (is_chain f.type && (start && is_body f)) one.0 in
+      let two = both (is_plain_role f.role) (is_chain f.type && (start && is_body f)) ok in
       let three = both (is_chain f.type) (start && is_body f) two.1 in
       (two.0, (both start (is_body f) three.1).1)
 
-  all-keep : (fs : List Function) → list_all is_good fs ≡ true → list_all (valid.function_fits file) fs ≡ true
+  all-keep : (fs : List Function) → list_all is_built_function fs ≡ true → list_all (valid.function_fits file) fs ≡ true
       → list_all function_kept (map (sequenced_function file.classes file.statics) fs) ≡ true
   all-keep [] ok is = refl
   all-keep (f ∷ fs) ok is =
-      let built = both (is_good f) (list_all is_good fs) ok in
+      let built = both (is_built_function f) (list_all is_built_function fs) ok in
       let parts = both (valid.function_fits file f) (list_all (valid.function_fits file) fs) is in
       let good = good-parts f built.0 in
       all_of (function_kept (sequenced_function file.classes file.statics f)) _ (function-keeps f good.0 good.1 parts.0) (all-keep fs built.1 parts.1)
@@ -82,5 +79,5 @@ module _ (file : CoreFile) where
       let names : List Name = map (λ (f : Function). f.name) file.functions ++ map (λ (x : Static). x.name) file.statics in
       let functions_good : Bool = list_all (valid.function_fits file) file.functions in
       let one = both (classes_good && all_differ names && functions_good) (list_all (valid.static_fits file) file.statics) is in
-      let some = both (is_none file.classes) (is_none file.statics && list_all is_good file.functions) built in
-      all-keep file.functions (both (is_none file.statics) (list_all is_good file.functions) some.1).1 (both (classes_good && all_differ names) functions_good one.0).1
+      let some = both (is_none file.classes) (list_all is_own file.statics && list_all is_built_function file.functions) built in
+      all-keep file.functions (both (list_all is_own file.statics) (list_all is_built_function file.functions) some.1).1 (both (classes_good && all_differ names) functions_good one.0).1

@@ -16,7 +16,8 @@ use Rattle.cf_core.specs.Typed.{indexed_type, pointed_place}
 use Rattle.cf_plain_kept.specs.Kept as kept
 use Rattle.cf_plain_kept.specs.Kept.{Kept, no_value, an_integer, a_place, a_member, of_kind, a_truth, value_of, suits, moved_kept, forth, integer_in, has_kind, right_has, converted, tested, given, operated, changed_kept}
 use Rattle.cf_sequence.proofs.Calling.{never}
-use Rattle.cf_sequence_kept.proofs.Suits.{same-itself, same-turned, same-then, own-suits, values-suit, scalar-same, plain-void, Pointed, pointed-to, scalar-tested, integer-kept, integer-tested}
+use Rattle.cf_sequence.proofs.SameTypes.{same-itself}
+use Rattle.cf_sequence_kept.proofs.Suits.{same-turned, same-then, own-suits, values-suit, scalar-same, plain-void, Pointed, pointed-to, scalar-tested, integer-kept, integer-tested}
 use Rattle.cf_sequence_kept.proofs.Related.{Relates, of-value, of-place, of-allowed, integers-kept, has-kind, right-kept}
 use Rattle.cf_sequence_valid.proofs.Serves.{Serves, nothing-serves, allowed-is, either-true}
 

@@ -15,7 +15,8 @@ use Rattle.cf_core.specs.Typing as typing
 use Rattle.cf_core.specs.Typed.{binds}
 use Rattle.cf_plain_kept.specs.Kept.{Kept, no_value, an_integer, a_place, a_member, value_of, suits, both_kept, named, integer_in, has_kind, right_has, tested, a_truth}
 use Rattle.cf_sequence.proofs.Calling.{never}
-use Rattle.cf_sequence_kept.proofs.Suits.{same-itself, same-turned, same-then, suits-same, own-suits, refers-too, scalar-tested, integer-kept, enumerator-kept, integer-tested}
+use Rattle.cf_sequence.proofs.SameTypes.{same-itself}
+use Rattle.cf_sequence_kept.proofs.Suits.{same-turned, same-then, suits-same, own-suits, refers-too, scalar-tested, integer-kept, enumerator-kept, integer-tested}
 use Rattle.cf_sequence_valid.proofs.Serves.{Serves, as_place, of_type, as_number, as_value, as_start, either-true}
 
 pub record Relates (x : Typing) (h : Kept) : Type 0 where

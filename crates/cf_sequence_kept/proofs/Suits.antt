@@ -11,7 +11,7 @@ use Rattle.cf_core.specs.Places.{is_scalar}
 use Rattle.cf_core.specs.Typing.{is_function}
 use Rattle.cf_plain_kept.specs.Kept.{Kept, no_value, an_integer, a_place, a_member, an_object, within, kept_of, value_of, suits, integer_in, tested, a_truth, decayed}
 use Rattle.cf_sequence.proofs.Calling.{never}
-use Rattle.cf_sequence_valid.proofs.Stands.{type-same}
+use Rattle.cf_sequence.proofs.SameTypes.{type-same, same-itself}
 
 kind-is : (k l : Kind) → (kind_number k == kind_number l) ≡ true → k ≡ l
 kind-is Char Char e = refl
@@ -59,9 +59,6 @@ bare-is t u e = type-is (without_const t) (without_const u) e
 
 same-bare : (t u : SourceType) → without_const t ≡ without_const u → same_but_const t u ≡ true
 same-bare t u e = ap (λ z. type_eq (without_const t) z) (sym e) ∙ type-same (without_const t)
-
-pub same-itself : (t : SourceType) → same_but_const t t ≡ true
-same-itself t = type-same (without_const t)
 
 pub same-turned : (t u : SourceType) → same_but_const t u ≡ true → same_but_const u t ≡ true
 same-turned t u e = same-bare u t (sym (bare-is t u e))

@@ -11,7 +11,8 @@ use Rattle.cf_plain.specs.Plain.{Register, Action, Plains, act, set, branch, not
 use Rattle.cf_plain.specs.Plain as plain
 use Rattle.cf_plain_kept.specs.Kept.{Kept, a_place, Keeping, keep, a_truth, value_of, named, read_kept, pointed_kept, decayed_kept, from_void_kept, tested, given, kept_by, after_all}
 use Rattle.cf_sequence.specs.Expressions.{used}
-use Rattle.cf_sequence_kept.proofs.Suits.{same-itself, same-turned, values-suit, scalar-kept, scalar-same, void-same, plain-suits, Pointed, pointed-to, Decays, array-decays, function-decays}
+use Rattle.cf_sequence.proofs.SameTypes.{same-itself}
+use Rattle.cf_sequence_kept.proofs.Suits.{same-turned, values-suit, scalar-kept, scalar-same, void-same, plain-suits, Pointed, pointed-to, Decays, array-decays, function-decays}
 use Rattle.cf_sequence_kept.proofs.Related.{Relates, of-value, of-place, of-name, of-allowed}
 use Rattle.cf_sequence_valid.proofs.Serves.{Serves, nothing-serves, allowed-is}
 use Rattle.cf_sequence_valid.proofs.Values as locals_of

@@ -8,7 +8,7 @@ use Rattle.cf_core.specs.Types.{SourceType, integer, pointer, array, plain as un
 use Rattle.cf_core.specs.Classes.{Class}
 use Rattle.cf_core.specs.Core as core
 use Rattle.cf_core.specs.Core.{Core, Cores, no_temporary, none, absent}
-use Rattle.cf_core.specs.Typing.{Scope, is_function, of_value, of_result, is_condition, is_expression, is_right_operand, pointed, either, converts}
+use Rattle.cf_core.specs.Typing.{Scope, is_function, of_value, of_place, of_result, is_condition, is_expression, is_right_operand, pointed, either, converts}
 use Rattle.cf_core.specs.Typed.{typing, typings, last_typing, typing_maybe, fit, on_object, read_type, pointed_place, address_type, decayed_type, stepped, void_pointer}
 use Rattle.cf_plain.specs.Plain.{Register, Plains, act, set, more}
 use Rattle.cf_plain.specs.Plain as plain
@@ -18,7 +18,7 @@ use Rattle.cf_sequence.specs.Built.{is_value, are_values, are_arguments, is_chai
 use Rattle.cf_sequence.specs.Made.{width, numbers}
 use Rattle.cf_sequence.specs.Expressions.{Full, Destination, destination, value, values, arguments, settled, builds, result_register}
 use Rattle.cf_sequence.proofs.Calling.{never}
-use Rattle.cf_sequence_kept.proofs.Suits.{same-itself}
+use Rattle.cf_sequence.proofs.SameTypes.{same-itself}
 use Rattle.cf_sequence_kept.proofs.Related.{of-number, of-place, of-name, of-result, of-allowed, of-bind}
 use Rattle.cf_sequence_kept.proofs.Values.{keep-at, keep-below, runs, set-runs, act-runs, Keeps, leaf, named-keeps, read-keeps, address-keeps, dereference-keeps, decay-keeps, from-void-keeps}
 use Rattle.cf_sequence_kept.proofs.Expressions.{and-keeps, or-keeps, conditional-keeps, index-keeps, pointers-keep, operate-keeps, convert-keeps, unary-keeps, not-keeps, store-keeps}
@@ -68,6 +68,9 @@ module _ (locals : List SourceType) (R : SourceType) (classes : List Class) (sco
         let t : SourceType = array (integer Char) (length bytes) in leaf locals R (typing scope (core.text j bytes)) n g (plain.text j bytes) (a_place t) refl (of-place t (a_place t) (same-itself t))
     keeps-value (core.static_object name t) ok s x into n k g =
         let m = of-name t in leaf locals R (typing scope (core.static_object name t)) n g (plain.static_object name t) m.kept m.is m.related
+    keeps-value (core.function name t) ok s x into n k g =
+        let function_type = allowed-is (is_function t) (of_place t) s in
+        leaf locals R (typing scope (core.function name t)) n g (plain.function name t) (a_place t) refl (of-allowed (is_function t) (of_place t) (a_place t) function_type (of-place t (a_place t) (same-itself t)))
     keeps-value (core.read e) ok s x into n k g =
         read-keeps locals R classes scope keeps (value classes x e None n k) (keeps-value e ok (by-place (typing scope e) (read_type scope) refl s) x None n k g) s
     keeps-value (core.address e) ok s x into n k g =

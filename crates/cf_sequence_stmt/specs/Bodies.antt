@@ -59,6 +59,12 @@ started false p w = act (action.First 0 (behind_flags 1 p)) (p.value (behind_fla
 unfoldable pub declared : ℕ → ℕ → Bool → Piece → Body → Body
 declared i t is_blank p b = opened i t (on (λ w. started is_blank p (set 0 (action.Declare i t) w)) b)
 
+-- A static object with its initialiser, if it has one: control reaches it, and its place comes into register 0 (6.7, 8.4).
+unfoldable pub placed : List ℕ → ℕ → Bool → Piece → Writing → Writing
+placed name t true p w = w
+placed name t false p w =
+    act (action.FinishStatic name) (started false p (set 0 (action.Static name t) (act (action.Reach name) w)))
+
 -- Statements.
 
 unfoldable pub stated : Plain → Body → Body

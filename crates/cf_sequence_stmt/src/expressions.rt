@@ -9,9 +9,9 @@ ghost use Rattle.cf_sequence_stmt.specs.Steps.{step};
 
 use crate::body::Body;
 use cf_base::Memory;
-use cf_core::{Core, CoreUnit};
+use cf_core::{Core, CoreStatic, CoreUnit};
 use cf_plain::Action;
-use cf_sequence_expr::{Writing, beyond, value, width};
+use cf_sequence_expr::{Writing, beyond, copied, value, width};
 use cf_types::TyId;
 use std::alloc::Global;
 
@@ -100,4 +100,22 @@ pub fn declared(unit: &CoreUnit, e: &Core, local: u32, ty: TyId, b: &mut Body) -
     b.writing.set(0, Action::Declare { local, ty })?;
     started(unit, e, &mut b.writing)?;
     b.declare(local, ty)
+}
+
+/// Writes what sets a static object, if it has an initialiser (6.7, 8.4).
+#[tactic(auto, unfolding(crate::specs::Bodies::placed))]
+pub fn placed(unit: &CoreUnit, x: &CoreStatic, w: &mut Writing) -> Result<(), Memory>
+    requires { are_known (tables_of unit.now) x.now.start ≡ true }
+    ensures { OnOk result (w.new ≡ spec.placed x.now.name x.now.ty (step unit.now.types x.now.start).is_blank (step unit.now.types x.now.start).piece w.old) }
+{
+    if is_blank(&x.start) {
+        return Ok(());
+    }
+    let name = copied(w.alloc, &x.name)?;
+    w.act(Action::Reach { name })?;
+    let name = copied(w.alloc, &x.name)?;
+    w.set(0, Action::Static { name, ty: x.ty })?;
+    started(unit, &x.start, w)?;
+    let name = copied(w.alloc, &x.name)?;
+    w.act(Action::FinishStatic { name })
 }

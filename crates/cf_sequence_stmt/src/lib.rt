@@ -8,4 +8,5 @@ mod expressions;
 mod forms;
 
 pub use body::{Body, Open, Ways};
+pub use expressions::placed;
 pub use forms::{statement, statements};

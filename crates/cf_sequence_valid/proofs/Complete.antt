@@ -136,6 +136,7 @@ module _ (classes : List Class) where
       expression-starts (core.local i) ok = name-starts (slice_get scope.locals i)
       expression-starts (core.text j bytes) ok = place-starts (array (integer _) _)
       expression-starts (core.static_object name t) ok = name-starts (Some t)
+      expression-starts (core.function name t) ok = allowed-starts (is_function t) (of_place t) (place-starts t)
       expression-starts (core.read e) ok = read-starts (typing scope e).place
       expression-starts (core.address e) ok = address-starts (typing scope e).place
       expression-starts (core.dereference e) ok = pointed-starts (pointed (typing scope e).type)

@@ -1,29 +1,40 @@
 -- Files: what sequencing makes of a valid file of built functions is valid.
 use Rattle.std.proofs.Common.{◌≡◌, ◌+◌, Bool, true, false, ◌&&◌, ◌||◌, not, if◌then◌else◌, List, [], ◌∷◌, ◌++◌, map, length, length-append, append-nil, reverse, refl, sym, ap, ◌∙◌, subst}
-use Rattle.std.specs.Prelude.{Some, slice_get, bytes_eq, codes}
+use Rattle.std.specs.Prelude.{Some, None, slice_get, bytes_eq, codes, is_some}
 use Rattle.std.specs.List.{list_all, flat_map}
 use Rattle.std.proofs.lemmas.List.Concat.{flat_map-append}
 use Rattle.std.proofs.lemmas.List.{reverse-append}
 use Rattle.std.proofs.lemmas.List.Folds.{list_all-append}
 use Rattle.cf_base.proofs.Tests.{both, all_of}
-use Rattle.cf_core.specs.Types.{Name, SourceType, parameters, result, is_class}
+use Rattle.cf_core.specs.Types.{Name, SourceType, void, parameters, result, is_class}
 use Rattle.cf_core.specs.Classes.{Class}
 use Rattle.cf_core.specs.Core.{Core, Role, plain_function, Function, Static, CoreFile}
 use Rattle.cf_core.specs.Nodes.{nodes}
-use Rattle.cf_core.specs.Typing.{is_function}
+use Rattle.cf_core.specs.Joined.{is_nothing}
+use Rattle.cf_core.specs.Typing.{Scope, is_function}
+use Rattle.cf_core.specs.Typed.{typing}
 use Rattle.cf_core.specs.Valid as valid
 use Rattle.cf_core.specs.Valid.{Body, is_complete, all_differ, role_fits, class_of_role, result_fits, body_of, fits}
+use Rattle.cf_plain.specs.Plain as plain
 use Rattle.cf_plain.specs.Plain.{Plains, PlainFunction, PlainStatic, nothing}
 use Rattle.cf_plain.specs.Valid as checks
-use Rattle.cf_sequence.specs.Built.{is_built_file, is_built_function, is_body, is_plain_role, is_chain, is_none, is_statement}
+use Rattle.cf_sequence.specs.Built.{is_built_file, is_built_function, is_built_static, is_body, is_plain_role, is_chain, is_none, is_statement, is_value, has_mark}
 use Rattle.cf_sequence.specs.Made.{Local, makes, added, declared, numbered}
 use Rattle.cf_sequence.specs.Expressions.{finished}
-use Rattle.cf_sequence.specs.Sequenced.{inside, flowed_off, sequenced_body, sequenced_function, sequenced_static, sequenced_file}
+use Rattle.cf_sequence.specs.Statements.{type_of_static, initialised}
+use Rattle.cf_sequence.specs.Sequenced.{inside, outside, flowed_off, sequenced_body, sequenced_function, sequenced_start, sequenced_static, sequenced_file}
 use Rattle.cf_sequence.proofs.Calling.{never}
+use Rattle.cf_sequence.proofs.Constants.{constant-value, constant-start, something-constant, start-adds, start-is}
+use Rattle.cf_sequence.proofs.OwnNames.{is_own}
+use Rattle.cf_sequence_valid.proofs.Serves.{as_start, either-true}
 use Rattle.cf_sequence_valid.proofs.Fine.{Fine, fine-finished}
 use Rattle.cf_sequence_valid.proofs.Stands.{Stand, stand-behind, still-there, are_there, is_there, there-two, numbered-there}
 use Rattle.cf_sequence_valid.proofs.Values.{Kept}
-use Rattle.cf_sequence_valid.proofs.Statements.{Works, works}
+use Rattle.cf_sequence_valid.proofs.Statements.{Works, works, fine-started}
+
+or-right : (a b : Bool) → b ≡ true → a || b ≡ true
+or-right true b e = refl
+or-right false b e = e
 
 negated : (b : Bool) → not b ≡ true → b ≡ false
 negated true e = never e
@@ -122,23 +133,19 @@ module _ (file : CoreFile) where
         (all_of (is_function f.type && role_fits file.classes (class_of_role f.role)) (completes locals) two.0 all_complete) one.1)
         (plain-body locals file.classes f.role (sequenced_body file.classes file.statics f) plain_role body-fits)
 
-  abbrev is_good : Function → Bool
-  is_good f = is_built_function f && not f.is_local
-
   -- what is built of a function
-  good-parts : (f : Function) → is_good f ≡ true → (is_plain_role f.role ≡ true) × (is_body f ≡ true)
+  good-parts : (f : Function) → is_built_function f ≡ true → (is_plain_role f.role ≡ true) × (is_body f ≡ true)
   good-parts f ok =
       let start : Bool = not (bytes_eq f.name (codes "__main")) || is_none (parameters f.type) in
-      let one = both (is_built_function f) (not f.is_local) ok in
-      let two = both (is_plain_role f.role) (is_chain f.type && (start && is_body f)) one.0 in
+      let two = both (is_plain_role f.role) (is_chain f.type && (start && is_body f)) ok in
       let three = both (is_chain f.type) (start && is_body f) two.1 in
       (two.0, (both start (is_body f) three.1).1)
 
-  functions-fit : (fs : List Function) → list_all is_good fs ≡ true → list_all (valid.function_fits file) fs ≡ true
+  functions-fit : (fs : List Function) → list_all is_built_function fs ≡ true → list_all (valid.function_fits file) fs ≡ true
       → list_all (checks.function_fits (sequenced_file file)) (map (sequenced_function file.classes file.statics) fs) ≡ true
   functions-fit [] ok is = refl
   functions-fit (f ∷ fs) ok is =
-      let built = both (is_good f) (list_all is_good fs) ok in
+      let built = both (is_built_function f) (list_all is_built_function fs) ok in
       let parts = both (valid.function_fits file f) (list_all (valid.function_fits file) fs) is in
       let good = good-parts f built.0 in
       all_of (checks.function_fits (sequenced_file file) (sequenced_function file.classes file.statics f)) _
@@ -147,10 +154,10 @@ module _ (file : CoreFile) where
   abbrev function_nodes : List Function → List Core
   function_nodes fs = flat_map (λ (f : Function). nodes f.body) fs
 
-  functions-complete : (fs : List Function) → list_all is_good fs ≡ true → list_all (valid.function_fits file) fs ≡ true → completes (added (function_nodes fs)) ≡ true
+  functions-complete : (fs : List Function) → list_all is_built_function fs ≡ true → list_all (valid.function_fits file) fs ≡ true → completes (added (function_nodes fs)) ≡ true
   functions-complete [] ok is = refl
   functions-complete (f ∷ fs) ok is =
-      let built = both (is_good f) (list_all is_good fs) ok in
+      let built = both (is_built_function f) (list_all is_built_function fs) ok in
       let parts = both (valid.function_fits file f) (list_all (valid.function_fits file) fs) is in
       let good = good-parts f built.0 in
       ap completes (flat_map-append makes (nodes f.body) (function_nodes fs))
@@ -165,9 +172,54 @@ module _ (file : CoreFile) where
   same-objects [] = refl
   same-objects (x ∷ xs) = ap (λ l. x.name ∷ l) (same-objects xs)
 
-  statics-fit : (xs : List Static) → is_none xs ≡ true → list_all (checks.static_fits (sequenced_file file)) (map (sequenced_static file.classes file.statics) xs) ≡ true
-  statics-fit [] ok = refl
-  statics-fit (x ∷ xs) ok = never ok
+  -- Static objects: what sets one is valid, and adds no local.
+  module _ (x : Static) (built : is_built_static x ≡ true) (is : valid.static_fits file x ≡ true) where
+    abbrev outer : Scope
+    outer = record { classes = file.classes; statics = file.statics; locals = []; this = None }
+
+    abbrev alone : Body
+    alone = record { scope = outer; parameters = 0; result = void; is_main = false }
+
+    adds_none : added (nodes x.start) ≡ []
+    adds_none = start-adds x.start (constant-start x built)
+
+    abbrev starting : Bool
+    starting = (is_some x.owner && is_nothing x.start) || (typing outer x.start).start x.type
+
+    there : (is_complete file.classes x.type ≡ true) × (starting ≡ true)
+    there = both (is_complete file.classes x.type) starting (both (is_complete file.classes x.type && starting) (valid.owner_fits file x.owner) is).0
+
+    -- the initialiser of one that has some
+    start-typed : is_nothing x.start ≡ false → (typing outer x.start).start x.type ≡ true
+    start-typed there_is =
+        either-true (is_some x.owner && is_nothing x.start) ((typing outer x.start).start x.type) there.1
+        (λ none. never (sym there_is ∙ (both (is_some x.owner) (is_nothing x.start) none).1)) (λ ok. ok)
+
+    set-fits : (b : Bool) → is_nothing x.start ≡ b
+        → checks.all_fit [] false false (if b then nothing else initialised file.classes (type_of_static file.statics x.name) x.name x.start 0 nothing) ≡ true
+    set-fits true e = refl
+    set-fits false e =
+        let value = constant-value x.start (something-constant x.start (constant-start x built) e) in
+        Fine.fit
+        (fine-started alone [] (record { kept = λ i t at. absurd (cc) }) {b = false} {c = false} (outside file.classes file.statics) (type_of_static file.statics x.name) x.start
+        (or-right (is_nothing x.start) (is_value x.start) value) (λ v. as_start x.type (start-typed e)) 0 0 (subst (Stand [] 0) (sym adds_none) tt))
+        (plain.more (plain.act (plain.finish_static x.name)) nothing) refl
+
+    pub static-fits : checks.static_fits (sequenced_file file) (sequenced_static file.classes file.statics x) ≡ true
+    static-fits =
+        ap (λ (ls : List SourceType). is_complete file.classes x.type && completes ls && checks.all_fit ls false false (sequenced_start file.classes file.statics x)) adds_none
+        ∙ all_of (is_complete file.classes x.type && true) (checks.all_fit [] false false (sequenced_start file.classes file.statics x))
+        (all_of (is_complete file.classes x.type) true there.0 refl)
+        (ap (checks.all_fit [] false false) (start-is file.classes file.statics x built) ∙ set-fits (is_nothing x.start) refl)
+
+  statics-fit : (xs : List Static) → list_all is_own xs ≡ true → list_all (valid.static_fits file) xs ≡ true
+      → list_all (checks.static_fits (sequenced_file file)) (map (sequenced_static file.classes file.statics) xs) ≡ true
+  statics-fit [] ok is = refl
+  statics-fit (x ∷ xs) ok is =
+      let own = both (is_own x) (list_all is_own xs) ok in
+      let parts = both (valid.static_fits file x) (list_all (valid.static_fits file) xs) is in
+      all_of (checks.static_fits (sequenced_file file) (sequenced_static file.classes file.statics x)) _
+      (static-fits x (both (is_built_static x) (not (has_mark x.name)) own.0).0 parts.0) (statics-fit xs own.1 parts.1)
 
   -- the objects that are made for calls are of complete types
   pub file-complete : valid.valid_file file ≡ true → is_built_file file ≡ true → completes (added (function_nodes file.functions)) ≡ true
@@ -176,8 +228,8 @@ module _ (file : CoreFile) where
       let names : List Name = map (λ (f : Function). f.name) file.functions ++ map (λ (x : Static). x.name) file.statics in
       let functions_good : Bool = list_all (valid.function_fits file) file.functions in
       let one = both (classes_good && all_differ names && functions_good) (list_all (valid.static_fits file) file.statics) is in
-      let some = both (is_none file.classes) (is_none file.statics && list_all is_good file.functions) built in
-      functions-complete file.functions (both (is_none file.statics) (list_all is_good file.functions) some.1).1 (both (classes_good && all_differ names) functions_good one.0).1
+      let some = both (is_none file.classes) (list_all is_own file.statics && list_all is_built_function file.functions) built in
+      functions-complete file.functions (both (list_all is_own file.statics) (list_all is_built_function file.functions) some.1).1 (both (classes_good && all_differ names) functions_good one.0).1
 
   pub file-fits : valid.valid_file file ≡ true → is_built_file file ≡ true → checks.valid_file (sequenced_file file) ≡ true
   file-fits is built =
@@ -193,9 +245,9 @@ module _ (file : CoreFile) where
       let same : names_now ≡ names =
       ap (λ l. l ++ map (λ (x : PlainStatic). x.name) (map (sequenced_static file.classes file.statics) file.statics)) (same-names file.functions)
       ∙ ap (λ l. map (λ (f : Function). f.name) file.functions ++ l) (same-objects file.statics) in
-      let some = both (is_none file.classes) (is_none file.statics && list_all is_good file.functions) built in
-      let more = both (is_none file.statics) (list_all is_good file.functions) some.1 in
+      let some = both (is_none file.classes) (list_all is_own file.statics && list_all is_built_function file.functions) built in
+      let more = both (list_all is_own file.statics) (list_all is_built_function file.functions) some.1 in
       let functions_now : Bool = list_all (checks.function_fits (sequenced_file file)) (map (sequenced_function file.classes file.statics) file.functions) in
       all_of (classes_good && all_differ names_now && functions_now) (list_all (checks.static_fits (sequenced_file file)) (map (sequenced_static file.classes file.statics) file.statics))
       (all_of (classes_good && all_differ names_now) functions_now (all_of classes_good (all_differ names_now) three.0 (ap all_differ same ∙ three.1)) (functions-fit file.functions more.1 two.1))
-      (statics-fit file.statics more.0)
+      (statics-fit file.statics more.0 one.1)

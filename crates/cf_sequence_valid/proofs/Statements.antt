@@ -105,7 +105,7 @@ module _ (body : Body) (locals : List SourceType) (keeps : Kept body.scope local
       (fine-then locals (go m) (rest m) (p m) (q m)))
 
   -- an initialiser of a place
-  fine-started : {b c : Bool} (f : Inside) (t : SourceType) (e : Core) → is_start e ≡ true → (is_value e ≡ true → Serves (typing scope e)) → (n k : ℕ)
+  pub fine-started : {b c : Bool} (f : Inside) (t : SourceType) (e : Core) → is_start e ≡ true → (is_value e ≡ true → Serves (typing scope e)) → (n k : ℕ)
       → Stand locals k (added (nodes e)) → Fine locals b c (started f.classes t e n k)
   fine-started f t e ok s n k st =
       either-true (is_nothing e) (is_value e) ok

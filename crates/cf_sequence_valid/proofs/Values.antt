@@ -93,6 +93,7 @@ module _ (classes : List Class) (scope : Scope) (locals : List SourceType) (keep
     good-value (core.local i) ok s = record { complete = refl; code = λ b c x into n k st. fine-set locals n (plain.local i) (named-there i s) }
     good-value (core.text j bytes) ok s = record { complete = refl; code = λ b c x into n k st. fine-set locals n (plain.text j bytes) refl }
     good-value (core.static_object name t) ok s = record { complete = refl; code = λ b c x into n k st. fine-set locals n (plain.static_object name t) refl }
+    good-value (core.function name t) ok s = record { complete = refl; code = λ b c x into n k st. fine-set locals n (plain.function name t) refl }
     good-value (core.read e) ok s =
         let good = good-value e ok (by-place (typing scope e) (read_type scope) refl s) in
         record { complete = good.complete; code = λ b c x into n k st. one e good plain.read (λ n. refl) b c x n k st }

@@ -20,7 +20,7 @@ use Rattle.cf_sequence_expr.specs.Parameters.{parameters_at}
 use Rattle.cf_sequence_expr.specs.Pieces as pieces
 use Rattle.cf_sequence_expr.specs.Pieces.{Piece, piece, part_piece, piece_step}
 use Rattle.cf_sequence_written.proofs.Adding.{added-count}
-use Rattle.cf_sequence_written.proofs.Values.{Writes, WritesAll, writes-Number, writes-Text, writes-Local, writes-Static, writes-Read, writes-Address, writes-Dereference, writes-Decay, writes-Convert, writes-FromVoid, writes-Unary, writes-Not, writes-Index, writes-Operate, writes-PointerOperate, writes-Store, writes-And, writes-Or, writes-Conditional, writes-none, writes-more, writes-Comma, writes-Update, writes-Increment, writes-Blank}
+use Rattle.cf_sequence_written.proofs.Values.{Writes, WritesAll, writes-Number, writes-Text, writes-Local, writes-Static, writes-Function, writes-Read, writes-Address, writes-Dereference, writes-Decay, writes-Convert, writes-FromVoid, writes-Unary, writes-Not, writes-Index, writes-Operate, writes-PointerOperate, writes-Store, writes-And, writes-Or, writes-Conditional, writes-none, writes-more, writes-Comma, writes-Update, writes-Increment, writes-Blank}
 use Rattle.cf_sequence_written.proofs.Calls.{WritesArguments, arguments-none, arguments-more, writes-Call}
 
 pub is-false : (b : Bool) → not b ≡ true → b ≡ false
@@ -104,6 +104,7 @@ module _ (tables : Tables) (signature : MemberRef → Name) (classes : List Clas
   layer (Core-F.Text at j bytes) ok = writes-Text tables signature classes at j bytes
   layer (Core-F.Local at i) ok = writes-Local tables signature classes at i
   layer (Core-F.Static at n t) ok = writes-Static tables signature classes at n t
+  layer (Core-F.Function at n t) ok = writes-Function tables signature classes at n t
   layer (Core-F.Read at e) ok = writes-Read tables signature classes at (of_value e ok)
   layer (Core-F.Address at e) ok = writes-Address tables signature classes at (of_value e ok)
   layer (Core-F.Dereference at e) ok = writes-Dereference tables signature classes at (of_value e ok)

@@ -25,9 +25,10 @@ use Rattle.cf_sequence_stmt.specs.declared.body.Ways.{Ways}
 use Rattle.cf_sequence_stmt.specs.Steps.{Step, step, step_step, inside_loop}
 use Rattle.cf_sequence_stmt.specs.Steps as steps
 use Rattle.cf_sequence_stmt.proofs.Pieces.{same_piece}
-use Rattle.cf_sequence_fn.specs.Functions.{opens_from, begun, written_body, written_function}
+use Rattle.cf_sequence_fn.specs.Functions.{opens_from, begun, written_body, written_function, written_object}
 use Rattle.cf_sequence_written.proofs.Known.{is_known, KnownPiece, and-true}
 use Rattle.cf_sequence_written.proofs.KnownPieces.{known-piece}
+use Rattle.cf_sequence_written.proofs.Objects.{objects-known}
 use Rattle.cf_sequence_written.proofs.KnownSteps.{have_types, KnownBody, KnownStep, KnownSteps, no_step, one_step, known-left, known-closed, known-stated, known-declared, known-full, known-returned, known-loop, known-choice, known-selection}
 
 module _ (tables : Tables) (names : (i : ℕ) (v : Ty) → slice_get tables.types.types i ≡ Some v → Names tables.types.funs i (length tables.types.funs) v) where
@@ -177,3 +178,6 @@ module _ (tables : Tables) (names : (i : ℕ) (v : Ty) → slice_get tables.type
 
 pub file-known : (alloc : Global) (unit : CoreUnit) → IsValid unit → list_all (plain.function_known (tables_of unit)) (map (written_function unit.types alloc) unit.functions) ≡ true
 file-known alloc unit valid = functions-known (tables_of unit) valid.names alloc unit.functions valid.functions
+
+pub file-objects-known : (alloc : Global) (unit : CoreUnit) → IsValid unit → list_all (plain.static_known (tables_of unit)) (map (written_object unit.types alloc) unit.statics) ≡ true
+file-objects-known alloc unit valid = objects-known (tables_of unit) valid.names alloc unit.statics valid.statics

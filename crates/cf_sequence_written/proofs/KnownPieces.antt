@@ -111,7 +111,7 @@ module _ (tables : Tables) (names : (i : ℕ) (v : Ty) → slice_get tables.type
   layer (Core-F.This at) ok = silently (λ l good. good)
   layer (Core-F.Local at i) ok = record { value = λ n. alone n (action.Local i) refl; locals = λ l good. good }
   layer (Core-F.Static at name t) ok = record { value = λ n. alone n (action.Static name t) ok; locals = λ l good. good }
-  layer (Core-F.Function at name t) ok = silently (λ l good. good)
+  layer (Core-F.Function at name t) ok = record { value = λ n. alone n (action.Function name t) ok; locals = λ l good. good }
   layer (Core-F.DataPointer at i) ok = silently (λ l good. good)
   layer (Core-F.FunctionPointer at t) ok = silently (λ l good. good)
   layer (Core-F.Characters at bytes) ok = silently (λ l good. good)

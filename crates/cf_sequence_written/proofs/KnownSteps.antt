@@ -113,7 +113,7 @@ module _ (tables : Tables) where
   unfolding tested
   known-tested p b q ok = known-on b (keeps-truth tables (behind_flags 0 p) q) ok
 
-  keeps-started : (is_blank : Bool) (p : Piece) → KnownPiece tables p → Keeps tables (started is_blank p)
+  pub keeps-started : (is_blank : Bool) (p : Piece) → KnownPiece tables p → Keeps tables (started is_blank p)
   unfolding started
   keeps-started true p q = record { keeps = Keeps.keeps (q.value (behind_flags 1 p)) }
   keeps-started false p q = record { keeps = Keeps.keeps (keeps-then tables (q.value (behind_flags 1 p)) (keeps-act tables (action.First 0 (behind_flags 1 p)) refl)) }

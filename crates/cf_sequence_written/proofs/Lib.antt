@@ -14,6 +14,8 @@ pub mod Loops
 pub mod Stated
 pub mod Parameters
 pub mod Functions
+pub mod Constants
+pub mod Objects
 pub mod Units
 pub mod Meaning
 pub mod Tested

@@ -39,7 +39,7 @@ held-start : (e : Core) → is_start e ≡ true → held_by e ≡ []
 held-start core.blank ok = refl
 held-start e ok = held-none e ok
 
-nothing-builds : (e : Core) → is_start e ≡ true → is_nothing e ≡ builds e
+pub nothing-builds : (e : Core) → is_start e ≡ true → is_nothing e ≡ builds e
 nothing-builds core.blank ok = refl
 nothing-builds e ok = sym (gives-value e ok)
 
@@ -88,13 +88,16 @@ module _ (tables : Tables) (signature : MemberRef → Name) (params : (t : ℕ) 
   cores_of es = listed (map of_node (map node_of es))
 
   -- an expression of a statement, or an initialiser
-  operand : (e : Child) → is_start (of e) ≡ true → Whole tables signature (step_of e).piece (of e)
-  operand e ok = record {
+  pub operand_of : (n : Node) → is_start (of_node n) ≡ true → Whole tables signature (step tables.types n).piece (of_node n)
+  operand_of n ok = record {
     writes = λ classes.
-        subst (λ p. Writes tables signature classes p (of e)) (sym (same_piece tables.types e.0)) (written-start tables signature classes params e.0 ok);
-    count = ap (λ (p : Piece). length (p.locals [])) (same_piece tables.types e.0) ∙ added-count tables signature params e.0;
+        subst (λ p. Writes tables signature classes p (of_node n)) (sym (same_piece tables.types n)) (written-start tables signature classes params n ok);
+    count = ap (λ (p : Piece). length (p.locals [])) (same_piece tables.types n) ∙ added-count tables signature params n;
     start = ok;
   }
+
+  operand : (e : Child) → is_start (of e) ≡ true → Whole tables signature (step_of e).piece (of e)
+  operand e ok = operand_of e.0 ok
 
   operand_value : (e : Child) → is_value (of e) ≡ true → Whole tables signature (step_of e).piece (of e)
   operand_value e ok = operand e (value-start (of e) ok)

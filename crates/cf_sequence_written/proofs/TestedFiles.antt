@@ -1,6 +1,6 @@
 -- A file is built where the test finds nothing in it.
 use Rattle.std.proofs.Common.{◌≡◌, ℕ, suc, ◌==◌, Bool, true, false, not, ◌&&◌, ◌||◌, List, [], ◌∷◌, map, length, Option, Some, None, refl, ap, sym, ◌∙◌, arith}
-use Rattle.std.specs.Prelude.{is_some, bytes_eq, codes}
+use Rattle.std.specs.Prelude.{is_some, bytes_eq, codes, if◌then◌else◌}
 use Rattle.std.specs.List.{list_all}
 use Rattle.std.proofs.lemmas.Bool.{eqb-true}
 use Rattle.std.proofs.lemmas.List.{length-map}
@@ -10,14 +10,18 @@ use Rattle.cf_core.specs.declared.unit.CoreStatic.{CoreStatic}
 use Rattle.cf_core.specs.declared.unit.Role.{Role}
 use Rattle.cf_core.specs.declared.unit.Role.TheVariants as role
 use Rattle.cf_core.specs.Types.{SourceType, gives, parameters, is_class}
-use Rattle.cf_core.specs.Core.{Function}
+use Rattle.cf_core.specs.Core.{Function, Static}
+use Rattle.cf_core.specs.Joined.{is_nothing}
+use Rattle.cf_core.specs.Places.{is_reference}
 use Rattle.cf_core.specs.NodePlace.{place}
 use Rattle.cf_core.specs.FromTypes.{Tables, type_of, taking}
 use Rattle.cf_core.specs.FromClasses.{signature_of, classes_in}
 use Rattle.cf_core.specs.FromUnit.{Unit as CoreUnit, tables_of, file_of, function_of, static_of, role_of}
-use Rattle.cf_sequence.specs.Built.{is_statement, is_chain, is_plain_role, is_none, is_built_function, is_built_file}
-use Rattle.cf_sequence_built.specs.Unbuilt.{test, is_plain, takes_nothing, is_usual, in_function, in_functions, in_statics, in_file}
+use Rattle.cf_sequence.specs.Built.{is_statement, is_chain, is_plain_role, is_none, is_built_function, is_built_static, is_built_file, begins_mark, has_mark}
+use Rattle.cf_sequence_built.specs.Unbuilt as unbuilt
+use Rattle.cf_sequence_built.specs.Unbuilt.{test, is_plain, takes_nothing, is_usual, in_function, in_functions, is_constant, is_usual_object, in_static, in_statics, in_file}
 use Rattle.cf_sequence_written.proofs.Parameters.{parameters-taking, result-taking}
+use Rattle.cf_sequence_written.proofs.Constants.{constant-is}
 use Rattle.cf_sequence_written.proofs.Tested.{clear, and-is, where-true, Tests, tested}
 
 some-first : (n : ℕ) → (suc n == 0) ≡ false
@@ -36,14 +40,21 @@ chain-taking [] t c = refl
 chain-taking (p ∷ ps) t c = chain-taking ps t c
 
 -- the parts of the tests of a function, in either order
-parts-are : (p m c l s : Bool) → (p && (m && (c && l))) && s ≡ (p && (true && (m && (c && s)))) && l
-parts-are false m c l s = refl
-parts-are true false c l s = refl
-parts-are true true false l s = refl
-parts-are true true true true true = refl
-parts-are true true true true false = refl
-parts-are true true true false true = refl
-parts-are true true true false false = refl
+parts-are : (p m c s : Bool) → (p && (m && c)) && s ≡ p && (true && (m && (c && s)))
+parts-are false m c s = refl
+parts-are true false c s = refl
+parts-are true true false s = refl
+parts-are true true true s = refl
+
+-- those of a static object
+object-parts : (c r s l : Bool) → c && (r && (s && l)) ≡ (c && (r && s)) && l
+object-parts false r s l = refl
+object-parts true false s l = refl
+object-parts true true s l = refl
+
+where-false : (at : ℕ) (b : Bool) → clear (if b then None else Some at) ≡ b
+where-false at true = refl
+where-false at false = refl
 
 module _ (tables : Tables) where
   role-is : (r : Role) → is_plain r ≡ is_plain_role (role_of tables r)
@@ -52,10 +63,7 @@ module _ (tables : Tables) where
   role-is (role.Constructor c) = refl
   role-is (role.Destructor c) = refl
 
-  abbrev is_good : Function → Bool
-  is_good f = is_built_function f && not f.is_local
-
-  function-is : (f : CoreFn) → clear (in_function tables f) ≡ is_good (function_of tables f)
+  function-is : (f : CoreFn) → clear (in_function tables f) ≡ is_built_function (function_of tables f)
   function-is f =
       let F : Function = function_of tables f in
       let params : parameters F.type ≡ map (type_of tables) f.params = parameters-taking (map (type_of tables) f.params) (type_of tables f.result) false in
@@ -64,22 +72,39 @@ module _ (tables : Tables) where
       let body : Bool = is_statement (length (parameters F.type)) F.body in
       where-true (place f.body) (is_usual tables f) ((test tables f.body).statement (length f.params)) body
       (Tests.statement (tested tables (signature_of tables) f.body) (length f.params) ∙ ap (λ m. is_statement m F.body) count)
-      ∙ parts-are (is_plain f.role) (named || takes_nothing f) (not (is_class (type_of tables f.result))) (not f.is_local) body
-      ∙ ap (λ p. (p && (true && ((named || takes_nothing f) && (not (is_class (type_of tables f.result)) && body)))) && not f.is_local) (role-is f.role)
-      ∙ ap (λ k. (is_plain_role F.role && (k && ((named || takes_nothing f) && (not (is_class (type_of tables f.result)) && body)))) && not f.is_local)
+      ∙ parts-are (is_plain f.role) (named || takes_nothing f) (not (is_class (type_of tables f.result))) body
+      ∙ ap (λ p. p && (true && ((named || takes_nothing f) && (not (is_class (type_of tables f.result)) && body)))) (role-is f.role)
+      ∙ ap (λ k. is_plain_role F.role && (k && ((named || takes_nothing f) && (not (is_class (type_of tables f.result)) && body))))
       (sym (chain-taking (map (type_of tables) f.params) (type_of tables f.result) false))
-      ∙ ap (λ n. (is_plain_role F.role && (is_chain F.type && ((named || n) && (not (is_class (type_of tables f.result)) && body)))) && not f.is_local)
+      ∙ ap (λ n. is_plain_role F.role && (is_chain F.type && ((named || n) && (not (is_class (type_of tables f.result)) && body))))
       (none-mapped (type_of tables) f.params ∙ ap is_none (sym params))
-      ∙ ap (λ t. (is_plain_role F.role && (is_chain F.type && ((named || is_none (parameters F.type)) && (not (is_class t) && body)))) && not f.is_local)
+      ∙ ap (λ t. is_plain_role F.role && (is_chain F.type && ((named || is_none (parameters F.type)) && (not (is_class t) && body))))
       (sym (result-taking (map (type_of tables) f.params) (type_of tables f.result) false))
 
-  functions-are : (fs : List CoreFn) → clear (in_functions tables fs) ≡ list_all is_good (map (function_of tables) fs)
+  functions-are : (fs : List CoreFn) → clear (in_functions tables fs) ≡ list_all is_built_function (map (function_of tables) fs)
   functions-are [] = refl
   functions-are (f ∷ fs) = and-is (in_function tables f) (in_functions tables fs) _ _ (function-is f) (functions-are fs)
 
-  statics-are : (xs : List CoreStatic) → clear (in_statics xs) ≡ is_none (map (static_of tables) xs)
+  abbrev is_own : Static → Bool
+  is_own x = is_built_static x && not (has_mark x.name)
+
+  mark-is : (bytes : List ℕ) → unbuilt.has_mark bytes ≡ has_mark bytes
+  mark-is [] = refl
+  mark-is (b ∷ rest) = ap (λ v. begins_mark (b ∷ rest) || v) (mark-is rest)
+
+  object-is : (x : CoreStatic) → clear (in_static tables x) ≡ is_own (static_of tables x)
+  object-is x =
+      let X : Static = static_of tables x in
+      let no_reference : Bool = not (is_reference (type_of tables x.ty)) in
+      where-false (place x.start) (is_usual_object tables x)
+      ∙ ap (λ m. x.is_constant && (no_reference && (((test tables x.start).is_blank || is_constant x.start) && not m))) (mark-is x.name)
+      ∙ object-parts x.is_constant no_reference ((test tables x.start).is_blank || is_constant x.start) (not (has_mark x.name))
+      ∙ ap (λ b. (x.is_constant && (no_reference && (b || is_constant x.start))) && not (has_mark x.name)) (Tests.blank (tested tables (signature_of tables) x.start))
+      ∙ ap (λ b. (x.is_constant && (no_reference && (is_nothing X.start || b))) && not (has_mark x.name)) (constant-is tables (signature_of tables) x.start)
+
+  statics-are : (xs : List CoreStatic) → clear (in_statics tables xs) ≡ list_all is_own (map (static_of tables) xs)
   statics-are [] = refl
-  statics-are (x ∷ xs) = refl
+  statics-are (x ∷ xs) = and-is (in_static tables x) (in_statics tables xs) _ _ (object-is x) (statics-are xs)
 
   classes-are : (ds : List (ℕ × ClassDef)) → (length ds == 0) ≡ is_none (classes_in tables ds)
   classes-are [] = refl
@@ -88,9 +113,9 @@ module _ (tables : Tables) where
 file-clear : (unit : CoreUnit) → clear (in_file unit) ≡ is_built_file (file_of unit)
 file-clear unit =
     let tables = tables_of unit in
-    let good = and-is (in_statics unit.statics) (in_functions tables unit.functions) _ _ (statics-are tables unit.statics) (functions-are tables unit.functions) in
+    let good = and-is (in_statics tables unit.statics) (in_functions tables unit.functions) _ _ (statics-are tables unit.statics) (functions-are tables unit.functions) in
     where-true 0 (length unit.classes.defined == 0) _ _ good
-    ∙ ap (λ b. b && (is_none (file_of unit).statics && list_all (is_good tables) (file_of unit).functions)) (classes-are tables unit.classes.defined)
+    ∙ ap (λ b. b && (list_all (is_own tables) (file_of unit).statics && list_all is_built_function (file_of unit).functions)) (classes-are tables unit.classes.defined)
 
 found : (o : Option ℕ) → is_some o ≡ not (clear o)
 found None = refl

@@ -80,6 +80,9 @@ module _ (tables : Tables) (signature : MemberRef → Name) (classes : List Clas
   pub writes-Static : (at : ℕ) (name : Name) (t : ℕ) → Writes (piece_step tables.types (Core-F.Static at name t)) (core.static_object name (type_of tables t))
   writes-Static at name t = record { puts = λ x into n. sets-alone n (action.Static name t) }
 
+  pub writes-Function : (at : ℕ) (name : Name) (t : ℕ) → Writes (piece_step tables.types (Core-F.Function at name t)) (core.function name (type_of tables t))
+  writes-Function at name t = record { puts = λ x into n. sets-alone n (action.Function name t) }
+
   pub writes-Read : {p : Piece} {e : Core} (at : ℕ) → Writes p e → Writes (piece_step tables.types (Core-F.Read at p)) (core.read e)
   writes-Read at w = record { puts = λ x into n. sets-behind n (action.Read n) (w.puts x None n) }
 

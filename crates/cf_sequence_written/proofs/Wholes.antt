@@ -82,7 +82,7 @@ module _ (tables : Tables) (signature : MemberRef → Name) where
 
   -- Initialisers.
 
-  puts-started : {p : Piece} {e : Core} (classes : List Class) (t : ℕ) (is_blank : Bool) → is_blank ≡ builds e → Whole p e
+  pub puts-started : {p : Piece} {e : Core} (classes : List Class) (t : ℕ) (is_blank : Bool) → is_blank ≡ builds e → Whole p e
       → Puts tables signature (started is_blank p) (λ k rest. definition.started classes (type_of tables t) e 0 k rest) (width e)
   unfolding started
   puts-started {p} {e} classes t true blank w =

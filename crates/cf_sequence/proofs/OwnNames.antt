@@ -1,0 +1,248 @@
+-- The names of what is local to a file are replaced alike in its core and in its plain statements.
+use Rattle.std.proofs.Common.{◌≡◌, ℕ, ◌+◌, Bool, true, false, not, ◌&&◌, ◌||◌, cond, if◌then◌else◌, List, [], ◌∷◌, ◌++◌, map, filter, length, refl, sym, ◌∙◌, ap}
+use Rattle.std.specs.Prelude.{Option, Some, find, bytes_eq, codes, decimal, option_map, reverse}
+use Rattle.std.specs.List.{list_all, list_any}
+use Rattle.std.proofs.lemmas.List.{append_cancel_right}
+use Rattle.cf_base.proofs.Tests.{both, all_of, same_bytes, bytes_same}
+use Rattle.cf_core.specs.Types.{Name, SourceType, parameters, result, is_class}
+use Rattle.cf_core.specs.Core.{Function, Static, CoreFile}
+use Rattle.cf_core.specs.Places.{is_reference}
+use Rattle.cf_core.specs.Joined as core
+use Rattle.cf_core.specs.Joined.{renamed, is_nothing}
+use Rattle.cf_plain.specs.Plain.{Plains, PlainFunction, PlainStatic, PlainFile, act, set, nothing, more}
+use Rattle.cf_plain.specs.Plain as plain_tree
+use Rattle.cf_plain.specs.Joined as plain
+use Rattle.cf_sequence.specs.Built.{is_statement, is_value, is_built_function, is_body, is_plain_role, is_chain, is_none, is_built_static, begins_mark, has_mark}
+use Rattle.cf_sequence.specs.Made.{declared, numbered}
+use Rattle.cf_sequence.specs.Expressions.{finished}
+use Rattle.cf_sequence.specs.Statements.{type_of_static, initialised, statement}
+use Rattle.cf_sequence.specs.Sequenced.{inside, flowed_off, sequenced_body, sequenced_function, sequenced_file}
+use Rattle.cf_sequence.proofs.Calling.{never}
+use Rattle.cf_sequence.proofs.StaticObjects.{type_found}
+use Rattle.cf_sequence.proofs.Constants.{set_as, start-is, constant-start, something-constant, constant-value}
+use Rattle.cf_sequence.proofs.JoinedObjects.{beside}
+use Rattle.cf_sequence.proofs.Renamed.{same-adds, same-nothing, same-declared, same-statement, same-constant-start}
+use Rattle.cf_sequence.proofs.RenamedCode.{over-finished, over-started, over-statement}
+use Rattle.cf_sequence.proofs.SameStatics.{same-function}
+use Rattle.cf_sequence.proofs.Whole.{built-parts}
+
+-- ---- names
+
+abbrev mark : List ℕ
+mark = codes "__u"
+
+mark-or : (a : Bool) → a || true ≡ true
+mark-or true = refl
+mark-or false = refl
+
+-- a name that joining makes has a mark
+marked : (n rest : Name) → has_mark (n ++ mark ++ rest) ≡ true
+marked [] rest = refl
+marked (b ∷ n) rest = ap (λ v. begins_mark (b ∷ (n ++ mark ++ rest)) || v) (marked n rest) ∙ mark-or (begins_mark (b ∷ (n ++ mark ++ rest)))
+
+-- it is not that of `main`
+not-main : (k : ℕ) (n : Name) → bytes_eq (core.in_file k n) (codes "__main") ≡ false
+not-main k n = by n (bytes_eq (core.in_file k n) (codes "__main")) refl
+  where
+    by : (n : Name) (b : Bool) → bytes_eq (core.in_file k n) (codes "__main") ≡ b → b ≡ false
+    by n true e = sym (marked n (decimal k)) ∙ ap has_mark (same_bytes (core.in_file k n) (codes "__main") e)
+    by n false e = refl
+
+abbrev pub is_own : Static → Bool
+is_own x = is_built_static x && not (has_mark x.name)
+
+module _ (k : ℕ) (names : List Name) where
+  abbrev r : Name → Name
+  r = core.name_in k names
+
+  -- names without a mark stay different
+  same-name : (a b : Name) → not (has_mark a) ≡ true → not (has_mark b) ≡ true → r a ≡ r b → a ≡ b
+  same-name a b plain_a plain_b = by (list_any (bytes_eq a) names) (list_any (bytes_eq b) names)
+    where
+      by : (u v : Bool) → (if u then core.in_file k a else a) ≡ (if v then core.in_file k b else b) → a ≡ b
+      by true true e = append_cancel_right a b mark (append_cancel_right (a ++ mark) (b ++ mark) (decimal k) e)
+      by true false e = never (sym (ap not (sym (ap has_mark e) ∙ marked a (decimal k))) ∙ plain_b)
+      by false true e = never (sym (ap not (ap has_mark e ∙ marked b (decimal k))) ∙ plain_a)
+      by false false e = e
+
+  same-test : (a b : Name) → not (has_mark a) ≡ true → not (has_mark b) ≡ true → bytes_eq (r a) (r b) ≡ bytes_eq a b
+  same-test a b plain_a plain_b = by (bytes_eq a b) (bytes_eq (r a) (r b)) refl refl
+    where
+      by : (u v : Bool) → bytes_eq a b ≡ u → bytes_eq (r a) (r b) ≡ v → v ≡ u
+      by true v e f = sym f ∙ bytes_same (r a) (r b) (ap r (same_bytes a b e))
+      by false true e f = sym (bytes_same a b (same-name a b plain_a plain_b (same_bytes (r a) (r b) f))) ∙ e
+      by false false e f = refl
+
+  -- the type of a name stays
+  same-type : (xs : List Static) → list_all is_own xs ≡ true → (n : Name) → not (has_mark n) ≡ true → type_of_static (map (core.static_in_file r) xs) (r n) ≡ type_of_static xs n
+  same-type [] ok n plain_n = refl
+  same-type (x ∷ xs) ok n plain_n =
+      let parts = both (is_own x) (list_all is_own xs) ok in
+      ap (λ b. type_found (cond b (Some (core.static_in_file r x)) (find (λ (y : Static). bytes_eq y.name (r n)) (map (core.static_in_file r) xs))))
+      (same-test x.name n (both (is_built_static x) (not (has_mark x.name)) parts.0).1 plain_n)
+      ∙ by (bytes_eq x.name n) (same-type xs parts.1 n plain_n)
+    where
+      others : Option Static
+      others = find (λ (y : Static). bytes_eq y.name (r n)) (map (core.static_in_file r) xs)
+
+      by : (b : Bool) → type_found others ≡ type_of_static xs n → type_found (cond b (Some (core.static_in_file r x)) others) ≡ type_found (cond b (Some x) (find (λ (y : Static). bytes_eq y.name n) xs))
+      by true e = refl
+      by false e = e
+
+  -- ---- functions
+
+  abbrev plain_function_in_file : PlainFunction → PlainFunction
+  plain_function_in_file f = record f { name = r f.name; body = plain.renamed_all r f.body }
+
+  over-flowed : (f : Function) → plain.renamed_all r (flowed_off f) ≡ flowed_off f
+  over-flowed f = by (is_class (result f.type))
+    where
+      ends : Plains
+      ends = finished (reverse (numbered 0 (parameters f.type))) nothing
+
+      by : (b : Bool) → plain.renamed_all r (if b then nothing else ends) ≡ (if b then nothing else ends)
+      by true = refl
+      by false = over-finished r (reverse (numbered 0 (parameters f.type))) nothing
+
+  over-body : (f : Function) → is_built_function f ≡ true → plain.renamed_all r (sequenced_body [] [] f) ≡ sequenced_body [] [] (core.function_in_file r f)
+  over-body f ok =
+      let parts = built-parts f ok in
+      let j : ℕ = length (parameters f.type) + length f.locals in
+      over-statement r f.body (length (parameters f.type)) parts.statement (inside [] [] f) parts.scalar j (finished (declared f.body) (flowed_off f))
+      ∙ ap (statement (inside [] [] f) (renamed r f.body) j)
+      (over-finished r (declared f.body) (flowed_off f) ∙ ap (finished (declared f.body)) (over-flowed f) ∙ ap (λ xs. finished xs (flowed_off f)) (sym (same-declared r f.body)))
+
+  over-function : (f : Function) → is_built_function f ≡ true → plain_function_in_file (sequenced_function [] [] f) ≡ sequenced_function [] [] (core.function_in_file r f)
+  over-function f ok =
+      ap (λ ss. let g : PlainFunction = record (sequenced_function [] [] f) { name = r f.name; body = ss } in g) (over-body f ok)
+      ∙ ap (λ (ls : List SourceType). let g : PlainFunction = record (sequenced_function [] [] (core.function_in_file r f)) { locals = f.locals ++ ls } in g) (sym (same-adds r f.body))
+
+  main-stays : (f : Function) → (not (bytes_eq f.name (codes "__main")) || is_none (parameters f.type)) ≡ true → (not (bytes_eq (r f.name) (codes "__main")) || is_none (parameters f.type)) ≡ true
+  main-stays f ok = by (list_any (bytes_eq f.name) names)
+    where
+      by : (b : Bool) → (not (bytes_eq (if b then core.in_file k f.name else f.name) (codes "__main")) || is_none (parameters f.type)) ≡ true
+      by true = ap (λ v. not v || is_none (parameters f.type)) (not-main k f.name)
+      by false = ok
+
+  own-function : (f : Function) → is_built_function f ≡ true → is_built_function (core.function_in_file r f) ≡ true
+  own-function f ok =
+      let main_ok : Bool = not (bytes_eq f.name (codes "__main")) || is_none (parameters f.type) in
+      let main_own : Bool = not (bytes_eq (r f.name) (codes "__main")) || is_none (parameters f.type) in
+      let plain_result : Bool = not (is_class (result f.type)) in
+      let stated : Bool = is_statement (length (parameters f.type)) (renamed r f.body) in
+      let one = both (is_plain_role f.role) (is_chain f.type && (main_ok && is_body f)) ok in
+      let two = both (is_chain f.type) (main_ok && is_body f) one.1 in
+      let three = both main_ok (is_body f) two.1 in
+      let four = both plain_result (is_statement (length (parameters f.type)) f.body) three.1 in
+      all_of (is_plain_role f.role) (is_chain f.type && (main_own && (plain_result && stated))) one.0
+      (all_of (is_chain f.type) (main_own && (plain_result && stated)) two.0
+      (all_of main_own (plain_result && stated) (main-stays f three.0)
+      (all_of plain_result stated four.0 (same-statement r (length (parameters f.type)) f.body ∙ four.1))))
+
+  pub own-functions : (gs : List Function) → list_all is_built_function gs ≡ true → list_all is_built_function (map (core.function_in_file r) gs) ≡ true
+  own-functions [] ok = refl
+  own-functions (f ∷ gs) ok =
+      let parts = both (is_built_function f) (list_all is_built_function gs) ok in
+      all_of (is_built_function (core.function_in_file r f)) (list_all is_built_function (map (core.function_in_file r) gs)) (own-function f parts.0) (own-functions gs parts.1)
+
+  over-functions : (ys zs : List Static) (gs : List Function) → list_all is_built_function gs ≡ true
+      → map plain_function_in_file (map (sequenced_function [] ys) gs) ≡ map (sequenced_function [] zs) (map (core.function_in_file r) gs)
+  over-functions ys zs [] ok = refl
+  over-functions ys zs (f ∷ gs) ok =
+      let parts = both (is_built_function f) (list_all is_built_function gs) ok in
+      ap (λ (g : PlainFunction). g ∷ map plain_function_in_file (map (sequenced_function [] ys) gs))
+      (ap plain_function_in_file (same-function ys f parts.0) ∙ over-function f parts.0 ∙ sym (same-function zs (core.function_in_file r f) (own-function f parts.0)))
+      ∙ ap (λ (hs : List PlainFunction). sequenced_function [] zs (core.function_in_file r f) ∷ hs) (over-functions ys zs gs parts.1)
+
+  -- ---- static objects
+
+  abbrev plain_static_in_file : PlainStatic → PlainStatic
+  plain_static_in_file x = record x { name = r x.name; start = plain.renamed_all r x.start; owner = option_map r x.owner }
+
+  pub own-object : (x : Static) → is_built_static x ≡ true → is_built_static (core.static_in_file r x) ≡ true
+  own-object x ok = ap (λ b. x.is_constant && (not (is_reference x.type) && b)) (same-constant-start r x.start) ∙ ok
+
+  pub own-objects : (xs : List Static) → list_all is_own xs ≡ true → list_all is_built_static (map (core.static_in_file r) xs) ≡ true
+  own-objects [] ok = refl
+  own-objects (x ∷ xs) ok =
+      let parts = both (is_own x) (list_all is_own xs) ok in
+      all_of (is_built_static (core.static_in_file r x)) (list_all is_built_static (map (core.static_in_file r) xs))
+      (own-object x (both (is_built_static x) (not (has_mark x.name)) parts.0).0) (own-objects xs parts.1)
+
+  over-set : (x : Static) → is_built_static x ≡ true → (t : SourceType) → plain.renamed_all r (set_as [] x t) ≡ set_as [] (core.static_in_file r x) t
+  over-set x ok t = by (is_nothing x.start) refl ∙ ap (λ b. if b then nothing else initialised [] t (r x.name) (renamed r x.start) 0 nothing) (sym (same-nothing r x.start))
+    where
+      by : (b : Bool) → is_nothing x.start ≡ b
+          → plain.renamed_all r (if b then nothing else initialised [] t x.name x.start 0 nothing) ≡ (if b then nothing else initialised [] t (r x.name) (renamed r x.start) 0 nothing)
+      by true e = refl
+      by false e =
+          let value = constant-value x.start (something-constant x.start (constant-start x ok) e) in
+          ap (λ ss. more (act (plain_tree.reach (r x.name))) (more (set 0 (plain_tree.static_object (r x.name) t)) ss))
+          (over-started r [] t x.start (ap (λ b. b || is_value x.start) e ∙ value) 0 0 (more (act (plain_tree.finish_static x.name)) nothing))
+
+  over-object : (ys : List Static) → list_all is_own ys ≡ true → (x : Static) → is_own x ≡ true → plain_static_in_file (beside ys x) ≡ beside (map (core.static_in_file r) ys) (core.static_in_file r x)
+  over-object ys all x ok =
+      let zs = map (core.static_in_file r) ys in
+      let y = core.static_in_file r x in
+      let parts = both (is_built_static x) (not (has_mark x.name)) ok in
+      ap (λ ss. let z : PlainStatic = record (plain_static_in_file (beside ys x)) { start = ss } in z)
+      (ap (plain.renamed_all r) (start-is [] ys x parts.0) ∙ over-set x parts.0 (type_of_static ys x.name)
+      ∙ ap (set_as [] y) (sym (same-type ys all x.name parts.1)) ∙ sym (start-is [] zs y (own-object x parts.0)))
+      ∙ ap (λ (ls : List SourceType). let z : PlainStatic = record (beside zs y) { locals = ls } in z) (sym (same-adds r x.start))
+
+  over-objects : (ys : List Static) → list_all is_own ys ≡ true → (xs : List Static) → list_all is_own xs ≡ true
+      → map plain_static_in_file (map (beside ys) xs) ≡ map (beside (map (core.static_in_file r) ys)) (map (core.static_in_file r) xs)
+  over-objects ys all [] ok = refl
+  over-objects ys all (x ∷ xs) ok =
+      let parts = both (is_own x) (list_all is_own xs) ok in
+      ap (λ (y : PlainStatic). y ∷ map plain_static_in_file (map (beside ys) xs)) (over-object ys all x parts.0)
+      ∙ ap (λ (zs : List PlainStatic). beside (map (core.static_in_file r) ys) (core.static_in_file r x) ∷ zs) (over-objects ys all xs parts.1)
+
+-- ---- the names that are local
+
+local-functions : (ys : List Static) (gs : List Function)
+    → map (λ (f : PlainFunction). f.name) (filter (λ (f : PlainFunction). f.is_local) (map (sequenced_function [] ys) gs)) ≡ map (λ (f : Function). f.name) (filter (λ (f : Function). f.is_local) gs)
+local-functions ys [] = refl
+local-functions ys (f ∷ gs) = by f.is_local (local-functions ys gs)
+  where
+    others : List PlainFunction
+    others = filter (λ (f : PlainFunction). f.is_local) (map (sequenced_function [] ys) gs)
+
+    by : (b : Bool) → map (λ (f : PlainFunction). f.name) others ≡ map (λ (f : Function). f.name) (filter (λ (f : Function). f.is_local) gs)
+        → map (λ (f : PlainFunction). f.name) (cond b (sequenced_function [] ys f ∷ others) others) ≡ map (λ (f : Function). f.name) (cond b (f ∷ filter (λ (f : Function). f.is_local) gs) (filter (λ (f : Function). f.is_local) gs))
+    by true e = ap (λ (ns : List Name). f.name ∷ ns) e
+    by false e = e
+
+local-objects : (ys xs : List Static)
+    → map (λ (x : PlainStatic). x.name) (filter (λ (x : PlainStatic). x.is_local) (map (beside ys) xs)) ≡ map (λ (x : Static). x.name) (filter (λ (x : Static). x.is_local) xs)
+local-objects ys [] = refl
+local-objects ys (x ∷ xs) = by x.is_local (local-objects ys xs)
+  where
+    others : List PlainStatic
+    others = filter (λ (x : PlainStatic). x.is_local) (map (beside ys) xs)
+
+    by : (b : Bool) → map (λ (x : PlainStatic). x.name) others ≡ map (λ (x : Static). x.name) (filter (λ (x : Static). x.is_local) xs)
+        → map (λ (x : PlainStatic). x.name) (cond b (beside ys x ∷ others) others) ≡ map (λ (x : Static). x.name) (cond b (x ∷ filter (λ (x : Static). x.is_local) xs) (filter (λ (x : Static). x.is_local) xs))
+    by true e = ap (λ (ns : List Name). x.name ∷ ns) e
+    by false e = e
+
+-- ---- files
+
+abbrev pub in_file : List Static → List Function → CoreFile
+in_file xs gs = record { classes = []; functions = gs; statics = xs }
+
+pub own-is : (k : ℕ) (ys : List Static) (gs : List Function) → list_all is_own ys ≡ true → list_all is_built_function gs ≡ true
+    → plain.own_names k (sequenced_file (in_file ys gs)) ≡ sequenced_file (core.own_names k (in_file ys gs))
+own-is k ys gs own ok =
+    let names = core.local_names (in_file ys gs) in
+    let with_names : List Name → PlainFile = λ ns. record {
+      classes = [];
+      functions = map (plain_function_in_file k ns) (map (sequenced_function [] ys) gs);
+      statics = map (plain_static_in_file k ns) (map (beside ys) ys);
+    } in
+    let zs = map (core.static_in_file (core.name_in k names)) ys in
+    ap (λ ns. with_names (ns ++ map (λ (x : PlainStatic). x.name) (filter (λ (x : PlainStatic). x.is_local) (map (beside ys) ys)))) (local-functions ys gs)
+    ∙ ap (λ ns. with_names (map (λ (f : Function). f.name) (filter (λ (f : Function). f.is_local) gs) ++ ns)) (local-objects ys ys)
+    ∙ ap (λ (fs : List PlainFunction). let x : PlainFile = record { classes = []; functions = fs; statics = map (plain_static_in_file k names) (map (beside ys) ys) } in x) (over-functions k names ys zs gs ok)
+    ∙ ap (λ (us : List PlainStatic). let x : PlainFile = record { classes = []; functions = map (sequenced_function [] zs) (map (core.function_in_file (core.name_in k names)) gs); statics = us } in x)
+    (over-objects k names ys own ys own)

@@ -1,0 +1,270 @@
+-- Cores whose names are replaced: what they are built of, and the locals that they add and declare, stay.
+use Rattle.std.proofs.Common.{◌≡◌, ℕ, Bool, not, ◌&&◌, ◌||◌, nat_le, List, ◌∷◌, ◌++◌, length, refl, sym, ◌∙◌, ap}
+use Rattle.std.proofs.lemmas.Grind.{flat_map-append}
+use Rattle.cf_core.specs.Types.{Name, parameters, result, is_class}
+use Rattle.cf_core.specs.Core as core
+use Rattle.cf_core.specs.Core.{Core, Cores, MaybeCore, Parts, Holder, no_temporary, local_temporary, static_temporary, none, absent, given, no_parts, part}
+use Rattle.cf_core.specs.Nodes.{nodes, nodes_all, nodes_maybe, nodes_parts}
+use Rattle.cf_core.specs.Joined.{renamed, renamed_all, renamed_maybe, renamed_parts, is_nothing}
+use Rattle.cf_core.specs.Valid.{is_label}
+use Rattle.cf_sequence.specs.Built.{is_chain, is_value, are_values, are_arguments, is_condition, is_start, next_local, next_locals, declares_here, is_statement, is_inner_or, are_cases, are_statements, is_constant_value, is_constant_start}
+use Rattle.cf_sequence.specs.Made.{Local, added, makes, width, width_maybe, declared, declared_all, held_by}
+use Rattle.cf_sequence.specs.Expressions.{builds}
+
+-- ---- tests of parts
+
+two-same : (a b c d : Bool) → a ≡ c → b ≡ d → a && b ≡ c && d
+two-same a b c d p q = ap (λ x. x && b) p ∙ ap (λ x. c && x) q
+
+module _ (r : Name → Name) where
+  -- ---- locals that are added
+
+  both-add : (xs ys us vs : List Core) → added us ≡ added xs → added vs ≡ added ys → added (us ++ vs) ≡ added (xs ++ ys)
+  both-add xs ys us vs p q = flat_map-append makes us vs ∙ ap (λ l. l ++ added vs) p ∙ ap (λ l. added xs ++ l) q ∙ sym (flat_map-append makes xs ys)
+
+  mutual
+    pub same-adds : (e : Core) → added (nodes (renamed r e)) ≡ added (nodes e)
+    same-adds (core.number z) = refl
+    same-adds (core.text j bytes) = refl
+    same-adds core.this = refl
+    same-adds (core.local i) = refl
+    same-adds (core.static_object n t) = refl
+    same-adds (core.function n t) = refl
+    same-adds (core.data_pointer i) = refl
+    same-adds (core.function_pointer t) = refl
+    same-adds (core.string bytes) = refl
+    same-adds core.zeros = refl
+    same-adds core.blank = refl
+    same-adds (core.case_label z) = refl
+    same-adds core.default_label = refl
+    same-adds core.leave = refl
+    same-adds core.continue = refl
+    same-adds (core.member e i) = same-adds e
+    same-adds (core.read e) = same-adds e
+    same-adds (core.address e) = same-adds e
+    same-adds (core.dereference e) = same-adds e
+    same-adds (core.decay e) = same-adds e
+    same-adds (core.convert t e) = same-adds e
+    same-adds (core.up path e) = same-adds e
+    same-adds (core.down c path e) = same-adds e
+    same-adds (core.from_void t e) = same-adds e
+    same-adds (core.to_member path e) = same-adds e
+    same-adds (core.unary op k e) = same-adds e
+    same-adds (core.logical_not e) = same-adds e
+    same-adds (core.step is_postfix change e) = same-adds e
+    same-adds (core.new t e) = same-adds e
+    same-adds (core.delete t e) = same-adds e
+    same-adds (core.delete_array t e) = same-adds e
+    same-adds (core.each e) = same-adds e
+    same-adds (core.bind h e) = same-adds e
+    same-adds (core.full e) = same-adds e
+    same-adds (core.declare i t e) = same-adds e
+    same-adds (core.once n e) = same-adds e
+    same-adds (core.index a b) = both-add (nodes a) (nodes b) (nodes (renamed r a)) (nodes (renamed r b)) (same-adds a) (same-adds b)
+    same-adds (core.through a b) = both-add (nodes a) (nodes b) (nodes (renamed r a)) (nodes (renamed r b)) (same-adds a) (same-adds b)
+    same-adds (core.operate op k a b) = both-add (nodes a) (nodes b) (nodes (renamed r a)) (nodes (renamed r b)) (same-adds a) (same-adds b)
+    same-adds (core.logical_and a b) = both-add (nodes a) (nodes b) (nodes (renamed r a)) (nodes (renamed r b)) (same-adds a) (same-adds b)
+    same-adds (core.logical_or a b) = both-add (nodes a) (nodes b) (nodes (renamed r a)) (nodes (renamed r b)) (same-adds a) (same-adds b)
+    same-adds (core.pointer_operate op a b) = both-add (nodes a) (nodes b) (nodes (renamed r a)) (nodes (renamed r b)) (same-adds a) (same-adds b)
+    same-adds (core.store a b) = both-add (nodes a) (nodes b) (nodes (renamed r a)) (nodes (renamed r b)) (same-adds a) (same-adds b)
+    same-adds (core.update a change b) = both-add (nodes a) (nodes b) (nodes (renamed r a)) (nodes (renamed r b)) (same-adds a) (same-adds b)
+    same-adds (core.new_array t a b) = both-add (nodes a) (nodes b) (nodes (renamed r a)) (nodes (renamed r b)) (same-adds a) (same-adds b)
+    same-adds (core.comma es) = same-adds-all es
+    same-adds (core.block es) = same-adds-all es
+    same-adds (core.sequence es) = same-adds-all es
+    same-adds (core.conditional c a b) =
+        both-add (nodes c ++ nodes a) (nodes b) (nodes (renamed r c) ++ nodes (renamed r a)) (nodes (renamed r b))
+        (both-add (nodes c) (nodes a) (nodes (renamed r c)) (nodes (renamed r a)) (same-adds c) (same-adds a)) (same-adds b)
+    same-adds (core.assign t a b es) =
+        both-add (nodes a ++ nodes b) (nodes_all es) (nodes (renamed r a) ++ nodes (renamed r b)) (nodes_all (renamed_all r es))
+        (both-add (nodes a) (nodes b) (nodes (renamed r a)) (nodes (renamed r b)) (same-adds a) (same-adds b)) (same-adds-all es)
+    same-adds (core.temporary t e) = ap (λ l. t ∷ l) (same-adds e)
+    same-adds (core.call n t object es) =
+        ap (λ l. parameters t ++ l)
+        (both-add (nodes_maybe object) (nodes_all es) (nodes_maybe (renamed_maybe r object)) (nodes_all (renamed_all r es)) (same-adds-maybe object) (same-adds-all es))
+    same-adds (core.virtual_call f t e es) =
+        ap (λ l. parameters t ++ l) (both-add (nodes e) (nodes_all es) (nodes (renamed r e)) (nodes_all (renamed_all r es)) (same-adds e) (same-adds-all es))
+    same-adds (core.pointer_call object e t es) =
+        ap (λ l. parameters t ++ l)
+        (both-add (nodes_maybe object ++ nodes e) (nodes_all es) (nodes_maybe (renamed_maybe r object) ++ nodes (renamed r e)) (nodes_all (renamed_all r es))
+        (both-add (nodes_maybe object) (nodes e) (nodes_maybe (renamed_maybe r object)) (nodes (renamed r e)) (same-adds-maybe object) (same-adds e)) (same-adds-all es))
+    same-adds (core.build n t es) = ap (λ l. parameters t ++ l) (same-adds-all es)
+    same-adds (core.copy t e es) = both-add (nodes e) (nodes_all es) (nodes (renamed r e)) (nodes_all (renamed_all r es)) (same-adds e) (same-adds-all es)
+    same-adds (core.list es rest) = both-add (nodes_all es) (nodes rest) (nodes_all (renamed_all r es)) (nodes (renamed r rest)) (same-adds-all es) (same-adds rest)
+    same-adds (core.branch c a b) =
+        both-add (nodes c ++ nodes a) (nodes_maybe b) (nodes (renamed r c) ++ nodes (renamed r a)) (nodes_maybe (renamed_maybe r b))
+        (both-add (nodes c) (nodes a) (nodes (renamed r c)) (nodes (renamed r a)) (same-adds c) (same-adds a)) (same-adds-maybe b)
+    same-adds (core.loop f c e s) =
+        both-add (nodes_maybe c ++ nodes_maybe e) (nodes s) (nodes_maybe (renamed_maybe r c) ++ nodes_maybe (renamed_maybe r e)) (nodes (renamed r s))
+        (both-add (nodes_maybe c) (nodes_maybe e) (nodes_maybe (renamed_maybe r c)) (nodes_maybe (renamed_maybe r e)) (same-adds-maybe c) (same-adds-maybe e)) (same-adds s)
+    same-adds (core.switch e es) = both-add (nodes e) (nodes_all es) (nodes (renamed r e)) (nodes_all (renamed_all r es)) (same-adds e) (same-adds-all es)
+    same-adds (core.give e) = same-adds-maybe e
+    same-adds (core.parts ps s) = both-add (nodes_parts ps) (nodes s) (nodes_parts (renamed_parts r ps)) (nodes (renamed r s)) (same-adds-parts ps) (same-adds s)
+
+    same-adds-all : (es : Cores) → added (nodes_all (renamed_all r es)) ≡ added (nodes_all es)
+    same-adds-all none = refl
+    same-adds-all (core.more e es) = both-add (nodes e) (nodes_all es) (nodes (renamed r e)) (nodes_all (renamed_all r es)) (same-adds e) (same-adds-all es)
+
+    same-adds-maybe : (e : MaybeCore) → added (nodes_maybe (renamed_maybe r e)) ≡ added (nodes_maybe e)
+    same-adds-maybe absent = refl
+    same-adds-maybe (given e) = same-adds e
+
+    same-adds-parts : (ps : Parts) → added (nodes_parts (renamed_parts r ps)) ≡ added (nodes_parts ps)
+    same-adds-parts no_parts = refl
+    same-adds-parts (part w e rest) = both-add (nodes e) (nodes_parts rest) (nodes (renamed r e)) (nodes_parts (renamed_parts r rest)) (same-adds e) (same-adds-parts rest)
+
+  pub same-width : (e : Core) → width (renamed r e) ≡ width e
+  same-width e = ap length (same-adds e)
+
+  pub same-width-maybe : (e : MaybeCore) → width_maybe (renamed_maybe r e) ≡ width_maybe e
+  same-width-maybe absent = refl
+  same-width-maybe (given e) = same-width e
+
+  -- ---- what is built
+
+  pub same-builds : (e : Core) → builds (renamed r e) ≡ builds e
+  same-builds core.zeros = refl
+  same-builds e = refl
+
+  mutual
+    pub same-value : (e : Core) → is_value (renamed r e) ≡ is_value e
+    same-value (core.read e) = same-value e
+    same-value (core.address e) = same-value e
+    same-value (core.dereference e) = same-value e
+    same-value (core.decay e) = same-value e
+    same-value (core.from_void t e) = same-value e
+    same-value (core.convert t e) = same-value e
+    same-value (core.unary op k e) = same-value e
+    same-value (core.logical_not e) = same-value e
+    same-value (core.step is_postfix change e) = same-value e
+    same-value (core.bind no_temporary e) = same-value e
+    same-value (core.index a b) = two-same (is_value (renamed r a)) (is_value (renamed r b)) (is_value a) (is_value b) (same-value a) (same-value b)
+    same-value (core.pointer_operate op a b) = two-same (is_value (renamed r a)) (is_value (renamed r b)) (is_value a) (is_value b) (same-value a) (same-value b)
+    same-value (core.operate op k a b) = two-same (is_value (renamed r a)) (is_value (renamed r b)) (is_value a) (is_value b) (same-value a) (same-value b)
+    same-value (core.logical_and a b) = two-same (is_value (renamed r a)) (is_value (renamed r b)) (is_value a) (is_value b) (same-value a) (same-value b)
+    same-value (core.logical_or a b) = two-same (is_value (renamed r a)) (is_value (renamed r b)) (is_value a) (is_value b) (same-value a) (same-value b)
+    same-value (core.store a b) = two-same (is_value (renamed r a)) (is_value (renamed r b)) (is_value a) (is_value b) (same-value a) (same-value b)
+    same-value (core.update a change b) = two-same (is_value (renamed r a)) (is_value (renamed r b)) (is_value a) (is_value b) (same-value a) (same-value b)
+    same-value (core.conditional c a b) =
+        two-same (is_value (renamed r c)) (is_value (renamed r a) && is_value (renamed r b)) (is_value c) (is_value a && is_value b) (same-value c)
+        (two-same (is_value (renamed r a)) (is_value (renamed r b)) (is_value a) (is_value b) (same-value a) (same-value b))
+    same-value (core.comma es) = same-values es
+    same-value (core.call name t absent args) = ap (λ b. not (is_class (result t)) && (is_chain t && b)) (same-arguments args)
+    same-value e = refl
+
+    pub same-values : (es : Cores) → are_values (renamed_all r es) ≡ are_values es
+    same-values none = refl
+    same-values (core.more e none) = same-value e
+    same-values (core.more e (core.more f es)) =
+        two-same (is_value (renamed r e)) (are_values (renamed_all r (core.more f es))) (is_value e) (are_values (core.more f es)) (same-value e) (same-values (core.more f es))
+
+    pub same-arguments : (es : Cores) → are_arguments (renamed_all r es) ≡ are_arguments es
+    same-arguments none = refl
+    same-arguments (core.more e es) = two-same (is_value (renamed r e)) (are_arguments (renamed_all r es)) (is_value e) (are_arguments es) (same-value e) (same-arguments es)
+
+  pub same-nothing : (e : Core) → is_nothing (renamed r e) ≡ is_nothing e
+  same-nothing core.blank = refl
+  same-nothing e = refl
+
+  same-start : (e : Core) → is_start (renamed r e) ≡ is_start e
+  same-start e = ap (λ b. b || is_value (renamed r e)) (same-nothing e) ∙ ap (λ b. is_nothing e || b) (same-value e)
+
+  pub same-constant : (e : Core) → is_constant_value (renamed r e) ≡ is_constant_value e
+  same-constant (core.address e) = same-constant e
+  same-constant (core.dereference e) = same-constant e
+  same-constant (core.decay e) = same-constant e
+  same-constant (core.convert t e) = same-constant e
+  same-constant (core.unary op k e) = same-constant e
+  same-constant (core.logical_not e) = same-constant e
+  same-constant (core.index a b) = two-same (is_constant_value (renamed r a)) (is_constant_value (renamed r b)) (is_constant_value a) (is_constant_value b) (same-constant a) (same-constant b)
+  same-constant (core.pointer_operate op a b) = two-same (is_constant_value (renamed r a)) (is_constant_value (renamed r b)) (is_constant_value a) (is_constant_value b) (same-constant a) (same-constant b)
+  same-constant (core.operate op k a b) = two-same (is_constant_value (renamed r a)) (is_constant_value (renamed r b)) (is_constant_value a) (is_constant_value b) (same-constant a) (same-constant b)
+  same-constant (core.logical_and a b) = two-same (is_constant_value (renamed r a)) (is_constant_value (renamed r b)) (is_constant_value a) (is_constant_value b) (same-constant a) (same-constant b)
+  same-constant (core.logical_or a b) = two-same (is_constant_value (renamed r a)) (is_constant_value (renamed r b)) (is_constant_value a) (is_constant_value b) (same-constant a) (same-constant b)
+  same-constant (core.conditional c a b) =
+      two-same (is_constant_value (renamed r c)) (is_constant_value (renamed r a) && is_constant_value (renamed r b)) (is_constant_value c) (is_constant_value a && is_constant_value b) (same-constant c)
+      (two-same (is_constant_value (renamed r a)) (is_constant_value (renamed r b)) (is_constant_value a) (is_constant_value b) (same-constant a) (same-constant b))
+  same-constant e = refl
+
+  pub same-constant-start : (e : Core) → is_constant_start (renamed r e) ≡ is_constant_start e
+  same-constant-start e = ap (λ b. b || is_constant_value (renamed r e)) (same-nothing e) ∙ ap (λ b. is_nothing e || b) (same-constant e)
+
+  same-condition : (e : MaybeCore) → is_condition (renamed_maybe r e) ≡ is_condition e
+  same-condition absent = refl
+  same-condition (given e) = same-value e
+
+  -- ---- locals that are declared
+
+  same-held : (e : Core) → held_by (renamed r e) ≡ held_by e
+  same-held (core.bind no_temporary e) = refl
+  same-held (core.bind (local_temporary i t) e) = refl
+  same-held (core.bind (static_temporary n) e) = refl
+  same-held e = refl
+
+  mutual
+    pub same-declared : (s : Core) → declared (renamed r s) ≡ declared s
+    same-declared (core.declare i t e) = ap (λ (xs : List Local). record { number = i; type = t } ∷ xs) (same-held e)
+    same-declared (core.sequence es) = same-declared-all es
+    same-declared s = refl
+
+    pub same-declared-all : (es : Cores) → declared_all (renamed_all r es) ≡ declared_all es
+    same-declared-all none = refl
+    same-declared-all (core.more s es) = ap (λ (xs : List Local). xs ++ declared (renamed r s)) (same-declared-all es) ∙ ap (λ (xs : List Local). declared_all es ++ xs) (same-declared s)
+
+  mutual
+    same-next : (m : ℕ) (s : Core) → next_local m (renamed r s) ≡ next_local m s
+    same-next m (core.sequence es) = same-nexts m es
+    same-next m s = refl
+
+    same-nexts : (m : ℕ) (es : Cores) → next_locals m (renamed_all r es) ≡ next_locals m es
+    same-nexts m none = refl
+    same-nexts m (core.more s es) = ap (λ k. next_locals k (renamed_all r es)) (same-next m s) ∙ same-nexts (next_local m s) es
+
+  same-declares : (s : Core) → declares_here (renamed r s) ≡ declares_here s
+  same-declares (core.declare i t e) = refl
+  same-declares s = refl
+
+  same-label : (s : Core) → is_label (renamed r s) ≡ is_label s
+  same-label core.default_label = refl
+  same-label s = refl
+
+  -- ---- statements
+
+  mutual
+    pub same-statement : (m : ℕ) (s : Core) → is_statement m (renamed r s) ≡ is_statement m s
+    same-statement m (core.full e) = same-start e
+    same-statement m (core.block es) = same-statements m es
+    same-statement m (core.sequence es) = same-statements m es
+    same-statement m (core.declare i t e) = ap (λ b. nat_le m i && b) (same-start e)
+    same-statement m (core.branch c a b) =
+        two-same (is_value (renamed r c)) ((not (declares_here (renamed r a)) && is_statement m (renamed r a)) && is_inner_or m (renamed_maybe r b)) (is_value c)
+        ((not (declares_here a) && is_statement m a) && is_inner_or m b) (same-value c)
+        (two-same (not (declares_here (renamed r a)) && is_statement m (renamed r a)) (is_inner_or m (renamed_maybe r b)) (not (declares_here a) && is_statement m a) (is_inner_or m b)
+        (two-same (not (declares_here (renamed r a))) (is_statement m (renamed r a)) (not (declares_here a)) (is_statement m a) (ap not (same-declares a)) (same-statement m a)) (same-inner m b))
+    same-statement m (core.loop f c e s) =
+        two-same (is_condition (renamed_maybe r c)) (is_condition (renamed_maybe r e) && is_statement m (renamed r s)) (is_condition c) (is_condition e && is_statement m s) (same-condition c)
+        (two-same (is_condition (renamed_maybe r e)) (is_statement m (renamed r s)) (is_condition e) (is_statement m s) (same-condition e) (same-statement m s))
+    same-statement m (core.switch e es) = two-same (is_value (renamed r e)) (are_cases m (renamed_all r es)) (is_value e) (are_cases m es) (same-value e) (same-cases m es)
+    same-statement m (core.give (given e)) = same-value e
+    same-statement m (core.give absent) = refl
+    same-statement m s = refl
+
+    same-inner : (m : ℕ) (b : MaybeCore) → is_inner_or m (renamed_maybe r b) ≡ is_inner_or m b
+    same-inner m absent = refl
+    same-inner m (given s) =
+        two-same (not (declares_here (renamed r s))) (is_statement m (renamed r s)) (not (declares_here s)) (is_statement m s) (ap not (same-declares s)) (same-statement m s)
+
+    pub same-cases : (m : ℕ) (es : Cores) → are_cases m (renamed_all r es) ≡ are_cases m es
+    same-cases m none = refl
+    same-cases m (core.more s es) =
+        two-same (is_label (renamed r s) || (not (declares_here (renamed r s)) && is_statement m (renamed r s))) (are_cases m (renamed_all r es))
+        (is_label s || (not (declares_here s) && is_statement m s)) (are_cases m es)
+        (ap (λ b. b || (not (declares_here (renamed r s)) && is_statement m (renamed r s))) (same-label s)
+        ∙ ap (λ b. is_label s || b) (two-same (not (declares_here (renamed r s))) (is_statement m (renamed r s)) (not (declares_here s)) (is_statement m s) (ap not (same-declares s)) (same-statement m s)))
+        (same-cases m es)
+
+    same-statements : (m : ℕ) (es : Cores) → are_statements m (renamed_all r es) ≡ are_statements m es
+    same-statements m none = refl
+    same-statements m (core.more s es) =
+        two-same (is_statement m (renamed r s)) (are_statements (next_local m (renamed r s)) (renamed_all r es)) (is_statement m s) (are_statements (next_local m s) es) (same-statement m s)
+        (ap (λ k. are_statements k (renamed_all r es)) (same-next m s) ∙ same-statements (next_local m s) es)

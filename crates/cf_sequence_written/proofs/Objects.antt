@@ -1,0 +1,218 @@
+-- What is written for a built static object is the definition's, and the numbers of types in it are there in the tables.
+use Rattle.std.proofs.Common.{◌≡◌, ℕ, ◌+◌, Bool, true, false, not, ◌&&◌, ◌||◌, cond, List, [], ◌∷◌, ◌++◌, map, length, Some, slice_get, refl, sym, ap, subst, ◌∙◌, if◌then◌else◌}
+use Rattle.std.specs.Prelude.{find, bytes_eq}
+use Rattle.std.specs.List.{list_all, list_any}
+use Rattle.std.specs.declared.alloc.Global.{Global}
+use Rattle.cf_base.proofs.Tests.{both, same_bytes, bytes_same}
+use Rattle.cf_classes.specs.declared.class.MemberRef.{MemberRef}
+use Rattle.cf_types.specs.declared.ty.Ty.{Ty}
+use Rattle.cf_types.specs.Table.{Names}
+use Rattle.cf_core.specs.declared.unit.CoreStatic.{CoreStatic}
+use Rattle.cf_core.specs.Types.{Name, SourceType, parameters}
+use Rattle.cf_core.specs.Classes.{Class}
+use Rattle.cf_core.specs.Core.{Static}
+use Rattle.cf_core.specs.Joined.{is_nothing}
+use Rattle.cf_core.specs.Valid.{all_differ}
+use Rattle.cf_core.specs.FromTypes.{Tables, type_of}
+use Rattle.cf_core.specs.FromClasses.{signature_of}
+use Rattle.cf_core.specs.FromUnit.{static_of}
+use Rattle.cf_core.specs.Numbers as numbers
+use Rattle.cf_core.specs.Numbers.{has_type, are_known}
+use Rattle.cf_plain.specs.declared.action.Action.TheVariants as action
+use Rattle.cf_plain.specs.Plain.{Plains, PlainStatic, act as acts, set as sets, nothing, more}
+use Rattle.cf_plain.specs.Plain as plain
+use Rattle.cf_plain.specs.Numbers as plain_numbers
+use Rattle.cf_plain.specs.View as view
+use Rattle.cf_plain.specs.View.{plains_of}
+use Rattle.cf_sequence.specs.Built.{is_start, is_value, is_built_static, has_mark}
+use Rattle.cf_sequence.specs.Made.{width}
+use Rattle.cf_sequence.specs.Statements.{type_of_static, initialised}
+use Rattle.cf_sequence.specs.Statements as definition
+use Rattle.cf_sequence.specs.Sequenced.{sequenced_start, sequenced_static}
+use Rattle.cf_sequence.proofs.Constants.{set_as, start-is, constant-start, something-constant, constant-value}
+use Rattle.cf_sequence.proofs.JoinedObjects.{is_among, type-behind}
+use Rattle.cf_sequence.proofs.OwnNames.{is_own}
+use Rattle.cf_sequence.proofs.StaticObjects.{type_found}
+use Rattle.cf_sequence.proofs.Calling.{never}
+use Rattle.cf_sequence_expr.specs.declared.writing.Writing.{Writing}
+use Rattle.cf_sequence_expr.specs.Writes.{set, act}
+use Rattle.cf_sequence_expr.specs.Parameters.{parameters_at}
+use Rattle.cf_sequence_expr.specs.Pieces.{Piece, piece}
+use Rattle.cf_sequence_stmt.specs.Bodies.{started, placed}
+use Rattle.cf_sequence_stmt.specs.Steps.{step}
+use Rattle.cf_sequence_stmt.proofs.Pieces.{same_piece}
+use Rattle.cf_sequence_fn.specs.Functions.{blank_writing, written_object}
+use Rattle.cf_sequence_written.proofs.Adding.{Adds, adding}
+use Rattle.cf_sequence_written.proofs.Followed.{followed-end}
+use Rattle.cf_sequence_written.proofs.Puts.{Puts, still-set, still-act, still-then, still-puts, puts-still}
+use Rattle.cf_sequence_written.proofs.Wholes.{Whole, puts-started}
+use Rattle.cf_sequence_written.proofs.Stated.{Stated, written-statement, operand_of, nothing-builds}
+use Rattle.cf_sequence_written.proofs.Known.{KnownPiece, Keeps, keeps-then, keeps-set, keeps-act, and-true}
+use Rattle.cf_sequence_written.proofs.KnownPieces.{known-piece}
+use Rattle.cf_sequence_written.proofs.KnownSteps.{keeps-started}
+
+-- ---- the type of a name, where no two objects of a file have one name
+
+abbrev names_of : List Static → List Name
+names_of xs = map (λ (x : Static). x.name) xs
+
+differ-right : (ms ns : List Name) → all_differ (ms ++ ns) ≡ true → all_differ ns ≡ true
+differ-right [] ns ok = ok
+differ-right (m ∷ ms) ns ok = differ-right ms ns (both (not (list_any (bytes_eq m) (ms ++ ns))) (all_differ (ms ++ ns)) ok).1
+
+-- a name among others, seen from either side
+turned : (a b : Name) → bytes_eq a b ≡ bytes_eq b a
+turned a b = by (bytes_eq a b) refl
+  where
+    by : (v : Bool) → bytes_eq a b ≡ v → v ≡ bytes_eq b a
+    by true e = sym (bytes_same b a (sym (same_bytes a b e)))
+    by false e = other (bytes_eq b a) refl
+      where
+        other : (u : Bool) → bytes_eq b a ≡ u → false ≡ u
+        other true f = sym e ∙ bytes_same a b (sym (same_bytes b a f))
+        other false f = refl
+
+-- objects before it have other names
+not-before : (xs : List Static) (name : Name) (others : List Name) → all_differ (names_of xs ++ name ∷ others) ≡ true → is_among name xs ≡ false
+not-before [] name others ok = refl
+not-before (x ∷ xs) name others ok =
+    let parts = both (not (list_any (bytes_eq x.name) (names_of xs ++ name ∷ others))) (all_differ (names_of xs ++ name ∷ others)) ok in
+    ap (λ b. b || is_among name xs) (absent xs parts.0) ∙ not-before xs name others parts.1
+  where
+    absent : (ys : List Static) → not (list_any (bytes_eq x.name) (names_of ys ++ name ∷ others)) ≡ true → bytes_eq x.name name ≡ false
+    absent [] e = by (bytes_eq x.name name) (list_any (bytes_eq x.name) others) e
+      where
+        by : (a b : Bool) → not (a || b) ≡ true → a ≡ false
+        by true b e = sym e
+        by false b e = refl
+    absent (y ∷ ys) e = absent ys (later (bytes_eq x.name y.name) (list_any (bytes_eq x.name) (names_of ys ++ name ∷ others)) e)
+      where
+        later : (a b : Bool) → not (a || b) ≡ true → not b ≡ true
+        later true b e = never e
+        later false b e = e
+
+own-type : (before : List Static) (x : Static) (after : List Static) → all_differ (names_of before ++ names_of (x ∷ after)) ≡ true
+    → type_of_static (before ++ x ∷ after) x.name ≡ x.type
+own-type before x after ok =
+    type-behind before (x ∷ after) x.name (not-before before x.name (names_of after) ok)
+    ∙ ap (λ b. type_found (cond b (Some x) (find (λ (y : Static). bytes_eq y.name x.name) after))) (bytes_same x.name x.name refl)
+
+-- ---- one object
+
+module _ (tables : Tables) (params : (t : ℕ) → map (type_of tables) (parameters_at tables.types t) ≡ parameters (type_of tables t)) (classes : List Class) (statics : List Static)
+    (alloc : Global) (x : CoreStatic) (built : is_built_static (static_of tables x) ≡ true) (typed : type_of_static statics x.name ≡ type_of tables x.ty) where
+  abbrev signature : MemberRef → Name
+  signature = signature_of tables
+
+  abbrev X : Static
+  X = static_of tables x
+
+  abbrev T : SourceType
+  T = type_of tables x.ty
+
+  abbrev p : Piece
+  p = (step tables.types x.start).piece
+
+  starts : is_start X.start ≡ true
+  starts = by (is_nothing X.start) refl
+    where
+      by : (b : Bool) → is_nothing X.start ≡ b → b || is_value X.start ≡ true
+      by true e = refl
+      by false e = constant-value X.start (something-constant X.start (constant-start X built) e)
+
+  object : Whole tables signature p X.start
+  object = operand_of tables signature params x.start starts
+
+  blank-is : (step tables.types x.start).is_blank ≡ is_nothing X.start
+  blank-is = Stated.blank (written-statement tables signature params x.start)
+
+  -- what is written where there is an initialiser
+  puts-placed : is_nothing X.start ≡ false
+      → Puts tables signature (λ w. act (action.FinishStatic x.name) (started false p (set 0 (action.Static x.name x.ty) (act (action.Reach x.name) w))))
+      (λ k rest. more (acts (plain.reach x.name)) (more (sets 0 (plain.static_object x.name T)) (definition.started classes T X.start 0 k (more (acts (plain.finish_static x.name)) rest)))) (width X.start)
+  puts-placed e =
+      still-puts tables signature (still-then tables signature (still-act tables signature (action.Reach x.name)) (still-set tables signature 0 (action.Static x.name x.ty)))
+      (puts-still tables signature (puts-started tables signature classes x.ty false (sym e ∙ nothing-builds X.start starts) object) (still-act tables signature (action.FinishStatic x.name)))
+
+  -- behind nothing
+  start-as : (b : Bool) → is_nothing X.start ≡ b → plains_of tables signature (Writing.code (placed x.name x.ty b p (blank_writing alloc))) ≡ (if b then nothing else initialised classes T x.name X.start 0 nothing)
+  unfolding placed
+  start-as true e = refl
+  start-as false e =
+      let w = act (action.FinishStatic x.name) (started false p (set 0 (action.Static x.name x.ty) (act (action.Reach x.name) (blank_writing alloc)))) in
+      sym (followed-end tables signature (Writing.code w)) ∙ Puts.code (puts-placed e) (blank_writing alloc) nothing
+
+  start-written : plains_of tables signature (Writing.code (placed x.name x.ty (step tables.types x.start).is_blank p (blank_writing alloc))) ≡ sequenced_start classes statics X
+  start-written =
+      ap (λ b. plains_of tables signature (Writing.code (placed x.name x.ty b p (blank_writing alloc)))) blank-is
+      ∙ start-as (is_nothing X.start) refl
+      ∙ ap (set_as classes X) (sym typed)
+      ∙ sym (start-is classes statics X built)
+
+  pub object-is : view.static_of tables (written_object tables.types alloc x) ≡ sequenced_static classes statics X
+  unfolding written_object
+  object-is =
+      ap (λ (ls : List SourceType). let y : PlainStatic = record (view.static_of tables (written_object tables.types alloc x)) { locals = ls } in y) (Adds.adds (adding tables signature params x.start) [])
+      ∙ ap (λ (ss : Plains). let y : PlainStatic = record (sequenced_static classes statics X) { start = ss } in y) start-written
+
+-- ---- all of a file
+
+module _ (tables : Tables) (params : (t : ℕ) → map (type_of tables) (parameters_at tables.types t) ≡ parameters (type_of tables t)) (classes : List Class) (alloc : Global) where
+  abbrev cores : List CoreStatic → List Static
+  cores xs = map (static_of tables) xs
+
+  later : (before : List Static) (x : Static) (after : List Static) → before ++ x ∷ after ≡ (before ++ x ∷ []) ++ after
+  later [] x after = refl
+  later (y ∷ ys) x after = ap (λ (zs : List Static). y ∷ zs) (later ys x after)
+
+  -- of those behind others
+  objects-behind : (before : List Static) (xs : List CoreStatic) → list_all is_own (cores xs) ≡ true → all_differ (names_of (before ++ cores xs)) ≡ true
+      → map (view.static_of tables) (map (written_object tables.types alloc) xs) ≡ map (sequenced_static classes (before ++ cores xs)) (cores xs)
+  objects-behind before [] ok differ = refl
+  objects-behind before (x ∷ xs) ok differ =
+      let parts = both (is_own (static_of tables x)) (list_all is_own (cores xs)) ok in
+      let all = before ++ cores (x ∷ xs) in
+      let moved = later before (static_of tables x) (cores xs) in
+      ap (λ (y : PlainStatic). y ∷ map (view.static_of tables) (map (written_object tables.types alloc) xs))
+      (object-is tables params classes all alloc x (both (is_built_static (static_of tables x)) (not (has_mark x.name)) parts.0).0
+      (own-type before (static_of tables x) (cores xs) (sym (ap all_differ (names-two before (cores (x ∷ xs)))) ∙ differ)))
+      ∙ ap (λ (ys : List PlainStatic). sequenced_static classes all (static_of tables x) ∷ ys)
+      (objects-behind (before ++ static_of tables x ∷ []) xs parts.1 (ap (λ zs. all_differ (names_of zs)) (sym moved) ∙ differ)
+      ∙ ap (λ zs. map (sequenced_static classes zs) (cores xs)) (sym moved))
+    where
+      names-two : (xs ys : List Static) → names_of (xs ++ ys) ≡ names_of xs ++ names_of ys
+      names-two [] ys = refl
+      names-two (x ∷ xs) ys = ap (λ (ns : List Name). x.name ∷ ns) (names-two xs ys)
+
+  pub objects-are : (xs : List CoreStatic) (functions : List Name) → list_all is_own (cores xs) ≡ true → all_differ (functions ++ names_of (cores xs)) ≡ true
+      → map (view.static_of tables) (map (written_object tables.types alloc) xs) ≡ map (sequenced_static classes (cores xs)) (cores xs)
+  objects-are xs functions ok differ = objects-behind [] xs ok (differ-right functions (names_of (cores xs)) differ)
+
+-- ---- numbers of types
+
+module _ (tables : Tables) (names : (i : ℕ) (v : Ty) → slice_get tables.types.types i ≡ Some v → Names tables.types.funs i (length tables.types.funs) v) (alloc : Global) where
+  keeps-placed : (name : List ℕ) (t : ℕ) (b : Bool) (p : Piece) → has_type tables t ≡ true → KnownPiece tables p → Keeps tables (placed name t b p)
+  unfolding placed
+  keeps-placed name t true p there q = record { keeps = λ w ok. ok }
+  keeps-placed name t false p there q = record {
+    keeps = Keeps.keeps
+        (keeps-then tables
+        (keeps-then tables (keeps-then tables (keeps-act tables (action.Reach name) refl) (keeps-set tables 0 (action.Static name t) there)) (keeps-started tables false p q))
+        (keeps-act tables (action.FinishStatic name) refl));
+  }
+
+  object-known : (x : CoreStatic) → numbers.static_known tables x ≡ true → plain_numbers.static_known tables (written_object tables.types alloc x) ≡ true
+  unfolding written_object
+  object-known x ok =
+      let parts = both (has_type tables x.ty) (are_known tables x.start) ok in
+      let known = known-piece tables names x.start parts.1 in
+      let s = step tables.types x.start in
+      and-true (has_type tables x.ty && list_all (has_type tables) ((piece tables.types x.start).locals [])) _
+      (and-true (has_type tables x.ty) _ parts.0 (KnownPiece.locals known [] refl))
+      (Keeps.keeps (keeps-placed x.name x.ty s.is_blank s.piece parts.0 (subst (KnownPiece tables) (sym (same_piece tables.types x.start)) known)) (blank_writing alloc) refl)
+
+  pub objects-known : (xs : List CoreStatic) → list_all (numbers.static_known tables) xs ≡ true → list_all (plain_numbers.static_known tables) (map (written_object tables.types alloc) xs) ≡ true
+  objects-known [] ok = refl
+  objects-known (x ∷ xs) ok =
+      let parts = both (numbers.static_known tables x) (list_all (numbers.static_known tables) xs) ok in
+      and-true (plain_numbers.static_known tables (written_object tables.types alloc x)) _ (object-known x parts.0) (objects-known xs parts.1)
