@@ -28,6 +28,7 @@ pub mod Options
 pub mod Parts
 pub mod Picks
 pub mod Plain
+pub mod Scopes
 pub mod Several
 pub mod Shapes
 pub mod Sizes
