@@ -1,12 +1,12 @@
 -- Names in open scopes, and scopes that are entered and left (3.2).
-use Rattle.std.proofs.Common.{◌≡◌, ◌⊎◌, inl, inr, ℕ, Bool, true, false, cond, List, [], ◌∷◌, ◌++◌, Option, Some, None, refl, ap, subst, sym, ◌∙◌}
+use Rattle.std.proofs.Common.{◌≡◌, ◌⊎◌, inl, inr, ℕ, Bool, true, false, cond, List, [], ◌∷◌, ◌++◌, Option, Some, None, refl, ap, ◌∙◌}
 use Rattle.std.specs.Option.{option_or}
 use Rattle.std.specs.Prelude.{nat_eq}
 use Rattle.std.specs.Cmp.Lexicographic.{pointwise}
 use Rattle.cf_lookup.specs.Scope.{OpenScopes, in_scope, found_in}
 use Rattle.cf_elab.specs.Env.{Name}
 use Rattle.cf_elab.specs.Names.{without_last}
-use Rattle.cf_elab_valid.specs.Scene.{IsNumbered, IsNumberedIn, IsOpen}
+use Rattle.cf_elab_valid.specs.Scene.{IsNumbered, IsNumberedIn}
 use Rattle.cf_elab_valid.proofs.Options.{none_some, some_is}
 
 scope-numbered : (name : Name) (xs : List (Name × ℕ)) (n : ℕ) → in_scope name xs ≡ Some n → IsNumbered n xs

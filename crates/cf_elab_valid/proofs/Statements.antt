@@ -1,10 +1,8 @@
 -- Statements that declare nothing: expressions, choices, loops and jumps (6.2 to 6.6).
-use Rattle.std.proofs.Common.{◌≡◌, ℕ, Bool, true, false, not, ◌&&◌, ◌||◌, [], ◌∷◌, Option, Some, None, refl, sym, ap, subst, ◌∙◌, true≢false, List, ◌++◌, map}
+use Rattle.std.proofs.Common.{◌≡◌, ℕ, Bool, true, false, not, ◌&&◌, ◌||◌, [], ◌∷◌, Option, Some, None, refl, sym, ap, subst, ◌∙◌, true≢false}
 use Rattle.std.specs.Option.{option_map, option_map_or}
 use Rattle.cf_core.specs.declared.operators.LoopForm.{LoopForm}
 use Rattle.cf_core.specs.declared.operators.LoopForm.TheVariants as form
-use Rattle.cf_types.specs.declared.ty.Ty.{Ty}
-use Rattle.cf_types.specs.declared.ty.Ty.TheVariants as ty
 use Rattle.cf_core.specs.declared.node.Core.{Core as Node}
 use Rattle.cf_core.specs.declared.node.Core.TheFolds.{fold-roll-Core}
 use Rattle.cf_core.specs.declared.node.Core.TheOpen.{Core-F}
@@ -12,37 +10,34 @@ use Rattle.cf_core.specs.declared.node.Core.TheVariants as node
 use Rattle.cf_core.specs.declared.node.Core.TheVariants.{rolls-If, rolls-Loop, rolls-Return}
 use Rattle.cf_core.specs.Core.{Core, blank, full, branch, loop, give}
 use Rattle.cf_core.specs.FromClasses.{signature_of}
-use Rattle.cf_core.specs.Numbers.{are_known, maybe_of, known_step, known_part, all_of}
+use Rattle.cf_core.specs.Numbers.{are_known, maybe_of, known_step, known_part}
 use Rattle.cf_core.specs.Types.{integer, enumeration, pointer, array, is_void}
 use Rattle.cf_core.specs.Typed.{typing}
 use Rattle.cf_core.specs.Typing.{is_expression, is_condition}
-use Rattle.cf_core.specs.Valid.{Body, condition_fits, expression_fits, fits, initialises_local, all_fit}
-use Rattle.cf_core.specs.View.{Started, core_step, started_step, maybe, listed}
+use Rattle.cf_core.specs.Valid.{Body, condition_fits, expression_fits, fits, initialises_local}
+use Rattle.cf_core.specs.View.{Started, core_step, started_step, maybe}
 use Rattle.cf_core_typed.proofs.Same.{and-both, function-operand, same-void}
-use Rattle.cf_elab.specs.Answer.{Answer, Made as MadeIn, Refused, Passed, Elab, onward, need, gives, maybe as maybe_run, all}
+use Rattle.cf_elab.specs.Answer.{Answer, Made as MadeIn, Refused, Passed, Elab, onward, need, gives, maybe as maybe_run}
 use Rattle.cf_elab.specs.ClassOperand as class_operand
-use Rattle.cf_lookup.specs.Scope.{OpenScopes}
-use Rattle.cf_elab.specs.Env.{Env, Hand, Entity, object, functions, alias, class_name, enum_name, enumerator}
+use Rattle.cf_elab.specs.Env.{Env}
 use Rattle.cf_elab.specs.Initial.{no_keeper}
-use Rattle.cf_elab.specs.Members.{class_of_body}
 use Rattle.cf_elab.specs.MethodNode.{unused}
-use Rattle.cf_elab.specs.Names.{without_last, scoped}
 use Rattle.cf_elab.specs.Operand.{Value, Part, Sort, integral, enumeral, object_pointer, void_pointer, function_pointer, data_pointer, method_pointer, class_sort, array_sort, function_sort, void_sort, reference_sort, sort_of, evaluated, is_void as is_void_sort}
 use Rattle.cf_elab.specs.Statement as row
 use Rattle.cf_elab.specs.Statement.{Made, made, no_label, is_main_body}
 use Rattle.cf_elab.specs.UserFit.{initial}
-use Rattle.cf_elab_valid.specs.Answers.{Good, Fine, IsPart}
-use Rattle.cf_elab_valid.specs.Scene.{Scene, IsScene, tree, typed, core, Within, Steps, Inside, PartInside, IsNumberedIn, IsOpen, EntityFits, TypeFits, Classless, Holds, Fits}
+use Rattle.cf_elab_valid.specs.Answers.{Fine, IsPart}
+use Rattle.cf_elab_valid.specs.Scene.{Scene, IsScene, tree, typed, core, Within, Steps, Inside, Classless, Holds, Fits}
 use Rattle.cf_elab_valid.specs.Sorts.{SortIs}
-use Rattle.cf_elab_valid.specs.Statements.{body_of, StatementFits, Inner, IsStatement, AreStatements}
+use Rattle.cf_elab_valid.specs.Statements.{body_of, StatementFits, Inner, IsStatement}
 use Rattle.cf_elab_valid.proofs.Arithmetic.{IsOperand, IsTested, tested-condition}
 use Rattle.cf_elab_valid.proofs.Choice.{class_truth-fine, fits-expression}
 use Rattle.cf_elab_valid.proofs.Early.{early-sort-is}
 use Rattle.cf_elab_valid.proofs.Initial.{StartFits, initial-fine}
-use Rattle.cf_elab_valid.proofs.Nodes.{core-Block, known-Block, core-Sequence, known-Sequence, core-Full, core-Blank, core-Break, core-Continue, known-Full, known-Blank, known-Break, known-Continue}
+use Rattle.cf_elab_valid.proofs.Moved.{moved-holds, moved-classless}
+use Rattle.cf_elab_valid.proofs.Nodes.{core-Sequence, known-Sequence, core-Full, core-Blank, core-Break, core-Continue, known-Full, known-Blank, known-Break, known-Continue}
 use Rattle.cf_elab_valid.proofs.Options.{none_some, some_is}
 use Rattle.cf_elab_valid.proofs.Parts.{evaluated-fine}
-use Rattle.cf_elab_valid.proofs.Scopes.{empty-numbered, left-numbered, left-scopes}
 use Rattle.cf_elab_valid.proofs.Unary.{unused-node}
 use Rattle.cf_elab_valid.proofs.Ways.{fits-later, fits-when, inside-later, made-fine, onward-fine, steps-through, within-before, When}
 
@@ -84,17 +79,17 @@ full_fits : (f : Body) (b k : Bool) (c : Core) → is_expression (typing f.scope
 full_fits f b k blank h = refl
 full_fits f b k c h = h
 
-inner-later : (s : Scene) (m : Bool) (a b : Env) → Steps a b → Inner s m a → Inner s m b
+pub inner-later : (s : Scene) (m : Bool) (a b : Env) → Steps a b → Inner s m a → Inner s m b
 inner-later s m a b g i = record {
   main = λ h. i.main (ap is_main_body (sym g.hand.kind) ∙ h);
   there = λ w. subst (Inside b) (sym g.hand.result) (inside-later a b a.hand.result g (i.there (within-before a b s g w)));
 }
 
-statement-later : (s : Scene) (n : ℕ) (m : Bool) (a b : Env) (x : Made) (e : Env) → Steps a b → StatementFits s n m b.hand.breaks b.hand.continues x e → StatementFits s n m a.hand.breaks a.hand.continues x e
+pub statement-later : (s : Scene) (n : ℕ) (m : Bool) (a b : Env) (x : Made) (e : Env) → Steps a b → StatementFits s n m b.hand.breaks b.hand.continues x e → StatementFits s n m a.hand.breaks a.hand.continues x e
 statement-later s n m a b x e g f = subst (λ k. StatementFits s n m a.hand.breaks k x e) g.hand.continues (subst (λ k. StatementFits s n m k b.hand.continues x e) g.hand.breaks f)
 
 module _ (s : Scene) (scene : IsScene s) (n : ℕ) (m : Bool) where
-  abbrev Statement : Env → Made → Env → Type 0
+  abbrev pub Statement : Env → Made → Env → Type 0
   Statement e x f = StatementFits s n m e.hand.breaks e.hand.continues x f
 
   -- ---- simple statements
@@ -166,7 +161,7 @@ module _ (s : Scene) (scene : IsScene s) (n : ℕ) (m : Bool) where
       onward-fine s (IsTested s) IsCondition e (class_operand.truth 13 at v e) (λ x. gives x.node) (class_truth-fine s scene 13 at v e c h f)
       (λ x e1 g c1 h1 p. made-fine s IsCondition e1 x.node c1 h1 (λ w. record { numbers = (p w).plain.fits.numbers; condition = tested-condition s x e1 (p w) }))
 
-  same-statement : (breaks continues : Bool) (x : Made) (a b : Env) → StatementFits s n m breaks continues x a → StatementFits s n m breaks continues x b
+  pub same-statement : (breaks continues : Bool) (x : Made) (a b : Env) → StatementFits s n m breaks continues x a → StatementFits s n m breaks continues x b
   same-statement breaks continues x a b f = record { numbers = f.numbers; unlabelled = f.unlabelled; fine = f.fine; reached = f.reached }
 
   -- ---- if
@@ -227,65 +222,18 @@ module _ (s : Scene) (scene : IsScene s) (n : ℕ) (m : Bool) where
 
   -- ---- loops
 
-  -- the same environment with another hand and in other scopes
-  abbrev moved : Hand → OpenScopes → Env → Env
-  moved a o e = record e { hand = a; scopes = o }
-
-  entity-moved : (a : Hand) (o : OpenScopes) (e : Env) (x : Entity) → EntityFits s e x → EntityFits s (moved a o e) x
-  entity-moved a o e (object x) f = f
-  entity-moved a o e (functions fs) f = f
-  entity-moved a o e (alias t) f = f
-  entity-moved a o e (class_name t) f = f
-  entity-moved a o e (enum_name t) f = f
-  entity-moved a o e (enumerator t z) f = f
-
-  named-moved : (a : Hand) (o : OpenScopes) (e : Env) (x : Entity) → TypeFits e x → TypeFits (moved a o e) x
-  named-moved a o e (object x) f = tt
-  named-moved a o e (functions fs) f = tt
-  named-moved a o e (alias t) f = f
-  named-moved a o e (class_name t) f = tt
-  named-moved a o e (enum_name t) f = f
-  named-moved a o e (enumerator t z) f = tt
-
-  part-moved : (a : Hand) (o : OpenScopes) (e : Env) (v : Ty) → PartInside e v → PartInside (moved a o e) v
-  part-moved a o e (ty.Fun f) p = p
-  part-moved a o e (ty.Enum f) p = p
-  part-moved a o e ty.Void p = p
-  part-moved a o e (ty.Int f) p = p
-  part-moved a o e (ty.Class f) p = p
-  part-moved a o e (ty.Ptr f) p = p
-  part-moved a o e (ty.Ref f) p = p
-  part-moved a o e (ty.Array f q) p = p
-  part-moved a o e (ty.MemData f q) p = p
-  part-moved a o e (ty.MemFun f q) p = p
-  part-moved a o e (ty.Const f) p = p
-
-  moved-holds : (a : Hand) (o : OpenScopes) (e : Env) → a.result ≡ e.hand.result → ((i : ℕ) → IsOpen i o → IsOpen i e.scopes) → Holds s e → Holds s (moved a o e)
-  moved-holds a o e r opened k = record {
-    parts = λ t v at. part-moved a o e v (k.parts t v at);
-    no_outer = k.no_outer;
-    entities = λ i x q at. entity-moved a o e x (k.entities i x (opened i q) at);
-    named_types = λ i x at. named-moved a o e x (k.named_types i x at);
-    entries = λ i f at. let p = k.entries i f at in record { fun = p.fun; here = p.here };
-    result = r ∙ k.result;
-  }
-
-  moved-classless : (a : Hand) (o : OpenScopes) (e : Env) → a.kind ≡ e.hand.kind → Classless e → Classless (moved a o e)
-  moved-classless a o e q c =
-      record { none = c.none; none_open = c.none_open; no_body = ap class_of_body q ∙ c.no_body; no_type = c.no_type; no_name = c.no_name; no_defaults = c.no_defaults }
-
   -- with `break` and `continue` as told
   abbrev flagged : Bool → Bool → Env → Env
   flagged b k e = record e { hand = record e.hand { breaks = b; continues = k } }
 
   flagged-classless : (b k : Bool) (e : Env) → Classless e → Classless (flagged b k e)
-  flagged-classless b k e c = moved-classless (record e.hand { breaks = b; continues = k }) e.scopes e refl c
+  flagged-classless b k e c = moved-classless s (record e.hand { breaks = b; continues = k }) e.scopes e refl c
 
   within-flagged : (b k : Bool) (e : Env) → Within (flagged b k e) s → Within e s
   within-flagged b k e w = record { types = w.types; funs = w.funs; enums = w.enums; locals = w.locals }
 
   flagged-holds : (b k : Bool) (e : Env) → When s e (Holds s e) → When s (flagged b k e) (Holds s (flagged b k e))
-  flagged-holds b k e h w = moved-holds (record e.hand { breaks = b; continues = k }) e.scopes e refl (λ i q. q) (h (within-flagged b k e w))
+  flagged-holds b k e h w = moved-holds s (record e.hand { breaks = b; continues = k }) e.scopes e refl (λ i q. q) (h (within-flagged b k e w))
 
   -- a body in which both may stand
   looped-fine : (run : Elab Made) → IsStatement s n m run → (e : Env) → Inner s m e → Classless e → When s e (Holds s e) → Fine s (λ x f. StatementFits s n m true true x f) e (row.looped run e)
@@ -486,90 +434,4 @@ module _ (s : Scene) (scene : IsScene s) (n : ℕ) (m : Bool) where
         let w1 = within-before e1 e3 s (steps-through e1 e2 e3 g2 g3) w3 in
         for-fits at f o t b e.hand.breaks e.hand.continues e5 c5 (same-statement e.hand.breaks e.hand.continues f e1 e5 (ff w1)) (fo w)
         (λ u is. fits-later s e3 e5 u (steps-through e3 e4 e5 g4 g5) (ft w3 u is)) (same-statement true true b e4 e5 (fb w4))))))));
-  }
-
-  -- ---- blocks
-
-  abbrev Statements : Bool → Bool → List Made → Env → Type 0
-  Statements breaks continues [] e = Unit {0}
-  Statements breaks continues (x ∷ xs) e = StatementFits s n m breaks continues x e × Statements breaks continues xs e
-
-  same-statements : (breaks continues : Bool) (xs : List Made) (a b : Env) → Statements breaks continues xs a → Statements breaks continues xs b
-  same-statements breaks continues [] a b f = tt
-  same-statements breaks continues (x ∷ xs) a b f = (same-statement breaks continues x a b f.0, same-statements breaks continues xs a b f.1)
-
-  statements-later : (a b : Env) (xs : List Made) (e : Env) → Steps a b → Statements b.hand.breaks b.hand.continues xs e → Statements a.hand.breaks a.hand.continues xs e
-  statements-later a b [] e g f = tt
-  statements-later a b (x ∷ xs) e g f = (statement-later s n m a b x e g f.0, statements-later a b xs e g f.1)
-
-  all-statements : (ss : List (Elab Made)) → AreStatements s n m ss → (e : Env) → Inner s m e → Classless e → When s e (Holds s e) → Fine s (Statements e.hand.breaks e.hand.continues) e (all ss e)
-  all-statements [] k e i c h = made-fine s (Statements e.hand.breaks e.hand.continues) e [] c h (λ w. tt)
-  all-statements (x ∷ xs) k e i c h =
-      onward-fine s (Statement e) (Statements e.hand.breaks e.hand.continues) e (x e) _ (k.0.fine e i c h)
-      (λ y e1 g c1 h1 fy. onward-fine s (Statements e1.hand.breaks e1.hand.continues) (Statements e.hand.breaks e.hand.continues) e1 (all xs e1) (λ ys. gives (y ∷ ys))
-      (all-statements xs k.1 e1 (inner-later s m e e1 g i) c1 h1)
-      (λ ys e2 g2 c2 h2 fys. made-fine s (Statements e.hand.breaks e.hand.continues) e2 (y ∷ ys) c2 h2
-      (λ w. (same-statement e.hand.breaks e.hand.continues y e1 e2 (fy (within-before e1 e2 s g2 w)), statements-later e e1 ys e2 g (fys w)))))
-
-  -- in a scope of its own
-  abbrev entered : Env → Env
-  entered e = record e { scopes = record { outer = e.scopes.outer ++ e.scopes.inner ∷ []; inner = [] } }
-
-  abbrev left : Env → Env
-  left e = record e { scopes = without_last e.scopes.outer }
-
-  scope-left : (e f : Env) (ms : List Made) (breaks continues : Bool) → Good s (Statements breaks continues) (entered e) ms f → Good s (Statements breaks continues) e ms (left f)
-  scope-left e f ms breaks continues g = record {
-    steps = record { types = g.steps.types; funs = g.steps.funs; enums = g.steps.enums; locals = g.steps.locals; hand = g.steps.hand; outer = ap (λ (o : OpenScopes). o.outer) back };
-    classless = moved-classless f.hand (without_last f.scopes.outer) f refl g.classless;
-    holds = λ w. moved-holds f.hand (without_last f.scopes.outer) f refl opened (g.holds (there w));
-    made = λ w. same-statements breaks continues ms f (left f) (g.made (there w));
-  }
-    where
-      there : Within (left f) s → Within f s
-      there w = record { types = w.types; funs = w.funs; enums = w.enums; locals = w.locals }
-
-      before : OpenScopes
-      before = record { outer = e.scopes.outer; inner = e.scopes.inner }
-
-      back : without_last f.scopes.outer ≡ before
-      back = ap without_last g.steps.outer ∙ left-scopes e.scopes.outer e.scopes.inner
-
-      opened : (i : ℕ) → IsOpen i (without_last f.scopes.outer) → IsOpen i f.scopes
-      opened i q = left-numbered i f.scopes.outer (f.scopes.inner ∷ []) (subst (IsNumberedIn i) (sym g.steps.outer) (subst (IsOpen i) back q))
-
-  scoped-fine : (ss : List (Elab Made)) → AreStatements s n m ss → (e : Env) → Inner s m e → Classless e → When s e (Holds s e) → Fine s (Statements e.hand.breaks e.hand.continues) e (scoped (all ss) e)
-  scoped-fine ss k e i c h = by (all ss (entered e)) (all-statements ss k (entered e) inside (moved-classless e.hand (entered e).scopes e refl c) held)
-    where
-      there : Within (entered e) s → Within e s
-      there w = record { types = w.types; funs = w.funs; enums = w.enums; locals = w.locals }
-
-      inside : Inner s m (entered e)
-      inside = record { main = i.main; there = λ w. i.there (there w) }
-
-      held : When s (entered e) (Holds s (entered e))
-      held w = moved-holds e.hand (entered e).scopes e refl (λ j q. empty-numbered j (e.scopes.outer ++ e.scopes.inner ∷ []) q) (h (there w))
-
-      by : (r : Answer (List Made)) → Fine s (Statements e.hand.breaks e.hand.continues) (entered e) r → Fine s (Statements e.hand.breaks e.hand.continues) e (onward r (λ ms f. MadeIn ms (left f)))
-      by (MadeIn ms f) g = scope-left e f ms e.hand.breaks e.hand.continues g
-      by (Refused rule at) g = tt
-      by (Passed bound most) g = tt
-
-  block-fits : (breaks continues : Bool) (ms : List Made) (e : Env) → Statements breaks continues ms e
-      → (all_of s.tables (map (are_known s.tables) (row.nodes_of ms)) ≡ true) × (all_fit (body_of s n m) breaks continues (listed (map (core s) (row.nodes_of ms))) ≡ true)
-  block-fits breaks continues [] e f = (refl, refl)
-  block-fits breaks continues (x ∷ xs) e f =
-      let rest = block-fits breaks continues xs e f.1 in
-      (and-both (are_known s.tables x.node) (all_of s.tables (map (are_known s.tables) (row.nodes_of xs))) f.0.numbers rest.0,
-      and-both (fits (body_of s n m) breaks continues (core s x.node)) (all_fit (body_of s n m) breaks continues (listed (map (core s) (row.nodes_of xs)))) f.0.fine rest.1)
-
-  pub block-statement : (at : ℕ) (ss : List (Elab Made)) → AreStatements s n m ss → IsStatement s n m (row.block_row at ss)
-  block-statement at ss k = record {
-    fine = λ e i c h. onward-fine s (Statements e.hand.breaks e.hand.continues) (Statement e) e (scoped (all ss) e) (λ ms. gives (made at (node.Block at (row.nodes_of ms)))) (scoped-fine ss k e i c h)
-        (λ ms e1 g c1 h1 f. made-fine s (Statement e) e1 (made at (node.Block at (row.nodes_of ms))) c1 h1 (λ w. let p = block-fits e.hand.breaks e.hand.continues ms e1 (f w) in record {
-          numbers = known-Block s.tables at (row.nodes_of ms) ∙ p.0;
-          unlabelled = refl;
-          fine = ap (fits (body_of s n m) e.hand.breaks e.hand.continues) (core-Block s.tables (signature_of s.tables) at (row.nodes_of ms)) ∙ p.1;
-          reached = λ r. absurd (true≢false (sym r ∙ ap initialises_local (core-Block s.tables (signature_of s.tables) at (row.nodes_of ms))));
-        }));
   }

@@ -1,4 +1,5 @@
-use Rattle.cf_elab_valid.proofs.Statements.{expression-statement, empty-statement, if-statement, while-statement, do-statement, for-statement, block-statement, break-statement, continue-statement, return-statement}
+use Rattle.cf_elab_valid.proofs.Statements.{expression-statement, empty-statement, if-statement, while-statement, do-statement, for-statement, break-statement, continue-statement, return-statement}
+use Rattle.cf_elab_valid.proofs.Blocks.{block-statement}
 use Rattle.cf_elab_valid.proofs.laws.simple_statements_are_valid.Goals as goal
 
 pub returns : goal.returns
