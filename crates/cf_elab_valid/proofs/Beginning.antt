@@ -27,7 +27,7 @@ pub first-holds : (s : Scene) → s.result ≡ 0 → (extent : Extent) (names : 
 first-holds s r extent names = record {
   parts = λ t v h. absurd cc;
   no_outer = λ n l h. absurd cc;
-  entities = λ name n x f h. absurd cc;
+  entities = λ n x o h. absurd cc;
   named_types = λ n x h. absurd cc;
   entries = λ n f h. absurd cc;
   result = sym r;

@@ -3,6 +3,7 @@ pub mod Arithmetic
 pub mod Assign
 pub mod Beginning
 pub mod Binary
+pub mod Blocks
 pub mod Calls
 pub mod Cast
 pub mod Choice
@@ -17,6 +18,7 @@ pub mod Fit
 pub mod FitRows
 pub mod Initial
 pub mod Making
+pub mod Moved
 pub mod Named
 pub mod Names
 pub mod Nodes
@@ -28,6 +30,7 @@ pub mod Options
 pub mod Parts
 pub mod Picks
 pub mod Plain
+pub mod Scopes
 pub mod Several
 pub mod Shapes
 pub mod Sizes

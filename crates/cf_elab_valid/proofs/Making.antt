@@ -64,10 +64,10 @@ holds-types : (s : Scene) (e : Env) (types : List Ty) → Begins e.types.types t
     → Holds s e → Holds s (record e { types = record e.types { types = types } })
 holds-types s e types b parts h =
     let next : Env = record e { types = record e.types { types = types } } in
-    let g : Steps e next = record { types = b; funs = begins-same e.types.funs; enums = begins-same e.classes.enums; locals = begins-same e.hand.locals; hand = same-hand e.hand } in record {
+    let g : Steps e next = record { types = b; funs = begins-same e.types.funs; enums = begins-same e.classes.enums; locals = begins-same e.hand.locals; hand = same-hand e.hand; outer = refl } in record {
       parts = λ n v at. part_same v (parts n v at);
       no_outer = h.no_outer;
-      entities = λ name n x f k. entity-later s e next x g (h.entities name n x f k);
+      entities = λ n x o k. entity-later s e next x g (h.entities n x o k);
       named_types = λ n x k. named-later e next x g (h.named_types n x k);
       entries = λ n f k. entry-later s e next f g (h.entries n f k);
       result = h.result;
@@ -106,7 +106,7 @@ intern-fine s t e plain fun c h = by (place_in (same_ty t) 0 e.types.types) refl
         }
     by None found =
         let next : Env = record e { types = record e.types { types = e.types.types ++ t ∷ [] } } in
-        let g : Steps e next = record { types = begins-last e.types.types t; funs = begins-same e.types.funs; enums = begins-same e.classes.enums; locals = begins-same e.hand.locals; hand = same-hand e.hand } in record {
+        let g : Steps e next = record { types = begins-last e.types.types t; funs = begins-same e.types.funs; enums = begins-same e.classes.enums; locals = begins-same e.hand.locals; hand = same-hand e.hand; outer = refl } in record {
           steps = g;
           classless = record { none = c.none; none_open = c.none_open; no_body = c.no_body; no_type = more_plain e.types.types t c.no_type plain; no_name = c.no_name; no_defaults = c.no_defaults };
           holds = λ w. let before = within-before e next s g w in

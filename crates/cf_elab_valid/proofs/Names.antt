@@ -1,5 +1,5 @@
 -- Constants, and names by themselves (2.5, 3.2, 5.1).
-use Rattle.std.proofs.Common.{◌≡◌, ℕ, Bool, true, false, not, if◌then◌else◌, List, [], ◌∷◌, map, ℤ, Option, Some, None, slice_get, refl, sym, ap, subst, ◌∙◌, true≢false, arith}
+use Rattle.std.proofs.Common.{◌≡◌, ℕ, Bool, true, false, not, if◌then◌else◌, List, [], ◌∷◌, ◌++◌, map, ℤ, Option, Some, None, slice_get, refl, sym, ap, subst, ◌∙◌, true≢false, arith}
 use Rattle.std.specs.Prelude.{option_map}
 use Rattle.std.proofs.lemmas.Option.{slice_get-map, slice_get_within}
 use Rattle.cf_types.specs.declared.ty.Fun.{Fun}
@@ -33,6 +33,7 @@ use Rattle.cf_elab_valid.proofs.Calls.{is_ref, step_no_reference, fun-tree, fun-
 use Rattle.cf_elab_valid.proofs.Early.{early-known}
 use Rattle.cf_elab_valid.proofs.Nodes.{core-Number, core-Local, core-Static, core-Function, known-Number, known-Local, known-Static, known-Function}
 use Rattle.cf_elab_valid.proofs.Numbers.{number-operand}
+use Rattle.cf_elab_valid.proofs.Scopes.{found-numbered}
 use Rattle.cf_elab_valid.proofs.Trees.{tree-at, tree-normal}
 use Rattle.cf_elab_valid.proofs.Values.{place-fits, has_type-is}
 use Rattle.cf_elab_valid.proofs.Ways.{begins-get, steps-none, steps-through, made-fine, When}
@@ -179,7 +180,7 @@ module _ (s : Scene) (scene : IsScene s) where
 
   entity-fits : (e : Env) → Holds s e → (name : Name) (n : Option ℕ) → found name e.scopes ≡ n → (x : Entity) → entity_of e n ≡ Some x → EntityFits s e x
   entity-fits e h name None is x at = absurd cc
-  entity-fits e h name (Some n) is x at = h.entities name n x is at
+  entity-fits e h name (Some n) is x at = h.entities n x (found-numbered name (e.scopes.outer ++ e.scopes.inner ∷ []) n is) at
 
   -- an identifier by itself
   pub name-fine : (at : ℕ) (name : Name) (e : Env) → Classless e → When s e (Holds s e) → FineOperand s e (operand_found at (found_alone e false name) e)

@@ -98,13 +98,13 @@ module _ (s : Scene) where
           made-fine s FunThere e n c h (λ w. let place = r.place in omega arith)
       by None found =
           let next : Env = record e { types = record e.types { funs = e.types.funs ++ g ∷ [] } } in
-          let step : Steps e next = record { types = begins-same e.types.types; funs = begins-last e.types.funs g; enums = begins-same e.classes.enums; locals = begins-same e.hand.locals; hand = same-hand e.hand } in record {
+          let step : Steps e next = record { types = begins-same e.types.types; funs = begins-last e.types.funs g; enums = begins-same e.classes.enums; locals = begins-same e.hand.locals; hand = same-hand e.hand; outer = refl } in record {
             steps = step;
             classless = record { none = c.none; none_open = c.none_open; no_body = c.no_body; no_type = c.no_type; no_name = c.no_name; no_defaults = c.no_defaults };
             holds = λ w. let k = h (within-before e next s step w) in record {
               parts = λ t v at. part_later v (k.parts t v at);
               no_outer = k.no_outer;
-              entities = λ name n x f at. entity-later s e next x step (k.entities name n x f at);
+              entities = λ n x o at. entity-later s e next x step (k.entities n x o at);
               named_types = λ n x at. named-later e next x step (k.named_types n x at);
               entries = λ n f at. entry-later s e next f step (k.entries n f at);
               result = k.result;

@@ -108,7 +108,7 @@ module _ (s : Scene) (scene : IsScene s) where
   counted n e = record e { hand = record e.hand { literals = n } }
 
   pub counted-steps : (n : ℕ) (e : Env) → Steps e (counted n e)
-  counted-steps n e = record { types = begins-same e.types.types; funs = begins-same e.types.funs; enums = begins-same e.classes.enums; locals = begins-same e.hand.locals; hand = record { kind = refl; result = refl; breaks = refl; continues = refl } }
+  counted-steps n e = record { types = begins-same e.types.types; funs = begins-same e.types.funs; enums = begins-same e.classes.enums; locals = begins-same e.hand.locals; hand = record { kind = refl; result = refl; breaks = refl; continues = refl }; outer = refl }
 
   pub counted-classless : (n : ℕ) (e : Env) → Classless e → Classless (counted n e)
   counted-classless n e c = record { none = c.none; none_open = c.none_open; no_body = c.no_body; no_type = c.no_type; no_name = c.no_name; no_defaults = c.no_defaults }
@@ -118,7 +118,7 @@ module _ (s : Scene) (scene : IsScene s) where
       let k = h (within-before e (counted n e) s (counted-steps n e) w) in record {
         parts = k.parts;
         no_outer = k.no_outer;
-        entities = λ name i x f at. entity-later s e (counted n e) x (counted-steps n e) (k.entities name i x f at);
+        entities = λ i x o at. entity-later s e (counted n e) x (counted-steps n e) (k.entities i x o at);
         named_types = λ i x at. named-later e (counted n e) x (counted-steps n e) (k.named_types i x at);
         entries = λ i f at. entry-later s e (counted n e) f (counted-steps n e) (k.entries i f at);
         result = k.result;

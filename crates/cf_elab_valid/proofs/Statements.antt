@@ -3,8 +3,6 @@ use Rattle.std.proofs.Common.{◌≡◌, ℕ, Bool, true, false, not, ◌&&◌, 
 use Rattle.std.specs.Option.{option_map, option_map_or}
 use Rattle.cf_core.specs.declared.operators.LoopForm.{LoopForm}
 use Rattle.cf_core.specs.declared.operators.LoopForm.TheVariants as form
-use Rattle.cf_types.specs.declared.ty.Ty.{Ty}
-use Rattle.cf_types.specs.declared.ty.Ty.TheVariants as ty
 use Rattle.cf_core.specs.declared.node.Core.{Core as Node}
 use Rattle.cf_core.specs.declared.node.Core.TheFolds.{fold-roll-Core}
 use Rattle.cf_core.specs.declared.node.Core.TheOpen.{Core-F}
@@ -21,7 +19,7 @@ use Rattle.cf_core.specs.View.{Started, core_step, started_step, maybe}
 use Rattle.cf_core_typed.proofs.Same.{and-both, function-operand, same-void}
 use Rattle.cf_elab.specs.Answer.{Answer, Made as MadeIn, Refused, Passed, Elab, onward, need, gives, maybe as maybe_run}
 use Rattle.cf_elab.specs.ClassOperand as class_operand
-use Rattle.cf_elab.specs.Env.{Env, Entity, object, functions, alias, class_name, enum_name, enumerator}
+use Rattle.cf_elab.specs.Env.{Env}
 use Rattle.cf_elab.specs.Initial.{no_keeper}
 use Rattle.cf_elab.specs.MethodNode.{unused}
 use Rattle.cf_elab.specs.Operand.{Value, Part, Sort, integral, enumeral, object_pointer, void_pointer, function_pointer, data_pointer, method_pointer, class_sort, array_sort, function_sort, void_sort, reference_sort, sort_of, evaluated, is_void as is_void_sort}
@@ -29,13 +27,14 @@ use Rattle.cf_elab.specs.Statement as row
 use Rattle.cf_elab.specs.Statement.{Made, made, no_label, is_main_body}
 use Rattle.cf_elab.specs.UserFit.{initial}
 use Rattle.cf_elab_valid.specs.Answers.{Fine, IsPart}
-use Rattle.cf_elab_valid.specs.Scene.{Scene, IsScene, tree, typed, core, Within, Steps, Inside, PartInside, EntityFits, TypeFits, Classless, Holds, Fits}
+use Rattle.cf_elab_valid.specs.Scene.{Scene, IsScene, tree, typed, core, Within, Steps, Inside, Classless, Holds, Fits}
 use Rattle.cf_elab_valid.specs.Sorts.{SortIs}
 use Rattle.cf_elab_valid.specs.Statements.{body_of, StatementFits, Inner, IsStatement}
 use Rattle.cf_elab_valid.proofs.Arithmetic.{IsOperand, IsTested, tested-condition}
 use Rattle.cf_elab_valid.proofs.Choice.{class_truth-fine, fits-expression}
 use Rattle.cf_elab_valid.proofs.Early.{early-sort-is}
 use Rattle.cf_elab_valid.proofs.Initial.{StartFits, initial-fine}
+use Rattle.cf_elab_valid.proofs.Moved.{moved-holds, moved-classless}
 use Rattle.cf_elab_valid.proofs.Nodes.{core-Sequence, known-Sequence, core-Full, core-Blank, core-Break, core-Continue, known-Full, known-Blank, known-Break, known-Continue}
 use Rattle.cf_elab_valid.proofs.Options.{none_some, some_is}
 use Rattle.cf_elab_valid.proofs.Parts.{evaluated-fine}
@@ -80,17 +79,17 @@ full_fits : (f : Body) (b k : Bool) (c : Core) → is_expression (typing f.scope
 full_fits f b k blank h = refl
 full_fits f b k c h = h
 
-inner-later : (s : Scene) (m : Bool) (a b : Env) → Steps a b → Inner s m a → Inner s m b
+pub inner-later : (s : Scene) (m : Bool) (a b : Env) → Steps a b → Inner s m a → Inner s m b
 inner-later s m a b g i = record {
   main = λ h. i.main (ap is_main_body (sym g.hand.kind) ∙ h);
   there = λ w. subst (Inside b) (sym g.hand.result) (inside-later a b a.hand.result g (i.there (within-before a b s g w)));
 }
 
-statement-later : (s : Scene) (n : ℕ) (m : Bool) (a b : Env) (x : Made) (e : Env) → Steps a b → StatementFits s n m b.hand.breaks b.hand.continues x e → StatementFits s n m a.hand.breaks a.hand.continues x e
+pub statement-later : (s : Scene) (n : ℕ) (m : Bool) (a b : Env) (x : Made) (e : Env) → Steps a b → StatementFits s n m b.hand.breaks b.hand.continues x e → StatementFits s n m a.hand.breaks a.hand.continues x e
 statement-later s n m a b x e g f = subst (λ k. StatementFits s n m a.hand.breaks k x e) g.hand.continues (subst (λ k. StatementFits s n m k b.hand.continues x e) g.hand.breaks f)
 
 module _ (s : Scene) (scene : IsScene s) (n : ℕ) (m : Bool) where
-  abbrev Statement : Env → Made → Env → Type 0
+  abbrev pub Statement : Env → Made → Env → Type 0
   Statement e x f = StatementFits s n m e.hand.breaks e.hand.continues x f
 
   -- ---- simple statements
@@ -162,7 +161,7 @@ module _ (s : Scene) (scene : IsScene s) (n : ℕ) (m : Bool) where
       onward-fine s (IsTested s) IsCondition e (class_operand.truth 13 at v e) (λ x. gives x.node) (class_truth-fine s scene 13 at v e c h f)
       (λ x e1 g c1 h1 p. made-fine s IsCondition e1 x.node c1 h1 (λ w. record { numbers = (p w).plain.fits.numbers; condition = tested-condition s x e1 (p w) }))
 
-  same-statement : (breaks continues : Bool) (x : Made) (a b : Env) → StatementFits s n m breaks continues x a → StatementFits s n m breaks continues x b
+  pub same-statement : (breaks continues : Bool) (x : Made) (a b : Env) → StatementFits s n m breaks continues x a → StatementFits s n m breaks continues x b
   same-statement breaks continues x a b f = record { numbers = f.numbers; unlabelled = f.unlabelled; fine = f.fine; reached = f.reached }
 
   -- ---- if
@@ -223,58 +222,18 @@ module _ (s : Scene) (scene : IsScene s) (n : ℕ) (m : Bool) where
 
   -- ---- loops
 
-  -- the same environment, with `break` and `continue` as before
+  -- with `break` and `continue` as told
   abbrev flagged : Bool → Bool → Env → Env
   flagged b k e = record e { hand = record e.hand { breaks = b; continues = k } }
 
   flagged-classless : (b k : Bool) (e : Env) → Classless e → Classless (flagged b k e)
-  flagged-classless b k e c = record { none = c.none; none_open = c.none_open; no_body = c.no_body; no_type = c.no_type; no_name = c.no_name; no_defaults = c.no_defaults }
+  flagged-classless b k e c = moved-classless s (record e.hand { breaks = b; continues = k }) e.scopes e refl c
 
   within-flagged : (b k : Bool) (e : Env) → Within (flagged b k e) s → Within e s
   within-flagged b k e w = record { types = w.types; funs = w.funs; enums = w.enums; locals = w.locals }
 
-  flagged-within : (b k : Bool) (e : Env) → Within e s → Within (flagged b k e) s
-  flagged-within b k e w = record { types = w.types; funs = w.funs; enums = w.enums; locals = w.locals }
-
-  entity-flagged : (b k : Bool) (e : Env) (x : Entity) → EntityFits s e x → EntityFits s (flagged b k e) x
-  entity-flagged b k e (object x) f = f
-  entity-flagged b k e (functions fs) f = f
-  entity-flagged b k e (alias t) f = f
-  entity-flagged b k e (class_name t) f = f
-  entity-flagged b k e (enum_name t) f = f
-  entity-flagged b k e (enumerator t z) f = f
-
-  named-flagged : (b k : Bool) (e : Env) (x : Entity) → TypeFits e x → TypeFits (flagged b k e) x
-  named-flagged b k e (object x) f = tt
-  named-flagged b k e (functions fs) f = tt
-  named-flagged b k e (alias t) f = f
-  named-flagged b k e (class_name t) f = tt
-  named-flagged b k e (enum_name t) f = f
-  named-flagged b k e (enumerator t z) f = tt
-
-  part-flagged : (b k : Bool) (e : Env) (v : Ty) → PartInside e v → PartInside (flagged b k e) v
-  part-flagged b k e (ty.Fun f) p = p
-  part-flagged b k e (ty.Enum f) p = p
-  part-flagged b k e ty.Void p = p
-  part-flagged b k e (ty.Int f) p = p
-  part-flagged b k e (ty.Class f) p = p
-  part-flagged b k e (ty.Ptr f) p = p
-  part-flagged b k e (ty.Ref f) p = p
-  part-flagged b k e (ty.Array f q) p = p
-  part-flagged b k e (ty.MemData f q) p = p
-  part-flagged b k e (ty.MemFun f q) p = p
-  part-flagged b k e (ty.Const f) p = p
-
   flagged-holds : (b k : Bool) (e : Env) → When s e (Holds s e) → When s (flagged b k e) (Holds s (flagged b k e))
-  flagged-holds b k e h w =
-      let o = h (within-flagged b k e w) in record {
-        parts = λ t v at. part-flagged b k e v (o.parts t v at);
-        no_outer = o.no_outer;
-        entities = λ name i x f at. entity-flagged b k e x (o.entities name i x f at);
-        named_types = λ i x at. named-flagged b k e x (o.named_types i x at);
-        entries = λ i f at. let p = o.entries i f at in record { fun = p.fun; here = p.here };
-        result = o.result;
-      }
+  flagged-holds b k e h w = moved-holds s (record e.hand { breaks = b; continues = k }) e.scopes e refl (λ i q. q) (h (within-flagged b k e w))
 
   -- a body in which both may stand
   looped-fine : (run : Elab Made) → IsStatement s n m run → (e : Env) → Inner s m e → Classless e → When s e (Holds s e) → Fine s (λ x f. StatementFits s n m true true x f) e (row.looped run e)
@@ -292,6 +251,7 @@ module _ (s : Scene) (scene : IsScene s) (n : ℕ) (m : Bool) where
           enums = g.steps.enums;
           locals = g.steps.locals;
           hand = record { kind = g.steps.hand.kind; result = g.steps.hand.result; breaks = refl; continues = refl };
+          outer = g.steps.outer;
         };
         classless = flagged-classless e.hand.breaks e.hand.continues f g.classless;
         holds = flagged-holds e.hand.breaks e.hand.continues f g.holds;

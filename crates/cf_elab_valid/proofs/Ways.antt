@@ -32,7 +32,7 @@ pub same-hand : (h : Hand) → SameHand h h
 same-hand h = record { kind = refl; result = refl; breaks = refl; continues = refl }
 
 pub steps-none : (e : Env) → Steps e e
-steps-none e = record { types = begins-same e.types.types; funs = begins-same e.types.funs; enums = begins-same e.classes.enums; locals = begins-same e.hand.locals; hand = same-hand e.hand }
+steps-none e = record { types = begins-same e.types.types; funs = begins-same e.types.funs; enums = begins-same e.classes.enums; locals = begins-same e.hand.locals; hand = same-hand e.hand; outer = refl }
 
 pub steps-through : (a b c : Env) → Steps a b → Steps b c → Steps a c
 steps-through a b c g h = record {
@@ -46,6 +46,7 @@ steps-through a b c g h = record {
     breaks = h.hand.breaks ∙ g.hand.breaks;
     continues = h.hand.continues ∙ g.hand.continues;
   };
+  outer = h.outer ∙ g.outer;
 }
 
 pub within-before : (a b : Env) (s : Scene) → Steps a b → Within b s → Within a s

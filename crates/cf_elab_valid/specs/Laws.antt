@@ -1,5 +1,5 @@
 -- What elaboration makes of expressions and statements: in each end that the way leads to, nodes of their types, with their numbers there.
-use Rattle.std.specs.Prelude.{◌≡◌, ℕ, Bool, true, Option, None, Some}
+use Rattle.std.specs.Prelude.{◌≡◌, ℕ, Bool, true, List, Option, None, Some}
 use Rattle.cf_syntax.specs.declared.declarator.TypeId.{TypeId, fold-TypeId}
 use Rattle.cf_syntax.specs.declared.expression.Expr.{Expr}
 use Rattle.cf_elab.specs.Answer.{Elab}
@@ -15,7 +15,7 @@ use Rattle.cf_elab.specs.Statement.{Made}
 use Rattle.cf_elab_valid.specs.Answers.{Fine, FineOperand, IsPart}
 use Rattle.cf_elab_valid.specs.Constants.{constants_fit, type_id_fits}
 use Rattle.cf_elab_valid.specs.Scene.{Scene, IsScene, Within, Inside, Classless, Holds}
-use Rattle.cf_elab_valid.specs.Statements.{IsStatement}
+use Rattle.cf_elab_valid.specs.Statements.{IsStatement, AreStatements}
 
 -- an expression of forms that are built, wherever it is elaborated
 abbrev pub ExpressionsAreValid : Type 0
@@ -43,6 +43,7 @@ pub record StatementsAreValid (s : Scene) (parameters : ℕ) (is_main : Bool) : 
   pub do_loop : (at : ℕ) (body : Elab Made) (x : Part) → IsStatement s parameters is_main body → IsPart s x → IsStatement s parameters is_main (row.do_row at body x)
   pub for_loop : (at : ℕ) (first : Elab Made) (x step : Option Part) (body : Elab Made) → IsStatement s parameters is_main first → ((p : Part) → x ≡ Some p → IsPart s p)
       → ((p : Part) → step ≡ Some p → IsPart s p) → IsStatement s parameters is_main body → IsStatement s parameters is_main (row.for_row at first x step body)
+  pub block : (at : ℕ) (runs : List (Elab Made)) → AreStatements s parameters is_main runs → IsStatement s parameters is_main (row.block_row at runs)
   pub leaving : (at : ℕ) → IsStatement s parameters is_main (row.break_row at)
   pub continuing : (at : ℕ) → IsStatement s parameters is_main (row.continue_row at)
   pub giving : (at : ℕ) (x : Option Part) → ((p : Part) → x ≡ Some p → IsPart s p) → IsStatement s parameters is_main (row.return_row at x)

@@ -2,13 +2,13 @@
 --
 -- Nodes are typed by the tables of the end. An environment on the way has the first types of them, so nothing has to be said of a node when its
 -- tables grow.
-use Rattle.std.specs.Prelude.{◌≡◌, ℕ, ◌<◌, ◌≤◌, Bool, true, false, not, ◌||◌, List, [], ◌∷◌, ◌++◌, length, map, ℤ, Option, None, Some, slice_get}
+use Rattle.std.specs.Prelude.{◌≡◌, ◌⊎◌, ℕ, ◌<◌, ◌≤◌, Bool, true, false, not, ◌||◌, List, [], ◌∷◌, ◌++◌, length, map, ℤ, Option, None, Some, slice_get}
 use Rattle.cf_types.specs.declared.ty.Ty.{Ty}
 use Rattle.cf_types.specs.declared.ty.Ty.TheVariants as ty
 use Rattle.cf_types.specs.Table.{IsTable}
 use Rattle.cf_classes.specs.Layout.{extent}
 use Rattle.cf_classes.specs.declared.label.Label.{Label}
-use Rattle.cf_lookup.specs.Scope.{found}
+use Rattle.cf_lookup.specs.Scope.{OpenScopes}
 use Rattle.cf_core.specs.declared.node.Core.{Core as Node}
 use Rattle.cf_core.specs.Core.{Core, Static}
 use Rattle.cf_core.specs.FromClasses.{signature_of}
@@ -78,19 +78,33 @@ pub record SameHand (old new : Hand) : Type 0 where
   pub breaks : new.breaks ≡ old.breaks
   pub continues : new.continues ≡ old.continues
 
--- nothing of types, enumerations and locals is lost or changed
+-- nothing of types, enumerations and locals is lost or changed, and the scopes around are the same
 pub record Steps (old new : Env) : Type 0 where
   pub types : Begins old.types.types new.types.types
   pub funs : Begins old.types.funs new.types.funs
   pub enums : Begins old.classes.enums new.classes.enums
   pub locals : Begins old.hand.locals new.hand.locals
   pub hand : SameHand old.hand new.hand
+  pub outer : new.scopes.outer ≡ old.scopes.outer
 
 -- a type of this number is there already
 abbrev pub Inside : Env → ℕ → Type 0
 Inside env t = t < length env.types.types
 
 -- ---- names
+
+-- a number that some name has
+abbrev pub IsNumbered : ℕ → List (Name × ℕ) → Type 0
+IsNumbered n [] = ⊥
+IsNumbered n (x ∷ xs) = (x.1 ≡ n) ⊎ IsNumbered n xs
+
+abbrev pub IsNumberedIn : ℕ → List (List (Name × ℕ)) → Type 0
+IsNumberedIn n [] = ⊥
+IsNumberedIn n (x ∷ xs) = IsNumbered n x ⊎ IsNumberedIn n xs
+
+-- in some open scope a name has the number
+abbrev pub IsOpen : ℕ → OpenScopes → Type 0
+IsOpen n scopes = IsNumberedIn n (scopes.outer ++ scopes.inner ∷ [])
 
 abbrev pub HomeFits : Scene → ℕ → Home → Type 0
 HomeFits s t (local_home i) = slice_get s.locals i ≡ Some t
@@ -138,7 +152,7 @@ pub record Classless (env : Env) : Type 0 where
 pub record Holds (s : Scene) (env : Env) : Type 0 where
   pub parts : (t : ℕ) (v : Ty) → slice_get env.types.types t ≡ Some v → PartInside env v
   pub no_outer : (n : ℕ) (l : Label) → slice_get env.classes.enums n ≡ Some l → l.outer ≡ None
-  pub entities : (name : Name) (n : ℕ) (e : Entity) → found name env.scopes ≡ Some n → slice_get env.entities n ≡ Some e → EntityFits s env e
+  pub entities : (n : ℕ) (e : Entity) → IsOpen n env.scopes → slice_get env.entities n ≡ Some e → EntityFits s env e
   pub named_types : (n : ℕ) (e : Entity) → slice_get env.entities n ≡ Some e → TypeFits env e
   pub entries : (n : ℕ) (f : FunctionEntry) → slice_get env.entries n ≡ Some f → EntryFits s env f
   pub result : env.hand.result ≡ s.result

@@ -1,5 +1,5 @@
 -- What holds of a statement: it fits the function at hand, and tells whether it initialises a local.
-use Rattle.std.specs.Prelude.{◌≡◌, ℕ, Bool, true}
+use Rattle.std.specs.Prelude.{◌≡◌, ℕ, Bool, true, List, [], ◌∷◌}
 use Rattle.cf_core.specs.Numbers.{are_known}
 use Rattle.cf_core.specs.Valid.{Body, fits, initialises_local}
 use Rattle.cf_elab.specs.Answer.{Elab}
@@ -27,3 +27,7 @@ pub record Inner (s : Scene) (is_main : Bool) (e : Env) : Type 0 where
 -- a statement that is fine wherever it is elaborated
 pub record IsStatement (s : Scene) (parameters : ℕ) (is_main : Bool) (run : Elab Made) : Type 0 where
   pub fine : (e : Env) → Inner s is_main e → Classless e → (Within e s → Holds s e) → Fine s (StatementFits s parameters is_main e.hand.breaks e.hand.continues) e (run e)
+
+abbrev pub AreStatements : Scene → ℕ → Bool → List (Elab Made) → Type 0
+AreStatements s parameters is_main [] = Unit {0}
+AreStatements s parameters is_main (run ∷ runs) = IsStatement s parameters is_main run × AreStatements s parameters is_main runs

@@ -12,7 +12,7 @@ pub fn types_are_there()
     ensures { TypesAreThere }
 {}
 
-/// What is made of a statement that declares nothing fits the function at hand, where its parts are fine: expressions, choices, loops and jumps (6.2 to 6.6).
+/// What is made of a statement that declares nothing fits the function at hand, where its parts are fine: expressions, blocks, choices, loops and jumps (6.2 to 6.6).
 pub fn simple_statements_are_valid()
     ensures { SimpleStatementsAreValid }
 {}
