@@ -1,7 +1,6 @@
-mod CheckLaws
-mod ExpressionLaws
-mod ItemLaws
+mod CheckingItemsLaws
+mod CheckingLaws
 mod ListLaws
 mod SignatureLaws
-mod StatementLaws
-mod UnitLaws
+mod TypingLaws
+mod WalkLaws

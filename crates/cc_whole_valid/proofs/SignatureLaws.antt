@@ -1,13 +1,16 @@
 -- Types of parameters, one by one.
-use Rattle.std.proofs.Common.{◌≡◌, ◌≢◌, ℕ, suc, ◌+◌, ◌≤◌, Bool, true, false, ◌&&◌, List, [], ◌∷◌, length, map, drop, Some, slice_get, refl, ap, sym, ◌∙◌}
+use Rattle.std.proofs.Common.{◌≡◌, ◌≢◌, ℕ, suc, ◌+◌, ◌≤◌, Bool, true, false, ◌&&◌, List, [], ◌∷◌, length, map, drop, Some, Ok, slice_get, refl, ap, sym, ◌∙◌}
 use Rattle.std.proofs.lemmas.List.{drop_all}
 use Rattle.cc_whole.specs.declared.types.CType.{CType}
 use Rattle.cc_whole.specs.declared.expression.CExpression.{CExpression}
 use Rattle.cc_whole.specs.Plain.{expression_of}
 use Rattle.cc_whole.specs.Known.{Named}
 use Rattle.cc_whole.specs.Types.{same_type, same_types}
-use Rattle.cc_whole_valid.specs.Accepts.{accepts_argument, accepts_arguments}
+use Rattle.cc_whole_valid.specs.declared.stop.Stop.{Stop}
+use Rattle.cc_whole_valid.specs.Walk.{and_then, ◌>>=◌, Fails}
+use Rattle.cc_whole_valid.specs.Checking.{argument_from, arguments_from}
 use Rattle.cc_whole_valid.proofs.ListLaws.{left_get}
+use Rattle.cc_whole_valid.proofs.WalkLaws.{fails_then, fails_by}
 
 pub other_lengths : (ss ts : List CType) → length ss ≢ length ts → false ≡ same_types ss ts
 other_lengths [] [] h = absurd (h refl)
@@ -35,18 +38,18 @@ same_to_the_end ss ts i h k e = sym (ap (λ l. same_types l (drop i ts)) (drop_a
 
 -- ---- arguments
 
-module _ (ts : List CType) (es : List CExpression) (names : List Named) (i : ℕ) (t : CType) (e : CExpression) (here : slice_get ts i ≡ Some t)
+module _ (ts : List CType) (es : List CExpression) (names : List Named) (i at before : ℕ) (t : CType) (e : CExpression) (here : slice_get ts i ≡ Some t)
     (there : drop i es ≡ e ∷ drop (i + 1) es)
-    (so_far : accepts_arguments (drop i ts) (map expression_of (drop i es)) names ≡ accepts_arguments ts (map expression_of es) names) where
-  argument : (accepts_argument t (expression_of e) names && accepts_arguments (drop (i + 1) ts) (map expression_of (drop (i + 1) es)) names)
-      ≡ accepts_arguments ts (map expression_of es) names
+    (so_far : arguments_from (drop i ts) (map expression_of (drop i es)) names at ≡ arguments_from ts (map expression_of es) names before) where
+  argument : (argument_from t (expression_of e) names >>= (λ u. arguments_from (drop (i + 1) ts) (map expression_of (drop (i + 1) es)) names)) at
+      ≡ arguments_from ts (map expression_of es) names before
   argument =
-      sym (ap (λ l. accepts_arguments l (map expression_of (drop i es)) names) (left_get ts i t here)
-      ∙ ap (λ l. accepts_arguments (t ∷ drop (i + 1) ts) (map expression_of l) names) there) ∙ so_far
+      sym (ap (λ l. arguments_from l (map expression_of (drop i es)) names at) (left_get ts i t here)
+      ∙ ap (λ l. arguments_from (t ∷ drop (i + 1) ts) (map expression_of l) names at) there) ∙ so_far
 
-  pub unfit_here : accepts_argument t (expression_of e) names ≡ false → false ≡ accepts_arguments ts (map expression_of es) names
-  unfit_here h = sym (ap (λ b. b && accepts_arguments (drop (i + 1) ts) (map expression_of (drop (i + 1) es)) names) h) ∙ argument
+  pub argument_stops : (x : Stop) → Fails (argument_from t (expression_of e) names at) x → Fails (arguments_from ts (map expression_of es) names before) x
+  argument_stops x h = fails_by _ _ x argument (fails_then _ (λ u. arguments_from (drop (i + 1) ts) (map expression_of (drop (i + 1) es)) names) x h)
 
-  pub fit_here : accepts_argument t (expression_of e) names ≡ true
-      → accepts_arguments (drop (i + 1) ts) (map expression_of (drop (i + 1) es)) names ≡ accepts_arguments ts (map expression_of es) names
-  fit_here h = sym (ap (λ b. b && accepts_arguments (drop (i + 1) ts) (map expression_of (drop (i + 1) es)) names) h) ∙ argument
+  pub argument_passed : (u : Unit {0}) (behind : ℕ) → argument_from t (expression_of e) names at ≡ Ok (u, behind)
+      → arguments_from (drop (i + 1) ts) (map expression_of (drop (i + 1) es)) names behind ≡ arguments_from ts (map expression_of es) names before
+  argument_passed u behind h = sym (ap (λ r. and_then r (λ u. arguments_from (drop (i + 1) ts) (map expression_of (drop (i + 1) es)) names)) h) ∙ argument

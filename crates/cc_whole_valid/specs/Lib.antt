@@ -1,3 +1,5 @@
-pub mod Accepts
-pub mod AcceptsItems
+pub mod Checking
+pub mod CheckingItems
 pub mod Memory
+pub mod Typing
+pub mod Walk

@@ -2,13 +2,16 @@ ghost use Rattle.std.specs.Prelude.{◌≡◌, length, map, option_map};
 ghost use Rattle.cc_whole.specs.Plain.{place_of, expression_of, callee_of};
 ghost use Rattle.cc_whole.specs.Known as known_spec;
 ghost use Rattle.cc_whole.specs.Statements as checks;
-ghost use Rattle.cc_whole_valid.specs.Accepts as spec;
-ghost use Rattle.cc_whole_valid.specs.Memory.{meant, type_at, signature_at, known};
+ghost use Rattle.cc_whole_valid.specs.Checking as spec;
+ghost use Rattle.cc_whole_valid.specs.Memory.{meant, type_at, known};
+ghost use Rattle.cc_whole_valid.specs.Walk.{Walks, WalksTo};
 
 use crate::around::Around;
-use crate::expressions::{is_main, target_type, type_of};
+use crate::expressions::{is_main, target_from, type_from};
+use crate::landmarks::{pass, pass_signature};
 use crate::scope::{Entity, Scope};
 use crate::signature::Signature;
+use crate::stop::Stop;
 use crate::types::is_function_pointer;
 use cc_whole::{CCallee, CExpression, CPlace, CType};
 
@@ -19,56 +22,82 @@ pub fn is_helper(name: &[u8]) -> bool
     name.starts_with(b"__h")
 }
 
-fn signature_of_name<'a>(found: Option<Entity<'a>>) -> Option<Signature<'a>>
-    ensures { signature_at result ≡ spec.signature_of_name (meant found.entry) }
+/// The type of a function of this name, at whose name the check is.
+#[tactic(auto, unfolding(crate::specs::Checking::signature_by))]
+fn signature_by<'a>(at: usize, found: Option<Entity<'a>>) -> Result<Signature<'a>, Stop>
+    ensures { WalksTo type_at (spec.signature_by (meant found.entry) at) result at }
 {
     match found {
-        Some(Entity::Function(p)) => Some(Signature::Declared(p)),
-        _ => None,
+        None => Err(Stop::Broken { rule: 1, place: at }),
+        Some(Entity::Function(p)) => Ok(Signature::Declared(p)),
+        Some(Entity::Object(_)) => Err(Stop::Broken { rule: 3, place: at }),
     }
 }
 
 /// The type of the function that a call calls.
-fn signature_called<'a>(names: &Scope<'a>, callee: &'a CCallee) -> Option<Signature<'a>>
-    ensures { signature_at result ≡ spec.signature_called (callee_of callee.now) names.now }
+#[tactic(auto, unfolding(crate::specs::Checking::signature_from))]
+fn signature_from<'a>(
+    names: &Scope<'a>,
+    at: usize,
+    callee: &'a CCallee,
+) -> Result<Signature<'a>, Stop>
+    ensures { WalksTo type_at (spec.signature_from (callee_of callee.now) names.now at) result at }
 {
     match callee {
-        CCallee::Name(name) => signature_of_name(names.find(name.as_slice())),
-        CCallee::Pointer(s, _) => Some(Signature::Written(s)),
+        CCallee::Name(name) => signature_by(at, names.find(name.as_slice())),
+        CCallee::Pointer(s, _) => Ok(Signature::Written(s)),
     }
 }
 
-fn accepts_pointer(names: &Scope<'_>, callee: &CCallee) -> bool
-    ensures { result ≡ spec.accepts_pointer (callee_of callee.now) names.now }
+/// Goes past what a call calls: a name, or a pointer to a function.
+#[tactic(auto, unfolding(crate::specs::Checking::callee_from))]
+fn callee_from(names: &Scope<'_>, at: &mut usize, callee: &CCallee) -> Result<(), Stop>
+    ensures { Walks (spec.callee_from (callee_of callee.now) names.now at.old) result at.new }
 {
     match callee {
-        CCallee::Name(_) => true,
-        CCallee::Pointer(_, e) => match type_of(names, e.get()) {
-            Some(t) => is_function_pointer(t),
-            None => false,
-        },
-    }
-}
-
-fn accepts_argument(names: &Scope<'_>, t: CType, e: &CExpression) -> bool
-    ensures { result ≡ spec.accepts_argument t (expression_of e.now) names.now }
-{
-    match type_of(names, e) {
-        Some(s) => s.is(t),
-        None => false,
-    }
-}
-
-fn accepts_arguments(names: &Scope<'_>, s: Signature<'_>, all: &[CExpression]) -> bool
-    requires { length (type_at s).parameters ≡ length all.now }
-    ensures { result ≡ spec.accepts_arguments (type_at s.entry).parameters (map expression_of all.now) names.now }
-{
-    for (index, e) in all.iter().enumerate() {
-        if !accepts_argument(names, s.parameter(index), e) {
-            return false;
+        CCallee::Name(_) => pass(at, 1),
+        CCallee::Pointer(s, e) => {
+            pass_signature(at, s)?;
+            let place = *at;
+            let t = type_from(names, at, e.get())?;
+            if !is_function_pointer(t) {
+                return Err(Stop::Broken { rule: 3, place });
+            }
+            Ok(())
         }
     }
-    true
+}
+
+#[tactic(auto, unfolding(crate::specs::Checking::argument_from))]
+fn argument_from(
+    names: &Scope<'_>,
+    at: &mut usize,
+    wanted: CType,
+    e: &CExpression,
+) -> Result<(), Stop>
+    ensures { Walks (spec.argument_from wanted (expression_of e.now) names.now at.old) result at.new }
+{
+    let place = *at;
+    let t = type_from(names, at, e)?;
+    if !t.is(wanted) {
+        return Err(Stop::Broken { rule: 5, place });
+    }
+    Ok(())
+}
+
+fn arguments_from(
+    names: &Scope<'_>,
+    at: &mut usize,
+    s: Signature<'_>,
+    all: &[CExpression],
+) -> Result<(), Stop>
+    requires { length (type_at s).parameters ≡ length all.now }
+    ensures { Walks (spec.arguments_from (type_at s.entry).parameters (map expression_of all.now) names.now at.old) result at.new }
+{
+    for (index, e) in all.iter().enumerate() {
+        argument_from(names, at, s.parameter(index), e)?;
+    }
+    Ok(())
 }
 
 /// Whether a helper may call it.
@@ -91,13 +120,6 @@ fn calls_main(callee: &CCallee) -> bool
     }
 }
 
-fn accepts_callee(names: &Scope<'_>, around: Around, callee: &CCallee) -> bool
-    ensures { result ≡ spec.accepts_callee (callee_of callee.now) (known names.now around) }
-{
-    (!around.in_helper || helper_may_call(callee))
-        && (!calls_main(callee) && accepts_pointer(names, callee))
-}
-
 /// Whether a result fits the place that it is stored at, if it is stored.
 fn fits_stored(stored: Option<CType>, given: Option<CType>) -> bool
     ensures { result ≡ checks.fits_stored stored given }
@@ -109,43 +131,67 @@ fn fits_stored(stored: Option<CType>, given: Option<CType>) -> bool
     }
 }
 
-fn accepts_call(
+/// Goes past the call of a function of this type, at which the check is.
+#[tactic(auto, unfolding(crate::specs::Checking::call_from))]
+fn call_from(
     names: &Scope<'_>,
+    at: &mut usize,
     around: Around,
     stored: Option<CType>,
     s: Signature<'_>,
     callee: &CCallee,
     arguments: &[CExpression],
-) -> bool
-    ensures { result ≡ spec.accepts_call (callee_of callee.now) (map expression_of arguments.now) (known names.now around) stored (type_at s.entry) }
+) -> Result<(), Stop>
+    ensures { Walks (spec.call_from (callee_of callee.now) (map expression_of arguments.now) (known names.now around) stored (type_at s.entry) at.old) result at.new }
 {
-    fits_stored(stored, s.result())
-        && (s.len() == arguments.len()
-            && (accepts_callee(names, around, callee) && accepts_arguments(names, s, arguments)))
+    let place = *at;
+    if !fits_stored(stored, s.result()) {
+        return Err(Stop::Broken { rule: 4, place });
+    }
+    if s.len() != arguments.len() {
+        return Err(Stop::Broken { rule: 5, place });
+    }
+    if around.in_helper && !helper_may_call(callee) {
+        return Err(Stop::Broken { rule: 9, place });
+    }
+    if calls_main(callee) {
+        return Err(Stop::Broken { rule: 10, place });
+    }
+    callee_from(names, at, callee)?;
+    arguments_from(names, at, s, arguments)
 }
 
 /// The type of the place that gets the result, if it is stored.
-fn stored_at(names: &Scope<'_>, place: &Option<CPlace>) -> Option<Option<CType>>
-    ensures { result ≡ spec.stored_at (option_map place_of place.now) names.now }
+#[tactic(auto, unfolding(crate::specs::Checking::stored_from))]
+fn stored_from(
+    names: &Scope<'_>,
+    at: &mut usize,
+    place: &Option<CPlace>,
+) -> Result<Option<CType>, Stop>
+    ensures { Walks (spec.stored_from (option_map place_of place.now) names.now at.old) result at.new }
 {
     match place {
-        None => Some(None),
-        Some(place) => Some(Some(target_type(names, place)?)),
+        None => Ok(None),
+        Some(place) => {
+            let t = target_from(names, at, place)?;
+            Ok(Some(t))
+        }
     }
 }
 
 /// `[place =] callee(arguments);`
-pub fn accepts_called(
+#[tactic(auto, unfolding(crate::specs::Checking::called_from))]
+pub fn called_from(
     names: &Scope<'_>,
+    at: &mut usize,
     around: Around,
     place: &Option<CPlace>,
     callee: &CCallee,
     arguments: &[CExpression],
-) -> bool
-    ensures { result ≡ spec.accepts_called (option_map place_of place.now) (callee_of callee.now) (map expression_of arguments.now) (known names.now around) }
+) -> Result<(), Stop>
+    ensures { Walks (spec.called_from (option_map place_of place.now) (callee_of callee.now) (map expression_of arguments.now) (known names.now around) at.old) result at.new }
 {
-    match (stored_at(names, place), signature_called(names, callee)) {
-        (Some(stored), Some(s)) => accepts_call(names, around, stored, s, callee, arguments),
-        _ => false,
-    }
+    let stored = stored_from(names, at, place)?;
+    let s = signature_from(names, *at, callee)?;
+    call_from(names, at, around, stored, s, callee, arguments)
 }

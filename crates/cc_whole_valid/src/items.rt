@@ -1,47 +1,59 @@
-ghost use Rattle.std.specs.Prelude.{◌≡◌, ◌∷◌, true, IfOk};
+ghost use Rattle.std.specs.Prelude.{◌≡◌, ◌∷◌, OnOk};
+ghost use Rattle.cc_whole.specs.Landmarks.{static_marks as marks_of_static};
 ghost use Rattle.cc_whole.specs.Plain.{item_of, function_of, body_of, defines, defines_variable};
 ghost use Rattle.cc_whole.specs.Valid.{inside, named_by, defined_after};
-ghost use Rattle.cc_whole_valid.specs.Accepts.{accepts_body};
-ghost use Rattle.cc_whole_valid.specs.AcceptsItems as spec;
+ghost use Rattle.cc_whole_valid.specs.Checking.{body_from as walk_of_body};
+ghost use Rattle.cc_whole_valid.specs.CheckingItems as spec;
+ghost use Rattle.cc_whole_valid.specs.Walk.{Walks};
 
 use crate::around::Around;
 use crate::calls::is_helper;
-use crate::locals::{accepts_parameters, add_parameters};
-use crate::names::accepts_name;
+use crate::landmarks::{pass, result_marks};
+use crate::locals::{add_parameters, parameters_from};
+use crate::names::declared_from;
 use crate::scope::{Entity, Entry, Scope};
-use crate::statements::accepts_body;
-use crate::variables::{accepts_start, accepts_variable};
+use crate::statements::body_from;
+use crate::stop::Stop;
+use crate::variables::{start_from, variable_from};
 use cc_whole::{CFunction, CItem, CPrototype, CVariable};
-use cf_base::Memory;
 use cf_name_list::Names;
 use std::alloc::Global;
 
-/// Whether a function may be declared so behind these names and definitions, or defined.
-fn accepts_prototype(
+/// How many landmarks `static` has, where it stands.
+fn static_marks(is_static: bool) -> usize
+    ensures { result ≡ marks_of_static is_static }
+{
+    if is_static { 1 } else { 0 }
+}
+
+/// Goes past the head of a function that is declared so behind these names and definitions, or defined.
+#[tactic(auto, unfolding(crate::specs::CheckingItems::prototype_from))]
+fn prototype_from(
     alloc: Global,
     names: &Scope<'_>,
     defined: &Names<'_>,
+    at: &mut usize,
     is_definition: bool,
     p: &CPrototype,
-) -> Result<bool, Memory>
-    ensures { IfOk result (λ ok. ok ≡ spec.accepts_prototype names.now defined.now is_definition p.now) }
+) -> Result<(), Stop>
+    ensures { Walks (spec.prototype_from names.now defined.now is_definition p.now at.old) result at.new }
 {
     let name = p.name.as_slice();
-    if accepts_name(names, defined, is_definition, name, Entity::Function(p)) {
-        accepts_parameters(alloc, p.parameters.as_slice())
-    } else {
-        Ok(false)
-    }
+    pass(at, static_marks(p.is_static))?;
+    pass(at, result_marks(p.result))?;
+    declared_from(names, defined, at, is_definition, name, Entity::Function(p))?;
+    parameters_from(alloc, at, p.parameters.as_slice())
 }
 
-/// Whether the body of a function is valid, whose own name is in scope already.
-fn accepts_inside<'a>(
+/// Goes past the body of a function, whose own name is in scope already.
+fn inside_from<'a>(
     alloc: Global,
     names: &mut Scope<'a>,
+    at: &mut usize,
     f: &'a CFunction,
-) -> Result<bool, Memory>
-    ensures valid { IfOk result (λ ok. ok ≡ accepts_body (body_of f.now.body) (inside f.now.prototype names.old)) }
-    ensures after { IfOk result (λ ok. ok ≡ true → names.new ≡ names.old) }
+) -> Result<(), Stop>
+    ensures walk { Walks (walk_of_body (body_of f.now.body) (inside f.now.prototype names.old) at.old) result at.new }
+    ensures names { OnOk result (names.new ≡ names.old) }
 {
     let outside = names.len();
     add_parameters(names, f.prototype.parameters.as_slice())?;
@@ -51,104 +63,107 @@ fn accepts_inside<'a>(
         in_loop: false,
         may_break: false,
     };
-    if !accepts_body(alloc, names, around, &f.body)? {
-        return Ok(false);
-    }
+    body_from(alloc, names, at, around, &f.body)?;
     names.cut(outside);
-    Ok(true)
+    Ok(())
 }
 
-/// Whether a function may be defined so. Its name is in scope afterwards.
-fn accepts_function<'a>(
+/// A shared definition is not static.
+#[tactic(auto, unfolding(crate::specs::CheckingItems::unshared_from))]
+fn unshared_from(at: usize, is_shared: bool, is_static: bool) -> Result<(), Stop>
+    ensures { Walks (spec.unshared_from is_shared is_static at) result at }
+{
+    if is_shared && is_static {
+        return Err(Stop::Broken {
+            rule: 12,
+            place: at,
+        });
+    }
+    Ok(())
+}
+
+/// Goes past the definition of a function, whose name is in scope afterwards.
+#[tactic(auto, unfolding(crate::specs::CheckingItems::function_from))]
+fn function_from<'a>(
     alloc: Global,
     names: &mut Scope<'a>,
     defined: &Names<'_>,
+    at: &mut usize,
     f: &'a CFunction,
-) -> Result<bool, Memory>
-    ensures valid { IfOk result (λ ok. ok ≡ spec.accepts_function_definition (function_of f.now) names.old defined.now) }
-    ensures after { IfOk result (λ ok. ok ≡ true → names.new ≡ named_by (defines (function_of f.now)) ∷ names.old) }
+) -> Result<(), Stop>
+    ensures walk { Walks (spec.function_from (function_of f.now) names.old defined.now at.old) result at.new }
+    ensures names { OnOk result (names.new ≡ named_by (defines (function_of f.now)) ∷ names.old) }
 {
-    if f.is_shared && f.prototype.is_static {
-        return Ok(false);
-    }
-    if !accepts_prototype(alloc, names, defined, true, &f.prototype)? {
-        return Ok(false);
-    }
+    unshared_from(*at, f.is_shared, f.prototype.is_static)?;
+    prototype_from(alloc, names, defined, at, true, &f.prototype)?;
     names.add(Entry {
         name: f.prototype.name.as_slice(),
         entity: Entity::Function(&f.prototype),
     })?;
-    accepts_inside(alloc, names, f)
+    inside_from(alloc, names, at, f)
 }
 
-/// Whether a variable may be defined so. Its name is in scope afterwards.
-fn accepts_variable_definition<'a>(
+/// Goes past the definition of a variable, whose name is in scope afterwards.
+#[tactic(auto, unfolding(crate::specs::CheckingItems::variable_definition_from))]
+fn variable_definition_from<'a>(
     names: &mut Scope<'a>,
     defined: &Names<'_>,
+    at: &mut usize,
     v: &'a CVariable,
-) -> Result<bool, Memory>
-    ensures valid { IfOk result (λ ok. ok ≡ spec.accepts_variable_definition v.now names.old defined.now) }
-    ensures after { IfOk result (λ ok. ok ≡ true → names.new ≡ named_by (defines_variable v.now) ∷ names.old) }
+) -> Result<(), Stop>
+    ensures walk { Walks (spec.variable_definition_from v.now names.old defined.now at.old) result at.new }
+    ensures names { OnOk result (names.new ≡ named_by (defines_variable v.now) ∷ names.old) }
 {
-    if v.is_shared && v.is_static {
-        return Ok(false);
-    }
     let name = v.name.as_slice();
-    if !accepts_variable(names, defined, true, v.ty, name, &v.initialiser) {
-        return Ok(false);
-    }
+    unshared_from(*at, v.is_shared, v.is_static)?;
+    pass(at, static_marks(v.is_static))?;
+    variable_from(names, defined, at, true, v.ty, name, &v.initialiser)?;
     names.add(Entry {
         name,
         entity: Entity::Object(v.ty),
     })?;
-    Ok(accepts_start(names, v.ty, &v.initialiser))
+    start_from(names, at, v.ty, &v.initialiser)
 }
 
-/// Whether an item is valid behind these names and definitions, which it is among afterwards.
-pub fn accepts_item<'a>(
+/// Goes past an item behind these names and definitions, which it is among afterwards.
+#[tactic(auto, unfolding(crate::specs::CheckingItems::item_from))]
+pub fn item_from<'a>(
     alloc: Global,
     names: &mut Scope<'a>,
     defined: &mut Names<'a>,
+    at: &mut usize,
     item: &'a CItem,
-) -> Result<bool, Memory>
-    ensures valid { IfOk result (λ ok. ok ≡ spec.accepts_item (item_of item.now) names.old defined.old) }
-    ensures names { IfOk result (λ ok. ok ≡ true → names.new ≡ named_by (item_of item.now) ∷ names.old) }
-    ensures defined { IfOk result (λ ok. ok ≡ true → defined.new ≡ defined_after (item_of item.now) defined.old) }
+) -> Result<(), Stop>
+    ensures walk { Walks (spec.item_from (item_of item.now) names.old defined.old at.old) result at.new }
+    ensures names { OnOk result (names.new ≡ named_by (item_of item.now) ∷ names.old) }
+    ensures defined { OnOk result (defined.new ≡ defined_after (item_of item.now) defined.old) }
 {
     match item {
         CItem::Prototype(p) => {
-            if !accepts_prototype(alloc, names, defined, false, p)? {
-                return Ok(false);
-            }
+            prototype_from(alloc, names, defined, at, false, p)?;
             names.add(Entry {
                 name: p.name.as_slice(),
                 entity: Entity::Function(p),
             })?;
-            Ok(true)
+            Ok(())
         }
         CItem::Extern(t, name) => {
-            if !accepts_variable(names, defined, false, *t, name.as_slice(), &None) {
-                return Ok(false);
-            }
+            variable_from(names, defined, at, false, *t, name.as_slice(), &None)?;
             names.add(Entry {
                 name: name.as_slice(),
                 entity: Entity::Object(*t),
             })?;
-            Ok(true)
+            Ok(())
         }
         CItem::Function(f) => {
-            if !accepts_function(alloc, names, defined, f)? {
-                return Ok(false);
-            }
+            function_from(alloc, names, defined, at, f)?;
             defined.add(f.prototype.name.as_slice())?;
-            Ok(true)
+            Ok(())
         }
         CItem::Variable(v) => {
-            if !accepts_variable_definition(names, defined, v)? {
-                return Ok(false);
-            }
+            variable_definition_from(names, defined, at, v)?;
             defined.add(v.name.as_slice())?;
-            Ok(true)
+            Ok(())
         }
     }
 }

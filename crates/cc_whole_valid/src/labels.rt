@@ -1,6 +1,6 @@
 ghost use Rattle.std.specs.Prelude.{◌≡◌, ◌∷◌, OnOk};
 ghost use Rattle.cc_whole.specs.Statements as spec;
-ghost use Rattle.cc_whole_valid.specs.Accepts.{with_default};
+ghost use Rattle.cc_whole_valid.specs.Checking.{with_default};
 
 use cf_base::Memory;
 use std::alloc::Global;

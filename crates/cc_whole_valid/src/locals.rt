@@ -1,13 +1,16 @@
-ghost use Rattle.std.specs.Prelude.{◌≡◌, ◌++◌, [], IfOk, OnOk};
+ghost use Rattle.std.specs.Prelude.{◌≡◌, ◌++◌, [], OnOk};
 ghost use Rattle.cc_whole.specs.Known as known;
 ghost use Rattle.cc_whole.specs.Statements as checks;
 ghost use Rattle.cc_whole.specs.Types as types;
-ghost use Rattle.cc_whole_valid.specs.Accepts as spec;
-ghost use Rattle.cc_whole_valid.specs.AcceptsItems as items;
+ghost use Rattle.cc_whole_valid.specs.Checking as spec;
+ghost use Rattle.cc_whole_valid.specs.CheckingItems as items;
+ghost use Rattle.cc_whole_valid.specs.Walk.{Walks};
 
-use crate::constants::is_size;
+use crate::constants::{fits_constant, is_size};
+use crate::landmarks::{marks_before, marks_behind, pass, type_marks};
 use crate::scope::{Entity, Entry, Scope};
-use cc_whole::{CLocal, CLocalType, CParameter, CVariableType};
+use crate::stop::Stop;
+use cc_whole::{CConstant, CLocal, CLocalType, CParameter, CVariableType};
 use cf_base::Memory;
 use cf_name_list::Names;
 use std::alloc::Global;
@@ -34,38 +37,98 @@ pub fn has_size(t: CVariableType) -> bool
     }
 }
 
-fn accepts_local(before: &Names<'_>, local: &CLocal) -> bool
-    ensures { result ≡ spec.accepts_local local.now before.now }
+/// Goes past a name that differs from those before it.
+#[tactic(auto, unfolding(crate::specs::Checking::distinct_from))]
+fn distinct_from(at: &mut usize, name: &[u8], before: &Names<'_>) -> Result<(), Stop>
+    ensures { Walks (spec.distinct_from name.now before.now at.old) result at.new }
 {
-    !before.has(local.name.as_slice()) && has_size(local_type(local.ty))
+    if before.has(name) {
+        return Err(Stop::Broken {
+            rule: 2,
+            place: *at,
+        });
+    }
+    pass(at, 1)
 }
 
-/// Whether the locals of a body differ, and their arrays have elements.
-pub fn accepts_locals(alloc: Global, locals: &[CLocal]) -> Result<bool, Memory>
-    ensures { IfOk result (λ ok. ok ≡ spec.accepts_locals locals.now []) }
+/// Goes past the number of the elements of an array, which is one that it may have.
+#[tactic(auto, unfolding(crate::specs::Checking::size_from))]
+pub fn size_from(at: &mut usize, t: CVariableType, fits: bool) -> Result<(), Stop>
+    ensures { Walks (spec.size_from t fits at.old) result at.new }
+{
+    if !fits {
+        return Err(Stop::Broken {
+            rule: 11,
+            place: *at,
+        });
+    }
+    pass(at, marks_behind(t))
+}
+
+/// Goes past the number of a label or of a pair.
+#[tactic(auto, unfolding(crate::specs::Checking::number_from))]
+pub fn number_from(at: &mut usize, c: CConstant) -> Result<(), Stop>
+    ensures { Walks (spec.number_from c at.old) result at.new }
+{
+    if !fits_constant(c) {
+        return Err(Stop::Broken {
+            rule: 11,
+            place: *at,
+        });
+    }
+    pass(at, 1)
+}
+
+#[tactic(auto, unfolding(crate::specs::Checking::local_from))]
+fn local_from(at: &mut usize, local: &CLocal, before: &Names<'_>) -> Result<(), Stop>
+    ensures { Walks (spec.local_from local.now before.now at.old) result at.new }
+{
+    let t = local_type(local.ty);
+    pass(at, marks_before(t))?;
+    distinct_from(at, local.name.as_slice(), before)?;
+    size_from(at, t, has_size(t))
+}
+
+/// Goes past the locals of a body, which differ, and whose arrays have elements.
+pub fn locals_from(alloc: Global, at: &mut usize, locals: &[CLocal]) -> Result<(), Stop>
+    ensures { Walks (spec.locals_from locals.now [] at.old) result at.new }
 {
     let mut before = Names::new(alloc);
     for local in locals {
-        if !accepts_local(&before, local) {
-            return Ok(false);
-        }
+        local_from(at, local, &before)?;
         before.add(local.name.as_slice())?;
     }
-    Ok(true)
+    Ok(())
 }
 
-/// Whether the parameters of a function differ.
-pub fn accepts_parameters(alloc: Global, parameters: &[CParameter]) -> Result<bool, Memory>
-    ensures { IfOk result (λ ok. ok ≡ items.accepts_parameters parameters.now []) }
+#[tactic(auto, unfolding(crate::specs::CheckingItems::parameter_from))]
+fn parameter_from(at: &mut usize, parameter: &CParameter, before: &Names<'_>) -> Result<(), Stop>
+    ensures { Walks (items.parameter_from parameter.now before.now at.old) result at.new }
+{
+    pass(at, type_marks(parameter.ty))?;
+    distinct_from(at, parameter.name.as_slice(), before)
+}
+
+fn some_from(alloc: Global, at: &mut usize, parameters: &[CParameter]) -> Result<(), Stop>
+    ensures { Walks (items.some_from parameters.now [] at.old) result at.new }
 {
     let mut before = Names::new(alloc);
     for parameter in parameters {
-        if before.has(parameter.name.as_slice()) {
-            return Ok(false);
-        }
+        parameter_from(at, parameter, &before)?;
         before.add(parameter.name.as_slice())?;
     }
-    Ok(true)
+    Ok(())
+}
+
+/// Goes past the parameters of a function, which differ, or past `void`.
+#[tactic(auto, unfolding(crate::specs::CheckingItems::parameters_from))]
+pub fn parameters_from(alloc: Global, at: &mut usize, parameters: &[CParameter]) -> Result<(), Stop>
+    ensures { Walks (items.parameters_from parameters.now at.old) result at.new }
+{
+    match parameters {
+        [] => pass(at, 1),
+        [_, ..] => some_from(alloc, at, parameters),
+    }
 }
 
 /// Puts locals in front of the names in scope, in their order.

@@ -2,12 +2,15 @@ ghost use Rattle.std.specs.Prelude.{◌≡◌, Some, bytes_eq};
 ghost use Rattle.cc_whole.specs.Known as known;
 ghost use Rattle.cc_whole.specs.Types as types;
 ghost use Rattle.cc_whole.specs.Valid as spec;
-ghost use Rattle.cc_whole_valid.specs.AcceptsItems as accepts;
+ghost use Rattle.cc_whole_valid.specs.CheckingItems as items;
 ghost use Rattle.cc_whole_valid.specs.Memory.{meant, meant_of};
+ghost use Rattle.cc_whole_valid.specs.Walk.{Walks};
 
 use crate::constants::size_of;
+use crate::landmarks::pass;
 use crate::scope::{Entity, Scope};
 use crate::signature::{Signature, same_signature};
+use crate::stop::Stop;
 use cc_whole::{CType, CVariableType};
 use cf_name_list::Names;
 
@@ -101,16 +104,29 @@ fn has_own_type(name: &[u8], entity: Entity<'_>) -> bool
     }
 }
 
-/// Whether a name may be declared as this behind these names and definitions, or defined.
-pub fn accepts_name(
+/// Goes past a name that is declared as this behind these names and definitions, or defined.
+#[tactic(auto, unfolding(crate::specs::CheckingItems::declared_from))]
+pub fn declared_from(
     names: &Scope<'_>,
     defined: &Names<'_>,
+    at: &mut usize,
     is_definition: bool,
     name: &[u8],
     entity: Entity<'_>,
-) -> bool
-    ensures { result ≡ accepts.accepts_name names.now defined.now is_definition name.now (meant_of entity.entry) }
+) -> Result<(), Stop>
+    ensures { Walks (items.declared_from names.now defined.now is_definition name.now (meant_of entity.entry) at.old) result at.new }
 {
-    (agrees(names.find(name), entity) && !(is_definition && defined.has(name)))
-        && (has_own_type(name, entity) && !(is_definition && is_library(name)))
+    if !(agrees(names.find(name), entity) && !(is_definition && defined.has(name))) {
+        return Err(Stop::Broken {
+            rule: 2,
+            place: *at,
+        });
+    }
+    if !(has_own_type(name, entity) && !(is_definition && is_library(name))) {
+        return Err(Stop::Broken {
+            rule: 10,
+            place: *at,
+        });
+    }
+    pass(at, 1)
 }

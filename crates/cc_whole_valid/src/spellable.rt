@@ -1,7 +1,7 @@
 ghost use Rattle.std.specs.Prelude.{◌≡◌, nat_lt, map, option_map};
 ghost use Rattle.cc_whole.specs.Plain.{statement_of, body_of, else_of, in_order, switch_item_of, switch_in_order, item_of, items_of};
 ghost use Rattle.cc_whole.specs.Spellable as spec;
-ghost use Rattle.cc_whole_valid.specs.AcceptsItems as accepts;
+ghost use Rattle.cc_whole_valid.specs.CheckingItems as checking;
 
 use cc_whole::{
     CBody, CInitialiser, CItem, CLocal, CParameter, CPrototype, CStatement, CSwitchItem,
@@ -77,7 +77,7 @@ fn spellable_switch(all: &Items<CSwitchItem>) -> bool
 
 #[cycle(spellable)]
 fn spellable_switch_item(item: &CSwitchItem) -> bool
-    ensures { result ≡ accepts.spellable_switch_item (switch_item_of item.now) }
+    ensures { result ≡ checking.spellable_switch_item (switch_item_of item.now) }
 {
     match item {
         CSwitchItem::Case(_) => true,
@@ -87,7 +87,7 @@ fn spellable_switch_item(item: &CSwitchItem) -> bool
 }
 
 fn good_parameters(parameters: &[CParameter]) -> bool
-    ensures { result ≡ accepts.good_parameters parameters.now }
+    ensures { result ≡ checking.good_parameters parameters.now }
 {
     parameters
         .iter()
@@ -109,7 +109,7 @@ fn is_byte(byte: u8) -> bool
 }
 
 fn are_bytes(bytes: &[u8]) -> bool
-    ensures { result ≡ accepts.are_bytes bytes.now }
+    ensures { result ≡ checking.are_bytes bytes.now }
 {
     bytes.iter().all(|byte| is_byte(*byte))
 }

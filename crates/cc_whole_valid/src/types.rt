@@ -1,7 +1,6 @@
 ghost use Rattle.std.specs.Prelude.{◌≡◌};
 ghost use Rattle.cc_whole.specs.Types as spec;
 ghost use Rattle.cc_whole.specs.Typed as typed;
-ghost use Rattle.cc_whole_valid.specs.Accepts as accepts;
 
 use cc_whole::{CType, CVariableType, Prefix};
 use cf_base::Arith;
@@ -132,7 +131,8 @@ fn compares(op: Arith, a: CType, a_zero: bool, b: CType, b_zero: bool) -> bool
         || (is_equality(op) && ((!is_integer(a) && b_zero) || (a_zero && !is_integer(b))))
 }
 
-fn binary_type(op: Arith, a: CType, a_zero: bool, b: CType, b_zero: bool) -> Option<CType>
+/// The type of two operands and an operator, if they fit, where it is told of each operand whether it is the constant 0.
+pub fn binary_type(op: Arith, a: CType, a_zero: bool, b: CType, b_zero: bool) -> Option<CType>
     ensures { result ≡ spec.binary_type op a a_zero b b_zero }
 {
     if is_integer(a) && is_integer(b) {
@@ -146,7 +146,8 @@ fn binary_type(op: Arith, a: CType, a_zero: bool, b: CType, b_zero: bool) -> Opt
     }
 }
 
-fn may_stand_left(op: Arith, a: CType) -> bool
+/// Whether some right operand fits behind a left one of this type.
+pub fn may_stand_left(op: Arith, a: CType) -> bool
     ensures { result ≡ spec.may_stand_left op a }
 {
     is_integer(a)
@@ -154,18 +155,8 @@ fn may_stand_left(op: Arith, a: CType) -> bool
             || (is_pointer(a) && (is_add(op) || (is_subtract(op) || is_comparison(op)))))
 }
 
-/// The type of an operator's result at two operands, of each of which it is told whether it is the constant 0.
-pub fn joined_type(op: Arith, a: CType, a_zero: bool, b: CType, b_zero: bool) -> Option<CType>
-    ensures { result ≡ accepts.joined_type op a a_zero b b_zero }
-{
-    if may_stand_left(op, a) {
-        binary_type(op, a, a_zero, b, b_zero)
-    } else {
-        None
-    }
-}
-
-fn prefix_type(op: Prefix, t: CType) -> CType
+/// The type of an operator's result at its one operand.
+pub fn prefix_type(op: Prefix, t: CType) -> CType
     ensures { result ≡ spec.prefix_type op t }
 {
     match op {
@@ -174,39 +165,11 @@ fn prefix_type(op: Prefix, t: CType) -> CType
     }
 }
 
-/// The type of an operator's result at its one operand.
-pub fn prefixed_type(op: Prefix, t: CType) -> Option<CType>
-    ensures { result ≡ accepts.prefixed_type op t }
-{
-    if is_integer(t) {
-        Some(prefix_type(op, t))
-    } else {
-        None
-    }
-}
-
-fn may_cast(to: CType, from: CType, zero: bool) -> bool
+/// Whether what has a type, and is the constant 0 or not, may be cast to another.
+pub fn may_cast(to: CType, from: CType, zero: bool) -> bool
     ensures { result ≡ typed.may_cast to from zero }
 {
     (is_integer(to) && is_integer(from)) || (!is_integer(to) && (from.is(to) || zero))
-}
-
-/// The type of a cast whose operand has this type, and is the constant 0 or not.
-pub fn cast_type(to: CType, zero: bool, from: CType) -> Option<CType>
-    ensures { result ≡ accepts.cast_type to zero from }
-{
-    if may_cast(to, from, zero) {
-        Some(to)
-    } else {
-        None
-    }
-}
-
-/// The type of what stands at an address of this type.
-pub fn pointed_type(to: CType, address: CType) -> Option<CType>
-    ensures { result ≡ accepts.pointed_type to address }
-{
-    if is_pointer(address) { Some(to) } else { None }
 }
 
 /// The type of a variable's value.

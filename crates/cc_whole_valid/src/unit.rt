@@ -2,12 +2,14 @@ ghost use Rattle.std.specs.Prelude.{◌≡◌, [], true, IfOk};
 ghost use Rattle.cc_whole.specs.Plain.{items_of};
 ghost use Rattle.cc_whole.specs.Spellable as texts;
 ghost use Rattle.cc_whole.specs.ValidUnit as spec;
-ghost use Rattle.cc_whole_valid.specs.Accepts.{where_so};
-ghost use Rattle.cc_whole_valid.specs.AcceptsItems as accepts;
+ghost use Rattle.cc_whole.specs.Valid as checks;
+ghost use Rattle.cc_whole_valid.specs.CheckingItems as checking;
+ghost use Rattle.cc_whole_valid.specs.Walk.{Walks, fault_of, where_so};
 
-use crate::items::accepts_item;
+use crate::items::item_from;
 use crate::scope::Scope;
 use crate::spellable::spellable_items;
+use crate::stop::{Fault, Stop};
 use cc_whole::{CItem, CUnit};
 use cf_base::Memory;
 use cf_name_list::Names;
@@ -24,17 +26,36 @@ fn spellable_version(version: u32) -> bool
     0 < version && version < VERSIONS
 }
 
-fn accepts_items(alloc: Global, items: &[CItem]) -> Result<bool, Memory>
-    ensures { IfOk result (λ ok. ok ≡ accepts.accepts_items (items_of items.now) [] []) }
+/// Goes past all items.
+fn items_from(alloc: Global, at: &mut usize, items: &[CItem]) -> Result<(), Stop>
+    ensures { Walks (checking.items_from (items_of items.now) [] [] at.old) result at.new }
 {
     let mut names = Scope::new(alloc);
     let mut defined = Names::new(alloc);
     for item in items {
-        if !accepts_item(alloc, &mut names, &mut defined, item)? {
-            return Ok(false);
-        }
+        item_from(alloc, &mut names, &mut defined, at, item)?;
     }
-    Ok(true)
+    Ok(())
+}
+
+/// The first broken rule of validity, V1 to V12, of items, and its place. There is none exactly where all rules are kept.
+pub fn first_fault(alloc: Global, items: &[CItem]) -> Result<Option<Fault>, Memory>
+    ensures { IfOk result (λ found. found ≡ fault_of (checks.first_fault (items_of items.now))) }
+{
+    let mut at = 0;
+    match items_from(alloc, &mut at, items) {
+        Ok(()) => Ok(None),
+        Err(Stop::Broken { rule, place }) => Ok(Some(Fault { rule, place })),
+        Err(Stop::Memory) => Err(Memory),
+    }
+}
+
+/// Whether items keep the rules of validity.
+fn keeps_rules(alloc: Global, items: &[CItem]) -> Result<bool, Memory>
+    ensures { IfOk result (λ ok. ok ≡ spec.keeps (checks.first_fault (items_of items.now))) }
+{
+    let fault = first_fault(alloc, items)?;
+    Ok(fault.is_none())
 }
 
 /// Whether items have a text and keep the rules of validity.
@@ -42,7 +63,7 @@ pub fn valid_items(alloc: Global, items: &[CItem]) -> Result<bool, Memory>
     ensures { IfOk result (λ ok. ok ≡ spec.valid_items (items_of items.now)) }
 {
     if spellable_items(items) {
-        accepts_items(alloc, items)
+        keeps_rules(alloc, items)
     } else {
         Ok(false)
     }

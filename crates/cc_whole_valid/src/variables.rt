@@ -1,51 +1,72 @@
-ghost use Rattle.std.specs.Prelude.{◌≡◌, length};
+ghost use Rattle.std.specs.Prelude.{◌≡◌};
 ghost use Rattle.cc_whole.specs.Valid as spec;
-ghost use Rattle.cc_whole_valid.specs.AcceptsItems as accepts;
+ghost use Rattle.cc_whole_valid.specs.CheckingItems as checking;
 ghost use Rattle.cc_whole_valid.specs.Memory.{meant};
+ghost use Rattle.cc_whole_valid.specs.Walk.{Walks};
 
-use crate::constants::{fits_constant, size_of};
+use crate::constants::size_of;
 use crate::expressions::is_main;
-use crate::locals::has_size;
-use crate::names::accepts_name;
+use crate::landmarks::{marks_before, pass};
+use crate::locals::{has_size, number_from, size_from};
+use crate::names::declared_from;
 use crate::scope::{Entity, Scope};
+use crate::stop::Stop;
 use cc_whole::{CInitialiser, CPair, CVariableType};
 use cf_base::Name;
 use cf_name_list::Names;
 
-/// Whether what a name means may be the function of a pair.
-fn accepts_function(name: &[u8], found: Option<Entity<'_>>) -> bool
-    ensures { result ≡ accepts.accepts_function name.now (meant found.entry) }
+/// Goes past the name of the function of a pair.
+#[tactic(auto, unfolding(crate::specs::CheckingItems::paired_by))]
+fn paired_by(at: &mut usize, name: &[u8], found: Option<Entity<'_>>) -> Result<(), Stop>
+    ensures { Walks (checking.paired_by name.now (meant found.entry) at.old) result at.new }
 {
     match found {
-        Some(Entity::Function(_)) => !is_main(name),
-        _ => false,
+        None => Err(Stop::Broken {
+            rule: 1,
+            place: *at,
+        }),
+        Some(Entity::Function(_)) => {
+            if is_main(name) {
+                return Err(Stop::Broken {
+                    rule: 10,
+                    place: *at,
+                });
+            }
+            pass(at, 1)
+        }
+        Some(Entity::Object(_)) => Err(Stop::Broken {
+            rule: 3,
+            place: *at,
+        }),
     }
 }
 
-fn accepts_paired(names: &Scope<'_>, function: &Option<Name>) -> bool
-    ensures { result ≡ accepts.accepts_paired names.now function.now }
+/// Goes past the function of a pair, or the 0 in its place.
+#[tactic(auto, unfolding(crate::specs::CheckingItems::paired_from))]
+fn paired_from(names: &Scope<'_>, at: &mut usize, function: &Option<Name>) -> Result<(), Stop>
+    ensures { Walks (checking.paired_from names.now function.now at.old) result at.new }
 {
     match function {
-        None => true,
-        Some(name) => accepts_function(name.as_slice(), names.find(name.as_slice())),
+        None => pass(at, 1),
+        Some(name) => paired_by(at, name.as_slice(), names.find(name.as_slice())),
     }
 }
 
-fn accepts_pair(names: &Scope<'_>, pair: &CPair) -> bool
-    ensures { result ≡ accepts.accepts_pair pair.now names.now }
+#[tactic(auto, unfolding(crate::specs::CheckingItems::pair_from))]
+fn pair_from(names: &Scope<'_>, at: &mut usize, pair: &CPair) -> Result<(), Stop>
+    ensures { Walks (checking.pair_from pair.now names.now at.old) result at.new }
 {
-    fits_constant(pair.number) && accepts_paired(names, &pair.function)
+    number_from(at, pair.number)?;
+    paired_from(names, at, &pair.function)
 }
 
-fn accepts_pairs(names: &Scope<'_>, pairs: &[CPair]) -> bool
-    ensures { result ≡ accepts.accepts_pairs pairs.now names.now }
+fn pairs_from(names: &Scope<'_>, at: &mut usize, pairs: &[CPair]) -> Result<(), Stop>
+    ensures { Walks (checking.pairs_from pairs.now names.now at.old) result at.new }
 {
     for pair in pairs {
-        if !accepts_pair(names, pair) {
-            return false;
-        }
+        pair_from(names, at, pair)?;
     }
-    true
+    Ok(())
 }
 
 /// Whether a variable may start so: an array of `char` with a string, an array of pairs with pairs.
@@ -89,37 +110,55 @@ fn holds_start(t: CVariableType, start: &Option<CInitialiser>) -> bool
     }
 }
 
-/// Whether a variable may start so, where these names are in scope.
-pub fn accepts_start(names: &Scope<'_>, t: CVariableType, start: &Option<CInitialiser>) -> bool
-    ensures { result ≡ accepts.accepts_start t names.now start.now }
+/// Goes past what a variable starts with, in which the names are those of functions.
+#[tactic(auto, unfolding(crate::specs::CheckingItems::inside_from))]
+fn inside_from(names: &Scope<'_>, at: &mut usize, start: &CInitialiser) -> Result<(), Stop>
+    ensures { Walks (checking.inside_from start.now names.now at.old) result at.new }
 {
     match start {
-        None => true,
-        Some(start) => may_start(t, start) && starts_with_functions(names, start),
+        CInitialiser::Text(_) => pass(at, 1),
+        CInitialiser::Pairs(pairs) => pairs_from(names, at, pairs.as_slice()),
     }
 }
 
-/// Whether the names in a variable's start are those of functions.
-fn starts_with_functions(names: &Scope<'_>, start: &CInitialiser) -> bool
-    ensures { result ≡ accepts.starts_with_functions start.now names.now }
+/// The same, where a variable of this type may start so.
+#[tactic(auto, unfolding(crate::specs::CheckingItems::start_from))]
+pub fn start_from(
+    names: &Scope<'_>,
+    at: &mut usize,
+    t: CVariableType,
+    start: &Option<CInitialiser>,
+) -> Result<(), Stop>
+    ensures { Walks (checking.start_from t names.now start.now at.old) result at.new }
 {
     match start {
-        CInitialiser::Text(_) => true,
-        CInitialiser::Pairs(pairs) => accepts_pairs(names, pairs.as_slice()),
+        None => Ok(()),
+        Some(start) => {
+            if !may_start(t, start) {
+                return Err(Stop::Broken {
+                    rule: 3,
+                    place: *at,
+                });
+            }
+            inside_from(names, at, start)
+        }
     }
 }
 
-/// Whether a variable may be declared so behind these names and definitions, or defined.
-pub fn accepts_variable(
+/// Goes past a variable that is declared so behind these names and definitions, or defined.
+#[tactic(auto, unfolding(crate::specs::CheckingItems::variable_from))]
+pub fn variable_from(
     names: &Scope<'_>,
     defined: &Names<'_>,
+    at: &mut usize,
     is_definition: bool,
     t: CVariableType,
     name: &[u8],
     start: &Option<CInitialiser>,
-) -> bool
-    ensures { result ≡ accepts.accepts_variable names.now defined.now is_definition t name.now start.now }
+) -> Result<(), Stop>
+    ensures { Walks (checking.variable_from names.now defined.now is_definition t name.now start.now at.old) result at.new }
 {
-    accepts_name(names, defined, is_definition, name, Entity::Object(t))
-        && (has_size(t) && holds_start(t, start))
+    pass(at, marks_before(t))?;
+    declared_from(names, defined, at, is_definition, name, Entity::Object(t))?;
+    size_from(at, t, has_size(t) && holds_start(t, start))
 }
