@@ -61,14 +61,16 @@ fn blanks_len(text: &[u8]) -> usize
     text.iter().take_while(|byte| is_blank(**byte)).count()
 }
 
-fn without_blanks(text: &[u8]) -> &[u8]
+/// What stands behind the blanks at the front of a text.
+pub fn without_blanks(text: &[u8]) -> &[u8]
     ensures value { result.now ≡ drop (prefix_len spec.is_blank text.now) text.now }
     ensures shorter { length result.now ≤ length text.now }
 {
     rest_of(text, blanks_len(text))
 }
 
-fn next(alloc: Global, text: &[u8]) -> Result<Option<(Token, usize)>, Memory>
+/// The token at the front of a text that does not begin with a blank, and its length in bytes.
+pub fn first_token(alloc: Global, text: &[u8]) -> Result<Option<(Token, usize)>, Memory>
     ensures value { IfOk result (λ r. r ≡ firsts.first text.now) }
     ensures some { IfOk result (λ r. IfSome r (λ q. 0 < q.1)) }
     ensures within { IfOk result (λ r. IfSome r (λ q. q.1 ≤ length text.now)) }
@@ -85,7 +87,7 @@ pub fn tokens(alloc: Global, text: &[u8]) -> Result<TokenList, CutError>
     let mut rest = without_blanks(text);
     while !rest.is_empty() {
         let at = text.len().saturating_sub(rest.len());
-        let found = next(alloc, rest)?;
+        let found = first_token(alloc, rest)?;
         match found {
             None => return Err(CutError::Stray { at }),
             Some((token, len)) => {

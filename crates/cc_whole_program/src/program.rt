@@ -4,7 +4,7 @@ ghost use Rattle.cc_whole.specs.Plain.{item_of, items_of, body_of};
 ghost use Rattle.cc_whole.specs.Uses.{parameter_names};
 ghost use Rattle.cc_whole.specs.ValidUnit as units;
 ghost use Rattle.cc_whole_program.specs.Uses as spec;
-ghost use Rattle.cc_whole_valid.specs.Accepts.{where_so};
+ghost use Rattle.cc_whole_valid.specs.Walk.{where_so};
 
 use crate::defined::{all_defined, is_static};
 use crate::expressions::is_there;
