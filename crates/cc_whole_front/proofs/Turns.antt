@@ -18,7 +18,7 @@ use Rattle.cc_whole_cut.proofs.Firsts.{first_token, first_string}
 use Rattle.cc_whole_refused.specs.Fronts.{Begins}
 use Rattle.cc_whole_refused.specs.Fronts as fronts
 use Rattle.cc_whole_front.specs.declared.front.Front.{Front}
-use Rattle.cc_whole_front.specs.Front.{Placed, here, blank, NoToken, ended, stray, IsFront}
+use Rattle.cc_whole_front.specs.Front.{Placed, here, blank, NoToken, ended, stray, is_empty, IsFront}
 use Rattle.cc_whole_front.specs.Front as places
 
 -- ---- one token
@@ -101,28 +101,28 @@ blanks_before n (b ∷ bs) ts ps rest h = blanks_by n b bs ts ps rest (is_blank 
 -- ---- the loop
 
 -- these tokens stand before the rest, and whatever stands at its front goes on
-pub record Halfway (text rest : List ℕ) (out : List Token) (places : List ℕ) : Type 0 where
-  pub goes_on : (ts : List Token) (ps end : List ℕ) → Placed (length text) rest ts ps end → Placed (length text) text (out ++ ts) (places ++ ps) end
+pub record Halfway (n : ℕ) (bytes rest : List ℕ) (out : List Token) (places : List ℕ) : Type 0 where
+  pub goes_on : (ts : List Token) (ps end : List ℕ) → Placed n rest ts ps end → Placed n bytes (out ++ ts) (places ++ ps) end
   pub bare : begins is_blank rest ≡ false
-  pub within : length rest ≤ length text
+  pub within : length rest ≤ length bytes
 
 shorter : (n : ℕ) (bs : List ℕ) → length (drop n bs) ≤ length bs
 shorter n bs = let l = length-drop n bs in omega (arith, l)
 
-pub at_start : (text : List ℕ) → Halfway text (without_blanks text) [] []
-at_start text = record {
-  goes_on = λ ts ps end h. blanks_before (length text) text ts ps end h;
-  bare = run_stops is_blank text;
-  within = shorter (prefix_len is_blank text) text;
+pub at_start : (n : ℕ) (bytes : List ℕ) → Halfway n bytes (without_blanks bytes) [] []
+at_start n bytes = record {
+  goes_on = λ ts ps end h. blanks_before n bytes ts ps end h;
+  bare = run_stops is_blank bytes;
+  within = shorter (prefix_len is_blank bytes) bytes;
 }
 
-pub one_more : (text rest : List ℕ) (out : List Token) (places : List ℕ) (q : Token × ℕ) (at : ℕ) → Halfway text rest out places → first rest ≡ Some q
-    → at + length rest ≡ length text → Halfway text (without_blanks (drop q.1 rest)) (out ++ q.0 ∷ []) (places ++ at ∷ [])
-one_more text rest out places q at h e place = record {
+pub one_more : (n : ℕ) (bytes rest : List ℕ) (out : List Token) (places : List ℕ) (q : Token × ℕ) (at : ℕ) → Halfway n bytes rest out places → first rest ≡ Some q
+    → at + length rest ≡ n → Halfway n bytes (without_blanks (drop q.1 rest)) (out ++ q.0 ∷ []) (places ++ at ∷ [])
+one_more n bytes rest out places q at h e place = record {
   goes_on = λ ts ps end c.
-      subst (λ z. Placed (length text) text z ((places ++ at ∷ []) ++ ps) end) (sym (append_assoc out (q.0 ∷ []) ts))
-      (subst (λ z. Placed (length text) text (out ++ q.0 ∷ ts) z end) (sym (append_assoc places (at ∷ []) ps))
-      (h.goes_on (q.0 ∷ ts) (at ∷ ps) end ((leads rest q e).placed (length text) at ts ps end place (blanks_before (length text) (drop q.1 rest) ts ps end c))));
+      subst (λ z. Placed n bytes z ((places ++ at ∷ []) ++ ps) end) (sym (append_assoc out (q.0 ∷ []) ts))
+      (subst (λ z. Placed n bytes (out ++ q.0 ∷ ts) z end) (sym (append_assoc places (at ∷ []) ps))
+      (h.goes_on (q.0 ∷ ts) (at ∷ ps) end ((leads rest q e).placed n at ts ps end place (blanks_before n (drop q.1 rest) ts ps end c))));
   bare = run_stops is_blank (drop q.1 rest);
   within =
       let a = shorter (prefix_len is_blank (drop q.1 rest)) (drop q.1 rest) in
@@ -131,21 +131,42 @@ one_more text rest out places q at h e place = record {
       omega (arith, a, b, c);
 }
 
-so_far : (text rest : List ℕ) (out : List Token) (places : List ℕ) → Halfway text rest out places → Placed (length text) text out places rest
-so_far text rest out places h =
-    subst (λ z. Placed (length text) text z places rest) (append-nil out)
-    (subst (λ z. Placed (length text) text (out ++ []) z rest) (append-nil places) (h.goes_on [] [] rest (here rest)))
+so_far : (n : ℕ) (bytes rest : List ℕ) (out : List Token) (places : List ℕ) → Halfway n bytes rest out places → Placed n bytes out places rest
+so_far n bytes rest out places h =
+    subst (λ z. Placed n bytes z places rest) (append-nil out)
+    (subst (λ z. Placed n bytes (out ++ []) z rest) (append-nil places) (h.goes_on [] [] rest (here rest)))
 
 no_token : (rest : List ℕ) → begins is_blank rest ≡ false → first rest ≡ None → NoToken rest
 no_token [] bare none = ended
 no_token (b ∷ bs) bare none = stray b bs bare (λ t h. nothing_begins (b ∷ bs) t none h)
 
-pub strays : (text rest : List ℕ) (front : Front) → Halfway text rest front.tokens.items front.places.items → first rest ≡ None → front.end + length rest ≡ length text
-    → IsFront text front
-strays text rest front h none place =
-    record { rest = rest; placed = so_far text rest front.tokens.items front.places.items h; place = place; stops = no_token rest h.bare none }
+not_empty : (rest : List ℕ) → 0 < length rest → false ≡ is_empty rest
+not_empty [] some = absurd (omega (arith, some))
+not_empty (b ∷ bs) some = refl
 
-pub at_end : (text rest : List ℕ) (front : Front) → Halfway text rest front.tokens.items front.places.items → length rest ≤ 0 → front.end ≡ length text → IsFront text front
-at_end text [] front h none place =
-    record { rest = []; placed = so_far text [] front.tokens.items front.places.items h; place = omega (arith, place); stops = ended }
-at_end text (b ∷ bs) front h none place = absurd (omega (arith, none))
+-- the tokens are those at the front, where none begins at the rest
+module _ (before : ℕ) (bytes rest : List ℕ) (front : Front) (h : Halfway (before + length bytes) bytes rest front.tokens.items front.places.items) where
+  pub strays : 0 < length rest → first rest ≡ None → front.end + length rest ≡ before + length bytes → front.is_whole ≡ false → IsFront before bytes front
+  strays some none place whole = record {
+    rest = rest;
+    placed = so_far (before + length bytes) bytes rest front.tokens.items front.places.items h;
+    place = place;
+    stops = no_token rest h.bare none;
+    whole = whole ∙ not_empty rest some;
+  }
+
+  pub at_end : length rest ≤ 0 → front.end ≡ before + length bytes → front.is_whole ≡ true → IsFront before bytes front
+  at_end none place whole =
+      let empty : rest ≡ [] = nothing rest none in
+      record {
+        rest = [];
+        placed = subst (Placed (before + length bytes) bytes front.tokens.items front.places.items) empty
+            (so_far (before + length bytes) bytes rest front.tokens.items front.places.items h);
+        place = omega (arith, place);
+        stops = ended;
+        whole = whole;
+      }
+    where
+      nothing : (rest : List ℕ) → length rest ≤ 0 → rest ≡ []
+      nothing [] e = refl
+      nothing (b ∷ bs) e = absurd (omega (arith, e))

@@ -1,5 +1,5 @@
 -- The tokens at the front of some bytes, and the places at which they begin.
-use Rattle.std.specs.Prelude.{◌≡◌, ℕ, ◌+◌, true, false, List, [], ◌∷◌, ◌++◌, length}
+use Rattle.std.specs.Prelude.{◌≡◌, ℕ, ◌+◌, Bool, true, false, List, [], ◌∷◌, ◌++◌, length}
 use Rattle.cc_whole_tokens.specs.declared.token.Token.{Token}
 use Rattle.cc_whole_tokens.specs.declared.token.Token.TheVariants.{Text}
 use Rattle.cc_whole_tokens.specs.Token.{spelling, is_token, ends}
@@ -22,9 +22,14 @@ pub data NoToken : List ℕ → Type 0 where
   ended : NoToken []
   stray : (b : ℕ) (bs : List ℕ) → is_blank b ≡ false → ((t : Token) → Begins (b ∷ bs) t → ⊥) → NoToken (b ∷ bs)
 
--- the tokens of the text up to a place where no token begins
-pub record IsFront (text : List ℕ) (front : Front) : Type 0 where
+abbrev pub is_empty : List ℕ → Bool
+is_empty [] = true
+is_empty (b ∷ bs) = false
+
+-- these bytes end a text, behind so many others, and these are their tokens up to a place where no token begins
+pub record IsFront (before : ℕ) (bytes : List ℕ) (front : Front) : Type 0 where
   pub rest : List ℕ
-  pub placed : Placed (length text) text front.tokens.items front.places.items rest
-  pub place : front.end + length rest ≡ length text
+  pub placed : Placed (before + length bytes) bytes front.tokens.items front.places.items rest
+  pub place : front.end + length rest ≡ before + length bytes
   pub stops : NoToken rest
+  pub whole : front.is_whole ≡ is_empty rest

@@ -1,4 +1,4 @@
-ghost use Rattle.std.specs.Prelude.{◌≡◌, ◌++◌, ◌∷◌, [], IfOk, OnOk};
+ghost use Rattle.std.specs.Prelude.{◌≡◌, ◌+◌, ◌<◌, ◌^◌, ◌++◌, ◌∷◌, [], length, IfOk, OnOk};
 ghost use Rattle.cc_whole_front.specs.Front.{IsFront};
 
 use cc_whole_cut::{first_token, rest_of, without_blanks};
@@ -6,7 +6,7 @@ use cc_whole_tokens::Token;
 use cf_base::Memory;
 use std::alloc::Global;
 
-/// The tokens at the front of a text.
+/// The tokens at the front of the end of a text. Places are bytes of the whole text.
 #[derive(Debug, Drop)]
 pub struct Front {
     pub tokens: Vec<Token>,
@@ -14,6 +14,8 @@ pub struct Front {
     pub places: Vec<usize>,
     /// The first byte at which no token begins and no blank stands, or the length of the text.
     pub end: usize,
+    /// Whether the text ends there.
+    pub is_whole: bool,
 }
 
 /// Puts a token behind the others, with its place.
@@ -31,15 +33,17 @@ fn add(
     Ok(())
 }
 
-/// The tokens at the front of a text with their places, up to its end or to the first byte at which no token begins.
-pub fn front_of(alloc: Global, text: &[u8]) -> Result<Front, Memory>
-    ensures { IfOk result (λ front. IsFront text.now front) }
+/// The tokens with their places at the front of bytes that end a text and stand behind so many others, up to the end or to the first byte at
+/// which no token begins.
+pub fn front_of(alloc: Global, before: usize, bytes: &[u8]) -> Result<Front, Memory>
+    requires { before + length bytes.now < 2 ^ 64 }
+    ensures { IfOk result (λ front. IsFront before bytes.now front) }
 {
     let mut tokens = Vec::new(alloc);
     let mut places = Vec::new(alloc);
-    let mut rest = without_blanks(text);
+    let mut rest = without_blanks(bytes);
     while !rest.is_empty() {
-        let at = text.len() - rest.len();
+        let at = before + (bytes.len() - rest.len());
         let found = first_token(alloc, rest)?;
         match found {
             None => {
@@ -47,6 +51,7 @@ pub fn front_of(alloc: Global, text: &[u8]) -> Result<Front, Memory>
                     tokens,
                     places,
                     end: at,
+                    is_whole: false,
                 });
             }
             Some((token, len)) => {
@@ -58,6 +63,7 @@ pub fn front_of(alloc: Global, text: &[u8]) -> Result<Front, Memory>
     Ok(Front {
         tokens,
         places,
-        end: text.len(),
+        end: before + bytes.len(),
+        is_whole: true,
     })
 }

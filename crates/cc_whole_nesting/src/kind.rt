@@ -59,10 +59,10 @@ pub fn begins_else(tokens: &[Token]) -> bool
 }
 
 /// Whether the brackets are of one kind.
-pub fn same_bracket(open: Bracket, close: Bracket) -> bool
-    ensures { result ≡ spec.same_bracket open close }
+pub fn same_bracket(opening: Bracket, closing: Bracket) -> bool
+    ensures { result ≡ spec.same_bracket opening closing }
 {
-    match (open, close) {
+    match (opening, closing) {
         (Bracket::Round, Bracket::Round) => true,
         (Bracket::Square, Bracket::Square) => true,
         (Bracket::Curly, Bracket::Curly) => true,
