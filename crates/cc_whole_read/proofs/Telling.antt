@@ -5,6 +5,7 @@ use Rattle.std.proofs.lemmas.Bool.{true≢false}
 use Rattle.std.proofs.lemmas.Bool.Decides.{nat_tests}
 use Rattle.cf_base.specs.declared.limit.Bound.TheVariants as bound
 use Rattle.cc_whole_tokens.specs.declared.token.Token.{Token}
+use Rattle.cc_whole.specs.declared.unit.CItem.{CItem}
 use Rattle.cc_whole.specs.declared.unit.CUnit.{CUnit}
 use Rattle.cc_whole.specs.Text.{FirstLine, Text}
 use Rattle.cc_whole.specs.SpellsItems.{SpellsItems}
@@ -82,8 +83,8 @@ module _ (text body : List ℕ) (version before : ℕ) (line : Begins text versi
       }
 
   -- behind all tokens
-  stops_behind : (rest : List ℕ) → rest ≡ is.rest → NoToken rest → ((items : List _) → SpellsItems items tokens → rest ≡ [] → ⊥) → GoesOn tokens → NotC text front.end
-  stops_behind [] e none never goes = record {
+  stops_behind : {rest : List ℕ} → NoToken rest → rest ≡ is.rest → ((items : List CItem) → SpellsItems items tokens → rest ≡ [] → ⊥) → GoesOn tokens → NotC text front.end
+  stops_behind ended e never goes = record {
     version = version;
     line = line.line;
     body = body;
@@ -96,7 +97,7 @@ module _ (text body : List ℕ) (version before : ℕ) (line : Begins text versi
     stops = refused.Stops.ended (λ items d. never items d refl);
     place = let l = ap length e in let p = is.place in omega (arith, l, p, total);
   }
-  stops_behind _ e (stray b bs bare never_begins) never goes = record {
+  stops_behind (stray b bs bare never_begins) e never goes = record {
     version = version;
     line = line.line;
     body = body;
@@ -117,7 +118,7 @@ module _ (text body : List ℕ) (version before : ℕ) (line : Begins text versi
       let l = ap length same in
       let behind : length places ≤ index = let c = count in omega (arith, l, c, e) in
       subst (NotC text) (sym (place_behind places front.end index behind))
-      (stops_behind is.rest refl is.stops (λ is d n. never is (subst (SpellsItems is) same d)) (subst GoesOn (sym same) goes))
+      (stops_behind is.stops refl (λ is d n. never is (subst (SpellsItems is) same d)) (subst GoesOn (sym same) goes))
 
   goes_whole : AreItems tokens → GoesOn tokens
   goes_whole a = record { items = a.items; more = []; spelled = subst (SpellsItems a.items) (sym (append-nil tokens)) a.spelled }
@@ -128,7 +129,7 @@ module _ (text body : List ℕ) (version before : ℕ) (line : Begins text versi
 
   not_c : (at : ℕ) → TokensStop front at → NotC text at
   not_c at (token index n e) = subst (NotC text) (sym e) (not_c_by n.before n.rest index n.parts n.place n.goes n.stops)
-  not_c at (stray_behind w a e) = subst (NotC text) (sym e) (stops_behind is.rest refl is.stops (λ items d none. partial w none) (goes_whole a))
+  not_c at (stray_behind w a e) = subst (NotC text) (sym e) (stops_behind is.stops refl (λ items d none. partial w none) (goes_whole a))
 
   whole : (rest : List ℕ) → is_empty rest ≡ true → rest ≡ []
   whole [] e = refl
