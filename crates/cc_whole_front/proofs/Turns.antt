@@ -25,6 +25,7 @@ use Rattle.cc_whole_front.specs.Front as places
 
 -- a token stands at the front of these bytes, of this length
 pub record Leads (bs : List ℕ) (q : Token × ℕ) : Type 0 where
+  pub begins : Begins bs q.0
   pub placed : (n at : ℕ) (ts : List Token) (ps rest : List ℕ) → at + length bs ≡ n → Placed n (drop q.1 bs) ts ps rest → Placed n bs (q.0 ∷ ts) (at ∷ ps) rest
 
 some_at : {X : Type 0} (P : X → Type 0) (x y : X) → P x → Some x ≡ Some y → P y
@@ -33,6 +34,7 @@ some_at P x y p e = let k : x ≡ y = cc in subst P k p
 leads_token : (t : Token) (rest : List ℕ) → is_token t ≡ true → ends t rest ≡ true → Leads (spelling t ++ rest) (t, length (spelling t))
 leads_token t rest is stop =
     record {
+      begins = fronts.Begins.token t rest is stop;
       placed = λ n at ts ps end e h.
           places.Placed.token t at rest ts ps end is stop e (subst (λ z. Placed n z ts ps end) (drop_at (spelling t) rest (length (spelling t)) refl) h);
     }
@@ -42,7 +44,10 @@ leads_string xs bytes rest len spelled e =
     let count : length (34 ∷ (xs ++ (34 ∷ []))) ≡ len = let l = length-append xs (34 ∷ []) in omega (arith, l, e) in
     let left : drop len (34 ∷ (xs ++ (34 ∷ rest))) ≡ rest =
     ap (λ z. drop len (34 ∷ z)) (sym (append_assoc xs (34 ∷ []) rest)) ∙ drop_at (34 ∷ (xs ++ (34 ∷ []))) rest len count in
-    record { placed = λ n at ts ps end e h. places.Placed.string xs bytes at rest ts ps end spelled e (subst (λ z. Placed n z ts ps end) left h) }
+    record {
+      begins = fronts.Begins.string xs bytes rest spelled;
+      placed = λ n at ts ps end e h. places.Placed.string xs bytes at rest ts ps end spelled e (subst (λ z. Placed n z ts ps end) left h);
+    }
 
 shaped_leads : (bs : List ℕ) (q : Token × ℕ) (o : Option (Shape × ℕ)) → front bs ≡ o → shaped o bs ≡ Some q → Leads bs q
 shaped_leads bs q None f e = absurd (cc)
@@ -73,7 +78,7 @@ leads_by (b ∷ bs) q true h e =
     let k : first (34 ∷ bs) ≡ Some q = ap (λ x. first (x ∷ bs)) (sym is) ∙ e in
     subst (λ x. Leads (x ∷ bs) q) (sym is) (string_leads bs q (inside (length bs) [] 0 bs) refl k)
 
-leads : (bs : List ℕ) (q : Token × ℕ) → first bs ≡ Some q → Leads bs q
+pub leads : (bs : List ℕ) (q : Token × ℕ) → first bs ≡ Some q → Leads bs q
 leads bs q e = leads_by bs q (begins (λ b. b == 34) bs) refl e
 
 -- where nothing is found no token begins

@@ -9,7 +9,7 @@ use Rattle.cc_whole.specs.ValidUnit.{valid_unit}
 use Rattle.cc_whole_refused.specs.Fronts.{Fronts}
 use Rattle.cc_whole_refused.specs.NotC.{NotC}
 use Rattle.cc_whole_refused.specs.Invalid.{Invalid}
-use Rattle.cc_whole_read_items.specs.Answers.{AreWide}
+use Rattle.cc_whole_read_items.specs.Answers.{HasWide, AreWide}
 use Rattle.cc_whole_front.specs.Front.{NoToken}
 use Rattle.cc_whole_first_line.specs.FirstLine.{first_line}
 use Rattle.cc_whole_nesting.specs.Nesting.{passes, nesting_limit}
@@ -84,3 +84,12 @@ IsRead text (Err (error.Invalid rule at)) = IsInvalid text rule at
 IsRead text (Err (error.Limit l)) = Passes text l
 IsRead text (Err error.Wide) = IsWide text
 IsRead text (Err error.Memory) = Unit {0}
+
+-- The answer is this unit, unless memory fails or a number among the unit's tokens does not fit 32 bits with a sign before it or without.
+abbrev pub IsUnit : CUnit → List Token → Result CUnit ReadErr → Type 0
+IsUnit unit tokens (Ok found) = found ≡ unit
+IsUnit unit tokens (Err (error.NotC at)) = ⊥
+IsUnit unit tokens (Err (error.Invalid rule at)) = ⊥
+IsUnit unit tokens (Err (error.Limit l)) = ⊥
+IsUnit unit tokens (Err error.Wide) = HasWide tokens
+IsUnit unit tokens (Err error.Memory) = Unit {0}

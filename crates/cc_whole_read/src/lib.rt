@@ -6,10 +6,12 @@
 
 mod error;
 mod landmarks;
+mod laws;
 mod places;
 mod reader;
 #[cfg(test)]
 mod tests;
 
 pub use error::ReadErr;
+pub use laws::{text_has_one_unit, text_of_a_valid_unit_is_read};
 pub use reader::{TEXT_LIMIT, read};

@@ -205,7 +205,7 @@ module _ (n : ℕ) where
   one_found (Ok v) rule place e = absurd (cc)
   one_found (Err f) rule place e =
       let same : stop.Broken f.rule (0 + f.place) ≡ stop.Broken rule place = cc in
-      ap found_by (ap Err (sym same)) ∙ ap (λ k. Some (record { rule = f.rule; place = k })) (let h : 0 + f.place ≡ f.place = omega arith in h)
+      ap (λ (x : Stop). found_by {A = Unit {0}} (Err x)) (sym same) ∙ ap (λ k. Some (record { rule = f.rule; place = k })) (let h : 0 + f.place ≡ f.place = omega arith in h)
 
 pub no_fault : (items : List Item) (u : Unit {0}) (new : ℕ) → items_from items [] [] 0 ≡ Ok (u, new) → None ≡ fault_of (first_fault items)
 no_fault items u new e = none_found (items_marks items) (first_fault items) u new (sym (told_items items [] [] 0) ∙ e)

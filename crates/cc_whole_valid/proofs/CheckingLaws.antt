@@ -237,6 +237,15 @@ told_default : (ls : Labels) (at : ℕ) → default_from ls at ≡ told at 1 (ho
 unfolding default_from
 told_default ls at = told_holds_not ls.has_default 8 0 at 1 at (past 1 at) (here at) (told_past 1 at)
 
+-- a condition and two branches behind a word
+branches : (n m : ℕ) (a b c : Checks)
+    → moved 1 (a before moved n (b before moved m c)) ≡ (moved 1 a before moved (1 + n) b before moved (1 + (n + m)) c)
+branches n m a b c =
+    moved_before 1 a (moved n (b before moved m c))
+    ∙ ap (λ d. moved 1 a before d)
+    (moved_moved 1 n (b before moved m c) ∙ (moved_before (1 + n) b (moved m c) ∙ ap (λ d. moved (1 + n) b before d)
+    (moved_moved (1 + n) m c ∙ ap (λ i. moved i c) (let h : (1 + n) + m ≡ 1 + (n + m) = omega arith in h))))
+
 mutual
   pub told_checked : (s : Statement) (k : Known) (at : ℕ) → checked_from s k at ≡ told at (statement_marks s) (checked s k)
   told_checked (assign p e) k at =
@@ -258,14 +267,6 @@ mutual
       (told_next ((at + 1) + n) m o (checked_body b k) (checked_body other k) (body_from b k ((at + 1) + n)) (body_from other k) (told_body b k ((at + 1) + n))
       (told_body other k (((at + 1) + n) + m))))
       ∙ ap (told at (1 + (n + (m + o)))) (branches n m cond (checked_body b k) (checked_body other k))
-    where
-      branches : (n m : ℕ) (a b c : Checks)
-          → moved 1 (a before moved n (b before moved m c)) ≡ (moved 1 a before moved (1 + n) b before moved (1 + (n + m)) c)
-      branches n m a b c =
-          moved_before 1 a (moved n (b before moved m c))
-          ∙ ap (λ d. moved 1 a before d)
-          (moved_moved 1 n (b before moved m c) ∙ (moved_before (1 + n) b (moved m c) ∙ ap (λ d. moved (1 + n) b before d)
-          (moved_moved (1 + n) m c ∙ ap (λ i. moved i c) (let h : (1 + n) + m ≡ 1 + (n + m) = omega arith in h))))
   told_checked (loop b) k at =
       told_behind at 1 (body_marks b) (1 + body_marks b) (checked_body b (in_a_loop k)) (λ u. body_from b (in_a_loop k)) refl (told_body b (in_a_loop k) (at + 1))
   told_checked (select e items) k at =
