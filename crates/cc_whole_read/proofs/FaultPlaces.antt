@@ -1,6 +1,7 @@
 -- A fault stands at a landmark of its text: fewer landmarks stand before it than there are.
 use Rattle.std.proofs.Common.{◌≡◌, ℕ, ◌+◌, ◌<◌, ◌≤◌, Bool, true, false, not, ◌&&◌, ◌||◌, List, [], ◌∷◌, ◌++◌, Option, Some, None, Ok, Err, length, refl, subst, arith}
 use Rattle.std.specs.Prelude.{◌==◌, is_none, is_some}
+use Rattle.std.proofs.lemmas.Bool.{and_parts}
 use Rattle.cc_whole.specs.declared.types.CType.{CType}
 use Rattle.cc_whole.specs.declared.types.CType.TheVariants as ty
 use Rattle.cc_whole.specs.declared.types.CSignature.{CSignature}
@@ -21,6 +22,8 @@ use Rattle.cc_whole.specs.Known.{Meant, function, object, Named, Known, lookup, 
 use Rattle.cc_whole.specs.Typed.{is_zero, may_cast, typed_name, typed_address, typed, typed_place, fitted, target_name, typed_target, fits_type}
 use Rattle.cc_whole.specs.Statements.{assigned, stored_in, called_name, called_type, fits_stored, helper_may_call, calls_main, called_pointer, arguments, calls, called, condition, fits_given, given, has_size, checked_locals, in_a_loop, in_a_switch, with_locals, Labels, no_labels, has_case, checked, checked_statements, checked_switch, checked_body}
 use Rattle.cc_whole.specs.Valid.{agrees, own_type, has_type, checked_name, checked_parameters, checked_prototype, inside, may_be_shared, checked_function, paired, checked_pairs, may_start, holds_start, checked_start, checked_variable, named_by, defined_after, checked_function_definition, checked_variable_definition, checked_item, checked_items, first_fault}
+use Rattle.cc_whole.specs.Spellable.{spellable_start, spellable_item, spellable_items}
+use Rattle.cc_whole_tokens.specs.Token.{is_name}
 use Rattle.cc_whole_laws.specs.Landmark.{items_marks}
 
 -- a fault, if there is one, stands before this many landmarks have been passed
@@ -309,6 +312,55 @@ pairs_inside (p ∷ ps) names =
     (before_inside n (paired names p.function) _ (wider_inside 2 n (paired names p.function) (omega arith) (paired_inside names p.function))
     (moved_inside 2 (pairs_marks ps) n (checked_pairs ps names) (omega arith) (pairs_inside ps names)))
 
--- pairs of which there is one at least
-start_inside : (t : CVariableType) (names : List Named) (start : Option CInitialiser) → 0 < 1 + initialiser_marks start → Inside (1 + initialiser_marks start) (checked_start t names start)
-start_inside t names start h = ?
+-- there is a pair where there are pairs
+start_inside : (t : CVariableType) (names : List Named) (start : Option CInitialiser) → spellable_start start ≡ true → Inside (initialiser_marks start) (checked_start t names start)
+start_inside t names None h = tt
+start_inside t names (Some (initialiser.Text bytes)) h = holds_inside (may_start t (initialiser.Text bytes)) 3 0 1 (omega arith)
+start_inside t names (Some (initialiser.Pairs [])) h = absurd (cc)
+start_inside t names (Some (initialiser.Pairs (p ∷ ps))) h =
+    test_inside (may_start t (initialiser.Pairs (p ∷ ps))) 3 0 (2 + pairs_marks ps) _ (omega arith) (pairs_inside (p ∷ ps) names)
+
+-- a number of elements that holds what the array starts with
+sized_inside : (t : CVariableType) (start : Option CInitialiser) → Inside (variable_marks t) (holds (has_size t && holds_start t start) 11 (marks_before t + 1))
+sized_inside (variable.Scalar t) None = tt
+sized_inside (variable.Scalar t) (Some (initialiser.Text bytes)) = tt
+sized_inside (variable.Scalar t) (Some (initialiser.Pairs ps)) = tt
+sized_inside (variable.Ints c) start = holds_inside (has_size (variable.Ints c) && holds_start (variable.Ints c) start) 11 2 3 (omega arith)
+sized_inside (variable.Chars c) start = holds_inside (has_size (variable.Chars c) && holds_start (variable.Chars c) start) 11 2 3 (omega arith)
+sized_inside (variable.Pairs c) start = holds_inside (has_size (variable.Pairs c) && holds_start (variable.Pairs c) start) 11 3 4 (omega arith)
+
+variable_inside : (names : List Named) (defined : List (List ℕ)) (d : Bool) (t : CVariableType) (name : List ℕ) (start : Option CInitialiser)
+    → Inside (variable_marks t) (checked_variable names defined d t name start)
+variable_inside names defined d t name start =
+    before_inside (variable_marks t) (checked_name names defined d name (object t) (marks_before t)) _
+    (declared_inside names defined d name (object t) (marks_before t) (variable_marks t) (omega arith)) (sized_inside t start)
+
+item_inside : (i : Item) (names : List Named) (defined : List (List ℕ)) → spellable_item i ≡ true → Inside (item_marks i) (checked_item i names defined)
+item_inside (declares p) names defined h = prototype_inside names defined false p
+item_inside (declares_variable t name) names defined h = variable_inside names defined false t name None
+item_inside (defines f) names defined h =
+    let n = prototype_marks f.prototype + body_marks f.body in
+    let k = inside f.prototype (named_by (defines f) ∷ names) in
+    before_inside n (may_be_shared f.is_shared f.prototype.is_static) _ (shared_inside f.is_shared f.prototype.is_static n (omega arith))
+    (next_inside (prototype_marks f.prototype) (body_marks f.body) (checked_prototype names defined true f.prototype) (checked_body f.body k)
+    (prototype_inside names defined true f.prototype) (body_inside f.body k))
+item_inside (defines_variable v) names defined h =
+    let s = static_marks v.is_static in
+    let m = variable_marks v.ty + initialiser_marks v.initialiser in
+    let n = s + m in
+    let rest = checked_start v.ty (named_by (defines_variable v) ∷ names) v.initialiser in
+    let good = (and_parts (is_name v.name) (spellable_start v.initialiser) h).1 in
+    before_inside n (may_be_shared v.is_shared v.is_static) _ (shared_inside v.is_shared v.is_static n (omega arith))
+    (moved_inside s m n (checked_variable names defined true v.ty v.name v.initialiser before moved (variable_marks v.ty) rest) (omega arith)
+    (next_inside (variable_marks v.ty) (initialiser_marks v.initialiser) (checked_variable names defined true v.ty v.name v.initialiser) rest
+    (variable_inside names defined true v.ty v.name v.initialiser) (start_inside v.ty (named_by (defines_variable v) ∷ names) v.initialiser good)))
+
+items_inside : (items : List Item) (names : List Named) (defined : List (List ℕ)) → spellable_items items ≡ true → Inside (items_marks items) (checked_items items names defined)
+items_inside [] names defined h = tt
+items_inside (i ∷ rest) names defined h =
+    let both = and_parts (spellable_item i) (spellable_items rest) h in
+    next_inside (item_marks i) (items_marks rest) (checked_item i names defined) (checked_items rest (named_by i ∷ names) (defined_after i defined))
+    (item_inside i names defined both.0) (items_inside rest (named_by i ∷ names) (defined_after i defined) both.1)
+
+pub fault_inside : (items : List Item) (rule place : ℕ) → spellable_items items ≡ true → first_fault items ≡ broken rule place → place < items_marks items
+fault_inside items rule place h e = subst (Inside (items_marks items)) e (items_inside items [] [] h)
