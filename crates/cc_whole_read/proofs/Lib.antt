@@ -1,2 +1,6 @@
+mod Answering
+mod FaultPlaces
+mod Numbered
 mod ReadBack
+mod SpelledTrees
 mod Telling

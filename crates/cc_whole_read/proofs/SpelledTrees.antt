@@ -32,17 +32,9 @@ use Rattle.cc_whole.specs.SpellsItems.{shared_tokens, static_tokens, some_parame
 use Rattle.cc_whole.specs.Plain.{statement_of, switch_item_of, body_of, in_order, switch_in_order, item_of, items_of}
 use Rattle.cc_whole.specs.Spellable.{good_locals, spellable, spellable_statements, spellable_switch, spellable_body, spellable_prototype, spellable_start, spellable_item, spellable_items}
 use Rattle.cc_whole_laws.proofs.Views.{of-Assign, of-Call, of-Block, of-Break, of-Continue, of-If, of-If-only, of-Loop, of-Switch, of-Return, of-Case, of-Default, of-Statement, of-made}
+use Rattle.cc_whole_read.specs.Good.{good, all_good}
 use Rattle.cc_whole_refused.specs.Fronts.{Fronts}
 use Rattle.cc_whole_refused.specs.Fronts as fronts
-
--- a token as a text has it: its name is a name, its string has bytes
-abbrev good : Token → Bool
-good (token.Name name) = is_name name
-good (token.Text bytes) = list_all (λ b. nat_lt b 256) bytes
-good t = true
-
-abbrev pub all_good : List Token → Bool
-all_good ts = list_all good ts
 
 good_parts : (xs ys : List Token) → all_good (xs ++ ys) ≡ true → (all_good xs ≡ true) × (all_good ys ≡ true)
 good_parts [] ys h = (refl, h)

@@ -6,6 +6,7 @@ use Rattle.cc_whole.specs.declared.unit.CUnit.{CUnit}
 use Rattle.cc_whole.specs.Plain.{items_of}
 use Rattle.cc_whole.specs.Fault.{broken}
 use Rattle.cc_whole.specs.SpellsItems.{SpellsItems}
+use Rattle.cc_whole.specs.Spellable.{spellable_version}
 use Rattle.cc_whole.specs.Valid.{first_fault}
 use Rattle.cc_whole.specs.ValidUnit.{valid_unit}
 use Rattle.cc_whole_read_items.specs.Answers.{NotCAt, AreItems, AreWide}
@@ -14,6 +15,7 @@ use Rattle.cc_whole_front.specs.declared.front.Front.{Front}
 use Rattle.cc_whole_first_line.specs.FirstLine.{Begins}
 use Rattle.cc_whole_read.specs.declared.error.ReadErr.{ReadErr}
 use Rattle.cc_whole_read.specs.declared.error.ReadErr.TheVariants as error
+use Rattle.cc_whole_read.specs.Good.{all_good}
 use Rattle.cc_whole_read.specs.Landmarks.{Nth}
 use Rattle.cc_whole_read.specs.Read.{text_limit, IsRead}
 
@@ -33,7 +35,13 @@ FaultIs front fault (error.Invalid rule at) = AtLandmark front fault rule at
 FaultIs front fault (error.NotC at) = ⊥
 FaultIs front fault (error.Limit l) = ⊥
 FaultIs front fault error.Wide = ⊥
-FaultIs front fault error.Memory = Unit {0}
+FaultIs front fault error.Memory = ⊥
+
+-- the tokens of a text, all of which spell the items of this unit
+pub record Spells (front : Front) (unit : CUnit) : Type 0 where
+  pub spelled : SpellsItems unit.items front.tokens.items
+  pub good : all_good front.tokens.items ≡ true
+  pub version : spellable_version unit.version ≡ true
 
 -- the first fault of a unit is told where it stands
 pub record Breaks (front : Front) (unit : CUnit) (rule at : ℕ) : Type 0 where

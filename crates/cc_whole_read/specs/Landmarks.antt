@@ -1,5 +1,5 @@
 -- A landmark by its number.
-use Rattle.std.specs.Prelude.{◌≡◌, ℕ, Bool, ◌==◌, List, ◌∷◌, ◌++◌, length}
+use Rattle.std.specs.Prelude.{◌≡◌, ℕ, ◌+◌, ◌-◌, Bool, ◌==◌, if◌then◌else◌, List, [], ◌∷◌, ◌++◌, length, Option, Some, None}
 use Rattle.cc_whole_tokens.specs.declared.token.Token.{Token}
 use Rattle.cc_whole_laws.specs.Landmark.{landmark, landmarks_in}
 
@@ -15,3 +15,9 @@ pub record Nth (tokens : List Token) (number index : ℕ) : Type 0 where
   pub place : index ≡ length before
   pub is_landmark : landmark token ≡ 1
   pub count : landmarks_in before ≡ number
+
+-- how the code looks for it: so many are to be passed, from the token of this index on
+abbrev pub landmark_from : List Token → ℕ → ℕ → Option ℕ
+landmark_from [] index left = None
+landmark_from (t ∷ ts) index left =
+    if is_one (landmark t) then (if left == 0 then Some index else landmark_from ts (index + 1) (left - 1)) else landmark_from ts (index + 1) left

@@ -1,8 +1,8 @@
 //! The landmarks of a text: names, numbers and strings, and words but `extern` and `else`.
 
-ghost use Rattle.std.specs.Prelude.{◌≡◌, IfSome};
+ghost use Rattle.std.specs.Prelude.{◌≡◌};
 ghost use Rattle.cc_whole_laws.specs.Landmark as spec;
-ghost use Rattle.cc_whole_read.specs.Landmarks.{is_one, Nth};
+ghost use Rattle.cc_whole_read.specs.Landmarks.{is_one, landmark_from};
 
 use cc_whole_tokens::{Mark, Token};
 
@@ -30,7 +30,7 @@ fn is_landmark(token: &Token) -> bool
 
 /// The index of the landmark before which so many stand, if there is one.
 pub fn landmark_at(tokens: &[Token], number: usize) -> Option<usize>
-    ensures { IfSome result (λ index. Nth tokens.now number index) }
+    ensures { result ≡ landmark_from tokens.now 0 number }
 {
     let mut left = number;
     for (index, token) in tokens.iter().enumerate() {

@@ -1,8 +1,11 @@
 //! Reading a text.
 
-ghost use Rattle.std.specs.Prelude.{◌≡◌, ◌≤◌, ◌+◌, length};
+ghost use Rattle.std.specs.Prelude.{◌≡◌, ◌≤◌, ◌<◌, ◌+◌, true, length};
+ghost use Rattle.cc_whole.specs.Spellable.{spellable_version};
+ghost use Rattle.cc_whole_laws.specs.Landmark.{landmarks_in};
 ghost use Rattle.cc_whole_read.specs.declared.error.ReadErr.TheVariants as error;
-ghost use Rattle.cc_whole_read.specs.Behind.{place_in, FaultIs, IsChecked, ReadsTokens, ReadsBehind};
+ghost use Rattle.cc_whole_read.specs.Behind.{place_in, FaultIs, Spells, IsChecked, ReadsTokens, ReadsBehind};
+ghost use Rattle.cc_whole_read.specs.Good.{all_good};
 ghost use Rattle.cc_whole_read.specs.Read.{IsRead, text_limit};
 
 use crate::error::ReadErr;
@@ -22,6 +25,7 @@ pub const TEXT_LIMIT: usize = 16_777_216;
 
 /// Where the first fault of a unit is told, whose items these are the tokens of.
 fn fault_at(front: &Front, fault: Fault) -> ReadErr
+    requires { fault.place < landmarks_in front.now.tokens.items }
     ensures { FaultIs front.now fault result }
 {
     match landmark_at(front.tokens.as_slice(), fault.place) {
@@ -29,19 +33,20 @@ fn fault_at(front: &Front, fault: Fault) -> ReadErr
             rule: fault.rule,
             at: place_of(front, index),
         },
-        None => ReadErr::Memory,
+        None => unreachable!(),
     }
 }
 
 /// The unit that these are the tokens of, if it is valid.
 fn checked(alloc: Global, front: &Front, unit: CUnit) -> Result<ValidUnit, ReadErr>
+    requires { Spells front.now unit }
     ensures { IsChecked front.now unit result }
 {
     match first_fault(alloc, unit.items.as_slice())? {
         Some(fault) => Err(fault_at(front, fault)),
         None => match ValidUnit::new(alloc, unit)? {
             Some(valid) => Ok(valid),
-            None => Err(ReadErr::Memory),
+            None => unreachable!(),
         },
     }
 }
@@ -57,6 +62,8 @@ fn stops_at(front: &Front, index: usize) -> ReadErr
 
 /// The unit of tokens, which spell items where they are whole.
 fn unit_of(alloc: Global, version: u32, front: &Front) -> Result<ValidUnit, ReadErr>
+    requires version { spellable_version version ≡ true }
+    requires good { all_good front.now.tokens.items ≡ true }
     ensures { ReadsTokens version front.now result }
 {
     match items_of(alloc, front.tokens.as_slice()) {
@@ -84,7 +91,8 @@ fn behind_line(
     version: u32,
     body: &[u8],
 ) -> Result<ValidUnit, ReadErr>
-    requires { before + length body.now ≤ text_limit }
+    requires fits { before + length body.now ≤ text_limit }
+    requires version { spellable_version version ≡ true }
     ensures { ReadsBehind before version body.now result }
 {
     let front = front_of(alloc, before, body)?;

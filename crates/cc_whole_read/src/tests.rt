@@ -54,7 +54,11 @@ fn other_texts_stop_being_c(rt: HostRuntime) -> Result<(), Fail> {
         ("#pragma cfront 1\nint f(void){return 1 @ 2;}", 38),
         ("#pragma cfront 1\nint f(void){return 0;}}", 39),
     ] {
-        assert_eq!(rt; count(alloc, text.as_bytes()), Err(ReadErr::NotC { at }), "{text}");
+        assert_eq!(rt;
+            count(alloc, text.as_bytes()),
+            Err(ReadErr::NotC { at }),
+            "{text}"
+        );
     }
     Ok(())
 }
@@ -71,11 +75,23 @@ fn fault(alloc: Global, text: &[u8]) -> Option<(u8, usize)> {
 fn the_first_broken_rule_is_told(rt: HostRuntime) -> Result<(), Fail> {
     let alloc = rt.alloc();
     for (text, want) in [
-        ("#pragma cfront 1\nint main(void)\n{\nreturn x;\n}\n", (1, 41)),
+        (
+            "#pragma cfront 1\nint main(void)\n{\nreturn x;\n}\n",
+            (1, 41),
+        ),
         ("#pragma cfront 1\nint x;char x;", (2, 28)),
-        ("#pragma cfront 1\nint f(int a){char *p;a=1-p;return a;}", (3, 42)),
-        ("#pragma cfront 1\nint f(char *p){*(char*)(p)=1;return 0;}", (4, 44)),
-        ("#pragma cfront 1\nvoid g(int a);int f(void){g(1,2);return 0;}", (5, 43)),
+        (
+            "#pragma cfront 1\nint f(int a){char *p;a=1-p;return a;}",
+            (3, 42),
+        ),
+        (
+            "#pragma cfront 1\nint f(char *p){*(char*)(p)=1;return 0;}",
+            (4, 44),
+        ),
+        (
+            "#pragma cfront 1\nvoid g(int a);int f(void){g(1,2);return 0;}",
+            (5, 43),
+        ),
         ("#pragma cfront 1\nvoid f(void){return 0;}", (6, 30)),
         ("#pragma cfront 1\nvoid f(void){continue;}", (7, 30)),
         (
@@ -85,7 +101,10 @@ fn the_first_broken_rule_is_told(rt: HostRuntime) -> Result<(), Fail> {
         ("#pragma cfront 1\nvoid __hd1(void){__hd1();}", (9, 34)),
         ("#pragma cfront 1\nchar malloc;", (10, 22)),
         ("#pragma cfront 1\nint a[0];", (11, 23)),
-        ("#pragma cfront 1\n#pragma cf_shared\nstatic int x;", (12, 35)),
+        (
+            "#pragma cfront 1\n#pragma cf_shared\nstatic int x;",
+            (12, 35),
+        ),
     ] {
         assert_eq!(rt; fault(alloc, text.as_bytes()), Some(want), "{text}");
     }

@@ -11,16 +11,16 @@ use Rattle.cc_whole.specs.declared.statement.CLocal.{CLocal}
 use Rattle.cc_whole.specs.Plain.{Place, Expression, Callee, by_name, by_pointer, Statement, assign, call, block, leave, next, choose, loop, select, give, Statements, done, followed, SwitchItems, closed, labelled, otherwise, stated, Body, body}
 use Rattle.cc_whole.specs.Numbers.{fits_constant, label_of}
 use Rattle.cc_whole.specs.Types.{same_type, is_integer, is_function_pointer, local_type}
-use Rattle.cc_whole.specs.Landmarks.{marks, place_marks, all_marks, target_marks, signature_marks, callee_marks, given_marks, marks_before, marks_behind, local_marks, locals_marks, statement_marks, statements_marks, switch_marks, body_marks}
+use Rattle.cc_whole.specs.Landmarks.{type_marks, result_marks, all_types_marks, types_marks, marks, place_marks, all_marks, target_marks, signature_marks, callee_marks, given_marks, marks_before, marks_behind, local_marks, locals_marks, statement_marks, statements_marks, switch_marks, body_marks}
 use Rattle.cc_whole.specs.Fault.{Checked, Checks, broken, holds, moved, checked_then, ◌before◌}
 use Rattle.cc_whole.specs.Known.{Meant, function, object, Named, Known, lookup, is_in}
 use Rattle.cc_whole.specs.Typed.{is_zero, typed, typed_target, fits_type}
 use Rattle.cc_whole.specs.Statements.{assigned, stored_in, called_name, called_type, fits_stored, helper_may_call, calls_main, called_pointer, arguments, calls, called, condition, fits_given, given, has_size, checked_locals, in_a_loop, in_a_switch, with_locals, Labels, no_labels, has_case, checked, checked_statements, checked_switch, checked_body}
 use Rattle.cc_whole_valid.specs.declared.stop.Stop.{Stop}
 use Rattle.cc_whole_valid.specs.declared.stop.Stop.TheVariants as stop
-use Rattle.cc_whole_valid.specs.Walk.{Walk, and_then, ◌>>=◌, past}
+use Rattle.cc_whole_valid.specs.Walk.{Walk, and_then, ◌>>=◌, pure, past, where_holds}
 use Rattle.cc_whole_valid.specs.Typing.{type_from, target_from}
-use Rattle.cc_whole_valid.specs.Checking.{assigned_from, stored_from, signature_by, signature_from, callee_from, argument_from, arguments_from, call_from, called_from, condition_from, value_from, given_from, distinct_from, size_from, local_from, locals_from, word_from, with_case, with_default, number_from, case_from, default_from, checked_from, statements_from, switch_from, body_from}
+use Rattle.cc_whole_valid.specs.Checking.{assigned_from, stored_from, signature_by, signature_from, types_from, parameter_types_from, type_of_call, callee_from, argument_from, arguments_from, call_from, called_from, condition_from, value_from, given_from, distinct_from, size_from, local_from, locals_from, word_from, with_case, with_default, number_from, case_from, default_from, checked_from, statements_from, switch_from, body_from}
 use Rattle.cc_whole_valid.proofs.WalkLaws.{told, told_past, told_back, told_then, told_before, told_behind, told_where, told_where_known, told_unless, told_holds, told_holds_not}
 use Rattle.cc_whole_valid.proofs.TypingLaws.{here, told_type, told_target}
 
@@ -59,11 +59,34 @@ unfolding signature_from
 told_signature (by_name name) k at = told_signature_by (lookup k name) at
 told_signature (by_pointer s e) k at = ap (λ n. Ok (s, n)) (here at)
 
+told_types : (ts : List CType) (at : ℕ) → types_from ts at ≡ Ok (tt, at + all_types_marks ts)
+told_types [] at = ap (λ n. Ok (tt, n)) (here at)
+told_types (t ∷ ts) at =
+    ap (λ r. and_then r (λ u. types_from ts)) (told_past (type_marks t) at)
+    ∙ (told_types ts (at + type_marks t)
+    ∙ ap (λ n. Ok (tt, n)) (let h : (at + type_marks t) + all_types_marks ts ≡ at + (type_marks t + all_types_marks ts) = omega arith in h))
+
+told_parameter_types : (ts : List CType) (at : ℕ) → parameter_types_from ts at ≡ Ok (tt, at + types_marks ts)
+unfolding parameter_types_from
+told_parameter_types [] at = told_past 1 at
+told_parameter_types (t ∷ ts) at = told_types (t ∷ ts) at
+
+-- the type of a call is passed as its landmarks are
+told_call_type : (s : CSignature) (at : ℕ) → type_of_call s at ≡ past (signature_marks s) at
+unfolding type_of_call
+told_call_type s at =
+    let n = result_marks s.result in
+    let m = types_marks s.parameters in
+    ap (λ r. and_then r (λ u. parameter_types_from s.parameters)) (told_past n at)
+    ∙ (told_parameter_types s.parameters (at + n)
+    ∙ (ap (λ k. Ok (tt, k)) (let h : (at + n) + m ≡ at + (n + m) = omega arith in h) ∙ sym (told_past (n + m) at)))
+
 told_callee : (c : Callee) (k : List Named) (at : ℕ) → callee_from c k at ≡ told at (callee_marks c) (called_pointer c k)
 unfolding callee_from
 told_callee (by_name name) k at = told_past 1 at
 told_callee (by_pointer s e) k at =
-    told_behind at (signature_marks s) (marks e) (signature_marks s + marks e) (checked_then (typed e k) (λ t. holds (is_function_pointer t) 3 0)) _ refl
+    ap (λ r. and_then r (λ u at. and_then (type_from e k at) (λ t. where_holds (is_function_pointer t) 3 at (pure tt)))) (told_call_type s at)
+    ∙ told_behind at (signature_marks s) (marks e) (signature_marks s + marks e) (checked_then (typed e k) (λ t. holds (is_function_pointer t) 3 0)) _ refl
     (told_tested e k is_function_pointer 3 (at + signature_marks s) _ (λ t. refl))
 
 told_argument : (t : CType) (e : Expression) (k : List Named) (at : ℕ)

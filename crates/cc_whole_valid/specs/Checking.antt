@@ -8,7 +8,7 @@ use Rattle.cc_whole.specs.declared.statement.CLocal.{CLocal}
 use Rattle.cc_whole.specs.Plain.{Place, Expression, Callee, by_name, by_pointer, Statement, assign, call, block, leave, next, choose, loop, select, give, Statements, done, followed, SwitchItems, closed, labelled, otherwise, stated, Body, body, SwitchItem, label, default_label, inner}
 use Rattle.cc_whole.specs.Numbers.{fits_constant, label_of}
 use Rattle.cc_whole.specs.Types.{same_type, is_integer, is_function_pointer, local_type, signature_of}
-use Rattle.cc_whole.specs.Landmarks.{signature_marks, marks_before, marks_behind}
+use Rattle.cc_whole.specs.Landmarks.{type_marks, result_marks, marks_before, marks_behind}
 use Rattle.cc_whole.specs.Known.{Meant, function, object, Named, Known, lookup, is_in}
 use Rattle.cc_whole.specs.Typed.{is_zero, fits_type}
 use Rattle.cc_whole.specs.Statements.{fits_stored, helper_may_call, calls_main, fits_given, has_size, in_a_loop, in_a_switch, with_locals, Labels, no_labels, has_case}
@@ -34,10 +34,23 @@ unfoldable pub signature_from : Callee → List Named → Walk CSignature
 signature_from (by_name name) names = signature_by (lookup names name)
 signature_from (by_pointer s e) names = pure s
 
+-- goes past the types of parameters, or past `void`
+abbrev pub types_from : List CType → Walk (Unit {0})
+types_from [] = pure tt
+types_from (t ∷ ts) = past (type_marks t) >>= (λ u. types_from ts)
+
+unfoldable pub parameter_types_from : List CType → Walk (Unit {0})
+parameter_types_from [] = past 1
+parameter_types_from (t ∷ ts) = types_from (t ∷ ts)
+
+-- goes past the type of a function that is called through a pointer
+unfoldable pub type_of_call : CSignature → Walk (Unit {0})
+type_of_call s = past (result_marks s.result) >>= (λ u. parameter_types_from s.parameters)
+
 -- goes past what is called
 unfoldable pub callee_from : Callee → List Named → Walk (Unit {0})
 callee_from (by_name name) names = past 1
-callee_from (by_pointer s e) names = past (signature_marks s) >>= (λ u at. and_then (type_from e names at) (λ t. where_holds (is_function_pointer t) 3 at (pure tt)))
+callee_from (by_pointer s e) names = type_of_call s >>= (λ u at. and_then (type_from e names at) (λ t. where_holds (is_function_pointer t) 3 at (pure tt)))
 
 unfoldable pub argument_from : CType → Expression → List Named → Walk (Unit {0})
 argument_from t e names = λ at. and_then (type_from e names at) (λ s. where_holds (same_type s t) 5 at (pure tt))

@@ -2,6 +2,7 @@
 
 ghost use Rattle.std.specs.Prelude.{◌≡◌, ◌≤◌, ◌+◌};
 ghost use Rattle.cc_whole.specs.Landmarks as marks;
+ghost use Rattle.cc_whole_valid.specs.Checking as checking;
 ghost use Rattle.cc_whole_valid.specs.Walk as spec;
 ghost use Rattle.cc_whole_valid.specs.Walk.{Walks};
 
@@ -67,7 +68,7 @@ pub fn marks_behind(t: CVariableType) -> usize
 }
 
 fn pass_types(at: &mut usize, types: &[CType]) -> Result<(), Stop>
-    ensures { Walks (spec.past (marks.all_types_marks types.now) at.old) result at.new }
+    ensures { Walks (checking.types_from types.now at.old) result at.new }
 {
     for t in types {
         pass(at, type_marks(*t))?;
@@ -76,19 +77,20 @@ fn pass_types(at: &mut usize, types: &[CType]) -> Result<(), Stop>
 }
 
 /// Goes past the types of parameters, or past `void`.
+#[tactic(auto, unfolding(crate::specs::Checking::parameter_types_from))]
 fn pass_parameters(at: &mut usize, types: &[CType]) -> Result<(), Stop>
-    ensures { Walks (spec.past (marks.types_marks types.now) at.old) result at.new }
+    ensures { Walks (checking.parameter_types_from types.now at.old) result at.new }
 {
-    if types.is_empty() {
-        pass(at, 1)
-    } else {
-        pass_types(at, types)
+    match types {
+        [] => pass(at, 1),
+        [_, ..] => pass_types(at, types),
     }
 }
 
 /// Goes past the type of a function that is called through a pointer.
+#[tactic(auto, unfolding(crate::specs::Checking::type_of_call))]
 pub fn pass_signature(at: &mut usize, signature: &CSignature) -> Result<(), Stop>
-    ensures { Walks (spec.past (marks.signature_marks signature.now) at.old) result at.new }
+    ensures { Walks (checking.type_of_call signature.now at.old) result at.new }
 {
     pass(at, result_marks(signature.result))?;
     pass_parameters(at, signature.parameters.as_slice())

@@ -1,7 +1,7 @@
-use Rattle.std.proofs.Common.{◌≡◌, ◌+◌, take}
-use Rattle.cc_whole_laws.specs.Landmark.{landmarks_in}
+use Rattle.std.proofs.Common.{◌≡◌, drop}
+use Rattle.cc_whole_read.specs.Landmarks.{landmark_from}
 use Rattle.cc_whole_read.proofs.landmarks.landmark_at.Given as goal
 
--- how many stand before this index
+-- the tokens behind decide
 abbrev pub invariant-loop-index : goal.invariant-loop-index
-invariant-loop-index l = landmarks_in (take l.index l.tokens) + l.left ≡ l.number
+invariant-loop-index l = landmark_from (drop l.index l.tokens) l.index l.left ≡ landmark_from l.tokens 0 l.number
