@@ -1,3 +1,4 @@
 pub mod Laws
 pub mod Only
+pub mod Places
 pub mod Turns

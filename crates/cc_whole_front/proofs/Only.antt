@@ -16,7 +16,7 @@ use Rattle.cc_whole_refused.specs.Fronts as fronts
 use Rattle.cc_whole_front.specs.Front.{NoToken, ended, stray}
 use Rattle.cc_whole_front.proofs.Turns.{leads}
 
-blank_none : (b : ℕ) (bs : List ℕ) → is_blank b ≡ true → first (b ∷ bs) ≡ None
+pub blank_none : (b : ℕ) (bs : List ℕ) → is_blank b ≡ true → first (b ∷ bs) ≡ None
 unfolding first front
 blank_none b bs h = ⊎_elim (λ e. rw (eqb-true b 32 e) refl) (λ e. rw (eqb-true b 10 e) refl) (or_cases (b == 32) (b == 10) h)
 
@@ -48,7 +48,7 @@ pub record Leading (bs : List ℕ) (q : Token × ℕ) (ts : List Token) (rest : 
 some_at : {X : Type 0} (P : X → Type 0) (x y : X) → P x → Some x ≡ Some y → P y
 some_at P x y p e = let k : x ≡ y = cc in subst P k p
 
-left_string : (xs rest : List ℕ) → drop (length xs + 2) (34 ∷ (xs ++ (34 ∷ rest))) ≡ rest
+pub left_string : (xs rest : List ℕ) → drop (length xs + 2) (34 ∷ (xs ++ (34 ∷ rest))) ≡ rest
 left_string xs rest =
     let len : length (34 ∷ (xs ++ (34 ∷ []))) ≡ length xs + 2 = let l = length-append xs (34 ∷ []) in omega (arith, l) in
     ap (λ z. drop (length xs + 2) (34 ∷ z)) (sym (append_assoc xs (34 ∷ []) rest)) ∙ drop_at (34 ∷ (xs ++ (34 ∷ []))) rest (length xs + 2) len
