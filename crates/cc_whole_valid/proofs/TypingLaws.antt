@@ -19,7 +19,7 @@ pub told_one : (t : CType) (at : ℕ) → past_one t at ≡ told at 1 (Ok t)
 unfolding past_one
 told_one t at = ap (λ r. and_then r (λ u at. Ok (t, at))) (told_past 1 at)
 
-here : (at : ℕ) → at ≡ at + 0
+pub here : (at : ℕ) → at ≡ at + 0
 here at = omega arith
 
 told_constant : (c : CConstant) (at : ℕ) → constant_at c at ≡ told at 1 (typed_constant c)
