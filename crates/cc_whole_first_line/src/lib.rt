@@ -4,9 +4,9 @@
 //! a line is read; a law says that this finds exactly the lines that a text may begin with.
 #![tactic(auto)]
 
-mod first_line;
 mod laws;
+mod line;
 mod version;
 
-pub use first_line::first_line;
 pub use laws::first_lines_are_found;
+pub use line::first_line;
