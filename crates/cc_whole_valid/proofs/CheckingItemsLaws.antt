@@ -10,17 +10,16 @@ use Rattle.cc_whole.specs.declared.unit.CVariable.{CVariable}
 use Rattle.cc_whole.specs.Plain.{Function, Item, declares, declares_variable, defines, defines_variable}
 use Rattle.cc_whole.specs.Numbers.{fits_constant}
 use Rattle.cc_whole.specs.Landmarks.{type_marks, result_marks, static_marks, marks_before_name, marks_before, variable_marks, all_parameters_marks, parameters_marks, prototype_marks, pairs_marks, initialiser_marks, body_marks, item_marks}
-use Rattle.cc_whole.specs.Fault.{Checked, Checks, broken, holds, moved, ◌before◌}
+use Rattle.cc_whole.specs.Fault.{Checks, holds, moved, ◌before◌}
 use Rattle.cc_whole.specs.Known.{Meant, function, object, Named, lookup, is_in, is_main, is_library}
 use Rattle.cc_whole.specs.Statements.{has_size, checked_body}
 use Rattle.cc_whole.specs.Valid.{agrees, own_type, has_type, checked_name, checked_parameters, checked_prototype, inside, may_be_shared, checked_function, paired, checked_pairs, may_start, holds_start, checked_start, checked_variable, named_by, defined_after, checked_function_definition, checked_variable_definition, checked_item, checked_items, first_fault}
-use Rattle.cc_whole_valid.specs.declared.stop.Fault.{Fault}
 use Rattle.cc_whole_valid.specs.declared.stop.Stop.{Stop}
 use Rattle.cc_whole_valid.specs.declared.stop.Stop.TheVariants as stop
-use Rattle.cc_whole_valid.specs.Walk.{Walk, and_then, ◌>>=◌, past, Walks, fault_of, found_by}
+use Rattle.cc_whole_valid.specs.Walk.{Walk, and_then, ◌>>=◌, past, fault_of, found_by}
 use Rattle.cc_whole_valid.specs.Checking.{distinct_from, number_from, body_from}
 use Rattle.cc_whole_valid.specs.CheckingItems.{declared_from, parameter_from, some_from, parameters_from, prototype_from, unshared_from, function_from, paired_by, paired_from, pair_from, pairs_from, inside_from, start_from, variable_from, variable_definition_from, item_from, items_from}
-use Rattle.cc_whole_valid.proofs.WalkLaws.{told, told_past, told_back, told_before, told_behind, told_where, told_holds, told_holds_not}
+use Rattle.cc_whole_valid.proofs.WalkLaws.{told, told_past, told_before, told_behind, told_where, told_holds, told_holds_not}
 use Rattle.cc_whole_valid.proofs.TypingLaws.{here}
 use Rattle.cc_whole_valid.proofs.CheckingLaws.{told_distinct, told_number, told_variable, told_next, moved_front, moved_before, moved_moved, before_before, told_body}
 

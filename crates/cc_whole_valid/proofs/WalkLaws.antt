@@ -1,5 +1,5 @@
 -- Walks, and what the checks of a definition find from a place on.
-use Rattle.std.proofs.Common.{◌≡◌, ℕ, ◌+◌, Bool, true, false, not, Option, Some, None, Result, Ok, Err, refl, ap, sym, ◌∙◌, subst, arith}
+use Rattle.std.proofs.Common.{◌≡◌, ℕ, ◌+◌, Bool, true, false, not, Result, Ok, Err, refl, ap, sym, ◌∙◌, subst, arith}
 use Rattle.std.specs.Prelude.{if◌then◌else◌}
 use Rattle.cc_whole.specs.Fault.{Checked, Checks, holds, moved, checked_then, ◌before◌}
 use Rattle.cc_whole_valid.specs.declared.stop.Stop.{Stop}

@@ -1,6 +1,5 @@
 -- How the code finds the type of an expression, of a place and of what may be stored there.
 use Rattle.std.specs.Prelude.{ℕ, Bool, List, Option, Some, None}
-use Rattle.cf_base.specs.declared.arith.Arith.{Arith}
 use Rattle.cc_whole.specs.declared.types.CType.{CType}
 use Rattle.cc_whole.specs.declared.types.CType.TheVariants as ty
 use Rattle.cc_whole.specs.declared.types.CConstant.{CConstant}
