@@ -178,12 +178,16 @@ first_line_read version line rest f =
 ok_is : {n m : ℕ} {bs cs : List ℕ} → ◌≡◌ {A = Result (ℕ × List ℕ) (List ℕ)} (Ok (n, bs)) (Ok (m, cs)) → (n ≡ m) × (bs ≡ cs)
 ok_is {n} {m} {bs} {cs} e = let same : (n, bs) ≡ (m, cs) = cc in (ap (λ (p : ℕ × List ℕ). p.0) same, ap (λ (p : ℕ × List ℕ). p.1) same)
 
+abbrev end_by : Bool → ℕ → ℕ → List ℕ → Result (ℕ × List ℕ) (List ℕ)
+end_by true n b bs = Ok (n, bs)
+end_by false n b bs = Err (b ∷ bs)
+
 end_is : (n : ℕ) (bs : List ℕ) (m : ℕ) (rest : List ℕ) → from_end n bs ≡ Ok (m, rest) → (n ≡ m) × (bs ≡ 10 ∷ rest)
 unfolding from_end
 end_is n [] m rest e = absurd (cc)
 end_is n (b ∷ bs) m rest e = go (b == 10) refl e
   where
-    go : (t : Bool) → (b == 10) ≡ t → (if t then Ok (n, bs) else Err (b ∷ bs)) ≡ Ok (m, rest) → (n ≡ m) × (b ∷ bs ≡ 10 ∷ rest)
+    go : (t : Bool) → (b == 10) ≡ t → end_by t n b bs ≡ Ok (m, rest) → (n ≡ m) × (b ∷ bs ≡ 10 ∷ rest)
     go false f g = absurd (cc)
     go true f g = let same = ok_is g in (same.0, ap (λ x. x ∷ bs) (eqb-true b 10 f) ∙ ap (λ l. 10 ∷ l) same.1)
 
@@ -195,8 +199,8 @@ digit_is_word b e = grind (arith, nat_tests)
 
 -- where no letter stands behind the words and then a number, there is a gap before it
 gap_some : (bs : List ℕ) → begins is_word_byte bs ≡ false → begins is_ascii_digit (without is_blank bs) ≡ true → 0 < length (take (prefix_len is_blank bs) bs)
-gap_some [] no digit = absurd (false≢true digit)
-gap_some (b ∷ bs) no digit = go (is_blank b) refl
+gap_some [] plain digit = absurd (false≢true digit)
+gap_some (b ∷ bs) plain digit = go (is_blank b) refl
   where
     go : (t : Bool) → is_blank b ≡ t → 0 < length (take (prefix_len is_blank (b ∷ bs)) (b ∷ bs))
     go true is =
@@ -205,7 +209,7 @@ gap_some (b ∷ bs) no digit = go (is_blank b) refl
     go false is =
         let n : prefix_len is_blank (b ∷ bs) ≡ 0 = ap (λ t. cond t (1 + prefix_len is_blank bs) 0) is in
         let front : begins is_ascii_digit (b ∷ bs) ≡ true = subst (λ k. begins is_ascii_digit (drop k (b ∷ bs)) ≡ true) n digit in
-        absurd (true≢false (sym (digit_is_word b front) ∙ no))
+        absurd (true≢false (sym (digit_is_word b front) ∙ plain))
 
 taken_begins : (n : ℕ) (bs : List ℕ) → begins is_ascii_digit (take n bs) ≡ true → begins is_ascii_digit bs ≡ true
 taken_begins zero bs e = absurd (false≢true e)
