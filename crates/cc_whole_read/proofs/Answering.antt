@@ -1,12 +1,14 @@
 -- What the code of reading tells.
-use Rattle.std.proofs.Common.{◌≡◌, ℕ, ◌+◌, ◌<◌, ◌≤◌, ◌^◌, Bool, true, false, not, ◌&&◌, List, [], ◌∷◌, ◌++◌, length, take, drop, Option, Some, None, Result, Ok, Err, refl, ap, sym, ◌∙◌, subst, arith}
+use Rattle.std.proofs.Common.{◌≡◌, ℕ, ◌+◌, ◌<◌, ◌≤◌, ◌^◌, Bool, true, false, not, ◌&&◌, List, [], ◌∷◌, ◌++◌, length, take, drop, Option, Some, None, Result, Ok, Err, refl, ap, sym, ◌∙◌, subst, arith, length-append}
 use Rattle.std.specs.Prelude.{nat_lt, if◌then◌else◌}
 use Rattle.std.proofs.lemmas.Bool.{and_from, true≢false}
 use Rattle.std.proofs.lemmas.Bool.Decides.{nat_tests}
+use Rattle.cc_whole_tokens.specs.declared.token.Token.{Token}
 use Rattle.cc_whole.specs.declared.unit.CUnit.{CUnit}
 use Rattle.cc_whole.specs.Plain.{items_of}
 use Rattle.cc_whole.specs.Fault.{Checks, broken}
 use Rattle.cc_whole.specs.Spellable.{spellable_items, spellable_version}
+use Rattle.cc_whole.specs.SpellsItems.{SpellsItems}
 use Rattle.cc_whole.specs.Text.{FirstLine}
 use Rattle.cc_whole.specs.Valid.{first_fault}
 use Rattle.cc_whole.specs.ValidUnit.{keeps, valid_unit}
@@ -17,8 +19,14 @@ use Rattle.cc_whole_valid.specs.Walk.{fault_of, where_so}
 use Rattle.cc_whole_front.specs.declared.front.Front.{Front}
 use Rattle.cc_whole_read.specs.declared.error.ReadErr.{ReadErr}
 use Rattle.cc_whole_read.specs.declared.error.ReadErr.TheVariants as error
-use Rattle.cc_whole_read.specs.Behind.{AtLandmark, FaultIs, Spells, Breaks, IsChecked}
-use Rattle.cc_whole_read.proofs.SpelledTrees.{spelled_items}
+use Rattle.cc_whole_front.specs.Front.{IsFront}
+use Rattle.cc_whole_front.proofs.Laws.{placed_fronts}
+use Rattle.cc_whole_first_line.specs.FirstLine.{Begins}
+use Rattle.cc_whole_read.specs.Behind.{place_in, FaultIs, Spells, IsChecked, ReadsTokens}
+use Rattle.cc_whole_read.specs.Good.{all_good}
+use Rattle.cc_whole_read.specs.Landmarks.{Nth, landmark_from}
+use Rattle.cc_whole_read.proofs.Numbered.{found, too_few}
+use Rattle.cc_whole_read.proofs.SpelledTrees.{good_fronts, spelled_items}
 use Rattle.cc_whole_read.proofs.FaultPlaces.{fault_inside}
 
 -- a version of a first line is one that a text can have
@@ -66,3 +74,42 @@ module _ (front : Front) (unit : CUnit) (is : Spells front unit) where
   is_valid e =
       and_from (spellable_version unit.version) _ is.version
       (and_from (spellable_items (items_of unit.items)) (keeps (first_fault (items_of unit.items))) spellable (kept (first_fault (items_of unit.items)) e))
+
+-- ---- the arms of the code
+
+module _ (front : Front) (fault : Fault) (tokens : List Token) (same : tokens ≡ front.tokens.items) where
+  pub fault_found : (index at : ℕ) → landmark_from tokens 0 fault.place ≡ Some index → at ≡ place_in front.places.items front.end index
+      → FaultIs front fault (error.Invalid fault.rule at)
+  fault_found index at e place =
+      record { index = index; nth = subst (λ ts. Nth ts fault.place index) same (found tokens fault.place index e); same_rule = refl; place = place }
+
+  pub landmark_there : landmark_from tokens 0 fault.place ≡ None → fault.place < landmarks_in front.tokens.items → ⊥
+  landmark_there e there =
+      let few = subst (λ ts. landmarks_in ts ≤ fault.place) same (too_few tokens 0 fault.place e) in
+      absurd (omega (arith, few, there))
+
+-- what a unit of all tokens tells of the tokens
+pub checked_tells : (version : ℕ) (front : Front) (unit : CUnit) (r : Result CUnit ReadErr) → front.is_whole ≡ true → unit.version ≡ version
+    → SpellsItems unit.items front.tokens.items → IsChecked front unit r → ReadsTokens version front r
+checked_tells version front unit (Ok found) whole v spelled h =
+    record {
+      has = record { whole = whole; same_version = ap (λ (u : CUnit). u.version) h.same ∙ v; spelled = subst (λ (u : CUnit). SpellsItems u.items front.tokens.items) (sym h.same) spelled };
+      valid = h.valid;
+    }
+checked_tells version front unit (Err (error.NotC at)) whole v spelled h = absurd h
+checked_tells version front unit (Err (error.Invalid rule at)) whole v spelled h =
+    record { unit = unit; has = record { whole = whole; same_version = v; spelled = spelled }; breaks = h }
+checked_tells version front unit (Err (error.Limit l)) whole v spelled h = absurd h
+checked_tells version front unit (Err error.Wide) whole v spelled h = absurd h
+checked_tells version front unit (Err error.Memory) whole v spelled h = tt
+
+-- the tokens of a text are good
+pub front_good : (before : ℕ) (bytes : List ℕ) (front : Front) → IsFront before bytes front → all_good front.tokens.items ≡ true
+front_good before bytes front is = good_fronts (placed_fronts (before + length bytes) is.placed)
+
+-- a line and what stands behind it are the text
+pub line_shorter : (text : List ℕ) (version : ℕ) (body : List ℕ) → Begins text version body → length body ≤ length text
+line_shorter text version body b = let l = ap length b.parts in omega (arith, l, length-append b.line body)
+
+pub line_good : (text : List ℕ) (version : ℕ) (body : List ℕ) → Begins text version body → spellable_version version ≡ true
+line_good text version body b = version_good version b.line b.first
