@@ -39,7 +39,7 @@ behind_blank zero b bs h = bare_behind b bs h
 behind_blank (suc n) b bs h = ap (λ z. by_first (first z) z (behind n)) (bare_behind b bs h)
 
 -- a token begins with no blank
-no_blank : (bs : List ℕ) (q : Token × ℕ) → first bs ≡ Some q → begins is_blank bs ≡ false
+pub no_blank : (bs : List ℕ) (q : Token × ℕ) → first bs ≡ Some q → begins is_blank bs ≡ false
 no_blank [] q e = refl
 no_blank (b ∷ bs) q e = go (is_blank b) refl
   where

@@ -28,16 +28,16 @@ use Rattle.cc_whole_read.specs.declared.error.ReadErr.{ReadErr}
 use Rattle.cc_whole_read.specs.declared.error.ReadErr.TheVariants as error
 use Rattle.cc_whole_read.specs.Read.{text_limit, HasTokens, Within, IsNotC, no_line, behind_line, Passes, bytes, nesting, HasValid, IsRead, IsUnit}
 
-line_read : (text : List ℕ) (version : ℕ) (line body : List ℕ) → FirstLine version line → text ≡ line ++ body → first_line text ≡ Ok (version, body)
+pub line_read : (text : List ℕ) (version : ℕ) (line body : List ℕ) → FirstLine version line → text ≡ line ++ body → first_line text ≡ Ok (version, body)
 line_read text version line body first parts = ap first_line parts ∙ first_line_read version line body first
 
-abbrev Line : Type 0
+abbrev pub Line : Type 0
 Line = Result (ℕ × List ℕ) (List ℕ)
 
-same_line : (v w : ℕ) (bs cs : List ℕ) → ◌≡◌ {A = Line} (Ok (v, bs)) (Ok (w, cs)) → (v ≡ w) × (bs ≡ cs)
+pub same_line : (v w : ℕ) (bs cs : List ℕ) → ◌≡◌ {A = Line} (Ok (v, bs)) (Ok (w, cs)) → (v ≡ w) × (bs ≡ cs)
 same_line v w bs cs e = let same : (v, bs) ≡ (w, cs) = cc in (ap (λ (p : ℕ × List ℕ). p.0) same, ap (λ (p : ℕ × List ℕ). p.1) same)
 
-no_such_line : (v : ℕ) (bs left : List ℕ) → ◌≡◌ {A = Line} (Ok (v, bs)) (Err left) → ⊥
+pub no_such_line : (v : ℕ) (bs left : List ℕ) → ◌≡◌ {A = Line} (Ok (v, bs)) (Err left) → ⊥
 no_such_line v bs left e = absurd (cc)
 
 same_unit : (u v : CUnit) → u.version ≡ v.version → u.items ≡ v.items → u ≡ v
@@ -71,13 +71,13 @@ module _ (text : List ℕ) (unit : CUnit) (is : Text text unit) where
       never (goes_on tokens l.more t (f.parts ∙ ap (λ m. tokens ++ m) l.parts))
   stops_not tokens (refused.Stops.stray b bs bare never) f =
       let k = none_behind f.fronts (stray b bs bare never) in
-      let no : b ∷ bs ≡ [] = k.1 in
+      let empty : b ∷ bs ≡ [] = k.1 in
       absurd (cc)
   stops_not tokens (refused.Stops.ended never) f =
       let k = none_behind f.fronts ended in
       never unit.items (subst (SpellsItems unit.items) (f.parts ∙ (ap (λ m. tokens ++ m) k.0 ∙ append-nil tokens)) is.spelled)
 
-  is_c : (at : ℕ) → IsNotC text at → ⊥
+  pub is_c : (at : ℕ) → IsNotC text at → ⊥
   is_c at (no_line n) = no_such_line unit.version is.rest n.rest (sym line ∙ n.stops)
   is_c at (behind_line w n) = stops_not n.tokens n.stops (behind n.version n.line n.body n.tokens n.rest n.first n.parts n.fronts)
 
@@ -95,7 +95,7 @@ module _ (text : List ℕ) (unit : CUnit) (is : Text text unit) where
       true≢false (sym n.nesting ∙ (ap passes (sym same) ∙ flat.nesting))
 
   kept : (c : Checks) (rule number : ℕ) → keeps c ≡ true → c ≡ broken rule number → ⊥
-  kept c rule number k e = let no : false ≡ true = ap keeps (sym e) ∙ k in true≢false (sym no)
+  kept c rule number k e = let lost : false ≡ true = ap keeps (sym e) ∙ k in true≢false (sym lost)
 
   no_fault : valid_unit unit ≡ true → keeps (first_fault (items_of unit.items)) ≡ true
   no_fault valid =

@@ -13,5 +13,5 @@ mod reader;
 mod tests;
 
 pub use error::ReadErr;
-pub use laws::{text_has_one_unit, text_of_a_valid_unit_is_read};
+pub use laws::{text_has_one_unit, text_of_a_valid_unit_is_read, text_stops_at_one_place};
 pub use reader::{TEXT_LIMIT, read};
