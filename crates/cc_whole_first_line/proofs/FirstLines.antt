@@ -179,8 +179,7 @@ ok_is : {n m : ℕ} {bs cs : List ℕ} → ◌≡◌ {A = Result (ℕ × List �
 ok_is {n} {m} {bs} {cs} e = let same : (n, bs) ≡ (m, cs) = cc in (ap (λ (p : ℕ × List ℕ). p.0) same, ap (λ (p : ℕ × List ℕ). p.1) same)
 
 abbrev end_by : Bool → ℕ → ℕ → List ℕ → Result (ℕ × List ℕ) (List ℕ)
-end_by true n b bs = Ok (n, bs)
-end_by false n b bs = Err (b ∷ bs)
+end_by t n b bs = if◌then◌else◌ {A = Result (ℕ × List ℕ) (List ℕ)} t (Ok (n, bs)) (Err (b ∷ bs))
 
 end_is : (n : ℕ) (bs : List ℕ) (m : ℕ) (rest : List ℕ) → from_end n bs ≡ Ok (m, rest) → (n ≡ m) × (bs ≡ 10 ∷ rest)
 unfolding from_end
