@@ -45,7 +45,7 @@ module _ (front : Front) (unit : CUnit) (is : Spells front unit) where
   -- the definition's fault, as the code tells it
   told : (c : Checks) (f : Fault) → Some f ≡ fault_of c → c ≡ broken f.rule f.place
   told (Ok u) f e = absurd (cc)
-  told (Err x) f e = let same : f ≡ record { rule = x.rule; place = x.place } = cc in ap (λ (y : Fault). broken y.rule y.place) (sym same)
+  told (Err x) f e = let same : f ≡ record { rule = x.rule; place = x.place } = cc in ap (λ (y : Fault). broken {A = Unit {0}} y.rule y.place) (sym same)
 
   pub place_inside : (f : Fault) → Some f ≡ fault_of (first_fault (items_of unit.items)) → f.place < landmarks_in front.tokens.items
   place_inside f e =
@@ -57,7 +57,7 @@ module _ (front : Front) (unit : CUnit) (is : Spells front unit) where
       record {
         index = h.index;
         number = f.place;
-        fault = told (first_fault (items_of unit.items)) f e ∙ ap (λ n. broken n f.place) (sym h.same_rule);
+        fault = told (first_fault (items_of unit.items)) f e ∙ ap (λ n. broken {A = Unit {0}} n f.place) (sym h.same_rule);
         nth = h.nth;
         place = h.place;
       }

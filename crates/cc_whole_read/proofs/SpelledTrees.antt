@@ -85,7 +85,7 @@ good_fronts (fronts.Fronts.string inside bytes bs ts rest is h) =
 
 local_name : {t : CLocalType} {name : List ℕ} {ts : List Token} → SpellsLocal t name ts → all_good ts ≡ true → is_name name ≡ true
 local_name (types.SpellsLocal.scalar t name) h = good_head (token.Name name) [] (good_parts (type_tokens t) (token.Name name ∷ []) h).1
-local_name (types.SpellsLocal.ints c cs name d) h = good_head (token.Name name) _ h
+local_name (types.SpellsLocal.ints c cs name d) h = good_head (token.Name name) (token.Mark mark.LeftBracket ∷ (cs ++ sign mark.RightBracket)) h
 
 spelled_locals : {locals : List CLocal} {xs : List Token} → SpellsLocals locals xs → all_good xs ≡ true → good_locals locals ≡ true
 spelled_locals g.SpellsLocals.none h = refl
@@ -147,7 +147,8 @@ some_named : (p : CParameter) (ps : List CParameter) → all_good (some_paramete
 some_named p [] h = and_from (is_name p.name) true (good_head (token.Name p.name) [] (good_parts (type_tokens p.ty) (token.Name p.name ∷ []) h).1) refl
 some_named p (q ∷ ps) h =
     let rest = (good_parts (type_tokens p.ty) (token.Name p.name ∷ token.Mark mark.Comma ∷ some_parameters q ps) h).1 in
-    and_from (is_name p.name) (named (q ∷ ps)) (good_head (token.Name p.name) _ rest) (some_named q ps (good_tail (token.Name p.name) _ rest))
+    and_from (is_name p.name) (named (q ∷ ps)) (good_head (token.Name p.name) (token.Mark mark.Comma ∷ some_parameters q ps) rest)
+    (some_named q ps (good_tail (token.Name p.name) (token.Mark mark.Comma ∷ some_parameters q ps) rest))
 
 all_named : (ps : List CParameter) → all_good (parameters_tokens ps) ≡ true → named ps ≡ true
 all_named [] h = refl
@@ -164,9 +165,9 @@ spelled_prototype p h =
 
 variable_name : {t : CVariableType} {name : List ℕ} {ts : List Token} → SpellsVariable t name ts → all_good ts ≡ true → is_name name ≡ true
 variable_name (types.SpellsVariable.scalar t name) h = good_head (token.Name name) [] (good_parts (type_tokens t) (token.Name name ∷ []) h).1
-variable_name (types.SpellsVariable.ints c cs name d) h = good_head (token.Name name) _ h
-variable_name (types.SpellsVariable.chars c cs name d) h = good_head (token.Name name) _ h
-variable_name (types.SpellsVariable.pairs c cs name d) h = good_head (token.Name name) _ h
+variable_name (types.SpellsVariable.ints c cs name d) h = good_head (token.Name name) (token.Mark mark.LeftBracket ∷ (cs ++ sign mark.RightBracket)) h
+variable_name (types.SpellsVariable.chars c cs name d) h = good_head (token.Name name) (token.Mark mark.LeftBracket ∷ (cs ++ sign mark.RightBracket)) h
+variable_name (types.SpellsVariable.pairs c cs name d) h = good_head (token.Name name) (token.Mark mark.LeftBracket ∷ (cs ++ sign mark.RightBracket)) h
 
 spelled_start : {s : Option CInitialiser} {xs : List Token} → SpellsInitialiser s xs → all_good xs ≡ true → spellable_start s ≡ true
 spelled_start i.SpellsInitialiser.none h = refl
