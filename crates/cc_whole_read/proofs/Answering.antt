@@ -22,7 +22,9 @@ use Rattle.cc_whole_read.specs.declared.error.ReadErr.TheVariants as error
 use Rattle.cc_whole_front.specs.Front.{IsFront}
 use Rattle.cc_whole_front.proofs.Laws.{placed_fronts}
 use Rattle.cc_whole_first_line.specs.FirstLine.{Begins}
-use Rattle.cc_whole_read.specs.Behind.{place_in, FaultIs, Spells, IsChecked, ReadsTokens}
+use Rattle.cc_whole.specs.declared.unit.CItem.{CItem}
+use Rattle.cc_whole_read_items.specs.Answers.{NotCAt, AreItems, AreWide}
+use Rattle.cc_whole_read.specs.Behind.{place_in, FaultIs, Spells, IsChecked, TokensStop, token, stray, TokensAreWide, ReadsTokens}
 use Rattle.cc_whole_read.specs.Good.{all_good}
 use Rattle.cc_whole_read.specs.Landmarks.{Nth, landmark_from}
 use Rattle.cc_whole_read.proofs.Numbered.{found, too_few}
@@ -113,3 +115,30 @@ line_shorter text version body b = let l = ap length b.parts in omega (arith, l,
 
 pub line_good : (text : List ℕ) (version : ℕ) (body : List ℕ) → Begins text version body → spellable_version version ≡ true
 line_good text version body b = version_good version b.line b.first
+
+-- what reading the tokens tells, which stand in a slice
+module _ (front : Front) (ts : List Token) (same : ts ≡ front.tokens.items) where
+  pub not_c_told : (index place : ℕ) → NotCAt ts index → place ≡ place_in front.places.items front.end index → TokensStop front place
+  not_c_told index place n e = token index (subst (λ l. NotCAt l index) same n) e
+
+  pub partial_told : front.is_whole ≡ false → AreItems ts → TokensStop front front.end
+  partial_told e a = stray e (subst AreItems same a) refl
+
+  pub items_there : (items : List CItem) → SpellsItems items ts → AreItems ts
+  items_there items d = record { items = items; spelled = d }
+
+  pub wide_told : front.is_whole ≡ true → AreWide ts → TokensAreWide front
+  wide_told e w = record { whole = e; wide = subst AreWide same w }
+
+  pub spells : (version : ℕ) (items : List CItem) → spellable_version version ≡ true → all_good front.tokens.items ≡ true → SpellsItems items ts
+      → Spells front (record { version = version; items = items })
+  spells version items v good d = record { spelled = subst (SpellsItems items) same d; good = good; version = v }
+
+  pub unit_told : (version : ℕ) (items : List CItem) (r : Result CUnit ReadErr) → front.is_whole ≡ true → SpellsItems items ts
+      → IsChecked front (record { version = version; items = items }) r → ReadsTokens version front r
+  unit_told version items r whole d h = checked_tells version front (record { version = version; items = items }) r whole refl (subst (SpellsItems items) same d) h
+
+-- what is valid is made
+pub made : {A : Type 0} (b : Bool) (u : A) → where_so b u ≡ None → b ≡ true → ⊥
+made true u e h = absurd (cc)
+made false u e h = absurd (true≢false (sym h))
