@@ -1,0 +1,5 @@
+use Rattle.cc_whole_read.proofs.ReadBack.{read_back}
+use Rattle.cc_whole_read.proofs.laws.text_of_a_valid_unit_is_read.Goals as goal
+
+pub returns : goal.returns
+returns c = read_back

@@ -1,0 +1,4 @@
+pub mod Behind
+pub mod Good
+pub mod Landmarks
+pub mod Read
