@@ -1,4 +1,4 @@
-use Rattle.std.proofs.Common.{rules, ◌≡◌, ◌∙◌, ◌&&◌, ◌||◌, not, true, is_some, None, Some, [], refl, ap, subst}
+use Rattle.std.proofs.Common.{rules, ◌≡◌, ◌&&◌, ◌||◌, not, true, refl}
 use Rattle.cf_elab.specs.Declaration as declaration
 use Rattle.cf_elab.specs.Declaration.{initial_of, initial_place}
 use Rattle.cf_elab.specs.Specifiers.{is_extern}

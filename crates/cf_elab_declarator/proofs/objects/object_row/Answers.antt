@@ -1,4 +1,4 @@
-use Rattle.std.proofs.Common.{rules, ◌≡◌, ◌∙◌, ◌&&◌, ◌||◌, not, true, is_some, None, Some, [], refl, ap, subst}
+use Rattle.std.proofs.Common.{rules, ◌≡◌, ◌&&◌, ◌||◌, not, is_some, refl}
 use Rattle.cf_elab.specs.Declaration as declaration
 use Rattle.cf_elab.specs.Specifiers.{is_extern}
 use Rattle.cf_elab_objects.specs.Seen.{says_seen}
