@@ -1,12 +1,10 @@
 -- A declaration is its specifiers, and then its declarators.
-use Rattle.std.proofs.Common.{◌≡◌, ℕ, List, map, length, refl, sym, ap, ◌∙◌}
+use Rattle.std.proofs.Common.{◌≡◌, ℕ, List, map, length, sym, ap, ◌∙◌}
 use Rattle.cf_unit.specs.declared.class.Member.TheFolds.{fold_out-Declaration}
 use Rattle.cf_unit.specs.declared.declaration.Declaration.{Declaration, out-Declaration}
 use Rattle.cf_unit.specs.declared.declaration.InitDeclarator.{InitDeclarator}
 use Rattle.cf_unit.specs.declared.specifier.Specifier.{Specifier}
 use Rattle.cf_elab.specs.Answer.{Elab, Made as Done, onward}
-use Rattle.cf_elab.specs.Complete as complete
-use Rattle.cf_elab.specs.Declaration as row
 use Rattle.cf_elab.specs.Declaration.{declares}
 use Rattle.cf_elab.specs.Env.{Env}
 use Rattle.cf_elab.specs.Objects.{Reached}

@@ -1,10 +1,9 @@
 -- Several specifiers and several declarators, one after the other.
-use Rattle.std.proofs.Common.{◌≡◌, ◌∙◌, ℕ, suc, ◌+◌, ◌<◌, ◌≤◌, List, [], ◌∷◌, ◌++◌, length, get_or, drop, map, Option, All, refl, ap, sym, append_assoc, drop-cons, drop_of_length-le, add-one}
+use Rattle.std.proofs.Common.{◌≡◌, ◌∙◌, ℕ, suc, ◌+◌, ◌<◌, ◌≤◌, List, [], ◌∷◌, ◌++◌, length, get_or, drop, Option, refl, ap, sym, append_assoc, drop-cons, drop_of_length-le, add-one}
 use Rattle.std.proofs.lemmas.List.{append-nil, map-append}
 use Rattle.cf_unit.specs.declared.declaration.InitDeclarator.{InitDeclarator}
 use Rattle.cf_unit.specs.declared.specifier.Specifier.{Specifier}
 use Rattle.cf_elab.specs.Answer.{Answer, Made, Refused, Passed, onward}
-use Rattle.cf_elab.specs.Declaration.{declares}
 use Rattle.cf_elab.specs.Env.{Env, Name}
 use Rattle.cf_elab.specs.Objects.{Reached}
 use Rattle.cf_elab.specs.Specifiers as spec

@@ -1,5 +1,5 @@
 -- What specifiers are by their forms.
-use Rattle.std.proofs.Common.{◌≡◌, ℕ, Option, None, Some, refl, sym, ap, ◌∙◌}
+use Rattle.std.proofs.Common.{◌≡◌, ℕ, Option, None, refl, ap, ◌∙◌}
 use Rattle.cf_syntax.specs.declared.specifier.ClassKey.TheVariants as key
 use Rattle.cf_syntax.specs.declared.specifier.TypeSpecifier.{TypeSpecifier}
 use Rattle.cf_syntax.specs.declared.specifier.TypeSpecifier.TheVariants as specifier

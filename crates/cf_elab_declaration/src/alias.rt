@@ -2,6 +2,7 @@
 
 ghost use Rattle.std.specs.Prelude.{◌≡◌};
 ghost use Rattle.std.specs.Option.{option_copied};
+ghost use Rattle.cf_elab.specs.Trees as tree;
 ghost use Rattle.cf_elab_declaration.specs.Shut as shut;
 
 use cf_base::Bytes;
@@ -36,9 +37,15 @@ fn says_typedef(specifier: &Specifier) -> bool
     ensures { result ≡ shut.says_typedef specifier.now }
 {
     match specifier {
-        Specifier::Plain(TypeSpecifier::Storage(_, word)) => matches!(word, Storage::Typedef),
-        Specifier::Plain(_) | Specifier::Class(_) | Specifier::Enumeration(_) => false,
+        Specifier::Plain(plain) => is_typedef_word(plain),
+        Specifier::Class(_) | Specifier::Enumeration(_) => false,
     }
+}
+
+fn is_typedef_word(specifier: &TypeSpecifier) -> bool
+    ensures { result ≡ tree.is_typedef_word specifier.now }
+{
+    matches!(specifier, TypeSpecifier::Storage(_, Storage::Typedef))
 }
 
 /// The name that the first declarator declares, if it is an identifier.

@@ -1,12 +1,11 @@
 -- What a name is declared as.
-use Rattle.std.proofs.Common.{◌≡◌, ℕ, Bool, true, false, List, [], ◌∷◌, Option, None, Some, refl, sym, ap, subst, ◌∙◌}
+use Rattle.std.proofs.Common.{◌≡◌, ℕ, Bool, true, false, List, [], Option, None, Some, refl, ap, ◌∙◌}
 use Rattle.std.specs.Option.{option_map}
 use Rattle.cf_syntax.specs.declared.name.Last.{Last}
 use Rattle.cf_syntax.specs.declared.name.Last.TheVariants as last
 use Rattle.cf_syntax.specs.declared.name.Name.{Name as WrittenName}
-use Rattle.cf_types.specs.Table.{Table}
 use Rattle.cf_unit.specs.declared.initialiser.Initialiser.{Initialiser}
-use Rattle.cf_elab.specs.Answer.{Answer, Elab, Made, onward, gives, ◌>>=◌, ◌>>◌}
+use Rattle.cf_elab.specs.Answer.{Elab, Made, onward, gives, ◌>>=◌, ◌>>◌}
 use Rattle.cf_elab.specs.Declaration as declaration
 use Rattle.cf_elab.specs.Declaration.{Initial, initial_place}
 use Rattle.cf_elab.specs.Env.{Env, Name}

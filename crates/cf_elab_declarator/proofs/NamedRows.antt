@@ -1,8 +1,8 @@
 -- A declarator is its head, and then what it is.
-use Rattle.std.proofs.Common.{◌≡◌, ℕ, Option, None, Some, is_some, refl}
+use Rattle.std.proofs.Common.{◌≡◌, ℕ, Option, None, Some, is_some}
 use Rattle.cf_syntax.specs.declared.name.Name.{Name as WrittenName}
 use Rattle.cf_unit.specs.declared.initialiser.Initialiser.{Initialiser}
-use Rattle.cf_elab.specs.Answer.{Answer, Made, onward}
+use Rattle.cf_elab.specs.Answer.{onward}
 use Rattle.cf_elab.specs.Built.{of_name}
 use Rattle.cf_elab.specs.Declaration.{initial_of}
 use Rattle.cf_elab.specs.Env.{Env}

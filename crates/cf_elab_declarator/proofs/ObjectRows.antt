@@ -1,11 +1,11 @@
 -- Objects with their initialisers.
-use Rattle.std.proofs.Common.{◌≡◌, ℕ, Bool, true, false, not, ◌&&◌, ◌||◌, List, [], ◌∷◌, Option, None, Some, is_some, refl, sym, ap, subst, ◌∙◌}
+use Rattle.std.proofs.Common.{◌≡◌, ℕ, Bool, true, not, ◌&&◌, ◌||◌, List, Option, None, Some, is_some, refl, sym, ap, subst, ◌∙◌}
 use Rattle.cf_syntax.specs.declared.name.Last.{Last}
 use Rattle.cf_syntax.specs.declared.name.Last.TheVariants as last
 use Rattle.cf_syntax.specs.declared.name.Name.{Name as WrittenName}
 use Rattle.cf_types.specs.Table.{Table}
 use Rattle.cf_unit.specs.declared.initialiser.Initialiser.{Initialiser}
-use Rattle.cf_elab.specs.Answer.{Answer, Elab, Made, onward, gives}
+use Rattle.cf_elab.specs.Answer.{Answer, Made, onward, gives}
 use Rattle.cf_elab.specs.Declaration as declaration
 use Rattle.cf_elab.specs.Declaration.{initial_of, initial_place}
 use Rattle.cf_elab.specs.Env.{Env, Name}
@@ -13,7 +13,7 @@ use Rattle.cf_elab.specs.Objects.{Says, Written, Reached}
 use Rattle.cf_elab.specs.Specifiers.{Gathered, is_extern}
 use Rattle.cf_elab_declarator.specs.Shut as shut
 use Rattle.cf_elab_declare.specs.Shut as declare
-use Rattle.cf_elab_declare.proofs.Rows.{object_is, defines}
+use Rattle.cf_elab_declare.proofs.Rows.{object_is}
 use Rattle.cf_elab_env.specs.Holds.{Grows, IsType}
 use Rattle.cf_elab_env.proofs.Growth.{grown_laws}
 use Rattle.cf_elab_limits.specs.Shut as limits

@@ -6,7 +6,6 @@ use Rattle.cf_elab_env.proofs.Growth.{grows_through, grows-refl}
 use Rattle.cf_elab_env.proofs.InOrder.{behind, none_yet}
 use Rattle.cf_elab_declaration.specs.Shut as shut
 use Rattle.cf_elab_declaration.proofs.BuiltParts.{one_declarator}
-use Rattle.cf_elab_declaration.proofs.DeclaratorRows.{type_grown_if}
 use Rattle.cf_elab_declaration.proofs.Several.{declarators_end, declarators_stop, declarators_go}
 use Rattle.cf_elab_declaration.proofs.declarators.each.Goals as goal
 
@@ -18,11 +17,8 @@ loop-d-init c =
       grows = grows-refl c.args.env.now.types;
     }
 
-pub declarator-reached-requires : goal.declarator-reached-requires
-declarator-reached-requires c = record {
-  built = one_declarator c.args.declarators.now c.loop-d.d-index c.d-item.result c.requires.built c.loop-d-test.true c.d-item.is;
-  named = type_grown_if c.args.env.now.types c.loop-d.env.types c.args.gathered.now.named c.loop-d.invariant.grows c.requires.named;
-}
+pub declarator-requires-clause-built : goal.declarator-requires-clause-built
+declarator-requires-clause-built c = one_declarator c.args.declarators.now c.loop-d.d-index c.d-item.result c.requires.built c.loop-d-test.true c.d-item.is
 
 pub returns-in_err-reached-clause-made : goal.returns-in_err-reached-clause-made
 returns-in_err-reached-clause-made c =
@@ -34,7 +30,7 @@ returns-in_err-reached-clause-made c =
 pub loop-d-preserved : goal.loop-d-preserved
 loop-d-preserved c =
     let g = c.args.gathered.now in
-    let next = c.declarator-reached.new.env in
+    let next = c.declarator.new.env in
     let more = declarators_go (shut.declarators g c.args.declarators.now c.args.env.now) g c.loop-d.found c.args.declarators.now c.loop-d.d-index c.d-item.result c.loop-d.env
     c.loop-d.invariant.made c.loop-d-test.true c.d-item.is (maybe_reached c.in_ok-reached.reached) next c.in_ok-reached.ensures.made in
     record {

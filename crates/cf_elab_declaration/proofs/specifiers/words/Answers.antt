@@ -14,7 +14,7 @@ use Rattle.cf_elab_declaration.proofs.specifiers.words.Goals as goal
 
 pub loop-specifier-init : goal.loop-specifier-init
 loop-specifier-init c =
-    let whole = shut.words (option_copied c.args.alias.entry) c.args.specifiers.now c.args.env.now in
+    let whole = shut.words (option_copied c.args.alias) c.args.specifiers.now c.args.env.now in
     record {
       made = none_yet whole ∙ ap (λ (l : List Word). behind (words_seen l) whole) (sym c.new-words.ensures);
       known = search rules;
@@ -28,12 +28,12 @@ pub returns-in_err-word-clause-made : goal.returns-in_err-word-clause-made
 returns-in_err-word-clause-made c =
     let p = err_from_is_err_and c.from_residual.result c.from_residual.ensures.1 in
     rw (p.1, p.2)
-    (words_stop (shut.words (option_copied c.args.alias.entry) c.args.specifiers.now c.args.env.now) (option_copied c.args.alias.entry) c.loop-specifier.words c.args.specifiers.now c.loop-specifier.specifier-index
+    (words_stop (shut.words (option_copied c.args.alias) c.args.specifiers.now c.args.env.now) (option_copied c.args.alias) c.loop-specifier.words c.args.specifiers.now c.loop-specifier.specifier-index
     c.specifier-item.result c.loop-specifier.env c.loop-specifier.invariant.made c.loop-specifier-test.true c.specifier-item.is c.in_err-word.field-0.0 c.in_err-word.ensures.made)
 
 pub loop-specifier-preserved : goal.loop-specifier-preserved
 loop-specifier-preserved c =
-    let alias = option_copied c.args.alias.entry in
+    let alias = option_copied c.args.alias in
     let w = c.in_ok-word.field-0 in
     let next = c.word.new.env in
     let more = words_go (shut.words alias c.args.specifiers.now c.args.env.now) alias c.loop-specifier.words c.args.specifiers.now c.loop-specifier.specifier-index c.specifier-item.result c.loop-specifier.env
@@ -48,4 +48,4 @@ loop-specifier-preserved c =
 pub returns-clause-made : goal.returns-clause-made
 returns-clause-made c =
     let past : length c.args.specifiers.now ≤ c.loop-specifier.specifier-index = search rules in
-    c.loop-specifier.invariant.made ∙ words_end (option_copied c.args.alias.entry) c.loop-specifier.words c.args.specifiers.now c.loop-specifier.specifier-index c.loop-specifier.env past
+    c.loop-specifier.invariant.made ∙ words_end (option_copied c.args.alias) c.loop-specifier.words c.args.specifiers.now c.loop-specifier.specifier-index c.loop-specifier.env past
