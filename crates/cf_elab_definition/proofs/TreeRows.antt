@@ -1,5 +1,5 @@
 -- A function with its body is its specifiers, its declarator, and then what is defined.
-use Rattle.std.proofs.Common.{◌≡◌, ℕ, List, [], map, length, Option, None, Some, refl, sym, ap, ◌∙◌}
+use Rattle.std.proofs.Common.{◌≡◌, ℕ, List, [], map, length, Option, None, Some, refl, sym, ap, subst, ◌∙◌}
 use Rattle.cf_syntax.specs.declared.declarator.DeclTree.{DeclTree}
 use Rattle.cf_syntax.specs.declared.name.Name.{Name as WrittenName}
 use Rattle.cf_unit.specs.declared.class.FunctionDef.{FunctionDef, out-FunctionDef}
@@ -17,9 +17,11 @@ use Rattle.cf_elab.specs.Statement.{Made}
 use Rattle.cf_elab.specs.Trees as tree
 use Rattle.cf_elab.specs.Trees.{MemberRow, SpecifierRow, ClassRow, FunctionRow, DeclarationRow, init_of, member_step, specifier_step, statement_step, class_step, definition_step, declaration_step}
 use Rattle.cf_elab_declaration.specs.Shut as declaration
-use Rattle.cf_elab_declaration.proofs.DeclaratorRows.{type_grown_if}
+use Rattle.cf_elab_declaration.proofs.DeclaratorRows.{type_grown_if, stops_onward}
 use Rattle.cf_elab_declaration.proofs.NamesBuilt.{name_plain, no_scopes}
 use Rattle.cf_elab_declaration.proofs.Worded.{words_then}
+use Rattle.cf_elab_env.specs.Answered.{Stops}
+use Rattle.cf_elab_env.specs.declared.stop.Stop.{Stop}
 use Rattle.cf_elab_env.proofs.Growth.{grown_laws}
 use Rattle.cf_elab_expr.specs.Shut as expression
 use Rattle.cf_elab_limits.specs.Shut as limits
@@ -66,5 +68,16 @@ module _ (g : Gathered) (at : ℕ) (d : DeclTree) (body_at : ℕ) (body : List S
       → shut.behind_specifiers g at d body_at body env ≡ onward (expression.shape_of d env) (λ s env. shut.named g at s n body_at body env)
   unfolding shut.behind_specifiers shut.named expression.name_of expression.shape_of
   name_is n is plain = ap by_name (sym is) ∙ ap (by_scopes n) (no_scopes n plain)
+
+  -- with a name or without
+  pub shape_stops : expression.TreeIsBuilt d → (s : Stop) → Stops (expression.shape_of d env) s → Stops (shut.behind_specifiers g at d body_at body env) s
+  shape_stops built s h = by (expression.name_of d) refl
+    where
+      by : (o : Option WrittenName) → expression.name_of d ≡ o → Stops (shut.behind_specifiers g at d body_at body env) s
+      by None is =
+          subst (λ a. Stops a s) (sym (unnamed_is (sym is))) (stops_onward (expression.shape_of d env) (λ x env. let none : Answer (Unit {0}) = Refused 26 at in none) s h)
+      by (Some n) is =
+          subst (λ a. Stops a s) (sym (name_is n (sym is) (name_plain d n built (sym is))))
+          (stops_onward (expression.shape_of d env) (λ x env. shut.named g at x n body_at body env) s h)
 
 pub ruleset specifier_laws = (unnamed_is, name_is, name_plain, type_grown_if, grown_laws)
