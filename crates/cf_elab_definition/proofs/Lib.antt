@@ -1,9 +1,0 @@
-pub mod BodyLaws
-pub mod BuiltParts
-pub mod EntryLaws
-pub mod FunctionShapes
-pub mod HandLaws
-pub mod NamedLaws
-pub mod ParameterLaws
-pub mod Rows
-pub mod TreeRows
