@@ -43,6 +43,14 @@ impl Declared {
         &self.classes
     }
 
+    /// They themselves.
+    pub(crate) fn into_classes(self) -> Classes
+        ensures { result ≡ self }
+    {
+        let Declared { classes, .. } = self;
+        classes
+    }
+
     /// How many enumerations there are.
     pub(crate) fn enum_count(&self) -> u32
         ensures { result ≡ length self.now.enums }

@@ -1,6 +1,7 @@
 ghost use Rattle.std.specs.Prelude.{◌≡◌, [], length, slice_get, All, IfOk, None, Some};
 ghost use Rattle.cf_types.specs.Table.{IsTable};
-ghost use Rattle.cf_elab.specs.File.{first_env};
+ghost use Rattle.cf_core.specs.FromUnit.{IsValid};
+ghost use Rattle.cf_elab.specs.File.{first_env, core_unit};
 ghost use Rattle.cf_elab.specs.Answer.{Made};
 ghost use Rattle.cf_elab_env.specs.Holds.{IsEnv, EnumGiven, IsEntry, IsType, HasNoClass};
 ghost use Rattle.cf_elab_env.specs.Shut as shut;
@@ -12,7 +13,7 @@ use crate::functions::FunctionEntry;
 use crate::hand::Hand;
 use cf_base::{Items, Kind, Memory, Name};
 use cf_classes::Classes;
-use cf_core::{CoreFn, CoreStatic};
+use cf_core::{CoreFn, CoreStatic, CoreUnit};
 use cf_lookup::Scopes;
 use cf_types::{Ty, TyId, Types};
 use std::alloc::Global;
@@ -155,6 +156,21 @@ impl Env {
         ensures { result.now ≡ self.now.statics }
     {
         self.statics.as_slice()
+    }
+
+    /// The core of a file at whose end this is known.
+    pub fn into_unit(self) -> CoreUnit
+        requires valid { IsValid (core_unit self) }
+        ensures { result ≡ core_unit self }
+    {
+        let Env {
+            types,
+            classes,
+            functions,
+            statics,
+            ..
+        } = self;
+        CoreUnit::new(types, classes.into_classes(), functions, statics)
     }
 
     /// What always holds of an environment is told to the caller.

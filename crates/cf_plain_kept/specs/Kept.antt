@@ -12,7 +12,7 @@ use Rattle.cf_core.specs.declared.operators.PointerOperator.TheVariants as point
 use Rattle.cf_core.specs.Types.{SourceType, void, integer, enumeration, class, pointer, reference, array, takes, gives, data_member, function_member, const, same_but_const, is_void, parameters, result as result_type}
 use Rattle.cf_core.specs.Typing.{is_comparison}
 use Rattle.cf_core.specs.Core.{Change, arithmetic, moved}
-use Rattle.cf_plain.specs.Plain.{Register, Action, number, text, local, static_object, function, read, dereference, decay, index, convert, from_void, operate, unary, truth, logical_not, pointer_operate, changed, store, declare, first, finish, call, Plain, Plains, act, set, branch, loop, switch, case_label, default_label, leave, continue, give, nothing, more, PlainFunction, PlainFile}
+use Rattle.cf_plain.specs.Plain.{Register, Action, number, text, local, static_object, function, read, dereference, decay, index, convert, from_void, operate, unary, truth, logical_not, pointer_operate, changed, store, declare, first, zeros, bytes, finish, call, Plain, Plains, act, set, branch, loop, switch, case_label, default_label, leave, continue, give, nothing, more, PlainFunction, PlainFile}
 
 -- What a register holds behind the action that has set it.
 pub data Kept : Type 0 where
@@ -215,11 +215,16 @@ abbrev pub begun : Option Kept → Option Kept → Option Kept
 begun (Some (an_object i t)) (Some x) = given (suits t x) no_value
 begun x y = None
 
+-- an object that is filled by itself: by zeros, or by the characters of a literal
+abbrev pub filled : Option Kept → Option Kept
+filled (Some (an_object i t)) = Some no_value
+filled x = None
+
 module _ (locals : List SourceType) (result : SourceType) where
   -- what an action gives; none where its operands are not what it takes
   abbrev pub kept_by : Keeping → Action → Option Kept
   kept_by g (number z) = Some (an_integer (λ k. fits k z))
-  kept_by g (text j bytes) = Some (a_place (array (integer Char) (length bytes)))
+  kept_by g (text j b) = Some (a_place (array (integer Char) (length b)))
   kept_by g (local i) = named (slice_get locals i)
   kept_by g (static_object name t) = named (Some t)
   kept_by g (function name t) = Some (a_place t)
@@ -238,6 +243,8 @@ module _ (locals : List SourceType) (result : SourceType) where
   kept_by g (store r q) = stored (g r) (g q)
   kept_by g (declare i t) = Some (an_object i t)
   kept_by g (first r q) = begun (g r) (g q)
+  kept_by g (zeros r) = filled (g r)
+  kept_by g (bytes r b) = filled (g r)
   kept_by g (finish t i) = Some no_value
   kept_by g (call name t None is None) = Some (value_of (result_type t))
   kept_by g a = None

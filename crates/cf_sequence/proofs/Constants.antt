@@ -22,7 +22,7 @@ use Rattle.cf_core.specs.Calls as calling
 use Rattle.cf_core.specs.Calls.{Program, root, function_named, is_library, name_function, has_type, full_expression}
 use Rattle.cf_core.specs.Expressions as meaning
 use Rattle.cf_plain.specs.Plain.{Plains, nothing}
-use Rattle.cf_sequence.specs.Built.{is_value, is_constant_value, is_constant_start, is_built_static}
+use Rattle.cf_sequence.specs.Built.{is_value, is_start, is_initial, is_filling, is_constant_value, is_constant_initial, is_constant_start, is_built_static}
 use Rattle.cf_sequence.specs.Made.{added, makes, width}
 use Rattle.cf_sequence.specs.Statements.{type_of_static, initialised, statement}
 use Rattle.cf_sequence.specs.Sequenced.{outside, sequenced_start}
@@ -31,6 +31,7 @@ use Rattle.cf_sequence.proofs.Steps.{pure-used, pure-truth_of, pure-converted_va
 use Rattle.cf_sequence.proofs.Pointers.{pure-pointed_to, looks-indexed, looks-decayed, looks-pointer_op}
 use Rattle.cf_sequence.proofs.StaticObjects.{named_object, pure-named}
 use Rattle.cf_sequence.proofs.Calling.{never}
+use Rattle.cf_sequence.proofs.Filling.{filling-adds}
 use Rattle.cf_sequence.proofs.Fulls.{closing, closed, nothing-is}
 
 -- they are built
@@ -118,15 +119,35 @@ constant-start x ok = (both (not (is_reference x.type)) (is_constant_start x.sta
 pub start-is : (cs : List Class) (all : List Static) (x : Static) → is_built_static x ≡ true → sequenced_start cs all x ≡ set_as cs x (type_of_static all x.name)
 start-is cs all x ok = ap (start_by cs all x) (constant-object x ok)
 
-pub something-constant : (e : Core) → is_constant_start e ≡ true → is_nothing e ≡ false → is_constant_value e ≡ true
-something-constant e ok there = subst (λ b. b || is_constant_value e ≡ true) there ok
+pub something-constant : (e : Core) → is_constant_start e ≡ true → is_nothing e ≡ false → is_constant_initial e ≡ true
+something-constant e ok there = subst (λ b. b || is_constant_initial e ≡ true) there ok
+
+or-right : (a b : Bool) → b ≡ true → a || b ≡ true
+or-right true b e = refl
+or-right false b e = e
+
+or-less : (a b c : Bool) → a || b ≡ true → (b ≡ true → c ≡ true) → a || c ≡ true
+or-less true b c ok go = refl
+or-less false b c ok go = go ok
+
+-- they are built as initialisers
+pub constant-initial : (e : Core) → is_constant_initial e ≡ true → is_initial e ≡ true
+constant-initial e ok =
+    or-less (is_filling e) (is_constant_value e) (is_start e) ok (λ is. or-right (is_nothing e) (is_value e) (constant-value e is))
+
+pub initial-adds : (e : Core) → is_constant_initial e ≡ true → added (nodes e) ≡ []
+initial-adds e ok = by (is_filling e) refl
+  where
+    by : (b : Bool) → is_filling e ≡ b → added (nodes e) ≡ []
+    by true fills = filling-adds e fills
+    by false other = constant-adds e (subst (λ b. b || is_constant_value e ≡ true) other ok)
 
 pub start-adds : (e : Core) → is_constant_start e ≡ true → added (nodes e) ≡ []
 start-adds e ok = by (is_nothing e) refl
   where
     by : (b : Bool) → is_nothing e ≡ b → added (nodes e) ≡ []
     by true nothing_there = ap (λ e. added (nodes e)) (nothing-is e nothing_there)
-    by false there = constant-adds e (something-constant e ok there)
+    by false there = initial-adds e (something-constant e ok there)
 
 -- ---- what holds of a value that is given, and of the state then
 

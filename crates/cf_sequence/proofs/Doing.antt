@@ -25,7 +25,7 @@ use Rattle.cf_plain.specs.Acts.{Registers}
 use Rattle.cf_plain.specs.Running as running
 use Rattle.cf_plain.specs.Running.{Flow, Falls, Breaks, Continues, Returns, keep, falling, turning, all}
 use Rattle.cf_sequence.specs.Follows.{Follows}
-use Rattle.cf_sequence.specs.Built.{is_value, is_start, is_chain, next_local, next_locals, declares_here, is_statement, is_inner_or, are_cases, are_statements}
+use Rattle.cf_sequence.specs.Built.{is_value, is_start, is_filling, is_initial, is_chain, next_local, next_locals, declares_here, is_statement, is_inner_or, are_cases, are_statements}
 use Rattle.cf_sequence.specs.Made.{Local, added, width, width_maybe, declared, declared_all, held_by}
 use Rattle.cf_sequence.specs.Expressions.{destination, finished, settled, whole, value, used as use_of}
 use Rattle.cf_sequence.specs.Statements.{statement, statement_or, statements, started, returned}
@@ -34,6 +34,7 @@ use Rattle.cf_sequence.proofs.Calling.{Bodies, never}
 use Rattle.cf_sequence.proofs.Kept.{Kept, kept-all, Ready, added-two, keep-same, listed-kept, listed-there}
 use Rattle.cf_sequence.proofs.PlainSteps.{Usable, pick, runs_on, branch-steps, declare-steps}
 use Rattle.cf_sequence.proofs.Operands.{H, first-room, second-room}
+use Rattle.cf_sequence.proofs.Filling.{filling-holds, filled-steps}
 use Rattle.cf_sequence.proofs.Parts.{first-steps, value-gives}
 use Rattle.cf_sequence.proofs.Moving.{all_gone, Held, held-kept, held-append, finished-steps, Moved, moved-count, moved-then, with_scope, Beyond}
 use Rattle.cf_sequence.proofs.Fulls.{nothing-is, held-none, full-steps, condition-steps, used-steps}
@@ -94,7 +95,7 @@ module _ (again : calling.Again) (again' : running.Again) (P : Program) (bodies 
       ))
       (let a = moved-count m s f (with_frame (lists_in_scope o t.frame) t) g v in omega arith)
 
-  declaration : (i : ℕ) (T : SourceType) (e : Core) (m : ℕ) → nat_le m i ≡ true → is_start e ≡ true → (op : Open) (D : Beyond) (k : ℕ) (rest : Plains) (g : Registers) (s : State) (f : Frame) (w : World)
+  declaration : (i : ℕ) (T : SourceType) (e : Core) (m : ℕ) → nat_le m i ≡ true → is_initial e ≡ true → (op : Open) (D : Beyond) (k : ℕ) (rest : Plains) (g : Registers) (s : State) (f : Frame) (w : World)
       (c : calling.Flow → Act A) (K : Flow → Act B)
       → Stands op D m k s f → k + width e ≤ f.count → (Fallen again again' P bodies chains classless turns R C plain-result A B S) (suc i) ((record { number = i; type = T } ∷ held_by e) ++ op.here) m c K rest s f
       → (b : Bool) → nat_lt i s.frame.count ≡ b
@@ -108,7 +109,12 @@ module _ (again : calling.Again) (again' : running.Again) (P : Program) (bodies 
       let f1 : Frame = lists_local i o f in
       let h1 : Registers = keep g 0 (At (root o)) in
       declare-steps again' (H again again' P) i T 0 (started P.classes T e 0 k rest) g K _ s f w (let a = low-number i s.frame.count lt in let c1 = st.ready.count in let c2 = st.ready.wide in omega arith)
-      ((by-or again again' P bodies chains classless turns R C plain-result A B S) (is_nothing e) (is_value e) ok
+      ((by-or again again' P bodies chains classless turns R C plain-result A B S) (is_filling e) (is_start e) ok
+      (λ fills.
+      pull (settled_full again P (root o) e s1 w) (λ u. frame_changed (lists_in_scope o)) (λ u. c calling.Falls) _
+      (filled-steps again again' P T e fills 0 k (root o) h1 rest (λ u. frame_changed (lists_in_scope o) >>= (λ u. c calling.Falls)) K s1 f1 w (keep-same 0 g (At (root o))) (λ t same.
+      declared-falls i k o T m op D rest s f c K st le lt (held_by e) (filling-holds e fills) falls t f1 h1 w same (kept-all k f1))))
+      (λ starts. (by-or again again' P bodies chains classless turns R C plain-result A B S) (is_nothing e) (is_value e) starts
       (λ blank. subst (λ e. Follows S (and_then ((settled_full again P (root o) e >> frame_changed (lists_in_scope o)) s1 w) (on (λ u. c calling.Falls)))
       (runs_on again' (H again again' P) (started P.classes T e 0 k rest) h1 K (with_frame f1 s1) w)) (sym (nothing-is e blank))
       (declared-falls i k o T m op D rest s f c K st le lt (held_by e) (ap held_by (nothing-is e blank)) falls s1 f1 h1 w refl (kept-all k f1)))
@@ -121,7 +127,7 @@ module _ (again : calling.Again) (again' : running.Again) (P : Program) (bodies 
       (runs_on again' (H again again' P) (if b then rest else more (act (plain.first 0 (1 + width e))) rest) h K (with_frame f2 t) w2)) (sym (value-gives again again' P bodies chains A B S e is))
       (first-steps again again' P bodies chains A B S 0 (1 + width e) (root o) v h rest (λ u. frame_changed (lists_in_scope o) >>= (λ u. c calling.Falls)) K t f2 w2
       (done.below 0 (omega arith) ∙ keep-same 0 g (At (root o))) done.value (λ t3 same.
-      declared-falls i k o T m op D rest s f c K st le lt (held_by e) (held-none e is) falls t3 f2 h w2 (same ∙ done.frame) done.kept)))))))
+      declared-falls i k o T m op D rest s f c K st le lt (held_by e) (held-none e is) falls t3 f2 h w2 (same ∙ done.frame) done.kept))))))))
 
   abbrev DoesMaybe : MaybeCore → Type 0
   DoesMaybe absent = Unit {0}
@@ -201,7 +207,7 @@ module _ (again : calling.Again) (again' : running.Again) (P : Program) (bodies 
         (let a = moved-count m s f (with_scope s.frame.scope (all_gone t.frame.scope t)) g1 ((moved-out again again' P bodies chains classless turns R C plain-result A B S) m s f t g1 v) in let b = st.low in omega arith))))
     follow-statement (core.sequence es) m ok o D k rest g s f w c K st room ways falls = follow-statements es m ok o D k rest g s f w c K st room ways falls
     follow-statement (core.declare i T e) m ok o D k rest g s f w c K st room ways falls =
-        let parts = both (nat_le m i) (is_start e) ok in
+        let parts = both (nat_le m i) (is_initial e) ok in
         pull (does.declares again P i T e s w) (λ u. gives calling.Falls) c _
         (pull (new_local i T s w) (λ x. settled_full again P (root x) e >> frame_changed (lists_in_scope x)) (λ u. c calling.Falls) _
         (declaration i T e m parts.0 parts.1 o D k rest g s f w c K st room falls (nat_lt i s.frame.count) refl))

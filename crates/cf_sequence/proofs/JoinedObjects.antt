@@ -14,7 +14,7 @@ use Rattle.cf_core.specs.Joined.{is_nothing}
 use Rattle.cf_plain.specs.Plain.{Plains, PlainStatic, nothing}
 use Rattle.cf_plain.specs.Program.{PlainSetting}
 use Rattle.cf_plain.specs.Joined as plain
-use Rattle.cf_sequence.specs.Built.{is_constant_value, is_built_static, is_built_setting}
+use Rattle.cf_sequence.specs.Built.{is_constant_initial, is_built_static, is_built_setting}
 use Rattle.cf_sequence.specs.Statements.{type_of_static, initialised}
 use Rattle.cf_sequence.specs.Sequenced.{sequenced_static}
 use Rattle.cf_sequence.proofs.Calling.{never}
@@ -206,7 +206,7 @@ built-grown xs zs (x ∷ ks) there ok =
     let known = both (is_among x.object xs) (set_among xs ks) there in
     let parts = both (is_built_setting xs x) (list_all (is_built_setting xs) ks) ok in
     all_of (is_built_setting (xs ++ zs) x) (list_all (is_built_setting (xs ++ zs)) ks)
-    (ap (λ t. not (is_reference t) && is_constant_value x.start) (type-grown xs zs x.object known.0) ∙ parts.0) (built-grown xs zs ks known.1 parts.1)
+    (ap (λ t. not (is_reference t) && is_constant_initial x.start) (type-grown xs zs x.object known.0) ∙ parts.0) (built-grown xs zs ks known.1 parts.1)
 
 pub among-grown : (xs zs : List Static) (ks : List Setting) → set_among xs ks ≡ true → set_among (xs ++ zs) ks ≡ true
 among-grown xs zs [] there = refl
@@ -278,7 +278,7 @@ no-reference (y ∷ ys) name ok =
     by true first later = first
     by false first later = later
 
-starts-constant : (x : Static) → is_built_static x ≡ true → core.sets_constant x ≡ true → is_constant_value x.start ≡ true
+starts-constant : (x : Static) → is_built_static x ≡ true → core.sets_constant x ≡ true → is_constant_initial x.start ≡ true
 starts-constant x ok sets =
     something-constant x.start (constant-start x ok) (absent-is (is_nothing x.start) (both x.is_constant (not (is_nothing x.start)) sets).1)
 
@@ -305,7 +305,7 @@ built-new xs ys name good (w ∷ ws) ok none =
         → list_all (is_built_setting all) (map (core.constant_setting name) (cond b (w ∷ others) others)) ≡ true
     by true e later =
         all_of (is_built_setting all (core.constant_setting name w)) (list_all (is_built_setting all) (map (core.constant_setting name) others))
-        (all_of (not (is_reference (type_of_static all w.name))) (is_constant_value w.start)
+        (all_of (not (is_reference (type_of_static all w.name))) (is_constant_initial w.start)
         (ap (λ t. not (is_reference t)) (type-joined xs ys w.name (absent-is (is_among w.name xs) known.0)) ∙ no-reference ys w.name good) (starts-constant w parts.0 e))
         later
     by false e later = later

@@ -17,15 +17,16 @@ use Rattle.cf_plain.specs.Plain as plain
 use Rattle.cf_plain.specs.Acts.{Registers}
 use Rattle.cf_plain.specs.Running as running
 use Rattle.cf_plain.specs.Running.{Flow, Falls, Breaks, Continues, Returns, falling, all}
-use Rattle.cf_sequence.specs.Built.{is_value, is_start, declares_here, is_statement, is_inner_or, are_statements, are_cases, next_local}
+use Rattle.cf_sequence.specs.Built.{is_value, is_start, is_filling, is_initial, declares_here, is_statement, is_inner_or, are_statements, are_cases, next_local}
 use Rattle.cf_sequence.specs.Made.{Local, width, declared, declared_all}
 use Rattle.cf_sequence.specs.Expressions.{Full, destination, finished, settled, whole, value, used as use_of}
 use Rattle.cf_sequence.specs.Statements.{in_switch, statement, statement_or, statements, started, passing, passed}
 use Rattle.cf_sequence.proofs.Calling.{never}
 use Rattle.cf_sequence.proofs.Operands.{H}
+use Rattle.cf_sequence.proofs.Filling.{fill, started-is}
 use Rattle.cf_sequence.proofs.Fulls.{whole-is, nothing-is}
 use Rattle.cf_sequence.proofs.Standing.{Open, inside_of, opened, inner-declared}
-use Rattle.cf_sequence.proofs.Silent.{Silent, silent-none, silent-set, silent-then, silent-used, silent-settled, silent-finished, silent-leave, silent-continue, silent-give, silent-value}
+use Rattle.cf_sequence.proofs.Silent.{Silent, silent-none, silent-set, silent-act, silent-then, silent-used, silent-settled, silent-finished, silent-leave, silent-continue, silent-give, silent-value}
 
 -- what a switch looks for
 pub data Aim : Type 0 where
@@ -117,13 +118,15 @@ module _ (again : running.Again) (H : Program) (P : Program) (R C : SourceType) 
         let code : Full → Register → Plains → Plains = λ x n rest. value P.classes x e (destination 0 t) n k rest in
         let F : Plains → Plains = λ rest. whole e 1 k code (λ m. settled e 0 m rest) in
         silent-then again H (λ rest. more (set 0 (plain.declare i t)) rest) F (silent-set again H 0 (plain.declare i t))
-        (or-else (is_nothing e) (is_value e) (both (nat_le m i) (is_start e) ok).1
+        (or-else (is_filling e) (is_start e) (both (nat_le m i) (is_initial e) ok).1
+        (λ fills. silent-by again H F (λ rest. more (act (fill e 0)) rest) (started-is P.classes t e fills 0 k) (silent-act again H (fill e 0)))
+        (λ starts. or-else (is_nothing e) (is_value e) starts
         (λ blank. silent-by again H F (λ rest. rest)
         (λ rest. ap (λ e. whole e 1 k (λ x n rest. value P.classes x e (destination 0 t) n k rest) (λ m. settled e 0 m rest)) (nothing-is e blank)) (silent-none again H))
         (λ is. silent-by again H F (λ rest. value P.classes (record { first = k; base = 1 }) e (destination 0 t) (1 + width e) k (settled e 0 (1 + width e) rest))
         (λ rest. whole-is e is 1 k code (λ m. settled e 0 m rest))
         (silent-then again H (value P.classes (record { first = k; base = 1 }) e (destination 0 t) (1 + width e) k) (settled e 0 (1 + width e))
-        (silent-value again H P e is (record { first = k; base = 1 }) (destination 0 t) (1 + width e) k) (silent-settled again H e 0 (1 + width e)))))
+        (silent-value again H P e is (record { first = k; base = 1 }) (destination 0 t) (1 + width e) k) (silent-settled again H e 0 (1 + width e))))))
     silent-statement (core.branch q a b) m ok o k =
         let is = (both (is_value q) ((not (declares_here a) && is_statement m a) && is_inner_or m b) ok).0 in
         let code : Full → Register → Plains → Plains = λ x n rest. value P.classes x q None n k (more (set n (plain.truth n)) rest) in

@@ -13,6 +13,7 @@ pub mod Labels
 pub mod Operands
 pub mod Parts
 pub mod Following
+pub mod Filling
 pub mod Fulls
 pub mod Joining
 pub mod Kept

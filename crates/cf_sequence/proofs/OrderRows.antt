@@ -1,12 +1,13 @@
 -- Orders of evaluation, and static objects with constant initialisers: cores and their plain statements show the same.
 use Rattle.std.proofs.Common.{◌≡◌, ℕ, List, [], ◌∷◌, refl}
-use Rattle.std.specs.Prelude.{pos, codes, true}
+use Rattle.std.specs.Prelude.{pos, codes, true, false}
 use Rattle.std.specs.List.{list_all}
-use Rattle.cf_base.specs.declared.kind.Kind.TheVariants.{Int}
+use Rattle.cf_base.specs.declared.kind.Kind.TheVariants.{Int, Char}
 use Rattle.cf_base.specs.declared.arith.Arith.TheVariants as op
 use Rattle.cf_base.specs.Event.{Ended}
-use Rattle.cf_core.specs.Types.{array, pointer}
-use Rattle.cf_core.specs.Core.{Core, Function, Static, CoreFile, static_object, address, read, local, decay, index, logical_and, comma, declare, blank, full, update, step, arithmetic}
+use Rattle.cf_core.specs.declared.operators.PointerOperator.TheVariants as pointer_op
+use Rattle.cf_core.specs.Types.{integer, array, pointer}
+use Rattle.cf_core.specs.Core.{Core, Function, Static, CoreFile, static_object, address, read, dereference, local, decay, index, logical_and, logical_or, conditional, pointer_operate, comma, declare, blank, string, full, store, update, step, arithmetic}
 use Rattle.cf_core.specs.Calls.{Program}
 use Rattle.cf_core.proofs.Sample.{int, function_of, listed, in_block, main_of, program, static_of, returns, num, add, put_digit, value_of, set, called}
 use Rattle.cf_sequence.specs.Built.{is_plainly_built, is_built_file}
@@ -56,6 +57,82 @@ compound = with_main (declare 0 (array int 2) blank ∷ set (index (decay (local
 place_before_the_right_side : Shows compound [] 9 (record { end = Ended (pos 3); out = codes "01" })
 place_before_the_right_side = record { core = refl; plain = refl }
 
+-- int x=1;return (p(1)||x++)+(p(0)||x++)+x;: what is left out by `||` changes nothing
+abbrev up : Core → Core
+up place = step true (arithmetic op.Add Int Int) place
+
+abbrev either : Program
+either = with_main (declare 0 int (num 1) ∷ returns (add (add (logical_or (shown 1) (up (local 0))) (logical_or (shown 0) (up (local 0)))) (value_of 0)) ∷ [])
+
+right_side_only_where_the_left_is_0 : Shows either [] 9 (record { end = Ended (pos 4); out = codes "10" })
+right_side_only_where_the_left_is_0 = record { core = refl; plain = refl }
+
+-- int x=1;return (p(0)?x++:p(2))+x;: the condition, and then one arm alone
+abbrev one_arm : Program
+one_arm = with_main (declare 0 int (num 1) ∷ returns (add (conditional (shown 0) (up (local 0)) (shown 2)) (value_of 0)) ∷ [])
+
+condition_before_one_arm : Shows one_arm [] 9 (record { end = Ended (pos 3); out = codes "02" })
+condition_before_one_arm = record { core = refl; plain = refl }
+
+-- int a=1;int b=2;(p(1)?a:b)=p(5);return a+b;: a place that is chosen, before the value
+abbrev chosen_place : Program
+chosen_place = with_main (declare 0 int (num 1) ∷ declare 1 int (num 2) ∷ set (conditional (shown 1) (local 0) (local 1)) (shown 5) ∷ returns (add (value_of 0) (value_of 1)) ∷ [])
+
+chosen_place_before_the_value : Shows chosen_place [] 9 (record { end = Ended (pos 7); out = codes "15" })
+chosen_place_before_the_value = record { core = refl; plain = refl }
+
+-- int x;int*q(){putchar('7');return &x;}int main(){(*q())++;return ++*q()+x;}: the place of an increment is found once
+abbrev counted : Program
+counted = program []
+    (function_of (codes "q__Fv") [] (pointer int) (in_block (put_digit (num 7) ∷ returns (address (static_object (codes "x") int)) ∷ []))
+    ∷ main_of (full (up (dereference (called (codes "q__Fv") [] (pointer int) [])))
+    ∷ returns (add (read (step false (arithmetic op.Add Int Int) (dereference (called (codes "q__Fv") [] (pointer int) [])))) (read (static_object (codes "x") int))) ∷ []) ∷ [])
+    (static_of (codes "x") int ∷ [])
+
+place_of_an_increment_once : Shows counted [] 9 (record { end = Ended (pos 4); out = codes "77" })
+place_of_an_increment_once = record { core = refl; plain = refl }
+
+-- int a[2];a[1]=4;return a[p(1)]++ +a[p(1)];: the place has its new value before the right operand
+abbrev element : Core → Core
+element i = index (decay (local 0)) i
+
+abbrev raised : Program
+raised = with_main (declare 0 (array int 2) blank ∷ set (element (num 1)) (num 4) ∷ returns (add (up (element (shown 1))) (read (element (shown 1)))) ∷ [])
+
+new_value_before_the_right_operand : Shows raised [] 9 (record { end = Ended (pos 9); out = codes "11" })
+new_value_before_the_right_operand = record { core = refl; plain = refl }
+
+-- int a[2];a[p(0)]=a[p(1)]=p(2);return a[0]+a[1];: each place before the value on its right
+abbrev chained : Program
+chained = with_main (declare 0 (array int 2) blank ∷ set (element (shown 0)) (read (store (element (shown 1)) (shown 2)))
+    ∷ returns (add (read (element (num 0))) (read (element (num 1)))) ∷ [])
+
+places_before_values : Shows chained [] 9 (record { end = Ended (pos 4); out = codes "012" })
+places_before_values = record { core = refl; plain = refl }
+
+-- int a[3];return (a+p(2))-(a+p(1));: operands that are pointers
+abbrev distance : Program
+distance = with_main (declare 0 (array int 3) blank
+    ∷ returns (pointer_operate pointer_op.Difference (pointer_operate pointer_op.Add (decay (local 0)) (shown 2)) (pointer_operate pointer_op.Add (decay (local 0)) (shown 1))) ∷ [])
+
+pointers_left_to_right : Shows distance [] 9 (record { end = Ended (pos 1); out = codes "21" })
+pointers_left_to_right = record { core = refl; plain = refl }
+
+orders_are_built : list_all is_plainly_built (either ∷ one_arm ∷ chosen_place ∷ counted ∷ raised ∷ chained ∷ distance ∷ []) ≡ true
+orders_are_built = refl
+
+-- Initialisers that fill their object.
+
+-- char s[4]="ab";return s[1]+s[3];
+abbrev characters : Program
+characters = with_main (declare 0 (array (integer Char) 4) (string (97 ∷ 98 ∷ [])) ∷ returns (add (read (element (num 1))) (read (element (num 3)))) ∷ [])
+
+rest_of_a_literal_is_0 : Shows characters [] 9 (record { end = Ended (pos 98); out = [] })
+rest_of_a_literal_is_0 = record { core = refl; plain = refl }
+
+characters_are_built : is_plainly_built characters ≡ true
+characters_are_built = refl
+
 -- Static objects.
 
 abbrev started : Static → Core → Static
@@ -73,6 +150,18 @@ constants_first = record { core = refl; plain = refl }
 
 constants_are_built : is_plainly_built constants ≡ true
 constants_are_built = refl
+
+-- char t[3]="xy";int main(){return t[1];}
+abbrev fixed_text : Program
+fixed_text = record (program [] (main_of (returns (read (index (decay (static_object (codes "t") (array (integer Char) 3))) (num 1))) ∷ []) ∷ []) (static_of (codes "t") (array (integer Char) 3) ∷ [])) {
+  constants = record { function = codes "__sti__u1"; object = codes "t"; start = string (120 ∷ 121 ∷ []) } ∷ [];
+}
+
+characters_of_a_static_object : Shows fixed_text [] 1 (record { end = Ended (pos 121); out = [] })
+characters_of_a_static_object = record { core = refl; plain = refl }
+
+such_objects_are_built : is_plainly_built fixed_text ≡ true
+such_objects_are_built = refl
 
 -- static int n=1;int f(){return n;} and static int n=2;int f();int main(){return f()+n;}: an object that is local to its file
 abbrev local_n : Core → Static

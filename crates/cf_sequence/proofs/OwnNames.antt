@@ -12,14 +12,14 @@ use Rattle.cf_core.specs.Joined.{renamed, is_nothing}
 use Rattle.cf_plain.specs.Plain.{Plains, PlainFunction, PlainStatic, PlainFile, act, set, nothing, more}
 use Rattle.cf_plain.specs.Plain as plain_tree
 use Rattle.cf_plain.specs.Joined as plain
-use Rattle.cf_sequence.specs.Built.{is_statement, is_value, is_built_function, is_body, is_plain_role, is_chain, is_none, is_built_static, begins_mark, has_mark}
+use Rattle.cf_sequence.specs.Built.{is_statement, is_built_function, is_body, is_plain_role, is_chain, is_none, is_built_static, begins_mark, has_mark}
 use Rattle.cf_sequence.specs.Made.{declared, numbered}
 use Rattle.cf_sequence.specs.Expressions.{finished}
 use Rattle.cf_sequence.specs.Statements.{type_of_static, initialised, statement}
 use Rattle.cf_sequence.specs.Sequenced.{inside, flowed_off, sequenced_body, sequenced_function, sequenced_file}
 use Rattle.cf_sequence.proofs.Calling.{never}
 use Rattle.cf_sequence.proofs.StaticObjects.{type_found}
-use Rattle.cf_sequence.proofs.Constants.{set_as, start-is, constant-start, something-constant, constant-value}
+use Rattle.cf_sequence.proofs.Constants.{set_as, start-is, constant-start, something-constant, constant-initial}
 use Rattle.cf_sequence.proofs.JoinedObjects.{beside}
 use Rattle.cf_sequence.proofs.Renamed.{same-adds, same-nothing, same-declared, same-statement, same-constant-start}
 use Rattle.cf_sequence.proofs.RenamedCode.{over-finished, over-started, over-statement}
@@ -176,9 +176,9 @@ module _ (k : ℕ) (names : List Name) where
           → plain.renamed_all r (if b then nothing else initialised [] t x.name x.start 0 nothing) ≡ (if b then nothing else initialised [] t (r x.name) (renamed r x.start) 0 nothing)
       by true e = refl
       by false e =
-          let value = constant-value x.start (something-constant x.start (constant-start x ok) e) in
+          let initial = constant-initial x.start (something-constant x.start (constant-start x ok) e) in
           ap (λ ss. more (act (plain_tree.reach (r x.name))) (more (set 0 (plain_tree.static_object (r x.name) t)) ss))
-          (over-started r [] t x.start (ap (λ b. b || is_value x.start) e ∙ value) 0 0 (more (act (plain_tree.finish_static x.name)) nothing))
+          (over-started r [] t x.start initial 0 0 (more (act (plain_tree.finish_static x.name)) nothing))
 
   over-object : (ys : List Static) → list_all is_own ys ≡ true → (x : Static) → is_own x ≡ true → plain_static_in_file (beside ys x) ≡ beside (map (core.static_in_file r) ys) (core.static_in_file r x)
   over-object ys all x ok =

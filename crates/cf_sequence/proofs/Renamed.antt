@@ -7,7 +7,7 @@ use Rattle.cf_core.specs.Core.{Core, Cores, MaybeCore, Parts, Holder, no_tempora
 use Rattle.cf_core.specs.Nodes.{nodes, nodes_all, nodes_maybe, nodes_parts}
 use Rattle.cf_core.specs.Joined.{renamed, renamed_all, renamed_maybe, renamed_parts, is_nothing}
 use Rattle.cf_core.specs.Valid.{is_label}
-use Rattle.cf_sequence.specs.Built.{is_chain, is_value, are_values, are_arguments, is_condition, is_start, next_local, next_locals, declares_here, is_statement, is_inner_or, are_cases, are_statements, is_constant_value, is_constant_start}
+use Rattle.cf_sequence.specs.Built.{is_chain, is_value, are_values, are_arguments, is_condition, is_start, is_filling, is_initial, next_local, next_locals, declares_here, is_statement, is_inner_or, are_cases, are_statements, is_constant_value, is_constant_initial, is_constant_start}
 use Rattle.cf_sequence.specs.Made.{Local, added, makes, width, width_maybe, declared, declared_all, held_by}
 use Rattle.cf_sequence.specs.Expressions.{builds}
 
@@ -169,6 +169,13 @@ module _ (r : Name → Name) where
   same-start : (e : Core) → is_start (renamed r e) ≡ is_start e
   same-start e = ap (λ b. b || is_value (renamed r e)) (same-nothing e) ∙ ap (λ b. is_nothing e || b) (same-value e)
 
+  pub same-filling : (e : Core) → is_filling (renamed r e) ≡ is_filling e
+  same-filling core.zeros = refl
+  same-filling e = refl
+
+  pub same-initial : (e : Core) → is_initial (renamed r e) ≡ is_initial e
+  same-initial e = ap (λ b. b || is_start (renamed r e)) (same-filling e) ∙ ap (λ b. is_filling e || b) (same-start e)
+
   pub same-constant : (e : Core) → is_constant_value (renamed r e) ≡ is_constant_value e
   same-constant (core.address e) = same-constant e
   same-constant (core.dereference e) = same-constant e
@@ -187,7 +194,10 @@ module _ (r : Name → Name) where
   same-constant e = refl
 
   pub same-constant-start : (e : Core) → is_constant_start (renamed r e) ≡ is_constant_start e
-  same-constant-start e = ap (λ b. b || is_constant_value (renamed r e)) (same-nothing e) ∙ ap (λ b. is_nothing e || b) (same-constant e)
+  same-constant-start e =
+      ap (λ b. b || is_constant_initial (renamed r e)) (same-nothing e)
+      ∙ ap (λ b. is_nothing e || (b || is_constant_value (renamed r e))) (same-filling e)
+      ∙ ap (λ b. is_nothing e || (is_filling e || b)) (same-constant e)
 
   same-condition : (e : MaybeCore) → is_condition (renamed_maybe r e) ≡ is_condition e
   same-condition absent = refl
@@ -235,7 +245,7 @@ module _ (r : Name → Name) where
     same-statement m (core.full e) = same-start e
     same-statement m (core.block es) = same-statements m es
     same-statement m (core.sequence es) = same-statements m es
-    same-statement m (core.declare i t e) = ap (λ b. nat_le m i && b) (same-start e)
+    same-statement m (core.declare i t e) = ap (λ b. nat_le m i && b) (same-initial e)
     same-statement m (core.branch c a b) =
         two-same (is_value (renamed r c)) ((not (declares_here (renamed r a)) && is_statement m (renamed r a)) && is_inner_or m (renamed_maybe r b)) (is_value c)
         ((not (declares_here a) && is_statement m a) && is_inner_or m b) (same-value c)

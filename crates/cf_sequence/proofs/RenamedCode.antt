@@ -11,14 +11,15 @@ use Rattle.cf_core.specs.Joined.{renamed, renamed_all, renamed_maybe, is_nothing
 use Rattle.cf_plain.specs.Plain.{Register, Plains, act, set, branch, loop, switch, case_label, default_label, leave, continue, give, nothing, more}
 use Rattle.cf_plain.specs.Plain as plain
 use Rattle.cf_plain.specs.Joined as joined
-use Rattle.cf_sequence.specs.Built.{is_value, are_values, are_arguments, is_chain, is_condition, is_start, declares_here, is_statement, is_inner_or, are_cases, are_statements, next_local}
+use Rattle.cf_sequence.specs.Built.{is_value, are_values, are_arguments, is_chain, is_condition, is_start, is_filling, is_initial, declares_here, is_statement, is_inner_or, are_cases, are_statements, next_local}
 use Rattle.cf_sequence.specs.Made.{Local, numbers, width, width_maybe, declared, declared_all}
 use Rattle.cf_sequence.specs.Expressions.{Full, Destination, destination, value, values, arguments, settled, builds, result_register, whole, finished, used}
 use Rattle.cf_sequence.specs.Statements.{Inside, opened, in_loop, in_switch, declares, condition, held, stepped, started, returned, looping, passed, statement, statement_or, statements}
 use Rattle.cf_sequence.proofs.Calling.{never}
+use Rattle.cf_sequence.proofs.Filling.{fill, started-is}
 use Rattle.cf_sequence.proofs.Fulls.{whole-is, nothing-is}
 use Rattle.cf_sequence.proofs.Labels.{or-else, cases-declare, not-passed}
-use Rattle.cf_sequence.proofs.Renamed.{same-width, same-width-maybe, same-builds, same-value, same-declared, same-declared-all, same-cases}
+use Rattle.cf_sequence.proofs.Renamed.{same-width, same-width-maybe, same-builds, same-value, same-filling, same-declared, same-declared-all, same-cases}
 
 module _ (r : Name → Name) where
   abbrev again : Core → Core
@@ -152,13 +153,22 @@ module _ (r : Name → Name) where
         ∙ ap (λ w. value cs x (again e) into (n + w) k (go (n + w) (later (n + w)))) (sym (same-width r e))
         ∙ sym (whole-is (again e) (same-value r e ∙ ok) n k (λ x m ss. value cs x (again e) into m k (go m ss)) later)
 
+    over-fill : (e : Core) → is_filling e ≡ true → (n : Register) (rest : Plains) → over (more (act (fill e n)) rest) ≡ more (act (fill (again e) n)) (over rest)
+    over-fill core.zeros ok n rest = refl
+    over-fill (core.string bytes) ok n rest = refl
+    over-fill e ok n rest = never ok
+
     -- an initialiser of the place in a register
-    pub over-started : (t : SourceType) (e : Core) → is_start e ≡ true → (n : Register) (k : ℕ) (rest : Plains) → over (started cs t e n k rest) ≡ started cs t (again e) n k (over rest)
+    pub over-started : (t : SourceType) (e : Core) → is_initial e ≡ true → (n : Register) (k : ℕ) (rest : Plains) → over (started cs t e n k rest) ≡ started cs t (again e) n k (over rest)
     over-started t e ok n k rest =
-        or-else (is_nothing e) (is_value e) ok
+        or-else (is_filling e) (is_start e) ok
+        (λ fills.
+        ap over (started-is cs t e fills n k rest) ∙ over-fill e fills n rest
+        ∙ sym (started-is cs t (again e) (same-filling r e ∙ fills) n k (over rest)))
+        (λ starts. or-else (is_nothing e) (is_value e) starts
         (λ blank. subst (λ e. over (started cs t e n k rest) ≡ started cs t (again e) n k (over rest)) (sym (nothing-is e blank)) refl)
         (λ is.
-        over-whole e is (suc n) k (destination n t) (λ m ss. ss) (λ m. settled e n m rest) (λ m. settled (again e) n m (over rest)) (λ m ss. refl) (λ m. over-settled e n m rest))
+        over-whole e is (suc n) k (destination n t) (λ m ss. ss) (λ m. settled e n m rest) (λ m. settled (again e) n m (over rest)) (λ m ss. refl) (λ m. over-settled e n m rest)))
 
     over-condition : (q : Core) → is_value q ≡ true → (k : ℕ) (rest later : Register → Plains) → ((m : Register) → over (rest m) ≡ later m) → over (condition cs q k rest) ≡ condition cs (again q) k later
     over-condition q ok k rest later same = over-whole q ok 0 k None (λ m ss. more (set m (plain.truth m)) ss) rest later (λ m ss. refl) same
@@ -221,7 +231,7 @@ module _ (r : Name → Name) where
         ∙ ap (statements (opened f) (renamed_all r es) k) (over-finished (declared_all es) rest ∙ ap (λ xs. finished xs (over rest)) (sym (same-declared-all r es)))
     over-statement (core.sequence es) m ok f pr k rest = over-statements es m ok f pr k rest
     over-statement (core.declare i t e) m ok f pr k rest =
-        ap (more (set 0 (plain.declare i t))) (over-started f.classes t e (both (nat_le m i) (is_start e) ok).1 0 k rest)
+        ap (more (set 0 (plain.declare i t))) (over-started f.classes t e (both (nat_le m i) (is_initial e) ok).1 0 k rest)
     over-statement (core.branch q a b) m ok f pr k rest =
         let parts = both (is_value q) ((not (declares_here a) && is_statement m a) && is_inner_or m b) ok in
         let arms = both (not (declares_here a) && is_statement m a) (is_inner_or m b) parts.1 in

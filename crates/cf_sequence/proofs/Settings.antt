@@ -25,7 +25,7 @@ use Rattle.cf_plain.specs.Program.{PlainSetting}
 use Rattle.cf_plain.specs.Running as running
 use Rattle.cf_plain.specs.Running.{Flow, Falls, keep, all}
 use Rattle.cf_sequence.specs.Follows.{Follows}
-use Rattle.cf_sequence.specs.Built.{is_chain, is_constant_value, is_built_setting}
+use Rattle.cf_sequence.specs.Built.{is_chain, is_filling, is_constant_value, is_constant_initial, is_built_setting}
 use Rattle.cf_sequence.specs.Made.{width}
 use Rattle.cf_sequence.specs.Expressions.{destination, settled}
 use Rattle.cf_sequence.specs.Statements.{type_of_static, started, initialised}
@@ -37,31 +37,24 @@ use Rattle.cf_sequence.proofs.Calling.{Bodies}
 use Rattle.cf_sequence.proofs.Kept.{Ready, ready-kept, keep-same}
 use Rattle.cf_sequence.proofs.PlainSteps.{runs_on, set-steps, act-steps}
 use Rattle.cf_sequence.proofs.Operands.{H}
+use Rattle.cf_sequence.proofs.Filling.{TypesKept, typed-at, filled, Fills, malformed_there, both_fill, fills, filled-types, filled-steps}
 use Rattle.cf_sequence.proofs.Parts.{first-steps, value-gives}
 use Rattle.cf_sequence.proofs.Fulls.{full-steps}
 use Rattle.cf_sequence.proofs.Moving.{no-destructor}
 use Rattle.cf_sequence.proofs.Standing.{settled_full}
+use Rattle.cf_sequence.proofs.Labels.{or-else}
 use Rattle.cf_sequence.proofs.Constants.{constant-value, constant-width, Gave, gave-then, gave-as, same-state, Stays, steady-value, steady-full}
 
 -- ---- types of objects
 
--- each object has the type that it had
-record Typed (s t : State) : Type 0 where
-  next : t.next ≡ s.next
-  types : (o : ℕ) → (t.object o).type ≡ (s.object o).type
-
-typed-at : (o q : ℕ) (x : Object) (objects : ℕ → Object) → x.type ≡ (objects q).type → (b : Bool) → (o == q) ≡ b → (if b then x else objects o).type ≡ (objects o).type
-typed-at o q x objects e true is = e ∙ ap (λ i. (objects i).type) (let z : q ≡ o = grind (arith, nat_tests) in z)
-typed-at o q x objects e false is = refl
-
-first-types : (b : Bool) (p : Place) (v : Value) (s : State) (w : World) → Gave (λ (u : Unit {0}) (t : State). Typed s t) (when b (used v >>= first_value p) malformed s w)
+first-types : (b : Bool) (p : Place) (v : Value) (s : State) (w : World) → Gave (λ (u : Unit {0}) (t : State). TypesKept s t) (when b (used v >>= first_value p) malformed s w)
 first-types true p v s w =
-    gave-then (λ (x : Value) (t : State). t ≡ s) (λ (u : Unit {0}) (t : State). Typed s t) (used v s w) (first_value p) (same-state (used v) (pure-used v) s w)
-    (λ x t w e. subst (λ t. Gave (λ (u : Unit {0}) (t : State). Typed s t) (first_value p x t w)) (sym e)
+    gave-then (λ (x : Value) (t : State). t ≡ s) (λ (u : Unit {0}) (t : State). TypesKept s t) (used v s w) (first_value p) (same-state (used v) (pure-used v) s w)
+    (λ x t w e. subst (λ t. Gave (λ (u : Unit {0}) (t : State). TypesKept s t) (first_value p x t w)) (sym e)
     (record { next = refl; types = λ o. typed-at o p.object (hold p.route (Some x) (s.object p.object)) s.object refl (o == p.object) refl }))
 first-types false p v s w = tt
 
-settle-types : (cs : List Class) (p : Place) (v : Value) (s : State) (w : World) → Gave (λ (u : Unit {0}) (t : State). Typed s t) (settle cs p v s w)
+settle-types : (cs : List Class) (p : Place) (v : Value) (s : State) (w : World) → Gave (λ (u : Unit {0}) (t : State). TypesKept s t) (settle cs p v s w)
 settle-types cs p Built s w = record { next = refl; types = λ o. refl }
 settle-types cs p v s w = first-types (is_scalar (place_type cs s p)) p v s w
 
@@ -92,7 +85,7 @@ module _ (P : Program) where
   first-all depth [] ok = refl
   first-all depth (x ∷ xs) ok =
       let parts = both (is_built_setting P.statics x) (list_all (is_built_setting P.statics) xs) ok in
-      let one = both (not (is_reference (type_of_static P.statics x.object))) (is_constant_value x.start) parts.0 in
+      let one = both (not (is_reference (type_of_static P.statics x.object))) (is_constant_initial x.start) parts.0 in
       all_of (is_plain_object (first_state P depth) (static_number P x.object)) (all_plain (first_state P depth) xs) (first-plain P depth x.object one.0) (first-all depth xs parts.1)
 
 is-false : (b : Bool) → not b ≡ true → b ≡ false
@@ -114,7 +107,7 @@ module _ (again : calling.Again) (again' : running.Again) (P : Program) (bodies 
   abbrev Next : (Unit {0} → Act A) → (Unit {0} → Act B) → List Setting → Type 0
   Next c K ys = (t : State) (g : Frame) (w : World) → Ready 0 t.frame g → all_plain P t ys ≡ true → Follows S (c tt t w) (K tt (with_frame g t) w)
 
-  module _ (x : Setting) (ok : is_constant_value x.start ≡ true) (ys : List Setting) (c : Unit {0} → Act A) (K : Unit {0} → Act B) (next : Next c K ys) where
+  module _ (x : Setting) (ok : is_constant_initial x.start ≡ true) (ys : List Setting) (c : Unit {0} → Act A) (K : Unit {0} → Act B) (next : Next c K ys) where
     abbrev name : Name
     name = x.object
 
@@ -153,21 +146,47 @@ module _ (again : calling.Again) (again' : running.Again) (P : Program) (bodies 
         (subst (λ b. Follows S (c tt t w) (and_then ((when b (changed records) done >>= (λ u. gives Nothing)) (with_frame g t) w) (on G))) (sym (not-destroyed Hp classless (static_type Hp name)))
         (next t g w ready free))))
 
-    -- the initialiser itself, in a state where control has reached it
-    starts : (o : ℕ) → static_number P name ≡ Some o → (s : State) (f : Frame) (w : World) → Ready 0 s.frame f → all_plain P s ys ≡ true
+    -- one that fills its object
+    filling-gave : is_filling e ≡ true → (o : ℕ) (s : State) (w : World) → all_plain P s ys ≡ true
+        → Gave (λ (u : Unit {0}) (t : State). all_plain P t ys ≡ true) (settled_full again P (root o) e s w)
+    filling-gave fill o s w free = by (fills again again' P e fill (root o) s w)
+      where
+        Free : Unit {0} → State → Type 0
+        Free u t = all_plain P t ys ≡ true
+
+        by : Fills again again' P e (root o) s w → Gave Free (settled_full again P (root o) e s w)
+        by (malformed_there is) = subst (Gave Free) (sym is) tt
+        by (both_fill is plain_is) =
+            let typed = filled-types P.classes e fill (root o) s in
+            subst (Gave Free) (sym is)
+            (all-kept P s (filled P.classes e (root o) s) (let z = typed.next in omega arith) (λ i lt. typed.types i) ys free)
+
+    starts-filling : is_filling e ≡ true → (o : ℕ) → static_number P name ≡ Some o → (s : State) (f : Frame) (w : World) → Ready 0 s.frame f → all_plain P s ys ≡ true
         → Follows S (and_then (settled_full again P (root o) e s w) (on (λ u. finishing o >>= c)))
         (runs_on again' Hp (started P.classes T e 0 0 behind) (keep no_registers 0 (At (root o))) K1 (with_frame f s) w)
-    starts o is s f w ready free =
-        let built = constant-value e ok in
+    starts-filling fill o is s f w ready free =
         let h1 : Registers = keep no_registers 0 (At (root o)) in
         let C : Unit {0} → Act A = λ u. finishing o >>= c in
         let C1 : Unit {0} → Act A = λ u. λ t w. (valid (all_plain P t ys) >> C u) t w in
-        let room : 0 + width e ≤ f.count = (let z = constant-width e ok in omega arith) in
+        guarded (λ t. all_plain P t ys) (settled_full again P (root o) e s w) C _ (filling-gave fill o s w free)
+        (filled-steps again again' P T e fill 0 0 (root o) h1 behind C1 K1 s f w (keep-same 0 no_registers (At (root o))) (λ q same.
+        ends o is h1 q f w (subst (λ fr. Ready 0 fr f) (sym same) ready) (all_plain P q ys) refl))
+
+    -- one that gives a value
+    starts-value : is_constant_value e ≡ true → (o : ℕ) → static_number P name ≡ Some o → (s : State) (f : Frame) (w : World) → Ready 0 s.frame f → all_plain P s ys ≡ true
+        → Follows S (and_then (settled_full again P (root o) e s w) (on (λ u. finishing o >>= c)))
+        (runs_on again' Hp (started P.classes T e 0 0 behind) (keep no_registers 0 (At (root o))) K1 (with_frame f s) w)
+    starts-value constant o is s f w ready free =
+        let built = constant-value e constant in
+        let h1 : Registers = keep no_registers 0 (At (root o)) in
+        let C : Unit {0} → Act A = λ u. finishing o >>= c in
+        let C1 : Unit {0} → Act A = λ u. λ t w. (valid (all_plain P t ys) >> C u) t w in
+        let room : 0 + width e ≤ f.count = (let z = constant-width e constant in omega arith) in
         guarded (λ t. all_plain P t ys) (settled_full again P (root o) e s w) C _
         (gave-then (λ (v : Value) (t : State). Stays s t) (λ (u : Unit {0}) (t : State). all_plain P t ys ≡ true) (full_expression again P (meaning.value again P e (Some (root o))) s w) (settle P.classes (root o))
-        (steady-full again P (meaning.value again P e (Some (root o))) (steady-value again P e ok (Some (root o))) s w)
+        (steady-full again P (meaning.value again P e (Some (root o))) (steady-value again P e constant (Some (root o))) s w)
         (λ v t w st.
-        gave-as (λ (u : Unit {0}) (q : State). Typed t q) (λ (u : Unit {0}) (q : State). all_plain P q ys ≡ true) (settle P.classes (root o) v t w) (settle-types P.classes (root o) v t w)
+        gave-as (λ (u : Unit {0}) (q : State). TypesKept t q) (λ (u : Unit {0}) (q : State). all_plain P q ys ≡ true) (settle P.classes (root o) v t w) (settle-types P.classes (root o) v t w)
         (λ u q typed. all-kept P s q (let a = st.next in let b = typed.next in omega arith) (λ i lt. typed.types i ∙ ap (λ (z : Object). z.type) (st.objects i lt)) ys free)))
         (pull (full_expression again P (meaning.value again P e (Some (root o))) s w) (settle P.classes (root o)) C1 _
         (full-steps again again' P bodies chains A B S e built (Some (root o)) (destination 0 T) 1 0 (λ n. settled e 0 n behind) h1 s f w (λ v. settle P.classes (root o) v >>= C1) K1 ready room (λ v t h f2 w2 after.
@@ -176,6 +195,13 @@ module _ (again : calling.Again) (again' : running.Again) (P : Program) (bodies 
         (first-steps again again' P bodies chains A B S 0 (1 + width e) (root o) v h behind C1 K1 t f2 w2
         (after.below 0 (omega arith) ∙ keep-same 0 no_registers (At (root o))) after.value (λ q same.
         ends o is h q f2 w2 (subst (λ fr. Ready 0 fr f2) (sym (same ∙ after.frame)) (ready-kept 0 s.frame f f2 ready after.kept)) (all_plain P q ys) refl)))))
+
+    -- the initialiser itself, in a state where control has reached it
+    starts : (o : ℕ) → static_number P name ≡ Some o → (s : State) (f : Frame) (w : World) → Ready 0 s.frame f → all_plain P s ys ≡ true
+        → Follows S (and_then (settled_full again P (root o) e s w) (on (λ u. finishing o >>= c)))
+        (runs_on again' Hp (started P.classes T e 0 0 behind) (keep no_registers 0 (At (root o))) K1 (with_frame f s) w)
+    starts o is s f w ready free =
+        or-else (is_filling e) (is_constant_value e) ok (λ fill. starts-filling fill o is s f w ready free) (λ constant. starts-value constant o is s f w ready free)
 
     -- control reaches the object
     abbrev reaches : State → State
@@ -230,7 +256,7 @@ module _ (again : calling.Again) (again' : running.Again) (P : Program) (bodies 
   settings-steps [] ok s f w ready free c K next = next s f w ready
   settings-steps (x ∷ xs) ok s f w ready free c K next =
       let parts = both (is_built_setting P.statics x) (list_all (is_built_setting P.statics) xs) ok in
-      let good = (both (not (is_reference (type_of_static P.statics x.object))) (is_constant_value x.start) parts.0).1 in
+      let good = (both (not (is_reference (type_of_static P.statics x.object))) (is_constant_initial x.start) parts.0).1 in
       let known = both (is_plain_object s (static_number P x.object)) (all_plain P s xs) free in
       pull (set_constant again P x s w) (λ u. for_all xs (set_constant again P)) c _
       (push (plain_program.set_constant again' (H again again' P) (setting_of P x) (with_frame f s) w)

@@ -22,7 +22,7 @@ use Rattle.cf_plain.specs.Acts.{Registers}
 use Rattle.cf_plain.specs.Running as running
 use Rattle.cf_plain.specs.Running.{Flow, Falls, Breaks, Continues, Returns, keep, falling, turning, all}
 use Rattle.cf_sequence.specs.Follows.{Follows}
-use Rattle.cf_sequence.specs.Built.{is_start, next_local, next_locals, declares_here, is_statement, are_statements}
+use Rattle.cf_sequence.specs.Built.{is_initial, next_local, next_locals, declares_here, is_statement, are_statements}
 use Rattle.cf_sequence.specs.Made.{Local, width, width_maybe, declared}
 use Rattle.cf_sequence.specs.Expressions.{finished}
 use Rattle.cf_sequence.specs.Statements.{Inside, in_loop, statement, held, stepped}
@@ -104,7 +104,7 @@ result_act again P e r = elim r [
 -- a statement's locals are numbered on
 mutual
   pub next-more : (m : ℕ) (s : Core) → is_statement m s ≡ true → m ≤ next_local m s
-  next-more m (core.declare i t e) ok = let le : nat_le m i ≡ true = (both (nat_le m i) (is_start e) ok).0 in grind (arith, nat_tests)
+  next-more m (core.declare i t e) ok = let le : nat_le m i ≡ true = (both (nat_le m i) (is_initial e) ok).0 in grind (arith, nat_tests)
   next-more m (core.sequence es) ok = next-more-all m es ok
   next-more m s ok = omega arith
 

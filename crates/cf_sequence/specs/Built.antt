@@ -1,5 +1,5 @@
 -- The cores that are built so far: functions over numbers and pointers, with locals, references to objects, literals, calls by name and all statements,
--- where a `switch` declares no local in its own block, and static objects with constant initialisers; no class and no temporary.
+-- where a `switch` declares no local in its own block, and static objects with constant initialisers; no class, no temporary and no list.
 use Rattle.std.specs.Prelude.{ℕ, suc, Bool, true, false, ◌&&◌, ◌||◌, not, nat_le, nat_eq, List, [], ◌∷◌, length, bytes_eq, codes}
 use Rattle.std.specs.List.{list_all, starts_with}
 use Rattle.cf_core.specs.Types.{Name, SourceType, takes, gives, result, is_class, parameters}
@@ -60,9 +60,19 @@ abbrev pub is_condition : MaybeCore → Bool
 is_condition absent = true
 is_condition (given e) = is_value e
 
--- an initialiser, or an expression statement: nothing, or a value
+-- an expression statement: nothing, or a value
 abbrev pub is_start : Core → Bool
 is_start e = is_nothing e || is_value e
+
+-- what fills its object by itself: zeros, or the characters of a literal (8.4.1, 8.4.2)
+abbrev pub is_filling : Core → Bool
+is_filling core.zeros = true
+is_filling (core.string bytes) = true
+is_filling e = false
+
+-- the initialiser of a local: one that fills its object, nothing, or a value
+abbrev pub is_initial : Core → Bool
+is_initial e = is_filling e || is_start e
 
 -- The number behind that of each local that a statement declares in the scope at hand.
 abbrev mutual
@@ -87,7 +97,7 @@ abbrev mutual
   is_statement m (core.full e) = is_start e
   is_statement m (core.block es) = are_statements m es
   is_statement m (core.sequence es) = are_statements m es
-  is_statement m (core.declare i t e) = nat_le m i && is_start e
+  is_statement m (core.declare i t e) = nat_le m i && is_initial e
   is_statement m (core.branch c a b) = is_value c && ((not (declares_here a) && is_statement m a) && is_inner_or m b)
   is_statement m (core.loop _ c e s) = is_condition c && (is_condition e && is_statement m s)
   is_statement m (core.switch e es) = is_value e && are_cases m es
@@ -130,8 +140,12 @@ is_constant_value (core.logical_or a b) = is_constant_value a && is_constant_val
 is_constant_value (core.conditional c a b) = is_constant_value c && (is_constant_value a && is_constant_value b)
 is_constant_value e = false
 
+-- what sets a static object before any function is entered
+abbrev pub is_constant_initial : Core → Bool
+is_constant_initial e = is_filling e || is_constant_value e
+
 abbrev pub is_constant_start : Core → Bool
-is_constant_start e = is_nothing e || is_constant_value e
+is_constant_start e = is_nothing e || is_constant_initial e
 
 abbrev pub is_none : {A : Type 0} → List A → Bool
 is_none [] = true
@@ -156,7 +170,7 @@ is_built_static x = x.is_constant && (not (is_reference x.type) && is_constant_s
 
 -- what sets such an object, in a program
 abbrev pub is_built_setting : List Static → Setting → Bool
-is_built_setting statics x = not (is_reference (type_of_static statics x.object)) && is_constant_value x.start
+is_built_setting statics x = not (is_reference (type_of_static statics x.object)) && is_constant_initial x.start
 
 -- A program of such functions and objects.
 abbrev pub is_plainly_built : Program → Bool

@@ -24,12 +24,17 @@ pub record Test : Type 0 where
   pub statement : ℕ → Option ℕ  -- as a statement, where the locals below this number are those of the open scopes
   pub next : ℕ → ℕ  -- the number behind that of each local that it declares in the scope at hand
   pub is_blank : Bool
+  pub is_filling : Bool  -- whether it fills its object by itself, as an initialiser
   pub declares : Bool  -- whether it declares locals in the scope at hand
   pub is_label : Bool
 
--- an initialiser, or an expression statement
+-- an expression statement
 abbrev pub start : Test → Option ℕ
 start e = if e.is_blank then None else e.value
+
+-- the initialiser of a local
+abbrev pub initial : Test → Option ℕ
+initial e = if e.is_filling then None else start e
 
 abbrev pub given : Option Test → Option ℕ
 given None = None
@@ -90,7 +95,7 @@ abbrev pub statement_step : Core-F Test Test → ℕ → Option ℕ
 statement_step (Core-F.Full at e) m = start e
 statement_step (Core-F.Block at ss) m = each_statement m ss
 statement_step (Core-F.Sequence at ss) m = each_statement m ss
-statement_step (Core-F.Declare at i t e) m = if nat_le m i then start e else Some at
+statement_step (Core-F.Declare at i t e) m = if nat_le m i then initial e else Some at
 statement_step (Core-F.If at c a b) m = option_or c.value (option_or (inner at m a) (inner_or at m b))
 statement_step (Core-F.Loop at how c e s) m = option_or (given c) (option_or (given e) (s.statement m))
 statement_step (Core-F.Switch at e ss) m = option_or e.value (each_case at m ss)
@@ -107,6 +112,12 @@ next_step x m = m
 abbrev pub blank_step : Core-F Test Test → Bool
 blank_step (Core-F.Blank at) = true
 blank_step x = false
+
+-- zeros, or the characters of a literal (8.4.1, 8.4.2)
+abbrev pub filling_step : Core-F Test Test → Bool
+filling_step (Core-F.Zeros at) = true
+filling_step (Core-F.Characters at bytes) = true
+filling_step x = false
 
 abbrev pub declares_step : Core-F Test Test → Bool
 declares_step (Core-F.Declare at i t e) = true
@@ -157,6 +168,7 @@ module _ (tables : Tables) where
     statement = statement_step x;
     next = next_step x;
     is_blank = blank_step x;
+    is_filling = filling_step x;
     declares = declares_step x;
     is_label = label_step x;
   }
@@ -223,7 +235,7 @@ has_mark (b ∷ rest) = begins_mark (b ∷ rest) || has_mark rest
 -- A static object with a constant initialiser, which is no reference.
 abbrev pub is_usual_object : Tables → CoreStatic → Bool
 is_usual_object tables x =
-    x.is_constant && (not (is_reference (type_of tables x.ty)) && (((test tables x.start).is_blank || is_constant x.start) && not (has_mark x.name)))
+    x.is_constant && (not (is_reference (type_of tables x.ty)) && (((test tables x.start).is_blank || ((test tables x.start).is_filling || is_constant x.start)) && not (has_mark x.name)))
 
 abbrev pub in_static : Tables → CoreStatic → Option ℕ
 in_static tables x = if is_usual_object tables x then None else Some (place x.start)

@@ -3,7 +3,7 @@ ghost use Rattle.cf_core.specs.FromUnit.{tables_of};
 ghost use Rattle.cf_core.specs.Numbers.{function_known, static_known};
 ghost use Rattle.cf_sequence_built.specs.Unbuilt as spec;
 
-use crate::statements::{is_blank, statement};
+use crate::statements::{is_blank, is_filling, statement};
 use crate::types::{is_of_class, is_reference};
 use crate::values::is_constant;
 use cf_core::{CoreFn, CoreStatic, CoreUnit, Role};
@@ -60,7 +60,7 @@ fn is_usual_object(unit: &CoreUnit, x: &CoreStatic) -> bool
 {
     x.is_constant
         && !is_reference(unit, x.ty)
-        && (is_blank(&x.start) || is_constant(&x.start))
+        && (is_blank(&x.start) || is_filling(&x.start) || is_constant(&x.start))
         && !has_mark(x.name.as_slice())
 }
 

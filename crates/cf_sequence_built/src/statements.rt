@@ -10,7 +10,7 @@ use crate::values::value;
 use cf_base::Boxed;
 use cf_core::{Core, CoreUnit};
 
-/// The place of the first construct of an initialiser or an expression statement that is not built.
+/// The place of the first construct of an expression statement that is not built.
 fn start(unit: &CoreUnit, e: &Core) -> Option<u32>
     requires { are_known (tables_of unit.now) e.now ≡ true }
     ensures { result ≡ spec.start (test (tables_of unit.now) e.now) }
@@ -19,6 +19,14 @@ fn start(unit: &CoreUnit, e: &Core) -> Option<u32>
         Core::Blank { .. } => None,
         _ => value(unit, e),
     }
+}
+
+/// Of the initialiser of a local.
+fn initial(unit: &CoreUnit, e: &Core) -> Option<u32>
+    requires { are_known (tables_of unit.now) e.now ≡ true }
+    ensures { result ≡ spec.initial (test (tables_of unit.now) e.now) }
+{
+    if is_filling(e) { None } else { start(unit, e) }
 }
 
 /// Of a condition or a step, if there is one.
@@ -37,6 +45,13 @@ pub fn is_blank(e: &Core) -> bool
     ensures { (tables : Tables) → result ≡ (test tables e.now).is_blank }
 {
     matches!(e, Core::Blank { .. })
+}
+
+/// Whether an initialiser fills its object by itself: zeros, or the characters of a literal (8.4.1, 8.4.2).
+pub fn is_filling(e: &Core) -> bool
+    ensures { (tables : Tables) → result ≡ (test tables e.now).is_filling }
+{
+    matches!(e, Core::Zeros { .. } | Core::Characters { .. })
 }
 
 /// Whether a statement declares locals in the scope at hand.
@@ -100,7 +115,7 @@ pub fn statement(unit: &CoreUnit, below: u64, s: &Core) -> Option<u32>
             ..
         } => {
             if below <= *local as u64 {
-                start(unit, e.get())
+                initial(unit, e.get())
             } else {
                 Some(*at)
             }

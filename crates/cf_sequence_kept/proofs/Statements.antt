@@ -17,11 +17,12 @@ use Rattle.cf_plain.specs.Plain.{Register, Plain, Plains, act, set, branch, loop
 use Rattle.cf_plain.specs.Plain as plain
 use Rattle.cf_plain_kept.specs.Kept as kept
 use Rattle.cf_plain_kept.specs.Kept.{Kept, no_value, an_object, a_truth, Keeping, keep, nothing_set, common, tested, given, integer_in, suits, after, after_all}
-use Rattle.cf_sequence.specs.Built.{is_value, is_condition, is_start, declares_here, is_statement, is_inner_or, are_cases, are_statements, next_local}
+use Rattle.cf_sequence.specs.Built.{is_value, is_condition, is_start, is_filling, is_initial, declares_here, is_statement, is_inner_or, are_cases, are_statements, next_local}
 use Rattle.cf_sequence.specs.Made.{Local, width, width_maybe, declared, declared_all}
 use Rattle.cf_sequence.specs.Expressions.{Full, Destination, destination, value, whole, settled, finished, used}
 use Rattle.cf_sequence.specs.Statements.{Inside, declares, opened, in_loop, in_switch, held, stepped, started, passed, looping, statement, statement_or, statements}
 use Rattle.cf_sequence.proofs.Calling.{never}
+use Rattle.cf_sequence.proofs.Filling.{fill, started-is}
 use Rattle.cf_sequence.proofs.Fulls.{whole-is, nothing-is}
 use Rattle.cf_sequence.proofs.Labels.{cases-declare, not-passed}
 use Rattle.cf_sequence_kept.proofs.Suits.{scalar-tested, integer-tested}
@@ -74,10 +75,17 @@ module _ (body : Body) (locals : List SourceType) (keeps : locals_of.Kept body.s
   full-serves b c core.blank ok is = never ok
   full-serves b c e ok is = expressions-serve (typing scope e) is
 
-  runs-started : (f : Inside) (i : ℕ) (t : SourceType) (e : Core) → is_start e ≡ true → (is_value e ≡ true → (typing scope e).start t ≡ true) → (k : ℕ) (g : Keeping)
+  runs-fill : (e : Core) → is_filling e ≡ true → (i : ℕ) (t : SourceType) (g : Keeping) → g 0 ≡ Some (an_object i t) → Runs g (λ rest. more (act (fill e 0)) rest)
+  runs-fill core.zeros ok i t g at = record { now = g; goes = λ rest. act-runs locals body.result g (plain.zeros 0) no_value rest (ap kept.filled at) }
+  runs-fill (core.string bytes) ok i t g at = record { now = g; goes = λ rest. act-runs locals body.result g (plain.bytes 0 bytes) no_value rest (ap kept.filled at) }
+  runs-fill e ok i t g at = never ok
+
+  runs-started : (f : Inside) (i : ℕ) (t : SourceType) (e : Core) → is_initial e ≡ true → (is_value e ≡ true → (typing scope e).start t ≡ true) → (k : ℕ) (g : Keeping)
       → g 0 ≡ Some (an_object i t) → Runs g (started f.classes t e 0 k)
   runs-started f i t e ok s k g at =
-      either-true (is_nothing e) (is_value e) ok
+      either-true (is_filling e) (is_start e) ok
+      (λ fills. runs-by (started f.classes t e 0 k) (λ rest. more (act (fill e 0)) rest) g (started-is f.classes t e fills 0 k) (runs-fill e fills i t g at))
+      (λ starts. either-true (is_nothing e) (is_value e) starts
       (λ blank. runs-by (started f.classes t e 0 k) (λ rest. rest) g (λ rest. ap (λ e. started f.classes t e 0 k rest) (nothing-is e blank)) (runs-none g))
       (λ is.
       let x : Full = record { first = k; base = 1 } in
@@ -90,7 +98,7 @@ module _ (body : Body) (locals : List SourceType) (keeps : locals_of.Kept body.s
             ∙ ap (λ ss. run ss p.now) (settled-put e is 0 (1 + width e) rest)
             ∙ act-runs locals body.result p.now (plain.first 0 (1 + width e)) no_value rest
             (ap (λ o. kept.begun o (p.now (1 + width e))) (p.below 0 low ∙ at) ∙ ap (kept.begun (Some (an_object i t))) p.at ∙ ap (λ b. given b no_value) (p.related.start t (s is)));
-      })
+      }))
 
   -- a condition, 1 or 0 in its register
   pub record Tested (f : Inside) (q : Core) (k : ℕ) (g : Keeping) : Type 0 where
@@ -216,7 +224,7 @@ module _ (body : Body) (locals : List SourceType) (keeps : locals_of.Kept body.s
         runs-then (statements (opened f) es k) (finished (declared_all es)) g q (runs-finished (declared_all es) q.now)
     runs-statement (core.sequence es) m b c ok is f sr k g = runs-statements es m b c ok is f sr k g
     runs-statement (core.declare i t e) m b c ok is f sr k g =
-        let start = (both (nat_le m i) (is_start e) ok).1 in
+        let start = (both (nat_le m i) (is_initial e) ok).1 in
         let parts = both (nat_le body.parameters i && same_type (slice_get scope.locals i) t && is_complete scope.classes t) ((typing scope e).start t) is in
         let first : Keeping = keep g 0 (an_object i t) in
         let q = runs-started f i t e start (λ v. parts.1) k first (keep-at g 0 (an_object i t)) in

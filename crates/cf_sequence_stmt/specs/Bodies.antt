@@ -1,5 +1,6 @@
 -- How what is written of a function's body goes on: its statements, and the locals of the scopes that are open.
-use Rattle.std.specs.Prelude.{ℕ, suc, ◌+◌, Bool, true, false, List, [], ◌∷◌, ◌++◌, length, take, drop, Option, Some, None}
+use Rattle.std.specs.Prelude.{ℕ, suc, ◌+◌, Bool, true, false, if◌then◌else◌, List, [], ◌∷◌, ◌++◌, length, take, drop, Option, Some, None}
+use Rattle.cf_plain.specs.declared.action.Action.{Action}
 use Rattle.cf_plain.specs.declared.action.Action.TheVariants as action
 use Rattle.cf_plain.specs.declared.statement.Plain.{Plain}
 use Rattle.cf_plain.specs.declared.statement.Plain.TheVariants as plain
@@ -50,20 +51,33 @@ given p b = on (λ w. used (behind_flags 0 p) (p.value (behind_flags 0 p) w)) b
 unfoldable pub tested : Piece → Body → Body
 tested p b = on (truth p (behind_flags 0 p)) b
 
+-- What an initialiser does with the object whose place is in register 0 (8.4).
+pub data Initial : Type 0 where
+  does_nothing : Initial
+  fills : Action → Initial  -- it fills the object by itself (8.4.1, 8.4.2)
+  gives : Initial  -- it gives a value to put there
+
+abbrev pub is_blank : Initial → Bool
+is_blank does_nothing = true
+is_blank (fills a) = false
+is_blank gives = false
+
 -- the initialiser of the place in register 0
-unfoldable pub started : Bool → Piece → Writing → Writing
-started true p w = p.value (behind_flags 1 p) w
-started false p w = act (action.First 0 (behind_flags 1 p)) (p.value (behind_flags 1 p) w)
+unfoldable pub started : Initial → Piece → Writing → Writing
+started does_nothing p w = w
+started (fills a) p w = act a w
+started gives p w = act (action.First 0 (behind_flags 1 p)) (p.value (behind_flags 1 p) w)
 
 -- a local with its initialiser (6.7)
-unfoldable pub declared : ℕ → ℕ → Bool → Piece → Body → Body
-declared i t is_blank p b = opened i t (on (λ w. started is_blank p (set 0 (action.Declare i t) w)) b)
+unfoldable pub declared : ℕ → ℕ → Initial → Piece → Body → Body
+declared i t initial p b = opened i t (on (λ w. started initial p (set 0 (action.Declare i t) w)) b)
 
 -- A static object with its initialiser, if it has one: control reaches it, and its place comes into register 0 (6.7, 8.4).
-unfoldable pub placed : List ℕ → ℕ → Bool → Piece → Writing → Writing
-placed name t true p w = w
-placed name t false p w =
-    act (action.FinishStatic name) (started false p (set 0 (action.Static name t) (act (action.Reach name) w)))
+unfoldable pub placed : List ℕ → ℕ → Initial → Piece → Writing → Writing
+placed name t initial p w =
+    if is_blank initial
+    then w
+    else act (action.FinishStatic name) (started initial p (set 0 (action.Static name t) (act (action.Reach name) w)))
 
 -- Statements.
 

@@ -7,16 +7,17 @@ use Rattle.cf_core.specs.declared.node.Core.{Core as Node, fold-Core}
 use Rattle.cf_core.specs.declared.node.Core.TheOpen.{Core-F}
 use Rattle.cf_core.specs.declared.node.Core.TheFolds.{map-Core}
 use Rattle.cf_core.specs.declared.node.PartStart.{PartStart-F}
+use Rattle.cf_plain.specs.declared.action.Action.TheVariants as action
 use Rattle.cf_plain.specs.declared.statement.Plain.{Plain}
 use Rattle.cf_plain.specs.declared.statement.Plain.TheVariants as plain
 use Rattle.cf_sequence_expr.specs.Pieces.{Piece, piece_step}
 use Rattle.cf_sequence_stmt.specs.declared.body.Body.{Body}
 use Rattle.cf_sequence_stmt.specs.declared.body.Ways.{Ways}
-use Rattle.cf_sequence_stmt.specs.Bodies.{behind_flags, left_to, closed_to, full, given, tested, declared, stated, begun, chosen, turned, switched, with_code}
+use Rattle.cf_sequence_stmt.specs.Bodies.{Initial, does_nothing, fills, gives, behind_flags, left_to, closed_to, full, given, tested, declared, stated, begun, chosen, turned, switched, with_code}
 
 pub record Step : Type 0 where
   pub piece : Piece  -- as an expression
-  pub is_blank : Bool
+  pub initial : Initial  -- as an initialiser
   -- as a statement, where `break` and `continue` leave the locals behind so many
   pub act : Ways → Body → Body
 
@@ -93,7 +94,7 @@ abbrev pub act_step : Core-F Step Step → Ways → Body → Body
 act_step (Core-F.Full at e) ways b = full e.piece b
 act_step (Core-F.Block at ss) ways b = block ss ways b
 act_step (Core-F.Sequence at ss) ways b = in_order ss ways b
-act_step (Core-F.Declare at i t e) ways b = declared i t e.is_blank e.piece b
+act_step (Core-F.Declare at i t e) ways b = declared i t e.initial e.piece b
 act_step (Core-F.If at c a s) ways b = choice c a s ways b
 act_step (Core-F.Loop at how c e s) ways b = loop how c e s b
 act_step (Core-F.Switch at e ss) ways b = selection e ss ways b
@@ -104,15 +105,17 @@ act_step (Core-F.Continue at) ways b = stated plain.Continue (left_to ways.conti
 act_step (Core-F.Return at e) ways b = returned e b
 act_step other ways b = b
 
-abbrev pub blank_step : Core-F Step Step → Bool
-blank_step (Core-F.Blank at) = true
-blank_step other = false
+abbrev pub initial_step : Core-F Step Step → Initial
+initial_step (Core-F.Blank at) = does_nothing
+initial_step (Core-F.Zeros at) = fills (action.Zeros 0)
+initial_step (Core-F.Characters at bytes) = fills (action.Characters 0 bytes)
+initial_step other = gives
 
 module _ (types : Table) where
   abbrev pub step_step : Core-F Step Step → Step
   step_step x = record {
     piece = piece_step types (map-Core _ _ _ _ Step.piece Step.piece x);
-    is_blank = blank_step x;
+    initial = initial_step x;
     act = act_step x;
   }
 

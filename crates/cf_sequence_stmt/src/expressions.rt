@@ -72,30 +72,44 @@ pub fn tested(unit: &CoreUnit, e: &Core, b: &mut Body) -> Result<u32, Memory>
 
 /// Whether an initialiser does nothing.
 fn is_blank(e: &Core) -> bool
-    ensures { (types : Table) → result ≡ (step types e.now).is_blank }
+    ensures { (types : Table) → result ≡ spec.is_blank (step types e.now).initial }
 {
     matches!(e, Core::Blank { .. })
 }
 
-/// Writes the initialiser of the place in register 0.
+/// Writes the initialiser of the place in register 0 that gives this value.
 #[tactic(auto, unfolding(crate::specs::Bodies::started))]
-fn started(unit: &CoreUnit, e: &Core, w: &mut Writing) -> Result<(), Memory>
+fn settled(unit: &CoreUnit, e: &Core, w: &mut Writing) -> Result<(), Memory>
     requires { are_known (tables_of unit.now) e.now ≡ true }
-    ensures { OnOk result (w.new ≡ spec.started (step unit.now.types e.now).is_blank (step unit.now.types e.now).piece w.old) }
+    ensures { OnOk result (w.new ≡ spec.started spec.gives (step unit.now.types e.now).piece w.old) }
 {
     let n = base(w.alloc, unit, e, 1)?;
     evaluated(unit, e, n, w)?;
-    if is_blank(e) {
-        return Ok(());
-    }
     w.act(Action::First { place: 0, value: n })
+}
+
+/// Writes the initialiser of the place in register 0: it does nothing, fills the object by itself, or gives a value (8.4).
+#[tactic(auto, unfolding(crate::specs::Bodies::started))]
+fn started(unit: &CoreUnit, e: &Core, w: &mut Writing) -> Result<(), Memory>
+    requires { are_known (tables_of unit.now) e.now ≡ true }
+    ensures { OnOk result (w.new ≡ spec.started (step unit.now.types e.now).initial (step unit.now.types e.now).piece w.old) }
+{
+    match e {
+        Core::Blank { .. } => Ok(()),
+        Core::Zeros { .. } => w.act(Action::Zeros { place: 0 }),
+        Core::Characters { bytes, .. } => {
+            let bytes = copied(w.alloc, bytes)?;
+            w.act(Action::Characters { place: 0, bytes })
+        }
+        _ => settled(unit, e, w),
+    }
 }
 
 /// Writes the declaration of a local, with its initialiser (6.7).
 #[tactic(auto, unfolding(crate::specs::Bodies::declared))]
 pub fn declared(unit: &CoreUnit, e: &Core, local: u32, ty: TyId, b: &mut Body) -> Result<(), Memory>
     requires { are_known (tables_of unit.now) e.now ≡ true }
-    ensures { OnOk result (b.new ≡ spec.declared local ty (step unit.now.types e.now).is_blank (step unit.now.types e.now).piece b.old) }
+    ensures { OnOk result (b.new ≡ spec.declared local ty (step unit.now.types e.now).initial (step unit.now.types e.now).piece b.old) }
 {
     b.writing.set(0, Action::Declare { local, ty })?;
     started(unit, e, &mut b.writing)?;
@@ -106,7 +120,7 @@ pub fn declared(unit: &CoreUnit, e: &Core, local: u32, ty: TyId, b: &mut Body) -
 #[tactic(auto, unfolding(crate::specs::Bodies::placed))]
 pub fn placed(unit: &CoreUnit, x: &CoreStatic, w: &mut Writing) -> Result<(), Memory>
     requires { are_known (tables_of unit.now) x.now.start ≡ true }
-    ensures { OnOk result (w.new ≡ spec.placed x.now.name x.now.ty (step unit.now.types x.now.start).is_blank (step unit.now.types x.now.start).piece w.old) }
+    ensures { OnOk result (w.new ≡ spec.placed x.now.name x.now.ty (step unit.now.types x.now.start).initial (step unit.now.types x.now.start).piece w.old) }
 {
     if is_blank(&x.start) {
         return Ok(());

@@ -18,23 +18,19 @@ use Rattle.cf_core.specs.Valid.{Body, is_complete, all_differ, role_fits, class_
 use Rattle.cf_plain.specs.Plain as plain
 use Rattle.cf_plain.specs.Plain.{Plains, PlainFunction, PlainStatic, nothing}
 use Rattle.cf_plain.specs.Valid as checks
-use Rattle.cf_sequence.specs.Built.{is_built_file, is_built_function, is_built_static, is_body, is_plain_role, is_chain, is_none, is_statement, is_value, has_mark}
+use Rattle.cf_sequence.specs.Built.{is_built_file, is_built_function, is_built_static, is_body, is_plain_role, is_chain, is_none, is_statement, has_mark}
 use Rattle.cf_sequence.specs.Made.{Local, makes, added, declared, numbered}
 use Rattle.cf_sequence.specs.Expressions.{finished}
 use Rattle.cf_sequence.specs.Statements.{type_of_static, initialised}
 use Rattle.cf_sequence.specs.Sequenced.{inside, outside, flowed_off, sequenced_body, sequenced_function, sequenced_start, sequenced_static, sequenced_file}
 use Rattle.cf_sequence.proofs.Calling.{never}
-use Rattle.cf_sequence.proofs.Constants.{constant-value, constant-start, something-constant, start-adds, start-is}
+use Rattle.cf_sequence.proofs.Constants.{constant-initial, constant-start, something-constant, start-adds, start-is}
 use Rattle.cf_sequence.proofs.OwnNames.{is_own}
 use Rattle.cf_sequence_valid.proofs.Serves.{as_start, either-true}
 use Rattle.cf_sequence_valid.proofs.Fine.{Fine, fine-finished}
 use Rattle.cf_sequence_valid.proofs.Stands.{Stand, stand-behind, still-there, are_there, is_there, there-two, numbered-there}
 use Rattle.cf_sequence_valid.proofs.Values.{Kept}
 use Rattle.cf_sequence_valid.proofs.Statements.{Works, works, fine-started}
-
-or-right : (a b : Bool) → b ≡ true → a || b ≡ true
-or-right true b e = refl
-or-right false b e = e
 
 negated : (b : Bool) → not b ≡ true → b ≡ false
 negated true e = never e
@@ -199,10 +195,10 @@ module _ (file : CoreFile) where
         → checks.all_fit [] false false (if b then nothing else initialised file.classes (type_of_static file.statics x.name) x.name x.start 0 nothing) ≡ true
     set-fits true e = refl
     set-fits false e =
-        let value = constant-value x.start (something-constant x.start (constant-start x built) e) in
+        let initial = constant-initial x.start (something-constant x.start (constant-start x built) e) in
         Fine.fit
         (fine-started alone [] (record { kept = λ i t at. absurd (cc) }) {b = false} {c = false} (outside file.classes file.statics) (type_of_static file.statics x.name) x.start
-        (or-right (is_nothing x.start) (is_value x.start) value) (λ v. as_start x.type (start-typed e)) 0 0 (subst (Stand [] 0) (sym adds_none) tt))
+        initial (λ v. as_start x.type (start-typed e)) 0 0 (subst (Stand [] 0) (sym adds_none) tt))
         (plain.more (plain.act (plain.finish_static x.name)) nothing) refl
 
     pub static-fits : checks.static_fits (sequenced_file file) (sequenced_static file.classes file.statics x) ≡ true

@@ -16,19 +16,20 @@ use Rattle.cf_core.specs.Typed.{typing}
 use Rattle.cf_core.specs.Valid as valid
 use Rattle.cf_core.specs.Valid.{Body, is_complete, fits, all_fit, fits_maybe, labelled_fit, condition_fits, expression_fits, passes_none, is_label}
 use Rattle.cf_core.specs.Statements as labels
-use Rattle.cf_plain.specs.Plain.{Register, Plains, set, branch, loop, switch, leave, continue, give, nothing, more}
+use Rattle.cf_plain.specs.Plain.{Register, Plains, act, set, branch, loop, switch, leave, continue, give, nothing, more}
 use Rattle.cf_plain.specs.Plain as plain
 use Rattle.cf_plain.specs.Running.{has_case}
 use Rattle.cf_plain.specs.Valid as checks
 use Rattle.cf_plain.specs.Valid.{is_of}
-use Rattle.cf_sequence.specs.Built.{is_value, is_condition, is_start, declares_here, is_statement, is_inner_or, are_cases, are_statements, next_local}
+use Rattle.cf_sequence.specs.Built.{is_value, is_condition, is_start, is_filling, is_initial, declares_here, is_statement, is_inner_or, are_cases, are_statements, next_local}
 use Rattle.cf_sequence.specs.Made.{Local, added, width, width_maybe, declared, declared_all, held_by}
 use Rattle.cf_sequence.specs.Expressions.{Full, Destination, destination, value, whole, settled, finished, used}
 use Rattle.cf_sequence.specs.Statements.{Inside, declares, opened, in_loop, in_switch, held, stepped, started, passed, looping, statement, statement_or, statements}
 use Rattle.cf_sequence.proofs.Calling.{never}
+use Rattle.cf_sequence.proofs.Filling.{fill, filling-adds, filling-holds, started-is}
 use Rattle.cf_sequence.proofs.Fulls.{whole-is, nothing-is, held-none}
 use Rattle.cf_sequence.proofs.Labels.{cases-declare, not-passed}
-use Rattle.cf_sequence_valid.proofs.Fine.{Fine, fine-none, fine-then, fine-by, fine-set, fine-branch, fine-loop, fine-switch, fine-leave, fine-continue, fine-give, fine-used, fine-finished, fine-settled}
+use Rattle.cf_sequence_valid.proofs.Fine.{Fine, fine-none, fine-then, fine-by, fine-act, fine-set, fine-branch, fine-loop, fine-switch, fine-leave, fine-continue, fine-give, fine-used, fine-finished, fine-settled}
 use Rattle.cf_sequence_valid.proofs.Serves.{Serves, as_start, either-true, integers-serve, conditions-serve, expressions-serve}
 use Rattle.cf_sequence_valid.proofs.Stands.{Stand, stand-left, stand-right, stand-third, are_there, there-two}
 use Rattle.cf_sequence_valid.proofs.Values.{Kept, Good, good-value, complete-two}
@@ -105,17 +106,28 @@ module _ (body : Body) (locals : List SourceType) (keeps : Kept body.scope local
       (fine-then locals (go m) (rest m) (p m) (q m)))
 
   -- an initialiser of a place
-  pub fine-started : {b c : Bool} (f : Inside) (t : SourceType) (e : Core) → is_start e ≡ true → (is_value e ≡ true → Serves (typing scope e)) → (n k : ℕ)
+  fine-fill : {b c : Bool} (e : Core) → is_filling e ≡ true → (n : Register) → Fine locals b c (λ rest. more (act (fill e n)) rest)
+  fine-fill core.zeros ok n = fine-act locals (plain.zeros n) refl
+  fine-fill (core.string bytes) ok n = fine-act locals (plain.bytes n bytes) refl
+  fine-fill e ok n = never ok
+
+  pub fine-started : {b c : Bool} (f : Inside) (t : SourceType) (e : Core) → is_initial e ≡ true → (is_value e ≡ true → Serves (typing scope e)) → (n k : ℕ)
       → Stand locals k (added (nodes e)) → Fine locals b c (started f.classes t e n k)
   fine-started f t e ok s n k st =
-      either-true (is_nothing e) (is_value e) ok
+      either-true (is_filling e) (is_start e) ok
+      (λ fills. fine-by locals (started f.classes t e n k) (λ rest. more (act (fill e n)) rest) (started-is f.classes t e fills n k) (fine-fill e fills n))
+      (λ starts. either-true (is_nothing e) (is_value e) starts
       (λ blank. fine-by locals (started f.classes t e n k) (λ rest. rest) (λ rest. ap (λ e. started f.classes t e n k rest) (nothing-is e blank)) (fine-none locals))
-      (λ is. fine-whole f e is (s is) (suc n) k st (λ m rest. rest) (λ m. settled e n m) (λ m. fine-none locals) (λ m. fine-settled locals e n m) (destination n t))
+      (λ is. fine-whole f e is (s is) (suc n) k st (λ m rest. rest) (λ m. settled e n m) (λ m. fine-none locals) (λ m. fine-settled locals e n m) (destination n t)))
 
   complete-start : (e : Core) → is_start e ≡ true → (is_value e ≡ true → Serves (typing scope e)) → are_complete (added (nodes e)) ≡ true
   complete-start e ok s =
       either-true (is_nothing e) (is_value e) ok (λ blank. ap (λ e. are_complete (added (nodes e))) (nothing-is e blank))
       (λ is. Good.complete (good-value [] scope locals keeps e is (s is)))
+
+  complete-initial : (e : Core) → is_initial e ≡ true → (is_value e ≡ true → Serves (typing scope e)) → are_complete (added (nodes e)) ≡ true
+  complete-initial e ok s =
+      either-true (is_filling e) (is_start e) ok (λ fills. ap are_complete (filling-adds e fills)) (λ starts. complete-start e starts s)
 
   -- an expression statement
   full-serves : (b c : Bool) (e : Core) → is_value e ≡ true → fits body b c (core.full e) ≡ true → Serves (typing scope e)
@@ -184,10 +196,10 @@ module _ (body : Body) (locals : List SourceType) (keeps : Kept body.scope local
       by None e ok = never ok
       by (Some u) e ok = ap (λ o. is_of o t) (keeps.kept i u e) ∙ ok
 
-  declared-there : (i : ℕ) (t : SourceType) (e : Core) → is_start e ≡ true → is_of (slice_get locals i) t ≡ true → are_there locals (declared (core.declare i t e)) ≡ true
+  declared-there : (i : ℕ) (t : SourceType) (e : Core) → is_initial e ≡ true → is_of (slice_get locals i) t ≡ true → are_there locals (declared (core.declare i t e)) ≡ true
   declared-there i t e ok there =
       ap (λ (xs : List Local). are_there locals (record { number = i; type = t } ∷ xs))
-      (either-true (is_nothing e) (is_value e) ok (λ blank. ap held_by (nothing-is e blank)) (held-none e))
+      (either-true (is_filling e) (is_start e) ok (filling-holds e) (λ starts. either-true (is_nothing e) (is_value e) starts (λ blank. ap held_by (nothing-is e blank)) (held-none e)))
       ∙ all_of (is_of (slice_get locals i) t) true there refl
 
   -- a statement of a switch, and those behind it
@@ -318,12 +330,12 @@ module _ (body : Body) (locals : List SourceType) (keeps : Kept body.scope local
     works (core.sequence es) m b c ok is =
         let all = work-all es m b c ok is in record { complete = all.complete; there = all.there; code = all.code }
     works (core.declare i t e) m b c ok is =
-        let start = (both (nat_le m i) (is_start e) ok).1 in
+        let start = (both (nat_le m i) (is_initial e) ok).1 in
         let parts = both (nat_le body.parameters i && same_type (slice_get scope.locals i) t && is_complete scope.classes t) ((typing scope e).start t) is in
         let typed = both (nat_le body.parameters i && same_type (slice_get scope.locals i) t) (is_complete scope.classes t) parts.0 in
         let there = local-there i t (both (nat_le body.parameters i) (same_type (slice_get scope.locals i) t) typed.0).1 in
         record {
-          complete = complete-start e start (λ v. as_start t parts.1);
+          complete = complete-initial e start (λ v. as_start t parts.1);
           there = declared-there i t e start there;
           code = λ f st k l.
               fine-then locals (λ rest. more (set 0 (plain.declare i t)) rest) (started f.classes t e 0 k) (fine-set locals 0 (plain.declare i t) there)

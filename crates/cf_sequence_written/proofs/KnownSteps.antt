@@ -1,10 +1,14 @@
 -- The numbers of types in what is written for the kinds of statements are there in the tables.
-use Rattle.std.proofs.Common.{◌≡◌, ℕ, zero, suc, Bool, true, false, ◌&&◌, List, [], ◌∷◌, map, length, take, drop, Option, Some, None, refl, ap, sym, ◌∙◌}
+use Rattle.std.proofs.Common.{◌≡◌, ℕ, zero, suc, Bool, true, false, ◌&&◌, List, [], ◌∷◌, map, length, take, drop, Option, Some, None, refl, ap, sym, subst, ◌∙◌}
 use Rattle.std.specs.List.{list_all}
 use Rattle.std.proofs.lemmas.List.Folds.{list_all-append}
 use Rattle.cf_base.proofs.Tests.{both}
 use Rattle.cf_core.specs.declared.operators.LoopForm.{LoopForm}
 use Rattle.cf_core.specs.declared.operators.LoopForm.TheVariants as form
+use Rattle.cf_core.specs.declared.node.Core.{Core as Node, ind-Core}
+use Rattle.cf_core.specs.declared.node.Core.TheOpen.{Core-F}
+use Rattle.cf_core.specs.declared.node.Core.TheFolds.{fold-roll-Core, map-Core}
+use Rattle.cf_core.specs.declared.node.PartStart.{PartStart, fold-PartStart}
 use Rattle.cf_core.specs.FromTypes.{Tables}
 use Rattle.cf_core.specs.Numbers.{has_type}
 use Rattle.cf_plain.specs.declared.action.Action.TheVariants as action
@@ -20,8 +24,9 @@ use Rattle.cf_sequence_expr.specs.Pieces.{Piece}
 use Rattle.cf_sequence_stmt.specs.declared.body.Body.{Body}
 use Rattle.cf_sequence_stmt.specs.declared.body.Open.{Open}
 use Rattle.cf_sequence_stmt.specs.declared.body.Ways.{Ways}
-use Rattle.cf_sequence_stmt.specs.Bodies.{on, behind_flags, opened, ended, left_to, closed_to, full, given, tested, started, declared, stated, begun, chosen, turned, switched, with_code}
-use Rattle.cf_sequence_stmt.specs.Steps.{Step, in_order, or_nothing, inside_loop, inside_switch, held, stepped, turn, repeated, loop, selection, choice, returned}
+use Rattle.cf_sequence_stmt.specs.Bodies.{Initial, does_nothing, fills, gives, on, behind_flags, opened, ended, left_to, closed_to, full, given, tested, started, declared, stated, begun, chosen, turned, switched, with_code}
+use Rattle.cf_sequence_stmt.specs.Steps as steps
+use Rattle.cf_sequence_stmt.specs.Steps.{Step, step, step_step, initial_step, in_order, or_nothing, inside_loop, inside_switch, held, stepped, turn, repeated, loop, selection, choice, returned}
 use Rattle.cf_sequence_written.proofs.Known.{is_known, KnownPiece, Keeps, keeps-none, keeps-then, keeps-put, keeps-set, keeps-act, keeps-used, keeps-truth, known-last, known-If, all-mapped, emptied-known, branched-known, and-true}
 
 module _ (tables : Tables) where
@@ -113,15 +118,34 @@ module _ (tables : Tables) where
   unfolding tested
   known-tested p b q ok = known-on b (keeps-truth tables (behind_flags 0 p) q) ok
 
-  pub keeps-started : (is_blank : Bool) (p : Piece) → KnownPiece tables p → Keeps tables (started is_blank p)
-  unfolding started
-  keeps-started true p q = record { keeps = Keeps.keeps (q.value (behind_flags 1 p)) }
-  keeps-started false p q = record { keeps = Keeps.keeps (keeps-then tables (q.value (behind_flags 1 p)) (keeps-act tables (action.First 0 (behind_flags 1 p)) refl)) }
+  -- Initialisers.
 
-  pub known-declared : (i t : ℕ) (is_blank : Bool) (p : Piece) (b : Body) → has_type tables t ≡ true → KnownPiece tables p → KnownBody b → KnownBody (declared i t is_blank p b)
+  abbrev pub KnownInitial : Initial → Type 0
+  KnownInitial does_nothing = Unit {0}
+  KnownInitial (fills a) = plain.action_known tables a ≡ true
+  KnownInitial gives = Unit {0}
+
+  initial-layer : (x : Core-F Node PartStart) → KnownInitial (initial_step (map-Core _ _ _ _ (step tables.types) (fold-PartStart Step Step (step_step tables.types) (steps.part_step tables.types)) x))
+  initial-layer (Core-F.Zeros at) = refl
+  initial-layer (Core-F.Characters at bytes) = refl
+  initial-layer x = tt
+
+  pub initial-known : (n : Node) → KnownInitial (step tables.types n).initial
+  initial-known =
+      ind-Core (λ n. KnownInitial (step tables.types n).initial) (λ p. Unit {0})
+      (λ x y is. subst (λ (s : Step). KnownInitial s.initial) (sym (fold-roll-Core Step Step (step_step tables.types) (steps.part_step tables.types) x)) (initial-layer x)) (λ x y is. tt)
+
+  pub keeps-started : (initial : Initial) (p : Piece) → KnownInitial initial → KnownPiece tables p → Keeps tables (started initial p)
+  unfolding started
+  keeps-started does_nothing p known q = record { keeps = λ w ok. ok }
+  keeps-started (fills a) p known q = record { keeps = Keeps.keeps (keeps-act tables a known) }
+  keeps-started gives p known q = record { keeps = Keeps.keeps (keeps-then tables (q.value (behind_flags 1 p)) (keeps-act tables (action.First 0 (behind_flags 1 p)) refl)) }
+
+  pub known-declared : (i t : ℕ) (initial : Initial) (p : Piece) (b : Body) → has_type tables t ≡ true → KnownInitial initial → KnownPiece tables p → KnownBody b
+      → KnownBody (declared i t initial p b)
   unfolding declared
-  known-declared i t is_blank p b there q ok =
-      known-opened i t _ there (known-on b (keeps-then tables (keeps-set tables 0 (action.Declare i t) there) (keeps-started is_blank p q)) ok)
+  known-declared i t initial p b there known q ok =
+      known-opened i t _ there (known-on b (keeps-then tables (keeps-set tables 0 (action.Declare i t) there) (keeps-started initial p known q)) ok)
 
   -- Statements.
 

@@ -24,12 +24,12 @@ use Rattle.cf_plain.specs.Plain as plain
 use Rattle.cf_plain.specs.Numbers as plain_numbers
 use Rattle.cf_plain.specs.View as view
 use Rattle.cf_plain.specs.View.{plains_of}
-use Rattle.cf_sequence.specs.Built.{is_start, is_value, is_built_static, has_mark}
+use Rattle.cf_sequence.specs.Built.{is_built_static, has_mark}
 use Rattle.cf_sequence.specs.Made.{width}
 use Rattle.cf_sequence.specs.Statements.{type_of_static, initialised}
 use Rattle.cf_sequence.specs.Statements as definition
 use Rattle.cf_sequence.specs.Sequenced.{sequenced_start, sequenced_static}
-use Rattle.cf_sequence.proofs.Constants.{set_as, start-is, constant-start, something-constant, constant-value}
+use Rattle.cf_sequence.proofs.Constants.{set_as, start-is, constant-start, something-constant, constant-initial}
 use Rattle.cf_sequence.proofs.JoinedObjects.{is_among, type-behind}
 use Rattle.cf_sequence.proofs.OwnNames.{is_own}
 use Rattle.cf_sequence.proofs.StaticObjects.{type_found}
@@ -38,18 +38,18 @@ use Rattle.cf_sequence_expr.specs.declared.writing.Writing.{Writing}
 use Rattle.cf_sequence_expr.specs.Writes.{set, act}
 use Rattle.cf_sequence_expr.specs.Parameters.{parameters_at}
 use Rattle.cf_sequence_expr.specs.Pieces.{Piece, piece}
-use Rattle.cf_sequence_stmt.specs.Bodies.{started, placed}
+use Rattle.cf_sequence_stmt.specs.Bodies.{Initial, does_nothing, fills, gives, is_blank, started, placed}
 use Rattle.cf_sequence_stmt.specs.Steps.{step}
 use Rattle.cf_sequence_stmt.proofs.Pieces.{same_piece}
 use Rattle.cf_sequence_fn.specs.Functions.{blank_writing, written_object}
 use Rattle.cf_sequence_written.proofs.Adding.{Adds, adding}
 use Rattle.cf_sequence_written.proofs.Followed.{followed-end}
 use Rattle.cf_sequence_written.proofs.Puts.{Puts, still-set, still-act, still-then, still-puts, puts-still}
-use Rattle.cf_sequence_written.proofs.Wholes.{Whole, puts-started}
-use Rattle.cf_sequence_written.proofs.Stated.{Stated, written-statement, operand_of, nothing-builds}
+use Rattle.cf_sequence_written.proofs.Wholes.{Initiates, as-found, puts-started}
+use Rattle.cf_sequence_written.proofs.Stated.{Stated, written-statement, initiates}
 use Rattle.cf_sequence_written.proofs.Known.{KnownPiece, Keeps, keeps-then, keeps-set, keeps-act, and-true}
 use Rattle.cf_sequence_written.proofs.KnownPieces.{known-piece}
-use Rattle.cf_sequence_written.proofs.KnownSteps.{keeps-started}
+use Rattle.cf_sequence_written.proofs.KnownSteps.{KnownInitial, initial-known, keeps-started}
 
 -- ---- the type of a name, where no two objects of a file have one name
 
@@ -113,38 +113,38 @@ module _ (tables : Tables) (params : (t : ℕ) → map (type_of tables) (paramet
   abbrev p : Piece
   p = (step tables.types x.start).piece
 
-  starts : is_start X.start ≡ true
-  starts = by (is_nothing X.start) refl
-    where
-      by : (b : Bool) → is_nothing X.start ≡ b → b || is_value X.start ≡ true
-      by true e = refl
-      by false e = constant-value X.start (something-constant X.start (constant-start X built) e)
+  written : Stated tables signature params (step tables.types x.start) X.start
+  written = written-statement tables signature params x.start
 
-  object : Whole tables signature p X.start
-  object = operand_of tables signature params x.start starts
+  abbrev initial : Initial
+  initial = (step tables.types x.start).initial
 
-  blank-is : (step tables.types x.start).is_blank ≡ is_nothing X.start
-  blank-is = Stated.blank (written-statement tables signature params x.start)
+  object : is_nothing X.start ≡ false → Initiates tables signature initial p X.start
+  object e = initiates tables signature params x.start written (constant-initial X.start (something-constant X.start (constant-start X built) e))
+
+  blank-is : is_blank initial ≡ is_nothing X.start
+  blank-is = as-found tables signature initial X.start (Stated.initial written)
 
   -- what is written where there is an initialiser
   puts-placed : is_nothing X.start ≡ false
-      → Puts tables signature (λ w. act (action.FinishStatic x.name) (started false p (set 0 (action.Static x.name x.ty) (act (action.Reach x.name) w))))
+      → Puts tables signature (λ w. act (action.FinishStatic x.name) (started initial p (set 0 (action.Static x.name x.ty) (act (action.Reach x.name) w))))
       (λ k rest. more (acts (plain.reach x.name)) (more (sets 0 (plain.static_object x.name T)) (definition.started classes T X.start 0 k (more (acts (plain.finish_static x.name)) rest)))) (width X.start)
   puts-placed e =
       still-puts tables signature (still-then tables signature (still-act tables signature (action.Reach x.name)) (still-set tables signature 0 (action.Static x.name x.ty)))
-      (puts-still tables signature (puts-started tables signature classes x.ty false (sym e ∙ nothing-builds X.start starts) object) (still-act tables signature (action.FinishStatic x.name)))
+      (puts-still tables signature (puts-started tables signature classes x.ty initial (object e)) (still-act tables signature (action.FinishStatic x.name)))
 
-  -- behind nothing
-  start-as : (b : Bool) → is_nothing X.start ≡ b → plains_of tables signature (Writing.code (placed x.name x.ty b p (blank_writing alloc))) ≡ (if b then nothing else initialised classes T x.name X.start 0 nothing)
-  unfolding placed
+  abbrev put_there : Writing
+  put_there = act (action.FinishStatic x.name) (started initial p (set 0 (action.Static x.name x.ty) (act (action.Reach x.name) (blank_writing alloc))))
+
+  start-as : (b : Bool) → is_nothing X.start ≡ b
+      → plains_of tables signature (Writing.code (if b then blank_writing alloc else put_there)) ≡ (if b then nothing else initialised classes T x.name X.start 0 nothing)
   start-as true e = refl
-  start-as false e =
-      let w = act (action.FinishStatic x.name) (started false p (set 0 (action.Static x.name x.ty) (act (action.Reach x.name) (blank_writing alloc)))) in
-      sym (followed-end tables signature (Writing.code w)) ∙ Puts.code (puts-placed e) (blank_writing alloc) nothing
+  start-as false e = sym (followed-end tables signature (Writing.code put_there)) ∙ Puts.code (puts-placed e) (blank_writing alloc) nothing
 
-  start-written : plains_of tables signature (Writing.code (placed x.name x.ty (step tables.types x.start).is_blank p (blank_writing alloc))) ≡ sequenced_start classes statics X
+  start-written : plains_of tables signature (Writing.code (placed x.name x.ty initial p (blank_writing alloc))) ≡ sequenced_start classes statics X
+  unfolding placed
   start-written =
-      ap (λ b. plains_of tables signature (Writing.code (placed x.name x.ty b p (blank_writing alloc)))) blank-is
+      ap (λ b. plains_of tables signature (Writing.code (if b then blank_writing alloc else put_there))) blank-is
       ∙ start-as (is_nothing X.start) refl
       ∙ ap (set_as classes X) (sym typed)
       ∙ sym (start-is classes statics X built)
@@ -191,15 +191,18 @@ module _ (tables : Tables) (params : (t : ℕ) → map (type_of tables) (paramet
 -- ---- numbers of types
 
 module _ (tables : Tables) (names : (i : ℕ) (v : Ty) → slice_get tables.types.types i ≡ Some v → Names tables.types.funs i (length tables.types.funs) v) (alloc : Global) where
-  keeps-placed : (name : List ℕ) (t : ℕ) (b : Bool) (p : Piece) → has_type tables t ≡ true → KnownPiece tables p → Keeps tables (placed name t b p)
+  keeps-set-there : (name : List ℕ) (t : ℕ) (initial : Initial) (p : Piece) → has_type tables t ≡ true → KnownInitial tables initial → KnownPiece tables p
+      → Keeps tables (λ w. act (action.FinishStatic name) (started initial p (set 0 (action.Static name t) (act (action.Reach name) w))))
+  keeps-set-there name t initial p there known q =
+      keeps-then tables
+      (keeps-then tables (keeps-then tables (keeps-act tables (action.Reach name) refl) (keeps-set tables 0 (action.Static name t) there)) (keeps-started tables initial p known q))
+      (keeps-act tables (action.FinishStatic name) refl)
+
+  keeps-placed : (name : List ℕ) (t : ℕ) (initial : Initial) (p : Piece) → has_type tables t ≡ true → KnownInitial tables initial → KnownPiece tables p → Keeps tables (placed name t initial p)
   unfolding placed
-  keeps-placed name t true p there q = record { keeps = λ w ok. ok }
-  keeps-placed name t false p there q = record {
-    keeps = Keeps.keeps
-        (keeps-then tables
-        (keeps-then tables (keeps-then tables (keeps-act tables (action.Reach name) refl) (keeps-set tables 0 (action.Static name t) there)) (keeps-started tables false p q))
-        (keeps-act tables (action.FinishStatic name) refl));
-  }
+  keeps-placed name t does_nothing p there known q = record { keeps = λ w ok. ok }
+  keeps-placed name t (fills a) p there known q = keeps-set-there name t (fills a) p there known q
+  keeps-placed name t gives p there known q = keeps-set-there name t gives p there known q
 
   object-known : (x : CoreStatic) → numbers.static_known tables x ≡ true → plain_numbers.static_known tables (written_object tables.types alloc x) ≡ true
   unfolding written_object
@@ -209,7 +212,7 @@ module _ (tables : Tables) (names : (i : ℕ) (v : Ty) → slice_get tables.type
       let s = step tables.types x.start in
       and-true (has_type tables x.ty && list_all (has_type tables) ((piece tables.types x.start).locals [])) _
       (and-true (has_type tables x.ty) _ parts.0 (KnownPiece.locals known [] refl))
-      (Keeps.keeps (keeps-placed x.name x.ty s.is_blank s.piece parts.0 (subst (KnownPiece tables) (sym (same_piece tables.types x.start)) known)) (blank_writing alloc) refl)
+      (Keeps.keeps (keeps-placed x.name x.ty s.initial s.piece parts.0 (initial-known tables x.start) (subst (KnownPiece tables) (sym (same_piece tables.types x.start)) known)) (blank_writing alloc) refl)
 
   pub objects-known : (xs : List CoreStatic) → list_all (numbers.static_known tables) xs ≡ true → list_all (plain_numbers.static_known tables) (map (written_object tables.types alloc) xs) ≡ true
   objects-known [] ok = refl

@@ -1,5 +1,5 @@
 -- What is written for a built statement is the definition's.
-use Rattle.std.proofs.Common.{◌≡◌, ℕ, true, not, ◌&&◌, List, [], ◌∷◌, map, length, Option, Some, None, refl, ap, sym, subst, ◌∙◌}
+use Rattle.std.proofs.Common.{◌≡◌, ℕ, true, not, ◌&&◌, ◌||◌, List, [], ◌∷◌, map, length, Option, Some, None, refl, ap, sym, subst, ◌∙◌}
 use Rattle.std.specs.Prelude.{nat_le}
 use Rattle.cf_base.proofs.Tests.{both}
 use Rattle.cf_classes.specs.declared.class.MemberRef.{MemberRef}
@@ -11,16 +11,16 @@ use Rattle.cf_core.specs.declared.operators.LoopForm.{LoopForm}
 use Rattle.cf_core.specs.Types.{Name, parameters}
 use Rattle.cf_core.specs.Core as core
 use Rattle.cf_core.specs.Core.{Core, Cores, MaybeCore, absent, given}
-use Rattle.cf_core.specs.Joined.{is_nothing}
 use Rattle.cf_core.specs.FromTypes.{Tables, type_of}
 use Rattle.cf_core.specs.View.{Started, core_step, started_step, core_of, listed}
 use Rattle.cf_plain.specs.declared.statement.Plain.TheVariants as code
 use Rattle.cf_plain.specs.Plain as plain
-use Rattle.cf_sequence.specs.Built.{is_value, is_start, is_statement, is_inner_or, are_cases, declares_here}
+use Rattle.cf_sequence.specs.Built.{is_value, is_start, is_filling, is_initial, is_statement, is_inner_or, are_cases, declares_here}
 use Rattle.cf_sequence.specs.Made.{held_by}
-use Rattle.cf_sequence.specs.Expressions.{builds}
 use Rattle.cf_sequence.proofs.Calling.{never}
+use Rattle.cf_sequence.proofs.Filling.{filling-holds}
 use Rattle.cf_sequence.proofs.Fulls.{held-none}
+use Rattle.cf_sequence.proofs.Labels.{or-else}
 use Rattle.cf_sequence_expr.specs.Parameters.{parameters_at}
 use Rattle.cf_sequence_expr.specs.Pieces.{Piece}
 use Rattle.cf_sequence_stmt.specs.Steps.{Step, step, step_step}
@@ -29,9 +29,9 @@ use Rattle.cf_sequence_stmt.proofs.Pieces.{same_piece}
 use Rattle.cf_sequence_written.proofs.Views.{of-Case, of-Default}
 use Rattle.cf_sequence_written.proofs.Adding.{added-count}
 use Rattle.cf_sequence_written.proofs.Values.{Writes}
-use Rattle.cf_sequence_written.proofs.Evaluated.{written-start, gives-value, value-start}
+use Rattle.cf_sequence_written.proofs.Evaluated.{written-start, value-start}
 use Rattle.cf_sequence_written.proofs.Bodies.{goes-stated, goes-declares}
-use Rattle.cf_sequence_written.proofs.Wholes.{Whole, goes-full, goes-declared}
+use Rattle.cf_sequence_written.proofs.Wholes.{Whole, Begins, Initiates, goes-full, goes-declared}
 use Rattle.cf_sequence_written.proofs.Statements.{Acts, ActsAll, stated-statement, stated-all, acts-none, acts-more, acts-absent, acts-given, goes-block, goes-choice, goes-leave, goes-continue, goes-give, goes-given_back}
 use Rattle.cf_sequence_written.proofs.Loops.{Part, no_part, one_part, goes-loop, goes-switch}
 
@@ -39,13 +39,12 @@ held-start : (e : Core) → is_start e ≡ true → held_by e ≡ []
 held-start core.blank ok = refl
 held-start e ok = held-none e ok
 
-pub nothing-builds : (e : Core) → is_start e ≡ true → is_nothing e ≡ builds e
-nothing-builds core.blank ok = refl
-nothing-builds e ok = sym (gives-value e ok)
+held-initial : (e : Core) → is_initial e ≡ true → held_by e ≡ []
+held-initial e ok = or-else (is_filling e) (is_start e) ok (filling-holds e) (held-start e)
 
 module _ (tables : Tables) (signature : MemberRef → Name) (params : (t : ℕ) → map (type_of tables) (parameters_at tables.types t) ≡ parameters (type_of tables t)) where
   pub record Stated (s : Step) (c : Core) : Type 0 where
-    pub blank : s.is_blank ≡ is_nothing c
+    pub initial : Begins tables signature s.initial c
     pub acts : Acts tables signature s c
 
   abbrev of_node : Node → Core
@@ -96,6 +95,13 @@ module _ (tables : Tables) (signature : MemberRef → Name) (params : (t : ℕ) 
     start = ok;
   }
 
+  -- the initialiser of an object
+  pub initiates : (n : Node) → IsWritten n → is_initial (of_node n) ≡ true → Initiates tables signature (step tables.types n).initial (step tables.types n).piece (of_node n)
+  initiates n w ok = record {
+    begins = w.initial;
+    whole = λ other. operand_of n (subst (λ b. b || is_start (of_node n) ≡ true) other ok);
+  }
+
   operand : (e : Child) → is_start (of e) ≡ true → Whole tables signature (step_of e).piece (of e)
   operand e ok = operand_of e.0 ok
 
@@ -120,27 +126,26 @@ module _ (tables : Tables) (signature : MemberRef → Name) (params : (t : ℕ) 
       Stated (step_step tables.types (map-Core _ _ _ _ (step tables.types) part_step_of x)) (core_step tables signature (map-Core _ _ _ _ of_node started_of x))
 
   layer : (y : Core-F Child PartChild) → IsLayer (shape y)
-  layer (Core-F.Full at e) = record { blank = refl; acts = record { acts = λ ok f ways b there. goes-full tables signature f b (operand e ok.stated) } }
+  layer (Core-F.Full at e) = record { initial = (refl, refl); acts = record { acts = λ ok f ways b there. goes-full tables signature f b (operand e ok.stated) } }
   layer (Core-F.Block at es) = record {
-    blank = refl;
+    initial = (refl, refl);
     acts = record { acts = λ ok f ways b there. goes-block tables signature (row es) (stated-all ok.below (cores_of es) ok.stated) f ways b there };
   }
   layer (Core-F.Sequence at es) = record {
-    blank = refl;
+    initial = (refl, refl);
     acts = record { acts = λ ok f ways b there. ActsAll.acts (row es) (stated-all ok.below (cores_of es) ok.stated) f ways b there };
   }
   layer (Core-F.Declare at i t e) = record {
-    blank = refl;
+    initial = (refl, refl);
     acts = record {
       acts = λ ok f ways b there.
-          let good = (both (nat_le ok.below i) (is_start (of e)) ok.stated).1 in
-          goes-declares tables signature
-          (goes-declared tables signature f b i t (step_of e).is_blank (e.1.blank ∙ nothing-builds (of e) good) (operand e good))
-          (ap (λ ls. record { number = i; type = type_of tables t } ∷ ls) (sym (held-start (of e) good)));
+          let good = (both (nat_le ok.below i) (is_initial (of e)) ok.stated).1 in
+          goes-declares tables signature (goes-declared tables signature f b i t (step_of e).initial (initiates e.0 e.1 good))
+          (ap (λ ls. record { number = i; type = type_of tables t } ∷ ls) (sym (held-initial (of e) good)));
     };
   }
   layer (Core-F.If at q a None) = record {
-    blank = refl;
+    initial = (refl, refl);
     acts = record {
       acts = λ ok f ways b there.
           let parts = both (is_value (of q)) ((not (declares_here (of a)) && is_statement ok.below (of a)) && is_inner_or ok.below absent) ok.stated in
@@ -149,7 +154,7 @@ module _ (tables : Tables) (signature : MemberRef → Name) (params : (t : ℕ) 
     };
   }
   layer (Core-F.If at q a (Some o)) = record {
-    blank = refl;
+    initial = (refl, refl);
     acts = record {
       acts = λ ok f ways b there.
           let parts = both (is_value (of q)) ((not (declares_here (of a)) && is_statement ok.below (of a)) && is_inner_or ok.below (given (of o))) ok.stated in
@@ -158,11 +163,11 @@ module _ (tables : Tables) (signature : MemberRef → Name) (params : (t : ℕ) 
     };
   }
   layer (Core-F.Loop at how None None s) = record {
-    blank = refl;
+    initial = (refl, refl);
     acts = record { acts = λ ok. Acts.acts (loop-layer how None None s absent absent no_part no_part ok.below ok.stated at) ok };
   }
   layer (Core-F.Loop at how None (Some e) s) = record {
-    blank = refl;
+    initial = (refl, refl);
     acts = record {
       acts = λ ok.
           let parts = both (is_value (of e)) (is_statement ok.below (of s)) ok.stated in
@@ -170,7 +175,7 @@ module _ (tables : Tables) (signature : MemberRef → Name) (params : (t : ℕ) 
     };
   }
   layer (Core-F.Loop at how (Some q) None s) = record {
-    blank = refl;
+    initial = (refl, refl);
     acts = record {
       acts = λ ok.
           let parts = both (is_value (of q)) (is_statement ok.below (of s)) ok.stated in
@@ -178,7 +183,7 @@ module _ (tables : Tables) (signature : MemberRef → Name) (params : (t : ℕ) 
     };
   }
   layer (Core-F.Loop at how (Some q) (Some e) s) = record {
-    blank = refl;
+    initial = (refl, refl);
     acts = record {
       acts = λ ok.
           let parts = both (is_value (of q)) (is_value (of e) && is_statement ok.below (of s)) ok.stated in
@@ -187,23 +192,24 @@ module _ (tables : Tables) (signature : MemberRef → Name) (params : (t : ℕ) 
     };
   }
   layer (Core-F.Switch at e es) = record {
-    blank = refl;
+    initial = (refl, refl);
     acts = record {
       acts = λ ok f ways b there.
           let parts = both (is_value (of e)) (are_cases ok.below (cores_of es)) ok.stated in
           goes-switch tables signature (step_of e) (operand_value e parts.0) (row es) ok.below parts.1 f ways b there;
     };
   }
-  layer (Core-F.Case at z) = record { blank = refl; acts = record { acts = λ ok f ways b there. goes-stated tables signature (code.Case z) (plain.case_label z) b (of-Case tables signature z) } }
-  layer (Core-F.Default at) = record { blank = refl; acts = record { acts = λ ok f ways b there. goes-stated tables signature code.Default plain.default_label b (of-Default tables signature) } }
-  layer (Core-F.Break at) = record { blank = refl; acts = record { acts = λ ok f ways b there. goes-leave tables signature f ways b there } }
-  layer (Core-F.Continue at) = record { blank = refl; acts = record { acts = λ ok f ways b there. goes-continue tables signature f ways b there } }
-  layer (Core-F.Return at None) = record { blank = refl; acts = record { acts = λ ok f ways b there. goes-give tables signature f ways b there } }
+  layer (Core-F.Case at z) = record { initial = (refl, refl); acts = record { acts = λ ok f ways b there. goes-stated tables signature (code.Case z) (plain.case_label z) b (of-Case tables signature z) } }
+  layer (Core-F.Default at) = record { initial = (refl, refl); acts = record { acts = λ ok f ways b there. goes-stated tables signature code.Default plain.default_label b (of-Default tables signature) } }
+  layer (Core-F.Break at) = record { initial = (refl, refl); acts = record { acts = λ ok f ways b there. goes-leave tables signature f ways b there } }
+  layer (Core-F.Continue at) = record { initial = (refl, refl); acts = record { acts = λ ok f ways b there. goes-continue tables signature f ways b there } }
+  layer (Core-F.Return at None) = record { initial = (refl, refl); acts = record { acts = λ ok f ways b there. goes-give tables signature f ways b there } }
   layer (Core-F.Return at (Some e)) = record {
-    blank = refl;
+    initial = (refl, refl);
     acts = record { acts = λ ok f ways b there. goes-given_back tables signature (step_of e) (operand_value e ok.stated) f ways b there };
   }
-  layer y = record { blank = refl; acts = record { acts = λ ok f ways b there. never ok.stated } }
+  layer (Core-F.Blank at) = record { initial = refl; acts = record { acts = λ ok f ways b there. never ok.stated } }
+  layer y = record { initial = (refl, refl); acts = record { acts = λ ok f ways b there. never ok.stated } }
 
   rolled : (x : Core-F Node PartStart) → IsLayer x → IsWritten (roll-Core x)
   rolled x p =

@@ -14,8 +14,8 @@ use Rattle.cf_core.specs.Joined.{is_nothing}
 use Rattle.cf_core.specs.Valid.{is_label}
 use Rattle.cf_core.specs.FromTypes.{Tables, type_of}
 use Rattle.cf_core.specs.View.{Started, core_step, started_step, core_of, listed, maybe}
-use Rattle.cf_sequence.specs.Built.{is_value, is_start, is_condition, is_statement, is_inner_or, are_values, are_arguments, are_statements, are_cases, declares_here, next_local, next_locals, is_chain}
-use Rattle.cf_sequence_built.specs.Unbuilt.{Test, test, test_step, start, given, each_value, some_values, each_statement, inner, inner_or, case, each_case, next_of_all, called, is_function_type, is_called}
+use Rattle.cf_sequence.specs.Built.{is_value, is_start, is_filling, is_initial, is_condition, is_statement, is_inner_or, are_values, are_arguments, are_statements, are_cases, declares_here, next_local, next_locals, is_chain}
+use Rattle.cf_sequence_built.specs.Unbuilt.{Test, test, test_step, start, initial, given, each_value, some_values, each_statement, inner, inner_or, case, each_case, next_of_all, called, is_function_type, is_called}
 use Rattle.cf_sequence_built.specs.Unbuilt as unbuilt
 
 -- whether nothing was found
@@ -60,6 +60,7 @@ module _ (tables : Tables) (signature : MemberRef → Name) where
     pub statement : (m : ℕ) → clear (t.statement m) ≡ is_statement m c
     pub next : (m : ℕ) → t.next m ≡ next_local m c
     pub blank : t.is_blank ≡ is_nothing c
+    pub filling : t.is_filling ≡ is_filling c
     pub declares : t.declares ≡ declares_here c
     pub label : t.is_label ≡ is_label c
 
@@ -116,6 +117,9 @@ module _ (tables : Tables) (signature : MemberRef → Name) where
 
   start-is : (e : Child) → clear (start (test_of e)) ≡ is_start (of e)
   start-is e = ap (λ b. clear (if b then None else (test_of e).value)) e.1.blank ∙ where-not (is_nothing (of e)) (test_of e).value _ e.1.value
+
+  initial-is : (e : Child) → clear (initial (test_of e)) ≡ is_initial (of e)
+  initial-is e = ap (λ b. clear (if b then None else start (test_of e))) e.1.filling ∙ where-not (is_filling (of e)) (start (test_of e)) _ (start-is e)
 
   inner-is : (at m : ℕ) (s : Child) → clear (inner at m (test_of s)) ≡ not (declares_here (of s)) && is_statement m (of s)
   inner-is at m s =
@@ -175,77 +179,77 @@ module _ (tables : Tables) (signature : MemberRef → Name) where
   IsLayer x = Tests (test_step tables (map-Core _ _ _ _ (test tables) part_test x)) (core_step tables signature (map-Core _ _ _ _ of_node started_of x))
 
   layer : (y : Core-F Child PartChild) → IsLayer (shape y)
-  layer (Core-F.Number at z) = record { value = refl; statement = λ m. refl; next = λ m. refl; blank = refl; declares = refl; label = refl }
-  layer (Core-F.Text at j bytes) = record { value = refl; statement = λ m. refl; next = λ m. refl; blank = refl; declares = refl; label = refl }
-  layer (Core-F.This at) = record { value = refl; statement = λ m. refl; next = λ m. refl; blank = refl; declares = refl; label = refl }
-  layer (Core-F.Local at i) = record { value = refl; statement = λ m. refl; next = λ m. refl; blank = refl; declares = refl; label = refl }
-  layer (Core-F.Static at n t) = record { value = refl; statement = λ m. refl; next = λ m. refl; blank = refl; declares = refl; label = refl }
-  layer (Core-F.Function at n t) = record { value = refl; statement = λ m. refl; next = λ m. refl; blank = refl; declares = refl; label = refl }
-  layer (Core-F.Member at e i) = record { value = refl; statement = λ m. refl; next = λ m. refl; blank = refl; declares = refl; label = refl }
-  layer (Core-F.Read at e) = record { value = e.1.value; statement = λ m. refl; next = λ m. refl; blank = refl; declares = refl; label = refl }
-  layer (Core-F.Address at e) = record { value = e.1.value; statement = λ m. refl; next = λ m. refl; blank = refl; declares = refl; label = refl }
-  layer (Core-F.Dereference at e) = record { value = e.1.value; statement = λ m. refl; next = λ m. refl; blank = refl; declares = refl; label = refl }
-  layer (Core-F.Decay at e) = record { value = e.1.value; statement = λ m. refl; next = λ m. refl; blank = refl; declares = refl; label = refl }
-  layer (Core-F.Index at a b) = record { value = two a b; statement = λ m. refl; next = λ m. refl; blank = refl; declares = refl; label = refl }
-  layer (Core-F.Convert at t e) = record { value = e.1.value; statement = λ m. refl; next = λ m. refl; blank = refl; declares = refl; label = refl }
-  layer (Core-F.Up at path e) = record { value = refl; statement = λ m. refl; next = λ m. refl; blank = refl; declares = refl; label = refl }
-  layer (Core-F.Down at c path e) = record { value = refl; statement = λ m. refl; next = λ m. refl; blank = refl; declares = refl; label = refl }
-  layer (Core-F.FromVoid at t e) = record { value = e.1.value; statement = λ m. refl; next = λ m. refl; blank = refl; declares = refl; label = refl }
-  layer (Core-F.ToMember at path e) = record { value = refl; statement = λ m. refl; next = λ m. refl; blank = refl; declares = refl; label = refl }
-  layer (Core-F.DataPointer at i) = record { value = refl; statement = λ m. refl; next = λ m. refl; blank = refl; declares = refl; label = refl }
-  layer (Core-F.FunctionPointer at t) = record { value = refl; statement = λ m. refl; next = λ m. refl; blank = refl; declares = refl; label = refl }
-  layer (Core-F.Through at a b) = record { value = refl; statement = λ m. refl; next = λ m. refl; blank = refl; declares = refl; label = refl }
-  layer (Core-F.Operate at op k a b) = record { value = two a b; statement = λ m. refl; next = λ m. refl; blank = refl; declares = refl; label = refl }
-  layer (Core-F.Unary at op k e) = record { value = e.1.value; statement = λ m. refl; next = λ m. refl; blank = refl; declares = refl; label = refl }
-  layer (Core-F.Not at e) = record { value = e.1.value; statement = λ m. refl; next = λ m. refl; blank = refl; declares = refl; label = refl }
-  layer (Core-F.And at a b) = record { value = two a b; statement = λ m. refl; next = λ m. refl; blank = refl; declares = refl; label = refl }
-  layer (Core-F.Or at a b) = record { value = two a b; statement = λ m. refl; next = λ m. refl; blank = refl; declares = refl; label = refl }
-  layer (Core-F.PointerOperate at op a b) = record { value = two a b; statement = λ m. refl; next = λ m. refl; blank = refl; declares = refl; label = refl }
-  layer (Core-F.Conditional at c a b) = record { value = three c a b; statement = λ m. refl; next = λ m. refl; blank = refl; declares = refl; label = refl }
-  layer (Core-F.Comma at es) = record { value = in_comma at es; statement = λ m. refl; next = λ m. refl; blank = refl; declares = refl; label = refl }
-  layer (Core-F.Store at a b) = record { value = two a b; statement = λ m. refl; next = λ m. refl; blank = refl; declares = refl; label = refl }
-  layer (Core-F.Update at a c b) = record { value = two a b; statement = λ m. refl; next = λ m. refl; blank = refl; declares = refl; label = refl }
-  layer (Core-F.Increment at is_postfix c e) = record { value = e.1.value; statement = λ m. refl; next = λ m. refl; blank = refl; declares = refl; label = refl }
-  layer (Core-F.Assign at t a b es) = record { value = refl; statement = λ m. refl; next = λ m. refl; blank = refl; declares = refl; label = refl }
-  layer (Core-F.Temporary at t e) = record { value = refl; statement = λ m. refl; next = λ m. refl; blank = refl; declares = refl; label = refl }
-  layer (Core-F.Call at f t None es) = record { value = in_call at t es; statement = λ m. refl; next = λ m. refl; blank = refl; declares = refl; label = refl }
-  layer (Core-F.Call at f t (Some object) es) = record { value = refl; statement = λ m. refl; next = λ m. refl; blank = refl; declares = refl; label = refl }
-  layer (Core-F.VirtualCall at m t e es) = record { value = refl; statement = λ m. refl; next = λ m. refl; blank = refl; declares = refl; label = refl }
-  layer (Core-F.PointerCall at None e t es) = record { value = refl; statement = λ m. refl; next = λ m. refl; blank = refl; declares = refl; label = refl }
-  layer (Core-F.PointerCall at (Some object) e t es) = record { value = refl; statement = λ m. refl; next = λ m. refl; blank = refl; declares = refl; label = refl }
-  layer (Core-F.New at t e) = record { value = refl; statement = λ m. refl; next = λ m. refl; blank = refl; declares = refl; label = refl }
-  layer (Core-F.NewArray at t n e) = record { value = refl; statement = λ m. refl; next = λ m. refl; blank = refl; declares = refl; label = refl }
-  layer (Core-F.Delete at t e) = record { value = refl; statement = λ m. refl; next = λ m. refl; blank = refl; declares = refl; label = refl }
-  layer (Core-F.DeleteArray at t e) = record { value = refl; statement = λ m. refl; next = λ m. refl; blank = refl; declares = refl; label = refl }
-  layer (Core-F.Build at f t es) = record { value = refl; statement = λ m. refl; next = λ m. refl; blank = refl; declares = refl; label = refl }
-  layer (Core-F.Copy at t e es) = record { value = refl; statement = λ m. refl; next = λ m. refl; blank = refl; declares = refl; label = refl }
-  layer (Core-F.Each at e) = record { value = refl; statement = λ m. refl; next = λ m. refl; blank = refl; declares = refl; label = refl }
-  layer (Core-F.List at es rest) = record { value = refl; statement = λ m. refl; next = λ m. refl; blank = refl; declares = refl; label = refl }
-  layer (Core-F.Characters at bytes) = record { value = refl; statement = λ m. refl; next = λ m. refl; blank = refl; declares = refl; label = refl }
-  layer (Core-F.Bind at holder.NoTemporary e) = record { value = e.1.value; statement = λ m. refl; next = λ m. refl; blank = refl; declares = refl; label = refl }
-  layer (Core-F.Bind at (holder.LocalTemporary i t) e) = record { value = refl; statement = λ m. refl; next = λ m. refl; blank = refl; declares = refl; label = refl }
-  layer (Core-F.Bind at (holder.StaticTemporary name) e) = record { value = refl; statement = λ m. refl; next = λ m. refl; blank = refl; declares = refl; label = refl }
-  layer (Core-F.Zeros at) = record { value = refl; statement = λ m. refl; next = λ m. refl; blank = refl; declares = refl; label = refl }
-  layer (Core-F.Blank at) = record { value = refl; statement = λ m. refl; next = λ m. refl; blank = refl; declares = refl; label = refl }
-  layer (Core-F.Full at e) = record { value = refl; statement = λ m. start-is e; next = λ m. refl; blank = refl; declares = refl; label = refl }
-  layer (Core-F.Block at es) = record { value = refl; statement = λ m. in_order m es; next = λ m. refl; blank = refl; declares = refl; label = refl }
-  layer (Core-F.Sequence at es) = record { value = refl; statement = λ m. in_order m es; next = λ m. nexts m es; blank = refl; declares = refl; label = refl }
-  layer (Core-F.Declare at i t e) = record { value = refl; statement = λ m. where-true at (nat_le m i) _ _ (start-is e); next = λ m. refl; blank = refl; declares = refl; label = refl }
-  layer (Core-F.Once at n e) = record { value = refl; statement = λ m. refl; next = λ m. refl; blank = refl; declares = refl; label = refl }
-  layer (Core-F.If at c a None) = record { value = refl; statement = λ m. and-is _ _ _ _ c.1.value (and-is _ _ _ _ (inner-is at m a) (inner_or-is at m None)); next = λ m. refl; blank = refl; declares = refl; label = refl }
-  layer (Core-F.If at c a (Some b)) = record { value = refl; statement = λ m. and-is _ _ _ _ c.1.value (and-is _ _ _ _ (inner-is at m a) (inner_or-is at m (Some b))); next = λ m. refl; blank = refl; declares = refl; label = refl }
-  layer (Core-F.Loop at f None None s) = record { value = refl; statement = in_loop None None s; next = λ m. refl; blank = refl; declares = refl; label = refl }
-  layer (Core-F.Loop at f None (Some e) s) = record { value = refl; statement = in_loop None (Some e) s; next = λ m. refl; blank = refl; declares = refl; label = refl }
-  layer (Core-F.Loop at f (Some c) None s) = record { value = refl; statement = in_loop (Some c) None s; next = λ m. refl; blank = refl; declares = refl; label = refl }
-  layer (Core-F.Loop at f (Some c) (Some e) s) = record { value = refl; statement = in_loop (Some c) (Some e) s; next = λ m. refl; blank = refl; declares = refl; label = refl }
-  layer (Core-F.Switch at e es) = record { value = refl; statement = λ m. and-is _ _ _ _ e.1.value (in_cases at m es); next = λ m. refl; blank = refl; declares = refl; label = refl }
-  layer (Core-F.Case at z) = record { value = refl; statement = λ m. refl; next = λ m. refl; blank = refl; declares = refl; label = refl }
-  layer (Core-F.Default at) = record { value = refl; statement = λ m. refl; next = λ m. refl; blank = refl; declares = refl; label = refl }
-  layer (Core-F.Break at) = record { value = refl; statement = λ m. refl; next = λ m. refl; blank = refl; declares = refl; label = refl }
-  layer (Core-F.Continue at) = record { value = refl; statement = λ m. refl; next = λ m. refl; blank = refl; declares = refl; label = refl }
-  layer (Core-F.Return at None) = record { value = refl; statement = λ m. refl; next = λ m. refl; blank = refl; declares = refl; label = refl }
-  layer (Core-F.Return at (Some e)) = record { value = refl; statement = λ m. e.1.value; next = λ m. refl; blank = refl; declares = refl; label = refl }
-  layer (Core-F.Parts at ps s) = record { value = refl; statement = λ m. refl; next = λ m. refl; blank = refl; declares = refl; label = refl }
+  layer (Core-F.Number at z) = record { value = refl; statement = λ m. refl; next = λ m. refl; blank = refl; filling = refl; declares = refl; label = refl }
+  layer (Core-F.Text at j bytes) = record { value = refl; statement = λ m. refl; next = λ m. refl; blank = refl; filling = refl; declares = refl; label = refl }
+  layer (Core-F.This at) = record { value = refl; statement = λ m. refl; next = λ m. refl; blank = refl; filling = refl; declares = refl; label = refl }
+  layer (Core-F.Local at i) = record { value = refl; statement = λ m. refl; next = λ m. refl; blank = refl; filling = refl; declares = refl; label = refl }
+  layer (Core-F.Static at n t) = record { value = refl; statement = λ m. refl; next = λ m. refl; blank = refl; filling = refl; declares = refl; label = refl }
+  layer (Core-F.Function at n t) = record { value = refl; statement = λ m. refl; next = λ m. refl; blank = refl; filling = refl; declares = refl; label = refl }
+  layer (Core-F.Member at e i) = record { value = refl; statement = λ m. refl; next = λ m. refl; blank = refl; filling = refl; declares = refl; label = refl }
+  layer (Core-F.Read at e) = record { value = e.1.value; statement = λ m. refl; next = λ m. refl; blank = refl; filling = refl; declares = refl; label = refl }
+  layer (Core-F.Address at e) = record { value = e.1.value; statement = λ m. refl; next = λ m. refl; blank = refl; filling = refl; declares = refl; label = refl }
+  layer (Core-F.Dereference at e) = record { value = e.1.value; statement = λ m. refl; next = λ m. refl; blank = refl; filling = refl; declares = refl; label = refl }
+  layer (Core-F.Decay at e) = record { value = e.1.value; statement = λ m. refl; next = λ m. refl; blank = refl; filling = refl; declares = refl; label = refl }
+  layer (Core-F.Index at a b) = record { value = two a b; statement = λ m. refl; next = λ m. refl; blank = refl; filling = refl; declares = refl; label = refl }
+  layer (Core-F.Convert at t e) = record { value = e.1.value; statement = λ m. refl; next = λ m. refl; blank = refl; filling = refl; declares = refl; label = refl }
+  layer (Core-F.Up at path e) = record { value = refl; statement = λ m. refl; next = λ m. refl; blank = refl; filling = refl; declares = refl; label = refl }
+  layer (Core-F.Down at c path e) = record { value = refl; statement = λ m. refl; next = λ m. refl; blank = refl; filling = refl; declares = refl; label = refl }
+  layer (Core-F.FromVoid at t e) = record { value = e.1.value; statement = λ m. refl; next = λ m. refl; blank = refl; filling = refl; declares = refl; label = refl }
+  layer (Core-F.ToMember at path e) = record { value = refl; statement = λ m. refl; next = λ m. refl; blank = refl; filling = refl; declares = refl; label = refl }
+  layer (Core-F.DataPointer at i) = record { value = refl; statement = λ m. refl; next = λ m. refl; blank = refl; filling = refl; declares = refl; label = refl }
+  layer (Core-F.FunctionPointer at t) = record { value = refl; statement = λ m. refl; next = λ m. refl; blank = refl; filling = refl; declares = refl; label = refl }
+  layer (Core-F.Through at a b) = record { value = refl; statement = λ m. refl; next = λ m. refl; blank = refl; filling = refl; declares = refl; label = refl }
+  layer (Core-F.Operate at op k a b) = record { value = two a b; statement = λ m. refl; next = λ m. refl; blank = refl; filling = refl; declares = refl; label = refl }
+  layer (Core-F.Unary at op k e) = record { value = e.1.value; statement = λ m. refl; next = λ m. refl; blank = refl; filling = refl; declares = refl; label = refl }
+  layer (Core-F.Not at e) = record { value = e.1.value; statement = λ m. refl; next = λ m. refl; blank = refl; filling = refl; declares = refl; label = refl }
+  layer (Core-F.And at a b) = record { value = two a b; statement = λ m. refl; next = λ m. refl; blank = refl; filling = refl; declares = refl; label = refl }
+  layer (Core-F.Or at a b) = record { value = two a b; statement = λ m. refl; next = λ m. refl; blank = refl; filling = refl; declares = refl; label = refl }
+  layer (Core-F.PointerOperate at op a b) = record { value = two a b; statement = λ m. refl; next = λ m. refl; blank = refl; filling = refl; declares = refl; label = refl }
+  layer (Core-F.Conditional at c a b) = record { value = three c a b; statement = λ m. refl; next = λ m. refl; blank = refl; filling = refl; declares = refl; label = refl }
+  layer (Core-F.Comma at es) = record { value = in_comma at es; statement = λ m. refl; next = λ m. refl; blank = refl; filling = refl; declares = refl; label = refl }
+  layer (Core-F.Store at a b) = record { value = two a b; statement = λ m. refl; next = λ m. refl; blank = refl; filling = refl; declares = refl; label = refl }
+  layer (Core-F.Update at a c b) = record { value = two a b; statement = λ m. refl; next = λ m. refl; blank = refl; filling = refl; declares = refl; label = refl }
+  layer (Core-F.Increment at is_postfix c e) = record { value = e.1.value; statement = λ m. refl; next = λ m. refl; blank = refl; filling = refl; declares = refl; label = refl }
+  layer (Core-F.Assign at t a b es) = record { value = refl; statement = λ m. refl; next = λ m. refl; blank = refl; filling = refl; declares = refl; label = refl }
+  layer (Core-F.Temporary at t e) = record { value = refl; statement = λ m. refl; next = λ m. refl; blank = refl; filling = refl; declares = refl; label = refl }
+  layer (Core-F.Call at f t None es) = record { value = in_call at t es; statement = λ m. refl; next = λ m. refl; blank = refl; filling = refl; declares = refl; label = refl }
+  layer (Core-F.Call at f t (Some object) es) = record { value = refl; statement = λ m. refl; next = λ m. refl; blank = refl; filling = refl; declares = refl; label = refl }
+  layer (Core-F.VirtualCall at m t e es) = record { value = refl; statement = λ m. refl; next = λ m. refl; blank = refl; filling = refl; declares = refl; label = refl }
+  layer (Core-F.PointerCall at None e t es) = record { value = refl; statement = λ m. refl; next = λ m. refl; blank = refl; filling = refl; declares = refl; label = refl }
+  layer (Core-F.PointerCall at (Some object) e t es) = record { value = refl; statement = λ m. refl; next = λ m. refl; blank = refl; filling = refl; declares = refl; label = refl }
+  layer (Core-F.New at t e) = record { value = refl; statement = λ m. refl; next = λ m. refl; blank = refl; filling = refl; declares = refl; label = refl }
+  layer (Core-F.NewArray at t n e) = record { value = refl; statement = λ m. refl; next = λ m. refl; blank = refl; filling = refl; declares = refl; label = refl }
+  layer (Core-F.Delete at t e) = record { value = refl; statement = λ m. refl; next = λ m. refl; blank = refl; filling = refl; declares = refl; label = refl }
+  layer (Core-F.DeleteArray at t e) = record { value = refl; statement = λ m. refl; next = λ m. refl; blank = refl; filling = refl; declares = refl; label = refl }
+  layer (Core-F.Build at f t es) = record { value = refl; statement = λ m. refl; next = λ m. refl; blank = refl; filling = refl; declares = refl; label = refl }
+  layer (Core-F.Copy at t e es) = record { value = refl; statement = λ m. refl; next = λ m. refl; blank = refl; filling = refl; declares = refl; label = refl }
+  layer (Core-F.Each at e) = record { value = refl; statement = λ m. refl; next = λ m. refl; blank = refl; filling = refl; declares = refl; label = refl }
+  layer (Core-F.List at es rest) = record { value = refl; statement = λ m. refl; next = λ m. refl; blank = refl; filling = refl; declares = refl; label = refl }
+  layer (Core-F.Characters at bytes) = record { value = refl; statement = λ m. refl; next = λ m. refl; blank = refl; filling = refl; declares = refl; label = refl }
+  layer (Core-F.Bind at holder.NoTemporary e) = record { value = e.1.value; statement = λ m. refl; next = λ m. refl; blank = refl; filling = refl; declares = refl; label = refl }
+  layer (Core-F.Bind at (holder.LocalTemporary i t) e) = record { value = refl; statement = λ m. refl; next = λ m. refl; blank = refl; filling = refl; declares = refl; label = refl }
+  layer (Core-F.Bind at (holder.StaticTemporary name) e) = record { value = refl; statement = λ m. refl; next = λ m. refl; blank = refl; filling = refl; declares = refl; label = refl }
+  layer (Core-F.Zeros at) = record { value = refl; statement = λ m. refl; next = λ m. refl; blank = refl; filling = refl; declares = refl; label = refl }
+  layer (Core-F.Blank at) = record { value = refl; statement = λ m. refl; next = λ m. refl; blank = refl; filling = refl; declares = refl; label = refl }
+  layer (Core-F.Full at e) = record { value = refl; statement = λ m. start-is e; next = λ m. refl; blank = refl; filling = refl; declares = refl; label = refl }
+  layer (Core-F.Block at es) = record { value = refl; statement = λ m. in_order m es; next = λ m. refl; blank = refl; filling = refl; declares = refl; label = refl }
+  layer (Core-F.Sequence at es) = record { value = refl; statement = λ m. in_order m es; next = λ m. nexts m es; blank = refl; filling = refl; declares = refl; label = refl }
+  layer (Core-F.Declare at i t e) = record { value = refl; statement = λ m. where-true at (nat_le m i) _ _ (initial-is e); next = λ m. refl; blank = refl; filling = refl; declares = refl; label = refl }
+  layer (Core-F.Once at n e) = record { value = refl; statement = λ m. refl; next = λ m. refl; blank = refl; filling = refl; declares = refl; label = refl }
+  layer (Core-F.If at c a None) = record { value = refl; statement = λ m. and-is _ _ _ _ c.1.value (and-is _ _ _ _ (inner-is at m a) (inner_or-is at m None)); next = λ m. refl; blank = refl; filling = refl; declares = refl; label = refl }
+  layer (Core-F.If at c a (Some b)) = record { value = refl; statement = λ m. and-is _ _ _ _ c.1.value (and-is _ _ _ _ (inner-is at m a) (inner_or-is at m (Some b))); next = λ m. refl; blank = refl; filling = refl; declares = refl; label = refl }
+  layer (Core-F.Loop at f None None s) = record { value = refl; statement = in_loop None None s; next = λ m. refl; blank = refl; filling = refl; declares = refl; label = refl }
+  layer (Core-F.Loop at f None (Some e) s) = record { value = refl; statement = in_loop None (Some e) s; next = λ m. refl; blank = refl; filling = refl; declares = refl; label = refl }
+  layer (Core-F.Loop at f (Some c) None s) = record { value = refl; statement = in_loop (Some c) None s; next = λ m. refl; blank = refl; filling = refl; declares = refl; label = refl }
+  layer (Core-F.Loop at f (Some c) (Some e) s) = record { value = refl; statement = in_loop (Some c) (Some e) s; next = λ m. refl; blank = refl; filling = refl; declares = refl; label = refl }
+  layer (Core-F.Switch at e es) = record { value = refl; statement = λ m. and-is _ _ _ _ e.1.value (in_cases at m es); next = λ m. refl; blank = refl; filling = refl; declares = refl; label = refl }
+  layer (Core-F.Case at z) = record { value = refl; statement = λ m. refl; next = λ m. refl; blank = refl; filling = refl; declares = refl; label = refl }
+  layer (Core-F.Default at) = record { value = refl; statement = λ m. refl; next = λ m. refl; blank = refl; filling = refl; declares = refl; label = refl }
+  layer (Core-F.Break at) = record { value = refl; statement = λ m. refl; next = λ m. refl; blank = refl; filling = refl; declares = refl; label = refl }
+  layer (Core-F.Continue at) = record { value = refl; statement = λ m. refl; next = λ m. refl; blank = refl; filling = refl; declares = refl; label = refl }
+  layer (Core-F.Return at None) = record { value = refl; statement = λ m. refl; next = λ m. refl; blank = refl; filling = refl; declares = refl; label = refl }
+  layer (Core-F.Return at (Some e)) = record { value = refl; statement = λ m. e.1.value; next = λ m. refl; blank = refl; filling = refl; declares = refl; label = refl }
+  layer (Core-F.Parts at ps s) = record { value = refl; statement = λ m. refl; next = λ m. refl; blank = refl; filling = refl; declares = refl; label = refl }
 
   rolled : (x : Core-F Node PartStart) → IsLayer x → IsTested (roll-Core x)
   rolled x p =

@@ -17,7 +17,7 @@ use Rattle.cf_core.specs.NodePlace.{place}
 use Rattle.cf_core.specs.FromTypes.{Tables, type_of, taking}
 use Rattle.cf_core.specs.FromClasses.{signature_of, classes_in}
 use Rattle.cf_core.specs.FromUnit.{Unit as CoreUnit, tables_of, file_of, function_of, static_of, role_of}
-use Rattle.cf_sequence.specs.Built.{is_statement, is_chain, is_plain_role, is_none, is_built_function, is_built_static, is_built_file, begins_mark, has_mark}
+use Rattle.cf_sequence.specs.Built.{is_statement, is_filling, is_chain, is_plain_role, is_none, is_built_function, is_built_static, is_built_file, begins_mark, has_mark}
 use Rattle.cf_sequence_built.specs.Unbuilt as unbuilt
 use Rattle.cf_sequence_built.specs.Unbuilt.{test, is_plain, takes_nothing, is_usual, in_function, in_functions, is_constant, is_usual_object, in_static, in_statics, in_file}
 use Rattle.cf_sequence_written.proofs.Parameters.{parameters-taking, result-taking}
@@ -97,10 +97,11 @@ module _ (tables : Tables) where
       let X : Static = static_of tables x in
       let no_reference : Bool = not (is_reference (type_of tables x.ty)) in
       where-false (place x.start) (is_usual_object tables x)
-      ∙ ap (λ m. x.is_constant && (no_reference && (((test tables x.start).is_blank || is_constant x.start) && not m))) (mark-is x.name)
-      ∙ object-parts x.is_constant no_reference ((test tables x.start).is_blank || is_constant x.start) (not (has_mark x.name))
-      ∙ ap (λ b. (x.is_constant && (no_reference && (b || is_constant x.start))) && not (has_mark x.name)) (Tests.blank (tested tables (signature_of tables) x.start))
-      ∙ ap (λ b. (x.is_constant && (no_reference && (is_nothing X.start || b))) && not (has_mark x.name)) (constant-is tables (signature_of tables) x.start)
+      ∙ ap (λ m. x.is_constant && (no_reference && (((test tables x.start).is_blank || ((test tables x.start).is_filling || is_constant x.start)) && not m))) (mark-is x.name)
+      ∙ object-parts x.is_constant no_reference ((test tables x.start).is_blank || ((test tables x.start).is_filling || is_constant x.start)) (not (has_mark x.name))
+      ∙ ap (λ b. (x.is_constant && (no_reference && (b || ((test tables x.start).is_filling || is_constant x.start)))) && not (has_mark x.name)) (Tests.blank (tested tables (signature_of tables) x.start))
+      ∙ ap (λ b. (x.is_constant && (no_reference && (is_nothing X.start || (b || is_constant x.start)))) && not (has_mark x.name)) (Tests.filling (tested tables (signature_of tables) x.start))
+      ∙ ap (λ b. (x.is_constant && (no_reference && (is_nothing X.start || (is_filling X.start || b)))) && not (has_mark x.name)) (constant-is tables (signature_of tables) x.start)
 
   statics-are : (xs : List CoreStatic) → clear (in_statics tables xs) ≡ list_all is_own (map (static_of tables) xs)
   statics-are [] = refl

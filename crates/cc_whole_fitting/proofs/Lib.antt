@@ -1,0 +1,4 @@
+pub mod ItemRuns
+mod Runs
+mod TreeRuns
+mod TypeRuns

@@ -1,0 +1,17 @@
+//! The parts of a function that is built are built. The function here does nothing: its contract tells the caller.
+
+ghost use Rattle.cf_unit.specs.declared.class.FunctionDef.{out-FunctionDef};
+ghost use Rattle.cf_elab_body.specs.Shut as body_of;
+ghost use Rattle.cf_elab_declaration.specs.Shut as declaration;
+ghost use Rattle.cf_elab_definition.specs.Shut as shut;
+ghost use Rattle.cf_elab_expr.specs.Shut as expression;
+
+use cf_unit::FunctionDef;
+
+#[tactic(auto, using(crate::proofs::BuiltParts::function_laws))]
+pub(crate) fn function(_f: &FunctionDef)
+    requires { shut.IsBuilt _f.now }
+    ensures specifiers { declaration.SpecifiersAreBuilt (out-FunctionDef _f.now).specifiers }
+    ensures tree { expression.TreeIsBuilt (out-FunctionDef _f.now).declarator }
+    ensures body { body_of.AreBuilt (out-FunctionDef _f.now).body }
+{}

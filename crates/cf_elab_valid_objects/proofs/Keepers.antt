@@ -1,0 +1,143 @@
+-- What keeps the temporary that a reference binds (8.4.3, 12.2).
+use Rattle.std.proofs.Common.{◌≡◌, ℕ, Bool, true, false, nat_le, length, [], ◌∷◌, ◌++◌, find, bytes_eq, map, Option, Some, slice_get, refl, sym, ap, subst, ◌∙◌}
+use Rattle.std.specs.Prelude.{option_map}
+use Rattle.std.proofs.lemmas.Option.{slice_get-map}
+use Rattle.cf_base.specs.declared.limit.Bound.TheVariants as bound
+use Rattle.cf_types.proofs.Places.{get-last}
+use Rattle.cf_classes.specs.OwnedName.{temporary_name}
+use Rattle.cf_core.specs.Core.{Static}
+use Rattle.cf_core.specs.declared.node.Core.TheVariants as node
+use Rattle.cf_core.specs.declared.node.Holder.TheVariants as holder
+use Rattle.cf_core.specs.declared.unit.CoreStatic.{CoreStatic}
+use Rattle.cf_core.specs.FromClasses.{signature_of}
+use Rattle.cf_core.specs.Numbers.{are_known, has_type, has_holder}
+use Rattle.cf_core.specs.Typed.{typing, holds_for}
+use Rattle.cf_core.specs.Types.{reference}
+use Rattle.cf_core_typed.specs.Meets.{IsPlace}
+use Rattle.cf_core_typed.proofs.Same.{and-both}
+use Rattle.cf_core_typed.proofs.Starts.{bind-place, bind-local, temporary-is}
+use Rattle.cf_elab.specs.Answer.{Made, onward}
+use Rattle.cf_elab.specs.Complete.{within, most_name}
+use Rattle.cf_elab.specs.Env.{Env, Name}
+use Rattle.cf_elab.specs.Initial.{Keeper, full_expression, kept, no_keeper}
+use Rattle.cf_elab.specs.Objects.{local_keeper, static_keeper, static_of}
+use Rattle.cf_elab_valid.specs.Answers.{Fine}
+use Rattle.cf_elab_valid.specs.Scene.{Scene, IsScene, tree, typed, core, scope_of, Within, Steps, Inside, Classless, Holds}
+use Rattle.cf_elab_valid.proofs.Early.{early-known}
+use Rattle.cf_elab_valid.proofs.Moved.{moved-holds, moved-classless}
+use Rattle.cf_elab_valid.proofs.Nodes.{core-Bind, core-Temporary, known-Bind, known-Temporary}
+use Rattle.cf_elab_valid.proofs.Trees.{tree-normal}
+use Rattle.cf_elab_valid.proofs.Values.{has_type-is}
+use Rattle.cf_elab_valid.proofs.Ways.{begins-get, begins-last, begins-same, made-fine, within-before, When}
+use Rattle.cf_elab_valid_objects.specs.Laws.{HasTemporary}
+use Rattle.cf_elab_valid_objects.specs.Starts.{KeeperFits, IsKeeper}
+use Rattle.cf_elab_valid_objects.proofs.Growing.{holds-unchanged}
+
+module _ (s : Scene) (scene : IsScene s) where
+  -- ---- none: to the end of the full expression
+
+  none-keeps : (u : ℕ) (e : Env) → Within e s → Inside e u → KeeperFits s u full_expression
+  none-keeps u e w i = record {
+    keeps = λ at x known starts.
+        let normal = tree-normal s.tables scene.table u (early-known s.tables scene.table e.types w.types u i) in
+        let place = subst (λ q. IsPlace (typing (scope_of s) q) (tree s u)) (sym (core-Temporary s.tables (signature_of s.tables) at u x.node)) (temporary-is (scope_of s) (core s x.node) (tree s u) normal starts) in record {
+          numbers = known-Bind s.tables at holder.NoTemporary (node.Temporary at u x.node)
+              ∙ and-both (has_holder s.tables holder.NoTemporary) (are_known s.tables (node.Temporary at u x.node)) refl
+              (known-Temporary s.tables at u x.node ∙ and-both (has_type s.tables u) (are_known s.tables x.node) (has_type-is s e u w i) known);
+          starts = subst (λ c. (typing (scope_of s) c).start (reference (tree s u)) ≡ true) (sym (core-Bind s.tables (signature_of s.tables) at holder.NoTemporary (node.Temporary at u x.node)))
+              (bind-place (scope_of s) (core s (node.Temporary at u x.node)) (tree s u) place);
+          number = tt;
+        };
+  }
+
+  pub no_keeper-is : IsKeeper s (λ u. Unit {0}) no_keeper
+  no_keeper-is = record { fine = λ u e c h i. made-fine s (λ k f. Unit {0} → KeeperFits s u k) e full_expression c h (λ w _. none-keeps u e w (i w)) }
+
+  -- ---- a local of the function
+
+  abbrev pub longer : ℕ → Env → Env
+  longer u e = record e { hand = record e.hand { locals = e.hand.locals ++ u ∷ [] } }
+
+  pub longer-steps : (u : ℕ) (e : Env) → Steps e (longer u e)
+  longer-steps u e = record {
+    types = begins-same e.types.types;
+    funs = begins-same e.types.funs;
+    enums = begins-same e.classes.enums;
+    locals = begins-last e.hand.locals u;
+    hand = record { kind = refl; result = refl; breaks = refl; continues = refl };
+    outer = refl;
+  }
+
+  pub local-there : (u : ℕ) (e : Env) → Within (longer u e) s → slice_get s.locals (length e.hand.locals) ≡ Some u
+  local-there u e w = begins-get (e.hand.locals ++ u ∷ []) s.locals (length e.hand.locals) u w.locals (get-last e.hand.locals u)
+
+  pub local-typed : (i u : ℕ) → slice_get s.locals i ≡ Some u → slice_get (map (tree s) s.locals) i ≡ Some (tree s u)
+  local-typed i u h = slice_get-map (tree s) s.locals i ∙ ap (option_map (tree s)) h
+
+  pub longer-fine : {A : Type 0} (P : A → Env → Type 0) (a : A) (u : ℕ) (e : Env) → Classless e → When s e (Holds s e) → When s (longer u e) (P a (longer u e)) → Fine s P e (Made a (longer u e))
+  longer-fine P a u e c h p = record {
+    steps = longer-steps u e;
+    classless = moved-classless s (longer u e).hand e.scopes e refl c;
+    holds = λ w. moved-holds s (longer u e).hand e.scopes e refl (λ i q. q) (h (within-before e (longer u e) s (longer-steps u e) w));
+    made = p;
+  }
+
+  local-keeps : (i u : ℕ) (e : Env) → Within e s → Inside e u → slice_get s.locals i ≡ Some u → KeeperFits s u (kept (holder.LocalTemporary i u))
+  local-keeps i u e w inside here = record {
+    keeps = λ at x known starts. record {
+      numbers = known-Bind s.tables at (holder.LocalTemporary i u) x.node ∙ and-both (has_type s.tables u) (are_known s.tables x.node) (has_type-is s e u w inside) known;
+      starts = subst (λ c. (typing (scope_of s) c).start (reference (tree s u)) ≡ true) (sym (core-Bind s.tables (signature_of s.tables) at (holder.LocalTemporary i u) x.node))
+          (bind-local (scope_of s) (core s x.node) (tree s u) i (local-typed i u here) starts);
+      number = tt;
+    };
+  }
+
+  pub local_keeper-is : IsKeeper s (λ u. Unit {0}) local_keeper
+  local_keeper-is = record {
+    fine = λ u e c h i. longer-fine (λ k f. Unit {0} → KeeperFits s u k) (kept (holder.LocalTemporary (length e.hand.locals) u)) u e c h
+        (λ w _. let early = within-before e (longer u e) s (longer-steps u e) w in local-keeps (length e.hand.locals) u e early (i early) (local-there u e w));
+  }
+
+  -- ---- a static object of the file
+
+  abbrev pub defined : CoreStatic → Env → Env
+  defined x e = record e { statics = e.statics ++ x ∷ [] }
+
+  pub defined-steps : (x : CoreStatic) (e : Env) → Steps e (defined x e)
+  defined-steps x e = record {
+    types = begins-same e.types.types;
+    funs = begins-same e.types.funs;
+    enums = begins-same e.classes.enums;
+    locals = begins-same e.hand.locals;
+    hand = record { kind = refl; result = refl; breaks = refl; continues = refl };
+    outer = refl;
+  }
+
+  pub defined-fine : {A : Type 0} (P : A → Env → Type 0) (a : A) (x : CoreStatic) (e : Env) → Classless e → When s e (Holds s e) → When s e (P a (defined x e)) → Fine s P e (Made a (defined x e))
+  defined-fine P a x e c h p = record {
+    steps = defined-steps x e;
+    classless = record { none = c.none; none_open = c.none_open; no_body = c.no_body; no_type = c.no_type; no_name = c.no_name; no_defaults = c.no_defaults };
+    holds = λ w. holds-unchanged s e (defined x e) (defined-steps x e) (record { types = refl; enums = refl; entities = refl; entries = refl; scopes = refl }) (h (within-before e (defined x e) s (defined-steps x e) w));
+    made = λ w. p (within-before e (defined x e) s (defined-steps x e) w);
+  }
+
+  static-keeps : (name : Name) (u : ℕ) → HasTemporary s name (tree s u) → KeeperFits s u (kept (holder.StaticTemporary name))
+  static-keeps name u asked = record {
+    keeps = λ at x known starts. record {
+      numbers = known-Bind s.tables at (holder.StaticTemporary name) x.node ∙ and-both (has_holder s.tables (holder.StaticTemporary name)) (are_known s.tables x.node) refl known;
+      starts = subst (λ c. (typing (scope_of s) c).start (reference (tree s u)) ≡ true) (sym (core-Bind s.tables (signature_of s.tables) at (holder.StaticTemporary name) x.node))
+          (and-both (holds_for (scope_of s) (find (λ (y : Static). bytes_eq y.name name) s.statics) (tree s u)) ((typed s x.node).start (tree s u)) asked starts);
+      number = tt;
+    };
+  }
+
+  pub static_keeper-is : (own : Name) (owner : Option Name) (at : ℕ) → IsKeeper s (HasTemporary s (temporary_name own)) (static_keeper own owner at)
+  static_keeper-is own owner at = record { fine = λ u e c h i. by u e c h (nat_le (length (temporary_name own)) most_name) }
+    where
+      Kept : ℕ → Keeper → Env → Type 0
+      Kept u k f = HasTemporary s (temporary_name own) (tree s u) → KeeperFits s u k
+
+      by : (u : ℕ) (e : Env) → Classless e → When s e (Holds s e) → (b : Bool)
+          → Fine s (Kept u) e (onward (within b bound.Names most_name e) (λ _ f. Made (kept (holder.StaticTemporary (temporary_name own))) (defined (static_of (temporary_name own) u (node.Blank at) owner true true) f)))
+      by u e c h false = tt
+      by u e c h true = defined-fine (Kept u) (kept (holder.StaticTemporary (temporary_name own))) (static_of (temporary_name own) u (node.Blank at) owner true true) e c h (λ w. static-keeps (temporary_name own) u)

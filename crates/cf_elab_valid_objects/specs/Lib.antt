@@ -1,0 +1,4 @@
+pub mod Declared
+pub mod Laws
+pub mod Quiet
+pub mod Starts

@@ -1,0 +1,5 @@
+pub mod Actions
+pub mod Operands
+pub mod Statements
+pub mod Turns
+pub mod Types

@@ -1,0 +1,180 @@
+-- Which parameters and locals of a plain function have an object where control is, and of which the first value is still to come: a local is declared where it has
+-- none, gets its first value in the register that it was declared in, is an argument once it has one, and is gone where the function ends.
+use Rattle.std.specs.Prelude.{ℕ, suc, Bool, true, false, ◌&&◌, not, ◌==◌, if◌then◌else◌, List, [], ◌∷◌, ◌++◌, map, filter, Option, Some, None}
+use Rattle.std.specs.List.{list_all, list_any}
+use Rattle.cf_core.specs.Types.{SourceType, parameters, result as result_type}
+use Rattle.cf_plain.specs.Plain.{Register, Action, declare, first, finish, call, Plain, Plains, act, set, branch, loop, switch, case_label, default_label, leave, continue, give, parts, nothing, more, PlainFunction, PlainFile}
+use Rattle.cf_plain_kept.specs.Kept.{Kept, an_object, Keeping, nothing_set, after}
+
+-- a local that has an object, the register with its place while it has no value, and whether it has one
+pub record Opened : Type 0 where
+  pub local : ℕ
+  pub begun : Option Register
+  pub has_value : Bool
+
+abbrev pub is_local : ℕ → Opened → Bool
+is_local i x = x.local == i
+
+abbrev pub is_open : ℕ → List Opened → Bool
+is_open i xs = list_any (is_local i) xs
+
+abbrev pub closed : ℕ → List Opened → List Opened
+closed i xs = filter (λ x. not (is_local i x)) xs
+
+abbrev pub closed_all : List ℕ → List Opened → List Opened
+closed_all [] xs = xs
+closed_all (i ∷ is) xs = closed_all is (closed i xs)
+
+abbrev pub is_register : Option Register → Register → Bool
+is_register None r = false
+is_register (Some q) r = q == r
+
+-- the register gets another value
+abbrev pub overwritten : Register → Opened → Opened
+overwritten r x = record x { begun = if is_register x.begun r then None else x.begun }
+
+-- what is still so where statements run any number of times, or from any label on
+abbrev pub settled : Opened → Opened
+settled x = record { local = x.local; begun = None; has_value = false }
+
+abbrev pub valued : ℕ → Opened → Opened
+valued i x = if is_local i x then record x { has_value = true } else x
+
+-- whether it may get its first value in this register
+abbrev pub may_begin : ℕ → Register → List Opened → Bool
+may_begin i r xs = list_any (λ x. is_local i x && is_register x.begun r) xs
+
+abbrev pub has_its_value : List Opened → ℕ → Bool
+has_its_value xs i = list_any (λ x. is_local i x && x.has_value) xs
+
+abbrev pub differ : List ℕ → Bool
+differ [] = true
+differ (i ∷ is) = not (list_any (λ j. j == i) is) && differ is
+
+-- ---- actions
+
+abbrev pub object_kept : Option Kept → Option ℕ
+object_kept (Some (an_object i t)) = Some i
+object_kept x = None
+
+abbrev pub begun_well : Option ℕ → Register → List Opened → Bool
+begun_well None r xs = false
+begun_well (Some i) r xs = may_begin i r xs
+
+abbrev pub valued_in : Option ℕ → List Opened → List Opened
+valued_in None xs = xs
+valued_in (Some i) xs = map (valued i) xs
+
+abbrev pub action_opens : Keeping → Action → List Opened → Bool
+action_opens g (declare i t) xs = not (is_open i xs)
+action_opens g (first r q) xs = begun_well (object_kept (g r)) r xs
+action_opens g (finish t i) xs = is_open i xs
+action_opens g (call name t object is into) xs = differ is && list_all (has_its_value xs) is
+action_opens g a xs = true
+
+-- behind an action, whose value goes to this register, if to any
+abbrev pub opened_by : Keeping → Option Register → Action → List Opened → List Opened
+opened_by g r (declare i t) xs = record { local = i; begun = r; has_value = false } ∷ xs
+opened_by g r (first p q) xs = valued_in (object_kept (g p)) xs
+opened_by g r (finish t i) xs = closed i xs
+opened_by g r (call name t object is into) xs = closed_all is xs
+opened_by g r a xs = xs
+
+-- ---- statements
+
+-- what is open where statements fall through; nothing where they do not; or they are none that sequencing makes
+pub data Where : Type 0 where
+  falls : List Opened → Where
+  away : Where
+  wrong : Where
+
+abbrev pub same_locals : List Opened → List Opened → Bool
+same_locals [] [] = true
+same_locals (x ∷ xs) (y ∷ ys) = (x.local == y.local) && same_locals xs ys
+same_locals xs ys = false
+
+abbrev pub same_begun : Option Register → Option Register → Option Register
+same_begun (Some r) (Some q) = if r == q then Some r else None
+same_begun x y = None
+
+abbrev pub both_opened : List Opened → List Opened → List Opened
+both_opened (x ∷ xs) (y ∷ ys) =
+    record { local = x.local; begun = same_begun x.begun y.begun; has_value = x.has_value && y.has_value } ∷ both_opened xs ys
+both_opened xs ys = []
+
+abbrev pub joined : Where → Where → Where
+joined wrong y = wrong
+joined x wrong = wrong
+joined away y = y
+joined x away = x
+joined (falls xs) (falls ys) = if same_locals xs ys then falls (both_opened xs ys) else wrong
+
+-- whether they come to a place where just these are open
+abbrev pub comes_to : List Opened → Where → Bool
+comes_to xs (falls ys) = same_locals xs ys
+comes_to xs away = true
+comes_to xs wrong = false
+
+abbrev pub is_at : Option (List Opened) → List Opened → Bool
+is_at None xs = false
+is_at (Some ys) xs = same_locals ys xs
+
+abbrev pub only_if : Bool → Where → Where
+only_if true x = x
+only_if false x = wrong
+
+abbrev pub set_in : Register → List Opened → List Opened
+set_in r xs = map (overwritten r) xs
+
+abbrev pub keeping_or : Option Keeping → Keeping
+keeping_or None = nothing_set
+keeping_or (Some g) = g
+
+module _ (locals : List SourceType) (result : SourceType) where
+  abbrev mutual
+    -- A statement, before which registers hold this and these are open; and what is open where `break` and `continue` lead, if they stand there.
+    pub opens : Plain → Keeping → Option (List Opened) → Option (List Opened) → List Opened → Where
+    opens (act a) g breaks continues xs = only_if (action_opens g a xs) (falls (opened_by g None a xs))
+    opens (set r a) g breaks continues xs = only_if (action_opens g a xs) (falls (opened_by g (Some r) a (set_in r xs)))
+    opens (branch r ss ts) g breaks continues xs = joined (all_open ss g breaks continues xs) (all_open ts g breaks continues xs)
+    opens (loop ss ts) g breaks continues xs =
+        let ys = map settled xs in
+        only_if (comes_to ys (all_open ss nothing_set (Some ys) (Some ys) ys) && comes_to ys (all_open ts nothing_set (Some ys) None ys)) (falls ys)
+    opens (switch r ss) g breaks continues xs =
+        let ys = map settled xs in
+        only_if (comes_to ys (all_open ss nothing_set (Some ys) continues ys)) (falls ys)
+    opens (case_label z) g breaks continues xs = only_if (is_at breaks xs) (falls (map settled xs))
+    opens default_label g breaks continues xs = only_if (is_at breaks xs) (falls (map settled xs))
+    opens leave g breaks continues xs = only_if (is_at breaks xs) away
+    opens continue g breaks continues xs = only_if (is_at continues xs) away
+    opens (give r) g breaks continues [] = away
+    opens (give r) g breaks continues (x ∷ xs) = wrong
+    opens (parts ps) g breaks continues xs = wrong
+
+    pub all_open : Plains → Keeping → Option (List Opened) → Option (List Opened) → List Opened → Where
+    all_open nothing g breaks continues xs = falls xs
+    all_open (more s ss) g breaks continues xs =
+        elim (opens s g breaks continues xs) [
+          | wrong ↦ wrong
+          | away ↦ from_label ss breaks continues
+          | falls ys ↦ all_open ss (keeping_or (after locals result s g)) breaks continues ys
+        ]
+
+    -- where control does not come a label may still stand
+    pub from_label : Plains → Option (List Opened) → Option (List Opened) → Where
+    from_label nothing breaks continues = away
+    from_label (more (case_label z) ss) breaks continues = elim breaks [ None ↦ wrong | Some ys ↦ all_open ss nothing_set (Some ys) continues ys ]
+    from_label (more default_label ss) breaks continues = elim breaks [ None ↦ wrong | Some ys ↦ all_open ss nothing_set (Some ys) continues ys ]
+    from_label (more s ss) breaks continues = from_label ss breaks continues
+
+-- parameters are open as a function is entered, and have their values
+abbrev pub parameters_open : ℕ → List SourceType → List Opened
+parameters_open i [] = []
+parameters_open i (t ∷ ts) = record { local = i; begun = None; has_value = true } ∷ parameters_open (suc i) ts
+
+-- nothing is open where a function ends
+abbrev pub function_opens : PlainFunction → Bool
+function_opens f = comes_to [] (all_open (parameters f.type ++ f.locals) (result_type f.type) f.body nothing_set None None (parameters_open 0 (parameters f.type)))
+
+abbrev pub functions_open : PlainFile → Bool
+functions_open file = list_all function_opens file.functions

@@ -1,0 +1,72 @@
+-- What is so behind an assignment of the C to a block of the function's own or of an object that stands.
+use Rattle.std.proofs.Common.{◌≡◌, ℕ, suc, ◌<◌, ◌≤◌, Bool, true, false, ◌==◌, if◌then◌else◌, refl, sym, ◌∙◌, ap, subst, arith}
+use Rattle.std.specs.Prelude.{Option, Some, Result, Ok, length}
+use Rattle.std.proofs.lemmas.Bool.Decides.{nat_tests}
+use Rattle.cf_base.specs.declared.kind.Kind.TheVariants.{Int}
+use Rattle.cf_core.specs.Run.{State}
+use Rattle.cf_lower_layout.specs.Sorts.{Sort}
+use Rattle.cf_plain.specs.Plain.{Register}
+use Rattle.cf_plain.specs.Acts.{Registers}
+use Rattle.cc_whole_memory.specs.declared.value.Scalar.TheVariants as scalar
+use Rattle.cc_whole_memory.specs.Cells.{load}
+use Rattle.cc_whole_memory.specs.Blocks.{Block, Memory, inside, on_ok, value_or_act}
+use Rattle.cc_whole_mean.specs.Values.{named_value}
+use Rattle.cc_whole_mean.specs.Flow as c
+use Rattle.cc_whole_mean.specs.Flow.{in_memory}
+use Rattle.cf_lower.specs.Kept.{Kept, Keeping, keep, local_kept}
+use Rattle.cf_lower_relate.specs.Map.{Fixed, Map, is_ended}
+use Rattle.cf_lower_steps.specs.Own.{Own}
+use Rattle.cf_lower_steps.specs.Flows.{Between}
+use Rattle.cf_lower_steps.specs.Lowering.{Below}
+use Rattle.cf_lower_turns.specs.Flags.{Shows}
+use Rattle.cf_lower_turns.specs.Here.{Body, Free, Remains, Here}
+use Rattle.cf_lower_leaves.proofs.Remains.{Keeps}
+
+-- the sizes add up
+remains-through : (x : Block) (a b : Option Block) → Remains x a → ((y : Block) → a ≡ Some y → Remains y b) → Remains x b
+remains-through x a b h go =
+    let k = go h.block h.there in
+    record { block = k.block; there = k.there; size = let one = h.size in let two = k.size in omega (arith, one, two) }
+
+module _ (K : Fixed) (at : Body) (p q : Keeping) (d : ℕ) (g r : Registers) (s u : State) (t : c.State) (m : Memory) (h : Here K at p d g s t)
+    (between : Between K at.own at.scope h.map q r u m) (below : Below at.own q) (keeps : Keeps t.memory m)
+    (flags : (e : ℕ) → e < at.flags.bound → m.block (at.flags.block e) ≡ t.memory.block (at.flags.block e))
+    (same : (b : ℕ) → b < at.first.next → Free h.map b → m.block b ≡ t.memory.block b) where
+  shows-same : (e n : ℕ) → e < at.flags.bound → Shows at.scope e n t.memory → Shows at.scope e n m
+  shows-same e n le shown =
+      ap (λ x. named_value x m) (h.flags_there.named e le)
+      ∙ ap (λ x. on_ok (inside (at.flags.block e) 0 4 x) (λ at. value_or_act (load (scalar.Integer Int) at.block.cells at.offset))) (flags e le)
+      ∙ sym (ap (λ x. named_value x t.memory) (h.flags_there.named e le)) ∙ shown
+
+  pub here-after : Here K at q d r u (in_memory t m)
+  here-after = record {
+    map = h.map;
+    grows = h.grows;
+    between = between;
+    below = below;
+    flags_there = record {
+      named = h.flags_there.named;
+      lives = λ e le. let x = h.flags_there.lives e le in record { block = x.block; there = flags e le ∙ x.there; size = x.size };
+      apart = h.flags_there.apart;
+      registers = h.flags_there.registers;
+      locals = h.flags_there.locals;
+      free = h.flags_there.free;
+    };
+    bounded = h.bounded;
+    unset = λ e le. shows-same e 0 (let b = h.bounded in omega (arith, le, b)) (h.unset e le);
+    outer = record {
+      next = let n = keeps.next in let o = h.outer.next in omega (arith, n, o);
+      remains = λ b x lt e. remains-through x (t.memory.block b) (m.block b) (h.outer.remains b x lt e) (λ y i. keeps.remains b y i);
+      same = λ b lt free. same b lt (h.outer.free b lt free) ∙ h.outer.same b lt free;
+      free = h.outer.free;
+    };
+    later = h.later;
+  }
+
+-- the registers that a value is kept in have C locals
+pub below-keep : (own : Own) (p : Keeping) (r : Register) (y : Kept) → Below own p → r < own.bound → Below own (keep p r y)
+below-keep own p r y below lt q u e = by_test (q == r) refl e
+  where
+    by_test : (b : Bool) → q == r ≡ b → local_kept (if b then y else p q) ≡ Some u → q < own.bound
+    by_test true i k = subst (λ j. j < own.bound) (let same : r ≡ q = grind (arith, nat_tests, i) in same) lt
+    by_test false i k = below q u k

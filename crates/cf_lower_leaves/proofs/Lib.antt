@@ -1,0 +1,5 @@
+pub mod After
+pub mod Leaves
+pub mod Narrowing
+pub mod Remains
+pub mod Setting

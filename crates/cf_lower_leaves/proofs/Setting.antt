@@ -1,0 +1,133 @@
+-- From what an action gives to the statement that keeps it: a register is set in both, and a store is done in both.
+use Rattle.std.proofs.Common.{◌≡◌, ℕ, ◌<◌, ◌≤◌, Bool, true, false, ◌==◌, [], ◌∷◌, refl, sym, ◌∙◌, ap, subst, arith}
+use Rattle.std.specs.Prelude.{Some, None, Result, Ok, length}
+use Rattle.cf_base.specs.Event.{Ended, Ticks, Depth, Undefined}
+use Rattle.cf_base.specs.World.{World, Ran, Went, Stops, and_then, shown}
+use Rattle.cf_base.specs.Agree.{Begins}
+use Rattle.cf_core.specs.Store as source
+use Rattle.cf_core.specs.Run.{State, Did, Gives, Exits, Malformed, onward, gives}
+use Rattle.cf_lower_layout.specs.Sorts.{Sort}
+use Rattle.cf_plain.specs.Plain.{Register, Action, act, set}
+use Rattle.cf_plain.specs.Acts.{Registers, acts}
+use Rattle.cf_plain.specs.Running.{Flow, Falls, calls, does, keep as keep_value}
+use Rattle.cc_whole.specs.Plain.{Expression, Place, named, assign}
+use Rattle.cc_whole_memory.specs.declared.value.Value.{Value}
+use Rattle.cc_whole_memory.specs.Blocks.{Memory}
+use Rattle.cc_whole_mean.specs.Values.{value_of, source_of, assigned}
+use Rattle.cc_whole_mean.specs.Flow as c
+use Rattle.cc_whole_mean.specs.Flow.{in_memory, tried}
+use Rattle.cc_whole_mean.specs.Mean as mean
+use Rattle.cf_lower.specs.Kept.{Kept, unknown, integer_of, holds, argument, Keeping, keep, local_kept}
+use Rattle.cf_lower.specs.Written.{register_name}
+use Rattle.cf_lower.specs.Statements.{set_register}
+use Rattle.cf_lower_relate.specs.Map.{Fixed, Map}
+use Rattle.cf_lower_steps.specs.Steps.{HasValue, GivenAs, Step}
+use Rattle.cf_lower_steps.specs.Flows.{Between, Simulates}
+use Rattle.cf_lower_steps.specs.Lowering.{runs}
+use Rattle.cf_lower_steps.proofs.Between.{between-elsewhere}
+use Rattle.cf_lower_steps.proofs.Locals.{locals-elsewhere, locals-stored}
+use Rattle.cf_lower_steps.proofs.Registers.{assign-register}
+use Rattle.cf_lower_steps.proofs.Statements.{different, grows-assign, runs-one}
+use Rattle.cf_lower_steps.proofs.Stores.{Stored, Stores}
+use Rattle.cf_lower_turns.specs.Around.{Around, depth_of, inside_at}
+use Rattle.cf_lower_turns.specs.Here.{Body, Free, Here}
+use Rattle.cf_lower_turns.specs.Ways.{EndsBy, ends}
+use Rattle.cf_lower_turns.specs.Scene.{GivesBack, Scene, fixed_in, c_again_at, helps_at, list_at}
+use Rattle.cf_lower_turns.proofs.Following.{sim-here}
+use Rattle.cf_lower_leaves.proofs.Remains.{assigned-keeps}
+use Rattle.cf_lower_leaves.proofs.After.{here-after, below-keep}
+
+given-value : (K : Fixed) (F : Map) (x : Kept) (t : Sort) (v : source.Value) (found : Result Value ℕ) → local_kept x ≡ Some t → GivenAs K F x v found → HasValue K F x v found
+given-value K F unknown t v found e h = absurd (cc)
+given-value K F (argument i y) t v found e h = absurd (cc)
+given-value K F (integer_of f) t v found e h = h
+given-value K F (holds a) t v found e h = h
+
+module _ (z : Scene) (n : ℕ) (around : Around Keeping) (p q : Keeping) (g : Registers) (s : State) (t : c.State) (w : World)
+    (h : Here (fixed_in z) z.body p (depth_of around) g s t) where
+  abbrev S : Flow → State → c.Flow → Type 0
+  S = ends Keeping z.body.scope (Here (fixed_in z) z.body) (GivesBack (fixed_in z) z.body z.result) around q
+
+  -- ---- a register is set
+
+  module _ (y : Kept) (u : Sort) (r : Register) (lt : r < z.body.own.bound) (local : local_kept y ≡ Some u) (e : Expression)
+      (no_load : source_of e z.body.scope t.memory ≡ None) (comes : q ≡ keep p r y) where
+    set-value : (v : source.Value) → GivenAs (fixed_in z) h.map y v (value_of e z.body.scope t.memory)
+        → Simulates S (Went (Gives (Falls (keep_value g r v)) s) w) (list_at z n (set_register u r e ∷ []) t w)
+    set-value v given =
+        let found = given-value (fixed_in z) h.map y u v (value_of e z.body.scope t.memory) local given in
+        let done = assign-register (fixed_in z) h.map z.body.own s t.memory h.between.rel z.body.scope h.between.blocks p g h.between.registers h.below y u r lt v found.value local
+        found.same e found.is no_load in
+        let after : c.State = in_memory t done.after in
+        sim-here S (Falls (keep_value g r v)) s w (list_at z n (set_register u r e ∷ []) t w) (c.Falls after)
+        (runs-one (c_again_at z n) (helps_at z n) z.c_program z.helper z.body.scope z.depth (set_register u r e) t w after (ap (λ x. tried x w (λ m. Went (c.Falls (in_memory t m)) w)) done.is))
+        (record {
+          after = after;
+          is = refl;
+          related =
+              subst (λ k. Here (fixed_in z) z.body k (depth_of around) (keep_value g r v) s after) (sym comes)
+              (here-after (fixed_in z) z.body p (keep p r y) (depth_of around) g (keep_value g r v) s s t done.after h
+              (record {
+                rel = done.rel;
+                registers = done.registers;
+                blocks = done.own_blocks;
+                locals = locals-elsewhere (fixed_in z) z.body.own h.map z.body.scope s t.memory h.between.locals done.after
+                    (λ i li. done.elsewhere (z.body.own.local i) (different (z.body.own.local i) (z.body.own.block u r) (λ o. (h.between.locals.blocks i li).apart u r lt (sym o)))) done.next;
+              })
+              (below-keep z.body.own p r y h.below lt)
+              (assigned-keeps t.memory done.after z.body.scope (named (register_name u r)) e done.is)
+              (λ d ld. done.elsewhere (z.body.flags.block d) (different (z.body.flags.block d) (z.body.own.block u r) (λ o. h.flags_there.registers d u r ld lt (sym o))))
+              (λ b lb free. done.elsewhere b (different b (z.body.own.block u r) (λ o. let later = h.later.registers u r lt in omega (arith, lb, later, o)))));
+        })
+
+    -- by an action whose C expression is no load, and that changes nothing
+    pub set-step : (ran : Ran (Did source.Value)) → Step (fixed_in z) h.map ran s w y (value_of e z.body.scope t.memory)
+        → Simulates S (and_then ran (λ did w. onward did (λ v. gives (Falls (keep_value g r v))) w)) (list_at z n (set_register u r e ∷ []) t w)
+    set-step (Went (Gives v s') w') step =
+        subst (λ x. Simulates S (Went (Gives (Falls (keep_value g r v)) x) w') (list_at z n (set_register u r e ∷ []) t w)) (sym step.by.0)
+        (subst (λ x. Simulates S (Went (Gives (Falls (keep_value g r v)) s) x) (list_at z n (set_register u r e ∷ []) t w)) (sym step.by.1) (set-value v step.by.2))
+    set-step (Went (Exits x s') w') step = absurd step.by
+    set-step (Went Malformed w') step = record { by = tt }
+    set-step (Stops (Undefined x) trace) step =
+        record { by = subst (λ x. Begins x (shown (list_at z n (set_register u r e ∷ []) t w))) (sym step.by) (grows-assign (c_again_at z n) (helps_at z n) z.c_program z.helper z.body.scope z.depth (named (register_name u r)) e t w).by }
+    set-step (Stops (Ended status) trace) step = absurd step.by
+    set-step (Stops Ticks trace) step = absurd step.by
+    set-step (Stops Depth trace) step = absurd step.by
+
+  -- ---- a store
+
+  module _ (place : Place) (e : Expression) (comes : q ≡ p) where
+    stored-value : (u : State) → Stored (fixed_in z) h.map s u t.memory (assigned place e z.body.scope t.memory)
+        → Simulates S (Went (Gives (Falls g) u) w) (list_at z n (assign place e ∷ []) t w)
+    stored-value u done =
+        let after : c.State = in_memory t done.after in
+        let other : (b : ℕ) → (b ≡ h.map.block done.object → ⊥) → done.after.block b ≡ t.memory.block b =
+        λ b ne. done.elsewhere b (different b (h.map.block done.object) ne) in
+        sim-here S (Falls g) u w (list_at z n (assign place e ∷ []) t w) (c.Falls after)
+        (runs-one (c_again_at z n) (helps_at z n) z.c_program z.helper z.body.scope z.depth (assign place e) t w after (ap (λ x. tried x w (λ m. Went (c.Falls (in_memory t m)) w)) done.is))
+        (record {
+          after = after;
+          is = refl;
+          related =
+              subst (λ k. Here (fixed_in z) z.body k (depth_of around) g u after) (sym comes)
+              (here-after (fixed_in z) z.body p p (depth_of around) g g s u t done.after h
+              (between-elsewhere (fixed_in z) z.body.own z.body.scope h.map p g s u t.memory done.after h.between done.rel
+              (locals-stored (fixed_in z) z.body.own h.map z.body.scope s t.memory h.between.locals u done.after done.rel done.frame done.next done.object done.known done.live done.elsewhere)
+              h.below (λ a r lr. other (z.body.own.block a r) (λ o. h.between.blocks.free a r lr done.object done.known done.live (sym o))))
+              h.below
+              (assigned-keeps t.memory done.after z.body.scope place e done.is)
+              (λ d ld. other (z.body.flags.block d) (λ o. h.flags_there.free d done.object ld done.known done.live (sym o)))
+              (λ b lb free. other b (λ o. free done.object done.known done.live (sym o))));
+        })
+
+    pub store-step : (ran : Ran (Did source.Value)) → Stores (fixed_in z) h.map ran s w t.memory (assigned place e z.body.scope t.memory)
+        → Simulates S (and_then ran (λ did w. onward did (λ v. gives (Falls g)) w)) (list_at z n (assign place e ∷ []) t w)
+    store-step (Went (Gives v u) w') step =
+        subst (λ x. Simulates S (Went (Gives (Falls g) u) x) (list_at z n (assign place e ∷ []) t w)) (sym step.by.0) (stored-value u step.by.1)
+    store-step (Went (Exits x u) w') step = absurd step.by
+    store-step (Went Malformed w') step = record { by = tt }
+    store-step (Stops (Undefined x) trace) step =
+        record { by = subst (λ x. Begins x (shown (list_at z n (assign place e ∷ []) t w))) (sym step.by) (grows-assign (c_again_at z n) (helps_at z n) z.c_program z.helper z.body.scope z.depth place e t w).by }
+    store-step (Stops (Ended status) trace) step = absurd step.by
+    store-step (Stops Ticks trace) step = absurd step.by
+    store-step (Stops Depth trace) step = absurd step.by

@@ -1,0 +1,40 @@
+-- The law on whole programs: what is linked of lowered files does what the plain files mean.
+use Rattle.std.specs.Prelude.{◌≡◌, ℕ, List, [], ◌∷◌, Option, Some, None, Ok}
+use Rattle.cf_base.specs.World.{Outcome}
+use Rattle.cf_base.specs.Agree.{Agree}
+use Rattle.cf_plain.specs.Plain.{PlainFile}
+use Rattle.cf_plain.specs.Joined.{files_mean}
+use Rattle.cc_whole.specs.declared.unit.CUnit.{CUnit}
+use Rattle.cc_whole.specs.declared.unit.CProgram.{CProgram}
+use Rattle.cc_whole.specs.Plain.{items_of}
+use Rattle.cc_whole_link.specs.Link.{Links}
+use Rattle.cc_whole_mean.specs.Start.{c_mean}
+use Rattle.cf_lower.specs.Functions.{lowered_file}
+use Rattle.cf_lower_program.specs.Lowerable.{Lowerable}
+
+-- the unit is what the file is lowered to
+pub record IsLowered (file : PlainFile) (unit : CUnit) : Type 0 where
+  pub version : unit.version ≡ 1
+  pub items : items_of unit.items ≡ lowered_file file
+
+-- each file and its unit, in order
+abbrev pub AreLowered : List PlainFile → List CUnit → Type 0
+AreLowered [] [] = Unit {0}
+AreLowered [] (u ∷ us) = ⊥
+AreLowered (file ∷ files) [] = ⊥
+AreLowered (file ∷ files) (u ∷ us) = (Lowerable file × IsLowered file u) × AreLowered files us
+
+-- The same end and trace; where the source's run comes to an undefined act, its trace is a front of the C's. Of what no valid files make nothing is said.
+abbrev pub AgreesWith : Option Outcome → Outcome → Type 0
+AgreesWith None c = Unit {0}
+AgreesWith (Some s) c = Agree s c
+
+-- for every input, heap limit, depth limit and bound of ticks
+abbrev pub ProgramAgrees : List PlainFile → CProgram → Type 0
+ProgramAgrees files program =
+    (input : List ℕ) (heap depth n : ℕ) → AgreesWith (files_mean files input heap depth n) (c_mean program input heap depth n)
+
+-- The law: of all files that are lowered, and for whatever is linked of their units. It is not proved yet.
+abbrev pub LoweringAgrees : Type 0
+LoweringAgrees =
+    (files : List PlainFile) (units : List CUnit) (program : CProgram) → AreLowered files units → Links units (Ok program) → ProgramAgrees files program
