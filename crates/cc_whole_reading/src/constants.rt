@@ -30,8 +30,8 @@ fn digit_value(byte: u8) -> u8
     }
 }
 
-/// The value of digits, where it fits 32 bits.
-fn magnitude(digits: &[u8]) -> Option<u32>
+/// The value of decimal digits, where it fits 32 bits.
+pub fn magnitude(digits: &[u8]) -> Option<u32>
     ensures { result ≡ up_to_most (digits_value 10 digits.now) }
 {
     let mut rest = digits;

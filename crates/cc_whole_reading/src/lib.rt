@@ -9,6 +9,6 @@ mod constants;
 mod cursor;
 mod stop;
 
-pub use constants::Constants;
+pub use constants::{Constants, magnitude};
 pub use cursor::Cursor;
 pub use stop::Stop;
