@@ -1,5 +1,5 @@
 -- The first environment of a file keeps the invariants, and there are ends to which they apply.
-use Rattle.std.proofs.Common.{◌≡◌, ℕ, zero, suc, ◌<◌, ◌≤◌, List, [], ◌∷◌, Some, IsTrue, slice_get, refl, sym, subst, arith, lit≤}
+use Rattle.std.proofs.Common.{◌≡◌, inl, inr, ℕ, zero, suc, ◌<◌, ◌≤◌, List, [], ◌∷◌, Some, IsTrue, slice_get, refl, sym, subst, arith, lit≤}
 use Rattle.cf_base.specs.declared.kind.Kind.TheVariants.{Int}
 use Rattle.cf_types.specs.declared.ty.Ty.{Ty}
 use Rattle.cf_types.specs.declared.ty.Ty.TheVariants as ty
@@ -21,6 +21,7 @@ first-within s extent names = record {
   funs = record { more = s.tables.types.funs; all = refl };
   enums = record { more = s.tables.classes.enums; all = refl };
   locals = record { more = s.locals; all = refl };
+  statics = λ n x h. absurd cc;
 }
 
 pub first-holds : (s : Scene) → s.result ≡ 0 → (extent : Extent) (names : List Name) → Holds s (first_env extent names)
@@ -30,12 +31,15 @@ first-holds s r extent names = record {
   entities = λ n x o h. absurd cc;
   named_types = λ n x h. absurd cc;
   entries = λ n f h. absurd cc;
+  open_there = λ n o. absurd (elim o [ inl a ↦ a | inr b ↦ b ]);
+  outside = λ n x h home. absurd cc;
+  statics = λ n x h. absurd cc;
   result = sym r;
 }
 
 -- a file of ints
 abbrev of_int : Scene
-of_int = record { tables = record { types = record { types = ty.Int Int ∷ []; funs = [] }; classes = record { labels = []; enums = []; defined = [] } }; statics = []; locals = []; result = 0 }
+of_int = record { tables = record { types = record { types = ty.Int Int ∷ []; funs = [] }; classes = record { labels = []; enums = []; defined = [] } }; statics = []; owners = []; locals = []; result = 0 }
 
 only_int : (i : ℕ) (v : Ty) → slice_get (ty.Int Int ∷ []) i ≡ Some v → ty.Int Int ≡ v
 only_int zero v h = cc

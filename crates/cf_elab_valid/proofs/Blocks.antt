@@ -18,7 +18,7 @@ use Rattle.cf_elab_valid.specs.Scene.{Scene, IsScene, core, Within, Steps, IsNum
 use Rattle.cf_elab_valid.specs.Statements.{body_of, StatementFits, Inner, IsStatement, AreStatements}
 use Rattle.cf_elab_valid.proofs.Moved.{moved-holds, moved-classless}
 use Rattle.cf_elab_valid.proofs.Nodes.{core-Block, known-Block}
-use Rattle.cf_elab_valid.proofs.Scopes.{empty-numbered, left-numbered, left-scopes}
+use Rattle.cf_elab_valid.proofs.Scopes.{empty-numbered, left-numbered, left-scopes, within-another}
 use Rattle.cf_elab_valid.proofs.Statements.{Statement, same-statement, inner-later, statement-later}
 use Rattle.cf_elab_valid.proofs.Ways.{made-fine, onward-fine, within-before, When}
 
@@ -35,12 +35,12 @@ module _ (s : Scene) (scene : IsScene s) (n : ℕ) (m : Bool) where
   statements-later a b [] e g f = tt
   statements-later a b (x ∷ xs) e g f = (statement-later s n m a b x e g f.0, statements-later a b xs e g f.1)
 
-  all-statements : (ss : List (Elab Made)) → AreStatements s n m ss → (e : Env) → Inner s m e → Classless e → When s e (Holds s e) → Fine s (Statements e.hand.breaks e.hand.continues) e (all ss e)
+  all-statements : (ss : List (Elab Made)) → AreStatements s n m ss → (e : Env) → Inner s n m e → Classless e → When s e (Holds s e) → Fine s (Statements e.hand.breaks e.hand.continues) e (all ss e)
   all-statements [] k e i c h = made-fine s (Statements e.hand.breaks e.hand.continues) e [] c h (λ w. tt)
   all-statements (x ∷ xs) k e i c h =
       onward-fine s (Statement s scene n m e) (Statements e.hand.breaks e.hand.continues) e (x e) _ (k.0.fine e i c h)
       (λ y e1 g c1 h1 fy. onward-fine s (Statements e1.hand.breaks e1.hand.continues) (Statements e.hand.breaks e.hand.continues) e1 (all xs e1) (λ ys. gives (y ∷ ys))
-      (all-statements xs k.1 e1 (inner-later s m e e1 g i) c1 h1)
+      (all-statements xs k.1 e1 (inner-later s n m e e1 g i) c1 h1)
       (λ ys e2 g2 c2 h2 fys. made-fine s (Statements e.hand.breaks e.hand.continues) e2 (y ∷ ys) c2 h2
       (λ w. (same-statement s scene n m e.hand.breaks e.hand.continues y e1 e2 (fy (within-before e1 e2 s g2 w)), statements-later e e1 ys e2 g (fys w)))))
 
@@ -53,14 +53,14 @@ module _ (s : Scene) (scene : IsScene s) (n : ℕ) (m : Bool) where
 
   scope-left : (e f : Env) (ms : List Made) (breaks continues : Bool) → Good s (Statements breaks continues) (entered e) ms f → Good s (Statements breaks continues) e ms (left f)
   scope-left e f ms breaks continues g = record {
-    steps = record { types = g.steps.types; funs = g.steps.funs; enums = g.steps.enums; locals = g.steps.locals; hand = g.steps.hand; outer = ap (λ (o : OpenScopes). o.outer) back };
+    steps = record { types = g.steps.types; funs = g.steps.funs; enums = g.steps.enums; locals = g.steps.locals; statics = g.steps.statics; homes = g.steps.homes; hand = g.steps.hand; outer = ap (λ (o : OpenScopes). o.outer) back };
     classless = moved-classless s f.hand (without_last f.scopes.outer) f refl g.classless;
     holds = λ w. moved-holds s f.hand (without_last f.scopes.outer) f refl opened (g.holds (there w));
     made = λ w. same-statements breaks continues ms f (left f) (g.made (there w));
   }
     where
       there : Within (left f) s → Within f s
-      there w = record { types = w.types; funs = w.funs; enums = w.enums; locals = w.locals }
+      there w = record { types = w.types; funs = w.funs; enums = w.enums; locals = w.locals; statics = w.statics }
 
       before : OpenScopes
       before = record { outer = e.scopes.outer; inner = e.scopes.inner }
@@ -71,14 +71,14 @@ module _ (s : Scene) (scene : IsScene s) (n : ℕ) (m : Bool) where
       opened : (i : ℕ) → IsOpen i (without_last f.scopes.outer) → IsOpen i f.scopes
       opened i q = left-numbered i f.scopes.outer (f.scopes.inner ∷ []) (subst (IsNumberedIn i) (sym g.steps.outer) (subst (IsOpen i) back q))
 
-  scoped-fine : (ss : List (Elab Made)) → AreStatements s n m ss → (e : Env) → Inner s m e → Classless e → When s e (Holds s e) → Fine s (Statements e.hand.breaks e.hand.continues) e (scoped (all ss) e)
+  scoped-fine : (ss : List (Elab Made)) → AreStatements s n m ss → (e : Env) → Inner s n m e → Classless e → When s e (Holds s e) → Fine s (Statements e.hand.breaks e.hand.continues) e (scoped (all ss) e)
   scoped-fine ss k e i c h = by (all ss (entered e)) (all-statements ss k (entered e) inside (moved-classless s e.hand (entered e).scopes e refl c) held)
     where
       there : Within (entered e) s → Within e s
-      there w = record { types = w.types; funs = w.funs; enums = w.enums; locals = w.locals }
+      there w = record { types = w.types; funs = w.funs; enums = w.enums; locals = w.locals; statics = w.statics }
 
-      inside : Inner s m (entered e)
-      inside = record { main = i.main; there = λ w. i.there (there w) }
+      inside : Inner s n m (entered e)
+      inside = record { main = i.main; there = λ w. i.there (there w); behind = i.behind; deep = within-another e.scopes.outer e.scopes.inner; owner = i.owner }
 
       held : When s (entered e) (Holds s (entered e))
       held w = moved-holds s e.hand (entered e).scopes e refl (λ j q. empty-numbered j (e.scopes.outer ++ e.scopes.inner ∷ []) q) (h (there w))

@@ -10,12 +10,12 @@ use Rattle.cf_types.specs.declared.ty.Ty.{Ty}
 use Rattle.cf_types.specs.declared.ty.Ty.TheVariants as ty
 use Rattle.cf_types.proofs.Places.{get-last, get-snoc}
 use Rattle.cf_elab.specs.Answer.{Made}
-use Rattle.cf_elab.specs.Env.{Env}
+use Rattle.cf_elab.specs.Env.{Env, object}
 use Rattle.cf_elab.specs.Made.{same_ty, place_in, entered_type, intern, of_kind, pointer_to}
 use Rattle.cf_elab_env.specs.Holds.{without_class}
 use Rattle.cf_elab_valid.specs.Scene.{Scene, Begins, Steps, Inside, PartInside, Classless, Holds}
 use Rattle.cf_elab_valid.specs.Answers.{Fine}
-use Rattle.cf_elab_valid.proofs.Ways.{same-hand, begins-same, begins-last, steps-none, within-before, entity-later, named-later, entry-later, When}
+use Rattle.cf_elab_valid.proofs.Ways.{same-hand, begins-same, begins-last, homes-same, steps-none, within-before, entity-later, named-later, entry-later, When}
 
 both : (x y : Bool) → (x && y) ≡ true → (x ≡ true) × (y ≡ true)
 both true y h = (refl, h)
@@ -64,12 +64,15 @@ holds-types : (s : Scene) (e : Env) (types : List Ty) → Begins e.types.types t
     → Holds s e → Holds s (record e { types = record e.types { types = types } })
 holds-types s e types b parts h =
     let next : Env = record e { types = record e.types { types = types } } in
-    let g : Steps e next = record { types = b; funs = begins-same e.types.funs; enums = begins-same e.classes.enums; locals = begins-same e.hand.locals; hand = same-hand e.hand; outer = refl } in record {
+    let g : Steps e next = record { types = b; funs = begins-same e.types.funs; enums = begins-same e.classes.enums; locals = begins-same e.hand.locals; statics = begins-same e.statics; homes = homes-same e.entities; hand = same-hand e.hand; outer = refl } in record {
       parts = λ n v at. part_same v (parts n v at);
       no_outer = h.no_outer;
       entities = λ n x o k. entity-later s e next x g (h.entities n x o k);
       named_types = λ n x k. named-later e next x g (h.named_types n x k);
       entries = λ n f k. entry-later s e next f g (h.entries n f k);
+      open_there = h.open_there;
+      outside = λ n x k home. entity-later s e next (object x) g (h.outside n x k home);
+      statics = h.statics;
       result = h.result;
     }
   where
@@ -106,7 +109,7 @@ intern-fine s t e plain fun c h = by (place_in (same_ty t) 0 e.types.types) refl
         }
     by None found =
         let next : Env = record e { types = record e.types { types = e.types.types ++ t ∷ [] } } in
-        let g : Steps e next = record { types = begins-last e.types.types t; funs = begins-same e.types.funs; enums = begins-same e.classes.enums; locals = begins-same e.hand.locals; hand = same-hand e.hand; outer = refl } in record {
+        let g : Steps e next = record { types = begins-last e.types.types t; funs = begins-same e.types.funs; enums = begins-same e.classes.enums; locals = begins-same e.hand.locals; statics = begins-same e.statics; homes = homes-same e.entities; hand = same-hand e.hand; outer = refl } in record {
           steps = g;
           classless = record { none = c.none; none_open = c.none_open; no_body = c.no_body; no_type = more_plain e.types.types t c.no_type plain; no_name = c.no_name; no_defaults = c.no_defaults };
           holds = λ w. let before = within-before e next s g w in

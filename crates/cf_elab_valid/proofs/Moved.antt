@@ -48,6 +48,9 @@ module _ (s : Scene) where
     entities = λ i x q at. entity-moved a o e x (k.entities i x (opened i q) at);
     named_types = λ i x at. named-moved a o e x (k.named_types i x at);
     entries = λ i f at. let p = k.entries i f at in record { fun = p.fun; here = p.here };
+    open_there = λ i q. k.open_there i (opened i q);
+    outside = λ i x at home. entity-moved a o e (object x) (k.outside i x at home);
+    statics = k.statics;
     result = r ∙ k.result;
   }
 

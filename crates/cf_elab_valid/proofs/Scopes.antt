@@ -7,6 +7,7 @@ use Rattle.cf_lookup.specs.Scope.{OpenScopes, in_scope, found_in}
 use Rattle.cf_elab.specs.Env.{Name}
 use Rattle.cf_elab.specs.Names.{without_last}
 use Rattle.cf_elab_valid.specs.Scene.{IsNumbered, IsNumberedIn}
+use Rattle.cf_elab_valid.specs.Statements.{is_outermost}
 use Rattle.cf_elab_valid.proofs.Options.{none_some, some_is}
 
 scope-numbered : (name : Name) (xs : List (Name × ℕ)) (n : ℕ) → in_scope name xs ≡ Some n → IsNumbered n xs
@@ -43,3 +44,8 @@ pub left-scopes : (outer : List (List (Name × ℕ))) (inner : List (Name × ℕ
 left-scopes [] inner = refl
 left-scopes (x ∷ []) inner = refl
 left-scopes (x ∷ y ∷ rest) inner = ap (λ (o : OpenScopes). let p : OpenScopes = record o { outer = x ∷ o.outer } in p) (left-scopes (y ∷ rest) inner)
+
+-- a scope in another is not the file's
+pub within-another : (outer : List (List (Name × ℕ))) (inner : List (Name × ℕ)) → is_outermost (outer ++ inner ∷ []) ≡ false
+within-another [] inner = refl
+within-another (x ∷ outer) inner = refl

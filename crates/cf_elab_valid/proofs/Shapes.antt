@@ -12,7 +12,7 @@ use Rattle.cf_syntax.specs.declared.specifier.TypeSpecifier.{TypeSpecifier}
 use Rattle.cf_elab.specs.Answer.{Answer, Made, Refused, Passed, Elab, onward, need, none_at, gives, each, all, maybe}
 use Rattle.cf_elab.specs.Built as built
 use Rattle.cf_elab.specs.Declarator.{pointed, is_nothing, named_at, no_void, all_objects, parameters, as_object, only_whole, type_from, words_of}
-use Rattle.cf_elab.specs.Env.{Env}
+use Rattle.cf_elab.specs.Env.{Env, object}
 use Rattle.cf_elab.specs.Made.{entered_fun, place_in, same_fun, intern, intern_fun, pointer_to, reference_to, array_of, const_if, parameter_step, function_type}
 use Rattle.cf_elab.specs.Operand.{Value, Part, evaluated, Sort, integral, enumeral, object_pointer, void_pointer, function_pointer, data_pointer, method_pointer, class_sort, array_sort, function_sort, void_sort, reference_sort, sort_of, is_array, is_function, is_void, is_reference}
 use Rattle.cf_elab.specs.Shape.{Parameter, Shape, inner, pointing, referring, to_member, taking, holding, is_inner, Position, nowhere, Shaped, whole, unbounded, fine_bound, count_of, parameter_type, typed, bounds_constant}
@@ -28,7 +28,7 @@ use Rattle.cf_elab_valid.proofs.Making.{IsType, place-sound, intern-fine, pointe
 use Rattle.cf_elab_valid.proofs.Named.{IsThere, WordsFit, words-later, words-fine, NamedFits, gathered_named, base-fine}
 use Rattle.cf_elab_valid.proofs.Options.{never_none}
 use Rattle.cf_elab_valid.proofs.Parts.{evaluated-fine}
-use Rattle.cf_elab_valid.proofs.Ways.{same-hand, begins-get, begins-last, begins-same, entity-later, named-later, entry-later, fine-as, as-made, as-onward, as-behind, inside-later, made-fine, onward-fine, steps-through, within-before, When}
+use Rattle.cf_elab_valid.proofs.Ways.{same-hand, begins-get, begins-last, begins-same, homes-same, entity-later, named-later, entry-later, fine-as, as-made, as-onward, as-behind, inside-later, made-fine, onward-fine, steps-through, within-before, When}
 
 pub still-as : {A B : Type 0} (s : Scene) (T : B → Type 0) (R : B → Env → Type 0) (e : Env) (r : Answer A) (go : Env → Answer B) → Still e r → FineAs s T R e (go e) → FineAs s T R e (onward r (λ _. go))
 still-as s T R e (Made a b) go h f = subst (λ x. FineAs s T R e (go x)) (sym h) f
@@ -98,7 +98,7 @@ module _ (s : Scene) where
           made-fine s FunThere e n c h (λ w. let place = r.place in omega arith)
       by None found =
           let next : Env = record e { types = record e.types { funs = e.types.funs ++ g ∷ [] } } in
-          let step : Steps e next = record { types = begins-same e.types.types; funs = begins-last e.types.funs g; enums = begins-same e.classes.enums; locals = begins-same e.hand.locals; hand = same-hand e.hand; outer = refl } in record {
+          let step : Steps e next = record { types = begins-same e.types.types; funs = begins-last e.types.funs g; enums = begins-same e.classes.enums; locals = begins-same e.hand.locals; statics = begins-same e.statics; homes = homes-same e.entities; hand = same-hand e.hand; outer = refl } in record {
             steps = step;
             classless = record { none = c.none; none_open = c.none_open; no_body = c.no_body; no_type = c.no_type; no_name = c.no_name; no_defaults = c.no_defaults };
             holds = λ w. let k = h (within-before e next s step w) in record {
@@ -107,6 +107,9 @@ module _ (s : Scene) where
               entities = λ n x o at. entity-later s e next x step (k.entities n x o at);
               named_types = λ n x at. named-later e next x step (k.named_types n x at);
               entries = λ n f at. entry-later s e next f step (k.entries n f at);
+              open_there = k.open_there;
+              outside = λ n x at home. entity-later s e next (object x) step (k.outside n x at home);
+              statics = k.statics;
               result = k.result;
             };
             made = λ w. omega (arith, length-append e.types.funs (g ∷ []));

@@ -20,7 +20,7 @@ use Rattle.cf_core_typed.specs.Meets.{IsPlace}
 use Rattle.cf_core_typed.proofs.Values.{of_place-is}
 use Rattle.cf_elab.specs.Answer.{Answer, Made, onward, need}
 use Rattle.cf_elab.specs.Complete.{complete, bytes_of}
-use Rattle.cf_elab.specs.Env.{Env}
+use Rattle.cf_elab.specs.Env.{Env, object}
 use Rattle.cf_elab.specs.Expression as expression
 use Rattle.cf_elab.specs.Made.{of_kind, array_of}
 use Rattle.cf_elab.specs.Operand.{Value, constant, place_of, Sort, reference_sort, sort_of}
@@ -38,7 +38,7 @@ use Rattle.cf_elab_valid.proofs.Making.{IsType, intern-fine, of_kind-fine}
 use Rattle.cf_elab_valid.proofs.Names.{constant-fits, one-fine}
 use Rattle.cf_elab_valid.proofs.Nodes.{core-Text, known-Text}
 use Rattle.cf_elab_valid.proofs.Values.{place-fits, type-tree}
-use Rattle.cf_elab_valid.proofs.Ways.{begins-get, begins-inside, begins-same, entity-later, named-later, entry-later, fine-before, made-fine, onward-fine, within-before, When}
+use Rattle.cf_elab_valid.proofs.Ways.{begins-get, begins-inside, begins-same, homes-same, entity-later, named-later, entry-later, fine-before, made-fine, onward-fine, within-before, When}
 
 -- ---- sizes
 
@@ -108,7 +108,7 @@ module _ (s : Scene) (scene : IsScene s) where
   counted n e = record e { hand = record e.hand { literals = n } }
 
   pub counted-steps : (n : ℕ) (e : Env) → Steps e (counted n e)
-  counted-steps n e = record { types = begins-same e.types.types; funs = begins-same e.types.funs; enums = begins-same e.classes.enums; locals = begins-same e.hand.locals; hand = record { kind = refl; result = refl; breaks = refl; continues = refl }; outer = refl }
+  counted-steps n e = record { types = begins-same e.types.types; funs = begins-same e.types.funs; enums = begins-same e.classes.enums; locals = begins-same e.hand.locals; statics = begins-same e.statics; homes = homes-same e.entities; hand = record { link = refl; kind = refl; result = refl; breaks = refl; continues = refl }; outer = refl }
 
   pub counted-classless : (n : ℕ) (e : Env) → Classless e → Classless (counted n e)
   counted-classless n e c = record { none = c.none; none_open = c.none_open; no_body = c.no_body; no_type = c.no_type; no_name = c.no_name; no_defaults = c.no_defaults }
@@ -121,6 +121,9 @@ module _ (s : Scene) (scene : IsScene s) where
         entities = λ i x o at. entity-later s e (counted n e) x (counted-steps n e) (k.entities i x o at);
         named_types = λ i x at. named-later e (counted n e) x (counted-steps n e) (k.named_types i x at);
         entries = λ i f at. entry-later s e (counted n e) f (counted-steps n e) (k.entries i f at);
+        open_there = k.open_there;
+        outside = λ i x at home. entity-later s e (counted n e) (object x) (counted-steps n e) (k.outside i x at home);
+        statics = k.statics;
         result = k.result;
       }
 

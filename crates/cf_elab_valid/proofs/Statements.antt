@@ -1,5 +1,5 @@
 -- Statements that declare nothing: expressions, choices, loops and jumps (6.2 to 6.6).
-use Rattle.std.proofs.Common.{◌≡◌, ℕ, Bool, true, false, not, ◌&&◌, ◌||◌, [], ◌∷◌, Option, Some, None, refl, sym, ap, subst, ◌∙◌, true≢false}
+use Rattle.std.proofs.Common.{◌≡◌, ℕ, arith, Bool, true, false, not, ◌&&◌, ◌||◌, [], ◌∷◌, Option, Some, None, refl, sym, ap, subst, ◌∙◌, true≢false}
 use Rattle.std.specs.Option.{option_map, option_map_or}
 use Rattle.cf_core.specs.declared.operators.LoopForm.{LoopForm}
 use Rattle.cf_core.specs.declared.operators.LoopForm.TheVariants as form
@@ -27,9 +27,9 @@ use Rattle.cf_elab.specs.Statement as row
 use Rattle.cf_elab.specs.Statement.{Made, made, no_label, is_main_body}
 use Rattle.cf_elab.specs.UserFit.{initial}
 use Rattle.cf_elab_valid.specs.Answers.{Fine, IsPart}
-use Rattle.cf_elab_valid.specs.Scene.{Scene, IsScene, tree, typed, core, Within, Steps, Inside, Classless, Holds, Fits}
+use Rattle.cf_elab_valid.specs.Scene.{Scene, IsScene, tree, typed, core, OwnerThere, Within, Steps, Inside, Classless, Holds, Fits}
 use Rattle.cf_elab_valid.specs.Sorts.{SortIs}
-use Rattle.cf_elab_valid.specs.Statements.{body_of, StatementFits, Inner, IsStatement}
+use Rattle.cf_elab_valid.specs.Statements.{body_of, StatementFits, is_outermost, Inner, IsStatement}
 use Rattle.cf_elab_valid.proofs.Arithmetic.{IsOperand, IsTested, tested-condition}
 use Rattle.cf_elab_valid.proofs.Choice.{class_truth-fine, fits-expression}
 use Rattle.cf_elab_valid.proofs.Early.{early-sort-is}
@@ -39,7 +39,7 @@ use Rattle.cf_elab_valid.proofs.Nodes.{core-Sequence, known-Sequence, core-Full,
 use Rattle.cf_elab_valid.proofs.Options.{none_some, some_is}
 use Rattle.cf_elab_valid.proofs.Parts.{evaluated-fine}
 use Rattle.cf_elab_valid.proofs.Unary.{unused-node}
-use Rattle.cf_elab_valid.proofs.Ways.{fits-later, fits-when, inside-later, made-fine, onward-fine, steps-through, within-before, When}
+use Rattle.cf_elab_valid.proofs.Ways.{begins-longer, fits-later, fits-when, inside-later, made-fine, onward-fine, steps-through, within-before, When}
 
 -- ---- the nodes
 
@@ -79,10 +79,13 @@ full_fits : (f : Body) (b k : Bool) (c : Core) → is_expression (typing f.scope
 full_fits f b k blank h = refl
 full_fits f b k c h = h
 
-pub inner-later : (s : Scene) (m : Bool) (a b : Env) → Steps a b → Inner s m a → Inner s m b
-inner-later s m a b g i = record {
+pub inner-later : (s : Scene) (n : ℕ) (m : Bool) (a b : Env) → Steps a b → Inner s n m a → Inner s n m b
+inner-later s n m a b g i = record {
   main = λ h. i.main (ap is_main_body (sym g.hand.kind) ∙ h);
   there = λ w. subst (Inside b) (sym g.hand.result) (inside-later a b a.hand.result g (i.there (within-before a b s g w)));
+  behind = let longer = begins-longer a.hand.locals b.hand.locals g.locals in let before = i.behind in omega arith;
+  deep = ap is_outermost g.outer ∙ i.deep;
+  owner = subst (λ l. OwnerThere s (Some l)) (sym g.hand.link) i.owner;
 }
 
 pub statement-later : (s : Scene) (n : ℕ) (m : Bool) (a b : Env) (x : Made) (e : Env) → Steps a b → StatementFits s n m b.hand.breaks b.hand.continues x e → StatementFits s n m a.hand.breaks a.hand.continues x e
@@ -194,9 +197,9 @@ module _ (s : Scene) (scene : IsScene s) (n : ℕ) (m : Bool) where
       → IsStatement s n m (row.if_row at x first other)
   if-statement at x first other part k l = record {
     fine = λ e i c h. onward-fine s (IsOperand s) (Statement e) e (evaluated x e) _ (evaluated-fine s scene x e part c h)
-        (λ v e1 g1 c1 h1 f. let i1 = inner-later s m e e1 g1 i in
+        (λ v e1 g1 c1 h1 f. let i1 = inner-later s n m e e1 g1 i in
         onward-fine s (Statement e1) (Statement e) e1 (first e1) _ (k.fine e1 i1 c1 h1)
-        (λ a e2 g2 c2 h2 fa. behind other l v a e e2 (inner-later s m e1 e2 g2 i1) c2 h2 (fits-when s e1 e2 v g2 f) (λ w. statement-later s n m e e1 a e2 g1 (fa w)) (steps-through e e1 e2 g1 g2)));
+        (λ a e2 g2 c2 h2 fa. behind other l v a e e2 (inner-later s n m e1 e2 g2 i1) c2 h2 (fits-when s e1 e2 v g2 f) (λ w. statement-later s n m e e1 a e2 g1 (fa w)) (steps-through e e1 e2 g1 g2)));
   }
     where
       Branch : Env → Option Made → Env → Type 0
@@ -210,7 +213,7 @@ module _ (s : Scene) (scene : IsScene s) (n : ℕ) (m : Bool) where
           (λ w. let early = within-before e3 e4 s g4 w in
           if-fits at q a o e.hand.breaks e.hand.continues e4 (fq w) (same-statement e.hand.breaks e.hand.continues a e3 e4 (fa early)) (λ b is. same-statement e.hand.breaks e.hand.continues b e3 e4 (fo early b is))))
 
-      behind : (o : Option (Elab Made)) → ((run : Elab Made) → o ≡ Some run → IsStatement s n m run) → (v : Value) (a : Made) (e e2 : Env) → Inner s m e2 → Classless e2 → When s e2 (Holds s e2) → When s e2 (Fits s e2 v)
+      behind : (o : Option (Elab Made)) → ((run : Elab Made) → o ≡ Some run → IsStatement s n m run) → (v : Value) (a : Made) (e e2 : Env) → Inner s n m e2 → Classless e2 → When s e2 (Holds s e2) → When s e2 (Fits s e2 v)
           → When s e2 (Statement e a e2) → Steps e e2 → Fine s (Statement e) e2 (onward (maybe_run (λ (r : Elab Made). r) o e2) (λ b f. onward (row.condition at v f) (λ q. gives (if_made at q a b))))
       behind None l v a e e2 i c h fv fa g = chosen v a None e e2 c h fv fa (λ w b is. absurd (none_some b is))
       behind (Some run) l v a e e2 i c h fv fa g =
@@ -230,17 +233,17 @@ module _ (s : Scene) (scene : IsScene s) (n : ℕ) (m : Bool) where
   flagged-classless b k e c = moved-classless s (record e.hand { breaks = b; continues = k }) e.scopes e refl c
 
   within-flagged : (b k : Bool) (e : Env) → Within (flagged b k e) s → Within e s
-  within-flagged b k e w = record { types = w.types; funs = w.funs; enums = w.enums; locals = w.locals }
+  within-flagged b k e w = record { types = w.types; funs = w.funs; enums = w.enums; locals = w.locals; statics = w.statics }
 
   flagged-holds : (b k : Bool) (e : Env) → When s e (Holds s e) → When s (flagged b k e) (Holds s (flagged b k e))
   flagged-holds b k e h w = moved-holds s (record e.hand { breaks = b; continues = k }) e.scopes e refl (λ i q. q) (h (within-flagged b k e w))
 
   -- a body in which both may stand
-  looped-fine : (run : Elab Made) → IsStatement s n m run → (e : Env) → Inner s m e → Classless e → When s e (Holds s e) → Fine s (λ x f. StatementFits s n m true true x f) e (row.looped run e)
+  looped-fine : (run : Elab Made) → IsStatement s n m run → (e : Env) → Inner s n m e → Classless e → When s e (Holds s e) → Fine s (λ x f. StatementFits s n m true true x f) e (row.looped run e)
   looped-fine run k e i c h = by (run (flagged true true e)) (k.fine (flagged true true e) inside (flagged-classless true true e c) (flagged-holds true true e h))
     where
-      inside : Inner s m (flagged true true e)
-      inside = record { main = i.main; there = λ w. i.there (within-flagged true true e w) }
+      inside : Inner s n m (flagged true true e)
+      inside = record { main = i.main; there = λ w. i.there (within-flagged true true e w); behind = i.behind; deep = i.deep; owner = i.owner }
 
       by : (r : Answer Made) → Fine s (λ x f. StatementFits s n m true true x f) (flagged true true e) r
           → Fine s (λ x f. StatementFits s n m true true x f) e (onward r (λ x f. MadeIn x (flagged e.hand.breaks e.hand.continues f)))
@@ -250,7 +253,9 @@ module _ (s : Scene) (scene : IsScene s) (n : ℕ) (m : Bool) where
           funs = g.steps.funs;
           enums = g.steps.enums;
           locals = g.steps.locals;
-          hand = record { kind = g.steps.hand.kind; result = g.steps.hand.result; breaks = refl; continues = refl };
+          statics = g.steps.statics;
+          homes = g.steps.homes;
+          hand = record { link = g.steps.hand.link; kind = g.steps.hand.kind; result = g.steps.hand.result; breaks = refl; continues = refl };
           outer = g.steps.outer;
         };
         classless = flagged-classless e.hand.breaks e.hand.continues f g.classless;
@@ -274,7 +279,7 @@ module _ (s : Scene) (scene : IsScene s) (n : ℕ) (m : Bool) where
   pub while-statement : (at : ℕ) (x : Part) (body : Elab Made) → IsPart s x → IsStatement s n m body → IsStatement s n m (row.while_row at x body)
   while-statement at x body part k = record {
     fine = λ e i c h. onward-fine s (IsOperand s) (Statement e) e (evaluated x e) _ (evaluated-fine s scene x e part c h)
-        (λ v e1 g1 c1 h1 f. onward-fine s (λ b f. StatementFits s n m true true b f) (Statement e) e1 (row.looped body e1) _ (looped-fine body k e1 (inner-later s m e e1 g1 i) c1 h1)
+        (λ v e1 g1 c1 h1 f. onward-fine s (λ b f. StatementFits s n m true true b f) (Statement e) e1 (row.looped body e1) _ (looped-fine body k e1 (inner-later s n m e e1 g1 i) c1 h1)
         (λ b e2 g2 c2 h2 fb. onward-fine s IsCondition (Statement e) e2 (row.condition at v e2) (λ q. gives (row.loop_made at (row.loop_of at form.While (Some q) None b) b)) (condition-fine at v e2 c2 h2 (fits-when s e1 e2 v g2 f))
         (λ q e3 g3 c3 h3 fq. made-fine s (Statement e) e3 (row.loop_made at (row.loop_of at form.While (Some q) None b) b) c3 h3
         (λ w. loop-fits at form.While q b e.hand.breaks e.hand.continues e3 (fq w) (same-statement true true b e2 e3 (fb (within-before e2 e3 s g3 w)))))));
@@ -318,7 +323,7 @@ module _ (s : Scene) (scene : IsScene s) (n : ℕ) (m : Bool) where
     pub numbers : maybe_of s.tables (option_map (are_known s.tables) o) ≡ true
     pub fine : (breaks continues : Bool) → fits (body_of s n m) breaks continues (give (maybe (option_map (core s) o))) ≡ true
 
-  returned-none : (at : ℕ) (e : Env) → Inner s m e → Classless e → When s e (Holds s e) → Fine s Returns e (row.returned at None e)
+  returned-none : (at : ℕ) (e : Env) → Inner s n m e → Classless e → When s e (Holds s e) → Fine s Returns e (row.returned at None e)
   returned-none at e i c h = by (is_void_sort (sort_of e.types e.hand.result)) refl (is_main_body e.hand.kind) refl
     where
       by : (a : Bool) → is_void_sort (sort_of e.types e.hand.result) ≡ a → (b : Bool) → is_main_body e.hand.kind ≡ b → Fine s Returns e (onward (need (a || b) 22 at e) (λ _. gives None))
@@ -331,7 +336,7 @@ module _ (s : Scene) (scene : IsScene s) (n : ℕ) (m : Bool) where
           sorted : (w : Within e s) → SortIs s.tables (sort_of e.types e.hand.result) (tree s e.hand.result)
           sorted w = early-sort-is s.tables scene.table e.types w.types scene.no_class scene.none_to_reference e.hand.result (i.there w)
 
-  returned-some : (at : ℕ) (v : Value) (e : Env) → Inner s m e → Classless e → When s e (Holds s e) → When s e (Fits s e v) → Fine s Returns e (row.returned at (Some v) e)
+  returned-some : (at : ℕ) (v : Value) (e : Env) → Inner s n m e → Classless e → When s e (Holds s e) → When s e (Fits s e v) → Fine s Returns e (row.returned at (Some v) e)
   returned-some at v e i c h f = by (is_void_sort (sort_of e.types e.hand.result)) refl
     where
       by : (a : Bool) → is_void_sort (sort_of e.types e.hand.result) ≡ a → Fine s Returns e (onward (need (not a) 22 at e) (λ _ g. onward (initial no_keeper at e.hand.result v g) (λ x k. MadeIn (Some x.node) k)))
@@ -358,18 +363,18 @@ module _ (s : Scene) (scene : IsScene s) (n : ℕ) (m : Bool) where
           onward-fine s Returns (Statement e) e1 (row.returned at o e1) (λ q. gives (made at (node.Return at q))) f
           (λ q e2 g c2 h2 r. made-fine s (Statement e) e2 (made at (node.Return at q)) c2 h2 (λ w. there q e.hand.breaks e.hand.continues e2 (r w)))
 
-      by : (o : Option Part) → ((p : Part) → o ≡ Some p → IsPart s p) → (e : Env) → Inner s m e → Classless e → When s e (Holds s e) → Fine s (Statement e) e (row.return_row at o e)
+      by : (o : Option Part) → ((p : Part) → o ≡ Some p → IsPart s p) → (e : Env) → Inner s n m e → Classless e → When s e (Holds s e) → Fine s (Statement e) e (row.return_row at o e)
       by None part e i c h = behind None e e (returned-none at e i c h)
       by (Some p) part e i c h =
           onward-fine s Given (Statement e) e (onward (evaluated p e) (λ v. gives (Some v))) _
           (onward-fine s (IsOperand s) Given e (evaluated p e) (λ v. gives (Some v)) (evaluated-fine s scene p e (part p refl) c h) (λ v e1 g c1 h1 f. made-fine s Given e1 (Some v) c1 h1 f))
-          (λ o e1 g c1 h1 f. given o e e1 (inner-later s m e e1 g i) c1 h1 f)
+          (λ o e1 g c1 h1 f. given o e e1 (inner-later s n m e e1 g i) c1 h1 f)
         where
           Given : Option Value → Env → Type 0
           Given None e = ⊥
           Given (Some v) e = Fits s e v
 
-          given : (o : Option Value) (e e1 : Env) → Inner s m e1 → Classless e1 → When s e1 (Holds s e1) → When s e1 (Given o e1) → Fine s (Statement e) e1 (onward (row.returned at o e1) (λ q. gives (made at (node.Return at q))))
+          given : (o : Option Value) (e e1 : Env) → Inner s n m e1 → Classless e1 → When s e1 (Holds s e1) → When s e1 (Given o e1) → Fine s (Statement e) e1 (onward (row.returned at o e1) (λ q. gives (made at (node.Return at q))))
           given None e e1 i c h f = behind None e e1 (returned-none at e1 i c h)
           given (Some v) e e1 i c h f = behind (Some v) e e1 (returned-some at v e1 i c h f)
 
@@ -425,7 +430,7 @@ module _ (s : Scene) (scene : IsScene s) (n : ℕ) (m : Bool) where
         (λ f e1 g1 c1 h1 ff. onward-fine s (λ o d. (v : Value) → o ≡ Some v → Fits s d v) (Statement e) e1 (maybe_run evaluated x e1) _ (maybe-fine (IsOperand s) evaluated x e1 c1 h1 (λ p is. evaluated-fine s scene p e1 (px p is) c1 h1))
         (λ v e2 g2 c2 h2 fv. onward-fine s (λ o d. (u : Value) → o ≡ Some u → Fits s d u) (Statement e) e2 (maybe_run evaluated step e2) _ (maybe-fine (IsOperand s) evaluated step e2 c2 h2 (λ p is. evaluated-fine s scene p e2 (ps p is) c2 h2))
         (λ t e3 g3 c3 h3 ft. let g = steps-through e e2 e3 (steps-through e e1 e2 g1 g2) g3 in
-        onward-fine s (λ b d. StatementFits s n m true true b d) (Statement e) e3 (row.looped body e3) _ (looped-fine body l e3 (inner-later s m e e3 g i) c3 h3)
+        onward-fine s (λ b d. StatementFits s n m true true b d) (Statement e) e3 (row.looped body e3) _ (looped-fine body l e3 (inner-later s n m e e3 g i) c3 h3)
         (λ b e4 g4 c4 h4 fb. onward-fine s (λ o d. (q : Node) → o ≡ Some q → IsCondition q d) (Statement e) e4 (maybe_run (row.condition at) v e4) (λ o d. MadeIn (row.with_first at f b (row.loop_of at form.For o (row.step_node d t) b)) d)
         (maybe-fine IsCondition (row.condition at) v e4 c4 h4 (λ u is. condition-fine at u e4 c4 h4 (fits-when s e2 e4 u (steps-through e2 e3 e4 g3 g4) (λ w. fv w u is))))
         (λ o e5 g5 c5 h5 fo. made-fine s (Statement e) e5 (row.with_first at f b (row.loop_of at form.For o (row.step_node e5 t) b)) c5 h5

@@ -1,12 +1,12 @@
 -- On the way to the end: what is there already is there as it will be.
-use Rattle.std.proofs.Common.{◌≡◌, ℕ, ◌<◌, List, [], ◌∷◌, ◌++◌, length, Some, slice_get, refl, sym, ap, ◌∙◌, arith, length-append, append_assoc}
+use Rattle.std.proofs.Common.{◌≡◌, ℕ, ◌<◌, ◌≤◌, List, [], ◌∷◌, ◌++◌, length, Some, slice_get, refl, sym, ap, ◌∙◌, arith, length-append, append_assoc}
 use Rattle.std.proofs.lemmas.List.{append-nil}
 use Rattle.cf_types.specs.declared.ty.Ty.TheVariants as ty
 use Rattle.cf_types.proofs.Places.{get-left}
 use Rattle.cf_elab.specs.Env.{Env, Hand, Entity, object, functions, alias, class_name, enum_name, enumerator, FunctionEntry}
 use Rattle.cf_elab.specs.Answer.{Answer, Made, Refused, Passed, onward}
 use Rattle.cf_elab.specs.Operand.{Value}
-use Rattle.cf_elab_valid.specs.Scene.{Scene, Begins, Within, SameHand, Steps, Inside, EntityFits, TypeFits, EntryFits, Classless, Holds, Fits}
+use Rattle.cf_elab_valid.specs.Scene.{Scene, Begins, Within, SameHand, HomesStay, Steps, Inside, EntityFits, TypeFits, EntryFits, Classless, Holds, Fits}
 use Rattle.cf_elab_valid.specs.Answers.{Fine, FineAs}
 
 -- ---- lists that begin another
@@ -26,13 +26,25 @@ begins-get xs ys i x b h = ap (λ l. slice_get l i) b.all ∙ get-left xs b.more
 pub begins-inside : {A : Type 0} (xs ys : List A) (i : ℕ) → Begins xs ys → i < length xs → i < length ys
 begins-inside xs ys i b h = omega (arith, ap length b.all, length-append xs b.more)
 
+pub begins-longer : {A : Type 0} (xs ys : List A) → Begins xs ys → length xs ≤ length ys
+begins-longer xs ys b = omega (arith, ap length b.all, length-append xs b.more)
+
 -- ---- steps
 
+pub homes-same : (xs : List Entity) → HomesStay xs xs
+homes-same xs n x at = record { entity = x; here = at; home = refl }
+
+pub homes-last : (xs : List Entity) (y : Entity) → HomesStay xs (xs ++ y ∷ [])
+homes-last xs y n x at = record { entity = x; here = get-left xs (y ∷ []) n x at; home = refl }
+
+pub homes-through : (xs ys zs : List Entity) → HomesStay xs ys → HomesStay ys zs → HomesStay xs zs
+homes-through xs ys zs f g n x at = let a = f n x at in let b = g n a.entity a.here in record { entity = b.entity; here = b.here; home = b.home ∙ a.home }
+
 pub same-hand : (h : Hand) → SameHand h h
-same-hand h = record { kind = refl; result = refl; breaks = refl; continues = refl }
+same-hand h = record { link = refl; kind = refl; result = refl; breaks = refl; continues = refl }
 
 pub steps-none : (e : Env) → Steps e e
-steps-none e = record { types = begins-same e.types.types; funs = begins-same e.types.funs; enums = begins-same e.classes.enums; locals = begins-same e.hand.locals; hand = same-hand e.hand; outer = refl }
+steps-none e = record { types = begins-same e.types.types; funs = begins-same e.types.funs; enums = begins-same e.classes.enums; locals = begins-same e.hand.locals; statics = begins-same e.statics; homes = homes-same e.entities; hand = same-hand e.hand; outer = refl }
 
 pub steps-through : (a b c : Env) → Steps a b → Steps b c → Steps a c
 steps-through a b c g h = record {
@@ -40,7 +52,10 @@ steps-through a b c g h = record {
   funs = begins-through a.types.funs b.types.funs c.types.funs g.funs h.funs;
   enums = begins-through a.classes.enums b.classes.enums c.classes.enums g.enums h.enums;
   locals = begins-through a.hand.locals b.hand.locals c.hand.locals g.locals h.locals;
+  statics = begins-through a.statics b.statics c.statics g.statics h.statics;
+  homes = homes-through a.entities b.entities c.entities g.homes h.homes;
   hand = record {
+    link = h.hand.link ∙ g.hand.link;
     kind = h.hand.kind ∙ g.hand.kind;
     result = h.hand.result ∙ g.hand.result;
     breaks = h.hand.breaks ∙ g.hand.breaks;
@@ -55,6 +70,7 @@ within-before a b s g w = record {
   funs = begins-through a.types.funs b.types.funs s.tables.types.funs g.funs w.funs;
   enums = begins-through a.classes.enums b.classes.enums s.tables.classes.enums g.enums w.enums;
   locals = begins-through a.hand.locals b.hand.locals s.locals g.locals w.locals;
+  statics = λ n x at. w.statics n x (begins-get a.statics b.statics n x g.statics at);
 }
 
 pub inside-later : (a b : Env) (t : ℕ) → Steps a b → Inside a t → Inside b t

@@ -2,7 +2,8 @@
 --
 -- Nodes are typed by the tables of the end. An environment on the way has the first types of them, so nothing has to be said of a node when its
 -- tables grow.
-use Rattle.std.specs.Prelude.{◌≡◌, ◌⊎◌, ℕ, ◌<◌, ◌≤◌, Bool, true, false, not, ◌||◌, List, [], ◌∷◌, ◌++◌, length, map, ℤ, Option, None, Some, slice_get}
+use Rattle.std.specs.Prelude.{◌≡◌, ◌⊎◌, ℕ, ◌<◌, ◌≤◌, Bool, true, false, not, ◌&&◌, ◌||◌, List, [], ◌∷◌, ◌++◌, length, map, find, bytes_eq, is_some, ℤ, Option, None, Some, slice_get}
+use Rattle.std.specs.List.{list_any}
 use Rattle.cf_types.specs.declared.ty.Ty.{Ty}
 use Rattle.cf_types.specs.declared.ty.Ty.TheVariants as ty
 use Rattle.cf_types.specs.Table.{IsTable}
@@ -10,10 +11,13 @@ use Rattle.cf_classes.specs.Layout.{extent}
 use Rattle.cf_classes.specs.declared.label.Label.{Label}
 use Rattle.cf_lookup.specs.Scope.{OpenScopes}
 use Rattle.cf_core.specs.declared.node.Core.{Core as Node}
+use Rattle.cf_core.specs.declared.unit.CoreStatic.{CoreStatic}
 use Rattle.cf_core.specs.Core.{Core, Static}
 use Rattle.cf_core.specs.FromClasses.{signature_of}
 use Rattle.cf_core.specs.FromTypes.{Tables, type_of}
-use Rattle.cf_core.specs.Numbers.{are_known}
+use Rattle.cf_core.specs.FromUnit.{static_of}
+use Rattle.cf_core.specs.Joined.{is_nothing}
+use Rattle.cf_core.specs.Numbers.{are_known, has_type}
 use Rattle.cf_core.specs.Typed.{typing}
 use Rattle.cf_core.specs.Places.{is_reference}
 use Rattle.cf_core.specs.Types.{SourceType, is_void}
@@ -22,18 +26,20 @@ use Rattle.cf_core.specs.View.{core_of}
 use Rattle.cf_core_typed.specs.Meets.{IsPlace, IsValue}
 use Rattle.cf_core_typed.specs.Same.{Same, is_operand}
 use Rattle.cf_elab.specs.Complete.{most_bytes}
-use Rattle.cf_elab.specs.Env.{Env, Hand, Name, Home, local_home, static_home, Entity, object, functions, alias, class_name, enum_name, enumerator, FunctionEntry}
+use Rattle.cf_elab.specs.Env.{Env, Hand, Name, Object, Home, local_home, static_home, Entity, object, functions, alias, class_name, enum_name, enumerator, FunctionEntry}
 use Rattle.cf_elab.specs.Members.{class_of_body}
+use Rattle.cf_elab.specs.Objects.{is_static_home}
 use Rattle.cf_elab.specs.Operand.{Value, Operand, value, functions as named_functions}
 use Rattle.cf_elab_env.specs.Holds.{HasNoClass}
 use Rattle.cf_elab_valid.specs.Sorts.{NoneToReference}
 
 -- ---- the end
 
--- the tables and the static objects of the file, and of the function at hand the types of its locals and of its result
+-- the tables, the static objects and the link names of the functions of the file, and of the function at hand the types of its locals and of its result
 pub record Scene : Type 0 where
   pub tables : Tables
   pub statics : List Static
+  pub owners : List Name
   pub locals : List ℕ
   pub result : ℕ
 
@@ -64,26 +70,48 @@ pub record Begins {A : Type 0} (xs ys : List A) : Type 0 where
   pub more : List A
   pub all : ys ≡ xs ++ more
 
--- what an environment has of types, of enumerations and of locals stands first at the end
+-- each static object is the one that the end has by its name
+abbrev pub AreThere : Scene → List CoreStatic → Type 0
+AreThere s xs = (n : ℕ) (x : CoreStatic) → slice_get xs n ≡ Some x → find (λ (y : Static). bytes_eq y.name x.name) s.statics ≡ Some (static_of s.tables x)
+
+-- what an environment has of types, of enumerations and of locals stands first at the end, which has its static objects
 pub record Within (env : Env) (s : Scene) : Type 0 where
   pub types : Begins env.types.types s.tables.types.types
   pub funs : Begins env.types.funs s.tables.types.funs
   pub enums : Begins env.classes.enums s.tables.classes.enums
   pub locals : Begins env.hand.locals s.locals
+  pub statics : AreThere s env.statics
 
 -- the function at hand is the same, and `break` and `continue` may stand as before
 pub record SameHand (old new : Hand) : Type 0 where
+  pub link : new.link ≡ old.link
   pub kind : new.kind ≡ old.kind
   pub result : new.result ≡ old.result
   pub breaks : new.breaks ≡ old.breaks
   pub continues : new.continues ≡ old.continues
 
--- nothing of types, enumerations and locals is lost or changed, and the scopes around are the same
+-- a parameter or a local
+abbrev pub in_frame : Entity → Bool
+in_frame (object x) = not (is_static_home x.home)
+in_frame other = false
+
+-- what stands there later, in a frame if it was
+pub record StaysAt (new : List Entity) (n : ℕ) (x : Entity) : Type 0 where
+  pub entity : Entity
+  pub here : slice_get new n ≡ Some entity
+  pub home : in_frame entity ≡ in_frame x
+
+abbrev pub HomesStay : List Entity → List Entity → Type 0
+HomesStay old new = (n : ℕ) (x : Entity) → slice_get old n ≡ Some x → StaysAt new n x
+
+-- nothing of types, enumerations, locals and static objects is lost or changed, and the scopes around are the same
 pub record Steps (old new : Env) : Type 0 where
   pub types : Begins old.types.types new.types.types
   pub funs : Begins old.types.funs new.types.funs
   pub enums : Begins old.classes.enums new.classes.enums
   pub locals : Begins old.hand.locals new.hand.locals
+  pub statics : Begins old.statics new.statics
+  pub homes : HomesStay old.entities new.entities
   pub hand : SameHand old.hand new.hand
   pub outer : new.scopes.outer ≡ old.scopes.outer
 
@@ -148,13 +176,34 @@ pub record Classless (env : Env) : Type 0 where
   pub no_name : (n c : ℕ) → slice_get env.entities n ≡ Some (class_name c) → ⊥
   pub no_defaults : (n : ℕ) (f : FunctionEntry) → slice_get env.entries n ≡ Some f → f.defaults ≡ []
 
--- what can be named fits
+-- ---- static objects
+
+-- names are looked at from outside of functions
+abbrev pub file_scope : Scene → Scope
+file_scope s = record { classes = []; statics = s.statics; locals = []; this = None }
+
+-- the function whose statements reach the initialiser is one of the file
+abbrev pub OwnerThere : Scene → Option Name → Type 0
+OwnerThere s None = Unit {0}
+OwnerThere s (Some name) = list_any (λ (n : Name). bytes_eq n name) s.owners ≡ true
+
+-- the initialiser starts an object of the type, or stands in the function that owns it
+pub record StaticFits (s : Scene) (x : CoreStatic) : Type 0 where
+  pub type : has_type s.tables x.ty ≡ true
+  pub numbers : are_known s.tables x.start ≡ true
+  pub start : ((is_some x.owner && is_nothing (core s x.start)) || (typing (file_scope s) (core s x.start)).start (tree s x.ty)) ≡ true
+  pub owner : OwnerThere s x.owner
+
+-- what can be named fits, objects outside of frames whether they are hidden or not, and static objects are initialised
 pub record Holds (s : Scene) (env : Env) : Type 0 where
   pub parts : (t : ℕ) (v : Ty) → slice_get env.types.types t ≡ Some v → PartInside env v
   pub no_outer : (n : ℕ) (l : Label) → slice_get env.classes.enums n ≡ Some l → l.outer ≡ None
   pub entities : (n : ℕ) (e : Entity) → IsOpen n env.scopes → slice_get env.entities n ≡ Some e → EntityFits s env e
   pub named_types : (n : ℕ) (e : Entity) → slice_get env.entities n ≡ Some e → TypeFits env e
   pub entries : (n : ℕ) (f : FunctionEntry) → slice_get env.entries n ≡ Some f → EntryFits s env f
+  pub open_there : (n : ℕ) → IsOpen n env.scopes → n < length env.entities
+  pub outside : (n : ℕ) (x : Object) → slice_get env.entities n ≡ Some (object x) → is_static_home x.home ≡ true → EntityFits s env (object x)
+  pub statics : (n : ℕ) (x : CoreStatic) → slice_get env.statics n ≡ Some x → StaticFits s x
   pub result : env.hand.result ≡ s.result
 
 -- ---- values

@@ -26,28 +26,23 @@ use Rattle.cf_elab_valid.proofs.Names.{operand-onward, value_of-fine}
 use Rattle.cf_elab_valid.proofs.Nodes.{core-List, core-Zeros, core-Characters, known-List, known-Zeros, known-Characters}
 use Rattle.cf_elab_valid.proofs.Sizes.{literal-fine}
 use Rattle.cf_elab_valid.proofs.Ways.{inside-later, made-fine, onward-fine, within-before, When}
-use Rattle.cf_elab_valid_objects.specs.Starts.{StartFits, Allows, IsKeeper, TreeFits}
-use Rattle.cf_elab_valid_objects.proofs.Kept.{Given, initial-as}
+use Rattle.cf_elab_valid_objects.specs.Starts.{StartFits, IsKeeper, TreeFits}
+use Rattle.cf_elab_valid_objects.proofs.Kept.{initial-as}
+use Rattle.cf_elab_valid_objects.proofs.References.{reference-told}
 use Rattle.cf_elab_valid_objects.proofs.Plans.{plan_count, element_of, ScalarIs, ArrayOf, PlanFits, PlansFit, plans-later}
 
--- the two tests of a reference are the same
-pub reference-told : (scope : Scope) (t : SourceType) → typed_form.is_reference scope t ≡ is_reference t
-reference-told scope (reference t) = refl
-reference-told scope (const t) = reference-told scope t
-reference-told scope t = refl
-
-module _ (s : Scene) (scene : IsScene s) (Asks : SourceType → Type 0) (keeper : ℕ → Elab Keeper) (keeps : IsKeeper s Asks keeper) where
+module _ (s : Scene) (scene : IsScene s) (keeper : ℕ → Elab Keeper) (keeps : IsKeeper s keeper) where
   abbrev pub Started : SourceType → Start → Env → Type 0
-  Started t = Given s scene Asks keeper keeps (Allows Asks t) t
+  Started t x e = StartFits s t x
 
   -- ---- a value
 
   tree-fine : (at u : ℕ) (x : Tree) (t : SourceType) (e : Env) → Classless e → When s e (Holds s e) → When s e (Inside e u) → When s e (ScalarIs s u t) → When s e (TreeFits s e x) → Fine s (Started t) e (by_tree keeper at u x e)
-  tree-fine at u (leaf p v) t e c h i is f = initial-as s scene Asks keeper keeps e v c h f at u t i (λ w. (is w).no_void) (λ w. (is w).same) (λ w. (is w).whole)
+  tree-fine at u (leaf p v) t e c h i is f = initial-as s scene keeper keeps e v c h f at u t i (λ w. (is w).no_void) (λ w. (is w).same) (λ w. (is w).whole)
   tree-fine at u (text p n bytes) t e c h i is f =
       onward-fine s (IsOperand s) (Started t) e (onward (literal n bytes e) value_of) (initial keeper at u)
       (operand-onward s (IsOperand s) e (literal n bytes e) value_of (literal-fine s scene n bytes e c h) (λ o e1 shown g c1 h1 fo. value_of-fine s scene o e1 shown c1 h1 fo))
-      (λ v e1 g c1 h1 fv. initial-as s scene Asks keeper keeps e1 v c1 h1 fv at u t (λ w. inside-later e e1 u g (i (within-before e e1 s g w)))
+      (λ v e1 g c1 h1 fv. initial-as s scene keeper keeps e1 v c1 h1 fv at u t (λ w. inside-later e e1 u g (i (within-before e e1 s g w)))
       (λ w. (is (within-before e e1 s g w)).no_void) (λ w. (is (within-before e e1 s g w)).same) (λ w. (is (within-before e e1 s g w)).whole))
   tree-fine at u (branch p ts) t e c h i is f = tt
 
@@ -58,10 +53,6 @@ module _ (s : Scene) (scene : IsScene s) (Asks : SourceType → Type 0) (keeper 
     pub numbers : all_of s.tables (map (are_known s.tables) r.nodes) ≡ true
     pub start : all_start (scope_of s) t (typings (scope_of s) (listed (map (core s) r.nodes))) ≡ true
     pub count : length (typings (scope_of s) (listed (map (core s) r.nodes))) ≡ n
-
-  -- an element is no reference, so nothing is asked for it
-  never : (t : SourceType) → is_reference t ≡ false → Allows Asks t
-  never t h u is = absurd (true≢false (sym (ap is_reference is) ∙ h))
 
   list-starts : (at : ℕ) (t : SourceType) (a : ArrayOf s t) (n : ℕ) (r : Starts) → nat_le n a.count ≡ true → Listed (element_of t) n r → StartFits s t (fixed_start (node.List at r.nodes (node.Zeros at)) r.are_constant)
   list-starts at t a n r small l =
@@ -94,8 +85,8 @@ module _ (s : Scene) (scene : IsScene s) (Asks : SourceType → Type 0) (keeper 
     carried-fine (by_list at ps) t e c h f =
         onward-fine s (λ r _. Listed (element_of t) (plan_count ps) r) (Started t) e (all_carried_out keeper ps e) _ (all-carried ps (element_of t) e c h (λ w. (f w).0.no_reference) (λ w. (f w).2))
         (λ r e1 g c1 h1 l. made-fine s (Started t) e1 (fixed_start (node.List at r.nodes (node.Zeros at)) r.are_constant) c1 h1
-        (λ w _. let k = f (within-before e e1 s g w) in list-starts at t k.0 (plan_count ps) r k.1 (l w)))
-    carried-fine (by_text at bytes) t e c h f = made-fine s (Started t) e (fixed_start (node.Characters at bytes) true) c h (λ w _. text-starts at bytes t (f w))
+        (λ w. let k = f (within-before e e1 s g w) in list-starts at t k.0 (plan_count ps) r k.1 (l w)))
+    carried-fine (by_text at bytes) t e c h f = made-fine s (Started t) e (fixed_start (node.Characters at bytes) true) c h (λ w. text-starts at bytes t (f w))
     carried-fine (wrong rule at) t e c h f = tt
 
     pub all-carried : (ps : Plans) (t : SourceType) (e : Env) → Classless e → When s e (Holds s e) → When s e (is_reference t ≡ false) → When s e (PlansFit s e ps t)
@@ -107,4 +98,4 @@ module _ (s : Scene) (scene : IsScene s) (Asks : SourceType → Type 0) (keeper 
         (λ r. gives (record { nodes = x.node ∷ r.nodes; are_constant = x.is_constant && r.are_constant }))
         (all-carried ps t e1 c1 h1 (λ w. n (within-before e e1 s g1 w)) (λ w. plans-later s ps t e e1 g1 (f (within-before e e1 s g1 w)).1))
         (λ r e2 g2 c2 h2 fr. made-fine s (λ r _. Listed t (suc (plan_count ps)) r) e2 (record { nodes = x.node ∷ r.nodes; are_constant = x.is_constant && r.are_constant }) c2 h2
-        (λ w. both-listed x t ps r (let early = within-before e1 e2 s g2 w in fx early (never t (n (within-before e e1 s g1 early)))) (fr w))))
+        (λ w. both-listed x t ps r (fx (within-before e1 e2 s g2 w)) (fr w))))

@@ -42,12 +42,12 @@ use Rattle.cf_elab_valid.proofs.Options.{none_some, some_is}
 use Rattle.cf_elab_valid.proofs.Unary.{bare_once, bare_sort}
 use Rattle.cf_elab_valid.proofs.Values.{plain-value, plain-number}
 use Rattle.cf_elab_valid.proofs.Ways.{inside-later, made-fine, onward-fine, within-before, When}
-use Rattle.cf_elab_valid_objects.specs.Starts.{StartFits, Allows, KeeperFits, IsKeeper}
+use Rattle.cf_elab_valid_objects.specs.Starts.{StartFits, KeeperFits, IsKeeper}
 
-module _ (s : Scene) (scene : IsScene s) (Asks : SourceType → Type 0) (keeper : ℕ → Elab Keeper) (keeps : IsKeeper s Asks keeper) where
-  -- an initialiser, where this is so
-  abbrev pub Given : Type 0 → SourceType → Start → Env → Type 0
-  Given G t x e = G → StartFits s t x
+module _ (s : Scene) (scene : IsScene s) (keeper : ℕ → Elab Keeper) (keeps : IsKeeper s keeper) where
+  -- an initialiser of the type
+  abbrev pub Started : SourceType → Start → Env → Type 0
+  Started t x e = StartFits s t x
 
   plain-scalar : (t : SourceType) (x : Value) (e : Env) → IsPlain s t x e → is_void t ≡ false → is_scalar t ≡ true
   plain-scalar t x e p v = operand-scalar t (sym (same-operand (tree s x.type) t p.same) ∙ subst (λ b. is_allowed b (tree s x.type) ≡ true) p.no_place p.fits.allowed) v
@@ -97,13 +97,13 @@ module _ (s : Scene) (scene : IsScene s) (Asks : SourceType → Type 0) (keeper 
 
     -- bound without a temporary
     direct-fine : (at u : ℕ) (ss : List ConvStep) → When s e (Inside e u) → (v.is_lvalue ≡ true) × BindsAlike s scene e v.type u ss
-        → Fine s (Given (Asks (tree s u)) (reference (tree s u))) e (onward (fit_row.converted at u ss v e) (λ x g. Made (fixed_start (node.Bind at holder.NoTemporary x.node) x.is_fixed) g))
+        → Fine s (Started (reference (tree s u))) e (onward (fit_row.converted at u ss v e) (λ x g. Made (fixed_start (node.Bind at holder.NoTemporary x.node) x.is_fixed) g))
     direct-fine at u ss i b =
-        onward-fine s Bound (Given (Asks (tree s u)) (reference (tree s u))) e (fit_row.converted at u ss v e) (λ x g. Made (fixed_start (node.Bind at holder.NoTemporary x.node) x.is_fixed) g)
+        onward-fine s Bound (Started (reference (tree s u))) e (fit_row.converted at u ss v e) (λ x g. Made (fixed_start (node.Bind at holder.NoTemporary x.node) x.is_fixed) g)
         (still-fine s Bound e (for_each (step_checked at u v) ss e) (all_steps u ss v) (all_checked e at u v ss)
         (subst (λ l. Fine s Bound e (all_steps u l v e)) (sym b.1.is) (steps b.1.const)))
-        (λ x e1 g d held p. made-fine s (Given (Asks (tree s u)) (reference (tree s u))) e1 (fixed_start (node.Bind at holder.NoTemporary x.node) x.is_fixed) d held
-        (λ w _. record { numbers = bound-known at x.node (p w).1; starts = bound-starts at x.node (tree s u) (p w).0; number = tt }))
+        (λ x e1 g d held p. made-fine s (Started (reference (tree s u))) e1 (fixed_start (node.Bind at holder.NoTemporary x.node) x.is_fixed) d held
+        (λ w. record { numbers = bound-known at x.node (p w).1; starts = bound-starts at x.node (tree s u) (p w).0; number = tt }))
       where
         Bound : Value → Env → Type 0
         Bound x g = IsPlace (typed s x.node) (tree s u) × (are_known s.tables x.node ≡ true)
@@ -121,15 +121,15 @@ module _ (s : Scene) (scene : IsScene s) (Asks : SourceType → Type 0) (keeper 
 
     -- bound to a temporary, which is kept
     temporary-fine : (at u : ℕ) → When s e (Inside e u) → When s e (tree_is_reference (tree s u) ≡ false) → When s e (is_void (tree s u) ≡ false) → (m : Bool)
-        → Fine s (Given (Asks (tree s u)) (reference (tree s u))) e (onward (need m 29 at e) (λ _ g. onward (user.fit at v u g) (λ x k. onward (keeper u k) (λ y n. Made (row.keeps at u y x) n))))
+        → Fine s (Started (reference (tree s u))) e (onward (need m 29 at e) (λ _ g. onward (user.fit at v u g) (λ x k. onward (keeper u k) (λ y n. Made (row.keeps at u y x) n))))
     temporary-fine at u i r n false = tt
     temporary-fine at u i r n true =
-        onward-fine s (IsPlain s (tree s u)) (Given (Asks (tree s u)) (reference (tree s u))) e (user.fit at v u e) _ (user_fit-fine s scene e v c h f at u i (λ w. sort_no_reference w))
-        (λ x e1 g d held p. onward-fine s (λ k _. Asks (tree s u) → KeeperFits s u k) (Given (Asks (tree s u)) (reference (tree s u))) e1 (keeper u e1) (λ y n. Made (row.keeps at u y x) n)
-        (keeps.fine u e1 d held (λ w. inside-later e e1 u g (i (within-before e e1 s g w))))
-        (λ y e2 g2 d2 held2 q. made-fine s (Given (Asks (tree s u)) (reference (tree s u))) e2 (row.keeps at u y x) d2 held2
-        (λ w asked. let early = within-before e1 e2 s g2 w in
-        (q w asked).keeps at x (p early).fits.numbers (plain-starts (tree s u) x e1 (p early) (n (within-before e e1 s g early))))))
+        onward-fine s (IsPlain s (tree s u)) (Started (reference (tree s u))) e (user.fit at v u e) _ (user_fit-fine s scene e v c h f at u i (λ w. sort_no_reference w))
+        (λ x e1 g d held p. onward-fine s (λ k _. KeeperFits s u k) (Started (reference (tree s u))) e1 (keeper u e1) (λ y n. Made (row.keeps at u y x) n)
+        (keeps.fine u e1 d held (λ w. inside-later e e1 u g (i (within-before e e1 s g w))) (λ w. r (within-before e e1 s g w)))
+        (λ y e2 g2 d2 held2 q. made-fine s (Started (reference (tree s u))) e2 (row.keeps at u y x) d2 held2
+        (λ w. let early = within-before e1 e2 s g2 w in
+        (q w).keeps at x (p early).fits.numbers (plain-starts (tree s u) x e1 (p early) (n (within-before e e1 s g early))))))
       where
         sort_no_reference : (w : Within e s) → is_reference (sort_of e.types u) ≡ false
         sort_no_reference w = by (sort_of e.types u) (early-sort-is s.tables scene.table e.types w.types scene.no_class scene.none_to_reference u (i w))
@@ -149,32 +149,32 @@ module _ (s : Scene) (scene : IsScene s) (Asks : SourceType → Type 0) (keeper 
             by void_sort is = refl
 
     bound-fine : (at u : ℕ) → When s e (Inside e u) → When s e (tree_is_reference (tree s u) ≡ false) → When s e (is_void (tree s u) ≡ false)
-        → Fine s (Given (Asks (tree s u)) (reference (tree s u))) e (row.bound user.fit keeper at u v e)
+        → Fine s (Started (reference (tree s u))) e (row.bound user.fit keeper at u v e)
     bound-fine at u i r n = by (binds e.types (defs e) (val v) u) refl
       where
-        by : (o : Option (List ConvStep)) → binds e.types (defs e) (val v) u ≡ o → Fine s (Given (Asks (tree s u)) (reference (tree s u))) e (row.bound_or user.fit keeper at u v o e)
+        by : (o : Option (List ConvStep)) → binds e.types (defs e) (val v) u ≡ o → Fine s (Started (reference (tree s u))) e (row.bound_or user.fit keeper at u v o e)
         by (Some ss) is = direct-fine at u ss i (alike_steps u ss v.is_lvalue refl is)
         by None is = temporary-fine at u i r n (is_const e.types u)
 
     -- ---- the row
 
     -- of a reference to this
-    start_as : (t u : SourceType) (r : Answer Start) → When s e (reference t ≡ u) → Fine s (Given (Asks t) (reference t)) e r → Fine s (Given (Allows Asks u) u) e r
+    start_as : (t u : SourceType) (r : Answer Start) → When s e (reference t ≡ u) → Fine s (Started (reference t)) e r → Fine s (Started u) e r
     start_as t u (Made x b) same g = record {
       steps = g.steps;
       classless = g.classless;
       holds = g.holds;
-      made = λ w allows. let is = same (within-before e b s g.steps w) in subst (λ y. StartFits s y x) is (g.made w (allows t (sym is)));
+      made = λ w. let is = same (within-before e b s g.steps w) in subst (λ y. StartFits s y x) is (g.made w);
     }
     start_as t u (Refused rule at) same g = tt
     start_as t u (Passed bound most) same g = tt
 
     scalar_start : (at t : ℕ) (u : SourceType) → When s e (Inside e t) → When s e (Same (tree s t) u) → When s e (is_void (tree s t) ≡ false) → When s e (is_reference (sort_of e.types t) ≡ false)
-        → Fine s (Given (Allows Asks u) u) e (onward (user.fit at v t e) (λ x g. Made (start_of x) g))
+        → Fine s (Started u) e (onward (user.fit at v t e) (λ x g. Made (start_of x) g))
     scalar_start at t u i same n r =
-        onward-fine s (IsPlain s (tree s t)) (Given (Allows Asks u) u) e (user.fit at v t e) (λ x g. Made (start_of x) g) (user_fit-fine s scene e v c h f at t i r)
-        (λ x e1 g d held p. made-fine s (Given (Allows Asks u) u) e1 (start_of x) d held
-        (λ w _. let early = within-before e e1 s g w in record {
+        onward-fine s (IsPlain s (tree s t)) (Started u) e (user.fit at v t e) (λ x g. Made (start_of x) g) (user_fit-fine s scene e v c h f at t i r)
+        (λ x e1 g d held p. made-fine s (Started u) e1 (start_of x) d held
+        (λ w. let early = within-before e e1 s g w in record {
           numbers = (p w).fits.numbers;
           starts = (plain-value s (tree s t) x e1 (p w)).start (plain-scalar (tree s t) x e1 (p w) (n early)) u (same early);
           number = holds-same x.number (tree s t) u (same early) (plain-number s (tree s t) x e1 (p w));
@@ -182,13 +182,13 @@ module _ (s : Scene) (scene : IsScene s) (Asks : SourceType → Type 0) (keeper 
 
     -- a reference or a scalar that has no const on it, as one of a type that may have
     taken-fine : (at t : ℕ) (z : SourceType) → When s e (Inside e t) → When s e (Same (tree s t) z) → ((u : ℕ) → When s e (sort_of e.types t ≡ reference_sort u → tree s t ≡ z)) → When s e (is_void (tree s t) ≡ false)
-        → When s e (bare e.types t ≡ t) → Fine s (Given (Allows Asks z) z) e (row.taken user.fit keeper at t v (type_at e.types t) e)
+        → When s e (bare e.types t ≡ t) → Fine s (Started z) e (row.taken user.fit keeper at t v (type_at e.types t) e)
     taken-fine at t z i same exact n own = by (type_at e.types t) refl
       where
         sort : (x : Ty) → type_at e.types t ≡ x → Within e s → sort_of e.types t ≡ ty_sort e.types x
         sort x is w = ap (λ b. ty_sort e.types (type_at e.types b)) (own w) ∙ ap (ty_sort e.types) is
 
-        by : (x : Ty) → type_at e.types t ≡ x → Fine s (Given (Allows Asks z) z) e (row.taken user.fit keeper at t v x e)
+        by : (x : Ty) → type_at e.types t ≡ x → Fine s (Started z) e (row.taken user.fit keeper at t v x e)
         by (ty.Ref u) is =
             start_as (tree s u) z (row.bound user.fit keeper at u v e) (λ w. sym (there w).same ∙ exact u w (sort (ty.Ref u) is w)) (bound-fine at u inside_u (λ w. (there w).no_reference) (λ w. (there w).no_void))
           where
@@ -223,7 +223,7 @@ module _ (s : Scene) (scene : IsScene s) (Asks : SourceType → Type 0) (keeper 
 
     -- the initialiser of a reference or a scalar of the type, as one of a type that may have const on it
     pub initial-as : (at t : ℕ) (z : SourceType) → When s e (Inside e t) → When s e (is_void (tree s t) ≡ false) → When s e (Same (tree s t) z) → When s e (tree_is_reference (tree s t) ≡ true → tree s t ≡ z)
-        → Fine s (Given (Allows Asks z) z) e (user.initial keeper at t v e)
+        → Fine s (Started z) e (user.initial keeper at t v e)
     initial-as at t z i n same whole =
         taken-fine at (bare e.types t) z (λ w. early-inside s.tables scene.table e.types w.types t (i w)) (λ w. sym (early-bare s.tables scene.table e.types w.types t (i w)) ∙ same w) exact
         (λ w. sym (same-void (tree s t) (tree s (bare e.types t)) (early-bare s.tables scene.table e.types w.types t (i w))) ∙ n w) (λ w. bare_once s scene e w t (i w))
@@ -235,5 +235,5 @@ module _ (s : Scene) (scene : IsScene s) (Asks : SourceType → Type 0) (keeper 
             let b : Refers s.tables u (tree s t) = subst (λ k. SortIs s.tables k (tree s t)) (sym (bare_sort s scene e w t (i w)) ∙ is) (early-sort-is s.tables scene.table e.types w.types scene.no_class scene.none_to_reference t (i w)) in
             a.same ∙ sym b.same ∙ whole w (ap tree_is_reference b.same)
 
-    pub initial-fine : (at t : ℕ) → When s e (Inside e t) → When s e (is_void (tree s t) ≡ false) → Fine s (Given (Allows Asks (tree s t)) (tree s t)) e (user.initial keeper at t v e)
+    pub initial-fine : (at t : ℕ) → When s e (Inside e t) → When s e (is_void (tree s t) ≡ false) → Fine s (Started (tree s t)) e (user.initial keeper at t v e)
     initial-fine at t i n = initial-as at t (tree s t) i n (λ w. refl) (λ w r. refl)

@@ -15,6 +15,7 @@ pub mod Naming
 pub mod Operators
 pub mod Planners
 pub mod Plans
+pub mod References
 pub mod Shapes
 pub mod Statements
 pub mod Steps

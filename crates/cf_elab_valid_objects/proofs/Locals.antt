@@ -19,11 +19,11 @@ use Rattle.cf_elab.specs.Objects as row
 use Rattle.cf_elab.specs.Objects.{Written, Reached, block_object, local_keeper, start_or_none, set_entity, with_number, constant_number}
 use Rattle.cf_elab.specs.Operand.{sort_of, is_arithmetic}
 use Rattle.cf_elab_valid.specs.Answers.{Fine}
-use Rattle.cf_elab_valid.specs.Scene.{Scene, IsScene, tree, typed, core, Within, Steps, Inside, HoldsKnown, Classless, Holds}
+use Rattle.cf_elab_valid.specs.Scene.{Scene, IsScene, tree, typed, core, in_frame, Within, Steps, Inside, HoldsKnown, Classless, Holds}
 use Rattle.cf_elab_valid.specs.Statements.{body_of}
 use Rattle.cf_elab_valid.proofs.Moved.{moved-holds, moved-classless}
 use Rattle.cf_elab_valid.proofs.Nodes.{core-Blank, core-Declare, known-Declare}
-use Rattle.cf_elab_valid.proofs.Options.{never_none}
+use Rattle.cf_elab_valid.proofs.Options.{never_none, some_is}
 use Rattle.cf_elab_valid.proofs.Values.{has_type-is}
 use Rattle.cf_elab_valid.proofs.Ways.{fine-as, fine-before, inside-later, steps-through, within-before, When}
 use Rattle.cf_elab_valid_objects.specs.Quiet.{LeavesNames, LeavesIn}
@@ -32,7 +32,7 @@ use Rattle.cf_elab_valid_objects.specs.Starts.{NoVoidElements, StartFits, MaybeF
 use Rattle.cf_elab_valid_objects.proofs.Keepers.{longer, longer-steps, local-there, local-typed, local_keeper-is}
 use Rattle.cf_elab_valid_objects.proofs.Written.{nothing-fine, starting-fine}
 use Rattle.cf_elab_valid_objects.specs.Declared.{ReachedFits, AllReached, AreInitial}
-use Rattle.cf_elab_valid_objects.proofs.Naming.{found-last, named, named-steps, named-classless, named-holds, renamed, renamed-steps, renamed-classless, renamed-holds}
+use Rattle.cf_elab_valid_objects.proofs.Naming.{found-last, named, named-steps, named-classless, named-holds, renamed, StandsAs, renamed-steps, renamed-classless, renamed-holds}
 
 -- behind an answer that leaves the names
 leaving-fine : {A B : Type 0} (s : Scene) (P : A → Env → Type 0) (Q : B → Env → Type 0) (e : Env) (r : Answer A) (go : A → Env → Answer B) → Fine s P e r → LeavesIn e r
@@ -100,11 +100,11 @@ module _ (s : Scene) (scene : IsScene s) (arrays : NoVoidElements s.tables) (n :
   starts-fine : (w : Option Written) (e : Env) → Classless e → When s e (Holds s e) → When s e (MaybeFits s e w) → When s e (Inside e t) → When s e (is_void (tree s t) ≡ false) → Fine s (Started w) e (start_or_none local_keeper at t w e)
   starts-fine None e c h f i v =
       fine-as s (λ x g. (x.node ≡ node.Blank at) × StartFits s (tree s t) x) (Started None) e (start_or_none local_keeper at t None e) (λ x g p. record { fits = p.1; blank = λ _. p.0 })
-      (nothing-fine s scene arrays (λ u. Unit {0}) local_keeper (local_keeper-is s scene) at t e c h i)
+      (nothing-fine s scene arrays local_keeper (local_keeper-is s scene) at t e c h i)
   starts-fine (Some w) e c h f i v =
-      fine-as s (λ x g. ((u : SourceType) → tree s t ≡ reference u → Unit {0}) → StartFits s (tree s t) x) (Started (Some w)) e (start_or_none local_keeper at t (Some w) e)
-      (λ x g p. record { fits = p (λ _ _. tt); blank = λ is. never_none w is })
-      (starting-fine s scene arrays (λ u. Unit {0}) local_keeper (local_keeper-is s scene) at t (Some w) e c h f i v)
+      fine-as s (λ x g. StartFits s (tree s t) x) (Started (Some w)) e (start_or_none local_keeper at t (Some w) e)
+      (λ x g p. record { fits = p; blank = λ is. never_none w is })
+      (starting-fine s scene arrays local_keeper (local_keeper-is s scene) at t (Some w) e c h f i v)
 
   module _ (parts : Elab (Option Written)) (initial : AreInitial s parts) (e : Env) (low : n ≤ length e.hand.locals) (c : Classless e) (h : When s e (Holds s e)) (i : When s e (Inside e t)) (whole : When s e (is_complete [] (tree s t) ≡ true)) where
     abbrev own : ℕ
@@ -158,15 +158,18 @@ module _ (s : Scene) (scene : IsScene s) (arrays : NoVoidElements s.tables) (n :
       there : slice_get f.entities entity ≡ Some (object x)
       there = ap (λ (y : Env). slice_get y.entities entity) l.same ∙ get-last e.entities (object x)
 
+      stands : StandsAs entity (object (record x { number = z })) f
+      stands y at = ap in_frame (some_is (object x) y (sym there ∙ at))
+
       final : Fine s (λ rs k. AllReached s n m rs) f (Made (reached own w st ∷ []) (numbered z f))
       final = record {
-        steps = renamed-steps entity (object (record x { number = z })) f;
+        steps = renamed-steps entity (object (record x { number = z })) f stands;
         classless = renamed-classless entity (object (record x { number = z })) f (no_class (record x { number = z })) cf;
-        holds = λ v. let v1 = within-before f (numbered z f) s (renamed-steps entity (object (record x { number = z })) f) v in
+        holds = λ v. let v1 = within-before f (numbered z f) s (renamed-steps entity (object (record x { number = z })) f stands) v in
             let v0 = within-before told f s g v1 in
-            renamed-holds s entity (object (record x { number = z })) f
-            (λ o. (inside-later told f t g (i (within-before e told s steps v0)), here v0, no_void v0, number-fits f st.number (fst v1).fits.number)) tt (hf v1);
-        made = λ v. let v1 = within-before f (numbered z f) s (renamed-steps entity (object (record x { number = z })) f) v in
+            renamed-holds s entity (object (record x { number = z })) f stands
+            (inside-later told f t g (i (within-before e told s steps v0)), here v0, no_void v0, number-fits f st.number (fst v1).fits.number) tt (hf v1);
+        made = λ v. let v1 = within-before f (numbered z f) s (renamed-steps entity (object (record x { number = z })) f stands) v in
             let v0 = within-before told f s g v1 in
             (declares own w st f v1 (inside-later told f t g (i (within-before e told s steps v0))) low (here v0) (whole (within-before e told s steps v0)) (fst v1), tt);
       }

@@ -1,14 +1,14 @@
 -- New names in the innermost scope, and names that stand for something else from there on (3.2).
-use Rattle.std.proofs.Common.{◌≡◌, ◌⊎◌, inl, inr, ℕ, zero, suc, ◌<◌, Bool, true, false, ◌&&◌, cond, is_some, List, [], ◌∷◌, ◌++◌, length, Some, None, slice_get, refl, sym, ap, subst, ◌∙◌, arith, true≢false, eq-eqb}
+use Rattle.std.proofs.Common.{◌≡◌, ◌⊎◌, inl, inr, ℕ, zero, suc, ◌<◌, Bool, true, false, ◌&&◌, cond, is_some, List, [], ◌∷◌, ◌++◌, length, Some, None, slice_get, refl, sym, ap, subst, ◌∙◌, arith, true≢false, eq-eqb, length-append}
 use Rattle.std.proofs.lemmas.Option.{slice_get_within}
 use Rattle.std.specs.Prelude.{nat_eq}
 use Rattle.std.specs.Cmp.Lexicographic.{pointwise}
 use Rattle.cf_types.proofs.Places.{get-snoc}
 use Rattle.cf_lookup.specs.Scope.{in_scope}
-use Rattle.cf_elab.specs.Env.{Env, Name, Entity, class_name}
+use Rattle.cf_elab.specs.Env.{Env, Name, Entity, object, class_name}
 use Rattle.cf_elab.specs.Names.{replaced}
-use Rattle.cf_elab_valid.specs.Scene.{Scene, Steps, IsNumbered, IsNumberedIn, IsOpen, EntityFits, TypeFits, Classless, Holds}
-use Rattle.cf_elab_valid.proofs.Ways.{begins-same, entity-later, named-later, entry-later}
+use Rattle.cf_elab_valid.specs.Scene.{Scene, in_frame, HomesStay, Steps, IsNumbered, IsNumberedIn, IsOpen, EntityFits, TypeFits, Classless, Holds}
+use Rattle.cf_elab_valid.proofs.Ways.{begins-same, homes-last, entity-later, named-later, entry-later}
 use Rattle.cf_elab_valid_objects.proofs.Growing.{part-later}
 
 -- ---- open names
@@ -49,6 +49,20 @@ replaced-get zero (suc n) x y (z ∷ zs) h = inl h
 replaced-get (suc j) zero x y (z ∷ zs) h = inl h
 replaced-get (suc j) (suc n) x y (z ∷ zs) h = elim (replaced-get j n x y zs h) [ inl a ↦ inl a | inr b ↦ inr (ap suc b.0, b.1) ]
 
+replaced-homes : (j : ℕ) (x : Entity) (xs : List Entity) → ((y : Entity) → slice_get xs j ≡ Some y → in_frame x ≡ in_frame y) → HomesStay xs (replaced j x xs)
+replaced-homes zero x [] same n y at = record { entity = y; here = at; home = refl }
+replaced-homes (suc j) x [] same n y at = record { entity = y; here = at; home = refl }
+replaced-homes zero x (z ∷ zs) same zero y at = record { entity = x; here = refl; home = same y at }
+replaced-homes zero x (z ∷ zs) same (suc n) y at = record { entity = y; here = at; home = refl }
+replaced-homes (suc j) x (z ∷ zs) same zero y at = record { entity = y; here = at; home = refl }
+replaced-homes (suc j) x (z ∷ zs) same (suc n) y at = let r = replaced-homes j x zs same n y at in record { entity = r.entity; here = r.here; home = r.home }
+
+pub replaced-length : {A : Type 0} (j : ℕ) (x : A) (xs : List A) → length (replaced j x xs) ≡ length xs
+replaced-length zero x [] = refl
+replaced-length (suc j) x [] = refl
+replaced-length zero x (z ∷ zs) = refl
+replaced-length (suc j) x (z ∷ zs) = ap suc (replaced-length j x zs)
+
 -- ---- a new name
 
 abbrev pub named : Name → Entity → Env → Env
@@ -60,7 +74,9 @@ named-steps name x e = record {
   funs = begins-same e.types.funs;
   enums = begins-same e.classes.enums;
   locals = begins-same e.hand.locals;
-  hand = record { kind = refl; result = refl; breaks = refl; continues = refl };
+  statics = begins-same e.statics;
+  homes = homes-last e.entities x;
+  hand = record { link = refl; kind = refl; result = refl; breaks = refl; continues = refl };
   outer = refl;
 }
 
@@ -89,6 +105,15 @@ named-holds s name x e fit type h =
       ];
       named_types = λ n y at. elim (get-snoc e.entities x n y at) [ inl a ↦ named-later e f y g (h.named_types n y a) | inr b ↦ subst (TypeFits f) b.1 (named-later e f x g type) ];
       entries = λ n y at. entry-later s e f y g (h.entries n y at);
+      open_there = λ n o. elim (open-last n (length e.entities) name e.scopes.outer e.scopes.inner o) [
+        | inl before ↦ let there = h.open_there n before in omega (arith, length-append e.entities (x ∷ []))
+        | inr last ↦ omega (arith, last, length-append e.entities (x ∷ []))
+      ];
+      outside = λ n y at home. elim (get-snoc e.entities x n (object y) at) [
+        | inl a ↦ entity-later s e f (object y) g (h.outside n y a home)
+        | inr b ↦ subst (EntityFits s f) b.1 (entity-later s e f x g fit)
+      ];
+      statics = h.statics;
       result = h.result;
     }
 
@@ -97,13 +122,19 @@ named-holds s name x e fit type h =
 abbrev pub renamed : ℕ → Entity → Env → Env
 renamed j x e = record e { entities = replaced j x e.entities }
 
-pub renamed-steps : (j : ℕ) (x : Entity) (e : Env) → Steps e (renamed j x e)
-renamed-steps j x e = record {
+-- what it stands for is in a frame if what it stood for was
+abbrev pub StandsAs : ℕ → Entity → Env → Type 0
+StandsAs j x e = (y : Entity) → slice_get e.entities j ≡ Some y → in_frame x ≡ in_frame y
+
+pub renamed-steps : (j : ℕ) (x : Entity) (e : Env) → StandsAs j x e → Steps e (renamed j x e)
+renamed-steps j x e same = record {
   types = begins-same e.types.types;
   funs = begins-same e.types.funs;
   enums = begins-same e.classes.enums;
   locals = begins-same e.hand.locals;
-  hand = record { kind = refl; result = refl; breaks = refl; continues = refl };
+  statics = begins-same e.statics;
+  homes = replaced-homes j x e.entities same;
+  hand = record { link = refl; kind = refl; result = refl; breaks = refl; continues = refl };
   outer = refl;
 }
 
@@ -117,17 +148,20 @@ renamed-classless j x e plain c = record {
   no_defaults = c.no_defaults;
 }
 
-pub renamed-holds : (s : Scene) (j : ℕ) (x : Entity) (e : Env) → (IsOpen j e.scopes → EntityFits s e x) → TypeFits e x → Holds s e → Holds s (renamed j x e)
-renamed-holds s j x e fit type h =
+pub renamed-holds : (s : Scene) (j : ℕ) (x : Entity) (e : Env) → StandsAs j x e → EntityFits s e x → TypeFits e x → Holds s e → Holds s (renamed j x e)
+renamed-holds s j x e same fit type h =
     let f = renamed j x e in
-    let g = renamed-steps j x e in record {
+    let g = renamed-steps j x e same in record {
       parts = λ t v at. part-later e f v g (h.parts t v at);
       no_outer = h.no_outer;
       entities = λ n y o at. elim (replaced-get j n x y e.entities at) [
         | inl a ↦ entity-later s e f y g (h.entities n y o a)
-        | inr b ↦ subst (EntityFits s f) b.1 (entity-later s e f x g (fit (subst (λ k. IsOpen k e.scopes) (sym b.0) o)))
+        | inr b ↦ subst (EntityFits s f) b.1 (entity-later s e f x g fit)
       ];
       named_types = λ n y at. elim (replaced-get j n x y e.entities at) [ inl a ↦ named-later e f y g (h.named_types n y a) | inr b ↦ subst (TypeFits f) b.1 (named-later e f x g type) ];
       entries = λ n y at. entry-later s e f y g (h.entries n y at);
+      open_there = λ n o. subst (λ k. n < k) (sym (replaced-length j x e.entities)) (h.open_there n o);
+      outside = λ n y at home. elim (replaced-get j n x (object y) e.entities at) [ inl a ↦ entity-later s e f (object y) g (h.outside n y a home) | inr b ↦ subst (EntityFits s f) b.1 (entity-later s e f x g fit) ];
+      statics = h.statics;
       result = h.result;
     }

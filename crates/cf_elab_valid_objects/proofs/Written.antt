@@ -28,9 +28,10 @@ use Rattle.cf_elab_valid.proofs.Nodes.{core-Blank, known-Blank}
 use Rattle.cf_elab_valid.proofs.Unary.{classless-number}
 use Rattle.cf_elab_valid.proofs.Ways.{fine-as, made-fine, When}
 use Rattle.cf_elab_valid_objects.specs.Starts.{NoVoidElements, StartFits, IsKeeper, TreeFits, WrittenFits, MaybeFits}
-use Rattle.cf_elab_valid_objects.proofs.Carried.{Started, carried-fine, reference-told}
+use Rattle.cf_elab_valid_objects.proofs.Carried.{Started, carried-fine}
 use Rattle.cf_elab_valid_objects.proofs.Consts.{Plain, all-reversed}
 use Rattle.cf_elab_valid_objects.proofs.Planners.{planner-fits}
+use Rattle.cf_elab_valid_objects.proofs.References.{reference-told}
 
 -- ---- no class is in an object
 
@@ -60,15 +61,15 @@ void_no_reference void h = refl
 void_no_reference (const t) h = void_no_reference t h
 void_no_reference t h = absurd (true≢false (sym h))
 
-module _ (s : Scene) (scene : IsScene s) (arrays : NoVoidElements s.tables) (Asks : SourceType → Type 0) (keeper : ℕ → Elab Keeper) (keeps : IsKeeper s Asks keeper) where
+module _ (s : Scene) (scene : IsScene s) (arrays : NoVoidElements s.tables) (keeper : ℕ → Elab Keeper) (keeps : IsKeeper s keeper) where
   abbrev Starts_as : SourceType → Start → Env → Type 0
-  Starts_as t = Started s scene Asks keeper keeps t
+  Starts_as t = Started s scene keeper keeps t
 
   -- ---- by what is written
 
   start-by-fine : (at t : ℕ) (x : Tree) (e : Env) → Classless e → When s e (Holds s e) → When s e (TreeFits s e x) → When s e (Inside e t) → When s e (is_void (tree s t) ≡ false) → Fine s (Starts_as (tree s t)) e (start_by keeper at t x e)
   start-by-fine at t x e c h f i n =
-      carried-fine s scene Asks keeper keeps ((planner e.types t).by_one at x) (tree s t) e c h (λ w. (planner-fits s scene arrays e w t (i w) (n w)).one at x (f w))
+      carried-fine s scene keeper keeps ((planner e.types t).by_one at x) (tree s t) e c h (λ w. (planner-fits s scene arrays e w t (i w) (n w)).one at x (f w))
 
   other-fine : (t : ℕ) (w : Written) (e : Env) → Classless e → When s e (Holds s e) → When s e (WrittenFits s e w) → When s e (Inside e t) → When s e (is_void (tree s t) ≡ false)
       → Fine s (Starts_as (tree s t)) e (row.other_initialised keeper t w e)
@@ -138,5 +139,5 @@ module _ (s : Scene) (scene : IsScene s) (arrays : NoVoidElements s.tables) (Ask
 
   pub starting-fine : (at t : ℕ) (w : Option Written) (e : Env) → Classless e → When s e (Holds s e) → When s e (MaybeFits s e w) → When s e (Inside e t) → When s e (is_void (tree s t) ≡ false)
       → Fine s (Starts_as (tree s t)) e (row.start_or_none keeper at t w e)
-  starting-fine at t None e c h f i n = fine-as s (Blank_as at (tree s t)) (Starts_as (tree s t)) e (row.start_or_none keeper at t None e) (λ x f p _. p.1) (nothing-fine at t e c h i)
+  starting-fine at t None e c h f i n = fine-as s (Blank_as at (tree s t)) (Starts_as (tree s t)) e (row.start_or_none keeper at t None e) (λ x f p. p.1) (nothing-fine at t e c h i)
   starting-fine at t (Some w) e c h f i n = written-fine t w e c h f i n

@@ -1,22 +1,19 @@
 -- What elaboration makes of initialisers and of automatic objects, and what expressions leave as it was.
 use Rattle.cf_core.specs.declared.node.Core.TheVariants as node
 use Rattle.cf_elab.specs.Built as built
-use Rattle.std.specs.Prelude.{ℕ, Bool, List, ◌≡◌, true, false, Option, None, Some, find, bytes_eq, ◌≤◌, length, []}
+use Rattle.std.specs.Prelude.{ℕ, Bool, List, ◌≡◌, true, false, Option, None, ◌≤◌, length, []}
 use Rattle.cf_elab.specs.Answer.{Elab}
 use Rattle.cf_elab.specs.Operand.{Value}
 use Rattle.cf_elab.specs.Statement.{declaration_made}
 use Rattle.cf_elab_valid.specs.Answers.{Fine}
-use Rattle.cf_elab_valid.specs.Scene.{Scene, IsScene, tree, scope_of, Within, Inside, Classless, Holds, Fits}
+use Rattle.cf_elab_valid.specs.Scene.{Scene, IsScene, tree, OwnerThere, Within, Inside, Classless, Holds, Fits}
 use Rattle.cf_elab_valid.specs.Statements.{StatementFits}
-use Rattle.cf_core.specs.Core.{Static}
-use Rattle.cf_core.specs.Typed.{holds_for}
-use Rattle.cf_core.specs.Types.{SourceType, is_void}
+use Rattle.cf_core.specs.Types.{is_void}
 use Rattle.cf_elab.specs.Env.{Env, Name}
 use Rattle.cf_elab.specs.Initial.{Keeper, no_keeper}
 use Rattle.cf_elab.specs.Objects.{Written, local_keeper, static_keeper, start_or_none, Reached, define_local}
 use Rattle.cf_elab.specs.UserFit.{initial}
-use Rattle.cf_classes.specs.OwnedName.{temporary_name}
-use Rattle.cf_elab_valid_objects.specs.Starts.{NoVoidElements, StartFits, Allows, IsKeeper, MaybeFits}
+use Rattle.cf_elab_valid_objects.specs.Starts.{NoVoidElements, StartFits, IsKeeper, MaybeFits}
 use Rattle.cf_syntax.specs.declared.declarator.DeclTree.{DeclTree}
 use Rattle.cf_syntax.specs.declared.expression.Expr.{Expr}
 use Rattle.cf_elab.specs.Expression.{elaborated, declared}
@@ -26,34 +23,25 @@ use Rattle.cf_elab_valid_objects.specs.Declared.{AllReached, AreInitial}
 
 -- ---- initialisers (8.4)
 
--- the end has a static object of this name, which holds what such a reference refers to
-abbrev pub HasTemporary : Scene → Name → SourceType → Type 0
-HasTemporary s name u = holds_for (scope_of s) (find (λ (x : Static). bytes_eq x.name name) s.statics) u ≡ true
-
--- nothing is asked of the end, or this of the static object that is a temporary
-abbrev pub Asked : Scene → Option Name → SourceType → Type 0
-Asked s None u = Unit {0}
-Asked s (Some name) u = HasTemporary s name u
-
 pub record KeepersFit (s : Scene) : Type 0 where
-  pub none : IsKeeper s (Asked s None) no_keeper
-  pub local : IsKeeper s (Asked s None) local_keeper
-  pub static : (reference : Name) (owner : Option Name) (at : ℕ) → IsKeeper s (Asked s (Some (temporary_name reference))) (static_keeper reference owner at)
+  pub none : IsKeeper s no_keeper
+  pub local : IsKeeper s local_keeper
+  pub static : (reference : Name) (owner : Option Name) (at : ℕ) → OwnerThere s owner → IsKeeper s (static_keeper reference owner at)
 
 abbrev pub KeepersAreValid : Type 0
 KeepersAreValid = (s : Scene) → IsScene s → KeepersFit s
 
 -- by a value, by an initialiser as it is written or none, and by none, which leaves the object as it is
-pub record InitialisersFit (s : Scene) (temporary : Option Name) (keeper : ℕ → Elab Keeper) : Type 0 where
+pub record InitialisersFit (s : Scene) (keeper : ℕ → Elab Keeper) : Type 0 where
   pub by_value : (at t : ℕ) (v : Value) (e : Env) → Classless e → (Within e s → Holds s e) → (Within e s → Fits s e v) → (Within e s → Inside e t) → (Within e s → is_void (tree s t) ≡ false)
-      → Fine s (λ x f. Allows (Asked s temporary) (tree s t) → StartFits s (tree s t) x) e (initial keeper at t v e)
+      → Fine s (λ x f. StartFits s (tree s t) x) e (initial keeper at t v e)
   pub as_written : (at t : ℕ) (w : Option Written) (e : Env) → Classless e → (Within e s → Holds s e) → (Within e s → MaybeFits s e w) → (Within e s → Inside e t) → (Within e s → is_void (tree s t) ≡ false)
-      → Fine s (λ x f. Allows (Asked s temporary) (tree s t) → StartFits s (tree s t) x) e (start_or_none keeper at t w e)
+      → Fine s (λ x f. StartFits s (tree s t) x) e (start_or_none keeper at t w e)
   pub nothing : (at t : ℕ) (e : Env) → Classless e → (Within e s → Holds s e) → (Within e s → Inside e t) → Fine s (λ x f. (x.node ≡ node.Blank at) × StartFits s (tree s t) x) e (start_or_none keeper at t None e)
 
 abbrev pub InitialisersAreValid : Type 0
 InitialisersAreValid =
-    (s : Scene) → IsScene s → NoVoidElements s.tables → (temporary : Option Name) (keeper : ℕ → Elab Keeper) → IsKeeper s (Asked s temporary) keeper → InitialisersFit s temporary keeper
+    (s : Scene) → IsScene s → NoVoidElements s.tables → (keeper : ℕ → Elab Keeper) → IsKeeper s keeper → InitialisersFit s keeper
 
 -- ---- what is left as it was
 

@@ -4,6 +4,7 @@ use Rattle.cf_types.specs.declared.ty.Ty.TheVariants as ty
 use Rattle.std.specs.Prelude.{slice_get}
 use Rattle.cf_core.specs.FromTypes.{Tables, type_of}
 use Rattle.cf_core.specs.Numbers.{are_known}
+use Rattle.cf_core.specs.Places.{is_reference}
 use Rattle.cf_core.specs.Types.{SourceType, reference, is_void}
 use Rattle.cf_elab.specs.Answer.{Elab}
 use Rattle.cf_elab.specs.Env.{Env}
@@ -29,18 +30,14 @@ pub record StartFits (s : Scene) (t : SourceType) (x : Start) : Type 0 where
   pub starts : (typed s x.node).start t ≡ true
   pub number : HoldsKnown x.number t
 
--- where the type is a reference, this is asked of the end for its temporary
-abbrev pub Allows : (SourceType → Type 0) → SourceType → Type 0
-Allows Asks t = (u : SourceType) → t ≡ reference u → Asks u
-
 -- ---- what keeps a temporary
 
 -- the value that the temporary takes starts a reference with it
 pub record KeeperFits (s : Scene) (u : ℕ) (k : Keeper) : Type 0 where
   pub keeps : (at : ℕ) (x : Value) → are_known s.tables x.node ≡ true → (typed s x.node).start (tree s u) ≡ true → StartFits s (reference (tree s u)) (row.keeps at u k x)
 
-pub record IsKeeper (s : Scene) (Asks : SourceType → Type 0) (keeper : ℕ → Elab Keeper) : Type 0 where
-  pub fine : (u : ℕ) (e : Env) → Classless e → (Within e s → Holds s e) → (Within e s → Inside e u) → Fine s (λ k f. Asks (tree s u) → KeeperFits s u k) e (keeper u e)
+pub record IsKeeper (s : Scene) (keeper : ℕ → Elab Keeper) : Type 0 where
+  pub fine : (u : ℕ) (e : Env) → Classless e → (Within e s → Holds s e) → (Within e s → Inside e u) → (Within e s → is_reference (tree s u) ≡ false) → Fine s (λ k f. KeeperFits s u k) e (keeper u e)
 
 -- ---- the parts
 

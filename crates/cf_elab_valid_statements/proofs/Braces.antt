@@ -12,6 +12,7 @@ use Rattle.cf_elab_valid.specs.Statements.{StatementFits, Inner, IsStatement}
 use Rattle.cf_elab_valid.proofs.Arithmetic.{IsOperand}
 use Rattle.cf_elab_valid.proofs.Moved.{moved-holds, moved-classless}
 use Rattle.cf_elab_valid.proofs.Parts.{evaluated-fine}
+use Rattle.cf_elab_valid.proofs.Scopes.{within-another}
 use Rattle.cf_elab_valid.proofs.Statements.{inner-later, same-statement, statement-later}
 use Rattle.cf_elab_valid.proofs.Ways.{fine-as, made-fine, onward-fine, within-before, When}
 use Rattle.cf_elab_valid_statements.specs.Entries.{EntryFits, IsEntry, AreEntries}
@@ -62,12 +63,12 @@ module _ (s : Scene) (scene : IsScene s) (n : ℕ) (m : Bool) where
   entries-later a b [] e g f = tt
   entries-later a b (x ∷ xs) e g f = (record { statement = λ is. statement-later s n m a b x e g (f.0.statement is) }, entries-later a b xs e g f.1)
 
-  all-entries : (ss : List (Elab Made)) → AreEntries s n m ss → (e : Env) → Inner s m e → Classless e → When s e (Holds s e) → Fine s (Entries e.hand.breaks e.hand.continues) e (all ss e)
+  all-entries : (ss : List (Elab Made)) → AreEntries s n m ss → (e : Env) → Inner s n m e → Classless e → When s e (Holds s e) → Fine s (Entries e.hand.breaks e.hand.continues) e (all ss e)
   all-entries [] k e i c h = made-fine s (Entries e.hand.breaks e.hand.continues) e [] c h (λ w. tt)
   all-entries (x ∷ xs) k e i c h =
       onward-fine s (Entry e) (Entries e.hand.breaks e.hand.continues) e (x e) _ (k.0.fine e i c h)
       (λ y e1 g c1 h1 fy. onward-fine s (Entries e1.hand.breaks e1.hand.continues) (Entries e.hand.breaks e.hand.continues) e1 (all xs e1) (λ ys. gives (y ∷ ys))
-      (all-entries xs k.1 e1 (inner-later s m e e1 g i) c1 h1)
+      (all-entries xs k.1 e1 (inner-later s n m e e1 g i) c1 h1)
       (λ ys e2 g2 c2 h2 fys. made-fine s (Entries e.hand.breaks e.hand.continues) e2 (y ∷ ys) c2 h2
       (λ w. (same-entry e.hand.breaks e.hand.continues y e1 e2 (fy (within-before e1 e2 s g2 w)), entries-later e e1 ys e2 g (fys w)))))
 
@@ -80,12 +81,12 @@ module _ (s : Scene) (scene : IsScene s) (n : ℕ) (m : Bool) where
   breaking-classless b e c = moved-classless s (record e.hand { breaks = b }) e.scopes e refl c
 
   breaking-within : (b : Bool) (e : Env) → Within (breaking b e) s → Within e s
-  breaking-within b e w = record { types = w.types; funs = w.funs; enums = w.enums; locals = w.locals }
+  breaking-within b e w = record { types = w.types; funs = w.funs; enums = w.enums; locals = w.locals; statics = w.statics }
 
   breaking-holds : (b : Bool) (e : Env) → When s e (Holds s e) → When s (breaking b e) (Holds s (breaking b e))
   breaking-holds b e h w = moved-holds s (record e.hand { breaks = b }) e.scopes e refl (λ i q. q) (h (breaking-within b e w))
 
-  pub braces-fine : (ss : List (Elab Made)) → AreEntries s n m ss → (e : Env) → Inner s m e → Classless e → When s e (Holds s e) → Fine s (Entries true e.hand.continues) e (row.braces ss e)
+  pub braces-fine : (ss : List (Elab Made)) → AreEntries s n m ss → (e : Env) → Inner s n m e → Classless e → When s e (Holds s e) → Fine s (Entries true e.hand.continues) e (row.braces ss e)
   braces-fine ss k e i c h =
       by (onward (all ss (entered begun)) (λ ms f. MadeIn ms (left f)))
       (scoped-fine s (Entries true e.hand.continues) (all ss) begun (λ xs f p. same-entries true e.hand.continues xs f (left f) p)
@@ -94,8 +95,8 @@ module _ (s : Scene) (scene : IsScene s) (n : ℕ) (m : Bool) where
       begun : Env
       begun = breaking true e
 
-      inside : Inner s m (entered begun)
-      inside = record { main = i.main; there = λ w. i.there (record { types = w.types; funs = w.funs; enums = w.enums; locals = w.locals }) }
+      inside : Inner s n m (entered begun)
+      inside = record { main = i.main; there = λ w. i.there (record { types = w.types; funs = w.funs; enums = w.enums; locals = w.locals; statics = w.statics }); behind = i.behind; deep = within-another e.scopes.outer e.scopes.inner; owner = i.owner }
 
       by : (r : Answer (List Made)) → Fine s (Entries true e.hand.continues) begun r → Fine s (Entries true e.hand.continues) e (onward r (λ ms f. MadeIn ms (breaking e.hand.breaks f)))
       by (MadeIn ms f) g = record {
@@ -104,7 +105,9 @@ module _ (s : Scene) (scene : IsScene s) (n : ℕ) (m : Bool) where
           funs = g.steps.funs;
           enums = g.steps.enums;
           locals = g.steps.locals;
-          hand = record { kind = g.steps.hand.kind; result = g.steps.hand.result; breaks = refl; continues = g.steps.hand.continues };
+          statics = g.steps.statics;
+          homes = g.steps.homes;
+          hand = record { link = g.steps.hand.link; kind = g.steps.hand.kind; result = g.steps.hand.result; breaks = refl; continues = g.steps.hand.continues };
           outer = g.steps.outer;
         };
         classless = breaking-classless e.hand.breaks f g.classless;

@@ -85,7 +85,7 @@ module _ (s : Scene) (scene : IsScene s) (n : ℕ) (m : Bool) where
   pub switch-statement : (at : ℕ) (x : Part) (ss : List (Elab Made)) → IsPart s x → AreEntries s n m ss → IsStatement s n m (row.switch_row at x ss)
   switch-statement at x ss part k = record {
     fine = λ e i c h. onward-fine s (IsOperand s) (Statement s scene n m e) e (evaluated x e) _ (evaluated-fine s scene x e part c h)
-        (λ v e1 g1 c1 h1 fv. onward-fine s (Entries s scene n m true e1.hand.continues) (Statement s scene n m e) e1 (row.braces ss e1) _ (braces-fine s scene n m ss k e1 (inner-later s m e e1 g1 i) c1 h1)
+        (λ v e1 g1 c1 h1 fv. onward-fine s (Entries s scene n m true e1.hand.continues) (Statement s scene n m e) e1 (row.braces ss e1) _ (braces-fine s scene n m ss k e1 (inner-later s n m e e1 g1 i) c1 h1)
         (λ ms e2 g2 c2 h2 fm. subst (λ r. Fine s (Statement s scene n m e) e2 (onward r (plain_then at ms))) (sym (scalar-is 13 at v e2 c2))
         (plain_part-fine at ms v e e2 c2 h2 (fits-when s e1 e2 v g2 fv) (λ w. subst (λ b. Entries s scene n m true b ms e2) g1.hand.continues (fm w)))));
   }

@@ -13,7 +13,7 @@ pub record EntryFits (s : Scene) (parameters : ℕ) (is_main breaks continues : 
 
 -- a statement or a label that is fine wherever it is elaborated
 pub record IsEntry (s : Scene) (parameters : ℕ) (is_main : Bool) (run : Elab Made) : Type 0 where
-  pub fine : (e : Env) → Inner s is_main e → Classless e → (Within e s → Holds s e) → Fine s (EntryFits s parameters is_main e.hand.breaks e.hand.continues) e (run e)
+  pub fine : (e : Env) → Inner s parameters is_main e → Classless e → (Within e s → Holds s e) → Fine s (EntryFits s parameters is_main e.hand.breaks e.hand.continues) e (run e)
 
 abbrev pub AreEntries : Scene → ℕ → Bool → List (Elab Made) → Type 0
 AreEntries s parameters is_main [] = Unit {0}
