@@ -22,6 +22,7 @@ first-within s extent names = record {
   enums = record { more = s.tables.classes.enums; all = refl };
   locals = record { more = s.locals; all = refl };
   statics = λ n x h. absurd cc;
+  owners = λ n x h. absurd cc;
 }
 
 pub first-holds : (s : Scene) → s.result ≡ 0 → (extent : Extent) (names : List Name) → Holds s (first_env extent names)
@@ -34,6 +35,7 @@ first-holds s r extent names = record {
   open_there = λ n o. absurd (elim o [ inl a ↦ a | inr b ↦ b ]);
   outside = λ n x h home. absurd cc;
   statics = λ n x h. absurd cc;
+  functions = λ n x h. absurd cc;
   result = sym r;
 }
 

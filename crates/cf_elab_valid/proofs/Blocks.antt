@@ -53,14 +53,14 @@ module _ (s : Scene) (scene : IsScene s) (n : ℕ) (m : Bool) where
 
   scope-left : (e f : Env) (ms : List Made) (breaks continues : Bool) → Good s (Statements breaks continues) (entered e) ms f → Good s (Statements breaks continues) e ms (left f)
   scope-left e f ms breaks continues g = record {
-    steps = record { types = g.steps.types; funs = g.steps.funs; enums = g.steps.enums; locals = g.steps.locals; statics = g.steps.statics; homes = g.steps.homes; hand = g.steps.hand; outer = ap (λ (o : OpenScopes). o.outer) back };
+    steps = record { types = g.steps.types; funs = g.steps.funs; enums = g.steps.enums; locals = g.steps.locals; statics = g.steps.statics; functions = g.steps.functions; homes = g.steps.homes; hand = g.steps.hand; outer = ap (λ (o : OpenScopes). o.outer) back };
     classless = moved-classless s f.hand (without_last f.scopes.outer) f refl g.classless;
     holds = λ w. moved-holds s f.hand (without_last f.scopes.outer) f refl opened (g.holds (there w));
     made = λ w. same-statements breaks continues ms f (left f) (g.made (there w));
   }
     where
       there : Within (left f) s → Within f s
-      there w = record { types = w.types; funs = w.funs; enums = w.enums; locals = w.locals; statics = w.statics }
+      there w = record { types = w.types; funs = w.funs; enums = w.enums; locals = w.locals; statics = w.statics; owners = w.owners }
 
       before : OpenScopes
       before = record { outer = e.scopes.outer; inner = e.scopes.inner }
@@ -75,7 +75,7 @@ module _ (s : Scene) (scene : IsScene s) (n : ℕ) (m : Bool) where
   scoped-fine ss k e i c h = by (all ss (entered e)) (all-statements ss k (entered e) inside (moved-classless s e.hand (entered e).scopes e refl c) held)
     where
       there : Within (entered e) s → Within e s
-      there w = record { types = w.types; funs = w.funs; enums = w.enums; locals = w.locals; statics = w.statics }
+      there w = record { types = w.types; funs = w.funs; enums = w.enums; locals = w.locals; statics = w.statics; owners = w.owners }
 
       inside : Inner s n m (entered e)
       inside = record { main = i.main; there = λ w. i.there (there w); behind = i.behind; deep = within-another e.scopes.outer e.scopes.inner; owner = i.owner }

@@ -64,7 +64,7 @@ holds-types : (s : Scene) (e : Env) (types : List Ty) → Begins e.types.types t
     → Holds s e → Holds s (record e { types = record e.types { types = types } })
 holds-types s e types b parts h =
     let next : Env = record e { types = record e.types { types = types } } in
-    let g : Steps e next = record { types = b; funs = begins-same e.types.funs; enums = begins-same e.classes.enums; locals = begins-same e.hand.locals; statics = begins-same e.statics; homes = homes-same e.entities; hand = same-hand e.hand; outer = refl } in record {
+    let g : Steps e next = record { types = b; funs = begins-same e.types.funs; enums = begins-same e.classes.enums; locals = begins-same e.hand.locals; statics = begins-same e.statics; functions = begins-same e.functions; homes = homes-same e.entities; hand = same-hand e.hand; outer = refl } in record {
       parts = λ n v at. part_same v (parts n v at);
       no_outer = h.no_outer;
       entities = λ n x o k. entity-later s e next x g (h.entities n x o k);
@@ -73,6 +73,7 @@ holds-types s e types b parts h =
       open_there = h.open_there;
       outside = λ n x k home. entity-later s e next (object x) g (h.outside n x k home);
       statics = h.statics;
+      functions = h.functions;
       result = h.result;
     }
   where
@@ -109,7 +110,7 @@ intern-fine s t e plain fun c h = by (place_in (same_ty t) 0 e.types.types) refl
         }
     by None found =
         let next : Env = record e { types = record e.types { types = e.types.types ++ t ∷ [] } } in
-        let g : Steps e next = record { types = begins-last e.types.types t; funs = begins-same e.types.funs; enums = begins-same e.classes.enums; locals = begins-same e.hand.locals; statics = begins-same e.statics; homes = homes-same e.entities; hand = same-hand e.hand; outer = refl } in record {
+        let g : Steps e next = record { types = begins-last e.types.types t; funs = begins-same e.types.funs; enums = begins-same e.classes.enums; locals = begins-same e.hand.locals; statics = begins-same e.statics; functions = begins-same e.functions; homes = homes-same e.entities; hand = same-hand e.hand; outer = refl } in record {
           steps = g;
           classless = record { none = c.none; none_open = c.none_open; no_body = c.no_body; no_type = more_plain e.types.types t c.no_type plain; no_name = c.no_name; no_defaults = c.no_defaults };
           holds = λ w. let before = within-before e next s g w in

@@ -51,6 +51,7 @@ module _ (s : Scene) where
     open_there = λ i q. k.open_there i (opened i q);
     outside = λ i x at home. entity-moved a o e (object x) (k.outside i x at home);
     statics = k.statics;
+    functions = k.functions;
     result = r ∙ k.result;
   }
 

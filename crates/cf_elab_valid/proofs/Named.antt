@@ -112,7 +112,7 @@ abbrev pub WordsFit : List Word → Env → Type 0
 WordsFit [] e = Unit {0}
 WordsFit (w ∷ ws) e = WordFits w e × WordsFit ws e
 
-word-later : (a b : Env) (x : Word) → Steps a b → WordFits x a → WordFits x b
+pub word-later : (a b : Env) (x : Word) → Steps a b → WordFits x a → WordFits x b
 word-later a b (type_word at t) g f = inside-later a b t g f
 word-later a b (defined_word at t) g f = inside-later a b t g f
 word-later a b (stored_as at x) g f = tt
@@ -124,7 +124,7 @@ words-later a b [] g f = tt
 words-later a b (x ∷ xs) g f = (word-later a b x g f.0, words-later a b xs g f.1)
 
 module _ (s : Scene) where
-  word-fine : (x : TypeSpecifier) (e : Env) → built.of_specifier x ≡ None → Classless e → When s e (Holds s e) → Fine s WordFits e (word_of x e)
+  pub word-fine : (x : TypeSpecifier) (e : Env) → built.of_specifier x ≡ None → Classless e → When s e (Holds s e) → Fine s WordFits e (word_of x e)
   word-fine (specifier.Storage at x) e b c h = made-fine s WordFits e (stored_as at x) c h (λ w. tt)
   word-fine (specifier.Const at) e b c h = made-fine s WordFits e (const_word at) c h (λ w. tt)
   word-fine (specifier.Basic at x) e b c h = made-fine s WordFits e (basic_word at x) c h (λ w. tt)

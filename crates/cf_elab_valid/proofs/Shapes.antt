@@ -98,7 +98,7 @@ module _ (s : Scene) where
           made-fine s FunThere e n c h (λ w. let place = r.place in omega arith)
       by None found =
           let next : Env = record e { types = record e.types { funs = e.types.funs ++ g ∷ [] } } in
-          let step : Steps e next = record { types = begins-same e.types.types; funs = begins-last e.types.funs g; enums = begins-same e.classes.enums; locals = begins-same e.hand.locals; statics = begins-same e.statics; homes = homes-same e.entities; hand = same-hand e.hand; outer = refl } in record {
+          let step : Steps e next = record { types = begins-same e.types.types; funs = begins-last e.types.funs g; enums = begins-same e.classes.enums; locals = begins-same e.hand.locals; statics = begins-same e.statics; functions = begins-same e.functions; homes = homes-same e.entities; hand = same-hand e.hand; outer = refl } in record {
             steps = step;
             classless = record { none = c.none; none_open = c.none_open; no_body = c.no_body; no_type = c.no_type; no_name = c.no_name; no_defaults = c.no_defaults };
             holds = λ w. let k = h (within-before e next s step w) in record {
@@ -110,6 +110,7 @@ module _ (s : Scene) where
               open_there = k.open_there;
               outside = λ n x at home. entity-later s e next (object x) step (k.outside n x at home);
               statics = k.statics;
+              functions = k.functions;
               result = k.result;
             };
             made = λ w. omega (arith, length-append e.types.funs (g ∷ []));
@@ -128,12 +129,12 @@ module _ (s : Scene) where
           part_later (ty.MemFun n m) k = k
           part_later (ty.Const n) k = k
 
-  function_type-fine : (r : ℕ) (ps : List ℕ) (b : Bool) (e : Env) → Classless e → When s e (Holds s e) → Fine s IsThere e (function_type r ps b e)
+  pub function_type-fine : (r : ℕ) (ps : List ℕ) (b : Bool) (e : Env) → Classless e → When s e (Holds s e) → Fine s IsThere e (function_type r ps b e)
   function_type-fine r ps b e c h =
       onward-fine s FunThere IsThere e (intern_fun (record { result = r; params = ps; is_const = b }) e) (λ f. intern (ty.Fun f)) (intern_fun-fine (record { result = r; params = ps; is_const = b }) e c h)
       (λ f e1 g c1 h1 there. fine-as s (IsType (ty.Fun f)) IsThere e1 (intern (ty.Fun f) e1) (λ t k is. is.inside) (intern-fine s (ty.Fun f) e1 refl there c1 h1))
 
-  there-fine : (v : Ty) (e : Env) → Fine s (IsType v) e (intern v e) → Fine s IsThere e (intern v e)
+  pub there-fine : (v : Ty) (e : Env) → Fine s (IsType v) e (intern v e) → Fine s IsThere e (intern v e)
   there-fine v e f = fine-as s (IsType v) IsThere e (intern v e) (λ t k is. is.inside) f
 
 module _ (s : Scene) (scene : IsScene s) where
@@ -165,7 +166,7 @@ module _ (s : Scene) (scene : IsScene s) where
   abbrev Any : List ℕ → Env → Type 0
   Any ts e = Unit {0}
 
-  parameter_types-fine : (ps : List Parameter) (e : Env) → Classless e → When s e (Holds s e) → When s e (ParametersThere ps e) → Fine s Any e (each (λ (p : Parameter). parameter_type p.type) ps e)
+  pub parameter_types-fine : (ps : List Parameter) (e : Env) → Classless e → When s e (Holds s e) → When s e (ParametersThere ps e) → Fine s Any e (each (λ (p : Parameter). parameter_type p.type) ps e)
   parameter_types-fine [] e c h f = made-fine s Any e [] c h (λ w. tt)
   parameter_types-fine (p ∷ ps) e c h f =
       onward-fine s IsThere Any e (parameter_type p.type e) _ (parameter_type-fine p.type e c h (λ w. (f w).0))
@@ -207,7 +208,7 @@ module _ (s : Scene) (scene : IsScene s) where
       (needed e (not (is_reference (sort_of e.types t) || is_void (sort_of e.types t) || is_function (sort_of e.types t))) 26 at)
       (still-fine s ShapedThere e (need (is_inner x && position.unbounded) 26 at e) _ (needed e (is_inner x && position.unbounded) 26 at) (made-fine s ShapedThere e (unbounded t) c h i))
 
-  bounds_still : (x : Shape) (e : Env) → Still e (bounds_constant x e)
+  pub bounds_still : (x : Shape) (e : Env) → Still e (bounds_constant x e)
   bounds_still inner e = refl
   bounds_still (pointing at b x) e = bounds_still x e
   bounds_still (referring at x) e = bounds_still x e
@@ -222,7 +223,7 @@ module _ (s : Scene) (scene : IsScene s) where
     pub fine : (e : Env) → Classless e → When s e (Holds s e) → FineAs s IsPlainShape ShapeThere e (run e)
 
   -- behind the type of a declarator
-  typed_then : {B : Type 0} (T : B → Type 0) (R : B → Env → Type 0) (position : Position) (x : Shape) (g : Gathered) (go : Shaped → Env → Answer B) (e : Env)
+  pub typed_then : {B : Type 0} (T : B → Type 0) (R : B → Env → Type 0) (position : Position) (x : Shape) (g : Gathered) (go : Shaped → Env → Answer B) (e : Env)
       → IsPlainShape x → Classless e → When s e (Holds s e) → When s e (ShapeThere x e) → When s e (NamedFits g e)
       → ((t : Shaped) (e1 : Env) → Classless e1 → When s e1 (Holds s e1) → When s e1 (ShapedThere t e1) → FineAs s T R e1 (go t e1))
       → FineAs s T R e (onward (base_type g e) (λ base k. onward (typed position x base k) (λ t m. onward (bounds_constant x m) (λ _. go t))))

@@ -108,7 +108,7 @@ module _ (s : Scene) (scene : IsScene s) where
   counted n e = record e { hand = record e.hand { literals = n } }
 
   pub counted-steps : (n : ℕ) (e : Env) → Steps e (counted n e)
-  counted-steps n e = record { types = begins-same e.types.types; funs = begins-same e.types.funs; enums = begins-same e.classes.enums; locals = begins-same e.hand.locals; statics = begins-same e.statics; homes = homes-same e.entities; hand = record { link = refl; kind = refl; result = refl; breaks = refl; continues = refl }; outer = refl }
+  counted-steps n e = record { types = begins-same e.types.types; funs = begins-same e.types.funs; enums = begins-same e.classes.enums; locals = begins-same e.hand.locals; statics = begins-same e.statics; functions = begins-same e.functions; homes = homes-same e.entities; hand = record { link = refl; kind = refl; result = refl; breaks = refl; continues = refl }; outer = refl }
 
   pub counted-classless : (n : ℕ) (e : Env) → Classless e → Classless (counted n e)
   counted-classless n e c = record { none = c.none; none_open = c.none_open; no_body = c.no_body; no_type = c.no_type; no_name = c.no_name; no_defaults = c.no_defaults }
@@ -124,6 +124,7 @@ module _ (s : Scene) (scene : IsScene s) where
         open_there = k.open_there;
         outside = λ i x at home. entity-later s e (counted n e) (object x) (counted-steps n e) (k.outside i x at home);
         statics = k.statics;
+        functions = k.functions;
         result = k.result;
       }
 

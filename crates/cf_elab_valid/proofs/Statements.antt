@@ -233,7 +233,7 @@ module _ (s : Scene) (scene : IsScene s) (n : ℕ) (m : Bool) where
   flagged-classless b k e c = moved-classless s (record e.hand { breaks = b; continues = k }) e.scopes e refl c
 
   within-flagged : (b k : Bool) (e : Env) → Within (flagged b k e) s → Within e s
-  within-flagged b k e w = record { types = w.types; funs = w.funs; enums = w.enums; locals = w.locals; statics = w.statics }
+  within-flagged b k e w = record { types = w.types; funs = w.funs; enums = w.enums; locals = w.locals; statics = w.statics; owners = w.owners }
 
   flagged-holds : (b k : Bool) (e : Env) → When s e (Holds s e) → When s (flagged b k e) (Holds s (flagged b k e))
   flagged-holds b k e h w = moved-holds s (record e.hand { breaks = b; continues = k }) e.scopes e refl (λ i q. q) (h (within-flagged b k e w))
@@ -254,6 +254,7 @@ module _ (s : Scene) (scene : IsScene s) (n : ℕ) (m : Bool) where
           enums = g.steps.enums;
           locals = g.steps.locals;
           statics = g.steps.statics;
+          functions = g.steps.functions;
           homes = g.steps.homes;
           hand = record { link = g.steps.hand.link; kind = g.steps.hand.kind; result = g.steps.hand.result; breaks = refl; continues = refl };
           outer = g.steps.outer;

@@ -44,7 +44,7 @@ pub same-hand : (h : Hand) → SameHand h h
 same-hand h = record { link = refl; kind = refl; result = refl; breaks = refl; continues = refl }
 
 pub steps-none : (e : Env) → Steps e e
-steps-none e = record { types = begins-same e.types.types; funs = begins-same e.types.funs; enums = begins-same e.classes.enums; locals = begins-same e.hand.locals; statics = begins-same e.statics; homes = homes-same e.entities; hand = same-hand e.hand; outer = refl }
+steps-none e = record { types = begins-same e.types.types; funs = begins-same e.types.funs; enums = begins-same e.classes.enums; locals = begins-same e.hand.locals; statics = begins-same e.statics; functions = begins-same e.functions; homes = homes-same e.entities; hand = same-hand e.hand; outer = refl }
 
 pub steps-through : (a b c : Env) → Steps a b → Steps b c → Steps a c
 steps-through a b c g h = record {
@@ -53,6 +53,7 @@ steps-through a b c g h = record {
   enums = begins-through a.classes.enums b.classes.enums c.classes.enums g.enums h.enums;
   locals = begins-through a.hand.locals b.hand.locals c.hand.locals g.locals h.locals;
   statics = begins-through a.statics b.statics c.statics g.statics h.statics;
+  functions = begins-through a.functions b.functions c.functions g.functions h.functions;
   homes = homes-through a.entities b.entities c.entities g.homes h.homes;
   hand = record {
     link = h.hand.link ∙ g.hand.link;
@@ -71,6 +72,7 @@ within-before a b s g w = record {
   enums = begins-through a.classes.enums b.classes.enums s.tables.classes.enums g.enums w.enums;
   locals = begins-through a.hand.locals b.hand.locals s.locals g.locals w.locals;
   statics = λ n x at. w.statics n x (begins-get a.statics b.statics n x g.statics at);
+  owners = λ n f at. w.owners n f (begins-get a.functions b.functions n f g.functions at);
 }
 
 pub inside-later : (a b : Env) (t : ℕ) → Steps a b → Inside a t → Inside b t

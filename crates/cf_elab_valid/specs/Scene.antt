@@ -2,8 +2,8 @@
 --
 -- Nodes are typed by the tables of the end. An environment on the way has the first types of them, so nothing has to be said of a node when its
 -- tables grow.
-use Rattle.std.specs.Prelude.{◌≡◌, ◌⊎◌, ℕ, ◌<◌, ◌≤◌, Bool, true, false, not, ◌&&◌, ◌||◌, List, [], ◌∷◌, ◌++◌, length, map, find, bytes_eq, is_some, ℤ, Option, None, Some, slice_get}
-use Rattle.std.specs.List.{list_any}
+use Rattle.std.specs.Prelude.{◌≡◌, ◌⊎◌, ℕ, ◌<◌, ◌≤◌, Bool, true, false, not, ◌&&◌, ◌||◌, List, [], ◌∷◌, ◌++◌, length, map, find, bytes_eq, codes, is_some, ℤ, Option, None, Some, slice_get}
+use Rattle.std.specs.List.{list_any, list_all}
 use Rattle.cf_types.specs.declared.ty.Ty.{Ty}
 use Rattle.cf_types.specs.declared.ty.Ty.TheVariants as ty
 use Rattle.cf_types.specs.Table.{IsTable}
@@ -11,7 +11,9 @@ use Rattle.cf_classes.specs.Layout.{extent}
 use Rattle.cf_classes.specs.declared.label.Label.{Label}
 use Rattle.cf_lookup.specs.Scope.{OpenScopes}
 use Rattle.cf_core.specs.declared.node.Core.{Core as Node}
+use Rattle.cf_core.specs.declared.unit.CoreFn.{CoreFn}
 use Rattle.cf_core.specs.declared.unit.CoreStatic.{CoreStatic}
+use Rattle.cf_core.specs.declared.unit.Role.TheVariants as role
 use Rattle.cf_core.specs.Core.{Core, Static}
 use Rattle.cf_core.specs.FromClasses.{signature_of}
 use Rattle.cf_core.specs.FromTypes.{Tables, type_of}
@@ -22,6 +24,7 @@ use Rattle.cf_core.specs.Typed.{typing}
 use Rattle.cf_core.specs.Places.{is_reference}
 use Rattle.cf_core.specs.Types.{SourceType, is_void}
 use Rattle.cf_core.specs.Typing.{Scope, Typing, holds_number}
+use Rattle.cf_core.specs.Valid.{Body, fits}
 use Rattle.cf_core.specs.View.{core_of}
 use Rattle.cf_core_typed.specs.Meets.{IsPlace, IsValue}
 use Rattle.cf_core_typed.specs.Same.{Same, is_operand}
@@ -74,13 +77,18 @@ pub record Begins {A : Type 0} (xs ys : List A) : Type 0 where
 abbrev pub AreThere : Scene → List CoreStatic → Type 0
 AreThere s xs = (n : ℕ) (x : CoreStatic) → slice_get xs n ≡ Some x → find (λ (y : Static). bytes_eq y.name x.name) s.statics ≡ Some (static_of s.tables x)
 
--- what an environment has of types, of enumerations and of locals stands first at the end, which has its static objects
+-- each function is one of the end
+abbrev pub AreOwners : Scene → List CoreFn → Type 0
+AreOwners s fs = (n : ℕ) (f : CoreFn) → slice_get fs n ≡ Some f → list_any (λ (o : Name). bytes_eq o f.name) s.owners ≡ true
+
+-- what an environment has of types, of enumerations and of locals stands first at the end, which has its static objects and functions
 pub record Within (env : Env) (s : Scene) : Type 0 where
   pub types : Begins env.types.types s.tables.types.types
   pub funs : Begins env.types.funs s.tables.types.funs
   pub enums : Begins env.classes.enums s.tables.classes.enums
   pub locals : Begins env.hand.locals s.locals
   pub statics : AreThere s env.statics
+  pub owners : AreOwners s env.functions
 
 -- the function at hand is the same, and `break` and `continue` may stand as before
 pub record SameHand (old new : Hand) : Type 0 where
@@ -104,13 +112,14 @@ pub record StaysAt (new : List Entity) (n : ℕ) (x : Entity) : Type 0 where
 abbrev pub HomesStay : List Entity → List Entity → Type 0
 HomesStay old new = (n : ℕ) (x : Entity) → slice_get old n ≡ Some x → StaysAt new n x
 
--- nothing of types, enumerations, locals and static objects is lost or changed, and the scopes around are the same
+-- nothing of types, enumerations, locals, static objects and functions is lost or changed, and the scopes around are the same
 pub record Steps (old new : Env) : Type 0 where
   pub types : Begins old.types.types new.types.types
   pub funs : Begins old.types.funs new.types.funs
   pub enums : Begins old.classes.enums new.classes.enums
   pub locals : Begins old.hand.locals new.hand.locals
   pub statics : Begins old.statics new.statics
+  pub functions : Begins old.functions new.functions
   pub homes : HomesStay old.entities new.entities
   pub hand : SameHand old.hand new.hand
   pub outer : new.scopes.outer ≡ old.scopes.outer
@@ -194,7 +203,27 @@ pub record StaticFits (s : Scene) (x : CoreStatic) : Type 0 where
   pub start : ((is_some x.owner && is_nothing (core s x.start)) || (typing (file_scope s) (core s x.start)).start (tree s x.ty)) ≡ true
   pub owner : OwnerThere s x.owner
 
--- what can be named fits, objects outside of frames whether they are hidden or not, and static objects are initialised
+-- ---- functions
+
+-- the body of a function of a file
+abbrev pub function_body : Scene → CoreFn → Body
+function_body s f = record {
+  scope = record { classes = []; statics = s.statics; locals = map (tree s) (f.params ++ f.locals); this = None };
+  parameters = length f.params;
+  result = tree s f.result;
+  is_main = bytes_eq f.name (codes "__main");
+}
+
+-- a function that is no member, with its numbers there and a body that fits it
+pub record FunctionFits (s : Scene) (f : CoreFn) : Type 0 where
+  pub plain : f.role ≡ role.Plain
+  pub result : has_type s.tables f.result ≡ true
+  pub params : list_all (has_type s.tables) f.params ≡ true
+  pub locals : list_all (has_type s.tables) f.locals ≡ true
+  pub numbers : are_known s.tables f.body ≡ true
+  pub body : fits (function_body s f) false false (core s f.body) ≡ true
+
+-- what can be named fits, objects outside of frames whether they are hidden or not, static objects are initialised, and functions have bodies that fit
 pub record Holds (s : Scene) (env : Env) : Type 0 where
   pub parts : (t : ℕ) (v : Ty) → slice_get env.types.types t ≡ Some v → PartInside env v
   pub no_outer : (n : ℕ) (l : Label) → slice_get env.classes.enums n ≡ Some l → l.outer ≡ None
@@ -204,6 +233,7 @@ pub record Holds (s : Scene) (env : Env) : Type 0 where
   pub open_there : (n : ℕ) → IsOpen n env.scopes → n < length env.entities
   pub outside : (n : ℕ) (x : Object) → slice_get env.entities n ≡ Some (object x) → is_static_home x.home ≡ true → EntityFits s env (object x)
   pub statics : (n : ℕ) (x : CoreStatic) → slice_get env.statics n ≡ Some x → StaticFits s x
+  pub functions : (n : ℕ) (f : CoreFn) → slice_get env.functions n ≡ Some f → FunctionFits s f
   pub result : env.hand.result ≡ s.result
 
 -- ---- values

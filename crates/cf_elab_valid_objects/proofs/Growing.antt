@@ -19,6 +19,7 @@ pub record Unchanged (a b : Env) : Type 0 where
   pub entities : b.entities ≡ a.entities
   pub entries : b.entries ≡ a.entries
   pub scopes : b.scopes ≡ a.scopes
+  pub functions : b.functions ≡ a.functions
 
 pub holds-unchanged : (s : Scene) (a b : Env) → Steps a b → Unchanged a b → ((n : ℕ) (x : CoreStatic) → slice_get b.statics n ≡ Some x → StaticFits s x) → Holds s a → Holds s b
 holds-unchanged s a b g same statics h = record {
@@ -30,5 +31,6 @@ holds-unchanged s a b g same statics h = record {
   open_there = λ n o. subst (λ l. n < length l) (sym same.entities) (h.open_there n (subst (IsOpen n) same.scopes o));
   outside = λ n x at home. entity-later s a b (object x) g (h.outside n x (ap (λ l. slice_get l n) (sym same.entities) ∙ at) home);
   statics = statics;
+  functions = λ n f at. h.functions n f (ap (λ l. slice_get l n) (sym same.functions) ∙ at);
   result = g.hand.result ∙ h.result;
 }

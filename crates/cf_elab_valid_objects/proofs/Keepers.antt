@@ -68,6 +68,7 @@ module _ (s : Scene) (scene : IsScene s) where
     enums = begins-same e.classes.enums;
     locals = begins-last e.hand.locals u;
     statics = begins-same e.statics;
+    functions = begins-same e.functions;
     homes = homes-same e.entities;
     hand = record { link = refl; kind = refl; result = refl; breaks = refl; continues = refl };
     outer = refl;
@@ -115,6 +116,7 @@ module _ (s : Scene) (scene : IsScene s) where
     enums = begins-same e.classes.enums;
     locals = begins-same e.hand.locals;
     statics = begins-last e.statics x;
+    functions = begins-same e.functions;
     homes = homes-same e.entities;
     hand = record { link = refl; kind = refl; result = refl; breaks = refl; continues = refl };
     outer = refl;
@@ -130,7 +132,7 @@ module _ (s : Scene) (scene : IsScene s) where
     steps = defined-steps x e;
     classless = record { none = c.none; none_open = c.none_open; no_body = c.no_body; no_type = c.no_type; no_name = c.no_name; no_defaults = c.no_defaults };
     holds = λ w. let held = h (within-before e (defined x e) s (defined-steps x e) w) in
-        holds-unchanged s e (defined x e) (defined-steps x e) (record { types = refl; enums = refl; entities = refl; entries = refl; scopes = refl }) (defined-statics x e held (f w)) held;
+        holds-unchanged s e (defined x e) (defined-steps x e) (record { types = refl; enums = refl; entities = refl; entries = refl; scopes = refl; functions = refl }) (defined-statics x e held (f w)) held;
     made = p;
   }
 

@@ -75,6 +75,7 @@ named-steps name x e = record {
   enums = begins-same e.classes.enums;
   locals = begins-same e.hand.locals;
   statics = begins-same e.statics;
+  functions = begins-same e.functions;
   homes = homes-last e.entities x;
   hand = record { link = refl; kind = refl; result = refl; breaks = refl; continues = refl };
   outer = refl;
@@ -114,6 +115,7 @@ named-holds s name x e fit type h =
         | inr b ↦ subst (EntityFits s f) b.1 (entity-later s e f x g fit)
       ];
       statics = h.statics;
+      functions = h.functions;
       result = h.result;
     }
 
@@ -133,6 +135,7 @@ renamed-steps j x e same = record {
   enums = begins-same e.classes.enums;
   locals = begins-same e.hand.locals;
   statics = begins-same e.statics;
+  functions = begins-same e.functions;
   homes = replaced-homes j x e.entities same;
   hand = record { link = refl; kind = refl; result = refl; breaks = refl; continues = refl };
   outer = refl;
@@ -163,5 +166,6 @@ renamed-holds s j x e same fit type h =
       open_there = λ n o. subst (λ k. n < k) (sym (replaced-length j x e.entities)) (h.open_there n o);
       outside = λ n y at home. elim (replaced-get j n x (object y) e.entities at) [ inl a ↦ entity-later s e f (object y) g (h.outside n y a home) | inr b ↦ subst (EntityFits s f) b.1 (entity-later s e f x g fit) ];
       statics = h.statics;
+      functions = h.functions;
       result = h.result;
     }

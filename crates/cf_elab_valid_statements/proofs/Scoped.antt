@@ -18,10 +18,10 @@ left e = record e { scopes = without_last e.scopes.outer }
 
 module _ (s : Scene) where
   entered-within : (e : Env) → Within (entered e) s → Within e s
-  entered-within e w = record { types = w.types; funs = w.funs; enums = w.enums; locals = w.locals; statics = w.statics }
+  entered-within e w = record { types = w.types; funs = w.funs; enums = w.enums; locals = w.locals; statics = w.statics; owners = w.owners }
 
   left-within : (f : Env) → Within (left f) s → Within f s
-  left-within f w = record { types = w.types; funs = w.funs; enums = w.enums; locals = w.locals; statics = w.statics }
+  left-within f w = record { types = w.types; funs = w.funs; enums = w.enums; locals = w.locals; statics = w.statics; owners = w.owners }
 
   pub entered-classless : (e : Env) → Classless e → Classless (entered e)
   entered-classless e c = moved-classless s e.hand (entered e).scopes e refl c
@@ -32,7 +32,7 @@ module _ (s : Scene) where
   -- the scope is left as it was entered
   scope-left : {A : Type 0} (P : A → Env → Type 0) (e f : Env) (a : A) → ((f : Env) → P a f → P a (left f)) → Good s P (entered e) a f → Good s P e a (left f)
   scope-left P e f a keeps g = record {
-    steps = record { types = g.steps.types; funs = g.steps.funs; enums = g.steps.enums; locals = g.steps.locals; statics = g.steps.statics; homes = g.steps.homes; hand = g.steps.hand; outer = ap (λ (o : OpenScopes). o.outer) back };
+    steps = record { types = g.steps.types; funs = g.steps.funs; enums = g.steps.enums; locals = g.steps.locals; statics = g.steps.statics; functions = g.steps.functions; homes = g.steps.homes; hand = g.steps.hand; outer = ap (λ (o : OpenScopes). o.outer) back };
     classless = moved-classless s f.hand (without_last f.scopes.outer) f refl g.classless;
     holds = λ w. moved-holds s f.hand (without_last f.scopes.outer) f refl opened (g.holds (left-within f w));
     made = λ w. keeps f (g.made (left-within f w));
