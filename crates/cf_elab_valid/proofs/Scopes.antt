@@ -10,7 +10,7 @@ use Rattle.cf_elab_valid.specs.Scene.{IsNumbered, IsNumberedIn}
 use Rattle.cf_elab_valid.specs.Statements.{is_outermost}
 use Rattle.cf_elab_valid.proofs.Options.{none_some, some_is}
 
-scope-numbered : (name : Name) (xs : List (Name × ℕ)) (n : ℕ) → in_scope name xs ≡ Some n → IsNumbered n xs
+pub scope-numbered : (name : Name) (xs : List (Name × ℕ)) (n : ℕ) → in_scope name xs ≡ Some n → IsNumbered n xs
 scope-numbered name [] n h = absurd (none_some n h)
 scope-numbered name (x ∷ xs) n h = by (pointwise nat_eq name x.0) h (scope-numbered name xs n)
   where

@@ -301,7 +301,7 @@ module _ (s : Scene) (scene : IsScene s) (n : ℕ) (m : Bool) where
   or_true true = refl
   or_true false = refl
 
-  no_void : (k : Sort) (t : ℕ) → SortIs s.tables k (tree s t) → is_void_sort k ≡ false → is_void (tree s t) ≡ false
+  pub no_void : (k : Sort) (t : ℕ) → SortIs s.tables k (tree s t) → is_void_sort k ≡ false → is_void (tree s t) ≡ false
   no_void (integral k) t is h = same-void (tree s t) (integer k) is
   no_void (enumeral k) t is h = same-void (tree s t) (enumeration is.name) is.same
   no_void (object_pointer u) t is h = same-void (tree s t) (pointer (tree s u)) is.same

@@ -31,17 +31,17 @@ use Rattle.cf_elab_valid_objects.proofs.Initialisers.{leaves-through, written-le
 use Rattle.cf_elab_valid_objects.specs.Starts.{NoVoidElements, StartFits, MaybeFits}
 use Rattle.cf_elab_valid_objects.proofs.Keepers.{longer, longer-steps, local-there, local-typed, local_keeper-is}
 use Rattle.cf_elab_valid_objects.proofs.Written.{nothing-fine, starting-fine}
-use Rattle.cf_elab_valid_objects.specs.Declared.{ReachedFits, AllReached, AreInitial}
+use Rattle.cf_elab_valid_objects.specs.Declared.{ReachedFits, AllReached, AreInitial, AreComplete}
 use Rattle.cf_elab_valid_objects.proofs.Naming.{found-last, named, named-steps, named-classless, named-holds, renamed, StandsAs, renamed-steps, renamed-classless, renamed-holds}
 
 -- behind an answer that leaves the names
-leaving-fine : {A B : Type 0} (s : Scene) (P : A → Env → Type 0) (Q : B → Env → Type 0) (e : Env) (r : Answer A) (go : A → Env → Answer B) → Fine s P e r → LeavesIn e r
+pub leaving-fine : {A B : Type 0} (s : Scene) (P : A → Env → Type 0) (Q : B → Env → Type 0) (e : Env) (r : Answer A) (go : A → Env → Answer B) → Fine s P e r → LeavesIn e r
     → ((a : A) (f : Env) → LeavesNames e f → Steps e f → Classless f → When s f (Holds s f) → When s f (P a f) → Fine s Q f (go a f)) → Fine s Q e (onward r go)
 leaving-fine s P Q e (Made a f) go k l next = fine-before s Q e f (go a f) k.steps (next a f l k.steps k.classless k.holds k.made)
 leaving-fine s P Q e (Refused rule at) go k l next = tt
 leaving-fine s P Q e (Passed bound most) go k l next = tt
 
-complete-no-void : (t : SourceType) → is_complete [] t ≡ true → is_void t ≡ false
+pub complete-no-void : (t : SourceType) → is_complete [] t ≡ true → is_void t ≡ false
 complete-no-void void h = absurd (true≢false (sym h))
 complete-no-void (const t) h = complete-no-void t h
 complete-no-void t h = refl
@@ -59,7 +59,7 @@ no_class x k is = absurd cc
 not-told : (b : Bool) → b ≡ false → not b ≡ true
 not-told b h = ap not h
 
-module _ (s : Scene) (scene : IsScene s) (arrays : NoVoidElements s.tables) (n : ℕ) (m : Bool) (at : ℕ) (name : Name) (t : ℕ) where
+module _ (s : Scene) (scene : IsScene s) (arrays : NoVoidElements s.tables) (frame : AreComplete s) (n : ℕ) (m : Bool) (at : ℕ) (name : Name) (t : ℕ) where
   -- what a number of this start is known as
   number-fits : (e : Env) (z : Option ℤ) → HoldsKnown z (tree s t) → HoldsKnown (constant_number e t z) (tree s t)
   number-fits e z h = by (is_const e.types t && is_arithmetic (sort_of e.types t))
@@ -106,7 +106,7 @@ module _ (s : Scene) (scene : IsScene s) (arrays : NoVoidElements s.tables) (n :
       (λ x g p. record { fits = p; blank = λ is. never_none w is })
       (starting-fine s scene arrays local_keeper (local_keeper-is s scene) at t (Some w) e c h f i v)
 
-  module _ (parts : Elab (Option Written)) (initial : AreInitial s parts) (e : Env) (low : n ≤ length e.hand.locals) (c : Classless e) (h : When s e (Holds s e)) (i : When s e (Inside e t)) (whole : When s e (is_complete [] (tree s t) ≡ true)) where
+  module _ (parts : Elab (Option Written)) (e : Env) (initial : AreInitial s e parts) (low : n ≤ length e.hand.locals) (c : Classless e) (h : When s e (Holds s e)) (i : When s e (Inside e t)) where
     abbrev own : ℕ
     own = length e.hand.locals
 
@@ -132,7 +132,7 @@ module _ (s : Scene) (scene : IsScene s) (arrays : NoVoidElements s.tables) (n :
     here w = local-there s scene t e (within-before begun told s (named-steps name (object x) begun) w)
 
     no_void : Within told s → is_void (tree s t) ≡ false
-    no_void w = complete-no-void (tree s t) (whole (within-before e told s steps w))
+    no_void w = complete-no-void (tree s t) (frame own t (here w))
 
     holds : When s told (Holds s told)
     holds w =
@@ -171,7 +171,7 @@ module _ (s : Scene) (scene : IsScene s) (arrays : NoVoidElements s.tables) (n :
             (inside-later told f t g (i (within-before e told s steps v0)), here v0, no_void v0, number-fits f st.number (fst v1).fits.number) tt (hf v1);
         made = λ v. let v1 = within-before f (numbered z f) s (renamed-steps entity (object (record x { number = z })) f stands) v in
             let v0 = within-before told f s g v1 in
-            (declares own w st f v1 (inside-later told f t g (i (within-before e told s steps v0))) low (here v0) (whole (within-before e told s steps v0)) (fst v1), tt);
+            (declares own w st f v1 (inside-later told f t g (i (within-before e told s steps v0))) low (here v0) (frame own t (here v0)) (fst v1), tt);
       }
 
       number-known : Fine s (λ rs k. AllReached s n m rs) f (onward (onward (row.number_known name z f) (λ _. gives st)) (λ y k. Made (reached own w y ∷ []) k))
@@ -184,7 +184,7 @@ module _ (s : Scene) (scene : IsScene s) (arrays : NoVoidElements s.tables) (n :
     body-fine : is_some (declared_here begun name) ≡ false
         → Fine s (λ rs k. AllReached s n m rs) told (onward (parts told) (λ w f. onward (row.started local_keeper name at t w f) (λ st k. Made (reached own w st ∷ []) k)))
     body-fine fresh =
-        leaving-fine s (λ w f. MaybeFits s f w) (λ rs k. AllReached s n m rs) told (parts told) _ (initial.fine told classless holds) (initial.leaves told classless)
+        leaving-fine s (λ w f. MaybeFits s f w) (λ rs k. AllReached s n m rs) told (parts told) _ (initial.fine told steps classless holds) (initial.leaves told steps classless)
         (λ w f l1 g1 c1 h1 fw. started-fine w f l1 g1 c1 h1 fw)
       where
         started-fine : (w : Option Written) (f : Env) → LeavesNames told f → Steps told f → Classless f → When s f (Holds s f) → When s f (MaybeFits s f w)

@@ -19,7 +19,7 @@ numbered-last n k name [] (inr h) = absurd h
 numbered-last n k name (x ∷ xs) (inl h) = inl (inl h)
 numbered-last n k name (x ∷ xs) (inr h) = elim (numbered-last n k name xs h) [ inl a ↦ inl (inr a) | inr b ↦ inr b ]
 
-open-last : (n k : ℕ) (name : Name) (outer : List (List (Name × ℕ))) (inner : List (Name × ℕ)) → IsNumberedIn n (outer ++ (inner ++ (name, k) ∷ []) ∷ []) → IsNumberedIn n (outer ++ inner ∷ []) ⊎ (k ≡ n)
+pub open-last : (n k : ℕ) (name : Name) (outer : List (List (Name × ℕ))) (inner : List (Name × ℕ)) → IsNumberedIn n (outer ++ (inner ++ (name, k) ∷ []) ∷ []) → IsNumberedIn n (outer ++ inner ∷ []) ⊎ (k ≡ n)
 open-last n k name [] inner (inl h) = elim (numbered-last n k name inner h) [ inl a ↦ inl (inl a) | inr b ↦ inr b ]
 open-last n k name [] inner (inr h) = absurd h
 open-last n k name (x ∷ xs) inner (inl h) = inl (inl h)

@@ -1,12 +1,12 @@
 -- What holds of what a declaration in a block reaches, and of the parts of its initialiser (6.7).
-use Rattle.std.specs.Prelude.{◌≡◌, ℕ, Bool, true, List, [], ◌∷◌, Option}
+use Rattle.std.specs.Prelude.{◌≡◌, ℕ, Bool, true, List, [], ◌∷◌, Option, Some, slice_get}
 use Rattle.cf_core.specs.Numbers.{are_known}
-use Rattle.cf_core.specs.Valid.{fits, initialises_local}
+use Rattle.cf_core.specs.Valid.{fits, initialises_local, is_complete}
 use Rattle.cf_elab.specs.Answer.{Elab}
 use Rattle.cf_elab.specs.Env.{Env}
 use Rattle.cf_elab.specs.Objects.{Written, Reached}
 use Rattle.cf_elab_valid.specs.Answers.{Fine}
-use Rattle.cf_elab_valid.specs.Scene.{Scene, core, Within, Classless, Holds}
+use Rattle.cf_elab_valid.specs.Scene.{Scene, tree, core, Within, Steps, Classless, Holds}
 use Rattle.cf_elab_valid.specs.Statements.{body_of}
 use Rattle.cf_elab_valid_objects.specs.Quiet.{LeavesIn}
 use Rattle.cf_elab_valid_objects.specs.Starts.{MaybeFits}
@@ -21,7 +21,11 @@ abbrev pub AllReached : Scene → ℕ → Bool → List Reached → Type 0
 AllReached s parameters is_main [] = Unit {0}
 AllReached s parameters is_main (r ∷ rs) = ReachedFits s parameters is_main r × AllReached s parameters is_main rs
 
--- the parts of an initialiser or of none, wherever they are elaborated
-pub record AreInitial (s : Scene) (parts : Elab (Option Written)) : Type 0 where
-  pub fine : (e : Env) → Classless e → (Within e s → Holds s e) → Fine s (λ w f. MaybeFits s f w) e (parts e)
-  pub leaves : (e : Env) → Classless e → LeavesIn e (parts e)
+-- the parts of an initialiser or of none, wherever they are elaborated from here on
+pub record AreInitial (s : Scene) (begin : Env) (parts : Elab (Option Written)) : Type 0 where
+  pub fine : (e : Env) → Steps begin e → Classless e → (Within e s → Holds s e) → Fine s (λ w f. MaybeFits s f w) e (parts e)
+  pub leaves : (e : Env) → Steps begin e → Classless e → LeavesIn e (parts e)
+
+-- the parameters, locals and temporaries of the function at hand are of complete types
+abbrev pub AreComplete : Scene → Type 0
+AreComplete s = (i t : ℕ) → slice_get s.locals i ≡ Some t → is_complete [] (tree s t) ≡ true

@@ -18,8 +18,7 @@ use Rattle.cf_syntax.specs.declared.declarator.DeclTree.{DeclTree}
 use Rattle.cf_syntax.specs.declared.expression.Expr.{Expr}
 use Rattle.cf_elab.specs.Expression.{elaborated, declared}
 use Rattle.cf_elab_valid_objects.specs.Quiet.{QuietIn, IsQuietPart, LeavesIn}
-use Rattle.cf_core.specs.Valid.{is_complete}
-use Rattle.cf_elab_valid_objects.specs.Declared.{AllReached, AreInitial}
+use Rattle.cf_elab_valid_objects.specs.Declared.{AllReached, AreInitial, AreComplete}
 
 -- ---- initialisers (8.4)
 
@@ -60,11 +59,11 @@ InitialisersLeaveNames = (keeper : ℕ → Elab Keeper) → ((u : ℕ) (e : Env)
 
 -- ---- automatic objects (6.7)
 
--- an object of a complete type, declared where the parameters of the function are; and the statement that a declaration is
+-- an object that is declared behind the parameters of the function; and the statement that a declaration is
 pub record LocalsFit (s : Scene) (parameters : ℕ) (is_main : Bool) : Type 0 where
-  pub object : (at : ℕ) (name : Name) (t : ℕ) (parts : Elab (Option Written)) → AreInitial s parts → (e : Env) → parameters ≤ length e.hand.locals → Classless e → (Within e s → Holds s e)
-      → (Within e s → Inside e t) → (Within e s → is_complete [] (tree s t) ≡ true) → Fine s (λ rs f. AllReached s parameters is_main rs) e (define_local at name t parts e)
+  pub object : (at : ℕ) (name : Name) (t : ℕ) (parts : Elab (Option Written)) (e : Env) → AreInitial s e parts → parameters ≤ length e.hand.locals → Classless e → (Within e s → Holds s e)
+      → (Within e s → Inside e t) → Fine s (λ rs f. AllReached s parameters is_main rs) e (define_local at name t parts e)
   pub statement : (at : ℕ) (rs : List Reached) (breaks continues : Bool) (e : Env) → AllReached s parameters is_main rs → StatementFits s parameters is_main breaks continues (declaration_made at rs) e
 
 abbrev pub LocalsAreValid : Type 0
-LocalsAreValid = (s : Scene) (parameters : ℕ) (is_main : Bool) → IsScene s → NoVoidElements s.tables → LocalsFit s parameters is_main
+LocalsAreValid = (s : Scene) (parameters : ℕ) (is_main : Bool) → IsScene s → NoVoidElements s.tables → AreComplete s → LocalsFit s parameters is_main
