@@ -1,0 +1,6 @@
+pub mod Arrays
+pub mod Files
+pub mod Frames
+pub mod Linked
+pub mod Names
+pub mod Starting
