@@ -30,7 +30,7 @@ module _ (s : Scene) where
   entered-holds e h w = moved-holds s e.hand (entered e).scopes e refl (λ j q. empty-numbered j (e.scopes.outer ++ e.scopes.inner ∷ []) q) (h (entered-within e w))
 
   -- the scope is left as it was entered
-  scope-left : {A : Type 0} (P : A → Env → Type 0) (e f : Env) (a : A) → ((f : Env) → P a f → P a (left f)) → Good s P (entered e) a f → Good s P e a (left f)
+  pub scope-left : {A : Type 0} (P : A → Env → Type 0) (e f : Env) (a : A) → ((f : Env) → P a f → P a (left f)) → Good s P (entered e) a f → Good s P e a (left f)
   scope-left P e f a keeps g = record {
     steps = record { types = g.steps.types; funs = g.steps.funs; enums = g.steps.enums; locals = g.steps.locals; statics = g.steps.statics; functions = g.steps.functions; homes = g.steps.homes; hand = g.steps.hand; outer = ap (λ (o : OpenScopes). o.outer) back };
     classless = moved-classless s f.hand (without_last f.scopes.outer) f refl g.classless;
