@@ -2,8 +2,7 @@
 use Rattle.std.proofs.Common.{◌≡◌, ℕ, Bool, true, false, ◌&&◌, List, [], ◌∷◌, map, Option, Some, None, refl, sym, ap, subst, ◌∙◌}
 use Rattle.std.specs.Option.{option_map}
 use Rattle.cf_syntax.specs.declared.expression.Expr.{Expr}
-use Rattle.cf_unit.specs.declared.initialiser.Init.{Init, fold-Init, roll-Init, ind-Init}
-use Rattle.cf_unit.specs.declared.initialiser.Init.TheFolds.{fold-roll-Init, map-Init}
+use Rattle.cf_unit.specs.declared.initialiser.Init.{Init, fold-Init, roll-Init, ind-Init, fold-roll-Init, map-Init}
 use Rattle.cf_unit.specs.declared.initialiser.Init.TheOpen.{Init-F}
 use Rattle.cf_unit.specs.declared.initialiser.Initialiser.{Initialiser}
 use Rattle.cf_unit.specs.declared.initialiser.Initialiser.TheVariants as initialiser
