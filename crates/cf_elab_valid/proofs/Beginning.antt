@@ -22,7 +22,7 @@ first-within s extent names = record {
   enums = record { more = s.tables.classes.enums; all = refl };
   locals = record { more = s.locals; all = refl };
   statics = λ n x h. absurd cc;
-  owners = λ n x h. absurd cc;
+  functions = record { more = s.functions; all = refl };
 }
 
 pub first-holds : (s : Scene) → s.result ≡ 0 → (extent : Extent) (names : List Name) → Holds s (first_env extent names)
@@ -41,7 +41,7 @@ first-holds s r extent names = record {
 
 -- a file of ints
 abbrev of_int : Scene
-of_int = record { tables = record { types = record { types = ty.Int Int ∷ []; funs = [] }; classes = record { labels = []; enums = []; defined = [] } }; statics = []; owners = []; locals = []; result = 0 }
+of_int = record { tables = record { types = record { types = ty.Int Int ∷ []; funs = [] }; classes = record { labels = []; enums = []; defined = [] } }; statics = []; functions = []; locals = []; result = 0 }
 
 only_int : (i : ℕ) (v : Ty) → slice_get (ty.Int Int ∷ []) i ≡ Some v → ty.Int Int ≡ v
 only_int zero v h = cc

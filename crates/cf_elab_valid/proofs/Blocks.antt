@@ -23,7 +23,7 @@ use Rattle.cf_elab_valid.proofs.Statements.{Statement, same-statement, inner-lat
 use Rattle.cf_elab_valid.proofs.Ways.{made-fine, onward-fine, within-before, When}
 
 module _ (s : Scene) (scene : IsScene s) (n : ℕ) (m : Bool) where
-  abbrev Statements : Bool → Bool → List Made → Env → Type 0
+  abbrev pub Statements : Bool → Bool → List Made → Env → Type 0
   Statements breaks continues [] e = Unit {0}
   Statements breaks continues (x ∷ xs) e = StatementFits s n m breaks continues x e × Statements breaks continues xs e
 
@@ -35,7 +35,7 @@ module _ (s : Scene) (scene : IsScene s) (n : ℕ) (m : Bool) where
   statements-later a b [] e g f = tt
   statements-later a b (x ∷ xs) e g f = (statement-later s n m a b x e g f.0, statements-later a b xs e g f.1)
 
-  all-statements : (ss : List (Elab Made)) → AreStatements s n m ss → (e : Env) → Inner s n m e → Classless e → When s e (Holds s e) → Fine s (Statements e.hand.breaks e.hand.continues) e (all ss e)
+  pub all-statements : (ss : List (Elab Made)) → AreStatements s n m ss → (e : Env) → Inner s n m e → Classless e → When s e (Holds s e) → Fine s (Statements e.hand.breaks e.hand.continues) e (all ss e)
   all-statements [] k e i c h = made-fine s (Statements e.hand.breaks e.hand.continues) e [] c h (λ w. tt)
   all-statements (x ∷ xs) k e i c h =
       onward-fine s (Statement s scene n m e) (Statements e.hand.breaks e.hand.continues) e (x e) _ (k.0.fine e i c h)
@@ -60,7 +60,7 @@ module _ (s : Scene) (scene : IsScene s) (n : ℕ) (m : Bool) where
   }
     where
       there : Within (left f) s → Within f s
-      there w = record { types = w.types; funs = w.funs; enums = w.enums; locals = w.locals; statics = w.statics; owners = w.owners }
+      there w = record { types = w.types; funs = w.funs; enums = w.enums; locals = w.locals; statics = w.statics; functions = w.functions }
 
       before : OpenScopes
       before = record { outer = e.scopes.outer; inner = e.scopes.inner }
@@ -75,7 +75,7 @@ module _ (s : Scene) (scene : IsScene s) (n : ℕ) (m : Bool) where
   scoped-fine ss k e i c h = by (all ss (entered e)) (all-statements ss k (entered e) inside (moved-classless s e.hand (entered e).scopes e refl c) held)
     where
       there : Within (entered e) s → Within e s
-      there w = record { types = w.types; funs = w.funs; enums = w.enums; locals = w.locals; statics = w.statics; owners = w.owners }
+      there w = record { types = w.types; funs = w.funs; enums = w.enums; locals = w.locals; statics = w.statics; functions = w.functions }
 
       inside : Inner s n m (entered e)
       inside = record { main = i.main; there = λ w. i.there (there w); behind = i.behind; deep = within-another e.scopes.outer e.scopes.inner; owner = i.owner }
@@ -88,7 +88,7 @@ module _ (s : Scene) (scene : IsScene s) (n : ℕ) (m : Bool) where
       by (Refused rule at) g = tt
       by (Passed bound most) g = tt
 
-  block-fits : (breaks continues : Bool) (ms : List Made) (e : Env) → Statements breaks continues ms e
+  pub block-fits : (breaks continues : Bool) (ms : List Made) (e : Env) → Statements breaks continues ms e
       → (all_of s.tables (map (are_known s.tables) (row.nodes_of ms)) ≡ true) × (all_fit (body_of s n m) breaks continues (listed (map (core s) (row.nodes_of ms))) ≡ true)
   block-fits breaks continues [] e f = (refl, refl)
   block-fits breaks continues (x ∷ xs) e f =

@@ -84,11 +84,11 @@ shape-later a b (holding at n x) g f = shape-later a b x g f
 
 -- ---- function types
 
-abbrev FunThere : ℕ → Env → Type 0
+abbrev pub FunThere : ℕ → Env → Type 0
 FunThere f e = f < length e.types.funs
 
 module _ (s : Scene) where
-  intern_fun-fine : (g : Fun) (e : Env) → Classless e → When s e (Holds s e) → Fine s FunThere e (intern_fun g e)
+  pub intern_fun-fine : (g : Fun) (e : Env) → Classless e → When s e (Holds s e) → Fine s FunThere e (intern_fun g e)
   intern_fun-fine g e c h = by (place_in (same_fun g) 0 e.types.funs) refl
     where
       by : (o : Option ℕ) → place_in (same_fun g) 0 e.types.funs ≡ o → Fine s FunThere e (Made (entered_fun e.types g o).0 (record e { types = (entered_fun e.types g o).1 }))

@@ -233,7 +233,7 @@ module _ (s : Scene) (scene : IsScene s) (n : ℕ) (m : Bool) where
   flagged-classless b k e c = moved-classless s (record e.hand { breaks = b; continues = k }) e.scopes e refl c
 
   within-flagged : (b k : Bool) (e : Env) → Within (flagged b k e) s → Within e s
-  within-flagged b k e w = record { types = w.types; funs = w.funs; enums = w.enums; locals = w.locals; statics = w.statics; owners = w.owners }
+  within-flagged b k e w = record { types = w.types; funs = w.funs; enums = w.enums; locals = w.locals; statics = w.statics; functions = w.functions }
 
   flagged-holds : (b k : Bool) (e : Env) → When s e (Holds s e) → When s (flagged b k e) (Holds s (flagged b k e))
   flagged-holds b k e h w = moved-holds s (record e.hand { breaks = b; continues = k }) e.scopes e refl (λ i q. q) (h (within-flagged b k e w))

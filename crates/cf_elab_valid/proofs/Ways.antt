@@ -72,7 +72,7 @@ within-before a b s g w = record {
   enums = begins-through a.classes.enums b.classes.enums s.tables.classes.enums g.enums w.enums;
   locals = begins-through a.hand.locals b.hand.locals s.locals g.locals w.locals;
   statics = λ n x at. w.statics n x (begins-get a.statics b.statics n x g.statics at);
-  owners = λ n f at. w.owners n f (begins-get a.functions b.functions n f g.functions at);
+  functions = begins-through a.functions b.functions s.functions g.functions w.functions;
 }
 
 pub inside-later : (a b : Env) (t : ℕ) → Steps a b → Inside a t → Inside b t

@@ -38,11 +38,11 @@ use Rattle.cf_elab_valid.specs.Sorts.{NoneToReference}
 
 -- ---- the end
 
--- the tables, the static objects and the link names of the functions of the file, and of the function at hand the types of its locals and of its result
+-- the tables, the static objects and the functions of the file, and of the function at hand the types of its locals and of its result
 pub record Scene : Type 0 where
   pub tables : Tables
   pub statics : List Static
-  pub owners : List Name
+  pub functions : List CoreFn
   pub locals : List ℕ
   pub result : ℕ
 
@@ -77,18 +77,14 @@ pub record Begins {A : Type 0} (xs ys : List A) : Type 0 where
 abbrev pub AreThere : Scene → List CoreStatic → Type 0
 AreThere s xs = (n : ℕ) (x : CoreStatic) → slice_get xs n ≡ Some x → find (λ (y : Static). bytes_eq y.name x.name) s.statics ≡ Some (static_of s.tables x)
 
--- each function is one of the end
-abbrev pub AreOwners : Scene → List CoreFn → Type 0
-AreOwners s fs = (n : ℕ) (f : CoreFn) → slice_get fs n ≡ Some f → list_any (λ (o : Name). bytes_eq o f.name) s.owners ≡ true
-
--- what an environment has of types, of enumerations and of locals stands first at the end, which has its static objects and functions
+-- what an environment has of types, of enumerations, of functions and of locals stands first at the end, which has its static objects
 pub record Within (env : Env) (s : Scene) : Type 0 where
   pub types : Begins env.types.types s.tables.types.types
   pub funs : Begins env.types.funs s.tables.types.funs
   pub enums : Begins env.classes.enums s.tables.classes.enums
   pub locals : Begins env.hand.locals s.locals
   pub statics : AreThere s env.statics
-  pub owners : AreOwners s env.functions
+  pub functions : Begins env.functions s.functions
 
 -- the function at hand is the same, and `break` and `continue` may stand as before
 pub record SameHand (old new : Hand) : Type 0 where
@@ -194,7 +190,7 @@ file_scope s = record { classes = []; statics = s.statics; locals = []; this = N
 -- the function whose statements reach the initialiser is one of the file
 abbrev pub OwnerThere : Scene → Option Name → Type 0
 OwnerThere s None = Unit {0}
-OwnerThere s (Some name) = list_any (λ (n : Name). bytes_eq n name) s.owners ≡ true
+OwnerThere s (Some name) = list_any (λ (f : CoreFn). bytes_eq f.name name) s.functions ≡ true
 
 -- the initialiser starts an object of the type, or stands in the function that owns it
 pub record StaticFits (s : Scene) (x : CoreStatic) : Type 0 where

@@ -219,7 +219,7 @@ module _ (s : Scene) (scene : IsScene s) where
         by (row.counted t (Some (pos 0)) list (entered e)) (counted-fine n t (Some (pos 0)) list (entered e) items (entered-classless s e c) (entered-holds s e h) (λ w. let k = is (there w) in record { inside = k.inside; here = k.here }))
       where
         there : Within (entered e) s → Within e s
-        there w = record { types = w.types; funs = w.funs; enums = w.enums; locals = w.locals; statics = w.statics; owners = w.owners }
+        there w = record { types = w.types; funs = w.funs; enums = w.enums; locals = w.locals; statics = w.statics; functions = w.functions }
 
         by : (r : Answer (List Counted)) → Fine s Any (entered e) r → Fine s IsThere e (onward r (λ cs f. checked n t cs (left f)))
         by (Made cs f) g =

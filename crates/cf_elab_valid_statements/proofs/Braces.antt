@@ -81,7 +81,7 @@ module _ (s : Scene) (scene : IsScene s) (n : ℕ) (m : Bool) where
   breaking-classless b e c = moved-classless s (record e.hand { breaks = b }) e.scopes e refl c
 
   breaking-within : (b : Bool) (e : Env) → Within (breaking b e) s → Within e s
-  breaking-within b e w = record { types = w.types; funs = w.funs; enums = w.enums; locals = w.locals; statics = w.statics; owners = w.owners }
+  breaking-within b e w = record { types = w.types; funs = w.funs; enums = w.enums; locals = w.locals; statics = w.statics; functions = w.functions }
 
   breaking-holds : (b : Bool) (e : Env) → When s e (Holds s e) → When s (breaking b e) (Holds s (breaking b e))
   breaking-holds b e h w = moved-holds s (record e.hand { breaks = b }) e.scopes e refl (λ i q. q) (h (breaking-within b e w))
@@ -96,7 +96,7 @@ module _ (s : Scene) (scene : IsScene s) (n : ℕ) (m : Bool) where
       begun = breaking true e
 
       inside : Inner s n m (entered begun)
-      inside = record { main = i.main; there = λ w. i.there (record { types = w.types; funs = w.funs; enums = w.enums; locals = w.locals; statics = w.statics; owners = w.owners }); behind = i.behind; deep = within-another e.scopes.outer e.scopes.inner; owner = i.owner }
+      inside = record { main = i.main; there = λ w. i.there (record { types = w.types; funs = w.funs; enums = w.enums; locals = w.locals; statics = w.statics; functions = w.functions }); behind = i.behind; deep = within-another e.scopes.outer e.scopes.inner; owner = i.owner }
 
       by : (r : Answer (List Made)) → Fine s (Entries true e.hand.continues) begun r → Fine s (Entries true e.hand.continues) e (onward r (λ ms f. MadeIn ms (breaking e.hand.breaks f)))
       by (MadeIn ms f) g = record {

@@ -18,10 +18,10 @@ left e = record e { scopes = without_last e.scopes.outer }
 
 module _ (s : Scene) where
   entered-within : (e : Env) → Within (entered e) s → Within e s
-  entered-within e w = record { types = w.types; funs = w.funs; enums = w.enums; locals = w.locals; statics = w.statics; owners = w.owners }
+  entered-within e w = record { types = w.types; funs = w.funs; enums = w.enums; locals = w.locals; statics = w.statics; functions = w.functions }
 
   left-within : (f : Env) → Within (left f) s → Within f s
-  left-within f w = record { types = w.types; funs = w.funs; enums = w.enums; locals = w.locals; statics = w.statics; owners = w.owners }
+  left-within f w = record { types = w.types; funs = w.funs; enums = w.enums; locals = w.locals; statics = w.statics; functions = w.functions }
 
   pub entered-classless : (e : Env) → Classless e → Classless (entered e)
   entered-classless e c = moved-classless s e.hand (entered e).scopes e refl c

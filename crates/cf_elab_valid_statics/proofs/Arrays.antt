@@ -98,7 +98,7 @@ module _ (s : Scene) (scene : IsScene s) (arrays : NoVoidElements s.tables) (at 
     before w = within-before (entered e) told s (named-steps name (object x) (entered e)) w
 
     outside_scope : Within told s → Within e s
-    outside_scope w = let v = before w in record { types = v.types; funs = v.funs; enums = v.enums; locals = v.locals; statics = v.statics; owners = v.owners }
+    outside_scope w = let v = before w in record { types = v.types; funs = v.funs; enums = v.enums; locals = v.locals; statics = v.statics; functions = v.functions }
 
     no_void : Within told s → is_void (tree s t) ≡ false
     no_void w = let v = outside_scope w in ap is_void (tree-at s.tables scene.table t (ty.Array u 1) (begins-get e.types.types s.tables.types.types t (ty.Array u 1) v.types (i v).here))
