@@ -163,7 +163,7 @@ module _ (s : Scene) (scene : IsScene s) where
       by (ty.MemData k n) is = made-fine s IsThere e t c h i
       by (ty.MemFun k n) is = made-fine s IsThere e t c h i
 
-  abbrev Any : List ℕ → Env → Type 0
+  abbrev pub Any : List ℕ → Env → Type 0
   Any ts e = Unit {0}
 
   pub parameter_types-fine : (ps : List Parameter) (e : Env) → Classless e → When s e (Holds s e) → When s e (ParametersThere ps e) → Fine s Any e (each (λ (p : Parameter). parameter_type p.type) ps e)

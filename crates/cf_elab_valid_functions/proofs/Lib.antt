@@ -1,0 +1,5 @@
+pub mod Bodies
+pub mod Definitions
+pub mod Hands
+pub mod Parameters
+pub mod Shaped
