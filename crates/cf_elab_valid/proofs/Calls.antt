@@ -271,7 +271,7 @@ module _ (s : Scene) (scene : IsScene s) where
         let parts : All (λ p. p < f.type) (g.result ∷ g.params) = subst (λ o. All (λ p. p < f.type) (parts_of_fun o)) of_fun names in
         parameters-fit e f.type (slice_get_within e.types.types f.type (ty.Fun k.fun) k.here) w g.params (All-tail (λ p. p < f.type) g.result g.params parts) (scene.table.parameters k.fun g of_fun)
 
-    entry_result : (w : Within e s) → Holds s e → Inside e g.result
+    pub entry_result : (w : Within e s) → Holds s e → Inside e g.result
     entry_result w h =
         let k = there w in
         let here = type_end e w h f k in

@@ -37,7 +37,7 @@ module _ (s : Scene) (end : IsEnd s) (n : ℕ) (m : Bool) (at : ℕ) (ss : List 
         fine = ap (fits (body_of s n m) e.hand.breaks e.hand.continues) (core-Block s.tables (signature_of s.tables) at (nodes_of ms)) ∙ p.1;
       }))
 
-  pub body-fine : (e : Env) → e.hand.breaks ≡ false → e.hand.continues ≡ false → AreHomes s 0 ps → Inner s n m e → Classless e → When s e (Holds s e) → When s e (ParametersThere ps e)
+  pub body-fine : (e : Env) → e.hand.breaks ≡ false → e.hand.continues ≡ false → When s e (AreHomes s 0 ps) → Inner s n m e → Classless e → When s e (Holds s e) → When s e (ParametersThere ps e)
       → Fine s (λ x f. BodyFits s n m false false x) e (onward (row.declare_parameters 0 ps e) (λ _. row.body_of at ss))
   body-fine e b q homes i c h f =
       onward-fine s Any (λ x f. BodyFits s n m false false x) e (row.declare_parameters 0 ps e) (λ _. row.body_of at ss) (parameters-fine s end.frame 0 ps e homes c h f)
