@@ -109,7 +109,7 @@ module _ (s : Scene) (scene : IsScene s) where
 
   -- ---- a declaration
 
-  within-still : (count : ℕ) (e : Env) → Still e (types_within count e)
+  pub within-still : (count : ℕ) (e : Env) → Still e (types_within count e)
   within-still count e = by (list_all (λ t. nat_le (bytes_of e t) most_bytes) (numbers_from count (drop count e.types.types)))
     where
       by : (b : Bool) → Still e (within b bound_of.Size most_bytes e)
