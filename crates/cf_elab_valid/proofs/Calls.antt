@@ -230,7 +230,7 @@ module _ (s : Scene) (scene : IsScene s) where
   taken_result [] r b = refl
   taken_result (p ∷ ps) r b = taken_result ps r b
 
-  taken_function : (ps : List SourceType) (r : SourceType) (b : Bool) → is_function (taking ps (gives r b)) ≡ true
+  pub taken_function : (ps : List SourceType) (r : SourceType) (b : Bool) → is_function (taking ps (gives r b)) ≡ true
   taken_function [] r b = refl
   taken_function (p ∷ ps) r b = refl
 

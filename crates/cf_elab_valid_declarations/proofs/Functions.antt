@@ -109,17 +109,11 @@ no_more (t ∷ ts) [] k e d = refl
 no_more (t ∷ ts) (p ∷ ps) zero e d = refl
 no_more (t ∷ ts) (p ∷ ps) (suc k) e d = rw d.0 (ap (λ r. onward r (λ (xs : List Default). gives xs)) (no_more ts ps k e d.1))
 
-module _ (s : Scene) (scene : IsScene s) (d : Says) where
-  -- ---- an entry
+-- ---- entries
 
-  abbrev added : FunctionEntry → Env → Env
-  added f e = record e { entries = e.entries ++ f ∷ [] }
-
-  abbrev set : ℕ → FunctionEntry → Env → Env
-  set n f e = record e { entries = replaced n f e.entries }
-
+module _ (s : Scene) where
   -- with other entries that fit
-  entries-fine : {A : Type 0} (P : A → Env → Type 0) (a : A) (l : List FunctionEntry) (e : Env) → ((n : ℕ) (f : FunctionEntry) → slice_get l n ≡ Some f → f.defaults ≡ [])
+  pub entries-fine : {A : Type 0} (P : A → Env → Type 0) (a : A) (l : List FunctionEntry) (e : Env) → ((n : ℕ) (f : FunctionEntry) → slice_get l n ≡ Some f → f.defaults ≡ [])
       → When s e ((n : ℕ) (f : FunctionEntry) → slice_get l n ≡ Some f → EntryFits s e f) → Classless e → When s e (Holds s e) → When s e (P a (record e { entries = l })) → Fine s P e (Made a (record e { entries = l }))
   entries-fine P a l e none fit c h p =
       let next : Env = record e { entries = l } in
@@ -151,6 +145,15 @@ module _ (s : Scene) (scene : IsScene s) (d : Says) where
         made = λ w. p (within-before e next s g w);
       }
 
+module _ (s : Scene) (scene : IsScene s) (d : Says) where
+  -- ---- an entry
+
+  abbrev added : FunctionEntry → Env → Env
+  added f e = record e { entries = e.entries ++ f ∷ [] }
+
+  abbrev set : ℕ → FunctionEntry → Env → Env
+  set n f e = record e { entries = replaced n f e.entries }
+
   defaults-still : (before : List Default) (e : Env) → before ≡ [] → NoDefaults d.parameters → {B : Type 0} (Q : B → Env → Type 0) (go : List Default → Env → Answer B) → Fine s Q e (go [] e) → Fine s Q e (onward (row.defaults_of d before e) go)
   defaults-still before e none n {B} Q go f =
       subst (λ b. Fine s Q e (onward (row.defaults_of d b e) go)) (sym none) (by (default_fault d.parameters (earlier_defaults (length ts) [])))
@@ -176,7 +179,7 @@ module _ (s : Scene) (scene : IsScene s) (d : Says) where
         by false b k = tt
         by true false k = tt
         by true true false = tt
-        by true true true = entries-fine Any (length e.entries) (e.entries ++ entry e d [] ∷ []) e none fit c h (λ w. tt)
+        by true true true = entries-fine s Any (length e.entries) (e.entries ++ entry e d [] ∷ []) e none fit c h (λ w. tt)
 
     known-entry : (n : ℕ) (f : FunctionEntry) → slice_get e.entries n ≡ Some f → Fine s Any e (row.known_entry d n f e)
     known-entry n f there =
@@ -185,7 +188,7 @@ module _ (s : Scene) (scene : IsScene s) (d : Says) where
         (defaults-still f.defaults e (c.no_defaults n f there) no_defaults Any _
         (still-fine s Any e (need (parameters_complete e d) 30 d.at e) _ (needed e (parameters_complete e d) 30 d.at)
         (still-fine s Any e (need (not d.defines || not (f.is_defined || is_library f.link)) 8 d.at e) _ (needed e (not d.defines || not (f.is_defined || is_library f.link)) 8 d.at)
-        (entries-fine Any n (replaced n again e.entries) e none fit c h (λ w. tt))))))
+        (entries-fine s Any n (replaced n again e.entries) e none fit c h (λ w. tt))))))
       where
         again : FunctionEntry
         again = record f { defaults = []; is_defined = f.is_defined || d.defines }

@@ -31,7 +31,7 @@ only-inner (taking at ps b x) h = absurd (true≢false (sym h))
 only-inner (holding at b x) h = absurd (true≢false (sym h))
 
 module _ (s : Scene) (scene : IsScene s) where
-  made-function : (r : ℕ) (ps : List ℕ) (b : Bool) (e : Env) → Classless e → When s e (Holds s e) → Fine s (λ t f. IsFun f t) e (function_type r ps b e)
+  pub made-function : (r : ℕ) (ps : List ℕ) (b : Bool) (e : Env) → Classless e → When s e (Holds s e) → Fine s (λ t f. IsFun f t) e (function_type r ps b e)
   made-function r ps b e c h =
       onward-fine s FunThere (λ t f. IsFun f t) e (intern_fun (record { result = r; params = ps; is_const = b }) e) (λ f. intern (ty.Fun f)) (intern_fun-fine s (record { result = r; params = ps; is_const = b }) e c h)
       (λ f e1 g c1 h1 there. fine-as s (IsType (ty.Fun f)) (λ t f. IsFun f t) e1 (intern (ty.Fun f) e1) (λ t k is. record { fun = f; here = is.here }) (intern-fine s (ty.Fun f) e1 refl there c1 h1))

@@ -1,0 +1,104 @@
+-- From the first environment of a file to its end: the library functions, and the items in turn (3.4, 17).
+use Rattle.std.proofs.Common.{◌≡◌, inl, inr, ℕ, Bool, true, false, not, ◌||◌, is_some, List, [], ◌∷◌, ◌++◌, length, map, codes, Option, Some, None, slice_get, refl, sym, ap, subst, ◌∙◌}
+use Rattle.std.specs.Option.{option_map_or}
+use Rattle.cf_base.specs.declared.kind.Kind.TheVariants as kind
+use Rattle.cf_types.specs.declared.ty.Ty.TheVariants as ty
+use Rattle.cf_types.proofs.Places.{get-snoc}
+use Rattle.cf_unit.specs.declared.declaration.Declaration.{Declaration}
+use Rattle.cf_unit.specs.declared.file.Item.{Item}
+use Rattle.cf_unit.specs.declared.file.Item.TheVariants as item
+use Rattle.cf_core_typed.proofs.Same.{and-left, and-right}
+use Rattle.cf_elab.specs.Answer.{Answer, Made, Elab, onward, for_each, done}
+use Rattle.cf_elab.specs.Built as built
+use Rattle.cf_elab.specs.Env.{Env, Name, Extent, functions, FunctionEntry}
+use Rattle.cf_elab.specs.File as row
+use Rattle.cf_elab.specs.File.{first_env, library_entry, item_row, in_turn, first_undefined}
+use Rattle.cf_elab.specs.Made.{int, void, function_type}
+use Rattle.cf_elab.specs.Names.{declare}
+use Rattle.cf_elab.specs.Trees.{declaration}
+use Rattle.cf_elab_valid.specs.Answers.{Fine}
+use Rattle.cf_elab_valid.specs.Constants.{all_of}
+use Rattle.cf_elab_valid.specs.Scene.{Scene, Steps, EntryFits, Classless, Holds}
+use Rattle.cf_elab_valid.specs.Statements.{is_outermost}
+use Rattle.cf_elab_valid.proofs.Beginning.{first-classless, first-holds}
+use Rattle.cf_elab_valid.proofs.FitRows.{needed, still-fine}
+use Rattle.cf_elab_valid.proofs.Making.{IsType, intern-fine, of_kind-fine}
+use Rattle.cf_elab_valid.proofs.Named.{first-none}
+use Rattle.cf_elab_valid.proofs.Options.{never_none}
+use Rattle.cf_elab_valid.proofs.Ways.{made-fine, onward-fine, When}
+use Rattle.cf_elab_valid_statics.proofs.Names.{Any}
+use Rattle.cf_elab_valid_declarations.proofs.Entering.{named-fine, still-alone}
+use Rattle.cf_elab_valid_declarations.proofs.Functions.{IsFun, entries-fine}
+use Rattle.cf_elab_valid_bodies.specs.Laws.{IsEnd, ConstantsAreApart}
+use Rattle.cf_elab_valid_bodies.proofs.Bodies.{declaration-tree-law}
+use Rattle.cf_elab_valid_functions.specs.Laws.{IsFileEnd}
+use Rattle.cf_elab_valid_functions.proofs.Definitions.{function-law}
+use Rattle.cf_elab_valid_functions.proofs.Shaped.{made-function}
+use Rattle.cf_elab_valid_file.specs.Laws.{item_fits}
+
+module _ (s : Scene) (end : IsFileEnd s) where
+  -- ---- the library
+
+  library-fine : (name : Name) (result : ℕ) (params : List ℕ) (e : Env) → Classless e → When s e (Holds s e) → Fine s Any e (row.library name result params e)
+  library-fine name result params e c h =
+      onward-fine s (λ t f. IsFun f t) Any e (function_type result params false e) _ (made-function s end.scene result params false e c h)
+      (λ t e1 g1 c1 h1 fun. onward-fine s Any Any e1 (added t e1) (λ _ f. named e1 f) (added-fine t e1 c1 h1 fun)
+      (λ u e2 g2 c2 h2 any. named-fine s Any tt name (functions (length e1.entries ∷ [])) e2 (λ k is. absurd cc) c2 h2 (λ w. tt) (λ w. tt) (λ w. tt)))
+    where
+      added : ℕ → Elab (Unit {0})
+      added t f = Made tt (record f { entries = f.entries ++ library_entry name t ∷ [] })
+
+      named : Env → Elab (Unit {0})
+      named e1 f = declare name (functions (length e1.entries ∷ [])) f
+
+      added-fine : (t : ℕ) (e1 : Env) → Classless e1 → When s e1 (Holds s e1) → When s e1 (IsFun e1 t) → Fine s Any e1 (added t e1)
+      added-fine t e1 c1 h1 fun =
+          entries-fine s Any tt (e1.entries ++ library_entry name t ∷ []) e1
+          (λ n f at. elim (get-snoc e1.entries (library_entry name t) n f at) [ inl a ↦ c1.no_defaults n f a | inr b ↦ subst (λ (x : FunctionEntry). x.defaults ≡ []) b.1 refl ])
+          (λ w n f at. elim (get-snoc e1.entries (library_entry name t) n f at) [ inl a ↦ (h1 w).entries n f a | inr b ↦ subst (EntryFits s e1) b.1 (record { fun = (fun w).fun; here = (fun w).here }) ]) c1 h1 (λ w. tt)
+
+  beginning-fine : (e : Env) → Classless e → When s e (Holds s e) → Fine s Any e (row.beginning e)
+  beginning-fine e c h =
+      onward-fine s (IsType (ty.Int kind.Int)) Any e (int e) _ (of_kind-fine s kind.Int e c h)
+      (λ i e1 g1 c1 h1 is. onward-fine s (IsType ty.Void) Any e1 (void e1) _ (intern-fine s ty.Void e1 refl (λ w. tt) c1 h1)
+      (λ v e2 g2 c2 h2 is2. onward-fine s Any Any e2 (row.library (codes "putchar") i (i ∷ []) e2) _ (library-fine (codes "putchar") i (i ∷ []) e2 c2 h2)
+      (λ u3 e3 g3 c3 h3 a3. onward-fine s Any Any e3 (row.library (codes "getchar") i [] e3) _ (library-fine (codes "getchar") i [] e3 c3 h3)
+      (λ u4 e4 g4 c4 h4 a4. library-fine (codes "exit") v (i ∷ []) e4 c4 h4))))
+
+  -- ---- the items
+
+  no_local : (i t : ℕ) → slice_get s.locals i ≡ Some t → ⊥
+  no_local i t at = by (subst (λ l. slice_get l i ≡ Some t) end.outside at)
+    where
+      by : slice_get [] i ≡ Some t → ⊥
+      by q = absurd cc
+
+  abbrev is_end : IsEnd s
+  is_end = record { scene = end.scene; arrays = end.arrays; frame = λ i t at. absurd (no_local i t at) }
+
+  outermost-later : (a b : Env) → Steps a b → is_outermost a.scopes.outer ≡ true → is_outermost b.scopes.outer ≡ true
+  outermost-later a b g o = ap is_outermost g.outer ∙ o
+
+  item-fine : ConstantsAreApart → (x : Item) → built.of_item x ≡ None → item_fits x ≡ true → (e : Env) → is_outermost e.scopes.outer ≡ true → Classless e → When s e (Holds s e) → Fine s Any e (item_row x e)
+  item-fine apart (item.Function f) b fits e o c h = function-law apart f b fits s end e o c h
+  item-fine apart (item.Declaration d) b fits e o c h =
+      onward-fine s Any Any e ((declaration d).run e) (λ _. done) ((declaration-tree-law apart d b fits).outside s is_end end.outside e o c h) (λ rs e1 g1 c1 h1 any. made-fine s Any e1 tt c1 h1 (λ w. tt))
+  item-fine apart (item.Linkage l) b fits e o c h = never_none l.at b
+
+  items-fine : ConstantsAreApart → (xs : List Item) → built.first_of (map built.of_item xs) ≡ None → all_of (map item_fits xs) ≡ true → (e : Env) → is_outermost e.scopes.outer ≡ true → Classless e → When s e (Holds s e)
+      → Fine s Any e (for_each (λ (i : Elab (Unit {0})). i) (map item_row xs) e)
+  items-fine apart [] b fits e o c h = made-fine s Any e tt c h (λ w. tt)
+  items-fine apart (x ∷ xs) b fits e o c h =
+      let split = first-none (built.of_item x) (built.first_of (map built.of_item xs)) b in
+      onward-fine s Any Any e (item_row x e) (λ _. for_each (λ (i : Elab (Unit {0})). i) (map item_row xs)) (item-fine apart x split.0 (and-left (item_fits x) (all_of (map item_fits xs)) fits) e o c h)
+      (λ u e1 g c1 h1 any. items-fine apart xs split.1 (and-right (item_fits x) (all_of (map item_fits xs)) fits) e1 (outermost-later e e1 g o) c1 h1)
+
+  -- ---- the whole
+
+  pub turn-fine : ConstantsAreApart → (xs : List Item) → built.first_of (map built.of_item xs) ≡ None → all_of (map item_fits xs) ≡ true → s.result ≡ 0 → (extent : Extent) (names : List Name) → Fine s Any (first_env extent names) (in_turn (map item_row xs) (first_env extent names))
+  turn-fine apart xs b fits zero_result extent names =
+      let e = first_env extent names in
+      onward-fine s Any Any e (onward (row.beginning e) (λ _. for_each (λ (i : Elab (Unit {0})). i) (map item_row xs))) (λ _. row.all_defined)
+      (onward-fine s Any Any e (row.beginning e) (λ _. for_each (λ (i : Elab (Unit {0})). i) (map item_row xs)) (beginning-fine e (first-classless extent names) (λ w. first-holds s zero_result extent names))
+      (λ u e1 g1 c1 h1 any. items-fine apart xs b fits e1 (outermost-later e e1 g1 refl) c1 h1))
+      (λ u e2 g2 c2 h2 any. still-alone s e2 (row.all_defined e2) (needed e2 _ 48 _) c2 h2)
