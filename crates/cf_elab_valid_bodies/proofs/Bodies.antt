@@ -82,7 +82,7 @@ abbrev class_fits : ClassDef → Bool
 class_fits = fold-ClassDef Bool Bool Told Bool Bool Bool well.member_step well.specifier_step well.statement_step well.class_step well.function_step well.declaration_step
 
 -- a statement that is whole is as texts have it, and no label
-whole-told : (t : Told) → is_whole t ≡ true → (t.well ≡ true) × (t.is_label ≡ false)
+pub whole-told : (t : Told) → is_whole t ≡ true → (t.well ≡ true) × (t.is_label ≡ false)
 whole-told t h = (and-left t.well (not t.is_label) h, by t.is_label (and-right t.well (not t.is_label) h))
   where
     by : (b : Bool) → not b ≡ true → b ≡ false

@@ -96,11 +96,11 @@ function-plain (pointing at c x) ps is p = function-plain x ps is p
 function-plain (referring at x) ps is p = function-plain x ps is p
 function-plain (to_member at c k x) ps is p = absurd p
 function-plain (holding at b x) ps is p = function-plain x ps is p
-function-plain (taking at qs c x) ps is p = by (is_inner x) is
+function-plain (taking at qs c x) ps is p = by (λ q. function-plain x ps q p.1) (is_inner x) is
   where
-    by : (b : Bool) → (if b then Some qs else function_of x) ≡ Some ps → NoDefaults ps
-    by true q = subst NoDefaults (some_is qs ps q) p.0
-    by false q = function-plain x ps q p.1
+    by : (function_of x ≡ Some ps → NoDefaults ps) → (b : Bool) → (if b then Some qs else function_of x) ≡ Some ps → NoDefaults ps
+    by rest true q = subst NoDefaults (some_is qs ps q) p.0
+    by rest false q = rest q
 
 pub function-params : (x : Shape) (ps : List Parameter) (e : Env) → function_of x ≡ Some ps → ShapeThere x e → ParametersThere ps e
 function-params inner ps e is p = absurd (none_some ps is)
@@ -108,8 +108,8 @@ function-params (pointing at c x) ps e is p = function-params x ps e is p
 function-params (referring at x) ps e is p = function-params x ps e is p
 function-params (to_member at c k x) ps e is p = function-params x ps e is p
 function-params (holding at b x) ps e is p = function-params x ps e is p
-function-params (taking at qs c x) ps e is p = by (is_inner x) is
+function-params (taking at qs c x) ps e is p = by (λ q. function-params x ps e q p.1) (is_inner x) is
   where
-    by : (b : Bool) → (if b then Some qs else function_of x) ≡ Some ps → ParametersThere ps e
-    by true q = subst (λ l. ParametersThere l e) (some_is qs ps q) p.0
-    by false q = function-params x ps e q p.1
+    by : (function_of x ≡ Some ps → ParametersThere ps e) → (b : Bool) → (if b then Some qs else function_of x) ≡ Some ps → ParametersThere ps e
+    by rest true q = subst (λ l. ParametersThere l e) (some_is qs ps q) p.0
+    by rest false q = rest q

@@ -15,6 +15,7 @@ use Rattle.cf_elab.specs.Declaration as row
 use Rattle.cf_elab.specs.Declaration.{Initial, initial_place, parts_of, Declares, conflict, declares_function, function_says, object_says, parameters_of, position_of, same_alias}
 use Rattle.cf_elab.specs.Declarator.{Declared}
 use Rattle.cf_elab.specs.Env.{Env, Name, alias}
+use Rattle.cf_elab.specs.Functions.{declare_function}
 use Rattle.cf_elab.specs.Made.{int}
 use Rattle.cf_elab.specs.Names.{declared_here, is_file_scope}
 use Rattle.cf_elab.specs.Objects.{Reached, Written, parts_first}
@@ -91,7 +92,7 @@ module _ (s : Scene) (scene : IsScene s) where
   function-fine g n t x w e plain c h i f =
       still-fine s Any e (row.need_plain_name n.last n.last_at e) _ (plain-still n.last n.last_at e)
       (onward-fine s (IsType (ty.Int kind.Int)) Any e (int e) _ (of_kind-fine s kind.Int e c h)
-      (λ k e1 g1 c1 h1 is. onward-fine s Any Any e1 (row.declare_function k (function_says g n t x false) e1) (λ _. row.no_initialiser w)
+      (λ k e1 g1 c1 h1 is. onward-fine s Any Any e1 (declare_function k (function_says g n t x false) e1) (λ _. row.no_initialiser w)
       (declared-fine s scene (function_says g n t x false) k e1 (parameters-plain x plain) c1 h1 (λ v. let early = within-before e e1 s g1 v in fun-later e e1 t g1 (function-there s scene e t early (i early) (f early))))
       (λ u e2 g2 c2 h2 any. still-alone s e2 (row.no_initialiser w e2) (initial-still w e2) c2 h2)))
 
@@ -148,7 +149,7 @@ module _ (s : Scene) (scene : IsScene s) (arrays : NoVoidElements s.tables) (in_
     object-fine = by (is_void (sort_of e.types t)) refl
       where
         by : (b : Bool) → is_void (sort_of e.types t) ≡ b
-            → Fine s Reaches e (onward (need (not b) 26 at e) (λ _ f. onward (need (complete f t) 30 at f) (λ _ k. onward (objects_of in_file g name at t parts w k) (λ nodes m. onward (type_within t m) (λ _. gives nodes)))))
+            → Fine s Reaches e (onward (need (not b) 26 at e) (λ _ f. onward (need (complete e t) 30 at f) (λ _ k. onward (objects_of in_file g name at t parts w k) (λ nodes m. onward (type_within t m) (λ _. gives nodes)))))
         by true is = tt
         by false is =
             still-fine s Reaches e (need (complete e t) 30 at e) _ (needed e (complete e t) 30 at)

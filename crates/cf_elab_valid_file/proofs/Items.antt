@@ -15,6 +15,7 @@ use Rattle.cf_elab.specs.File as row
 use Rattle.cf_elab.specs.File.{first_env, library_entry, item_row, in_turn, first_undefined}
 use Rattle.cf_elab.specs.Made.{int, void, function_type}
 use Rattle.cf_elab.specs.Names.{declare}
+use Rattle.cf_elab.specs.Objects.{Reached}
 use Rattle.cf_elab.specs.Trees.{declaration}
 use Rattle.cf_elab_valid.specs.Answers.{Fine}
 use Rattle.cf_elab_valid.specs.Constants.{all_of}
@@ -41,12 +42,12 @@ module _ (s : Scene) (end : IsFileEnd s) where
 
   library-fine : (name : Name) (result : ℕ) (params : List ℕ) (e : Env) → Classless e → When s e (Holds s e) → Fine s Any e (row.library name result params e)
   library-fine name result params e c h =
-      onward-fine s (λ t f. IsFun f t) Any e (function_type result params false e) _ (made-function s end.scene result params false e c h)
-      (λ t e1 g1 c1 h1 fun. onward-fine s Any Any e1 (added t e1) (λ _ f. named e1 f) (added-fine t e1 c1 h1 fun)
+      onward-fine s (λ t f. IsFun f t) (Any {A = Unit {0}}) e (function_type result params false e) _ (made-function s end.scene result params false e c h)
+      (λ t e1 g1 c1 h1 fun. onward-fine s (Any {A = Unit {0}}) (Any {A = Unit {0}}) e1 (added t e1) (λ _ f. named e1 f) (added-fine t e1 c1 h1 fun)
       (λ u e2 g2 c2 h2 any. named-fine s Any tt name (functions (length e1.entries ∷ [])) e2 (λ k is. absurd cc) c2 h2 (λ w. tt) (λ w. tt) (λ w. tt)))
     where
       added : ℕ → Elab (Unit {0})
-      added t f = Made tt (record f { entries = f.entries ++ library_entry name t ∷ [] })
+      added t f = Made (tt {0}) (record f { entries = f.entries ++ library_entry name t ∷ [] })
 
       named : Env → Elab (Unit {0})
       named e1 f = declare name (functions (length e1.entries ∷ [])) f
@@ -59,10 +60,10 @@ module _ (s : Scene) (end : IsFileEnd s) where
 
   beginning-fine : (e : Env) → Classless e → When s e (Holds s e) → Fine s Any e (row.beginning e)
   beginning-fine e c h =
-      onward-fine s (IsType (ty.Int kind.Int)) Any e (int e) _ (of_kind-fine s kind.Int e c h)
-      (λ i e1 g1 c1 h1 is. onward-fine s (IsType ty.Void) Any e1 (void e1) _ (intern-fine s ty.Void e1 refl (λ w. tt) c1 h1)
-      (λ v e2 g2 c2 h2 is2. onward-fine s Any Any e2 (row.library (codes "putchar") i (i ∷ []) e2) _ (library-fine (codes "putchar") i (i ∷ []) e2 c2 h2)
-      (λ u3 e3 g3 c3 h3 a3. onward-fine s Any Any e3 (row.library (codes "getchar") i [] e3) _ (library-fine (codes "getchar") i [] e3 c3 h3)
+      onward-fine s (IsType (ty.Int kind.Int)) (Any {A = Unit {0}}) e (int e) _ (of_kind-fine s kind.Int e c h)
+      (λ i e1 g1 c1 h1 is. onward-fine s (IsType ty.Void) (Any {A = Unit {0}}) e1 (void e1) _ (intern-fine s ty.Void e1 refl (λ w. tt) c1 h1)
+      (λ v e2 g2 c2 h2 is2. onward-fine s (Any {A = Unit {0}}) (Any {A = Unit {0}}) e2 (row.library (codes "putchar") i (i ∷ []) e2) _ (library-fine (codes "putchar") i (i ∷ []) e2 c2 h2)
+      (λ u3 e3 g3 c3 h3 a3. onward-fine s (Any {A = Unit {0}}) (Any {A = Unit {0}}) e3 (row.library (codes "getchar") i [] e3) _ (library-fine (codes "getchar") i [] e3 c3 h3)
       (λ u4 e4 g4 c4 h4 a4. library-fine (codes "exit") v (i ∷ []) e4 c4 h4))))
 
   -- ---- the items
@@ -82,7 +83,7 @@ module _ (s : Scene) (end : IsFileEnd s) where
   item-fine : ConstantsAreApart → (x : Item) → built.of_item x ≡ None → item_fits x ≡ true → (e : Env) → is_outermost e.scopes.outer ≡ true → Classless e → When s e (Holds s e) → Fine s Any e (item_row x e)
   item-fine apart (item.Function f) b fits e o c h = function-law apart f b fits s end e o c h
   item-fine apart (item.Declaration d) b fits e o c h =
-      onward-fine s Any Any e ((declaration d).run e) (λ _. done) ((declaration-tree-law apart d b fits).outside s is_end end.outside e o c h) (λ rs e1 g1 c1 h1 any. made-fine s Any e1 tt c1 h1 (λ w. tt))
+      onward-fine s (Any {A = List Reached}) (Any {A = Unit {0}}) e ((declaration d).run e) (λ _. done) ((declaration-tree-law apart d b fits).outside s is_end end.outside e o c h) (λ rs e1 g1 c1 h1 any. made-fine s Any e1 tt c1 h1 (λ w. tt))
   item-fine apart (item.Linkage l) b fits e o c h = never_none l.at b
 
   items-fine : ConstantsAreApart → (xs : List Item) → built.first_of (map built.of_item xs) ≡ None → all_of (map item_fits xs) ≡ true → (e : Env) → is_outermost e.scopes.outer ≡ true → Classless e → When s e (Holds s e)
@@ -90,7 +91,7 @@ module _ (s : Scene) (end : IsFileEnd s) where
   items-fine apart [] b fits e o c h = made-fine s Any e tt c h (λ w. tt)
   items-fine apart (x ∷ xs) b fits e o c h =
       let split = first-none (built.of_item x) (built.first_of (map built.of_item xs)) b in
-      onward-fine s Any Any e (item_row x e) (λ _. for_each (λ (i : Elab (Unit {0})). i) (map item_row xs)) (item-fine apart x split.0 (and-left (item_fits x) (all_of (map item_fits xs)) fits) e o c h)
+      onward-fine s (Any {A = Unit {0}}) (Any {A = Unit {0}}) e (item_row x e) (λ _. for_each (λ (i : Elab (Unit {0})). i) (map item_row xs)) (item-fine apart x split.0 (and-left (item_fits x) (all_of (map item_fits xs)) fits) e o c h)
       (λ u e1 g c1 h1 any. items-fine apart xs split.1 (and-right (item_fits x) (all_of (map item_fits xs)) fits) e1 (outermost-later e e1 g o) c1 h1)
 
   -- ---- the whole
@@ -98,7 +99,7 @@ module _ (s : Scene) (end : IsFileEnd s) where
   pub turn-fine : ConstantsAreApart → (xs : List Item) → built.first_of (map built.of_item xs) ≡ None → all_of (map item_fits xs) ≡ true → s.result ≡ 0 → (extent : Extent) (names : List Name) → Fine s Any (first_env extent names) (in_turn (map item_row xs) (first_env extent names))
   turn-fine apart xs b fits zero_result extent names =
       let e = first_env extent names in
-      onward-fine s Any Any e (onward (row.beginning e) (λ _. for_each (λ (i : Elab (Unit {0})). i) (map item_row xs))) (λ _. row.all_defined)
-      (onward-fine s Any Any e (row.beginning e) (λ _. for_each (λ (i : Elab (Unit {0})). i) (map item_row xs)) (beginning-fine e (first-classless extent names) (λ w. first-holds s zero_result extent names))
+      onward-fine s (Any {A = Unit {0}}) (Any {A = Unit {0}}) e (onward (row.beginning e) (λ _. for_each (λ (i : Elab (Unit {0})). i) (map item_row xs))) (λ _. row.all_defined)
+      (onward-fine s (Any {A = Unit {0}}) (Any {A = Unit {0}}) e (row.beginning e) (λ _. for_each (λ (i : Elab (Unit {0})). i) (map item_row xs)) (beginning-fine e (first-classless extent names) (λ w. first-holds s zero_result extent names))
       (λ u e1 g1 c1 h1 any. items-fine apart xs b fits e1 (outermost-later e e1 g1 refl) c1 h1))
       (λ u e2 g2 c2 h2 any. still-alone s e2 (row.all_defined e2) (needed e2 _ 48 _) c2 h2)

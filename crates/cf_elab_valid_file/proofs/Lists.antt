@@ -54,14 +54,15 @@ find-own T (y ∷ ys) zero x h d =
   where
     first : bytes_eq y.name y.name ≡ true → find (λ (v : Static). bytes_eq v.name y.name) (map (static_of T) (y ∷ ys)) ≡ Some (static_of T y)
     first is = rw is refl
-find-own T (y ∷ ys) (suc n) x h d = by (bytes_eq y.name x.name) refl
+find-own T (y ∷ ys) (suc n) x h d = by (λ k. find-own T ys n x h k) (bytes_eq y.name x.name) refl
   where
     rest : all_differ (map (λ (z : CoreStatic). z.name) ys) ≡ true
     rest = and-right (not (list_any (bytes_eq y.name) (map (λ (z : CoreStatic). z.name) ys))) (all_differ (map (λ (z : CoreStatic). z.name) ys)) d
 
     apart : list_any (bytes_eq y.name) (map (λ (z : CoreStatic). z.name) ys) ≡ false
-    apart = no-other _ (and-left (not (list_any (bytes_eq y.name) (map (λ (z : CoreStatic). z.name) ys))) (all_differ (map (λ (z : CoreStatic). z.name) ys)) d)
+    apart = no-other (list_any (bytes_eq y.name) (map (λ (z : CoreStatic). z.name) ys)) (and-left (not (list_any (bytes_eq y.name) (map (λ (z : CoreStatic). z.name) ys))) (all_differ (map (λ (z : CoreStatic). z.name) ys)) d)
 
-    by : (b : Bool) → bytes_eq y.name x.name ≡ b → find (λ (v : Static). bytes_eq v.name x.name) (map (static_of T) (y ∷ ys)) ≡ Some (static_of T x)
-    by true is = absurd (true≢false (sym (any-at (bytes_eq y.name) (map (λ (z : CoreStatic). z.name) ys) n x.name (get-mapped (λ (z : CoreStatic). z.name) ys n x h) is) ∙ apart))
-    by false is = rw is (find-own T ys n x h rest)
+    by : (all_differ (map (λ (z : CoreStatic). z.name) ys) ≡ true → find (λ (v : Static). bytes_eq v.name x.name) (map (static_of T) ys) ≡ Some (static_of T x)) → (b : Bool) → bytes_eq y.name x.name ≡ b
+        → find (λ (v : Static). bytes_eq v.name x.name) (map (static_of T) (y ∷ ys)) ≡ Some (static_of T x)
+    by own true is = absurd (true≢false (sym (any-at (bytes_eq y.name) (map (λ (z : CoreStatic). z.name) ys) n x.name (get-mapped (λ (z : CoreStatic). z.name) ys n x h) is) ∙ apart))
+    by own false is = rw is (own rest)

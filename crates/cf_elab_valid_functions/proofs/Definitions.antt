@@ -136,11 +136,11 @@ module _ (s : Scene) (end : IsFileEnd s) (body_at : ℕ) (ss : List (Elab MadeOf
     typed-behind base e c h f i = by (function_of x) refl
       where
         by : (o : Option (List Parameter)) → function_of x ≡ o → Fine s Any e (onward (typed nowhere x base e) (shaped o))
-        by None is = onward-fine s (ShapedThere s end.scene) Any e (typed nowhere x base e) (shaped None) (typed-fine s end.scene nowhere x base e plain c h f i) (λ y e1 g1 c1 h1 p. refused y)
+        by None is = onward-fine s (ShapedThere s end.scene) Any e (typed nowhere x base e) (shaped None) (typed-fine s end.scene nowhere x base e plain c h f i) (λ y e1 g1 c1 h1 p. refused y e1)
           where
-            refused : (y : Shaped) {e1 : Env} → Fine s Any e1 (shaped None y e1)
-            refused (whole t) = tt
-            refused (unbounded t) = tt
+            refused : (y : Shaped) (e1 : Env) → Fine s Any e1 (shaped None y e1)
+            refused (whole t) e1 = tt
+            refused (unbounded t) e1 = tt
         by (Some ps) is =
             onward-fine s FunShaped Any e (typed nowhere x base e) (shaped (Some ps)) (function-shaped s end.scene nowhere x ps base e is plain c h f i)
             (λ y e1 g1 c1 h1 p. given y e1 c1 h1 (λ w. shape-later e e1 x g1 (f (within-before e e1 s g1 w))) p)

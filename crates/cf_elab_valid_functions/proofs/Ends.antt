@@ -67,11 +67,11 @@ any-at test (y ∷ ys) (suc n) x h t = ap (λ b. test y || b) (any-at test ys n 
 
 beyond : {A : Type 0} (none : A) (make : (ℕ → A) → Ty → A) (xs : List Ty) (t : ℕ) → length xs ≤ t → of_types none make xs t ≡ none
 beyond none make [] t h = refl
-beyond {A} none make (x ∷ xs) t h = by (t == length xs) refl
+beyond {A} none make (x ∷ xs) t h = by (λ k. beyond none make xs t k) (t == length xs) refl
   where
-    by : (b : Bool) → (t == length xs) ≡ b → (elim b as (λ _. A) [ true ↦ make (of_types none make xs) x | false ↦ of_types none make xs t ]) ≡ none
-    by true is = let same = eqb-true t (length xs) is in absurd (omega (arith, same, h))
-    by false is = beyond none make xs t (omega (arith, h))
+    by : (length xs ≤ t → of_types none make xs t ≡ none) → (b : Bool) → (t == length xs) ≡ b → (elim b as (λ _. A) [ true ↦ make (of_types none make xs) x | false ↦ of_types none make xs t ]) ≡ none
+    by rest true is = let same = eqb-true t (length xs) is in absurd (omega (arith, same, h))
+    by rest false is = rest (omega (arith, h))
 
 le-from : (n m : ℕ) → nat_lt n m ≡ false → m ≤ n
 le-from n m h = grind (arith, nat_tests, h)
@@ -89,5 +89,5 @@ has-complete T t whole = by (nat_lt t (length T.types.types)) refl
 -- ---- lists
 
 pub get-behind : {A : Type 0} (xs ys : List A) (i : ℕ) (x : A) → slice_get ys i ≡ Some x → slice_get (xs ++ ys) (length xs + i) ≡ Some x
-get-behind [] ys i x h = h
-get-behind (y ∷ xs) ys i x h = get-behind xs ys i x h
+get-behind [] ys i x h = let same : 0 + i ≡ i = omega arith in subst (λ k. slice_get ys k ≡ Some x) (sym same) h
+get-behind (y ∷ xs) ys i x h = let same : length (y ∷ xs) + i ≡ suc (length xs + i) = omega arith in subst (λ k. slice_get (y ∷ (xs ++ ys)) k ≡ Some x) (sym same) (get-behind xs ys i x h)

@@ -27,7 +27,7 @@ use Rattle.cf_elab.specs.Objects.{is_static_home}
 use Rattle.cf_elab.specs.Shape.{Parameter}
 use Rattle.cf_elab.specs.Statement.{Made as MadeOf, is_main_body}
 use Rattle.cf_elab_valid.specs.Answers.{Good, Fine}
-use Rattle.cf_elab_valid.specs.Scene.{Scene, IsScene, tree, core, OwnerThere, Within, Steps, Inside, IsOpen, IsNumberedIn, EntityFits, TypeFits, EntryFits, PartInside, StaticFits, FunctionFits, in_frame, Classless, Holds}
+use Rattle.cf_elab_valid.specs.Scene.{Scene, IsScene, tree, core, OwnerThere, Within, Steps, Inside, IsOpen, IsNumberedIn, HomeFits, EntityFits, TypeFits, EntryFits, PartInside, StaticFits, FunctionFits, in_frame, Classless, Holds}
 use Rattle.cf_elab_valid.specs.Statements.{Inner, AreStatements}
 use Rattle.cf_elab_valid.proofs.Calls.{fun-is, entry_result}
 use Rattle.cf_elab_valid.proofs.Options.{some_is}
@@ -81,7 +81,7 @@ not-static (static_home name) k = refl
 not-static (local_home i) k = absurd (true≢false k)
 
 module _ (s : Scene) (none : s.locals ≡ []) (L : List ℕ) (r : ℕ) where
-  home-static : (t : ℕ) (h : Home) → (elim h as (λ _. Type 0) [ local_home i ↦ slice_get s.locals i ≡ Some t | static_home name ↦ Unit {0} ]) → is_static_home h ≡ true
+  home-static : (t : ℕ) (h : Home) → HomeFits s t h → is_static_home h ≡ true
   home-static t (static_home name) k = refl
   home-static t (local_home i) k = absurd (nothing-there (subst (λ l. slice_get l i ≡ Some t) none k))
     where
@@ -97,7 +97,7 @@ module _ (s : Scene) (none : s.locals ≡ []) (L : List ℕ) (r : ℕ) where
   no-frame e (enum_name n) f = refl
   no-frame e (enumerator t z) f = refl
 
-  static-home : (z : Scene) (t : ℕ) (h : Home) → is_static_home h ≡ true → (elim h as (λ _. Type 0) [ local_home i ↦ slice_get z.locals i ≡ Some t | static_home name ↦ Unit {0} ])
+  static-home : (z : Scene) (t : ℕ) (h : Home) → is_static_home h ≡ true → HomeFits z t h
   static-home z t (static_home name) k = tt
   static-home z t (local_home i) k = absurd (true≢false (sym k))
 
@@ -120,7 +120,7 @@ module _ (s : Scene) (none : s.locals ≡ []) (L : List ℕ) (r : ℕ) where
   static-into : (x : CoreStatic) → StaticFits s x → StaticFits (framed s L r) x
   static-into x k = record { type = k.type; numbers = k.numbers; start = k.start; owner = owner-into x.owner k.owner }
     where
-      owner-into : (o : Option Name) → (elim o as (λ _. Type 0) [ None ↦ Unit {0} | Some name ↦ list_any (λ (f : CoreFn). bytes_eq f.name name) s.functions ≡ true ]) → OwnerThere (framed s L r) o
+      owner-into : (o : Option Name) → OwnerThere s o → OwnerThere (framed s L r) o
       owner-into None q = tt
       owner-into (Some name) q = q
 
@@ -139,8 +139,7 @@ module _ (s : Scene) (none : s.locals ≡ []) (L : List ℕ) (r : ℕ) where
 
 -- ---- a definition
 
-module _ (s : Scene) (end : IsFileEnd s) (e : Env) (f : FunctionEntry) (at : ℕ) (ss : List (Elab MadeOf)) (ps : List Parameter)
-    (statements : (z : Scene) → IsEnd z → (n : ℕ) (m : Bool) → AreStatements z n m ss) (some : zero < length e.types.types) (c : Classless e) (h : When s e (Holds s e)) (k : ℕ) (there : slice_get e.entries k ≡ Some f) (inside : When s e (ParametersThere ps e)) where
+module _ (s : Scene) (end : IsFileEnd s) (e : Env) (f : FunctionEntry) (at : ℕ) (ss : List (Elab MadeOf)) (ps : List Parameter) (statements : (z : Scene) → IsEnd z → (n : ℕ) (m : Bool) → AreStatements z n m ss) (some : zero < length e.types.types) (c : Classless e) (h : When s e (Holds s e)) (k : ℕ) (there : slice_get e.entries k ≡ Some f) (inside : When s e (ParametersThere ps e)) where
   abbrev result : ℕ
   result = result_of (fun_at e.types f.type)
 
@@ -210,7 +209,7 @@ module _ (s : Scene) (end : IsFileEnd s) (e : Env) (f : FunctionEntry) (at : ℕ
     first = in-any ended (nowhere-end (fn ∷ []) result) (any-at (λ (y : CoreFn). bytes_eq y.name f.link) (fn ∷ []) 0 fn refl (same-name f.link))
         (λ w. absurd (never-within start (fn ∷ []) result some w)) (λ w. absurd (never-within start (fn ∷ []) result some w)) (λ w. absurd (never-within start (fn ∷ []) result some w)) (λ w. absurd (never-within start (fn ∷ []) result some w))
 
-    before : OpenScopes
+    abbrev before : OpenScopes
     before = record { outer = e.scopes.outer; inner = e.scopes.inner }
 
     back : without_last g.scopes.outer ≡ before
@@ -272,9 +271,9 @@ module _ (s : Scene) (end : IsFileEnd s) (e : Env) (f : FunctionEntry) (at : ℕ
           let is = fun-is s end.scene e early held f entry in
           subst (λ o. Inside e (result_of o)) (sym is) (entry_result s end.scene at f e (λ v. (h v).entries k f there) _ is early held)
 
-      homes-from : (i : ℕ) (qs : List Parameter) (l : List ℕ) → ((j t : ℕ) → slice_get (own_types qs) j ≡ Some t → slice_get z.locals (i + j) ≡ Some t) → AreHomes z i qs
-      homes-from i [] l at = tt
-      homes-from i (q ∷ qs) l at = (subst (λ j. slice_get z.locals j ≡ Some q.type) (plus-zero i) (at 0 q.type refl), homes-from (i + 1) qs l (λ j t there. subst (λ b. slice_get z.locals b ≡ Some t) (plus-one i j) (at (suc j) t there)))
+      homes-from : (i : ℕ) (qs : List Parameter) → ((j t : ℕ) → slice_get (own_types qs) j ≡ Some t → slice_get z.locals (i + j) ≡ Some t) → AreHomes z i qs
+      homes-from i [] at = tt
+      homes-from i (q ∷ qs) at = (subst (λ j. slice_get z.locals j ≡ Some q.type) (plus-zero i) (at 0 q.type refl), homes-from (i + 1) qs (λ j t there. subst (λ b. slice_get z.locals b ≡ Some t) (plus-one i j) (at (suc j) t there)))
         where
           plus-zero : (a : ℕ) → a + 0 ≡ a
           plus-zero a = omega arith
@@ -283,7 +282,10 @@ module _ (s : Scene) (end : IsFileEnd s) (e : Env) (f : FunctionEntry) (at : ℕ
           plus-one a b = omega arith
 
       homes : AreHomes z 0 ps
-      homes = homes-from 0 ps L (λ j t there. ap (λ l. slice_get l j) split ∙ get-left (own_types ps) first.steps.locals.more j t there)
+      homes = homes-from 0 ps (λ j t there. subst (λ i. slice_get L i ≡ Some t) (zero-plus j) (ap (λ l. slice_get l j) split ∙ get-left (own_types ps) first.steps.locals.more j t there))
+        where
+          zero-plus : (a : ℕ) → a ≡ 0 + a
+          zero-plus a = omega arith
 
       start-holds : Holds z start
       start-holds = record {
@@ -376,10 +378,10 @@ module _ (s : Scene) (end : IsFileEnd s) (e : Env) (f : FunctionEntry) (at : ℕ
         result = held.result;
       }
 
-    defined-good : Good s Any e tt final
+    defined-good : Good s (Any {A = Unit {0}}) e (tt {0}) final
     defined-good = record { steps = final-steps; classless = final-classless; holds = final-holds; made = λ w. tt }
 
-  pub defined-fine : Fine s Any e (row.define_function ps run (Some f) e)
+  pub defined-fine : Fine s Any e (row.define_function ps (row.body_of at ss) (Some f) e)
   defined-fine = by (run start) in-scene
     where
       Scened : Answer Node → Type 0
@@ -388,7 +390,7 @@ module _ (s : Scene) (end : IsFileEnd s) (e : Env) (f : FunctionEntry) (at : ℕ
           → Fine z (λ x g. BodyFits z n m false false x) start r
 
       by : (r : Answer Node) → Scened r → Fine s Any e (onward (onward (onward r (λ x g. Made x (left g))) (λ x g. Made (x, drop (length ps) g.hand.locals) (record g { hand = e.hand })))
-          (λ y g. Made tt (record g { functions = g.functions ++ core_function f result ps y ∷ [] })))
+          (λ y g. Made (tt {0}) (record g { functions = g.functions ++ core_function f result ps y ∷ [] })))
       by (Made x g) q = defined-good x g q
       by (Refused rule place) q = tt
       by (Passed bound most) q = tt

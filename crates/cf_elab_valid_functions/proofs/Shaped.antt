@@ -52,15 +52,15 @@ module _ (s : Scene) (scene : IsScene s) where
       still-fine s FunShaped e (need (not (is_array (sort_of e.types t) || is_function (sort_of e.types t))) 26 at e) _ (needed e (not (is_array (sort_of e.types t) || is_function (sort_of e.types t))) 26 at)
       (still-fine s FunShaped e (need (not b || (is_inner x && position.const_function)) 26 at e) _ (needed e (not b || (is_inner x && position.const_function)) 26 at)
       (onward-fine s (Any s scene) FunShaped e (each (λ (p : Parameter). parameter_type p.type) qs e) _ (parameter_types-fine s scene qs e c h (λ w. (f w).0))
-      (λ us e1 g1 c1 h1 a. by (is_inner x) refl is us e1 c1 h1 (λ w. shape-later e e1 x g1 (f (within-before e e1 s g1 w)).1))))
+      (λ us e1 g1 c1 h1 a. by (λ u e2 q c2 h2 f2 i2. function-shaped position x ps u e2 q plain.1 c2 h2 f2 i2) (is_inner x) refl is us e1 c1 h1 (λ w. shape-later e e1 x g1 (f (within-before e e1 s g1 w)).1))))
     where
-      by : (k : Bool) → is_inner x ≡ k → (if k then Some qs else function_of x) ≡ Some ps → (us : List ℕ) (e1 : Env) → Classless e1 → When s e1 (Holds s e1) → When s e1 (ShapeThere x e1) → Fine s FunShaped e1 (onward (function_type t us b e1) (λ u. typed position x u))
-      by true own q us e1 c1 h1 there =
+      by : ((u : ℕ) (e2 : Env) → function_of x ≡ Some ps → Classless e2 → When s e2 (Holds s e2) → When s e2 (ShapeThere x e2) → When s e2 (Inside e2 u) → Fine s FunShaped e2 (typed position x u e2)) → (k : Bool) → is_inner x ≡ k → (if k then Some qs else function_of x) ≡ Some ps → (us : List ℕ) (e1 : Env) → Classless e1 → When s e1 (Holds s e1) → When s e1 (ShapeThere x e1) → Fine s FunShaped e1 (onward (function_type t us b e1) (λ u. typed position x u))
+      by rest true own q us e1 c1 h1 there =
           subst (λ y. Fine s FunShaped e1 (onward (function_type t us b e1) (λ u. typed position y u))) (sym (only-inner x own))
           (onward-fine s (λ u f. IsFun f u) FunShaped e1 (function_type t us b e1) (λ u. typed position inner u) (made-function t us b e1 c1 h1) (λ u e2 g2 c2 h2 iu. made-fine s FunShaped e2 (whole u) c2 h2 iu))
-      by false own q us e1 c1 h1 there =
+      by rest false own q us e1 c1 h1 there =
           onward-fine s IsThere FunShaped e1 (function_type t us b e1) (λ u. typed position x u) (function_type-fine s t us b e1 c1 h1)
-          (λ u e2 g2 c2 h2 iu. function-shaped position x ps u e2 q plain.1 c2 h2 (λ w. shape-later e1 e2 x g2 (there (within-before e1 e2 s g2 w))) iu)
+          (λ u e2 g2 c2 h2 iu. rest u e2 q c2 h2 (λ w. shape-later e1 e2 x g2 (there (within-before e1 e2 s g2 w))) iu)
   function-shaped position (holding at (Some b) x) ps t e is plain c h f i =
       still-fine s FunShaped e (need (not (is_reference (sort_of e.types t) || is_void (sort_of e.types t) || is_function (sort_of e.types t))) 26 at e) _
       (needed e (not (is_reference (sort_of e.types t) || is_void (sort_of e.types t) || is_function (sort_of e.types t))) 26 at)

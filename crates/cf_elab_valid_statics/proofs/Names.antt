@@ -86,11 +86,11 @@ module _ (s : Scene) where
 
   pub redeclared-fine : (P : Unit {0} → Env → Type 0) (j : ℕ) (x y : Entity) (e : Env) → slice_get e.entities j ≡ Some x → in_frame y ≡ in_frame x → ((k : ℕ) → y ≡ class_name k → ⊥) → Classless e → When s e (Holds s e)
       → When s e (EntityFits s e y) → When s e (TypeFits e y) → When s e (P tt (renamed j y e)) → Fine s P e (Made tt (renamed j y e))
-  redeclared-fine P j x y e there same no c h fit type p =
+  redeclared-fine P j x y e there same plain c h fit type p =
       let stands = stands-as j x y e there same in
       let g = renamed-steps j y e stands in record {
         steps = g;
-        classless = renamed-classless j y e no c;
+        classless = renamed-classless j y e plain c;
         holds = λ w. let early = within-before e (renamed j y e) s g w in renamed-holds s j y e stands (fit early) (type early) (h early);
         made = λ w. p (within-before e (renamed j y e) s g w);
       }
@@ -115,7 +115,7 @@ module _ (s : Scene) where
           opened : IsOpen j e.scopes
           opened = here-open e name j is
 
-          again : (x : Entity) → slice_get e.entities j ≡ Some x → Fine s Any e (Made tt (renamed j x e))
+          again : (x : Entity) → slice_get e.entities j ≡ Some x → Fine s Any e (Made (tt {0}) (renamed j x e))
           again x there =
               redeclared-fine Any j x x e there refl (λ k q. c.no_name j k (there ∙ ap Some q)) c h (λ w. (h w).entities j x opened there) (λ w. (h w).named_types j x there) (λ w. tt)
 
