@@ -114,8 +114,8 @@ there-is-label to_default (core.more core.default_label rest) has = refl
 there-is-label to_default (core.more s rest) has = or-right (is_label s) (has_label rest) (there-is-label to_default rest has)
 
 neither-passes : (xs : List Local) (a b : Bool) → a ≡ false → b ≡ false → (elim xs as (λ _. Bool) [ [] ↦ b | x ∷ xs ↦ a || b ]) ≡ false
-neither-passes [] a b no none-there = none-there
-neither-passes (x ∷ xs) a b no none-there = ap (λ c. c || b) no ∙ none-there
+neither-passes [] a b first second = second
+neither-passes (x ∷ xs) a b first second = ap (λ c. c || b) first ∙ second
 
 is-passed : (s : Core) (declares labelled : Bool) (later : Bool) → (not declares ≡ true → declared s ≡ []) → not (declares && labelled) ≡ true → later ≡ false
     → (elim (declared s) as (λ _. Bool) [ [] ↦ later | x ∷ xs ↦ labelled || later ]) ≡ false
