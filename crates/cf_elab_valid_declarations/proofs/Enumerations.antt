@@ -58,7 +58,7 @@ ints-told [] e = (refl, tt)
 ints-told (c ∷ cs) e = by (ints-told cs e) (fits kind.Int (number_or_zero c.number)) refl
   where
     rest : fits kind.Int (number_or_zero c.number) ≡ true → (r : Answer (Unit {0})) → IntsIn cs e r → IntsIn (c ∷ cs) e r
-    rest is (Made u f) k = (k.0, is, k.1)
+    rest is (Made u f) k = (k.0, (is, k.1))
     rest is (Refused rule at) k = tt
     rest is (Passed bound most) k = tt
 
@@ -161,9 +161,9 @@ module _ (s : Scene) (scene : IsScene s) where
   counted-fine n t next [] e k c h is = made-fine s Any e [] c h (λ w. tt)
   counted-fine n t next (x ∷ xs) e k c h is =
       onward-fine s (Any {A = Option Value}) (Any {A = List Counted}) e (maybe evaluated x.value e) _ (value-fine x.value k.0)
-      (λ v e1 g1 c1 h1 any. onward-fine s (Any {A = Unit {0}}) (Any {A = List Counted}) e1 (declare x.name (enumerator t (int_or_zero (number_of next v))) e1) _
+      (λ v e1 g1 c1 h1 any. onward-fine s (Any {A = Unit {0}}) (Any {A = List Counted}) e1 (declare x.name (enumerator t (int_or_zero (number_of next v))) e1) (λ _ f. onward (row.counted t (one_more (number_of next v)) xs f) (λ rest. gives (record { at = x.at; name = x.name; number = number_of next v } ∷ rest)))
       (enumerator-fine Any tt x.name n t (int_or_zero (number_of next v)) e1 (int-fits (number_of next v)) c1 h1 (λ w. type-later (ty.Enum n) t e e1 g1 (is (within-before e e1 s g1 w))) (λ w. tt))
-      (λ u e2 g2 c2 h2 any2. onward-fine s (Any {A = List Counted}) (Any {A = List Counted}) e2 (row.counted t (one_more (number_of next v)) xs e2) _
+      (λ u e2 g2 c2 h2 any2. onward-fine s (Any {A = List Counted}) (Any {A = List Counted}) e2 (row.counted t (one_more (number_of next v)) xs e2) (λ rest. gives (record { at = x.at; name = x.name; number = number_of next v } ∷ rest))
       (counted-fine n t (one_more (number_of next v)) xs e2 k.1 c2 h2 (λ w. let g = steps-through e e1 e2 g1 g2 in type-later (ty.Enum n) t e e2 g (is (within-before e e2 s g w))))
       (λ cs e3 g3 c3 h3 any3. made-fine s (Any {A = List Counted}) e3 (record { at = x.at; name = x.name; number = number_of next v } ∷ cs) c3 h3 (λ w. tt))))
     where

@@ -40,31 +40,38 @@ use Rattle.cf_elab_valid_file.specs.Laws.{item_fits}
 module _ (s : Scene) (end : IsFileEnd s) where
   -- ---- the library
 
-  library-fine : (name : Name) (result : ℕ) (params : List ℕ) (e : Env) → Classless e → When s e (Holds s e) → Fine s Any e (row.library name result params e)
+  abbrev listed : Name → ℕ → Env → Answer (Unit {0})
+  listed name t f = Made (tt {0}) (record f { entries = f.entries ++ library_entry name t ∷ [] })
+
+  listed-fine : (name : Name) (t : ℕ) (e : Env) → Classless e → When s e (Holds s e) → When s e (IsFun e t) → Fine s (Any {A = Unit {0}}) e (listed name t e)
+  listed-fine name t e c h fun =
+      entries-fine s (Any {A = Unit {0}}) tt (e.entries ++ library_entry name t ∷ []) e
+      (λ n f at. elim (get-snoc e.entries (library_entry name t) n f at) [ inl a ↦ c.no_defaults n f a | inr b ↦ subst (λ (x : FunctionEntry). x.defaults ≡ []) b.1 refl ])
+      (λ w n f at. elim (get-snoc e.entries (library_entry name t) n f at) [ inl a ↦ (h w).entries n f a | inr b ↦ subst (EntryFits s e) b.1 (record { fun = (fun w).fun; here = (fun w).here }) ]) c h (λ w. tt)
+
+  library-fine : (name : Name) (result : ℕ) (params : List ℕ) (e : Env) → Classless e → When s e (Holds s e) → Fine s (Any {A = Unit {0}}) e (row.library name result params e)
   library-fine name result params e c h =
-      onward-fine s (λ t f. IsFun f t) (Any {A = Unit {0}}) e (function_type result params false e) _ (made-function s end.scene result params false e c h)
-      (λ t e1 g1 c1 h1 fun. onward-fine s (Any {A = Unit {0}}) (Any {A = Unit {0}}) e1 (added t e1) (λ _ f. named e1 f) (added-fine t e1 c1 h1 fun)
-      (λ u e2 g2 c2 h2 any. named-fine s Any tt name (functions (length e1.entries ∷ [])) e2 (λ k is. absurd cc) c2 h2 (λ w. tt) (λ w. tt) (λ w. tt)))
-    where
-      added : ℕ → Elab (Unit {0})
-      added t f = Made (tt {0}) (record f { entries = f.entries ++ library_entry name t ∷ [] })
+      onward-fine s (λ t f. IsFun f t) (Any {A = Unit {0}}) e (function_type result params false e) (λ t f. onward (listed name t f) (λ _. declare name (functions (length f.entries ∷ [])))) (made-function s end.scene result params false e c h)
+      (λ t e1 g1 c1 h1 fun. onward-fine s (Any {A = Unit {0}}) (Any {A = Unit {0}}) e1 (listed name t e1) (λ _. declare name (functions (length e1.entries ∷ []))) (listed-fine name t e1 c1 h1 fun)
+      (λ u e2 g2 c2 h2 any. named-fine s (Any {A = Unit {0}}) tt name (functions (length e1.entries ∷ [])) e2 (λ k is. absurd cc) c2 h2 (λ w. tt) (λ w. tt) (λ w. tt)))
 
-      named : Env → Elab (Unit {0})
-      named e1 f = declare name (functions (length e1.entries ∷ [])) f
+  -- behind the two types
+  abbrev exit_row : ℕ → ℕ → Env → Answer (Unit {0})
+  exit_row i v f = row.library (codes "exit") v (i ∷ []) f
 
-      added-fine : (t : ℕ) (e1 : Env) → Classless e1 → When s e1 (Holds s e1) → When s e1 (IsFun e1 t) → Fine s Any e1 (added t e1)
-      added-fine t e1 c1 h1 fun =
-          entries-fine s Any tt (e1.entries ++ library_entry name t ∷ []) e1
-          (λ n f at. elim (get-snoc e1.entries (library_entry name t) n f at) [ inl a ↦ c1.no_defaults n f a | inr b ↦ subst (λ (x : FunctionEntry). x.defaults ≡ []) b.1 refl ])
-          (λ w n f at. elim (get-snoc e1.entries (library_entry name t) n f at) [ inl a ↦ (h1 w).entries n f a | inr b ↦ subst (EntryFits s e1) b.1 (record { fun = (fun w).fun; here = (fun w).here }) ]) c1 h1 (λ w. tt)
+  abbrev rest : ℕ → ℕ → Env → Answer (Unit {0})
+  rest i v f = onward (row.library (codes "putchar") i (i ∷ []) f) (λ _ g. onward (row.library (codes "getchar") i [] g) (λ _. exit_row i v))
 
-  beginning-fine : (e : Env) → Classless e → When s e (Holds s e) → Fine s Any e (row.beginning e)
+  rest-fine : (i v : ℕ) (e : Env) → Classless e → When s e (Holds s e) → Fine s (Any {A = Unit {0}}) e (rest i v e)
+  rest-fine i v e c h =
+      onward-fine s (Any {A = Unit {0}}) (Any {A = Unit {0}}) e (row.library (codes "putchar") i (i ∷ []) e) (λ _ g. onward (row.library (codes "getchar") i [] g) (λ _. exit_row i v)) (library-fine (codes "putchar") i (i ∷ []) e c h)
+      (λ u e1 g1 c1 h1 a1. onward-fine s (Any {A = Unit {0}}) (Any {A = Unit {0}}) e1 (row.library (codes "getchar") i [] e1) (λ _. exit_row i v) (library-fine (codes "getchar") i [] e1 c1 h1)
+      (λ u2 e2 g2 c2 h2 a2. library-fine (codes "exit") v (i ∷ []) e2 c2 h2))
+
+  beginning-fine : (e : Env) → Classless e → When s e (Holds s e) → Fine s (Any {A = Unit {0}}) e (row.beginning e)
   beginning-fine e c h =
-      onward-fine s (IsType (ty.Int kind.Int)) (Any {A = Unit {0}}) e (int e) _ (of_kind-fine s kind.Int e c h)
-      (λ i e1 g1 c1 h1 is. onward-fine s (IsType ty.Void) (Any {A = Unit {0}}) e1 (void e1) _ (intern-fine s ty.Void e1 refl (λ w. tt) c1 h1)
-      (λ v e2 g2 c2 h2 is2. onward-fine s (Any {A = Unit {0}}) (Any {A = Unit {0}}) e2 (row.library (codes "putchar") i (i ∷ []) e2) _ (library-fine (codes "putchar") i (i ∷ []) e2 c2 h2)
-      (λ u3 e3 g3 c3 h3 a3. onward-fine s (Any {A = Unit {0}}) (Any {A = Unit {0}}) e3 (row.library (codes "getchar") i [] e3) _ (library-fine (codes "getchar") i [] e3 c3 h3)
-      (λ u4 e4 g4 c4 h4 a4. library-fine (codes "exit") v (i ∷ []) e4 c4 h4))))
+      onward-fine s (IsType (ty.Int kind.Int)) (Any {A = Unit {0}}) e (int e) (λ i f. onward (void f) (λ v. rest i v)) (of_kind-fine s kind.Int e c h)
+      (λ i e1 g1 c1 h1 is. onward-fine s (IsType ty.Void) (Any {A = Unit {0}}) e1 (void e1) (λ v. rest i v) (intern-fine s ty.Void e1 refl (λ w. tt) c1 h1) (λ v e2 g2 c2 h2 is2. rest-fine i v e2 c2 h2))
 
   -- ---- the items
 

@@ -205,13 +205,13 @@ function-law apart f b fits s end e o c h =
     let body = built.first_of (map statement_place x.body) in
     let inits = built.first_of (map built.of_member_init x.initialisers) in
     let split = first-none words (built.first (built.declarator x.declarator) (built.first inits body))
-        (sym (fold_out-FunctionDef Place Place Place Place Place Place built.member_step built.specifier_step built.statement_step built.class_step built.function_step built.declaration_step f) ∙ b) in
+    (sym (fold_out-FunctionDef Place Place Place Place Place Place built.member_step built.specifier_step built.statement_step built.class_step built.function_step built.declaration_step f) ∙ b) in
     let behind = first-none (built.declarator x.declarator) (built.first inits body) split.1 in
     let last = first-none inits body behind.1 in
     let words_fit = all_of (map specifier_fits x.specifiers) in
     let body_fit = all_of (map is_whole (map statement_told x.body)) in
     let told : (words_fit && (declarator_fits x.declarator && body_fit)) ≡ true =
-        sym (fold_out-FunctionDef Bool Bool Told Bool Bool Bool well.member_step well.specifier_step well.statement_step well.class_step well.function_step well.declaration_step f) ∙ fits in
+    sym (fold_out-FunctionDef Bool Bool Told Bool Bool Bool well.member_step well.specifier_step well.statement_step well.class_step well.function_step well.declaration_step f) ∙ fits in
     let tail = and-right words_fit (declarator_fits x.declarator && body_fit) told in
     subst (λ (r : FunctionRow). Fine s Any e (r.in_file e))
     (sym (fold_out-FunctionDef MemberRow SpecifierRow (Elab MadeOf) ClassRow FunctionRow DeclarationRow tree.member_step tree.specifier_step tree.statement_step tree.class_step tree.definition_step tree.declaration_step f))

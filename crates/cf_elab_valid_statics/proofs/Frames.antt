@@ -119,12 +119,15 @@ module _ (s : Scene) (scene : IsScene s) (arrays : NoVoidElements s.tables) (n :
     where
       by : (b : Bool) → AllReached s n m (if b then [] else record { node = node.Once at link st.node; initialises = false } ∷ [])
       by true = tt
-      by false = (record {
-        numbers = known-Once s at link st.node ∙ k.numbers;
-        fine = λ b c. ap (fits (body_of s n m) b c) (core-Once s at link st.node)
-            ∙ ap (λ o. constant_starts o (typed s st.node)) (defined-there s scene (made st) f w) ∙ k.starts;
-        reached = λ r. absurd (true≢false (sym r ∙ ap initialises_local (core-Once s at link st.node)));
-      }, tt)
+      by false = (
+        record {
+          numbers = known-Once s at link st.node ∙ k.numbers;
+          fine = λ b c. ap (fits (body_of s n m) b c) (core-Once s at link st.node)
+              ∙ ap (λ o. constant_starts o (typed s st.node)) (defined-there s scene (made st) f w) ∙ k.starts;
+          reached = λ r. absurd (true≢false (sym r ∙ ap initialises_local (core-Once s at link st.node)));
+        },
+        tt,
+      )
 
   module _ (parts : Elab (Option Written)) (e : Env) (given : AreParts s e parts) (own : OwnerThere s (Some owner)) (c : Classless e) (h : When s e (Holds s e)) (i : When s e (Inside e t)) (v : When s e (is_void (tree s t) ≡ false)) where
     abbrev counting : Hand
@@ -192,14 +195,17 @@ module _ (s : Scene) (scene : IsScene s) (arrays : NoVoidElements s.tables) (n :
         (λ st k g2 c2 h2 p. ended-fine w st k (steps-through e f k step g2) c2 h2 p))
 
     pub frame-fine : Fine s Result e (row.define_static_local at name t parts link owner e)
-    frame-fine = by (nat_le (length link) most_name) (is_some (declared_here begun name)) refl
+    frame-fine = by (nat_le (length link) most_name)
       where
-        by : (k b : Bool) → is_some (declared_here begun name) ≡ b
-            → Fine s Result e (onward (within k bound_of.Names most_name begun) (λ _ f. onward (onward (need (not b) 8 at f) (λ _. declare_row name (object x)))
+        fresh : (b : Bool) → is_some (declared_here begun name) ≡ b
+            → Fine s Result e (onward (onward (need (not b) 8 at begun) (λ _. declare_row name (object x))) (λ _ g. onward (parts g) (λ w q. onward (started keeper name at t w q) (ending w))))
+        fresh true is = tt
+        fresh false is = fine-before s Result e told (onward (parts told) (λ w q. onward (started keeper name at t w q) (ending w))) steps (body-fine is)
+
+        by : (k : Bool) → Fine s Result e (onward (within k bound_of.Names most_name begun) (λ _ f. onward (onward (need (not (is_some (declared_here f name))) 8 at f) (λ _. declare_row name (object x)))
             (λ _ g. onward (parts g) (λ w q. onward (started keeper name at t w q) (ending w)))))
-        by false b is = tt
-        by true true is = tt
-        by true false is = fine-before s Result e told (onward (parts told) (λ w q. onward (started keeper name at t w q) (ending w))) steps (body-fine is)
+        by false = tt
+        by true = fresh (is_some (declared_here begun name)) refl
 
 module _ (s : Scene) (scene : IsScene s) (arrays : NoVoidElements s.tables) where
   pub function-fine : (n : ℕ) (m : Bool) (at : ℕ) (name : Name) (t : ℕ) (parts : Elab (Option Written)) (e : Env) → AreParts s e parts → OwnerThere s (Some e.hand.link) → Classless e → When s e (Holds s e)

@@ -56,8 +56,8 @@ module _ (s : Scene) (scene : IsScene s) (arrays : NoVoidElements s.tables) (kee
             fine-before s Given e g (onward (number_known name (constant_number g t st.number) g) (λ _. gives st)) fine.steps
             (onward-fine s Any Given g (number_known name (constant_number g t st.number) g) (λ _. gives st)
             (number_known-fine s name (constant_number g t st.number) g fine.classless fine.holds (λ w j y found there.
-                let type = stands-left name t e g left (stands (within-before e g s fine.steps w)) j y found there in
-                subst (λ u. HoldsKnown (constant_number g t st.number) (tree s u)) (sym type) (number-of s t g st.number (fine.made w).number)))
+            let type = stands-left name t e g left (stands (within-before e g s fine.steps w)) j y found there in
+            subst (λ u. HoldsKnown (constant_number g t st.number) (tree s u)) (sym type) (number-of s t g st.number (fine.made w).number)))
             (λ u q step c1 h1 any. made-fine s Given q st c1 h1 (λ w. let early = within-before g q s step w in (fine.made early, known (within-before e g s fine.steps early)))))
         by (Refused rule place) known fine left = tt
         by (Passed bound most) known fine left = tt
