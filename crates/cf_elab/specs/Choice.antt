@@ -9,6 +9,8 @@ use Rattle.cf_convert.specs.Converts.{steps}
 use Rattle.cf_convert.specs.declared.conv.ConvStep.{ConvStep}
 use Rattle.cf_syntax.specs.declared.operator.AssignOp.{AssignOp}
 use Rattle.cf_syntax.specs.declared.operator.AssignOp.TheVariants as assign
+use Rattle.cf_syntax.specs.declared.operator.BinaryOp.{BinaryOp}
+use Rattle.cf_syntax.specs.declared.operator.BinaryOp.TheVariants as binary
 use Rattle.cf_core.specs.declared.node.Change.{Change}
 use Rattle.cf_core.specs.declared.node.Change.TheVariants as change
 use Rattle.cf_core.specs.declared.node.Core.{Core as Node}
@@ -23,9 +25,10 @@ use Rattle.cf_elab.specs.UserFit.{fit}
 use Rattle.cf_elab.specs.ClassOperand.{truth}
 use Rattle.cf_elab.specs.Answer.{Elab, ◌>>=◌, ◌>>◌, gives, breaks, need, known}
 use Rattle.cf_elab.specs.Made.{of_kind, intern}
-use Rattle.cf_elab.specs.Operand.{Value, val, defs, computed, place_of, plain, Sort, sort_of, arithmetic, void_sort, integral, enumeral, object_pointer}
+use Rattle.cf_elab.specs.Operand.{Value, val, defs, computed, place_of, plain, Sort, sort_of, arithmetic, void_sort, integral, object_pointer}
 use Rattle.cf_elab.specs.Fit.{converted, to_kind}
 use Rattle.cf_elab.specs.Arithmetic.{is_nonzero}
+use Rattle.cf_elab.specs.Binary.{operation}
 use Rattle.cf_elab.specs.Unary.{need_modifiable}
 use Rattle.cf_elab.specs.Cast.{takes_null}
 use Rattle.cf_elab.specs.Complete.{complete}
@@ -146,14 +149,40 @@ moved_pointer at v t l x (Some back) = do
   a ← to_kind l x
   updated at v (change.Moved back) a
 
--- as the binary operator, and back to the type of the place: an enumeration takes no integer
+-- the binary operator of `op=`
+abbrev pub binary_of : Arith → BinaryOp
+binary_of op.Multiply = binary.Multiply
+binary_of op.Divide = binary.Divide
+binary_of op.Remainder = binary.Remainder
+binary_of op.Add = binary.Add
+binary_of op.Subtract = binary.Subtract
+binary_of op.ShiftLeft = binary.ShiftLeft
+binary_of op.ShiftRight = binary.ShiftRight
+binary_of op.Less = binary.Less
+binary_of op.Greater = binary.Greater
+binary_of op.LessEqual = binary.LessEqual
+binary_of op.GreaterEqual = binary.GreaterEqual
+binary_of op.Equal = binary.Equal
+binary_of op.NotEqual = binary.NotEqual
+binary_of op.And = binary.BitAnd
+binary_of op.Xor = binary.BitXor
+binary_of op.Or = binary.BitOr
+
+-- the first that fails: the binary operator on the two, or its result back to the type of the place
+abbrev pub not_combined : ℕ → Arith → Value → Value → Elab Value
+not_combined at o v x = do
+  z ← operation at (binary_of o) v x
+  back ← fit at z v.type
+  breaks 18 at
+
+-- As the binary operator, and back to the type of the place: integers stay integers, and a pointer that is moved stays one. Of all other types
+-- either the operator takes none or its result does not come back: an enumeration takes no integer, an integer no pointer, a pointer no difference.
 abbrev pub combined : ℕ → Arith → Value → Value → Sort → Option Kind → Option Kind → Elab Value
 combined at o v x (integral k) (Some p) (Some l) = do
   a ← to_kind (operand_kind o p l) x
   updated at v (change.Arithmetic o (operator_kind o p l) k) a
-combined at o v x (enumeral e) (Some p) (Some l) = breaks 25 at
 combined at o v x (object_pointer t) None (Some l) = moved_pointer at v t l x (moves o)
-combined at o v x s p l = breaks 18 at
+combined at o v x s p l = not_combined at o v x
 
 abbrev pub update : ℕ → Arith → Value → Value → Elab Value
 update at o v y = do

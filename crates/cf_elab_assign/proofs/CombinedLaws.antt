@@ -1,12 +1,15 @@
 -- A place and a plain value, by their types.
-use Rattle.std.proofs.Common.{◌≡◌, ℕ, Bool, true, false, Option, None, Some, refl, ap, ◌∙◌}
+use Rattle.std.proofs.Common.{◌≡◌, ℕ, Bool, Option, None, Some, refl, ap, ◌∙◌}
 use Rattle.cf_base.specs.declared.arith.Arith.{Arith}
 use Rattle.cf_base.specs.declared.kind.Kind.{Kind}
-use Rattle.cf_elab.specs.Answer.{Answer, Refused}
+use Rattle.cf_elab.specs.Answer.{Answer, Refused, onward}
 use Rattle.cf_elab.specs.Choice as choice
 use Rattle.cf_elab.specs.Env.{Env}
-use Rattle.cf_elab.specs.Operand.{Value, Sort, sort_of, arithmetic, integral, enumeral, object_pointer}
-use Rattle.cf_elab_arith.specs.Sorts.{kind_at, integral_at, integral_of, object_at, object_of, enum_at, is_enumeral}
+use Rattle.cf_elab.specs.Operand.{Value, Sort, sort_of, arithmetic, integral, object_pointer}
+use Rattle.cf_elab_arith.specs.Sorts.{kind_at, integral_at, integral_of, object_at, object_of}
+use Rattle.cf_elab_binary.specs.Shut as both
+use Rattle.cf_elab_env.proofs.Growth.{grown_laws}
+use Rattle.cf_elab_fit.specs.Shut as fit
 use Rattle.cf_elab_assign.specs.Shut as shut
 
 module _ (at : ℕ) (o : Arith) (v x : Value) (env : Env) where
@@ -18,15 +21,19 @@ module _ (at : ℕ) (o : Arith) (v x : Value) (env : Env) where
   unfolding shut.combined shut.by_place kind_at
   with_integer l e = ap (by_types (sort_of env.types v.type)) e
 
-  pub with_other : kind_at env.types x.type ≡ None → shut.combined at o v x env ≡ Refused 18 at
-  unfolding shut.combined kind_at
+  pub with_other : kind_at env.types x.type ≡ None → shut.combined at o v x env ≡ shut.not_combined at o v x env
+  unfolding shut.combined shut.not_combined kind_at
   with_other e = ap (by_types (sort_of env.types v.type)) e ∙ by (sort_of env.types v.type)
     where
-      by : (s : Sort) → by_types s None ≡ Refused 18 at
+      by : (s : Sort) → by_types s None ≡ shut.not_combined at o v x env
       by (integral k) = refl
-      by (enumeral e) = refl
       by (object_pointer t) = refl
       by other = refl
+
+  pub not_combined_is :
+      shut.not_combined at o v x env ≡ onward (both.operation at (choice.binary_of o) v x env) (λ z env. onward (fit.user_fit at z v.type env) (λ a env. Refused 18 at))
+  unfolding shut.not_combined both.operation fit.user_fit
+  not_combined_is = refl
 
   module _ (l : Kind) where
     abbrev place : Sort
@@ -48,24 +55,14 @@ module _ (at : ℕ) (o : Arith) (v x : Value) (env : Env) where
         by (object_pointer u) e = let same : u ≡ t = cc in ap (λ t. shut.of_pointer at o v t x l env) same
         by other e = cc
 
-    pub to_enum : enum_at env.types v.type ≡ true → shut.by_place at o v x l env ≡ Refused 25 at
-    unfolding shut.by_place enum_at
-    to_enum e = by place e
+    pub to_other : integral_at env.types v.type ≡ None → object_at env.types v.type ≡ None → shut.by_place at o v x l env ≡ shut.not_combined at o v x env
+    unfolding shut.by_place shut.not_combined integral_at object_at
+    to_other i p = by place i p
       where
-        by : (s : Sort) → is_enumeral s ≡ true → by_types s (Some l) ≡ Refused 25 at
-        by (enumeral n) e = refl
-        by other e = cc
-
-    pub to_other : integral_at env.types v.type ≡ None → object_at env.types v.type ≡ None → enum_at env.types v.type ≡ false
-        → shut.by_place at o v x l env ≡ Refused 18 at
-    unfolding shut.by_place integral_at object_at enum_at
-    to_other i p e = by place i p e
-      where
-        by : (s : Sort) → integral_of s ≡ None → object_of s ≡ None → is_enumeral s ≡ false → by_types s (Some l) ≡ Refused 18 at
-        by (integral k) i p e = cc
-        by (object_pointer t) i p e = cc
-        by (enumeral n) i p e = cc
-        by other i p e = refl
+        by : (s : Sort) → integral_of s ≡ None → object_of s ≡ None → by_types s (Some l) ≡ shut.not_combined at o v x env
+        by (integral k) i p = cc
+        by (object_pointer t) i p = cc
+        by other i p = refl
 
 module _ (at : ℕ) (o : Arith) (v : Value) (t : ℕ) (x : Value) (l : Kind) (env : Env) where
   pub moves_it : (back : Bool) → choice.moves o ≡ Some back → shut.of_pointer at o v t x l env ≡ shut.moved at back v t x l env
@@ -80,6 +77,8 @@ pub ruleset combined_laws = (with_integer, with_other)
 
 pub ruleset by_place_laws = (to_integer)
 
-pub ruleset no_integer_laws = (to_object, to_enum, to_other)
+pub ruleset no_integer_laws = (to_object, to_other)
+
+pub ruleset not_combined_laws = (not_combined_is, grown_laws)
 
 pub ruleset of_pointer_laws = (moves_it, moves_not)

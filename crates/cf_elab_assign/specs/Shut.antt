@@ -29,6 +29,10 @@ moved at back v t x l = choice.moved_pointer at v t l x (Some back)
 unfoldable pub of_pointer : ℕ → Arith → Value → ℕ → Value → Kind → Elab Value
 of_pointer at o v t x l = choice.moved_pointer at v t l x (choice.moves o)
 
+-- types that no compound operator combines
+unfoldable pub not_combined : ℕ → Arith → Value → Value → Elab Value
+not_combined = choice.not_combined
+
 unfoldable pub by_place : ℕ → Arith → Value → Value → Kind → Elab Value
 by_place at o v x l = known >>= (λ env. choice.combined at o v x (sort_of env.types v.type) (arithmetic (sort_of env.types v.type)) (Some l))
 

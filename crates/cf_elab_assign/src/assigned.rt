@@ -13,7 +13,7 @@ use cf_elab_unary::check_modifiable;
 use cf_syntax::AssignOp;
 
 /// An assignment to a place that is no class object: K12 where it may not be changed, and then K13 or K25 where `=` does not convert the value to
-/// its type, and K18, K25 or K30 where a compound operator does not take the two types (5.17).
+/// its type, or K18 or K30 where the operator of a compound one does not take the two, K13 or K25 where its result is not converted back (5.17).
 #[tactic(auto, using(crate::proofs::AssignmentLaws::assignment_laws))]
 pub fn assignment(
     env: &mut Env,

@@ -4,14 +4,16 @@ ghost use Rattle.cf_elab_assign.specs.Shut as shut;
 ghost use Rattle.cf_elab_env.specs.Answered.{Agrees};
 ghost use Rattle.cf_elab_env.specs.Holds.{Known, Grows, IsType};
 
-use crate::operators::moves;
+use crate::operators::{binary_of, moves};
 use crate::updated::{moved, of_integer};
 use cf_base::{Arith, Kind};
-use cf_elab_arith::{broken, integral_at, is_enum, kind_at, object_at};
+use cf_elab_arith::{broken, integral_at, kind_at, object_at};
+use cf_elab_binary::operation;
 use cf_elab_env::{Env, Stop, Value};
+use cf_elab_fit::fit;
 use cf_types::TyId;
 
-/// A place that may be changed with a plain value, by their types. The value is an integer, else K18.
+/// A place that may be changed with a plain value, by their types. No value but an integer is combined.
 #[tactic(auto, using(crate::proofs::CombinedLaws::combined_laws))]
 pub(crate) fn combined(
     env: &mut Env,
@@ -31,7 +33,10 @@ pub(crate) fn combined(
             let updated = by_place(env, at, op, place, value, kind)?;
             Ok(updated)
         }
-        None => Err(Stop::Broken(broken(18, at))),
+        None => {
+            let never = not_combined(env, at, op, place, value)?;
+            Ok(never)
+        }
     }
 }
 
@@ -63,7 +68,7 @@ fn by_place(
     }
 }
 
-/// The same where the place has no integer type: a pointer to an object, else K25 of an enumeration and K18 of any other type.
+/// The same where the place has no integer type: a pointer to an object is moved, and nothing else is combined.
 #[tactic(auto, using(crate::proofs::CombinedLaws::no_integer_laws))]
 fn no_integer(
     env: &mut Env,
@@ -86,8 +91,8 @@ fn no_integer(
             Ok(updated)
         }
         None => {
-            let rule = if is_enum(env, place.ty()) { 25 } else { 18 };
-            Err(Stop::Broken(broken(rule, at)))
+            let never = not_combined(env, at, op, place, value)?;
+            Ok(never)
         }
     }
 }
@@ -117,4 +122,25 @@ fn of_pointer(
         }
         None => Err(Stop::Broken(broken(18, at))),
     }
+}
+
+/// Of these types the binary operator takes none, or its result is not converted back to the type of the place: K13, K25.
+#[tactic(auto, using(crate::proofs::CombinedLaws::not_combined_laws))]
+fn not_combined(
+    env: &mut Env,
+    at: u32,
+    op: Arith,
+    place: Value,
+    value: Value,
+) -> Result<Value, Stop>
+    requires place_known { Known env.old.types place }
+    requires value_known { Known env.old.types value }
+    ensures made { Agrees (shut.not_combined at op place value env.old) result env.new }
+    ensures known { IfOk result (λ v. Known env.new.types v) }
+    ensures grows { OnOk result (Grows env.old.types env.new.types) }
+{
+    let ty = place.ty();
+    let combined = operation(env, at, binary_of(op), place, value)?;
+    fit(env, at, combined, ty)?;
+    Err(Stop::Broken(broken(18, at)))
 }

@@ -31,6 +31,13 @@ pointer_plus_a_pointer :
     ≡ Some (18, 18)
 pointer_plus_a_pointer = refl
 
+-- int*p;int main(){p-=p;return 0;}
+pointer_minus_a_pointer :
+    refusal (elaborates ((declared_item 0 ((word (specifier.Basic 0 basic.Int)) ∷ []) ((plain 3 (tree (DeclTree-F.Pointed (pointer.To 3 false) (tree (DeclTree-F.Declared (name_at 4 (codes "p"))))))) ∷ []))
+    ∷ (function ((word (specifier.Basic 6 basic.Int)) ∷ []) 10 (tree (DeclTree-F.Function 14 (tree (DeclTree-F.Declared (name_at 10 (codes "main")))) [] false)) 16 ((expression_row 17 (step (Expr-F.Assign 18 assign.Subtract (step (Expr-F.Named (name_at 17 (codes "p")))) (step (Expr-F.Named (name_at 20 (codes "p"))))))) ∷ (return_row 22 (Some (step (Expr-F.Int 29 0 kind.Int)))) ∷ [])) ∷ []))
+    ≡ Some (13, 18)
+pointer_minus_a_pointer = refl
+
 -- int*p;int main(){p*=1;return 0;}
 pointer_times_a_number :
     refusal (elaborates ((declared_item 0 ((word (specifier.Basic 0 basic.Int)) ∷ []) ((plain 3 (tree (DeclTree-F.Pointed (pointer.To 3 false) (tree (DeclTree-F.Declared (name_at 4 (codes "p"))))))) ∷ []))
@@ -43,8 +50,16 @@ int_plus_a_pointer :
     refusal (elaborates ((declared_item 0 ((word (specifier.Basic 0 basic.Int)) ∷ []) ((plain 4 (tree (DeclTree-F.Declared (name_at 4 (codes "x"))))) ∷ []))
     ∷ (declared_item 6 ((word (specifier.Basic 6 basic.Int)) ∷ []) ((plain 9 (tree (DeclTree-F.Pointed (pointer.To 9 false) (tree (DeclTree-F.Declared (name_at 10 (codes "p"))))))) ∷ []))
     ∷ (function ((word (specifier.Basic 12 basic.Int)) ∷ []) 16 (tree (DeclTree-F.Function 20 (tree (DeclTree-F.Declared (name_at 16 (codes "main")))) [] false)) 22 ((expression_row 23 (step (Expr-F.Assign 24 assign.Add (step (Expr-F.Named (name_at 23 (codes "x")))) (step (Expr-F.Named (name_at 26 (codes "p"))))))) ∷ (return_row 28 (Some (step (Expr-F.Int 35 0 kind.Int)))) ∷ [])) ∷ []))
-    ≡ Some (18, 24)
+    ≡ Some (13, 24)
 int_plus_a_pointer = refl
+
+-- int x;int*p;int main(){x-=p;return 0;}
+int_minus_a_pointer :
+    refusal (elaborates ((declared_item 0 ((word (specifier.Basic 0 basic.Int)) ∷ []) ((plain 4 (tree (DeclTree-F.Declared (name_at 4 (codes "x"))))) ∷ []))
+    ∷ (declared_item 6 ((word (specifier.Basic 6 basic.Int)) ∷ []) ((plain 9 (tree (DeclTree-F.Pointed (pointer.To 9 false) (tree (DeclTree-F.Declared (name_at 10 (codes "p"))))))) ∷ []))
+    ∷ (function ((word (specifier.Basic 12 basic.Int)) ∷ []) 16 (tree (DeclTree-F.Function 20 (tree (DeclTree-F.Declared (name_at 16 (codes "main")))) [] false)) 22 ((expression_row 23 (step (Expr-F.Assign 24 assign.Subtract (step (Expr-F.Named (name_at 23 (codes "x")))) (step (Expr-F.Named (name_at 26 (codes "p"))))))) ∷ (return_row 28 (Some (step (Expr-F.Int 35 0 kind.Int)))) ∷ [])) ∷ []))
+    ≡ Some (18, 24)
+int_minus_a_pointer = refl
 
 -- enum E{A};E e;int main(){e+=1;return 0;}
 enumeration_plus_a_number :
@@ -72,11 +87,21 @@ unfolding digits
 modifiable_before_the_fit_back = refl
 
 -- enum E{A};E e;int*p;int main(){e+=p;return 0;}
-operands_before_the_fit_back :
+enumeration_plus_a_pointer :
     refusal (elaborates ((declared_item 0 ((enumeration 0 (Some (5, (codes "E"))) ((record { at = 7; name = (codes "A"); value = None }) ∷ [])) ∷ []) [])
     ∷ (declared_item 10 ((word (specifier.Named (record { at = 10; from_file = false; names = (codes "E") ∷ [] }))) ∷ []) ((plain 12 (tree (DeclTree-F.Declared (name_at 12 (codes "e"))))) ∷ []))
     ∷ (declared_item 14 ((word (specifier.Basic 14 basic.Int)) ∷ []) ((plain 17 (tree (DeclTree-F.Pointed (pointer.To 17 false) (tree (DeclTree-F.Declared (name_at 18 (codes "p"))))))) ∷ []))
     ∷ (function ((word (specifier.Basic 20 basic.Int)) ∷ []) 24 (tree (DeclTree-F.Function 28 (tree (DeclTree-F.Declared (name_at 24 (codes "main")))) [] false)) 30 ((expression_row 31 (step (Expr-F.Assign 32 assign.Add (step (Expr-F.Named (name_at 31 (codes "e")))) (step (Expr-F.Named (name_at 34 (codes "p"))))))) ∷ (return_row 36 (Some (step (Expr-F.Int 43 0 kind.Int)))) ∷ [])) ∷ []))
+    ≡ Some (13, 32)
+unfolding digits
+enumeration_plus_a_pointer = refl
+
+-- enum E{A};E e;int*p;int main(){e-=p;return 0;}
+operands_before_the_fit_back :
+    refusal (elaborates ((declared_item 0 ((enumeration 0 (Some (5, (codes "E"))) ((record { at = 7; name = (codes "A"); value = None }) ∷ [])) ∷ []) [])
+    ∷ (declared_item 10 ((word (specifier.Named (record { at = 10; from_file = false; names = (codes "E") ∷ [] }))) ∷ []) ((plain 12 (tree (DeclTree-F.Declared (name_at 12 (codes "e"))))) ∷ []))
+    ∷ (declared_item 14 ((word (specifier.Basic 14 basic.Int)) ∷ []) ((plain 17 (tree (DeclTree-F.Pointed (pointer.To 17 false) (tree (DeclTree-F.Declared (name_at 18 (codes "p"))))))) ∷ []))
+    ∷ (function ((word (specifier.Basic 20 basic.Int)) ∷ []) 24 (tree (DeclTree-F.Function 28 (tree (DeclTree-F.Declared (name_at 24 (codes "main")))) [] false)) 30 ((expression_row 31 (step (Expr-F.Assign 32 assign.Subtract (step (Expr-F.Named (name_at 31 (codes "e")))) (step (Expr-F.Named (name_at 34 (codes "p"))))))) ∷ (return_row 36 (Some (step (Expr-F.Int 43 0 kind.Int)))) ∷ [])) ∷ []))
     ≡ Some (18, 32)
 unfolding digits
 operands_before_the_fit_back = refl

@@ -20,9 +20,10 @@ use Rattle.cf_core_typed.specs.Meets.{IsPlace}
 use Rattle.cf_core_typed.proofs.Operators.{store-is, update-is, arithmetic-changes, pointer-changes, right-operand}
 use Rattle.cf_core_typed.proofs.Same.{and-both, and-left, and-right, same-scalar}
 use Rattle.cf_core_typed.proofs.Values.{place-same, value-integer}
-use Rattle.cf_elab.specs.Answer.{Made, onward, need}
+use Rattle.cf_elab.specs.Answer.{Answer, Made, Refused, Passed, onward, need}
+use Rattle.cf_elab.specs.Binary.{operation}
 use Rattle.cf_elab.specs.Choice as row
-use Rattle.cf_elab.specs.Choice.{updating, operand_kind, operator_kind, moves}
+use Rattle.cf_elab.specs.Choice.{updating, operand_kind, operator_kind, binary_of, moves}
 use Rattle.cf_elab.specs.Complete.{complete}
 use Rattle.cf_elab.specs.Env.{Env}
 use Rattle.cf_elab.specs.Fit.{to_kind}
@@ -110,6 +111,20 @@ module _ (s : Scene) (scene : IsScene s) where
 
   -- ---- `op=`
 
+  -- no value comes of what is not combined
+  not_combined-fine : (at : ℕ) (o : Arith) (v x : Value) (e : Env) → Fine s (IsOperand s) e (row.not_combined at o v x e)
+  not_combined-fine at o v x e = by (operation at (binary_of o) v x e)
+    where
+      never : (a : Answer Value) → Fine s (IsOperand s) e (onward a (λ b f. Refused 18 at))
+      never (Made b f) = tt
+      never (Refused rule place) = tt
+      never (Passed bound most) = tt
+
+      by : (a : Answer Value) → Fine s (IsOperand s) e (onward a (λ z f. onward (fit at z v.type f) (λ b g. Refused 18 at)))
+      by (Made z f) = never (fit at z v.type f)
+      by (Refused rule place) = tt
+      by (Passed bound most) = tt
+
   combined-fine : (at : ℕ) (o : Arith) (v x : Value) (e : Env) → Classless e → When s e (Holds s e) → When s e (Fits s e v) → When s e (Fits s e x) → v.is_lvalue ≡ true
       → (k : Sort) → sort_of e.types v.type ≡ k → (a b : Option Kind) → Fine s (IsOperand s) e (row.combined at o v x k a b e)
   combined-fine at o v x e c h f g l (integral k) is (Some p) (Some q) =
@@ -142,14 +157,14 @@ module _ (s : Scene) (scene : IsScene s) where
       by : (o : Option Bool) → Fine s (IsOperand s) e (row.moved_pointer at v t q x o e)
       by None = tt
       by (Some back) = moved back (complete e t)
-  combined-fine at o v x e c h f g l (integral k) is None b = tt
-  combined-fine at o v x e c h f g l (integral k) is (Some p) None = tt
-  combined-fine at o v x e c h f g l (enumeral n) is None b = tt
-  combined-fine at o v x e c h f g l (enumeral n) is (Some p) None = tt
-  combined-fine at o v x e c h f g l (enumeral n) is (Some p) (Some q) = tt
-  combined-fine at o v x e c h f g l (object_pointer t) is None None = tt
-  combined-fine at o v x e c h f g l (object_pointer t) is (Some p) b = tt
-  combined-fine at o v x e c h f g l k is a b = tt
+  combined-fine at o v x e c h f g l (integral k) is None b = not_combined-fine at o v x e
+  combined-fine at o v x e c h f g l (integral k) is (Some p) None = not_combined-fine at o v x e
+  combined-fine at o v x e c h f g l (enumeral n) is None b = not_combined-fine at o v x e
+  combined-fine at o v x e c h f g l (enumeral n) is (Some p) None = not_combined-fine at o v x e
+  combined-fine at o v x e c h f g l (enumeral n) is (Some p) (Some q) = not_combined-fine at o v x e
+  combined-fine at o v x e c h f g l (object_pointer t) is None None = not_combined-fine at o v x e
+  combined-fine at o v x e c h f g l (object_pointer t) is (Some p) b = not_combined-fine at o v x e
+  combined-fine at o v x e c h f g l k is a b = not_combined-fine at o v x e
 
   pub update-fine : (at : ℕ) (o : Arith) (v y : Value) (e : Env) → Classless e → When s e (Holds s e) → When s e (Fits s e v) → When s e (Fits s e y) → Fine s (IsOperand s) e (row.update at o v y e)
   update-fine at o v y e c h f g = by (modifiable e v) refl

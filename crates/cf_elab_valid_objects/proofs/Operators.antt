@@ -279,11 +279,15 @@ moved_pointer-quiet : (at : ℕ) (v : Value) (t : ℕ) (l : Kind) (x : Value) (o
 moved_pointer-quiet at v t l x None e c = tt
 moved_pointer-quiet at v t l x (Some back) e c = need-quiet e (complete e t) 30 at _ (quiet-onward e (to_kind l x e) _ c (to_kind-quiet l x e c) (λ a f cf. quiet-none f cf))
 
+not_combined-quiet : (at : ℕ) (o : Arith) (v x : Value) (e : Env) → Classless e → QuietIn e (choice_row.not_combined at o v x e)
+not_combined-quiet at o v x e c =
+    quiet-onward e (binary_row.operation at (choice_row.binary_of o) v x e) _ c (operation-quiet at (choice_row.binary_of o) v x e c)
+    (λ z f cf. quiet-onward f (user.fit at z v.type f) _ cf (fit-quiet at v.type z f cf) (λ a g cg. tt))
+
 combined-quiet : (at : ℕ) (o : Arith) (v x : Value) (k : Sort) (p l : Option Kind) (e : Env) → Classless e → QuietIn e (choice_row.combined at o v x k p l e)
 combined-quiet at o v x (integral k) (Some p) (Some l) e c = quiet-onward e (to_kind (choice_row.operand_kind o p l) x e) _ c (to_kind-quiet (choice_row.operand_kind o p l) x e c) (λ a f cf. quiet-none f cf)
-combined-quiet at o v x (enumeral n) (Some p) (Some l) e c = tt
 combined-quiet at o v x (object_pointer t) None (Some l) e c = moved_pointer-quiet at v t l x (choice_row.moves o) e c
-combined-quiet at o v x k p l e c = tt
+combined-quiet at o v x k p l e c = not_combined-quiet at o v x e c
 
 update-quiet : (at : ℕ) (o : Arith) (v y : Value) (e : Env) → Classless e → QuietIn e (choice_row.update at o v y e)
 update-quiet at o v y e c =
