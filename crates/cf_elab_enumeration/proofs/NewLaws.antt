@@ -1,6 +1,7 @@
 -- Names that are new: no class is open, so the innermost scope alone may have them.
-use Rattle.std.proofs.Common.{◌≡◌, ℕ, Bool, true, false, not, ◌&&◌, ◌||◌, if◌then◌else◌, List, [], ◌∷◌, length, Option, Some, is_some, refl, sym, ap, ◌∙◌}
+use Rattle.std.proofs.Common.{◌≡◌, ℕ, Bool, true, false, not, ◌&&◌, ◌||◌, if◌then◌else◌, List, [], ◌∷◌, ◌++◌, length, Option, Some, is_some, refl, sym, ap, ◌∙◌}
 use Rattle.std.proofs.lemmas.Cmp.{nat_list_eq_equiv}
+use Rattle.std.proofs.lemmas.List.{append-nil}
 use Rattle.std.specs.Prelude.{bytes_eq}
 use Rattle.std.specs.List.{list_any}
 use Rattle.cf_elab.specs.Answer.{Answer, Made, Refused, onward, need}
@@ -46,6 +47,10 @@ module _ (env : Env) (e : IsEnv env) (name : Name) (at : ℕ) (before : List Nam
 pub none_named : (before : List Name) (cs : List Counted) (env : Env) → length cs ≡ 0 → shut.all_new before cs env ≡ Made tt env
 unfolding shut.all_new
 none_named before cs env none = ap (λ l. shut.all_new before l env) (empty cs none)
+
+-- the enumeration's own names come first
+pub own_first : (own none before : List Name) (cs : List Counted) (env : Env) → before ≡ own ++ none → none ≡ [] → shut.all_new own cs env ≡ shut.all_new before cs env
+own_first own none before cs env is nothing = ap (λ ns. shut.all_new ns cs env) (sym (is ∙ ap (λ l. own ++ l) nothing ∙ append-nil own))
 
 pub each_named : (cs rest : List Counted) (c : Counted) (env : Env) (before more : List Name) (name : Name) (at : ℕ) → cs ≡ c ∷ rest → name ≡ c.name → at ≡ c.at → more ≡ name ∷ before
     → shut.all_new before cs env ≡ onward (shut.needs_new name at before env) (λ _ e. shut.all_new more rest e)

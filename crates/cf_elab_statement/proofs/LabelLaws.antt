@@ -1,5 +1,5 @@
 -- Labels of a switch in a table: it has those that were put into it.
-use Rattle.std.proofs.Common.{◌≡◌, ℕ, ◌+◌, ◌<◌, ◌≤◌, Bool, true, false, ◌&&◌, ◌||◌, if◌then◌else◌, List, [], ◌∷◌, ◌++◌, take, drop, get_or, length, ℤ, Option, None, Some, refl, sym, ap, ◌∙◌, add-one, drop-cons, suc, arith}
+use Rattle.std.proofs.Common.{◌≡◌, ℕ, ◌+◌, ◌<◌, ◌≤◌, Bool, true, false, ◌&&◌, ◌||◌, if◌then◌else◌, List, [], ◌∷◌, ◌++◌, take, drop, get_or, length, ℤ, Option, None, Some, option_map, refl, sym, ap, ◌∙◌, add-one, drop-cons, suc, arith}
 use Rattle.std.specs.Prelude.{int_le}
 use Rattle.std.specs.List.{list_any}
 use Rattle.std.specs.Ordering.{int_eq}
@@ -10,6 +10,7 @@ use Rattle.std.proofs.lemmas.List.Folds.{list_any-append, list_any_more}
 use Rattle.std.proofs.Math.ListN.{drop_of_length-le}
 use Rattle.indexmap.specs.IndexSet.{insert_key}
 use Rattle.cf_base.specs.declared.kind.Kind.{Kind}
+use Rattle.cf_base.specs.Integers.{convert}
 use Rattle.cf_elab.specs.Operand.{Value}
 use Rattle.cf_elab.specs.Statement.{Label, no_label, case_label, default_label, Made, same_label, same_number, label_number}
 use Rattle.cf_elab_statement.specs.Labels.{has_value, has_label, same_labels, repeated_behind, repeated_label}
@@ -60,6 +61,13 @@ value_none keys (Some y) = or-false (has_value keys (Some y))
 
 -- ---- labels
 
+pub number_is : (k : Kind) (v : Value) → option_map (convert k) v.number ≡ label_number k v
+number_is k v = by v.number
+  where
+    by : (n : Option ℤ) → option_map (convert k) n ≡ label_number k (record v { number = n })
+    by None = refl
+    by (Some z) = refl
+
 module _ (k : Kind) (old new : List ℤ) (had has : Bool) (m : Label) where
   pub none_more : m ≡ no_label → (l : Label) → has_label k old had l ≡ (has_label k old had l || same_label k l m)
   none_more is l = by l ∙ ap (λ n. has_label k old had l || same_label k l n) (sym is)
@@ -98,7 +106,7 @@ module _ (k : Kind) (ms : List Made) where
   IsLeft i = repeated_behind k (take i ms) (drop i ms) ≡ repeated_label k ms
 
   pub none_first : (values : List ℤ) (default : Bool) → values ≡ [] → default ≡ false → HasFirst 0 values default
-  none_first values default none no l = ap (λ vs. has_label k vs default l) none ∙ ap (λ d. has_label k [] d l) no ∙ by l ∙ ap (list_any (λ (m : Made). same_label k l m.label)) (sym (nothing ms))
+  none_first values default none unset l = ap (λ vs. has_label k vs default l) none ∙ ap (λ d. has_label k [] d l) unset ∙ by l ∙ ap (list_any (λ (m : Made). same_label k l m.label)) (sym (nothing ms))
     where
       by : (l : Label) → has_label k [] false l ≡ false
       by no_label = refl
@@ -129,13 +137,13 @@ module _ (k : Kind) (ms : List Made) where
         sym left ∙ ap (repeated_behind k (take i ms)) behind ∙ ap (λ t. if t then Some m.at else repeated_behind k (take i ms ++ m ∷ []) (drop (i + 1) ms)) told
 
     pub repeated_here : b ≡ true → Some m.at ≡ repeated_label k ms
-    repeated_here yes = sym (front ∙ ap (λ t. if t then Some m.at else repeated_behind k (take i ms ++ m ∷ []) (drop (i + 1) ms)) yes)
+    repeated_here found = sym (front ∙ ap (λ t. if t then Some m.at else repeated_behind k (take i ms ++ m ∷ []) (drop (i + 1) ms)) found)
 
     pub left_next : b ≡ false → IsLeft (i + 1)
-    left_next no =
+    left_next missing =
         let more : take (i + 1) ms ≡ take i ms ++ m ∷ [] = take_more ms i m within ∙ ap (λ x. take i ms ++ x ∷ []) (sym here) in
         ap (λ xs. repeated_behind k xs (drop (i + 1) ms)) more
-        ∙ sym (front ∙ ap (λ t. if t then Some m.at else repeated_behind k (take i ms ++ m ∷ []) (drop (i + 1) ms)) no)
+        ∙ sym (front ∙ ap (λ t. if t then Some m.at else repeated_behind k (take i ms ++ m ∷ []) (drop (i + 1) ms)) missing)
 
     pub has_next : (new : List ℤ) (now : Bool) → ((q : Label) → has_label k new now q ≡ (has_label k values default q || same_label k q l)) → HasFirst (i + 1) new now
     has_next new now added q =
@@ -145,7 +153,3 @@ module _ (k : Kind) (ms : List Made) where
 
   pub none_repeated : (i : ℕ) → length ms ≤ i → IsLeft i → None ≡ repeated_label k ms
   none_repeated i end left = sym (ap (repeated_behind k (take i ms)) (drop_of_length-le ms end)) ∙ left
-
-pub ruleset add_laws = (none_more, case_more, default_more)
-
-pub ruleset value_laws = (value_more, value_none)

@@ -63,11 +63,7 @@ fn is_unknown(label: &Label) -> bool
 }
 
 /// The place of the first label that is the same as one before it, as values of this type.
-fn repeated_label(
-    alloc: Global,
-    kind: Kind,
-    statements: &[Made],
-) -> Result<Option<u32>, Memory>
+fn repeated_label(alloc: Global, kind: Kind, statements: &[Made]) -> Result<Option<u32>, Memory>
     ensures { IfOk result (λ place. place ≡ spec.repeated_label kind statements.now) }
 {
     let mut before = LabelsBefore::new(alloc);

@@ -49,7 +49,6 @@ impl LabelsBefore {
     }
 
     /// This label too, as a value of this type.
-    #[tactic(auto, using(crate::proofs::LabelLaws::add_laws))]
     pub(crate) fn add(&mut self, kind: Kind, label: &Label) -> Result<(), Memory>
         ensures { (l : Listed) → OnOk result (spec.has_label kind self.new.values.keys self.new.has_default l ≡ (spec.has_label kind self.old.values.keys self.old.has_default l || same_label kind l (label_seen label.now))) }
     {
@@ -66,14 +65,16 @@ impl LabelsBefore {
         }
     }
 
-    #[tactic(auto, using(crate::proofs::LabelLaws::value_laws))]
     fn add_value(&mut self, value: Option<i64>) -> Result<(), Memory>
         ensures values { (q : Option ℤ) → OnOk result (spec.has_value self.new.values.keys q ≡ (spec.has_value self.old.values.keys q || same_number q value)) }
         ensures has_default { self.new.has_default ≡ self.old.has_default }
     {
-        if let Some(value) = value {
-            self.values.insert(value)?;
+        match value {
+            None => Ok(()),
+            Some(value) => {
+                self.values.insert(value)?;
+                Ok(())
+            }
         }
-        Ok(())
     }
 }
