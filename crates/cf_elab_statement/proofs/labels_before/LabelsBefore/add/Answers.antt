@@ -15,7 +15,7 @@ pub returns-in_ok-add_value-in-Case : goal.returns-in_ok-add_value-in-Case
 returns-in_ok-add_value-in-Case c = λ l.
     let old = c.args.self.now in
     let new = c.add_value.new.self in
-    let value = c.in-Case.value.now in
+    let value = c.in-Case.value in
     case_more c.args.kind old.values.keys new.values.keys old.has_default new.has_default (label_seen c.args.label.now) value (ap label_seen c.in-Case.is)
     (λ q. c.in_ok-add_value-in-Case.ensures.values q
     ∙ ap (λ n. has_value old.values.keys q || same_number q n) (c.convert_number.ensures.value ∙ ap (option_map (convert c.args.kind)) c.number.ensures ∙ number_is c.args.kind value))
