@@ -6,6 +6,7 @@ mod fault;
 mod leaves;
 mod names;
 mod nodes;
+mod parts;
 
 pub use defined::{Defined, FunctionHead, StaticHead};
 pub use fault::NotLoaded;

@@ -1,14 +1,12 @@
-ghost use Rattle.std.specs.Prelude.{◌≡◌, ◌||◌, ◌≤◌, Some, length, take, drop, bytes_eq};
-ghost use Rattle.std.specs.List.{list_any};
-ghost use Rattle.cf_elab.specs.Enumeration.{Counted as Listed};
+ghost use Rattle.std.specs.Prelude.{◌≡◌, ◌++◌, Some, OnOk};
 ghost use Rattle.cf_elab_env.specs.Answered.{Agrees};
-ghost use Rattle.cf_elab_enumeration.specs.Before.{names_before};
 ghost use Rattle.cf_elab_enumeration.specs.Shut as shut;
 
 use crate::counted::Counted;
-use cf_base::Name;
+use cf_base::{Memory, Name};
 use cf_elab_arith::broken;
 use cf_elab_env::{Env, Stop};
+use cf_name_list::Names;
 
 /// The innermost scope has no enumeration's name yet; else K8 (3.2).
 #[tactic(auto, using(crate::proofs::NewLaws::name_laws))]
@@ -24,58 +22,53 @@ pub fn check_name(env: &Env, at: u32, name: &[u8]) -> Result<(), Stop>
 }
 
 /// No enumerator has a name of the innermost scope, of one before it, or of these, which are the enumeration's own; else K8 (3.2).
-#[tactic(auto, using(crate::proofs::NewLaws::all_laws))]
 pub fn check_all_new(env: &Env, own: &[Name], list: &[Counted]) -> Result<(), Stop>
     ensures { Agrees (shut.all_new own.now list.now env.now) result env.now }
 {
-    check_new_from(env, own, list, 0)?;
+    let mut before = Names::new(env.alloc());
+    add_own(&mut before, own)?;
+    check_each(env, &mut before, list)?;
     Ok(())
 }
 
-/// The same of the enumerators from this index on.
-#[tactic(auto, using(crate::proofs::NewLaws::from_laws))]
-fn check_new_from(env: &Env, own: &[Name], list: &[Counted], index: usize) -> Result<(), Stop>
-    requires { index ≤ length list.now }
-    ensures { Agrees (shut.all_new (names_before own.now (take index list.now)) (drop index list.now) env.now) result env.now }
+/// Puts these names in front of others, in their order.
+fn add_own<'a>(before: &mut Names<'a>, own: &'a [Name]) -> Result<(), Memory>
+    ensures { OnOk result (before.new ≡ own.now ++ before.old) }
 {
-    if index == list.len() {
-        return Ok(());
+    let mut left = own.len();
+    while left > 0 {
+        left -= 1;
+        before.add(own[left].as_slice())?;
     }
-    let one = &list[index];
-    check_new(env, one.name().as_slice(), one.at(), own, &list[..index])?;
-    check_new_from(env, own, list, index + 1)?;
     Ok(())
+}
+
+/// No enumerator has a name of the innermost scope, or of those before it; else K8.
+#[tactic(auto, using(crate::proofs::NewLaws::each_laws))]
+fn check_each<'a>(env: &Env, before: &mut Names<'a>, list: &'a [Counted]) -> Result<(), Stop>
+    ensures { Agrees (shut.all_new before.old list.now env.now) result env.now }
+{
+    match list.split_first() {
+        None => Ok(()),
+        Some((first, rest)) => {
+            let name = first.name().as_slice();
+            check_new(env, name, first.at(), before)?;
+            before.add(name)?;
+            check_each(env, before, rest)?;
+            Ok(())
+        }
+    }
 }
 
 /// Neither the innermost scope nor one of these before has the name; else K8.
 #[tactic(auto, using(crate::proofs::NewLaws::new_laws))]
-fn check_new(env: &Env, name: &[u8], at: u32, own: &[Name], list: &[Counted]) -> Result<(), Stop>
-    ensures { Agrees (shut.needs_new name.now at (names_before own.now list.now) env.now) result env.now }
+fn check_new(env: &Env, name: &[u8], at: u32, before: &Names) -> Result<(), Stop>
+    ensures { Agrees (shut.needs_new name.now at before.now env.now) result env.now }
 {
     env.holds();
-    if env.declared_here(name).is_some() || is_among(name, own, list) {
+    if env.declared_here(name).is_some() || before.has(name) {
         Err(Stop::Broken(broken(8, at)))
     } else {
         Ok(())
     }
-}
-
-/// Whether one of these has the name.
-#[tactic(auto, using(crate::proofs::NewLaws::among_laws))]
-fn is_among(name: &[u8], own: &[Name], list: &[Counted]) -> bool
-    ensures { result ≡ list_any (bytes_eq name.now) (names_before own.now list.now) }
-{
-    is_own(name, own) || is_listed(name, list)
-}
-
-fn is_own(name: &[u8], own: &[Name]) -> bool
-    ensures { result ≡ list_any (bytes_eq name.now) own.now }
-{
-    own.iter().any(|other| name == other.as_slice())
-}
-
-fn is_listed(name: &[u8], list: &[Counted]) -> bool
-    ensures { result ≡ list_any (λ (c : Listed). bytes_eq name.now c.name) list.now }
-{
-    list.iter().any(|other| name == other.name().as_slice())
 }

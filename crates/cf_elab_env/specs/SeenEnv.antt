@@ -1,12 +1,8 @@
 -- The environment that the code holds, as the definitions of elaboration see it: no class is defined in it.
-use Rattle.std.specs.Prelude.{ℕ, List, [], map}
-use Rattle.cf_elab.specs.Env.{Env, Name}
+use Rattle.std.specs.Prelude.{[], map}
+use Rattle.cf_elab.specs.Env.{Env}
 use Rattle.cf_elab_env.specs.declared.env.Env.TheInside.{Inside}
-use Rattle.cf_elab_env.specs.declared.env.Linked.{Linked}
 use Rattle.cf_elab_env.specs.Seen.{entity_seen}
-
-abbrev pub linked_seen : Linked → Name × ℕ
-linked_seen x = (x.name, x.entity)
 
 abbrev pub env_seen : Inside → Env
 env_seen e = record {
@@ -17,7 +13,7 @@ env_seen e = record {
   open_classes = [];
   scopes = e.scopes;
   entities = map entity_seen e.entities.items;
-  linked = map linked_seen e.linked;
+  linked = e.linked.inner;
   entries = e.entries.items;
   member_defaults = [];
   hand = e.hand;

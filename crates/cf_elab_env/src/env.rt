@@ -1,4 +1,5 @@
-ghost use Rattle.std.specs.Prelude.{◌≡◌, [], length, slice_get, All, IfOk, None, Some};
+ghost use Rattle.std.specs.Prelude.{◌≡◌, [], length, slice_get, All, IfOk, None, Some, bytes_eq};
+ghost use Rattle.std.specs.List.{list_any};
 ghost use Rattle.cf_types.specs.Table.{IsTable};
 ghost use Rattle.cf_core.specs.FromUnit.{IsValid};
 ghost use Rattle.cf_elab.specs.File.{first_env, core_unit};
@@ -15,17 +16,10 @@ use cf_base::{Items, Kind, Memory, Name};
 use cf_classes::Classes;
 use cf_core::{CoreFn, CoreStatic, CoreUnit};
 use cf_lookup::Scopes;
+use cf_name_table::NameTable;
 use cf_types::{Ty, TyId, Types};
 use std::alloc::Global;
 use std::marker::Model;
-
-/// An object with linkage, by its name (3.3).
-#[derive(Debug, Drop)]
-pub struct Linked {
-    pub name: Name,
-    /// The number of its entity.
-    pub entity: u32,
-}
 
 /// What is known at a place of a file (3).
 #[derive(Drop)]
@@ -33,12 +27,13 @@ pub struct Env {
     pub(crate) alloc: Global,
     pub(crate) extent: Extent,
     /// The names that the file's own declarations define.
-    pub(crate) defines: Items<Name>,
+    pub(crate) defines: NameTable,
     pub(crate) types: Types,
     pub(crate) classes: Declared,
     pub(crate) scopes: Scopes,
     pub(crate) entities: Vec<Entity>,
-    pub(crate) linked: Items<Linked>,
+    /// The objects with linkage, by the numbers of their entities: names of one scope of their own (3.3).
+    pub(crate) linked: Scopes,
     pub(crate) entries: Vec<FunctionEntry>,
     pub(crate) hand: Hand,
     pub(crate) functions: Items<CoreFn>,
@@ -71,6 +66,7 @@ impl Env {
         ensures found { IfOk result (λ begun. slice_get begun.0.types.types begun.1 ≡ Some (Ty.Int Kind.Int)) }
         ensures known { IfOk result (λ begun. IsType begun.0.types begun.1) }
     {
+        let defines = NameTable::of(alloc, defines)?;
         let hand = Hand::of_file(alloc)?;
         let mut types = Types::new(alloc);
         let int = types.intern(Ty::Int(Kind::Int))?;
@@ -82,7 +78,7 @@ impl Env {
             classes: Declared::new(alloc),
             scopes: Scopes::new(alloc),
             entities: Vec::new(alloc),
-            linked: Items::new(alloc),
+            linked: Scopes::new(alloc),
             entries: Vec::new(alloc),
             hand,
             functions: Items::new(alloc),
@@ -134,6 +130,13 @@ impl Env {
         ensures { result.now ≡ self.now.defines }
     {
         self.defines.as_slice()
+    }
+
+    /// Whether the file's own declarations define the name.
+    pub fn defines_name(&self, name: &[u8]) -> bool
+        ensures { result ≡ list_any (bytes_eq name.now) self.now.defines }
+    {
+        self.defines.has(name)
     }
 
     /// The declared functions that are no members, in order of declaration.

@@ -23,7 +23,7 @@ mod types;
 mod value;
 
 pub use entity::Entity;
-pub use env::{Env, Linked};
+pub use env::Env;
 pub use extent::Extent;
 pub use functions::FunctionEntry;
 pub use hand::{Asker, BodyKind, Hand};

@@ -1,14 +1,13 @@
-ghost use Rattle.std.specs.Prelude.{◌≡◌, ◌<◌, ◌++◌, ◌∷◌, [], length, OnOk, IfSome, map};
+ghost use Rattle.std.specs.Prelude.{◌≡◌, ◌<◌, ◌++◌, ◌∷◌, [], length, OnOk, IfSome};
 ghost use Rattle.cf_lookup.specs.Scope.{in_scope};
 ghost use Rattle.cf_elab.specs.Answer.{Made};
 ghost use Rattle.cf_elab.specs.Names as names;
 ghost use Rattle.cf_elab_env.specs.Holds.{IsEntity};
 ghost use Rattle.cf_elab_env.specs.Seen.{entity_seen};
-ghost use Rattle.cf_elab_env.specs.SeenEnv.{linked_seen};
 ghost use Rattle.cf_elab_env.specs.Shut as shut;
 
 use crate::entity::Entity;
-use crate::env::{Env, Linked, next_number};
+use crate::env::{Env, next_number};
 use cf_base::{Memory, Name};
 use cf_lookup::{EntityId, Scopes};
 
@@ -78,7 +77,8 @@ impl Env {
         ensures value { result ≡ in_scope name.now self.now.linked }
         ensures known { IfSome result (λ number. number < length self.now.entities) }
     {
-        linked_as(self.linked.as_slice(), name)
+        let id = self.linked.find_here(name)?;
+        Some(id.number())
     }
 
     /// Notes that an object has linkage under this name.
@@ -87,26 +87,7 @@ impl Env {
         ensures state { OnOk result (self.new ≡ record self.old { linked = self.old.linked ++ (name, number) ∷ [] }) }
         ensures types { self.new.types ≡ self.old.types }
     {
-        self.linked.push(Linked {
-            name,
-            entity: number,
-        })?;
+        self.linked.declare(name.as_slice(), EntityId::new(number))?;
         Ok(())
-    }
-}
-
-/// The first of these objects that has the name, by the number of its entity.
-fn linked_as(linked: &[Linked], name: &[u8]) -> Option<u32>
-    ensures { result ≡ in_scope name.now (map linked_seen linked.now) }
-{
-    match linked.split_first() {
-        None => None,
-        Some((first, rest)) => {
-            if name == first.name.as_slice() {
-                Some(first.entity)
-            } else {
-                linked_as(rest, name)
-            }
-        }
     }
 }

@@ -1,5 +1,4 @@
-ghost use Rattle.std.specs.Prelude.{◌≡◌, ◌==◌, ◌&&◌, not, length, bytes_eq};
-ghost use Rattle.std.specs.List.{list_any};
+ghost use Rattle.std.specs.Prelude.{◌≡◌, ◌==◌, ◌&&◌, not, length};
 ghost use Rattle.cf_elab_env.specs.Answered.{Agrees};
 ghost use Rattle.cf_elab_env.specs.Holds.{IsType};
 ghost use Rattle.cf_elab_functions.specs.Seen.{says_seen};
@@ -7,7 +6,6 @@ ghost use Rattle.cf_elab_functions.specs.Shut as shut;
 
 use crate::function_types::fun_at;
 use crate::says::{Called, Says};
-use cf_base::Name;
 use cf_elab_arith::broken;
 use cf_elab_env::{Env, Stop};
 use cf_types::{Fun, TyId};
@@ -55,16 +53,9 @@ fn is_main(fun: &Fun, int: TyId, is_internal: bool) -> bool
 pub(crate) fn check_definition(env: &Env, says: &Says) -> Result<(), Stop>
     ensures { Agrees (shut.need_definition (says_seen says.now) env.now) result env.now }
 {
-    if env.extent().elsewhere || says.defines || is_among(says.name.as_slice(), env.defines()) {
+    if env.extent().elsewhere || says.defines || env.defines_name(says.name.as_slice()) {
         Ok(())
     } else {
         Err(Stop::Broken(broken(48, says.at)))
     }
-}
-
-/// Whether one of these names is the name.
-fn is_among(name: &[u8], names: &[Name]) -> bool
-    ensures { result ≡ list_any (bytes_eq name.now) names.now }
-{
-    names.iter().any(|other| name == other.as_slice())
 }

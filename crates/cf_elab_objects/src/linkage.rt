@@ -1,5 +1,4 @@
-ghost use Rattle.std.specs.Prelude.{◌≡◌, ◌<◌, length, None, IfOk, OnOk, bytes_eq};
-ghost use Rattle.std.specs.List.{list_any};
+ghost use Rattle.std.specs.Prelude.{◌≡◌, ◌<◌, length, None, IfOk, OnOk};
 ghost use Rattle.cf_elab.specs.Names as names;
 ghost use Rattle.cf_elab.specs.Objects as objects;
 ghost use Rattle.cf_elab.specs.Answer.{Made};
@@ -165,13 +164,7 @@ fn check_new(env: &Env, says: &Says, link: &[u8]) -> Result<(), Stop>
 fn is_defined_somewhere(env: &Env, says: &Says) -> bool
     ensures { result ≡ shut.is_defined_somewhere env.now (says_seen says.now) }
 {
-    env.extent().elsewhere || says.defines || is_among(says.name.as_slice(), env.defines())
-}
-
-fn is_among(name: &[u8], names: &[Name]) -> bool
-    ensures { result ≡ list_any (bytes_eq name.now) names.now }
-{
-    names.iter().any(|other| name == other.as_slice())
+    env.extent().elsewhere || says.defines || env.defines_name(says.name.as_slice())
 }
 
 /// What the innermost scope declares by the name is an object with linkage.

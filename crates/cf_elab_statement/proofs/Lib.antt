@@ -1,4 +1,5 @@
 pub mod JumpLaws
+pub mod LabelLaws
 pub mod LoopLaws
 pub mod Onward
 pub mod Rows

@@ -1,11 +1,11 @@
 -- The labels of a switch: the place of the first one at fault (6.4.2).
-use Rattle.std.specs.Prelude.{ℕ, Bool, false, not, is_some, ◌&&◌, ◌||◌, if◌then◌else◌, List, [], ◌∷◌, ◌++◌, ℤ, Option, None, Some, option_map}
+use Rattle.std.specs.Prelude.{ℕ, Bool, false, not, is_some, ◌&&◌, ◌||◌, if◌then◌else◌, List, [], ◌∷◌, ◌++◌, ℤ, Option, None, Some}
 use Rattle.std.specs.List.{list_any}
+use Rattle.std.specs.Ordering.{int_eq}
 use Rattle.cf_base.specs.declared.kind.Kind.{Kind}
-use Rattle.cf_base.specs.Integers.{convert}
 use Rattle.cf_core.specs.declared.node.Core.{Core as Node}
 use Rattle.cf_core.specs.declared.node.Core.TheVariants as node
-use Rattle.cf_elab.specs.Statement.{Label, no_label, case_label, default_label, Made, same_label, same_number, label_number, is_label, number_or_zero}
+use Rattle.cf_elab.specs.Statement.{Label, no_label, case_label, default_label, Made, same_label, label_number, is_label, number_or_zero}
 
 abbrev pub is_unknown : Label → Bool
 is_unknown (case_label v) = not (is_some v.number)
@@ -19,10 +19,16 @@ unknown_label (m ∷ ms) = if is_unknown m.label then Some m.at else unknown_lab
 abbrev pub same_labels : Kind → Made → Made → Bool
 same_labels k m n = same_label k m.label n.label
 
--- the label of a value with this number, and another
-abbrev pub same_case : Kind → Option ℤ → Label → Bool
-same_case k z (case_label w) = same_number (option_map (convert k) z) (label_number k w)
-same_case k z other = false
+-- whether a table of values has one
+abbrev pub has_value : List ℤ → Option ℤ → Bool
+has_value values None = false
+has_value values (Some z) = list_any (int_eq z) values
+
+-- whether a table of the values of cases, and of whether `default` is among them, has the label
+abbrev pub has_label : Kind → List ℤ → Bool → Label → Bool
+has_label k values default no_label = false
+has_label k values default (case_label v) = has_value values (label_number k v)
+has_label k values default default_label = default
 
 -- the same as one of those before
 abbrev pub repeated_behind : Kind → List Made → List Made → Option ℕ

@@ -1,11 +1,11 @@
 ghost use Rattle.std.specs.Prelude.{◌≡◌, ◌≤◌, IfOk};
-ghost use Rattle.std.specs.List.{list_any};
 ghost use Rattle.cf_elab.specs.Statement as row;
 ghost use Rattle.cf_elab_env.specs.Answered.{Agrees};
 ghost use Rattle.cf_elab_made.specs.Seen.{label_seen};
 ghost use Rattle.cf_elab_statement.specs.Labels as spec;
 ghost use Rattle.cf_elab_statement.specs.Shut as shut;
 
+use crate::labels_before::LabelsBefore;
 use cf_base::{Items, Kind, Memory};
 use cf_core::Core;
 use cf_elab_arith::broken;
@@ -21,7 +21,8 @@ pub(crate) fn check_labels(env: &Env, kind: Kind, statements: &[Made]) -> Result
     ensures { Agrees (shut.check_labels kind statements.now env.now) result env.now }
 {
     refuse(env, 19, unknown_label(statements))?;
-    refuse(env, 20, repeated_label(kind, statements))?;
+    let repeated = repeated_label(env.alloc(), kind, statements)?;
+    refuse(env, 20, repeated)?;
     refuse(env, 23, passing_label(statements))?;
     Ok(())
 }
@@ -62,58 +63,21 @@ fn is_unknown(label: &Label) -> bool
 }
 
 /// The place of the first label that is the same as one before it, as values of this type.
-fn repeated_label(kind: Kind, statements: &[Made]) -> Option<u32>
-    ensures { result ≡ spec.repeated_label kind statements.now }
+fn repeated_label(
+    alloc: Global,
+    kind: Kind,
+    statements: &[Made],
+) -> Result<Option<u32>, Memory>
+    ensures { IfOk result (λ place. place ≡ spec.repeated_label kind statements.now) }
 {
-    for (i, made) in statements.iter().enumerate() {
-        if is_among(kind, made, &statements[..i]) {
-            return Some(made.at());
+    let mut before = LabelsBefore::new(alloc);
+    for made in statements {
+        if before.has(kind, made.label()) {
+            return Ok(Some(made.at()));
         }
+        before.add(kind, made.label())?;
     }
-    None
-}
-
-fn is_among(kind: Kind, made: &Made, before: &[Made]) -> bool
-    ensures { result ≡ list_any (spec.same_labels kind made.now) before.now }
-{
-    before.iter().any(|other| same_labels(kind, made, other))
-}
-
-fn same_labels(kind: Kind, made: &Made, other: &Made) -> bool
-    ensures { result ≡ spec.same_labels kind made.now other.now }
-{
-    same_label(kind, made.label(), other.label())
-}
-
-fn same_label(kind: Kind, label: &Label, other: &Label) -> bool
-    ensures { result ≡ row.same_label kind (label_seen label.now) (label_seen other.now) }
-{
-    match label {
-        Label::None => false,
-        Label::Case(value) => same_case(kind, value.number(), other),
-        Label::Default => matches!(other, Label::Default),
-    }
-}
-
-fn same_case(kind: Kind, number: Option<i64>, other: &Label) -> bool
-    ensures { result ≡ spec.same_case kind number (label_seen other.now) }
-{
-    match other {
-        Label::Case(value) => same_number(
-            convert_number(kind, number),
-            convert_number(kind, value.number()),
-        ),
-        _ => false,
-    }
-}
-
-fn same_number(a: Option<i64>, b: Option<i64>) -> bool
-    ensures { result ≡ row.same_number a b }
-{
-    match (a, b) {
-        (Some(a), Some(b)) => a <= b && b <= a,
-        _ => false,
-    }
+    Ok(None)
 }
 
 /// The place of the first label behind a declaration with an initialiser.

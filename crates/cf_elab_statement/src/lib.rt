@@ -7,6 +7,7 @@
 
 mod jumps;
 mod labels;
+mod labels_before;
 mod loops;
 mod simple;
 mod switch;

@@ -1,5 +1,5 @@
 -- Scopes of names (3.2).
-use Rattle.std.specs.Prelude.{◌≡◌, ℕ, nat_eq, List, [], ◌∷◌, ◌++◌, map, filter, Option, None}
+use Rattle.std.specs.Prelude.{◌≡◌, ℕ, nat_eq, List, [], ◌∷◌, ◌++◌, map, filter, Option, None, unwrap_or}
 use Rattle.std.specs.Cmp.Lexicographic.{pointwise}
 use Rattle.std.specs.Map.{lookup}
 use Rattle.std.specs.Option.{option_or}
@@ -37,10 +37,18 @@ all_found name scopes = all_in name (scopes.outer ++ scopes.inner ∷ [])
 abbrev pub file_scope : OpenScopes → List (List ℕ × ℕ)
 file_scope scopes = elim scopes.outer [ [] ↦ scopes.inner | file ∷ rest ↦ file ]
 
--- what these names stand for is what the scope declares them as first
-abbrev pub TellsFirst : List (List ℕ × ℕ) → List (List ℕ × ℕ) → Type 0
-TellsFirst firsts scope = (name : List ℕ) → in_scope name firsts ≡ in_scope name scope
+-- what a table has of a name
+abbrev pub told : List ℕ → List (List ℕ × List ℕ) → List ℕ
+told name table = unwrap_or (lookup (pointwise nat_eq name) table) []
+
+-- a table has of each name all that the scope declares it as
+abbrev pub TellsAll : List (List ℕ × List ℕ) → List (List ℕ × ℕ) → Type 0
+TellsAll table scope = (name : List ℕ) → told name table ≡ named_in name scope
 
 -- the same of a scope with one name more
-abbrev pub StillTells : List (List ℕ × ℕ) → List (List ℕ × ℕ) → List ℕ → ℕ → Type 0
-StillTells old new name e = (scope : List (List ℕ × ℕ)) → TellsFirst old scope → TellsFirst new (scope ++ (name, e) ∷ [])
+abbrev pub StillTells : List (List ℕ × List ℕ) → List (List ℕ × List ℕ) → List ℕ → ℕ → Type 0
+StillTells old new name e = (scope : List (List ℕ × ℕ)) → TellsAll old scope → TellsAll new (scope ++ (name, e) ∷ [])
+
+-- the same of each scope as before
+abbrev pub TellsAgain : List (List ℕ × List ℕ) → List (List ℕ × List ℕ) → Type 0
+TellsAgain old new = (scope : List (List ℕ × ℕ)) → TellsAll old scope → TellsAll new scope

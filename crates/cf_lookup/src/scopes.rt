@@ -1,5 +1,6 @@
-ghost use Rattle.std.specs.Prelude.{◌≡◌, ℕ, ◌<◌, ◌≤◌, ◌-◌, ◌↔◌, List, [], ◌∷◌, ◌++◌, length, map, take, IsTrue, IfOk, OnOk, OnErr, is_none};
-ghost use Rattle.cf_lookup.specs.Scope.{all_found, all_in, found, found_in, in_scope, named_in, file_scope, StillTells};
+ghost use Rattle.std.specs.Prelude.{◌≡◌, ℕ, ◌<◌, ◌≤◌, ◌-◌, ◌↔◌, List, [], ◌∷◌, ◌++◌, length, map, take, IsTrue, IfOk, OnOk, OnErr, None, is_none, bytes_eq};
+ghost use Rattle.std.specs.Map.{lookup};
+ghost use Rattle.cf_lookup.specs.Scope.{all_found, all_in, found, found_in, in_scope, named_in, file_scope, StillTells, TellsAgain};
 
 use cf_base::Memory;
 use indexmap::IndexMap;
@@ -46,22 +47,22 @@ struct Declared {
     entity: EntityId,
 }
 
-/// The names that one scope declares, in order, and what each is declared as first.
+/// The names that one scope declares, in order, and a table of all that each is declared as.
 #[derive(Drop)]
 struct Scope {
     declared: Vec<Declared>,
-    first: IndexMap<Vec<u8>, EntityId>,
+    table: IndexMap<Vec<u8>, Vec<EntityId>>,
 }
 
 impl Model for Scope {
     ghost use Rattle.std.specs.Prelude.{List, ℕ, map};
-    ghost use Rattle.cf_lookup.specs.Scope.{TellsFirst};
+    ghost use Rattle.cf_lookup.specs.Scope.{TellsAll};
 
     ghost Value = { List (List ℕ × ℕ) };
 
     ghost view = { λ s. map (λ d. (d.name.items, d.entity)) s.declared.items };
 
-    ghost invariant = { λ s. TellsFirst (map (λ e. (e.0.items, e.1)) s.first.entries) (map (λ d. (d.name.items, d.entity)) s.declared.items) };
+    ghost invariant = { λ s. TellsAll (map (λ e. (e.0.items, e.1.items)) s.table.entries) (map (λ d. (d.name.items, d.entity)) s.declared.items) };
 }
 
 impl Scope {
@@ -70,25 +71,34 @@ impl Scope {
     {
         Scope {
             declared: Vec::new(alloc),
-            first: IndexMap::new(alloc),
+            table: IndexMap::new(alloc),
         }
     }
 
+    /// All that the scope declares the name as, in order.
+    fn named(&self, name: &[u8]) -> &[EntityId]
+        ensures { result.now ≡ named_in name.now self.now }
+    {
+        match self.table.get(name) {
+            Some(all) => all.as_slice(),
+            None => &[],
+        }
+    }
+
+    /// What the scope declares the name as first.
     fn get(&self, name: &[u8]) -> Option<EntityId>
         ensures { result ≡ in_scope name.now self.now }
     {
-        self.first.get(name).copied()
+        self.named(name).first().copied()
     }
 
     /// Notes all that the scope declares the name as, in order.
     fn add_named(&self, name: &[u8], found: &mut Vec<EntityId>) -> Result<(), Memory>
         ensures { OnOk result (found.new.items ≡ found.old.items ++ named_in name.now self.now) }
     {
-        let names = self.declared.as_slice();
-        for declared in names {
-            if name == declared.name.as_slice() {
-                found.push(declared.entity)?;
-            }
+        let named = self.named(name);
+        for entity in named {
+            found.push(*entity)?;
         }
         Ok(())
     }
@@ -100,27 +110,49 @@ impl Scope {
     {
         let own = Vec::from_slice(alloc, name)?;
         self.declared.reserve(1)?;
-        note_first(alloc, &mut self.first, name, entity)?;
+        note(alloc, &mut self.table, name, entity)?;
         self.declared.push(Declared { name: own, entity }).unwrap();
         Ok(())
     }
 }
 
-/// Notes what a name is declared as, unless it is noted.
-fn note_first(
+/// Notes what a name is declared as, behind what is noted of it.
+fn note(
     alloc: Global,
-    first: &mut IndexMap<Vec<u8>, EntityId>,
+    table: &mut IndexMap<Vec<u8>, Vec<EntityId>>,
     name: &[u8],
     entity: EntityId,
 ) -> Result<(), Memory>
-    ensures ok { OnOk result (StillTells (map (λ e. (e.0.items, e.1)) first.old.entries) (map (λ e. (e.0.items, e.1)) first.new.entries) name.now entity) }
-    ensures err { OnErr result (first.new.entries ≡ first.old.entries) }
+    ensures ok { OnOk result (StillTells (map (λ e. (e.0.items, e.1.items)) table.old.entries) (map (λ e. (e.0.items, e.1.items)) table.new.entries) name.now entity) }
+    ensures err { OnErr result (TellsAgain (map (λ e. (e.0.items, e.1.items)) table.old.entries) (map (λ e. (e.0.items, e.1.items)) table.new.entries)) }
 {
-    if first.contains_key(name) {
-        return Ok(());
+    match table.get_mut(name) {
+        Some(all) => {
+            all.push(entity)?;
+            Ok(())
+        }
+        None => {
+            note_new(alloc, table, name, entity)?;
+            Ok(())
+        }
     }
+}
+
+/// Notes what a name is declared as of which nothing is noted.
+fn note_new(
+    alloc: Global,
+    table: &mut IndexMap<Vec<u8>, Vec<EntityId>>,
+    name: &[u8],
+    entity: EntityId,
+) -> Result<(), Memory>
+    requires { lookup (λ k. bytes_eq name.now k.items) table.old.entries ≡ None }
+    ensures ok { OnOk result (StillTells (map (λ e. (e.0.items, e.1.items)) table.old.entries) (map (λ e. (e.0.items, e.1.items)) table.new.entries) name.now entity) }
+    ensures err { OnErr result (table.new.entries ≡ table.old.entries) }
+{
     let own = Vec::from_slice(alloc, name)?;
-    first.insert(own, entity)?;
+    let mut all = Vec::new(alloc);
+    all.push(entity)?;
+    table.insert(own, all)?;
     Ok(())
 }
 

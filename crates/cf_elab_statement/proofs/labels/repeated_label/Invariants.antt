@@ -1,6 +1,8 @@
-use Rattle.std.proofs.Common.{◌≡◌, take, drop}
-use Rattle.cf_elab_statement.specs.Labels.{repeated_behind, repeated_label}
+use Rattle.cf_elab_statement.proofs.LabelLaws.{HasFirst, IsLeft}
 use Rattle.cf_elab_statement.proofs.labels.repeated_label.Given as goal
 
-abbrev pub invariant-loop-i : goal.invariant-loop-i
-invariant-loop-i l = repeated_behind l.kind (take l.i l.statements) (drop l.i l.statements) ≡ repeated_label l.kind l.statements
+abbrev pub invariant-loop-made : goal.invariant-loop-made
+invariant-loop-made l = record {
+  has : HasFirst l.kind l.statements l.made-index l.before.values.keys l.before.has_default;
+  left : IsLeft l.kind l.statements l.made-index;
+}

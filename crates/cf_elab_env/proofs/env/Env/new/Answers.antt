@@ -1,12 +1,14 @@
-use Rattle.std.proofs.Common.{map, ap}
+use Rattle.std.proofs.Common.{map, sym, ap, ◌∙◌}
+use Rattle.cf_elab.specs.File.{first_env}
 use Rattle.cf_elab_env.specs.Seen.{entity_seen}
-use Rattle.cf_elab_env.specs.SeenEnv.{linked_seen}
+use Rattle.cf_elab_env.specs.Shut as shut
 use Rattle.cf_elab_env.proofs.Beginning.{begun_is}
 use Rattle.cf_elab_env.proofs.env.Env.new.Goals as goal
 
 pub returns-clause-made : goal.returns-clause-made
 returns-clause-made c =
-    begun_is c.args.extent c.args.defines c.new-types.result c.intern.new.self c.in_ok-int.int c.new.result c.new-2.result _ _ _ c.in_ok-hand.hand _ _
+    ap (λ ds. shut.int (first_env c.args.extent ds)) (sym c.in_ok-defines.ensures)
+    ∙ begun_is c.args.extent c.in_ok-defines.defines c.new-types.result c.intern.new.self c.in_ok-int.int c.new.result c.new-2.result _ _ _ c.in_ok-hand.hand _ _
     c.new-types.ensures.types c.new-types.ensures.funs c.in_ok-int.ensures.ok c.intern.ensures.funs c.new.ensures.labels c.new.ensures.enums c.new.ensures.defined
-    c.new-2.ensures.outer c.new-2.ensures.inner (ap (map entity_seen) c.new-3.ensures.items) (ap (map linked_seen) c.new-4.ensures) c.new-5.ensures.items
+    c.new-2.ensures.outer c.new-2.ensures.inner (ap (map entity_seen) c.new-3.ensures.items) c.new-4.ensures.inner c.new-5.ensures.items
     c.in_ok-hand.ensures c.new-6.ensures c.new-7.ensures

@@ -11,10 +11,10 @@ use Rattle.cf_core_node.specs.Nodes.{node_of}
 use Rattle.cf_core_node.proofs.Known.{known_at}
 use Rattle.cf_core_node.proofs.Loops.{in_front, stopped, going}
 use Rattle.cf_core_node.proofs.Naming.{gives-static, gives-function}
-use Rattle.cf_core_node.proofs.nodes.+nodes.Goals as goal
+use Rattle.cf_core_node.proofs.+nodes.Goals as goal
 
-pub all-node-requires : goal.all-node-requires
-all-node-requires t c =
+pub parts::all-node-requires : goal.parts::all-node-requires
+parts::all-node-requires t c =
     let items = c.as_slice-e-items.result.now in
     let le = at_most (λ (x : Core). the_size x) items c.loop-e.e-index c.e-item.result c.loop-e-test.true in
     let there : the_size c.e-item.result ≤ most (λ (x : Core). the_size x) items =
@@ -26,8 +26,8 @@ all-node-requires t c =
           c.loop-e-test.true c.e-item.is,
     )
 
-pub all-returns-in_err-node : goal.all-returns-in_err-node
-all-returns-in_err-node t c =
+pub parts::all-returns-in_err-node : goal.parts::all-returns-in_err-node
+parts::all-returns-in_err-node t c =
     let f = node_of c.args.unit.now.types c.args.defined.now in
     let p = err_from_is_err_and c.from_residual.result c.from_residual.ensures.1 in
     rw (p.1, p.2)
@@ -35,8 +35,8 @@ all-returns-in_err-node t c =
     (stopped f c.loop-e.found c.as_slice-e-items.result.now c.loop-e.e-index c.e-item.result c.loop-e.invariant c.loop-e-test.true c.e-item.is c.in_err-node.field-0.0
     c.in_err-node.ensures))
 
-pub all-loop-e-preserved : goal.all-loop-e-preserved
-all-loop-e-preserved t c =
+pub parts::all-loop-e-preserved : goal.parts::all-loop-e-preserved
+parts::all-loop-e-preserved t c =
     let f = node_of c.args.unit.now.types c.args.defined.now in
     let items = c.as_slice-e-items.result.now in
     let i = c.loop-e.e-index in
@@ -44,10 +44,10 @@ all-loop-e-preserved t c =
     (c.in_ok-push.ensures.ok ∙ ap (λ (y : Node). c.loop-e.found ++ y ∷ []) c.into_inner.ensures)
     ∙ going f c.loop-e.found items i c.e-item.result c.loop-e.invariant c.loop-e-test.true c.e-item.is c.in_ok-node.field-0 c.in_ok-node.ensures
 
-pub node-returns-in-Static : goal.node-returns-in-Static
-node-returns-in-Static t c =
+pub nodes::node-returns-in-Static : goal.nodes::node-returns-in-Static
+nodes::node-returns-in-Static t c =
     gives-static c.args.unit.now.types c.args.defined.now c.args.e.now c.in-Static.at c.in-Static.name c.in-Static.ty c.static_object.result c.in-Static.is c.static_object.ensures
 
-pub node-returns-in-Function : goal.node-returns-in-Function
-node-returns-in-Function t c =
+pub nodes::node-returns-in-Function : goal.nodes::node-returns-in-Function
+nodes::node-returns-in-Function t c =
     gives-function c.args.unit.now.types c.args.defined.now c.args.e.now c.in-Function.at c.in-Function.name c.in-Function.ty c.function.result c.in-Function.is c.function.ensures
