@@ -2,7 +2,10 @@
 
 use crate::answers::compare;
 use crate::rows::within::{BEFORE, BEHIND};
-use crate::rows::{assignments, binaries, calls, choices, declarators, enumerations, names, objects, specifiers, statements, unaries};
+use crate::rows::{
+    assignments, binaries, calls, choices, declarators, enumerations, names, objects, specifiers,
+    statements, unaries,
+};
 use std::test::Fail;
 
 #[test]

@@ -26,7 +26,10 @@ pub const CONDITIONALS: [(&str, u8); 25] = [
     ("E e2$=x?A:B;", 25),
     ("e$=x?e:A;", 25),
     ("p$=x?cp:0;", 13),
-    ("x?1:2;x?p:0;x?0:p;x?p:v;x?cp:p;x?g():g();x?f:0;x?f:f;x?A:1;x?A:C;x?a:p;x?a:a;p?1:2;f?1:2;e?1:2;x?e:e;x?'a':u;e=x?e:e;x?cp:cv;x?1-1:p;", 0),
+    (
+        "x?1:2;x?p:0;x?0:p;x?p:v;x?cp:p;x?g():g();x?f:0;x?f:f;x?A:1;x?A:C;x?a:p;x?a:a;p?1:2;f?1:2;e?1:2;x?e:e;x?'a':u;e=x?e:e;x?cp:cv;x?1-1:p;",
+        0,
+    ),
 ];
 
 /// Casts in brackets.
@@ -62,7 +65,10 @@ pub const CASTS: [(&str, u8); 32] = [
     ("(int$[0])1;", 26),
     ("(int& $*)0;", 26),
     ("(void$&)x;", 26),
-    ("(int*)0;(int*)(1-1);(void*)0;(void*)p;(int*)v;(const int*)p;(int*)cp;(E)1;(E)ch;(F)A;(int)A;(char)x;(void)p;(void)g();(int&)x;(const int&)x;(int&)c;(int(*)())f;(int(*)())0;(P)0;(T)'a';(int*)a;(void*)cp;(int*)kp;(unsigned)-1;(int*)cv;", 0),
+    (
+        "(int*)0;(int*)(1-1);(void*)0;(void*)p;(int*)v;(const int*)p;(int*)cp;(E)1;(E)ch;(F)A;(int)A;(char)x;(void)p;(void)g();(int&)x;(const int&)x;(int&)c;(int(*)())f;(int(*)())0;(P)0;(T)'a';(int*)a;(void*)cp;(int*)kp;(unsigned)-1;(int*)cv;",
+        0,
+    ),
 ];
 
 /// Types with arguments.
@@ -86,5 +92,8 @@ pub const CONVERSIONS: [(&str, u8); 20] = [
     ("e$=F(1);", 25),
     ("e$=int(A);", 25),
     ("p=T(0);p=T();", 0),
-    ("int(1);x=int();x=T();x=T(A);e=E(1);e=E();e=E(h);p=P(0);p=P(v);p=P();p=P(cp);x=unsigned(1);x=char('a');x=short(u);", 0),
+    (
+        "int(1);x=int();x=T();x=T(A);e=E(1);e=E();e=E(h);p=P(0);p=P(v);p=P();p=P(cp);x=unsigned(1);x=char('a');x=short(u);",
+        0,
+    ),
 ];

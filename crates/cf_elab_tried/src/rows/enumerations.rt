@@ -45,7 +45,10 @@ pub const TAKEN: [(&str, u8); 20] = [
     ("enum E{A};E e;enum E f=A;", 0),
     ("enum E{A,B=5,C};int a[C];", 0),
     ("enum{A};enum{B};int x=A+B;", 0),
-    ("enum E{A=-1};enum F{B=-2147483647-1};enum G{C=2147483647};", 0),
+    (
+        "enum E{A=-1};enum F{B=-2147483647-1};enum G{C=2147483647};",
+        0,
+    ),
     ("enum E{A=1,B=A+1,C=A<<B};", 0),
     ("enum E{A='a',B=sizeof(int),C=(int)1u,D=!0};", 0),
     ("const int n=2;enum E{A=n};", 0),
@@ -55,12 +58,18 @@ pub const TAKEN: [(&str, u8); 20] = [
     ("int main(){enum{A,B};return A+B;}", 0),
     ("int main(){enum{A}e=A;e=A;return e;}", 0),
     ("int main(){enum{A=1};{enum{A=A+1};return A;}}", 0),
-    ("enum E{A};int f(E e){switch(e){case A:return 1;}return e+1;}", 0),
+    (
+        "enum E{A};int f(E e){switch(e){case A:return 1;}return e+1;}",
+        0,
+    ),
     ("enum E{A};E f(){return A;}E*g(){return 0;}", 0),
     ("enum E{A};enum F{B};int main(){return A==B;}", 0),
     ("typedef int*P;P p;const P q=0;int*const*r=&q;", 0),
     ("typedef int A[2],*B,C();A a;B b=a;C*c;", 0),
-    ("int main(){typedef int T;T x=1;typedef T U;U*p=&x;return *p;}", 0),
+    (
+        "int main(){typedef int T;T x=1;typedef T U;U*p=&x;return *p;}",
+        0,
+    ),
     ("typedef int T;T f(T a){T b=a;return b;}", 0),
 ];
 

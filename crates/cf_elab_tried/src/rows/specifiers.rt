@@ -82,7 +82,10 @@ pub const EMPTY: [(&str, u8); 30] = [
 pub const TAKEN: [(&str, u8); 20] = [
     ("long int x;int long y;long z;", 0),
     ("short int x;int short y;short z;", 0),
-    ("unsigned short int x;short unsigned y;int unsigned short z;", 0),
+    (
+        "unsigned short int x;short unsigned y;int unsigned short z;",
+        0,
+    ),
     ("signed x;unsigned y;signed int z;int unsigned w;", 0),
     ("unsigned char x;char unsigned y;signed char z;", 0),
     ("long unsigned int x;unsigned long y;long signed z;", 0),
@@ -93,9 +96,18 @@ pub const TAKEN: [(&str, u8); 20] = [
     ("f();f(){return 0;}", 0),
     ("typedef T;T x;int typedef U;U y;", 0),
     ("static f(){return 0;}inline g(){return 0;}", 0),
-    ("inline int f(){return 0;}static inline int g(){return 0;}", 0),
-    ("int main(){auto int x=1;register int y=x;static int z;auto w=1;return 0;}", 0),
-    ("int f(register int a){return a;}int g(auto int a){return a;}", 0),
+    (
+        "inline int f(){return 0;}static inline int g(){return 0;}",
+        0,
+    ),
+    (
+        "int main(){auto int x=1;register int y=x;static int z;auto w=1;return 0;}",
+        0,
+    ),
+    (
+        "int f(register int a){return a;}int g(auto int a){return a;}",
+        0,
+    ),
     ("typedef unsigned U;U x;const U y=1;", 0),
     ("enum E{A}x,*y;const E z=A;", 0),
     ("int main(){extern int x;return x;}int x;", 0),

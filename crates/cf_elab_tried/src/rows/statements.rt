@@ -69,7 +69,10 @@ pub const LABELS: [(&str, u8); 24] = [
     ("switch(x){case 0:int w;case 1:w=1;}", 0),
     ("switch(x){case 0:{int w=1;}case 1:;}", 0),
     ("switch(x){case 0:static int w=1;case 1:;}", 0),
-    ("switch(x){case 0:typedef int W;enum{Q};case 1:;extern int x;case 2:;}", 0),
+    (
+        "switch(x){case 0:typedef int W;enum{Q};case 1:;extern int x;case 2:;}",
+        0,
+    ),
 ];
 
 /// Statements that are taken.
@@ -78,7 +81,10 @@ pub const TAKEN: [(&str, u8); 20] = [
     ("while(p)break;do break;while(v);for(;;)break;", 0),
     ("for(int i=0,j=1;i<j;i++,j--);", 0),
     ("for(;;){if(x)continue;break;}", 0),
-    ("switch(x){}switch(A){}switch(e){}switch(ch){}switch(u){}", 0),
+    (
+        "switch(x){}switch(A){}switch(e){}switch(ch){}switch(u){}",
+        0,
+    ),
     ("switch(x){case 1:x=2;break;case 2:default:x=3;}", 0),
     ("while(1)switch(x){case 1:continue;default:break;}", 0),
     ("switch(x){case A:case B:;}switch(e){case A:case 5:;}", 0),
@@ -131,7 +137,16 @@ pub const RETURNS: [(&str, u8); 36] = [
     ("int main(){return;}", 0),
     ("void h(){return;}void i(){}", 0),
     ("int h(){}", 0),
-    ("int x;int&h(){return x;}const int&i(){return x;}const int&j(){return 1;}", 0),
-    ("char*h(){return\"a\";}int*i(){return 0;}void*j(){return\"a\";}int k(){return'a';}", 0),
-    ("enum E{A};E h(){return A;}int i(){return A;}int f(){return 0;}int(*k())(){return f;}int(*l())(){return 0;}", 0),
+    (
+        "int x;int&h(){return x;}const int&i(){return x;}const int&j(){return 1;}",
+        0,
+    ),
+    (
+        "char*h(){return\"a\";}int*i(){return 0;}void*j(){return\"a\";}int k(){return'a';}",
+        0,
+    ),
+    (
+        "enum E{A};E h(){return A;}int i(){return A;}int f(){return 0;}int(*k())(){return f;}int(*l())(){return 0;}",
+        0,
+    ),
 ];

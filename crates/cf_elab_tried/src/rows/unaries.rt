@@ -33,7 +33,10 @@ pub const UNARIES: [(&str, u8); 32] = [
     ("*$y;", 10),
     ("!$y;", 10),
     ("- $-p;", 18),
-    ("*&*p;-A;~A;+p;+v;!p;!f;!A;*\"a\";(*f)();(*fp)();&f;&a;&r;&*kp;&c;&++x;&(x=1);*a;**m;-'a';~u;+x;!0;", 0),
+    (
+        "*&*p;-A;~A;+p;+v;!p;!f;!A;*\"a\";(*f)();(*fp)();&f;&a;&r;&*kp;&c;&++x;&(x=1);*a;**m;-'a';~u;+x;!0;",
+        0,
+    ),
 ];
 
 /// `++` and `--`.
@@ -63,7 +66,10 @@ pub const STEPS: [(&str, u8); 26] = [
     ("++$y;", 10),
     ("$++(x+1);", 12),
     ("$++(x?x:1);", 12),
-    ("x++;--x;p++;--p;cp++;q--;ch++;u--;r++;++*p;++a[0];(*kp)++;--m[1][1];--(x=1);", 0),
+    (
+        "x++;--x;p++;--p;cp++;q--;ch++;u--;r++;++*p;++a[0];(*kp)++;--m[1][1];--(x=1);",
+        0,
+    ),
 ];
 
 /// `[]` and `sizeof`.
@@ -102,6 +108,12 @@ pub const PLACES: [(&str, u8); 36] = [
     ("sizeof(int& $*);", 26),
     ("$sizeof(void());", 18),
     ("$sizeof *f;", 18),
-    ("a[0];1[a];0[p];m[0][1];p[1];\"abc\"[1];a[A];a[e];a['a'];cp[x];kp[0];(&x)[0];", 0),
-    ("sizeof(int);sizeof a;sizeof(int[2]);sizeof(int&);sizeof x++;sizeof\"ab\";sizeof(void*);sizeof f();sizeof A;sizeof(E);sizeof r;sizeof(int(*)());", 0),
+    (
+        "a[0];1[a];0[p];m[0][1];p[1];\"abc\"[1];a[A];a[e];a['a'];cp[x];kp[0];(&x)[0];",
+        0,
+    ),
+    (
+        "sizeof(int);sizeof a;sizeof(int[2]);sizeof(int&);sizeof x++;sizeof\"ab\";sizeof(void*);sizeof f();sizeof A;sizeof(E);sizeof r;sizeof(int(*)());",
+        0,
+    ),
 ];
