@@ -94,6 +94,21 @@ fn wanted(alloc: Global, rule: u8, mark: usize) -> Result<String, Fail> {
     }
 }
 
+/// Tells a row that is not answered as it says.
+fn tell(
+    alloc: Global,
+    differences: &mut String,
+    row: &str,
+    got: &str,
+    want: &str,
+) -> Result<(), Fail> {
+    if got != want {
+        let line = format!(in alloc; "{row} is {got} and not {want}\n")?;
+        differences.push_str(line.as_str())?;
+    }
+    Ok(())
+}
+
 /// Each row between two pieces is answered as it says; all rows that are not are told.
 pub fn compare(
     rt: &impl Abort,
@@ -107,10 +122,22 @@ pub fn compare(
         let marked = joined(alloc, before, row, behind)?;
         let want = wanted(alloc, *rule, marked.mark)?;
         let got = answer(alloc, marked.text.as_slice())?;
-        if got.as_str() != want.as_str() {
-            let line = format!(in alloc; "{row} is {got} and not {want}\n")?;
-            differences.push_str(line.as_str())?;
-        }
+        tell(alloc, &mut differences, row, got.as_str(), want.as_str())?;
+    }
+    assert_eq!(rt; differences.as_str(), "");
+    Ok(())
+}
+
+/// Each text has its answer.
+pub fn compare_whole(
+    rt: &impl Abort,
+    alloc: Global,
+    rows: &[(&'static str, &'static str)],
+) -> Result<(), Fail> {
+    let mut differences = String::new(alloc);
+    for (row, want) in rows {
+        let got = answer(alloc, row.as_bytes())?;
+        tell(alloc, &mut differences, row, got.as_str(), want)?;
     }
     assert_eq!(rt; differences.as_str(), "");
     Ok(())

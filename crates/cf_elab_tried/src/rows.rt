@@ -6,6 +6,7 @@ pub mod calls;
 pub mod choices;
 pub mod declarators;
 pub mod enumerations;
+pub mod limits;
 pub mod names;
 pub mod objects;
 pub mod specifiers;

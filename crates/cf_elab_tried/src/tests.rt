@@ -1,10 +1,10 @@
 //! Each table is walked: its rows are answered as they say.
 
-use crate::answers::compare;
+use crate::answers::{compare, compare_whole};
 use crate::rows::within::{BEFORE, BEHIND};
 use crate::rows::{
-    assignments, binaries, calls, choices, declarators, enumerations, names, objects, specifiers,
-    statements, unaries,
+    assignments, binaries, calls, choices, declarators, enumerations, limits, names, objects,
+    specifiers, statements, unaries,
 };
 use std::test::Fail;
 
@@ -191,4 +191,9 @@ fn unaries_steps(rt: HostRuntime) -> Result<(), Fail> {
 #[test]
 fn unaries_places(rt: HostRuntime) -> Result<(), Fail> {
     compare(&rt, rt.alloc(), BEFORE, &unaries::PLACES, BEHIND)
+}
+
+#[test]
+fn the_limit_on_sizes(rt: HostRuntime) -> Result<(), Fail> {
+    compare_whole(&rt, rt.alloc(), &limits::LIMITS)
 }

@@ -57,7 +57,7 @@ pub const TAKEN: [(&str, u8); 20] = [
     ("typedef enum E{A}T;T x=A;E y=A;E*p=&x;", 0),
     ("int main(){enum{A,B};return A+B;}", 0),
     ("int main(){enum{A}e=A;e=A;return e;}", 0),
-    ("int main(){enum{A=1};{enum{A=A+1};return A;}}", 0),
+    ("int main(){enum{A=1};{enum{B=A+1};return B;}}", 0),
     (
         "enum E{A};int f(E e){switch(e){case A:return 1;}return e+1;}",
         0,

@@ -132,7 +132,7 @@ pub const TAKEN: [(&str, u8); 30] = [
     ),
     ("int x;int y=sizeof x;int z=sizeof(int[2]);", 0),
     ("int*p=0;int*q=1-1;char*r=0u;void*v=0;", 0),
-    ("int x;int&r=x;int&s=r;const int&t=x;int&u(x);", 0),
+    ("int x;int&r=x;const int&t=x;int&u(x);", 0),
     ("int a[2];int&r=a[1];int(&s)[2]=a;const int(&t)[2]=a;", 0),
     ("const int&r=1;const int&s='a';const char&t=1000;", 0),
     ("int x;int*p=&x;int*&r=p;int*const&s=p;int*const&t=&x;", 0),
