@@ -1,6 +1,6 @@
 //! What holds other nodes, put together of them (5, 6, 8.4).
 
-ghost use Rattle.std.specs.Prelude.{◌≡◌, true, map};
+ghost use Rattle.std.specs.Prelude.{◌≡◌, ◌&&◌, true, map};
 ghost use Rattle.std.specs.Option.{option_map};
 ghost use Rattle.cf_core.specs.FromUnit.{tables_of};
 ghost use Rattle.cf_core.specs.Numbers.{has_holder};

@@ -1,5 +1,5 @@
 -- The labels of a switch, in a core and in its plain statements: what has no label of its own is passed over.
-use Rattle.std.proofs.Common.{◌≡◌, ℕ, ◌+◌, Bool, true, false, not, ◌&&◌, ◌||◌, nat_le, if◌then◌else◌, List, [], ◌∷◌, ◌++◌, refl, ◌∙◌, ap}
+use Rattle.std.proofs.Common.{◌≡◌, ℕ, ◌+◌, Bool, true, false, not, ◌&&◌, ◌||◌, nat_le, if◌then◌else◌, List, [], ◌∷◌, ◌++◌, refl, sym, ◌∙◌, ap}
 use Rattle.std.specs.Prelude.{ℤ, Some, None}
 use Rattle.cf_base.proofs.Tests.{both}
 use Rattle.cf_core.specs.declared.operators.LoopForm.TheVariants as form
@@ -8,7 +8,7 @@ use Rattle.cf_core.specs.Core as core
 use Rattle.cf_core.specs.Core.{Core, Cores, MaybeCore, Function, none, absent, given}
 use Rattle.cf_core.specs.Run.{Act}
 use Rattle.cf_core.specs.Joined.{is_nothing}
-use Rattle.cf_core.specs.Valid.{is_label}
+use Rattle.cf_core.specs.Valid.{is_label, has_label}
 use Rattle.cf_core.specs.Calls as calling
 use Rattle.cf_core.specs.Calls.{Program, function_named, in_scope, full_expression}
 use Rattle.cf_core.specs.Statements as does
@@ -20,7 +20,7 @@ use Rattle.cf_plain.specs.Running.{Flow, Falls, Breaks, Continues, Returns, fall
 use Rattle.cf_sequence.specs.Built.{is_value, is_start, is_filling, is_initial, declares_here, is_statement, is_inner_or, are_statements, are_cases, next_local}
 use Rattle.cf_sequence.specs.Made.{Local, width, declared, declared_all}
 use Rattle.cf_sequence.specs.Expressions.{Full, destination, finished, settled, whole, value, used as use_of}
-use Rattle.cf_sequence.specs.Statements.{in_switch, statement, statement_or, statements, started, passing, passed}
+use Rattle.cf_sequence.specs.Statements.{in_switch, statement, statement_or, statements, started, passing, passes_local, passed}
 use Rattle.cf_sequence.proofs.Calling.{never}
 use Rattle.cf_sequence.proofs.Operands.{H}
 use Rattle.cf_sequence.proofs.Filling.{fill, started-is}
@@ -55,6 +55,10 @@ label-of (core.case_label y) ok = a_case y refl
 label-of core.default_label ok = the_default refl
 label-of s ok = never ok
 
+or-right : (a b : Bool) → b ≡ true → (a || b) ≡ true
+or-right true b ok = refl
+or-right false b ok = ok
+
 pub or-else : {X : Type 0} (a b : Bool) → (a || b) ≡ true → (a ≡ true → X) → (b ≡ true → X) → X
 or-else true b ok f g = f refl
 or-else false b ok f g = g ok
@@ -81,16 +85,56 @@ pub label-declares : (s : Core) → Label s → declared s ≡ []
 label-declares s (a_case y e) = ap declared e
 label-declares s (the_default e) = ap declared e
 
-pub cases-declare : (m : ℕ) (es : Cores) → are_cases m es ≡ true → declared_all es ≡ []
-cases-declare m none ok = refl
-cases-declare m (core.more s rest) ok =
-    let parts = both (is_label s || (not (declares_here s) && is_statement m s)) (are_cases m rest) ok in
-    ap (λ xs. xs ++ declared s) (cases-declare m rest parts.1)
-    ∙ or-else (is_label s) (not (declares_here s) && is_statement m s) parts.0 (λ l. label-declares s (label-of s l)) (λ ok. inner-declared s (both (not (declares_here s)) (is_statement m s) ok).0)
+pub label-next : (m : ℕ) (s : Core) → Label s → next_local m s ≡ m
+label-next m s (a_case y e) = ap (next_local m) e
+label-next m s (the_default e) = ap (next_local m) e
 
--- where no local is declared before them, labels pass none
-pub not-passed : (n : Register) (es : Cores) (rest : Plains) → declared_all es ≡ [] → passed n es rest ≡ rest
-not-passed n es rest none-there = ap (λ (xs : List Local). elim xs as (λ x. Plains) [ [] ↦ rest | x ∷ xs ↦ more (plain.switch n (passing [] es)) rest ]) none-there
+-- what stands in a switch before these: a label, or a statement that declares nothing that a label passes
+abbrev pub fits_case : ℕ → Core → Cores → Bool
+fits_case m s rest = is_label s || (not (declares_here s && has_label rest) && is_statement m s)
+
+pub by-case : {X : Type 0} (m : ℕ) (s : Core) (rest : Cores) → fits_case m s rest ≡ true → (Label s → X) → (not (declares_here s && has_label rest) ≡ true → is_statement m s ≡ true → X) → X
+by-case m s rest ok f g =
+    or-else (is_label s) (not (declares_here s && has_label rest) && is_statement m s) ok (λ l. f (label-of s l))
+    (λ is. let parts = both (not (declares_here s && has_label rest)) (is_statement m s) is in g parts.0 parts.1)
+
+-- what comes to a label behind it declares nothing
+pub declares-none : (a b : Bool) → not (a && b) ≡ true → b ≡ true → not a ≡ true
+declares-none true b ok there = ap not (sym there) ∙ ok
+declares-none false b ok there = refl
+
+pub there-is-label : (aim : Aim) (es : Cores) → core_has aim es ≡ true → has_label es ≡ true
+there-is-label (to_case z) none has = never has
+there-is-label (to_case z) (core.more (core.case_label y) rest) has = refl
+there-is-label (to_case z) (core.more core.default_label rest) has = refl
+there-is-label (to_case z) (core.more s rest) has = or-right (is_label s) (has_label rest) (there-is-label (to_case z) rest has)
+there-is-label to_default none has = never has
+there-is-label to_default (core.more (core.case_label y) rest) has = refl
+there-is-label to_default (core.more core.default_label rest) has = refl
+there-is-label to_default (core.more s rest) has = or-right (is_label s) (has_label rest) (there-is-label to_default rest has)
+
+neither-passes : (xs : List Local) (a b : Bool) → a ≡ false → b ≡ false → (elim xs as (λ _. Bool) [ [] ↦ b | x ∷ xs ↦ a || b ]) ≡ false
+neither-passes [] a b first second = second
+neither-passes (x ∷ xs) a b first second = ap (λ c. c || b) first ∙ second
+
+is-passed : (s : Core) (declares labelled : Bool) (later : Bool) → (not declares ≡ true → declared s ≡ []) → not (declares && labelled) ≡ true → later ≡ false
+    → (elim (declared s) as (λ _. Bool) [ [] ↦ later | x ∷ xs ↦ labelled || later ]) ≡ false
+is-passed s false labelled later empty ok none-there = ap (λ xs. elim xs as (λ _. Bool) [ [] ↦ later | x ∷ xs ↦ labelled || later ]) (empty refl) ∙ none-there
+is-passed s true true later empty ok none-there = never ok
+is-passed s true false later empty ok none-there = neither-passes (declared s) false later refl none-there
+
+-- no label passes a local
+pub none-passed : (m : ℕ) (es : Cores) → are_cases m es ≡ true → passes_local es ≡ false
+none-passed m none ok = refl
+none-passed m (core.more s rest) ok =
+    let parts = both (fits_case m s rest) (are_cases (next_local m s) rest) ok in
+    let later = none-passed (next_local m s) rest parts.1 in
+    by-case m s rest parts.0
+    (λ l. ap (λ xs. elim xs as (λ _. Bool) [ [] ↦ passes_local rest | x ∷ xs ↦ has_label rest || passes_local rest ]) (label-declares s l) ∙ later)
+    (λ free is. is-passed s (declares_here s) (has_label rest) (passes_local rest) (inner-declared s) free later)
+
+pub not-passed : (n : Register) (es : Cores) (rest : Plains) → passes_local es ≡ false → passed n es rest ≡ rest
+not-passed n es rest none-there = ap (λ b. if b then more (plain.switch n (passing [] es)) rest else rest) none-there
 
 -- ---- no statement but a switch's own has its labels
 
@@ -147,7 +191,7 @@ module _ (again : running.Again) (H : Program) (P : Program) (R C : SourceType) 
         silent-by again H (statement (inside_of P R C o) (core.switch e es) k)
         (λ rest. value P.classes (record { first = k; base = 0 }) e None n k (use_of n (more (plain.switch n body) rest)))
         (λ rest. whole-is e parts.0 0 k code (λ n. passed n es (more (plain.switch n body) rest))
-        ∙ ap (λ ss. value P.classes (record { first = k; base = 0 }) e None n k (use_of n ss)) (not-passed n es (more (plain.switch n body) rest) (cases-declare m es parts.1)))
+        ∙ ap (λ ss. value P.classes (record { first = k; base = 0 }) e None n k (use_of n ss)) (not-passed n es (more (plain.switch n body) rest) (none-passed m es parts.1)))
         (silent-then again H (value P.classes (record { first = k; base = 0 }) e None n k) (λ rest. use_of n (more (plain.switch n body) rest))
         (silent-value again H P e parts.0 (record { first = k; base = 0 }) None n k) (record { labels = λ z rest. refl; at_case = λ z rest g. refl; at_default = λ rest g. refl }))
     silent-statement core.leave m ok o k =

@@ -4,12 +4,12 @@ use Rattle.std.specs.Prelude.{pos, codes, true, false}
 use Rattle.std.specs.List.{list_all}
 use Rattle.cf_base.specs.declared.kind.Kind.TheVariants.{Int, Char}
 use Rattle.cf_base.specs.declared.arith.Arith.TheVariants as op
-use Rattle.cf_base.specs.Event.{Ended}
+use Rattle.cf_base.specs.Event.{Ended, Undefined}
 use Rattle.cf_core.specs.declared.operators.PointerOperator.TheVariants as pointer_op
-use Rattle.cf_core.specs.Types.{integer, array, pointer}
-use Rattle.cf_core.specs.Core.{Core, Function, Static, CoreFile, static_object, address, read, dereference, local, decay, index, logical_and, logical_or, conditional, pointer_operate, comma, declare, blank, string, full, store, update, step, arithmetic}
+use Rattle.cf_core.specs.Types.{SourceType, integer, array, pointer}
+use Rattle.cf_core.specs.Core.{Core, Function, Static, CoreFile, absent, function, pointer_call, operate, switch, case_label, default_label, leave, static_object, address, read, dereference, local, decay, index, logical_and, logical_or, conditional, pointer_operate, comma, declare, blank, string, full, store, update, step, arithmetic}
 use Rattle.cf_core.specs.Calls.{Program}
-use Rattle.cf_core.proofs.Sample.{int, function_of, listed, in_block, main_of, program, static_of, returns, num, add, put_digit, value_of, set, called}
+use Rattle.cf_core.proofs.Sample.{int, function_type, function_of, listed, in_block, main_of, program, static_of, returns, num, add, put_digit, value_of, set, called}
 use Rattle.cf_sequence.specs.Built.{is_plainly_built, is_built_file}
 use Rattle.cf_sequence.proofs.Sample.{Shows}
 
@@ -132,6 +132,47 @@ rest_of_a_literal_is_0 = record { core = refl; plain = refl }
 
 characters_are_built : is_plainly_built characters ≡ true
 characters_are_built = refl
+
+-- switch(p(z)){case 1:p(3);break;default:int y=p(4);return y+p(5);}return 7;: a local behind the last label
+abbrev declaring : ℕ → Program
+declaring z = with_main (switch (shown z) (listed (case_label (pos 1) ∷ full (shown 3) ∷ leave ∷ default_label ∷ declare 0 int (shown 4) ∷ returns (add (value_of 0) (shown 5)) ∷ []))
+    ∷ returns (num 7) ∷ [])
+
+label_before_a_declaration : Shows (declaring 2) [] 9 (record { end = Ended (pos 9); out = codes "245" })
+label_before_a_declaration = record { core = refl; plain = refl }
+
+declaration_that_is_not_reached : Shows (declaring 1) [] 9 (record { end = Ended (pos 7); out = codes "13" })
+declaration_that_is_not_reached = record { core = refl; plain = refl }
+
+locals_of_a_switch_are_built : is_plainly_built (declaring 1) ≡ true
+locals_of_a_switch_are_built = refl
+
+-- int*q;switch(1){case 1:int y=1;q=&y;break;}return *q;: the local has ended with the switch
+abbrev left_by_break : Program
+left_by_break = with_main (declare 0 (pointer int) blank
+    ∷ switch (num 1) (listed (case_label (pos 1) ∷ declare 1 int (num 1) ∷ set (local 0) (address (local 1)) ∷ leave ∷ []))
+    ∷ returns (read (dereference (value_of 0))) ∷ [])
+
+local_ends_with_its_switch : Shows left_by_break [] 9 (record { end = Undefined 5; out = [] })
+local_ends_with_its_switch = record { core = refl; plain = refl }
+
+left_by_break_is_built : is_plainly_built left_by_break ≡ true
+left_by_break_is_built = refl
+
+-- int g(int a,int b){return a-b;} int main(){return (p(3),g)(p(2),p(1));}: the function before the arguments
+abbrev two_ints : SourceType
+two_ints = function_type (int ∷ int ∷ []) int
+
+abbrev by_pointer : Program
+by_pointer = program []
+    (p ∷ function_of (codes "g__Fii") (int ∷ int ∷ []) int (in_block (returns (operate op.Subtract Int (value_of 0) (value_of 1)) ∷ []))
+    ∷ main_of (returns (pointer_call absent (comma (listed (shown 3 ∷ function (codes "g__Fii") two_ints ∷ []))) two_ints (listed (shown 2 ∷ shown 1 ∷ []))) ∷ []) ∷ []) []
+
+function_before_the_arguments : Shows by_pointer [] 9 (record { end = Ended (pos 1); out = codes "321" })
+function_before_the_arguments = record { core = refl; plain = refl }
+
+calls_through_pointers_are_not_built : is_plainly_built by_pointer ≡ false
+calls_through_pointers_are_not_built = refl
 
 -- Static objects.
 

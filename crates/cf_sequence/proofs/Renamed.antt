@@ -6,7 +6,7 @@ use Rattle.cf_core.specs.Core as core
 use Rattle.cf_core.specs.Core.{Core, Cores, MaybeCore, Parts, Holder, no_temporary, local_temporary, static_temporary, none, absent, given, no_parts, part}
 use Rattle.cf_core.specs.Nodes.{nodes, nodes_all, nodes_maybe, nodes_parts}
 use Rattle.cf_core.specs.Joined.{renamed, renamed_all, renamed_maybe, renamed_parts, is_nothing}
-use Rattle.cf_core.specs.Valid.{is_label}
+use Rattle.cf_core.specs.Valid.{is_label, has_label}
 use Rattle.cf_sequence.specs.Built.{is_chain, is_value, are_values, are_arguments, is_condition, is_start, is_filling, is_initial, next_local, next_locals, declares_here, is_statement, is_inner_or, are_cases, are_statements, is_constant_value, is_constant_initial, is_constant_start}
 use Rattle.cf_sequence.specs.Made.{Local, added, makes, width, width_maybe, declared, declared_all, held_by}
 use Rattle.cf_sequence.specs.Expressions.{builds}
@@ -238,6 +238,10 @@ module _ (r : Name → Name) where
   same-label core.default_label = refl
   same-label s = refl
 
+  same-has-label : (es : Cores) → has_label (renamed_all r es) ≡ has_label es
+  same-has-label none = refl
+  same-has-label (core.more s es) = ap (λ b. b || has_label (renamed_all r es)) (same-label s) ∙ ap (λ b. is_label s || b) (same-has-label es)
+
   -- ---- statements
 
   mutual
@@ -267,11 +271,15 @@ module _ (r : Name → Name) where
     pub same-cases : (m : ℕ) (es : Cores) → are_cases m (renamed_all r es) ≡ are_cases m es
     same-cases m none = refl
     same-cases m (core.more s es) =
-        two-same (is_label (renamed r s) || (not (declares_here (renamed r s)) && is_statement m (renamed r s))) (are_cases m (renamed_all r es))
-        (is_label s || (not (declares_here s) && is_statement m s)) (are_cases m es)
-        (ap (λ b. b || (not (declares_here (renamed r s)) && is_statement m (renamed r s))) (same-label s)
-        ∙ ap (λ b. is_label s || b) (two-same (not (declares_here (renamed r s))) (is_statement m (renamed r s)) (not (declares_here s)) (is_statement m s) (ap not (same-declares s)) (same-statement m s)))
-        (same-cases m es)
+        let there = not (declares_here (renamed r s) && has_label (renamed_all r es)) in
+        let here = not (declares_here s && has_label es) in
+        two-same (is_label (renamed r s) || (there && is_statement m (renamed r s))) (are_cases (next_local m (renamed r s)) (renamed_all r es))
+        (is_label s || (here && is_statement m s)) (are_cases (next_local m s) es)
+        (ap (λ b. b || (there && is_statement m (renamed r s))) (same-label s)
+        ∙ ap (λ b. is_label s || b)
+        (two-same there (is_statement m (renamed r s)) here (is_statement m s)
+        (ap not (two-same (declares_here (renamed r s)) (has_label (renamed_all r es)) (declares_here s) (has_label es) (same-declares s) (same-has-label es))) (same-statement m s)))
+        (ap (λ k. are_cases k (renamed_all r es)) (same-next m s) ∙ same-cases (next_local m s) es)
 
     same-statements : (m : ℕ) (es : Cores) → are_statements m (renamed_all r es) ≡ are_statements m es
     same-statements m none = refl

@@ -8,6 +8,7 @@ use Rattle.cf_core.specs.Classes.{Class}
 use Rattle.cf_core.specs.Core as core
 use Rattle.cf_core.specs.Core.{Core, Cores, MaybeCore, no_temporary, none, absent, given}
 use Rattle.cf_core.specs.Joined.{renamed, renamed_all, renamed_maybe, is_nothing}
+use Rattle.cf_core.specs.Valid.{has_label}
 use Rattle.cf_plain.specs.Plain.{Register, Plains, act, set, branch, loop, switch, case_label, default_label, leave, continue, give, nothing, more}
 use Rattle.cf_plain.specs.Plain as plain
 use Rattle.cf_plain.specs.Joined as joined
@@ -18,7 +19,7 @@ use Rattle.cf_sequence.specs.Statements.{Inside, opened, in_loop, in_switch, dec
 use Rattle.cf_sequence.proofs.Calling.{never}
 use Rattle.cf_sequence.proofs.Filling.{fill, started-is}
 use Rattle.cf_sequence.proofs.Fulls.{whole-is, nothing-is}
-use Rattle.cf_sequence.proofs.Labels.{or-else, cases-declare, not-passed}
+use Rattle.cf_sequence.proofs.Labels.{or-else, none-passed, not-passed}
 use Rattle.cf_sequence.proofs.Renamed.{same-width, same-width-maybe, same-builds, same-value, same-filling, same-declared, same-declared-all, same-cases}
 
 module _ (r : Name → Name) where
@@ -263,8 +264,8 @@ module _ (r : Name → Name) where
         ∙ ap (λ ss. more (loop (turned_code body q e f k) ss) (over rest)) (over-held f.classes q parts.0 k nothing nothing refl)
     over-statement (core.switch e es) m ok f pr k rest =
         let parts = both (is_value e) (are_cases m es) ok in
-        let none_here = cases-declare m es parts.1 in
-        let none_there = cases-declare m (renamed_all r es) (same-cases r m es ∙ parts.1) in
+        let none_here = none-passed m es parts.1 in
+        let none_there = none-passed m (renamed_all r es) (same-cases r m es ∙ parts.1) in
         let body : ℕ → List Local → Plains = λ w xs. statements (in_switch f) (renamed_all r es) (k + w) (finished xs nothing) in
         let inner : over (statements (in_switch f) es (k + width e) (finished (declared_all es) nothing)) ≡ body (width (again e)) (declared_all (renamed_all r es)) =
         over-cases es m parts.1 (in_switch f) pr (k + width e) (finished (declared_all es) nothing)
@@ -306,9 +307,9 @@ module _ (r : Name → Name) where
     over-cases (core.more (core.case_label z) es) m ok f pr k rest = ap (more (case_label z)) (over-cases es m ok f pr (k + 0) rest)
     over-cases (core.more core.default_label es) m ok f pr k rest = ap (more default_label) (over-cases es m ok f pr (k + 0) rest)
     over-cases (core.more s es) m ok f pr k rest =
-        let parts = both (not (declares_here s) && is_statement m s) (are_cases m es) ok in
-        over-statement s m (both (not (declares_here s)) (is_statement m s) parts.0).1 f pr k (statements (declares (declared s) f) es (k + width s) rest)
+        let parts = both (not (declares_here s && has_label es) && is_statement m s) (are_cases (next_local m s) es) ok in
+        over-statement s m (both (not (declares_here s && has_label es)) (is_statement m s) parts.0).1 f pr k (statements (declares (declared s) f) es (k + width s) rest)
         ∙ ap (statement f (again s) k)
-        (over-cases es m parts.1 (declares (declared s) f) pr (k + width s) rest
+        (over-cases es (next_local m s) parts.1 (declares (declared s) f) pr (k + width s) rest
         ∙ ap (λ xs. statements (declares xs f) (renamed_all r es) (k + width s) (over rest)) (sym (same-declared r s))
         ∙ ap (λ w. statements (declares (declared (again s)) f) (renamed_all r es) (k + w) (over rest)) (sym (same-width r s)))

@@ -1,11 +1,12 @@
 -- Statements: the ends of objects on each way out of a scope, loops with their conditions inside, and what a label passes.
-use Rattle.std.specs.Prelude.{ℕ, suc, ◌+◌, length, if◌then◌else◌, List, [], ◌∷◌, ◌++◌, Option, Some, None, reverse, find, bytes_eq}
+use Rattle.std.specs.Prelude.{ℕ, suc, ◌+◌, length, if◌then◌else◌, Bool, false, ◌||◌, List, [], ◌∷◌, ◌++◌, Option, Some, None, reverse, find, bytes_eq}
 use Rattle.cf_core.specs.declared.operators.LoopForm.TheVariants as form
 use Rattle.cf_core.specs.Types.{Name, SourceType, void, is_class}
 use Rattle.cf_core.specs.Classes.{Class}
 use Rattle.cf_core.specs.Core as core
 use Rattle.cf_core.specs.Core.{Core, Cores, MaybeCore, Parts, Static, none, absent, given, no_parts, part}
 use Rattle.cf_core.specs.Places.{part_type}
+use Rattle.cf_core.specs.Valid.{has_label}
 use Rattle.cf_plain.specs.Plain.{Register, Plain, Plains, PlainParts, act, set, branch, loop, switch, case_label, default_label, leave, continue, give, parts, nothing, more}
 use Rattle.cf_plain.specs.Plain as plain
 use Rattle.cf_sequence.specs.Made.{Local, width, width_maybe, added, declared, declared_all}
@@ -78,15 +79,20 @@ abbrev pub made : List Local → Plains → Plains
 made [] rest = rest
 made (x ∷ xs) rest = more (act (plain.declare x.number x.type)) (made xs rest)
 
--- What the labels of a switch pass: a switch before it declares the locals that stand before each label, in order (6.7).
+-- What the labels of a switch pass: where one passes a local, a switch before it declares the locals that stand before each label, in order (6.7).
 abbrev pub passing : List Local → Cores → Plains
 passing before none = nothing
 passing before (core.more (core.case_label z) rest) = more (case_label z) (made (reverse before) (more leave (passing before rest)))
 passing before (core.more core.default_label rest) = more default_label (made (reverse before) (more leave (passing before rest)))
 passing before (core.more s rest) = passing (declared s ++ before) rest
 
+-- whether there is such a label
+abbrev pub passes_local : Cores → Bool
+passes_local none = false
+passes_local (core.more s rest) = elim (declared s) [ [] ↦ passes_local rest | x ∷ xs ↦ has_label rest || passes_local rest ]
+
 abbrev pub passed : Register → Cores → Plains → Plains
-passed n es rest = elim (declared_all es) [ [] ↦ rest | x ∷ xs ↦ more (switch n (passing [] es)) rest ]
+passed n es rest = if passes_local es then more (switch n (passing [] es)) rest else rest
 
 abbrev pub part_built : Inside → core.Part → Core → ℕ → Plains
 part_built f w e k = more (set 0 (plain.built_part w)) (started f.classes (part_type f.classes f.class w) e 0 k nothing)

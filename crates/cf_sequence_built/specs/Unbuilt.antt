@@ -61,13 +61,18 @@ abbrev pub inner_or : ℕ → ℕ → Option Test → Option ℕ
 inner_or at m None = None
 inner_or at m (Some s) = inner at m s
 
--- a label or a statement of a switch
-abbrev pub case : ℕ → ℕ → Test → Option ℕ
-case at m s = if s.is_label then None else inner at m s
+-- whether a label stands among them
+abbrev pub any_label : List Test → Bool
+any_label [] = false
+any_label (s ∷ ss) = s.is_label || any_label ss
+
+-- A label of a switch, or a statement that stands before these: no label passes a local.
+abbrev pub case : ℕ → ℕ → Test → List Test → Option ℕ
+case at m s ss = if s.is_label then None else (if s.declares && any_label ss then Some at else s.statement m)
 
 abbrev pub each_case : ℕ → ℕ → List Test → Option ℕ
 each_case at m [] = None
-each_case at m (s ∷ ss) = option_or (case at m s) (each_case at m ss)
+each_case at m (s ∷ ss) = option_or (case at m s ss) (each_case at (s.next m) ss)
 
 abbrev pub next_of_all : ℕ → List Test → ℕ
 next_of_all m [] = m

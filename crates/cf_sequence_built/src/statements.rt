@@ -68,6 +68,18 @@ fn is_label(s: &Core) -> bool
     matches!(s, Core::Case { .. } | Core::Default { .. })
 }
 
+/// Whether a label of a switch stands among statements.
+fn any_label(all: &[Core]) -> bool
+    ensures { (tables : Tables) → result ≡ spec.any_label (map (test tables) all.now) }
+{
+    for s in all {
+        if is_label(s) {
+            return true;
+        }
+    }
+    false
+}
+
 /// The number behind that of each local that a statement declares in the scope at hand.
 #[cycle(nexts)]
 fn next(below: u64, s: &Core) -> u64
@@ -186,16 +198,18 @@ fn inner_or(unit: &CoreUnit, at: u32, below: u64, s: &Option<Boxed<Core>>) -> Op
     }
 }
 
-/// Of one label or statement of a switch (6.4.2).
+/// Of one label or statement of a switch, before what stands behind it (6.4.2). No label passes a local.
 #[cycle(statements)]
-fn case(unit: &CoreUnit, at: u32, below: u64, s: &Core) -> Option<u32>
+fn case(unit: &CoreUnit, at: u32, below: u64, s: &Core, behind: &[Core]) -> Option<u32>
     requires { are_known (tables_of unit.now) s.now ≡ true }
-    ensures { result ≡ spec.case at below (test (tables_of unit.now) s.now) }
+    ensures { result ≡ spec.case at below (test (tables_of unit.now) s.now) (map (test (tables_of unit.now)) behind.now) }
 {
     if is_label(s) {
         None
+    } else if declares(s) && any_label(behind) {
+        Some(at)
     } else {
-        inner(unit, at, below, s)
+        statement(unit, below, s)
     }
 }
 
@@ -205,11 +219,15 @@ fn each_case(unit: &CoreUnit, at: u32, below: u64, all: &[Core]) -> Option<u32>
     requires { all_of (tables_of unit.now) (map (are_known (tables_of unit.now)) all.now) ≡ true }
     ensures { result ≡ spec.each_case at below (map (test (tables_of unit.now)) all.now) }
 {
+    let mut first = below;
+    let mut seen = 0;
     for s in all {
-        let found = case(unit, at, below, s);
+        seen += 1;
+        let found = case(unit, at, first, s, &all[seen..]);
         if found.is_some() {
             return found;
         }
+        first = next(first, s);
     }
     None
 }

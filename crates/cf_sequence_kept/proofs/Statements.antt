@@ -12,7 +12,7 @@ use Rattle.cf_core.specs.Typing.{Scope, Typing, is_integer, is_expression, same_
 use Rattle.cf_core.specs.Typing as typed
 use Rattle.cf_core.specs.Typed.{typing}
 use Rattle.cf_core.specs.Valid as valid
-use Rattle.cf_core.specs.Valid.{Body, is_complete, fits, all_fit, fits_maybe, labelled_fit, condition_fits, expression_fits, passes_none, is_label}
+use Rattle.cf_core.specs.Valid.{Body, is_complete, fits, all_fit, fits_maybe, labelled_fit, condition_fits, expression_fits, passes_none, is_label, has_label}
 use Rattle.cf_plain.specs.Plain.{Register, Plain, Plains, act, set, branch, loop, switch, leave, continue, give, nothing, more}
 use Rattle.cf_plain.specs.Plain as plain
 use Rattle.cf_plain_kept.specs.Kept as kept
@@ -24,7 +24,7 @@ use Rattle.cf_sequence.specs.Statements.{Inside, declares, opened, in_loop, in_s
 use Rattle.cf_sequence.proofs.Calling.{never}
 use Rattle.cf_sequence.proofs.Filling.{fill, started-is}
 use Rattle.cf_sequence.proofs.Fulls.{whole-is, nothing-is}
-use Rattle.cf_sequence.proofs.Labels.{cases-declare, not-passed}
+use Rattle.cf_sequence.proofs.Labels.{none-passed, not-passed}
 use Rattle.cf_sequence_kept.proofs.Suits.{scalar-tested, integer-tested}
 use Rattle.cf_sequence_kept.proofs.Related.{conditions-kept, integers-kept}
 use Rattle.cf_sequence_kept.proofs.Values.{keep-at, runs, set-runs, act-runs, Keeps, use-runs}
@@ -264,7 +264,7 @@ module _ (body : Body) (locals : List SourceType) (keeps : locals_of.Kept body.s
           now = w.now;
           goes = λ rest.
               ap (λ ss. run ss g) (whole-is e forms.0 0 k (λ x n rest. value f.classes x e None n k (used n rest)) (λ n. passed n es (more (switch n code) rest)))
-              ∙ ap (λ ss. run (F (used n ss)) g) (not-passed n es (more (switch n code) rest) (cases-declare m es forms.1))
+              ∙ ap (λ ss. run (F (used n ss)) g) (not-passed n es (more (switch n code) rest) (none-passed m es forms.1))
               ∙ use-runs locals body.result F p (integer-tested p.kept held_int) (more (switch n code) rest) ∙ w.goes rest;
         }
     runs-statement core.leave m b c ok is f sr k g =
@@ -298,7 +298,7 @@ module _ (body : Body) (locals : List SourceType) (keeps : locals_of.Kept body.s
     runs-cases (core.more core.default_label es) m c ok is f sr k g =
         let q = runs-cases es m c ok is f sr (k + 0) nothing_set in record { now = q.now; goes = λ rest. q.goes rest }
     runs-cases (core.more s es) m c ok is f sr k g =
-        let forms = both (not (declares_here s) && is_statement m s) (are_cases m es) ok in
+        let forms = both (not (declares_here s && has_label es) && is_statement m s) (are_cases (next_local m s) es) ok in
         let parts = both (fits body true c s) (labelled_fit body true c es) is in
-        let p = runs-statement s m true c (both (not (declares_here s)) (is_statement m s) forms.0).1 parts.0 f sr k g in
-        runs-then (statement f s k) (statements (declares (declared s) f) es (k + width s)) g p (runs-cases es m c forms.1 parts.1 (declares (declared s) f) sr (k + width s) p.now)
+        let p = runs-statement s m true c (both (not (declares_here s && has_label es)) (is_statement m s) forms.0).1 parts.0 f sr k g in
+        runs-then (statement f s k) (statements (declares (declared s) f) es (k + width s)) g p (runs-cases es (next_local m s) c forms.1 parts.1 (declares (declared s) f) sr (k + width s) p.now)

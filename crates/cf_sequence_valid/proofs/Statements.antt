@@ -14,7 +14,7 @@ use Rattle.cf_core.specs.Typing.{Scope, Typing, is_integer, is_expression, same_
 use Rattle.cf_core.specs.Typing as typed
 use Rattle.cf_core.specs.Typed.{typing}
 use Rattle.cf_core.specs.Valid as valid
-use Rattle.cf_core.specs.Valid.{Body, is_complete, fits, all_fit, fits_maybe, labelled_fit, condition_fits, expression_fits, passes_none, is_label}
+use Rattle.cf_core.specs.Valid.{Body, is_complete, fits, all_fit, fits_maybe, labelled_fit, condition_fits, expression_fits, passes_none, is_label, has_label}
 use Rattle.cf_core.specs.Statements as labels
 use Rattle.cf_plain.specs.Plain.{Register, Plains, act, set, branch, loop, switch, leave, continue, give, nothing, more}
 use Rattle.cf_plain.specs.Plain as plain
@@ -28,7 +28,7 @@ use Rattle.cf_sequence.specs.Statements.{Inside, declares, opened, in_loop, in_s
 use Rattle.cf_sequence.proofs.Calling.{never}
 use Rattle.cf_sequence.proofs.Filling.{fill, filling-adds, filling-holds, started-is}
 use Rattle.cf_sequence.proofs.Fulls.{whole-is, nothing-is, held-none}
-use Rattle.cf_sequence.proofs.Labels.{cases-declare, not-passed}
+use Rattle.cf_sequence.proofs.Labels.{none-passed, not-passed}
 use Rattle.cf_sequence_valid.proofs.Fine.{Fine, fine-none, fine-then, fine-by, fine-act, fine-set, fine-branch, fine-loop, fine-switch, fine-leave, fine-continue, fine-give, fine-used, fine-finished, fine-settled}
 use Rattle.cf_sequence_valid.proofs.Serves.{Serves, as_start, either-true, integers-serve, conditions-serve, expressions-serve}
 use Rattle.cf_sequence_valid.proofs.Stands.{Stand, stand-left, stand-right, stand-third, are_there, there-two}
@@ -172,17 +172,24 @@ module _ (body : Body) (locals : List SourceType) (keeps : Kept body.scope local
     pub there : are_there locals (declared_all es) ≡ true
     pub code : (f : Inside) → Stays locals f → (k : ℕ) → Stand locals k (added (nodes_all es)) → Fine locals b c (statements f es k)
 
+  -- plain statements without a label
+  pub record Unlabelled (rest : Plains) : Type 0 where
+    pub cases : (z : ℤ) → has_case z rest ≡ false
+    pub default : checks.has_default locals rest ≡ false
+    pub differ : checks.labels_differ locals rest ≡ true
+
   -- the statements and labels of a switch
   pub record CasesWork (c : Bool) (es : Cores) : Type 0 where
     pub complete : are_complete (added (nodes_all es)) ≡ true
+    pub there : are_there locals (declared_all es) ≡ true
     pub fit : (f : Inside) → Stays locals f → (k : ℕ) → Stand locals k (added (nodes_all es)) → (rest : Plains) → checks.labelled_fit locals c rest ≡ true
         → checks.labelled_fit locals c (statements f es k rest) ≡ true
     pub cases : (f : Inside) → Stays locals f → (k : ℕ) → Stand locals k (added (nodes_all es)) → (z : ℤ) (rest : Plains) → has_case z rest ≡ false
         → has_case z (statements f es k rest) ≡ labels.has_case z es
     pub default : (f : Inside) → Stays locals f → (k : ℕ) → Stand locals k (added (nodes_all es)) → (rest : Plains) → checks.has_default locals rest ≡ false
         → checks.has_default locals (statements f es k rest) ≡ labels.has_default es
-    pub differ : (f : Inside) → Stays locals f → (k : ℕ) → Stand locals k (added (nodes_all es)) → valid.labels_differ es ≡ true
-        → checks.labels_differ locals (statements f es k nothing) ≡ true
+    pub differ : (f : Inside) → Stays locals f → (k : ℕ) → Stand locals k (added (nodes_all es)) → (rest : Plains) → Unlabelled rest → valid.labels_differ es ≡ true
+        → checks.labels_differ locals (statements f es k rest) ≡ true
 
   width-maybe : (q : MaybeCore) → length (added (nodes_maybe q)) ≡ width_maybe q
   width-maybe absent = refl
@@ -211,13 +218,14 @@ module _ (body : Body) (locals : List SourceType) (keeps : Kept body.scope local
       let second : (k : ℕ) → Stand locals k (added (nodes s ++ nodes_all es)) → Stand locals (k + width s) (added (nodes_all es)) = λ k l. stand-right locals k (nodes s) (nodes_all es) l in
       record {
         complete = complete-two [] scope locals keeps (nodes s) (nodes_all es) w.complete others.complete;
+        there = there-two locals (declared_all es) (declared s) others.there w.there;
         fit = λ f st k l rest ok. Fine.labelled (w.code f st k (first k l)) _ refl (others.fit (declares (declared s) f) (further f st) (k + width s) (second k l) rest ok);
         cases = λ f st k l z rest ok.
             Fine.cases (w.code f st k (first k l)) z _ ∙ others.cases (declares (declared s) f) (further f st) (k + width s) (second k l) z rest ok ∙ sym (no_case z);
         default = λ f st k l rest ok.
             Fine.default (w.code f st k (first k l)) _ ∙ others.default (declares (declared s) f) (further f st) (k + width s) (second k l) rest ok ∙ sym no_default;
-        differ = λ f st k l ok.
-            Fine.differ (w.code f st k (first k l)) _ ∙ others.differ (declares (declared s) f) (further f st) (k + width s) (second k l) (sym differs ∙ ok);
+        differ = λ f st k l rest free ok.
+            Fine.differ (w.code f st k (first k l)) _ ∙ others.differ (declares (declared s) f) (further f st) (k + width s) (second k l) rest free (sym differs ∙ ok);
       }
 
   case-label : {c : Bool} (y : ℤ) (es : Cores) → CasesWork c es → CasesWork c (core.more (core.case_label y) es)
@@ -225,13 +233,14 @@ module _ (body : Body) (locals : List SourceType) (keeps : Kept body.scope local
       let second : (k : ℕ) → Stand locals k (added (nodes_all es)) → Stand locals (k + 0) (added (nodes_all es)) = λ k l. stand-right locals k [] (nodes_all es) l in
       record {
         complete = others.complete;
+        there = there-two locals (declared_all es) [] others.there refl;
         fit = λ f st k l rest ok. others.fit f st (k + 0) (second k l) rest ok;
         cases = λ f st k l z rest ok. ap (λ b. (int_le y z && int_le z y) || b) (others.cases f st (k + 0) (second k l) z rest ok);
         default = λ f st k l rest ok. others.default f st (k + 0) (second k l) rest ok;
-        differ = λ f st k l ok.
+        differ = λ f st k l rest free ok.
             let parts = both (not (labels.has_case y es)) (valid.labels_differ es) ok in
-            all_of (not (has_case y (statements f es (k + 0) nothing))) (checks.labels_differ locals (statements f es (k + 0) nothing))
-            (ap not (others.cases f st (k + 0) (second k l) y nothing refl) ∙ parts.0) (others.differ f st (k + 0) (second k l) parts.1);
+            all_of (not (has_case y (statements f es (k + 0) rest))) (checks.labels_differ locals (statements f es (k + 0) rest))
+            (ap not (others.cases f st (k + 0) (second k l) y rest (free.cases y)) ∙ parts.0) (others.differ f st (k + 0) (second k l) rest free parts.1);
       }
 
   the-default : {c : Bool} (es : Cores) → CasesWork c es → CasesWork c (core.more core.default_label es)
@@ -239,13 +248,14 @@ module _ (body : Body) (locals : List SourceType) (keeps : Kept body.scope local
       let second : (k : ℕ) → Stand locals k (added (nodes_all es)) → Stand locals (k + 0) (added (nodes_all es)) = λ k l. stand-right locals k [] (nodes_all es) l in
       record {
         complete = others.complete;
+        there = there-two locals (declared_all es) [] others.there refl;
         fit = λ f st k l rest ok. others.fit f st (k + 0) (second k l) rest ok;
         cases = λ f st k l z rest ok. others.cases f st (k + 0) (second k l) z rest ok;
         default = λ f st k l rest ok. refl;
-        differ = λ f st k l ok.
+        differ = λ f st k l rest free ok.
             let parts = both (not (labels.has_default es)) (valid.labels_differ es) ok in
-            all_of (not (checks.has_default locals (statements f es (k + 0) nothing))) (checks.labels_differ locals (statements f es (k + 0) nothing))
-            (ap not (others.default f st (k + 0) (second k l) nothing refl) ∙ parts.0) (others.differ f st (k + 0) (second k l) parts.1);
+            all_of (not (checks.has_default locals (statements f es (k + 0) rest))) (checks.labels_differ locals (statements f es (k + 0) rest))
+            (ap not (others.default f st (k + 0) (second k l) rest free.default) ∙ parts.0) (others.differ f st (k + 0) (second k l) rest free parts.1);
       }
 
   -- the value of a switch, and then its statements
@@ -253,17 +263,18 @@ module _ (body : Body) (locals : List SourceType) (keeps : Kept body.scope local
       → valid.labels_differ es ≡ true → CasesWork c es → (k : ℕ) → Stand locals k (added (nodes e ++ nodes_all es)) → Fine locals b c (statement f (core.switch e es) k)
   selection-fine {b} {c} f m e es st is are s differs work k l =
       let row = stand-right locals k (nodes e) (nodes_all es) l in
-      let code : List Local → Plains = λ xs. statements (in_switch f) es (k + width e) (finished xs nothing) in
-      let ended = cases-declare m es are in
-      let differ : checks.labels_differ locals (code (declared_all es)) ≡ true =
-      ap (λ xs. checks.labels_differ locals (code xs)) ended ∙ work.differ (in_switch f) (stays-switch f st) (k + width e) row differs in
-      let fit : checks.labelled_fit locals c (code (declared_all es)) ≡ true =
-      ap (λ xs. checks.labelled_fit locals c (code xs)) ended ∙ work.fit (in_switch f) (stays-switch f st) (k + width e) row nothing refl in
-      fine-whole f e is s 0 k (stand-left locals k (nodes e) (nodes_all es) l) (λ n rest. used n rest) (λ n rest. passed n es (more (switch n (code (declared_all es))) rest))
+      let ends : Plains = finished (declared_all es) nothing in
+      let code : Plains = statements (in_switch f) es (k + width e) ends in
+      let end_fine : Fine locals true c (finished (declared_all es)) = fine-finished locals (declared_all es) work.there in
+      let free : Unlabelled ends = record { cases = λ z. Fine.cases end_fine z nothing; default = Fine.default end_fine nothing; differ = Fine.differ end_fine nothing } in
+      let differ : checks.labels_differ locals code ≡ true = work.differ (in_switch f) (stays-switch f st) (k + width e) row ends free differs in
+      let fit : checks.labelled_fit locals c code ≡ true =
+      work.fit (in_switch f) (stays-switch f st) (k + width e) row ends (Fine.labelled end_fine nothing refl refl) in
+      fine-whole f e is s 0 k (stand-left locals k (nodes e) (nodes_all es) l) (λ n rest. used n rest) (λ n rest. passed n es (more (switch n code) rest))
       (λ n. fine-used locals n)
       (λ n.
-      fine-by locals (λ rest. passed n es (more (switch n (code (declared_all es))) rest)) (λ rest. more (switch n (code (declared_all es))) rest)
-      (λ rest. not-passed n es (more (switch n (code (declared_all es))) rest) ended) (fine-switch locals n (code (declared_all es)) differ fit)) None
+      fine-by locals (λ rest. passed n es (more (switch n code) rest)) (λ rest. more (switch n code) rest)
+      (λ rest. not-passed n es (more (switch n code) rest) (none-passed m es are)) (fine-switch locals n code differ fit)) None
 
   returned-fine : {b c : Bool} (f : Inside) (e : Core) → Stays locals f → is_value e ≡ true → Serves (typing scope e) → (k : ℕ) → Stand locals k (added (nodes e))
       → Fine locals b c (statement f (core.give (given e)) k)
@@ -441,14 +452,15 @@ module _ (body : Body) (locals : List SourceType) (keeps : Kept body.scope local
     work-cases : (es : Cores) (m : ℕ) (c : Bool) → are_cases m es ≡ true → labelled_fit body true c es ≡ true → CasesWork c es
     work-cases none m c ok is = record {
       complete = refl;
+      there = refl;
       fit = λ f st k l rest ok. ok;
       cases = λ f st k l z rest ok. ok;
       default = λ f st k l rest ok. ok;
-      differ = λ f st k l ok. refl;
+      differ = λ f st k l rest free ok. free.differ;
     }
     work-cases (core.more (core.case_label y) es) m c ok is = case-label y es (work-cases es m c ok is)
     work-cases (core.more core.default_label es) m c ok is = the-default es (work-cases es m c ok is)
     work-cases (core.more s es) m c ok is =
-        let forms = both (not (declares_here s) && is_statement m s) (are_cases m es) ok in
+        let forms = both (not (declares_here s && has_label es) && is_statement m s) (are_cases (next_local m s) es) ok in
         let parts = both (fits body true c s) (labelled_fit body true c es) is in
-        case-more s es (works s m true c (both (not (declares_here s)) (is_statement m s) forms.0).1 parts.0) (work-cases es m c forms.1 parts.1) (λ z. refl) refl refl
+        case-more s es (works s m true c (both (not (declares_here s && has_label es)) (is_statement m s) forms.0).1 parts.0) (work-cases es (next_local m s) c forms.1 parts.1) (λ z. refl) refl refl

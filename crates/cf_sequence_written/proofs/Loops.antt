@@ -18,8 +18,9 @@ use Rattle.cf_plain.specs.View.{plain_of, plains_of}
 use Rattle.cf_sequence.specs.Built.{are_cases}
 use Rattle.cf_sequence.specs.Made.{Local, added, width, width_maybe, declared, declared_all}
 use Rattle.cf_sequence.specs.Expressions.{finished, value, used as use_of}
-use Rattle.cf_sequence.specs.Statements.{Inside, statement, statements, in_loop, in_switch, passed, passing}
+use Rattle.cf_sequence.specs.Statements.{Inside, statement, statements, in_loop, in_switch, passed}
 use Rattle.cf_sequence.specs.Statements as definition
+use Rattle.cf_sequence.proofs.Labels.{none-passed, not-passed}
 use Rattle.cf_sequence_expr.specs.declared.writing.Writing.{Writing}
 use Rattle.cf_sequence_stmt.specs.declared.body.Body.{Body}
 use Rattle.cf_sequence_stmt.specs.declared.body.Ways.{Ways}
@@ -33,7 +34,7 @@ use Rattle.cf_sequence_written.proofs.Bodies.{Goes, goes-none, goes-as, goes-res
 use Rattle.cf_sequence_written.proofs.Opens.{no-opens}
 use Rattle.cf_sequence_written.proofs.Standing.{Stands, stands-in_loop, stands-in_switch}
 use Rattle.cf_sequence_written.proofs.Wholes.{Whole, whole-start, first_at, register, goes-full, goes-given, goes-tested, condition-is}
-use Rattle.cf_sequence_written.proofs.Statements.{Acts, ActsAll, IsStated, undeclared-cases, stated-cases}
+use Rattle.cf_sequence_written.proofs.Statements.{Acts, ActsAll, IsStated, stated-cases}
 
 maybe-count : (c : MaybeCore) → width_maybe c ≡ length (added (nodes_maybe c))
 maybe-count absent = refl
@@ -173,10 +174,6 @@ module _ (tables : Tables) (signature : MemberRef → Name) where
 
   -- Switches.
 
-  not-passed : (n : ℕ) (es : Cores) (rest : Plains) → declared_all es ≡ [] → passed n es rest ≡ rest
-  not-passed n es rest none =
-      ap (λ (ls : List Local). elim ls [ [] ↦ rest | x ∷ xs ↦ more (plain.switch n (passing [] es)) rest ]) none
-
   pub goes-switch : (s : Step) {e : Core} {ss : List Step} {es : Cores} → Whole tables signature s.piece e → ActsAll tables signature ss es
       → (m : ℕ) → are_cases m es ≡ true → (f : Inside) (ways : Ways) (b : Body) → Stands tables f ways b.scope
       → Goes tables signature (λ k rest. statement f (core.switch e es) k rest) (width (core.switch e es)) [] b (selection s ss ways b)
@@ -197,7 +194,7 @@ module _ (tables : Tables) (signature : MemberRef → Name) where
             ∙ ap (λ q. followed tables signature (Writing.code v.writing) (more (plain.switch q inner) rest)) (register tables signature w)
             ∙ Goes.code value_there (more (plain.switch (0 + width e) inner) rest)
             ∙ ap (λ z. followed tables signature (Writing.code b.writing) (value f.classes (first_at tables signature k 0) e None (0 + width e) k (use_of (0 + width e) z)))
-            (sym (not-passed (0 + width e) es (more (plain.switch (0 + width e) inner) rest) (undeclared-cases m es ok)))
+            (sym (not-passed (0 + width e) es (more (plain.switch (0 + width e) inner) rest) (none-passed m es ok)))
             ∙ ap (followed tables signature (Writing.code b.writing))
             (sym (whole-start e (Whole.start w) 0 k (λ x n rest. value f.classes x e None n k (use_of n rest))
             (λ n. passed n es (more (plain.switch n inner) rest))));

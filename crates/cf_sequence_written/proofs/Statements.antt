@@ -7,7 +7,7 @@ use Rattle.cf_core.specs.Types.{Name, is_class}
 use Rattle.cf_core.specs.Core as core
 use Rattle.cf_core.specs.Core.{Core, Cores, MaybeCore, absent, given}
 use Rattle.cf_core.specs.Nodes.{nodes, nodes_all, nodes_maybe}
-use Rattle.cf_core.specs.Valid.{is_label}
+use Rattle.cf_core.specs.Valid.{is_label, has_label}
 use Rattle.cf_core.specs.FromTypes.{Tables}
 use Rattle.cf_plain.specs.declared.statement.Plain.TheVariants as code
 use Rattle.cf_plain.specs.Plain.{Plains, nothing, more, branch, leave, continue, give, set as sets}
@@ -62,23 +62,14 @@ stated-all m (core.more c cs) ok =
 pub stated-cases : (m : ℕ) (cs : Cores) → are_cases m cs ≡ true → AllStated cs
 stated-cases m core.none ok = tt
 stated-cases m (core.more c cs) ok =
-    let parts = both (is_label c || (not (declares_here c) && is_statement m c)) (are_cases m cs) ok in
-    (record { below = m; stated = without (is_label c) (declares_here c) (is_statement m c) parts.0 }, stated-cases m cs parts.1)
+    let parts = both (is_label c || (not (declares_here c && has_label cs) && is_statement m c)) (are_cases (next_local m c) cs) ok in
+    (record { below = m; stated = without (is_label c) (declares_here c && has_label cs) (is_statement m c) parts.0 }, stated-cases (next_local m c) cs parts.1)
 
 -- what declares nothing in the scope at hand
-undeclared : (m : ℕ) (c : Core) → is_label c || (not (declares_here c) && is_statement m c) ≡ true → declared c ≡ []
-undeclared m (core.declare i t e) ok = never ok
-undeclared m (core.sequence es) ok = never ok
-undeclared m c ok = refl
-
 pub undeclared-inner : (m : ℕ) (c : Core) → not (declares_here c) && is_statement m c ≡ true → declared c ≡ []
-undeclared-inner m c ok = undeclared m c (or-right (is_label c) (not (declares_here c) && is_statement m c) ok)
-
-pub undeclared-cases : (m : ℕ) (cs : Cores) → are_cases m cs ≡ true → declared_all cs ≡ []
-undeclared-cases m core.none ok = refl
-undeclared-cases m (core.more c cs) ok =
-    let parts = both (is_label c || (not (declares_here c) && is_statement m c)) (are_cases m cs) ok in
-    ap (λ ls. ls ++ declared c) (undeclared-cases m cs parts.1) ∙ undeclared m c parts.0
+undeclared-inner m (core.declare i t e) ok = never ok
+undeclared-inner m (core.sequence es) ok = never ok
+undeclared-inner m c ok = refl
 
 module _ (tables : Tables) (signature : MemberRef → Name) where
   pub record Acts (s : Step) (c : Core) : Type 0 where

@@ -11,11 +11,11 @@ use Rattle.cf_core.specs.declared.node.Holder.TheVariants as holder
 use Rattle.cf_core.specs.Types.{Name, SourceType, takes, result, is_class}
 use Rattle.cf_core.specs.Core.{Core, Cores, MaybeCore}
 use Rattle.cf_core.specs.Joined.{is_nothing}
-use Rattle.cf_core.specs.Valid.{is_label}
+use Rattle.cf_core.specs.Valid.{is_label, has_label}
 use Rattle.cf_core.specs.FromTypes.{Tables, type_of}
 use Rattle.cf_core.specs.View.{Started, core_step, started_step, core_of, listed, maybe}
 use Rattle.cf_sequence.specs.Built.{is_value, is_start, is_filling, is_initial, is_condition, is_statement, is_inner_or, are_values, are_arguments, are_statements, are_cases, declares_here, next_local, next_locals, is_chain}
-use Rattle.cf_sequence_built.specs.Unbuilt.{Test, test, test_step, start, initial, given, each_value, some_values, each_statement, inner, inner_or, case, each_case, next_of_all, called, is_function_type, is_called}
+use Rattle.cf_sequence_built.specs.Unbuilt.{Test, test, test_step, start, initial, given, each_value, some_values, each_statement, inner, inner_or, any_label, case, each_case, next_of_all, called, is_function_type, is_called}
 use Rattle.cf_sequence_built.specs.Unbuilt as unbuilt
 
 -- whether nothing was found
@@ -133,8 +133,20 @@ module _ (tables : Tables) (signature : MemberRef → Name) where
   given-is None = refl
   given-is (Some e) = e.1.value
 
-  case-is : (at m : ℕ) (s : Child) → clear (case at m (test_of s)) ≡ is_label (of s) || (not (declares_here (of s)) && is_statement m (of s))
-  case-is at m s = ap (λ b. clear (if b then None else inner at m (test_of s))) s.1.label ∙ where-not (is_label (of s)) (inner at m (test_of s)) _ (inner-is at m s)
+  labels-in : (es : List Child) → any_label (tests_of es) ≡ has_label (cores_of es)
+  labels-in [] = refl
+  labels-in (s ∷ ss) = ap (λ b. b || any_label (tests_of ss)) s.1.label ∙ ap (λ b. is_label (of s) || b) (labels-in ss)
+
+  case-is : (at m : ℕ) (s : Child) (ss : List Child)
+      → clear (case at m (test_of s) (tests_of ss)) ≡ is_label (of s) || (not (declares_here (of s) && has_label (cores_of ss)) && is_statement m (of s))
+  case-is at m s ss =
+      let there : Option ℕ = (test_of s).statement m in
+      let labelled : Bool = any_label (tests_of ss) in
+      let inside : clear (if (test_of s).declares && labelled then Some at else there) ≡ not (declares_here (of s) && has_label (cores_of ss)) && is_statement m (of s) =
+      ap (λ b. clear (if b && labelled then Some at else there)) s.1.declares ∙ ap (λ b. clear (if declares_here (of s) && b then Some at else there)) (labels-in ss)
+      ∙ where-false at (declares_here (of s) && has_label (cores_of ss)) there _ (s.1.statement m) in
+      ap (λ b. clear (if b then None else (if (test_of s).declares && labelled then Some at else there))) s.1.label
+      ∙ where-not (is_label (of s)) (if (test_of s).declares && labelled then Some at else there) _ inside
 
   in_arguments : (es : List Child) → clear (each_value (tests_of es)) ≡ are_arguments (cores_of es)
   in_arguments [] = refl
@@ -161,7 +173,8 @@ module _ (tables : Tables) (signature : MemberRef → Name) where
 
   in_cases : (at m : ℕ) (es : List Child) → clear (each_case at m (tests_of es)) ≡ are_cases m (cores_of es)
   in_cases at m [] = refl
-  in_cases at m (s ∷ ss) = and-is (case at m (test_of s)) _ _ _ (case-is at m s) (in_cases at m ss)
+  in_cases at m (s ∷ ss) =
+      and-is (case at m (test_of s) (tests_of ss)) _ _ _ (case-is at m s ss) (ap (λ k. clear (each_case at k (tests_of ss))) (s.1.next m) ∙ in_cases at (next_local m (of s)) ss)
 
   in_call : (at t : ℕ) (es : List Child) → clear (called at (is_called tables t) None (tests_of es))
       ≡ not (is_class (result (type_of tables t))) && (is_chain (type_of tables t) && are_arguments (cores_of es))

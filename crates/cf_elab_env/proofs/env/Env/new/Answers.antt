@@ -1,4 +1,5 @@
-use Rattle.std.proofs.Common.{map, sym, ap, ◌∙◌}
+use Rattle.std.proofs.Common.{rules, ℕ, List, All, ◌<◌, length, map, sym, ap, subst, ◌∙◌, refl}
+use Rattle.cf_elab.specs.Env.{Name}
 use Rattle.cf_elab.specs.File.{first_env}
 use Rattle.cf_elab_env.specs.Seen.{entity_seen}
 use Rattle.cf_elab_env.specs.Shut as shut
@@ -12,3 +13,19 @@ returns-clause-made c =
     c.new-types.ensures.types c.new-types.ensures.funs c.in_ok-int.ensures.ok c.intern.ensures.funs c.new.ensures.labels c.new.ensures.enums c.new.ensures.defined
     c.new-2.ensures.outer c.new-2.ensures.inner (ap (map entity_seen) c.new-3.ensures.items) c.new-4.ensures.inner c.new-5.ensures.items
     c.in_ok-hand.ensures c.new-6.ensures c.new-7.ensures
+
+pub invariant_of-env : goal.invariant_of-env
+invariant_of-env c = record {
+  no_class = search rules;
+  no_open_class = refl;
+  table = search rules;
+  no_class_type = search rules;
+  enums = search rules;
+  no_outer = search rules;
+  entities = search rules;
+  entries = search rules;
+  outer = search rules;
+  inner = search rules;
+  linked = subst (λ (xs : List (Name × ℕ)). All (λ x. x.1 < length (map entity_seen c.new-3.result.items)) xs) (sym c.new-4.ensures.inner) (search rules);
+  hand = search rules;
+}
