@@ -36,7 +36,7 @@ pub const CONDITIONALS: [(&str, u8); 25] = [
 pub const CASTS: [(&str, u8); 32] = [
     ("$(int*)1;", 17),
     ("$(int*)x;", 17),
-    ("$(int*)A;", 17),
+    ("$(int*)B;", 17),
     ("$(void*)1;", 17),
     ("$(int)p;", 17),
     ("$(unsigned)p;", 17),
@@ -66,7 +66,7 @@ pub const CASTS: [(&str, u8); 32] = [
     ("(int& $*)0;", 26),
     ("(void$&)x;", 26),
     (
-        "(int*)0;(int*)(1-1);(void*)0;(void*)p;(int*)v;(const int*)p;(int*)cp;(E)1;(E)ch;(F)A;(int)A;(char)x;(void)p;(void)g();(int&)x;(const int&)x;(int&)c;(int(*)())f;(int(*)())0;(P)0;(T)'a';(int*)a;(void*)cp;(int*)kp;(unsigned)-1;(int*)cv;",
+        "(int*)0;(int*)(1-1);(int*)A;(void*)0;(void*)p;(int*)v;(const int*)p;(int*)cp;(E)1;(E)ch;(F)A;(int)A;(char)x;(void)p;(void)g();(int&)x;(const int&)x;(int&)c;(int(*)())f;(int(*)())0;(P)0;(T)'a';(int*)a;(void*)cp;(int*)kp;(unsigned)-1;(int*)cv;",
         0,
     ),
 ];

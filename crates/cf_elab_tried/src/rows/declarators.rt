@@ -65,7 +65,7 @@ pub const BOUNDS: [(&str, u8); 30] = [
     ("int n;void a$[n];", 26),
     ("int n;int&a$[n];", 26),
     ("int n;int f$()[n];", 26),
-    ("int a$[y];", 10),
+    ("int a[$y];", 10),
     ("int n;int a[n][$y];", 10),
     ("int a[0][$y];", 10),
     ("void a[$y];", 10),

@@ -56,7 +56,7 @@ pub const TWICE: [(&str, u8); 40] = [
     ("int x=1;int $x;", 8),
     ("int x,$x;", 8),
     ("int x,*$x;", 8),
-    ("extern int x;extern char $x;", 8),
+    ("extern int x;extern char $x;int x;", 8),
     ("int x;extern char $x;", 8),
     ("extern int x;char $x;", 8),
     ("int x;extern const int $x;", 8),
