@@ -33,12 +33,12 @@ use Rattle.cf_lower_turns.specs.Scene.{GivesBack, Scene, fixed_in, again_at, lis
 use Rattle.cf_lower_leaves.specs.Leaves.{SetBy}
 use Rattle.cf_lower_leaves.proofs.Setting.{set-step, store-step}
 
-sort-local : (u : Sort) → local_kept (of_sort (Some u)) ≡ Some (register_sort u)
+pub sort-local : (u : Sort) → local_kept (of_sort (Some u)) ≡ Some (register_sort u)
 sort-local (number k) = refl
 sort-local (address t) = refl
 sort-local u = refl
 
-result-local : (o : Arith) (k : Kind) → local_kept (result_kept o k) ≡ Some (number Int)
+pub result-local : (o : Arith) (k : Kind) → local_kept (result_kept o k) ≡ Some (number Int)
 result-local op.Less k = refl
 result-local op.Greater k = refl
 result-local op.LessEqual k = refl

@@ -19,7 +19,7 @@ use Rattle.cf_plain.specs.Running.{Falls, does, keep as keep_value}
 use Rattle.cc_whole.specs.Plain as c_tree
 use Rattle.cc_whole_memory.specs.declared.value.Pointer.TheVariants as pointer
 use Rattle.cc_whole_memory.specs.declared.value.Value.TheVariants as value
-use Rattle.cc_whole_mean.specs.Values.{named_address}
+use Rattle.cc_whole_mean.specs.Values.{value_of, named_address}
 use Rattle.cf_lower_relate.specs.Map.{Map, shown, is_ended, is_hidden, extended, Grows}
 use Rattle.cf_lower_relate.specs.Relation.{Rel}
 use Rattle.cf_lower_relate.specs.Relation as relation
@@ -30,6 +30,7 @@ use Rattle.cf_lower.specs.Written.{local_name}
 use Rattle.cf_lower.specs.Statements.{lowered, put_in}
 use Rattle.cf_lower_steps.specs.Own.{OwnBlocks, LocalBlock, LocalObject, InLocals}
 use Rattle.cf_lower_steps.specs.Flows.{Between, Simulates, Ends}
+use Rattle.cf_lower_steps.specs.Steps.{GivenAs}
 use Rattle.cf_lower_steps.specs.Lowering.{runs, falls_only}
 use Rattle.cf_lower_steps.specs.Moment.{Moment, fixed, Stands, Lowers}
 use Rattle.cf_lower_steps.proofs.Statements.{set-value, simulates-from}
@@ -64,16 +65,16 @@ module _ (at : Moment) (h : Stands at) (i : ℕ) (t : SourceType) (lt : i < leng
   locals = h.between.locals
 
   -- the state behind
-  abbrev born_state : State
+  abbrev pub born_state : State
   born_state = record s { next = suc s.next; object = upd s.next (new_object t automatic) s.object; frame = lists_local i s.next s.frame }
 
-  abbrev G : Map
+  abbrev pub G : Map
   G = extended s.next t b 0 shown F
 
   count : F.count ≡ s.next
   count = h.between.rel.count
 
-  grows : Grows F G
+  pub grows : Grows F G
   grows = grows-extended F s.next t b 0 shown (let e = count in omega (arith, e))
 
   old : (o : ℕ) → o < F.count → o == s.next ≡ false
@@ -183,12 +184,30 @@ module _ (at : Moment) (h : Stands at) (i : ℕ) (t : SourceType) (lt : i < leng
                 ap (λ (t : Bool). if t then Some s.next else s.frame.locals j) (number-same j i (sym same)) ∙ ap (λ (k : ℕ). Some k) (sym number)
             by_test false q = by_local q (j == i) refl
 
-    between-new : Between (fixed at) at.own at.scope G at.kept at.registers born_state at.memory.memory
+    pub between-new : Between (fixed at) at.own at.scope G at.kept at.registers born_state at.memory.memory
     between-new = record {
       rel = rel-new;
       registers = registers-grow (fixed at) F G grows at.kept at.registers at.scope at.memory.memory h.between.registers;
       blocks = blocks-new;
       locals = locals-new;
+    }
+
+    -- the address of the C local
+    pub given-new : GivenAs (fixed at) G (holds (address (without_const t))) (source.At (root s.next)) (value_of (c_tree.address (local_name i)) at.scope at.memory.memory)
+    given-new = record {
+      value = value.Address (pointer.At b 0);
+      is = ap named_address here.named;
+      same = record {
+        known = omega arith;
+        visible = ap is_hidden (upd-same s.next shown F.stage);
+        inside = refl;
+        type = inr (ap without_const (upd-same s.next t F.type));
+        pointer = pointer.At b 0;
+        some = tt;
+        is = refl;
+        there = λ k. ap (λ n. pointer.At n 0) (sym (upd-same s.next b F.block))
+            ∙ ap (pointer.At (upd s.next b F.block s.next)) (let base = upd-same s.next 0 F.base in let z : 0 ≡ upd s.next 0 F.base s.next + 0 = omega (arith, base) in z);
+      };
     }
 
     module _ (r : Register) (lr : r < at.own.bound) where
@@ -199,24 +218,9 @@ module _ (at : Moment) (h : Stands at) (i : ℕ) (t : SourceType) (lt : i < leng
       declared =
           simulates-from (fixed at) at.own at.scope (keep at.kept r (holds (address (without_const t)))) falls_only F G grows _ _
           (set-value at.c_again at.helps at.c_program at.helper at.scope at.depth (fixed at) at.own G at.kept at.registers born_state at.memory at.world between-new h.below
-          (holds (address (without_const t))) (address (without_const t)) r lr refl (c_tree.address (local_name i)) refl falls_only (source.At (root s.next))
-          (record {
-            value = value.Address (pointer.At b 0);
-            is = ap named_address here.named;
-            same = record {
-              known = omega arith;
-              visible = ap is_hidden (upd-same s.next shown F.stage);
-              inside = refl;
-              type = inr (ap without_const (upd-same s.next t F.type));
-              pointer = pointer.At b 0;
-              some = tt;
-              is = refl;
-              there = λ k. ap (λ n. pointer.At n 0) (sym (upd-same s.next b F.block))
-                  ∙ ap (pointer.At (upd s.next b F.block s.next)) (let base = upd-same s.next 0 F.base in let z : 0 ≡ upd s.next 0 F.base s.next + 0 = omega (arith, base) in z);
-            };
-          }))
+          (holds (address (without_const t))) (address (without_const t)) r lr refl (c_tree.address (local_name i)) refl falls_only (source.At (root s.next)) given-new)
 
-    kept-here : declared_kept at.inside.locals i t ≡ holds (address (without_const t))
+    pub kept-here : declared_kept at.inside.locals i t ≡ holds (address (without_const t))
     kept-here =
         ap (λ l. declared_kept l i t) h.locals ∙ ap (λ (q : Bool). if q then argument i t else holds (address (without_const t))) visible
 

@@ -1,0 +1,139 @@
+-- Locals that begin and end.
+use Rattle.std.proofs.Common.{◌≡◌, ℕ, ◌<◌, Bool, true, false, ◌&&◌, ◌==◌, nat_lt, if◌then◌else◌, [], ◌∷◌, refl, sym, ◌∙◌, ap, subst, arith}
+use Rattle.std.specs.Prelude.{Option, Some, None, length}
+use Rattle.std.proofs.lemmas.Bool.Decides.{nat_tests}
+use Rattle.cf_base.specs.World.{World, Went, and_then}
+use Rattle.cf_core.specs.Types.{SourceType, without_const}
+use Rattle.cf_core.specs.Places.{is_scalar}
+use Rattle.cf_core.specs.Store as source
+use Rattle.cf_core.specs.Run.{State, Gives, onward, gone, with_object, lists_local, ◌>>=◌, ◌>>◌, gives, malformed, some_or, valid, declared_object, frame_changed, object_changed}
+use Rattle.cf_core.specs.Calls.{root, destroy}
+use Rattle.cf_lower_layout.specs.Layout.{LaidOut, has_bytes}
+use Rattle.cf_lower_layout.specs.Sorts.{address}
+use Rattle.cf_plain.specs.Plain as plain
+use Rattle.cf_plain.specs.Plain.{Register, act, set}
+use Rattle.cf_plain.specs.Acts.{Registers, doing}
+use Rattle.cf_plain.specs.Running.{Flow, Falls, calls, does, keep as keep_value}
+use Rattle.cc_whole.specs.Plain as c_tree
+use Rattle.cc_whole_mean.specs.Flow as c
+use Rattle.cf_lower_relate.specs.Map.{Map, shown, is_ended, without}
+use Rattle.cf_lower_relate.proofs.Births.{grows-without}
+use Rattle.cf_lower_relate.proofs.Objects.{upd-other}
+use Rattle.cf_lower.specs.Kept.{holds, argument, Keeping, keep, declared_kept, is_argument, type_of_local, local_kept, after}
+use Rattle.cf_lower.specs.Written.{local_name}
+use Rattle.cf_lower.specs.Statements.{lowered, put_in}
+use Rattle.cf_lower_steps.specs.Flows.{Simulates}
+use Rattle.cf_lower_steps.specs.Moment.{Moment}
+use Rattle.cf_lower_turns.specs.Around.{Around, depth_of, inside_at}
+use Rattle.cf_lower_turns.specs.Here.{Free, Here}
+use Rattle.cf_lower_turns.specs.Ways.{ends}
+use Rattle.cf_lower_turns.specs.Scene.{GivesBack, Scene, fixed_in, again_at, list_at}
+use Rattle.cf_lower_turns.proofs.Following.{sim-here}
+use Rattle.cf_lower_leaves.proofs.Setting.{set-step}
+use Rattle.cf_lower_objects.proofs.Declaring as declaring
+use Rattle.cf_lower_objects.proofs.Finishing as finishing
+use Rattle.cf_lower_actions.specs.Fits.{Fits}
+use Rattle.cf_lower_actions.specs.Leaf.{IsOver}
+use Rattle.cf_lower_actions.proofs.Moments.{moment, stands}
+use Rattle.cf_lower_actions.proofs.Runs.{here-grown}
+
+module _ (z : Scene) (fits : Fits z) (around : Around Keeping) (p : Keeping) (n : ℕ) (g : Registers) (s : State) (t : c.State) (w : World)
+    (h : Here (fixed_in z) z.body p (depth_of around) g s t) where
+  abbrev S : Keeping → Flow → State → c.Flow → Type 0
+  S q = ends Keeping z.body.scope (Here (fixed_in z) z.body) (GivesBack (fixed_in z) z.body z.result) around q
+
+  abbrev at : Moment
+  at = moment z around p n g s t w h
+
+  -- ---- a local begins
+
+  module _ (i : ℕ) (y : SourceType) (lt : i < length z.body.own.locals.types) (typed : without_const y ≡ without_const (type_of_local z.body.own.locals i))
+      (laid : LaidOut z.program.classes y) (over : IsOver s i) (visible : is_argument z.body.own.locals i && is_scalar y ≡ false) where
+    -- its objects of before have ended in the map too
+    ended : (o : ℕ) → s.frame.locals i ≡ Some o → is_ended (h.map.stage o) ≡ true
+    ended o e = sym (h.between.rel.gone o (h.between.locals.objects i o lt e).known) ∙ over o e
+
+    abbrev G : Map
+    G = declaring.G at (stands z around p n g s t w h fits) i y lt typed laid ended
+
+    abbrev behind : State
+    behind = declaring.born_state at (stands z around p n g s t w h fits) i y lt typed laid ended
+
+    -- the C local is no block that was there before, and no flag's
+    known : (o : ℕ) → o < G.count → o == s.next ≡ false → o < h.map.count
+    known o lo e = let c = h.between.rel.count in grind (arith, nat_tests, e, lo, c)
+
+    begins : (o : ℕ) → (b : ℕ) → o < G.count → is_ended (G.stage o) ≡ false → G.block o ≡ b → (z.body.own.local i ≡ b → ⊥)
+        → (o < h.map.count → is_ended (h.map.stage o) ≡ false → h.map.block o ≡ b → ⊥) → ⊥
+    begins o b lo live e new old = by_test (o == s.next) refl
+      where
+        by_test : (q : Bool) → o == s.next ≡ q → ⊥
+        by_test true q = new (sym (ap (λ (x : Bool). if x then z.body.own.local i else h.map.block o) q) ∙ e)
+        by_test false q =
+            old (known o lo q) (sym (ap is_ended (upd-other s.next o shown h.map.stage q)) ∙ live)
+            (sym (upd-other s.next o (z.body.own.local i) h.map.block q) ∙ e)
+
+    here-born : Here (fixed_in z) z.body p (depth_of around) g behind t
+    here-born = here-grown (fixed_in z) z.body p p (depth_of around) g g s behind t h G
+        (declaring.grows at (stands z around p n g s t w h fits) i y lt typed laid ended)
+        (declaring.between-new at (stands z around p n g s t w h fits) i y lt typed laid ended visible) h.below
+        (λ e o le lo live k. begins o (z.body.flags.block e) lo live k (h.flags_there.locals e i le lt) (λ lm lv m. h.flags_there.free e o le lm lv m))
+        (λ b lb free o lo live k. begins o b lo live k (λ m. let later = h.later.locals i lt in omega (arith, lb, later, m)) (λ lm lv m. free o lm lv m))
+
+    -- what is kept of it
+    kept-here : declared_kept z.inside.locals i y ≡ holds (address (without_const y))
+    kept-here = declaring.kept-here at (stands z around p n g s t w h fits) i y lt typed laid ended visible
+
+    pub declare-set : (r : Register) → r < z.body.own.bound
+        → Simulates (S (after z.inside.locals (set r (plain.declare i y)) p)) (does (again_at z n) z.program (set r (plain.declare i y)) g s w)
+        (list_at z n (lowered (set r (plain.declare i y)) (inside_at z.inside around) p) t w)
+    declare-set r lr =
+        subst (λ k. Simulates (S (keep p r k)) (does (again_at z n) z.program (set r (plain.declare i y)) g s w)
+        (list_at z n (put_in (inside_at z.inside around) (local_kept k) r (c_tree.address (local_name i))) t w)) (sym kept-here) (by_test (nat_lt i s.frame.count))
+      where
+        by_test : (b : Bool) → Simulates (S (keep p r (holds (address (without_const y)))))
+            (((valid b >> (declared_object y >>= (λ o. frame_changed (lists_local i o) >> gives o))) >>= (λ o. gives (source.At (root o)))
+            >>= (λ v. gives (Falls (keep_value g r v)))) s w)
+            (list_at z n (put_in (inside_at z.inside around) (Some (address (without_const y))) r (c_tree.address (local_name i))) t w)
+        by_test true =
+            set-step z n around p (keep p r (holds (address (without_const y)))) g behind t w here-born (holds (address (without_const y))) (address (without_const y)) r lr refl
+            (c_tree.address (local_name i)) refl refl (Went (Gives (source.At (root s.next)) behind) w)
+            (record { by = (refl, refl, declaring.given-new at (stands z around p n g s t w h fits) i y lt typed laid ended visible) })
+        by_test false = record { by = tt }
+
+    pub declare-done : Simulates (S p) (does (again_at z n) z.program (act (plain.declare i y)) g s w)
+        (list_at z n (lowered (act (plain.declare i y)) (inside_at z.inside around) p) t w)
+    declare-done = by_test (nat_lt i s.frame.count)
+      where
+        by_test : (b : Bool) → Simulates (S p)
+            (((valid b >> (declared_object y >>= (λ o. frame_changed (lists_local i o) >> gives o))) >>= (λ o. gives (source.At (root o))) >> gives (Falls g)) s w)
+            (list_at z n [] t w)
+        by_test true =
+            sim-here (S p) (Falls g) behind w (list_at z n [] t w) (c.Falls t) refl (record { after = t; is = refl; related = here-born })
+        by_test false = record { by = tt }
+
+  -- ---- the storage of a local ends
+
+  module _ (i : ℕ) (y : SourceType) (some : has_bytes y ≡ true) where
+    here-ended : (o : ℕ) → Here (fixed_in z) z.body p (depth_of around) g (with_object o gone s) t
+    here-ended o = here-grown (fixed_in z) z.body p p (depth_of around) g g s (with_object o gone s) t h (without o h.map) (grows-without h.map o)
+        (finishing.between-ended at (stands z around p n g s t w h fits) i y some o) h.below
+        (λ e k le lk live m. h.flags_there.free e k le lk (finishing.live-before at (stands z around p n g s t w h fits) i y some o k live) m)
+        (λ b lb free k lk live m. free k lk (finishing.live-before at (stands z around p n g s t w h fits) i y some o k live) m)
+
+    pub finish-done : Simulates (S p) (does (again_at z n) z.program (act (plain.finish y i)) g s w)
+        (list_at z n (lowered (act (plain.finish y i)) (inside_at z.inside around) p) t w)
+    finish-done = by_local (s.frame.locals i)
+      where
+        by_local : (x : Option ℕ)
+            → Simulates (S p)
+            ((some_or x malformed >>= (λ o. destroy (calls (again_at z n)) z.program y (root o) >> doing (object_changed o gone)) >> gives (Falls g)) s w)
+            (list_at z n [] t w)
+        by_local None = record { by = tt }
+        by_local (Some o) =
+            subst (λ ran. Simulates (S p)
+            (and_then
+            (and_then ran (λ did w. onward did (λ u. doing (object_changed o gone)) w))
+            (λ did w. onward did (λ u. gives (Falls g)) w)) (list_at z n [] t w))
+            (sym (finishing.destroyed (calls (again_at z n)) z.program y (root o) s w some))
+            (sim-here (S p) (Falls g) (with_object o gone s) w (list_at z n [] t w) (c.Falls t) refl (record { after = t; is = refl; related = here-ended o }))

@@ -1,0 +1,12 @@
+pub mod Begun
+pub mod Cast
+pub mod Compared
+pub mod Computed
+pub mod First
+pub mod Giving
+pub mod Leaves
+pub mod Moments
+pub mod Moved
+pub mod Named
+pub mod Runs
+pub mod Tested
