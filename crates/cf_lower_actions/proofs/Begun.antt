@@ -1,9 +1,9 @@
 -- Locals that begin and end.
 use Rattle.std.proofs.Common.{◌≡◌, ℕ, ◌<◌, Bool, true, false, ◌&&◌, ◌==◌, nat_lt, if◌then◌else◌, [], ◌∷◌, refl, sym, ◌∙◌, ap, subst, arith}
-use Rattle.std.specs.Prelude.{Option, Some, None, length}
+use Rattle.std.specs.Prelude.{List, Option, Some, None, length}
 use Rattle.std.proofs.lemmas.Bool.Decides.{nat_tests}
 use Rattle.cf_base.specs.World.{World, Went, and_then}
-use Rattle.cf_core.specs.Types.{SourceType, without_const}
+use Rattle.cf_core.specs.Types.{SourceType, const, without_const}
 use Rattle.cf_core.specs.Places.{is_scalar}
 use Rattle.cf_core.specs.Store as source
 use Rattle.cf_core.specs.Run.{State, Gives, onward, gone, with_object, lists_local, ◌>>=◌, ◌>>◌, gives, malformed, some_or, valid, declared_object, frame_changed, object_changed}
@@ -15,8 +15,9 @@ use Rattle.cf_plain.specs.Plain.{Register, act, set}
 use Rattle.cf_plain.specs.Acts.{Registers, doing}
 use Rattle.cf_plain.specs.Running.{Flow, Falls, calls, does, keep as keep_value}
 use Rattle.cc_whole.specs.Plain as c_tree
+use Rattle.cc_whole.specs.Plain.{Statement}
 use Rattle.cc_whole_mean.specs.Flow as c
-use Rattle.cf_lower_relate.specs.Map.{Map, shown, is_ended, without}
+use Rattle.cf_lower_relate.specs.Map.{Map, Stage, hidden, shown, is_ended, is_hidden, without}
 use Rattle.cf_lower_relate.proofs.Births.{grows-without}
 use Rattle.cf_lower_relate.proofs.Objects.{upd-other}
 use Rattle.cf_lower.specs.Kept.{holds, argument, Keeping, keep, declared_kept, is_argument, type_of_local, local_kept, after}
@@ -35,7 +36,14 @@ use Rattle.cf_lower_objects.proofs.Finishing as finishing
 use Rattle.cf_lower_actions.specs.Fits.{Fits}
 use Rattle.cf_lower_actions.specs.Leaf.{IsOver}
 use Rattle.cf_lower_actions.proofs.Moments.{moment, stands}
-use Rattle.cf_lower_actions.proofs.Runs.{here-grown}
+use Rattle.cf_lower_actions.proofs.Runs.{here-grown, here-silent}
+
+true-false : {b : Bool} → b ≡ true → b ≡ false → ⊥
+true-false h k = absurd (cc)
+
+scalar-const : (t : SourceType) → is_scalar t ≡ is_scalar (without_const t)
+scalar-const (const t) = scalar-const t
+scalar-const t = refl
 
 module _ (z : Scene) (fits : Fits z) (around : Around Keeping) (p : Keeping) (n : ℕ) (g : Registers) (s : State) (t : c.State) (w : World)
     (h : Here (fixed_in z) z.body p (depth_of around) g s t) where
@@ -48,69 +56,94 @@ module _ (z : Scene) (fits : Fits z) (around : Around Keeping) (p : Keeping) (n 
   -- ---- a local begins
 
   module _ (i : ℕ) (y : SourceType) (lt : i < length z.body.own.locals.types) (typed : without_const y ≡ without_const (type_of_local z.body.own.locals i))
-      (laid : LaidOut z.program.classes y) (over : IsOver s i) (visible : is_argument z.body.own.locals i && is_scalar y ≡ false) where
+      (laid : LaidOut z.program.classes y) (over : IsOver s i) where
     -- its objects of before have ended in the map too
     ended : (o : ℕ) → s.frame.locals i ≡ Some o → is_ended (h.map.stage o) ≡ true
     ended o e = sym (h.between.rel.gone o (h.between.locals.objects i o lt e).known) ∙ over o e
 
-    abbrev G : Map
-    G = declaring.G at (stands z around p n g s t w h fits) i y lt typed laid ended
+    module _ (st : Stage) (live_now : is_ended st ≡ false) (seen : is_argument z.body.own.locals i && is_scalar (type_of_local z.body.own.locals i) ≡ false → is_hidden st ≡ false) where
+      abbrev G : Map
+      G = declaring.G at (stands z around p n g s t w h fits) i y lt typed laid ended st live_now seen
 
-    abbrev behind : State
-    behind = declaring.born_state at (stands z around p n g s t w h fits) i y lt typed laid ended
+      abbrev behind : State
+      behind = declaring.born_state at (stands z around p n g s t w h fits) i y lt typed laid ended st live_now seen
 
-    -- the C local is no block that was there before, and no flag's
-    known : (o : ℕ) → o < G.count → o == s.next ≡ false → o < h.map.count
-    known o lo e = let c = h.between.rel.count in grind (arith, nat_tests, e, lo, c)
+      -- a block in which the object does not come to stand
+      known : (o : ℕ) → o < G.count → o == s.next ≡ false → o < h.map.count
+      known o lo e = let c = h.between.rel.count in grind (arith, nat_tests, e, lo, c)
 
-    begins : (o : ℕ) → (b : ℕ) → o < G.count → is_ended (G.stage o) ≡ false → G.block o ≡ b → (z.body.own.local i ≡ b → ⊥)
-        → (o < h.map.count → is_ended (h.map.stage o) ≡ false → h.map.block o ≡ b → ⊥) → ⊥
-    begins o b lo live e new old = by_test (o == s.next) refl
-      where
-        by_test : (q : Bool) → o == s.next ≡ q → ⊥
-        by_test true q = new (sym (ap (λ (x : Bool). if x then z.body.own.local i else h.map.block o) q) ∙ e)
-        by_test false q =
-            old (known o lo q) (sym (ap is_ended (upd-other s.next o shown h.map.stage q)) ∙ live)
-            (sym (upd-other s.next o (z.body.own.local i) h.map.block q) ∙ e)
+      elsewhere : (o b : ℕ) → o < G.count → is_ended (G.stage o) ≡ false → G.block o ≡ b → (z.body.own.local i ≡ b → ⊥)
+          → (o < h.map.count → is_ended (h.map.stage o) ≡ false → h.map.block o ≡ b → ⊥) → ⊥
+      elsewhere o b lo live e new old = by_test (o == s.next) refl
+        where
+          by_test : (q : Bool) → o == s.next ≡ q → ⊥
+          by_test true q = new (sym (ap (λ (x : Bool). if x then z.body.own.local i else h.map.block o) q) ∙ e)
+          by_test false q =
+              old (known o lo q) (sym (ap is_ended (upd-other s.next o st h.map.stage q)) ∙ live) (sym (upd-other s.next o (z.body.own.local i) h.map.block q) ∙ e)
 
-    here-born : Here (fixed_in z) z.body p (depth_of around) g behind t
-    here-born = here-grown (fixed_in z) z.body p p (depth_of around) g g s behind t h G
-        (declaring.grows at (stands z around p n g s t w h fits) i y lt typed laid ended)
-        (declaring.between-new at (stands z around p n g s t w h fits) i y lt typed laid ended visible) h.below
-        (λ e o le lo live k. begins o (z.body.flags.block e) lo live k (h.flags_there.locals e i le lt) (λ lm lv m. h.flags_there.free e o le lm lv m))
-        (λ b lb free o lo live k. begins o b lo live k (λ m. let later = h.later.locals i lt in omega (arith, lb, later, m)) (λ lm lv m. free o lm lv m))
+      here-born : Here (fixed_in z) z.body p (depth_of around) g behind t
+      here-born = here-grown (fixed_in z) z.body p p (depth_of around) g g s behind t h G
+          (declaring.grows at (stands z around p n g s t w h fits) i y lt typed laid ended st live_now seen)
+          (declaring.between-new at (stands z around p n g s t w h fits) i y lt typed laid ended st live_now seen) h.below
+          (λ e o le lo live k. elsewhere o (z.body.flags.block e) lo live k (h.flags_there.locals e i le lt) (λ lm lv m. h.flags_there.free e o le lm lv m))
+          (λ b lb free o lo live k. elsewhere o b lo live k (λ m. let later = h.later.locals i lt in omega (arith, lb, later, m)) (λ lm lv m. free o lm lv m))
 
-    -- what is kept of it
-    kept-here : declared_kept z.inside.locals i y ≡ holds (address (without_const y))
-    kept-here = declaring.kept-here at (stands z around p n g s t w h fits) i y lt typed laid ended visible
+      -- the declaration, whose place goes to a register or is dropped
+      declared-then : (S' : Flow → State → c.Flow → Type 0) (go : source.Value → Flow) (ss : List Statement)
+          → Simulates S' (Went (Gives (go (source.At (root s.next))) behind) w) (list_at z n ss t w)
+          → (b : Bool) → Simulates S'
+          (((valid b >> (declared_object y >>= (λ o. frame_changed (lists_local i o) >> gives o))) >>= (λ o. gives (source.At (root o))) >>= (λ v. gives (go v))) s w)
+          (list_at z n ss t w)
+      declared-then S' go ss there true = there
+      declared-then S' go ss there false = record { by = tt }
 
-    pub declare-set : (r : Register) → r < z.body.own.bound
-        → Simulates (S (after z.inside.locals (set r (plain.declare i y)) p)) (does (again_at z n) z.program (set r (plain.declare i y)) g s w)
-        (list_at z n (lowered (set r (plain.declare i y)) (inside_at z.inside around) p) t w)
-    declare-set r lr =
-        subst (λ k. Simulates (S (keep p r k)) (does (again_at z n) z.program (set r (plain.declare i y)) g s w)
-        (list_at z n (put_in (inside_at z.inside around) (local_kept k) r (c_tree.address (local_name i))) t w)) (sym kept-here) (by_test (nat_lt i s.frame.count))
-      where
-        by_test : (b : Bool) → Simulates (S (keep p r (holds (address (without_const y)))))
-            (((valid b >> (declared_object y >>= (λ o. frame_changed (lists_local i o) >> gives o))) >>= (λ o. gives (source.At (root o)))
-            >>= (λ v. gives (Falls (keep_value g r v)))) s w)
-            (list_at z n (put_in (inside_at z.inside around) (Some (address (without_const y))) r (c_tree.address (local_name i))) t w)
-        by_test true =
-            set-step z n around p (keep p r (holds (address (without_const y)))) g behind t w here-born (holds (address (without_const y))) (address (without_const y)) r lr refl
-            (c_tree.address (local_name i)) refl refl (Went (Gives (source.At (root s.next)) behind) w)
-            (record { by = (refl, refl, declaring.given-new at (stands z around p n g s t w h fits) i y lt typed laid ended visible) })
-        by_test false = record { by = tt }
+      -- nothing is kept of it
+      pub declare-done : Simulates (S p) (does (again_at z n) z.program (act (plain.declare i y)) g s w)
+          (list_at z n (lowered (act (plain.declare i y)) (inside_at z.inside around) p) t w)
+      declare-done = declared-then (S p) (λ v. Falls g) []
+          (sim-here (S p) (Falls g) behind w (list_at z n [] t w) (c.Falls t) refl (record { after = t; is = refl; related = here-born })) (nat_lt i s.frame.count)
 
-    pub declare-done : Simulates (S p) (does (again_at z n) z.program (act (plain.declare i y)) g s w)
-        (list_at z n (lowered (act (plain.declare i y)) (inside_at z.inside around) p) t w)
-    declare-done = by_test (nat_lt i s.frame.count)
-      where
-        by_test : (b : Bool) → Simulates (S p)
-            (((valid b >> (declared_object y >>= (λ o. frame_changed (lists_local i o) >> gives o))) >>= (λ o. gives (source.At (root o))) >> gives (Falls g)) s w)
-            (list_at z n [] t w)
-        by_test true =
-            sim-here (S p) (Falls g) behind w (list_at z n [] t w) (c.Falls t) refl (record { after = t; is = refl; related = here-born })
-        by_test false = record { by = tt }
+    -- a local of the function: the register has the address of the C local
+    module _ (visible : is_argument z.body.own.locals i && is_scalar y ≡ false) where
+      kept-here : declared_kept z.inside.locals i y ≡ holds (address (without_const y))
+      kept-here = declaring.kept-here at (stands z around p n g s t w h fits) i y lt typed laid ended visible
+
+      pub declare-set : (r : Register) → r < z.body.own.bound
+          → Simulates (S (after z.inside.locals (set r (plain.declare i y)) p)) (does (again_at z n) z.program (set r (plain.declare i y)) g s w)
+          (list_at z n (lowered (set r (plain.declare i y)) (inside_at z.inside around) p) t w)
+      declare-set r lr =
+          subst (λ k. Simulates (S (keep p r k)) (does (again_at z n) z.program (set r (plain.declare i y)) g s w)
+          (list_at z n (put_in (inside_at z.inside around) (local_kept k) r (c_tree.address (local_name i))) t w)) (sym kept-here)
+          (declared-then shown refl (λ v. refl) (S (keep p r (holds (address (without_const y))))) (λ v. Falls (keep_value g r v))
+          (put_in (inside_at z.inside around) (Some (address (without_const y))) r (c_tree.address (local_name i)))
+          (set-step z n around p (keep p r (holds (address (without_const y)))) g (behind shown refl (λ v. refl)) t w (here-born shown refl (λ v. refl))
+          (holds (address (without_const y))) (address (without_const y)) r lr refl
+          (c_tree.address (local_name i)) refl refl (Went (Gives (source.At (root s.next)) (behind shown refl (λ v. refl))) w)
+          (record { by = (refl, refl, declaring.given-new at (stands z around p n g s t w h fits) i y lt typed laid ended shown refl (λ v. refl) refl) }))
+          (nat_lt i s.frame.count))
+
+    -- the object of a parameter of a call: nothing points to it before the function is entered
+    module _ (of_call : is_argument z.body.own.locals i && is_scalar y ≡ true) where
+      argument-here : declared_kept z.inside.locals i y ≡ argument i y
+      argument-here =
+          ap (λ l. declared_kept l i y) fits.locals ∙ ap (λ (q : Bool). if q then argument i y else holds (address (without_const y))) of_call
+
+      pub unseen : is_argument z.body.own.locals i && is_scalar (type_of_local z.body.own.locals i) ≡ false → is_hidden hidden ≡ false
+      unseen v =
+          absurd (true-false (ap (λ b. is_argument z.body.own.locals i && b) (sym (scalar-const y ∙ ap is_scalar typed ∙ sym (scalar-const (type_of_local z.body.own.locals i)))) ∙ of_call) v)
+
+      pub argument-set : (r : Register) → Simulates (S (after z.inside.locals (set r (plain.declare i y)) p)) (does (again_at z n) z.program (set r (plain.declare i y)) g s w)
+          (list_at z n (lowered (set r (plain.declare i y)) (inside_at z.inside around) p) t w)
+      argument-set r =
+          subst (λ k. Simulates (S (keep p r k)) (does (again_at z n) z.program (set r (plain.declare i y)) g s w)
+          (list_at z n (put_in (inside_at z.inside around) (local_kept k) r (c_tree.address (local_name i))) t w)) (sym argument-here)
+          (declared-then hidden refl unseen (S (keep p r (argument i y))) (λ v. Falls (keep_value g r v)) []
+          (sim-here (S (keep p r (argument i y))) (Falls (keep_value g r (source.At (root s.next)))) (behind hidden refl unseen) w (list_at z n [] t w) (c.Falls t) refl
+          (record {
+            after = t;
+            is = refl;
+            related = here-silent (fixed_in z) z.body p (depth_of around) g (behind hidden refl unseen) t (here-born hidden refl unseen) (argument i y) refl r (source.At (root s.next));
+          })) (nat_lt i s.frame.count))
 
   -- ---- the storage of a local ends
 

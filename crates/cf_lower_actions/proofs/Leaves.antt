@@ -5,6 +5,7 @@ use Rattle.std.proofs.lemmas.Bool.Decides.{nat_tests}
 use Rattle.cf_base.specs.declared.kind.Kind.{Kind}
 use Rattle.cf_base.specs.declared.kind.Kind.TheVariants.{Char, SChar, UChar, Short, UShort, Int, UInt, Long, ULong}
 use Rattle.cf_base.specs.Promotion.{promoted}
+use Rattle.cf_base.specs.World.{World}
 use Rattle.cf_base.proofs.Tests.{both}
 use Rattle.cf_core.specs.declared.operators.PointerOperator.{PointerOperator}
 use Rattle.cf_core.specs.declared.operators.PointerOperator.TheVariants as pointer
@@ -15,31 +16,38 @@ use Rattle.cf_core.specs.Classes.{Class}
 use Rattle.cf_core.specs.Core.{Change, arithmetic, moved}
 use Rattle.cf_core.specs.Places.{is_reference, is_scalar}
 use Rattle.cf_core.specs.Size.{size}
+use Rattle.cf_core.specs.Run.{State}
 use Rattle.cf_core.specs.Calls.{is_library}
 use Rattle.cf_lower_layout.specs.Layout.{LaidOut, has_bytes, const_once}
 use Rattle.cf_lower_layout.specs.Sorts.{Sort, number, address, code, sort_of}
 use Rattle.cf_lower_layout.proofs.Types.{same-type}
 use Rattle.cf_plain.specs.Plain as plain
 use Rattle.cf_plain.specs.Plain.{Register, Action, Plain, act, set, give}
-use Rattle.cf_lower.specs.Kept.{Kept, integer_of, holds, Keeping, Locals, local_kept, type_of_local, is_argument}
+use Rattle.cf_plain.specs.Acts.{Registers}
+use Rattle.cc_whole_mean.specs.Flow as c
+use Rattle.cf_lower.specs.Kept.{Kept, integer_of, holds, argument, Keeping, Locals, local_kept, referred, type_of_local, is_argument}
 use Rattle.cf_lower_kept.specs.Ready.{is_code}
 use Rattle.cf_lower_kept.proofs.Operands.{address-sort}
 use Rattle.cf_lower_steps.specs.Lowering.{Takes, is_function}
-use Rattle.cf_lower_turns.specs.Around.{Around}
-use Rattle.cf_lower_turns.specs.Scene.{Scene}
+use Rattle.cf_lower_relate.specs.Map.{hidden, shown}
+use Rattle.cf_lower_turns.specs.Around.{Around, depth_of}
+use Rattle.cf_lower_turns.specs.Here.{Here}
+use Rattle.cf_lower_turns.specs.Scene.{Scene, fixed_in}
 use Rattle.cf_lower_leaves.proofs.Leaves.{store-leaf}
 use Rattle.cf_lower_actions.specs.Fits.{Fits}
 use Rattle.cf_lower_actions.specs.Given.{Given}
-use Rattle.cf_lower_actions.specs.Leaf.{is_integer, is_address, is_pointer, is_tested, is_scalars_place, may_move, may_add, may_subtract, have_order, may_equal, may_operate, may_convert, may_hold, may_store, may_change, is_laid, is_own, is_object_local, may_begin, names_function, is_promoted, is_promoted_change, gives_value, may_set, may_do, may_give, is_leaf, RunsAlike}
-use Rattle.cf_lower_actions.proofs.Begun.{declare-set, declare-done, finish-done}
+use Rattle.cf_lower_actions.specs.Leaf.{is_integer, is_address, is_pointer, is_tested, is_scalars_place, may_move, may_add, may_subtract, have_order, may_equal, may_operate, may_convert, may_hold, may_store, may_first, is_local, may_change, is_laid, const_on_none, is_own, is_object_local, is_reference_local, may_begin, names_function, is_promoted, is_promoted_change, gives_value, may_set, may_do, may_give, is_leaf, FirstThere, AlikeAt, RunsAlike}
+use Rattle.cf_lower_actions.proofs.Begun.{declare-set, declare-done, argument-set, unseen, finish-done}
 use Rattle.cf_lower_actions.proofs.Cast as cast
 use Rattle.cf_lower_actions.proofs.Compared as compared
 use Rattle.cf_lower_actions.proofs.Computed as computed
-use Rattle.cf_lower_actions.proofs.First.{first-done}
+use Rattle.cf_lower_actions.proofs.First.{first-done, argument-done}
 use Rattle.cf_lower_actions.proofs.Giving.{give-none, give-void, give-value}
 use Rattle.cf_lower_actions.proofs.Moved as moved_by
 use Rattle.cf_lower_actions.proofs.Named as named
+use Rattle.cf_lower_actions.proofs.References.{reference-given}
 use Rattle.cf_lower_actions.proofs.Runs.{given-set, given-dropped}
+use Rattle.cf_lower_actions.proofs.Statics.{static-given}
 use Rattle.cf_lower_actions.proofs.Tested as tested
 
 -- ---- tests
@@ -193,8 +201,8 @@ module _ (z : Scene) (fits : Fits z) (around : Around Keeping) (p : Keeping) whe
       by_test l (inl k) = absurd (true-false l (no-not (is_library name) k))
       by_test l (inr k) = same-type (without_const (z.signature name)) (without_const y) k
 
-  local-by : (i : ℕ) → is_object_local z.body.own.locals i ≡ true → Given z around p (plain.local i)
-  local-by i e =
+  object-by : (i : ℕ) → is_object_local z.body.own.locals i ≡ true → Given z around p (plain.local i)
+  object-by i e =
       let y = type_of_local z.body.own.locals i in
       let two = both (is_own z.body.own.locals i y) (not (is_reference y) && not (is_code y)) e in
       let own = both (nat_lt i (length z.body.own.locals.types)) (not (is_argument z.body.own.locals i && is_scalar y)) two.0 in
@@ -202,9 +210,24 @@ module _ (z : Scene) (fits : Fits z) (around : Around Keeping) (p : Keeping) whe
       named.local-given z fits around p i (below i (length z.body.own.locals.types) own.0) (no-not (is_reference y) type.0)
       (no-not (is_argument z.body.own.locals i && is_scalar y) own.1) (address-sort y (no-not (is_code y) type.1))
 
+  reference-by : (i : ℕ) → is_reference_local z.body.own.locals i ≡ true → Given z around p (plain.local i)
+  reference-by i e =
+      let y = type_of_local z.body.own.locals i in
+      let two = both (nat_lt i (length z.body.own.locals.types)) (is_reference y && const_on_none (referred y)) e in
+      let type = both (is_reference y) (const_on_none (referred y)) two.1 in
+      reference-given z fits around p i (below i (length z.body.own.locals.types) two.0) type.0 type.1
+
+  local-by : (i : ℕ) → is_object_local z.body.own.locals i || is_reference_local z.body.own.locals i ≡ true → Given z around p (plain.local i)
+  local-by i e = by_test (one-of (is_object_local z.body.own.locals i) (is_reference_local z.body.own.locals i) e)
+    where
+      by_test : (is_object_local z.body.own.locals i ≡ true) ⊎ (is_reference_local z.body.own.locals i ≡ true) → Given z around p (plain.local i)
+      by_test (inl k) = object-by i k
+      by_test (inr k) = reference-by i k
+
   pub gives : (a : Action) → gives_value z p a ≡ true → Given z around p a
   gives (plain.number k) e = computed.number-given z around p k e
   gives (plain.local i) e = local-by i e
+  gives (plain.static_object name y) e = let two = both (not (is_reference y)) (not (is_code y)) e in static-given z fits around p name y (no-not (is_reference y) two.0) (no-not (is_code y) two.1)
   gives (plain.function name y) e = function-by name y e
   gives (plain.read q) e = read-by q (p q) refl e
   gives (plain.dereference q) e = pointer-cases (p q) e (λ u kq. cast.dereference-given z around p q u kq)
@@ -234,28 +257,57 @@ module _ (z : Scene) (fits : Fits z) (around : Around Keeping) (p : Keeping) whe
       let three = both (has_bytes y) (const_once y) two.1 in
       record { small = at-most (size cs y) (2 ^ 22) two.0; some = three.0; once = three.1 }
 
+  module _ (i : ℕ) (y : SourceType) (e : may_begin z i y ≡ true) where
+    begins : (is_local z.body.own.locals i y ≡ true) × (is_laid z.program.classes y ≡ true)
+    begins = both (is_local z.body.own.locals i y) (is_laid z.program.classes y) e
+
+    its-own : (nat_lt i (length z.body.own.locals.types) ≡ true) × (type_eq (without_const y) (without_const (type_of_local z.body.own.locals i)) ≡ true)
+    its-own = both (nat_lt i (length z.body.own.locals.types)) (type_eq (without_const y) (without_const (type_of_local z.body.own.locals i))) begins.0
+
+    there : i < length z.body.own.locals.types
+    there = below i (length z.body.own.locals.types) its-own.0
+
+    typed : without_const y ≡ without_const (type_of_local z.body.own.locals i)
+    typed = same-type (without_const y) (without_const (type_of_local z.body.own.locals i)) its-own.1
+
+    laid : LaidOut z.program.classes y
+    laid = laid-out z.program.classes y begins.1
+
+    declare-alike : (r : Register) → r < z.body.own.bound → RunsAlike z around p (set r (plain.declare i y))
+    declare-alike r lt n g s t w h over = by_test (is_argument z.body.own.locals i && is_scalar y) refl
+      where
+        by_test : (b : Bool) → is_argument z.body.own.locals i && is_scalar y ≡ b → AlikeAt z around p (set r (plain.declare i y)) n g s t w
+        by_test false k = declare-set z fits around p n g s t w h i y there typed laid over k r lt
+        by_test true k = argument-set z fits around p n g s t w h i y there typed laid over k r
+
+    declared-alike : RunsAlike z around p (act (plain.declare i y))
+    declared-alike n g s t w h over = by_test (is_argument z.body.own.locals i && is_scalar y) refl
+      where
+        by_test : (b : Bool) → is_argument z.body.own.locals i && is_scalar y ≡ b → AlikeAt z around p (act (plain.declare i y)) n g s t w
+        by_test false k = declare-done z fits around p n g s t w h i y there typed laid over shown refl (λ v. refl)
+        by_test true k = declare-done z fits around p n g s t w h i y there typed laid over hidden refl (unseen z fits around p n g s t w h i y there typed laid over k)
+
+  -- a first value, by the kind of object
+  first-alike : (r q : Register) (x : Kept) → p r ≡ x → may_first z.body.own.locals x (p q) ≡ true → (n : ℕ) (g : Registers) (s : State) (t : c.State) (w : World)
+      → Here (fixed_in z) z.body p (depth_of around) g s t → FirstThere z.program.classes x g s r → AlikeAt z around p (act (plain.first r q)) n g s t w
+  first-alike r q (argument i y) kr e n g s t w h there =
+      let two = both (is_local z.body.own.locals i y) (may_hold (sort_of y) (p q)) e in
+      let own = both (nat_lt i (length z.body.own.locals.types)) (type_eq (without_const y) (without_const (type_of_local z.body.own.locals i))) two.0 in
+      hold-cases (sort_of y) (p q) two.1 (λ u b k l takes. argument-done z fits around p n g s t w h r q i y u (p q) b kr
+      (below i (length z.body.own.locals.types) own.0) (same-type (without_const y) (without_const (type_of_local z.body.own.locals i)) own.1) k refl l takes there)
+  first-alike r q (holds (address y)) kr e n g s t w h there =
+      hold-cases (sort_of y) (p q) e (λ u b k l takes. first-done z around p n g s t w h r q y u (p q) b kr k refl l takes there)
+  first-alike r q x kr e n g s t w h there = absurd (cc)
+
   set-alike : (r : Register) (a : Action) → r < z.body.own.bound → may_set z p a ≡ true → RunsAlike z around p (set r a)
-  set-alike r (plain.declare i y) lt e n g s t w h over =
-      let two = both (is_own z.body.own.locals i y) (type_eq (without_const y) (without_const (type_of_local z.body.own.locals i)) && is_laid z.program.classes y) e in
-      let own = both (nat_lt i (length z.body.own.locals.types)) (not (is_argument z.body.own.locals i && is_scalar y)) two.0 in
-      let type = both (type_eq (without_const y) (without_const (type_of_local z.body.own.locals i))) (is_laid z.program.classes y) two.1 in
-      declare-set z fits around p n g s t w h i y (below i (length z.body.own.locals.types) own.0)
-      (same-type (without_const y) (without_const (type_of_local z.body.own.locals i)) type.0) (laid-out z.program.classes y type.1) over
-      (no-not (is_argument z.body.own.locals i && is_scalar y) own.1) r lt
+  set-alike r (plain.declare i y) lt e n g s t w h over = declare-alike i y e r lt n g s t w h over
   set-alike r a lt e n g s t w h over = given-set z around p r a lt (gives a e) n g s t w h
 
   do-alike : (a : Action) → may_do z p a ≡ true → RunsAlike z around p (act a)
-  do-alike (plain.declare i y) e n g s t w h over =
-      let two = both (is_own z.body.own.locals i y) (type_eq (without_const y) (without_const (type_of_local z.body.own.locals i)) && is_laid z.program.classes y) e in
-      let own = both (nat_lt i (length z.body.own.locals.types)) (not (is_argument z.body.own.locals i && is_scalar y)) two.0 in
-      let type = both (type_eq (without_const y) (without_const (type_of_local z.body.own.locals i))) (is_laid z.program.classes y) two.1 in
-      declare-done z fits around p n g s t w h i y (below i (length z.body.own.locals.types) own.0)
-      (same-type (without_const y) (without_const (type_of_local z.body.own.locals i)) type.0) (laid-out z.program.classes y type.1) over
-      (no-not (is_argument z.body.own.locals i && is_scalar y) own.1)
+  do-alike (plain.declare i y) e n g s t w h over = declared-alike i y e n g s t w h over
   do-alike (plain.store r q) e n g s t w h over =
       store-cases (p r) (p q) e (λ y u b kr i l takes. store-leaf z around p r q y u (p q) b kr i refl l takes n g s t w h)
-  do-alike (plain.first r q) e n g s t w h there =
-      store-cases (p r) (p q) e (λ y u b kr i l takes. first-done z around p n g s t w h r q y u (p q) b kr i refl l takes there)
+  do-alike (plain.first r q) e n g s t w h there = first-alike r q (p r) refl e n g s t w h there
   do-alike (plain.finish y i) e n g s t w h over = finish-done z fits around p n g s t w h i y e
   do-alike a e n g s t w h over = given-dropped z around p a (gives a e) n g s t w h
 

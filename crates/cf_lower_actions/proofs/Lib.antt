@@ -8,5 +8,7 @@ pub mod Leaves
 pub mod Moments
 pub mod Moved
 pub mod Named
+pub mod References
 pub mod Runs
+pub mod Statics
 pub mod Tested

@@ -1,12 +1,12 @@
 -- Which statements are leaves that their C does alike, by what registers hold before them; and what has to be so of the source's objects.
-use Rattle.std.specs.Prelude.{◌≡◌, ℕ, ◌^◌, nat_le, nat_lt, Bool, true, false, ◌&&◌, ◌||◌, not, ℤ, List, Option, Some, None, is_some, length}
+use Rattle.std.specs.Prelude.{◌≡◌, ℕ, ◌^◌, nat_le, nat_lt, Bool, true, false, ◌&&◌, ◌||◌, not, ℤ, List, [], Option, Some, None, is_some, length}
 use Rattle.cf_base.specs.declared.kind.Kind.{Kind}
 use Rattle.cf_base.specs.declared.kind.Kind.TheVariants.{Int, UInt, Long, ULong}
 use Rattle.cf_base.specs.Integers.{fits}
 use Rattle.cf_base.specs.World.{World}
 use Rattle.cf_core.specs.declared.operators.PointerOperator.{PointerOperator}
 use Rattle.cf_core.specs.declared.operators.PointerOperator.TheVariants as pointer
-use Rattle.cf_core.specs.Types.{Name, SourceType, void, is_void, type_eq, without_const}
+use Rattle.cf_core.specs.Types.{Name, SourceType, void, const, is_void, type_eq, without_const}
 use Rattle.cf_core.specs.Classes.{Class}
 use Rattle.cf_core.specs.Core.{Change, arithmetic, moved}
 use Rattle.cf_core.specs.Places.{Place, is_reference, is_scalar}
@@ -21,7 +21,7 @@ use Rattle.cf_plain.specs.Plain.{Register, Action, Plain, act, set, give}
 use Rattle.cf_plain.specs.Acts.{Registers}
 use Rattle.cf_plain.specs.Running.{does}
 use Rattle.cc_whole_mean.specs.Flow as c
-use Rattle.cf_lower.specs.Kept.{Kept, integer_of, holds, Keeping, Locals, type_of_local, is_argument, after}
+use Rattle.cf_lower.specs.Kept.{Kept, integer_of, holds, argument, Keeping, Locals, referred, type_of_local, is_argument, after}
 use Rattle.cf_lower.specs.Statements.{lowered}
 use Rattle.cf_lower_kept.specs.Ready.{is_code}
 use Rattle.cf_lower_steps.specs.Flows.{Simulates}
@@ -114,6 +114,11 @@ may_store y x = false
 
 -- ---- types and names
 
+-- no const on a function
+abbrev pub const_on_none : SourceType → Bool
+const_on_none (const t) = not (is_code t)
+const_on_none t = true
+
 abbrev pub is_laid : List Class → SourceType → Bool
 is_laid classes t = nat_le (size classes t) (2 ^ 22) && (has_bytes t && const_once t)
 
@@ -126,9 +131,26 @@ abbrev pub is_object_local : Locals → ℕ → Bool
 is_object_local locals i =
     is_own locals i (type_of_local locals i) && (not (is_reference (type_of_local locals i)) && not (is_code (type_of_local locals i)))
 
+-- a local that is a reference
+abbrev pub is_reference_local : Locals → ℕ → Bool
+is_reference_local locals i =
+    nat_lt i (length locals.types) && (is_reference (type_of_local locals i) && const_on_none (referred (type_of_local locals i)))
+
+-- a static object, which no reference is
+abbrev pub is_object_type : SourceType → Bool
+is_object_type t = not (is_reference t) && not (is_code t)
+
+-- a local of this type
+abbrev pub is_local : Locals → ℕ → SourceType → Bool
+is_local locals i t = nat_lt i (length locals.types) && type_eq (without_const t) (without_const (type_of_local locals i))
+
 abbrev pub may_begin : Scene → ℕ → SourceType → Bool
-may_begin z i t =
-    is_own z.body.own.locals i t && (type_eq (without_const t) (without_const (type_of_local z.body.own.locals i)) && is_laid z.program.classes t)
+may_begin z i t = is_local z.body.own.locals i t && is_laid z.program.classes t
+
+-- the first value of a scalar, or of the object of a parameter of a call
+abbrev pub may_first : Locals → Kept → Kept → Bool
+may_first locals (argument i t) x = is_local locals i t && may_hold (sort_of t) x
+may_first locals y x = may_store y x
 
 -- a function of the program, or one of the library's of its type
 abbrev pub names_function : Scene → Name → SourceType → Bool
@@ -151,7 +173,8 @@ is_promoted_change (moved back) = true
 -- actions that give a value and change nothing
 abbrev pub gives_value : Scene → Keeping → Action → Bool
 gives_value z p (plain.number n) = fits Int n || fits UInt n
-gives_value z p (plain.local i) = is_object_local z.body.own.locals i
+gives_value z p (plain.local i) = is_object_local z.body.own.locals i || is_reference_local z.body.own.locals i
+gives_value z p (plain.static_object name t) = is_object_type t
 gives_value z p (plain.function name t) = names_function z name t
 gives_value z p (plain.read q) = is_scalars_place (p q)
 gives_value z p (plain.dereference q) = is_pointer (p q)
@@ -175,7 +198,7 @@ may_set z p a = gives_value z p a
 abbrev pub may_do : Scene → Keeping → Action → Bool
 may_do z p (plain.declare i t) = may_begin z i t
 may_do z p (plain.store r q) = may_store (p r) (p q)
-may_do z p (plain.first r q) = may_store (p r) (p q)
+may_do z p (plain.first r q) = may_first z.body.own.locals (p r) (p q)
 may_do z p (plain.finish t i) = has_bytes t
 may_do z p a = gives_value z p a
 
@@ -202,20 +225,34 @@ IsOver s i = (o : ℕ) → s.frame.locals i ≡ Some o → (s.object o).is_gone 
 abbrev pub IsThere : List Class → Registers → State → Register → Type 0
 IsThere classes g s r = (p : Place) → g r ≡ Some (source.At p) → ((s.object p.object).is_gone ≡ false) × (leads classes (s.object p.object).type p.route ≡ true)
 
-abbrev pub DoneBefore : Scene → Action → Registers → State → Type 0
-DoneBefore z (plain.declare i t) g s = IsOver s i
-DoneBefore z (plain.first r q) g s = IsThere z.program.classes g s r
-DoneBefore z a g s = Unit {0}
+-- the place in a register is the object of a local, which stands
+abbrev pub IsLocals : Registers → State → Register → ℕ → Type 0
+IsLocals g s r i =
+    (p : Place) → g r ≡ Some (source.At p) → (p.route ≡ []) × ((s.frame.locals i ≡ Some p.object) × ((s.object p.object).is_gone ≡ false))
+
+abbrev pub FirstThere : List Class → Kept → Registers → State → Register → Type 0
+FirstThere classes (argument i t) g s r = IsLocals g s r i
+FirstThere classes x g s r = IsThere classes g s r
+
+abbrev pub DoneBefore : Scene → Keeping → Action → Registers → State → Type 0
+DoneBefore z p (plain.declare i t) g s = IsOver s i
+DoneBefore z p (plain.first r q) g s = FirstThere z.program.classes (p r) g s r
+DoneBefore z p a g s = Unit {0}
 
 -- a local begins where no object of it stands, and a first value is stored in an object that does
-abbrev pub Before : Scene → Plain → Registers → State → Type 0
-Before z (set r a) g s = DoneBefore z a g s
-Before z (act a) g s = DoneBefore z a g s
-Before z st g s = Unit {0}
+abbrev pub Before : Scene → Keeping → Plain → Registers → State → Type 0
+Before z p (set r a) g s = DoneBefore z p a g s
+Before z p (act a) g s = DoneBefore z p a g s
+Before z p st g s = Unit {0}
 
--- the statement and its C do the same, at every bound of ticks
+-- the statement and its C do the same, at this bound of ticks
+abbrev pub AlikeAt : Scene → Around Keeping → Keeping → Plain → ℕ → Registers → State → c.State → World → Type 0
+AlikeAt z around p st n g s t w =
+    Simulates (ends Keeping z.body.scope (Here (fixed_in z) z.body) (GivesBack (fixed_in z) z.body z.result) around (after z.inside.locals st p))
+    (does (again_at z n) z.program st g s w) (list_at z n (lowered st (inside_at z.inside around) p) t w)
+
+-- at every bound
 abbrev pub RunsAlike : Scene → Around Keeping → Keeping → Plain → Type 0
 RunsAlike z around p st =
-    (n : ℕ) (g : Registers) (s : State) (t : c.State) (w : World) → Here (fixed_in z) z.body p (depth_of around) g s t → Before z st g s
-    → Simulates (ends Keeping z.body.scope (Here (fixed_in z) z.body) (GivesBack (fixed_in z) z.body z.result) around (after z.inside.locals st p))
-    (does (again_at z n) z.program st g s w) (list_at z n (lowered st (inside_at z.inside around) p) t w)
+    (n : ℕ) (g : Registers) (s : State) (t : c.State) (w : World) → Here (fixed_in z) z.body p (depth_of around) g s t → Before z p st g s
+    → AlikeAt z around p st n g s t w

@@ -26,7 +26,7 @@ no-not true e = absurd (cc)
 no-not false e = refl
 
 -- what points to a place is no number
-holds-sort : (t : SourceType) → lower.of_sort (Some (sort_to t)) ≡ holds (sort_to t)
+pub holds-sort : (t : SourceType) → lower.of_sort (Some (sort_to t)) ≡ holds (sort_to t)
 holds-sort (takes p t) = refl
 holds-sort (gives t c) = refl
 holds-sort t = refl

@@ -44,11 +44,11 @@ or-right false b h = h
 
 -- ---- types of names
 
-reference-const : (t : SourceType) → is_reference t ≡ is_reference (without_const t)
+pub reference-const : (t : SourceType) → is_reference t ≡ is_reference (without_const t)
 reference-const (const t) = reference-const t
 reference-const t = refl
 
-same-reference : (t u : SourceType) → without_const t ≡ without_const u → is_reference u ≡ false → is_reference t ≡ false
+pub same-reference : (t u : SourceType) → without_const t ≡ without_const u → is_reference u ≡ false → is_reference t ≡ false
 same-reference t u e h = reference-const t ∙ ap is_reference e ∙ sym (reference-const u) ∙ h
 
 pub referred-same : (t : SourceType) → is_reference t ≡ false → without_const (referred t) ≡ without_const t
@@ -56,7 +56,7 @@ referred-same (reference t) h = absurd (cc)
 referred-same (const t) h = ap (λ (b : Bool). without_const (if b then referred t else const t)) h
 referred-same t h = refl
 
-stage-live : (st : Stage) → is_shown st ≡ true → is_ended st ≡ false
+pub stage-live : (st : Stage) → is_shown st ≡ true → is_ended st ≡ false
 stage-live hidden h = absurd (cc)
 stage-live shown h = refl
 stage-live ended h = absurd (cc)
