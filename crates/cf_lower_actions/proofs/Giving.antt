@@ -1,21 +1,20 @@
 -- What a function returns.
 use Rattle.std.proofs.Common.{◌≡◌, ℕ, Bool, true, [], ◌∷◌, refl, sym, ◌∙◌, ap, subst}
-use Rattle.std.specs.Prelude.{List, pos, Option, Some, None, Result, Ok}
-use Rattle.cf_base.specs.declared.kind.Kind.TheVariants.{Char, SChar, UChar, Short, UShort, Int, UInt, Long, ULong}
+use Rattle.std.specs.Prelude.{List, Option, Some, None, Result, Ok}
 use Rattle.cf_base.specs.Event.{Undefined}
 use Rattle.cf_base.specs.World.{World, Ran, Went, Stops, and_then}
 use Rattle.cf_core.specs.Types.{SourceType}
 use Rattle.cf_core.specs.Store as source
 use Rattle.cf_core.specs.Run.{State, Gives, ◌>>=◌, gives, malformed, some_or}
 use Rattle.cf_core.specs.Access.{used}
-use Rattle.cf_lower_layout.specs.Sorts.{Sort, number, address, code, sort_of}
+use Rattle.cf_lower_layout.specs.Sorts.{Sort, sort_of}
 use Rattle.cf_plain.specs.Plain.{Register, give}
 use Rattle.cf_plain.specs.Acts.{Registers}
 use Rattle.cf_plain.specs.Running.{Flow, Returns, does}
 use Rattle.cc_whole.specs.Plain as c_tree
 use Rattle.cc_whole.specs.Plain.{Expression, Statement, in_order}
 use Rattle.cc_whole_memory.specs.declared.value.Value.{Value}
-use Rattle.cc_whole_memory.specs.declared.value.Value.TheVariants as value
+use Rattle.cc_whole_memory.specs.Values.{zero_of}
 use Rattle.cc_whole_memory.specs.Blocks.{on_ok}
 use Rattle.cc_whole_mean.specs.Flow as c
 use Rattle.cc_whole_mean.specs.Flow.{tried, falling}
@@ -28,6 +27,7 @@ use Rattle.cf_lower.specs.Written.{if_scalar, c_type}
 use Rattle.cf_lower.specs.Expressions.{zero as nought, local_value, as_stored}
 use Rattle.cf_lower.specs.Statements.{lowered, no_value, given}
 use Rattle.cf_lower_relate.specs.Map.{Is}
+use Rattle.cf_lower_relate.specs.Scalars.{c_scalar}
 use Rattle.cf_lower_steps.specs.Steps.{HasValue, KeptAs}
 use Rattle.cf_lower_steps.specs.Flows.{Simulates}
 use Rattle.cf_lower_steps.specs.Lowering.{Takes}
@@ -39,24 +39,7 @@ use Rattle.cf_lower_turns.specs.Ways.{ends}
 use Rattle.cf_lower_turns.specs.Scene.{SameBack, GivenBack, GivesBack, Scene, fixed_in, again_at, c_again_at, helps_at, list_at}
 use Rattle.cf_lower_turns.proofs.Following.{sim-here}
 use Rattle.cf_lower_actions.specs.Fits.{Fits}
-
--- what stands for a value that nothing can use
-pub record Nought (u : Sort) : Type 0 where
-  pub back : Value
-  pub is : fitted (scalar_of (c_type u)) (value.Number Int (pos 0)) ≡ Ok back
-
-nought-fits : (u : Sort) → Nought u
-nought-fits (number Char) = record { back = _; is = refl }
-nought-fits (number SChar) = record { back = _; is = refl }
-nought-fits (number UChar) = record { back = _; is = refl }
-nought-fits (number Short) = record { back = _; is = refl }
-nought-fits (number UShort) = record { back = _; is = refl }
-nought-fits (number Int) = record { back = _; is = refl }
-nought-fits (number UInt) = record { back = _; is = refl }
-nought-fits (number Long) = record { back = _; is = refl }
-nought-fits (number ULong) = record { back = _; is = refl }
-nought-fits (address t) = record { back = _; is = refl }
-nought-fits (code t) = record { back = _; is = refl }
+use Rattle.cf_lower_actions.proofs.Noughts.{nought-fits}
 
 module _ (z : Scene) (fits : Fits z) (around : Around Keeping) (p : Keeping) (n : ℕ) (g : Registers) (s : State) (t : c.State) (w : World)
     (h : Here (fixed_in z) z.body p (depth_of around) g s t) where
@@ -80,9 +63,8 @@ module _ (z : Scene) (fits : Fits z) (around : Around Keeping) (p : Keeping) (n 
       → Simulates S (Went (Gives (Returns source.Nothing) s) w) (list_at z n (if_scalar r (c_tree.give None ∷ []) (λ s. c_tree.give (Some (as_stored s nought)) ∷ [])) t w)
   none-back None e = back source.Nothing (c_tree.give None ∷ []) None refl (subst (λ a. GivenBack (fixed_in z) h.map a source.Nothing None) (sym e) refl)
   none-back (Some u) e =
-      let x = nought-fits u in
-      back source.Nothing (c_tree.give (Some (as_stored u nought)) ∷ []) (Some x.back) (run-give (as_stored u nought) x.back x.is)
-      (subst (λ a. GivenBack (fixed_in z) h.map a source.Nothing (Some x.back)) (sym e) (record { back = x.back; is = refl; same = tt }))
+      back source.Nothing (c_tree.give (Some (as_stored u nought)) ∷ []) (Some (zero_of (c_scalar u))) (run-give (as_stored u nought) (zero_of (c_scalar u)) (nought-fits u))
+      (subst (λ a. GivenBack (fixed_in z) h.map a source.Nothing (Some (zero_of (c_scalar u)))) (sym e) (record { back = zero_of (c_scalar u); is = refl; same = tt }))
 
   pub give-none : Simulates S (does (again_at z n) z.program (give None) g s w) (list_at z n (lowered (give None) (inside_at z.inside around) p) t w)
   give-none =

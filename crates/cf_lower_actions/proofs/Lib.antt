@@ -8,7 +8,11 @@ pub mod Leaves
 pub mod Moments
 pub mod Moved
 pub mod Named
+pub mod Noughts
 pub mod References
+pub mod Routes
 pub mod Runs
 pub mod Statics
 pub mod Tested
+pub mod Zeroed
+pub mod Zeros

@@ -15,9 +15,13 @@ use Rattle.cc_whole_mean.specs.Flow as c
 use Rattle.cc_whole_mean.specs.Flow.{in_memory}
 use Rattle.cf_lower.specs.Kept.{Kept, Keeping, keep, local_kept}
 use Rattle.cf_lower_relate.specs.Map.{Fixed, Map, is_ended}
+use Rattle.cf_lower_relate.specs.Relation.{Rel}
 use Rattle.cf_lower_steps.specs.Own.{Own}
 use Rattle.cf_lower_steps.specs.Flows.{Between}
 use Rattle.cf_lower_steps.specs.Lowering.{Below}
+use Rattle.cf_lower_steps.proofs.Between.{between-elsewhere}
+use Rattle.cf_lower_steps.proofs.Locals.{locals-stored}
+use Rattle.cf_lower_steps.proofs.Statements.{different}
 use Rattle.cf_lower_turns.specs.Flags.{Shows}
 use Rattle.cf_lower_turns.specs.Here.{Body, Free, Remains, Here}
 use Rattle.cf_lower_leaves.proofs.Remains.{Keeps}
@@ -62,6 +66,22 @@ module _ (K : Fixed) (at : Body) (p q : Keeping) (d : ℕ) (g r : Registers) (s 
     };
     later = h.later;
   }
+
+-- an object that stands has changed in its block
+module _ (K : Fixed) (at : Body) (p : Keeping) (d : ℕ) (g : Registers) (s u : State) (t : c.State) (m : Memory) (h : Here K at p d g s t) (rel : Rel K h.map u m)
+    (frame : u.frame ≡ s.frame) (keeps : Keeps t.memory m) (o : ℕ) (known : o < h.map.count) (live : is_ended (h.map.stage o) ≡ false)
+    (elsewhere : (b : ℕ) → b == h.map.block o ≡ false → m.block b ≡ t.memory.block b) where
+  other : (b : ℕ) → (b ≡ h.map.block o → ⊥) → m.block b ≡ t.memory.block b
+  other b ne = elsewhere b (different b (h.map.block o) ne)
+
+  pub here-stored : Here K at p d g u (in_memory t m)
+  here-stored = here-after K at p p d g g s u t m h
+      (between-elsewhere K at.own at.scope h.map p g s u t.memory m h.between rel
+      (locals-stored K at.own h.map at.scope s t.memory h.between.locals u m rel frame keeps.next o known live elsewhere)
+      h.below (λ a r lr. other (at.own.block a r) (λ e. h.between.blocks.free a r lr o known live (sym e))))
+      h.below keeps
+      (λ e le. other (at.flags.block e) (λ k. h.flags_there.free e o le known live (sym k)))
+      (λ b lb free. other b (λ k. free o known live (sym k)))
 
 -- the registers that a value is kept in have C locals
 pub below-keep : (own : Own) (p : Keeping) (r : Register) (y : Kept) → Below own p → r < own.bound → Below own (keep p r y)
