@@ -11,7 +11,7 @@ use Rattle.cf_core.specs.declared.operators.PointerOperator.{PointerOperator}
 use Rattle.cf_core.specs.declared.operators.PointerOperator.TheVariants as pointer
 use Rattle.cf_core.specs.declared.operators.UnaryOperator.{UnaryOperator}
 use Rattle.cf_core.specs.declared.operators.UnaryOperator.TheVariants as sign
-use Rattle.cf_core.specs.Types.{Name, SourceType, void, is_void, type_eq, without_const}
+use Rattle.cf_core.specs.Types.{Name, SourceType, void, integer, array, is_void, type_eq, without_const}
 use Rattle.cf_core.specs.Classes.{Class}
 use Rattle.cf_core.specs.Core.{Change, arithmetic, moved}
 use Rattle.cf_core.specs.Places.{is_reference, is_scalar}
@@ -36,7 +36,7 @@ use Rattle.cf_lower_turns.specs.Scene.{Scene, fixed_in}
 use Rattle.cf_lower_leaves.proofs.Leaves.{store-leaf}
 use Rattle.cf_lower_actions.specs.Fits.{Fits}
 use Rattle.cf_lower_actions.specs.Given.{Given}
-use Rattle.cf_lower_actions.specs.Leaf.{is_integer, is_address, is_pointer, is_tested, is_scalars_place, may_move, may_add, may_subtract, have_order, may_equal, may_operate, may_convert, may_hold, may_store, may_first, is_local, may_change, is_laid, const_on_none, is_own, is_object_local, is_reference_local, may_begin, names_function, is_promoted, is_promoted_change, gives_value, may_set, may_do, may_give, is_leaf, FirstThere, AlikeAt, RunsAlike}
+use Rattle.cf_lower_actions.specs.Leaf.{is_integer, is_address, is_pointer, is_tested, is_scalars_place, may_move, may_add, may_subtract, have_order, may_equal, may_operate, may_convert, may_hold, may_store, may_first, may_zero, are_chars, is_local, may_change, is_laid, const_on_none, is_own, is_object_local, is_reference_local, may_begin, names_function, is_promoted, is_promoted_change, gives_value, may_set, may_do, may_give, is_leaf, IsThere, FirstThere, AlikeAt, RunsAlike}
 use Rattle.cf_lower_actions.proofs.Begun.{declare-set, declare-done, argument-set, unseen, finish-done}
 use Rattle.cf_lower_actions.proofs.Cast as cast
 use Rattle.cf_lower_actions.proofs.Compared as compared
@@ -48,7 +48,9 @@ use Rattle.cf_lower_actions.proofs.Named as named
 use Rattle.cf_lower_actions.proofs.References.{reference-given}
 use Rattle.cf_lower_actions.proofs.Runs.{given-set, given-dropped}
 use Rattle.cf_lower_actions.proofs.Statics.{static-given}
+use Rattle.cf_lower_actions.proofs.Bytes.{bytes-done}
 use Rattle.cf_lower_actions.proofs.Tested as tested
+use Rattle.cf_lower_actions.proofs.Zeros.{zeros-done}
 
 -- ---- tests
 
@@ -299,6 +301,16 @@ module _ (z : Scene) (fits : Fits z) (around : Around Keeping) (p : Keeping) whe
       hold-cases (sort_of y) (p q) e (λ u b k l takes. first-done z around p n g s t w h r q y u (p q) b kr k refl l takes there)
   first-alike r q x kr e n g s t w h there = absurd (cc)
 
+  zeros-by : (r : Register) (x : Kept) → p r ≡ x → may_zero x ≡ true → (n : ℕ) (g : Registers) (s : State) (t : c.State) (w : World)
+      → Here (fixed_in z) z.body p (depth_of around) g s t → IsThere z.program.classes g s r → AlikeAt z around p (act (plain.zeros r)) n g s t w
+  zeros-by r (holds (address y)) kr e n g s t w h there = zeros-done z fits around p n g s t w h r y kr (no-void y e) there
+  zeros-by r x kr e n g s t w h there = absurd (cc)
+
+  bytes-by : (r : Register) (b : List ℕ) (x : Kept) → p r ≡ x → are_chars x ≡ true → (n : ℕ) (g : Registers) (s : State) (t : c.State) (w : World)
+      → Here (fixed_in z) z.body p (depth_of around) g s t → IsThere z.program.classes g s r → AlikeAt z around p (act (plain.bytes r b)) n g s t w
+  bytes-by r b (holds (address (array (integer Char) len))) kr e n g s t w h there = bytes-done z fits around p n g s t w h r len kr there b
+  bytes-by r b x kr e n g s t w h there = absurd (cc)
+
   set-alike : (r : Register) (a : Action) → r < z.body.own.bound → may_set z p a ≡ true → RunsAlike z around p (set r a)
   set-alike r (plain.declare i y) lt e n g s t w h over = declare-alike i y e r lt n g s t w h over
   set-alike r a lt e n g s t w h over = given-set z around p r a lt (gives a e) n g s t w h
@@ -308,6 +320,8 @@ module _ (z : Scene) (fits : Fits z) (around : Around Keeping) (p : Keeping) whe
   do-alike (plain.store r q) e n g s t w h over =
       store-cases (p r) (p q) e (λ y u b kr i l takes. store-leaf z around p r q y u (p q) b kr i refl l takes n g s t w h)
   do-alike (plain.first r q) e n g s t w h there = first-alike r q (p r) refl e n g s t w h there
+  do-alike (plain.zeros r) e n g s t w h there = zeros-by r (p r) refl e n g s t w h there
+  do-alike (plain.bytes r b) e n g s t w h there = bytes-by r b (p r) refl e n g s t w h there
   do-alike (plain.finish y i) e n g s t w h over = finish-done z fits around p n g s t w h i y e
   do-alike a e n g s t w h over = given-dropped z around p a (gives a e) n g s t w h
 

@@ -1,4 +1,5 @@
 pub mod Begun
+pub mod Bytes
 pub mod Cast
 pub mod Compared
 pub mod Computed

@@ -99,10 +99,10 @@ module _ (again helps : mean.Again) (program : mean.Program) (helper : Bool) (sc
   module _ (u : Sort) (e : Expression) (v : Value) (is : (k : Memory) → value_of (as_stored u e) scope k ≡ Ok v) (fit : fitted (scalar_of (c_type u)) v ≡ Ok v)
       (bytes : size_of v ≡ bytes_of (c_scalar u)) (same : as_scalar (c_scalar u) v ≡ Some v) (n : ℕ) (k : Memory) (cells : Cells) (before : Changed k cells)
       (room : q + n + bytes_of (c_scalar u) ≤ blk.size) where
-    abbrev place : blocks.Place
+    abbrev pub place : blocks.Place
     place = record { number = b; offset = q + n; block = record blk { cells = cells } }
 
-    abbrev behind_it : Memory
+    abbrev pub behind_it : Memory
     behind_it = with_cells place (cells_of.put v (q + n) cells) k
 
     target : target_of (pointed (c_type u) (behind P n)) scope k ≡ Ok (record { pointer = pointer.At b (q + n); scalar = scalar_of (c_type u) })
@@ -113,7 +113,7 @@ module _ (again helps : mean.Again) (program : mean.Program) (helper : Bool) (sc
         ∙ ap (λ a. on_ok (address_value (if a then Ok (pointer.At b (q + n)) else Err blocks.outside)) (λ v. addressed v (λ p. Ok (record { pointer = p; scalar = scalar_of (c_type u) }))))
         (let h : nat_le (q + n) blk.size ≡ true = grind (arith, nat_tests, room) in h)
 
-    written : write (pointer.At b (q + n)) v k ≡ Ok behind_it
+    pub written : write (pointer.At b (q + n)) v k ≡ Ok behind_it
     written =
         ap (λ x. on_ok (inside b (q + n) (size_of v) x) (λ at. Ok (with_cells at (cells_of.put v at.offset at.block.cells) k))) before.there
         ∙ ap (λ a. on_ok (if a then Ok place else Err blocks.outside) (λ at. Ok (with_cells at (cells_of.put v at.offset at.block.cells) k)))

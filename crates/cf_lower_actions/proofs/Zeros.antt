@@ -123,7 +123,7 @@ module _ (K : Fixed) (F : Map) (x : Object) (base : ℕ) (π : Route) (old now :
 -- ---- the statement
 
 -- a block that has other cells is still there
-changed-keeps : (m k : Memory) (b : ℕ) (blk : Block) (now : Cells) → m.block b ≡ Some blk → k.next ≡ m.next → k.block b ≡ Some (record blk { cells = now })
+pub changed-keeps : (m k : Memory) (b : ℕ) (blk : Block) (now : Cells) → m.block b ≡ Some blk → k.next ≡ m.next → k.block b ≡ Some (record blk { cells = now })
     → ((x : ℕ) → x == b ≡ false → k.block x ≡ m.block x) → Keeps m k
 changed-keeps m k b blk now there next after elsewhere = record { remains = λ x old e. by_test x old e (x == b) refl; next = next }
   where
@@ -137,10 +137,10 @@ changed-keeps m k b blk now there next after elsewhere = record { remains = λ x
 module _ (z : Scene) (fits : Fits z) (around : Around Keeping) (p : Keeping) (n : ℕ) (g : Registers) (s : State) (t : c.State) (w : World)
     (h : Here (fixed_in z) z.body p (depth_of around) g s t) (r : Register) (y : SourceType) (kr : p r ≡ holds (address y)) (no_void : y ≡ void → ⊥)
     (there : IsThere z.program.classes g s r) where
-  abbrev S : Flow → State → c.Flow → Type 0
+  abbrev pub S : Flow → State → c.Flow → Type 0
   S = ends Keeping z.body.scope (Here (fixed_in z) z.body) (GivesBack (fixed_in z) z.body z.result) around p
 
-  abbrev F : Map
+  abbrev pub F : Map
   F = h.map
 
   bounded : r < z.body.own.bound
@@ -156,22 +156,22 @@ module _ (z : Scene) (fits : Fits z) (around : Around Keeping) (p : Keeping) (n 
       ∙ sym (ap (λ x. named_value x t.memory) (h.between.blocks.named (address void) r bounded))
 
   module _ (o : Place) (is : g r ≡ Some (source.At o)) where
-    abbrev points : HasValue (fixed_in z) F (holds (address y)) (source.At o) (value_of (address_in r) z.body.scope t.memory)
+    abbrev pub points : HasValue (fixed_in z) F (holds (address y)) (source.At o) (value_of (address_in r) z.body.scope t.memory)
     points = known-in z.program z.function z.signature F (calls (again_at z n)) s t.memory h.between.rel w z.body.scope p g h.between.registers r (holds (address y)) (source.At o) kr is
 
-    live : is_ended (F.stage o.object) ≡ false
+    pub live : is_ended (F.stage o.object) ≡ false
     live = sym (h.between.rel.gone o.object points.same.known) ∙ (there o is).0
 
-    abbrev b : ℕ
+    abbrev pub b : ℕ
     b = F.block o.object
 
-    abbrev stands : relation.Stands (fixed_in z) F o.object (s.object o.object) t.memory
+    abbrev pub stands : relation.Stands (fixed_in z) F o.object (s.object o.object) t.memory
     stands = h.between.rel.stands o.object points.same.known live
 
-    abbrev blk : Block
+    abbrev pub blk : Block
     blk = stands.block
 
-    typed : (s.object o.object).type ≡ F.type o.object
+    pub typed : (s.object o.object).type ≡ F.type o.object
     typed = h.between.rel.type o.object points.same.known
 
     -- where the pointer points to
@@ -181,7 +181,7 @@ module _ (z : Scene) (fits : Fits z) (around : Around Keeping) (p : Keeping) (n 
     elsewhere-own : z.body.own.block (address void) r ≡ b → ⊥
     elsewhere-own e = h.between.blocks.free (address void) r bounded o.object points.same.known live (sym e)
 
-    stays : (k : Memory) → ((x : ℕ) → x == b ≡ false → k.block x ≡ t.memory.block x)
+    pub stays : (k : Memory) → ((x : ℕ) → x == b ≡ false → k.block x ≡ t.memory.block x)
         → value_of (address_in r) z.body.scope k ≡ Ok (value.Address (pointer.At b (offset_of (fixed_in z) F o)))
     stays k same = address-stays b k elsewhere-own same ∙ pointed
 
@@ -193,19 +193,19 @@ module _ (z : Scene) (fits : Fits z) (around : Around Keeping) (p : Keeping) (n 
         by_type (inl e) = absurd (no_void e)
         by_type (inr e) = e
 
-    abbrev part : SourceType
+    abbrev pub part : SourceType
     part = type_at z.program.classes (s.object o.object).type o.route
 
-    part-type : without_const part ≡ y
+    pub part-type : without_const part ≡ y
     part-type = ap (λ a. without_const (type_at z.program.classes a o.route)) typed ∙ of-type
 
     part-size : size z.program.classes y ≡ size z.program.classes part
     part-size = ap (size z.program.classes) (sym part-type) ∙ size-without z.program.classes part
 
-    part-offset : offset_of (fixed_in z) F o ≡ F.base o.object + offset z.program.classes (s.object o.object).type o.route
+    pub part-offset : offset_of (fixed_in z) F o ≡ F.base o.object + offset z.program.classes (s.object o.object).type o.route
     part-offset = ap (λ a. F.base o.object + offset z.program.classes a o.route) (sym typed)
 
-    room : offset_of (fixed_in z) F o + 0 + size z.program.classes y ≤ blk.size
+    pub room : offset_of (fixed_in z) F o + 0 + size z.program.classes y ≤ blk.size
     room =
         let inner = route-inside z.program.classes (s.object o.object).type o.route (there o is).1 in
         let outer = stands.size in
@@ -218,7 +218,7 @@ module _ (z : Scene) (fits : Fits z) (around : Around Keeping) (p : Keeping) (n 
         Filled (c_again_at z n) (helps_at z n) z.c_program z.helper z.body.scope z.depth w t (address_in r) b (offset_of (fixed_in z) F o) blk t.memory stays
         ss t.memory (offset_of (fixed_in z) F o + 0) (size z.program.classes y) cells Done
 
-    filled : Zero_run (zeros z.program.classes y (address_in r) 0) blk.cells (Zeroed z.program.classes y (offset_of (fixed_in z) F o + 0))
+    pub filled : Zero_run (zeros z.program.classes y (address_in r) 0) blk.cells (Zeroed z.program.classes y (offset_of (fixed_in z) F o + 0))
     filled =
         zeros-filled (c_again_at z n) (helps_at z n) z.c_program z.helper z.body.scope z.depth w t (address_in r) b (offset_of (fixed_in z) F o) blk t.memory stays z.program.classes y
         0 t.memory blk.cells (record { next = refl; there = stands.there; elsewhere = λ x ne. refl }) room
@@ -238,14 +238,14 @@ module _ (z : Scene) (fits : Fits z) (around : Around Keeping) (p : Keeping) (n 
     part-apart a q some far =
         filled.apart a q some (subst (λ k. Apart q (bytes_of a) k (size z.program.classes y)) (sym at-offset) (subst (λ k. Apart q (bytes_of a) at k) (sym part-size) far))
 
-    abbrev now_object : Object
+    abbrev pub now_object : Object
     now_object = hold_all o.route (λ r. Some (source.zero_of (type_at z.program.classes (s.object o.object).type (r ++ o.route)))) (s.object o.object)
 
     abbrev put_there : Memory
     put_there = record t.memory { block = put_block b (Some (record blk { cells = filled.now })) t.memory.block }
 
     -- the objects stand in the memory behind
-    rel-behind : Rel (fixed_in z) F (with_object o.object (λ x. now_object) s) filled.after
+    pub rel-behind : Rel (fixed_in z) F (with_object o.object (λ x. now_object) s) filled.after
     rel-behind =
         rel-other (fixed_in z) F (with_object o.object (λ x. now_object) s) put_there
         (rel-changed (fixed_in z) F s t.memory h.between.rel o.object now_object (Some (record blk { cells = filled.now })) points.same.known live typed (there o is).0

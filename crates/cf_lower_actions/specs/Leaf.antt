@@ -1,12 +1,12 @@
 -- Which statements are leaves that their C does alike, by what registers hold before them; and what has to be so of the source's objects.
 use Rattle.std.specs.Prelude.{◌≡◌, ℕ, ◌^◌, nat_le, nat_lt, Bool, true, false, ◌&&◌, ◌||◌, not, ℤ, List, [], Option, Some, None, is_some, length}
 use Rattle.cf_base.specs.declared.kind.Kind.{Kind}
-use Rattle.cf_base.specs.declared.kind.Kind.TheVariants.{Int, UInt, Long, ULong}
+use Rattle.cf_base.specs.declared.kind.Kind.TheVariants.{Char, Int, UInt, Long, ULong}
 use Rattle.cf_base.specs.Integers.{fits}
 use Rattle.cf_base.specs.World.{World}
 use Rattle.cf_core.specs.declared.operators.PointerOperator.{PointerOperator}
 use Rattle.cf_core.specs.declared.operators.PointerOperator.TheVariants as pointer
-use Rattle.cf_core.specs.Types.{Name, SourceType, void, const, is_void, type_eq, without_const}
+use Rattle.cf_core.specs.Types.{Name, SourceType, void, integer, array, const, is_void, type_eq, without_const}
 use Rattle.cf_core.specs.Classes.{Class}
 use Rattle.cf_core.specs.Core.{Change, arithmetic, moved}
 use Rattle.cf_core.specs.Places.{Place, is_reference, is_scalar}
@@ -112,6 +112,15 @@ abbrev pub may_store : Kept → Kept → Bool
 may_store (holds (address t)) x = may_hold (sort_of t) x
 may_store y x = false
 
+-- an object that is filled by zeros, and a char array by the bytes of a literal
+abbrev pub may_zero : Kept → Bool
+may_zero (holds (address t)) = not (is_void t)
+may_zero x = false
+
+abbrev pub are_chars : Kept → Bool
+are_chars (holds (address (array (integer Char) n))) = true
+are_chars x = false
+
 -- ---- types and names
 
 -- no const on a function
@@ -199,6 +208,8 @@ abbrev pub may_do : Scene → Keeping → Action → Bool
 may_do z p (plain.declare i t) = may_begin z i t
 may_do z p (plain.store r q) = may_store (p r) (p q)
 may_do z p (plain.first r q) = may_first z.body.own.locals (p r) (p q)
+may_do z p (plain.zeros r) = may_zero (p r)
+may_do z p (plain.bytes r b) = are_chars (p r)
 may_do z p (plain.finish t i) = has_bytes t
 may_do z p a = gives_value z p a
 
@@ -237,6 +248,8 @@ FirstThere classes x g s r = IsThere classes g s r
 abbrev pub DoneBefore : Scene → Keeping → Action → Registers → State → Type 0
 DoneBefore z p (plain.declare i t) g s = IsOver s i
 DoneBefore z p (plain.first r q) g s = FirstThere z.program.classes (p r) g s r
+DoneBefore z p (plain.zeros r) g s = IsThere z.program.classes g s r
+DoneBefore z p (plain.bytes r b) g s = IsThere z.program.classes g s r
 DoneBefore z p a g s = Unit {0}
 
 -- a local begins where no object of it stands, and a first value is stored in an object that does
