@@ -1,18 +1,31 @@
 -- Pointers as they are, or as others, and integers as null pointers.
 use Rattle.std.proofs.Common.{◌≡◌, ℕ, Bool, true, false, refl, sym, ◌∙◌, ap, ◌⊎◌}
-use Rattle.std.specs.Prelude.{Some}
+use Rattle.std.specs.Prelude.{Some, Result, Ok}
 use Rattle.cf_base.specs.declared.kind.Kind.{Kind}
+use Rattle.cf_base.specs.World.{World}
 use Rattle.cf_core.specs.Types.{SourceType, void, element, without_const}
+use Rattle.cf_core.specs.Scalars.{decayed}
+use Rattle.cf_core.specs.Store as source
+use Rattle.cf_core.specs.Run.{State}
 use Rattle.cf_lower_layout.specs.Sorts.{Sort, number, address, code, sort_of}
 use Rattle.cf_plain.specs.Plain as plain
 use Rattle.cf_plain.specs.Plain.{Register}
+use Rattle.cf_plain.specs.Acts.{Registers, acts}
 use Rattle.cf_plain.specs.Running.{calls}
+use Rattle.cc_whole_memory.specs.declared.value.Scalar.TheVariants as scalar
+use Rattle.cc_whole_memory.specs.declared.value.Value.{Value}
+use Rattle.cc_whole_memory.specs.Blocks.{on_ok}
+use Rattle.cc_whole_mean.specs.Flow as c_flow
+use Rattle.cc_whole_mean.specs.Values.{value_of, fitted}
 use Rattle.cf_lower.specs.Kept.{integer_of, holds, Keeping, of_sort, decayed_kept, local_kept}
 use Rattle.cf_lower.specs.Expressions.{address_in, in_register, as_value, same_value, converted}
 use Rattle.cf_lower.specs.Expressions as c
-use Rattle.cf_lower_turns.specs.Around.{Around}
-use Rattle.cf_lower_turns.specs.Scene.{Scene, again_at}
+use Rattle.cf_lower_steps.specs.Steps.{HasValue, Step}
+use Rattle.cf_lower_turns.specs.Around.{Around, depth_of}
+use Rattle.cf_lower_turns.specs.Here.{Here}
+use Rattle.cf_lower_turns.specs.Scene.{Scene, fixed_in, again_at}
 use Rattle.cf_lower_pointers.proofs.Casting as casting
+use Rattle.cf_lower_pointers.proofs.Operands.{one-step}
 use Rattle.cf_lower_actions.specs.Given.{Given}
 
 module _ (z : Scene) (around : Around Keeping) (p : Keeping) (q : Register) where
@@ -119,4 +132,43 @@ module _ (z : Scene) (around : Around Keeping) (p : Keeping) (q : Register) wher
       dropped = refl;
       step = λ n g s t w h.
           casting.null-step z.program z.function z.signature h.map (calls (again_at z n)) s t.memory h.between.rel w z.body.scope p g h.between.registers a (code u) e (λ k i. absurd (cc)) q f kq;
+    }
+
+  -- a function stays what it is (4.6)
+  module _ (u : SourceType) (kq : p q ≡ holds (code u)) where
+    decay-code-step : (n : ℕ) (g : Registers) (s : State) (t : c_flow.State) (w : World) (h : Here (fixed_in z) z.body p (depth_of around) g s t)
+        → Step (fixed_in z) h.map (acts (calls (again_at z n)) z.program g (plain.decay q) s w) s w (holds (code u))
+        (value_of (as_value (code u) (in_register (code u) q)) z.body.scope t.memory)
+    decay-code-step n g s t w h =
+        one-step z.program z.function z.signature h.map s t.memory w z.body.scope p g h.between.registers (holds (code u))
+        (value_of (as_value (code u) (in_register (code u) q)) z.body.scope t.memory) q (holds (code u)) (code u) (decayed z.program.classes) kq refl of-value
+      where
+        of-value : (v : source.Value) → HasValue (fixed_in z) h.map (holds (code u)) v (value_of (in_register (code u) q) z.body.scope t.memory)
+            → Step (fixed_in z) h.map (decayed z.program.classes v s w) s w (holds (code u)) (value_of (as_value (code u) (in_register (code u) q)) z.body.scope t.memory)
+        of-value (source.Code f) hv = record {
+          by = (
+            refl,
+            refl,
+            record {
+              value = hv.value;
+              is = ap (λ a. on_ok a (λ v. fitted scalar.Function v)) hv.is ∙ ap (fitted scalar.Function) hv.same.is ∙ ap (λ (v : Value). Ok v) (sym hv.same.is);
+              same = hv.same;
+            },
+          );
+        }
+        of-value source.Null hv = record { by = tt }
+        of-value v hv = absurd hv.same
+
+    pub decay-code-given : Given z around p (plain.decay q)
+    decay-code-given = record {
+      kept = holds (code u);
+      is = ap decayed_kept kq;
+      sort = code u;
+      local = refl;
+      expression = as_value (code u) (in_register (code u) q);
+      no_load = λ m. refl;
+      expressed = ap (λ k. same_value k q) kq;
+      assigned = λ r. refl;
+      dropped = refl;
+      step = decay-code-step;
     }

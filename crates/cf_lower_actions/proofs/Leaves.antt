@@ -35,8 +35,8 @@ use Rattle.cf_lower_turns.specs.Here.{Here}
 use Rattle.cf_lower_turns.specs.Scene.{Scene, fixed_in}
 use Rattle.cf_lower_leaves.proofs.Leaves.{store-leaf}
 use Rattle.cf_lower_actions.specs.Fits.{Fits}
-use Rattle.cf_lower_actions.specs.Given.{Given}
-use Rattle.cf_lower_actions.specs.Leaf.{is_integer, is_address, is_pointer, is_tested, is_scalars_place, may_move, may_add, may_subtract, have_order, may_equal, may_operate, may_convert, may_hold, may_store, may_first, may_zero, are_chars, is_local, may_change, is_laid, const_on_none, is_own, is_object_local, is_reference_local, may_begin, names_function, is_promoted, is_promoted_change, gives_value, may_set, may_do, may_give, is_leaf, IsThere, FirstThere, AlikeAt, RunsAlike}
+use Rattle.cf_lower_actions.specs.Given.{Given, Silent}
+use Rattle.cf_lower_actions.specs.Leaf.{is_integer, is_address, is_pointer, is_tested, is_scalars_place, may_move, may_add, may_subtract, have_order, may_equal, may_operate, may_convert, may_hold, may_store, may_first, may_zero, are_chars, is_local, may_change, is_laid, const_on_none, is_own, is_object_local, is_reference_local, may_begin, names_function, is_promoted, is_promoted_change, gives_value, gives_nothing, may_set, may_do, may_give, is_leaf, IsThere, FirstThere, AlikeAt, RunsAlike}
 use Rattle.cf_lower_actions.proofs.Begun.{declare-set, declare-done, argument-set, unseen, finish-done}
 use Rattle.cf_lower_actions.proofs.Cast as cast
 use Rattle.cf_lower_actions.proofs.Compared as compared
@@ -46,10 +46,11 @@ use Rattle.cf_lower_actions.proofs.Giving.{give-none, give-void, give-value}
 use Rattle.cf_lower_actions.proofs.Moved as moved_by
 use Rattle.cf_lower_actions.proofs.Named as named
 use Rattle.cf_lower_actions.proofs.References.{reference-given}
-use Rattle.cf_lower_actions.proofs.Runs.{given-set, given-dropped}
+use Rattle.cf_lower_actions.proofs.Runs.{given-set, given-dropped, silent-set, silent-dropped}
 use Rattle.cf_lower_actions.proofs.Statics.{static-given}
 use Rattle.cf_lower_actions.proofs.Bytes.{bytes-done}
 use Rattle.cf_lower_actions.proofs.Tested as tested
+use Rattle.cf_lower_actions.proofs.Voids.{void-silent}
 use Rattle.cf_lower_actions.proofs.Zeros.{zeros-done}
 
 -- ---- tests
@@ -152,6 +153,11 @@ module _ (z : Scene) (fits : Fits z) (around : Around Keeping) (p : Keeping) whe
   convert-by a q (Some (code u)) i (holds (code y)) kq e = cast.code-given z around p q a u (kq ∙ ap (λ t. holds (code t)) (same-type y u e)) i
   convert-by a q o i x kq e = absurd (cc)
 
+  decay-by : (q : Register) (x : Kept) → p q ≡ x → is_pointer x ≡ true → Given z around p (plain.decay q)
+  decay-by q (holds (address y)) kq e = cast.decay-given z around p q y kq
+  decay-by q (holds (code y)) kq e = cast.decay-code-given z around p q y kq
+  decay-by q x kq e = absurd (cc)
+
   truth-by : (q : Register) (x : Kept) → p q ≡ x → is_tested x ≡ true → Given z around p (plain.truth q)
   truth-by q (integer_of f) kq e = tested.truth-number-given z fits around p q f kq
   truth-by q (holds (address y)) kq e = tested.truth-given z fits around p q y kq
@@ -233,7 +239,7 @@ module _ (z : Scene) (fits : Fits z) (around : Around Keeping) (p : Keeping) whe
   gives (plain.function name y) e = function-by name y e
   gives (plain.read q) e = read-by q (p q) refl e
   gives (plain.dereference q) e = pointer-cases (p q) e (λ u kq. cast.dereference-given z around p q u kq)
-  gives (plain.decay q) e = address-cases (p q) e (λ y kq. cast.decay-given z around p q y kq)
+  gives (plain.decay q) e = decay-by q (p q) refl e
   gives (plain.index q v) e =
       add-cases (p q) (p v) e (λ t f nv kq kv. moved_by.index-given z fits around p q v t f nv kq kv) (λ t f nv kq kv. moved_by.index-turned-given z fits around p q v t f nv kq kv)
   gives (plain.convert a q) e = convert-by a q (sort_of a) refl (p q) refl e
@@ -250,6 +256,10 @@ module _ (z : Scene) (fits : Fits z) (around : Around Keeping) (p : Keeping) whe
       let two = both (is_promoted_change change) (may_change change (p q) (p v)) e in
       changed-by change q v two.0 two.1
   gives a e = absurd (cc)
+
+  nothing-given : (a : Action) → gives_nothing a ≡ true → Silent z around p a
+  nothing-given (plain.convert y q) e = void-silent z around p y q e
+  nothing-given a e = absurd (cc)
 
   -- ---- statements
 
@@ -313,7 +323,11 @@ module _ (z : Scene) (fits : Fits z) (around : Around Keeping) (p : Keeping) whe
 
   set-alike : (r : Register) (a : Action) → r < z.body.own.bound → may_set z p a ≡ true → RunsAlike z around p (set r a)
   set-alike r (plain.declare i y) lt e n g s t w h over = declare-alike i y e r lt n g s t w h over
-  set-alike r a lt e n g s t w h over = given-set z around p r a lt (gives a e) n g s t w h
+  set-alike r a lt e n g s t w h over = by_test (one-of (gives_nothing a) (gives_value z p a) e)
+    where
+      by_test : (gives_nothing a ≡ true) ⊎ (gives_value z p a ≡ true) → AlikeAt z around p (set r a) n g s t w
+      by_test (inl k) = silent-set z around p r a (nothing-given a k) n g s t w h
+      by_test (inr k) = given-set z around p r a lt (gives a k) n g s t w h
 
   do-alike : (a : Action) → may_do z p a ≡ true → RunsAlike z around p (act a)
   do-alike (plain.declare i y) e n g s t w h over = declared-alike i y e n g s t w h over
@@ -323,7 +337,11 @@ module _ (z : Scene) (fits : Fits z) (around : Around Keeping) (p : Keeping) whe
   do-alike (plain.zeros r) e n g s t w h there = zeros-by r (p r) refl e n g s t w h there
   do-alike (plain.bytes r b) e n g s t w h there = bytes-by r b (p r) refl e n g s t w h there
   do-alike (plain.finish y i) e n g s t w h over = finish-done z fits around p n g s t w h i y e
-  do-alike a e n g s t w h over = given-dropped z around p a (gives a e) n g s t w h
+  do-alike a e n g s t w h over = by_test (one-of (gives_nothing a) (gives_value z p a) e)
+    where
+      by_test : (gives_nothing a ≡ true) ⊎ (gives_value z p a ≡ true) → AlikeAt z around p (act a) n g s t w
+      by_test (inl k) = silent-dropped z around p a (nothing-given a k) n g s t w h
+      by_test (inr k) = given-dropped z around p a (gives a k) n g s t w h
 
   give-alike : (r : Register) (u : Option Sort) → z.result ≡ u → may_give u p (Some r) ≡ true → RunsAlike z around p (give (Some r))
   give-alike r None i e n g s t w h before = give-void z fits around p n g s t w h r i

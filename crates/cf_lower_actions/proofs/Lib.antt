@@ -15,5 +15,6 @@ pub mod Routes
 pub mod Runs
 pub mod Statics
 pub mod Tested
+pub mod Voids
 pub mod Zeroed
 pub mod Zeros

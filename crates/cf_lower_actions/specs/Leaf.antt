@@ -187,7 +187,7 @@ gives_value z p (plain.static_object name t) = is_object_type t
 gives_value z p (plain.function name t) = names_function z name t
 gives_value z p (plain.read q) = is_scalars_place (p q)
 gives_value z p (plain.dereference q) = is_pointer (p q)
-gives_value z p (plain.decay q) = is_address (p q)
+gives_value z p (plain.decay q) = is_pointer (p q)
 gives_value z p (plain.index q v) = may_add (p q) (p v)
 gives_value z p (plain.convert t q) = may_convert (sort_of t) (p q)
 gives_value z p (plain.from_void t q) = is_address (p q)
@@ -199,10 +199,15 @@ gives_value z p (plain.pointer_operate op q v) = may_operate op (p q) (p v)
 gives_value z p (plain.changed change q v) = is_promoted_change change && may_change change (p q) (p v)
 gives_value z p a = false
 
--- what is set, by an action that gives a value or makes an object
+-- a conversion to void, of which nothing is kept
+abbrev pub gives_nothing : Action → Bool
+gives_nothing (plain.convert t q) = is_void t
+gives_nothing a = false
+
+-- what is set, by an action that gives a value or nothing, or makes an object
 abbrev pub may_set : Scene → Keeping → Action → Bool
 may_set z p (plain.declare i t) = may_begin z i t
-may_set z p a = gives_value z p a
+may_set z p a = gives_nothing a || gives_value z p a
 
 abbrev pub may_do : Scene → Keeping → Action → Bool
 may_do z p (plain.declare i t) = may_begin z i t
@@ -211,7 +216,7 @@ may_do z p (plain.first r q) = may_first z.body.own.locals (p r) (p q)
 may_do z p (plain.zeros r) = may_zero (p r)
 may_do z p (plain.bytes r b) = are_chars (p r)
 may_do z p (plain.finish t i) = has_bytes t
-may_do z p a = gives_value z p a
+may_do z p a = gives_nothing a || gives_value z p a
 
 -- nothing, or what is returned
 abbrev pub may_give : Option Sort → Keeping → Option Register → Bool
