@@ -81,7 +81,7 @@ module _ (z : Scene) (fits : Fits z) (around : Around Keeping) (p : Keeping) (n 
           by_test false q =
               old (known o lo q) (sym (ap is_ended (upd-other s.next o st h.map.stage q)) ∙ live) (sym (upd-other s.next o (z.body.own.local i) h.map.block q) ∙ e)
 
-      here-born : Here (fixed_in z) z.body p (depth_of around) g behind t
+      abbrev here-born : Here (fixed_in z) z.body p (depth_of around) g behind t
       here-born = here-grown (fixed_in z) z.body p p (depth_of around) g g s behind t h G
           (declaring.grows at (stands z around p n g s t w h fits) i y lt typed laid ended st live_now seen)
           (declaring.between-new at (stands z around p n g s t w h fits) i y lt typed laid ended st live_now seen) h.below

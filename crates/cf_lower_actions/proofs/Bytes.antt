@@ -57,7 +57,10 @@ use Rattle.cf_lower_actions.proofs.Zeroed.{Changed, Filled, put-filled, behind_i
 use Rattle.cf_lower_actions.proofs.Zeros as zeroing
 use Rattle.cf_lower_actions.proofs.Zeros.{changed-keeps}
 
-ok-same : {m k : Memory} → Ok {A = Memory} {E = ℕ} m ≡ Ok k → m ≡ k
+abbrev ok : Memory → Result Memory ℕ
+ok m = Ok m
+
+ok-same : {m k : Memory} → ok m ≡ ok k → m ≡ k
 ok-same e = cc
 
 false-true : {b : Bool} → b ≡ true → b ≡ false → ⊥
@@ -171,7 +174,9 @@ module _ (z : Scene) (fits : Fits z) (around : Around Keeping) (p : Keeping) (n 
       element-at =
           let one : size z.program.classes (element (plain_type part)) ≡ 1 = sort-bytes z.program.classes (element (plain_type part)) (number Char) element-sort in
           let product : i * size z.program.classes (element (plain_type part)) ≡ i = ap (λ k. i * k) one ∙ (let k : i * 1 ≡ i = omega arith in k) in
-          omega (arith, product)
+          let sum : F.base o.object + offset z.program.classes (F.type o.object) o.route + i
+          ≡ F.base o.object + (offset z.program.classes (F.type o.object) o.route + i * size z.program.classes (element (plain_type part))) = omega (arith, product) in
+          sum
 
     record Bytes (i : ℕ) (rest : List ℕ) (u : State) (k : Memory) : Type 0 where
       after : Memory
@@ -187,9 +192,10 @@ module _ (z : Scene) (fits : Fits z) (around : Around Keeping) (p : Keeping) (n 
     put-all [] i fit u k cells before rel = record { after = k; now = cells; run = refl; changed = before; rel = rel }
     put-all (a ∷ rest) i fit u k cells before rel =
         let x = convert Char (pos a) in
-        let lt : i < len = omega (arith, fit) in
+        let room_left : i + suc (length rest) ≤ len = fit in
+        let lt : i < len = omega (arith, room_left) in
         let again = convert-same Char x (convert-fits Char (pos a)) in
-        let rest-fit : suc i + length rest ≤ len = omega (arith, fit) in
+        let rest-fit : suc i + length rest ≤ len = omega (arith, room_left) in
         let stays = zeroing.stays z fits around p n g s t w h r y kr no-void there o is in
         let room : q + i + 1 ≤ blk.size = element-room i lt in
         let first = put-filled (c_again_at z n) (helps_at z n) z.c_program z.helper z.body.scope z.depth w t (address_in r) b q blk t.memory stays (number Char) (char a)

@@ -31,108 +31,108 @@ use Rattle.cf_lower_actions.specs.Given.{Given}
 module _ (z : Scene) (around : Around Keeping) (p : Keeping) (q : Register) where
   pub dereference-given : (u : Sort) → p q ≡ holds u → Given z around p (plain.dereference q)
   dereference-given u kq = record {
-      kept = holds u;
-      is = kq;
-      sort = u;
-      local = refl;
-      expression = as_value u (in_register u q);
-      no_load = λ m. refl;
-      expressed = ap (λ k. same_value k q) kq;
-      assigned = λ r. refl;
-      dropped = refl;
-      step = λ n g s t w h.
-          casting.dereference-step z.program z.function z.signature h.map (calls (again_at z n)) s t.memory h.between.rel w z.body.scope p g h.between.registers q u kq;
-    }
+    kept = holds u;
+    is = kq;
+    sort = u;
+    local = refl;
+    expression = as_value u (in_register u q);
+    no_load = λ m. refl;
+    expressed = ap (λ k. same_value k q) kq;
+    assigned = λ r. refl;
+    dropped = refl;
+    step = λ n g s t w h.
+        casting.dereference-step z.program z.function z.signature h.map (calls (again_at z n)) s t.memory h.between.rel w z.body.scope p g h.between.registers q u kq;
+  }
 
   pub decay-given : (y : SourceType) → p q ≡ holds (address y) → Given z around p (plain.decay q)
   decay-given y kq = record {
-      kept = holds (address (element y));
-      is = ap decayed_kept kq;
-      sort = address (element y);
-      local = refl;
-      expression = as_value (address y) (in_register (address y) q);
-      no_load = λ m. refl;
-      expressed = ap (λ k. same_value k q) kq;
-      assigned = λ r. refl;
-      dropped = refl;
-      step = λ n g s t w h.
-          casting.decay-step z.program z.function z.signature h.map (calls (again_at z n)) s t.memory h.between.rel w z.body.scope p g h.between.registers q y kq;
-    }
+    kept = holds (address (element y));
+    is = ap decayed_kept kq;
+    sort = address (element y);
+    local = refl;
+    expression = as_value (address y) (in_register (address y) q);
+    no_load = λ m. refl;
+    expressed = ap (λ k. same_value k q) kq;
+    assigned = λ r. refl;
+    dropped = refl;
+    step = λ n g s t w h.
+        casting.decay-step z.program z.function z.signature h.map (calls (again_at z n)) s t.memory h.between.rel w z.body.scope p g h.between.registers q y kq;
+  }
 
   pub from_void-given : (y u : SourceType) → p q ≡ holds (address y) → Given z around p (plain.from_void u q)
   from_void-given y u kq = record {
-      kept = holds (address (without_const u));
-      is = refl;
-      sort = address (without_const u);
-      local = refl;
-      expression = as_value (address u) (address_in q);
-      no_load = λ m. refl;
-      expressed = refl;
-      assigned = λ r. refl;
-      dropped = refl;
-      step = λ n g s t w h.
-          casting.from_void-step z.program z.function z.signature h.map (calls (again_at z n)) s t.memory h.between.rel w z.body.scope p g h.between.registers q y u kq;
-    }
+    kept = holds (address (without_const u));
+    is = refl;
+    sort = address (without_const u);
+    local = refl;
+    expression = as_value (address u) (address_in q);
+    no_load = λ m. refl;
+    expressed = refl;
+    assigned = λ r. refl;
+    dropped = refl;
+    step = λ n g s t w h.
+        casting.from_void-step z.program z.function z.signature h.map (calls (again_at z n)) s t.memory h.between.rel w z.body.scope p g h.between.registers q y u kq;
+  }
 
   pub cast-given : (y a u : SourceType) → p q ≡ holds (address y) → sort_of a ≡ Some (address u) → (u ≡ void) ⊎ (y ≡ u) → Given z around p (plain.convert a q)
   cast-given y a u kq e fit = record {
-      kept = holds (address u);
-      is = ap of_sort e;
-      sort = address u;
-      local = refl;
-      expression = as_value (address u) (in_register (address u) q);
-      no_load = λ m. refl;
-      expressed = ap (λ k. converted k (p q) q) e ∙ ap (λ k. converted (Some (address u)) k q) kq;
-      assigned = λ r. refl;
-      dropped = refl;
-      step = λ n g s t w h.
-          casting.cast-step z.program z.function z.signature h.map (calls (again_at z n)) s t.memory h.between.rel w z.body.scope p g h.between.registers a y u e fit q kq;
-    }
+    kept = holds (address u);
+    is = ap of_sort e;
+    sort = address u;
+    local = refl;
+    expression = as_value (address u) (in_register (address u) q);
+    no_load = λ m. refl;
+    expressed = ap (λ k. converted k (p q) q) e ∙ ap (λ k. converted (Some (address u)) k q) kq;
+    assigned = λ r. refl;
+    dropped = refl;
+    step = λ n g s t w h.
+        casting.cast-step z.program z.function z.signature h.map (calls (again_at z n)) s t.memory h.between.rel w z.body.scope p g h.between.registers a y u e fit q kq;
+  }
 
   pub code-given : (a u : SourceType) → p q ≡ holds (code u) → sort_of a ≡ Some (code u) → Given z around p (plain.convert a q)
   code-given a u kq e = record {
-      kept = holds (code u);
-      is = ap of_sort e;
-      sort = code u;
-      local = refl;
-      expression = as_value (code u) (in_register (code u) q);
-      no_load = λ m. refl;
-      expressed = ap (λ k. converted k (p q) q) e ∙ ap (λ k. converted (Some (code u)) k q) kq;
-      assigned = λ r. refl;
-      dropped = refl;
-      step = λ n g s t w h.
-          casting.code-step z.program z.function z.signature h.map (calls (again_at z n)) s t.memory h.between.rel w z.body.scope p g h.between.registers a u e q kq;
-    }
+    kept = holds (code u);
+    is = ap of_sort e;
+    sort = code u;
+    local = refl;
+    expression = as_value (code u) (in_register (code u) q);
+    no_load = λ m. refl;
+    expressed = ap (λ k. converted k (p q) q) e ∙ ap (λ k. converted (Some (code u)) k q) kq;
+    assigned = λ r. refl;
+    dropped = refl;
+    step = λ n g s t w h.
+        casting.code-step z.program z.function z.signature h.map (calls (again_at z n)) s t.memory h.between.rel w z.body.scope p g h.between.registers a u e q kq;
+  }
 
   pub null-given : (f : Kind → Bool) (a u : SourceType) → p q ≡ integer_of f → sort_of a ≡ Some (address u) → Given z around p (plain.convert a q)
   null-given f a u kq e = record {
-      kept = holds (address u);
-      is = ap of_sort e;
-      sort = address u;
-      local = refl;
-      expression = as_value (address u) c.zero;
-      no_load = λ m. refl;
-      expressed = ap (λ k. converted k (p q) q) e ∙ ap (λ k. converted (Some (address u)) k q) kq;
-      assigned = λ r. refl;
-      dropped = refl;
-      step = λ n g s t w h.
-          casting.null-step z.program z.function z.signature h.map (calls (again_at z n)) s t.memory h.between.rel w z.body.scope p g h.between.registers a (address u) e (λ k i. absurd (cc)) q f kq;
-    }
+    kept = holds (address u);
+    is = ap of_sort e;
+    sort = address u;
+    local = refl;
+    expression = as_value (address u) c.zero;
+    no_load = λ m. refl;
+    expressed = ap (λ k. converted k (p q) q) e ∙ ap (λ k. converted (Some (address u)) k q) kq;
+    assigned = λ r. refl;
+    dropped = refl;
+    step = λ n g s t w h.
+        casting.null-step z.program z.function z.signature h.map (calls (again_at z n)) s t.memory h.between.rel w z.body.scope p g h.between.registers a (address u) e (λ k i. absurd (cc)) q f kq;
+  }
 
   pub null-code-given : (f : Kind → Bool) (a u : SourceType) → p q ≡ integer_of f → sort_of a ≡ Some (code u) → Given z around p (plain.convert a q)
   null-code-given f a u kq e = record {
-      kept = holds (code u);
-      is = ap of_sort e;
-      sort = code u;
-      local = refl;
-      expression = as_value (code u) c.zero;
-      no_load = λ m. refl;
-      expressed = ap (λ k. converted k (p q) q) e ∙ ap (λ k. converted (Some (code u)) k q) kq;
-      assigned = λ r. refl;
-      dropped = refl;
-      step = λ n g s t w h.
-          casting.null-step z.program z.function z.signature h.map (calls (again_at z n)) s t.memory h.between.rel w z.body.scope p g h.between.registers a (code u) e (λ k i. absurd (cc)) q f kq;
-    }
+    kept = holds (code u);
+    is = ap of_sort e;
+    sort = code u;
+    local = refl;
+    expression = as_value (code u) c.zero;
+    no_load = λ m. refl;
+    expressed = ap (λ k. converted k (p q) q) e ∙ ap (λ k. converted (Some (code u)) k q) kq;
+    assigned = λ r. refl;
+    dropped = refl;
+    step = λ n g s t w h.
+        casting.null-step z.program z.function z.signature h.map (calls (again_at z n)) s t.memory h.between.rel w z.body.scope p g h.between.registers a (code u) e (λ k i. absurd (cc)) q f kq;
+  }
 
   -- a function stays what it is (4.6)
   module _ (u : SourceType) (kq : p q ≡ holds (code u)) where

@@ -51,33 +51,33 @@ module _ (z : Scene) (around : Around Keeping) (p : Keeping) where
 
   pub read-given : (q : Register) (y : SourceType) (u : Sort) → p q ≡ holds (address y) → sort_of y ≡ Some u → Given z around p (plain.read q)
   read-given q y u kq e = record {
-      kept = of_sort (Some u);
-      is = ap read_kept kq ∙ ap of_sort e;
-      sort = register_sort u;
-      local = sort-local u;
-      expression = loaded u (address_in q);
-      no_load = λ m. refl;
-      expressed = ap (λ k. read_value k q) kq ∙ ap (λ k. loaded_or k q) e;
-      assigned = λ r. refl;
-      dropped = refl;
-      step = λ n g s t w h.
-          read-step z.program z.function z.signature h.map (calls (again_at z n)) s t.memory h.between.rel w z.body.scope p g h.between.registers q y u kq e;
-    }
+    kept = of_sort (Some u);
+    is = ap read_kept kq ∙ ap of_sort e;
+    sort = register_sort u;
+    local = sort-local u;
+    expression = loaded u (address_in q);
+    no_load = λ m. refl;
+    expressed = ap (λ k. read_value k q) kq ∙ ap (λ k. loaded_or k q) e;
+    assigned = λ r. refl;
+    dropped = refl;
+    step = λ n g s t w h.
+        read-step z.program z.function z.signature h.map (calls (again_at z n)) s t.memory h.between.rel w z.body.scope p g h.between.registers q y u kq e;
+  }
 
   pub operate-given : (q v : Register) (o : Arith) (k : Kind) (f a : Kind → Bool) → promoted k ≡ k → p q ≡ integer_of f → p v ≡ integer_of a → Given z around p (plain.operate o k q v)
   operate-given q v o k f a pk kq kv = record {
-      kept = result_kept o k;
-      is = refl;
-      sort = number Int;
-      local = result-local o k;
-      expression = as_bits (operated o k (integer_in q) (integer_in v));
-      no_load = λ m. refl;
-      expressed = refl;
-      assigned = λ r. refl;
-      dropped = refl;
-      step = λ n g s t w h.
-          operate-step z.program z.function z.signature h.map (calls (again_at z n)) s t.memory w z.body.scope p g h.between.registers o k q v f a pk kq kv;
-    }
+    kept = result_kept o k;
+    is = refl;
+    sort = number Int;
+    local = result-local o k;
+    expression = as_bits (operated o k (integer_in q) (integer_in v));
+    no_load = λ m. refl;
+    expressed = refl;
+    assigned = λ r. refl;
+    dropped = refl;
+    step = λ n g s t w h.
+        operate-step z.program z.function z.signature h.map (calls (again_at z n)) s t.memory w z.body.scope p g h.between.registers o k q v f a pk kq kv;
+  }
 
   module _ (q : Register) (f : Kind → Bool) (kq : p q ≡ integer_of f) where
     pub conversion-given : (a : SourceType) (k : Kind) → sort_of a ≡ Some (number k) → Given z around p (plain.convert a q)

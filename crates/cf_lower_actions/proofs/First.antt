@@ -53,8 +53,7 @@ module _ (z : Scene) (around : Around Keeping) (p : Keeping) (n : ℕ) (g : Regi
   standing o is =
       let found = known-in z.program z.function z.signature h.map (calls (again_at z n)) s t.memory h.between.rel w z.body.scope p g h.between.registers r (holds (address y)) (source.At o) kr is in
       let known = found.same.known in
-      let there = there o is in
-      (
+      let there = there o is in (
         sym (h.between.rel.gone o.object known) ∙ there.0,
         subst (λ a. leads z.program.classes a o.route ≡ true) (h.between.rel.type o.object known) there.1,
       )

@@ -351,6 +351,6 @@ module _ (z : Scene) (fits : Fits z) (around : Around Keeping) (p : Keeping) whe
   pub leaf-alike : (st : Plain) → is_leaf z p st ≡ true → RunsAlike z around p st
   leaf-alike (set r a) e = let two = both (nat_lt r z.body.own.bound) (may_set z p a) e in set-alike r a (below r z.body.own.bound two.0) two.1
   leaf-alike (act a) e = do-alike a e
-  leaf-alike (give None) e n g s t w h before = give-none z fits around p n g s t w h
+  leaf-alike (give None) e = λ n g s t w h before. give-none z fits around p n g s t w h
   leaf-alike (give (Some r)) e = give-alike r z.result refl e
   leaf-alike st e = absurd (cc)

@@ -16,7 +16,7 @@ use Rattle.cc_whole_mean.specs.Values.{value_of}
 use Rattle.cf_lower_relate.specs.Map.{Fixed, Map, Grows, is_ended}
 use Rattle.cf_lower_relate.proofs.Values.{grows-same, grows-through}
 use Rattle.cf_lower.specs.Kept.{Kept, unknown, integer_of, holds, argument, Keeping, keep, local_kept, after}
-use Rattle.cf_lower.specs.Expressions.{local_value}
+use Rattle.cf_lower.specs.Expressions.{local_value, value}
 use Rattle.cf_lower.specs.Statements.{lowered, put_in}
 use Rattle.cf_lower_steps.specs.Steps.{KeptAs, InRegisters, Step}
 use Rattle.cf_lower_steps.specs.Flows.{Between, Simulates}
@@ -125,8 +125,8 @@ module _ (z : Scene) (around : Around Keeping) (p : Keeping) where
         expression = x.expression;
         no_load = x.no_load;
         written = x.assigned r
-            ∙ ap (λ k. put_in (inside_at z.inside around) (local_kept k) r _) x.is
-            ∙ ap (λ l. put_in (inside_at z.inside around) l r _) x.local
+            ∙ ap (λ k. put_in (inside_at z.inside around) (local_kept k) r (value z.inside.classes z.inside.function z.inside.locals p a)) x.is
+            ∙ ap (λ l. put_in (inside_at z.inside around) l r (value z.inside.classes z.inside.function z.inside.locals p a)) x.local
             ∙ ap (λ e. put_in (inside_at z.inside around) (Some x.sort) r e) x.expressed;
         step = x.step;
       })

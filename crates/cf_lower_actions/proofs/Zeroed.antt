@@ -126,7 +126,7 @@ module _ (again helps : mean.Again) (program : mean.Program) (helper : Bool) (sc
         ∙ ap (λ a. on_ok a (λ v. write (pointer.At b (q + n)) v k)) fit
         ∙ written
 
-    pub put-filled : Filled (put u (behind P n) e ∷ []) k (q + n) (bytes_of (c_scalar u)) cells (λ now. load (c_scalar u) now (q + n) ≡ Some v)
+    abbrev pub put-filled : Filled (put u (behind P n) e ∷ []) k (q + n) (bytes_of (c_scalar u)) cells (λ now. load (c_scalar u) now (q + n) ≡ Some v)
     put-filled = record {
       after = behind_it;
       now = cells_of.put v (q + n) cells;
@@ -157,7 +157,6 @@ module _ (again helps : mean.Again) (program : mean.Program) (helper : Bool) (sc
         subst (λ s. Filled (put u (behind P n) nought ∷ []) k (q + n) s cells (ZeroIf (Some u) (q + n))) (sym bytes)
         (put-filled u nought (zero_of (c_scalar u)) (λ k. nought-fits u) (nought-stays u) (nought-size u) (nought-same u) n k cells before (omega (arith, room, bytes)))
 
-
     module _ (y : SourceType) (one : Zeros y) (n : ℕ) where
       abbrev S : ℕ
       S = size classes y
@@ -181,15 +180,15 @@ module _ (again helps : mean.Again) (program : mean.Program) (helper : Bool) (sc
                 ∙ ap (λ r. and_then r (falling (λ t w. runs again helps program helper scope depth (for_each (suc i) count (λ j. zeros classes y P (n + j * S))) t w))) first.run
                 ∙ rest.run;
             changed = rest.changed;
-            done = λ j lo hi. by_number j lo hi (nat_lt i j) refl first.done rest.done
+            done = λ j lo hi. by_number j lo hi (nat_lt i j) refl first.now rest.now first.done rest.done
                 (zeroed-kept classes first.now rest.now y (q + (n + i * S)) (λ a x some from to. rest.apart a x some (inl (omega (arith, to, next)))));
             apart = λ a x some far. rest.apart a x some (behind_first a x far more next) ∙ first.apart a x some (in_first a x far more);
           }
         where
-          by_number : (j : ℕ) → i ≤ j → j < i + suc count → (b : Bool) → nat_lt i j ≡ b → {old now : Cells} → Zeroed classes y (q + (n + i * S)) old → Elements (suc i) count now
+          by_number : (j : ℕ) → i ≤ j → j < i + suc count → (b : Bool) → nat_lt i j ≡ b → (old now : Cells) → Zeroed classes y (q + (n + i * S)) old → Elements (suc i) count now
               → (Zeroed classes y (q + (n + i * S)) old → Zeroed classes y (q + (n + i * S)) now) → Zeroed classes y (q + (n + j * S)) now
-          by_number j lo hi true e {old} {now} here later keep = later j (grind (arith, nat_tests, e)) (omega (arith, hi))
-          by_number j lo hi false e {old} {now} here later keep =
+          by_number j lo hi true e old now here later keep = later j (grind (arith, nat_tests, e)) (omega (arith, hi))
+          by_number j lo hi false e old now here later keep =
               subst (λ x. Zeroed classes y (q + (n + x * S)) now) (let same : i ≡ j = grind (arith, nat_tests, e, lo) in same) (keep here)
 
           in_first : (a : Scalar) (x : ℕ) → Apart x (bytes_of a) (q + (n + i * S)) (suc count * S) → suc count * S ≡ count * S + S → Apart x (bytes_of a) (q + (n + i * S)) S

@@ -23,6 +23,7 @@ use Rattle.cf_plain.specs.Running.{Flow, Falls, calls, does}
 use Rattle.cc_whole.specs.Plain.{Expression, Statement, in_order}
 use Rattle.cc_whole_memory.specs.declared.value.Pointer.TheVariants as pointer
 use Rattle.cc_whole_memory.specs.declared.value.Scalar.{Scalar}
+use Rattle.cc_whole_memory.specs.declared.value.Value.{Value}
 use Rattle.cc_whole_memory.specs.declared.value.Value.TheVariants as value
 use Rattle.cc_whole_memory.specs.Values.{bytes_of, zero_of}
 use Rattle.cc_whole_memory.specs.Cells.{Cells, load}
@@ -176,7 +177,7 @@ module _ (z : Scene) (fits : Fits z) (around : Around Keeping) (p : Keeping) (n 
 
     -- where the pointer points to
     pointed : value_of (address_in r) z.body.scope t.memory ≡ Ok (value.Address (pointer.At b (offset_of (fixed_in z) F o)))
-    pointed = points.is ∙ ap (λ v. Ok v) (points.same.is ∙ ap value.Address (points.same.there (stage-shown (F.stage o.object) points.same.visible live)))
+    pointed = points.is ∙ ap (λ (v : Value). Ok v) (points.same.is ∙ ap value.Address (points.same.there (stage-shown (F.stage o.object) points.same.visible live)))
 
     elsewhere-own : z.body.own.block (address void) r ≡ b → ⊥
     elsewhere-own e = h.between.blocks.free (address void) r bounded o.object points.same.known live (sym e)

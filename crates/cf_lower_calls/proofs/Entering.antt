@@ -140,17 +140,16 @@ module _ (K : Fixed) (s : State) where
 
   stand-in : (os : List ℕ) (b : ℕ) (F : Map) → Differ os → StandIn (entered_all os b F) os b
   stand-in [] b F d = tt
-  stand-in (o ∷ os) b F d =
+  stand-in (o ∷ os) b F d = (
+    (
+      block-elsewhere os (suc b) (entered o b F) o d.0 ∙ upd-same o b F.block,
       (
-        (
-          block-elsewhere os (suc b) (entered o b F) o d.0 ∙ upd-same o b F.block,
-          (
-            base-other os (suc b) (entered o b F) o d.0 ∙ upd-same o 0 F.base,
-            ap is_shown (stage-other os (suc b) (entered o b F) o d.0 ∙ upd-same o shown F.stage),
-          ),
-        ),
-        stand-in os (suc b) (entered o b F) d.1,
-      )
+        base-other os (suc b) (entered o b F) o d.0 ∙ upd-same o 0 F.base,
+        ap is_shown (stage-other os (suc b) (entered o b F) o d.0 ∙ upd-same o shown F.stage),
+      ),
+    ),
+    stand-in os (suc b) (entered o b F) d.1,
+  )
 
   pub enters : (os : List ℕ) (cs : List Value) (F : Map) (m : Memory) → Rel K F s m → Differ os → AllPassed K F s os cs → Enters K F s m os cs
   enters os cs F m rel d xs = record {
