@@ -1,5 +1,5 @@
 -- Locals that begin and end.
-use Rattle.std.proofs.Common.{◌≡◌, ℕ, ◌<◌, Bool, true, false, ◌&&◌, ◌==◌, nat_lt, if◌then◌else◌, [], ◌∷◌, refl, sym, ◌∙◌, ap, subst, arith}
+use Rattle.std.proofs.Common.{◌≡◌, ℕ, ◌<◌, ◌⊎◌, inr, Bool, true, false, ◌&&◌, ◌==◌, nat_lt, if◌then◌else◌, [], ◌∷◌, refl, sym, ◌∙◌, ap, subst, arith}
 use Rattle.std.specs.Prelude.{List, Option, Some, None, length}
 use Rattle.std.proofs.lemmas.Bool.Decides.{nat_tests}
 use Rattle.cf_base.specs.World.{World, Went, and_then}
@@ -17,16 +17,17 @@ use Rattle.cf_plain.specs.Running.{Flow, Falls, calls, does, keep as keep_value}
 use Rattle.cc_whole.specs.Plain as c_tree
 use Rattle.cc_whole.specs.Plain.{Statement}
 use Rattle.cc_whole_mean.specs.Flow as c
-use Rattle.cf_lower_relate.specs.Map.{Map, Stage, hidden, shown, is_ended, is_hidden, without}
+use Rattle.cf_lower_relate.specs.Map.{Map, Stage, hidden, shown, ended as over, is_ended, is_hidden, without}
 use Rattle.cf_lower_relate.proofs.Births.{grows-without}
-use Rattle.cf_lower_relate.proofs.Objects.{upd-other}
+use Rattle.cf_lower_relate.proofs.Objects.{upd-other, below-apart}
 use Rattle.cf_lower.specs.Kept.{holds, argument, Keeping, keep, declared_kept, is_argument, type_of_local, local_kept, after}
 use Rattle.cf_lower.specs.Written.{local_name}
 use Rattle.cf_lower.specs.Statements.{lowered, put_in}
 use Rattle.cf_lower_steps.specs.Flows.{Simulates}
 use Rattle.cf_lower_steps.specs.Moment.{Moment}
 use Rattle.cf_lower_turns.specs.Around.{Around, depth_of, inside_at}
-use Rattle.cf_lower_turns.specs.Here.{Free, Here}
+use Rattle.cf_lower_turns.specs.Here.{Still, InLocal, Homes, Here}
+use Rattle.cf_lower_turns.specs.Texts.{Free}
 use Rattle.cf_lower_turns.specs.Ways.{ends}
 use Rattle.cf_lower_turns.specs.Scene.{GivesBack, Scene, fixed_in, again_at, list_at}
 use Rattle.cf_lower_turns.proofs.Following.{sim-here}
@@ -44,6 +45,11 @@ true-false h k = absurd (cc)
 scalar-const : (t : SourceType) → is_scalar t ≡ is_scalar (without_const t)
 scalar-const (const t) = scalar-const t
 scalar-const t = refl
+
+hidden-live : (st : Stage) → is_hidden st ≡ true → is_ended st ≡ false
+hidden-live hidden h = refl
+hidden-live shown h = absurd (cc)
+hidden-live over h = absurd (cc)
 
 module _ (z : Scene) (fits : Fits z) (around : Around Keeping) (p : Keeping) (n : ℕ) (g : Registers) (s : State) (t : c.State) (w : World)
     (h : Here (fixed_in z) z.body p (depth_of around) g s t) where
@@ -81,12 +87,32 @@ module _ (z : Scene) (fits : Fits z) (around : Around Keeping) (p : Keeping) (n 
           by_test false q =
               old (known o lo q) (sym (ap is_ended (upd-other s.next o st h.map.stage q)) ∙ live) (sym (upd-other s.next o (z.body.own.local i) h.map.block q) ∙ e)
 
+      -- what nothing pointed to stands as it did
+      still : (o : ℕ) → o < z.body.start.count → is_hidden (z.body.start.stage o) ≡ true → Still z.body.start h.map o → Still z.body.start G o
+      still o lo hid x =
+          let other : o == s.next ≡ false = below-apart s.next o (let c = h.between.rel.count in let m = h.grows.count in omega (arith, lo, c, m)) in
+          record {
+            stage = upd-other s.next o st h.map.stage other ∙ x.stage;
+            block = upd-other s.next o (z.body.own.local i) h.map.block other ∙ x.block;
+            base = upd-other s.next o 0 h.map.base other ∙ x.base;
+          }
+
+      homes : Homes z.body G
+      homes o lo live = by_test (o == s.next) refl
+        where
+          by_test : (q : Bool) → o == s.next ≡ q → (G.block o < z.body.first.next) ⊎ InLocal z.body (G.block o)
+          by_test true q = inr (record { local = i; there = lt; is = ap (λ (x : Bool). if x then z.body.own.local i else h.map.block o) q })
+          by_test false q =
+              subst (λ b. (b < z.body.first.next) ⊎ InLocal z.body b) (sym (upd-other s.next o (z.body.own.local i) h.map.block q))
+              (h.homes o (known o lo q) (sym (ap is_ended (upd-other s.next o st h.map.stage q)) ∙ live))
+
       abbrev here-born : Here (fixed_in z) z.body p (depth_of around) g behind t
       here-born = here-grown (fixed_in z) z.body p p (depth_of around) g g s behind t h G
           (declaring.grows at (stands z around p n g s t w h fits) i y lt typed laid ended st live_now seen)
           (declaring.between-new at (stands z around p n g s t w h fits) i y lt typed laid ended st live_now seen) h.below
           (λ e o le lo live k. elsewhere o (z.body.flags.block e) lo live k (h.flags_there.locals e i le lt) (λ lm lv m. h.flags_there.free e o le lm lv m))
           (λ b lb free o lo live k. elsewhere o b lo live k (λ m. let later = h.later.locals i lt in omega (arith, lb, later, m)) (λ lm lv m. free o lm lv m))
+          refl still homes
 
       -- the declaration, whose place goes to a register or is dropped
       declared-then : (S' : Flow → State → c.Flow → Type 0) (go : source.Value → Flow) (ss : List Statement)
@@ -147,26 +173,45 @@ module _ (z : Scene) (fits : Fits z) (around : Around Keeping) (p : Keeping) (n 
 
   -- ---- the storage of a local ends
 
-  module _ (i : ℕ) (y : SourceType) (some : has_bytes y ≡ true) where
-    here-ended : (o : ℕ) → Here (fixed_in z) z.body p (depth_of around) g (with_object o gone s) t
-    here-ended o = here-grown (fixed_in z) z.body p p (depth_of around) g g s (with_object o gone s) t h (without o h.map) (grows-without h.map o)
+  module _ (i : ℕ) (y : SourceType) (lt : i < length z.body.own.locals.types) (some : has_bytes y ≡ true) where
+    -- it is none of those that nothing pointed to as the function was entered
+    still-there : (k : ℕ) → s.frame.locals i ≡ Some k → (o : ℕ) → o < z.body.start.count → is_hidden (z.body.start.stage o) ≡ true → Still z.body.start h.map o
+        → Still z.body.start (without k h.map) o
+    still-there k e o lo hid x = by_test (o == k) refl
+      where
+        by_test : (b : Bool) → o == k ≡ b → Still z.body.start (without k h.map) o
+        by_test false q = record { stage = upd-other k o over h.map.stage q ∙ x.stage; block = x.block; base = x.base }
+        by_test true q =
+            let same : o ≡ k = grind (arith, nat_tests, q) in
+            let a = h.between.locals.objects i k lt e in
+            let live : is_ended (h.map.stage k) ≡ false = ap (λ j. is_ended (h.map.stage j)) (sym same) ∙ ap is_ended x.stage ∙ hidden-live (z.body.start.stage o) hid in
+            let block : h.map.block k ≡ z.body.start.block o = ap h.map.block (sym same) ∙ x.block in
+            let here = a.block live in
+            let before = h.outer.before o lo hid in
+            let later = h.later.locals i lt in
+            absurd (omega (arith, block, here, before, later))
+
+    here-ended : (o : ℕ) → s.frame.locals i ≡ Some o → Here (fixed_in z) z.body p (depth_of around) g (with_object o gone s) t
+    here-ended o e = here-grown (fixed_in z) z.body p p (depth_of around) g g s (with_object o gone s) t h (without o h.map) (grows-without h.map o)
         (finishing.between-ended at (stands z around p n g s t w h fits) i y some o) h.below
         (λ e k le lk live m. h.flags_there.free e k le lk (finishing.live-before at (stands z around p n g s t w h fits) i y some o k live) m)
         (λ b lb free k lk live m. free k lk (finishing.live-before at (stands z around p n g s t w h fits) i y some o k live) m)
+        refl (λ k lk hid x. still-there o e k lk hid x)
+        (λ k lk live. h.homes k lk (finishing.live-before at (stands z around p n g s t w h fits) i y some o k live))
 
     pub finish-done : Simulates (S p) (does (again_at z n) z.program (act (plain.finish y i)) g s w)
         (list_at z n (lowered (act (plain.finish y i)) (inside_at z.inside around) p) t w)
-    finish-done = by_local (s.frame.locals i)
+    finish-done = by_local (s.frame.locals i) refl
       where
-        by_local : (x : Option ℕ)
+        by_local : (x : Option ℕ) → s.frame.locals i ≡ x
             → Simulates (S p)
             ((some_or x malformed >>= (λ o. destroy (calls (again_at z n)) z.program y (root o) >> doing (object_changed o gone)) >> gives (Falls g)) s w)
             (list_at z n [] t w)
-        by_local None = record { by = tt }
-        by_local (Some o) =
+        by_local None e = record { by = tt }
+        by_local (Some o) e =
             subst (λ ran. Simulates (S p)
             (and_then
             (and_then ran (λ did w. onward did (λ u. doing (object_changed o gone)) w))
             (λ did w. onward did (λ u. gives (Falls g)) w)) (list_at z n [] t w))
             (sym (finishing.destroyed (calls (again_at z n)) z.program y (root o) s w some))
-            (sim-here (S p) (Falls g) (with_object o gone s) w (list_at z n [] t w) (c.Falls t) refl (record { after = t; is = refl; related = here-ended o }))
+            (sim-here (S p) (Falls g) (with_object o gone s) w (list_at z n [] t w) (c.Falls t) refl (record { after = t; is = refl; related = here-ended o e }))

@@ -105,6 +105,10 @@ same-frame : (p : Place) (i : ℕ) (bytes : List ℕ) (s : State) → (with_byte
 same-frame p i [] s = refl
 same-frame p i (b ∷ rest) s = same-frame p (suc i) rest (with_object p.object (hold (item i ∷ p.route) (Some (source.Number (convert Char (pos b))))) s)
 
+same-literals : (p : Place) (i : ℕ) (bytes : List ℕ) (s : State) → (with_bytes p i bytes s).literals ≡ s.literals
+same-literals p i [] s = refl
+same-literals p i (b ∷ rest) s = same-literals p (suc i) rest (with_object p.object (hold (item i ∷ p.route) (Some (source.Number (convert Char (pos b))))) s)
+
 module _ (z : Scene) (fits : Fits z) (around : Around Keeping) (p : Keeping) (n : ℕ) (g : Registers) (s : State) (t : c.State) (w : World)
     (h : Here (fixed_in z) z.body p (depth_of around) g s t) (r : Register) (len : ℕ) (kr : p r ≡ holds (address (array (integer Char) len)))
     (there : IsThere z.program.classes g s r) (bytes : List ℕ) where
@@ -241,7 +245,7 @@ module _ (z : Scene) (fits : Fits z) (around : Around Keeping) (p : Keeping) (n 
         (record {
           after = in_memory t more.after;
           is = refl;
-          related = here-stored K z.body p (depth_of around) g s (with_bytes o 0 bytes zeroed) t more.after h more.rel (same-frame o 0 bytes zeroed)
+          related = here-stored K z.body p (depth_of around) g s (with_bytes o 0 bytes zeroed) t more.after h more.rel (same-frame o 0 bytes zeroed) (same-literals o 0 bytes zeroed)
               (changed-keeps t.memory more.after b blk more.now (zeroing.stands z fits around p n g s t w h r y kr no-void there o is).there more.changed.next more.changed.there more.changed.elsewhere)
               o.object known live more.changed.elsewhere;
         })

@@ -7,12 +7,13 @@ use Rattle.cf_core.specs.Places.{Place}
 use Rattle.cf_core.specs.Store as source
 use Rattle.cf_core.specs.Store.{hold}
 use Rattle.cf_core.specs.Run.{State, with_object}
-use Rattle.cf_core.specs.Calls.{root}
+use Rattle.cf_core.specs.Calls.{Program, root}
+use Rattle.cf_core.specs.Calls as core
 use Rattle.cf_lower_layout.specs.Layout.{leads}
 use Rattle.cf_lower_layout.specs.Sorts.{Sort, number, address, code, scalar_sort, sort_of}
 use Rattle.cf_plain.specs.Plain as plain
 use Rattle.cf_plain.specs.Plain.{Register, act}
-use Rattle.cf_plain.specs.Acts.{Registers}
+use Rattle.cf_plain.specs.Acts.{Registers, acts}
 use Rattle.cf_plain.specs.Running.{calls, does}
 use Rattle.cc_whole.specs.Plain.{Expression, named, pointed, assign}
 use Rattle.cc_whole_memory.specs.declared.value.Pointer.TheVariants as pointer
@@ -41,9 +42,16 @@ use Rattle.cf_lower_turns.specs.Here.{Here}
 use Rattle.cf_lower_turns.specs.Ways.{ends}
 use Rattle.cf_lower_turns.specs.Scene.{GivesBack, Scene, fixed_in, again_at, list_at}
 use Rattle.cf_lower_leaves.proofs.Setting.{store-step}
-use Rattle.cf_lower_objects.proofs.First.{first-by, first-step}
+use Rattle.cf_lower_leaves.proofs.Storing.{LiteralsKept, none-wrong, none-ends, kept-by}
+use Rattle.cf_lower_objects.proofs.First.{first-cases, first-by, first-step}
 use Rattle.cf_lower_actions.specs.Fits.{Fits}
 use Rattle.cf_lower_actions.specs.Leaf.{IsThere, IsLocals}
+
+-- a first value makes no literal
+first-keeps : (P : Program) (again : core.Again) (g : Registers) (r q : Register) (s : State) (w : World) → LiteralsKept s (acts again P g (plain.first r q) s w)
+first-keeps P again g r q s w =
+    first-cases P again g r q s w (LiteralsKept s) (none-wrong s w) (none-ends s w) (λ is. kept-by s source.Nothing s w refl)
+    (λ p isp v is us. kept-by s source.Nothing (with_object p.object (hold p.route (Some v)) s) w refl)
 
 module _ (z : Scene) (around : Around Keeping) (p : Keeping) (n : ℕ) (g : Registers) (s : State) (t : c.State) (w : World)
     (h : Here (fixed_in z) z.body p (depth_of around) g s t) (r q : Register) (y : SourceType) (u : Sort) (x : Kept) (b : Sort)
@@ -67,7 +75,7 @@ module _ (z : Scene) (around : Around Keeping) (p : Keeping) (n : ℕ) (g : Regi
       ∙ ap (λ i. stored_at i r (local_value (local_kept (p q)) q)) e
       ∙ ap (λ k. put u (address_in r) (local_value (local_kept k) q) ∷ []) kq
       ∙ ap (λ l. put u (address_in r) (local_value l q) ∷ []) lx))
-      (store-step z n around p p g s t w h (pointed (c_type u) (address_in r)) (as_stored u (local_value (Some b) q)) refl _
+      (store-step z n around p p g s t w h (pointed (c_type u) (address_in r)) (as_stored u (local_value (Some b) q)) refl _ (first-keeps z.program (calls (again_at z n)) g r q s w)
       (first-step z.program z.function z.signature h.map (calls (again_at z n)) s t.memory h.between.rel w z.body.scope p g h.between.registers r q x b kq lx y u kr e takes standing))
 
 -- ---- the object of a parameter of a call
@@ -143,6 +151,6 @@ module _ (z : Scene) (fits : Fits z) (around : Around Keeping) (p : Keeping) (n 
       ∙ ap (λ o. if_scalar o [] (λ s. assign (named (local_name i)) (as_stored s (local_value (local_kept (p q)) q)) ∷ [])) e
       ∙ ap (λ k. assign (named (local_name i)) (as_stored u (local_value (local_kept k) q)) ∷ []) kq
       ∙ ap (λ l. assign (named (local_name i)) (as_stored u (local_value l q)) ∷ []) lx))
-      (store-step z n around p p g s t w h (named (local_name i)) expression refl _
+      (store-step z n around p p g s t w h (named (local_name i)) expression refl _ (first-keeps z.program (calls (again_at z n)) g r q s w)
       (first-by z.program z.function z.signature h.map (calls (again_at z n)) s t.memory h.between.rel w z.body.scope p g h.between.registers r q x b kq lx
       (assigned (named (local_name i)) expression z.body.scope t.memory) argument-stored))

@@ -51,7 +51,7 @@ module _ (z : Scene) (fits : Fits z) (around : Around Keeping) (p : Keeping) (n 
       → Simulates S (Went (Gives (Returns v) s) w) (list_at z n ss t w)
   back v ss back run given =
       sim-here S (Returns v) s w (list_at z n ss t w) (c.Returns back t) run
-      (record { value = back; after = t; is = refl; map = h.map; grows = h.grows; rel = h.between.rel; outer = h.outer; given = given })
+      (record { value = back; after = t; is = refl; map = h.map; grows = h.grows; rel = h.between.rel; outer = h.outer; homes = h.homes; locals = h.between.locals; texts = h.texts; given = given })
 
   run-give : (e : Expression) (x : Value) → value_of e z.body.scope t.memory ≡ Ok x → list_at z n (c_tree.give (Some e) ∷ []) t w ≡ Went (c.Returns (Some x) t) w
   run-give e x is =

@@ -336,7 +336,9 @@ module _ (z : Scene) (fits : Fits z) (around : Around Keeping) (p : Keeping) whe
   do-alike (plain.first r q) e n g s t w h there = first-alike r q (p r) refl e n g s t w h there
   do-alike (plain.zeros r) e n g s t w h there = zeros-by r (p r) refl e n g s t w h there
   do-alike (plain.bytes r b) e n g s t w h there = bytes-by r b (p r) refl e n g s t w h there
-  do-alike (plain.finish y i) e n g s t w h over = finish-done z fits around p n g s t w h i y e
+  do-alike (plain.finish y i) e n g s t w h over =
+      let two = both (nat_lt i (length z.body.own.locals.types)) (has_bytes y) e in
+      finish-done z fits around p n g s t w h i y (below i (length z.body.own.locals.types) two.0) two.1
   do-alike a e n g s t w h over = by_test (one-of (gives_nothing a) (gives_value z p a) e)
     where
       by_test : (gives_nothing a ≡ true) ⊎ (gives_value z p a ≡ true) → AlikeAt z around p (act a) n g s t w

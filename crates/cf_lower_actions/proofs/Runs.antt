@@ -13,7 +13,7 @@ use Rattle.cf_plain.specs.Running.{Flow, Falls, calls, does, keep as keep_value}
 use Rattle.cc_whole_memory.specs.declared.value.Value.{Value}
 use Rattle.cc_whole_mean.specs.Flow as c
 use Rattle.cc_whole_mean.specs.Values.{value_of}
-use Rattle.cf_lower_relate.specs.Map.{Fixed, Map, Grows, is_ended}
+use Rattle.cf_lower_relate.specs.Map.{Fixed, Map, Grows, is_ended, is_hidden}
 use Rattle.cf_lower_relate.proofs.Values.{grows-same, grows-through}
 use Rattle.cf_lower.specs.Kept.{Kept, unknown, integer_of, holds, argument, Keeping, keep, local_kept, after}
 use Rattle.cf_lower.specs.Expressions.{local_value, value}
@@ -24,7 +24,9 @@ use Rattle.cf_lower_steps.specs.Lowering.{Below}
 use Rattle.cf_lower_steps.specs.Own.{Own}
 use Rattle.cf_lower_steps.proofs.Registers.{kept-other}
 use Rattle.cf_lower_turns.specs.Around.{Around, depth_of, inside_at}
-use Rattle.cf_lower_turns.specs.Here.{Body, Free, Here}
+use Rattle.cf_lower_turns.specs.Here.{Body, Still, Homes, Here}
+use Rattle.cf_lower_turns.specs.Texts.{Free}
+use Rattle.cf_lower_turns.proofs.Literals.{texts-stay}
 use Rattle.cf_lower_turns.specs.Ways.{ends}
 use Rattle.cf_lower_turns.specs.Scene.{GivesBack, Scene, fixed_in, again_at, list_at, LeafRuns}
 use Rattle.cf_lower_turns.proofs.Following.{sim-here}
@@ -37,7 +39,8 @@ use Rattle.cf_lower_actions.specs.Given.{Given, Silent}
 module _ (K : Fixed) (at : Body) (p q : Keeping) (d : ℕ) (g r : Registers) (s u : State) (t : c.State) (h : Here K at p d g s t) (G : Map) (grows : Grows h.map G)
     (between : Between K at.own at.scope G q r u t.memory) (below : Below at.own q)
     (flags : (e o : ℕ) → e < at.flags.bound → o < G.count → is_ended (G.stage o) ≡ false → G.block o ≡ at.flags.block e → ⊥)
-    (free : (b : ℕ) → b < at.first.next → Free h.map b → Free G b) where
+    (free : (b : ℕ) → b < at.first.next → Free h.map b → Free G b) (literals : u.literals ≡ s.literals)
+    (still : (o : ℕ) → o < at.start.count → is_hidden (at.start.stage o) ≡ true → Still at.start h.map o → Still at.start G o) (homes : Homes at G) where
   abbrev pub here-grown : Here K at q d r u t
   here-grown = record {
     map = G;
@@ -54,7 +57,18 @@ module _ (K : Fixed) (at : Body) (p q : Keeping) (d : ℕ) (g r : Registers) (s 
     };
     bounded = h.bounded;
     unset = h.unset;
-    outer = record { next = h.outer.next; remains = h.outer.remains; same = h.outer.same; free = λ b lb f. free b lb (h.outer.free b lb f) };
+    outer = record {
+      next = h.outer.next;
+      remains = h.outer.remains;
+      same = h.outer.same;
+      free = λ b lb no f. free b lb (h.outer.free b lb no f);
+      hidden = λ o lo hid. still o lo hid (h.outer.hidden o lo hid);
+      before = h.outer.before;
+    };
+    placed = h.placed;
+    homes = homes;
+    texts_laid = h.texts_laid;
+    texts = texts-stay K at.texts at.first.next h.map G grows s u literals t.memory t.memory h.texts_laid free (λ b lb f. refl) h.texts;
     later = h.later;
   }
 
@@ -90,7 +104,7 @@ module _ (K : Fixed) (at : Body) (p : Keeping) (d : ℕ) (g : Registers) (s : St
   pub here-silent : (v : source.Value) → Here K at (keep p r y) d (keep_value g r v) s t
   here-silent v = here-grown K at p (keep p r y) d g (keep_value g r v) s s t h h.map (grows-same h.map)
       (record { rel = h.between.rel; registers = registers-with v; blocks = h.between.blocks; locals = h.between.locals })
-      below-with (λ e o le lo live k. h.flags_there.free e o le lo live k) (λ b lb f. f)
+      below-with (λ e o le lo live k. h.flags_there.free e o le lo live k) (λ b lb f. f) refl (λ o lo hid x. x) h.homes
 
 -- ---- statements
 

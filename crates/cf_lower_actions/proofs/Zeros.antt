@@ -274,7 +274,7 @@ module _ (z : Scene) (fits : Fits z) (around : Around Keeping) (p : Keeping) (n 
         (record {
           after = in_memory t filled.after;
           is = refl;
-          related = here-stored (fixed_in z) z.body p (depth_of around) g s (with_object o.object (λ x. now_object) s) t filled.after h rel-behind refl keeps
+          related = here-stored (fixed_in z) z.body p (depth_of around) g s (with_object o.object (λ x. now_object) s) t filled.after h rel-behind refl refl keeps
               o.object points.same.known live filled.changed.elsewhere;
         })
 

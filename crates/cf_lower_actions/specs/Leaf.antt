@@ -215,7 +215,7 @@ may_do z p (plain.store r q) = may_store (p r) (p q)
 may_do z p (plain.first r q) = may_first z.body.own.locals (p r) (p q)
 may_do z p (plain.zeros r) = may_zero (p r)
 may_do z p (plain.bytes r b) = are_chars (p r)
-may_do z p (plain.finish t i) = has_bytes t
+may_do z p (plain.finish t i) = nat_lt i (length z.body.own.locals.types) && has_bytes t
 may_do z p a = gives_nothing a || gives_value z p a
 
 -- nothing, or what is returned

@@ -236,5 +236,9 @@ module _ (locals : Locals) where
   begun-told (Some (plain.an_object i t)) (Some x) y = given-told (plain.suits t x) plain.no_value y tt
   begun-told o p y = tt
 
+  pub filled-told : (o : Option plain.Kept) (y : Kept) → ToldIf locals (plain.filled o) y
+  filled-told (Some (plain.an_object i t)) y = tt
+  filled-told o y = tt
+
   pub declared-told : (i : ℕ) (t : SourceType) → is_the_type (slice_get locals.types i) t ≡ true → Told locals (plain.an_object i t) (lower.declared_kept locals i t)
   declared-told i t e = record { there = the-type (slice_get locals.types i) t e; is = refl }

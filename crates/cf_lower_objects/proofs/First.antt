@@ -8,7 +8,7 @@ use Rattle.cf_core.specs.Places.{Place, is_scalar}
 use Rattle.cf_core.specs.Objects.{settle}
 use Rattle.cf_core.specs.Store as source
 use Rattle.cf_core.specs.Store.{hold}
-use Rattle.cf_core.specs.Run.{State, Did, Malformed, ◌>>=◌, gives, malformed, some_or, when, with_object}
+use Rattle.cf_core.specs.Run.{State, Did, Gives, Malformed, ◌>>=◌, gives, malformed, some_or, when, with_object}
 use Rattle.cf_core.specs.Access.{place_type, used, first_value}
 use Rattle.cf_core.specs.Calls.{Program}
 use Rattle.cf_core.specs.Calls as core
@@ -48,6 +48,37 @@ never-built Kx F (holds (number k)) b found e h = h.same
 never-built Kx F (holds (address t)) b found e h = h.same
 never-built Kx F (holds (code t)) b found e h = h.same
 
+-- what holds where a first value is stored, where one was built in place, and of runs that are malformed or undefined, holds of the action
+module _ (P : Program) (again : core.Again) (g : Registers) (r q : Register) (s : State) (w : World) (Q : Ran (Did source.Value) → Type 0)
+    (wrong : Q (Went Malformed w)) (ends : (n : ℕ) → Q (Stops (Undefined n) w.trace))
+    (built : g q ≡ Some source.Built → Q (Went (Gives source.Nothing s) w))
+    (put : (p : Place) → g r ≡ Some (source.At p) → (v : source.Value) → g q ≡ Some v → usable v ≡ true → Q ((doing (first_value p v)) s w)) where
+  pub first-cases : Q (acts again P g (plain.first r q) s w)
+  first-cases =
+      test-place Q s w wrong ends g r (λ p. held g q >>= (λ v. doing (settle P.classes p v))) (λ p isp. of-place p isp (g q) refl)
+    where
+      of-place : (p : Place) → g r ≡ Some (source.At p) → (y : Option source.Value) → g q ≡ y
+          → Q ((some_or y malformed >>= (λ v. doing (settle P.classes p v))) s w)
+      of-place p isp None isq = wrong
+      of-place p isp (Some v) isq = by_value v isq
+        where
+          when-scalar : (b : Bool) (v : source.Value) → Q ((doing (used v >>= first_value p)) s w) → Q ((doing (when b (used v >>= first_value p) malformed)) s w)
+          when-scalar true v h = h
+          when-scalar false v h = wrong
+
+          by_value : (v : source.Value) → g q ≡ Some v → Q ((doing (settle P.classes p v)) s w)
+          by_value source.Built is = built is
+          by_value source.Nothing is = when-scalar (is_scalar (place_type P.classes s p)) source.Nothing wrong
+          by_value source.Missing is = when-scalar (is_scalar (place_type P.classes s p)) source.Missing (ends 16)
+          by_value (source.Number z) is = when-scalar (is_scalar (place_type P.classes s p)) (source.Number z) (put p isp (source.Number z) is refl)
+          by_value source.Null is = when-scalar (is_scalar (place_type P.classes s p)) source.Null (put p isp source.Null is refl)
+          by_value (source.At o) is = when-scalar (is_scalar (place_type P.classes s p)) (source.At o) (put p isp (source.At o) is refl)
+          by_value (source.Code f) is = when-scalar (is_scalar (place_type P.classes s p)) (source.Code f) (put p isp (source.Code f) is refl)
+          by_value (source.DataMember path i) is =
+              when-scalar (is_scalar (place_type P.classes s p)) (source.DataMember path i) (put p isp (source.DataMember path i) is refl)
+          by_value (source.FunctionMember path d) is =
+              when-scalar (is_scalar (place_type P.classes s p)) (source.FunctionMember path d) (put p isp (source.FunctionMember path d) is refl)
+
 module _ (P : Program) (function : Name → ℕ) (signature : Name → SourceType) (F : Map) (again : core.Again) (s : State) (m : Memory)
     (rel : Rel (K P function signature F) F s m) (w : World) (scope : Scope) (kept : Keeping) (g : Registers) (regs : InRegisters (K P function signature F) F kept g scope m)
     (r q : Register) (x : Kept) (b : Sort) (kq : kept q ≡ x) (lx : local_kept x ≡ Some b) where
@@ -63,42 +94,11 @@ module _ (P : Program) (function : Name → ℕ) (signature : Name → SourceTyp
   module _ (written : Result Memory ℕ)
       (stored : (p : Place) → g r ≡ Some (source.At p) → (v : source.Value) → HasValue (K P function signature F) F x v (value_of (local_value (Some b) q) scope m)
       → Stored (K P function signature F) F s (with_object p.object (hold p.route (Some v)) s) m written) where
-    abbrev Q : Ran (Did source.Value) → Type 0
-    Q ran = Stores (K P function signature F) F ran s w m written
-
-    wrong : Q (Went Malformed w)
-    wrong = record { by = tt }
-
-    ends : (n : ℕ) → Q (Stops (Undefined n) w.trace)
-    ends n = record { by = refl }
-
-    pub first-by : Q (acts again P g (plain.first r q) s w)
+    pub first-by : Stores (K P function signature F) F (acts again P g (plain.first r q) s w) s w m written
     first-by =
-        test-place Q s w wrong ends g r (λ p. held g q >>= (λ v. doing (settle P.classes p v))) (λ p isp. of-place p isp (g q) refl)
-      where
-        of-place : (p : Place) → g r ≡ Some (source.At p) → (y : Option source.Value) → g q ≡ y
-            → Q ((some_or y malformed >>= (λ v. doing (settle P.classes p v))) s w)
-        of-place p isp None isq = wrong
-        of-place p isp (Some v) isq = by_value v isq
-          where
-            put : (v : source.Value) → g q ≡ Some v → usable v ≡ true → Q ((doing (first_value p v)) s w)
-            put v is us = record { by = (refl, stored p isp v (in-value v is us)) }
-
-            when-scalar : (b : Bool) (v : source.Value) → Q ((doing (used v >>= first_value p)) s w) → Q ((doing (when b (used v >>= first_value p) malformed)) s w)
-            when-scalar true v h = h
-            when-scalar false v h = wrong
-
-            by_value : (v : source.Value) → g q ≡ Some v → Q ((doing (settle P.classes p v)) s w)
-            by_value source.Built is = absurd (never-built (K P function signature F) F x b _ lx (kept-value source.Built is))
-            by_value source.Nothing is = when-scalar (is_scalar (place_type P.classes s p)) source.Nothing wrong
-            by_value source.Missing is = when-scalar (is_scalar (place_type P.classes s p)) source.Missing (ends 16)
-            by_value (source.Number z) is = when-scalar (is_scalar (place_type P.classes s p)) (source.Number z) (put (source.Number z) is refl)
-            by_value source.Null is = when-scalar (is_scalar (place_type P.classes s p)) source.Null (put source.Null is refl)
-            by_value (source.At o) is = when-scalar (is_scalar (place_type P.classes s p)) (source.At o) (put (source.At o) is refl)
-            by_value (source.Code f) is = when-scalar (is_scalar (place_type P.classes s p)) (source.Code f) (put (source.Code f) is refl)
-            by_value (source.DataMember path i) is = when-scalar (is_scalar (place_type P.classes s p)) (source.DataMember path i) (put (source.DataMember path i) is refl)
-            by_value (source.FunctionMember path d) is =
-                when-scalar (is_scalar (place_type P.classes s p)) (source.FunctionMember path d) (put (source.FunctionMember path d) is refl)
+        first-cases P again g r q s w (λ ran. Stores (K P function signature F) F ran s w m written) (record { by = tt }) (λ n. record { by = refl })
+        (λ is. absurd (never-built (K P function signature F) F x b _ lx (kept-value source.Built is)))
+        (λ p isp v is us. record { by = (refl, stored p isp v (in-value v is us)) })
 
   -- in a part of an object that stands
   module _ (t : SourceType) (u : Sort) (kr : kept r ≡ holds (address t)) (e : sort_of t ≡ Some u) (takes : Takes u x)

@@ -114,6 +114,7 @@ module _ (own : Own) (flags : Flags) (F : Map) (scope : Scope) (m : Memory) (the
     same = λ c lc no free. other c (earlier c lc) ∙ outer.same c lc no free;
     free = outer.free;
     hidden = outer.hidden;
+    before = outer.before;
   }
     where
       earlier : (c : ℕ) → c < first.next → c ≡ b → ⊥

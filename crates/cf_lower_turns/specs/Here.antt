@@ -46,6 +46,7 @@ pub record Outer (texts : Texts) (E F : Map) (first m : Memory) : Type 0 where
   pub same : (b : ℕ) → b < first.next → NoText texts b → Free E b → m.block b ≡ first.block b
   pub free : (b : ℕ) → b < first.next → NoText texts b → Free E b → Free F b
   pub hidden : (o : ℕ) → o < E.count → is_hidden (E.stage o) ≡ true → Still E F o
+  pub before : (o : ℕ) → o < E.count → is_hidden (E.stage o) ≡ true → E.block o < first.next
 
 -- the C locals of registers and flags are there
 pub record Placed (at : Body) (m : Memory) : Type 0 where
