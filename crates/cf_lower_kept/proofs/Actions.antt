@@ -21,7 +21,7 @@ module _ (locals : Locals) (result : SourceType) (g : plain.Keeping) (h : Keepin
     is = ap (λ b. if b then integer_of (λ k. fits k z) else unknown) e;
     has = λ k q. q;
   }
-  action-told (text j bytes) e = refl
+  action-told (text j b) e = refl
   action-told (local i) e = local-told locals (slice_get locals.types i) e
   action-told (static_object name t) e = named-told locals t e
   action-told (function name t) e = ap (λ (s : Sort). holds s) (sym (code-sort t e))
