@@ -76,9 +76,9 @@ array-size : {a d : SourceType} {n k : ℕ} → array a n ≡ array d k → n �
 array-size e = cc
 
 inner-item : (y a : SourceType) (len i : ℕ) → is_const y ≡ false → without_const y ≡ array a len → i < len → has_item y i ≡ true
-inner-item (array d n) a len i no e lt = let same : n ≡ len = array-size e in grind (arith, nat_tests, same, lt)
-inner-item (const y) a len i no e lt = absurd (cc)
-inner-item y a len i no e lt = absurd (cc)
+inner-item (array d n) a len i bare e lt = let same : n ≡ len = array-size e in grind (arith, nat_tests, same, lt)
+inner-item (const y) a len i bare e lt = absurd (cc)
+inner-item y a len i bare e lt = absurd (cc)
 
 item-there : (y a : SourceType) (len i : ℕ) → const_once y ≡ true → without_const y ≡ array a len → i < len → has_item (plain_type y) i ≡ true
 item-there (const y) a len i once e lt = inner-item y a len i (no-not (is_const y) (both (not (is_const y)) (const_once y) once).0) e lt
@@ -112,13 +112,13 @@ same-literals p i (b ∷ rest) s = same-literals p (suc i) rest (with_object p.o
 module _ (z : Scene) (fits : Fits z) (around : Around Keeping) (p : Keeping) (n : ℕ) (g : Registers) (s : State) (t : c.State) (w : World)
     (h : Here (fixed_in z) z.body p (depth_of around) g s t) (r : Register) (len : ℕ) (kr : p r ≡ holds (address (array (integer Char) len)))
     (there : IsThere z.program.classes g s r) (bytes : List ℕ) where
-  abbrev y : SourceType
+  abbrev pub y : SourceType
   y = array (integer Char) len
 
-  no-void : y ≡ void → ⊥
+  pub no-void : y ≡ void → ⊥
   no-void e = absurd (cc)
 
-  abbrev S : Flow → State → c.Flow → Type 0
+  abbrev pub S : Flow → State → c.Flow → Type 0
   S = zeroing.S z fits around p n g s t w h r y kr no-void there
 
   module _ (o : Place) (is : g r ≡ Some (source.At o)) where

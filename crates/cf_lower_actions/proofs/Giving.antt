@@ -47,11 +47,23 @@ module _ (z : Scene) (fits : Fits z) (around : Around Keeping) (p : Keeping) (n 
   S = ends Keeping z.body.scope (Here (fixed_in z) z.body) (GivesBack (fixed_in z) z.body z.result) around p
 
   -- both return
-  back : (v : source.Value) (ss : List Statement) (back : Option Value) → list_at z n ss t w ≡ Went (c.Returns back t) w → GivenBack (fixed_in z) h.map z.result v back
+  back : (v : source.Value) (ss : List Statement) (result : Option Value) → list_at z n ss t w ≡ Went (c.Returns result t) w → GivenBack (fixed_in z) h.map z.result v result
       → Simulates S (Went (Gives (Returns v) s) w) (list_at z n ss t w)
-  back v ss back run given =
-      sim-here S (Returns v) s w (list_at z n ss t w) (c.Returns back t) run
-      (record { value = back; after = t; is = refl; map = h.map; grows = h.grows; rel = h.between.rel; outer = h.outer; homes = h.homes; locals = h.between.locals; texts = h.texts; given = given })
+  back v ss result run given =
+      sim-here S (Returns v) s w (list_at z n ss t w) (c.Returns result t) run
+      (record {
+        value = result;
+        after = t;
+        is = refl;
+        map = h.map;
+        grows = h.grows;
+        rel = h.between.rel;
+        outer = h.outer;
+        homes = h.homes;
+        locals = h.between.locals;
+        texts = h.texts;
+        given = given;
+      })
 
   run-give : (e : Expression) (x : Value) → value_of e z.body.scope t.memory ≡ Ok x → list_at z n (c_tree.give (Some e) ∷ []) t w ≡ Went (c.Returns (Some x) t) w
   run-give e x is =

@@ -6,7 +6,7 @@ use Rattle.cf_base.specs.declared.kind.Kind.{Kind}
 use Rattle.cf_base.specs.declared.kind.Kind.TheVariants.{Char, SChar, UChar, Short, UShort, Int, UInt, Long, ULong}
 use Rattle.cf_base.specs.Promotion.{promoted}
 use Rattle.cf_base.specs.World.{World}
-use Rattle.cf_base.proofs.Tests.{both}
+use Rattle.cf_base.proofs.Tests.{both, same_bytes}
 use Rattle.cf_core.specs.declared.operators.PointerOperator.{PointerOperator}
 use Rattle.cf_core.specs.declared.operators.PointerOperator.TheVariants as pointer
 use Rattle.cf_core.specs.declared.operators.UnaryOperator.{UnaryOperator}
@@ -24,6 +24,7 @@ use Rattle.cf_lower_layout.proofs.Types.{same-type}
 use Rattle.cf_plain.specs.Plain as plain
 use Rattle.cf_plain.specs.Plain.{Register, Action, Plain, act, set, give}
 use Rattle.cf_plain.specs.Acts.{Registers}
+use Rattle.cc_whole_mean.specs.declared.named.Shape.TheVariants.{Array as array_shape}
 use Rattle.cc_whole_mean.specs.Flow as c
 use Rattle.cf_lower.specs.Kept.{Kept, integer_of, holds, argument, Keeping, Locals, local_kept, referred, type_of_local, is_argument}
 use Rattle.cf_lower_kept.specs.Ready.{is_code}
@@ -32,16 +33,18 @@ use Rattle.cf_lower_steps.specs.Lowering.{Takes, is_function}
 use Rattle.cf_lower_relate.specs.Map.{hidden, shown}
 use Rattle.cf_lower_turns.specs.Around.{Around, depth_of}
 use Rattle.cf_lower_turns.specs.Here.{Here}
+use Rattle.cf_lower_turns.specs.Texts.{Text}
 use Rattle.cf_lower_turns.specs.Scene.{Scene, fixed_in}
 use Rattle.cf_lower_leaves.proofs.Leaves.{store-leaf}
 use Rattle.cf_lower_actions.specs.Fits.{Fits}
 use Rattle.cf_lower_actions.specs.Given.{Given, Silent}
-use Rattle.cf_lower_actions.specs.Leaf.{is_integer, is_address, is_pointer, is_tested, is_scalars_place, may_move, may_add, may_subtract, have_order, may_equal, may_operate, may_convert, may_hold, may_store, may_first, may_zero, are_chars, is_local, may_change, is_laid, const_on_none, is_own, is_object_local, is_reference_local, may_begin, names_function, is_promoted, is_promoted_change, gives_value, gives_nothing, may_set, may_do, may_give, is_leaf, IsThere, FirstThere, AlikeAt, RunsAlike}
+use Rattle.cf_lower_actions.specs.Leaf.{is_integer, is_address, is_pointer, is_tested, is_scalars_place, may_move, may_add, may_subtract, have_order, may_equal, may_operate, may_convert, may_hold, may_store, may_first, may_zero, are_chars, is_local, may_change, is_laid, const_on_none, is_own, is_object_local, is_reference_local, may_begin, names_function, is_promoted, is_promoted_change, gives_value, gives_nothing, is_text, may_set, may_do, may_give, is_leaf, IsThere, FirstThere, AlikeAt, RunsAlike}
 use Rattle.cf_lower_actions.proofs.Begun.{declare-set, declare-done, argument-set, unseen, finish-done}
 use Rattle.cf_lower_actions.proofs.Cast as cast
 use Rattle.cf_lower_actions.proofs.Compared as compared
 use Rattle.cf_lower_actions.proofs.Computed as computed
 use Rattle.cf_lower_actions.proofs.First.{first-done, argument-done}
+use Rattle.cf_lower_actions.proofs.Literals.{text-set, text-done}
 use Rattle.cf_lower_actions.proofs.Giving.{give-none, give-void, give-value}
 use Rattle.cf_lower_actions.proofs.Moved as moved_by
 use Rattle.cf_lower_actions.proofs.Named as named
@@ -321,7 +324,20 @@ module _ (z : Scene) (fits : Fits z) (around : Around Keeping) (p : Keeping) whe
   bytes-by r b (holds (address (array (integer Char) len))) kr e n g s t w h there = bytes-done z fits around p n g s t w h r len kr there b
   bytes-by r b x kr e n g s t w h there = absurd (cc)
 
+  -- a literal, by its text
+  module _ (j : ℕ) (bytes : List ℕ) where
+    text-of : (o : Option Text) → z.body.texts z.inside.function j ≡ o → is_text o bytes ≡ true → (n : ℕ) (g : Registers) (s : State) (t : c.State) (w : World)
+        → Here (fixed_in z) z.body p (depth_of around) g s t → s.frame.function ≡ z.inside.function
+        → ((r : Register) → r < z.body.own.bound → AlikeAt z around p (set r (plain.text j bytes)) n g s t w) × AlikeAt z around p (act (plain.text j bytes)) n g s t w
+    text-of None k e n g s t w h name = absurd (cc)
+    text-of (Some x) k e n g s t w h name =
+        let same = same_bytes x.bytes bytes e in (
+          λ r lr. subst (λ b. AlikeAt z around p (set r (plain.text j b)) n g s t w) same (text-set z around p n g s t w h j x k name array_shape (fits.literals j x k) r lr),
+          subst (λ b. AlikeAt z around p (act (plain.text j b)) n g s t w) same (text-done z around p n g s t w h j x k name array_shape (fits.literals j x k)),
+        )
+
   set-alike : (r : Register) (a : Action) → r < z.body.own.bound → may_set z p a ≡ true → RunsAlike z around p (set r a)
+  set-alike r (plain.text j bytes) lt e n g s t w h name = (text-of j bytes (z.body.texts z.inside.function j) refl e n g s t w h name).0 r lt
   set-alike r (plain.declare i y) lt e n g s t w h over = declare-alike i y e r lt n g s t w h over
   set-alike r a lt e n g s t w h over = by_test (one-of (gives_nothing a) (gives_value z p a) e)
     where
@@ -330,6 +346,7 @@ module _ (z : Scene) (fits : Fits z) (around : Around Keeping) (p : Keeping) whe
       by_test (inr k) = given-set z around p r a lt (gives a k) n g s t w h
 
   do-alike : (a : Action) → may_do z p a ≡ true → RunsAlike z around p (act a)
+  do-alike (plain.text j bytes) e n g s t w h name = (text-of j bytes (z.body.texts z.inside.function j) refl e n g s t w h name).1
   do-alike (plain.declare i y) e n g s t w h over = declared-alike i y e n g s t w h over
   do-alike (plain.store r q) e n g s t w h over =
       store-cases (p r) (p q) e (λ y u b kr i l takes. store-leaf z around p r q y u (p q) b kr i refl l takes n g s t w h)

@@ -6,6 +6,7 @@ pub mod Computed
 pub mod First
 pub mod Giving
 pub mod Leaves
+pub mod Literals
 pub mod Moments
 pub mod Moved
 pub mod Named

@@ -25,7 +25,7 @@ use Rattle.cf_lower_steps.specs.Own.{Own}
 use Rattle.cf_lower_steps.proofs.Registers.{kept-other}
 use Rattle.cf_lower_turns.specs.Around.{Around, depth_of, inside_at}
 use Rattle.cf_lower_turns.specs.Here.{Body, Still, Homes, Here}
-use Rattle.cf_lower_turns.specs.Texts.{Free}
+use Rattle.cf_lower_turns.specs.Texts.{NoText, Free, InTexts}
 use Rattle.cf_lower_turns.proofs.Literals.{texts-stay}
 use Rattle.cf_lower_turns.specs.Ways.{ends}
 use Rattle.cf_lower_turns.specs.Scene.{GivesBack, Scene, fixed_in, again_at, list_at, LeafRuns}
@@ -38,11 +38,10 @@ use Rattle.cf_lower_actions.specs.Given.{Given, Silent}
 
 module _ (K : Fixed) (at : Body) (p q : Keeping) (d : ℕ) (g r : Registers) (s u : State) (t : c.State) (h : Here K at p d g s t) (G : Map) (grows : Grows h.map G)
     (between : Between K at.own at.scope G q r u t.memory) (below : Below at.own q)
-    (flags : (e o : ℕ) → e < at.flags.bound → o < G.count → is_ended (G.stage o) ≡ false → G.block o ≡ at.flags.block e → ⊥)
-    (free : (b : ℕ) → b < at.first.next → Free h.map b → Free G b) (literals : u.literals ≡ s.literals)
-    (still : (o : ℕ) → o < at.start.count → is_hidden (at.start.stage o) ≡ true → Still at.start h.map o → Still at.start G o) (homes : Homes at G) where
-  abbrev pub here-grown : Here K at q d r u t
-  here-grown = record {
+    (flags : (e o : ℕ) → e < at.flags.bound → o < G.count → is_ended (G.stage o) ≡ false → G.block o ≡ at.flags.block e → ⊥) where
+  abbrev pub here-moved : ((b : ℕ) → b < at.first.next → NoText at.texts b → Free h.map b → Free G b) → InTexts K at.texts G u t.memory
+      → ((o : ℕ) → o < at.start.count → is_hidden (at.start.stage o) ≡ true → Still at.start h.map o → Still at.start G o) → Homes at G → Here K at q d r u t
+  here-moved free texts still homes = record {
     map = G;
     grows = grows-through at.start h.map G h.grows grows;
     between = between;
@@ -61,16 +60,23 @@ module _ (K : Fixed) (at : Body) (p q : Keeping) (d : ℕ) (g r : Registers) (s 
       next = h.outer.next;
       remains = h.outer.remains;
       same = h.outer.same;
-      free = λ b lb no f. free b lb (h.outer.free b lb no f);
+      free = λ b lb no f. free b lb no (h.outer.free b lb no f);
       hidden = λ o lo hid. still o lo hid (h.outer.hidden o lo hid);
       before = h.outer.before;
     };
     placed = h.placed;
     homes = homes;
     texts_laid = h.texts_laid;
-    texts = texts-stay K at.texts at.first.next h.map G grows s u literals t.memory t.memory h.texts_laid free (λ b lb f. refl) h.texts;
+    texts = texts;
     later = h.later;
   }
+
+  -- where no object comes to stand in a block of before
+  abbrev pub here-grown : ((b : ℕ) → b < at.first.next → Free h.map b → Free G b) → u.literals ≡ s.literals
+      → ((o : ℕ) → o < at.start.count → is_hidden (at.start.stage o) ≡ true → Still at.start h.map o → Still at.start G o) → Homes at G → Here K at q d r u t
+  here-grown free literals still homes =
+      here-moved (λ b lb no f. free b lb f)
+      (texts-stay K at.texts at.first.next h.map G grows s u literals t.memory t.memory h.texts_laid free (λ b lb f. refl) h.texts) still homes
 
 -- ---- nothing is kept
 

@@ -105,7 +105,7 @@ module _ (again helps : mean.Again) (program : mean.Program) (helper : Bool) (sc
     abbrev pub behind_it : Memory
     behind_it = with_cells place (cells_of.put v (q + n) cells) k
 
-    target : target_of (pointed (c_type u) (behind P n)) scope k ≡ Ok (record { pointer = pointer.At b (q + n); scalar = scalar_of (c_type u) })
+    pub target : target_of (pointed (c_type u) (behind P n)) scope k ≡ Ok (record { pointer = pointer.At b (q + n); scalar = scalar_of (c_type u) })
     target =
         ap (λ a. on_ok (on_ok a (λ x. on_ok (Ok (value.Number Int (pos n))) (λ y. applied op.Add x y k))) (λ v. addressed v (λ p. Ok (record { pointer = p; scalar = scalar_of (c_type u) }))))
         (stays k before.elsewhere)
@@ -119,7 +119,7 @@ module _ (again helps : mean.Again) (program : mean.Program) (helper : Bool) (sc
         ∙ ap (λ a. on_ok (if a then Ok place else Err blocks.outside) (λ at. Ok (with_cells at (cells_of.put v at.offset at.block.cells) k)))
         (let h : nat_le (q + n + size_of v) blk.size ≡ true = grind (arith, nat_tests, room, bytes) in h)
 
-    does : assigned (pointed (c_type u) (behind P n)) (as_stored u e) scope k ≡ Ok behind_it
+    pub does : assigned (pointed (c_type u) (behind P n)) (as_stored u e) scope k ≡ Ok behind_it
     does =
         ap (λ a. on_ok a (λ at. assigned_to at (as_stored u e) scope k)) target
         ∙ ap (λ a. on_ok a (λ v. stored (record { pointer = pointer.At b (q + n); scalar = scalar_of (c_type u) }) v k)) (is k)

@@ -58,7 +58,7 @@ use Rattle.cf_lower_leaves.proofs.Remains.{Keeps}
 use Rattle.cf_lower_actions.specs.Fits.{Fits}
 use Rattle.cf_lower_actions.specs.Leaf.{IsThere}
 use Rattle.cf_lower_actions.proofs.Noughts.{zero-is}
-use Rattle.cf_lower_actions.proofs.Routes.{beyond-some, beyond-there, zeroed-with, parts-zeroed}
+use Rattle.cf_lower_actions.proofs.Routes.{beyond-some, beyond-there, scalar-zero, zeroed-with, parts-zeroed}
 use Rattle.cf_lower_actions.proofs.Zeroed.{Zeroed, Changed, Filled, zeros-filled}
 
 true-false : {b : Bool} → b ≡ true → b ≡ false → ⊥
@@ -85,7 +85,7 @@ module _ (K : Fixed) (F : Map) (x : Object) (base : ℕ) (π : Route) (old now :
       let z = parts-zeroed K.classes now x.type base π σ l zeroed in
       record {
         value = zero_of (c_scalar u);
-        is = scalar-zero (type_at K.classes x.type (σ ++ π)) u (base + offset K.classes x.type (σ ++ π)) e z;
+        is = scalar-zero K.classes now (type_at K.classes x.type (σ ++ π)) u (base + offset K.classes x.type (σ ++ π)) e z;
         same = subst (λ a. Is K F u a (zero_of (c_scalar u))) is (zero-is K F (type_at K.classes x.type (σ ++ π)) u e);
       }
 

@@ -7,12 +7,13 @@ use Rattle.cf_core.specs.Objects.{static_number, static_type}
 use Rattle.cf_lower_layout.specs.Sorts.{Sort, sort_of}
 use Rattle.cc_whole_mean.specs.declared.named.Named.TheVariants as meant
 use Rattle.cc_whole_mean.specs.declared.named.Shape.{Shape}
-use Rattle.cc_whole_mean.specs.declared.named.Shape.TheVariants.{Single as single}
+use Rattle.cc_whole_mean.specs.declared.named.Shape.TheVariants.{Single as single, Array as array}
 use Rattle.cc_whole_mean.specs.Types.{scalar_of}
 use Rattle.cf_lower.specs.Kept.{type_of_local}
-use Rattle.cf_lower.specs.Written.{c_type, local_name}
+use Rattle.cf_lower.specs.Written.{c_type, local_name, literal_name}
 use Rattle.cf_lower_relate.specs.Map.{Numbered, is_hidden}
 use Rattle.cf_lower_steps.specs.Lowering.{is_function}
+use Rattle.cf_lower_turns.specs.Texts.{Text}
 use Rattle.cf_lower_turns.specs.Scene.{Scene, fixed_in}
 
 -- a static object stands in its variable since the function was entered
@@ -35,3 +36,4 @@ pub record Fits (z : Scene) : Type 0 where
   pub shaped : (i : ℕ) → i < length z.body.own.locals.types → (u : Sort) → sort_of (type_of_local z.body.own.locals i) ≡ Some u
       → z.body.scope (local_name i) ≡ Some (meant.Variable (z.body.own.local i) (single (scalar_of (c_type u))))
   pub statics : (name : Name) (o : ℕ) → static_number z.program name ≡ Some o → StaticObject z name o
+  pub literals : (j : ℕ) (x : Text) → z.body.texts z.inside.function j ≡ Some x → z.body.scope (literal_name z.inside.function j) ≡ Some (meant.Variable x.block array)

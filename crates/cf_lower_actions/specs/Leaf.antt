@@ -1,5 +1,5 @@
 -- Which statements are leaves that their C does alike, by what registers hold before them; and what has to be so of the source's objects.
-use Rattle.std.specs.Prelude.{◌≡◌, ℕ, ◌^◌, nat_le, nat_lt, Bool, true, false, ◌&&◌, ◌||◌, not, ℤ, List, [], Option, Some, None, is_some, length}
+use Rattle.std.specs.Prelude.{◌≡◌, ℕ, ◌^◌, nat_le, nat_lt, Bool, true, false, ◌&&◌, ◌||◌, not, ℤ, List, [], Option, Some, None, is_some, length, bytes_eq}
 use Rattle.cf_base.specs.declared.kind.Kind.{Kind}
 use Rattle.cf_base.specs.declared.kind.Kind.TheVariants.{Char, Int, UInt, Long, ULong}
 use Rattle.cf_base.specs.Integers.{fits}
@@ -28,6 +28,7 @@ use Rattle.cf_lower_steps.specs.Flows.{Simulates}
 use Rattle.cf_lower_steps.specs.Lowering.{is_function}
 use Rattle.cf_lower_turns.specs.Around.{Around, depth_of, inside_at}
 use Rattle.cf_lower_turns.specs.Here.{Here}
+use Rattle.cf_lower_turns.specs.Texts.{Text}
 use Rattle.cf_lower_turns.specs.Ways.{ends}
 use Rattle.cf_lower_turns.specs.Scene.{Scene, GivesBack, fixed_in, again_at, list_at}
 
@@ -204,12 +205,19 @@ abbrev pub gives_nothing : Action → Bool
 gives_nothing (plain.convert t q) = is_void t
 gives_nothing a = false
 
+-- a literal of the function with these bytes
+abbrev pub is_text : Option Text → List ℕ → Bool
+is_text None bytes = false
+is_text (Some x) bytes = bytes_eq x.bytes bytes
+
 -- what is set, by an action that gives a value or nothing, or makes an object
 abbrev pub may_set : Scene → Keeping → Action → Bool
+may_set z p (plain.text j bytes) = is_text (z.body.texts z.inside.function j) bytes
 may_set z p (plain.declare i t) = may_begin z i t
 may_set z p a = gives_nothing a || gives_value z p a
 
 abbrev pub may_do : Scene → Keeping → Action → Bool
+may_do z p (plain.text j bytes) = is_text (z.body.texts z.inside.function j) bytes
 may_do z p (plain.declare i t) = may_begin z i t
 may_do z p (plain.store r q) = may_store (p r) (p q)
 may_do z p (plain.first r q) = may_first z.body.own.locals (p r) (p q)
@@ -251,13 +259,14 @@ FirstThere classes (argument i t) g s r = IsLocals g s r i
 FirstThere classes x g s r = IsThere classes g s r
 
 abbrev pub DoneBefore : Scene → Keeping → Action → Registers → State → Type 0
+DoneBefore z p (plain.text j bytes) g s = s.frame.function ≡ z.inside.function
 DoneBefore z p (plain.declare i t) g s = IsOver s i
 DoneBefore z p (plain.first r q) g s = FirstThere z.program.classes (p r) g s r
 DoneBefore z p (plain.zeros r) g s = IsThere z.program.classes g s r
 DoneBefore z p (plain.bytes r b) g s = IsThere z.program.classes g s r
 DoneBefore z p a g s = Unit {0}
 
--- a local begins where no object of it stands, and a first value is stored in an object that does
+-- a literal is the function's whose frame it is, a local begins where no object of it stands, and a first value is stored in an object that does
 abbrev pub Before : Scene → Keeping → Plain → Registers → State → Type 0
 Before z p (set r a) g s = DoneBefore z p a g s
 Before z p (act a) g s = DoneBefore z p a g s
