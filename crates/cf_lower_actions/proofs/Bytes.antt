@@ -237,7 +237,7 @@ module _ (z : Scene) (fits : Fits z) (around : Around Keeping) (p : Keeping) (n 
     bytes-there : length bytes ≤ len → Simulates S (Went (Gives (Falls g) (with_bytes o 0 bytes zeroed)) w) (list_at z n ss t w)
     bytes-there fit =
         let first = zeroing.filled z fits around p n g s t w h r y kr no-void there o is in
-        let more = put-all bytes 0 fit zeroed first.after first.now first.changed (zeroing.rel-behind z fits around p n g s t w h r y kr no-void there o is) in
+        let more = put-all bytes 0 (let e : 0 + length bytes ≤ len = omega (arith, fit) in e) zeroed first.after first.now first.changed (zeroing.rel-behind z fits around p n g s t w h r y kr no-void there o is) in
         sim-here S (Falls g) (with_bytes o 0 bytes zeroed) w (list_at z n ss t w) (c.Falls (in_memory t more.after))
         (runs-join (c_again_at z n) (helps_at z n) z.c_program z.helper z.body.scope z.depth (zeros z.program.classes y (address_in r) 0) (put_bytes (address_in r) 0 bytes) t w
         ∙ ap (λ x. and_then x (falling (λ t w. list_at z n (put_bytes (address_in r) 0 bytes) t w))) first.run

@@ -11,7 +11,7 @@ use Rattle.cf_lower_turns.specs.Texts.{Text, Texts, Free, NewText, MadeText, Tex
 
 module _ (K : Fixed) (F G : Map) (grows : Grows F G) (m k : Memory) (x : Text) (free : Free F x.block → Free G x.block)
     (same : Free F x.block → k.block x.block ≡ m.block x.block) where
-  text-stays : (o : Option ℕ) → TextAs K F m x o → TextAs K G k x o
+  pub text-stays : (o : Option ℕ) → TextAs K F m x o → TextAs K G k x o
   text-stays None t = record {
     free = free t.free;
     block = t.block;
