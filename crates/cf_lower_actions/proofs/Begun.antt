@@ -19,14 +19,14 @@ use Rattle.cc_whole.specs.Plain.{Statement}
 use Rattle.cc_whole_mean.specs.Flow as c
 use Rattle.cf_lower_relate.specs.Map.{Map, Stage, hidden, shown, ended as over, is_ended, is_hidden, without}
 use Rattle.cf_lower_relate.proofs.Births.{grows-without}
-use Rattle.cf_lower_relate.proofs.Objects.{upd-other, below-apart}
+use Rattle.cf_lower_relate.proofs.Objects.{upd-same, upd-other, below-apart}
 use Rattle.cf_lower.specs.Kept.{holds, argument, Keeping, keep, declared_kept, is_argument, type_of_local, local_kept, after}
 use Rattle.cf_lower.specs.Written.{local_name}
 use Rattle.cf_lower.specs.Statements.{lowered, put_in}
 use Rattle.cf_lower_steps.specs.Flows.{Simulates}
 use Rattle.cf_lower_steps.specs.Moment.{Moment}
 use Rattle.cf_lower_turns.specs.Around.{Around, depth_of, inside_at}
-use Rattle.cf_lower_turns.specs.Here.{Still, InLocal, Homes, Here}
+use Rattle.cf_lower_turns.specs.Here.{Still, InLocal, Homes, HiddenArguments, Here}
 use Rattle.cf_lower_turns.specs.Texts.{Free}
 use Rattle.cf_lower_turns.specs.Ways.{ends}
 use Rattle.cf_lower_turns.specs.Scene.{GivesBack, Scene, fixed_in, again_at, list_at}
@@ -38,6 +38,9 @@ use Rattle.cf_lower_actions.specs.Fits.{Fits}
 use Rattle.cf_lower_actions.specs.Leaf.{IsOver}
 use Rattle.cf_lower_actions.proofs.Moments.{moment, stands}
 use Rattle.cf_lower_actions.proofs.Runs.{here-grown, here-silent}
+
+some-same : {i j : ℕ} → Some i ≡ Some j → i ≡ j
+some-same e = cc
 
 true-false : {b : Bool} → b ≡ true → b ≡ false → ⊥
 true-false h k = absurd (cc)
@@ -67,7 +70,8 @@ module _ (z : Scene) (fits : Fits z) (around : Around Keeping) (p : Keeping) (n 
     ended : (o : ℕ) → s.frame.locals i ≡ Some o → is_ended (h.map.stage o) ≡ true
     ended o e = sym (h.between.rel.gone o (h.between.locals.objects i o lt e).known) ∙ over o e
 
-    module _ (st : Stage) (live_now : is_ended st ≡ false) (seen : is_argument z.body.own.locals i && is_scalar (type_of_local z.body.own.locals i) ≡ false → is_hidden st ≡ false) where
+    module _ (st : Stage) (live_now : is_ended st ≡ false) (seen : is_argument z.body.own.locals i && is_scalar (type_of_local z.body.own.locals i) ≡ false → is_hidden st ≡ false)
+        (unpointed : is_argument z.body.own.locals i && is_scalar (type_of_local z.body.own.locals i) ≡ true → is_hidden st ≡ true) where
       abbrev G : Map
       G = declaring.G at (stands z around p n g s t w h fits) i y lt typed laid ended st live_now seen
 
@@ -106,13 +110,32 @@ module _ (z : Scene) (fits : Fits z) (around : Around Keeping) (p : Keeping) (n 
               subst (λ b. (b < z.body.first.next) ⊎ InLocal z.body b) (sym (upd-other s.next o (z.body.own.local i) h.map.block q))
               (h.homes o (known o lo q) (sym (ap is_ended (upd-other s.next o st h.map.stage q)) ∙ live))
 
+      -- an argument's object is one that nothing points to
+      arguments : HiddenArguments z.body.own G behind
+      arguments k o lk a e live = by_local (k == i) refl
+        where
+          old_one : s.frame.locals k ≡ Some o → is_hidden (G.stage o) ≡ true
+          old_one there =
+              let other : o == s.next ≡ false =
+              below-apart s.next o (let c = h.between.rel.count in let m = (h.between.locals.objects k o lk there).known in omega (arith, c, m)) in
+              ap is_hidden (upd-other s.next o st h.map.stage other)
+              ∙ h.arguments k o lk a there (sym (ap is_ended (upd-other s.next o st h.map.stage other)) ∙ live)
+
+          by_local : (q : Bool) → k == i ≡ q → is_hidden (G.stage o) ≡ true
+          by_local true q =
+              let same : k ≡ i = grind (arith, nat_tests, q) in
+              let number : s.next ≡ o = some-same (sym (ap (λ (b : Bool). if b then Some s.next else s.frame.locals k) q) ∙ e) in
+              ap (λ m. is_hidden (G.stage m)) (sym number) ∙ ap is_hidden (upd-same s.next st h.map.stage)
+              ∙ unpointed (ap (λ m. is_argument z.body.own.locals m && is_scalar (type_of_local z.body.own.locals m)) (sym same) ∙ a)
+          by_local false q = old_one (sym (upd-other i k (Some s.next) s.frame.locals q) ∙ e)
+
       abbrev here-born : Here (fixed_in z) z.body p (depth_of around) g behind t
       here-born = here-grown (fixed_in z) z.body p p (depth_of around) g g s behind t h G
           (declaring.grows at (stands z around p n g s t w h fits) i y lt typed laid ended st live_now seen)
           (declaring.between-new at (stands z around p n g s t w h fits) i y lt typed laid ended st live_now seen) h.below
           (λ e o le lo live k. elsewhere o (z.body.flags.block e) lo live k (h.flags_there.locals e i le lt) (λ lm lv m. h.flags_there.free e o le lm lv m))
           (λ b lb free o lo live k. elsewhere o b lo live k (λ m. let later = h.later.locals i lt in omega (arith, lb, later, m)) (λ lm lv m. free o lm lv m))
-          refl still homes
+          refl still homes arguments
 
       -- the declaration, whose place goes to a register or is dropped
       declared-then : (S' : Flow → State → c.Flow → Type 0) (go : source.Value → Flow) (ss : List Statement)
@@ -131,6 +154,9 @@ module _ (z : Scene) (fits : Fits z) (around : Around Keeping) (p : Keeping) (n 
 
     -- a local of the function: the register has the address of the C local
     module _ (visible : is_argument z.body.own.locals i && is_scalar y ≡ false) where
+      pub never : is_argument z.body.own.locals i && is_scalar (type_of_local z.body.own.locals i) ≡ true → is_hidden shown ≡ true
+      never v = absurd (true-false (ap (λ b. is_argument z.body.own.locals i && b) (scalar-const y ∙ ap is_scalar typed ∙ sym (scalar-const (type_of_local z.body.own.locals i))) ∙ v) visible)
+
       kept-here : declared_kept z.inside.locals i y ≡ holds (address (without_const y))
       kept-here = declaring.kept-here at (stands z around p n g s t w h fits) i y lt typed laid ended visible
 
@@ -140,11 +166,11 @@ module _ (z : Scene) (fits : Fits z) (around : Around Keeping) (p : Keeping) (n 
       declare-set r lr =
           subst (λ k. Simulates (S (keep p r k)) (does (again_at z n) z.program (set r (plain.declare i y)) g s w)
           (list_at z n (put_in (inside_at z.inside around) (local_kept k) r (c_tree.address (local_name i))) t w)) (sym kept-here)
-          (declared-then shown refl (λ v. refl) (S (keep p r (holds (address (without_const y))))) (λ v. Falls (keep_value g r v))
+          (declared-then shown refl (λ v. refl) never (S (keep p r (holds (address (without_const y))))) (λ v. Falls (keep_value g r v))
           (put_in (inside_at z.inside around) (Some (address (without_const y))) r (c_tree.address (local_name i)))
-          (set-step z n around p (keep p r (holds (address (without_const y)))) g (behind shown refl (λ v. refl)) t w (here-born shown refl (λ v. refl))
+          (set-step z n around p (keep p r (holds (address (without_const y)))) g (behind shown refl (λ v. refl) never) t w (here-born shown refl (λ v. refl) never)
           (holds (address (without_const y))) (address (without_const y)) r lr refl
-          (c_tree.address (local_name i)) refl refl (Went (Gives (source.At (root s.next)) (behind shown refl (λ v. refl))) w)
+          (c_tree.address (local_name i)) refl refl (Went (Gives (source.At (root s.next)) (behind shown refl (λ v. refl) never)) w)
           (record { by = (refl, refl, declaring.given-new at (stands z around p n g s t w h fits) i y lt typed laid ended shown refl (λ v. refl) refl) }))
           (nat_lt i s.frame.count))
 
@@ -163,12 +189,12 @@ module _ (z : Scene) (fits : Fits z) (around : Around Keeping) (p : Keeping) (n 
       argument-set r =
           subst (λ k. Simulates (S (keep p r k)) (does (again_at z n) z.program (set r (plain.declare i y)) g s w)
           (list_at z n (put_in (inside_at z.inside around) (local_kept k) r (c_tree.address (local_name i))) t w)) (sym argument-here)
-          (declared-then hidden refl unseen (S (keep p r (argument i y))) (λ v. Falls (keep_value g r v)) []
-          (sim-here (S (keep p r (argument i y))) (Falls (keep_value g r (source.At (root s.next)))) (behind hidden refl unseen) w (list_at z n [] t w) (c.Falls t) refl
+          (declared-then hidden refl unseen (λ v. refl) (S (keep p r (argument i y))) (λ v. Falls (keep_value g r v)) []
+          (sim-here (S (keep p r (argument i y))) (Falls (keep_value g r (source.At (root s.next)))) (behind hidden refl unseen (λ v. refl)) w (list_at z n [] t w) (c.Falls t) refl
           (record {
             after = t;
             is = refl;
-            related = here-silent (fixed_in z) z.body p (depth_of around) g (behind hidden refl unseen) t (here-born hidden refl unseen) (argument i y) refl r (source.At (root s.next));
+            related = here-silent (fixed_in z) z.body p (depth_of around) g (behind hidden refl unseen (λ v. refl)) t (here-born hidden refl unseen (λ v. refl)) (argument i y) refl r (source.At (root s.next));
           })) (nat_lt i s.frame.count))
 
   -- ---- the storage of a local ends
@@ -191,6 +217,12 @@ module _ (z : Scene) (fits : Fits z) (around : Around Keeping) (p : Keeping) (n 
             let later = h.later.locals i lt in
             absurd (omega (arith, block, here, before, later))
 
+    unpointed-there : (o j k : ℕ) → j < length z.body.own.locals.types → is_argument z.body.own.locals j && is_scalar (type_of_local z.body.own.locals j) ≡ true
+        → s.frame.locals j ≡ Some k → is_ended ((without o h.map).stage k) ≡ false → (b : Bool) → k == o ≡ b → is_hidden ((without o h.map).stage k) ≡ true
+    unpointed-there o j k lj a there live true q = absurd (true-false (ap (λ (b : Bool). is_ended (if b then over else h.map.stage k)) q) live)
+    unpointed-there o j k lj a there live false q =
+        ap is_hidden (upd-other o k over h.map.stage q) ∙ h.arguments j k lj a there (sym (ap is_ended (upd-other o k over h.map.stage q)) ∙ live)
+
     here-ended : (o : ℕ) → s.frame.locals i ≡ Some o → Here (fixed_in z) z.body p (depth_of around) g (with_object o gone s) t
     here-ended o e = here-grown (fixed_in z) z.body p p (depth_of around) g g s (with_object o gone s) t h (without o h.map) (grows-without h.map o)
         (finishing.between-ended at (stands z around p n g s t w h fits) i y some o) h.below
@@ -198,6 +230,7 @@ module _ (z : Scene) (fits : Fits z) (around : Around Keeping) (p : Keeping) (n 
         (λ b lb free k lk live m. free k lk (finishing.live-before at (stands z around p n g s t w h fits) i y some o k live) m)
         refl (λ k lk hid x. still-there o e k lk hid x)
         (λ k lk live. h.homes k lk (finishing.live-before at (stands z around p n g s t w h fits) i y some o k live))
+        (λ j k lj a there live. unpointed-there o j k lj a there live (k == o) refl)
 
     pub finish-done : Simulates (S p) (does (again_at z n) z.program (act (plain.finish y i)) g s w)
         (list_at z n (lowered (act (plain.finish y i)) (inside_at z.inside around) p) t w)

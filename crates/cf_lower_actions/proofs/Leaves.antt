@@ -39,7 +39,7 @@ use Rattle.cf_lower_leaves.proofs.Leaves.{store-leaf}
 use Rattle.cf_lower_actions.specs.Fits.{Fits}
 use Rattle.cf_lower_actions.specs.Given.{Given, Silent}
 use Rattle.cf_lower_actions.specs.Leaf.{is_integer, is_address, is_pointer, is_tested, is_scalars_place, may_move, may_add, may_subtract, have_order, may_equal, may_operate, may_convert, may_hold, may_store, may_first, may_zero, are_chars, is_local, may_change, is_laid, const_on_none, is_own, is_object_local, is_reference_local, may_begin, names_function, is_promoted, is_promoted_change, gives_value, gives_nothing, is_text, may_set, may_do, may_give, is_leaf, IsThere, FirstThere, AlikeAt, RunsAlike}
-use Rattle.cf_lower_actions.proofs.Begun.{declare-set, declare-done, argument-set, unseen, finish-done}
+use Rattle.cf_lower_actions.proofs.Begun.{declare-set, declare-done, argument-set, never, unseen, finish-done}
 use Rattle.cf_lower_actions.proofs.Cast as cast
 use Rattle.cf_lower_actions.proofs.Compared as compared
 use Rattle.cf_lower_actions.proofs.Computed as computed
@@ -299,8 +299,8 @@ module _ (z : Scene) (fits : Fits z) (around : Around Keeping) (p : Keeping) whe
     declared-alike n g s t w h over = by_test (is_argument z.body.own.locals i && is_scalar y) refl
       where
         by_test : (b : Bool) → is_argument z.body.own.locals i && is_scalar y ≡ b → AlikeAt z around p (act (plain.declare i y)) n g s t w
-        by_test false k = declare-done z fits around p n g s t w h i y there typed laid over shown refl (λ v. refl)
-        by_test true k = declare-done z fits around p n g s t w h i y there typed laid over hidden refl (unseen z fits around p n g s t w h i y there typed laid over k)
+        by_test false k = declare-done z fits around p n g s t w h i y there typed laid over shown refl (λ v. refl) (never z fits around p n g s t w h i y there typed laid over k)
+        by_test true k = declare-done z fits around p n g s t w h i y there typed laid over hidden refl (unseen z fits around p n g s t w h i y there typed laid over k) (λ v. refl)
 
   -- a first value, by the kind of object
   first-alike : (r q : Register) (x : Kept) → p r ≡ x → may_first z.body.own.locals x (p q) ≡ true → (n : ℕ) (g : Registers) (s : State) (t : c.State) (w : World)

@@ -33,7 +33,7 @@ use Rattle.cf_lower_steps.specs.Own.{OwnBlocks, LocalObject, InLocals}
 use Rattle.cf_lower_steps.specs.Steps.{GivenAs}
 use Rattle.cf_lower_steps.specs.Flows.{Between, Simulates}
 use Rattle.cf_lower_turns.specs.Around.{Around, depth_of, inside_at}
-use Rattle.cf_lower_turns.specs.Here.{Still, InLocal, Homes, Here}
+use Rattle.cf_lower_turns.specs.Here.{Still, InLocal, Homes, HiddenArguments, Here}
 use Rattle.cf_lower_turns.specs.Texts.{Text, NoText, Free, text_type, NewText, MadeText, TextAs, object_of_text, InTexts}
 use Rattle.cf_lower_turns.specs.Ways.{ends}
 use Rattle.cf_lower_turns.specs.Scene.{GivesBack, Scene, fixed_in, again_at, list_at}
@@ -236,11 +236,16 @@ module _ (z : Scene) (around : Around Keeping) (p : Keeping) (n : ℕ) (g : Regi
         by_test false q =
             subst (λ b. (b < z.body.first.next) ⊎ InLocal z.body b) (sym (upd-other s.next o x.block F.block q)) (h.homes o (known o lo q) (stage-old o q live))
 
+    arguments : HiddenArguments z.body.own G behind
+    arguments i o li v there live =
+        let other = old o (h.between.locals.objects i o li there).known in
+        ap is_hidden (upd-other s.next o shown F.stage other) ∙ h.arguments i o li v there (stage-old o other live)
+
     abbrev here-new : Here (fixed_in z) z.body p (depth_of around) g behind t
     here-new = here-moved (fixed_in z) z.body p p (depth_of around) g g s behind t h G grows between-new h.below
         (λ e o le lo live k. elsewhere o (z.body.flags.block e) lo live k (λ m. let b = below in let l = h.later.flags e le in omega (arith, b, l, m))
         (λ lm lv m. h.flags_there.free e o le lm lv m))
-        (λ b lb no free o lo live k. elsewhere o b lo live k (λ m. no f j x is m) (λ lm lv m. free o lm lv m)) texts-new still homes
+        (λ b lb no free o lo live k. elsewhere o b lo live k (λ m. no f j x is m) (λ lm lv m. free o lm lv m)) texts-new still homes arguments
 
     new-given : GivenAs (fixed_in z) G (holds (address y)) (source.At (root s.next)) (value_of (c_tree.address (literal_name f j)) z.body.scope t.memory)
     new-given = record {

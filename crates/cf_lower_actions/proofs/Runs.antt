@@ -24,7 +24,7 @@ use Rattle.cf_lower_steps.specs.Lowering.{Below}
 use Rattle.cf_lower_steps.specs.Own.{Own}
 use Rattle.cf_lower_steps.proofs.Registers.{kept-other}
 use Rattle.cf_lower_turns.specs.Around.{Around, depth_of, inside_at}
-use Rattle.cf_lower_turns.specs.Here.{Body, Still, Homes, Here}
+use Rattle.cf_lower_turns.specs.Here.{Body, Still, Homes, HiddenArguments, Here}
 use Rattle.cf_lower_turns.specs.Texts.{NoText, Free, InTexts}
 use Rattle.cf_lower_turns.proofs.Literals.{texts-stay}
 use Rattle.cf_lower_turns.specs.Ways.{ends}
@@ -40,8 +40,8 @@ module _ (K : Fixed) (at : Body) (p q : Keeping) (d : ℕ) (g r : Registers) (s 
     (between : Between K at.own at.scope G q r u t.memory) (below : Below at.own q)
     (flags : (e o : ℕ) → e < at.flags.bound → o < G.count → is_ended (G.stage o) ≡ false → G.block o ≡ at.flags.block e → ⊥) where
   abbrev pub here-moved : ((b : ℕ) → b < at.first.next → NoText at.texts b → Free h.map b → Free G b) → InTexts K at.texts G u t.memory
-      → ((o : ℕ) → o < at.start.count → is_hidden (at.start.stage o) ≡ true → Still at.start h.map o → Still at.start G o) → Homes at G → Here K at q d r u t
-  here-moved free texts still homes = record {
+      → ((o : ℕ) → o < at.start.count → is_hidden (at.start.stage o) ≡ true → Still at.start h.map o → Still at.start G o) → Homes at G → HiddenArguments at.own G u → Here K at q d r u t
+  here-moved free texts still homes arguments = record {
     map = G;
     grows = grows-through at.start h.map G h.grows grows;
     between = between;
@@ -66,6 +66,7 @@ module _ (K : Fixed) (at : Body) (p q : Keeping) (d : ℕ) (g r : Registers) (s 
     };
     placed = h.placed;
     homes = homes;
+    arguments = arguments;
     texts_laid = h.texts_laid;
     texts = texts;
     later = h.later;
@@ -73,10 +74,10 @@ module _ (K : Fixed) (at : Body) (p q : Keeping) (d : ℕ) (g r : Registers) (s 
 
   -- where no object comes to stand in a block of before
   abbrev pub here-grown : ((b : ℕ) → b < at.first.next → Free h.map b → Free G b) → u.literals ≡ s.literals
-      → ((o : ℕ) → o < at.start.count → is_hidden (at.start.stage o) ≡ true → Still at.start h.map o → Still at.start G o) → Homes at G → Here K at q d r u t
-  here-grown free literals still homes =
+      → ((o : ℕ) → o < at.start.count → is_hidden (at.start.stage o) ≡ true → Still at.start h.map o → Still at.start G o) → Homes at G → HiddenArguments at.own G u → Here K at q d r u t
+  here-grown free literals still homes arguments =
       here-moved (λ b lb no f. free b lb f)
-      (texts-stay K at.texts at.first.next h.map G grows s u literals t.memory t.memory h.texts_laid free (λ b lb f. refl) h.texts) still homes
+      (texts-stay K at.texts at.first.next h.map G grows s u literals t.memory t.memory h.texts_laid free (λ b lb f. refl) h.texts) still homes arguments
 
 -- ---- nothing is kept
 
@@ -110,7 +111,7 @@ module _ (K : Fixed) (at : Body) (p : Keeping) (d : ℕ) (g : Registers) (s : St
   pub here-silent : (v : source.Value) → Here K at (keep p r y) d (keep_value g r v) s t
   here-silent v = here-grown K at p (keep p r y) d g (keep_value g r v) s s t h h.map (grows-same h.map)
       (record { rel = h.between.rel; registers = registers-with v; blocks = h.between.blocks; locals = h.between.locals })
-      below-with (λ e o le lo live k. h.flags_there.free e o le lo live k) (λ b lb f. f) refl (λ o lo hid x. x) h.homes
+      below-with (λ e o le lo live k. h.flags_there.free e o le lo live k) (λ b lb f. f) refl (λ o lo hid x. x) h.homes h.arguments
 
 -- ---- statements
 

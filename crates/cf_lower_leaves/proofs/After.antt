@@ -3,7 +3,7 @@ use Rattle.std.proofs.Common.{◌≡◌, ℕ, suc, ◌<◌, ◌≤◌, Bool, tru
 use Rattle.std.specs.Prelude.{Option, Some, Result, Ok, length}
 use Rattle.std.proofs.lemmas.Bool.Decides.{nat_tests}
 use Rattle.cf_base.specs.declared.kind.Kind.TheVariants.{Int}
-use Rattle.cf_core.specs.Run.{State}
+use Rattle.cf_core.specs.Run.{Frame, State}
 use Rattle.cf_lower_layout.specs.Sorts.{Sort}
 use Rattle.cf_plain.specs.Plain.{Register}
 use Rattle.cf_plain.specs.Acts.{Registers}
@@ -37,7 +37,7 @@ remains-through x a b h go =
 
 module _ (K : Fixed) (at : Body) (p q : Keeping) (d : ℕ) (g r : Registers) (s u : State) (t : c.State) (m : Memory) (h : Here K at p d g s t)
     (between : Between K at.own at.scope h.map q r u m) (below : Below at.own q) (keeps : Keeps t.memory m)
-    (literals : u.literals ≡ s.literals) (flags : (e : ℕ) → e < at.flags.bound → m.block (at.flags.block e) ≡ t.memory.block (at.flags.block e))
+    (frame : u.frame ≡ s.frame) (literals : u.literals ≡ s.literals) (flags : (e : ℕ) → e < at.flags.bound → m.block (at.flags.block e) ≡ t.memory.block (at.flags.block e))
     (same : (b : ℕ) → b < at.first.next → Free h.map b → m.block b ≡ t.memory.block b) where
   shows-same : (e n : ℕ) → e < at.flags.bound → Shows at.scope e n t.memory → Shows at.scope e n m
   shows-same e n le shown =
@@ -74,6 +74,7 @@ module _ (K : Fixed) (at : Body) (p q : Keeping) (d : ℕ) (g r : Registers) (s 
       flags = λ e le. let n = keeps.next in let o = h.placed.flags e le in omega (arith, n, o);
     };
     homes = h.homes;
+    arguments = λ i o li a e live. h.arguments i o li a (ap (λ (f : Frame). f.locals i) (sym frame) ∙ e) live;
     texts_laid = h.texts_laid;
     texts = texts-stay K at.texts at.first.next h.map h.map (grows-same h.map) s u literals t.memory m h.texts_laid (λ b lt free. free) same h.texts;
     later = h.later;
@@ -91,7 +92,7 @@ module _ (K : Fixed) (at : Body) (p : Keeping) (d : ℕ) (g : Registers) (s u : 
       (between-elsewhere K at.own at.scope h.map p g s u t.memory m h.between rel
       (locals-stored K at.own h.map at.scope s t.memory h.between.locals u m rel frame keeps.next o known live elsewhere)
       h.below (λ a r lr. other (at.own.block a r) (λ e. h.between.blocks.free a r lr o known live (sym e))))
-      h.below keeps literals
+      h.below keeps frame literals
       (λ e le. other (at.flags.block e) (λ k. h.flags_there.free e o le known live (sym k)))
       (λ b lb free. other b (λ k. free o known live (sym k)))
 

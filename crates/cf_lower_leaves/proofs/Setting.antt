@@ -76,7 +76,7 @@ module _ (z : Scene) (n : ℕ) (around : Around Keeping) (p q : Keeping) (g : Re
                     (λ i li. done.elsewhere (z.body.own.local i) (different (z.body.own.local i) (z.body.own.block u r) (λ o. (h.between.locals.blocks i li).apart u r lt (sym o)))) done.next;
               })
               (below-keep z.body.own p r y h.below lt)
-              (assigned-keeps t.memory done.after z.body.scope (named (register_name u r)) e done.is) refl
+              (assigned-keeps t.memory done.after z.body.scope (named (register_name u r)) e done.is) refl refl
               (λ d ld. done.elsewhere (z.body.flags.block d) (different (z.body.flags.block d) (z.body.own.block u r) (λ o. h.flags_there.registers d u r ld lt (sym o))))
               (λ b lb free. done.elsewhere b (different b (z.body.own.block u r) (λ o. let later = h.later.registers u r lt in omega (arith, lb, later, o)))));
         })

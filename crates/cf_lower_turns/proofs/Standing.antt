@@ -43,6 +43,7 @@ module _ (K : Fixed) (at : Body) where
     outer = h.outer;
     placed = h.placed;
     homes = h.homes;
+    arguments = h.arguments;
     texts_laid = h.texts_laid;
     texts = h.texts;
     later = h.later;
@@ -65,6 +66,7 @@ module _ (K : Fixed) (at : Body) where
     outer = h.outer;
     placed = h.placed;
     homes = h.homes;
+    arguments = h.arguments;
     texts_laid = h.texts_laid;
     texts = h.texts;
     later = h.later;
@@ -97,6 +99,7 @@ module _ (K : Fixed) (at : Body) where
       outer = outer-after at.own at.flags h.map at.scope t.memory h.flags_there d n lt small at.texts at.start at.first (h.later.flags d lt) h.outer;
       placed = record { registers = h.placed.registers; flags = h.placed.flags };
       homes = h.homes;
+      arguments = h.arguments;
       texts_laid = h.texts_laid;
       texts = texts-after at.own at.flags h.map at.scope t.memory h.flags_there d n lt small K at.texts at.first.next s (h.later.flags d lt) h.texts_laid h.texts;
       later = h.later;

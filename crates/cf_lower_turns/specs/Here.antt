@@ -1,5 +1,6 @@
 -- What is so between two statements of a function, since it was entered.
-use Rattle.std.specs.Prelude.{◌≡◌, ℕ, ◌≤◌, ◌<◌, true, false, Option, Some, length, ◌⊎◌}
+use Rattle.std.specs.Prelude.{◌≡◌, ℕ, ◌≤◌, ◌<◌, true, false, ◌&&◌, Option, Some, length, ◌⊎◌}
+use Rattle.cf_core.specs.Places.{is_scalar}
 use Rattle.cf_core.specs.Run.{State}
 use Rattle.cf_lower_layout.specs.Sorts.{Sort}
 use Rattle.cf_plain.specs.Plain.{Register}
@@ -8,7 +9,7 @@ use Rattle.cc_whole_memory.specs.Blocks.{Block, Memory}
 use Rattle.cc_whole_mean.specs.Scope.{Scope}
 use Rattle.cc_whole_mean.specs.Flow as c
 use Rattle.cf_lower_relate.specs.Map.{Fixed, Map, Grows, is_ended, is_hidden}
-use Rattle.cf_lower.specs.Kept.{Keeping}
+use Rattle.cf_lower.specs.Kept.{Keeping, is_argument, type_of_local}
 use Rattle.cf_lower_control.specs.Loops.{Weaker}
 use Rattle.cf_lower_steps.specs.Own.{Own}
 use Rattle.cf_lower_steps.specs.Flows.{Between}
@@ -62,6 +63,12 @@ pub record InLocal (at : Body) (b : ℕ) : Type 0 where
 abbrev pub Homes : Body → Map → Type 0
 Homes at F = (o : ℕ) → o < F.count → is_ended (F.stage o) ≡ false → (F.block o < at.first.next) ⊎ InLocal at (F.block o)
 
+-- the object of a parameter of a call, while it stands, is one that nothing points to
+abbrev pub HiddenArguments : Own → Map → State → Type 0
+HiddenArguments own F s =
+    (i o : ℕ) → i < length own.locals.types → is_argument own.locals i && is_scalar (type_of_local own.locals i) ≡ true → s.frame.locals i ≡ Some o
+    → is_ended (F.stage o) ≡ false → is_hidden (F.stage o) ≡ true
+
 -- the function's own blocks are later
 pub record Later (at : Body) : Type 0 where
   pub registers : (t : Sort) (r : Register) → r < at.own.bound → at.first.next ≤ at.own.block t r
@@ -80,6 +87,7 @@ pub record Here (K : Fixed) (at : Body) (kept : Keeping) (d : ℕ) (g : Register
   pub outer : Outer at.texts at.start map at.first t.memory
   pub placed : Placed at t.memory
   pub homes : Homes at map
+  pub arguments : HiddenArguments at.own map s
   pub texts_laid : TextsLaid K at.texts at.first.next
   pub texts : InTexts K at.texts map s t.memory
   pub later : Later at
