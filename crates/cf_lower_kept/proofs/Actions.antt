@@ -6,13 +6,13 @@ use Rattle.cf_base.specs.Integers.{fits}
 use Rattle.cf_core.specs.Types.{SourceType, without_const, result as result_type}
 use Rattle.cf_core.specs.Core.{arithmetic, moved}
 use Rattle.cf_lower_layout.specs.Sorts.{Sort}
-use Rattle.cf_plain.specs.Plain.{Action, number, text, local, static_object, function, read, dereference, decay, index, convert, from_void, operate, unary, truth, logical_not, pointer_operate, changed, store, declare, first, finish, call}
+use Rattle.cf_plain.specs.Plain.{Action, number, text, local, static_object, function, read, dereference, decay, index, convert, from_void, operate, unary, truth, logical_not, pointer_operate, changed, store, declare, first, zeros, bytes, finish, call}
 use Rattle.cf_plain_kept.specs.Kept as plain
 use Rattle.cf_lower.specs.Kept as lower
 use Rattle.cf_lower.specs.Kept.{integer_of, holds, unknown, Keeping, Locals}
 use Rattle.cf_lower_kept.specs.Ready.{action_ready}
 use Rattle.cf_lower_kept.specs.Told.{ToldIf, AllTold}
-use Rattle.cf_lower_kept.proofs.Operands.{value-told, read-told, named-told, local-told, pointed-told, decayed-told, moved-told, back-told, pointers-told, converted-told, from_void-told, tested-told, operated-told, kind-told, stored-told, begun-told, declared-told, code-sort}
+use Rattle.cf_lower_kept.proofs.Operands.{value-told, read-told, named-told, local-told, pointed-told, decayed-told, moved-told, back-told, pointers-told, converted-told, from_void-told, tested-told, operated-told, kind-told, stored-told, begun-told, filled-told, declared-told, code-sort}
 
 module _ (locals : Locals) (result : SourceType) (g : plain.Keeping) (h : Keeping) (told : AllTold locals g h) where
   pub action-told : (a : Action) → action_ready locals.types result g a ≡ true → ToldIf locals (plain.kept_by locals.types result g a) (lower.kept_by locals h a)
@@ -21,7 +21,7 @@ module _ (locals : Locals) (result : SourceType) (g : plain.Keeping) (h : Keepin
     is = ap (λ b. if b then integer_of (λ k. fits k z) else unknown) e;
     has = λ k q. q;
   }
-  action-told (text j bytes) e = refl
+  action-told (text j b) e = refl
   action-told (local i) e = local-told locals (slice_get locals.types i) e
   action-told (static_object name t) e = named-told locals t e
   action-told (function name t) e = ap (λ (s : Sort). holds s) (sym (code-sort t e))
@@ -41,6 +41,8 @@ module _ (locals : Locals) (result : SourceType) (g : plain.Keeping) (h : Keepin
   action-told (store r q) e = stored-told locals (g r) (g q) unknown
   action-told (declare i t) e = declared-told locals i t e
   action-told (first r q) e = begun-told locals (g r) (g q) unknown
+  action-told (zeros r) e = filled-told locals (g r) unknown
+  action-told (bytes r b) e = filled-told locals (g r) unknown
   action-told (finish t i) e = tt
   action-told (call name t None is None) e = value-told locals (result_type t)
   action-told a e = tt

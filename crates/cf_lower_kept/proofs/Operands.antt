@@ -26,7 +26,7 @@ no-not true e = absurd (cc)
 no-not false e = refl
 
 -- what points to a place is no number
-holds-sort : (t : SourceType) → lower.of_sort (Some (sort_to t)) ≡ holds (sort_to t)
+pub holds-sort : (t : SourceType) → lower.of_sort (Some (sort_to t)) ≡ holds (sort_to t)
 holds-sort (takes p t) = refl
 holds-sort (gives t c) = refl
 holds-sort t = refl
@@ -235,6 +235,10 @@ module _ (locals : Locals) where
   pub begun-told : (o p : Option plain.Kept) (y : Kept) → ToldIf locals (plain.begun o p) y
   begun-told (Some (plain.an_object i t)) (Some x) y = given-told (plain.suits t x) plain.no_value y tt
   begun-told o p y = tt
+
+  pub filled-told : (o : Option plain.Kept) (y : Kept) → ToldIf locals (plain.filled o) y
+  filled-told (Some (plain.an_object i t)) y = tt
+  filled-told o y = tt
 
   pub declared-told : (i : ℕ) (t : SourceType) → is_the_type (slice_get locals.types i) t ≡ true → Told locals (plain.an_object i t) (lower.declared_kept locals i t)
   declared-told i t e = record { there = the-type (slice_get locals.types i) t e; is = refl }

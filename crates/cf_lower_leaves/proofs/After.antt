@@ -3,7 +3,7 @@ use Rattle.std.proofs.Common.{◌≡◌, ℕ, suc, ◌<◌, ◌≤◌, Bool, tru
 use Rattle.std.specs.Prelude.{Option, Some, Result, Ok, length}
 use Rattle.std.proofs.lemmas.Bool.Decides.{nat_tests}
 use Rattle.cf_base.specs.declared.kind.Kind.TheVariants.{Int}
-use Rattle.cf_core.specs.Run.{State}
+use Rattle.cf_core.specs.Run.{Frame, State}
 use Rattle.cf_lower_layout.specs.Sorts.{Sort}
 use Rattle.cf_plain.specs.Plain.{Register}
 use Rattle.cf_plain.specs.Acts.{Registers}
@@ -15,11 +15,18 @@ use Rattle.cc_whole_mean.specs.Flow as c
 use Rattle.cc_whole_mean.specs.Flow.{in_memory}
 use Rattle.cf_lower.specs.Kept.{Kept, Keeping, keep, local_kept}
 use Rattle.cf_lower_relate.specs.Map.{Fixed, Map, is_ended}
+use Rattle.cf_lower_relate.specs.Relation.{Rel}
+use Rattle.cf_lower_relate.proofs.Values.{grows-same}
 use Rattle.cf_lower_steps.specs.Own.{Own}
 use Rattle.cf_lower_steps.specs.Flows.{Between}
 use Rattle.cf_lower_steps.specs.Lowering.{Below}
+use Rattle.cf_lower_steps.proofs.Between.{between-elsewhere}
+use Rattle.cf_lower_steps.proofs.Locals.{locals-stored}
+use Rattle.cf_lower_steps.proofs.Statements.{different}
 use Rattle.cf_lower_turns.specs.Flags.{Shows}
-use Rattle.cf_lower_turns.specs.Here.{Body, Free, Remains, Here}
+use Rattle.cf_lower_turns.specs.Here.{Body, Remains, Here}
+use Rattle.cf_lower_turns.specs.Texts.{Free}
+use Rattle.cf_lower_turns.proofs.Literals.{texts-stay}
 use Rattle.cf_lower_leaves.proofs.Remains.{Keeps}
 
 -- the sizes add up
@@ -30,7 +37,7 @@ remains-through x a b h go =
 
 module _ (K : Fixed) (at : Body) (p q : Keeping) (d : ℕ) (g r : Registers) (s u : State) (t : c.State) (m : Memory) (h : Here K at p d g s t)
     (between : Between K at.own at.scope h.map q r u m) (below : Below at.own q) (keeps : Keeps t.memory m)
-    (flags : (e : ℕ) → e < at.flags.bound → m.block (at.flags.block e) ≡ t.memory.block (at.flags.block e))
+    (frame : u.frame ≡ s.frame) (literals : u.literals ≡ s.literals) (flags : (e : ℕ) → e < at.flags.bound → m.block (at.flags.block e) ≡ t.memory.block (at.flags.block e))
     (same : (b : ℕ) → b < at.first.next → Free h.map b → m.block b ≡ t.memory.block b) where
   shows-same : (e n : ℕ) → e < at.flags.bound → Shows at.scope e n t.memory → Shows at.scope e n m
   shows-same e n le shown =
@@ -57,11 +64,37 @@ module _ (K : Fixed) (at : Body) (p q : Keeping) (d : ℕ) (g r : Registers) (s 
     outer = record {
       next = let n = keeps.next in let o = h.outer.next in omega (arith, n, o);
       remains = λ b x lt e. remains-through x (t.memory.block b) (m.block b) (h.outer.remains b x lt e) (λ y i. keeps.remains b y i);
-      same = λ b lt free. same b lt (h.outer.free b lt free) ∙ h.outer.same b lt free;
+      same = λ b lt no free. same b lt (h.outer.free b lt no free) ∙ h.outer.same b lt no free;
       free = h.outer.free;
+      hidden = h.outer.hidden;
+      before = h.outer.before;
     };
+    placed = record {
+      registers = λ a x lx. let n = keeps.next in let o = h.placed.registers a x lx in omega (arith, n, o);
+      flags = λ e le. let n = keeps.next in let o = h.placed.flags e le in omega (arith, n, o);
+    };
+    homes = h.homes;
+    arguments = λ i o li a e live. h.arguments i o li a (ap (λ (f : Frame). f.locals i) (sym frame) ∙ e) live;
+    texts_laid = h.texts_laid;
+    texts = texts-stay K at.texts at.first.next h.map h.map (grows-same h.map) s u literals t.memory m h.texts_laid (λ b lt free. free) same h.texts;
     later = h.later;
   }
+
+-- an object that stands has changed in its block
+module _ (K : Fixed) (at : Body) (p : Keeping) (d : ℕ) (g : Registers) (s u : State) (t : c.State) (m : Memory) (h : Here K at p d g s t) (rel : Rel K h.map u m)
+    (frame : u.frame ≡ s.frame) (literals : u.literals ≡ s.literals) (keeps : Keeps t.memory m) (o : ℕ) (known : o < h.map.count) (live : is_ended (h.map.stage o) ≡ false)
+    (elsewhere : (b : ℕ) → b == h.map.block o ≡ false → m.block b ≡ t.memory.block b) where
+  other : (b : ℕ) → (b ≡ h.map.block o → ⊥) → m.block b ≡ t.memory.block b
+  other b ne = elsewhere b (different b (h.map.block o) ne)
+
+  pub here-stored : Here K at p d g u (in_memory t m)
+  here-stored = here-after K at p p d g g s u t m h
+      (between-elsewhere K at.own at.scope h.map p g s u t.memory m h.between rel
+      (locals-stored K at.own h.map at.scope s t.memory h.between.locals u m rel frame keeps.next o known live elsewhere)
+      h.below (λ a r lr. other (at.own.block a r) (λ e. h.between.blocks.free a r lr o known live (sym e))))
+      h.below keeps frame literals
+      (λ e le. other (at.flags.block e) (λ k. h.flags_there.free e o le known live (sym k)))
+      (λ b lb free. other b (λ k. free o known live (sym k)))
 
 -- the registers that a value is kept in have C locals
 pub below-keep : (own : Own) (p : Keeping) (r : Register) (y : Kept) → Below own p → r < own.bound → Below own (keep p r y)

@@ -32,13 +32,14 @@ use Rattle.cf_lower_turns.specs.Ways.{ends}
 use Rattle.cf_lower_turns.specs.Scene.{GivesBack, Scene, fixed_in, again_at, list_at, LeafRuns}
 use Rattle.cf_lower_leaves.specs.Leaves.{SetBy}
 use Rattle.cf_lower_leaves.proofs.Setting.{set-step, store-step}
+use Rattle.cf_lower_leaves.proofs.Storing.{store-keeps}
 
-sort-local : (u : Sort) → local_kept (of_sort (Some u)) ≡ Some (register_sort u)
+pub sort-local : (u : Sort) → local_kept (of_sort (Some u)) ≡ Some (register_sort u)
 sort-local (number k) = refl
 sort-local (address t) = refl
 sort-local u = refl
 
-result-local : (o : Arith) (k : Kind) → local_kept (result_kept o k) ≡ Some (number Int)
+pub result-local : (o : Arith) (k : Kind) → local_kept (result_kept o k) ≡ Some (number Int)
 result-local op.Less k = refl
 result-local op.Greater k = refl
 result-local op.LessEqual k = refl
@@ -110,5 +111,5 @@ module _ (z : Scene) (around : Around Keeping) (p : Keeping) where
       ∙ ap (λ i. stored_at i r (local_value (local_kept (p q)) q)) e
       ∙ ap (λ k. put u (address_in r) (local_value (local_kept k) q) ∷ []) kq
       ∙ ap (λ l. put u (address_in r) (local_value l q) ∷ []) lx))
-      (store-step z n around p p g s t w h (pointed (c_type u) (address_in r)) (as_stored u (local_value (Some a) q)) refl _
+      (store-step z n around p p g s t w h (pointed (c_type u) (address_in r)) (as_stored u (local_value (Some a) q)) refl _ (store-keeps s (calls (again_at z n)) z.program g r q w)
       (stores.store-step z.program z.function z.signature h.map (calls (again_at z n)) s t.memory h.between.rel w z.body.scope p g h.between.registers r q y u x a kr e kq lx takes))

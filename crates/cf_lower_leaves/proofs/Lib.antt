@@ -3,3 +3,4 @@ pub mod Leaves
 pub mod Narrowing
 pub mod Remains
 pub mod Setting
+pub mod Storing

@@ -24,18 +24,19 @@ use Rattle.cf_lower_relate.specs.Map.{Fixed, Map}
 use Rattle.cf_lower_steps.specs.Steps.{HasValue, GivenAs, Step}
 use Rattle.cf_lower_steps.specs.Flows.{Between, Simulates}
 use Rattle.cf_lower_steps.specs.Lowering.{runs}
-use Rattle.cf_lower_steps.proofs.Between.{between-elsewhere}
-use Rattle.cf_lower_steps.proofs.Locals.{locals-elsewhere, locals-stored}
+use Rattle.cf_lower_steps.proofs.Locals.{locals-elsewhere}
 use Rattle.cf_lower_steps.proofs.Registers.{assign-register}
 use Rattle.cf_lower_steps.proofs.Statements.{different, grows-assign, runs-one}
 use Rattle.cf_lower_steps.proofs.Stores.{Stored, Stores}
 use Rattle.cf_lower_turns.specs.Around.{Around, depth_of, inside_at}
-use Rattle.cf_lower_turns.specs.Here.{Body, Free, Here}
+use Rattle.cf_lower_turns.specs.Here.{Body, Here}
+use Rattle.cf_lower_turns.specs.Texts.{Free}
 use Rattle.cf_lower_turns.specs.Ways.{EndsBy, ends}
 use Rattle.cf_lower_turns.specs.Scene.{GivesBack, Scene, fixed_in, c_again_at, helps_at, list_at}
 use Rattle.cf_lower_turns.proofs.Following.{sim-here}
 use Rattle.cf_lower_leaves.proofs.Remains.{assigned-keeps}
-use Rattle.cf_lower_leaves.proofs.After.{here-after, below-keep}
+use Rattle.cf_lower_leaves.proofs.Storing.{LiteralsKept}
+use Rattle.cf_lower_leaves.proofs.After.{here-after, here-stored, below-keep}
 
 given-value : (K : Fixed) (F : Map) (x : Kept) (t : Sort) (v : source.Value) (found : Result Value ℕ) → local_kept x ≡ Some t → GivenAs K F x v found → HasValue K F x v found
 given-value K F unknown t v found e h = absurd (cc)
@@ -75,7 +76,7 @@ module _ (z : Scene) (n : ℕ) (around : Around Keeping) (p q : Keeping) (g : Re
                     (λ i li. done.elsewhere (z.body.own.local i) (different (z.body.own.local i) (z.body.own.block u r) (λ o. (h.between.locals.blocks i li).apart u r lt (sym o)))) done.next;
               })
               (below-keep z.body.own p r y h.below lt)
-              (assigned-keeps t.memory done.after z.body.scope (named (register_name u r)) e done.is)
+              (assigned-keeps t.memory done.after z.body.scope (named (register_name u r)) e done.is) refl refl
               (λ d ld. done.elsewhere (z.body.flags.block d) (different (z.body.flags.block d) (z.body.own.block u r) (λ o. h.flags_there.registers d u r ld lt (sym o))))
               (λ b lb free. done.elsewhere b (different b (z.body.own.block u r) (λ o. let later = h.later.registers u r lt in omega (arith, lb, later, o)))));
         })
@@ -97,12 +98,10 @@ module _ (z : Scene) (n : ℕ) (around : Around Keeping) (p q : Keeping) (g : Re
   -- ---- a store
 
   module _ (place : Place) (e : Expression) (comes : q ≡ p) where
-    stored-value : (u : State) → Stored (fixed_in z) h.map s u t.memory (assigned place e z.body.scope t.memory)
+    stored-value : (u : State) → u.literals ≡ s.literals → Stored (fixed_in z) h.map s u t.memory (assigned place e z.body.scope t.memory)
         → Simulates S (Went (Gives (Falls g) u) w) (list_at z n (assign place e ∷ []) t w)
-    stored-value u done =
+    stored-value u literals done =
         let after : c.State = in_memory t done.after in
-        let other : (b : ℕ) → (b ≡ h.map.block done.object → ⊥) → done.after.block b ≡ t.memory.block b =
-        λ b ne. done.elsewhere b (different b (h.map.block done.object) ne) in
         sim-here S (Falls g) u w (list_at z n (assign place e ∷ []) t w) (c.Falls after)
         (runs-one (c_again_at z n) (helps_at z n) z.c_program z.helper z.body.scope z.depth (assign place e) t w after (ap (λ x. tried x w (λ m. Went (c.Falls (in_memory t m)) w)) done.is))
         (record {
@@ -110,24 +109,18 @@ module _ (z : Scene) (n : ℕ) (around : Around Keeping) (p q : Keeping) (g : Re
           is = refl;
           related =
               subst (λ k. Here (fixed_in z) z.body k (depth_of around) g u after) (sym comes)
-              (here-after (fixed_in z) z.body p p (depth_of around) g g s u t done.after h
-              (between-elsewhere (fixed_in z) z.body.own z.body.scope h.map p g s u t.memory done.after h.between done.rel
-              (locals-stored (fixed_in z) z.body.own h.map z.body.scope s t.memory h.between.locals u done.after done.rel done.frame done.next done.object done.known done.live done.elsewhere)
-              h.below (λ a r lr. other (z.body.own.block a r) (λ o. h.between.blocks.free a r lr done.object done.known done.live (sym o))))
-              h.below
-              (assigned-keeps t.memory done.after z.body.scope place e done.is)
-              (λ d ld. other (z.body.flags.block d) (λ o. h.flags_there.free d done.object ld done.known done.live (sym o)))
-              (λ b lb free. other b (λ o. free done.object done.known done.live (sym o))));
+              (here-stored (fixed_in z) z.body p (depth_of around) g s u t done.after h done.rel done.frame literals (assigned-keeps t.memory done.after z.body.scope place e done.is)
+              done.object done.known done.live done.elsewhere);
         })
 
-    pub store-step : (ran : Ran (Did source.Value)) → Stores (fixed_in z) h.map ran s w t.memory (assigned place e z.body.scope t.memory)
+    pub store-step : (ran : Ran (Did source.Value)) → LiteralsKept s ran → Stores (fixed_in z) h.map ran s w t.memory (assigned place e z.body.scope t.memory)
         → Simulates S (and_then ran (λ did w. onward did (λ v. gives (Falls g)) w)) (list_at z n (assign place e ∷ []) t w)
-    store-step (Went (Gives v u) w') step =
-        subst (λ x. Simulates S (Went (Gives (Falls g) u) x) (list_at z n (assign place e ∷ []) t w)) (sym step.by.0) (stored-value u step.by.1)
-    store-step (Went (Exits x u) w') step = absurd step.by
-    store-step (Went Malformed w') step = record { by = tt }
-    store-step (Stops (Undefined x) trace) step =
+    store-step (Went (Gives v u) w') literals step =
+        subst (λ x. Simulates S (Went (Gives (Falls g) u) x) (list_at z n (assign place e ∷ []) t w)) (sym step.by.0) (stored-value u (literals v u w' refl) step.by.1)
+    store-step (Went (Exits x u) w') literals step = absurd step.by
+    store-step (Went Malformed w') literals step = record { by = tt }
+    store-step (Stops (Undefined x) trace) literals step =
         record { by = subst (λ x. Begins x (shown (list_at z n (assign place e ∷ []) t w))) (sym step.by) (grows-assign (c_again_at z n) (helps_at z n) z.c_program z.helper z.body.scope z.depth place e t w).by }
-    store-step (Stops (Ended status) trace) step = absurd step.by
-    store-step (Stops Ticks trace) step = absurd step.by
-    store-step (Stops Depth trace) step = absurd step.by
+    store-step (Stops (Ended status) trace) literals step = absurd step.by
+    store-step (Stops Ticks trace) literals step = absurd step.by
+    store-step (Stops Depth trace) literals step = absurd step.by

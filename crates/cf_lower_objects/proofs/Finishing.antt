@@ -33,7 +33,7 @@ no-destructor cs (array t n) h = no-destructor cs t (both (nat_lt 0 n) (has_byte
 no-destructor cs (const t) h = no-destructor cs t h
 no-destructor cs t h = refl
 
-destroyed : (again : core.Again) (P : Program) (t : SourceType) (p : Place) (s : State) (w : World) → has_bytes t ≡ true → destroy again P t p s w ≡ Went (Gives tt s) w
+pub destroyed : (again : core.Again) (P : Program) (t : SourceType) (p : Place) (s : State) (w : World) → has_bytes t ≡ true → destroy again P t p s w ≡ Went (Gives tt s) w
 destroyed again P (class n) p s w h = absurd (cc)
 destroyed again P (array t n) p s w h =
     ap (λ b. when b (for_each_back n (λ i. tick >> destroy again P t (inner (item i) p))) done s w)
@@ -43,10 +43,10 @@ destroyed again P t p s w h = refl
 
 module _ (at : Moment) (h : Stands at) (i : ℕ) (t : SourceType) (some : has_bytes t ≡ true) where
   module _ (o : ℕ) where
-    abbrev G : Map
+    abbrev pub G : Map
     G = without o at.map
 
-    live-before : (p : ℕ) → is_ended (upd o ended at.map.stage p) ≡ false → is_ended (at.map.stage p) ≡ false
+    pub live-before : (p : ℕ) → is_ended (upd o ended at.map.stage p) ≡ false → is_ended (at.map.stage p) ≡ false
     live-before p = upd-cases (λ (st : Stage). is_ended st ≡ false → is_ended (at.map.stage p) ≡ false) o p ended at.map.stage (λ e k. absurd (cc)) (λ ne k. k)
 
     object-old : (j p : ℕ) → LocalObject at.own at.map j p → LocalObject at.own G j p
@@ -58,7 +58,7 @@ module _ (at : Moment) (h : Stands at) (i : ℕ) (t : SourceType) (some : has_by
       base = λ live. x.base (live-before p live);
     }
 
-    between-ended : Between (fixed at) at.own at.scope G at.kept at.registers (with_object o gone at.state) at.memory.memory
+    pub between-ended : Between (fixed at) at.own at.scope G at.kept at.registers (with_object o gone at.state) at.memory.memory
     between-ended = record {
       rel = rel-ended (fixed at) at.map at.state at.memory.memory h.between.rel o;
       registers = registers-grow (fixed at) at.map G (grows-without at.map o) at.kept at.registers at.scope at.memory.memory h.between.registers;

@@ -44,19 +44,19 @@ or-right false b h = h
 
 -- ---- types of names
 
-reference-const : (t : SourceType) → is_reference t ≡ is_reference (without_const t)
+pub reference-const : (t : SourceType) → is_reference t ≡ is_reference (without_const t)
 reference-const (const t) = reference-const t
 reference-const t = refl
 
-same-reference : (t u : SourceType) → without_const t ≡ without_const u → is_reference u ≡ false → is_reference t ≡ false
+pub same-reference : (t u : SourceType) → without_const t ≡ without_const u → is_reference u ≡ false → is_reference t ≡ false
 same-reference t u e h = reference-const t ∙ ap is_reference e ∙ sym (reference-const u) ∙ h
 
-referred-same : (t : SourceType) → is_reference t ≡ false → without_const (referred t) ≡ without_const t
+pub referred-same : (t : SourceType) → is_reference t ≡ false → without_const (referred t) ≡ without_const t
 referred-same (reference t) h = absurd (cc)
 referred-same (const t) h = ap (λ (b : Bool). without_const (if b then referred t else const t)) h
 referred-same t h = refl
 
-stage-live : (st : Stage) → is_shown st ≡ true → is_ended st ≡ false
+pub stage-live : (st : Stage) → is_shown st ≡ true → is_ended st ≡ false
 stage-live hidden h = absurd (cc)
 stage-live shown h = refl
 stage-live ended h = absurd (cc)
@@ -75,7 +75,7 @@ module _ (at : Moment) (h : Stands at) where
     named-there known type =
         record { value = value.Function (at.function name); is = ap (λ n. named_value n at.memory.memory) scoped; same = record { is = refl; known = known; type = type } }
 
-    function-step : Step (fixed at) at.map (acts (calls at.again) at.program at.registers (plain.function name t) at.state at.world) at.state at.world
+    pub function-step : Step (fixed at) at.map (acts (calls at.again) at.program at.registers (plain.function name t) at.state at.world) at.state at.world
         (holds (code (without_const t))) found
     function-step = by_library (is_library name) refl
       where
@@ -138,7 +138,7 @@ module _ (at : Moment) (h : Stands at) where
           };
         }
 
-    local-step : Step (fixed at) at.map (acts (calls at.again) at.program at.registers (plain.local i) at.state at.world) at.state at.world (holds (address (without_const t))) place
+    pub local-step : Step (fixed at) at.map (acts (calls at.again) at.program at.registers (plain.local i) at.state at.world) at.state at.world (holds (address (without_const t))) place
     local-step = by_count (nat_lt i at.state.frame.count)
       where
         by_reference : (o : ℕ) → at.state.frame.locals i ≡ Some o → (b : Bool) → is_reference (at.state.object o).type ≡ b

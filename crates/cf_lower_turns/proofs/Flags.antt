@@ -21,6 +21,7 @@ use Rattle.cf_lower.specs.Written.{flag_name, int_constant}
 use Rattle.cf_lower_relate.specs.Map.{Fixed, Map}
 use Rattle.cf_lower_relate.proofs.Cells.{load-same}
 use Rattle.cf_lower_relate.proofs.Objects.{rel-other, block-same, block-other}
+use Rattle.cf_lower_relate.proofs.Values.{grows-same}
 use Rattle.cf_lower_steps.specs.Own.{Own, Lives}
 use Rattle.cf_lower_steps.specs.Flows.{Between}
 use Rattle.cf_lower_steps.specs.Lowering.{Below}
@@ -29,6 +30,8 @@ use Rattle.cf_lower_steps.proofs.Locals.{locals-elsewhere}
 use Rattle.cf_lower_steps.proofs.Statements.{different}
 use Rattle.cf_lower_turns.specs.Flags.{Flags, InFlags, Shows}
 use Rattle.cf_lower_turns.specs.Here.{Outer}
+use Rattle.cf_lower_turns.specs.Texts.{Texts, TextsLaid, InTexts}
+use Rattle.cf_lower_turns.proofs.Literals.{texts-stay}
 
 same-number : (i j : ℕ) → i == j ≡ true → i ≡ j
 same-number i j e = grind (arith, nat_tests, e)
@@ -104,13 +107,19 @@ module _ (own : Own) (flags : Flags) (F : Map) (scope : Scope) (m : Memory) (the
       below (λ u r lr. other (own.block u r) (λ same. there.registers d u r lt lr same))
 
   -- the blocks of before are none of the flags
-  pub outer-after : (E : Map) (first : Memory) → first.next ≤ flags.block d → Outer E F first m → Outer E F first after
-  outer-after E first later outer = record {
+  pub outer-after : (texts : Texts) (E : Map) (first : Memory) → first.next ≤ flags.block d → Outer texts E F first m → Outer texts E F first after
+  outer-after texts E first later outer = record {
     next = outer.next;
     remains = λ c x lc e. let h = outer.remains c x lc e in record { block = h.block; there = other c (earlier c lc) ∙ h.there; size = h.size };
-    same = λ c lc free. other c (earlier c lc) ∙ outer.same c lc free;
+    same = λ c lc no free. other c (earlier c lc) ∙ outer.same c lc no free;
     free = outer.free;
+    hidden = outer.hidden;
+    before = outer.before;
   }
     where
       earlier : (c : ℕ) → c < first.next → c ≡ b → ⊥
       earlier c lc same = omega (arith, lc, later, same)
+
+  pub texts-after : (K : Fixed) (texts : Texts) (first : ℕ) (s : State) → first ≤ flags.block d → TextsLaid K texts first → InTexts K texts F s m → InTexts K texts F s after
+  texts-after K texts first s later laid h =
+      texts-stay K texts first F F (grows-same F) s s refl m after laid (λ c lc free. free) (λ c lc free. other c (λ same. omega (arith, lc, later, same))) h

@@ -2,6 +2,7 @@ pub mod Flags
 pub mod Following
 pub mod Labels
 pub mod Laws
+pub mod Literals
 pub mod Leaving
 pub mod Sequence
 pub mod Setup

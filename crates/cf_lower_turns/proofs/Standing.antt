@@ -19,7 +19,7 @@ use Rattle.cf_lower_relate.specs.Map.{Fixed}
 use Rattle.cf_lower_steps.specs.Steps.{HasValue, KeptAs}
 use Rattle.cf_lower_turns.specs.Flags.{Shows, FlagSet}
 use Rattle.cf_lower_turns.specs.Here.{Body, Here, Narrows}
-use Rattle.cf_lower_turns.proofs.Flags.{after, set-flag, shows-new, shows-other, flags-after, between-after, outer-after}
+use Rattle.cf_lower_turns.proofs.Flags.{after, set-flag, shows-new, shows-other, flags-after, between-after, outer-after, texts-after}
 use Rattle.cf_lower_turns.proofs.Laws.{HasNumber, Laws}
 
 different-below : (e d : ℕ) → e < d → e ≡ d → ⊥
@@ -41,6 +41,11 @@ module _ (K : Fixed) (at : Body) where
     bounded = bounded;
     unset = unset;
     outer = h.outer;
+    placed = h.placed;
+    homes = h.homes;
+    arguments = h.arguments;
+    texts_laid = h.texts_laid;
+    texts = h.texts;
     later = h.later;
   }
 
@@ -59,6 +64,11 @@ module _ (K : Fixed) (at : Body) where
     bounded = h.bounded;
     unset = h.unset;
     outer = h.outer;
+    placed = h.placed;
+    homes = h.homes;
+    arguments = h.arguments;
+    texts_laid = h.texts_laid;
+    texts = h.texts;
     later = h.later;
   }
 
@@ -86,7 +96,12 @@ module _ (K : Fixed) (at : Body) where
       flags_there = flags-after at.own at.flags h.map at.scope t.memory h.flags_there d n lt small;
       bounded = h.bounded;
       unset = λ e le. shows-other at.own at.flags h.map at.scope t.memory h.flags_there d n lt small e 0 (omega (arith, le, lt)) (different-below e d le) (h.unset e le);
-      outer = outer-after at.own at.flags h.map at.scope t.memory h.flags_there d n lt small at.start at.first (h.later.flags d lt) h.outer;
+      outer = outer-after at.own at.flags h.map at.scope t.memory h.flags_there d n lt small at.texts at.start at.first (h.later.flags d lt) h.outer;
+      placed = record { registers = h.placed.registers; flags = h.placed.flags };
+      homes = h.homes;
+      arguments = h.arguments;
+      texts_laid = h.texts_laid;
+      texts = texts-after at.own at.flags h.map at.scope t.memory h.flags_there d n lt small K at.texts at.first.next s (h.later.flags d lt) h.texts_laid h.texts;
       later = h.later;
     };
   }

@@ -18,10 +18,12 @@ use Rattle.cf_lower_relate.specs.Map.{Fixed, Map, Grows, Is}
 use Rattle.cf_lower_relate.specs.Relation.{Rel}
 use Rattle.cf_lower.specs.Kept.{Keeping, after}
 use Rattle.cf_lower.specs.Statements.{Inside, lowered}
+use Rattle.cf_lower_steps.specs.Own.{InLocals}
 use Rattle.cf_lower_steps.specs.Flows.{Simulates}
 use Rattle.cf_lower_steps.specs.Lowering.{fixed_of, runs}
 use Rattle.cf_lower_turns.specs.Around.{Around, depth_of, inside_at}
-use Rattle.cf_lower_turns.specs.Here.{Body, Outer, Here, Narrows}
+use Rattle.cf_lower_turns.specs.Here.{Body, Outer, Homes, Here, Narrows}
+use Rattle.cf_lower_turns.specs.Texts.{InTexts}
 use Rattle.cf_lower_turns.specs.Ways.{ends}
 use Rattle.cf_lower_turns.specs.Needs as needs
 
@@ -51,7 +53,10 @@ pub record GivesBack (K : Fixed) (at : Body) (result : Option Sort) (v : source.
   pub map : Map
   pub grows : Grows at.start map
   pub rel : Rel K map s after.memory
-  pub outer : Outer at.start map at.first after.memory
+  pub outer : Outer at.texts at.start map at.first after.memory
+  pub homes : Homes at map
+  pub locals : InLocals K at.own map at.scope s after.memory
+  pub texts : InTexts K at.texts map s after.memory
   pub given : GivenBack K map result v value
 
 -- ---- a function

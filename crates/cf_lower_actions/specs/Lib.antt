@@ -1,0 +1,3 @@
+pub mod Fits
+pub mod Given
+pub mod Leaf
