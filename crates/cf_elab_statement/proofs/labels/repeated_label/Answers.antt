@@ -19,7 +19,8 @@ pub loop-made-preserved : goal.loop-made-preserved
 loop-made-preserved c = record {
   has =
       has_next c.args.kind c.args.statements.now c.loop-made.made-index c.made-item.result c.loop-made.before.values.keys c.loop-made.before.has_default
-      (label_seen c.label.result.now) _ c.loop-made-test.true c.made-item.is c.loop-made.invariant.has c.loop-made.invariant.left c.label.ensures refl
+      (label_seen c.label-in-loop-made.result.now) _ c.loop-made-test.true c.made-item.is c.loop-made.invariant.has c.loop-made.invariant.left
+      c.label-in-loop-made.ensures refl
       c.add.new.self.values.keys c.add.new.self.has_default c.in_ok-add.ensures;
   left =
       left_next c.args.kind c.args.statements.now c.loop-made.made-index c.made-item.result c.loop-made.before.values.keys c.loop-made.before.has_default
