@@ -19,7 +19,7 @@ negated-agrees : source negated 1 ≡ Some (target (with_constants negated) 1)
 unfolding digits
 negated-agrees = refl
 
-negated-is-one : (target (with_constants negated) 1).end ≡ Ended 1
+negated-is-one : (target (with_constants negated) 1).end ≡ Ended (pos 1)
 unfolding digits
 negated-is-one = refl
 
@@ -31,7 +31,7 @@ both-true-agrees : source both_true 1 ≡ Some (target (with_constants both_true
 unfolding digits
 both-true-agrees = refl
 
-both-true-is-one : (target (with_constants both_true) 1).end ≡ Ended 1
+both-true-is-one : (target (with_constants both_true) 1).end ≡ Ended (pos 1)
 unfolding digits
 both-true-is-one = refl
 
@@ -43,7 +43,7 @@ one-true-agrees : source one_true 1 ≡ Some (target (with_constants one_true) 1
 unfolding digits
 one-true-agrees = refl
 
-one-true-is-one : (target (with_constants one_true) 1).end ≡ Ended 1
+one-true-is-one : (target (with_constants one_true) 1).end ≡ Ended (pos 1)
 unfolding digits
 one-true-is-one = refl
 
@@ -56,6 +56,6 @@ chosen-agrees : source chosen 1 ≡ Some (target (with_constants chosen) 1)
 unfolding digits
 chosen-agrees = refl
 
-chosen-is-five : (target (with_constants chosen) 1).end ≡ Ended 5
+chosen-is-five : (target (with_constants chosen) 1).end ≡ Ended (pos 5)
 unfolding digits
 chosen-is-five = refl

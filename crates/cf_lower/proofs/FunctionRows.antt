@@ -37,7 +37,7 @@ null-equal-agrees : source (compares ptr.Equal []) 1 ≡ Some (target (items (co
 unfolding digits
 null-equal-agrees = refl
 
-null-equal-is-one : (target (items (compares ptr.Equal [])) 1).end ≡ Ended 1
+null-equal-is-one : (target (items (compares ptr.Equal [])) 1).end ≡ Ended (pos 1)
 unfolding digits
 null-equal-is-one = refl
 
@@ -45,7 +45,7 @@ h-equal-agrees : source (compares ptr.Equal to_h) 1 ≡ Some (target (with_const
 unfolding digits
 h-equal-agrees = refl
 
-h-equal-is-none : (target (with_constants (compares ptr.Equal to_h)) 1).end ≡ Ended 0
+h-equal-is-none : (target (with_constants (compares ptr.Equal to_h)) 1).end ≡ Ended (pos 0)
 unfolding digits
 h-equal-is-none = refl
 
