@@ -1,0 +1,5 @@
+mod Acts
+mod Values
+mod Objects
+mod Calls
+mod Statements

@@ -1,0 +1,198 @@
+-- Acts that make, fill and end objects keep the frame, and all that is not the function's own.
+use Rattle.std.proofs.Common.{◌≡◌, ℕ, suc, ◌≤◌, ◌<◌, Bool, true, false, ◌&&◌, not, ◌==◌, nat_lt, nat_le, if◌then◌else◌, List, [], ◌∷◌, ◌++◌, length, inl, inr, refl, sym, ◌∙◌, ap, subst, arith}
+use Rattle.std.specs.Prelude.{pos, Option, Some, None, find, bytes_eq, ◌⊎◌}
+use Rattle.std.proofs.lemmas.Bool.Decides.{nat_tests}
+use Rattle.cf_base.specs.World.{World, Went}
+use Rattle.cf_base.specs.declared.kind.Kind.TheVariants.{Char}
+use Rattle.cf_base.specs.Integers.{convert as converted}
+use Rattle.cf_core.specs.Types.{Name, SourceType, void, integer, enumeration, class, pointer, reference, array, takes, gives as gives_type, data_member, function_member, const, is_array}
+use Rattle.cf_core.specs.Classes.{Class, class_named, destructor_in}
+use Rattle.cf_core.specs.Core.{item}
+use Rattle.cf_core.specs.Places.{Place, inner, type_at, is_scalar}
+use Rattle.cf_core.specs.Store.{Value, Nothing, Missing, Built, Number, Null, At, Code, DataMember, FunctionMember, Object, new_object, automatic, zero_of, hold, hold_all, is_constant_place}
+use Rattle.cf_core.specs.Run.{Frame, Literal, State, Act, Gives, ◌>>=◌, ◌>>◌, gives, malformed, state, done, need, valid, some_or, when, upd, with_object, tick, for_each_back, object_changed, born, changed, gone, frame_changed, lists_local}
+use Rattle.cf_core.specs.Access.{place_type, used, names_scalar, use_place, write_place, first_value, fill_zeros}
+use Rattle.cf_core.specs.Calls.{Program, Again, root, destroy, by_destructor, has_destructor}
+use Rattle.cf_core.specs.Objects.{literal_of, found_literal, literal_object, new_local, settle, write_bytes, element_count}
+use Rattle.cf_plain.specs.Acts.{object_of, doing}
+use Rattle.cf_plain_frames.specs.Since.{is_among, IsOwn, Since, Always, Keeps}
+use Rattle.cf_plain_frames.proofs.Acts.{always-then, keeps-then, keeps-next, keeps-gives, keeps-malformed, keeps-need, keeps-valid, keeps-some, keeps-when, keeps-at}
+use Rattle.cf_plain_frames.proofs.Values.{keeps-used, keeps-names, keeps-use}
+
+some-same : {i j : ℕ} → Some i ≡ Some j → i ≡ j
+some-same e = cc
+
+-- no class has a destructor where there are none
+no-destructor : (t : SourceType) → has_destructor [] t ≡ false
+no-destructor void = refl
+no-destructor (integer k) = refl
+no-destructor (enumeration e) = refl
+no-destructor (class c) = refl
+no-destructor (pointer t) = refl
+no-destructor (reference t) = refl
+no-destructor (array t n) = no-destructor t
+no-destructor (takes p t) = refl
+no-destructor (gives_type t c) = refl
+no-destructor (data_member c t) = refl
+no-destructor (function_member c t) = refl
+no-destructor (const t) = no-destructor t
+
+module _ (e : State) (os : List ℕ) where
+  abbrev Q : State → Type 0
+  Q = Since e os
+
+  -- ---- an object changes, and does not end
+
+  object-since : (s : State) (p : ℕ) (x : Object) → x.is_gone ≡ (s.object p).is_gone → Q s → Q (record s { object = upd p x s.object })
+  object-since s p x same h = record {
+    function = h.function;
+    count = h.count;
+    depth = h.depth;
+    next = h.next;
+    locals = h.locals;
+    kept = λ o lt ne. by_test o (o == p) refl ∙ h.kept o lt ne;
+  }
+    where
+      by_test : (o : ℕ) (b : Bool) → o == p ≡ b → (upd p x s.object o).is_gone ≡ (s.object o).is_gone
+      by_test o true k =
+          let at : o ≡ p = grind (arith, nat_tests, k) in
+          ap (λ (t : Bool). (if t then x else s.object o).is_gone) k ∙ same ∙ ap (λ (i : ℕ). (s.object i).is_gone) (sym at)
+      by_test o false k = ap (λ (t : Bool). (if t then x else s.object o).is_gone) k
+
+  pub keeps-object_changed : (p : ℕ) (f : Object → Object) → ((x : Object) → (f x).is_gone ≡ x.is_gone) → Keeps Q (object_changed p f)
+  keeps-object_changed p f same = record { by = λ s w h. record { by = object-since s p (f (s.object p)) (same (s.object p)) h } }
+
+  pub keeps-first_value : (p : Place) (v : Value) → Keeps Q (first_value p v)
+  keeps-first_value p v = keeps-object_changed p.object (hold p.route (Some v)) (λ x. refl)
+
+  pub keeps-write : (classes : List Class) (p : Place) (v : Value) → Keeps Q (write_place classes p v)
+  keeps-write classes p v =
+      keeps-next Q (names_scalar classes p) _ (keeps-names Q classes p)
+      (keeps-next Q (use_place classes p) _ (keeps-use Q classes p)
+      (keeps-at Q _ (λ s. keeps-next Q (need (not (is_constant_place classes (s.object p.object) p.route)) 15) _ (keeps-need Q _ 15)
+      (keeps-object_changed p.object (hold p.route (Some v)) (λ x. refl)))))
+
+  pub keeps-zeros : (classes : List Class) (p : Place) → Keeps Q (fill_zeros classes p)
+  keeps-zeros classes p =
+      keeps-at Q _ (λ s. keeps-object_changed p.object
+      (hold_all p.route (λ r. Some (zero_of (type_at classes (s.object p.object).type (r ++ p.route))))) (λ x. refl))
+
+  pub keeps-bytes : (p : Place) (i : ℕ) (b : List ℕ) → Keeps Q (write_bytes p i b)
+  keeps-bytes p i [] = keeps-gives Q tt
+  keeps-bytes p i (b ∷ rest) =
+      keeps-next Q (first_value (inner (item i) p) (Number (converted Char (pos b)))) (write_bytes p (suc i) rest) (keeps-first_value _ _) (keeps-bytes p (suc i) rest)
+
+  keeps-first : (classes : List Class) (p : Place) (v : Value) → Keeps Q (state >>= (λ s. when (is_scalar (place_type classes s p)) (used v >>= first_value p) malformed))
+  keeps-first classes p v =
+      keeps-at Q _ (λ s. keeps-when Q (is_scalar (place_type classes s p)) (used v >>= first_value p) malformed
+      (keeps-then Q (used v) (first_value p) (keeps-used Q v) (keeps-first_value p)) (keeps-malformed Q))
+
+  pub keeps-settle : (classes : List Class) (p : Place) (v : Value) → Keeps Q (settle classes p v)
+  keeps-settle classes p Built = keeps-gives Q tt
+  keeps-settle classes p v = keeps-first classes p v
+
+  -- ---- an object comes
+
+  born-since : (s : State) (x : Object) → Q s → Q (record s { next = suc s.next; object = upd s.next x s.object })
+  born-since s x h = record {
+    function = h.function;
+    count = h.count;
+    depth = h.depth;
+    next = let n = h.next in omega (arith, n);
+    locals = h.locals;
+    kept = λ o lt ne. by_test o lt (o == s.next) refl ∙ h.kept o lt ne;
+  }
+    where
+      by_test : (o : ℕ) → o < e.next → (b : Bool) → o == s.next ≡ b → (upd s.next x s.object o).is_gone ≡ (s.object o).is_gone
+      by_test o lt true k = absurd (let at : o ≡ s.next = grind (arith, nat_tests, k) in let n = h.next in omega (arith, lt, at, n))
+      by_test o lt false k = ap (λ (t : Bool). (if t then x else s.object o).is_gone) k
+
+  -- a local has another object, which is new
+  listed-since : (s : State) (i o : ℕ) → e.next ≤ o → Q s → Q (record s { frame = lists_local i o s.frame })
+  listed-since s i o new h = record {
+    function = h.function;
+    count = h.count;
+    depth = h.depth;
+    next = h.next;
+    locals = λ j p is. by_test j p (j == i) refl is;
+    kept = h.kept;
+  }
+    where
+      by_test : (j p : ℕ) (b : Bool) → j == i ≡ b → upd i (Some o) s.frame.locals j ≡ Some p → IsOwn e os p
+      by_test j p true k is =
+          let at : o ≡ p = some-same (sym (ap (λ (t : Bool). if t then Some o else s.frame.locals j) k) ∙ is) in
+          inr (subst (λ n. e.next ≤ n) at new)
+      by_test j p false k is = h.locals j p (sym (ap (λ (t : Bool). if t then Some o else s.frame.locals j) k) ∙ is)
+
+  pub keeps-new : (i : ℕ) (t : SourceType) → Keeps Q (new_local i t)
+  keeps-new i t =
+      keeps-at Q _ (λ s. keeps-next Q (valid (nat_lt i s.frame.count)) _ (keeps-valid Q _)
+      (record {
+        by = λ u w h. record {
+          by =
+              listed-since (record u { next = suc u.next; object = upd u.next (new_object t automatic) u.object }) i u.next h.next
+              (born-since u (new_object t automatic) h);
+        };
+      }))
+
+  literal-listed : (s : State) (ls : List Literal) → Q s → Q (record s { literals = ls })
+  literal-listed s ls h = record { function = h.function; count = h.count; depth = h.depth; next = h.next; locals = h.locals; kept = h.kept }
+
+  pub keeps-literal : (j : ℕ) (b : List ℕ) → Keeps Q (literal_object j b)
+  keeps-literal j b =
+      keeps-at Q _ (λ s. keeps-some Q (found_literal (find (λ (x : Literal). bytes_eq x.function s.frame.function && (x.number == j)) s.literals)) _
+      (record {
+        by = λ u w h. record {
+          by = literal-listed (record u { next = suc u.next; object = upd u.next (literal_of b) u.object }) _ (born-since u (literal_of b) h);
+        };
+      }))
+
+  -- ---- an object ends, which is the function's own
+
+  other-since : (o p : ℕ) → IsOwn e os p → o < e.next → is_among o os ≡ false → o == p ≡ false
+  other-since o p (inl among) lt ne = by_test (o == p) refl
+    where
+      by_test : (b : Bool) → o == p ≡ b → o == p ≡ false
+      by_test true k = let at : o ≡ p = grind (arith, nat_tests, k) in absurd (let both = sym (ap (λ i. is_among i os) at ∙ among) ∙ ne in cc)
+      by_test false k = k
+  other-since o p (inr new) lt ne = by_test (o == p) refl
+    where
+      by_test : (b : Bool) → o == p ≡ b → o == p ≡ false
+      by_test true k = absurd (let at : o ≡ p = grind (arith, nat_tests, k) in omega (arith, lt, at, new))
+      by_test false k = k
+
+  ended-since : (s : State) (p : ℕ) → IsOwn e os p → Q s → Q (with_object p gone s)
+  ended-since s p own h = record {
+    function = h.function;
+    count = h.count;
+    depth = h.depth;
+    next = h.next;
+    locals = h.locals;
+    kept = λ o lt ne. ap (λ (t : Bool). (if t then gone (s.object p) else s.object o).is_gone) (other-since o p own lt ne) ∙ h.kept o lt ne;
+  }
+
+  module _ (again : Again) (P : Program) (none : P.classes ≡ []) where
+    -- nothing is destroyed by a function
+    destroys-nothing : (t : SourceType) (p : Place) → destroy again P t p ≡ done
+    destroys-nothing void p = refl
+    destroys-nothing (integer k) p = refl
+    destroys-nothing (enumeration n) p = refl
+    destroys-nothing (class c) p = ap (λ cs. by_destructor again P (destructor_in (class_named cs c)) p) none
+    destroys-nothing (pointer t) p = refl
+    destroys-nothing (reference t) p = refl
+    destroys-nothing (array t n) p =
+        ap (λ b. when b (for_each_back n (λ i. tick >> destroy again P t (inner (item i) p))) done) (ap (λ cs. has_destructor cs t) none ∙ no-destructor t)
+    destroys-nothing (takes q t) p = refl
+    destroys-nothing (gives_type t c) p = refl
+    destroys-nothing (data_member c t) p = refl
+    destroys-nothing (function_member c t) p = refl
+    destroys-nothing (const t) p = destroys-nothing t p
+
+    pub keeps-finish : (t : SourceType) (i : ℕ) → Keeps Q (object_of i >>= (λ o. destroy again P t (root o) >> doing (object_changed o gone)))
+    keeps-finish t i = record { by = λ s w h. by_local s w h (s.frame.locals i) refl }
+      where
+        by_local : (s : State) (w : World) → Q s → (x : Option ℕ) → s.frame.locals i ≡ x
+            → Always Q ((some_or x malformed >>= (λ o. destroy again P t (root o) >> doing (object_changed o gone))) s w)
+        by_local s w h None k = record { by = tt }
+        by_local s w h (Some o) k =
+            subst (λ act. Always Q ((act >> doing (object_changed o gone)) s w)) (sym (destroys-nothing t (root o))) (record { by = ended-since s o (h.locals i o k) h })
