@@ -1,15 +1,16 @@
 -- Small files that are lowered, and files that each test refuses.
 use Rattle.std.proofs.Common.{◌≡◌, ℕ, List, [], ◌∷◌, ◌++◌, refl}
-use Rattle.std.specs.Prelude.{pos, Option, Some, None, Bool, true, false, codes}
+use Rattle.std.specs.Prelude.{pos, Some, None, true, false, codes}
 use Rattle.std.specs.Fmt.{digits}
 use Rattle.cf_base.specs.declared.kind.Kind.TheVariants.{Char, Int, UInt}
-use Rattle.cf_core.specs.Types.{Name, SourceType, integer, pointer, data_member, takes, gives}
+use Rattle.cf_core.specs.Types.{Name, SourceType, void, integer, pointer, data_member, takes, gives}
 use Rattle.cf_core.specs.Core.{plain_function}
-use Rattle.cf_plain.specs.Plain.{Action, Plain, Plains, PlainFunction, PlainStatic, PlainFile, nothing, more, act, set, branch, give, number, text, local, read, decay, convert, truth, logical_not, store, declare, first, finish, call, function, static_object, reach, finish_static}
+use Rattle.cf_plain.specs.Plain.{Plain, Plains, PlainFunction, PlainStatic, PlainFile, nothing, more, act, set, branch, give, number, text, read, decay, convert, truth, store, declare, first, call, function, static_object, reach, finish_static}
 use Rattle.cc_whole.specs.Types.{same_type}
 use Rattle.cf_lower_program.specs.Types.{types_lowered}
 use Rattle.cf_lower_program.specs.Actions.{actions_lowered}
-use Rattle.cf_lower_program.specs.Names.{names_lowered, literals_differ, names_used}
+use Rattle.cf_lower_program.specs.Operands.{operands_lowered}
+use Rattle.cf_lower_program.specs.Names.{names_lowered, names_used}
 use Rattle.cf_lower_program.specs.Starts.{statics_known, texts_fit}
 use Rattle.cf_lower_program.specs.Lowerable.{Lowerable}
 
@@ -79,6 +80,7 @@ whole-is-lowered = record {
   roles = refl;
   types = refl;
   actions = refl;
+  operands = refl;
   names = refl;
   used = refl;
   statics = refl;
@@ -132,6 +134,11 @@ open-literal-refused = refl
 kept-store-refused : actions_lowered (file (main_of (int ∷ []) (set 0 (declare 0 int) ∷ set 1 (number (pos 1)) ∷ set 2 (store 0 1) ∷ returns_seven) ∷ []) []) ≡ false
 unfolding digits
 kept-store-refused = refl
+
+-- a pointer to a function that becomes one to void
+code-as-void-refused : operands_lowered (file (main_of [] (set 0 (function (codes "f__Fi") f_type) ∷ set 0 (convert (pointer void) 0) ∷ returns_seven) ∷ []) []) ≡ false
+unfolding digits
+code-as-void-refused = refl
 
 -- a name that is used for nothing
 unused-name-refused : names_used (file (main_of [] (act (static_object (codes "y") int) ∷ returns_seven) ∷ []) []) ≡ false

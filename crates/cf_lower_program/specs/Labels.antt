@@ -1,5 +1,5 @@
 -- Labels of a switch, which differ as numbers of 32 bits too.
-use Rattle.std.specs.Prelude.{Bool, true, false, ◌&&◌, ◌||◌, ℤ, List, [], ◌∷◌}
+use Rattle.std.specs.Prelude.{Bool, true, ◌&&◌, ◌||◌, ℤ, List, [], ◌∷◌}
 use Rattle.std.specs.List.{list_all}
 use Rattle.cf_base.specs.declared.kind.Kind.TheVariants.{Int, UInt}
 use Rattle.cf_base.specs.Integers.{fits}

@@ -1,6 +1,7 @@
 pub mod Types
 pub mod Names
 pub mod Actions
+pub mod Operands
 pub mod Starts
 pub mod Labels
 pub mod Lowerable

@@ -1,5 +1,5 @@
 -- Linking of lowered files against joining of the plain ones.
-use Rattle.std.specs.Prelude.{◌≡◌, ◌≢◌, ℕ, suc, List, Option, Some, None, Err, Ok, Contains, IsTrue, slice_get}
+use Rattle.std.specs.Prelude.{◌≡◌, ◌≢◌, ℕ, suc, List, Some, Err, Ok, Contains, IsTrue, slice_get}
 use Rattle.cf_core.specs.Types.{Name}
 use Rattle.cf_core.specs.Classes.{Class}
 use Rattle.cf_core.specs.Join.{description_name}

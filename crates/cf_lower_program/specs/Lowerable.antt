@@ -9,6 +9,7 @@ use Rattle.cf_lower_kept.specs.Ready.{functions_ready}
 use Rattle.cf_lower_kept.specs.Opened.{functions_open}
 use Rattle.cf_lower_program.specs.Types.{types_lowered}
 use Rattle.cf_lower_program.specs.Actions.{actions_lowered}
+use Rattle.cf_lower_program.specs.Operands.{operands_lowered}
 use Rattle.cf_lower_program.specs.Names.{names_lowered, literals_differ, names_used}
 use Rattle.cf_lower_program.specs.Starts.{statics_known, texts_fit}
 use Rattle.cf_lower_program.specs.Labels.{switches_fit}
@@ -27,6 +28,7 @@ pub record Lowerable (file : PlainFile) : Type 0 where
   pub roles : list_all (λ (f : PlainFunction). is_plain f.role) file.functions ≡ true
   pub types : types_lowered file ≡ true
   pub actions : actions_lowered file ≡ true
+  pub operands : operands_lowered file ≡ true
   pub names : names_lowered file ≡ true
   pub used : names_used file ≡ true
   pub statics : statics_known file ≡ true

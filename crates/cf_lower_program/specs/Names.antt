@@ -1,5 +1,5 @@
 -- Which names of functions and objects are lowered: link names, none of which is the C's own.
-use Rattle.std.specs.Prelude.{ℕ, Bool, true, false, ◌&&◌, ◌||◌, not, nat_eq, nat_le, ◌==◌, List, [], ◌∷◌, ◌++◌, Option, Some, None, map, bytes_eq, codes, is_some}
+use Rattle.std.specs.Prelude.{Bool, false, ◌&&◌, ◌||◌, not, nat_eq, nat_le, ◌==◌, List, [], ◌∷◌, ◌++◌, Some, map, bytes_eq, codes}
 use Rattle.std.specs.List.{flat_map, list_all, list_any, starts_with}
 use Rattle.cf_core.specs.Types.{Name}
 use Rattle.cf_core.specs.Calls as source
