@@ -16,7 +16,7 @@ use Rattle.cf_elab_valid_statements.specs.Entries.{IsEntry}
 use Rattle.cf_elab_valid_objects.specs.Declared.{AllReached, AreComplete}
 use Rattle.cf_elab_valid_objects.specs.Starts.{NoVoidElements}
 use Rattle.cf_elab_valid_statics.specs.Fixed.{FixedIn}
-use Rattle.cf_elab_valid_bodies.specs.Trees.{statement_told, declaration_fits}
+use Rattle.cf_elab_valid_bodies.specs.Trees.{statement_told, declaration_fits, initialiser_fits}
 
 -- the place of the first form that is not built
 abbrev pub statement_place : Stmt → Place
@@ -31,9 +31,11 @@ pub record IsEnd (s : Scene) : Type 0 where
   pub arrays : NoVoidElements s.tables
   pub frame : AreComplete s
 
--- a constant initialiser names no local, wherever it is elaborated
+-- a constant initialiser names no local, wherever it is elaborated and what can be named fits
 abbrev pub ConstantsAreApart : Type 0
-ConstantsAreApart = (s : Scene) → IsScene s → (w : Option Initialiser) → built.of_initialiser w ≡ None → (e : Env) → Classless e → FixedIn s (parts_of (option_map initial_of w) e)
+ConstantsAreApart =
+    (s : Scene) → IsScene s → NoVoidElements s.tables → (w : Option Initialiser) → built.of_initialiser w ≡ None → initialiser_fits w ≡ true → (e : Env) → Classless e → (Within e s → Holds s e)
+    → FixedIn s (parts_of (option_map initial_of w) e)
 
 -- a statement of forms that are built: what stands in the braces of a `switch` and, unless it is a label, a statement
 pub record StatementLaw (x : Stmt) : Type 0 where

@@ -49,7 +49,7 @@ given-parts s b w f k = record {
     fine = λ e g c h. made-fine s (λ w f. MaybeFits s f w) e w c h (λ v. maybe-later s w b e g (f (within-before b e s g v)));
     leaves = λ e g c. leaves-none e c;
   };
-  fixed = λ e g c v. k (within-before b e s g v);
+  fixed = λ e g c h v. k (within-before b e s g v);
 }
 
 -- a function has no initialiser, and no name two

@@ -109,7 +109,7 @@ module _ (s : Scene) (scene : IsScene s) (arrays : NoVoidElements s.tables) (at 
     named-parts : Fine s (PartsFit s) (entered e) (onward (declare name (object x) (entered e)) (λ _. parts))
     named-parts =
         fine-before s (PartsFit s) (entered e) told (parts told) (named-steps name (object x) (entered e))
-        (parts-fit s told (parts told) ((given told).initial.fine told (steps-none told) classless holds) ((given told).fixed told (steps-none told) classless))
+        (parts-fit s told (parts told) ((given told).initial.fine told (steps-none told) classless holds) ((given told).fixed told (steps-none told) classless holds))
 
     scoped-parts : Fine s (PartsFit s) e (scoped (λ f. onward (declare name (object x) f) (λ _. parts)) e)
     scoped-parts = scoped-fine s (PartsFit s) (λ f. onward (declare name (object x) f) (λ _. parts)) e (λ w f p. parts-left s w f p) named-parts

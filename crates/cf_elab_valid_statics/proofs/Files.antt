@@ -45,10 +45,10 @@ pub scope-outside : (s : Scene) → s.locals ≡ [] → scope_of s ≡ file_scop
 scope-outside s none = ap (λ l. let x : Scope = record { classes = []; statics = s.statics; locals = map (tree s) l; this = None } in x) none
 
 -- nothing is known
-nothing_known : {A : Type 0} (r : Answer A) → Known (λ _. Unit {0}) r
-nothing_known (Made x f) = tt
-nothing_known (Refused rule at) = tt
-nothing_known (Passed bound most) = tt
+nothing_known : {A : Type 0} (s : Scene) (r : Answer A) → Known s (λ _. Unit {0}) r
+nothing_known s (Made x f) = λ w. tt
+nothing_known s (Refused rule at) = tt
+nothing_known s (Passed bound most) = tt
 
 module _ (s : Scene) (scene : IsScene s) (arrays : NoVoidElements s.tables) (none : s.locals ≡ []) (d : Says) (parts : Elab (Option Written)) (e : Env) (initial : AreInitial s e parts) where
   abbrev keeper : ℕ → Elab Keeper
@@ -88,7 +88,7 @@ module _ (s : Scene) (scene : IsScene s) (arrays : NoVoidElements s.tables) (non
         (λ w e2 l g2 c2 h2 f. let step = steps-through e e1 e2 g1 g2 in
         onward-fine s Start_is Any e2 (started keeper d.name d.at d.type w e2) _
         (started-fine s scene arrays keeper (static_keeper-is s scene (variable_link d.name) None d.at tt) (static-leaves (variable_link d.name) None d.at) d.name d.at d.type (λ _. Unit {0}) w e2
-        (λ v. nothing_known (start_or_none keeper d.at d.type w e2)) c2 h2 f
+        (λ v. nothing_known s (start_or_none keeper d.at d.type w e2)) c2 h2 f
         (λ v. inside-later e e2 d.type step (i (within-before e e2 s step v))) (λ v. n (within-before e e2 s step v))
         (λ v. stands-left d.name d.type e1 e2 l (stands (within-before e1 e2 s g2 v))))
         (λ st e3 g3 c3 h3 k. ended-fine x w st e3 (steps-through e e2 e3 step g3) c3 h3 (λ v. (k v).0))))

@@ -50,7 +50,7 @@ or_true true = refl
 or_true false = refl
 
 -- where this is apart is known of what is made
-apart-known : (s : Scene) (r : Answer Start) → ApartIn s r → Known (IsApart s) r
+apart-known : (s : Scene) (r : Answer Start) → ApartIn s r → Known s (IsApart s) r
 apart-known s (Made x f) k = k
 apart-known s (Refused rule at) k = tt
 apart-known s (Passed bound most) k = tt
@@ -186,11 +186,12 @@ module _ (s : Scene) (scene : IsScene s) (arrays : NoVoidElements s.tables) (n :
     body-fine : is_some (declared_here begun name) ≡ false → Fine s Result told (onward (parts told) (λ w f. onward (started keeper name at t w f) (ending w)))
     body-fine fresh =
         parts-fine s (λ w f. MaybeFits s f w) (λ w f. Within f s → IsFixed s w) Result told (parts told) (λ w f. onward (started keeper name at t w f) (ending w))
-        (given.initial.fine told steps classless holds) (given.initial.leaves told steps classless) (fixed-said s (parts told) (given.fixed told steps classless))
+        (given.initial.fine told steps classless holds) (given.initial.leaves told steps classless) (fixed-said s (parts told) (given.fixed told steps classless holds))
         (λ w f fixed l g c1 h1 fw. let step = steps-through e told f steps g in
         onward-fine s (λ st q. StartFits s (tree s t) st × IsApart s st) Result f (started keeper name at t w f) (ending w)
         (started-fine s scene arrays keeper (static_keeper-is s scene link (Some owner) at own) (static-leaves link (Some owner) at) name at t (IsApart s) w f
-        (λ q. apart-known s (start_or_none keeper at t w f) ((fixed q).starts f c1 link owner at at t)) c1 h1 fw
+        (λ q. apart-known s (start_or_none keeper at t w f) ((fixed q).starts f c1 h1 fw link owner own at at t
+        (λ q. inside-later e f t step (i (within-before e f s step q))) (λ q. v (within-before e f s step q)))) c1 h1 fw
         (λ q. inside-later e f t step (i (within-before e f s step q))) (λ q. v (within-before e f s step q)) (λ q. stands-left name t told f l (stands fresh)))
         (λ st k g2 c2 h2 p. ended-fine w st k (steps-through e f k step g2) c2 h2 p))
 

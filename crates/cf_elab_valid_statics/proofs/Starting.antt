@@ -33,11 +33,11 @@ number-of s t e z h = by (is_const e.types t && is_arithmetic (sort_of e.types t
     by true = h
     by false = tt
 
--- of what is made this is known
-abbrev pub Known : {A : Type 0} → (A → Type 0) → Answer A → Type 0
-Known K (Made x f) = K x
-Known K (Refused rule place) = Unit {0}
-Known K (Passed bound most) = Unit {0}
+-- of what is made this is known in each end that the environment behind leads to
+abbrev pub Known : {A : Type 0} → Scene → (A → Type 0) → Answer A → Type 0
+Known s K (Made x f) = Within f s → K x
+Known s K (Refused rule place) = Unit {0}
+Known s K (Passed bound most) = Unit {0}
 
 module _ (s : Scene) (scene : IsScene s) (arrays : NoVoidElements s.tables) (keeper : ℕ → Elab Keeper) (keeps : IsKeeper s keeper) (leaves : (u : ℕ) (e : Env) → Classless e → LeavesIn e (keeper u e)) (name : Name) (at t : ℕ) where
   -- of each start that is made this is known too
@@ -45,12 +45,12 @@ module _ (s : Scene) (scene : IsScene s) (arrays : NoVoidElements s.tables) (kee
     abbrev pub Given : Start → Env → Type 0
     Given x f = StartFits s (tree s t) x × K x
 
-    pub started-fine : (w : Option Written) (e : Env) → When s e (Known K (start_or_none keeper at t w e)) → Classless e → When s e (Holds s e) → When s e (MaybeFits s e w) → When s e (Inside e t) → When s e (is_void (tree s t) ≡ false)
+    pub started-fine : (w : Option Written) (e : Env) → When s e (Known s K (start_or_none keeper at t w e)) → Classless e → When s e (Holds s e) → When s e (MaybeFits s e w) → When s e (Inside e t) → When s e (is_void (tree s t) ≡ false)
         → When s e (StandsFor name t e) → Fine s Given e (started keeper name at t w e)
     started-fine w e k c h f i n stands =
         by (start_or_none keeper at t w e) k (starting-fine s scene arrays keeper keeps at t w e c h f i n) (written-leaves keeper leaves at t w e c)
       where
-        by : (r : Answer Start) → When s e (Known K r) → Fine s (λ x g. StartFits s (tree s t) x) e r → LeavesIn e r
+        by : (r : Answer Start) → When s e (Known s K r) → Fine s (λ x g. StartFits s (tree s t) x) e r → LeavesIn e r
             → Fine s Given e (onward r (λ st g. onward (number_known name (constant_number g t st.number) g) (λ _. gives st)))
         by (Made st g) known fine left =
             fine-before s Given e g (onward (number_known name (constant_number g t st.number) g) (λ _. gives st)) fine.steps
@@ -58,6 +58,6 @@ module _ (s : Scene) (scene : IsScene s) (arrays : NoVoidElements s.tables) (kee
             (number_known-fine s name (constant_number g t st.number) g fine.classless fine.holds (λ w j y found there.
             let type = stands-left name t e g left (stands (within-before e g s fine.steps w)) j y found there in
             subst (λ u. HoldsKnown (constant_number g t st.number) (tree s u)) (sym type) (number-of s t g st.number (fine.made w).number)))
-            (λ u q step c1 h1 any. made-fine s Given q st c1 h1 (λ w. let early = within-before g q s step w in (fine.made early, known (within-before e g s fine.steps early)))))
+            (λ u q step c1 h1 any. made-fine s Given q st c1 h1 (λ w. let early = within-before g q s step w in (fine.made early, known (within-before e g s fine.steps early) early))))
         by (Refused rule place) known fine left = tt
         by (Passed bound most) known fine left = tt

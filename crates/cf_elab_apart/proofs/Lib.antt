@@ -1,0 +1,17 @@
+pub mod Alike
+pub mod Answers
+pub mod Bare
+pub mod Binary
+pub mod Casts
+pub mod Choice
+pub mod Expressions
+pub mod Fit
+pub mod Initial
+pub mod Names
+pub mod Operators
+pub mod Parts
+pub mod Plans
+pub mod Settled
+pub mod Sizes
+pub mod Starts
+pub mod Unary
