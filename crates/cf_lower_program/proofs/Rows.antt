@@ -10,7 +10,7 @@ use Rattle.cc_whole.specs.Types.{same_type}
 use Rattle.cf_lower_program.specs.Types.{types_lowered}
 use Rattle.cf_lower_program.specs.Actions.{actions_lowered}
 use Rattle.cf_lower_program.specs.Operands.{operands_lowered}
-use Rattle.cf_lower_program.specs.Names.{names_lowered, names_used}
+use Rattle.cf_lower_program.specs.Names.{names_lowered, names_used, may_be_object, may_be_function}
 use Rattle.cf_lower_program.specs.Starts.{statics_known, texts_fit}
 use Rattle.cf_lower_program.specs.Lowerable.{Lowerable}
 
@@ -116,6 +116,22 @@ unsigned-main-refused = refl
 main-with-parameters-refused : names_lowered (named_only (codes "__main") f_type) ≡ false
 unfolding digits same_type
 main-with-parameters-refused = refl
+
+-- int f(){static int x;..}, int free;, int x; and f
+local-object-named : may_be_object (codes "x__L1__f__Fv") ≡ true
+local-object-named = refl
+
+known-object-named : may_be_object (codes "free__g") ≡ true
+known-object-named = refl
+
+object-named : may_be_object (codes "x") ≡ true
+object-named = refl
+
+function-is-no-object : may_be_object (codes "f__Fi") ≡ false
+function-is-no-object = refl
+
+function-named : may_be_function (codes "f__Fi") ≡ true
+function-named = refl
 
 -- int x=g(); as a constant
 call-refused : statics_known (with_seven (static_of (codes "x") int (set 1 (call (codes "g__Fv") (no_parameters int) None [] None) ∷ act (first 0 1) ∷ []) ∷ [])) ≡ false

@@ -32,7 +32,6 @@ is_foreign name =
     not (list_any (λ front. is_own_name front name) own_fronts) && not (is_helper name) && not (bytes_eq name (codes "__sti"))
     && not (is_library name) && not (is_main name)
 
--- names with `__` are those of functions and, with `__L` in front, of local static objects
 abbrev pub begins : Name → Name → Bool
 begins front name = starts_with nat_eq name front
 
@@ -40,11 +39,22 @@ abbrev pub has_two : Name → Bool
 has_two [] = false
 has_two (b ∷ rest) = begins (codes "__") (b ∷ rest) || has_two rest
 
-abbrev pub is_function_name : Name → Bool
-is_function_name name = has_two name && not (begins (codes "__L") name)
+-- whether `__L` with a digit behind stands in it, as in the name of a static object of a function
+abbrev pub has_local : Name → Bool
+has_local [] = false
+has_local (b ∷ rest) = is_own_name (codes "__L") (b ∷ rest) || has_local rest
 
+-- whether it ends in `__g`, as the name of a variable that is called as what C knows
+abbrev pub is_global : Name → Bool
+is_global [] = false
+is_global (b ∷ rest) = bytes_eq (b ∷ rest) (codes "__g") || is_global rest
+
+-- names with `__` are those of functions, but for those of two kinds of objects
 abbrev pub is_object_name : Name → Bool
-is_object_name name = not (has_two name) || begins (codes "__L") name
+is_object_name name = not (has_two name) || has_local name || is_global name
+
+abbrev pub is_function_name : Name → Bool
+is_function_name name = not (is_object_name name)
 
 abbrev pub may_be_function : Name → Bool
 may_be_function name = is_foreign name && is_function_name name
