@@ -1,5 +1,5 @@
 -- Static objects whose initialisers are lowered: all that these do is known before the run.
-use Rattle.std.specs.Prelude.{ℕ, ◌^◌, Bool, true, false, ◌&&◌, not, nat_lt, nat_le, ◌==◌, List, [], ◌∷◌, Option, Some, None, length, bytes_eq}
+use Rattle.std.specs.Prelude.{ℕ, ◌^◌, Bool, true, false, ◌&&◌, not, nat_lt, nat_le, ◌==◌, List, [], ◌∷◌, Some, None, length, bytes_eq}
 use Rattle.std.specs.List.{list_all, list_any}
 use Rattle.cf_core.specs.Types.{Name}
 use Rattle.cf_plain.specs.Plain.{Register, Action, text, truth, first, zeros, bytes, reach, finish_static, Plain, Plains, act, set, branch, nothing, more, PlainFunction, PlainStatic, PlainFile}
