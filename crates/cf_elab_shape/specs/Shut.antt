@@ -94,20 +94,9 @@ known_bound = constant
 unfoldable pub no_void : Parameter → Elab (Unit {0})
 no_void = declarator.no_void
 
--- that all of them are objects
-unfoldable pub all_fine : List Parameter → Elab (Unit {0})
-all_fine ps = declarator.all_objects ps >> done
-
--- `(void)`
-abbrev only_nothing : Env → List Parameter → Bool
-only_nothing env (p ∷ []) = declarator.is_nothing env p
-only_nothing env ps = false
-
-unfoldable pub are_nothing : Env → List Parameter → Bool
-are_nothing = only_nothing
-
-unfoldable pub parameters : List Parameter → Elab (List Parameter)
-parameters = declarator.parameters
+-- one alone, which may be `(void)`
+unfoldable pub only_parameter : Parameter → Elab (List Parameter)
+only_parameter = declarator.only_parameter
 
 unfoldable pub as_object : Shaped → Elab ℕ
 as_object = declarator.as_object
