@@ -76,12 +76,7 @@ fn operand_of(env: &Env, at: u32, entity: &Entity) -> Result<Operand, Stop>
 }
 
 /// A constant of an enumeration; in its own expression it has no value yet (3.2).
-fn enumerator_value(
-    alloc: Global,
-    at: u32,
-    ty: TyId,
-    number: Option<i64>,
-) -> Result<Value, Memory>
+fn enumerator_value(alloc: Global, at: u32, ty: TyId, number: Option<i64>) -> Result<Value, Memory>
     ensures { IfOk result (λ v. v ≡ names.enumerator_value at ty number) }
 {
     match number {
