@@ -10,7 +10,7 @@ use Rattle.cf_elab.specs.Answer.{Elab}
 use Rattle.cf_elab.specs.Shape.{Parameter}
 use Rattle.cf_elab.specs.Statement.{return_row, switch_row, case_row}
 use Rattle.cf_elab.proofs.CoreRows.{bodies, starts}
-use Rattle.cf_elab.proofs.Words.{number, named, choice, joined, basic_at, const_at, stored, int_at, type_name, called, unnamed, pointing, taking, holding, parameter, basic_word, type_in, cast, size_of_type, plain, with_value, with_list, with_arguments, value_at, declared_item, local, enumeration, main, function, elaborates, elaborates_alone, refusal, accepted}
+use Rattle.cf_elab.proofs.Words.{number, named, choice, joined, basic_at, const_at, stored, int_at, called, unnamed, pointing, taking, holding, parameter, basic_word, type_in, cast, size_of_type, plain, with_value, with_list, with_arguments, value_at, declared_item, local, enumeration, main, function, elaborates, elaborates_alone, refusal, accepted}
 
 -- ---- an array without a bound has its type before its initialiser is elaborated
 

@@ -15,7 +15,6 @@ use Rattle.cf_elab_define.specs.Shut as define
 use Rattle.cf_elab_env.proofs.Growth.{grown_laws}
 use Rattle.cf_elab_lists.specs.Seen.{tree_seen}
 use Rattle.cf_elab_lists.specs.declared.tree.Tree.{Tree}
-use Rattle.cf_elab_written.specs.Given.{given}
 use Rattle.cf_elab_written.specs.Shut as written
 
 module _ (in_file : Bool) (g : Gathered) (n : WrittenName) (u : ℕ) (own : Name) (named : n.last ≡ last.Ident own) (env : Env) where

@@ -1,5 +1,5 @@
 -- Type names and functions, which have no initialiser.
-use Rattle.std.proofs.Common.{◌≡◌, ℕ, Option, None, Some, is_some, refl, ◌∙◌}
+use Rattle.std.proofs.Common.{◌≡◌, ℕ, Option, None, Some, is_some, refl}
 use Rattle.cf_syntax.specs.declared.name.Name.{Name as WrittenName}
 use Rattle.cf_unit.specs.declared.initialiser.Initialiser.{Initialiser}
 use Rattle.cf_elab.specs.Answer.{onward}

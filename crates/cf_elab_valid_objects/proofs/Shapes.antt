@@ -7,7 +7,7 @@ use Rattle.cf_syntax.specs.declared.name.Name.{Name as WrittenName}
 use Rattle.cf_syntax.specs.declared.specifier.Pointer.{Pointer}
 use Rattle.cf_syntax.specs.declared.specifier.Pointer.TheVariants as pointer
 use Rattle.cf_syntax.specs.declared.specifier.TypeSpecifier.{TypeSpecifier}
-use Rattle.cf_elab.specs.Answer.{Answer, Made, Refused, Passed, Elab, onward, need, none_at, gives, each, all, maybe}
+use Rattle.cf_elab.specs.Answer.{Answer, Made, Refused, Passed, Elab, onward, need, none_at, gives, each, maybe}
 use Rattle.cf_elab.specs.Built as built
 use Rattle.cf_elab.specs.Declarator.{pointed, is_nothing, named_at, no_void, object_parameter, only_parameter, parameters, as_object, only_whole, type_from, words_of}
 use Rattle.cf_elab.specs.Env.{Env}
