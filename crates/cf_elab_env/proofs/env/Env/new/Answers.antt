@@ -11,7 +11,7 @@ returns-clause-made c =
     ap (λ ds. shut.int (first_env c.args.extent ds)) (sym c.in_ok-defines.ensures)
     ∙ begun_is c.args.extent c.in_ok-defines.defines c.new-types.result c.intern.new.self c.in_ok-int.int c.new.result c.new-2.result _ _ _ c.in_ok-hand.hand _ _
     c.new-types.ensures.types c.new-types.ensures.funs c.in_ok-int.ensures.ok c.intern.ensures.funs c.new.ensures.labels c.new.ensures.enums c.new.ensures.defined
-    c.new-2.ensures.outer c.new-2.ensures.inner (ap (map entity_seen) c.new-3.ensures.items) c.new-4.ensures.inner c.new-5.ensures.items
+    c.new-2.ensures.outer c.new-2.ensures.inner (ap (map entity_seen) c.new-3.ensures.items) c.new-4.ensures.inner c.new-5.ensures
     c.in_ok-hand.ensures c.new-6.ensures c.new-7.ensures
 
 pub invariant_of-env : goal.invariant_of-env
