@@ -74,7 +74,7 @@ module _ (t : ℕ) (cs : List Counted) (i : ℕ) (first env : Env) (left : shut.
   unfolding shut.declare_all shut.declare_one
   one_declared c next inside is made =
       sym (sym left ∙ at_drop_more (λ l. shut.declare_all t l env) cs i c inside ∙ ap (λ d. shut.declare_all t (d ∷ drop (i + 1) cs) env) (sym is)
-        ∙ ap (λ a. onward a (λ _ e. shut.declare_all t (drop (i + 1) cs) e)) made)
+      ∙ ap (λ a. onward a (λ _ e. shut.declare_all t (drop (i + 1) cs) e)) made)
 
 pub int_at : (cs : List Counted) (i : ℕ) (c : Counted) → i < length cs → c ≡ get_or cs i c → All IsInt cs → IsInt c
 int_at cs i c inside is all = subst IsInt (sym is) (all i c inside)

@@ -64,7 +64,7 @@ module _ (first before : List Name) (cs : List Counted) (i : ℕ) (env : Env) (l
       → shut.needs_new name at before env ≡ Made tt env → more ≡ name ∷ before → shut.all_new more (drop (i + 1) cs) env ≡ shut.all_new first cs env
   next_named c more name at inside is called placed fine grown =
       sym (each_named c name at inside is called placed ∙ ap (λ a. onward a (λ _ e. shut.all_new (name ∷ before) (drop (i + 1) cs) e)) fine
-        ∙ ap (λ ns. shut.all_new ns (drop (i + 1) cs) env) (sym grown))
+      ∙ ap (λ ns. shut.all_new ns (drop (i + 1) cs) env) (sym grown))
 
 module _ (env : Env) (e : IsEnv env) (name : Name) (at : ℕ) (o : Option ℕ) (is : o ≡ declared_here env name) where
   pub name_taken : is_some o ≡ true → shut.name_checked (Some (at, name)) env ≡ Refused 8 at

@@ -62,7 +62,7 @@ module _ (types : Table) (all : List FunctionEntry) (name : Name) (ps : List ℕ
       let rest = filter (λ (x : Name × ℕ). pointwise nat_eq name x.0) (numbered (n + 1) fs) in
       by_name n f rest has (pointwise nat_eq name f.name)
       ∙ (λ i. if nat_list_eq_equiv.symm name f.name i && same_params types ps f.type then Some n
-        else from_is (n + 1) fs (λ i. ap (slice_get all) (further i) ∙ at (suc i)) i)
+      else from_is (n + 1) fs (λ i. ap (slice_get all) (further i) ∙ at (suc i)) i)
 
 pub entry_is : (env : Env) (d : Says) (o : Option ℕ) (ns : List ℕ) → o ≡ first_of env.types env.entries d.type ns → ns ≡ numbers_named d.name env.entries → o ≡ shut.entry_of env d
 unfolding first_of shut.entry_of
