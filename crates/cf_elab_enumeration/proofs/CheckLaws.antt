@@ -48,11 +48,11 @@ module _ (cs : List Counted) (i : ℕ) (env : Env) where
       pub one_other : fits kind.Int (number_or_zero c.number) ≡ false → shut.all_ints cs env ≡ Refused 5 c.at
       one_other h = int_turn ∙ ap (λ b. onward (need b 5 c.at env) (λ _ e. shut.all_ints (drop (i + 1) cs) e)) h
 
-  pub more_ints : (c : Counted) → i < length cs → c ≡ get_or cs i c → fits kind.Int (number_or_zero c.number) ≡ true → All IsInt (take i cs) → All IsInt (take (i + 1) cs)
-  more_ints c inside is h all = All-more IsInt cs i c inside all (subst IsInt is h)
+pub more_ints : (cs : List Counted) (i : ℕ) (c : Counted) → i < length cs → c ≡ get_or cs i c → fits kind.Int (number_or_zero c.number) ≡ true → All IsInt (take i cs) → All IsInt (take (i + 1) cs)
+more_ints cs i c inside is h all = All-more IsInt cs i c inside all (subst IsInt is h)
 
-  pub all_ints_are : length cs ≤ i → All IsInt (take i cs) → All IsInt cs
-  all_ints_are ended all = let P : List Counted → Type 0 = All IsInt in subst P (take_all i cs ended) all
+pub ints_are : (cs : List Counted) (i : ℕ) → length cs ≤ i → All IsInt (take i cs) → All IsInt cs
+ints_are cs i ended all = let P : List Counted → Type 0 = All IsInt in subst P (take_all i cs ended) all
 
 module _ (named : Bool) (at : ℕ) (env : Env) where
   abbrev placed : Bool → Bool → Answer (Unit {0})
@@ -78,4 +78,4 @@ pub ruleset place_laws = (in_file, unnamed, named_in_block)
 
 pub ruleset constant_laws = (constants_end, one_constant, one_variable)
 
-pub ruleset int_laws = (ints_end, one_int, one_other, more_ints, all_ints_are)
+pub ruleset int_laws = (ints_end, one_int, one_other, more_ints, ints_are)

@@ -109,4 +109,4 @@ pub ruleset need_laws = (is_so, is_not_so)
 
 pub ruleset fits_laws = (fits_is)
 
-pub ruleset known_laws = (entries_kept, entities_kept, name_kept)
+pub ruleset known_laws = (entries_kept, entities_kept)

@@ -24,11 +24,11 @@ module _ (types : Table) (fs : List FunctionEntry) (t i : ℕ) (ns : List ℕ) (
   unfolding first_of
   none_fits ended = sym (sym so_far ∙ at_drop_all (first_of types fs t) ns i ended)
 
-  module _ (n : ℕ) (f : FunctionEntry) (b : Bool) (inside : i < length ns) (is : n ≡ get_or ns i n) (has : slice_get fs n ≡ Some f) (h : b ≡ shut.same_params types t f.type) where
+  module _ (n d : ℕ) (f : FunctionEntry) (b : Bool) (inside : i < length ns) (is : n ≡ get_or ns i d) (has : slice_get fs n ≡ Some f) (h : b ≡ shut.same_params types t f.type) where
     turn : first_of types fs t ns ≡ (if b then Some n else first_of types fs t (drop (i + 1) ns))
     unfolding first_of shut.same_params
     turn =
-        sym so_far ∙ at_drop_more (first_of types fs t) ns i n inside ∙ ap (λ m. first_of types fs t (m ∷ drop (i + 1) ns)) (sym is)
+        sym so_far ∙ at_drop_more (first_of types fs t) ns i d inside ∙ ap (λ m. first_of types fs t (m ∷ drop (i + 1) ns)) (sym is)
         ∙ ap (λ o. if has_params types (params_of (fun_at types t)) o then Some n else first_of types fs t (drop (i + 1) ns)) has
         ∙ ap (λ b. if b then Some n else first_of types fs t (drop (i + 1) ns)) (sym h)
 
@@ -64,10 +64,12 @@ module _ (types : Table) (all : List FunctionEntry) (name : Name) (ps : List ℕ
       ∙ (λ i. if nat_list_eq_equiv.symm name f.name i && same_params types ps f.type then Some n
       else from_is (n + 1) fs (λ i. ap (slice_get all) (further i) ∙ at (suc i)) i)
 
-pub entry_is : (env : Env) (d : Says) (o : Option ℕ) (ns : List ℕ) → o ≡ first_of env.types env.entries d.type ns → ns ≡ numbers_named d.name env.entries → o ≡ shut.entry_of env d
+pub entry_is : (env : Env) (d : Says) (o : Option ℕ) (ns ms : List ℕ) (name : Name) → o ≡ first_of env.types env.entries d.type ns → ns ≡ ms → ms ≡ numbers_named name env.entries → name ≡ d.name
+    → o ≡ shut.entry_of env d
 unfolding first_of shut.entry_of
-entry_is env d o ns h is =
-    h ∙ ap (first_of env.types env.entries d.type) is ∙ from_is env.types env.entries d.name (params_of (fun_at env.types d.type)) 0 env.entries (λ i. ap (slice_get env.entries) (zero_more i))
+entry_is env d o ns ms name h held is called =
+    h ∙ ap (first_of env.types env.entries d.type) (held ∙ is ∙ ap (λ (n : Name). numbers_named n env.entries) called)
+    ∙ from_is env.types env.entries d.name (params_of (fun_at env.types d.type)) 0 env.entries (λ i. ap (slice_get env.entries) (zero_more i))
   where
     zero_more : (i : ℕ) → 0 + i ≡ i
     zero_more i = omega arith
