@@ -1,4 +1,4 @@
-ghost use Rattle.std.specs.Prelude.{◌≡◌, ◌<◌, ◌++◌, ◌∷◌, [], length, slice_set, IfOk, OnOk, OnErr};
+ghost use Rattle.std.specs.Prelude.{◌≡◌, ◌<◌, ◌++◌, ◌∷◌, [], length, slice_get, slice_set, Some, IfOk, OnOk, OnErr};
 ghost use Rattle.cf_elab_env.specs.Entries.{numbers_named, HasName};
 
 use crate::env::next_number;
@@ -48,6 +48,14 @@ impl Entries {
         ensures { result.now ≡ self.now }
     {
         self.entries.as_slice()
+    }
+
+    /// That of this number.
+    pub(crate) fn get(&self, number: u32) -> &FunctionEntry
+        requires { number < length self.now }
+        ensures { slice_get self.now number ≡ Some result.now }
+    {
+        &self.entries[number as usize]
     }
 
     /// The numbers of those of this name, in order.

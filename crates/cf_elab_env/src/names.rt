@@ -60,7 +60,6 @@ impl Env {
     }
 
     /// The declared functions of this name, by their numbers, in order of declaration.
-    #[tactic(auto, using(crate::proofs::NamedEntries::numbers_known))]
     pub fn entries_named(&self, name: &[u8]) -> Result<Vec<u32>, Memory>
         ensures value { IfOk result (λ numbers. numbers.items ≡ numbers_named name.now self.now.entries) }
         ensures known { IfOk result (λ numbers. All (λ number. number < length self.now.entries) numbers.items) }
@@ -75,6 +74,6 @@ impl Env {
         ensures value { slice_get self.now.entries number ≡ Some result.now }
         ensures known { IsEntry self.now.types result.now }
     {
-        &self.entries.as_slice()[number as usize]
+        self.entries.get(number)
     }
 }

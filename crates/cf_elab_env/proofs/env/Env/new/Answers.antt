@@ -1,6 +1,7 @@
 use Rattle.std.proofs.Common.{rules, ℕ, List, All, ◌<◌, length, map, sym, ap, subst, ◌∙◌, refl}
-use Rattle.cf_elab.specs.Env.{Name}
+use Rattle.cf_elab.specs.Env.{Name, FunctionEntry}
 use Rattle.cf_elab.specs.File.{first_env}
+use Rattle.cf_elab_env.specs.Holds.{IsEntry}
 use Rattle.cf_elab_env.specs.Seen.{entity_seen}
 use Rattle.cf_elab_env.specs.Shut as shut
 use Rattle.cf_elab_env.proofs.Beginning.{begun_is}
@@ -23,7 +24,7 @@ invariant_of-env c = record {
   enums = search rules;
   no_outer = search rules;
   entities = search rules;
-  entries = search rules;
+  entries = subst (λ (fs : List FunctionEntry). All (λ f. IsEntry c.intern.new.self f) fs) (sym c.new-5.ensures) (search rules);
   outer = search rules;
   inner = search rules;
   linked = subst (λ (xs : List (Name × ℕ)). All (λ x. x.1 < length (map entity_seen c.new-3.result.items)) xs) (sym c.new-4.ensures.inner) (search rules);
