@@ -1,6 +1,6 @@
 -- Enumerations and enumerators that are declared: no class is open, so the innermost scope has them.
-use Rattle.std.proofs.Common.{◌≡◌, ℕ, Bool, true, false, if◌then◌else◌, List, [], ◌∷◌, length, Option, Some, All, IsTrue, ℤ, pos, refl, sym, ap, subst, ◌∙◌}
-use Rattle.std.proofs.lemmas.List.Elements.{All-head, All-tail}
+use Rattle.std.proofs.Common.{◌≡◌, ℕ, ◌+◌, ◌<◌, ◌≤◌, Bool, true, false, if◌then◌else◌, List, [], ◌∷◌, length, drop, get_or, Option, Some, All, IsTrue, ℤ, pos, refl, sym, ap, subst, ◌∙◌}
+use Rattle.std.proofs.lemmas.List.{at_drop_more, at_drop_all}
 use Rattle.cf_base.specs.Integers.{fits}
 use Rattle.cf_base.specs.declared.kind.Kind.TheVariants as kind
 use Rattle.cf_types.specs.Table.{Table}
@@ -14,7 +14,7 @@ use Rattle.cf_elab.specs.Operand.{Sort, enumeral, sort_of}
 use Rattle.cf_elab_env.specs.Holds.{IsEnv, IsType, IsEntity, fits_sort}
 use Rattle.cf_elab_env.specs.Shut as made
 use Rattle.cf_elab_enumeration.specs.Shut as shut
-use Rattle.cf_elab_enumeration.proofs.CheckLaws.{empty, IsInt}
+use Rattle.cf_elab_enumeration.proofs.CheckLaws.{IsInt}
 
 declared : (t : ℕ) (own : Name) (number : ℤ) (name : Name) (z : ℤ) (env : Env) (r : Answer (Unit {0})) → name ≡ own → z ≡ number → made.declare name (enumerator t z) env ≡ r
     → names.declare own (enumerator t number) env ≡ r
@@ -63,21 +63,21 @@ pub counted_known : (types : Table) (count t n : ℕ) (z : ℤ) (number : Option
 counted_known types count t n z number known is same =
     let P : ℤ → Type 0 = λ w. IsTrue (fits kind.Int w) in an_int types count t n z known is (subst P (sym same) (int_fits number))
 
-pub none_declared : (t : ℕ) (cs : List Counted) (env : Env) → length cs ≡ 0 → shut.declare_all t cs env ≡ Made tt env
-unfolding shut.declare_all
-none_declared t cs env none = ap (λ cs. shut.declare_all t cs env) (empty cs none)
+-- those from an index on are left
+module _ (t : ℕ) (cs : List Counted) (i : ℕ) (first env : Env) (left : shut.declare_all t (drop i cs) env ≡ shut.declare_all t cs first) where
+  pub all_declared : length cs ≤ i → shut.declare_all t cs first ≡ Made tt env
+  unfolding shut.declare_all
+  all_declared ended = sym left ∙ at_drop_all (λ l. shut.declare_all t l env) cs i ended
 
-pub all_is : (t : ℕ) (cs rest : List Counted) (c : Counted) (env mid : Env) (r : Answer (Unit {0})) → cs ≡ c ∷ rest → shut.declare_one t c env ≡ Made tt mid → shut.declare_all t rest mid ≡ r
-    → shut.declare_all t cs env ≡ r
-unfolding shut.declare_all shut.declare_one
-all_is t cs rest c env mid r is first h =
-    ap (λ cs. shut.declare_all t cs env) is ∙ ap (λ a. onward a (λ _ e. shut.declare_all t rest e)) first ∙ h
+  pub one_declared : (c : Counted) (next : Env) → i < length cs → c ≡ get_or cs i c → shut.declare_one t c env ≡ Made tt next
+      → shut.declare_all t (drop (i + 1) cs) next ≡ shut.declare_all t cs first
+  unfolding shut.declare_all shut.declare_one
+  one_declared c next inside is made =
+      sym (sym left ∙ at_drop_more (λ l. shut.declare_all t l env) cs i c inside ∙ ap (λ d. shut.declare_all t (d ∷ drop (i + 1) cs) env) (sym is)
+      ∙ ap (λ a. onward a (λ _ e. shut.declare_all t (drop (i + 1) cs) e)) made)
 
-pub first_int : (cs rest : List Counted) (c : Counted) → cs ≡ c ∷ rest → All IsInt cs → IsInt c
-first_int cs rest c is all = let P : List Counted → Type 0 = All IsInt in All-head IsInt c rest (subst P is all)
-
-pub rest_ints : (cs rest : List Counted) (c : Counted) → cs ≡ c ∷ rest → All IsInt cs → All IsInt rest
-rest_ints cs rest c is all = let P : List Counted → Type 0 = All IsInt in All-tail IsInt c rest (subst P is all)
+pub int_at : (cs : List Counted) (i : ℕ) (c : Counted) → i < length cs → c ≡ get_or cs i c → All IsInt cs → IsInt c
+int_at cs i c inside is all = subst IsInt (sym is) (all i c inside)
 
 pub ruleset name_laws = (name_is)
 
@@ -85,4 +85,4 @@ pub ruleset one_laws = (one_is, enumerator_known)
 
 pub ruleset counted_laws = (counted_is, counted_known)
 
-pub ruleset all_laws = (none_declared, all_is, first_int, rest_ints)
+pub ruleset all_laws = (all_declared, one_declared, int_at)

@@ -38,14 +38,10 @@ pub fn declare_all(env: &mut Env, number: u32, ty: TyId, list: &[Counted]) -> Re
     ensures made { OnOk result (shut.declare_all ty list.now env.old ≡ Made tt env.new) }
     ensures types { env.new.types ≡ env.old.types }
 {
-    match list.split_first() {
-        None => Ok(()),
-        Some((first, rest)) => {
-            declare_one(env, number, ty, first)?;
-            declare_all(env, number, ty, rest)?;
-            Ok(())
-        }
+    for one in list {
+        declare_one(env, number, ty, one)?;
     }
+    Ok(())
 }
 
 /// One of them.

@@ -9,6 +9,7 @@ ghost use Rattle.cf_elab_env.specs.Shut as shut;
 
 use crate::declared::Declared;
 use crate::entity::Entity;
+use crate::entries::Entries;
 use crate::extent::Extent;
 use crate::functions::FunctionEntry;
 use crate::hand::Hand;
@@ -34,7 +35,7 @@ pub struct Env {
     pub(crate) entities: Vec<Entity>,
     /// The objects with linkage, by the numbers of their entities: names of one scope of their own (3.3).
     pub(crate) linked: Scopes,
-    pub(crate) entries: Vec<FunctionEntry>,
+    pub(crate) entries: Entries,
     pub(crate) hand: Hand,
     pub(crate) functions: Items<CoreFn>,
     pub(crate) statics: Items<CoreStatic>,
@@ -79,7 +80,7 @@ impl Env {
             scopes: Scopes::new(alloc),
             entities: Vec::new(alloc),
             linked: Scopes::new(alloc),
-            entries: Vec::new(alloc),
+            entries: Entries::new(alloc),
             hand,
             functions: Items::new(alloc),
             statics: Items::new(alloc),
