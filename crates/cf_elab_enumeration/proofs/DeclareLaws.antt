@@ -16,11 +16,11 @@ use Rattle.cf_elab_env.specs.Shut as made
 use Rattle.cf_elab_enumeration.specs.Shut as shut
 use Rattle.cf_elab_enumeration.proofs.CheckLaws.{IsInt}
 
-declared : (t : ℕ) (own : Name) (number : ℤ) (name : Name) (z : ℤ) (env : Env) (r : Answer (Unit {0})) → name ≡ own → z ≡ number → made.declare name (enumerator t z) env ≡ r
-    → names.declare own (enumerator t number) env ≡ r
+declared : (t : ℕ) (own : Name) (number : ℤ) (name : Name) (z : ℤ) (env : Env) (r : Answer (Unit {0})) → name ≡ own → z ≡ number → made.declare name (enumerator t (Some z)) env ≡ r
+    → names.declare own (enumerator t (Some number)) env ≡ r
 unfolding made.declare
 declared t own number name z env r is same h =
-    ap (λ n. names.declare n (enumerator t number) env) (sym is) ∙ ap (λ w. names.declare name (enumerator t w) env) (sym same) ∙ h
+    ap (λ n. names.declare n (enumerator t (Some number)) env) (sym is) ∙ ap (λ w. names.declare name (enumerator t (Some w)) env) (sym same) ∙ h
 
 abbrev in_some : List OpenClass → Bool
 in_some [] = false
@@ -31,24 +31,41 @@ module _ (env : Env) (e : IsEnv env) where
   unfolding shut.name_declared made.declare
   name_is n t at name r h = ap (λ os. (if in_some os then add_plain name at what.Alias t else names.declare name (enum_name n)) env) e.no_open_class ∙ h
 
-  pub one_is : (t : ℕ) (c : Counted) (name : Name) (z : ℤ) (r : Answer (Unit {0})) → name ≡ c.name → z ≡ number_or_zero c.number → made.declare name (enumerator t z) env ≡ r
+  pub one_is : (t : ℕ) (c : Counted) (name : Name) (z : ℤ) (r : Answer (Unit {0})) → name ≡ c.name → z ≡ number_or_zero c.number → made.declare name (enumerator t (Some z)) env ≡ r
       → shut.declare_one t c env ≡ r
   unfolding shut.declare_one made.declare
   one_is t c name z r is number h =
-      ap (λ os. (if in_some os then add_plain c.name c.at (what.Enumerator (number_or_zero c.number)) t else names.declare c.name (enumerator t (number_or_zero c.number))) env) e.no_open_class
+      ap (λ os. (if in_some os then add_plain c.name c.at (what.Enumerator (number_or_zero c.number)) t else names.declare c.name (enumerator t (Some (number_or_zero c.number)))) env) e.no_open_class
       ∙ declared t c.name (number_or_zero c.number) name z env r is number h
 
-pub counted_is : (t : ℕ) (c : Counted) (name : Name) (z : ℤ) (env : Env) (r : Answer (Unit {0})) → name ≡ c.name → z ≡ int_or_zero c.number → made.declare name (enumerator t z) env ≡ r
+pub counted_is : (t : ℕ) (c : Counted) (name : Name) (z : ℤ) (env : Env) (r : Answer (Unit {0})) → name ≡ c.name → z ≡ int_or_zero c.number → made.declare name (enumerator t (Some z)) env ≡ r
     → shut.declare_counted t c env ≡ r
 unfolding shut.declare_counted
 counted_is t c name z env r is number h = declared t c.name (int_or_zero c.number) name z env r is number h
 
+-- ---- what the expressions know
+
+pub own_is : (t : ℕ) (name : Name) (env : Env) (r : Answer (Unit {0})) → made.declare name (enumerator t None) env ≡ r → shut.declare_own t name env ≡ r
+unfolding shut.declare_own made.declare
+own_is t name env r h = h
+
+pub own_known : (types : Table) (count t : ℕ) → IsType types t → IsEntity types count (enumerator t None)
+own_known types count t known = (known, tt)
+
+pub ruleset own_laws = (own_is, own_known)
+
+pub known_is : (n at : ℕ) (name : Name) (env : Env) (r : Answer (Unit {0})) → made.declare name (enum_name n) env ≡ r → shut.name_known n (Some (at, name)) env ≡ r
+unfolding shut.name_known made.declare
+known_is n at name env r h = h
+
+pub ruleset known_laws = (known_is)
+
 -- a constant of an enumeration is an int
-an_int : (types : Table) (count t n : ℕ) (z : ℤ) → IsType types t → sort_of types t ≡ enumeral n → IsTrue (fits kind.Int z) → IsEntity types count (enumerator t z)
+an_int : (types : Table) (count t n : ℕ) (z : ℤ) → IsType types t → sort_of types t ≡ enumeral n → IsTrue (fits kind.Int z) → IsEntity types count (enumerator t (Some z))
 an_int types count t n z known is int = let P : Sort → Type 0 = λ s. IsTrue (fits_sort s z) in (known, subst P (sym is) int)
 
 pub enumerator_known : (types : Table) (count t n : ℕ) (z : ℤ) (number : Option ℤ) → IsType types t → sort_of types t ≡ enumeral n → z ≡ number_or_zero number
-    → IsTrue (fits kind.Int (number_or_zero number)) → IsEntity types count (enumerator t z)
+    → IsTrue (fits kind.Int (number_or_zero number)) → IsEntity types count (enumerator t (Some z))
 enumerator_known types count t n z number known is same int =
     let P : ℤ → Type 0 = λ w. IsTrue (fits kind.Int w) in an_int types count t n z known is (subst P (sym same) int)
 
@@ -59,7 +76,7 @@ int_fits number = by (fits kind.Int (number_or_zero number)) refl
     by true h = h
     by false h = refl
 
-pub counted_known : (types : Table) (count t n : ℕ) (z : ℤ) (number : Option ℤ) → IsType types t → sort_of types t ≡ enumeral n → z ≡ int_or_zero number → IsEntity types count (enumerator t z)
+pub counted_known : (types : Table) (count t n : ℕ) (z : ℤ) (number : Option ℤ) → IsType types t → sort_of types t ≡ enumeral n → z ≡ int_or_zero number → IsEntity types count (enumerator t (Some z))
 counted_known types count t n z number known is same =
     let P : ℤ → Type 0 = λ w. IsTrue (fits kind.Int w) in an_int types count t n z known is (subst P (sym same) (int_fits number))
 

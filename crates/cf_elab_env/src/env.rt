@@ -1,10 +1,11 @@
-ghost use Rattle.std.specs.Prelude.{◌≡◌, [], length, slice_get, All, IfOk, None, Some, bytes_eq};
+ghost use Rattle.std.specs.Prelude.{◌≡◌, [], length, slice_get, map, All, IfOk, None, Some, bytes_eq};
 ghost use Rattle.std.specs.List.{list_any};
 ghost use Rattle.cf_types.specs.Table.{IsTable};
 ghost use Rattle.cf_core.specs.FromUnit.{IsValid};
 ghost use Rattle.cf_elab.specs.File.{first_env, core_unit};
 ghost use Rattle.cf_elab.specs.Answer.{Made};
 ghost use Rattle.cf_elab_env.specs.Holds.{IsEnv, EnumGiven, IsEntry, IsType, HasNoClass};
+ghost use Rattle.cf_elab_env.specs.Seen.{entity_seen};
 ghost use Rattle.cf_elab_env.specs.Shut as shut;
 
 use crate::declared::Declared;
@@ -131,6 +132,13 @@ impl Env {
         ensures { result.now ≡ self.now.defines }
     {
         self.defines.as_slice()
+    }
+
+    /// What names stand for, in order of declaration.
+    pub fn entities(&self) -> &[Entity]
+        ensures { map entity_seen result.now ≡ self.now.entities }
+    {
+        self.entities.as_slice()
     }
 
     /// Whether the file's own declarations define the name.
