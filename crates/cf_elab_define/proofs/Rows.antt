@@ -1,5 +1,5 @@
 -- The rows that define objects are their steps, with the parts of the initialiser between them.
-use Rattle.std.proofs.Common.{◌≡◌, ℕ, ◌+◌, Bool, true, false, List, [], ◌∷◌, ◌++◌, length, Option, is_some, refl, sym, ◌∙◌}
+use Rattle.std.proofs.Common.{◌≡◌, ℕ, ◌+◌, List, [], ◌∷◌, ◌++◌, length, Option, is_some, refl, sym, ◌∙◌}
 use Rattle.cf_elab.specs.Answer.{Answer, Elab, Made, Refused, Passed, onward}
 use Rattle.cf_elab.specs.Env.{Env, Name, local_home, static_home}
 use Rattle.cf_elab.specs.Objects as objects

@@ -1,7 +1,6 @@
 -- The entities that a function's name may have.
-use Rattle.std.proofs.Common.{◌≡◌, ℕ, Bool, true, false, ◌||◌, nat_eq, List, Option, None, Some, slice_get, refl, sym, ap, ◌∙◌}
-use Rattle.std.specs.List.{list_any}
-use Rattle.cf_elab.specs.Answer.{Answer, Made, Refused, need}
+use Rattle.std.proofs.Common.{◌≡◌, ℕ, Bool, true, false, ◌||◌, List, Option, None, Some, slice_get, refl, sym, ap, ◌∙◌}
+use Rattle.cf_elab.specs.Answer.{Made, Refused, need}
 use Rattle.cf_elab.specs.Env.{Env, Entity, functions}
 use Rattle.cf_elab_functions.specs.Shut as shut
 

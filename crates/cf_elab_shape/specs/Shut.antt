@@ -1,11 +1,10 @@
 -- The rows of declarators, each under a name of its own that does not unfold. `Rattle.cf_elab_shape.proofs` says what each is.
-use Rattle.std.specs.Prelude.{ℕ, Bool, false, not, ◌||◌, List, [], ◌∷◌, Option, None, Some, is_some}
+use Rattle.std.specs.Prelude.{ℕ, Bool, not, ◌||◌, List, [], ◌∷◌, Option, None, Some, is_some}
 use Rattle.cf_types.specs.Table.{Table}
 use Rattle.cf_syntax.specs.declared.specifier.Pointer.{Pointer}
 use Rattle.cf_elab.specs.Answer.{Elab, ◌>>=◌, ◌>>◌, gives, done, need, known, each}
 use Rattle.cf_elab.specs.Declarator as declarator
 use Rattle.cf_elab.specs.Definition as definition
-use Rattle.cf_elab.specs.Env.{Env}
 use Rattle.cf_elab.specs.Made.{pointer_to, reference_to, array_of, const_if, function_type}
 use Rattle.cf_elab.specs.Operand.{Value, sort_of, is_array, is_function, is_void, is_reference}
 use Rattle.cf_elab.specs.Shape as shape

@@ -27,7 +27,7 @@ use Rattle.cf_elab_valid.proofs.Making.{IsType, intern-fine}
 use Rattle.cf_elab_valid.proofs.Named.{IsThere}
 use Rattle.cf_elab_valid.proofs.Parts.{evaluated-fine}
 use Rattle.cf_elab_valid.proofs.Trees.{tree-at}
-use Rattle.cf_elab_valid.proofs.Ways.{begins-get, begins-same, begins-last, homes-same, same-hand, entity-later, named-later, entry-later, fine-as, fine-before, made-fine, onward-fine, steps-through, within-before, When}
+use Rattle.cf_elab_valid.proofs.Ways.{begins-get, begins-same, begins-last, homes-same, same-hand, entity-later, named-later, entry-later, fine-as, made-fine, onward-fine, steps-through, within-before, When}
 use Rattle.cf_elab_valid_statements.proofs.Scoped.{entered, entered-classless, entered-holds, scoped-fine}
 use Rattle.cf_elab_valid_objects.proofs.Growing.{part-later}
 use Rattle.cf_elab_valid_objects.proofs.Naming.{named}

@@ -1,5 +1,5 @@
 -- Declarations of functions, without classes and default arguments (3.3, 8.3).
-use Rattle.std.proofs.Common.{◌≡◌, inl, inr, ℕ, zero, suc, ◌-◌, ◌<◌, Bool, true, false, not, ◌==◌, ◌&&◌, ◌||◌, nat_eq, is_some, nat_le, List, [], ◌∷◌, ◌++◌, length, Option, Some, None, slice_get, bytes_eq, IsTrue, refl, sym, ap, subst, ◌∙◌, true≢false, arith}
+use Rattle.std.proofs.Common.{◌≡◌, inl, inr, ℕ, zero, suc, ◌-◌, ◌<◌, Bool, true, false, not, ◌==◌, ◌&&◌, ◌||◌, is_some, nat_le, List, [], ◌∷◌, ◌++◌, length, Option, Some, None, slice_get, bytes_eq, IsTrue, refl, sym, ap, subst, ◌∙◌, true≢false, arith}
 use Rattle.std.specs.List.{list_any}
 use Rattle.cf_base.specs.declared.limit.Bound.TheVariants as bound_of
 use Rattle.cf_types.specs.declared.ty.Ty.{Ty}

@@ -28,7 +28,7 @@ use Rattle.cf_elab.specs.Objects.{Written, Reached, written_place, block_object,
 use Rattle.cf_elab_valid.specs.Answers.{Fine}
 use Rattle.cf_elab_valid.specs.Scene.{Scene, IsScene, tree, core, typed, scope_of, file_scope, OwnerThere, StaticFits, Steps, Within, Inside, Classless, Holds}
 use Rattle.cf_elab_valid.specs.Statements.{body_of}
-use Rattle.cf_elab_valid.proofs.FitRows.{needed, still-fine}
+use Rattle.cf_elab_valid.proofs.FitRows.{Still, needed, still-fine}
 use Rattle.cf_elab_valid.proofs.Moved.{moved-holds, moved-classless}
 use Rattle.cf_elab_valid.proofs.Nodes.{core-Blank, known-Blank}
 use Rattle.cf_elab_valid.proofs.Options.{some_is}

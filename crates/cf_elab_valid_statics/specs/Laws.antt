@@ -8,8 +8,8 @@ use Rattle.cf_elab.specs.Objects.{Says, Written, declare_linked, define_in_file,
 use Rattle.cf_elab_valid.specs.Answers.{Fine}
 use Rattle.cf_elab_valid.specs.Scene.{Scene, IsScene, tree, OwnerThere, Within, Inside, Classless, Holds}
 use Rattle.cf_elab_valid_objects.specs.Declared.{AllReached, AreInitial}
-use Rattle.cf_elab_valid_objects.specs.Starts.{NoVoidElements, MaybeFits}
-use Rattle.cf_elab_valid_statics.specs.Fixed.{IsFixed, AreParts}
+use Rattle.cf_elab_valid_objects.specs.Starts.{NoVoidElements}
+use Rattle.cf_elab_valid_statics.specs.Fixed.{AreParts}
 use Rattle.cf_elab_valid_statics.specs.Linked.{StandsFor}
 
 pub record StaticsFit (s : Scene) : Type 0 where
