@@ -40,12 +40,12 @@ module _ (types : Table) (fs : List FunctionEntry) (t i : ℕ) (ns : List ℕ) (
 
 -- ---- the functions of the name alone
 
-module _ (types : Table) (all : List FunctionEntry) (name : Name) (ps : List ℕ) where
-  -- as the definition has it
-  abbrev entry_from : ℕ → List FunctionEntry → Option ℕ
-  entry_from n [] = None
-  entry_from n (f ∷ fs) = if bytes_eq f.name name && same_params types ps f.type then Some n else entry_from (n + 1) fs
+-- as the definition has it
+abbrev entry_from : Table → Name → List ℕ → ℕ → List FunctionEntry → Option ℕ
+entry_from types name ps n [] = None
+entry_from types name ps n (f ∷ fs) = if bytes_eq f.name name && same_params types ps f.type then Some n else entry_from types name ps (n + 1) fs
 
+module _ (types : Table) (all : List FunctionEntry) (name : Name) (ps : List ℕ) where
   by_name : (n : ℕ) (f : FunctionEntry) (r : List (Name × ℕ)) → slice_get all n ≡ Some f → (b : Bool)
       → by_params types all ps (map (λ (x : Name × ℕ). x.1) (cond b ((f.name, n) ∷ r) r))
       ≡ (if b && same_params types ps f.type then Some n else by_params types all ps (map (λ (x : Name × ℕ). x.1) r))
@@ -53,7 +53,7 @@ module _ (types : Table) (all : List FunctionEntry) (name : Name) (ps : List ℕ
   by_name n f r has false = refl
 
   from_is : (n : ℕ) (fs : List FunctionEntry) → ((i : ℕ) → slice_get all (n + i) ≡ slice_get fs i)
-      → by_params types all ps (map (λ (x : Name × ℕ). x.1) (filter (λ (x : Name × ℕ). pointwise nat_eq name x.0) (numbered n fs))) ≡ entry_from n fs
+      → by_params types all ps (map (λ (x : Name × ℕ). x.1) (filter (λ (x : Name × ℕ). pointwise nat_eq name x.0) (numbered n fs))) ≡ entry_from types name ps n fs
   from_is n [] at = refl
   from_is n (f ∷ fs) at =
       let here : n ≡ n + 0 = omega arith in
