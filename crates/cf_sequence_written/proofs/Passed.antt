@@ -118,11 +118,11 @@ module _ (tables : Tables) (signature : MemberRef → Name) where
     none_pass : PassesAll [] core.none
     more_pass : (s : Step) (c : Core) (ss : List Step) (cs : Cores) → PassesAs s c → PassesAll ss cs → PassesAll (s ∷ ss) (core.more c cs)
 
-  all-add : (ss : List Step) (cs : Cores) → PassesAll ss cs → AllStated cs → Adds (all_open ss) (declared_all cs)
-  all-add [] core.none none_pass ok = record { new = []; adds = λ xs. sym (append-nil xs); ends = refl }
-  all-add (s ∷ ss) (core.more c cs) (more_pass s c ss cs one all) ok =
+  all-add : {ss : List Step} {cs : Cores} → PassesAll ss cs → AllStated cs → Adds (all_open ss) (declared_all cs)
+  all-add none_pass ok = record { new = []; adds = λ xs. sym (append-nil xs); ends = refl }
+  all-add (more_pass s c ss cs one all) ok =
       let first = one.opens ok.0 in
-      let rest = all-add ss cs all ok.1 in
+      let rest = all-add all ok.1 in
       record {
         new = first.new ++ rest.new;
         adds = λ xs. ap (all_open ss) (first.adds xs) ∙ rest.adds (xs ++ first.new) ∙ append_assoc xs first.new rest.new;
@@ -152,36 +152,36 @@ module _ (tables : Tables) (signature : MemberRef → Name) where
   is-statement c ok e = sym (ap (λ b. b || is_statement ok.below c) e) ∙ ok.stated
 
   -- one label or statement, and those behind it
-  one-goes : (o : Option Plain) (c : Core) → Marks o c → IsStated c → (cs : Cores) (xs zs : List Open) → ends tables zs ≡ declared c ++ ends tables xs → (b d : Body)
+  one-goes : {o : Option Plain} {c : Core} → Marks o c → IsStated c → (cs : Cores) (xs zs : List Open) → ends tables zs ≡ declared c ++ ends tables xs → (b d : Body)
       → Goes tables signature (λ k rest. passing_before (ends tables zs) cs rest) 0 [] (labelled o xs b) d → Goes tables signature (λ k rest. passing_before (ends tables xs) (core.more c cs) rest) 0 [] b d
-  one-goes None c (no_mark c e) ok cs xs zs same b d rest_goes =
+  one-goes (no_mark c e) ok cs xs zs same b d rest_goes =
       goes-as tables signature rest_goes (λ rest. ap (λ ls. passing_before ls cs rest) same ∙ sym (before-past ok.below c (is-statement c ok e) (ends tables xs) cs rest)) refl
-  one-goes (Some l) c (a_mark l c label e) ok cs xs zs same b d rest_goes =
+  one-goes (a_mark l c label e) ok cs xs zs same b d rest_goes =
       goes-as tables signature (goes-rest tables signature (goes-passed_at l (mark label) xs b e) rest_goes)
       (λ rest.
       ap (λ ls. more (mark label) (made (reverse (ends tables xs)) (more leave (passing_before ls cs rest)))) (same ∙ ap (λ ls. ls ++ ends tables xs) (label-declares c label))
       ∙ sym (before-label c label (ends tables xs) cs rest)) refl
 
-  goes-passing : (ss : List Step) (cs : Cores) → PassesAll ss cs → AllStated cs → (xs : List Open) (b : Body)
+  goes-passing : {ss : List Step} {cs : Cores} → PassesAll ss cs → AllStated cs → (xs : List Open) (b : Body)
       → Goes tables signature (λ k rest. passing_before (ends tables xs) cs rest) 0 [] b (steps.passing ss xs b)
-  goes-passing [] core.none none_pass ok xs b = goes-none tables signature b
-  goes-passing (s ∷ ss) (core.more c cs) (more_pass s c ss cs one all) ok xs b =
+  goes-passing none_pass ok xs b = goes-none tables signature b
+  goes-passing (more_pass s c ss cs one all) ok xs b =
       let first = one.opens ok.0 in
-      one-goes s.label c one.marks ok.0 cs xs (s.opens xs)
+      one-goes one.marks ok.0 cs xs (s.opens xs)
       (ap (ends tables) (first.adds xs) ∙ ends-more tables xs first.new ∙ ap (λ l. l ++ ends tables xs) first.ends) b _
-      (goes-passing ss cs all ok.1 (s.opens xs) (labelled s.label xs b))
+      (goes-passing all ok.1 (s.opens xs) (labelled s.label xs b))
 
   -- Whether one passes a local.
 
-  marked : (o : Option Plain) (c : Core) → Marks o c → is_some o ≡ is_label c
-  marked None c (no_mark c e) = sym e
-  marked (Some l) c (a_mark l c (a_case y e) same) = sym (ap is_label e)
-  marked (Some l) c (a_mark l c (the_default e) same) = sym (ap is_label e)
+  marked : {o : Option Plain} {c : Core} → Marks o c → is_some o ≡ is_label c
+  marked (no_mark c e) = sym e
+  marked (a_mark l c (a_case y e) same) = sym (ap is_label e)
+  marked (a_mark l c (the_default e) same) = sym (ap is_label e)
 
   -- what declares a local is no label
-  declares-unmarked : (o : Option Plain) (c : Core) → Marks o c → (y : Open) (ys : List Open) → ends tables (y ∷ ys) ≡ declared c → is_label c ≡ false
-  declares-unmarked None c (no_mark c e) y ys same = e
-  declares-unmarked (Some l) c (a_mark l c label e) y ys same = let none : (y ∷ ys) ≡ [] = no-opens tables (y ∷ ys) (same ∙ label-declares c label) in absurd (cc)
+  declares-unmarked : {o : Option Plain} {c : Core} → Marks o c → (y : Open) (ys : List Open) → ends tables (y ∷ ys) ≡ declared c → is_label c ≡ false
+  declares-unmarked (no_mark c e) y ys same = e
+  declares-unmarked (a_mark l c label e) y ys same = let none : (y ∷ ys) ≡ [] = no-opens tables (y ∷ ys) (same ∙ label-declares c label) in absurd (cc)
 
   not-empty : (xs : List Local) (x : Local) (h p : Bool) → (elim (xs ++ x ∷ []) as (λ _. Bool) [ [] ↦ p | x ∷ xs ↦ h || p ]) ≡ (h || p)
   not-empty [] x h p = refl
@@ -194,7 +194,7 @@ module _ (tables : Tables) (signature : MemberRef → Name) where
       let q : Bool = nat_lt 0 (length xs) in
       let h : Bool = has_label cs in
       let p : Bool = passes_local cs in
-      ap (λ l. (b || (l && q)) || ((nat_lt 0 (length (xs ++ [])) && h) || p)) (marked o c marks)
+      ap (λ l. (b || (l && q)) || ((nat_lt 0 (length (xs ++ [])) && h) || p)) (marked marks)
       ∙ ap (λ ys. (b || (is_label c && q)) || ((nat_lt 0 (length ys) && h) || p)) (append-nil xs)
       ∙ same-passes b (is_label c) q h p
       ∙ ap (λ (ls : List Local). b || ((q && (is_label c || h)) || (elim ls as (λ _. Bool) [ [] ↦ p | x ∷ xs ↦ h || p ]))) same
@@ -202,21 +202,21 @@ module _ (tables : Tables) (signature : MemberRef → Name) where
       let q : Bool = nat_lt 0 (length xs) in
       let h : Bool = has_label cs in
       let p : Bool = passes_local cs in
-      let none : is_label c ≡ false = declares-unmarked o c marks y ys same in
-      ap (λ l. (b || (l && q)) || ((nat_lt 0 (length (xs ++ y ∷ ys)) && h) || p)) (marked o c marks ∙ none)
+      let none : is_label c ≡ false = declares-unmarked marks y ys same in
+      ap (λ l. (b || (l && q)) || ((nat_lt 0 (length (xs ++ y ∷ ys)) && h) || p)) (marked marks ∙ none)
       ∙ ap (λ n. (b || (false && q)) || ((n && h) || p)) (some-more xs y ys)
       ∙ more-passes b q h p
       ∙ ap (λ l. b || ((q && (l || h)) || (h || p))) (sym none)
       ∙ ap (λ r. b || ((q && (is_label c || h)) || r))
       (sym (not-empty (ends tables ys) (record { number = y.number; type = type_of tables y.ty }) h p) ∙ ap (λ (ls : List Local). elim ls as (λ _. Bool) [ [] ↦ p | x ∷ xs ↦ h || p ]) same)
 
-  passes-is : (ss : List Step) (cs : Cores) → PassesAll ss cs → AllStated cs → (b : Bool) (xs : List Open)
+  passes-is : {ss : List Step} {cs : Cores} → PassesAll ss cs → AllStated cs → (b : Bool) (xs : List Open)
       → passes b ss xs ≡ (b || ((nat_lt 0 (length xs) && has_label cs) || passes_local cs))
-  passes-is [] core.none none_pass ok b xs = no-passes b (nat_lt 0 (length xs))
-  passes-is (s ∷ ss) (core.more c cs) (more_pass s c ss cs one all) ok b xs =
+  passes-is none_pass ok b xs = no-passes b (nat_lt 0 (length xs))
+  passes-is (more_pass s c ss cs one all) ok b xs =
       let first = one.opens ok.0 in
       let so_far : Bool = b || (is_some s.label && nat_lt 0 (length xs)) in
-      passes-is ss cs all ok.1 so_far (s.opens xs)
+      passes-is all ok.1 so_far (s.opens xs)
       ∙ ap (λ ys. so_far || ((nat_lt 0 (length ys) && has_label cs) || passes_local cs)) (first.adds xs)
       ∙ one-passes s.label c one.marks cs first.new first.ends b xs
 
@@ -224,13 +224,13 @@ module _ (tables : Tables) (signature : MemberRef → Name) where
 
   pub goes-selected : (n : ℕ) (ss : List Step) (cs : Cores) → PassesAll ss cs → AllStated cs → (b : Body)
       → Goes tables signature (λ k rest. passed n cs rest) 0 [] b (selected n ss b)
-  goes-selected n ss cs all ok b = by (passes_local cs) (passes false ss []) (passes-is ss cs all ok false [])
+  goes-selected n ss cs all ok b = by (passes_local cs) (passes false ss []) (passes-is all ok false [])
     where
       c : Body
       c = steps.passing ss [] (begun b)
 
       within : Goes tables signature (λ k rest. passing_before [] cs rest) 0 [] (begun b) c
-      within = goes-passing ss cs all ok [] (begun b)
+      within = goes-passing all ok [] (begun b)
 
       next-within : Writing.next (Body.writing c) ≡ Writing.next (Body.writing b)
       next-within = let one = Goes.next within in let two = next-begun tables signature b in omega (arith, one, two)
@@ -317,7 +317,7 @@ module _ (tables : Tables) (signature : MemberRef → Name) where
           ends = ap (λ ls. record { number = i; type = type_of tables t } ∷ ls) (sym (held-initial (of_node e.0) good));
         };
   }
-  layer (Core-F.Sequence at es) = record { marks = no_mark _ refl; opens = λ ok. all-add _ _ (row es) (stated-all ok.below (cores_of es) ok.stated) }
+  layer (Core-F.Sequence at es) = record { marks = no_mark _ refl; opens = λ ok. all-add (row es) (stated-all ok.below (cores_of es) ok.stated) }
   layer (Core-F.Case at z) = record { marks = a_mark (code.Case z) (core.case_label z) (a_case z refl) (of-Case tables signature z); opens = λ ok. none-added }
   layer (Core-F.Default at) = record { marks = a_mark code.Default core.default_label (the_default refl) (of-Default tables signature); opens = λ ok. none-added }
   layer y = record { marks = no_mark _ refl; opens = λ ok. none-added }
