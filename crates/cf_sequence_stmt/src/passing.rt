@@ -29,12 +29,12 @@ fn passing(unit: &CoreUnit, all: &[Core], b: &mut Body) -> Result<bool, Memory>
     ensures written { OnOk result (b.new ≡ spec.passing (map (step unit.now.types) all.now) [] b.old) }
     ensures passes { IfOk result (λ is. is ≡ spec.passes false (map (step unit.now.types) all.now) []) }
 {
-    let mut open = Items::new(b.writing.alloc);
+    let mut locals = Items::new(b.writing.alloc);
     let mut found = false;
     for s in all {
-        found = found || (is_label(unit, s) && open.len() > 0);
-        labelled(unit, s, open.as_slice(), b)?;
-        declares(unit, s, &mut open)?;
+        found = found || (is_label(unit, s) && locals.len() > 0);
+        labelled(unit, s, locals.as_slice(), b)?;
+        declares(unit, s, &mut locals)?;
     }
     Ok(found)
 }
@@ -47,31 +47,31 @@ fn is_label(unit: &CoreUnit, s: &Core) -> bool
 }
 
 /// Writes a label behind which these locals are there.
-fn labelled(unit: &CoreUnit, s: &Core, open: &[Open], b: &mut Body) -> Result<(), Memory>
-    ensures { OnOk result (b.new ≡ spec.labelled (step unit.now.types s.now).label open.now b.old) }
+fn labelled(unit: &CoreUnit, s: &Core, locals: &[Open], b: &mut Body) -> Result<(), Memory>
+    ensures { OnOk result (b.new ≡ spec.labelled (step unit.now.types s.now).label locals.now b.old) }
 {
     match s {
-        Core::Case { value, .. } => pass_at(Plain::Case { value: *value }, open, b),
-        Core::Default { .. } => pass_at(Plain::Default, open, b),
+        Core::Case { value, .. } => pass_at(Plain::Case { value: *value }, locals, b),
+        Core::Default { .. } => pass_at(Plain::Default, locals, b),
         _ => Ok(()),
     }
 }
 
 /// Writes a label, the declarations of these locals, and the end of the switch.
 #[tactic(auto, unfolding(crate::specs::Bodies::passed_at))]
-fn pass_at(label: Plain, open: &[Open], b: &mut Body) -> Result<(), Memory>
-    ensures { OnOk result (b.new ≡ passed_at label open.now b.old) }
+fn pass_at(label: Plain, locals: &[Open], b: &mut Body) -> Result<(), Memory>
+    ensures { OnOk result (b.new ≡ passed_at label locals.now b.old) }
 {
     b.put(label)?;
-    declare_all(open, &mut b.writing)?;
+    declare_all(locals, &mut b.writing)?;
     b.put(Plain::Break)
 }
 
 /// Writes the declarations of these locals, the oldest first.
-fn declare_all(open: &[Open], w: &mut Writing) -> Result<(), Memory>
-    ensures { OnOk result (w.new ≡ there open.now w.old) }
+fn declare_all(locals: &[Open], w: &mut Writing) -> Result<(), Memory>
+    ensures { OnOk result (w.new ≡ there locals.now w.old) }
 {
-    match open.split_first() {
+    match locals.split_first() {
         None => Ok(()),
         Some((oldest, newer)) => {
             w.act(Action::Declare {
@@ -85,26 +85,26 @@ fn declare_all(open: &[Open], w: &mut Writing) -> Result<(), Memory>
 
 /// Adds the locals that a statement declares in the scope at hand.
 #[cycle(declares)]
-fn declares(unit: &CoreUnit, s: &Core, open: &mut Items<Open>) -> Result<(), Memory>
-    ensures { OnOk result (open.new ≡ (step unit.now.types s.now).opens open.old) }
+fn declares(unit: &CoreUnit, s: &Core, locals: &mut Items<Open>) -> Result<(), Memory>
+    ensures { OnOk result (locals.new ≡ (step unit.now.types s.now).opens locals.old) }
 {
     match s {
-        Core::Declare { local, ty, .. } => open.push(Open {
+        Core::Declare { local, ty, .. } => locals.push(Open {
             number: *local,
             ty: *ty,
         }),
-        Core::Sequence { statements, .. } => all_declare(unit, statements.as_slice(), open),
+        Core::Sequence { statements, .. } => all_declare(unit, statements.as_slice(), locals),
         _ => Ok(()),
     }
 }
 
 /// Adds those that statements declare, in order.
 #[cycle(declares)]
-fn all_declare(unit: &CoreUnit, all: &[Core], open: &mut Items<Open>) -> Result<(), Memory>
-    ensures { OnOk result (open.new ≡ spec.all_open (map (step unit.now.types) all.now) open.old) }
+fn all_declare(unit: &CoreUnit, all: &[Core], locals: &mut Items<Open>) -> Result<(), Memory>
+    ensures { OnOk result (locals.new ≡ spec.all_open (map (step unit.now.types) all.now) locals.old) }
 {
     for s in all {
-        declares(unit, s, open)?;
+        declares(unit, s, locals)?;
     }
     Ok(())
 }

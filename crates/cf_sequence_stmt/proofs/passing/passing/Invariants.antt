@@ -5,6 +5,6 @@ use Rattle.cf_sequence_stmt.proofs.passing.passing.Given as goal
 
 abbrev pub invariant-loop-s : goal.invariant-loop-s
 invariant-loop-s l = record {
-  written : spec.passing (map (step l.unit.types) (drop l.s-index l.all)) l.open l.b ≡ spec.passing (map (step l.unit.types) l.all) [] l.initial.b;
-  passes : passes l.found (map (step l.unit.types) (drop l.s-index l.all)) l.open ≡ passes false (map (step l.unit.types) l.all) [];
+  written : spec.passing (map (step l.unit.types) (drop l.s-index l.all)) l.locals l.b ≡ spec.passing (map (step l.unit.types) l.all) [] l.initial.b;
+  passes : passes l.found (map (step l.unit.types) (drop l.s-index l.all)) l.locals ≡ passes false (map (step l.unit.types) l.all) [];
 }
