@@ -1,3 +1,2 @@
 mod Back
 mod Fits
-mod Least

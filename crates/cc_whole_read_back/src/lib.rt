@@ -13,7 +13,6 @@ ghost use Rattle.cc_whole_read.specs.declared.error.ReadErr.{ReadErr};
 ghost use Rattle.cc_whole_read.specs.Read.{Within, IsRead};
 ghost use Rattle.cc_whole_read_back.specs.Back.{IsBack};
 
-use cc_whole_fitting::numbers_fit_as_their_items;
 use cc_whole_printed::{printed_text_is_its_text, valid_units_are_written};
 use cc_whole_read::text_of_a_valid_unit_is_read;
 
@@ -24,17 +23,16 @@ pub fn constants_of_valid_units_fit()
     valid_units_are_written();
 }
 
-/// The law that a text of a valid unit, within the limits, is read as that unit. It does nothing.
+/// The law that a text of a valid unit, within the limits, is read as that unit, unless memory fails. It does nothing.
 pub fn texts_of_valid_units_are_read_back()
     ensures { (text : List ℕ) (unit : CUnit) (answer : Result CUnit ReadErr) → Text text unit → valid_unit unit ≡ true → Within text → IsRead text answer
         → IsBack unit answer }
 {
     text_of_a_valid_unit_is_read();
     constants_of_valid_units_fit();
-    numbers_fit_as_their_items();
 }
 
-/// The law that the text which is printed for a valid unit, within the limits, is read as that unit. It does nothing.
+/// The law that the text which is printed for a valid unit, within the limits, is read as that unit, unless memory fails. It does nothing.
 pub fn printed_units_are_read_back()
     ensures { (unit : CUnit) (answer : Result CUnit ReadErr) → valid_unit unit ≡ true → Within (unit_text unit) → IsRead (unit_text unit) answer
         → IsBack unit answer }
