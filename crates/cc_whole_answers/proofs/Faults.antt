@@ -30,7 +30,7 @@ bare_rest {bs} {t} b = let f = begun b in no_blank bs (t, f.len) f.is
 
 module _ (text : List ℕ) where
   -- the faults of one unit
-  same_fault : (r q m n : ℕ) (x : Invalid text r m) (y : Invalid text q n) → broken r x.number ≡ broken q y.number
+  same_fault : (r q m n : ℕ) (x : Invalid text r m) (y : Invalid text q n) → broken {A = Unit {0}} r x.number ≡ broken {A = Unit {0}} q y.number
   same_fault r q m n x y =
       sym x.fault ∙ (ap (λ (u : CUnit). first_fault (items_of u.items)) (one_unit text x.unit y.unit x.is y.is) ∙ y.fault)
 

@@ -38,12 +38,9 @@ module _ (text : List ℕ) (fits : (unit : CUnit) → valid_unit unit ≡ true �
       ap (λ (x : ℕ). Err (error.Invalid x m)) (one_rule text r q m n a.fault b.fault)
       ∙ ap (λ (x : ℕ). Err (error.Invalid q x)) (one_at text flat.tokens flat.has r q m n a.fault b.fault)
 
-  abbrev Told : Result CUnit ReadErr → Type 0
-  Told r = IsRead text r
-
   -- an answer that is no want of memory
-  pub one_answer : (a b : Result CUnit ReadErr) → Told a → Told b → is_memory a ≡ false → is_memory b ≡ false → a ≡ b
-  one_answer (Ok u) (Ok v) r s e f = ap Ok (one_unit text u v r.is s.is)
+  pub one_answer : (a b : Result CUnit ReadErr) → IsRead text a → IsRead text b → is_memory a ≡ false → is_memory b ≡ false → a ≡ b
+  one_answer (Ok u) (Ok v) r s e f = ap (λ (x : CUnit). Ok x) (one_unit text u v r.is s.is)
   one_answer (Ok u) (Err (error.NotC at)) r s e f = absurd (is_c text u r.is at s)
   one_answer (Ok u) (Err (error.Invalid rule at)) r s e f = absurd (valid_breaks u rule at r s)
   one_answer (Ok u) (Err (error.Limit l)) r s e f = absurd (not_both text l s r.within)

@@ -113,11 +113,14 @@ module _ (keep : Keep) where
 
   -- ---- parts and wholes
 
-  stays : (b : Before) (ts : List Token) → Ends keep b (exactly b) ts ts
+  pub stays : (b : Before) (ts : List Token) → Ends keep b (exactly b) ts ts
   stays b ts = record { state = b; run = nothing b ts; at = refl }
 
-  pub honest_pure : {A : Type 0} {b : Before} {e : End} (a : A) → At e b → Honest keep b e (pure a)
-  honest_pure {b = b} a at = record { holds = λ ts. record { state = b; run = nothing b ts; at = at } }
+  pub honest_pure : {A : Type 0} {b : Before} (a : A) → Honest keep b (exactly b) (pure a)
+  honest_pure {b = b} a = record { holds = λ ts. stays b ts }
+
+  pub honest_any : {A : Type 0} {b : Before} (a : A) → Honest keep b anything (pure a)
+  honest_any {b = b} a = record { holds = λ ts. record { state = b; run = nothing b ts; at = tt } }
 
   then_on : {A B : Type 0} (b : Before) (e g : End) (f : A → Parse B) → ((a : A) (s : Before) → At e s → Honest keep s g (f a)) → (ts : List Token)
       (r : Result (A × List Token) Stop) → Honestly keep b e ts r → Honestly keep b g ts (and_then r f)
@@ -228,11 +231,8 @@ module _ (keep : Keep) where
 
   -- ---- single tokens
 
-  not_c : (A : Type 0) (b : Before) (e : End) (ts : List Token) (n : ℕ) → Honestly {A = A} keep b e ts (Err (stop.NotC n))
-  not_c A b e ts n = tt
-
   expect_on : (b : Before) (m : Mark) (ts : List Token) (c : Bool) → sees m ts ≡ c
-      → Honestly keep b (exactly (behind_mark m b)) ts (if c then Ok (tt {0}, behind ts) else Err (stop.NotC (length ts)))
+      → Honestly {A = Unit {0}} keep b (exactly (behind_mark m b)) ts (if c then Ok (tt, behind ts) else Err (stop.NotC (length ts)))
   expect_on b m ts true is = record { state = behind_mark m b; run = taken (token.Mark m) b ts (λ strict. refl) (sees_is m ts is); at = refl }
   expect_on b m ts false is = tt
 
@@ -270,7 +270,7 @@ module _ (keep : Keep) where
   zero_fits ds is = subst (λ l. fits_constant (int.Signed (pos (digits_value 10 l))) ≡ true) (sym (same_bytes ds (48 ∷ []) is)) refl
 
   zero_at : (ds : List ℕ) (ts : List Token) (c : Bool) → bytes_eq ds (48 ∷ []) ≡ c
-      → Honestly keep before.Other (exactly before.Operand) (token.Signed ds ∷ ts) (if c then Ok (tt {0}, ts) else Err (stop.NotC (suc (length ts))))
+      → Honestly {A = Unit {0}} keep before.Other (exactly before.Operand) (token.Signed ds ∷ ts) (if c then Ok (tt, ts) else Err (stop.NotC (suc (length ts))))
   zero_at ds ts true is = one_taken (token.Signed ds) before.Other ts (λ strict. zero_fits ds is)
   zero_at ds ts false is = tt
 

@@ -28,7 +28,7 @@ use Rattle.cc_whole_read_expr.specs.ReadExpr.{prefixed, casted, address, typed_o
 use Rattle.cc_whole_read_body.specs.ReadBody as bodies
 use Rattle.cc_whole_read_body.specs.ReadBody.{local_line, called_of, right_call, value, right_side, store_to, store, call, effect, block, leaves, continues, condition, some_body, otherwise, branches, conditional, forever, label, default_label, inner, switch_item, cases, switch, gives, returned, plain, leaving, statement_by, body_by, one_statement, body}
 use Rattle.cc_whole_read_items.specs.ReadItems.{static_word, parameter_named, parameter, some_parameters, parameters, prototype_of, prototype_named, prototype_behind, prototype, some_function, no_function, pair_function, pair_of, pair, some_pairs, string, pairs, values, start, prototype_line, extern_line, function_of, function, variable_of, variable_behind, variable, definition, declaration, unmarked, marked, one_item, items, whole}
-use Rattle.cc_whole_read_items.proofs.Honest.{Runs, End, exactly, anything, Ends, Honest, Honestly, nothing, stays, taken, moved_on, then_exact, loose, honest_pure, honest_then, honest_after, honest_made, honest_if, honest_seen, honest_next, honest_either, honest_all, honest_separated, honest_expect, honest_name, honest_text, honest_nought, honest_end, honest_constant}
+use Rattle.cc_whole_read_items.proofs.Honest.{Runs, End, exactly, anything, Ends, Honest, Honestly, nothing, stays, taken, moved_on, then_exact, loose, honest_pure, honest_any, honest_then, honest_after, honest_made, honest_if, honest_seen, honest_next, honest_either, honest_all, honest_separated, honest_expect, honest_name, honest_text, honest_nought, honest_end, honest_constant}
 
 -- ---- operators behind an operand
 
@@ -89,15 +89,15 @@ module _ (keep : Keep) where
 
   honest_char : Honest keep before.Word (exactly before.Word) char_type
   unfolding char_type
-  honest_char = honest_next keep mark.Star _ _ (honest_pure keep _ refl) (honest_pure keep _ refl)
+  honest_char = honest_next keep mark.Star _ _ (honest_pure keep _) (honest_pure keep _)
 
   honest_other : {b : Before} → Honest keep b (exactly before.Word) other_type
   unfolding other_type unsigned_type function_pointer
   honest_other =
       honest_next keep mark.Unsigned unsigned_type _
-      (honest_next keep mark.Char _ _ (honest_pure keep _ refl) (honest_next keep mark.Short _ _ (honest_pure keep _ refl) (honest_pure keep _ refl)))
-      (honest_next keep mark.Short _ _ (honest_pure keep _ refl) (honest_next keep mark.Int _ function_pointer (honest_pure keep _ refl)
-      (sign_then mark.FunctionPointer _ (honest_pure keep _ refl))))
+      (honest_next keep mark.Char _ _ (honest_pure keep _) (honest_next keep mark.Short _ _ (honest_pure keep _) (honest_pure keep _)))
+      (honest_next keep mark.Short _ _ (honest_pure keep _) (honest_next keep mark.Int _ function_pointer (honest_pure keep _)
+      (sign_then mark.FunctionPointer _ (honest_pure keep _))))
 
   honest_type : {b : Before} → Honest keep b (exactly before.Word) type_name
   unfolding type_name
@@ -105,35 +105,35 @@ module _ (keep : Keep) where
 
   honest_result : {b : Before} → Honest keep b anything result_type
   unfolding result_type some_type
-  honest_result = honest_next keep mark.Void _ some_type (honest_pure keep _ tt) (honest_made keep Some type_name (loose keep honest_type))
+  honest_result = honest_next keep mark.Void _ some_type (honest_any keep _) (honest_made keep Some type_name (loose keep honest_type))
 
   honest_pointed_type : {b : Before} → Honest keep b anything pointed_type
   unfolding pointed_type pointed_char pointed_other
   honest_pointed_type =
       honest_next keep mark.Char pointed_char pointed_other
-      (sign_then mark.Star _ (honest_next keep mark.Star _ _ (honest_pure keep _ tt) (honest_pure keep _ tt)))
-      (honest_then keep other_type _ honest_other (λ t. sign_then mark.Star _ (honest_pure keep t tt)))
+      (sign_then mark.Star _ (honest_next keep mark.Star _ _ (honest_any keep _) (honest_any keep _)))
+      (honest_then keep other_type _ honest_other (λ t. sign_then mark.Star _ (honest_any keep t)))
 
   honest_types : Honest keep before.Other anything types.types
   unfolding types.types some_types
-  honest_types = honest_next keep mark.Void _ some_types (honest_pure keep _ tt) (loose keep (honest_separated keep type_name honest_type))
+  honest_types = honest_next keep mark.Void _ some_types (honest_any keep _) (loose keep (honest_separated keep type_name honest_type))
 
   honest_signature : {b : Before} → Honest keep b anything signature
   unfolding signature parameters_of
   honest_signature =
       sign_then mark.LeftParen _ (honest_after keep result_type _ honest_result (λ r s. sign_then mark.LeftParen _ (sign_then mark.Star _ (sign_then mark.RightParen _ (sign_then mark.LeftParen _
-      (honest_after keep types.types _ honest_types (λ ts t. sign_then mark.RightParen _ (sign_then mark.RightParen _ (honest_pure keep _ tt)))))))))
+      (honest_after keep types.types _ honest_types (λ ts t. sign_then mark.RightParen _ (sign_then mark.RightParen _ (honest_any keep _)))))))))
 
   -- behind `[`
   honest_size : Honest keep before.Other anything (size keep)
   unfolding size
-  honest_size = honest_then keep (constant keep) _ (honest_constant keep) (λ c. sign_then mark.RightBracket _ (honest_pure keep c tt))
+  honest_size = honest_then keep (constant keep) _ (honest_constant keep) (λ c. sign_then mark.RightBracket _ (honest_any keep c))
 
   honest_local : {b : Before} → Honest keep b anything (one_local keep)
   unfolding one_local local_named local_of ints
   honest_local =
       honest_then keep type_name _ honest_type (λ t. word_then _ (λ word. bracket_then (is_int t) (ints keep word) _
-      (honest_made keep _ (size keep) honest_size) (honest_pure keep _ tt)))
+      (honest_made keep _ (size keep) honest_size) (honest_any keep _)))
 
   honest_variable : {b : Before} → Honest keep b anything (one_variable keep)
   unfolding one_variable types.pairs variable_typed variable_named types.variable_of array
@@ -141,7 +141,7 @@ module _ (keep : Keep) where
       honest_next keep mark.Struct (types.pairs keep) (variable_typed keep)
       (sign_then mark.Pair _ (word_then _ (λ word. sign_then mark.LeftBracket _ (honest_made keep _ (size keep) honest_size))))
       (honest_then keep type_name _ honest_type (λ t. word_then _ (λ word. bracket_then _ (array keep t word) _
-      (honest_made keep _ (size keep) honest_size) (honest_pure keep _ tt))))
+      (honest_made keep _ (size keep) honest_size) (honest_any keep _))))
 
   -- ---- expressions: no operand stands before them, and one behind
 
@@ -151,14 +151,14 @@ module _ (keep : Keep) where
   honest_leaf : Operates (leaf keep)
   unfolding leaf expr.variable number
   honest_leaf =
-      honest_if keep _ expr.variable (number keep) (word_then _ (λ word. honest_pure keep _ refl)) (honest_made keep tree.Constant (constant keep) (honest_constant keep))
+      honest_if keep _ expr.variable (number keep) (word_then _ (λ word. honest_pure keep _)) (honest_made keep tree.Constant (constant keep) (honest_constant keep))
 
   -- behind `*`
   honest_pointed : {b : Before} (ex : Parse CExpression) → Operates ex → Honest keep b (exactly before.Operand) (pointed ex)
   unfolding pointed place_at
   honest_pointed ex dx =
       sign_then mark.LeftParen _ (honest_after keep pointed_type _ honest_pointed_type (λ t s. sign_then mark.RightParen _ (sign_then mark.LeftParen _
-      (honest_then keep ex _ dx (λ e. sign_then mark.RightParen _ (honest_pure keep _ refl))))))
+      (honest_then keep ex _ dx (λ e. sign_then mark.RightParen _ (honest_pure keep _))))))
 
   module _ (ex un : Parse CExpression) (dx : Operates ex) (du : Operates un) where
     honest_prefixed : (o : Prefix) → Operates (prefixed un o)
@@ -169,13 +169,13 @@ module _ (keep : Keep) where
     unfolding typed_operand address casted
     honest_typed t =
         honest_seen keep (token.Mark mark.And) (λ ts. is_pointer t && sees mark.And ts) address (casted un t) refl
-        (λ ts is. sees_is mark.And ts (and_parts (is_pointer t) (sees mark.And ts) is).1) (word_then _ (λ word. honest_pure keep _ refl)) (honest_made keep (tree.Cast t) un du)
+        (λ ts is. sees_is mark.And ts (and_parts (is_pointer t) (sees mark.And ts) is).1) (word_then _ (λ word. honest_pure keep _)) (honest_made keep (tree.Cast t) un du)
 
     honest_brackets : Operates (brackets ex un)
     unfolding brackets cast enclosed
     honest_brackets =
         honest_if keep _ (cast un) (enclosed ex) (honest_then keep type_name _ honest_type (λ t. sign_then mark.RightParen _ (honest_typed t)))
-        (honest_then keep ex _ dx (λ e. sign_then mark.RightParen _ (honest_pure keep e refl)))
+        (honest_then keep ex _ dx (λ e. sign_then mark.RightParen _ (honest_pure keep e)))
 
     honest_operand_by : Operates (operand_by keep ex un)
     unfolding operand_by signed loaded
@@ -228,34 +228,34 @@ module _ (keep : Keep) where
 
   honest_label : Honest keep before.Other (exactly before.Other) (label keep)
   unfolding label
-  honest_label = honest_then keep (constant keep) _ (honest_constant keep) (λ c. sign_then mark.Colon _ (honest_pure keep _ refl))
+  honest_label = honest_then keep (constant keep) _ (honest_constant keep) (λ c. sign_then mark.Colon _ (honest_pure keep _))
 
   module _ (ex : Parse CExpression) (dx : Operates ex) where
     honest_place : {b : Before} → Honest keep b (exactly before.Operand) (one_place ex)
     unfolding one_place named_place
-    honest_place = honest_next keep mark.Star (pointed ex) named_place (honest_pointed ex dx) (word_then _ (λ word. honest_pure keep _ refl))
+    honest_place = honest_next keep mark.Star (pointed ex) named_place (honest_pointed ex dx) (word_then _ (λ word. honest_pure keep _))
 
     honest_arguments : Honest keep before.Other anything (arguments ex)
     unfolding arguments some_arguments
-    honest_arguments = honest_if keep _ _ (some_arguments ex) (honest_pure keep _ tt) (loose keep (honest_separated keep ex dx))
+    honest_arguments = honest_if keep _ _ (some_arguments ex) (honest_any keep _) (loose keep (honest_separated keep ex dx))
 
     honest_callee : {b : Before} → Honest keep b anything (callee ex)
     unfolding callee called_pointer called_with called_name
     honest_callee =
         honest_next keep mark.LeftParen (called_pointer ex) called_name
-        (honest_after keep signature _ honest_signature (λ s t. sign_then mark.LeftParen _ (honest_then keep ex _ dx (λ e. sign_then mark.RightParen _ (sign_then mark.RightParen _ (honest_pure keep _ tt))))))
-        (word_then _ (λ word. honest_pure keep _ tt))
+        (honest_after keep signature _ honest_signature (λ s t. sign_then mark.LeftParen _ (honest_then keep ex _ dx (λ e. sign_then mark.RightParen _ (sign_then mark.RightParen _ (honest_any keep _))))))
+        (word_then _ (λ word. honest_any keep _))
 
     honest_called : {b : Before} → Honest keep b (exactly before.Other) (bodies.called ex)
     unfolding bodies.called called_of
     honest_called =
         honest_after keep (callee ex) _ honest_callee (λ c s. sign_then mark.LeftParen _ (honest_after keep (arguments ex) _ honest_arguments
-        (λ es t. sign_then mark.RightParen _ (sign_then mark.Semicolon _ (honest_pure keep _ refl)))))
+        (λ es t. sign_then mark.RightParen _ (sign_then mark.Semicolon _ (honest_pure keep _)))))
 
     honest_right : Honest keep before.Other (exactly before.Other) (right_side ex)
     unfolding right_side value right_call
     honest_right =
-        honest_either keep (value ex) (right_call ex) (honest_then keep ex _ dx (λ e. sign_then mark.Semicolon _ (honest_pure keep _ refl))) (honest_made keep _ (bodies.called ex) honest_called)
+        honest_either keep (value ex) (right_call ex) (honest_then keep ex _ dx (λ e. sign_then mark.Semicolon _ (honest_pure keep _))) (honest_made keep _ (bodies.called ex) honest_called)
 
     honest_effect : {b : Before} → Honest keep b (exactly before.Other) (effect ex)
     unfolding effect store store_to call
@@ -266,11 +266,11 @@ module _ (keep : Keep) where
 
     honest_condition : {b : Before} → Honest keep b (exactly before.Operand) (condition ex)
     unfolding condition
-    honest_condition = sign_then mark.LeftParen _ (honest_then keep ex _ dx (λ e. sign_then mark.RightParen _ (honest_pure keep e refl)))
+    honest_condition = sign_then mark.LeftParen _ (honest_then keep ex _ dx (λ e. sign_then mark.RightParen _ (honest_pure keep e)))
 
     honest_returned : Honest keep before.Other (exactly before.Other) (returned ex)
     unfolding returned gives
-    honest_returned = honest_next keep mark.Semicolon _ (gives ex) (honest_pure keep _ refl) (honest_then keep ex _ dx (λ e. sign_then mark.Semicolon _ (honest_pure keep _ refl)))
+    honest_returned = honest_next keep mark.Semicolon _ (gives ex) (honest_pure keep _) (honest_then keep ex _ dx (λ e. sign_then mark.Semicolon _ (honest_pure keep _)))
 
   -- statements follow one another, and bodies follow anything
   module _ (ex : Parse CExpression) (dx : Operates ex) (bo : Parse CBody) (db : (b : Before) → Honest keep b (exactly before.Other) bo)
@@ -278,34 +278,34 @@ module _ (keep : Keep) where
     honest_leaving : Honest keep before.Other (exactly before.Other) (leaving ex bo)
     unfolding leaving leaves continues plain block
     honest_leaving =
-        honest_next keep mark.Break leaves _ (sign_then mark.Semicolon _ (honest_pure keep _ refl)) (honest_next keep mark.Continue continues _ (sign_then mark.Semicolon _ (honest_pure keep _ refl))
+        honest_next keep mark.Break leaves _ (sign_then mark.Semicolon _ (honest_pure keep _)) (honest_next keep mark.Continue continues _ (sign_then mark.Semicolon _ (honest_pure keep _))
         (honest_next keep mark.Return (returned ex) (plain ex bo) (honest_returned ex dx)
         (honest_if keep _ (block bo) (effect ex) (honest_made keep _ bo (db before.Other)) (honest_effect ex dx))))
 
     honest_item_of : Honest keep before.Other (exactly before.Other) (switch_item keep st)
     unfolding switch_item default_label inner
     honest_item_of =
-        honest_next keep mark.Case (label keep) _ honest_label (honest_next keep mark.Default default_label (inner st) (sign_then mark.Colon _ (honest_pure keep _ refl)) (honest_made keep _ st ds))
+        honest_next keep mark.Case (label keep) _ honest_label (honest_next keep mark.Default default_label (inner st) (sign_then mark.Colon _ (honest_pure keep _)) (honest_made keep _ st ds))
 
     honest_by : Honest keep before.Other (exactly before.Other) (statement_by keep ex bo st)
     unfolding statement_by conditional branches otherwise some_body forever switch cases
     honest_by =
         honest_next keep mark.If (conditional ex bo) _
         (honest_then keep (condition ex) _ (honest_condition ex dx) (λ e. honest_then keep bo _ (db before.Operand) (λ b. honest_then keep (otherwise bo) _
-        (honest_next keep mark.Else (some_body bo) _ (honest_made keep Some bo (db before.Other)) (honest_pure keep _ refl)) (λ o. honest_pure keep _ refl))))
+        (honest_next keep mark.Else (some_body bo) _ (honest_made keep Some bo (db before.Other)) (honest_pure keep _)) (λ o. honest_pure keep _))))
         (honest_next keep mark.For (forever bo) _
         (sign_then mark.LeftParen _ (sign_then mark.Semicolon _ (sign_then mark.Semicolon _ (sign_then mark.RightParen _ (honest_made keep _ bo (db before.Operand))))))
         (honest_next keep mark.Switch (switch keep ex st) (leaving ex bo)
         (honest_then keep (condition ex) _ (honest_condition ex dx) (λ e. sign_then mark.LeftBrace _ (honest_then keep (bodies.switch_items keep st) _
-        (honest_all keep (sees_not mark.RightBrace) (switch_item keep st) honest_item_of []) (λ all. sign_then mark.RightBrace _ (honest_pure keep _ refl)))))
+        (honest_all keep (sees_not mark.RightBrace) (switch_item keep st) honest_item_of []) (λ all. sign_then mark.RightBrace _ (honest_pure keep _)))))
         honest_leaving))
 
   honest_body_by : {b : Before} (st : Parse CStatement) → Honest keep before.Other (exactly before.Other) st → Honest keep b (exactly before.Other) (body_by keep st)
   unfolding body_by local_line
   honest_body_by st ds =
       sign_then mark.LeftBrace _ (honest_then keep (bodies.locals keep) _
-      (honest_all keep _ (local_line keep) (honest_after keep (one_local keep) _ honest_local (λ x s. sign_then mark.Semicolon _ (honest_pure keep x refl))) [])
-      (λ ls. honest_then keep (bodies.statements st) _ (honest_all keep (sees_not mark.RightBrace) st ds []) (λ all. sign_then mark.RightBrace _ (honest_pure keep _ refl))))
+      (honest_all keep _ (local_line keep) (honest_after keep (one_local keep) _ honest_local (λ x s. sign_then mark.Semicolon _ (honest_pure keep x))) [])
+      (λ ls. honest_then keep (bodies.statements st) _ (honest_all keep (sees_not mark.RightBrace) st ds []) (λ all. sign_then mark.RightBrace _ (honest_pure keep _))))
 
   honest_statement : (n : ℕ) → Honest keep before.Other (exactly before.Other) (one_statement keep n)
   unfolding one_statement
@@ -318,38 +318,38 @@ module _ (keep : Keep) where
 
   honest_static : {b : Before} → Honest keep b anything static_word
   unfolding static_word
-  honest_static = honest_next keep mark.Static _ _ (honest_pure keep _ tt) (honest_pure keep _ tt)
+  honest_static = honest_next keep mark.Static _ _ (honest_any keep _) (honest_any keep _)
 
   honest_parameters : Honest keep before.Other anything parameters
   unfolding parameters some_parameters parameter parameter_named
   honest_parameters =
-      honest_next keep mark.Void _ some_parameters (honest_pure keep _ tt)
-      (loose keep (honest_separated keep parameter (honest_then keep type_name _ honest_type (λ t. word_then _ (λ word. honest_pure keep _ refl)))))
+      honest_next keep mark.Void _ some_parameters (honest_any keep _)
+      (loose keep (honest_separated keep parameter (honest_then keep type_name _ honest_type (λ t. word_then _ (λ word. honest_pure keep _)))))
 
   honest_prototype : {b : Before} → Honest keep b anything prototype
   unfolding prototype prototype_behind prototype_named prototype_of
   honest_prototype =
       honest_after keep static_word _ honest_static (λ s t. honest_after keep result_type _ honest_result (λ r u. word_then _ (λ word. sign_then mark.LeftParen _
-      (honest_after keep parameters _ honest_parameters (λ ps v. sign_then mark.RightParen _ (honest_pure keep _ tt))))))
+      (honest_after keep parameters _ honest_parameters (λ ps v. sign_then mark.RightParen _ (honest_any keep _))))))
 
   honest_pair : Honest keep before.Other (exactly before.Other) (pair keep)
   unfolding pair pair_of pair_function some_function no_function
   honest_pair =
       sign_then mark.LeftBrace _ (honest_then keep (constant keep) _ (honest_constant keep) (λ c. sign_then mark.Comma _ (honest_then keep pair_function _
-      (honest_if keep _ some_function no_function (word_then _ (λ word. honest_pure keep _ refl)) (honest_then keep nought _ (honest_nought keep) (λ u. honest_pure keep _ refl)))
-      (λ f. sign_then mark.RightBrace _ (honest_pure keep _ refl)))))
+      (honest_if keep _ some_function no_function (word_then _ (λ word. honest_pure keep _)) (honest_then keep nought _ (honest_nought keep) (λ u. honest_pure keep _)))
+      (λ f. sign_then mark.RightBrace _ (honest_pure keep _)))))
 
   honest_start : {b : Before} → Honest keep b anything (start keep)
   unfolding start values string pairs some_pairs
   honest_start =
       honest_next keep mark.Assign (values keep) _
-      (honest_if keep _ string (pairs keep) (honest_then keep text _ (honest_text keep) (λ bytes. honest_pure keep _ tt))
-      (sign_then mark.LeftBrace _ (honest_then keep (some_pairs keep) _ (honest_separated keep (pair keep) honest_pair) (λ all. sign_then mark.RightBrace _ (honest_pure keep _ tt)))))
-      (honest_pure keep _ tt)
+      (honest_if keep _ string (pairs keep) (honest_then keep text _ (honest_text keep) (λ bytes. honest_any keep _))
+      (sign_then mark.LeftBrace _ (honest_then keep (some_pairs keep) _ (honest_separated keep (pair keep) honest_pair) (λ all. sign_then mark.RightBrace _ (honest_any keep _)))))
+      (honest_any keep _)
 
   honest_line : {b : Before} → Honest keep b (exactly before.Other) prototype_line
   unfolding prototype_line
-  honest_line = honest_after keep prototype _ honest_prototype (λ p s. sign_then mark.Semicolon _ (honest_pure keep _ refl))
+  honest_line = honest_after keep prototype _ honest_prototype (λ p s. sign_then mark.Semicolon _ (honest_pure keep _))
 
   honest_definition : {b : Before} (n : ℕ) (s : Bool) → Honest keep b (exactly before.Other) (definition keep n s)
   unfolding definition function function_of variable variable_behind variable_of
@@ -357,18 +357,18 @@ module _ (keep : Keep) where
       honest_either keep (function keep n s) (variable keep s)
       (honest_after keep prototype _ honest_prototype (λ p t. honest_made keep _ (body keep n) (honest_body_by (one_statement keep n) (honest_statement n))))
       (honest_after keep static_word _ honest_static (λ t u. honest_after keep (one_variable keep) _ honest_variable (λ d v. honest_after keep (start keep) _ honest_start
-      (λ i w. sign_then mark.Semicolon _ (honest_pure keep _ refl)))))
+      (λ i w. sign_then mark.Semicolon _ (honest_pure keep _)))))
 
   honest_item : (n : ℕ) → Honest keep before.Other (exactly before.Other) (one_item keep n)
   unfolding one_item declaration extern_line marked unmarked
   honest_item n =
       honest_next keep mark.Extern (declaration keep) (marked keep n)
       (honest_either keep prototype_line (extern_line keep) honest_line
-      (honest_after keep (one_variable keep) _ honest_variable (λ d s. sign_then mark.Semicolon _ (honest_pure keep _ refl))))
+      (honest_after keep (one_variable keep) _ honest_variable (λ d s. sign_then mark.Semicolon _ (honest_pure keep _))))
       (honest_seen keep token.Shared (sees_a is_shared) (definition keep n true) (unmarked keep n) refl shared_is (honest_definition n true)
       (honest_either keep (definition keep n false) prototype_line (honest_definition n false) honest_line))
 
   pub honest_whole : (n : ℕ) → Honest keep before.Other (exactly before.Other) (whole keep n)
   unfolding whole
   honest_whole n =
-      honest_then keep (items keep n) _ (honest_all keep goes_on (one_item keep n) (honest_item n) []) (λ is. honest_then keep end _ (honest_end keep) (λ u. honest_pure keep is refl))
+      honest_then keep (items keep n) _ (honest_all keep goes_on (one_item keep n) (honest_item n) []) (λ is. honest_then keep end _ (honest_end keep) (λ u. honest_pure keep is))
