@@ -52,11 +52,12 @@ own_main all sound is = record {
 -- what is defined is defined among more
 defined_more : (items more : List CItem) (name : List ℕ) → defined_in (items_of items) name ≡ true → defined_in (items_of (items ++ more)) name ≡ true
 defined_more [] more name e = absurd (true≢false (sym e))
-defined_more (i ∷ items) more name e = go (defines_name name (item_of i)) e
+defined_more (i ∷ items) more name e = go (defined_more items more name) (defines_name name (item_of i)) e
   where
-    go : (b : Bool) → (b || defined_in (items_of items) name) ≡ true → (b || defined_in (items_of (items ++ more)) name) ≡ true
-    go true f = refl
-    go false f = defined_more items more name f
+    go : (defined_in (items_of items) name ≡ true → defined_in (items_of (items ++ more)) name ≡ true) → (b : Bool) → (b || defined_in (items_of items) name) ≡ true
+        → (b || defined_in (items_of (items ++ more)) name) ≡ true
+    go again true f = refl
+    go again false f = again f
 
 defined_last : (items : List CItem) (i : CItem) (name : List ℕ) → defines_name name (item_of i) ≡ true → defined_in (items_of (items ++ i ∷ [])) name ≡ true
 defined_last [] i name e = or_left (defines_name name (item_of i)) false e
@@ -90,21 +91,20 @@ module _ (good : List ℕ → Bool) (hidden : Names) where
       ap (λ s. list_all good (uses_of_statement s hidden)) (of-Call None (callee.Name name) [])
       ∙ join good (use_of name hidden) [] (use_good name e) refl
 
+  call_good : (name : List ℕ) (p : Placed) (ps : List Placed) → (defines_it p ≡ true → good (its_name p) ≡ true) → list_all uses_good (calls_of name ps) ≡ true
+      → (d : Bool) → defines_it p ≡ d → (b : Bool) → list_all uses_good (cond (d && b) (statement.Call None (callee.Name (its_name p)) [] ∷ calls_of name ps) (calls_of name ps)) ≡ true
+  call_good name p ps own rest false is b = rest
+  call_good name p ps own rest true is false = rest
+  call_good name p ps own rest true is true =
+      and_from (uses_good (statement.Call None (callee.Name (its_name p)) [])) (list_all uses_good (calls_of name ps)) (plain_call (its_name p) (own is)) rest
+
   calls_good : (name : List ℕ) (ps : List Placed) → ((n : List ℕ) → list_any (defines_named n) ps ≡ true → good n ≡ true) → list_all uses_good (calls_of name ps) ≡ true
   calls_good name [] h = refl
-  calls_good name (p ∷ ps) h = go (defines_it p) refl (p.is_static && bytes_eq (old_name p) name)
-    where
-      own : defines_it p ≡ true → good (its_name p) ≡ true
-      own d = h (its_name p) (or_left (defines_named (its_name p) p) (list_any (defines_named (its_name p)) ps)
-          (and_from (defines_it p) (bytes_eq (its_name p) (its_name p)) d ((bytes_eq-Decides (its_name p) (its_name p)).1 refl)))
-
-      rest : list_all uses_good (calls_of name ps) ≡ true
-      rest = calls_good name ps (λ n e. h n (or_right (defines_named n p) (list_any (defines_named n) ps) e))
-
-      go : (d : Bool) → defines_it p ≡ d → (b : Bool) → list_all uses_good (cond (d && b) (statement.Call None (callee.Name (its_name p)) [] ∷ calls_of name ps) (calls_of name ps)) ≡ true
-      go false is b = rest
-      go true is false = rest
-      go true is true = and_from (uses_good (statement.Call None (callee.Name (its_name p)) [])) (list_all uses_good (calls_of name ps)) (plain_call (its_name p) (own is)) rest
+  calls_good name (p ∷ ps) h =
+      call_good name p ps
+      (λ d. h (its_name p) (or_left (defines_named (its_name p) p) (list_any (defines_named (its_name p)) ps)
+      (and_from (defines_it p) (bytes_eq (its_name p) (its_name p)) d ((bytes_eq-Decides (its_name p) (its_name p)).1 refl))))
+      (calls_good name ps (λ n e. h n (or_right (defines_named n p) (list_any (defines_named n) ps) e))) (defines_it p) refl (p.is_static && bytes_eq (old_name p) name)
 
   both_good : (ss ts : List CStatement) → list_all uses_good ss ≡ true → list_all uses_good ts ≡ true → list_all uses_good (ss ++ ts) ≡ true
   both_good ss ts e f = list_all-append uses_good ss ts ∙ and_from (list_all uses_good ss) (list_all uses_good ts) e f

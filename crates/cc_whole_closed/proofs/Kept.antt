@@ -31,11 +31,11 @@ or_split false b e = inr e
 
 any_weaker : {A : Type 0} (p q : A → Bool) → ((a : A) → p a ≡ true → q a ≡ true) → (xs : List A) → list_any p xs ≡ true → list_any q xs ≡ true
 any_weaker p q h [] e = e
-any_weaker p q h (x ∷ xs) e = go (or_split (p x) (list_any p xs) e)
+any_weaker p q h (x ∷ xs) e = go (any_weaker p q h xs) (or_split (p x) (list_any p xs) e)
   where
-    go : (p x ≡ true) ⊎ (list_any p xs ≡ true) → (q x || list_any q xs) ≡ true
-    go (inl f) = or_left (q x) (list_any q xs) (h x f)
-    go (inr f) = or_right (q x) (list_any q xs) (any_weaker p q h xs f)
+    go : (list_any p xs ≡ true → list_any q xs ≡ true) → (p x ≡ true) ⊎ (list_any p xs ≡ true) → (q x || list_any q xs) ≡ true
+    go again (inl f) = or_left (q x) (list_any q xs) (h x f)
+    go again (inr f) = or_right (q x) (list_any q xs) (again f)
 
 -- a shared definition that is left out stands before
 repeated : (before_it : List Placed) (i : Placed) (name : List ℕ) → repeats before_it i ≡ true → defines_named name i ≡ true → list_any (defines_named name) before_it ≡ true
@@ -45,41 +45,46 @@ repeated before_it i name e d =
     (any_weaker (λ b. defines_named (its_name i) b && (is_shared i && is_shared b)) (defines_named (its_name i))
     (λ b f. (and_parts (defines_named (its_name i) b) (is_shared i && is_shared b) f).0) before_it (and_parts (defines_it i) _ e).1)
 
+or_nothing : (c : Bool) → (c || false) ≡ true → c ≡ true
+or_nothing true h = refl
+or_nothing false h = h
+
+-- at an item that is left out or not
+module _ (name : List ℕ) (before_it : List Placed) (i : Placed) (rest : List Placed) where
+  abbrev Told : Bool → Type 0
+  Told b = (list_any (defines_named name) before_it ≡ true)
+      ⊎ (defined_in (items_of (cond b (kept_items (before_it ++ i ∷ []) rest) (i.now ∷ kept_items (before_it ++ i ∷ []) rest))) name ≡ true)
+
+  abbrev Behind : Type 0
+  Behind = (list_any (defines_named name) (before_it ++ i ∷ []) ≡ true) ⊎ (defined_in (items_of (kept_items (before_it ++ i ∷ []) rest)) name ≡ true)
+
+  kept_on : (b : Bool) → defined_in (items_of (kept_items (before_it ++ i ∷ []) rest)) name ≡ true → Told b
+  kept_on true f = inr f
+  kept_on false f = inr (or_right (defines_name name (item_of i.now)) (defined_in (items_of (kept_items (before_it ++ i ∷ []) rest)) name) f)
+
+  here_on : (b : Bool) → repeats before_it i ≡ b → defines_named name i ≡ true → Told b
+  here_on true r d = inl (repeated before_it i name r d)
+  here_on false r d = inr (or_left (defines_name name (item_of i.now)) (defined_in (items_of (kept_items (before_it ++ i ∷ []) rest)) name) d)
+
+  either_on : (b : Bool) → repeats before_it i ≡ b → (list_any (defines_named name) before_it ≡ true) ⊎ ((defines_named name i || false) ≡ true) → Told b
+  either_on b r (inl g) = inl g
+  either_on b r (inr g) = here_on b r (or_nothing (defines_named name i) g)
+
+  behind_on : (b : Bool) → repeats before_it i ≡ b → Behind → Told b
+  behind_on b r (inl g) =
+      either_on b r (or_split (list_any (defines_named name) before_it) (defines_named name i || false) (sym (list_any-append (defines_named name) before_it (i ∷ [])) ∙ g))
+  behind_on b r (inr g) = kept_on b g
+
+  at_item : (list_any (defines_named name) rest ≡ true → Behind) → (b : Bool) → repeats before_it i ≡ b
+      → (defines_named name i ≡ true) ⊎ (list_any (defines_named name) rest ≡ true) → Told b
+  at_item again b r (inl d) = here_on b r d
+  at_item again b r (inr f) = behind_on b r (again f)
+
 kept_defines : (name : List ℕ) (before_it rest : List Placed) → list_any (defines_named name) rest ≡ true
     → (list_any (defines_named name) before_it ≡ true) ⊎ (defined_in (items_of (kept_items before_it rest)) name ≡ true)
 kept_defines name before_it [] e = absurd (true≢false (sym e))
-kept_defines name before_it (i ∷ rest) e = at (repeats before_it i) refl (or_split (defines_named name i) (list_any (defines_named name) rest) e)
-  where
-    abbrev Told : Bool → Type 0
-    Told b = (list_any (defines_named name) before_it ≡ true)
-        ⊎ (defined_in (items_of (cond b (kept_items (before_it ++ i ∷ []) rest) (i.now ∷ kept_items (before_it ++ i ∷ []) rest))) name ≡ true)
-
-    kept_on : (b : Bool) → defined_in (items_of (kept_items (before_it ++ i ∷ []) rest)) name ≡ true → Told b
-    kept_on true f = inr f
-    kept_on false f = inr (or_right (defines_name name (item_of i.now)) _ f)
-
-    here_on : (b : Bool) → repeats before_it i ≡ b → defines_named name i ≡ true → Told b
-    here_on true r d = inl (repeated before_it i name r d)
-    here_on false r d = inr (or_left (defines_name name (item_of i.now)) _ d)
-
-    before_on : (b : Bool) → repeats before_it i ≡ b → list_any (defines_named name) (before_it ++ i ∷ []) ≡ true → Told b
-    before_on b r f = parts (or_split (list_any (defines_named name) before_it) (defines_named name i || false) (sym (list_any-append (defines_named name) before_it (i ∷ [])) ∙ f))
-      where
-        parts : (list_any (defines_named name) before_it ≡ true) ⊎ ((defines_named name i || false) ≡ true) → Told b
-        parts (inl g) = inl g
-        parts (inr g) = here_on b r (alone (defines_named name i) g)
-          where
-            alone : (c : Bool) → (c || false) ≡ true → c ≡ true
-            alone true h = refl
-            alone false h = h
-
-    at : (b : Bool) → repeats before_it i ≡ b → (defines_named name i ≡ true) ⊎ (list_any (defines_named name) rest ≡ true) → Told b
-    at b r (inl d) = here_on b r d
-    at b r (inr f) = on (kept_defines name (before_it ++ i ∷ []) rest f)
-      where
-        on : (list_any (defines_named name) (before_it ++ i ∷ []) ≡ true) ⊎ (defined_in (items_of (kept_items (before_it ++ i ∷ []) rest)) name ≡ true) → Told b
-        on (inl g) = before_on b r g
-        on (inr g) = kept_on b g
+kept_defines name before_it (i ∷ rest) e =
+    at_item name before_it i rest (kept_defines name (before_it ++ i ∷ []) rest) (repeats before_it i) refl (or_split (defines_named name i) (list_any (defines_named name) rest) e)
 
 pub all_defined : (name : List ℕ) (all : List Placed) → list_any (defines_named name) all ≡ true → defined_in (items_of (kept_items [] all)) name ≡ true
 all_defined name all e = go (kept_defines name [] all e)
@@ -115,15 +120,15 @@ all_sound all before_it _ _ (later _ i rest r b f) e (renamed.AllRenamed.more _ 
 
 pub none_static : (all before_it rest : List Placed) → AllSound all rest → list_all (λ i. not (is_static i)) (items_of (kept_items before_it rest)) ≡ true
 none_static all before_it _ empty = refl
-none_static all before_it _ (also i rest s more) = go (repeats before_it i)
+none_static all before_it _ (also i rest s more) = go (none_static all (before_it ++ i ∷ []) rest more) (repeats before_it i)
   where
-    go : (b : Bool)
+    go : list_all (λ i. not (is_static i)) (items_of (kept_items (before_it ++ i ∷ []) rest)) ≡ true → (b : Bool)
         → list_all (λ i. not (is_static i)) (items_of (cond b (kept_items (before_it ++ i ∷ []) rest) (i.now ∷ kept_items (before_it ++ i ∷ []) rest))) ≡ true
-    go true = none_static all (before_it ++ i ∷ []) rest more
-    go false =
+    go again true = again
+    go again false =
         let is = s.renamed in
         let moves : is_static (item_of i.now) ≡ false = ap (λ x. is_static (item_of x)) is.now ∙ never_static i.was is.renaming in
-        and_from (not (is_static (item_of i.now))) _ (ap not moves) (none_static all (before_it ++ i ∷ []) rest more)
+        and_from (not (is_static (item_of i.now))) (list_all (λ i. not (is_static i)) (items_of (kept_items (before_it ++ i ∷ []) rest))) (ap not moves) again
 
 -- used names are defined, or the library's
 abbrev pub known_name : List Placed → List ℕ → Bool
@@ -131,13 +136,13 @@ known_name all name = is_library name || list_any (defines_named name) all
 
 found_none : (all : List Placed) (names : Names) → find (λ name. not (is_library name) && not (list_any (defines_named name) all)) names ≡ None → list_all (known_name all) names ≡ true
 found_none all [] e = refl
-found_none all (n ∷ names) e = go (is_library n) (list_any (defines_named n) all) e
+found_none all (n ∷ names) e = go (found_none all names) (is_library n) (list_any (defines_named n) all) e
   where
-    go : (a b : Bool) → cond (not a && not b) (Some n) (find (λ name. not (is_library name) && not (list_any (defines_named name) all)) names) ≡ None
+    go : (find (λ name. not (is_library name) && not (list_any (defines_named name) all)) names ≡ None → list_all (known_name all) names ≡ true) → (a b : Bool) → cond (not a && not b) (Some n) (find (λ name. not (is_library name) && not (list_any (defines_named name) all)) names) ≡ None
         → ((a || b) && list_all (known_name all) names) ≡ true
-    go true b f = found_none all names f
-    go false true f = found_none all names f
-    go false false f = absurd (cc)
+    go again true b f = again f
+    go again false true f = again f
+    go again false false f = absurd (cc)
 
 before_map : (p : List ℕ → Bool) (r : List ℕ → List ℕ) (names : Names) → list_all p (map r names) ≡ true → list_all (λ n. p (r n)) names ≡ true
 before_map p r [] e = refl
@@ -167,11 +172,11 @@ module _ (all : List Placed) (items : List Item) (holds : (name : List ℕ) → 
 
   pub kept_uses : (before_it rest : List Placed) → AllSound all rest → list_all (uses_defined items) (items_of (kept_items before_it rest)) ≡ true
   kept_uses before_it _ empty = refl
-  kept_uses before_it _ (also i rest s more) = go (repeats before_it i)
+  kept_uses before_it _ (also i rest s more) = go (kept_uses (before_it ++ i ∷ []) rest more) (repeats before_it i)
     where
-      go : (b : Bool) → list_all (uses_defined items) (items_of (cond b (kept_items (before_it ++ i ∷ []) rest) (i.now ∷ kept_items (before_it ++ i ∷ []) rest))) ≡ true
-      go true = kept_uses (before_it ++ i ∷ []) rest more
-      go false =
-          and_from (uses_defined items (item_of i.now)) _
-          (all_weaker (known_name all) (λ name. is_library name || defined_in items name) name_there (uses_of_item (item_of i.now)) (uses_known all i s))
-          (kept_uses (before_it ++ i ∷ []) rest more)
+      go : list_all (uses_defined items) (items_of (kept_items (before_it ++ i ∷ []) rest)) ≡ true → (b : Bool)
+          → list_all (uses_defined items) (items_of (cond b (kept_items (before_it ++ i ∷ []) rest) (i.now ∷ kept_items (before_it ++ i ∷ []) rest))) ≡ true
+      go again true = again
+      go again false =
+          and_from (uses_defined items (item_of i.now)) (list_all (uses_defined items) (items_of (kept_items (before_it ++ i ∷ []) rest)))
+          (all_weaker (known_name all) (λ name. is_library name || defined_in items name) name_there (uses_of_item (item_of i.now)) (uses_known all i s)) again

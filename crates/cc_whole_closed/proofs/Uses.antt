@@ -32,23 +32,22 @@ or_false : (a b : Bool) → (a || b) ≡ false → (a ≡ false) × (b ≡ false
 or_false true b e = absurd (true≢false e)
 or_false false b e = (refl, e)
 
-more_hidden : (r whole : Renaming) (names hidden : Names) → Hides r whole hidden → Hides (hiding names r) whole (names ++ hidden)
-more_hidden r whole names hidden h = record { inside = within; outside = without }
-  where
-    of : (name : List ℕ) → is_in (names ++ hidden) name ≡ (is_in names name || is_in hidden name)
-    of name = list_any-append (λ other. bytes_eq other name) names hidden
+in_either : (names hidden : Names) (name : List ℕ) → is_in (names ++ hidden) name ≡ (is_in names name || is_in hidden name)
+in_either names hidden name = list_any-append (λ other. bytes_eq other name) names hidden
 
-    within : (name : List ℕ) → is_in (names ++ hidden) name ≡ true → hiding names r name ≡ name
-    within name e = go (is_in names name) refl (sym (of name) ∙ e)
-      where
-        go : (b : Bool) → is_in names name ≡ b → (b || is_in hidden name) ≡ true → hiding names r name ≡ name
-        go true is f = hidden_name names r name is
-        go false is f = shown_name names r name is ∙ h.inside name f
+module _ (r whole : Renaming) (names hidden : Names) (h : Hides r whole hidden) where
+  within : (name : List ℕ) (b : Bool) → is_in names name ≡ b → (b || is_in hidden name) ≡ true → hiding names r name ≡ name
+  within name true is f = hidden_name names r name is
+  within name false is f = shown_name names r name is ∙ h.inside name f
 
-    without : (name : List ℕ) → is_in (names ++ hidden) name ≡ false → hiding names r name ≡ whole name
-    without name e =
-        let parts = or_false (is_in names name) (is_in hidden name) (sym (of name) ∙ e) in
-        shown_name names r name parts.0 ∙ h.outside name parts.1
+  without : (name : List ℕ) → (is_in names name || is_in hidden name) ≡ false → hiding names r name ≡ whole name
+  without name e = let parts = or_false (is_in names name) (is_in hidden name) e in shown_name names r name parts.0 ∙ h.outside name parts.1
+
+  more_hidden : Hides (hiding names r) whole (names ++ hidden)
+  more_hidden = record {
+    inside = λ name e. within name (is_in names name) refl (sym (in_either names hidden name) ∙ e);
+    outside = λ name e. without name (sym (in_either names hidden name) ∙ e);
+  }
 
 -- ---- tests of lists
 
