@@ -222,9 +222,11 @@ module _ (keep : Keep) where
 
   -- behind each comma, which ends in the state before it
   honest_commas : {A : Type 0} {c : Before} (p : Parse A) → Honest keep before.Other (exactly c) p → (found : List A) → Honest keep c (exactly c) (all_of (sees mark.Comma) (past p) found)
-  honest_commas {c = c} p each found = record { holds = λ ts. many_on c (sees mark.Comma) (past p)
-      (λ us is. moved_on c before.Other (exactly c) us (behind us) (p (behind us)) (taken (token.Mark mark.Comma) c us (λ strict. refl) (sees_is mark.Comma us is)) (each.holds (behind us)))
-      (length ts) found ts }
+  honest_commas {c = c} p each found = record {
+    holds = λ ts. many_on c (sees mark.Comma) (past p)
+        (λ us is. moved_on c before.Other (exactly c) us (behind us) (p (behind us)) (taken (token.Mark mark.Comma) c us (λ strict. refl) (sees_is mark.Comma us is)) (each.holds (behind us)))
+        (length ts) found ts;
+  }
 
   pub honest_separated : {A : Type 0} {c : Before} (p : Parse A) → Honest keep before.Other (exactly c) p → Honest keep before.Other (exactly c) (separated p)
   honest_separated p each = honest_then p (λ x. all_of (sees mark.Comma) (past p) (x ∷ [])) each (λ x. honest_commas p each (x ∷ []))

@@ -28,7 +28,7 @@ use Rattle.cc_whole_read_expr.specs.ReadExpr.{prefixed, casted, address, typed_o
 use Rattle.cc_whole_read_body.specs.ReadBody as bodies
 use Rattle.cc_whole_read_body.specs.ReadBody.{local_line, called_of, right_call, value, right_side, store_to, store, call, effect, block, leaves, continues, condition, some_body, otherwise, branches, conditional, forever, label, default_label, inner, switch_item, cases, switch, gives, returned, plain, leaving, statement_by, body_by, one_statement, body}
 use Rattle.cc_whole_read_items.specs.ReadItems.{static_word, parameter_named, parameter, some_parameters, parameters, prototype_of, prototype_named, prototype_behind, prototype, some_function, no_function, pair_function, pair_of, pair, some_pairs, string, pairs, values, start, prototype_line, extern_line, function_of, function, variable_of, variable_behind, variable, definition, declaration, unmarked, marked, one_item, items, whole}
-use Rattle.cc_whole_read_items.proofs.Honest.{Runs, End, exactly, anything, Ends, Honest, Honestly, nothing, stays, taken, moved_on, then_exact, loose, honest_pure, honest_any, honest_then, honest_after, honest_made, honest_if, honest_seen, honest_next, honest_either, honest_all, honest_separated, honest_expect, honest_name, honest_text, honest_nought, honest_end, honest_constant}
+use Rattle.cc_whole_read_items.proofs.Honest.{Runs, End, exactly, anything, Ends, Honest, Honestly, stays, taken, moved_on, then_exact, loose, honest_pure, honest_any, honest_then, honest_after, honest_made, honest_if, honest_seen, honest_next, honest_either, honest_all, honest_separated, honest_expect, honest_name, honest_text, honest_nought, honest_end, honest_constant}
 
 -- ---- operators behind an operand
 
