@@ -19,15 +19,21 @@ fits_there : (xs : List Token) (t : Token) (ys : List Token) (s : Before) → fi
 fits_there [] t ys s h = (and_parts (token_fits t s) (fit_from ys (behind t s)) h).0
 fits_there (x ∷ xs) t ys s h = fits_there xs t ys (behind x s) (and_parts (token_fits x s) (fit_from (xs ++ (t ∷ ys)) (behind x s)) h).1
 
+least_number : (n : ℕ) → nat_lt n (2 ^ 31) ≡ true → nat_lt (suc n) (2 ^ 31) ≡ false → suc n ≡ 2147483648
+least_number n h k = grind (arith, nat_tests, h, k)
+
+smaller_number : (n : ℕ) → nat_lt (suc n) (2 ^ 31) ≡ true → nat_lt n (2 ^ 31) ≡ true
+smaller_number n h = grind (arith, nat_tests, h)
+
 -- with a sign it fits, and without it does not
 signed_least : (n : ℕ) → fits_constant (int.Signed (neg_ℤ (pos n))) ≡ true → fits_constant (int.Signed (pos n)) ≡ false → n ≡ 2147483648
-signed_least zero h k = absurd (true≢false (sym k))
-signed_least (suc n) h k = grind (arith, nat_tests)
+signed_least zero h k = absurd (true≢false k)
+signed_least (suc n) h k = least_number n h k
 
 -- without a sign it fits, so it does with one
 signed_fits : (n : ℕ) → fits_constant (int.Signed (pos n)) ≡ true → fits_constant (int.Signed (neg_ℤ (pos n))) ≡ false → ⊥
-signed_fits zero h k = true≢false (sym k)
-signed_fits (suc n) h k = grind (arith, nat_tests)
+signed_fits zero h k = true≢false k
+signed_fits (suc n) h k = true≢false (sym (smaller_number n h) ∙ k)
 
 record Least (number : Token) (s : Before) : Type 0 where
   digits : List ℕ
