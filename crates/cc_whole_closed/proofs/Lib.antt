@@ -1,0 +1,6 @@
+mod Closing
+mod Items
+mod Kept
+pub mod Plains
+pub mod Renamed
+mod Uses
