@@ -1,0 +1,4 @@
+pub mod Constants
+pub mod Erased
+pub mod Keepings
+pub mod Lists

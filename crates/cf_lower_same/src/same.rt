@@ -1,0 +1,59 @@
+//! Whether two types are the same.
+
+ghost use Rattle.std.specs.Prelude.{◌≡◌, IfOk};
+ghost use Rattle.cf_core.specs.Types.{type_eq};
+ghost use Rattle.cf_core.specs.FromTypes.{Tables, type_of};
+ghost use Rattle.cf_lower_types.specs.Bare.{bare, type_in};
+
+use crate::alike::{Alike, alike};
+use cf_base::Memory;
+use cf_lower_types::{PlaceType, Tables, form_of};
+use cf_types::TyId;
+
+/// Whether two types are the same, const being left out at all levels.
+#[tactic(auto, using(crate::proofs::Types::itself))]
+pub fn same_bare(tables: &Tables<'_>, id: TyId, other: TyId) -> Result<bool, Memory>
+    ensures { IfOk result (λ same. same ≡ type_eq (bare tables.now id) (bare tables.now other)) }
+{
+    if id == other {
+        return Ok(true);
+    }
+    match alike(form_of(tables, id), form_of(tables, other)) {
+        Alike::Known(same) => Ok(same),
+        Alike::Types(part, with) => same_bare(tables, part, with),
+        Alike::Untold => Err(Memory),
+    }
+}
+
+/// Whether two types are the same with their const. Two of different numbers are not compared yet, which is answered as if memory had ended.
+#[tactic(auto, using(crate::proofs::Types::itself))]
+pub fn same_exactly(tables: &Tables<'_>, id: TyId, other: TyId) -> Result<bool, Memory>
+    ensures { IfOk result (λ same. same ≡ type_eq (type_of tables.now id) (type_of tables.now other)) }
+{
+    let _types = tables.types();
+    if id == other { Ok(true) } else { Err(Memory) }
+}
+
+/// Whether two types of places are the same. A literal's type is not compared with one of the file's yet, which is answered as if memory had ended.
+pub fn same_places(tables: &Tables<'_>, a: PlaceType, b: PlaceType) -> Result<bool, Memory>
+    ensures { IfOk result (λ same. same ≡ type_eq (type_in tables.now a) (type_in tables.now b)) }
+{
+    match a {
+        PlaceType::Of(id) => match b {
+            PlaceType::Of(other) => same_bare(tables, id, other),
+            PlaceType::Void | PlaceType::Character | PlaceType::Characters(_) => Err(Memory),
+        },
+        PlaceType::Void | PlaceType::Character | PlaceType::Characters(_) => same_literals(a, b),
+    }
+}
+
+/// Whether two types that literals have are the same.
+fn same_literals(a: PlaceType, b: PlaceType) -> Result<bool, Memory>
+    ensures { (tables : Tables) → IfOk result (λ same. same ≡ type_eq (type_in tables a) (type_in tables b)) }
+{
+    match (a, b) {
+        (PlaceType::Void, PlaceType::Void) | (PlaceType::Character, PlaceType::Character) => Ok(true),
+        (PlaceType::Characters(count), PlaceType::Characters(with)) => Ok(count == with),
+        _ => Err(Memory),
+    }
+}

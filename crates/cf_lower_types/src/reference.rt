@@ -1,0 +1,43 @@
+//! What a name of a reference's type stands for.
+
+ghost use Rattle.std.specs.Prelude.{◌≡◌, is_some, IfSome};
+ghost use Rattle.cf_core.specs.FromTypes.{type_of};
+ghost use Rattle.cf_core.specs.Places.{is_reference};
+ghost use Rattle.cf_core.specs.Types.{without_const};
+ghost use Rattle.cf_lower.specs.Kept as kept;
+ghost use Rattle.cf_lower_layout.specs.Sorts as sorts;
+ghost use Rattle.cf_lower_types.specs.Bare.{sort_in};
+
+use crate::scalar::{Scalar, sort_to};
+use crate::tables::Tables;
+use cf_types::{Ty, TyId};
+
+/// The type that a reference of this type is to; none where it is no reference.
+pub fn referred(tables: &Tables<'_>, id: TyId) -> Option<TyId>
+    ensures tested { is_some result ≡ is_reference (type_of tables.now id) }
+    ensures target { IfSome result (λ t. kept.referred (type_of tables.now id) ≡ type_of tables.now t) }
+{
+    match tables.entry(id) {
+        Ty::Ref(target) => Some(target),
+        Ty::Const(inside) => referred(tables, inside),
+        Ty::Void
+        | Ty::Int(_)
+        | Ty::Enum(_)
+        | Ty::Class(_)
+        | Ty::Ptr(_)
+        | Ty::Array(_, _)
+        | Ty::Fun(_)
+        | Ty::MemData(_, _)
+        | Ty::MemFun(_, _) => None,
+    }
+}
+
+/// What the address of the place is that a name of this type stands for: a reference is another name for what it is bound to (8.4.3).
+pub fn place_sort(tables: &Tables<'_>, id: TyId) -> Scalar
+    ensures { sort_in tables.now result ≡ sorts.sort_to (without_const (kept.referred (type_of tables.now id))) }
+{
+    match referred(tables, id) {
+        Some(target) => sort_to(tables, target),
+        None => sort_to(tables, id),
+    }
+}

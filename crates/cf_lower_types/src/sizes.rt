@@ -1,0 +1,55 @@
+//! The bytes of objects.
+
+ghost use Rattle.std.specs.Prelude.{◌≡◌, ◌/◌, IfOk};
+ghost use Rattle.cf_base.specs.Integers.{width};
+ghost use Rattle.cf_core.specs.FromTypes.{type_of};
+ghost use Rattle.cf_core.specs.Size.{size};
+ghost use Rattle.cf_lower_types.specs.Bare.{classes_of, type_in};
+
+use crate::form::{Form, form_of};
+use crate::place::PlaceType;
+use crate::tables::Tables;
+use cf_base::{Kind, Memory};
+use cf_types::TyId;
+
+/// The bytes of an integer (3.6.1).
+fn bytes(kind: Kind) -> u64
+    ensures { result ≡ width kind / 8 }
+{
+    match kind {
+        Kind::Char | Kind::SChar | Kind::UChar => 1,
+        Kind::Short | Kind::UShort => 2,
+        Kind::Int | Kind::UInt | Kind::Long | Kind::ULong => 4,
+    }
+}
+
+/// The bytes of an object of the type of this number. Those of a valid unit are few; a number beyond 64 bits is answered as if
+/// memory had ended.
+pub fn size_of(tables: &Tables<'_>, id: TyId) -> Result<u64, Memory>
+    ensures { IfOk result (λ n. n ≡ size (classes_of tables.now) (type_of tables.now id)) }
+{
+    match form_of(tables, id) {
+        Form::Array(element, count) => {
+            let each = size_of(tables, element)?;
+            u64::from(count).checked_mul(each).ok_or(Memory)
+        }
+        Form::Integer(kind) => Ok(bytes(kind)),
+        Form::Void | Form::Class(_) | Form::Function(_) => Ok(1),
+        Form::Enumeration(_)
+        | Form::Pointer(_)
+        | Form::Reference(_)
+        | Form::DataMember(_, _) => Ok(4),
+        Form::FunctionMember(_, _) => Ok(12),
+    }
+}
+
+/// The bytes of an object of the type of a place.
+pub fn place_size(tables: &Tables<'_>, ty: PlaceType) -> Result<u64, Memory>
+    ensures { IfOk result (λ n. n ≡ size (classes_of tables.now) (type_in tables.now ty)) }
+{
+    match ty {
+        PlaceType::Of(id) => size_of(tables, id),
+        PlaceType::Void | PlaceType::Character => Ok(1),
+        PlaceType::Characters(count) => Ok(count),
+    }
+}
