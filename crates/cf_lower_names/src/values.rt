@@ -85,10 +85,7 @@ pub fn at_kind(
 }
 
 /// The bits of an integer, as an int.
-pub fn as_bits(
-    alloc: Global,
-    value: Boxed<CExpression>,
-) -> Result<Boxed<CExpression>, Memory>
+pub fn as_bits(alloc: Global, value: Boxed<CExpression>) -> Result<Boxed<CExpression>, Memory>
     ensures { IfOk result (λ made. expression_of made ≡ spec.as_bits (expression_of value)) }
 {
     cast(alloc, CType::Int, value)

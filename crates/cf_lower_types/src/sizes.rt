@@ -35,10 +35,9 @@ pub fn size_of(tables: &Tables<'_>, id: TyId) -> Result<u64, Memory>
         }
         Form::Integer(kind) => Ok(bytes(kind)),
         Form::Void | Form::Class(_) | Form::Function(_) => Ok(1),
-        Form::Enumeration(_)
-        | Form::Pointer(_)
-        | Form::Reference(_)
-        | Form::DataMember(_, _) => Ok(4),
+        Form::Enumeration(_) | Form::Pointer(_) | Form::Reference(_) | Form::DataMember(_, _) => Ok(
+            4,
+        ),
         Form::FunctionMember(_, _) => Ok(12),
     }
 }

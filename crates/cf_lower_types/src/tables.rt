@@ -11,6 +11,7 @@ use cf_types::{Fun, FunId, Ty, TyId, Types};
 use std::marker::Model;
 
 /// The types and classes of a file that defines no class. Each type names types before it alone.
+#[derive(Drop)]
 pub struct Tables<'a> {
     types: &'a Types,
     classes: &'a Classes,
