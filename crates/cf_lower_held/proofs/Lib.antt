@@ -1,3 +1,4 @@
+pub mod After
 pub mod Constants
 pub mod Erased
 pub mod Keepings

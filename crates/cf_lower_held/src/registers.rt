@@ -84,6 +84,13 @@ impl Registers {
         }
     }
 
+    /// No register holds anything any more.
+    pub fn clear_all(&mut self)
+        ensures { self.new.held.items ≡ [] }
+    {
+        self.held.truncate(0);
+    }
+
     /// Each register holds what it holds here and there.
     pub fn meet(&mut self, tables: &Tables<'_>, other: &Registers) -> Result<(), Memory>
         ensures { OnOk result (keeping tables.now self.new ≡ definition.common (keeping tables.now self.old) (keeping tables.now other.now)) }

@@ -4,10 +4,13 @@ ghost use Rattle.std.specs.Prelude.{◌≡◌, ◌++◌, OnOk};
 ghost use Rattle.std.specs.Option.{option_map};
 ghost use Rattle.cc_whole.specs.Plain.{expression_of};
 ghost use Rattle.cf_core.specs.FromTypes.{Tables as TablesOf};
+ghost use Rattle.cf_lower.specs.Expressions as given;
+ghost use Rattle.cf_lower.specs.Kept as definition;
 ghost use Rattle.cf_lower.specs.Statements as spec;
-ghost use Rattle.cf_lower_held.specs.Scenes.{action_in, holding};
-ghost use Rattle.cf_lower_types.specs.Bare.{sort_in};
-ghost use Rattle.cf_lower_stmt.specs.Steps.{inside, put_in, written};
+ghost use Rattle.cf_lower_held.specs.Holds.{erased, kept_in};
+ghost use Rattle.cf_lower_held.specs.Scenes.{action_in, holding, locals_in};
+ghost use Rattle.cf_lower_types.specs.Bare.{classes_of, sort_in};
+ghost use Rattle.cf_lower_stmt.specs.Steps.{inside, set_if, written};
 ghost use Rattle.cf_lower_stmt.specs.declared.around.Around.{Around};
 
 use crate::calls::{by_name, call_alone, call_into, through};
@@ -16,7 +19,7 @@ use crate::writes::set_register;
 use cc_whole::{CExpression, CStatement};
 use cf_base::{Boxed, Items, Memory};
 use cf_lower_expr::{cell, value, value_in};
-use cf_lower_held::{Held, Registers, Scene, kept_by, local_of};
+use cf_lower_held::{Held, Registers, Scene, local_of};
 use cf_lower_types::Scalar;
 use cf_plain::Action;
 use std::alloc::Global;
@@ -114,7 +117,7 @@ fn put_in(
     value: Boxed<CExpression>,
     code: &mut Items<CStatement>,
 ) -> Result<(), Memory>
-    ensures { (tables : TablesOf) → OnOk result (written code.new ≡ written code.old ++ put_in (option_map (sort_in tables) scalar) register (expression_of value)) }
+    ensures { (tables : TablesOf) → OnOk result (written code.new ≡ written code.old ++ set_if (option_map (sort_in tables) scalar) register (expression_of value)) }
 {
     match scalar {
         None => Ok(()),
@@ -131,10 +134,10 @@ fn kept_value(
     rs: &Registers,
     code: &mut Items<CStatement>,
 ) -> Result<(), Memory>
-    ensures { OnOk result (written code.new ≡ written code.old ++ value_kept x.now register (kept_in x.now.tables.now held) (holding x.now rs.now) (action_in x.now a.now)) }
+    ensures { OnOk result (written code.new ≡ written code.old ++ set_if (definition.local_kept (kept_in x.now.tables.now held)) register (given.value (classes_of x.now.tables.now) x.now.function.now (locals_in x.now) (holding x.now rs.now) (action_in x.now a.now))) }
 {
-    let given = value(x, rs, a)?;
-    put_in(x.alloc, local_of(held), register, given, code)
+    let made = value(x, rs, a)?;
+    put_in(x.alloc, local_of(held), register, made, code)
 }
 
 /// Writes an action whose value is kept in a register, which holds this from then on.
@@ -168,6 +171,51 @@ pub(crate) fn kept(
             let callee = through(x, *pointer, *ty)?;
             call_into(x, code, callee, *ty, arguments.as_slice(), register)
         }
-        _ => kept_value(x, register, a, held, rs, code),
+        Action::Number { .. }
+        | Action::Text { .. }
+        | Action::This
+        | Action::Result
+        | Action::Local { .. }
+        | Action::Static { .. }
+        | Action::Function { .. }
+        | Action::Member { .. }
+        | Action::Part { .. }
+        | Action::Read { .. }
+        | Action::Dereference { .. }
+        | Action::Decay { .. }
+        | Action::Index { .. }
+        | Action::Convert { .. }
+        | Action::Up { .. }
+        | Action::Down { .. }
+        | Action::FromVoid { .. }
+        | Action::ToMember { .. }
+        | Action::DataPointer { .. }
+        | Action::FunctionPointer { .. }
+        | Action::Through { .. }
+        | Action::Operate { .. }
+        | Action::Unary { .. }
+        | Action::Truth { .. }
+        | Action::Not { .. }
+        | Action::PointerOperate { .. }
+        | Action::Changed { .. }
+        | Action::Store { .. }
+        | Action::Declare { .. }
+        | Action::First { .. }
+        | Action::Zeros { .. }
+        | Action::Characters { .. }
+        | Action::BeginList { .. }
+        | Action::EndList { .. }
+        | Action::Carry { .. }
+        | Action::CarryOver { .. }
+        | Action::Finish { .. }
+        | Action::New { .. }
+        | Action::NewArray { .. }
+        | Action::Delete { .. }
+        | Action::DeleteArray { .. }
+        | Action::IsReached { .. }
+        | Action::Reach { .. }
+        | Action::FinishStatic { .. }
+        | Action::VirtualCall { .. }
+        | Action::Build { .. } => kept_value(x, register, a, held, rs, code),
     }
 }

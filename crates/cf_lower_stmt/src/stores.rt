@@ -111,7 +111,6 @@ fn first_argument(
 }
 
 /// The first value of a scalar: of the object of an argument it goes to the C local that is passed.
-#[tactic(auto, using(crate::proofs::Cells::first_by_kept))]
 pub(crate) fn first_in(
     x: &Scene<'_>,
     code: &mut Items<CStatement>,

@@ -1,5 +1,5 @@
 -- Forms of types, and what they name.
-use Rattle.std.proofs.Common.{◌≡◌, ℕ, ◌<◌, length, All, slice_get, ap, arith}
+use Rattle.std.proofs.Common.{◌≡◌, ℕ, ◌<◌, length, All, slice_get, ap, subst, arith}
 use Rattle.cf_types.specs.declared.ty.Ty.{Ty}
 use Rattle.cf_types.specs.declared.ty.Ty.TheVariants as ty
 use Rattle.cf_types.specs.Table.{Names, parts_of_fun}
@@ -13,11 +13,20 @@ use Rattle.cf_lower_types.specs.Bare.{bare, form_type, Named, NamesFun}
 pub bare_at : (tables : Tables) (t : ℕ) (v : Ty) → type_of tables t ≡ type_step tables (type_of tables) v → bare tables t ≡ without_const (type_step tables (type_of tables) v)
 bare_at tables t v e = ap without_const e
 
-pub fun_named : (tables : Tables) (t f : ℕ) → Names tables.types.funs t (length tables.types.funs) (ty.Fun f) → NamesFun tables t f
-fun_named tables t f names = record { within = names.fun_known 0 f (omega arith); parts = names.parts_known }
+module _ (tables : Tables) (t : ℕ) (v : Ty) where
+  abbrev IsNamed : Ty → Type 0
+  IsNamed w = Names tables.types.funs t (length tables.types.funs) w
 
-pub member_named : (tables : Tables) (t c f : ℕ) → Names tables.types.funs t (length tables.types.funs) (ty.MemFun c f) → NamesFun tables t f
-member_named tables t c f names = record { within = names.fun_known 0 f (omega arith); parts = names.parts_known }
+  pub fun_within : (f : ℕ) → IsNamed v → v ≡ ty.Fun f → f < length tables.types.funs
+  fun_within f names is = let n : IsNamed (ty.Fun f) = subst IsNamed is names in n.fun_known 0 f (omega arith)
+
+  pub fun_named : (f : ℕ) → IsNamed v → v ≡ ty.Fun f → NamesFun tables t f
+  fun_named f names is =
+      let n : IsNamed (ty.Fun f) = subst IsNamed is names in record { within = n.fun_known 0 f (omega arith); parts = n.parts_known }
+
+  pub member_named : (c f : ℕ) → IsNamed v → v ≡ ty.MemFun c f → NamesFun tables t f
+  member_named c f names is =
+      let n : IsNamed (ty.MemFun c f) = subst IsNamed is names in record { within = n.fun_known 0 f (omega arith); parts = n.parts_known }
 
 -- what stands before one number stands before a later one
 fun_later : (tables : Tables) (t u f : ℕ) → t < u → NamesFun tables t f → NamesFun tables u f

@@ -27,6 +27,7 @@ pub enum Form {
 }
 
 /// The form of the type of this number, without a const of its own. What it names is there, and stands before it in the table.
+#[tactic(auto, using(crate::proofs::Forms::bare_at, crate::proofs::Forms::fun_named, crate::proofs::Forms::member_named, crate::proofs::Forms::later))]
 pub fn form_of(tables: &Tables<'_>, id: TyId) -> Form
     ensures is { bare tables.now id ≡ form_type tables.now result }
     ensures named { Named tables.now id result }

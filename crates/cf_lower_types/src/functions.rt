@@ -12,6 +12,7 @@ use crate::tables::Tables;
 use cf_types::{Ty, TyId};
 
 /// Whether the type of this number is a function's, itself.
+#[tactic(auto, using(crate::proofs::Functions::code_at))]
 pub fn is_function(tables: &Tables<'_>, id: TyId) -> bool
     ensures { result ≡ is_code (sorts.sort_to (type_of tables.now id)) }
 {
@@ -31,6 +32,7 @@ pub fn is_function(tables: &Tables<'_>, id: TyId) -> bool
 }
 
 /// The types of the parameters of a function of this type; none of another type.
+#[tactic(auto, using(crate::proofs::Functions::parameters_at, crate::proofs::Forms::fun_within))]
 pub fn parameters<'a>(tables: &'a Tables<'_>, id: TyId) -> &'a [TyId]
     ensures { map (type_of tables.now) result.now ≡ types.parameters (type_of tables.now id) }
 {
@@ -50,6 +52,7 @@ pub fn parameters<'a>(tables: &'a Tables<'_>, id: TyId) -> &'a [TyId]
 }
 
 /// What the result of a function of this type is; none where it is no scalar.
+#[tactic(auto, using(crate::proofs::Functions::result_at, crate::proofs::Forms::fun_within))]
 pub fn result_sort(tables: &Tables<'_>, id: TyId) -> Option<Scalar>
     ensures { option_map (sort_in tables.now) result ≡ sorts.sort_of (types.result (type_of tables.now id)) }
 {

@@ -34,6 +34,7 @@ pub fn element_of(tables: &Tables<'_>, ty: PlaceType) -> PlaceType
 }
 
 /// The same of one of the unit's types.
+#[tactic(auto, using(crate::proofs::Scalars::element_array, crate::proofs::Scalars::element_other))]
 fn element_at(tables: &Tables<'_>, id: TyId) -> PlaceType
     ensures { type_in tables.now result ≡ element (type_in tables.now (PlaceType.Of id)) }
 {
@@ -44,6 +45,7 @@ fn element_at(tables: &Tables<'_>, id: TyId) -> PlaceType
 }
 
 /// What the scalar at a place is, if an object of this type is one.
+#[tactic(auto, using(crate::proofs::Scalars::sort_by_bare))]
 pub fn place_scalar(tables: &Tables<'_>, ty: PlaceType) -> Option<Scalar>
     ensures { option_map (sort_in tables.now) result ≡ sorts.sort_of (type_in tables.now ty) }
 {

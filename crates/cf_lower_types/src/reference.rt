@@ -13,6 +13,7 @@ use crate::tables::Tables;
 use cf_types::{Ty, TyId};
 
 /// The type that a reference of this type is to; none where it is no reference.
+#[tactic(auto, using(crate::proofs::References::found_within))]
 pub fn referred(tables: &Tables<'_>, id: TyId) -> Option<TyId>
     ensures tested { is_some result ≡ is_reference (type_of tables.now id) }
     ensures target { IfSome result (λ t. kept.referred (type_of tables.now id) ≡ type_of tables.now t) }
@@ -33,6 +34,7 @@ pub fn referred(tables: &Tables<'_>, id: TyId) -> Option<TyId>
 }
 
 /// What the address of the place is that a name of this type stands for: a reference is another name for what it is bound to (8.4.3).
+#[tactic(auto, using(crate::proofs::References::sort_of_target, crate::proofs::References::sort_of_itself))]
 pub fn place_sort(tables: &Tables<'_>, id: TyId) -> Scalar
     ensures { sort_in tables.now result ≡ sorts.sort_to (without_const (kept.referred (type_of tables.now id))) }
 {

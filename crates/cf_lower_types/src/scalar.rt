@@ -24,6 +24,7 @@ pub enum Scalar {
 }
 
 /// What a pointer or a reference to the type of this number is.
+#[tactic(auto, using(crate::proofs::Scalars::code_at, crate::proofs::Scalars::address_at))]
 pub fn sort_to(tables: &Tables<'_>, id: TyId) -> Scalar
     ensures { sort_in tables.now result ≡ sorts.sort_to (bare tables.now id) }
 {
@@ -34,6 +35,7 @@ pub fn sort_to(tables: &Tables<'_>, id: TyId) -> Scalar
 }
 
 /// What a scalar of the type of this number is; none where its objects are none.
+#[tactic(auto, using(crate::proofs::Scalars::sort_at, crate::proofs::Scalars::function_is_no_scalar))]
 pub fn sort_of(tables: &Tables<'_>, id: TyId) -> Option<Scalar>
     ensures { option_map (sort_in tables.now) result ≡ sorts.sort_of (type_of tables.now id) }
 {
@@ -51,6 +53,7 @@ pub fn sort_of(tables: &Tables<'_>, id: TyId) -> Option<Scalar>
 }
 
 /// Whether objects of this type are scalars (3.6.1).
+#[tactic(auto, using(crate::proofs::Scalars::scalar_at, crate::proofs::Scalars::function_holds_no_scalar))]
 pub fn is_scalar(tables: &Tables<'_>, id: TyId) -> bool
     ensures { result ≡ places.is_scalar (type_of tables.now id) }
 {

@@ -25,9 +25,11 @@ fn bytes(kind: Kind) -> u64
 
 /// The bytes of an object of the type of this number. Those of a valid unit are few; a number beyond 64 bits is answered as if
 /// memory had ended.
+#[tactic(auto, using(crate::proofs::Sizes::size_at, crate::proofs::Sizes::array_at, crate::proofs::Sizes::function_at))]
 pub fn size_of(tables: &Tables<'_>, id: TyId) -> Result<u64, Memory>
     ensures { IfOk result (λ n. n ≡ size (classes_of tables.now) (type_of tables.now id)) }
 {
+    let _classes = tables.classes();
     match form_of(tables, id) {
         Form::Array(element, count) => {
             let each = size_of(tables, element)?;
@@ -43,6 +45,7 @@ pub fn size_of(tables: &Tables<'_>, id: TyId) -> Result<u64, Memory>
 }
 
 /// The bytes of an object of the type of a place.
+#[tactic(auto, using(crate::proofs::Sizes::size_by_bare, crate::proofs::Sizes::characters_at))]
 pub fn place_size(tables: &Tables<'_>, ty: PlaceType) -> Result<u64, Memory>
     ensures { IfOk result (λ n. n ≡ size (classes_of tables.now) (type_in tables.now ty)) }
 {

@@ -1,7 +1,7 @@
 //! The tables of a file.
 
 ghost use Rattle.std.specs.Prelude.{◌≡◌, [], length, Some, slice_get};
-ghost use Rattle.cf_types.specs.Table.{Names};
+ghost use Rattle.cf_types.specs.Table.{Names, NamesBelow};
 ghost use Rattle.cf_classes.specs.Fit.{Fit};
 ghost use Rattle.cf_core.specs.FromTypes.{type_of, type_step};
 ghost use Rattle.cf_lower_types.specs.Ordered.{IsOrdered};
@@ -58,10 +58,11 @@ impl<'a> Tables<'a> {
     }
 
     /// The type of this number, as the table has it; `void` where the table has none.
-    #[tactic(auto, using(crate::proofs::Entries::found, crate::proofs::Entries::missing))]
+    #[tactic(auto, using(crate::proofs::Entries::found, crate::proofs::Entries::missing, crate::proofs::Entries::no_names))]
     pub(crate) fn entry(&self, id: TyId) -> Ty
         ensures value { type_of self.now id ≡ type_step self.now (type_of self.now) result }
         ensures named { Names self.now.types.funs id (length self.now.types.funs) result }
+        ensures earlier { NamesBelow id result }
     {
         let types = self.types();
         if (id.number() as usize) < types.count() {
