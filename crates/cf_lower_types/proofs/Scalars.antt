@@ -1,5 +1,5 @@
 -- What the forms of types are as scalars.
-use Rattle.std.proofs.Common.{◌≡◌, ℕ, zero, suc, ◌<◌, false, List, [], ◌∷◌, length, map, Option, Some, None, slice_get, refl, sym, ap, ◌∙◌, arith}
+use Rattle.std.proofs.Common.{◌≡◌, ℕ, zero, suc, ◌<◌, true, false, List, [], ◌∷◌, length, map, Option, Some, None, slice_get, refl, sym, ap, ◌∙◌, arith}
 use Rattle.cf_types.specs.declared.ty.Fun.{Fun}
 use Rattle.cf_core.specs.Types.{SourceType, void, integer, enumeration, class, pointer, reference, array, takes, gives, data_member, function_member, const, without_const, element}
 use Rattle.cf_core.specs.Places.{is_scalar}
@@ -9,7 +9,8 @@ use Rattle.cf_lower_types.specs.declared.form.Form.{Form}
 use Rattle.cf_lower_types.specs.declared.form.Form.TheVariants as form
 use Rattle.cf_lower_types.specs.declared.place.PlaceType.TheVariants as place
 use Rattle.cf_lower_types.specs.declared.scalar.Scalar.TheVariants as scalar
-use Rattle.cf_lower_types.specs.Bare.{bare, form_type, sort_in, type_in}
+use Rattle.cf_lower_types.specs.Bare.{bare, form_type, Named, sort_in, type_in}
+use Rattle.cf_lower_types.specs.Forms.{is_function_form, is_scalar_form, elements_in}
 
 -- ---- const
 
@@ -66,9 +67,6 @@ not_scalar rec (Some f) = by f.params
     by [] = refl
     by (p ∷ ps) = refl
 
-pub function_holds_no_scalar : (tables : Tables) (f : ℕ) → is_scalar (form_type tables (form.Function f)) ≡ false
-function_holds_no_scalar tables f = not_scalar (type_of tables) (slice_get tables.types.funs f)
-
 function_code : (rec : ℕ → SourceType) (o : Option Fun) (f : Fun) → o ≡ Some f → sort_to (without_const (fun_type rec o)) ≡ code (without_const (fun_type rec o))
 function_code rec None f e = cc
 function_code rec (Some g) f e = by g.params
@@ -77,6 +75,9 @@ function_code rec (Some g) f e = by g.params
     by [] = refl
     by (p ∷ ps) = refl
 
+same_pair : (a b : ℕ × ℕ) → Some a ≡ Some b → a ≡ b
+same_pair a b e = cc
+
 there : (fs : List Fun) (f : ℕ) → f < length fs → (g : Fun) × (slice_get fs f ≡ Some g)
 there [] f lt = absurd (omega arith)
 there (g ∷ fs) zero lt = (g, refl)
@@ -84,57 +85,73 @@ there (g ∷ fs) (suc f) lt = there fs f (omega arith)
 
 -- ---- by the form
 
-pub code_at : (tables : Tables) (t f : ℕ) → bare tables t ≡ form_type tables (form.Function f) → f < length tables.types.funs
-    → sort_in tables (scalar.Code t) ≡ sort_to (bare tables t)
-code_at tables t f e lt =
-    let r = there tables.types.funs f lt in
-    ap code e ∙ sym (function_code (type_of tables) (slice_get tables.types.funs f) r.0 r.1) ∙ sym (ap sort_to e)
+module _ (tables : Tables) where
+  pub code_at : (t : ℕ) (x : Form) → bare tables t ≡ form_type tables x → Named tables t x → is_function_form x ≡ true → sort_in tables (scalar.Code t) ≡ sort_to (bare tables t)
+  code_at t (form.Function f) e named k =
+      let r = there tables.types.funs f named.within in
+      ap code e ∙ sym (function_code (type_of tables) (slice_get tables.types.funs f) r.0 r.1) ∙ sym (ap sort_to e)
+  code_at t x e named k = cc
 
-address_form : (tables : Tables) (x : Form) → ((f : ℕ) → x ≡ form.Function f → ⊥) → sort_to (form_type tables x) ≡ address (form_type tables x)
-address_form tables form.Void other = refl
-address_form tables (form.Integer k) other = refl
-address_form tables (form.Enumeration e) other = refl
-address_form tables (form.Class c) other = refl
-address_form tables (form.Pointer t) other = refl
-address_form tables (form.Reference t) other = refl
-address_form tables (form.Array t n) other = refl
-address_form tables (form.Function f) other = absurd (other f refl)
-address_form tables (form.DataMember c t) other = refl
-address_form tables (form.FunctionMember c f) other = refl
+  address_form : (x : Form) → is_function_form x ≡ false → sort_to (form_type tables x) ≡ address (form_type tables x)
+  address_form form.Void k = refl
+  address_form (form.Integer l) k = refl
+  address_form (form.Enumeration e) k = refl
+  address_form (form.Class c) k = refl
+  address_form (form.Pointer t) k = refl
+  address_form (form.Reference t) k = refl
+  address_form (form.Array t n) k = refl
+  address_form (form.Function f) k = cc
+  address_form (form.DataMember c t) k = refl
+  address_form (form.FunctionMember c f) k = refl
 
-pub address_at : (tables : Tables) (t : ℕ) (x : Form) → bare tables t ≡ form_type tables x → ((f : ℕ) → x ≡ form.Function f → ⊥)
-    → sort_in tables (scalar.Address (place.Of t)) ≡ sort_to (bare tables t)
-address_at tables t x e other = ap address e ∙ sym (address_form tables x other) ∙ sym (ap sort_to e)
+  pub address_at : (t : ℕ) (x : Form) → bare tables t ≡ form_type tables x → is_function_form x ≡ false → sort_in tables (scalar.Address (place.Of t)) ≡ sort_to (bare tables t)
+  address_at t x e k = ap address e ∙ sym (address_form x k) ∙ sym (ap sort_to e)
 
-element_function : (rec : ℕ → SourceType) (o : Option Fun) → without_const (fun_type rec o) ≡ element (without_const (fun_type rec o))
-element_function rec None = refl
-element_function rec (Some f) = by f.params
-  where
-    by : (ps : List ℕ) → without_const (taking (map rec ps) (gives (rec f.result) f.is_const)) ≡ element (without_const (taking (map rec ps) (gives (rec f.result) f.is_const)))
-    by [] = refl
-    by (p ∷ ps) = refl
+  pub sort_at : (t : ℕ) (x : Form) → bare tables t ≡ form_type tables x → scalar_sort (form_type tables x) ≡ sort_of (type_of tables t)
+  sort_at t x e = sym (ap scalar_sort e)
 
-element_form : (tables : Tables) (x : Form) → ((u n : ℕ) → x ≡ form.Array u n → ⊥) → form_type tables x ≡ element (form_type tables x)
-element_form tables form.Void other = refl
-element_form tables (form.Integer k) other = refl
-element_form tables (form.Enumeration e) other = refl
-element_form tables (form.Class c) other = refl
-element_form tables (form.Pointer t) other = refl
-element_form tables (form.Reference t) other = refl
-element_form tables (form.Array t n) other = absurd (other t n refl)
-element_form tables (form.Function f) other = element_function (type_of tables) (slice_get tables.types.funs f)
-element_form tables (form.DataMember c t) other = refl
-element_form tables (form.FunctionMember c f) other = refl
+  scalar_form : (x : Form) → is_scalar_form x ≡ is_scalar (form_type tables x)
+  scalar_form form.Void = refl
+  scalar_form (form.Integer k) = refl
+  scalar_form (form.Enumeration e) = refl
+  scalar_form (form.Class c) = refl
+  scalar_form (form.Pointer t) = refl
+  scalar_form (form.Reference t) = refl
+  scalar_form (form.Array t n) = refl
+  scalar_form (form.Function f) = sym (not_scalar (type_of tables) (slice_get tables.types.funs f))
+  scalar_form (form.DataMember c t) = refl
+  scalar_form (form.FunctionMember c f) = refl
 
-pub element_array : (tables : Tables) (t u n : ℕ) → bare tables t ≡ form_type tables (form.Array u n) → type_in tables (place.Of u) ≡ element (type_in tables (place.Of t))
-element_array tables t u n e = sym (ap element e)
+  pub scalar_at : (t : ℕ) (x : Form) → bare tables t ≡ form_type tables x → is_scalar_form x ≡ is_scalar (type_of tables t)
+  scalar_at t x e = scalar_form x ∙ sym (sym (scalar_by_bare (type_of tables t)) ∙ ap is_scalar e)
 
-pub element_other : (tables : Tables) (t : ℕ) (x : Form) → bare tables t ≡ form_type tables x → ((u n : ℕ) → x ≡ form.Array u n → ⊥)
-    → type_in tables (place.Of t) ≡ element (type_in tables (place.Of t))
-element_other tables t x e other = e ∙ element_form tables x other ∙ sym (ap element e)
+  -- elements
 
-pub sort_at : (tables : Tables) (t : ℕ) (x : Form) → bare tables t ≡ form_type tables x → sort_of (type_of tables t) ≡ scalar_sort (form_type tables x)
-sort_at tables t x e = ap scalar_sort e
+  element_function : (o : Option Fun) → without_const (fun_type (type_of tables) o) ≡ element (without_const (fun_type (type_of tables) o))
+  element_function None = refl
+  element_function (Some f) = by f.params
+    where
+      by : (ps : List ℕ) → without_const (taking (map (type_of tables) ps) (gives (type_of tables f.result) f.is_const))
+          ≡ element (without_const (taking (map (type_of tables) ps) (gives (type_of tables f.result) f.is_const)))
+      by [] = refl
+      by (p ∷ ps) = refl
 
-pub scalar_at : (tables : Tables) (t : ℕ) (x : Form) → bare tables t ≡ form_type tables x → is_scalar (type_of tables t) ≡ is_scalar (form_type tables x)
-scalar_at tables t x e = sym (scalar_by_bare (type_of tables t)) ∙ ap is_scalar e
+  element_form : (x : Form) → elements_in x ≡ None → form_type tables x ≡ element (form_type tables x)
+  element_form form.Void k = refl
+  element_form (form.Integer l) k = refl
+  element_form (form.Enumeration e) k = refl
+  element_form (form.Class c) k = refl
+  element_form (form.Pointer t) k = refl
+  element_form (form.Reference t) k = refl
+  element_form (form.Array t n) k = cc
+  element_form (form.Function f) k = element_function (slice_get tables.types.funs f)
+  element_form (form.DataMember c t) k = refl
+  element_form (form.FunctionMember c f) k = refl
+
+  pub element_none : (t : ℕ) (x : Form) → bare tables t ≡ form_type tables x → elements_in x ≡ None → type_in tables (place.Of t) ≡ element (type_in tables (place.Of t))
+  element_none t x e k = e ∙ element_form x k ∙ sym (ap element e)
+
+  pub element_some : (t : ℕ) (x : Form) (u n : ℕ) → bare tables t ≡ form_type tables x → elements_in x ≡ Some (u, n) → type_in tables (place.Of u) ≡ element (type_in tables (place.Of t))
+  element_some t (form.Array v m) u n e k =
+      let p : v ≡ u = ap (λ (x : ℕ × ℕ). x.0) (same_pair (v, m) (u, n) k) in ap (bare tables) (sym p) ∙ sym (ap element e)
+  element_some t x u n e k = cc

@@ -10,8 +10,8 @@ use Rattle.cf_core.specs.FromTypes.{Tables, type_of, fun_type, taking, class_cod
 use Rattle.cf_core.specs.Size.{Extent, extent_with, size}
 use Rattle.cf_lower_types.specs.declared.form.Form.{Form}
 use Rattle.cf_lower_types.specs.declared.form.Form.TheVariants as form
-use Rattle.cf_lower_types.specs.declared.place.PlaceType.TheVariants as place
-use Rattle.cf_lower_types.specs.Bare.{bare, classes_of, form_type, type_in}
+use Rattle.cf_lower_types.specs.Bare.{bare, classes_of, form_type}
+use Rattle.cf_lower_types.specs.Forms.{elements_in, bytes_in}
 
 module _ (whole : Name → Extent) where
   extent_by_bare : (t : SourceType) → extent_with whole (without_const t) ≡ extent_with whole t
@@ -33,32 +33,50 @@ size_by_bare cs t = ap (λ (e : Extent). e.size) (extent_by_bare _ t)
 
 -- ---- by the form
 
-pub size_at : (tables : Tables) (t : ℕ) (x : Form) → bare tables t ≡ form_type tables x → size (classes_of tables) (type_of tables t) ≡ size (classes_of tables) (form_type tables x)
-size_at tables t x e = sym (size_by_bare (classes_of tables) (type_of tables t)) ∙ ap (size (classes_of tables)) e
-
-pub array_at : (tables : Tables) (t u n : ℕ) → bare tables t ≡ form_type tables (form.Array u n)
-    → size (classes_of tables) (type_of tables t) ≡ n * size (classes_of tables) (type_of tables u)
-array_at tables t u n e = size_at tables t (form.Array u n) e ∙ ap (λ s. n * s) (size_by_bare (classes_of tables) (type_of tables u))
-
-function_size : (cs : List Class) (rec : ℕ → SourceType) (o : Option Fun) → size cs (without_const (fun_type rec o)) ≡ 1
-function_size cs rec None = refl
-function_size cs rec (Some f) = by f.params
-  where
-    by : (ps : List ℕ) → size cs (without_const (taking (map rec ps) (gives (rec f.result) f.is_const))) ≡ 1
-    by [] = refl
-    by (p ∷ ps) = refl
-
-pub function_at : (tables : Tables) (t f : ℕ) → bare tables t ≡ form_type tables (form.Function f) → 1 ≡ size (classes_of tables) (type_of tables t)
-function_at tables t f e =
-    sym (size_at tables t (form.Function f) e ∙ function_size (classes_of tables) (type_of tables) (slice_get tables.types.funs f))
-
 class_size : (c : Name) → size [] (class c) ≡ 1
 class_size c = refl
 
-pub class_at : (tables : Tables) (t c : ℕ) → tables.classes.defined ≡ [] → bare tables t ≡ form_type tables (form.Class c)
-    → 1 ≡ size (classes_of tables) (type_of tables t)
-class_at tables t c none e =
-    sym (size_at tables t (form.Class c) e ∙ ap (λ ds. size (classes_in tables ds) (class (class_code tables.classes c))) none ∙ class_size (class_code tables.classes c))
+same_pair : (a b : ℕ × ℕ) → Some a ≡ Some b → a ≡ b
+same_pair a b e = cc
 
-pub characters_at : (tables : Tables) (n : ℕ) → n ≡ size (classes_of tables) (type_in tables (place.Characters n))
-characters_at tables n = sym (mul-one n)
+module _ (tables : Tables) (t : ℕ) (x : Form) (e : bare tables t ≡ form_type tables x) where
+  size_at : size (classes_of tables) (form_type tables x) ≡ size (classes_of tables) (type_of tables t)
+  size_at = sym (ap (size (classes_of tables)) e) ∙ size_by_bare (classes_of tables) (type_of tables t)
+
+  pub array_at : (u n : ℕ) → elements_in x ≡ Some (u, n) → n * size (classes_of tables) (type_of tables u) ≡ size (classes_of tables) (type_of tables t)
+  array_at u n k = by x k ∙ size_at
+    where
+      by : (x : Form) → elements_in x ≡ Some (u, n) → n * size (classes_of tables) (type_of tables u) ≡ size (classes_of tables) (form_type tables x)
+      by (form.Array v m) k =
+          let p = same_pair (v, m) (u, n) k in
+          sym (ap (λ s. m * s) (size_by_bare (classes_of tables) (type_of tables v))
+          ∙ ap (λ i. i * size (classes_of tables) (type_of tables v)) (ap (λ (y : ℕ × ℕ). y.1) p)
+          ∙ ap (λ w. n * size (classes_of tables) (type_of tables w)) (ap (λ (y : ℕ × ℕ). y.0) p))
+      by y k = cc
+
+  function_size : (o : Option Fun) → size (classes_of tables) (without_const (fun_type (type_of tables) o)) ≡ 1
+  function_size None = refl
+  function_size (Some f) = by f.params
+    where
+      by : (ps : List ℕ) → size (classes_of tables) (without_const (taking (map (type_of tables) ps) (gives (type_of tables f.result) f.is_const))) ≡ 1
+      by [] = refl
+      by (p ∷ ps) = refl
+
+  pub bytes_at : tables.classes.defined ≡ [] → elements_in x ≡ None → bytes_in x ≡ size (classes_of tables) (type_of tables t)
+  bytes_at none k = by x k ∙ size_at
+    where
+      by : (x : Form) → elements_in x ≡ None → bytes_in x ≡ size (classes_of tables) (form_type tables x)
+      by form.Void k = refl
+      by (form.Integer l) k = refl
+      by (form.Enumeration n) k = refl
+      by (form.Class c) k =
+          sym (ap (λ ds. size (classes_in tables ds) (class (class_code tables.classes c))) none ∙ class_size (class_code tables.classes c))
+      by (form.Pointer u) k = refl
+      by (form.Reference u) k = refl
+      by (form.Array u n) k = cc
+      by (form.Function f) k = sym (function_size (slice_get tables.types.funs f))
+      by (form.DataMember c u) k = refl
+      by (form.FunctionMember c f) k = refl
+
+pub characters_at : (cs : List Class) (n : ℕ) → n ≡ size cs (array (integer Char) n)
+characters_at cs n = sym (mul-one n)

@@ -1,13 +1,16 @@
 -- What the code's types, by numbers of a file's table, stand for.
-use Rattle.std.specs.Prelude.{ℕ, ◌<◌, Bool, true, false, List, length, All, slice_get}
+use Rattle.std.specs.Prelude.{◌≡◌, ℕ, ◌<◌, Bool, true, false, List, [], length, map, All, Option, Some, None, slice_get}
 use Rattle.cf_base.specs.declared.kind.Kind.TheVariants.{Char}
+use Rattle.cf_types.specs.declared.ty.Fun.{Fun}
 use Rattle.cf_types.specs.Table.{parts_of_fun}
 use Rattle.cf_classes.specs.LinkName.{scope_code, enum_names}
-use Rattle.cf_core.specs.Types.{SourceType, void, integer, enumeration, class, pointer, reference, array, data_member, function_member, without_const}
+use Rattle.cf_core.specs.Types.{SourceType, void, integer, enumeration, class, pointer, reference, array, data_member, function_member, gives, without_const, parameters, result}
+use Rattle.cf_core.specs.Places.{is_reference}
 use Rattle.cf_core.specs.Classes.{Class}
 use Rattle.cf_core.specs.FromClasses.{classes_in}
-use Rattle.cf_core.specs.FromTypes.{Tables, type_of, fun_type, class_code}
-use Rattle.cf_lower_layout.specs.Sorts.{Sort, number, address, code}
+use Rattle.cf_core.specs.FromTypes.{Tables, type_of, fun_type, taking, class_code}
+use Rattle.cf_lower_layout.specs.Sorts.{Sort, number, address, code, sort_to}
+use Rattle.cf_lower.specs.Kept.{referred}
 use Rattle.cf_lower_types.specs.declared.form.Form.{Form}
 use Rattle.cf_lower_types.specs.declared.form.Form.TheVariants as form
 use Rattle.cf_lower_types.specs.declared.place.PlaceType.{PlaceType}
@@ -73,3 +76,19 @@ abbrev pub is_code : Sort → Bool
 is_code (number k) = false
 is_code (address t) = false
 is_code (code t) = true
+
+-- the type that a reference is to, if it is one
+abbrev pub Refers : Tables → ℕ → Option ℕ → Type 0
+Refers tables t None = is_reference (type_of tables t) ≡ false
+Refers tables t (Some u) = (is_reference (type_of tables t) ≡ true) × (referred (type_of tables t) ≡ type_of tables u)
+
+-- a type that is no function's has no parameters and no result
+pub record IsNoFunction (t : SourceType) : Type 0 where
+  pub code : is_code (sort_to t) ≡ false
+  pub parameters : parameters t ≡ []
+  pub result : result t ≡ void
+
+-- the function type of this number, if it is one
+abbrev pub IsFunction : Tables → ℕ → Option Fun → Type 0
+IsFunction tables t None = IsNoFunction (type_of tables t)
+IsFunction tables t (Some f) = type_of tables t ≡ taking (map (type_of tables) f.params) (gives (type_of tables f.result) f.is_const)

@@ -6,7 +6,7 @@ ghost use Rattle.cf_core.specs.Types.{element};
 ghost use Rattle.cf_lower_layout.specs.Sorts as sorts;
 ghost use Rattle.cf_lower_types.specs.Bare.{sort_in, type_in};
 
-use crate::form::{Form, form_of};
+use crate::form::{elements_in, form_of};
 use crate::scalar::{Scalar, sort_of};
 use crate::tables::Tables;
 use cf_base::Kind;
@@ -34,13 +34,13 @@ pub fn element_of(tables: &Tables<'_>, ty: PlaceType) -> PlaceType
 }
 
 /// The same of one of the unit's types.
-#[tactic(auto, using(crate::proofs::Scalars::element_array, crate::proofs::Scalars::element_other))]
+#[tactic(auto, using(crate::proofs::Scalars::element_none, crate::proofs::Scalars::element_some))]
 fn element_at(tables: &Tables<'_>, id: TyId) -> PlaceType
     ensures { type_in tables.now result ≡ element (type_in tables.now (PlaceType.Of id)) }
 {
-    match form_of(tables, id) {
-        Form::Array(element, _) => PlaceType::Of(element),
-        _ => PlaceType::Of(id),
+    match elements_in(form_of(tables, id)) {
+        Some(elements) => PlaceType::Of(elements.ty),
+        None => PlaceType::Of(id),
     }
 }
 

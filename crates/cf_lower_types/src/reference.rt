@@ -1,26 +1,24 @@
 //! What a name of a reference's type stands for.
 
-ghost use Rattle.std.specs.Prelude.{◌≡◌, is_some, IfSome};
+ghost use Rattle.std.specs.Prelude.{◌≡◌};
 ghost use Rattle.cf_core.specs.FromTypes.{type_of};
-ghost use Rattle.cf_core.specs.Places.{is_reference};
 ghost use Rattle.cf_core.specs.Types.{without_const};
 ghost use Rattle.cf_lower.specs.Kept as kept;
 ghost use Rattle.cf_lower_layout.specs.Sorts as sorts;
-ghost use Rattle.cf_lower_types.specs.Bare.{sort_in};
+ghost use Rattle.cf_lower_types.specs.Bare.{Refers, sort_in};
+ghost use Rattle.cf_lower_types.specs.Forms as spec;
 
+use crate::form::under_const;
 use crate::scalar::{Scalar, sort_to};
 use crate::tables::Tables;
 use cf_types::{Ty, TyId};
 
-/// The type that a reference of this type is to; none where it is no reference.
-#[tactic(auto, using(crate::proofs::References::found_within))]
-pub fn referred(tables: &Tables<'_>, id: TyId) -> Option<TyId>
-    ensures tested { is_some result ≡ is_reference (type_of tables.now id) }
-    ensures target { IfSome result (λ t. kept.referred (type_of tables.now id) ≡ type_of tables.now t) }
+/// The type that a reference is to.
+fn target_in(ty: Ty) -> Option<TyId>
+    ensures { result ≡ spec.target_in ty }
 {
-    match tables.entry(id) {
+    match ty {
         Ty::Ref(target) => Some(target),
-        Ty::Const(inside) => referred(tables, inside),
         Ty::Void
         | Ty::Int(_)
         | Ty::Enum(_)
@@ -29,12 +27,25 @@ pub fn referred(tables: &Tables<'_>, id: TyId) -> Option<TyId>
         | Ty::Array(_, _)
         | Ty::Fun(_)
         | Ty::MemData(_, _)
-        | Ty::MemFun(_, _) => None,
+        | Ty::MemFun(_, _)
+        | Ty::Const(_) => None,
+    }
+}
+
+/// The type that a reference of this type is to; none where it is no reference.
+#[tactic(auto, using(crate::proofs::References::const_refers, crate::proofs::References::other_refers, crate::proofs::Forms::const_below))]
+pub fn referred(tables: &Tables<'_>, id: TyId) -> Option<TyId>
+    ensures { Refers tables.now id result }
+{
+    let ty = tables.entry(id);
+    match under_const(ty) {
+        Some(inside) => referred(tables, inside),
+        None => target_in(ty),
     }
 }
 
 /// What the address of the place is that a name of this type stands for: a reference is another name for what it is bound to (8.4.3).
-#[tactic(auto, using(crate::proofs::References::sort_of_target, crate::proofs::References::sort_of_itself))]
+#[tactic(auto, using(crate::proofs::References::sort_refers, crate::proofs::References::sort_itself))]
 pub fn place_sort(tables: &Tables<'_>, id: TyId) -> Scalar
     ensures { sort_in tables.now result ≡ sorts.sort_to (without_const (kept.referred (type_of tables.now id))) }
 {

@@ -5,8 +5,9 @@ ghost use Rattle.cf_base.specs.Integers.{width};
 ghost use Rattle.cf_core.specs.FromTypes.{type_of};
 ghost use Rattle.cf_core.specs.Size.{size};
 ghost use Rattle.cf_lower_types.specs.Bare.{classes_of, type_in};
+ghost use Rattle.cf_lower_types.specs.Forms as spec;
 
-use crate::form::{Form, form_of};
+use crate::form::{Form, elements_in, form_of};
 use crate::place::PlaceType;
 use crate::tables::Tables;
 use cf_base::{Kind, Memory};
@@ -23,24 +24,31 @@ fn bytes(kind: Kind) -> u64
     }
 }
 
-/// The bytes of an object of the type of this number. Those of a valid unit are few; a number beyond 64 bits is answered as if
-/// memory had ended.
-#[tactic(auto, using(crate::proofs::Sizes::size_at, crate::proofs::Sizes::array_at, crate::proofs::Sizes::function_at))]
+/// The bytes of an object that is no array.
+fn bytes_in(form: Form) -> u64
+    ensures { result ≡ spec.bytes_in form }
+{
+    match form {
+        Form::Integer(kind) => bytes(kind),
+        Form::Void | Form::Class(_) | Form::Function(_) | Form::Array(_, _) => 1,
+        Form::Enumeration(_) | Form::Pointer(_) | Form::Reference(_) | Form::DataMember(_, _) => 4,
+        Form::FunctionMember(_, _) => 12,
+    }
+}
+
+/// The bytes of an object of the type of this number. Those of a valid unit are few; a number beyond 64 bits is answered as if memory had ended.
+#[tactic(auto, using(crate::proofs::Sizes::array_at, crate::proofs::Sizes::bytes_at, crate::proofs::Forms::elements_below))]
 pub fn size_of(tables: &Tables<'_>, id: TyId) -> Result<u64, Memory>
     ensures { IfOk result (λ n. n ≡ size (classes_of tables.now) (type_of tables.now id)) }
 {
     let _classes = tables.classes();
-    match form_of(tables, id) {
-        Form::Array(element, count) => {
-            let each = size_of(tables, element)?;
-            u64::from(count).checked_mul(each).ok_or(Memory)
+    let form = form_of(tables, id);
+    match elements_in(form) {
+        Some(elements) => {
+            let each = size_of(tables, elements.ty)?;
+            u64::from(elements.count).checked_mul(each).ok_or(Memory)
         }
-        Form::Integer(kind) => Ok(bytes(kind)),
-        Form::Void | Form::Class(_) | Form::Function(_) => Ok(1),
-        Form::Enumeration(_) | Form::Pointer(_) | Form::Reference(_) | Form::DataMember(_, _) => Ok(
-            4,
-        ),
-        Form::FunctionMember(_, _) => Ok(12),
+        None => Ok(bytes_in(form)),
     }
 }
 
