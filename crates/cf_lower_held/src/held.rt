@@ -2,7 +2,7 @@
 
 ghost use Rattle.std.specs.Prelude.{◌≡◌, IfOk};
 ghost use Rattle.std.specs.Option.{option_map};
-ghost use Rattle.cf_core.specs.FromTypes.{Tables};
+ghost use Rattle.cf_core.specs.FromTypes.{Tables as TablesOf};
 ghost use Rattle.cf_lower.specs.Kept as definition;
 ghost use Rattle.cf_lower_types.specs.Bare.{sort_in};
 ghost use Rattle.cf_lower_held.specs.Holds.{erased, kept_in};
@@ -28,7 +28,7 @@ pub enum Held {
 
 /// What a register holds that a scalar of this kind is put into.
 pub fn of_scalar(given: Option<Scalar>) -> Held
-    ensures { (tables : Tables) → kept_in tables result ≡ erased (definition.of_sort (option_map (sort_in tables) given)) }
+    ensures { (tables : TablesOf) → kept_in tables result ≡ erased (definition.of_sort (option_map (sort_in tables) given)) }
 {
     match given {
         None => Held::Nothing,
@@ -40,7 +40,7 @@ pub fn of_scalar(given: Option<Scalar>) -> Held
 
 /// As which scalar a register holds it: an integer is an int there.
 pub fn local_of(kept: Held) -> Option<Scalar>
-    ensures { (tables : Tables) → option_map (sort_in tables) result ≡ definition.local_kept (kept_in tables kept) }
+    ensures { (tables : TablesOf) → option_map (sort_in tables) result ≡ definition.local_kept (kept_in tables kept) }
 {
     match kept {
         Held::Nothing | Held::Argument(_, _) => None,
@@ -63,7 +63,7 @@ pub fn both(tables: &Tables<'_>, a: Held, b: Held) -> Result<Held, Memory>
 
 /// The same where the first is an integer.
 fn both_integers(b: Held) -> Held
-    ensures { (tables : Tables) → kept_in tables result ≡ definition.both_kept (kept_in tables held.Integer) (kept_in tables b) }
+    ensures { (tables : TablesOf) → kept_in tables result ≡ definition.both_kept (kept_in tables held.Integer) (kept_in tables b) }
 {
     match b {
         Held::Integer => Held::Integer,

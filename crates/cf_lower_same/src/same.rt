@@ -2,7 +2,7 @@
 
 ghost use Rattle.std.specs.Prelude.{◌≡◌, IfOk};
 ghost use Rattle.cf_core.specs.Types.{type_eq};
-ghost use Rattle.cf_core.specs.FromTypes.{Tables, type_of};
+ghost use Rattle.cf_core.specs.FromTypes.{Tables as TablesOf, type_of};
 ghost use Rattle.cf_lower_types.specs.Bare.{bare, type_in};
 
 use crate::alike::{Alike, alike};
@@ -49,7 +49,7 @@ pub fn same_places(tables: &Tables<'_>, a: PlaceType, b: PlaceType) -> Result<bo
 
 /// Whether two types that literals have are the same.
 fn same_literals(a: PlaceType, b: PlaceType) -> Result<bool, Memory>
-    ensures { (tables : Tables) → IfOk result (λ same. same ≡ type_eq (type_in tables a) (type_in tables b)) }
+    ensures { (tables : TablesOf) → IfOk result (λ same. same ≡ type_eq (type_in tables a) (type_in tables b)) }
 {
     match (a, b) {
         (PlaceType::Void, PlaceType::Void) | (PlaceType::Character, PlaceType::Character) => Ok(true),

@@ -59,15 +59,15 @@ module _ (x : Inside) where
   kept_erased g r a = put_erased g r a
 
 -- a loop whose turns end in a step, by what its two parts are written as
-abbrev pub stepped : Inside → List Statement → List Statement → List Statement
-stepped x ss ts =
+abbrev stepped_by : Inside → List Statement → List Statement → List Statement
+stepped_by x ss ts =
     c.loop (block
     (flag_set x.depth 0
     ∷ c.select nought (c.otherwise (stated_all ss c.closed))
     ∷ if_flag x.depth (c.leave ∷ [])
     ∷ ts)) ∷ []
 
-abbrev pub switched : Inside → Register → SwitchItems → List Statement
+abbrev switched : Inside → Register → SwitchItems → List Statement
 switched x r is = flag_set x.depth 0 ∷ c.select (integer_in r) is ∷ if_flag x.depth x.going_on ∷ []
 
 mutual
@@ -86,7 +86,7 @@ mutual
       let same = untouched_twice x.locals ss (more t ts) g in
       let first = alike (all_lowered ss (in_stepped x)) (all_erased ss (in_stepped x)) h k same in
       let second = alike (all_lowered (more t ts) (in_loop x)) (all_erased (more t ts) (in_loop x)) h k same in
-      ap (λ l. stepped x l (all_lowered (more t ts) (in_loop x) h)) first ∙ ap (stepped x (all_lowered ss (in_stepped x) k)) second
+      ap (λ l. stepped_by x l (all_lowered (more t ts) (in_loop x) h)) first ∙ ap (stepped_by x (all_lowered ss (in_stepped x) k)) second
   lowered_erased (switch r ss) x g =
       let h = untouched x.locals (erasing g) ss in
       let k = untouched x.locals g ss in

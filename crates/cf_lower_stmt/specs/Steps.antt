@@ -3,10 +3,12 @@ use Rattle.std.specs.Prelude.{ℕ, List, [], ◌∷◌, map, Option, Some, None}
 use Rattle.cc_whole.specs.declared.statement.CStatement.{CStatement}
 use Rattle.cc_whole.specs.declared.statement.CSwitchItem.{CSwitchItem}
 use Rattle.cc_whole.specs.Plain as c
-use Rattle.cc_whole.specs.Plain.{Expression, Statement, SwitchItem, SwitchItems}
+use Rattle.cc_whole.specs.Plain.{Body, Expression, Statement, SwitchItem, SwitchItems}
 use Rattle.cf_core.specs.FromTypes.{type_of}
-use Rattle.cf_lower.specs.Statements.{Inside, behind, flag_set, put, set_register}
-use Rattle.cf_lower.specs.Expressions.{zero as nought}
+use Rattle.cf_lower.specs.Statements.{Inside, all_lowered, behind, block, flag_set, if_flag, in_loop, in_stepped, put, set_register, stated_all}
+use Rattle.cf_lower.specs.Expressions.{integer_in, zero as nought}
+use Rattle.cf_lower.specs.Kept.{Keeping}
+use Rattle.cf_plain.specs.Plain.{Plains}
 use Rattle.cf_lower.specs.Written.{if_scalar}
 use Rattle.cf_lower_layout.specs.Sorts.{Sort}
 use Rattle.cf_lower_held.specs.declared.scene.Scene.{Scene}
@@ -56,3 +58,16 @@ in_front [] rest = rest
 in_front (c.label k ∷ xs) rest = c.labelled k (in_front xs rest)
 in_front (c.default_label ∷ xs) rest = c.otherwise (in_front xs rest)
 in_front (c.inner s ∷ xs) rest = c.stated s (in_front xs rest)
+
+-- a branch by the number in a register
+abbrev pub branched : ℕ → Body → Body → Statement
+branched r yes no = c.choose (integer_in r) yes no
+
+-- a loop whose turns end in a step, where registers hold the same at both
+abbrev pub stepped : Plains → Plains → Inside → Keeping → Statement
+stepped ss ts x g =
+    c.loop (block
+    (flag_set x.depth 0
+    ∷ c.select nought (c.otherwise (stated_all (all_lowered ss (in_stepped x) g) c.closed))
+    ∷ if_flag x.depth (c.leave ∷ [])
+    ∷ all_lowered ts (in_loop x) g))

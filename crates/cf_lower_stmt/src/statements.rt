@@ -1,12 +1,19 @@
 //! The statements of a function.
 
 ghost use Rattle.std.specs.Prelude.{◌≡◌, ◌++◌, [], ◌∷◌, map, IfOk, OnOk};
-ghost use Rattle.cc_whole.specs.Plain.{body_of, switch_in_order};
+ghost use Rattle.cc_whole.specs.Plain as c;
+ghost use Rattle.cc_whole.specs.Plain.{body_of, inner, switch_in_order};
+ghost use Rattle.cc_whole.specs.declared.types.CConstant.TheVariants as constants;
+ghost use Rattle.cf_base.specs.Integers.{convert};
+ghost use Rattle.cf_base.specs.declared.kind.Kind.TheVariants as kind;
 ghost use Rattle.cf_lower.specs.Kept as definition;
 ghost use Rattle.cf_lower.specs.Statements as spec;
 ghost use Rattle.cf_lower_held.specs.Holds.{erasing};
 ghost use Rattle.cf_lower_held.specs.Scenes.{holding, locals_in, statement_in, statements_in};
-ghost use Rattle.cf_lower_stmt.specs.Steps.{inside, labels_of, written, written_items};
+ghost use Rattle.cf_lower_held.specs.declared.scene.Scene.{Scene as SceneOf};
+ghost use Rattle.cf_lower_stmt.specs.Steps.{branched, inside, stepped, written, written_items};
+ghost use Rattle.cf_lower_stmt.specs.declared.around.Around.{Around as AroundOf};
+ghost use Rattle.cf_plain.specs.Plain as plain;
 
 use crate::around::{Around, Way};
 use crate::leaves::{done, kept};
@@ -21,7 +28,7 @@ use cf_types::convert_int;
 
 /// What is around the body of a loop whose turns end in a step: `continue` goes to the step, and `break` sets the flag before.
 fn in_stepped(around: Around) -> Result<Around, Memory>
-    ensures { (x : Scene) → IfOk result (λ inner. inside x inner ≡ spec.in_stepped (inside x around)) }
+    ensures { (x : SceneOf) → IfOk result (λ inner. inside x inner ≡ spec.in_stepped (inside x around)) }
 {
     Ok(Around {
         depth: around.depth.checked_add(1).ok_or(Memory)?,
@@ -32,7 +39,7 @@ fn in_stepped(around: Around) -> Result<Around, Memory>
 
 /// What is around the body of a loop.
 fn in_loop(around: Around) -> Around
-    ensures { (x : Scene) → inside x result ≡ spec.in_loop (inside x around) }
+    ensures { (x : SceneOf) → inside x result ≡ spec.in_loop (inside x around) }
 {
     Around {
         depth: around.depth,
@@ -43,7 +50,7 @@ fn in_loop(around: Around) -> Around
 
 /// What is around the statements of a switch: `continue` leaves it with the flag set.
 fn in_switch(around: Around) -> Result<Around, Memory>
-    ensures { (x : Scene) → IfOk result (λ inner. inside x inner ≡ spec.in_switch (inside x around)) }
+    ensures { (x : SceneOf) → IfOk result (λ inner. inside x inner ≡ spec.in_switch (inside x around)) }
 {
     Ok(Around {
         depth: around.depth.checked_add(1).ok_or(Memory)?,
@@ -82,7 +89,7 @@ fn put_return(
     rs: &Registers,
     code: &mut Items<CStatement>,
 ) -> Result<(), Memory>
-    ensures { (around : Around) → OnOk result (written code.new ≡ written code.old ++ spec.lowered (plain.give register) (inside x.now around) (holding x.now rs.now)) }
+    ensures { (around : AroundOf) → OnOk result (written code.new ≡ written code.old ++ spec.lowered (plain.give register) (inside x.now around) (holding x.now rs.now)) }
 {
     match register {
         None => no_value(x, code),
