@@ -5,7 +5,6 @@ ghost use Rattle.std.specs.Option.{option_map};
 ghost use Rattle.cc_whole.specs.Plain.{expression_of};
 ghost use Rattle.cf_core.specs.FromTypes.{Tables as TablesOf};
 ghost use Rattle.cf_lower.specs.Expressions as spec;
-ghost use Rattle.cf_lower.specs.Kept as kept;
 ghost use Rattle.cf_lower_held.specs.Holds.{kept_in};
 ghost use Rattle.cf_lower_held.specs.Scenes.{holding};
 ghost use Rattle.cf_lower_names.specs.Cells.{cell_of};

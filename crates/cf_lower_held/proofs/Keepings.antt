@@ -76,7 +76,7 @@ module _ (tables : Tables) (first second : List Held) where
 
   pub met_more : (i : ℕ) (xs zs : List Held) (x y z : Held) → IsMet i xs → i < length xs → y ≡ held_at xs i → z ≡ held_at second i
       → kept_in tables x ≡ both_kept (kept_in tables y) (kept_in tables z) → zs ≡ slice_set xs i x → IsMet (i + 1) zs
-  met_more i xs zs x y z met lt at with both set q =
+  met_more i xs zs x y z met lt at there both set q =
       ap (λ l. kept_in tables (held_at l q)) set ∙ ap (kept_in tables) (at_set xs i x q lt) ∙ by (q == i) refl
     where
       abbrev Met : Bool → ℕ → Kept
@@ -89,7 +89,7 @@ module _ (tables : Tables) (first second : List Held) where
       by true e =
           let p : q ≡ i = grind (arith, nat_tests) in
           let below : nat_lt i (i + 1) ≡ true = grind (arith, nat_tests) in
-          both ∙ ap (λ k. both_kept k (kept_in tables z)) here ∙ ap (λ h. both_kept (kept_in tables (held_at first i)) (kept_in tables h)) with
+          both ∙ ap (λ k. both_kept k (kept_in tables z)) here ∙ ap (λ h. both_kept (kept_in tables (held_at first i)) (kept_in tables h)) there
           ∙ sym (ap (λ b. Met b i) below) ∙ ap (λ n. Met (nat_lt n (i + 1)) n) (sym p)
       by false e =
           let same : nat_lt q i ≡ nat_lt q (i + 1) = grind (arith, nat_tests) in

@@ -1,6 +1,6 @@
 //! The names of the C's locals and of literals.
 
-ghost use Rattle.std.specs.Prelude.{◌≡◌, ◌++◌, IfOk, codes, decimal};
+ghost use Rattle.std.specs.Prelude.{◌≡◌, ◌++◌, IfOk, decimal};
 ghost use Rattle.cf_lower.specs.Written as written;
 ghost use Rattle.cf_lower_names.specs.Cells.{sort_for};
 

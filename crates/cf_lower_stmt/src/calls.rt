@@ -6,7 +6,6 @@ ghost use Rattle.cc_whole.specs.Plain as c;
 ghost use Rattle.cc_whole.specs.Plain.{callee_of, expression_of};
 ghost use Rattle.cf_core.specs.FromTypes.{Tables as TablesOf, type_of};
 ghost use Rattle.cf_lower.specs.Statements as spec;
-ghost use Rattle.cf_lower.specs.Written.{c_type, if_scalar};
 ghost use Rattle.cf_lower_types.specs.Bare.{sort_in};
 ghost use Rattle.cf_lower_stmt.specs.Calls.{type_or_none, result_kept};
 ghost use Rattle.cf_lower_stmt.specs.Steps.{written};

@@ -1,11 +1,10 @@
 //! The statements that are written.
 
-ghost use Rattle.std.specs.Prelude.{◌≡◌, ◌++◌, [], ◌∷◌, Some, IfOk, OnOk};
+ghost use Rattle.std.specs.Prelude.{◌≡◌, ◌++◌, [], ◌∷◌, IfOk, OnOk};
 ghost use Rattle.cc_whole.specs.Plain as c;
-ghost use Rattle.cc_whole.specs.Plain.{body_of, expression_of, place_of, statement_of};
+ghost use Rattle.cc_whole.specs.Plain.{body_of, expression_of, statement_of};
 ghost use Rattle.cf_core.specs.FromTypes.{type_of};
 ghost use Rattle.cf_lower.specs.Statements as spec;
-ghost use Rattle.cf_lower.specs.Written as names;
 ghost use Rattle.cf_lower_names.specs.Cells.{sort_for};
 ghost use Rattle.cf_lower_stmt.specs.Steps.{way_of, written};
 

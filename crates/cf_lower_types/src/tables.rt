@@ -1,6 +1,6 @@
 //! The tables of a file.
 
-ghost use Rattle.std.specs.Prelude.{◌≡◌, [], length, Some, slice_get};
+ghost use Rattle.std.specs.Prelude.{◌≡◌, ◌<◌, [], length, Some, slice_get};
 ghost use Rattle.cf_types.specs.Table.{Names, NamesBelow};
 ghost use Rattle.cf_classes.specs.Fit.{Fit};
 ghost use Rattle.cf_core.specs.FromTypes.{type_of, type_step};
