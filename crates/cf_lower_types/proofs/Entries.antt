@@ -1,15 +1,16 @@
 -- A type by its number is made of what the table has at this number.
-use Rattle.std.proofs.Common.{◌≡◌, ℕ, suc, ◌<◌, ◌≤◌, ◌==◌, Bool, true, false, List, [], ◌∷◌, length, map, reverse, Option, Some, None, slice_get, All, refl, ap, ◌∙◌, arith}
+use Rattle.std.proofs.Common.{◌≡◌, ℕ, suc, ◌<◌, ◌≤◌, ◌==◌, Bool, true, false, List, [], ◌∷◌, length, map, reverse, Option, Some, None, slice_get, All, refl, sym, ap, ◌∙◌, arith}
 use Rattle.std.proofs.lemmas.List.{length-reverse}
 use Rattle.std.proofs.lemmas.Bool.{eqb-true}
 use Rattle.cf_types.specs.declared.ty.Ty.{Ty}
 use Rattle.cf_types.specs.declared.ty.Ty.TheVariants as ty
 use Rattle.cf_types.specs.declared.ty.Fun.{Fun}
-use Rattle.cf_types.specs.Table.{Names, parts_of_fun}
+use Rattle.cf_types.specs.Table.{Table, Names, parts_of_fun}
 use Rattle.cf_classes.specs.TypeTree.{of_types}
 use Rattle.cf_classes.proofs.Trees.{of_type-at}
 use Rattle.cf_core.specs.Types.{SourceType, void, gives, pointer, reference, array, data_member, function_member, const}
 use Rattle.cf_core.specs.FromTypes.{Tables, type_of, type_step, taking, fun_type, class_code}
+use Rattle.cf_lower_types.specs.Ordered.{AreOrdered}
 
 -- ---- numbers that the table does not have
 
@@ -62,3 +63,19 @@ found tables t v h names = let r = of_type-at void (type_step tables) tables.typ
 
 pub no_names : (tables : Tables) (t : ℕ) → Names tables.types.funs t (length tables.types.funs) ty.Void
 no_names tables t = record { parts_known = λ k d lt. absurd (omega arith); fun_known = λ k d lt. absurd (omega arith) }
+
+-- ---- in ordered tables
+
+module _ (tables : Tables) (types : Table) (same : types ≡ tables.types) (t : ℕ) where
+  pub found_in : (v : Ty) → AreOrdered tables → slice_get types.types t ≡ Some v → type_of tables t ≡ type_step tables (type_of tables) v
+  found_in v ordered h =
+      let here : slice_get tables.types.types t ≡ Some v = sym (ap (λ (x : Table). slice_get x.types t) same) ∙ h in
+      found tables t v here (ordered.names t v here)
+
+  pub names_in : (v : Ty) → AreOrdered tables → slice_get types.types t ≡ Some v → Names tables.types.funs t (length tables.types.funs) v
+  names_in v ordered h = ordered.names t v (sym (ap (λ (x : Table). slice_get x.types t) same) ∙ h)
+
+  pub missing_in : (n : ℕ) → n ≡ length types.types → (t < n → ⊥) → type_of tables t ≡ void
+  missing_in n len past =
+      let count : n ≡ length tables.types.types = len ∙ ap (λ (x : Table). length x.types) same in
+      missing tables t (omega (arith, count, past))
