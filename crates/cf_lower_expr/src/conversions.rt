@@ -6,11 +6,11 @@ ghost use Rattle.cc_whole.specs.Plain.{expression_of};
 ghost use Rattle.cf_core.specs.FromTypes.{Tables as TablesOf};
 ghost use Rattle.cf_core.specs.Types.{SourceType};
 ghost use Rattle.cf_core.specs.View.{change_of};
-ghost use Rattle.cf_lower.specs.Expressions as spec;
+ghost use Rattle.cf_lower.specs.Expressions as definition;
 ghost use Rattle.cf_lower_held.specs.Holds.{kept_in};
 ghost use Rattle.cf_lower_held.specs.Scenes.{holding};
 ghost use Rattle.cf_lower_layout.specs.Sorts.{address};
-ghost use Rattle.cf_lower_expr.specs.Pointers.{in_integers};
+ghost use Rattle.cf_lower_expr.specs.Pointers as spec;
 ghost use Rattle.cf_lower_types.specs.Bare.{classes_of, sort_in};
 
 use crate::operators::operated;
@@ -24,32 +24,49 @@ use cf_lower_names::{Cell, address_in, as_bits, as_value, at_kind, in_register, 
 use cf_lower_types::Scalar;
 use std::alloc::Global;
 
-/// A value as an address or a function: an integer is the constant 0, and an address or a function stays what it is.
-#[tactic(auto, using(cf_lower_names::proofs::CellLaws::register_by_cell, cf_lower_names::proofs::CellLaws::value_by_cell))]
+/// What is converted to an address or a function: an integer is the constant 0, and any other value is what stands in the register.
+#[tactic(auto, using(cf_lower_names::proofs::CellLaws::register_by_cell))]
+fn in_integers(
+    alloc: Global,
+    scalar: Scalar,
+    held: Held,
+    operand: u32,
+) -> Result<Boxed<CExpression>, Memory>
+    ensures { (tables : TablesOf) → IfOk result (λ made. expression_of made ≡ spec.in_integers (kept_in tables held) (sort_in tables scalar) operand) }
+{
+    match held {
+        Held::Integer => zero(alloc),
+        Held::Nothing | Held::Value(_) | Held::Argument(_, _) => {
+            let made = in_register(alloc, cell(scalar), operand)?;
+            Ok(made)
+        }
+    }
+}
+
+/// A value as an address or a function.
+#[tactic(auto, using(cf_lower_names::proofs::CellLaws::value_by_cell))]
 fn as_pointer(
     alloc: Global,
     scalar: Scalar,
     held: Held,
     operand: u32,
 ) -> Result<Boxed<CExpression>, Memory>
-    ensures { (tables : TablesOf) → IfOk result (λ made. expression_of made ≡ spec.as_value (sort_in tables scalar) (in_integers (kept_in tables held) (sort_in tables scalar) operand)) }
+    ensures { (tables : TablesOf) → IfOk result (λ made. expression_of made ≡ definition.as_value (sort_in tables scalar) (spec.in_integers (kept_in tables held) (sort_in tables scalar) operand)) }
 {
-    let cell = cell(scalar);
-    let value = match held {
-        Held::Integer => zero(alloc)?,
-        Held::Nothing | Held::Value(_) | Held::Argument(_, _) => in_register(alloc, cell, operand)?,
-    };
-    as_value(alloc, cell, value)
+    let value = in_integers(alloc, scalar, held, operand)?;
+    let made = as_value(alloc, cell(scalar), value)?;
+    Ok(made)
 }
 
 /// An integer as one of another kind, the constant 0 as a null pointer, a pointer as what it is (4).
+#[tactic(auto, using(crate::proofs::Converted::address_by, crate::proofs::Converted::code_by))]
 pub fn converted(
     alloc: Global,
     to: Option<Scalar>,
     held: Held,
     operand: u32,
 ) -> Result<Boxed<CExpression>, Memory>
-    ensures { (tables : TablesOf) → IfOk result (λ made. expression_of made ≡ spec.converted (option_map (sort_in tables) to) (kept_in tables held) operand) }
+    ensures { (tables : TablesOf) → IfOk result (λ made. expression_of made ≡ definition.converted (option_map (sort_in tables) to) (kept_in tables held) operand) }
 {
     match to {
         None => zero(alloc),
@@ -57,14 +74,20 @@ pub fn converted(
             alloc,
             at_kind(alloc, kind, integer_in(alloc, operand)?)?,
         ),
-        Some(Scalar::Address(ty)) => as_pointer(alloc, Scalar::Address(ty), held, operand),
-        Some(Scalar::Code(ty)) => as_pointer(alloc, Scalar::Code(ty), held, operand),
+        Some(Scalar::Address(ty)) => {
+            let made = as_pointer(alloc, Scalar::Address(ty), held, operand)?;
+            Ok(made)
+        }
+        Some(Scalar::Code(ty)) => {
+            let made = as_pointer(alloc, Scalar::Code(ty), held, operand)?;
+            Ok(made)
+        }
     }
 }
 
 /// A pointer to void as one to an object (5.4).
 pub fn from_void(alloc: Global, operand: u32) -> Result<Boxed<CExpression>, Memory>
-    ensures { (t : SourceType) → IfOk result (λ made. expression_of made ≡ spec.as_value (address t) (spec.address_in operand)) }
+    ensures { (t : SourceType) → IfOk result (λ made. expression_of made ≡ definition.as_value (address t) (definition.address_in operand)) }
 {
     as_value(alloc, Cell::Address, address_in(alloc, operand)?)
 }
@@ -77,7 +100,7 @@ pub fn changed(
     value: u32,
     by: u32,
 ) -> Result<Boxed<CExpression>, Memory>
-    ensures { IfOk result (λ made. expression_of made ≡ spec.changed (classes_of x.now.tables.now) (change_of change) (holding x.now rs.now) value by) }
+    ensures { IfOk result (λ made. expression_of made ≡ definition.changed (classes_of x.now.tables.now) (change_of change) (holding x.now rs.now) value by) }
 {
     match change {
         Change::Arithmetic { op, at, to } => {

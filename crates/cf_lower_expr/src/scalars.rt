@@ -39,7 +39,10 @@ fn local_value(
 {
     match scalar {
         None => zero(alloc),
-        Some(scalar) => in_register(alloc, cell(scalar), register),
+        Some(scalar) => {
+            let made = in_register(alloc, cell(scalar), register)?;
+            Ok(made)
+        }
     }
 }
 
@@ -64,7 +67,9 @@ fn as_held(
     ensures { (tables : TablesOf) → IfOk result (λ made. expression_of made ≡ spec.as_value (sort_in tables scalar) (spec.in_register (sort_in tables scalar) register)) }
 {
     let cell = cell(scalar);
-    as_value(alloc, cell, in_register(alloc, cell, register)?)
+    let held = in_register(alloc, cell, register)?;
+    let made = as_value(alloc, cell, held)?;
+    Ok(made)
 }
 
 /// What a register holds, once more; 0 where it is no address and no function.
@@ -92,7 +97,10 @@ fn loaded_or(
 {
     match scalar {
         None => zero(alloc),
-        Some(scalar) => loaded(alloc, cell(scalar), address_in(alloc, register)?),
+        Some(scalar) => {
+            let made = loaded(alloc, cell(scalar), address_in(alloc, register)?)?;
+            Ok(made)
+        }
     }
 }
 

@@ -114,7 +114,8 @@ fn call_for(
     push(code, CStatement::Call(Some(into), callee, values))?;
     let held = load_named(alloc, result_name(alloc, cell.c_type())?)?;
     let value = as_value(alloc, cell, held)?;
-    set_register(alloc, code, cell, register, value)
+    set_register(alloc, code, cell, register, value)?;
+    Ok(())
 }
 
 /// A call of a function of this type, whose result is kept in a register.

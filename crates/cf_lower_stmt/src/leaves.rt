@@ -121,7 +121,10 @@ fn put_in(
 {
     match scalar {
         None => Ok(()),
-        Some(scalar) => set_register(alloc, code, cell(scalar), register, value),
+        Some(scalar) => {
+            set_register(alloc, code, cell(scalar), register, value)?;
+            Ok(())
+        }
     }
 }
 

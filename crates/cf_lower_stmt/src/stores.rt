@@ -57,13 +57,11 @@ fn stored(
 {
     match scalar {
         None => Ok(()),
-        Some(scalar) => put(
-            alloc,
-            code,
-            cell(scalar),
-            address_in(alloc, place)?,
-            given,
-        ),
+        Some(scalar) => {
+            let there = address_in(alloc, place)?;
+            put(alloc, code, cell(scalar), there, given)?;
+            Ok(())
+        }
     }
 }
 
@@ -79,7 +77,8 @@ pub(crate) fn stored_in(
 {
     match kept {
         Held::Value(Scalar::Address(ty)) => {
-            stored(x.alloc, code, place_scalar(x.tables, ty), place, given)
+            stored(x.alloc, code, place_scalar(x.tables, ty), place, given)?;
+            Ok(())
         }
         Held::Value(Scalar::Number(_))
         | Held::Value(Scalar::Code(_))
@@ -105,7 +104,8 @@ fn first_argument(
         Some(scalar) => {
             let name = local_name(x.alloc, local)?;
             let stored = as_stored(x.alloc, cell(scalar), given)?;
-            assign(code, name, stored)
+            assign(code, name, stored)?;
+            Ok(())
         }
     }
 }
@@ -152,7 +152,8 @@ fn zero_at(
         None => Ok(()),
         Some(scalar) => {
             let there = behind(alloc, address_in(alloc, place)?, at)?;
-            put(alloc, code, cell(scalar), there, zero(alloc)?)
+            put(alloc, code, cell(scalar), there, zero(alloc)?)?;
+            Ok(())
         }
     }
 }
