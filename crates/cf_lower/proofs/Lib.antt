@@ -1,1 +1,4 @@
 mod Rows
+mod ConstantRows
+mod FileRows
+mod FunctionRows

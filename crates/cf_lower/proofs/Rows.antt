@@ -17,18 +17,18 @@ use Rattle.cc_whole.specs.ValidUnit.{valid_items}
 use Rattle.cc_whole_mean.specs.Start.{mean_of}
 use Rattle.cf_lower.specs.Functions.{scalar, lowered_file}
 
-abbrev statements : List Plain → Plains
+abbrev pub statements : List Plain → Plains
 statements [] = nothing
 statements (s ∷ ss) = more s (statements ss)
 
-abbrev function_type : List SourceType → SourceType → SourceType
+abbrev pub function_type : List SourceType → SourceType → SourceType
 function_type [] t = gives t false
 function_type (p ∷ ps) t = takes p (function_type ps t)
 
-abbrev int : SourceType
+abbrev pub int : SourceType
 int = integer Int
 
-abbrev function_of : Name → List SourceType → SourceType → List SourceType → List Plain → PlainFunction
+abbrev pub function_of : Name → List SourceType → SourceType → List SourceType → List Plain → PlainFunction
 function_of name ps t locals ss = record {
   name = name;
   role = plain_function;
@@ -39,16 +39,16 @@ function_of name ps t locals ss = record {
   is_local = false;
 }
 
-abbrev main_of : List SourceType → List Plain → PlainFunction
+abbrev pub main_of : List SourceType → List Plain → PlainFunction
 main_of locals ss = function_of (codes "__main") [] int locals ss
 
-abbrev file : List PlainFunction → List PlainStatic → PlainFile
+abbrev pub file : List PlainFunction → List PlainStatic → PlainFile
 file fs xs = record { classes = []; functions = fs; statics = xs }
 
-abbrev of_main : List SourceType → List Plain → PlainFile
+abbrev pub of_main : List SourceType → List Plain → PlainFile
 of_main locals ss = file (main_of locals ss ∷ []) []
 
-abbrev constant : Name → SourceType → List Plain → PlainStatic
+abbrev pub constant : Name → SourceType → List Plain → PlainStatic
 constant name t ss = record {
   name = name;
   type = t;
@@ -61,7 +61,7 @@ constant name t ss = record {
 }
 
 -- the `main` that linking adds, with the constants or without
-abbrev main_item : List Statement → Item
+abbrev pub main_item : List Statement → Item
 main_item before = defines (record {
   is_shared = false;
   prototype = record { is_static = false; result = Some ty.Int; name = codes "main"; parameters = [] };
@@ -69,16 +69,16 @@ main_item before = defines (record {
       (in_order (before ++ c_call (Some (named (codes "r"))) (by_name (codes "__main")) [] ∷ c_give (Some (load (named (codes "r")))) ∷ []));
 })
 
-abbrev items : PlainFile → List Item
+abbrev pub items : PlainFile → List Item
 items f = lowered_file f ++ main_item [] ∷ []
 
-abbrev with_constants : PlainFile → List Item
+abbrev pub with_constants : PlainFile → List Item
 with_constants f = lowered_file f ++ main_item (c_call None (by_name (codes "__hci")) [] ∷ []) ∷ []
 
-abbrev source : PlainFile → ℕ → Option Outcome
+abbrev pub source : PlainFile → ℕ → Option Outcome
 source f n = files_mean (f ∷ []) (codes "hi") 1048576 64 n
 
-abbrev target : List Item → ℕ → Outcome
+abbrev pub target : List Item → ℕ → Outcome
 target is n = mean_of is (codes "hi") 1048576 64 n
 
 -- int main(){return 7;}
@@ -94,10 +94,10 @@ unfolding digits same_type
 seven-valid = refl
 
 -- an int local i with the value of a register
-abbrev int_local : ℕ → ℕ → ℕ → List Plain
+abbrev pub int_local : ℕ → ℕ → ℕ → List Plain
 int_local r i q = set r (declare i int) ∷ act (first r q) ∷ []
 
-abbrev value_of : ℕ → ℕ → ℕ → List Plain
+abbrev pub value_of : ℕ → ℕ → ℕ → List Plain
 value_of r q i = set r (local i) ∷ set q (read r) ∷ []
 
 -- int main(){int s=0;int i=0;for(;i<5;i++){if(i==2)continue;s+=i;}return s;}
@@ -128,7 +128,7 @@ sum-valid = refl
 abbrev put : ℕ → ℕ → ℕ → List Plain
 put r q i = set r (declare i int) ∷ act (first r q) ∷ act (call (codes "putchar") (function_type (int ∷ []) int) None (i ∷ []) None) ∷ []
 
-abbrev called : Name → List SourceType → List ℕ → Action
+abbrev pub called : Name → List SourceType → List ℕ → Action
 called name ps is = call name (function_type ps int) None is None
 
 -- int g(int a){putchar('0'+a);return a;}int f(int a,int b){return a+b;}int main(){return f(g(1),g(2));}
@@ -156,7 +156,7 @@ unfolding digits same_type
 arguments-valid = refl
 
 -- int h(int a){return a+1;}int main(){int(*p)(int)=h;return p(4);}
-abbrev h_type : SourceType
+abbrev pub h_type : SourceType
 h_type = function_type (int ∷ []) int
 
 abbrev by_pointer : PlainFile

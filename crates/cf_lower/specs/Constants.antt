@@ -1,5 +1,5 @@
 -- Constant initialisers: what their statements store is known beforehand, so each store stands by itself, and no C local is used (8.4).
-use Rattle.std.specs.Prelude.{ℕ, ◌+◌, ◌*◌, ◌-◌, nat_le, Bool, true, false, if◌then◌else◌, List, [], ◌∷◌, ◌++◌, length, ℤ, pos, negsuc, neg_ℤ, Option, Some, None, Result, Ok, Err}
+use Rattle.std.specs.Prelude.{ℕ, zero, ◌+◌, ◌*◌, ◌-◌, nat_eq, Bool, true, false, not, if◌then◌else◌, List, [], ◌∷◌, ◌++◌, length, ℤ, pos, negsuc, neg_ℤ, Option, Some, None, Result, Ok, Err}
 use Rattle.cf_base.specs.declared.kind.Kind.TheVariants.{Char, Int}
 use Rattle.cf_base.specs.declared.arith.Arith.TheVariants as arith
 use Rattle.cf_base.specs.Integers.{int_op, convert as converted}
@@ -11,11 +11,11 @@ use Rattle.cf_core.specs.Classes.{Class}
 use Rattle.cf_core.specs.Size.{size}
 use Rattle.cf_lower_layout.specs.Sorts.{Sort, number, address, code, sort_of}
 use Rattle.cf_plain.specs.Plain as plain
-use Rattle.cf_plain.specs.Plain.{Register, Action, Plains, act, set, nothing, more}
+use Rattle.cf_plain.specs.Plain.{Register, Action, Plain, Plains, act, set, branch, nothing, more}
 use Rattle.cc_whole.specs.declared.types.CConstant.TheVariants as constants
 use Rattle.cc_whole.specs.Plain.{Expression, Statement, named, constant, load, address as address_of}
 use Rattle.cf_lower.specs.Written.{if_scalar, literal_name}
-use Rattle.cf_lower.specs.Expressions.{zero}
+use Rattle.cf_lower.specs.Expressions.{zero as nought}
 use Rattle.cf_lower.specs.Statements.{put, put_bytes, behind}
 
 -- what a register holds: a number, null, so many bytes behind the start of an object a place of this type, a function
@@ -30,11 +30,29 @@ abbrev pub nothing_known : Register → Known
 nothing_known r = unknown
 
 abbrev pub know : (Register → Known) → Register → Known → Register → Known
-know g r x q = if Rattle.std.specs.Prelude.nat_eq q r then x else g q
+know g r x q = if nat_eq q r then x else g q
 
 abbrev pub computed : Result ℤ ℕ → Known
 computed (Ok z) = a_number z
 computed (Err e) = unknown
+
+-- whether it is neither 0 nor null, where that is known (4.1, 5.3)
+abbrev pub holds_truth : Known → Option Bool
+holds_truth unknown = None
+holds_truth (a_number (pos zero)) = Some false
+holds_truth (a_number z) = Some true
+holds_truth null = Some false
+holds_truth (at n o t) = Some true
+holds_truth (a_function name) = Some true
+
+abbrev pub truth_known : Option Bool → Known
+truth_known None = unknown
+truth_known (Some true) = a_number (pos 1)
+truth_known (Some false) = a_number (pos 0)
+
+abbrev pub inverted : Option Bool → Option Bool
+inverted None = None
+inverted (Some b) = Some (not b)
 
 -- a number of bytes further, or before
 abbrev pub further : Name → SourceType → ℕ → ℕ → ℤ → Known
@@ -92,6 +110,8 @@ module _ (classes : List Class) where
       of_number : Known → Known
       of_number (a_number x) = computed (int_op arith.Xor k x (converted k (negsuc 0)))
       of_number x = unknown
+  known_by f g (plain.truth r) = truth_known (holds_truth (g r))
+  known_by f g (plain.logical_not r) = truth_known (inverted (holds_truth (g r)))
   known_by f g (plain.pointer_operate op r q) = pointer_known op (g r) (g q)
   known_by f g a = unknown
 
@@ -100,7 +120,7 @@ module _ (classes : List Class) where
   written (a_number z) = constant (constants.Signed (converted Int z))
   written (at n o t) = behind (address_of n) o
   written (a_function name) = load (named name)
-  written x = zero
+  written x = nought
 
   abbrev pub stored : Known → Known → List Statement
   stored (at n o t) v = if_scalar (sort_of t) [] (λ s. put s (behind (address_of n) o) (written v) ∷ [])
@@ -116,9 +136,27 @@ module _ (classes : List Class) where
   constant_done g (plain.bytes r bytes) = stored_bytes (g r) bytes
   constant_done g a = []
 
-  -- the stores of an initialiser whose literals are those of this function
-  abbrev pub constant_code : Plains → Name → (Register → Known) → List Statement
-  constant_code nothing f g = []
-  constant_code (more (act a) ss) f g = constant_done g a ++ constant_code ss f g
-  constant_code (more (set r a) ss) f g = constant_code ss f (know g r (known_by f g a))
-  constant_code (more s ss) f g = constant_code ss f g
+  abbrev mutual
+    -- what registers hold behind a statement; behind a branch what they hold behind the one that is taken (5.14 to 5.16)
+    pub known_after : Plain → Name → (Register → Known) → Register → Known
+    known_after (set r a) f g = know g r (known_by f g a)
+    known_after (branch r ss ts) f g =
+        elim (holds_truth (g r)) [ None ↦ nothing_known | Some b ↦ elim b [ true ↦ all_known_after ss f g | false ↦ all_known_after ts f g ] ]
+    known_after s f g = g
+
+    pub all_known_after : Plains → Name → (Register → Known) → Register → Known
+    all_known_after nothing f g = g
+    all_known_after (more s ss) f g = all_known_after ss f (known_after s f g)
+
+  abbrev mutual
+    -- the stores of a statement
+    pub constant_stores : Plain → Name → (Register → Known) → List Statement
+    constant_stores (act a) f g = constant_done g a
+    constant_stores (branch r ss ts) f g =
+        elim (holds_truth (g r)) [ None ↦ [] | Some b ↦ elim b [ true ↦ constant_code ss f g | false ↦ constant_code ts f g ] ]
+    constant_stores s f g = []
+
+    -- the stores of an initialiser whose literals are those of this function
+    pub constant_code : Plains → Name → (Register → Known) → List Statement
+    constant_code nothing f g = []
+    constant_code (more s ss) f g = constant_stores s f g ++ constant_code ss f (known_after s f g)

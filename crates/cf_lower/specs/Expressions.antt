@@ -15,7 +15,7 @@ use Rattle.cf_core.specs.Classes.{Class}
 use Rattle.cf_core.specs.Core.{Change, arithmetic, moved}
 use Rattle.cf_core.specs.Places.{is_reference}
 use Rattle.cf_core.specs.Size.{size}
-use Rattle.cf_lower_layout.specs.Sorts.{Sort, number, address, sort_to, sort_of}
+use Rattle.cf_lower_layout.specs.Sorts.{Sort, number, address, code, sort_to, sort_of}
 use Rattle.cf_plain.specs.Plain as plain
 use Rattle.cf_plain.specs.Plain.{Register, Action}
 use Rattle.cc_whole.specs.declared.types.CType.TheVariants as ty
@@ -100,6 +100,11 @@ sum_by classes x y r q = moved_by op.Add (address_in q) (element_bytes classes y
 abbrev pub sum_of : List Class → Keeping → Register → Register → Expression
 sum_of classes g r q = sum_by classes (g r) (g q) r q
 
+-- Whether two pointers are equal. Where they are to functions one of the two is null (5.10), and the C compares each with 0.
+abbrev pub equated : Arith → Kept → Expression → Expression → Expression
+equated o (holds (code t)) a b = binary o (binary op.Equal a zero) (binary op.Equal b zero)
+equated o x a b = binary o a b
+
 abbrev pub pointer_operated : List Class → PointerOperator → Keeping → Register → Register → Expression
 pointer_operated classes pointer.Add g r q = sum_of classes g r q
 pointer_operated classes pointer.Subtract g r q = moved_by op.Subtract (address_in r) (element_bytes classes (g r)) (integer_in q)
@@ -109,8 +114,8 @@ pointer_operated classes pointer.Less g r q = binary op.Less (value_in g r) (val
 pointer_operated classes pointer.Greater g r q = binary op.Greater (value_in g r) (value_in g q)
 pointer_operated classes pointer.LessEqual g r q = binary op.LessEqual (value_in g r) (value_in g q)
 pointer_operated classes pointer.GreaterEqual g r q = binary op.GreaterEqual (value_in g r) (value_in g q)
-pointer_operated classes pointer.Equal g r q = binary op.Equal (value_in g r) (value_in g q)
-pointer_operated classes pointer.NotEqual g r q = binary op.NotEqual (value_in g r) (value_in g q)
+pointer_operated classes pointer.Equal g r q = equated op.Equal (g r) (value_in g r) (value_in g q)
+pointer_operated classes pointer.NotEqual g r q = equated op.NotEqual (g r) (value_in g r) (value_in g q)
 
 -- what the scalar holds whose place is in a register
 abbrev pub loaded_or : Option Sort → Register → Expression

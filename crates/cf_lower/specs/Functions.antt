@@ -17,7 +17,8 @@ use Rattle.cc_whole.specs.declared.unit.CParameter.{CParameter}
 use Rattle.cc_whole.specs.declared.unit.CPrototype.{CPrototype}
 use Rattle.cc_whole.specs.declared.unit.CVariable.{CVariable}
 use Rattle.cc_whole.specs.declared.unit.CInitialiser.TheVariants as initialiser
-use Rattle.cc_whole.specs.Plain.{Statement, Function, Item, declares, defines, defines_variable, body, in_order}
+use Rattle.cc_whole.specs.Known.{is_in}
+use Rattle.cc_whole.specs.Plain.{Statement, Function, Item, declares, declares_variable, defines, defines_variable, body, in_order, name_of}
 use Rattle.cf_lower.specs.Kept.{Locals, nothing_kept}
 use Rattle.cf_lower.specs.Written.{if_scalar, c_type, int_constant, local_type, variable_type, result_of, local_name, register_name, flag_name, result_name, literal_name, type_number}
 use Rattle.cf_lower.specs.Statements.{Inside, all_lowered, no_value}
@@ -121,13 +122,17 @@ lowered_parameters i [] = []
 lowered_parameters i (t ∷ ts) =
     if_scalar (sort_of t) (lowered_parameters (suc i) ts) (λ s. record { ty = c_type s; name = local_name i } ∷ lowered_parameters (suc i) ts)
 
-abbrev pub prototype : PlainFunction → CPrototype
-prototype f = record {
-  is_static = f.is_local;
-  result = result_of (result_type f.type);
-  name = f.name;
-  parameters = lowered_parameters 0 (parameters f.type);
+-- a function of this name and type
+abbrev pub prototype_of : Bool → Name → SourceType → CPrototype
+prototype_of is_local name t = record {
+  is_static = is_local;
+  result = result_of (result_type t);
+  name = name;
+  parameters = lowered_parameters 0 (parameters t);
 }
+
+abbrev pub prototype : PlainFunction → CPrototype
+prototype f = prototype_of f.is_local f.name f.type
 
 -- A function that flows off its end gives what nothing can use.
 abbrev pub lowered_function : List Class → PlainFunction → Function
@@ -199,13 +204,43 @@ owner_of x = elim x.owner [ None ↦ codes "__sti" | Some f ↦ f ]
 abbrev pub start_literals : PlainStatic → List CVariable
 start_literals x = flat_map (literal_at (owner_of x) x.is_shared (x.is_local || not x.is_shared)) (all_actions x.start)
 
--- the items of a file: functions are declared before all else, so that their order does not matter
+abbrev pub own_prototypes : PlainFile → List Item
+own_prototypes file = map (λ (f : PlainFunction). declares (prototype f)) file.functions
+
+-- the static objects and the literals
+abbrev pub own_variables : PlainFile → List Item
+own_variables file =
+    map defines_variable
+    (map (lowered_static file.classes) file.statics ++ flat_map literals file.functions ++ flat_map start_literals file.statics)
+
+-- what an action names, as a declaration
+abbrev pub declared_at : List Class → Action → List Item
+declared_at classes (plain.static_object name t) = declares_variable (variable_type classes t) name ∷ []
+declared_at classes (plain.function name t) = declares (prototype_of false name t) ∷ []
+declared_at classes (plain.call name t object is into) = declares (prototype_of false name t) ∷ []
+declared_at classes a = []
+
+abbrev pub named_in : PlainFile → List Item
+named_in file =
+    flat_map (λ (f : PlainFunction). flat_map (declared_at file.classes) (all_actions f.body)) file.functions
+    ++ flat_map (λ (x : PlainStatic). flat_map (declared_at file.classes) (all_actions x.start)) file.statics
+
+-- the first item of each name but these
+abbrev pub other_names : List Name → List Item → List Item
+other_names names [] = []
+other_names names (i ∷ rest) = if is_in names (name_of i) then other_names names rest else i ∷ other_names (name_of i ∷ names) rest
+
+-- what a file names and does not define (3.3)
+abbrev pub defined_elsewhere : PlainFile → List Item
+defined_elsewhere file = other_names (map name_of (library ++ own_prototypes file ++ own_variables file)) (named_in file)
+
+-- The items of a file. Functions, and what other files define, are declared before all else, so that the order does not matter.
 abbrev pub lowered_file : PlainFile → List Item
 lowered_file file =
     library
-    ++ map (λ (f : PlainFunction). declares (prototype f)) file.functions
-    ++ map defines_variable
-    (map (lowered_static file.classes) file.statics ++ flat_map literals file.functions ++ flat_map start_literals file.statics)
+    ++ own_prototypes file
+    ++ defined_elsewhere file
+    ++ own_variables file
     ++ map (λ (f : PlainFunction). defines (lowered_function file.classes f)) file.functions
     ++ constants_function
     (flat_map (λ (x : PlainStatic). constant_code file.classes x.start (owner_of x) nothing_known) (filter (λ (x : PlainStatic). x.is_constant) file.statics))

@@ -7,14 +7,14 @@ use Rattle.cf_base.specs.declared.arith.Arith.TheVariants as op
 use Rattle.cf_core.specs.declared.operators.PointerOperator.TheVariants as pointer
 use Rattle.cf_core.specs.Types.{SourceType, void}
 use Rattle.cf_core.specs.Size.{size}
-use Rattle.cf_lower_layout.specs.Sorts.{number, address, code}
+use Rattle.cf_lower_layout.specs.Sorts.{number, address}
 use Rattle.cf_plain.specs.Plain as plain
 use Rattle.cf_plain.specs.Plain.{Register}
 use Rattle.cf_plain.specs.Running.{calls}
 use Rattle.cc_whole.specs.Plain.{binary, constant}
 use Rattle.cf_lower.specs.Kept.{holds, Keeping, a_truth, of_kind, local_kept}
 use Rattle.cf_lower.specs.Written.{int_constant}
-use Rattle.cf_lower.specs.Expressions.{element_bytes, address_in, in_register, local_value}
+use Rattle.cf_lower.specs.Expressions.{element_bytes, address_in, in_register, local_value, equated}
 use Rattle.cf_lower_turns.specs.Around.{Around}
 use Rattle.cf_lower_turns.specs.Scene.{Scene, again_at}
 use Rattle.cf_lower_pointers.proofs.Answers.{equal, unequal}
@@ -28,6 +28,12 @@ module _ (z : Scene) (fits : Fits z) (around : Around Keeping) (p : Keeping) (q 
     both-in : (o : Arith) → binary o (local_value (local_kept (p q)) q) (local_value (local_kept (p v)) v) ≡ binary o (in_register (address y) q) (in_register (address u) v)
     both-in o =
         ap (λ k. binary o (local_value (local_kept k) q) (local_value (local_kept (p v)) v)) kq
+        ∙ ap (λ k. binary o (in_register (address y) q) (local_value (local_kept k) v)) kv
+
+    equals-in : (o : Arith) → equated o (p q) (local_value (local_kept (p q)) q) (local_value (local_kept (p v)) v)
+        ≡ binary o (in_register (address y) q) (in_register (address u) v)
+    equals-in o =
+        ap (λ k. equated o k (local_value (local_kept k) q) (local_value (local_kept (p v)) v)) kq
         ∙ ap (λ k. binary o (in_register (address y) q) (local_value (local_kept k) v)) kv
 
     pub less-given : Given z around p (plain.pointer_operate pointer.Less q v)
@@ -98,7 +104,7 @@ module _ (z : Scene) (fits : Fits z) (around : Around Keeping) (p : Keeping) (q 
       local = refl;
       expression = binary op.Equal (in_register (address y) q) (in_register (address u) v);
       no_load = λ m. refl;
-      expressed = both-in op.Equal;
+      expressed = equals-in op.Equal;
       assigned = λ r. refl;
       dropped = refl;
       step = λ n g s t w h.
@@ -113,7 +119,7 @@ module _ (z : Scene) (fits : Fits z) (around : Around Keeping) (p : Keeping) (q 
       local = refl;
       expression = binary op.NotEqual (in_register (address y) q) (in_register (address u) v);
       no_load = λ m. refl;
-      expressed = both-in op.NotEqual;
+      expressed = equals-in op.NotEqual;
       assigned = λ r. refl;
       dropped = refl;
       step = λ n g s t w h.
@@ -134,40 +140,4 @@ module _ (z : Scene) (fits : Fits z) (around : Around Keeping) (p : Keeping) (q 
       dropped = refl;
       step = λ n g s t w h.
           comparing.difference-step z.program z.function z.signature h.map s t.memory h.between.rel w z.body.scope (calls (again_at z n)) p g h.between.registers q v y u kq kv no_void;
-    }
-
-  module _ (kq : p q ≡ holds (code y)) (kv : p v ≡ holds (code u)) where
-    codes-in : (o : Arith) → binary o (local_value (local_kept (p q)) q) (local_value (local_kept (p v)) v) ≡ binary o (in_register (code y) q) (in_register (code u) v)
-    codes-in o =
-        ap (λ k. binary o (local_value (local_kept k) q) (local_value (local_kept (p v)) v)) kq
-        ∙ ap (λ k. binary o (in_register (code y) q) (local_value (local_kept k) v)) kv
-
-    pub equal-code-given : Given z around p (plain.pointer_operate pointer.Equal q v)
-    equal-code-given = record {
-      kept = a_truth;
-      is = refl;
-      sort = number Int;
-      local = refl;
-      expression = binary op.Equal (in_register (code y) q) (in_register (code u) v);
-      no_load = λ m. refl;
-      expressed = codes-in op.Equal;
-      assigned = λ r. refl;
-      dropped = refl;
-      step = λ n g s t w h.
-          comparing.code-step z.program z.function z.signature h.map s t.memory h.between.rel w z.body.scope fits.numbered (calls (again_at z n)) p g h.between.registers q v y u kq kv op.Equal (λ b. b) equal;
-    }
-
-    pub unequal-code-given : Given z around p (plain.pointer_operate pointer.NotEqual q v)
-    unequal-code-given = record {
-      kept = a_truth;
-      is = refl;
-      sort = number Int;
-      local = refl;
-      expression = binary op.NotEqual (in_register (code y) q) (in_register (code u) v);
-      no_load = λ m. refl;
-      expressed = codes-in op.NotEqual;
-      assigned = λ r. refl;
-      dropped = refl;
-      step = λ n g s t w h.
-          comparing.code-step z.program z.function z.signature h.map s t.memory h.between.rel w z.body.scope fits.numbered (calls (again_at z n)) p g h.between.registers q v y u kq kv op.NotEqual (λ b. not b) unequal;
     }

@@ -38,7 +38,7 @@ use Rattle.cf_lower_turns.specs.Scene.{Scene, fixed_in}
 use Rattle.cf_lower_leaves.proofs.Leaves.{store-leaf}
 use Rattle.cf_lower_actions.specs.Fits.{Fits}
 use Rattle.cf_lower_actions.specs.Given.{Given, Silent}
-use Rattle.cf_lower_actions.specs.Leaf.{is_integer, is_address, is_pointer, is_tested, is_scalars_place, may_move, may_add, may_subtract, have_order, may_equal, may_operate, may_convert, may_hold, may_store, may_first, may_zero, are_chars, is_local, may_change, is_laid, const_on_none, is_own, is_object_local, is_reference_local, may_begin, names_function, is_promoted, is_promoted_change, gives_value, gives_nothing, is_text, may_set, may_do, may_give, is_leaf, IsThere, FirstThere, AlikeAt, RunsAlike}
+use Rattle.cf_lower_actions.specs.Leaf.{is_integer, is_address, is_pointer, is_tested, is_scalars_place, may_move, may_add, may_subtract, have_order, may_operate, may_convert, may_hold, may_store, may_first, may_zero, are_chars, is_local, may_change, is_laid, const_on_none, is_own, is_object_local, is_reference_local, may_begin, names_function, is_promoted, is_promoted_change, gives_value, gives_nothing, is_text, may_set, may_do, may_give, is_leaf, IsThere, FirstThere, AlikeAt, RunsAlike}
 use Rattle.cf_lower_actions.proofs.Begun.{declare-set, declare-done, argument-set, never, unseen, finish-done}
 use Rattle.cf_lower_actions.proofs.Cast as cast
 use Rattle.cf_lower_actions.proofs.Compared as compared
@@ -111,12 +111,6 @@ order-cases : {A : Type 0} (x y : Kept) → have_order x y ≡ true → ((t u : 
 order-cases (holds (address t)) (holds (address u)) e go = go t u refl refl
 order-cases x y e go = absurd (cc)
 
-equal-cases : {A : Type 0} (x y : Kept) → may_equal x y ≡ true → ((t u : SourceType) → x ≡ holds (address t) → y ≡ holds (address u) → A)
-    → ((t u : SourceType) → x ≡ holds (code t) → y ≡ holds (code u) → A) → A
-equal-cases (holds (code t)) (holds (code u)) e go others = others t u refl refl
-equal-cases (holds (address t)) (holds (address u)) e go others = go t u refl refl
-equal-cases x y e go others = absurd (cc)
-
 move-cases : {A : Type 0} (x y : Kept) → may_move x y ≡ true → ((t : SourceType) (f : Kind → Bool) → (t ≡ void → ⊥) → x ≡ holds (address t) → y ≡ integer_of f → A) → A
 move-cases (holds (address t)) (integer_of f) e go = go t f (no-void t e) refl refl
 move-cases x y e go = absurd (cc)
@@ -182,10 +176,8 @@ module _ (z : Scene) (fits : Fits z) (around : Around Keeping) (p : Keeping) whe
       add-cases (p q) (p v) e (λ t f nv kq kv. moved_by.sum-given z fits around p q v t f nv kq kv) (λ t f nv kq kv. moved_by.sum-turned-given z fits around p q v t f nv kq kv)
   pointers-by pointer.Subtract q v e = move-cases (p q) (p v) e (λ t f nv kq kv. moved_by.back-given z fits around p q v t f nv kq kv)
   pointers-by pointer.Difference q v e = difference-by q v (p q) (p v) refl refl e
-  pointers-by pointer.Equal q v e =
-      equal-cases (p q) (p v) e (λ t u kq kv. compared.equal-given z fits around p q v t u kq kv) (λ t u kq kv. compared.equal-code-given z fits around p q v t u kq kv)
-  pointers-by pointer.NotEqual q v e =
-      equal-cases (p q) (p v) e (λ t u kq kv. compared.unequal-given z fits around p q v t u kq kv) (λ t u kq kv. compared.unequal-code-given z fits around p q v t u kq kv)
+  pointers-by pointer.Equal q v e = order-cases (p q) (p v) e (λ t u kq kv. compared.equal-given z fits around p q v t u kq kv)
+  pointers-by pointer.NotEqual q v e = order-cases (p q) (p v) e (λ t u kq kv. compared.unequal-given z fits around p q v t u kq kv)
   pointers-by pointer.Less q v e = order-cases (p q) (p v) e (λ t u kq kv. compared.less-given z fits around p q v t u kq kv)
   pointers-by pointer.Greater q v e = order-cases (p q) (p v) e (λ t u kq kv. compared.greater-given z fits around p q v t u kq kv)
   pointers-by pointer.LessEqual q v e = order-cases (p q) (p v) e (λ t u kq kv. compared.less-equal-given z fits around p q v t u kq kv)

@@ -72,21 +72,15 @@ abbrev pub may_subtract : Kept → Kept → Bool
 may_subtract (holds (address t)) (holds (address u)) = not (is_void t)
 may_subtract x y = false
 
--- pointers to objects, which have an order (5.9), or two to functions, which have none (5.10)
+-- pointers to objects (5.9, 5.10); of two to functions one has to be null, of which registers do not tell
 abbrev pub have_order : Kept → Kept → Bool
 have_order (holds (address t)) (holds (address u)) = true
 have_order x y = false
-
-abbrev pub may_equal : Kept → Kept → Bool
-may_equal (holds (code t)) (holds (code u)) = true
-may_equal x y = have_order x y
 
 abbrev pub may_operate : PointerOperator → Kept → Kept → Bool
 may_operate pointer.Add x y = may_add x y
 may_operate pointer.Subtract x y = may_move x y
 may_operate pointer.Difference x y = may_subtract x y
-may_operate pointer.Equal x y = may_equal x y
-may_operate pointer.NotEqual x y = may_equal x y
 may_operate op x y = have_order x y
 
 abbrev pub may_change : Change → Kept → Kept → Bool

@@ -9,7 +9,8 @@ use Rattle.cf_core.specs.Pointers.{truth_value}
 use Rattle.cc_whole_memory.specs.declared.value.Value.{Value}
 use Rattle.cc_whole_memory.specs.declared.value.Value.TheVariants as value
 use Rattle.cc_whole_mean.specs.Values as c
-use Rattle.cc_whole_mean.specs.Values.{number, by_equality}
+use Rattle.cc_whole_memory.specs.Blocks.{Memory}
+use Rattle.cc_whole_mean.specs.Values.{number, by_equality, applied}
 use Rattle.cf_lower_relate.specs.Map.{Fixed, Map}
 use Rattle.cf_lower.specs.Kept.{a_truth}
 use Rattle.cf_lower_steps.specs.Steps.{GivenAs}
@@ -38,3 +39,15 @@ unequal-by false = refl
 
 pub unequal : Equality op.NotEqual (λ b. not b)
 unequal = record { is = refl; by = unequal-by }
+
+-- `==` and `!=` between two truths, by whether they are the same
+pub record Sameness (o : Arith) (turn : Bool → Bool) : Type 0 where
+  pub both : (m : Memory) → applied o (c.truth_value true) (c.truth_value true) m ≡ Ok (c.truth_value (turn true))
+  pub first : (m : Memory) → applied o (c.truth_value true) (c.truth_value false) m ≡ Ok (c.truth_value (turn false))
+  pub second : (m : Memory) → applied o (c.truth_value false) (c.truth_value true) m ≡ Ok (c.truth_value (turn false))
+
+pub both-equal : Sameness op.Equal (λ b. b)
+both-equal = record { both = λ m. refl; first = λ m. refl; second = λ m. refl }
+
+pub both-unequal : Sameness op.NotEqual (λ b. not b)
+both-unequal = record { both = λ m. refl; first = λ m. refl; second = λ m. refl }

@@ -1,12 +1,12 @@
 -- Actions that compare two pointers, or take their difference.
-use Rattle.std.proofs.Common.{◌≡◌, ℕ, ◌+◌, ◌*◌, ◌≤◌, ◌<◌, nat_lt, nat_le, Bool, true, false, not, ◌&&◌, ◌==◌, if◌then◌else◌, refl, sym, ◌∙◌, ap, subst, arith}
-use Rattle.std.specs.Prelude.{ℤ, pos, ◌-ℤ◌, Some, Result, Ok, Err, bytes_eq}
+use Rattle.std.proofs.Common.{◌≡◌, ℕ, ◌+◌, ◌*◌, ◌≤◌, ◌<◌, nat_lt, nat_le, Bool, true, false, not, ◌&&◌, ◌==◌, if◌then◌else◌, refl, sym, ◌∙◌, ap, subst, arith, inl, inr}
+use Rattle.std.specs.Prelude.{ℤ, pos, ◌-ℤ◌, Some, Result, Ok, Err}
 use Rattle.std.proofs.lemmas.Bool.Decides.{nat_tests}
 use Rattle.cf_base.specs.declared.kind.Kind.TheVariants.{Int}
 use Rattle.cf_base.specs.declared.arith.Arith.{Arith}
 use Rattle.cf_base.specs.declared.arith.Arith.TheVariants as op
 use Rattle.cf_base.specs.Integers.{convert, truth, int_op, ranged}
-use Rattle.cf_base.proofs.Tests.{both, same_bytes, bytes_same}
+use Rattle.cf_base.proofs.Tests.{both}
 use Rattle.cf_base.specs.World.{World}
 use Rattle.cf_core.specs.Types.{Name, SourceType}
 use Rattle.cf_core.specs.Store as source
@@ -24,7 +24,7 @@ use Rattle.cf_lower_layout.proofs.Laid.{laid-at}
 use Rattle.cf_plain.specs.Plain as plain
 use Rattle.cf_plain.specs.Plain.{Register}
 use Rattle.cf_plain.specs.Acts.{Registers, acts, used_in}
-use Rattle.cc_whole.specs.Plain.{binary, constant}
+use Rattle.cc_whole.specs.Plain.{Expression, binary, constant}
 use Rattle.cc_whole_memory.specs.declared.value.Pointer.{Pointer}
 use Rattle.cc_whole_memory.specs.declared.value.Pointer.TheVariants as pointer
 use Rattle.cc_whole_memory.specs.declared.value.Value.{Value}
@@ -41,13 +41,14 @@ use Rattle.cf_lower_relate.proofs.Counts.{less-bytes, at-most-bytes, differences
 use Rattle.cf_lower_relate.proofs.Words.{convert-same}
 use Rattle.cf_lower.specs.Kept.{holds, a_truth, of_kind, Keeping}
 use Rattle.cf_lower.specs.Written.{int_constant}
-use Rattle.cf_lower.specs.Expressions.{in_register, address_in}
+use Rattle.cf_lower.specs.Expressions.{zero as nought, in_register, address_in}
 use Rattle.cf_lower_steps.specs.Steps.{HasValue, GivenAs, InRegisters, Step}
 use Rattle.cf_lower_steps.proofs.Operators.{of-kind, integer-kept}
-use Rattle.cf_lower_steps.proofs.Values.{K, step-need}
-use Rattle.cf_lower_pointers.proofs.Answers.{truth-number, truth-kept, Equality, equal, unequal}
+use Rattle.cf_lower_steps.proofs.Values.{K, step-need, step-used}
+use Rattle.cf_lower_pointers.proofs.Answers.{truth-number, truth-kept, Equality, Sameness}
 use Rattle.cf_lower_pointers.proofs.Moved.{AtPlace, at-place, not-dead-stands, pointed-size}
-use Rattle.cf_lower_pointers.proofs.Operands.{two-step}
+use Rattle.cf_lower_pointers.proofs.Operands.{value-held, two-step}
+use Rattle.cf_lower_pointers.specs.Sets.{OneIsNull}
 
 not-false : (b : Bool) → not b ≡ true → b ≡ false
 not-false true h = absurd (cc)
@@ -262,12 +263,16 @@ module _ (P : Program) (function : Name → ℕ) (signature : Name → SourceTyp
           of-values source.Null x hp hq = absurd hq.same
           of-values v x hp hq = absurd hp.same
 
-  -- ---- pointers to functions
+  -- ---- pointers to functions, of which one is null
 
   module _ (numbered : Numbered (K P function signature F)) (again : core.Again) (kept : Keeping) (g : Registers)
-      (regs : InRegisters (K P function signature F) F kept g scope m) (r q : Register) (t u : SourceType) (kr : kept r ≡ holds (code t)) (kq : kept q ≡ holds (code u)) where
+      (regs : InRegisters (K P function signature F) F kept g scope m) (r q : Register) (t u : SourceType) (kr : kept r ≡ holds (code t)) (kq : kept q ≡ holds (code u))
+      (one : OneIsNull g r q) where
+    abbrev is_null : Expression → Expression
+    is_null e = binary op.Equal e nought
+
     abbrev same_code : Arith → Result Value ℕ
-    same_code o = value_of (binary o (in_register (code t) r) (in_register (code u) q)) scope m
+    same_code o = value_of (binary o (is_null (in_register (code t) r)) (is_null (in_register (code u) q))) scope m
 
     abbrev LeftCode : source.Value → Type 0
     LeftCode v = HasValue (K P function signature F) F (holds (code t)) v (value_of (in_register (code t) r) scope m)
@@ -275,69 +280,59 @@ module _ (P : Program) (function : Name → ℕ) (signature : Name → SourceTyp
     abbrev RightCode : source.Value → Type 0
     RightCode v = HasValue (K P function signature F) F (holds (code u)) v (value_of (in_register (code u) q) scope m)
 
-    same-numbers : (f h : Name) → (K P function signature F).is_function f ≡ true → (K P function signature F).is_function h ≡ true
-        → function f == function h ≡ bytes_eq f h
-    same-numbers f h kf kh = by_test (bytes_eq f h) refl
-      where
-        by_test : (b : Bool) → bytes_eq f h ≡ b → function f == function h ≡ b
-        by_test true e = number-same (function f) (function h) (ap function (same_bytes f h e))
-        by_test false e = by_number (function f == function h) refl
-          where
-            by_number : (b : Bool) → function f == function h ≡ b → function f == function h ≡ false
-            by_number false n = n
-            by_number true n =
-                let same : function f ≡ function h = grind (arith, nat_tests, n) in
-                absurd (false-true (sym e ∙ bytes_same f h (numbered.apart f h kf kh same)))
-              where
-                false-true : false ≡ true → ⊥
-                false-true k = absurd (cc)
+    is-none : (e : Expression) (i : ℕ) (b : Bool) → value_of e scope m ≡ Ok (value.Function i) → i == 0 ≡ b → value_of (is_null e) scope m ≡ Ok (c.truth_value b)
+    is-none e i b h same = ap (λ a. on_ok a (λ x. applied op.Equal x (value.Number Int (pos 0)) m)) h ∙ ap (by_equality op.Equal) same
 
-    turned : (i : ℕ) → i == 0 ≡ false → 0 == i ≡ false
-    turned i e = grind (arith, nat_tests, e)
+    -- what the C gives, by whether each is null
+    by-nulls : (o : Arith) (i j : ℕ) (a b d : Bool) → value_of (in_register (code t) r) scope m ≡ Ok (value.Function i)
+        → value_of (in_register (code u) q) scope m ≡ Ok (value.Function j) → i == 0 ≡ a → j == 0 ≡ b
+        → applied o (c.truth_value a) (c.truth_value b) m ≡ Ok (c.truth_value d)
+        → GivenAs (K P function signature F) F a_truth (truth_value d) (same_code o)
+    by-nulls o i j a b d hx hy ha hb same =
+        truth-kept (K P function signature F) F d (same_code o)
+        (ap (λ x. on_ok x (λ x. on_ok (value_of (is_null (in_register (code u) q)) scope m) (λ y. applied o x y m))) (is-none (in_register (code t) r) i a hx ha)
+        ∙ ap (λ y. on_ok y (λ y. applied o (c.truth_value a) y m)) (is-none (in_register (code u) q) j b hy hb) ∙ same)
 
-    pub code-step : (o : Arith) (turn : Bool → Bool) → Equality o turn
+    pub code-step : (o : Arith) (turn : Bool → Bool) → Sameness o turn
         → Step (K P function signature F) F ((used_in g r >>= (λ x. used_in g q >>= (λ y. equal_values P.classes x y >>= (λ b. gives (truth_value (turn b)))))) s w)
         s w a_truth (same_code o)
     code-step o turn by =
-        two-step P function signature F s m w scope kept g regs a_truth (same_code o) r q (holds (code t)) (holds (code u)) (code t) (code u)
-        (λ x y. equal_values P.classes x y >>= (λ b. gives (truth_value (turn b)))) kr refl kq refl of-values
+        step-used P function signature F s w a_truth (same_code o) g r (λ x. used_in g q >>= (λ y. equal_values P.classes x y >>= (λ b. gives (truth_value (turn b)))))
+        (λ v iv uv.
+        step-used P function signature F s w a_truth (same_code o) g q (λ y. equal_values P.classes v y >>= (λ b. gives (truth_value (turn b))))
+        (λ x ix ux. of-values v x iv ix (value-held P function signature F s m w scope kept g regs r (holds (code t)) (code t) v kr refl iv uv)
+        (value-held P function signature F s m w scope kept g regs q (holds (code u)) (code u) x kq refl ix ux)))
       where
-        of-numbers : (i j : ℕ) (b : Bool) → value_of (in_register (code t) r) scope m ≡ Ok (value.Function i)
-            → value_of (in_register (code u) q) scope m ≡ Ok (value.Function j) → i == j ≡ b
-            → GivenAs (K P function signature F) F a_truth (truth_value (turn b)) (same_code o)
-        of-numbers i j b hx hy same =
-            truth-kept (K P function signature F) F (turn b) (same_code o)
-            (ap (λ a. on_ok a (λ x. on_ok (value_of (in_register (code u) q) scope m) (λ y. applied o x y m))) hx
-            ∙ ap (λ a. on_ok a (λ y. applied o (value.Function i) y m)) hy
-            ∙ ap (by_equality o) same ∙ by.by b)
+        not-null : (f h : Name) → g r ≡ Some (source.Code f) → g q ≡ Some (source.Code h) → OneIsNull g r q → ⊥
+        not-null f h iv ix (inl e) = absurd (cc)
+        not-null f h iv ix (inr e) = absurd (cc)
 
-        of-values : (v x : source.Value) → LeftCode v → RightCode x
+        of-values : (v x : source.Value) → g r ≡ Some v → g q ≡ Some x → LeftCode v → RightCode x
             → Step (K P function signature F) F ((equal_values P.classes v x >>= (λ b. gives (truth_value (turn b)))) s w) s w a_truth (same_code o)
-        of-values (source.Code f) (source.Code h) hp hq = record {
+        of-values (source.Code f) (source.Code h) iv ix hp hq = absurd (not-null f h iv ix one)
+        of-values source.Null source.Null iv ix hp hq = record {
           by = (
             refl,
             refl,
-            of-numbers (function f) (function h) (bytes_eq f h) (hp.is ∙ ap (λ (y : Value). Ok y) hp.same.is) (hq.is ∙ ap (λ (y : Value). Ok y) hq.same.is)
-                (same-numbers f h hp.same.known hq.same.known),
+            by-nulls o 0 0 true true (turn true) (hp.is ∙ ap (λ (y : Value). Ok y) hp.same) (hq.is ∙ ap (λ (y : Value). Ok y) hq.same) refl refl (by.both m),
           );
         }
-        of-values source.Null source.Null hp hq =
-            record { by = (refl, refl, of-numbers 0 0 true (hp.is ∙ ap (λ (y : Value). Ok y) hp.same) (hq.is ∙ ap (λ (y : Value). Ok y) hq.same) refl) }
-        of-values source.Null (source.Code h) hp hq = record {
+        of-values source.Null (source.Code h) iv ix hp hq = record {
           by = (
             refl,
             refl,
-            of-numbers 0 (function h) false (hp.is ∙ ap (λ (y : Value). Ok y) hp.same) (hq.is ∙ ap (λ (y : Value). Ok y) hq.same.is)
-                (turned (function h) (numbered.some h hq.same.known)),
+            by-nulls o 0 (function h) true false (turn false) (hp.is ∙ ap (λ (y : Value). Ok y) hp.same) (hq.is ∙ ap (λ (y : Value). Ok y) hq.same.is) refl
+                (numbered.some h hq.same.known) (by.first m),
           );
         }
-        of-values (source.Code f) source.Null hp hq = record {
+        of-values (source.Code f) source.Null iv ix hp hq = record {
           by = (
             refl,
             refl,
-            of-numbers (function f) 0 false (hp.is ∙ ap (λ (y : Value). Ok y) hp.same.is) (hq.is ∙ ap (λ (y : Value). Ok y) hq.same) (numbered.some f hp.same.known),
+            by-nulls o (function f) 0 false true (turn false) (hp.is ∙ ap (λ (y : Value). Ok y) hp.same.is) (hq.is ∙ ap (λ (y : Value). Ok y) hq.same)
+                (numbered.some f hp.same.known) refl (by.second m),
           );
         }
-        of-values (source.Code f) x hp hq = absurd hq.same
-        of-values source.Null x hp hq = absurd hq.same
-        of-values v x hp hq = absurd hp.same
+        of-values (source.Code f) x iv ix hp hq = absurd hq.same
+        of-values source.Null x iv ix hp hq = absurd hq.same
+        of-values v x iv ix hp hq = absurd hp.same

@@ -17,16 +17,16 @@ use Rattle.cf_plain.specs.Plain as plain
 use Rattle.cf_plain.specs.Plain.{Register}
 use Rattle.cf_plain.specs.Running.{calls}
 use Rattle.cc_whole.specs.declared.expression.Prefix.TheVariants as prefix
-use Rattle.cc_whole.specs.Plain.{binary, unary, constant}
+use Rattle.cc_whole.specs.Plain.{Expression, binary, unary, constant}
 use Rattle.cf_lower_relate.specs.Map.{Numbered}
 use Rattle.cf_lower.specs.Kept.{Kept, integer_of, holds, Keeping, a_truth, of_kind, of_sort, pointer_of, operated_kept, changed_kept, decayed_kept, local_kept}
 use Rattle.cf_lower.specs.Written.{int_constant}
-use Rattle.cf_lower.specs.Expressions.{moved_by, sum_by, element_bytes, address_in, integer_in, in_register, local_value, as_value, as_bits, at_kind, operated, same_value, converted}
+use Rattle.cf_lower.specs.Expressions.{moved_by, sum_by, element_bytes, address_in, integer_in, in_register, local_value, as_value, as_bits, at_kind, operated, same_value, converted, equated}
 use Rattle.cf_lower.specs.Expressions as c
 use Rattle.cf_lower.specs.Statements.{put_in}
 use Rattle.cf_lower_steps.specs.Moment.{Moment, fixed, Stands}
-use Rattle.cf_lower_pointers.specs.Sets.{Sets}
-use Rattle.cf_lower_pointers.proofs.Answers.{Equality, equal, unequal}
+use Rattle.cf_lower_pointers.specs.Sets.{Sets, OneIsNull}
+use Rattle.cf_lower_pointers.proofs.Answers.{Equality, equal, unequal, Sameness, both-equal, both-unequal}
 use Rattle.cf_lower_pointers.proofs.Casting as casting
 use Rattle.cf_lower_pointers.proofs.Comparing as comparing
 use Rattle.cf_lower_pointers.proofs.Comparing.{Orders, less, greater, less-equal, greater-equal}
@@ -109,6 +109,14 @@ module _ (at : Moment) (h : Stands at) where
         ap (λ z. put_in at.inside (Some (number Int)) r (binary o (local_value (local_kept z) q) (local_value (local_kept (at.kept v)) v))) kq
         ∙ ap (λ z. put_in at.inside (Some (number Int)) r (binary o (in_register (address t) q) (local_value (local_kept z) v))) kv
 
+    equals : (o : Arith) (r : Register)
+        → put_in at.inside (Some (number Int)) r
+        (equated o (at.kept q) (local_value (local_kept (at.kept q)) q) (local_value (local_kept (at.kept v)) v))
+        ≡ put_in at.inside (Some (number Int)) r (binary o (in_register (address t) q) (in_register (address u) v))
+    equals o r =
+        ap (λ z. put_in at.inside (Some (number Int)) r (equated o z (local_value (local_kept z) q) (local_value (local_kept (at.kept v)) v))) kq
+        ∙ ap (λ z. put_in at.inside (Some (number Int)) r (binary o (in_register (address t) q) (local_value (local_kept z) v))) kv
+
     pub less-lowered : Sets (plain.pointer_operate pointer.Less q v) a_truth at
     less-lowered = sets at h (plain.pointer_operate pointer.Less q v) a_truth (number Int) (binary op.Less (in_register (address t) q) (in_register (address u) v)) refl refl (compared op.Less)
         (comparing.ordered-step at.program at.function at.signature at.map at.state at.memory.memory h.between.rel at.world at.scope (calls at.again) at.kept at.registers
@@ -136,14 +144,14 @@ module _ (at : Moment) (h : Stands at) where
 
     pub equal-lowered : Sets (plain.pointer_operate pointer.Equal q v) a_truth at
     equal-lowered =
-        sets at h (plain.pointer_operate pointer.Equal q v) a_truth (number Int) (binary op.Equal (in_register (address t) q) (in_register (address u) v)) refl refl (compared op.Equal)
+        sets at h (plain.pointer_operate pointer.Equal q v) a_truth (number Int) (binary op.Equal (in_register (address t) q) (in_register (address u) v)) refl refl (equals op.Equal)
         (comparing.equal-step at.program at.function at.signature at.map at.state at.memory.memory h.between.rel at.world at.scope (calls at.again) at.kept at.registers
         h.between.registers q v t u kq kv op.Equal (λ b. b) equal)
 
     pub unequal-lowered : Sets (plain.pointer_operate pointer.NotEqual q v) a_truth at
     unequal-lowered =
         sets at h (plain.pointer_operate pointer.NotEqual q v) a_truth (number Int) (binary op.NotEqual (in_register (address t) q) (in_register (address u) v)) refl refl
-        (compared op.NotEqual)
+        (equals op.NotEqual)
         (comparing.equal-step at.program at.function at.signature at.map at.state at.memory.memory h.between.rel at.world at.scope (calls at.again) at.kept at.registers
         h.between.registers q v t u kq kv op.NotEqual (λ b. not b) unequal)
 
@@ -158,25 +166,31 @@ module _ (at : Moment) (h : Stands at) where
         (comparing.difference-step at.program at.function at.signature at.map at.state at.memory.memory h.between.rel at.world at.scope (calls at.again) at.kept at.registers
         h.between.registers q v t u kq kv no_void)
 
-  module _ (numbered : Numbered (fixed at)) (q v : Register) (t u : SourceType) (kq : at.kept q ≡ holds (code t)) (kv : at.kept v ≡ holds (code u)) where
+  module _ (numbered : Numbered (fixed at)) (q v : Register) (t u : SourceType) (kq : at.kept q ≡ holds (code t)) (kv : at.kept v ≡ holds (code u))
+      (one : OneIsNull at.registers q v) where
+    abbrev each : Arith → Expression
+    each o = binary o (binary op.Equal (in_register (code t) q) c.zero) (binary op.Equal (in_register (code u) v) c.zero)
+
     codes : (o : Arith) (r : Register)
-        → put_in at.inside (Some (number Int)) r (binary o (local_value (local_kept (at.kept q)) q) (local_value (local_kept (at.kept v)) v))
-        ≡ put_in at.inside (Some (number Int)) r (binary o (in_register (code t) q) (in_register (code u) v))
+        → put_in at.inside (Some (number Int)) r
+        (equated o (at.kept q) (local_value (local_kept (at.kept q)) q) (local_value (local_kept (at.kept v)) v))
+        ≡ put_in at.inside (Some (number Int)) r (each o)
     codes o r =
-        ap (λ z. put_in at.inside (Some (number Int)) r (binary o (local_value (local_kept z) q) (local_value (local_kept (at.kept v)) v))) kq
-        ∙ ap (λ z. put_in at.inside (Some (number Int)) r (binary o (in_register (code t) q) (local_value (local_kept z) v))) kv
+        ap (λ z. put_in at.inside (Some (number Int)) r (equated o z (local_value (local_kept z) q) (local_value (local_kept (at.kept v)) v))) kq
+        ∙ ap (λ z. put_in at.inside (Some (number Int)) r
+        (binary o (binary op.Equal (in_register (code t) q) c.zero) (binary op.Equal (local_value (local_kept z) v) c.zero))) kv
 
     pub equal-code-lowered : Sets (plain.pointer_operate pointer.Equal q v) a_truth at
     equal-code-lowered =
-        sets at h (plain.pointer_operate pointer.Equal q v) a_truth (number Int) (binary op.Equal (in_register (code t) q) (in_register (code u) v)) refl refl (codes op.Equal)
+        sets at h (plain.pointer_operate pointer.Equal q v) a_truth (number Int) (each op.Equal) refl refl (codes op.Equal)
         (comparing.code-step at.program at.function at.signature at.map at.state at.memory.memory h.between.rel at.world at.scope numbered (calls at.again) at.kept at.registers
-        h.between.registers q v t u kq kv op.Equal (λ b. b) equal)
+        h.between.registers q v t u kq kv one op.Equal (λ b. b) both-equal)
 
     pub unequal-code-lowered : Sets (plain.pointer_operate pointer.NotEqual q v) a_truth at
     unequal-code-lowered =
-        sets at h (plain.pointer_operate pointer.NotEqual q v) a_truth (number Int) (binary op.NotEqual (in_register (code t) q) (in_register (code u) v)) refl refl (codes op.NotEqual)
+        sets at h (plain.pointer_operate pointer.NotEqual q v) a_truth (number Int) (each op.NotEqual) refl refl (codes op.NotEqual)
         (comparing.code-step at.program at.function at.signature at.map at.state at.memory.memory h.between.rel at.world at.scope numbered (calls at.again) at.kept at.registers
-        h.between.registers q v t u kq kv op.NotEqual (λ b. not b) unequal)
+        h.between.registers q v t u kq kv one op.NotEqual (λ b. not b) both-unequal)
 
   -- ---- pointers that are tested
 

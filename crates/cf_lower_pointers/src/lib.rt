@@ -16,7 +16,7 @@ ghost use Rattle.cf_plain.specs.Plain.{Register};
 ghost use Rattle.cf_lower_relate.specs.Map.{Numbered};
 ghost use Rattle.cf_lower.specs.Kept.{integer_of, holds, a_truth, of_kind};
 ghost use Rattle.cf_lower_steps.specs.Moment.{Moment, fixed, Stands};
-ghost use Rattle.cf_lower_pointers.specs.Sets.{Sets};
+ghost use Rattle.cf_lower_pointers.specs.Sets.{Sets, OneIsNull};
 
 /// The law that a pointer moved by a number of elements is moved so in both, or the source comes to an undefined act (5.7, 5.2.1, 5.17). It does nothing.
 pub fn pointers_are_moved()
@@ -55,12 +55,12 @@ pub fn pointers_are_compared()
         → (t ≡ void → ⊥) → Sets (plain.pointer_operate pointer.Difference q v) (of_kind Int) at }
 {}
 
-/// The law that two pointers to functions compare alike in both, where each function has a number of its own (5.10). It does nothing.
+/// The law that two pointers to functions, one of which is null, compare alike in both, where each function has a number of its own (5.10). It does nothing.
 pub fn functions_are_compared()
     ensures equal { (at : Moment) → Stands at → Numbered (fixed at) → (q v : Register) (t u : SourceType) → at.kept q ≡ holds (code t) → at.kept v ≡ holds (code u)
-        → Sets (plain.pointer_operate pointer.Equal q v) a_truth at }
+        → OneIsNull at.registers q v → Sets (plain.pointer_operate pointer.Equal q v) a_truth at }
     ensures unequal { (at : Moment) → Stands at → Numbered (fixed at) → (q v : Register) (t u : SourceType) → at.kept q ≡ holds (code t) → at.kept v ≡ holds (code u)
-        → Sets (plain.pointer_operate pointer.NotEqual q v) a_truth at }
+        → OneIsNull at.registers q v → Sets (plain.pointer_operate pointer.NotEqual q v) a_truth at }
 {}
 
 /// The law that what is null, or 0, is found so in both (4.1, 5.3, 6.4). It does nothing.

@@ -3,6 +3,6 @@ use Rattle.cf_lower_pointers.proofs.functions_are_compared.Goals as goal
 
 pub returns : goal.returns
 returns c = record {
-  equal = λ at h numbered q v t u kq kv. equal-code-lowered at h numbered q v t u kq kv;
-  unequal = λ at h numbered q v t u kq kv. unequal-code-lowered at h numbered q v t u kq kv;
+  equal = λ at h numbered q v t u kq kv one. equal-code-lowered at h numbered q v t u kq kv one;
+  unequal = λ at h numbered q v t u kq kv one. unequal-code-lowered at h numbered q v t u kq kv one;
 }

@@ -1,0 +1,139 @@
+-- Small files that are lowered, and files that each test refuses.
+use Rattle.std.proofs.Common.{◌≡◌, ℕ, List, [], ◌∷◌, ◌++◌, refl}
+use Rattle.std.specs.Prelude.{pos, Option, Some, None, Bool, true, false, codes}
+use Rattle.std.specs.Fmt.{digits}
+use Rattle.cf_base.specs.declared.kind.Kind.TheVariants.{Char, Int, UInt}
+use Rattle.cf_core.specs.Types.{Name, SourceType, integer, pointer, data_member, takes, gives}
+use Rattle.cf_core.specs.Core.{plain_function}
+use Rattle.cf_plain.specs.Plain.{Action, Plain, Plains, PlainFunction, PlainStatic, PlainFile, nothing, more, act, set, branch, give, number, text, local, read, decay, convert, truth, logical_not, store, declare, first, finish, call, function, static_object, reach, finish_static}
+use Rattle.cc_whole.specs.Types.{same_type}
+use Rattle.cf_lower_program.specs.Types.{types_lowered}
+use Rattle.cf_lower_program.specs.Actions.{actions_lowered}
+use Rattle.cf_lower_program.specs.Names.{names_lowered, literals_differ, names_used}
+use Rattle.cf_lower_program.specs.Starts.{statics_known, texts_fit}
+use Rattle.cf_lower_program.specs.Lowerable.{Lowerable}
+
+abbrev statements : List Plain → Plains
+statements [] = nothing
+statements (s ∷ ss) = more s (statements ss)
+
+abbrev int : SourceType
+int = integer Int
+
+abbrev no_parameters : SourceType → SourceType
+no_parameters t = gives t false
+
+abbrev function_of : Name → SourceType → List SourceType → List Plain → PlainFunction
+function_of name t locals ss = record {
+  name = name;
+  role = plain_function;
+  type = t;
+  locals = locals;
+  body = statements ss;
+  is_shared = false;
+  is_local = false;
+}
+
+abbrev main_of : List SourceType → List Plain → PlainFunction
+main_of locals ss = function_of (codes "__main") (no_parameters int) locals ss
+
+abbrev file : List PlainFunction → List PlainStatic → PlainFile
+file fs xs = record { classes = []; functions = fs; statics = xs }
+
+abbrev static_of : Name → SourceType → List Plain → PlainStatic
+static_of name t ss = record {
+  name = name;
+  type = t;
+  locals = [];
+  start = statements (act (reach name) ∷ set 0 (static_object name t) ∷ ss ++ act (finish_static name) ∷ []);
+  owner = None;
+  is_constant = true;
+  is_shared = false;
+  is_local = false;
+}
+
+-- int main(){return 7;}
+abbrev returns_seven : List Plain
+returns_seven = set 0 (number (pos 7)) ∷ give (Some 0) ∷ []
+
+abbrev with_seven : List PlainStatic → PlainFile
+with_seven xs = file (main_of [] returns_seven ∷ []) xs
+
+-- extern int y;int f(int);int x=1&&2;char*s="a";int main(){return f(y);}
+abbrev f_type : SourceType
+f_type = takes int (no_parameters int)
+
+abbrev whole : PlainFile
+whole = file (main_of (int ∷ [])
+    (act (function (codes "f__Fi") f_type) ∷ set 0 (declare 0 int) ∷ set 1 (static_object (codes "y") int) ∷ set 1 (read 1) ∷ act (first 0 1)
+    ∷ set 0 (call (codes "f__Fi") f_type None (0 ∷ []) None) ∷ give (Some 0) ∷ []) ∷ [])
+    (static_of (codes "x") int
+    (set 1 (number (pos 1)) ∷ set 1 (truth 1) ∷ branch 1 (statements (set 1 (number (pos 2)) ∷ set 1 (truth 1) ∷ [])) nothing ∷ act (first 0 1) ∷ [])
+    ∷ static_of (codes "s") (pointer (integer Char)) (set 1 (text 0 (97 ∷ 0 ∷ [])) ∷ set 1 (decay 1) ∷ act (first 0 1) ∷ []) ∷ [])
+
+whole-is-lowered : Lowerable whole
+unfolding digits same_type
+whole-is-lowered = record {
+  valid = refl;
+  no_classes = refl;
+  roles = refl;
+  types = refl;
+  actions = refl;
+  names = refl;
+  used = refl;
+  statics = refl;
+  texts = refl;
+  literals = refl;
+  labels = refl;
+  kept = refl;
+  ready = refl;
+  opened = refl;
+}
+
+-- struct A;int f(int A::*p){..}
+member-refused : types_lowered (file (function_of (codes "f__FM1Ai") (takes (data_member (codes "1A") int) (no_parameters int)) [] returns_seven ∷ []) []) ≡ false
+unfolding digits
+member-refused = refl
+
+-- a function of the name of what runs before `main`, and a main of another type
+abbrev named_only : Name → SourceType → PlainFile
+named_only name t = file (function_of name t [] returns_seven ∷ []) []
+
+main-named : names_lowered (named_only (codes "__main") (no_parameters int)) ≡ true
+unfolding digits same_type
+main-named = refl
+
+start-refused : names_lowered (named_only (codes "__sti") (no_parameters int)) ≡ false
+unfolding digits same_type
+start-refused = refl
+
+unsigned-main-refused : names_lowered (named_only (codes "__main") (no_parameters (integer UInt))) ≡ false
+unfolding digits same_type
+unsigned-main-refused = refl
+
+main-with-parameters-refused : names_lowered (named_only (codes "__main") f_type) ≡ false
+unfolding digits same_type
+main-with-parameters-refused = refl
+
+-- int x=g(); as a constant
+call-refused : statics_known (with_seven (static_of (codes "x") int (set 1 (call (codes "g__Fv") (no_parameters int) None [] None) ∷ act (first 0 1) ∷ []) ∷ [])) ≡ false
+unfolding digits
+call-refused = refl
+
+-- a literal without its ending 0
+abbrev literal : List ℕ → PlainFile
+literal bytes = with_seven (static_of (codes "s") (pointer (integer Char)) (set 1 (text 0 bytes) ∷ set 1 (decay 1) ∷ act (first 0 1) ∷ []) ∷ [])
+
+open-literal-refused : texts_fit (literal (97 ∷ [])) ≡ false
+unfolding digits
+open-literal-refused = refl
+
+-- a store whose value is kept
+kept-store-refused : actions_lowered (file (main_of (int ∷ []) (set 0 (declare 0 int) ∷ set 1 (number (pos 1)) ∷ set 2 (store 0 1) ∷ returns_seven) ∷ []) []) ≡ false
+unfolding digits
+kept-store-refused = refl
+
+-- a name that is used for nothing
+unused-name-refused : names_used (file (main_of [] (act (static_object (codes "y") int) ∷ returns_seven) ∷ []) []) ≡ false
+unfolding digits
+unused-name-refused = refl
