@@ -13,7 +13,7 @@ use Rattle.cf_lower_layout.specs.Sorts.{Sort, number, address, code, sort_of}
 use Rattle.cf_plain.specs.Plain as plain
 use Rattle.cf_plain.specs.Plain.{Action}
 use Rattle.cf_lower.specs.Kept.{Kept, unknown, integer_of, holds, argument, Keeping, Locals, local_kept}
-use Rattle.cf_lower.specs.Expressions.{zero, address_in, integer_in, local_value, value_in, read_value, same_value, element_bytes, sum_by, moved_by, converted, changed, pointer_operated, value}
+use Rattle.cf_lower.specs.Expressions.{zero, address_in, integer_in, local_value, value_in, read_value, same_value, element_bytes, sum_by, moved_by, equated, converted, changed, pointer_operated, value}
 use Rattle.cf_lower.specs.Written.{int_constant}
 use Rattle.cf_lower_held.specs.Holds.{erased, erasing}
 
@@ -71,6 +71,18 @@ module _ (classes : List Class) where
   compared_erased : (o : Arith) (g : Keeping) (r q : ℕ) → binary o (value_in (erasing g) r) (value_in (erasing g) q) ≡ binary o (value_in g r) (value_in g q)
   compared_erased o g r q = ap (λ e. binary o e (value_in (erasing g) q)) (value_in_erased g r) ∙ ap (binary o (value_in g r)) (value_in_erased g q)
 
+  equal_erased : (o : Arith) (x : Kept) (a b : Expression) → equated o (erased x) a b ≡ equated o x a b
+  equal_erased o unknown a b = refl
+  equal_erased o (integer_of f) a b = refl
+  equal_erased o (holds s) a b = refl
+  equal_erased o (argument i t) a b = refl
+
+  equated_erased : (o : Arith) (g : Keeping) (r q : ℕ)
+      → equated o (erased (g r)) (value_in (erasing g) r) (value_in (erasing g) q) ≡ equated o (g r) (value_in g r) (value_in g q)
+  equated_erased o g r q =
+      equal_erased o (g r) (value_in (erasing g) r) (value_in (erasing g) q) ∙ ap (λ e. equated o (g r) e (value_in (erasing g) q)) (value_in_erased g r)
+      ∙ ap (equated o (g r) (value_in g r)) (value_in_erased g q)
+
   operated_erased : (o : PointerOperator) (g : Keeping) (r q : ℕ) → pointer_operated classes o (erasing g) r q ≡ pointer_operated classes o g r q
   operated_erased pointer.Add g r q = sum_erased (g r) (g q) r q
   operated_erased pointer.Subtract g r q = ap (λ n. moved_by op.Subtract (address_in r) n (integer_in q)) (bytes_erased (g r))
@@ -82,8 +94,8 @@ module _ (classes : List Class) where
   operated_erased pointer.Greater g r q = compared_erased op.Greater g r q
   operated_erased pointer.LessEqual g r q = compared_erased op.LessEqual g r q
   operated_erased pointer.GreaterEqual g r q = compared_erased op.GreaterEqual g r q
-  operated_erased pointer.Equal g r q = compared_erased op.Equal g r q
-  operated_erased pointer.NotEqual g r q = compared_erased op.NotEqual g r q
+  operated_erased pointer.Equal g r q = equated_erased op.Equal g r q
+  operated_erased pointer.NotEqual g r q = equated_erased op.NotEqual g r q
 
   changed_erased : (c : Change) (g : Keeping) (r q : ℕ) → changed classes c (erasing g) r q ≡ changed classes c g r q
   changed_erased (arithmetic o k to) g r q = refl

@@ -2,7 +2,6 @@
 
 ghost use Rattle.std.specs.Prelude.{◌≡◌, IfOk};
 ghost use Rattle.cc_whole.specs.Plain.{expression_of};
-ghost use Rattle.cc_whole.specs.Plain as plain;
 ghost use Rattle.cf_lower.specs.Expressions as spec;
 ghost use Rattle.cf_lower_held.specs.Scenes.{action_in, holding, locals_in};
 ghost use Rattle.cf_lower_types.specs.Bare.{classes_of};
@@ -10,12 +9,12 @@ ghost use Rattle.cf_lower_types.specs.Bare.{classes_of};
 use crate::conversions::{changed, converted, from_void};
 use crate::operators::{changed_by, number, operated};
 use crate::places::{local_place, place_named};
-use crate::pointers::{pointer_operated, sum};
-use crate::scalars::{read_value, same_value, value_in};
+use crate::pointers::{pointer_operated, sum, tested};
+use crate::scalars::{read_value, same_value};
 use cc_whole::CExpression;
 use cf_base::{Arith, Boxed, Items, Memory, Name};
 use cf_lower_held::{Registers, Scene};
-use cf_lower_names::{address_of, as_bits, binary, literal_name, load_named, local_name, zero};
+use cf_lower_names::{address_of, as_bits, literal_name, load_named, local_name, zero};
 use cf_lower_types::sort_of;
 use cf_plain::Action;
 use std::alloc::Global;
@@ -25,19 +24,6 @@ fn copied(alloc: Global, name: &Name) -> Result<Name, Memory>
     ensures { IfOk result (λ made. made ≡ name.now) }
 {
     Items::from_slice(alloc, name.as_slice())
-}
-
-/// A value, compared with 0.
-fn tested(
-    x: &Scene<'_>,
-    op: Arith,
-    rs: &Registers,
-    operand: u32,
-) -> Result<Boxed<CExpression>, Memory>
-    ensures { IfOk result (λ made. expression_of made ≡ plain.binary op (spec.value_in (holding x.now rs.now) operand) spec.zero) }
-{
-    let value = value_in(x, rs, operand)?;
-    binary(x.alloc, op, value, zero(x.alloc)?)
 }
 
 /// The expression of what an action gives. Its operands stand in the C locals of their registers.

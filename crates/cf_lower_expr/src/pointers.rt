@@ -14,7 +14,7 @@ use cc_whole::CExpression;
 use cf_base::{Arith, Boxed, Memory};
 use cf_core::PointerOperator;
 use cf_lower_held::{Held, Registers, Scene};
-use cf_lower_names::{address_in, binary, integer_in, number};
+use cf_lower_names::{address_in, binary, integer_in, number, zero};
 use cf_lower_types::{Scalar, place_size};
 use std::alloc::Global;
 
@@ -120,6 +120,43 @@ fn compared(
     binary(x.alloc, op, a, value_in(x, rs, right)?)
 }
 
+/// A value, compared with 0.
+pub fn tested(
+    x: &Scene<'_>,
+    op: Arith,
+    rs: &Registers,
+    operand: u32,
+) -> Result<Boxed<CExpression>, Memory>
+    ensures { IfOk result (λ made. expression_of made ≡ plain.binary op (spec.value_in (holding x.now rs.now) operand) spec.zero) }
+{
+    let value = value_in(x, rs, operand)?;
+    binary(x.alloc, op, value, zero(x.alloc)?)
+}
+
+/// Whether two pointers are equal. Of two to functions one is null, and each is compared with 0 (5.10).
+fn equated(
+    x: &Scene<'_>,
+    op: Arith,
+    rs: &Registers,
+    left: u32,
+    right: u32,
+) -> Result<Boxed<CExpression>, Memory>
+    ensures { IfOk result (λ made. expression_of made ≡ spec.equated op (holding x.now rs.now left) (spec.value_in (holding x.now rs.now) left) (spec.value_in (holding x.now rs.now) right)) }
+{
+    match rs.get(left) {
+        Held::Value(Scalar::Code(_)) => {
+            let a = tested(x, Arith::Equal, rs, left)?;
+            let b = tested(x, Arith::Equal, rs, right)?;
+            binary(x.alloc, op, a, b)
+        }
+        Held::Value(Scalar::Number(_))
+        | Held::Value(Scalar::Address(_))
+        | Held::Nothing
+        | Held::Integer
+        | Held::Argument(_, _) => compared(x, op, rs, left, right),
+    }
+}
+
 /// An operator with a pointer.
 pub fn pointer_operated(
     x: &Scene<'_>,
@@ -138,7 +175,7 @@ pub fn pointer_operated(
         PointerOperator::Greater => compared(x, Arith::Greater, rs, left, right),
         PointerOperator::LessEqual => compared(x, Arith::LessEqual, rs, left, right),
         PointerOperator::GreaterEqual => compared(x, Arith::GreaterEqual, rs, left, right),
-        PointerOperator::Equal => compared(x, Arith::Equal, rs, left, right),
-        PointerOperator::NotEqual => compared(x, Arith::NotEqual, rs, left, right),
+        PointerOperator::Equal => equated(x, Arith::Equal, rs, left, right),
+        PointerOperator::NotEqual => equated(x, Arith::NotEqual, rs, left, right),
     }
 }
