@@ -47,11 +47,7 @@ fn local_value(
 }
 
 /// The value in a register.
-pub fn value_in(
-    x: &Scene<'_>,
-    rs: &Registers,
-    register: u32,
-) -> Result<Boxed<CExpression>, Memory>
+pub fn value_in(x: &Scene<'_>, rs: &Registers, register: u32) -> Result<Boxed<CExpression>, Memory>
     ensures { IfOk result (λ made. expression_of made ≡ spec.value_in (holding x.now rs.now) register) }
 {
     local_value(x.alloc, local_of(rs.get(register)), register)
@@ -59,11 +55,7 @@ pub fn value_in(
 
 /// What a register holds, once more.
 #[tactic(auto, using(cf_lower_names::proofs::CellLaws::register_by_cell, cf_lower_names::proofs::CellLaws::value_by_cell))]
-fn as_held(
-    alloc: Global,
-    scalar: Scalar,
-    register: u32,
-) -> Result<Boxed<CExpression>, Memory>
+fn as_held(alloc: Global, scalar: Scalar, register: u32) -> Result<Boxed<CExpression>, Memory>
     ensures { (tables : TablesOf) → IfOk result (λ made. expression_of made ≡ spec.as_value (sort_in tables scalar) (spec.in_register (sort_in tables scalar) register)) }
 {
     let cell = cell(scalar);
@@ -73,11 +65,7 @@ fn as_held(
 }
 
 /// What a register holds, once more; 0 where it is no address and no function.
-pub fn same_value(
-    alloc: Global,
-    held: Held,
-    register: u32,
-) -> Result<Boxed<CExpression>, Memory>
+pub fn same_value(alloc: Global, held: Held, register: u32) -> Result<Boxed<CExpression>, Memory>
     ensures { (tables : TablesOf) → IfOk result (λ made. expression_of made ≡ spec.same_value (kept_in tables held) register) }
 {
     match held {
@@ -105,11 +93,7 @@ fn loaded_or(
 }
 
 /// What the scalar holds whose place a register holds.
-pub fn read_value(
-    x: &Scene<'_>,
-    held: Held,
-    register: u32,
-) -> Result<Boxed<CExpression>, Memory>
+pub fn read_value(x: &Scene<'_>, held: Held, register: u32) -> Result<Boxed<CExpression>, Memory>
     ensures { IfOk result (λ made. expression_of made ≡ spec.read_value (kept_in x.now.tables.now held) register) }
 {
     match held {

@@ -37,10 +37,8 @@ pub fn kept_by(x: &Scene<'_>, rs: &Registers, a: &Action) -> Held
         Action::Index { left, right } => pointer_of(rs.get(*left), rs.get(*right)),
         Action::Convert { ty, .. } => of_scalar(sort_of(x.tables, *ty)),
         Action::FromVoid { ty, .. } => Held::Value(Scalar::Address(PlaceType::Of(*ty))),
-        Action::Operate { .. }
-        | Action::Unary { .. }
-        | Action::Truth { .. }
-        | Action::Not { .. } => Held::Integer,
+        Action::Operate { .. } | Action::Unary { .. } | Action::Truth { .. } | Action::Not { .. } =>
+            Held::Integer,
         Action::PointerOperate { op, left, right } => {
             operated(*op, rs.get(*left), rs.get(*right))
         }
@@ -106,7 +104,11 @@ fn is_unsigned(value: i64) -> bool
 fn number(value: i64) -> Held
     ensures { (tables : TablesOf) → kept_in tables result ≡ erased (definition.constant_kept value) }
 {
-    if is_constant(value) { Held::Integer } else { Held::Nothing }
+    if is_constant(value) {
+        Held::Integer
+    } else {
+        Held::Nothing
+    }
 }
 
 /// What a local's name gives.

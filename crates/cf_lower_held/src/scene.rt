@@ -37,5 +37,8 @@ pub fn type_of_local(x: &Scene<'_>, local: u32) -> Option<TyId>
 pub fn is_argument(x: &Scene<'_>, local: u32) -> bool
     ensures { result ≡ kept.is_argument (locals_in x.now) local }
 {
-    x.arguments.as_slice().iter().any(|argument| *argument == local)
+    x.arguments
+        .as_slice()
+        .iter()
+        .any(|argument| *argument == local)
 }

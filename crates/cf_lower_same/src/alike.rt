@@ -42,11 +42,8 @@ fn other(b: Form) -> Alike
     ensures { result ≡ spec.other b }
 {
     match b {
-        Form::Void
-        | Form::Integer(_)
-        | Form::Pointer(_)
-        | Form::Reference(_)
-        | Form::Array(_, _) => Alike::Known(false),
+        Form::Void | Form::Integer(_) | Form::Pointer(_) | Form::Reference(_) | Form::Array(_, _) =>
+            Alike::Known(false),
         Form::Enumeration(_)
         | Form::Class(_)
         | Form::Function(_)

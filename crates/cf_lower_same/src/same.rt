@@ -52,7 +52,9 @@ fn same_literals(a: PlaceType, b: PlaceType) -> Result<bool, Memory>
     ensures { (tables : TablesOf) → IfOk result (λ same. same ≡ type_eq (type_in tables a) (type_in tables b)) }
 {
     match (a, b) {
-        (PlaceType::Void, PlaceType::Void) | (PlaceType::Character, PlaceType::Character) => Ok(true),
+        (PlaceType::Void, PlaceType::Void) | (PlaceType::Character, PlaceType::Character) => Ok(
+            true,
+        ),
         (PlaceType::Characters(count), PlaceType::Characters(with)) => Ok(count == with),
         _ => Err(Memory),
     }
