@@ -68,20 +68,18 @@ without_both f h g = λ j r. by (h r) (f r) (g r) j
 -- ---- registers that hold what they hold here and there
 
 module _ (tables : Tables) (first second : List Held) where
+  abbrev pub Met : Bool → ℕ → Kept
+  Met b p = if b then both_kept (kept_in tables (held_at first p)) (kept_in tables (held_at second p)) else kept_in tables (held_at first p)
+
   -- those below a number do, the others hold what they held
   abbrev pub IsMet : ℕ → List Held → Type 0
-  IsMet i xs =
-      (q : ℕ) → kept_in tables (held_at xs q)
-      ≡ (if nat_lt q i then both_kept (kept_in tables (held_at first q)) (kept_in tables (held_at second q)) else kept_in tables (held_at first q))
+  IsMet i xs = (q : ℕ) → kept_in tables (held_at xs q) ≡ Met (nat_lt q i) q
 
   pub met_more : (i : ℕ) (xs zs : List Held) (x y z : Held) → IsMet i xs → i < length xs → y ≡ held_at xs i → z ≡ held_at second i
       → kept_in tables x ≡ both_kept (kept_in tables y) (kept_in tables z) → zs ≡ slice_set xs i x → IsMet (i + 1) zs
   met_more i xs zs x y z met lt at there both set q =
       ap (λ l. kept_in tables (held_at l q)) set ∙ ap (kept_in tables) (at_set xs i x q lt) ∙ by (q == i) refl
     where
-      abbrev Met : Bool → ℕ → Kept
-      Met b p = if b then both_kept (kept_in tables (held_at first p)) (kept_in tables (held_at second p)) else kept_in tables (held_at first p)
-
       here : kept_in tables y ≡ kept_in tables (held_at first i)
       here = ap (kept_in tables) at ∙ met i ∙ ap (λ b. Met b i) (let f : nat_lt i i ≡ false = grind (arith, nat_tests) in f)
 

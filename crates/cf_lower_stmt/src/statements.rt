@@ -60,10 +60,7 @@ fn in_switch(around: Around) -> Result<Around, Memory>
 }
 
 /// Statements come among the labels of a switch.
-fn state_all(
-    items: &mut Items<CSwitchItem>,
-    statements: Items<CStatement>,
-) -> Result<(), Memory>
+fn state_all(items: &mut Items<CSwitchItem>, statements: Items<CStatement>) -> Result<(), Memory>
     ensures { OnOk result (written_items items.new ≡ written_items items.old ++ map inner (written statements)) }
 {
     for statement in statements.into_vec() {
@@ -285,7 +282,10 @@ fn switched(
     flag_set(x.alloc, code, around.depth, 0)?;
     forget(x, all, rs);
     let made = items(x, all, in_switch(around)?, rs)?;
-    push(code, CStatement::Switch(integer_in(x.alloc, register)?, made))?;
+    push(
+        code,
+        CStatement::Switch(integer_in(x.alloc, register)?, made),
+    )?;
     let mut onward = Items::new(x.alloc);
     put_way(x.alloc, &mut onward, around.going_on)?;
     if_flag(x.alloc, code, around.depth, onward)

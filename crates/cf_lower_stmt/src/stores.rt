@@ -23,9 +23,7 @@ use cc_whole::{CExpression, CPlace, CStatement};
 use cf_base::{Arith, Boxed, Items, Kind, Memory};
 use cf_lower_expr::cell;
 use cf_lower_held::{Held, Scene};
-use cf_lower_names::{
-    Cell, address_in, as_stored, binary, constant, local_name, number, zero,
-};
+use cf_lower_names::{Cell, address_in, as_stored, binary, constant, local_name, number, zero};
 use cf_lower_types::{Form, PlaceType, Scalar, form_of, place_scalar, size_of, sort_of};
 use cf_types::{TyId, convert_int};
 use std::alloc::Global;
@@ -41,7 +39,10 @@ pub fn put(
     ensures { OnOk result (written code.new ≡ written code.old ++ spec.put (sort_for cell) (expression_of address) (expression_of given) ∷ []) }
 {
     let stored = as_stored(alloc, cell, given)?;
-    push(code, CStatement::Assign(CPlace::At(cell.c_type(), address), stored))
+    push(
+        code,
+        CStatement::Assign(CPlace::At(cell.c_type(), address), stored),
+    )
 }
 
 /// A value is stored in the scalar whose place is in a register, if it is one.

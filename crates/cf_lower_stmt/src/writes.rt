@@ -50,10 +50,7 @@ pub(crate) fn set_register(
 }
 
 /// A body of these statements, with no locals of its own.
-pub(crate) fn block(
-    alloc: Global,
-    statements: Items<CStatement>,
-) -> Result<Boxed<CBody>, Memory>
+pub(crate) fn block(alloc: Global, statements: Items<CStatement>) -> Result<Boxed<CBody>, Memory>
     ensures { IfOk result (λ made. body_of made ≡ spec.block (written statements)) }
 {
     Boxed::new(
@@ -79,11 +76,7 @@ pub(crate) fn flag_set(
 }
 
 /// Control leaves the statement.
-pub(crate) fn put_way(
-    alloc: Global,
-    code: &mut Items<CStatement>,
-    way: Way,
-) -> Result<(), Memory>
+pub(crate) fn put_way(alloc: Global, code: &mut Items<CStatement>, way: Way) -> Result<(), Memory>
     ensures { OnOk result (written code.new ≡ written code.old ++ way_of way) }
 {
     match way {
