@@ -1,3 +1,3 @@
 pub mod Converted
 pub mod Erasing
-pub mod Places
+pub mod PlaceLaws

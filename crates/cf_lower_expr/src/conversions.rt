@@ -10,6 +10,7 @@ ghost use Rattle.cf_lower.specs.Expressions as definition;
 ghost use Rattle.cf_lower_held.specs.Holds.{kept_in};
 ghost use Rattle.cf_lower_held.specs.Scenes.{holding};
 ghost use Rattle.cf_lower_layout.specs.Sorts.{address};
+ghost use Rattle.cf_lower_names.specs.Cells.{sort_for};
 ghost use Rattle.cf_lower_expr.specs.Pointers as spec;
 ghost use Rattle.cf_lower_types.specs.Bare.{classes_of, sort_in};
 
@@ -25,26 +26,22 @@ use cf_lower_types::Scalar;
 use std::alloc::Global;
 
 /// What is converted to an address or a function: an integer is the constant 0, and any other value is what stands in the register.
-#[tactic(auto, using(cf_lower_names::proofs::CellLaws::register_by_cell))]
 fn in_integers(
     alloc: Global,
-    scalar: Scalar,
+    cell: Cell,
     held: Held,
     operand: u32,
 ) -> Result<Boxed<CExpression>, Memory>
-    ensures { (tables : TablesOf) → IfOk result (λ made. expression_of made ≡ spec.in_integers (kept_in tables held) (sort_in tables scalar) operand) }
+    ensures { (tables : TablesOf) → IfOk result (λ made. expression_of made ≡ spec.in_integers (kept_in tables held) (sort_for cell) operand) }
 {
     match held {
         Held::Integer => zero(alloc),
-        Held::Nothing | Held::Value(_) | Held::Argument(_, _) => {
-            let made = in_register(alloc, cell(scalar), operand)?;
-            Ok(made)
-        }
+        Held::Nothing | Held::Value(_) | Held::Argument(_, _) => in_register(alloc, cell, operand),
     }
 }
 
 /// A value as an address or a function.
-#[tactic(auto, using(cf_lower_names::proofs::CellLaws::value_by_cell))]
+#[tactic(auto, using(crate::proofs::Converted::value_by_cell))]
 fn as_pointer(
     alloc: Global,
     scalar: Scalar,
@@ -53,8 +50,9 @@ fn as_pointer(
 ) -> Result<Boxed<CExpression>, Memory>
     ensures { (tables : TablesOf) → IfOk result (λ made. expression_of made ≡ definition.as_value (sort_in tables scalar) (spec.in_integers (kept_in tables held) (sort_in tables scalar) operand)) }
 {
-    let value = in_integers(alloc, scalar, held, operand)?;
-    let made = as_value(alloc, cell(scalar), value)?;
+    let cell = cell(scalar);
+    let value = in_integers(alloc, cell, held, operand)?;
+    let made = as_value(alloc, cell, value)?;
     Ok(made)
 }
 

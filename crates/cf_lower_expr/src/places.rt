@@ -30,7 +30,7 @@ fn target_cell(x: &Scene<'_>, target: TyId) -> Cell
 }
 
 /// The place that a name of this type stands for (8.4.3).
-#[tactic(auto, using(crate::proofs::Places::by_reference, crate::proofs::Places::by_itself))]
+#[tactic(auto, using(crate::proofs::PlaceLaws::by_reference, crate::proofs::PlaceLaws::by_itself))]
 pub fn place_named(x: &Scene<'_>, name: Name, ty: TyId) -> Result<Boxed<CExpression>, Memory>
     ensures { IfOk result (λ made. expression_of made ≡ spec.place_named name (type_of x.now.tables.now ty)) }
 {

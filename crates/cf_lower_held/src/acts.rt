@@ -140,14 +140,12 @@ fn decayed(x: &Scene<'_>, array: Held) -> Held
     ensures { kept_in x.now.tables.now result ≡ erased (definition.decayed_kept (kept_in x.now.tables.now array)) }
 {
     match array {
-        Held::Value(Scalar::Address(ty)) => {
-            Held::Value(Scalar::Address(element_of(x.tables, ty)))
-        }
-        Held::Value(Scalar::Number(_))
-        | Held::Value(Scalar::Code(_))
-        | Held::Nothing
-        | Held::Integer
-        | Held::Argument(_, _) => array,
+        Held::Value(Scalar::Address(ty)) => Held::Value(Scalar::Address(element_of(x.tables, ty))),
+        Held::Value(Scalar::Number(kind)) => Held::Value(Scalar::Number(kind)),
+        Held::Value(Scalar::Code(ty)) => Held::Value(Scalar::Code(ty)),
+        Held::Nothing => Held::Nothing,
+        Held::Integer => Held::Integer,
+        Held::Argument(local, ty) => Held::Argument(local, ty),
     }
 }
 
@@ -156,7 +154,7 @@ fn pointer_of(a: Held, b: Held) -> Held
     ensures { (tables : TablesOf) → kept_in tables result ≡ erased (definition.pointer_of (kept_in tables a) (kept_in tables b)) }
 {
     match a {
-        Held::Value(Scalar::Address(_)) => a,
+        Held::Value(Scalar::Address(ty)) => Held::Value(Scalar::Address(ty)),
         Held::Value(Scalar::Number(_))
         | Held::Value(Scalar::Code(_))
         | Held::Nothing

@@ -133,14 +133,14 @@ fn kept_value(
     x: &Scene<'_>,
     register: u32,
     a: &Action,
-    held: Held,
+    held: &Held,
     rs: &Registers,
     code: &mut Items<CStatement>,
 ) -> Result<(), Memory>
-    ensures { OnOk result (written code.new ≡ written code.old ++ set_if (definition.local_kept (kept_in x.now.tables.now held)) register (given.value (classes_of x.now.tables.now) x.now.function.now (locals_in x.now) (holding x.now rs.now) (action_in x.now a.now))) }
+    ensures { OnOk result (written code.new ≡ written code.old ++ set_if (definition.local_kept (kept_in x.now.tables.now held.now)) register (given.value (classes_of x.now.tables.now) x.now.function.now (locals_in x.now) (holding x.now rs.now) (action_in x.now a.now))) }
 {
     let made = value(x, rs, a)?;
-    put_in(x.alloc, local_of(held), register, made, code)
+    put_in(x.alloc, local_of(*held), register, made, code)
 }
 
 /// Writes an action whose value is kept in a register, which holds this from then on.
@@ -148,11 +148,11 @@ pub(crate) fn kept(
     x: &Scene<'_>,
     register: u32,
     a: &Action,
-    held: Held,
+    held: &Held,
     rs: &Registers,
     code: &mut Items<CStatement>,
 ) -> Result<(), Memory>
-    requires { kept_in x.now.tables.now held ≡ erased (definition.kept_by (locals_in x.now) (holding x.now rs.now) (action_in x.now a.now)) }
+    requires { kept_in x.now.tables.now held.now ≡ erased (definition.kept_by (locals_in x.now) (holding x.now rs.now) (action_in x.now a.now)) }
     ensures { (around : Around) → OnOk result (written code.new ≡ written code.old ++ spec.kept (inside x.now around) (holding x.now rs.now) register (action_in x.now a.now)) }
 {
     match a {

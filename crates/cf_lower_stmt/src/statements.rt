@@ -307,7 +307,7 @@ fn statement(
         Plain::Act { action } => done(x, action, rs, code),
         Plain::Set { register, action } => {
             let held = kept_by(x, rs, action);
-            kept(x, *register, action, held, rs, code)?;
+            kept(x, *register, action, &held, rs, code)?;
             rs.keep(*register, held)
         }
         Plain::If { register, yes, no } => branch(x, yes, no, *register, around, rs, code),

@@ -1,6 +1,6 @@
 pub mod Entries
 pub mod Forms
-pub mod Scalars
+pub mod FunctionLaws
 pub mod References
-pub mod Functions
-pub mod Sizes
+pub mod Scalars
+pub mod SizeLaws

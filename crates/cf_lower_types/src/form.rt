@@ -29,11 +29,11 @@ pub enum Form {
 }
 
 /// The type under a const.
-pub(crate) fn under_const(ty: Ty) -> Option<TyId>
-    ensures { result ≡ spec.under_const ty }
+pub(crate) fn under_const(ty: &Ty) -> Option<TyId>
+    ensures { result ≡ spec.under_const ty.now }
 {
     match ty {
-        Ty::Const(inside) => Some(inside),
+        Ty::Const(inside) => Some(*inside),
         Ty::Void
         | Ty::Int(_)
         | Ty::Enum(_)
@@ -48,20 +48,20 @@ pub(crate) fn under_const(ty: Ty) -> Option<TyId>
 }
 
 /// The form of a type that is no const.
-fn form_in(ty: Ty) -> Form
-    ensures { result ≡ spec.form_in ty }
+fn form_in(ty: &Ty) -> Form
+    ensures { result ≡ spec.form_in ty.now }
 {
     match ty {
         Ty::Void | Ty::Const(_) => Form::Void,
-        Ty::Int(kind) => Form::Integer(kind),
-        Ty::Enum(number) => Form::Enumeration(number),
-        Ty::Class(class) => Form::Class(class),
-        Ty::Ptr(target) => Form::Pointer(target),
-        Ty::Ref(target) => Form::Reference(target),
-        Ty::Array(element, count) => Form::Array(element, count),
-        Ty::Fun(function) => Form::Function(function),
-        Ty::MemData(class, member) => Form::DataMember(class, member),
-        Ty::MemFun(class, function) => Form::FunctionMember(class, function),
+        Ty::Int(kind) => Form::Integer(*kind),
+        Ty::Enum(number) => Form::Enumeration(*number),
+        Ty::Class(class) => Form::Class(*class),
+        Ty::Ptr(target) => Form::Pointer(*target),
+        Ty::Ref(target) => Form::Reference(*target),
+        Ty::Array(element, count) => Form::Array(*element, *count),
+        Ty::Fun(function) => Form::Function(*function),
+        Ty::MemData(class, member) => Form::DataMember(*class, *member),
+        Ty::MemFun(class, function) => Form::FunctionMember(*class, *function),
     }
 }
 
@@ -72,9 +72,9 @@ pub fn form_of(tables: &Tables<'_>, id: TyId) -> Form
     ensures named { Named tables.now id result }
 {
     let ty = tables.entry(id);
-    match under_const(ty) {
+    match under_const(&ty) {
         Some(inside) => form_of(tables, inside),
-        None => form_in(ty),
+        None => form_in(&ty),
     }
 }
 
@@ -86,11 +86,14 @@ pub(crate) struct Elements {
 }
 
 /// The elements of an array.
-pub(crate) fn elements_in(form: Form) -> Option<Elements>
-    ensures { option_map (λ e. (e.ty, e.count)) result ≡ spec.elements_in form }
+pub(crate) fn elements_in(form: &Form) -> Option<Elements>
+    ensures { option_map (λ e. (e.ty, e.count)) result ≡ spec.elements_in form.now }
 {
     match form {
-        Form::Array(ty, count) => Some(Elements { ty, count }),
+        Form::Array(ty, count) => Some(Elements {
+            ty: *ty,
+            count: *count,
+        }),
         Form::Void
         | Form::Integer(_)
         | Form::Enumeration(_)

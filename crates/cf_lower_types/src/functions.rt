@@ -32,7 +32,7 @@ fn function_in(ty: Ty) -> Option<FunId>
 }
 
 /// The function type of this number, if it is one.
-#[tactic(auto, using(crate::proofs::Functions::function_within, crate::proofs::Functions::is_function, crate::proofs::Functions::is_none))]
+#[tactic(auto, using(crate::proofs::FunctionLaws::function_within, crate::proofs::FunctionLaws::is_function, crate::proofs::FunctionLaws::is_none))]
 fn function_at<'a>(tables: &'a Tables<'_>, id: TyId) -> Option<&'a Fun>
     ensures { IsFunction tables.now id (option_copied result) }
 {
@@ -43,7 +43,7 @@ fn function_at<'a>(tables: &'a Tables<'_>, id: TyId) -> Option<&'a Fun>
 }
 
 /// Whether the type of this number is a function's, itself.
-#[tactic(auto, using(crate::proofs::Functions::code_at))]
+#[tactic(auto, using(crate::proofs::FunctionLaws::code_at))]
 pub fn is_function(tables: &Tables<'_>, id: TyId) -> bool
     ensures { result ≡ is_code (sorts.sort_to (type_of tables.now id)) }
 {
@@ -54,7 +54,7 @@ pub fn is_function(tables: &Tables<'_>, id: TyId) -> bool
 }
 
 /// The types of the parameters of a function of this type; none of another type.
-#[tactic(auto, using(crate::proofs::Functions::parameters_at))]
+#[tactic(auto, using(crate::proofs::FunctionLaws::parameters_at))]
 pub fn parameters<'a>(tables: &'a Tables<'_>, id: TyId) -> &'a [TyId]
     ensures { map (type_of tables.now) result.now ≡ types.parameters (type_of tables.now id) }
 {
@@ -65,7 +65,7 @@ pub fn parameters<'a>(tables: &'a Tables<'_>, id: TyId) -> &'a [TyId]
 }
 
 /// What the result of a function of this type is; none where it is no scalar.
-#[tactic(auto, using(crate::proofs::Functions::result_at))]
+#[tactic(auto, using(crate::proofs::FunctionLaws::result_at))]
 pub fn result_sort(tables: &Tables<'_>, id: TyId) -> Option<Scalar>
     ensures { option_map (sort_in tables.now) result ≡ sorts.sort_of (types.result (type_of tables.now id)) }
 {

@@ -38,7 +38,8 @@ pub fn element_of(tables: &Tables<'_>, ty: PlaceType) -> PlaceType
 fn element_at(tables: &Tables<'_>, id: TyId) -> PlaceType
     ensures { type_in tables.now result ≡ element (type_in tables.now (PlaceType.Of id)) }
 {
-    match elements_in(form_of(tables, id)) {
+    let form = form_of(tables, id);
+    match elements_in(&form) {
         Some(elements) => PlaceType::Of(elements.ty),
         None => PlaceType::Of(id),
     }

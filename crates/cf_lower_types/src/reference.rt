@@ -14,11 +14,11 @@ use crate::tables::Tables;
 use cf_types::{Ty, TyId};
 
 /// The type that a reference is to.
-fn target_in(ty: Ty) -> Option<TyId>
-    ensures { result ≡ spec.target_in ty }
+fn target_in(ty: &Ty) -> Option<TyId>
+    ensures { result ≡ spec.target_in ty.now }
 {
     match ty {
-        Ty::Ref(target) => Some(target),
+        Ty::Ref(target) => Some(*target),
         Ty::Void
         | Ty::Int(_)
         | Ty::Enum(_)
@@ -38,9 +38,9 @@ pub fn referred(tables: &Tables<'_>, id: TyId) -> Option<TyId>
     ensures { Refers tables.now id result }
 {
     let ty = tables.entry(id);
-    match under_const(ty) {
+    match under_const(&ty) {
         Some(inside) => referred(tables, inside),
-        None => target_in(ty),
+        None => target_in(&ty),
     }
 }
 

@@ -25,11 +25,11 @@ fn bytes(kind: Kind) -> u64
 }
 
 /// The bytes of an object that is no array.
-fn bytes_in(form: Form) -> u64
-    ensures { result ≡ spec.bytes_in form }
+fn bytes_in(form: &Form) -> u64
+    ensures { result ≡ spec.bytes_in form.now }
 {
     match form {
-        Form::Integer(kind) => bytes(kind),
+        Form::Integer(kind) => bytes(*kind),
         Form::Void | Form::Class(_) | Form::Function(_) | Form::Array(_, _) => 1,
         Form::Enumeration(_) | Form::Pointer(_) | Form::Reference(_) | Form::DataMember(_, _) => 4,
         Form::FunctionMember(_, _) => 12,
@@ -37,23 +37,23 @@ fn bytes_in(form: Form) -> u64
 }
 
 /// The bytes of an object of the type of this number. Those of a valid unit are few; a number beyond 64 bits is answered as if memory had ended.
-#[tactic(auto, using(crate::proofs::Sizes::array_at, crate::proofs::Sizes::bytes_at, crate::proofs::Forms::elements_below))]
+#[tactic(auto, using(crate::proofs::SizeLaws::array_at, crate::proofs::SizeLaws::bytes_at, crate::proofs::Forms::elements_below))]
 pub fn size_of(tables: &Tables<'_>, id: TyId) -> Result<u64, Memory>
     ensures { IfOk result (λ n. n ≡ size (classes_of tables.now) (type_of tables.now id)) }
 {
     let _classes = tables.classes();
     let form = form_of(tables, id);
-    match elements_in(form) {
+    match elements_in(&form) {
         Some(elements) => {
             let each = size_of(tables, elements.ty)?;
             u64::from(elements.count).checked_mul(each).ok_or(Memory)
         }
-        None => Ok(bytes_in(form)),
+        None => Ok(bytes_in(&form)),
     }
 }
 
 /// The bytes of an object of the type of a place.
-#[tactic(auto, using(crate::proofs::Sizes::size_by_bare, crate::proofs::Sizes::characters_at))]
+#[tactic(auto, using(crate::proofs::SizeLaws::size_by_bare, crate::proofs::SizeLaws::characters_at))]
 pub fn place_size(tables: &Tables<'_>, ty: PlaceType) -> Result<u64, Memory>
     ensures { IfOk result (λ n. n ≡ size (classes_of tables.now) (type_in tables.now ty)) }
 {
