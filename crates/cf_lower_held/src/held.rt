@@ -87,7 +87,7 @@ fn both_addresses(tables: &Tables<'_>, a: PlaceType, b: Held) -> Result<Held, Me
 {
     match b {
         Held::Value(Scalar::Address(place)) => {
-            if same_places(tables, a, place)? {
+            if same_places(tables, &a, &place)? {
                 Ok(Held::Value(Scalar::Address(a)))
             } else {
                 Ok(Held::Nothing)

@@ -20,15 +20,15 @@ pub enum Alike {
 }
 
 /// When two types of these forms are the same.
-pub fn alike(a: Form, b: Form) -> Alike
-    ensures { result ≡ spec.alike a b }
+pub fn alike(a: &Form, b: &Form) -> Alike
+    ensures { result ≡ spec.alike a.now b.now }
 {
     match a {
         Form::Void => void(b),
-        Form::Integer(kind) => integer(kind, b),
-        Form::Pointer(target) => pointer(target, b),
-        Form::Reference(target) => reference(target, b),
-        Form::Array(element, count) => array(element, count, b),
+        Form::Integer(kind) => integer(*kind, b),
+        Form::Pointer(target) => pointer(*target, b),
+        Form::Reference(target) => reference(*target, b),
+        Form::Array(element, count) => array(*element, *count, b),
         Form::Enumeration(_)
         | Form::Class(_)
         | Form::Function(_)
@@ -38,8 +38,8 @@ pub fn alike(a: Form, b: Form) -> Alike
 }
 
 /// Where the second form is another than the first.
-fn other(b: Form) -> Alike
-    ensures { result ≡ spec.other b }
+fn other(b: &Form) -> Alike
+    ensures { result ≡ spec.other b.now }
 {
     match b {
         Form::Void | Form::Integer(_) | Form::Pointer(_) | Form::Reference(_) | Form::Array(_, _) =>
@@ -52,8 +52,8 @@ fn other(b: Form) -> Alike
     }
 }
 
-fn void(b: Form) -> Alike
-    ensures { result ≡ spec.alike form.Void b }
+fn void(b: &Form) -> Alike
+    ensures { result ≡ spec.alike form.Void b.now }
 {
     match b {
         Form::Void => Alike::Known(true),
@@ -61,11 +61,11 @@ fn void(b: Form) -> Alike
     }
 }
 
-fn integer(kind: Kind, b: Form) -> Alike
-    ensures { result ≡ spec.alike (form.Integer kind) b }
+fn integer(kind: Kind, b: &Form) -> Alike
+    ensures { result ≡ spec.alike (form.Integer kind) b.now }
 {
     match b {
-        Form::Integer(with) => Alike::Known(same_kinds(kind, with)),
+        Form::Integer(with) => Alike::Known(same_kinds(kind, *with)),
         _ => other(b),
     }
 }
@@ -76,31 +76,31 @@ fn same_kinds(kind: Kind, with: Kind) -> bool
     kind == with
 }
 
-fn pointer(target: TyId, b: Form) -> Alike
-    ensures { result ≡ spec.alike (form.Pointer target) b }
+fn pointer(target: TyId, b: &Form) -> Alike
+    ensures { result ≡ spec.alike (form.Pointer target) b.now }
 {
     match b {
-        Form::Pointer(to) => Alike::Types(target, to),
+        Form::Pointer(to) => Alike::Types(target, *to),
         _ => other(b),
     }
 }
 
-fn reference(target: TyId, b: Form) -> Alike
-    ensures { result ≡ spec.alike (form.Reference target) b }
+fn reference(target: TyId, b: &Form) -> Alike
+    ensures { result ≡ spec.alike (form.Reference target) b.now }
 {
     match b {
-        Form::Reference(to) => Alike::Types(target, to),
+        Form::Reference(to) => Alike::Types(target, *to),
         _ => other(b),
     }
 }
 
-fn array(element: TyId, count: u32, b: Form) -> Alike
-    ensures { result ≡ spec.alike (form.Array element count) b }
+fn array(element: TyId, count: u32, b: &Form) -> Alike
+    ensures { result ≡ spec.alike (form.Array element count) b.now }
 {
     match b {
         Form::Array(of, elements) => {
-            if count == elements {
-                Alike::Types(element, of)
+            if count == *elements {
+                Alike::Types(element, *of)
             } else {
                 Alike::Known(false)
             }

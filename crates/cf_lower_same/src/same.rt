@@ -2,7 +2,7 @@
 
 ghost use Rattle.std.specs.Prelude.{◌≡◌, IfOk};
 ghost use Rattle.cf_core.specs.Types.{type_eq};
-ghost use Rattle.cf_core.specs.FromTypes.{Tables as TablesOf, type_of};
+ghost use Rattle.cf_core.specs.FromTypes.{type_of};
 ghost use Rattle.cf_lower_types.specs.Bare.{bare, type_in};
 
 use crate::alike::{Alike, alike};
@@ -18,7 +18,9 @@ pub fn same_bare(tables: &Tables<'_>, id: TyId, other: TyId) -> Result<bool, Mem
     if id == other {
         return Ok(true);
     }
-    match alike(form_of(tables, id), form_of(tables, other)) {
+    let first = form_of(tables, id);
+    let second = form_of(tables, other);
+    match alike(&first, &second) {
         Alike::Known(same) => Ok(same),
         Alike::Types(part, with) => same_bare(tables, part, with),
         Alike::Untold => Err(Memory),
@@ -35,27 +37,25 @@ pub fn same_exactly(tables: &Tables<'_>, id: TyId, other: TyId) -> Result<bool, 
 }
 
 /// Whether two types of places are the same. A literal's type is not compared with one of the file's yet, which is answered as if memory had ended.
-pub fn same_places(tables: &Tables<'_>, a: PlaceType, b: PlaceType) -> Result<bool, Memory>
-    ensures { IfOk result (λ same. same ≡ type_eq (type_in tables.now a) (type_in tables.now b)) }
+pub fn same_places(tables: &Tables<'_>, a: &PlaceType, b: &PlaceType) -> Result<bool, Memory>
+    ensures { IfOk result (λ same. same ≡ type_eq (type_in tables.now a.now) (type_in tables.now b.now)) }
 {
     match a {
         PlaceType::Of(id) => match b {
-            PlaceType::Of(other) => same_bare(tables, id, other),
+            PlaceType::Of(other) => same_bare(tables, *id, *other),
             PlaceType::Void | PlaceType::Character | PlaceType::Characters(_) => Err(Memory),
         },
-        PlaceType::Void | PlaceType::Character | PlaceType::Characters(_) => same_literals(a, b),
-    }
-}
-
-/// Whether two types that literals have are the same.
-fn same_literals(a: PlaceType, b: PlaceType) -> Result<bool, Memory>
-    ensures { (tables : TablesOf) → IfOk result (λ same. same ≡ type_eq (type_in tables a) (type_in tables b)) }
-{
-    match (a, b) {
-        (PlaceType::Void, PlaceType::Void) | (PlaceType::Character, PlaceType::Character) => Ok(
-            true,
-        ),
-        (PlaceType::Characters(count), PlaceType::Characters(with)) => Ok(count == with),
-        _ => Err(Memory),
+        PlaceType::Void => match b {
+            PlaceType::Void => Ok(true),
+            PlaceType::Of(_) | PlaceType::Character | PlaceType::Characters(_) => Err(Memory),
+        },
+        PlaceType::Character => match b {
+            PlaceType::Character => Ok(true),
+            PlaceType::Of(_) | PlaceType::Void | PlaceType::Characters(_) => Err(Memory),
+        },
+        PlaceType::Characters(count) => match b {
+            PlaceType::Characters(other) => Ok(*count == *other),
+            PlaceType::Of(_) | PlaceType::Void | PlaceType::Character => Err(Memory),
+        },
     }
 }

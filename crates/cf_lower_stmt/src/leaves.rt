@@ -36,11 +36,11 @@ pub(crate) fn done(
     match a {
         Action::Store { place, value } => {
             let given = value_in(x, rs, *value)?;
-            stored_in(x, code, rs.get(*place), *place, given)
+            stored_in(x, code, &rs.get(*place), *place, given)
         }
         Action::First { place, value } => {
             let given = value_in(x, rs, *value)?;
-            first_in(x, code, rs.get(*place), *place, given)
+            first_in(x, code, &rs.get(*place), *place, given)
         }
         Action::Zeros { place } => zeros_in(x, code, rs.get(*place), *place),
         Action::Characters { place, bytes } => {

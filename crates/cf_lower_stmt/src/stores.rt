@@ -70,15 +70,15 @@ fn stored(
 pub(crate) fn stored_in(
     x: &Scene<'_>,
     code: &mut Items<CStatement>,
-    kept: Held,
+    kept: &Held,
     place: u32,
     given: Boxed<CExpression>,
 ) -> Result<(), Memory>
-    ensures { OnOk result (written code.new ≡ written code.old ++ spec.stored_in (kept_in x.now.tables.now kept) place (expression_of given)) }
+    ensures { OnOk result (written code.new ≡ written code.old ++ spec.stored_in (kept_in x.now.tables.now kept.now) place (expression_of given)) }
 {
     match kept {
         Held::Value(Scalar::Address(ty)) => {
-            stored(x.alloc, code, place_scalar(x.tables, ty), place, given)?;
+            stored(x.alloc, code, place_scalar(x.tables, *ty), place, given)?;
             Ok(())
         }
         Held::Value(Scalar::Number(_))
@@ -115,14 +115,14 @@ fn first_argument(
 pub(crate) fn first_in(
     x: &Scene<'_>,
     code: &mut Items<CStatement>,
-    kept: Held,
+    kept: &Held,
     place: u32,
     given: Boxed<CExpression>,
 ) -> Result<(), Memory>
-    ensures { OnOk result (written code.new ≡ written code.old ++ spec.first_in (kept_in x.now.tables.now kept) place (expression_of given)) }
+    ensures { OnOk result (written code.new ≡ written code.old ++ spec.first_in (kept_in x.now.tables.now kept.now) place (expression_of given)) }
 {
     match kept {
-        Held::Argument(local, ty) => first_argument(x, code, local, ty, given),
+        Held::Argument(local, ty) => first_argument(x, code, *local, *ty, given),
         Held::Value(_) | Held::Nothing | Held::Integer => stored_in(x, code, kept, place, given),
     }
 }
