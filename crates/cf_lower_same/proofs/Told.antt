@@ -1,10 +1,11 @@
 -- What forms tell of types is so.
-use Rattle.std.proofs.Common.{◌≡◌, ℕ, ◌<◌, Bool, true, false, ◌&&◌, ◌==◌, if◌then◌else◌, refl, sym, ap, ◌∙◌, subst, arith}
+use Rattle.std.proofs.Common.{◌≡◌, ℕ, ◌+◌, ◌<◌, Bool, true, false, ◌&&◌, ◌==◌, if◌then◌else◌, refl, sym, ◌∙◌, subst, arith}
 use Rattle.cf_core.specs.Types.{type_eq}
 use Rattle.cf_core.specs.FromTypes.{Tables}
 use Rattle.cf_lower_types.specs.declared.form.Form.{Form}
 use Rattle.cf_lower_types.specs.declared.form.Form.TheVariants as form
 use Rattle.cf_lower_types.specs.Bare.{bare, form_type, Named}
+use Rattle.cf_lower_same.specs.declared.alike.Alike.{Alike}
 use Rattle.cf_lower_same.specs.declared.alike.Alike.TheVariants as told
 use Rattle.cf_lower_same.specs.Alike.{alike, Tells, Below}
 
@@ -95,3 +96,18 @@ module _ (tables : Tables) where
       by true = (first, second)
       by false = tt
   below t u a b first second = tt
+
+  -- by what is told
+  module _ (t u : ℕ) (a b : Form) (x : Alike) (is : x ≡ alike a b) (first : bare tables t ≡ form_type tables a) (second : bare tables u ≡ form_type tables b) where
+    pub told_known : (c : Bool) → x ≡ told.Known c → c ≡ type_eq (bare tables t) (bare tables u)
+    told_known c e = subst (λ y. Tells tables y (type_eq (bare tables t) (bare tables u))) (sym is ∙ e) (tells t u a b first second)
+
+    pub told_types : (v w : ℕ) → x ≡ told.Types v w → type_eq (bare tables v) (bare tables w) ≡ type_eq (bare tables t) (bare tables u)
+    told_types v w e = subst (λ y. Tells tables y (type_eq (bare tables t) (bare tables u))) (sym is ∙ e) (tells t u a b first second)
+
+    pub told_below : (v w : ℕ) → Named tables t a → Named tables u b → x ≡ told.Types v w → v + w < t + u
+    told_below v w named_first named_second e =
+        let r : Below t u (told.Types v w) = subst (Below t u) (sym is ∙ e) (below t u a b named_first named_second) in
+        let p = r.0 in
+        let q = r.1 in
+        omega (arith, p, q)

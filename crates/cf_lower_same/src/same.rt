@@ -11,7 +11,7 @@ use cf_lower_types::{PlaceType, Tables, form_of};
 use cf_types::TyId;
 
 /// Whether two types are the same, const being left out at all levels.
-#[tactic(auto, using(crate::proofs::Types::itself))]
+#[tactic(auto, using(crate::proofs::Types::itself, crate::proofs::Told::told_known, crate::proofs::Told::told_types, crate::proofs::Told::told_below))]
 pub fn same_bare(tables: &Tables<'_>, id: TyId, other: TyId) -> Result<bool, Memory>
     ensures { IfOk result (λ same. same ≡ type_eq (bare tables.now id) (bare tables.now other)) }
 {
@@ -22,7 +22,10 @@ pub fn same_bare(tables: &Tables<'_>, id: TyId, other: TyId) -> Result<bool, Mem
     let second = form_of(tables, other);
     match alike(&first, &second) {
         Alike::Known(same) => Ok(same),
-        Alike::Types(part, with) => same_bare(tables, part, with),
+        Alike::Types(part, with) => {
+            let same = same_bare(tables, part, with)?;
+            Ok(same)
+        }
         Alike::Untold => Err(Memory),
     }
 }
