@@ -16,10 +16,13 @@ use Rattle.cf_lower.specs.Kept.{Keeping, type_of_local, is_argument}
 use Rattle.cf_lower.specs.Written.{c_type}
 use Rattle.cf_lower_relate.specs.Map.{Fixed, is_ended, is_hidden}
 use Rattle.cf_lower_steps.specs.Own.{LocalObject}
-use Rattle.cf_lower_steps.proofs.Values.{not-false}
 use Rattle.cf_lower_turns.specs.Here.{Body, Here}
 use Rattle.cf_lower_calls.specs.Arguments.{NotAmong, Differ, InItsLocal, InTheirLocals}
 use Rattle.cf_lower_arguments.specs.Passing.{is_passed, are_passed, Shaped, ArgumentThere, ArgumentsThere, InOwn, AllInOwn}
+
+not-false : (b : Bool) → not b ≡ true → b ≡ false
+not-false true h = absurd (let k = h in cc)
+not-false false h = refl
 
 module _ (K : Fixed) (at : Body) (p : Keeping) (d : ℕ) (g : Registers) (s : State) (t : c.State) (h : Here K at p d g s t) where
   -- ---- one argument

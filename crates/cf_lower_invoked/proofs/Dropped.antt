@@ -19,6 +19,7 @@ use Rattle.cf_plain.specs.Running.{Flow, Falls, entered, calls, does}
 use Rattle.cf_plain.specs.Running as plain_runs
 use Rattle.cc_whole.specs.Plain as c_tree
 use Rattle.cc_whole.specs.Plain.{by_name, block}
+use Rattle.cc_whole_memory.specs.declared.value.Value.{Value}
 use Rattle.cc_whole_mean.specs.Flow as c
 use Rattle.cc_whole_mean.specs.Flow.{in_memory, born_arguments, ending, ending_state, Called, called_back}
 use Rattle.cc_whole_mean.specs.Mean as mean
@@ -53,7 +54,7 @@ module _ (z : Scene) (n : ℕ) (alike : FunctionsAlike (programs_of z) n) (aroun
   abbrev E : Map
   E = entered_all os u.memory.next h.map
 
-  abbrev vs : List _
+  abbrev vs : List Value
   vs = (values z around p f e is needs g s u h os before).values
 
   abbrev core_again : core.Again

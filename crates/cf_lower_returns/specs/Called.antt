@@ -1,5 +1,5 @@
 -- What functions of both programs owe to their callers: entered with the same arguments they do the same, at a bound of ticks.
-use Rattle.std.specs.Prelude.{◌≡◌, ℕ, ◌<◌, true, false, List, [], ◌∷◌, length, Option, Some, None, Ok}
+use Rattle.std.specs.Prelude.{◌≡◌, ℕ, ◌<◌, ◌≤◌, true, false, List, [], ◌∷◌, length, Option, Some, None, Ok}
 use Rattle.cf_base.specs.World.{World}
 use Rattle.cf_core.specs.Types.{Name, SourceType, without_const, parameters, result as result_type}
 use Rattle.cf_core.specs.Core.{Function}
