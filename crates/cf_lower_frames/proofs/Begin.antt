@@ -87,9 +87,13 @@ pub record There (os : List ℕ) (i : ℕ) : Type 0 where
   pub is : slice_get os i ≡ Some object
 
 there-at : (os : List ℕ) (i : ℕ) → i < length os → There os i
-there-at [] i lt = absurd (omega (arith, lt))
+there-at [] i lt = absurd (let k : i < 0 = lt in omega (arith, k))
 there-at (p ∷ ps) zero lt = record { object = p; is = refl }
-there-at (p ∷ ps) (suc i) lt = let rest = there-at ps i (omega (arith, lt)) in record { object = rest.object; is = rest.is }
+there-at (p ∷ ps) (suc i) lt =
+    let k : suc i < suc (length ps) = lt in
+    let less : i < length ps = omega (arith, k) in
+    let rest = there-at ps i less in
+    record { object = rest.object; is = rest.is }
 
 module _ (B : Programs) (f : Function) (E : Map) (s : State) (first : Memory) (os : List ℕ) (cs : List Value) (entry : Entry B f E s first os cs) (own : Own)
     (flags : Flags) (scope : Scope) (t : c.State) (frame : Frame (fixed B) own flags scope first cs t.memory) (fit : TypesFit own (parameters f.type))
