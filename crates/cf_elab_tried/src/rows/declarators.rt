@@ -1,7 +1,7 @@
 //! Declarators (8.2): K26 at the operator at fault, or at the name of an object of type void; then K19 at the bound.
 
 /// Types that may not be made.
-pub const TYPES: [(&str, u8); 40] = [
+pub const TYPES: [(&str, u8); 43] = [
     ("void $x;", 26),
     ("const void $x;", 26),
     ("static void $x;", 26),
@@ -42,10 +42,13 @@ pub const TYPES: [(&str, u8); 40] = [
     ("int f$()const{return 0;}", 26),
     ("int main(){void $x;return 0;}", 26),
     ("int main(){int a$[];return 0;}", 26),
+    ("int f(void $a,int b[n]){return 0;}", 26),
+    ("int f($void,int b[n]){return 0;}", 26),
+    ("int f(int a,$void){return 0;}", 26),
 ];
 
 /// Bounds that are no constants, and the order of the two rules.
-pub const BOUNDS: [(&str, u8); 30] = [
+pub const BOUNDS: [(&str, u8); 33] = [
     ("int n;int a$[n];", 19),
     ("int n;int a$[n+1];", 19),
     ("int n;int main(){int a$[n];return 0;}", 19),
@@ -76,10 +79,13 @@ pub const BOUNDS: [(&str, u8); 30] = [
     ("extern int x;static int x$[0];", 26),
     ("const int c$[0];", 26),
     ("int a$[0]={y};", 26),
+    ("int n;int main(){int a$[n][n];return 0;}", 19),
+    ("int n;int(*a$[n])[n];", 19),
+    ("int f(int a[$y],void b){return 0;}", 10),
 ];
 
 /// Declarators that are taken.
-pub const TAKEN: [(&str, u8); 30] = [
+pub const TAKEN: [(&str, u8); 31] = [
     ("int a[2];int b[2][3];int*c[2];int(*d)[2];int(*e[2])[3];", 0),
     ("const int n=2;int a[n];int b[n+1][n*2];", 0),
     ("enum{N=2};int a[N];int b[N==2];", 0),
@@ -134,4 +140,8 @@ pub const TAKEN: [(&str, u8); 30] = [
         0,
     ),
     ("int f(int(a),int(*b),int(&c)){return a;}", 0),
+    (
+        "const int a=1;const int b=2;int main(){int v[1?a:b];return sizeof(v);}",
+        0,
+    ),
 ];

@@ -1,7 +1,7 @@
 //! Enumerations (7.2), functions with a body (8.3), and what is outside of the profile so far.
 
 /// Enumerations: a local name, names twice, values that are no constants, values past int.
-pub const ENUMERATIONS: [(&str, u8); 36] = [
+pub const ENUMERATIONS: [(&str, u8); 39] = [
     ("int main(){$enum E{A};return 0;}", 48),
     ("int main(){static $enum E{A}e;return 0;}", 48),
     ("int main(){{$enum E{A};}return 0;}", 48),
@@ -38,10 +38,13 @@ pub const ENUMERATIONS: [(&str, u8); 36] = [
     ("enum E{A=2147483648u,B,$B};", 8),
     ("int n;enum E{A=2147483648u,$B=n};", 19),
     ("enum E{A,A=$y};", 10),
+    ("const int x=3;int main(){enum{$x=x};return x;}", 19),
+    ("enum{$A=A};", 19),
+    ("const int n=1;enum E{A=n,$B=B+1};", 19),
 ];
 
 /// Enumerations and typedefs that are taken.
-pub const TAKEN: [(&str, u8); 20] = [
+pub const TAKEN: [(&str, u8); 22] = [
     ("enum E{A};E e;enum E f=A;", 0),
     ("enum E{A,B=5,C};int a[C];", 0),
     ("enum{A};enum{B};int x=A+B;", 0),
@@ -71,10 +74,12 @@ pub const TAKEN: [(&str, u8); 20] = [
         0,
     ),
     ("typedef int T;T f(T a){T b=a;return b;}", 0),
+    ("enum E{A=sizeof(E)};int a[A-3];", 0),
+    ("enum{A=sizeof A,B=A};int a[B-3];", 0),
 ];
 
 /// Functions: the order of a function's own rules, and its body last.
-pub const FUNCTIONS: [(&str, u8); 30] = [
+pub const FUNCTIONS: [(&str, u8); 32] = [
     ("int f(){return 0;}int f$()[2];", 26),
     ("int f(){return 0;}char f$()const;", 26),
     ("int f();static int f$()[2];int f(){return 0;}", 26),
@@ -105,10 +110,12 @@ pub const FUNCTIONS: [(&str, u8); 30] = [
     ("int f(){int f=1;return $f();}", 18),
     ("int f(){return $f(1);}", 15),
     ("int f(int f){return $f(f);}", 18),
+    ("$f{return 0;}", 24),
+    ("$inline int x{return 0;}", 24),
 ];
 
 /// What is outside of the profile so far: it comes before all that elaboration itself refuses where the tree shows it.
-pub const OUTSIDE: [(&str, u8); 34] = [
+pub const OUTSIDE: [(&str, u8); 37] = [
     ("$class C;", 48),
     ("$struct S{int x;};", 48),
     ("int main(){$struct S{int x;};return 0;}", 48),
@@ -143,4 +150,10 @@ pub const OUTSIDE: [(&str, u8); 34] = [
     ("int f(){return 1;}int y$=f();", 48),
     ("int x;int a[2]$={1,x};", 48),
     ("int x;int main(){static int y$=x;return y;}", 48),
+    ("int main(){extern int $y;return y;}int y(){return 1;}", 48),
+    ("int y(){return 1;}int main(){extern int $y;return y;}", 48),
+    (
+        "int f(int a){return a;}int main(){int $f(char);return x;}",
+        48,
+    ),
 ];

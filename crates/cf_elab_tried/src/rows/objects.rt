@@ -1,7 +1,7 @@
 //! Objects and references (3.1, 7.1.6, 8.4).
 
 /// Initialisers that are missing, that do not fit, or that may not stand.
-pub const INITIALISERS: [(&str, u8); 40] = [
+pub const INITIALISERS: [(&str, u8); 46] = [
     ("const int $c;", 28),
     ("static const int $c;", 28),
     ("int*const $p;", 28),
@@ -42,6 +42,12 @@ pub const INITIALISERS: [(&str, u8); 40] = [
     ("int main(){int x=$y;return 0;}", 10),
     ("int*p=$y;", 10),
     ("int x(1),*p$=x;", 13),
+    ("typedef int T=$x;", 10),
+    ("int f(){return 0;}int f()=$x;", 10),
+    ("int f()$=1;int main(){return 0;}", 28),
+    ("int main(){extern int x$=1;return 0;}", 28),
+    ("int main(){extern int x=$y;return 0;}", 10),
+    ("const int a=1;int n;int x$=1?a:n;", 48),
 ];
 
 /// References: without an initialiser, bound to what is no place, then Fit.
@@ -79,7 +85,7 @@ pub const REFERENCES: [(&str, u8); 30] = [
 ];
 
 /// Lists and strings.
-pub const LISTS: [(&str, u8); 32] = [
+pub const LISTS: [(&str, u8); 40] = [
     ("int a[2]=${1,2,3};", 28),
     ("int a[1]=${1,2};", 28),
     ("int main(){int a[2]=${1,2,3};return 0;}", 28),
@@ -112,10 +118,18 @@ pub const LISTS: [(&str, u8); 32] = [
     ("int*p;int main(){int a[2]={${1},p};return 0;}", 28),
     ("char*s[2]={\"a\",$1};", 13),
     ("int a[2]={$&a};", 13),
+    ("enum{a};int $a[]={x};", 8),
+    ("extern int a[1];static int $a[]={x};", 9),
+    ("enum{a};int $a[](1,2);", 8),
+    ("int a[]$(1,2);", 28),
+    ("char s[]$(\"ab\");", 28),
+    ("int a[]={$x};", 10),
+    ("int main(){int a;int $a[]={y};return 0;}", 8),
+    ("extern int a[3];int $a[]={x,2};", 8),
 ];
 
 /// Objects that are taken.
-pub const TAKEN: [(&str, u8); 30] = [
+pub const TAKEN: [(&str, u8); 35] = [
     ("int x;int y=1;int z(2);int w=1+2*3;", 0),
     ("int x;int*p=&x;int*q(&x);int**r=&p;void*v=&x;", 0),
     ("int a[2];int*p=a;int*q=a+1;int*r=&a[1];int*s=1+a;", 0),
@@ -179,4 +193,12 @@ pub const TAKEN: [(&str, u8); 30] = [
         "int x=1;int main(){extern int x;int y=x;{int x=y;x;}return x;}",
         0,
     ),
+    ("void*a[]={a,0};int main(){return a[0]==a;}", 0),
+    ("int main(){void*a[]={a,0};return a[0]==a;}", 0),
+    ("int a[]={sizeof a,2};extern int b[2];int b[]={1,2};", 0),
+    (
+        "const int a=1;const int b=2;int x=1?a:b;enum{A=0?a:b};int f(int i){switch(i){case 1?a:b:return 1;}return 0;}",
+        0,
+    ),
+    ("const int y=0;const int z=0;int*p=1?y:z;", 0),
 ];
