@@ -1,7 +1,7 @@
 mod Answering
 mod FaultPlaces
 mod Numbered
-mod OneAnswer
-mod ReadBack
+pub mod OneAnswer
+pub mod ReadBack
 mod SpelledTrees
 mod Telling
