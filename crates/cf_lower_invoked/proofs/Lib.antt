@@ -1,0 +1,5 @@
+pub mod Entry
+pub mod Source
+pub mod Written
+pub mod Following
+pub mod Dropped
