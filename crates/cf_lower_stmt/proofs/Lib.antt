@@ -1,0 +1,4 @@
+pub mod Cells
+pub mod Erasing
+pub mod Labels
+pub mod Walks

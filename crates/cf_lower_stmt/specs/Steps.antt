@@ -1,0 +1,73 @@
+-- What a statement stands in, and what is written of it.
+use Rattle.std.specs.Prelude.{ℕ, List, [], ◌∷◌, map, Option, Some, None}
+use Rattle.cc_whole.specs.declared.statement.CStatement.{CStatement}
+use Rattle.cc_whole.specs.declared.statement.CSwitchItem.{CSwitchItem}
+use Rattle.cc_whole.specs.Plain as c
+use Rattle.cc_whole.specs.Plain.{Body, Expression, Statement, SwitchItem, SwitchItems}
+use Rattle.cf_core.specs.FromTypes.{type_of}
+use Rattle.cf_lower.specs.Statements.{Inside, all_lowered, behind, block, flag_set, if_flag, in_loop, in_stepped, put, set_register, stated_all}
+use Rattle.cf_lower.specs.Expressions.{integer_in, zero as nought}
+use Rattle.cf_lower.specs.Kept.{Keeping}
+use Rattle.cf_plain.specs.Plain.{Plains}
+use Rattle.cf_lower.specs.Written.{if_scalar}
+use Rattle.cf_lower_layout.specs.Sorts.{Sort}
+use Rattle.cf_lower_held.specs.declared.scene.Scene.{Scene}
+use Rattle.cf_lower_held.specs.Scenes.{locals_in}
+use Rattle.cf_lower_types.specs.Bare.{classes_of}
+use Rattle.cf_lower_stmt.specs.declared.around.Around.{Around}
+use Rattle.cf_lower_stmt.specs.declared.around.Way.{Way}
+use Rattle.cf_lower_stmt.specs.declared.around.Way.TheVariants as way
+
+-- the statements that are written
+abbrev pub written : List CStatement → List Statement
+written all = map c.statement_of all
+
+abbrev pub written_items : List CSwitchItem → List SwitchItem
+written_items all = map c.switch_item_of all
+
+abbrev pub way_of : Way → List Statement
+way_of way.Nowhere = []
+way_of way.Break = c.leave ∷ []
+way_of way.Continue = c.next ∷ []
+way_of (way.Flagged d) = flag_set d 1 ∷ c.leave ∷ []
+
+-- what a statement stands in
+abbrev pub inside : Scene → Around → Inside
+inside x around = record {
+  classes = classes_of x.tables.now;
+  function = x.function.now;
+  result = type_of x.tables.now x.result;
+  locals = locals_in x;
+  depth = around.depth;
+  leaving = way_of around.leaving;
+  going_on = way_of around.going_on;
+}
+
+-- zero, stored in the scalar so many bytes behind an address
+abbrev pub zero_of : Option Sort → Expression → ℕ → List Statement
+zero_of s p at = if_scalar s [] (λ t. put t (behind p at) nought ∷ [])
+
+-- a value, kept in a register that holds this
+abbrev pub set_if : Option Sort → ℕ → Expression → List Statement
+set_if None r e = []
+set_if (Some s) r e = set_register s r e ∷ []
+
+-- labels and statements of a switch, in front of others
+abbrev pub in_front : List SwitchItem → SwitchItems → SwitchItems
+in_front [] rest = rest
+in_front (c.label k ∷ xs) rest = c.labelled k (in_front xs rest)
+in_front (c.default_label ∷ xs) rest = c.otherwise (in_front xs rest)
+in_front (c.inner s ∷ xs) rest = c.stated s (in_front xs rest)
+
+-- a branch by the number in a register
+abbrev pub branched : ℕ → Body → Body → Statement
+branched r yes no = c.choose (integer_in r) yes no
+
+-- a loop whose turns end in a step, where registers hold the same at both
+abbrev pub stepped : Plains → Plains → Inside → Keeping → Statement
+stepped ss ts x g =
+    c.loop (block
+    (flag_set x.depth 0
+    ∷ c.select nought (c.otherwise (stated_all (all_lowered ss (in_stepped x) g) c.closed))
+    ∷ if_flag x.depth (c.leave ∷ [])
+    ∷ all_lowered ts (in_loop x) g))

@@ -1,0 +1,136 @@
+//! Calls.
+
+ghost use Rattle.std.specs.Prelude.{◌≡◌, ◌++◌, [], ◌∷◌, map, None, Some, IfOk, OnOk};
+ghost use Rattle.std.specs.Option.{option_map};
+ghost use Rattle.cc_whole.specs.Plain as c;
+ghost use Rattle.cc_whole.specs.Plain.{callee_of, expression_of};
+ghost use Rattle.cf_core.specs.FromTypes.{Tables as TablesOf, type_of};
+ghost use Rattle.cf_lower.specs.Statements as spec;
+ghost use Rattle.cf_lower_types.specs.Bare.{sort_in};
+ghost use Rattle.cf_lower_stmt.specs.Calls.{type_or_none, result_kept};
+ghost use Rattle.cf_lower_stmt.specs.Steps.{written};
+
+use crate::writes::{push, set_register};
+use cc_whole::{CCallee, CExpression, CPlace, CSignature, CStatement, CType};
+use cf_base::{Items, Memory, Name};
+use cf_lower_expr::cell;
+use cf_lower_held::Scene;
+use cf_lower_names::{Cell, as_value, in_register, load_named, local_name, result_name};
+use cf_lower_types::{Scalar, parameters, result_sort, sort_of};
+use cf_types::TyId;
+use std::alloc::Global;
+
+/// The values of the C locals that are the objects of parameters.
+fn passed(alloc: Global, arguments: &[u32]) -> Result<Items<CExpression>, Memory>
+    ensures { IfOk result (λ made. map expression_of made ≡ spec.passed arguments.now) }
+{
+    let mut made = Items::new(alloc);
+    for local in arguments {
+        let value = load_named(alloc, local_name(alloc, *local)?)?;
+        made.push(value.into_inner())?;
+    }
+    Ok(made)
+}
+
+/// The C type of a scalar, if there is one.
+#[tactic(auto, using(cf_lower_names::proofs::CellLaws::type_by_cell))]
+fn scalar_type(scalar: Option<Scalar>) -> Option<CType>
+    ensures { (tables : TablesOf) → result ≡ type_or_none (option_map (sort_in tables) scalar) }
+{
+    match scalar {
+        None => None,
+        Some(scalar) => Some(cell(scalar).c_type()),
+    }
+}
+
+/// Adds the C type of a parameter of this type, if it is a scalar.
+fn add_type(x: &Scene<'_>, made: &mut Items<CType>, ty: TyId) -> Result<(), Memory>
+    ensures { OnOk result (made.new ≡ made.old ++ spec.c_types (type_of x.now.tables.now ty ∷ [])) }
+{
+    match scalar_type(sort_of(x.tables, ty)) {
+        None => Ok(()),
+        Some(c_type) => made.push(c_type),
+    }
+}
+
+/// The type of functions of this type in C.
+fn signature(x: &Scene<'_>, ty: TyId) -> Result<CSignature, Memory>
+    ensures { IfOk result (λ made. made ≡ spec.signature (type_of x.now.tables.now ty)) }
+{
+    let mut types = Items::new(x.alloc);
+    for parameter in parameters(x.tables, ty) {
+        add_type(x, &mut types, *parameter)?;
+    }
+    Ok(CSignature {
+        result: scalar_type(result_sort(x.tables, ty)),
+        parameters: types,
+    })
+}
+
+/// The function of this name.
+pub(crate) fn by_name(alloc: Global, name: &Name) -> Result<CCallee, Memory>
+    ensures { IfOk result (λ made. callee_of made ≡ c.by_name name.now) }
+{
+    Ok(CCallee::Name(Items::from_slice(alloc, name.as_slice())?))
+}
+
+/// What a pointer to functions of this type points to, in a register.
+pub(crate) fn through(x: &Scene<'_>, register: u32, ty: TyId) -> Result<CCallee, Memory>
+    ensures { IfOk result (λ made. callee_of made ≡ spec.through register (type_of x.now.tables.now ty)) }
+{
+    let signature = signature(x, ty)?;
+    let pointer = in_register(x.alloc, Cell::Code, register)?;
+    Ok(CCallee::Pointer(signature, pointer))
+}
+
+/// A call whose result is not kept.
+pub(crate) fn call_alone(
+    alloc: Global,
+    code: &mut Items<CStatement>,
+    callee: CCallee,
+    arguments: &[u32],
+) -> Result<(), Memory>
+    ensures { OnOk result (written code.new ≡ written code.old ++ c.call None (callee_of callee) (spec.passed arguments.now) ∷ []) }
+{
+    let values = passed(alloc, arguments)?;
+    push(code, CStatement::Call(None, callee, values))
+}
+
+/// A call whose result goes through a C local of its type to a register.
+#[tactic(auto, using(crate::proofs::Cells::result_by_cell))]
+fn call_for(
+    alloc: Global,
+    code: &mut Items<CStatement>,
+    callee: CCallee,
+    arguments: &[u32],
+    scalar: Scalar,
+    register: u32,
+) -> Result<(), Memory>
+    ensures { (tables : TablesOf) → OnOk result (written code.new ≡ written code.old ++ result_kept (callee_of callee) arguments.now register (sort_in tables scalar)) }
+{
+    let cell = cell(scalar);
+    let values = passed(alloc, arguments)?;
+    let into = CPlace::Name(result_name(alloc, cell.c_type())?);
+    push(code, CStatement::Call(Some(into), callee, values))?;
+    let held = load_named(alloc, result_name(alloc, cell.c_type())?)?;
+    let value = as_value(alloc, cell, held)?;
+    set_register(alloc, code, cell, register, value)?;
+    Ok(())
+}
+
+/// A call of a function of this type, whose result is kept in a register.
+pub(crate) fn call_into(
+    x: &Scene<'_>,
+    code: &mut Items<CStatement>,
+    callee: CCallee,
+    ty: TyId,
+    arguments: &[u32],
+    register: u32,
+) -> Result<(), Memory>
+    ensures { OnOk result (written code.new ≡ written code.old ++ spec.called (callee_of callee) (type_of x.now.tables.now ty) arguments.now (Some register)) }
+{
+    match result_sort(x.tables, ty) {
+        None => call_alone(x.alloc, code, callee, arguments),
+        Some(scalar) => call_for(x.alloc, code, callee, arguments, scalar, register),
+    }
+}

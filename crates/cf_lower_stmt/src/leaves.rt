@@ -1,0 +1,224 @@
+//! Statements of one action.
+
+ghost use Rattle.std.specs.Prelude.{◌≡◌, ◌++◌, OnOk};
+ghost use Rattle.std.specs.Option.{option_map};
+ghost use Rattle.cc_whole.specs.Plain.{expression_of};
+ghost use Rattle.cf_core.specs.FromTypes.{Tables as TablesOf};
+ghost use Rattle.cf_lower.specs.Expressions as given;
+ghost use Rattle.cf_lower.specs.Kept as definition;
+ghost use Rattle.cf_lower.specs.Statements as spec;
+ghost use Rattle.cf_lower_held.specs.Holds.{erased, kept_in};
+ghost use Rattle.cf_lower_held.specs.Scenes.{action_in, holding, locals_in};
+ghost use Rattle.cf_lower_types.specs.Bare.{classes_of, sort_in};
+ghost use Rattle.cf_lower_stmt.specs.Steps.{inside, set_if, written};
+ghost use Rattle.cf_lower_stmt.specs.declared.around.Around.{Around};
+
+use crate::calls::{by_name, call_alone, call_into, through};
+use crate::stores::{bytes_in, first_in, stored_in, zeros_in};
+use crate::writes::set_register;
+use cc_whole::{CExpression, CStatement};
+use cf_base::{Boxed, Items, Memory};
+use cf_lower_expr::{cell, value, value_in};
+use cf_lower_held::{Held, Registers, Scene, local_of};
+use cf_lower_types::Scalar;
+use cf_plain::Action;
+use std::alloc::Global;
+
+/// Writes what is done by an action whose value is not kept.
+pub(crate) fn done(
+    x: &Scene<'_>,
+    a: &Action,
+    rs: &Registers,
+    code: &mut Items<CStatement>,
+) -> Result<(), Memory>
+    ensures { (around : Around) → OnOk result (written code.new ≡ written code.old ++ spec.done (inside x.now around) (holding x.now rs.now) (action_in x.now a.now)) }
+{
+    match a {
+        Action::Store { place, value } => {
+            let given = value_in(x, rs, *value)?;
+            stored_in(x, code, &rs.get(*place), *place, given)
+        }
+        Action::First { place, value } => {
+            let given = value_in(x, rs, *value)?;
+            first_in(x, code, &rs.get(*place), *place, given)
+        }
+        Action::Zeros { place } => zeros_in(x, code, rs.get(*place), *place),
+        Action::Characters { place, bytes } => {
+            bytes_in(x, code, rs.get(*place), *place, bytes.as_slice())
+        }
+        Action::Call {
+            function,
+            arguments,
+            ..
+        } => {
+            let callee = by_name(x.alloc, function)?;
+            call_alone(x.alloc, code, callee, arguments.as_slice())
+        }
+        Action::PointerCall {
+            pointer,
+            ty,
+            arguments,
+            ..
+        } => {
+            let callee = through(x, *pointer, *ty)?;
+            call_alone(x.alloc, code, callee, arguments.as_slice())
+        }
+        Action::Number { .. }
+        | Action::Text { .. }
+        | Action::This
+        | Action::Result
+        | Action::Local { .. }
+        | Action::Static { .. }
+        | Action::Function { .. }
+        | Action::Member { .. }
+        | Action::Part { .. }
+        | Action::Read { .. }
+        | Action::Dereference { .. }
+        | Action::Decay { .. }
+        | Action::Index { .. }
+        | Action::Convert { .. }
+        | Action::Up { .. }
+        | Action::Down { .. }
+        | Action::FromVoid { .. }
+        | Action::ToMember { .. }
+        | Action::DataPointer { .. }
+        | Action::FunctionPointer { .. }
+        | Action::Through { .. }
+        | Action::Operate { .. }
+        | Action::Unary { .. }
+        | Action::Truth { .. }
+        | Action::Not { .. }
+        | Action::PointerOperate { .. }
+        | Action::Changed { .. }
+        | Action::Declare { .. }
+        | Action::BeginList { .. }
+        | Action::EndList { .. }
+        | Action::Carry { .. }
+        | Action::CarryOver { .. }
+        | Action::Finish { .. }
+        | Action::New { .. }
+        | Action::NewArray { .. }
+        | Action::Delete { .. }
+        | Action::DeleteArray { .. }
+        | Action::IsReached { .. }
+        | Action::Reach { .. }
+        | Action::FinishStatic { .. }
+        | Action::VirtualCall { .. }
+        | Action::Build { .. } => Ok(()),
+    }
+}
+
+/// A value goes to the C local of a register, as this scalar.
+#[tactic(auto, using(crate::proofs::Cells::register_by_cell))]
+fn put_in(
+    alloc: Global,
+    scalar: Option<Scalar>,
+    register: u32,
+    value: Boxed<CExpression>,
+    code: &mut Items<CStatement>,
+) -> Result<(), Memory>
+    ensures { (tables : TablesOf) → OnOk result (written code.new ≡ written code.old ++ set_if (option_map (sort_in tables) scalar) register (expression_of value)) }
+{
+    match scalar {
+        None => Ok(()),
+        Some(scalar) => {
+            set_register(alloc, code, cell(scalar), register, value)?;
+            Ok(())
+        }
+    }
+}
+
+/// Writes an action that is no call, whose value is kept in a register that holds this from then on.
+fn kept_value(
+    x: &Scene<'_>,
+    register: u32,
+    a: &Action,
+    held: &Held,
+    rs: &Registers,
+    code: &mut Items<CStatement>,
+) -> Result<(), Memory>
+    ensures { OnOk result (written code.new ≡ written code.old ++ set_if (definition.local_kept (kept_in x.now.tables.now held.now)) register (given.value (classes_of x.now.tables.now) x.now.function.now (locals_in x.now) (holding x.now rs.now) (action_in x.now a.now))) }
+{
+    let made = value(x, rs, a)?;
+    put_in(x.alloc, local_of(*held), register, made, code)
+}
+
+/// Writes an action whose value is kept in a register, which holds this from then on.
+pub(crate) fn kept(
+    x: &Scene<'_>,
+    register: u32,
+    a: &Action,
+    held: &Held,
+    rs: &Registers,
+    code: &mut Items<CStatement>,
+) -> Result<(), Memory>
+    requires { kept_in x.now.tables.now held.now ≡ erased (definition.kept_by (locals_in x.now) (holding x.now rs.now) (action_in x.now a.now)) }
+    ensures { (around : Around) → OnOk result (written code.new ≡ written code.old ++ spec.kept (inside x.now around) (holding x.now rs.now) register (action_in x.now a.now)) }
+{
+    match a {
+        Action::Call {
+            function,
+            ty,
+            arguments,
+            ..
+        } => {
+            let callee = by_name(x.alloc, function)?;
+            call_into(x, code, callee, *ty, arguments.as_slice(), register)
+        }
+        Action::PointerCall {
+            pointer,
+            ty,
+            arguments,
+            ..
+        } => {
+            let callee = through(x, *pointer, *ty)?;
+            call_into(x, code, callee, *ty, arguments.as_slice(), register)
+        }
+        Action::Number { .. }
+        | Action::Text { .. }
+        | Action::This
+        | Action::Result
+        | Action::Local { .. }
+        | Action::Static { .. }
+        | Action::Function { .. }
+        | Action::Member { .. }
+        | Action::Part { .. }
+        | Action::Read { .. }
+        | Action::Dereference { .. }
+        | Action::Decay { .. }
+        | Action::Index { .. }
+        | Action::Convert { .. }
+        | Action::Up { .. }
+        | Action::Down { .. }
+        | Action::FromVoid { .. }
+        | Action::ToMember { .. }
+        | Action::DataPointer { .. }
+        | Action::FunctionPointer { .. }
+        | Action::Through { .. }
+        | Action::Operate { .. }
+        | Action::Unary { .. }
+        | Action::Truth { .. }
+        | Action::Not { .. }
+        | Action::PointerOperate { .. }
+        | Action::Changed { .. }
+        | Action::Store { .. }
+        | Action::Declare { .. }
+        | Action::First { .. }
+        | Action::Zeros { .. }
+        | Action::Characters { .. }
+        | Action::BeginList { .. }
+        | Action::EndList { .. }
+        | Action::Carry { .. }
+        | Action::CarryOver { .. }
+        | Action::Finish { .. }
+        | Action::New { .. }
+        | Action::NewArray { .. }
+        | Action::Delete { .. }
+        | Action::DeleteArray { .. }
+        | Action::IsReached { .. }
+        | Action::Reach { .. }
+        | Action::FinishStatic { .. }
+        | Action::VirtualCall { .. }
+        | Action::Build { .. } => kept_value(x, register, a, held, rs, code),
+    }
+}

@@ -1,0 +1,6 @@
+pub mod Entries
+pub mod Forms
+pub mod FunctionLaws
+pub mod References
+pub mod Scalars
+pub mod SizeLaws
