@@ -12,7 +12,7 @@ use Rattle.cf_elab.specs.Answer.{Answer, Made, Elab, onward, for_each, done}
 use Rattle.cf_elab.specs.Built as built
 use Rattle.cf_elab.specs.Env.{Env, Name, Extent, functions, FunctionEntry}
 use Rattle.cf_elab.specs.File as row
-use Rattle.cf_elab.specs.File.{first_env, library_entry, item_row, in_turn, first_undefined}
+use Rattle.cf_elab.specs.File.{first_env, library_entry, item_row, in_turn}
 use Rattle.cf_elab.specs.Made.{int, void, function_type}
 use Rattle.cf_elab.specs.Names.{declare}
 use Rattle.cf_elab.specs.Objects.{Reached}
