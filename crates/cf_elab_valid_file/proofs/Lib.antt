@@ -1,3 +1,5 @@
 pub mod Items
 pub mod Lists
+pub mod Measured
+pub mod Small
 pub mod Units
