@@ -1,3 +1,4 @@
+pub mod Decided
 pub mod Items
 pub mod Lists
 pub mod Measured

@@ -20,7 +20,7 @@ use Rattle.cf_core.specs.FromTypes.{Tables, taking}
 use Rattle.cf_core.specs.FromUnit.{IsValid, WithinLimits, is_short, file_of, function_of, static_of, role_of}
 use Rattle.cf_core.specs.Numbers.{has_type, are_known, role_known, function_known, static_known}
 use Rattle.cf_core.specs.Size.{size}
-use Rattle.cf_core.specs.Types.{Name, SourceType, void, gives, const, is_void, parameters, result}
+use Rattle.cf_core.specs.Types.{Name, SourceType, gives, parameters, result}
 use Rattle.cf_core.specs.Typing.{is_function}
 use Rattle.cf_core.specs.Valid.{Body, valid_file, all_differ, class_of_role, role_fits, result_fits, is_complete, fits, body_fits, body_of, function_fits, owner_fits, static_fits}
 use Rattle.cf_core_typed.proofs.Same.{and-both}
@@ -36,6 +36,7 @@ use Rattle.cf_elab_valid.specs.Answers.{Good, Fine}
 use Rattle.cf_elab_valid.specs.Scene.{Scene, IsScene, tree, core, OwnerThere, StaticFits, FunctionFits, PartInside, Within, Classless, Holds}
 use Rattle.cf_elab_valid.proofs.Calls.{taken_parameters, taken_result, taken_function}
 use Rattle.cf_elab_valid.proofs.Ways.{begins-same}
+use Rattle.cf_elab_valid_objects.proofs.Locals.{complete-no-void}
 use Rattle.cf_elab_valid_statics.proofs.Names.{Any}
 use Rattle.cf_elab_valid_bodies.specs.Laws.{ConstantsAreApart}
 use Rattle.cf_elab_valid_functions.specs.Laws.{IsFileEnd}
@@ -45,12 +46,6 @@ use Rattle.cf_elab_valid_file.proofs.Items.{turn-fine}
 use Rattle.cf_elab_valid_file.proofs.Measured.{size-small}
 use Rattle.cf_elab_valid_file.proofs.Small.{SmallIn, turn-small}
 use Rattle.cf_elab_valid_file.proofs.Lists.{all-from, all-mapped, any-mapped, map-through, differ-behind, find-own}
-
--- what is complete is no void
-complete-no-void : (x : SourceType) → is_complete [] x ≡ true → is_void x ≡ false
-complete-no-void void h = absurd (true≢false (sym h))
-complete-no-void (const x) h = complete-no-void x h
-complete-no-void x h = refl
 
 module _ (e : Env) (finished : IsFinished e) (c : Classless e) (sizes : (t : ℕ) → t < length e.types.types → (extent e.types [] t).size ≤ most_bytes) where
   abbrev T : Tables
