@@ -3,4 +3,5 @@ pub mod Items
 pub mod Lists
 pub mod Measured
 pub mod Small
+pub mod Sorted
 pub mod Units

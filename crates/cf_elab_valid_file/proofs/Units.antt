@@ -3,6 +3,7 @@ use Rattle.std.proofs.Common.{◌≡◌, ℕ, zero, suc, ◌<◌, ◌≤◌, ◌
 use Rattle.std.specs.List.{list_any, list_all}
 use Rattle.std.proofs.lemmas.List.{length-map, map-append}
 use Rattle.std.proofs.lemmas.List.Elements.{All-cons}
+use Rattle.cf_types.specs.Table.{IsTable}
 use Rattle.cf_types.specs.declared.ty.Ty.{Ty}
 use Rattle.cf_types.specs.declared.ty.Ty.TheVariants as ty
 use Rattle.cf_classes.specs.Fit.{Fit, class_of_type, enum_of_type}
@@ -41,7 +42,9 @@ use Rattle.cf_elab_valid_statics.proofs.Names.{Any}
 use Rattle.cf_elab_valid_bodies.specs.Laws.{ConstantsAreApart}
 use Rattle.cf_elab_valid_functions.specs.Laws.{IsFileEnd}
 use Rattle.cf_elab_valid_functions.proofs.Ends.{nowhere, nowhere-end}
+use Rattle.cf_elab_valid_file.specs.Ends.{is_finished}
 use Rattle.cf_elab_valid_file.specs.Laws.{file_fits, tables_of, IsFinished}
+use Rattle.cf_elab_valid_file.proofs.Decided.{decided}
 use Rattle.cf_elab_valid_file.proofs.Items.{turn-fine}
 use Rattle.cf_elab_valid_file.proofs.Measured.{size-small}
 use Rattle.cf_elab_valid_file.proofs.Small.{SmallIn, turn-small}
@@ -234,3 +237,10 @@ file-law apart extent u b fits e run finished =
     let small = subst (SmallIn e.types finished.table) run (turn-small e.types finished.table (nowhere [] 0) nowhere-file apart u.items b fits refl extent (defined_names u)) (begins-same e.types.types) in
     let good : Good (scene e finished first.classless small) Any begin tt e = subst (λ r. Fine (scene e finished first.classless small) Any begin r) run (turn-fine (scene e finished first.classless small) (file-end e finished first.classless small) apart u.items b fits refl extent (defined_names u)) in
     unit-valid e finished first.classless small finished.hand good.holds
+
+-- where a look at the end finds it well formed
+pub finished-law : ConstantsAreApart → (extent : Extent) (u : FileTree) → not_built u ≡ None → file_fits u ≡ true → (e : Env) → in_turn (map item_row u.items) (first_env extent (defined_names u)) ≡ Made tt e → IsTable e.types → is_finished e ≡ true → IsValid (core_unit e)
+finished-law apart extent u b fits e run table told =
+    let begin = first_env extent (defined_names u) in
+    let first : Good (nowhere [] 0) Any begin tt e = subst (λ r. Fine (nowhere [] 0) Any begin r) run (turn-fine (nowhere [] 0) nowhere-file apart u.items b fits refl extent (defined_names u)) in
+    file-law apart extent u b fits e run (decided e table first.classless.no_type told)
