@@ -1,5 +1,6 @@
 -- The size of a type by the table is that of its tree, where its objects can be made (5.3.2).
 use Rattle.std.proofs.Common.{◌≡◌, ℕ, zero, suc, ◌+◌, ◌*◌, ◌<◌, ◌≤◌, Bool, true, false, List, [], ◌∷◌, length, map, Some, Option, None, IsTrue, slice_get, refl, sym, ap, subst, ◌∙◌, true≢false, arith, lit≤}
+use native.Mathlib.Nat.{mul_comm}
 use Rattle.cf_types.specs.declared.ty.Fun.{Fun}
 use Rattle.cf_types.specs.declared.ty.Ty.{Ty}
 use Rattle.cf_types.specs.declared.ty.Ty.TheVariants as ty
@@ -20,8 +21,8 @@ use Rattle.cf_elab_valid_file.specs.Laws.{WholeElements}
 
 -- a tree of at most so many bytes as a type may have, and of so many where objects of it can be made
 record Takes (x : SourceType) (bytes : ℕ) : Type 0 where
-  small : size [] x ≤ most_bytes
-  same : is_complete [] x ≡ true → size [] x ≡ bytes
+  pub small : size [] x ≤ most_bytes
+  pub same : is_complete [] x ≡ true → size [] x ≡ bytes
 
 -- a function takes one byte, and no object is one
 function-takes : (ps : List SourceType) (r : SourceType) (c : Bool) (bytes : ℕ) → Takes (taking ps (gives r c)) bytes
@@ -49,7 +50,7 @@ module _ (T : Tables) (well : IsTable T.types) (plain : HasNoClass T.types) (ele
   step classes t (ty.Ref u) at c below most each = record { small = most; same = λ is. refl }
   step classes t (ty.Array u n) at c below most each =
       let one = (each u below).same (elements t u n at) in
-      let all : n * size [] (tree u) ≡ bytes u * n = ap (λ m. n * m) one ∙ omega arith in record { small = subst (λ m. m ≤ most_bytes) (sym all) most; same = λ is. all }
+      let all : n * size [] (tree u) ≡ bytes u * n = ap (λ m. n * m) one ∙ mul_comm n (bytes u) in record { small = subst (λ m. m ≤ most_bytes) (sym all) most; same = λ is. all }
   step classes t (ty.Fun f) at c below most each = fun-takes (slice_get T.types.funs f) 0
   step classes t (ty.MemData n m) at c below most each = absurd (true≢false (sym c))
   step classes t (ty.MemFun n m) at c below most each = absurd (true≢false (sym c))

@@ -32,7 +32,7 @@ use Rattle.cf_elab.specs.File.{first_env, item_row, in_turn}
 use Rattle.cf_elab.specs.Specifiers.{gathered}
 use Rattle.cf_elab.specs.Statement.{Made as MadeOf}
 use Rattle.cf_elab.specs.Trees as tree
-use Rattle.cf_elab.specs.Trees.{MemberRow, SpecifierRow, ClassRow, FunctionRow, DeclarationRow, words, alias_of, specifier, init_of}
+use Rattle.cf_elab.specs.Trees.{MemberRow, SpecifierRow, ClassRow, FunctionRow, DeclarationRow, words, alias_of, init_of}
 use Rattle.cf_elab_env.proofs.Growth.{here}
 use Rattle.cf_elab_env.proofs.Sorts.{below_at}
 use Rattle.cf_elab_valid.specs.Answers.{Good, Fine}
@@ -46,6 +46,7 @@ use Rattle.cf_elab_valid.proofs.Options.{never_none}
 use Rattle.cf_elab_valid.proofs.Ways.{begins-get, begins-through, When}
 use Rattle.cf_elab_valid_statics.proofs.Names.{Any}
 use Rattle.cf_elab_valid_bodies.specs.Laws.{ConstantsAreApart}
+use Rattle.cf_elab_valid_bodies.proofs.Bodies.{specifier}
 use Rattle.cf_elab_valid_functions.specs.Laws.{IsFileEnd}
 use Rattle.cf_elab_valid_file.specs.Laws.{item_fits}
 use Rattle.cf_elab_valid_file.proofs.Items.{beginning-fine, item-fine, outermost-later}
@@ -64,13 +65,11 @@ not-lt-told n m h = grind (arith, nat_tests, h)
 -- each number of a list passes the test
 all-numbered : (test : ℕ → Bool) (xs : List Ty) (n t : ℕ) → list_all test (numbers_from n xs) ≡ true → n ≤ t → t < n + length xs → test t ≡ true
 all-numbered test [] n t h from below = absurd (omega (arith, from, below))
-all-numbered test (x ∷ xs) n t h from below = by (nat_lt n t) refl
+all-numbered test (x ∷ xs) n t h from below = by (λ later before. all-numbered test xs (n + 1) t (and-right (test n) (list_all test (numbers_from (n + 1) xs)) h) later before) (nat_lt n t) refl
   where
-    by : (b : Bool) → nat_lt n t ≡ b → test t ≡ true
-    by true is =
-        let after = lt-told n t is in
-        all-numbered test xs (n + 1) t (and-right (test n) (list_all test (numbers_from (n + 1) xs)) h) (omega (arith, after)) (omega (arith, below))
-    by false is =
+    by : (n + 1 ≤ t → t < n + 1 + length xs → test t ≡ true) → (b : Bool) → nat_lt n t ≡ b → test t ≡ true
+    by rest true is = let after = lt-told n t is in rest (omega (arith, after)) (omega (arith, below))
+    by rest false is =
         let not_after = not-lt-told n t is in
         let same : n ≡ t = omega (arith, from, not_after) in subst (λ k. test k ≡ true) same (and-left (test n) (list_all test (numbers_from (n + 1) xs)) h)
 

@@ -51,10 +51,9 @@ module _ (T : Tables) (well : IsTable T.types) (plain : HasNoClass T.types) wher
 
   no-const : (t : ℕ) → Known t → (u : ℕ) → under t ≡ ty.Const u → ⊥
   no-const t k u e =
-      let b = bare T.types t in
-      let below : u < b = below_at T.types b (ty.Const u) well (at-bare t k (ty.Const u) e) in
-      let same : u ≡ b = sym (bare_const T.types b u e) ∙ bare_bare T.types well t k in
-      absurd (omega arith)
+      let less : u < bare T.types t = below_at T.types (bare T.types t) (ty.Const u) well (at-bare t k (ty.Const u) e) in
+      let same : u ≡ bare T.types t = sym (bare_const T.types (bare T.types t) u e) ∙ bare_bare T.types well t k in
+      absurd (omega (arith, less, same))
 
   form : (t : ℕ) → Known t → (v : Ty) → under t ≡ v → Same (tree t) (type_step T tree v)
   form t k v e = tree-form T well t k v e
@@ -120,51 +119,51 @@ module _ (T : Tables) (well : IsTable T.types) (plain : HasNoClass T.types) wher
   -- ---- objects
 
   module _ (elements : (t u n : ℕ) → slice_get T.types.types t ≡ Some (ty.Array u n) → is_object (sort_of T.types u) ≡ true) where
+    -- a type without its const stands no later
+    bare-low : (u : ℕ) → Known u → bare T.types u ≤ u
+    bare-low u known = low (type_at T.types u) refl
+      where
+        low : (v : Ty) → type_at T.types u ≡ v → bare T.types u ≤ u
+        low (ty.Const x) is = let less : x < u = below_at T.types u (ty.Const x) well (here T.types u known ∙ ap Some is) in let same = bare_const T.types u x is in omega (arith, less, same)
+        low ty.Void is = rw is (omega arith)
+        low (ty.Int x) is = rw is (omega arith)
+        low (ty.Enum x) is = rw is (omega arith)
+        low (ty.Class x) is = rw is (omega arith)
+        low (ty.Ptr x) is = rw is (omega arith)
+        low (ty.Ref x) is = rw is (omega arith)
+        low (ty.Array x y) is = rw is (omega arith)
+        low (ty.Fun x) is = rw is (omega arith)
+        low (ty.MemData x y) is = rw is (omega arith)
+        low (ty.MemFun x y) is = rw is (omega arith)
+
+    array-whole : (m t u n : ℕ) → bare T.types t < suc m → Known t → under t ≡ ty.Array u n → ((x : ℕ) → bare T.types x < m → Known x → is_object (sort_of T.types x) ≡ true → is_complete [] (tree x) ≡ true) → is_complete [] (tree u) ≡ true
+    array-whole m t u n before k e each =
+        let at = at-bare t k (ty.Array u n) e in
+        let less : u < bare T.types t = below_at T.types (bare T.types t) (ty.Array u n) well at in
+        let inside : bare T.types t < length T.types.types = bare-known T.types t well k in
+        let known : u < length T.types.types = omega (arith, less, inside) in
+        let low = bare-low u known in
+        each u (omega (arith, low, less, before)) known (elements (bare T.types t) u n at)
+
     complete-below : (m t : ℕ) → bare T.types t < m → Known t → is_object (sort_of T.types t) ≡ true → is_complete [] (tree t) ≡ true
-    complete-below zero t before k h = absurd (omega arith)
-    complete-below (suc m) t before k h = by (under t) refl h
+    complete-below zero t before k h = absurd (omega (arith, before))
+    complete-below (suc m) t before k h = by (λ x low known object. complete-below m x low known object) (under t) refl h
       where
         whole : (v : Ty) → under t ≡ v → is_complete [] (type_step T tree v) ≡ true → is_complete [] (tree t) ≡ true
         whole v e c = same-complete (tree t) (type_step T tree v) (form t k v e) ∙ c
 
-        array-whole : (u n : ℕ) → under t ≡ ty.Array u n → is_complete [] (tree u) ≡ true
-        array-whole u n e =
-            let b = bare T.types t in
-            let at = at-bare t k (ty.Array u n) e in
-            let below : u < b = below_at T.types b (ty.Array u n) well at in
-            let inside = bare-known T.types t well k in
-            let lower = bare-low u (omega (arith, below, inside)) in
-            complete-below m u (omega (arith, lower, below, before)) (omega (arith, below, inside)) (elements b u n at)
-          where
-            -- a type without its const stands no later
-            bare-low : (u : ℕ) → Known u → bare T.types u ≤ u
-            bare-low u known = low (type_at T.types u) refl
-              where
-                low : (v : Ty) → type_at T.types u ≡ v → bare T.types u ≤ u
-                low (ty.Const x) is = let under_it : x < u = below_at T.types u (ty.Const x) well (here T.types u known ∙ ap Some is) in let same = bare_const T.types u x is in omega (arith, under_it, same)
-                low ty.Void is = rw is (omega arith)
-                low (ty.Int x) is = rw is (omega arith)
-                low (ty.Enum x) is = rw is (omega arith)
-                low (ty.Class x) is = rw is (omega arith)
-                low (ty.Ptr x) is = rw is (omega arith)
-                low (ty.Ref x) is = rw is (omega arith)
-                low (ty.Array x y) is = rw is (omega arith)
-                low (ty.Fun x) is = rw is (omega arith)
-                low (ty.MemData x y) is = rw is (omega arith)
-                low (ty.MemFun x y) is = rw is (omega arith)
-
-        by : (v : Ty) → under t ≡ v → is_object (ty_sort T.types v) ≡ true → is_complete [] (tree t) ≡ true
-        by ty.Void e h = absurd (true≢false (sym h))
-        by (ty.Fun f) e h = absurd (true≢false (sym h))
-        by (ty.Const u) e h = absurd (no-const t k u e)
-        by (ty.Class n) e h = absurd (class-free t k n e)
-        by (ty.Array u n) e h = whole (ty.Array u n) e (array-whole u n e)
-        by (ty.Ref u) e h = whole (ty.Ref u) e refl
-        by (ty.Int n) e h = whole (ty.Int n) e refl
-        by (ty.Enum n) e h = whole (ty.Enum n) e refl
-        by (ty.Ptr u) e h = whole (ty.Ptr u) e refl
-        by (ty.MemData n u) e h = whole (ty.MemData n u) e refl
-        by (ty.MemFun n f) e h = whole (ty.MemFun n f) e refl
+        by : ((x : ℕ) → bare T.types x < m → Known x → is_object (sort_of T.types x) ≡ true → is_complete [] (tree x) ≡ true) → (v : Ty) → under t ≡ v → is_object (ty_sort T.types v) ≡ true → is_complete [] (tree t) ≡ true
+        by each ty.Void e h = absurd (true≢false (sym h))
+        by each (ty.Fun f) e h = absurd (true≢false (sym h))
+        by each (ty.Const u) e h = absurd (no-const t k u e)
+        by each (ty.Class n) e h = absurd (class-free t k n e)
+        by each (ty.Array u n) e h = whole (ty.Array u n) e (array-whole m t u n before k e each)
+        by each (ty.Ref u) e h = whole (ty.Ref u) e refl
+        by each (ty.Int n) e h = whole (ty.Int n) e refl
+        by each (ty.Enum n) e h = whole (ty.Enum n) e refl
+        by each (ty.Ptr u) e h = whole (ty.Ptr u) e refl
+        by each (ty.MemData n u) e h = whole (ty.MemData n u) e refl
+        by each (ty.MemFun n f) e h = whole (ty.MemFun n f) e refl
 
     pub complete-told : (t : ℕ) → Known t → is_object (sort_of T.types t) ≡ true → is_complete [] (tree t) ≡ true
     complete-told t k h = complete-below (bare T.types t + 1) t (omega arith) k h

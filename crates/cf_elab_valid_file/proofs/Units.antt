@@ -234,7 +234,7 @@ pub file-law : ConstantsAreApart → (extent : Extent) (u : FileTree) → not_bu
 file-law apart extent u b fits e run finished =
     let begin = first_env extent (defined_names u) in
     let first : Good (nowhere [] 0) Any begin tt e = subst (λ r. Fine (nowhere [] 0) Any begin r) run (turn-fine (nowhere [] 0) nowhere-file apart u.items b fits refl extent (defined_names u)) in
-    let small = subst (SmallIn e.types finished.table) run (turn-small e.types finished.table (nowhere [] 0) nowhere-file apart u.items b fits refl extent (defined_names u)) (begins-same e.types.types) in
+    let small = subst (λ (r : Answer (Unit {0})). SmallIn e.types finished.table r) run (turn-small e.types finished.table (nowhere [] 0) nowhere-file apart u.items b fits refl extent (defined_names u)) (begins-same e.types.types) in
     let good : Good (scene e finished first.classless small) Any begin tt e = subst (λ r. Fine (scene e finished first.classless small) Any begin r) run (turn-fine (scene e finished first.classless small) (file-end e finished first.classless small) apart u.items b fits refl extent (defined_names u)) in
     unit-valid e finished first.classless small finished.hand good.holds
 
