@@ -264,8 +264,8 @@ module _ (s : Scene) where
       (λ q e1 d g c1 h1 i. as-onward s NoDefaults ParametersThere NoDefaults ParametersThere e1 (each object_parameter ps e1) (λ qs. gives (q ∷ qs)) (objects-fine ps e1 a.1 c1 h1)
       (λ qs e2 ds g2 c2 h2 is. as-made s NoDefaults ParametersThere e2 (q ∷ qs) (d, ds) c2 h2 (λ w. (inside-later e1 e2 q.type g2 (i (within-before e1 e2 s g2 w)), is w))))
 
-  only-fine : (p : Parameter) (e : Env) → p.default ≡ None → Classless e → When s e (Holds s e) → When s e (Inside e p.type) → FineAs s NoDefaults ParametersThere e (only_parameter p e)
-  only-fine p e d c h i = by (is_nothing e p)
+  alone-fine : (p : Parameter) (e : Env) → p.default ≡ None → Classless e → When s e (Holds s e) → When s e (Inside e p.type) → FineAs s NoDefaults ParametersThere e (only_parameter p e)
+  alone-fine p e d c h i = by (is_nothing e p)
     where
       by : (b : Bool) → FineAs s NoDefaults ParametersThere e (let run : Elab (List Parameter) = if b then gives [] else (λ f. onward (no_void p f) (λ _. gives (p ∷ []))) in run e)
       by true = as-made s NoDefaults ParametersThere e [] tt c h (λ w. tt)
@@ -276,7 +276,7 @@ module _ (s : Scene) where
   parameters-fine : (ps : List (Elab Parameter)) (e : Env) → AreParameters s ps → Classless e → When s e (Holds s e) → FineAs s NoDefaults ParametersThere e (parameters ps e)
   parameters-fine [] e a c h = objects-fine [] e a c h
   parameters-fine (p ∷ q ∷ ps) e a c h = objects-fine (p ∷ q ∷ ps) e a c h
-  parameters-fine (p ∷ []) e a c h = as-onward s no_default is_there NoDefaults ParametersThere e (p e) only_parameter (a.0.fine e c h) (λ q e1 d g c1 h1 i. only-fine q e1 d c1 h1 i)
+  parameters-fine (p ∷ []) e a c h = as-onward s no_default is_there NoDefaults ParametersThere e (p e) only_parameter (a.0.fine e c h) (λ q e1 d g c1 h1 i. alone-fine q e1 d c1 h1 i)
 
 -- ---- declarators
 

@@ -141,14 +141,14 @@ objects-quiet (p ∷ ps) e k c =
     quiet-onward e (object_parameter p e) _ c (object-quiet p e k.0 c)
     (λ q f cf. quiet-onward f (each object_parameter ps f) (λ qs. gives (q ∷ qs)) cf (objects-quiet ps f k.1 cf) (λ qs g cg. quiet-none g cg))
 
-only-quiet : (p : Parameter) (e : Env) → Classless e → QuietIn e (only_parameter p e)
-only-quiet p e c =
+alone-quiet : (p : Parameter) (e : Env) → Classless e → QuietIn e (only_parameter p e)
+alone-quiet p e c =
     if-quiet e (is_nothing e p) (gives []) (λ f. onward (no_void p f) (λ _. gives (p ∷ []))) (quiet-none e c) (need-quiet e (not (is_void (sort_of e.types p.type))) 26 (named_at p) _ (quiet-none e c))
 
 parameters-quiet : (ps : List (Elab Parameter)) (e : Env) → AreQuiet ps → Classless e → QuietIn e (parameters ps e)
 parameters-quiet [] e k c = objects-quiet [] e k c
 parameters-quiet (p ∷ q ∷ ps) e k c = objects-quiet (p ∷ q ∷ ps) e k c
-parameters-quiet (p ∷ []) e k c = quiet-onward e (p e) only_parameter c (k.0.fine e c) (λ q f cf. only-quiet q f cf)
+parameters-quiet (p ∷ []) e k c = quiet-onward e (p e) only_parameter c (k.0.fine e c) (λ q f cf. alone-quiet q f cf)
 
 pub function-quiet : (at : ℕ) (d : Elab Shape) (ps : List (Elab Parameter)) (b : Bool) → IsQuietShape d → AreQuiet ps
     → IsQuietShape (λ e. onward (d e) (λ x f. onward (parameters ps f) (λ qs. gives (taking at qs b x))))
