@@ -44,7 +44,7 @@ last-true false b h = absurd (true≢false (sym h))
 pub second_place : (types : Table) (x y : Value) → is_one_place x y ≡ true → Known types y → Known types (record y { type = x.type })
 unfolding is_one_place
 second_place types x y is k =
-    let test : (x.type == y.type) ≡ true = last-true y.is_lvalue (x.type == y.type) (last-true x.is_lvalue (y.is_lvalue && (x.type == y.type)) is) in
+    let test : (x.type == y.type) ≡ true = last-true (x.is_lvalue && y.is_lvalue) (x.type == y.type) is in
     let same : y.type ≡ x.type = grind (arith, nat_tests) in known_as types y x.type same k
 
 pub integer_as : (types : Table) (v : Value) (t : ℕ) (k : Kind) → IsType types t → sort_of types t ≡ integral k → NumberOf k v.number → Known types (record v { type = t })

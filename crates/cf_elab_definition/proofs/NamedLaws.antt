@@ -1,5 +1,5 @@
 -- A definition behind its specifiers and its declarator.
-use Rattle.std.proofs.Common.{◌≡◌, ℕ, true, List, map, Option, None, Some, slice_get, refl, sym, ap, subst, ◌∙◌}
+use Rattle.std.proofs.Common.{◌≡◌, ℕ, true, false, List, map, Option, None, Some, slice_get, refl, sym, ap, subst, ◌∙◌}
 use Rattle.cf_syntax.specs.declared.name.Last.{Last}
 use Rattle.cf_syntax.specs.declared.name.Last.TheVariants as last
 use Rattle.cf_syntax.specs.declared.name.Name.{Name as WrittenName}

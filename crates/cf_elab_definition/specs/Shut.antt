@@ -1,5 +1,5 @@
 -- Functions with a body, in steps under names that do not unfold. `Rattle.cf_elab_definition.proofs` says that a definition is these steps.
-use Rattle.std.specs.Prelude.{◌≡◌, ℕ, true, if◌then◌else◌, List, [], ◌∷◌, ◌++◌, drop, length, map, Option, None, Some, slice_get}
+use Rattle.std.specs.Prelude.{◌≡◌, ℕ, Bool, true, false, if◌then◌else◌, List, [], ◌∷◌, ◌++◌, drop, length, map, Option, None, Some, slice_get}
 use Rattle.cf_core.specs.declared.node.Core.{Core as Node}
 use Rattle.cf_syntax.specs.declared.declarator.DeclTree.{DeclTree}
 use Rattle.cf_syntax.specs.declared.name.Last.{Last}

@@ -1,5 +1,5 @@
 -- Enumerations and enumerators that are declared: no class is open, so the innermost scope has them.
-use Rattle.std.proofs.Common.{◌≡◌, ℕ, ◌+◌, ◌<◌, ◌≤◌, Bool, true, false, if◌then◌else◌, List, [], ◌∷◌, length, drop, get_or, Option, Some, All, IsTrue, ℤ, pos, refl, sym, ap, subst, ◌∙◌}
+use Rattle.std.proofs.Common.{◌≡◌, ℕ, ◌+◌, ◌<◌, ◌≤◌, Bool, true, false, if◌then◌else◌, List, [], ◌∷◌, length, drop, get_or, Option, None, Some, All, IsTrue, ℤ, pos, refl, sym, ap, subst, ◌∙◌}
 use Rattle.std.proofs.lemmas.List.{at_drop_more, at_drop_all}
 use Rattle.cf_base.specs.Integers.{fits}
 use Rattle.cf_base.specs.declared.kind.Kind.TheVariants as kind

@@ -1,5 +1,5 @@
 -- An enumeration by its steps.
-use Rattle.std.proofs.Common.{◌≡◌, ℕ, List, Option, None, Some, is_some, pos, refl, sym, ◌∙◌}
+use Rattle.std.proofs.Common.{◌≡◌, ℕ, List, Option, None, Some, is_some, pos, refl, sym, ap, ◌∙◌}
 use Rattle.cf_unit.specs.declared.enumeration.EnumDef.{EnumDef}
 use Rattle.cf_unit.specs.declared.enumeration.Enumerator.{Enumerator}
 use Rattle.cf_elab.specs.Answer.{Answer, Elab, Made, Refused, Passed, onward}

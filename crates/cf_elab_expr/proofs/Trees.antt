@@ -163,7 +163,7 @@ unfolding shut.object_parameter shut.parameter shape_row.no_void
 object_parameter_is p env = refl
 
 same_objects : (ps : List Param) (env : Env) → each object_parameter (map parameter ps) env ≡ shut.object_parameters ps env
-unfolding shut.object_parameters shut.object_parameter
+unfolding shut.object_parameters shut.object_parameter shut.parameter
 same_objects [] env = refl
 same_objects (p ∷ ps) env =
     onward-same (object_parameter (parameter p) env) (λ y e. onward (each object_parameter (map parameter ps) e) (λ ys e. Made (y ∷ ys) e)) (λ y e. onward (shut.object_parameters ps e) (λ ys e. Made (y ∷ ys) e))
@@ -175,7 +175,7 @@ unfolding shut.parameters shut.parameter shape_row.only_parameter
 one_parameter ps p env is = ap (λ ps. shut.parameters ps env) is
 
 pub more_parameters : (ps : List Param) (env : Env) → ((p : Param) → ps ≡ p ∷ [] → ⊥) → shut.parameters ps env ≡ shut.object_parameters ps env
-unfolding shut.parameters
+unfolding shut.parameters shut.parameter
 more_parameters [] env other = same_objects [] env
 more_parameters (p ∷ []) env other = absurd (other p refl)
 more_parameters (p ∷ q ∷ ps) env other = same_objects (p ∷ q ∷ ps) env

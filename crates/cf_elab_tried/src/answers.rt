@@ -41,9 +41,10 @@ fn without_tree(alloc: Global, fault: &ParseFault) -> Result<String, Fail> {
 }
 
 fn of_tree(alloc: Global, tree: &Unit) -> Result<String, Fail> {
-    match elab(alloc, tree) {
+    let found = elab(alloc, tree);
+    match &found {
         Ok(_) => Ok(format!(in alloc; "taken")?),
-        Err(stop) => stopped(alloc, &stop),
+        Err(stop) => stopped(alloc, stop),
     }
 }
 
@@ -118,11 +119,11 @@ pub fn compare(
     behind: &str,
 ) -> Result<(), Fail> {
     let mut differences = String::new(alloc);
-    for (row, rule) in rows {
-        let marked = joined(alloc, before, row, behind)?;
-        let want = wanted(alloc, *rule, marked.mark)?;
+    for row in rows {
+        let marked = joined(alloc, before, row.0, behind)?;
+        let want = wanted(alloc, row.1, marked.mark)?;
         let got = answer(alloc, marked.text.as_slice())?;
-        tell(alloc, &mut differences, row, got.as_str(), want.as_str())?;
+        tell(alloc, &mut differences, row.0, got.as_str(), want.as_str())?;
     }
     assert_eq!(rt; differences.as_str(), "");
     Ok(())
@@ -135,9 +136,9 @@ pub fn compare_whole(
     rows: &[(&'static str, &'static str)],
 ) -> Result<(), Fail> {
     let mut differences = String::new(alloc);
-    for (row, want) in rows {
-        let got = answer(alloc, row.as_bytes())?;
-        tell(alloc, &mut differences, row, got.as_str(), want)?;
+    for row in rows {
+        let got = answer(alloc, row.0.as_bytes())?;
+        tell(alloc, &mut differences, row.0, got.as_str(), row.1)?;
     }
     assert_eq!(rt; differences.as_str(), "");
     Ok(())
