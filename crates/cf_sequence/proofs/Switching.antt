@@ -418,7 +418,7 @@ module _ (again : calling.Again) (again' : running.Again) (P : Program) (bodies 
     by-body alone v z t h f1 w at usable number same kept =
         let later = stands-on again again' P bodies chains classless turns R C plain-result A B S o D m k l s f t f1 st same kept (omega arith) first in
         let count : f1.count ≡ f.count = ap (λ (x : Frame). x.count) kept.frame in
-        dispatched z es m ok all-do o D k l rest h s f t f1 w c K st later.0 (ap (λ (x : Frame). x.scope) same) later.1 (omega arith) ways falls _
+        dispatched z es m ok all-do o D k l rest h s f t f1 w c K st later.0 (ap (λ (x : Frame). x.scope) same) later.1 (let sum : l + length (added (nodes_all es)) ≤ f.count = second in omega arith) ways falls _
         (λ none_there x follows.
         subst (λ (a : Act Flow). Follows S x (and_then (a (with_frame f1 t) w) (on (left_by rest K)))) (sym (body-looks z h ∙ ap (λ a. plain_by again' (H again again' P) a body h) none_there)) follows)
         (λ a there further p n u f2 x path follows.
@@ -433,7 +433,7 @@ module _ (again : calling.Again) (again' : running.Again) (P : Program) (bodies 
         let later = stands-on again again' P bodies chains classless turns R C plain-result A B S o D m k l s f t f1 st same kept (omega arith) first in
         let count : f1.count ≡ f.count = ap (λ (x : Frame). x.count) kept.frame in
         let behind_it : Plains = more (plain.switch (0 + width e) body) rest in
-        dispatched z es m ok all-do o D k l rest h s f t f1 w c K st later.0 (ap (λ (x : Frame). x.scope) same) later.1 (omega arith) ways falls _
+        dispatched z es m ok all-do o D k l rest h s f t f1 w c K st later.0 (ap (λ (x : Frame). x.scope) same) later.1 (let sum : l + length (added (nodes_all es)) ≤ f.count = second in omega arith) ways falls _
         (λ none_there x follows.
         subst (λ (a : Act Flow). Follows S x (and_then (a (with_frame f1 t) w) (on (left_by behind_it K)))) (sym (before-looks z h ∙ ap (λ a. plain_by again' (H again again' P) a (passing [] es) h) none_there))
         (look-steps (0 + width e) v z body rest h K x (with_frame f1 t) w at usable number
