@@ -5,12 +5,14 @@ use Rattle.cf_syntax.specs.declared.name.Last.TheVariants as last
 use Rattle.cf_syntax.specs.declared.name.Name.{Name as WrittenName}
 use Rattle.cf_unit.specs.declared.initialiser.Initialiser.{Initialiser}
 use Rattle.cf_elab.specs.Answer.{Answer, Elab, Made, Refused, Passed, onward}
+use Rattle.cf_elab.specs.Built.{of_name}
 use Rattle.cf_elab.specs.Declaration as declaration
 use Rattle.cf_elab.specs.Declaration.{Initial, initial_of}
 use Rattle.cf_elab.specs.Env.{Env, Name}
 use Rattle.cf_elab.specs.Objects.{Reached}
 use Rattle.cf_elab.specs.Specifiers.{Gathered}
 use Rattle.cf_elab_declarator.specs.Shut as shut
+use Rattle.cf_elab_declare.proofs.NameLaws.{is_identifier}
 use Rattle.cf_elab_define.specs.Shut as define
 use Rattle.cf_elab_env.proofs.Growth.{grown_laws}
 use Rattle.cf_elab_lists.specs.Seen.{tree_seen}
@@ -24,7 +26,7 @@ module _ (in_file : Bool) (g : Gathered) (n : WrittenName) (u : ℕ) (own : Name
   abbrev by_last : Option Initial → Last → Answer (List Reached)
   by_last w l = onward (declaration.plain_name n l env) (λ name env. onward (declaration.bound_given n.last_at u w env) (row w name))
 
-  pub none_is : shut.unbounded in_file g n None u env ≡ Refused 26 n.last_at
+  none_is : shut.unbounded in_file g n None u env ≡ Refused 26 n.last_at
   unfolding shut.unbounded
   none_is = ap (by_last None) named
 
@@ -42,7 +44,7 @@ module _ (in_file : Bool) (g : Gathered) (n : WrittenName) (u : ℕ) (own : Name
     unfolding shut.unbounded define.array_given written.outline
     some_is = ap (by_last (Some (initial_of i))) named ∙ behind_type (declaration.bound_given n.last_at u (Some (initial_of i)) env)
 
-    pub given_is : (o : Option Initialiser) (x : Tree) (t : ℕ) (next : Env) → o ≡ Some i → tree_seen x ≡ written.outline i → define.array_given u (tree_seen x) env ≡ Made t next
+    given_is : (o : Option Initialiser) (x : Tree) (t : ℕ) (next : Env) → o ≡ Some i → tree_seen x ≡ written.outline i → define.array_given u (tree_seen x) env ≡ Made t next
         → shut.unbounded in_file g n o u env ≡ shut.object_row in_file g n t o next
     given_is o x t next is seen made =
         ap (λ o. shut.unbounded in_file g n o u env) is ∙ some_is
@@ -50,4 +52,23 @@ module _ (in_file : Bool) (g : Gathered) (n : WrittenName) (u : ℕ) (own : Name
         ∙ ap (λ a. onward a (λ t env. shut.object_row in_file g n t (Some i) env)) made
         ∙ ap (λ o. shut.object_row in_file g n t o next) (sym is)
 
-pub ruleset unbounded_laws = (none_is, given_is, grown_laws)
+-- ---- by a name that is built
+
+named : (n : WrittenName) → of_name n ≡ None → (own : Name) × (n.last ≡ last.Ident own)
+named n built = by n.last refl
+  where
+    by : (l : Last) → n.last ≡ l → (own : Name) × (n.last ≡ last.Ident own)
+    by (last.Ident name) is = (name, is)
+    by (last.Destructor name) is = absurd (is_identifier n built (λ other h. cc))
+    by (last.Operator k) is = absurd (is_identifier n built (λ other h. cc))
+    by (last.Conversion ss pointers) is = absurd (is_identifier n built (λ other h. cc))
+
+module _ (in_file : Bool) (g : Gathered) (n : WrittenName) (u : ℕ) (built : of_name n ≡ None) (env : Env) (o : Option Initialiser) where
+  pub none_bound : o ≡ None → shut.unbounded in_file g n o u env ≡ Refused 26 n.last_at
+  none_bound is = ap (λ o. shut.unbounded in_file g n o u env) is ∙ none_is in_file g n u (named n built).0 (named n built).1 env
+
+  pub given_bound : (i : Initialiser) (x : Tree) (t : ℕ) (next : Env) → o ≡ Some i → tree_seen x ≡ written.outline i → define.array_given u (tree_seen x) env ≡ Made t next
+      → shut.unbounded in_file g n o u env ≡ shut.object_row in_file g n t o next
+  given_bound i = given_is in_file g n u (named n built).0 (named n built).1 env i o
+
+pub ruleset unbounded_laws = (none_bound, given_bound, grown_laws)

@@ -96,7 +96,6 @@ pub(crate) fn unbounded(
     ensures made { AgreesAs maybe_reached (shut.unbounded in_file gathered.now name.now initialiser.now element env.old) result env.new }
     ensures grows { OnOk result (Grows env.old.types env.new.types) }
 {
-    let _own = identifier(name);
     match initialiser {
         None => Err(Stop::Broken(Broken {
             rule: Rule::new(26),

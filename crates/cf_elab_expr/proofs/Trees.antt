@@ -1,5 +1,5 @@
 -- What declarators, parameters and types in brackets are by their parts (8).
-use Rattle.std.proofs.Common.{◌≡◌, ℕ, Bool, List, [], ◌∷◌, map, Option, None, Some, refl, sym, ap, subst, ◌∙◌}
+use Rattle.std.proofs.Common.{◌≡◌, ℕ, ◌<◌, ◌≤◌, Bool, List, [], ◌∷◌, length, map, get_or, Option, None, Some, refl, sym, ap, subst, ◌∙◌, arith}
 use Rattle.cf_syntax.specs.declared.declarator.DeclTree.{DeclTree, roll-DeclTree}
 use Rattle.cf_syntax.specs.declared.declarator.DeclTree.TheOpen.{DeclTree-F}
 use Rattle.cf_syntax.specs.declared.declarator.DeclTree.TheFolds.{fold-roll-DeclTree, fold_out-Param, fold_out-TypeId, map-DeclTree}
@@ -169,15 +169,17 @@ same_objects (p ∷ ps) env =
     onward-same (object_parameter (parameter p) env) (λ y e. onward (each object_parameter (map parameter ps) e) (λ ys e. Made (y ∷ ys) e)) (λ y e. onward (shut.object_parameters ps e) (λ ys e. Made (y ∷ ys) e))
     (λ y e. ap (λ a. onward a (λ ys e. Made (y ∷ ys) e)) (same_objects ps e))
 
-pub one_parameter : (ps : List Param) (p : Param) (env : Env) → ps ≡ p ∷ []
+pub one_parameter : (ps : List Param) (p : Param) (env : Env) → 1 ≤ length ps → length ps < 2 → p ≡ get_or ps 0 p
     → shut.parameters ps env ≡ onward (shut.parameter p env) (λ q env. shape_row.only_parameter q env)
 unfolding shut.parameters shut.parameter shape_row.only_parameter
-one_parameter ps p env is = ap (λ ps. shut.parameters ps env) is
+one_parameter [] p env some few is = absurd (omega arith)
+one_parameter (q ∷ []) p env some few is = ap (λ (x : Param). shut.parameters (x ∷ []) env) (sym is)
+one_parameter (q ∷ r ∷ ps) p env some few is = absurd (omega arith)
 
-pub more_parameters : (ps : List Param) (env : Env) → ((p : Param) → ps ≡ p ∷ [] → ⊥) → shut.parameters ps env ≡ shut.object_parameters ps env
+pub more_parameters : (ps : List Param) (env : Env) → (length ps ≡ 1 → ⊥) → shut.parameters ps env ≡ shut.object_parameters ps env
 unfolding shut.parameters shut.parameter
 more_parameters [] env other = same_objects [] env
-more_parameters (p ∷ []) env other = absurd (other p refl)
+more_parameters (p ∷ []) env other = absurd (other refl)
 more_parameters (p ∷ q ∷ ps) env other = same_objects (p ∷ q ∷ ps) env
 
 pub ruleset parameters_laws = (one_parameter, more_parameters)

@@ -59,6 +59,14 @@ lists::run-returns-clause-made t c =
     let past : length c.args.all.now ≤ c.loop-e.e-index = search rules in
     c.loop-e.invariant.made ∙ operands_end c.loop-e.found c.args.all.now c.loop-e.e-index c.loop-e.env past
 
+pub declarators::parameters-parameter-requires : goal.declarators::parameters-parameter-requires
+declarators::parameters-parameter-requires t c =
+    let items = c.args.all.now in
+    let le = at_most (λ (x : Param). param.the_size x) items 0 c.only-item.result c.in-len1.len_at_least in
+    let there : param.the_size c.only-item.result ≤ most (λ (x : Param). param.the_size x) items =
+    subst (λ (x : Param). param.the_size x ≤ most (λ (x : Param). param.the_size x) items) (sym c.only-item.is) le in
+    (grind (arith, there), one_parameter items 0 c.only-item.result c.requires c.in-len1.len_at_least c.only-item.is)
+
 pub declarators::object_parameters-object_parameter-requires : goal.declarators::object_parameters-object_parameter-requires
 declarators::object_parameters-object_parameter-requires t c =
     let items = c.args.all.now in
