@@ -20,6 +20,7 @@ use Rattle.cf_elab.specs.Shape.{Parameter, Shape, typed, bounds_constant}
 use Rattle.cf_elab.specs.Specifiers.{Word, gathered, base_type, parameter_conflict}
 use Rattle.cf_elab_env.specs.Answered.{Stops}
 use Rattle.cf_elab_env.specs.declared.stop.Stop.{Stop}
+use Rattle.cf_elab_env.specs.declared.stop.Stop.TheVariants.{Broken as RuleBroken, Passed as LimitPassed, Memory}
 use Rattle.cf_elab_shape.specs.Seen.{pointed_shape}
 use Rattle.cf_elab_shape.specs.Shut as shape_row
 use Rattle.cf_elab_shape.proofs.StepLaws.{pointed_is}
@@ -183,6 +184,28 @@ more_parameters (p ∷ []) env other = absurd (other refl)
 more_parameters (p ∷ q ∷ ps) env other = same_objects (p ∷ q ∷ ps) env
 
 pub ruleset parameters_laws = (one_parameter, more_parameters)
+
+-- what stops a step stops what is behind it
+stops_behind : {A B : Type 0} (a : Answer A) (f : A → Elab B) (stop : Stop) → Stops a stop → Stops (onward a f) stop
+stops_behind a f (RuleBroken b) g = ap (λ a. onward a f) g
+stops_behind a f (LimitPassed l) g = ap (λ a. onward a f) g
+stops_behind a f Memory g = tt
+
+module _ (ps : List Param) (p : Param) (env : Env) (some : 1 ≤ length ps) (few : length ps < 2) (is : p ≡ get_or ps 0 p) where
+  abbrev alone : Answer Parameter → Answer (List Parameter)
+  alone a = onward a (λ q env. shape_row.only_parameter q env)
+
+  pub parameter_stops : (stop : Stop) → Stops (shut.parameter p env) stop → Stops (shut.parameters ps env) stop
+  parameter_stops stop g =
+      subst (λ (a : Answer (List Parameter)). Stops a stop) (sym (one_parameter ps p env some few is))
+      (stops_behind (shut.parameter p env) (λ q env. shape_row.only_parameter q env) stop g)
+
+  pub list_stops : (q : Parameter) (next : Env) (stop : Stop) → shut.parameter p env ≡ Made q next → Stops (shape_row.only_parameter q next) stop → Stops (shut.parameters ps env) stop
+  list_stops q next stop h g = subst (λ (a : Answer (List Parameter)). Stops a stop) (sym (one_parameter ps p env some few is ∙ ap alone h)) g
+
+  pub list_made : (q : Parameter) (list : List Parameter) (next : Env) → shut.parameter p env ≡ Made q next → shape_row.only_parameter q next ≡ Made list next
+      → shut.parameters ps env ≡ Made list next
+  list_made q list next h g = one_parameter ps p env some few is ∙ ap alone h ∙ g
 
 -- what comes behind five steps comes behind the last of them
 module _ {B C D E F : Type 0} (b : Elab B) (t : B → Elab C) (c : Elab D) (o : C → Elab E) (go : E → Elab F) where

@@ -24,7 +24,7 @@ use Rattle.cf_elab_operand.proofs.Grown.{operands_grown}
 use Rattle.cf_elab_expr.proofs.BuiltTrees.{one_parameter}
 use Rattle.cf_elab_env.proofs.InOrder.{behind}
 use Rattle.cf_elab_expr.proofs.Several.{operands_stopped, operands_going, operands_end, parameters_stopped, parameters_going, parameters_end}
-use Rattle.cf_elab_expr.proofs.Trees.{array_stopped}
+use Rattle.cf_elab_expr.proofs.Trees.{array_stopped, parameter_stops, list_stops, list_made}
 use Rattle.cf_elab_expr.proofs.+expressions.Goals as goal
 
 pub lists::run-operand-requires : goal.lists::run-operand-requires
@@ -66,6 +66,25 @@ declarators::parameters-parameter-requires t c =
     let there : param.the_size c.only-item.result ≤ most (λ (x : Param). param.the_size x) items =
     subst (λ (x : Param). param.the_size x ≤ most (λ (x : Param). param.the_size x) items) (sym c.only-item.is) le in
     (grind (arith, there), one_parameter items 0 c.only-item.result c.requires c.in-len1.len_at_least c.only-item.is)
+
+pub declarators::parameters-returns-in_err-found-in-len1-clause-made : goal.declarators::parameters-returns-in_err-found-in-len1-clause-made
+declarators::parameters-returns-in_err-found-in-len1-clause-made t c =
+    let p = err_from_is_err_and c.from_residual.result c.from_residual.ensures.1 in
+    rw (p.1, p.2)
+    (parameter_stops c.args.all.now c.only-item.result c.args.env.now c.in-len1.len_at_least c.in-len1.len_below c.only-item.is c.in_err-found-in-len1.field-0.0
+    c.in_err-found-in-len1.ensures.made)
+
+pub declarators::parameters-returns-in_err-list-in-len1-clause-made : goal.declarators::parameters-returns-in_err-list-in-len1-clause-made
+declarators::parameters-returns-in_err-list-in-len1-clause-made t c =
+    let p = err_from_is_err_and c.from_residual-in_err-list-in-len1.result c.from_residual-in_err-list-in-len1.ensures.1 in
+    rw (p.1, p.2)
+    (list_stops c.args.all.now c.only-item.result c.args.env.now c.in-len1.len_at_least c.in-len1.len_below c.only-item.is c.in_ok-found-in-len1.found c.parameter.new.env
+    c.in_err-list-in-len1.field-0.0 c.in_ok-found-in-len1.ensures.made c.in_err-list-in-len1.ensures.made)
+
+pub declarators::parameters-returns-in_ok-list-in-len1-clause-made : goal.declarators::parameters-returns-in_ok-list-in-len1-clause-made
+declarators::parameters-returns-in_ok-list-in-len1-clause-made t c =
+    list_made c.args.all.now c.only-item.result c.args.env.now c.in-len1.len_at_least c.in-len1.len_below c.only-item.is c.in_ok-found-in-len1.found
+    c.in_ok-list-in-len1.list c.parameter.new.env c.in_ok-found-in-len1.ensures.made c.in_ok-list-in-len1.ensures.made
 
 pub declarators::object_parameters-object_parameter-requires : goal.declarators::object_parameters-object_parameter-requires
 declarators::object_parameters-object_parameter-requires t c =
