@@ -1,6 +1,0 @@
-pub mod After
-pub mod Constants
-pub mod Erased
-pub mod Forgotten
-pub mod Keepings
-pub mod Lists

@@ -1,5 +1,0 @@
-pub mod Entry
-pub mod Source
-pub mod Written
-pub mod Following
-pub mod Dropped

@@ -1,4 +1,0 @@
-pub mod Cells
-pub mod Erasing
-pub mod Labels
-pub mod Walks
