@@ -87,21 +87,21 @@ module _ (g : Gathered) (n : WrittenName) (t : ℕ) (s : Shape) (w : Option Init
   declared i = functions.declare_function i (declaration.function_says g n t s false (is_some w))
 
   by_declared : (a : Answer ℕ)
-      → onward a (λ _ env. onward (declaration.parts_of w env) (λ _ env. declaration.no_initialiser w env)) ≡ onward (onward a (λ _ env. Made tt env)) (λ _ env. refused env)
+      → onward a (λ _ env. onward (declaration.parts_of w env) (λ _ env. declaration.no_initialiser w env)) ≡ onward (onward a (λ _ env. Made (tt {0}) env)) (λ _ env. refused env)
   by_declared (Made k env) = λ j. onward (declaration.parts_of w env) (λ _ env. same_place w env j)
   by_declared (Refused rule at) = refl
   by_declared (Passed b most) = refl
 
   by_int : (a : Answer ℕ)
       → onward a (λ i env. onward (declared i env) (λ _ env. onward (declaration.parts_of w env) (λ _ env. declaration.no_initialiser w env)))
-      ≡ onward (onward a (λ i env. onward (declared i env) (λ _ env. Made tt env))) (λ _ env. refused env)
+      ≡ onward (onward a (λ i env. onward (declared i env) (λ _ env. Made (tt {0}) env))) (λ _ env. refused env)
   by_int (Made i env) = by_declared (declared i env)
   by_int (Refused rule at) = refl
   by_int (Passed b most) = refl
 
   by_name : (a : Answer (Unit {0}))
       → onward a (λ _ env. onward (int env) (λ i env. onward (declared i env) (λ _ env. onward (declaration.parts_of w env) (λ _ env. declaration.no_initialiser w env))))
-      ≡ onward (onward a (λ _ env. onward (int env) (λ i env. onward (declared i env) (λ _ env. Made tt env)))) (λ _ env. refused env)
+      ≡ onward (onward a (λ _ env. onward (int env) (λ i env. onward (declared i env) (λ _ env. Made (tt {0}) env)))) (λ _ env. refused env)
   by_name (Made u env) = by_int (int env)
   by_name (Refused rule at) = refl
   by_name (Passed b most) = refl

@@ -1,5 +1,5 @@
 -- Outlines of initialisers by their forms.
-use Rattle.std.proofs.Common.{◌≡◌, ℕ, List, [], ◌∷◌, map, refl, sym, ap, ◌∙◌}
+use Rattle.std.proofs.Common.{◌≡◌, ℕ, List, [], ◌∷◌, map, Option, refl, sym, ap, ◌∙◌}
 use Rattle.std.specs.Option.{option_map_or}
 use Rattle.cf_syntax.specs.declared.expression.Expr.{Expr}
 use Rattle.cf_syntax.specs.declared.expression.Expr.TheVariants as expression
@@ -23,12 +23,12 @@ use Rattle.cf_elab_written.proofs.TextLaws.{NoText, text_there, has_none}
 pub text_outline : (at n : ℕ) (bytes : List ℕ) → tree_seen (tree.Text at n bytes) ≡ shut.expression_outline at (expression.Text n bytes)
 unfolding shut.expression_outline
 text_outline at n bytes =
-    seen_text at n bytes ∙ sym (ap (λ o. option_map_or (λ s. lists.text at s.0 s.1) o (lists.leaf at (lists.no_value at))) (text_there at n bytes))
+    seen_text at n bytes ∙ sym (ap (λ (o : Option (ℕ × List ℕ)). option_map_or (λ (s : ℕ × List ℕ). lists.text at s.0 s.1) o (lists.leaf at (lists.no_value at))) (text_there at n bytes))
 
 pub leaf_outline : (at : ℕ) (e : Expr) (v : Value) → NoText e → v ≡ lists.no_value at → tree_seen (tree.Leaf at v) ≡ shut.expression_outline at e
 unfolding shut.expression_outline
 leaf_outline at e v other is =
-    seen_leaf at v ∙ ap (lists.leaf at) is ∙ sym (ap (λ o. option_map_or (λ s. lists.text at s.0 s.1) o (lists.leaf at (lists.no_value at))) (has_none e other))
+    seen_leaf at v ∙ ap (lists.leaf at) is ∙ sym (ap (λ (o : Option (ℕ × List ℕ)). option_map_or (λ (s : ℕ × List ℕ). lists.text at s.0 s.1) o (lists.leaf at (lists.no_value at))) (has_none e other))
 
 pub ruleset expression_laws = (text_outline, leaf_outline)
 
