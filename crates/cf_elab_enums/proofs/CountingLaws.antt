@@ -29,6 +29,22 @@ module _ (t : ℕ) (e : Enumerator) (env : Env) where
   unfolding shut.value shut.own_value
   some_value x is = ap (λ x. spec.own_value t (item_of (record e { value = x })) env) is
 
+  -- by its name and its expression as the code holds them
+  module _ (x : ℕ × Expr) (name : Name) (expr : Expr) (is : e.value ≡ Some x) (called : name ≡ e.name) (same : expr ≡ x.1) where
+    abbrev as_some : Answer Value → Answer (Option Value)
+    as_some a = onward a (λ v env. Made (Some v) env)
+
+    some_is : shut.value t e env ≡ as_some (shut.own_value t name expr env)
+    some_is = some_value x is ∙ (λ j. as_some (shut.own_value t (sym called j) (sym same j) env))
+
+    pub some_stops : (stop : Stop) → Stops (shut.own_value t name expr env) stop → Stops (shut.value t e env) stop
+    some_stops (RuleBroken b) g = some_is ∙ ap as_some g
+    some_stops (LimitPassed l) g = some_is ∙ ap as_some g
+    some_stops Memory g = tt
+
+    pub some_made : (v : Value) (next : Env) → shut.own_value t name expr env ≡ Made v next → shut.value t e env ≡ Made (Some v) next
+    some_made v next h = some_is ∙ ap as_some h
+
 pub own_is : (t : ℕ) (name : Name) (e : Expr) (env : Env)
     → shut.own_value t name e env
     ≡ onward (made.enter_scope env) (λ _ env. onward (row.declare_own t name env) (λ _ env. onward (expression.valued e env) (λ v env. onward (made.leave_scope env) (λ _ env. Made v env))))
