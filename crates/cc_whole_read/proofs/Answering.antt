@@ -23,8 +23,7 @@ use Rattle.cc_whole_front.specs.Front.{IsFront}
 use Rattle.cc_whole_front.proofs.Laws.{placed_fronts}
 use Rattle.cc_whole_first_line.specs.FirstLine.{Begins}
 use Rattle.cc_whole.specs.declared.unit.CItem.{CItem}
-use Rattle.cc_whole_fitting.specs.Fitting.{fitting_items}
-use Rattle.cc_whole_read_items.specs.Answers.{NotCAt, AreItems, AreThese, AreWide}
+use Rattle.cc_whole_read_items.specs.Answers.{NotCAt, AreItems, AreWide}
 use Rattle.cc_whole_read.specs.Behind.{place_in, FaultIs, Spells, IsChecked, TokensStop, token, stray, TokensAreWide, ReadsTokens}
 use Rattle.cc_whole_read.specs.Good.{all_good}
 use Rattle.cc_whole_read.specs.Landmarks.{Nth, landmark_from}
@@ -93,18 +92,18 @@ module _ (front : Front) (fault : Fault) (tokens : List Token) (same : tokens �
 
 -- what a unit of all tokens tells of the tokens
 pub checked_tells : (version : ℕ) (front : Front) (unit : CUnit) (r : Result CUnit ReadErr) → front.is_whole ≡ true → unit.version ≡ version
-    → SpellsItems unit.items front.tokens.items → fitting_items (items_of unit.items) ≡ true → IsChecked front unit r → ReadsTokens version front r
-checked_tells version front unit (Ok found) whole v spelled fit h =
+    → SpellsItems unit.items front.tokens.items → IsChecked front unit r → ReadsTokens version front r
+checked_tells version front unit (Ok found) whole v spelled h =
     record {
       has = record { whole = whole; same_version = ap (λ (u : CUnit). u.version) h.same ∙ v; spelled = subst (λ (u : CUnit). SpellsItems u.items front.tokens.items) (sym h.same) spelled };
       valid = h.valid;
     }
-checked_tells version front unit (Err (error.NotC at)) whole v spelled fit h = absurd h
-checked_tells version front unit (Err (error.Invalid rule at)) whole v spelled fit h =
-    record { unit = unit; has = record { whole = whole; same_version = v; spelled = spelled }; fit = fit; breaks = h }
-checked_tells version front unit (Err (error.Limit l)) whole v spelled fit h = absurd h
-checked_tells version front unit (Err error.Wide) whole v spelled fit h = absurd h
-checked_tells version front unit (Err error.Memory) whole v spelled fit h = tt
+checked_tells version front unit (Err (error.NotC at)) whole v spelled h = absurd h
+checked_tells version front unit (Err (error.Invalid rule at)) whole v spelled h =
+    record { unit = unit; has = record { whole = whole; same_version = v; spelled = spelled }; breaks = h }
+checked_tells version front unit (Err (error.Limit l)) whole v spelled h = absurd h
+checked_tells version front unit (Err error.Wide) whole v spelled h = absurd h
+checked_tells version front unit (Err error.Memory) whole v spelled h = tt
 
 -- the tokens of a text are good
 pub front_good : (before : ℕ) (bytes : List ℕ) (front : Front) → IsFront before bytes front → all_good front.tokens.items ≡ true
@@ -125,19 +124,19 @@ module _ (front : Front) (ts : List Token) (same : ts ≡ front.tokens.items) wh
   pub partial_told : front.is_whole ≡ false → AreItems ts → TokensStop front front.end
   partial_told e a = stray e (subst AreItems same a) refl
 
-  pub items_there : (items : List CItem) → AreThese ts items → AreItems ts
-  items_there items d = record { items = items; spelled = d.spelled }
+  pub items_there : (items : List CItem) → SpellsItems items ts → AreItems ts
+  items_there items d = record { items = items; spelled = d }
 
   pub wide_told : front.is_whole ≡ true → AreWide ts → TokensAreWide front
   wide_told e w = record { whole = e; wide = subst AreWide same w }
 
-  pub spells : (version : ℕ) (items : List CItem) → spellable_version version ≡ true → all_good front.tokens.items ≡ true → AreThese ts items
+  pub spells : (version : ℕ) (items : List CItem) → spellable_version version ≡ true → all_good front.tokens.items ≡ true → SpellsItems items ts
       → Spells front (record { version = version; items = items })
-  spells version items v good d = record { spelled = subst (SpellsItems items) same d.spelled; good = good; version = v }
+  spells version items v good d = record { spelled = subst (SpellsItems items) same d; good = good; version = v }
 
-  pub unit_told : (version : ℕ) (items : List CItem) (r : Result CUnit ReadErr) → front.is_whole ≡ true → AreThese ts items
+  pub unit_told : (version : ℕ) (items : List CItem) (r : Result CUnit ReadErr) → front.is_whole ≡ true → SpellsItems items ts
       → IsChecked front (record { version = version; items = items }) r → ReadsTokens version front r
-  unit_told version items r whole d h = checked_tells version front (record { version = version; items = items }) r whole refl (subst (SpellsItems items) same d.spelled) d.fit h
+  unit_told version items r whole d h = checked_tells version front (record { version = version; items = items }) r whole refl (subst (SpellsItems items) same d) h
 
 -- what is valid is made
 pub made : {A : Type 0} (b : Bool) (u : A) → where_so b u ≡ None → b ≡ true → ⊥

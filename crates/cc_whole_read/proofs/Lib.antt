@@ -1,7 +1,7 @@
 mod Answering
 mod FaultPlaces
 mod Numbered
-pub mod OneAnswer
-pub mod ReadBack
+mod OneAnswer
+mod ReadBack
 mod SpelledTrees
 mod Telling

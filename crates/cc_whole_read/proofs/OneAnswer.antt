@@ -15,12 +15,12 @@ use Rattle.cc_whole_read.specs.Read.{HasTokens, Within, IsNotC, no_line, behind_
 use Rattle.cc_whole_read.proofs.ReadBack.{line_read, same_line, no_such_line}
 
 -- of two beginnings of one list one goes on where the other ends, or they are one
-pub data Compared (ts us ms ns : List Token) : Type 0 where
+data Compared (ts us ms ns : List Token) : Type 0 where
   same : ts ≡ us → Compared ts us ms ns
   first_ends : (u : Token) (more rest : List Token) → us ≡ ts ++ (u ∷ more) → ms ≡ u ∷ rest → Compared ts us ms ns
   second_ends : (u : Token) (more rest : List Token) → ts ≡ us ++ (u ∷ more) → ns ≡ u ∷ rest → Compared ts us ms ns
 
-pub same_head : {x y : Token} {xs ys : List Token} → x ∷ xs ≡ y ∷ ys → x ≡ y
+same_head : {x y : Token} {xs ys : List Token} → x ∷ xs ≡ y ∷ ys → x ≡ y
 same_head e = cc
 
 same_tail : {x y : Token} {xs ys : List Token} → x ∷ xs ≡ y ∷ ys → xs ≡ ys
@@ -31,7 +31,7 @@ longer x ts us ms ns (same e) = same (ap (λ l. x ∷ l) e)
 longer x ts us ms ns (first_ends u more rest e f) = first_ends u more rest (ap (λ l. x ∷ l) e) f
 longer x ts us ms ns (second_ends u more rest e f) = second_ends u more rest (ap (λ l. x ∷ l) e) f
 
-pub compared : (ts us ms ns : List Token) → ts ++ ms ≡ us ++ ns → Compared ts us ms ns
+compared : (ts us ms ns : List Token) → ts ++ ms ≡ us ++ ns → Compared ts us ms ns
 compared [] [] ms ns e = same refl
 compared [] (u ∷ us) ms ns e = first_ends u us (us ++ ns) refl e
 compared (t ∷ ts) [] ms ns e = second_ends t ts (ts ++ ms) refl (sym e)

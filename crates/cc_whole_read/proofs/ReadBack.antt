@@ -17,7 +17,7 @@ use Rattle.cc_whole.specs.ValidUnit.{keeps, valid_unit}
 use Rattle.cc_whole_refused.specs.Fronts.{Begins as TokenBegins, Fronts}
 use Rattle.cc_whole_refused.specs.NotC.{GoesOn, Stops, NotC}
 use Rattle.cc_whole_refused.specs.NotC as refused
-use Rattle.cc_whole_fitting.specs.Fitting.{fitting_items}
+use Rattle.cc_whole_read_items.specs.Answers.{HasWide}
 use Rattle.cc_whole_read_items.proofs.WholeLaws.{one_list}
 use Rattle.cc_whole_front.specs.Front.{NoToken, ended, stray}
 use Rattle.cc_whole_front.proofs.Only.{cut_fronts, begun, only, Following, follow, none_behind}
@@ -102,12 +102,12 @@ module _ (text : List ℕ) (unit : CUnit) (is : Text text unit) where
       (and_parts (spellable_items (items_of unit.items)) (keeps (first_fault (items_of unit.items)))
       (and_parts (spellable_version unit.version) _ valid).1).1
 
-  pub read_back : (answer : Result CUnit ReadErr) → valid_unit unit ≡ true → Within text → IsRead text answer → IsUnit unit answer
+  pub read_back : (answer : Result CUnit ReadErr) → valid_unit unit ≡ true → Within text → IsRead text answer → IsUnit unit is.tokens answer
   read_back (Ok found) valid w r = one_unit text found unit r.is is
   read_back (Err (error.NotC at)) valid w r = absurd (is_c at r)
   read_back (Err (error.Invalid rule at)) valid w r =
       let same = one_unit text unit r.fault.unit is r.fault.is in
       absurd (kept (first_fault (items_of unit.items)) rule r.fault.number (no_fault valid) (ap (λ (u : CUnit). first_fault (items_of u.items)) same ∙ r.fault.fault))
   read_back (Err (error.Limit l)) valid w r = absurd (small l w r)
-  read_back (Err error.Wide) valid w r = ap (λ (u : CUnit). fitting_items (items_of u.items)) (one_unit text unit r.unit is r.is) ∙ r.wide
+  read_back (Err error.Wide) valid w r = subst HasWide (sym (same_tokens r.tokens r.has)) r.wide.number
   read_back (Err error.Memory) valid w r = tt

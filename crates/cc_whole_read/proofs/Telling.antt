@@ -146,7 +146,7 @@ module _ (text body : List ℕ) (version before : ℕ) (line : Begins text versi
     parts = line.parts;
   }
 
-  abbrev invalid : (rule at : ℕ) (unit : CUnit) → HasUnit version front unit → Breaks front unit rule at → Invalid text rule at
+  invalid : (rule at : ℕ) (unit : CUnit) → HasUnit version front unit → Breaks front unit rule at → Invalid text rule at
   invalid rule at unit h b =
       let n = b.nth in
       let p = place_of (before + length body) is.placed n.before n.token n.after n.parts in
@@ -175,9 +175,7 @@ module _ (text body : List ℕ) (version before : ℕ) (line : Begins text versi
   pub tokens_tell : (r : Result CUnit ReadErr) → passes tokens ≡ false → ReadsTokens version front r → IsRead text r
   tokens_tell (Ok unit) flat h = record { within = within flat; is = has_text unit h.has; valid = h.valid }
   tokens_tell (Err (error.NotC at)) flat h = behind_line (within flat) (not_c at h)
-  tokens_tell (Err (error.Invalid rule at)) flat h = record { within = within flat; fault = invalid rule at h.unit h.has h.breaks; fit = h.fit }
+  tokens_tell (Err (error.Invalid rule at)) flat h = record { within = within flat; fault = invalid rule at h.unit h.has h.breaks }
   tokens_tell (Err (error.Limit l)) flat h = absurd h
-  tokens_tell (Err error.Wide) flat h =
-      let unit : CUnit = record { version = version; items = h.wide.items } in
-      record { within = within flat; unit = unit; is = has_text unit (record { whole = h.whole; same_version = refl; spelled = h.wide.spelled }); wide = h.wide.wide }
+  tokens_tell (Err error.Wide) flat h = record { within = within flat; tokens = tokens; has = has_tokens; wide = h.wide }
   tokens_tell (Err error.Memory) flat h = tt

@@ -9,7 +9,6 @@ use Rattle.cc_whole.specs.SpellsItems.{SpellsItems}
 use Rattle.cc_whole.specs.Spellable.{spellable_version}
 use Rattle.cc_whole.specs.Valid.{first_fault}
 use Rattle.cc_whole.specs.ValidUnit.{valid_unit}
-use Rattle.cc_whole_fitting.specs.Fitting.{fitting_items}
 use Rattle.cc_whole_read_items.specs.Answers.{NotCAt, AreItems, AreWide}
 use Rattle.cc_whole_valid.specs.declared.stop.Fault.{Fault}
 use Rattle.cc_whole_front.specs.declared.front.Front.{Front}
@@ -78,7 +77,6 @@ pub record UnitIsValid (version : ℕ) (front : Front) (unit : CUnit) : Type 0 w
 pub record UnitBreaks (version : ℕ) (front : Front) (rule at : ℕ) : Type 0 where
   pub unit : CUnit
   pub has : HasUnit version front unit
-  pub fit : fitting_items (items_of unit.items) ≡ true
   pub breaks : Breaks front unit rule at
 
 -- the tokens stop being C at one of them or behind them, or they are C, and no token begins behind them

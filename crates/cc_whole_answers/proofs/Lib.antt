@@ -1,3 +1,0 @@
-mod Faults
-mod Limits
-mod OneAnswer
