@@ -61,7 +61,7 @@ pub fn statement(unit: &CoreUnit, s: &Core, ways: Ways, b: &mut Body) -> Result<
             ..
         } => { looped(unit, body.get(), *form, condition, further, b) }
         Core::Switch { operand, body, .. } => {
-            selection(unit, operand.get(), body.as_slice(), ways, b)
+            selection(unit, body.as_slice(), operand.get(), ways, b)
         }
         Core::Case { value, .. } => b.put(Plain::Case { value: *value }),
         Core::Default { .. } => b.put(Plain::Default),
@@ -160,8 +160,8 @@ fn otherwise(
 #[cycle(statements)]
 fn selection(
     unit: &CoreUnit,
-    operand: &Core,
     all: &[Core],
+    operand: &Core,
     ways: Ways,
     b: &mut Body,
 ) -> Result<(), Memory>
