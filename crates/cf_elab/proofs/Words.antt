@@ -1,6 +1,6 @@
 -- Words for the small files that the definitions are tried on: each is the row of a construct, so a file is written as its tree is.
 use Rattle.std.proofs.Common.{ℕ, List, [], ◌∷◌}
-use Rattle.std.specs.Prelude.{◌+◌, Bool, true, false, Option, Some, None, codes, pos}
+use Rattle.std.specs.Prelude.{◌+◌, Bool, true, false, Option, Some, None, codes, pos, map}
 use Rattle.cf_base.specs.declared.kind.Kind.TheVariants as kind
 use Rattle.cf_syntax.specs.declared.declarator.DeclTree.TheOpen.{DeclTree-F, Expr-F}
 use Rattle.cf_syntax.specs.declared.name.Last.TheVariants as last
@@ -26,7 +26,7 @@ use Rattle.cf_elab.specs.Operand.{Part}
 use Rattle.cf_elab.specs.Shape.{Parameter}
 use Rattle.cf_elab.specs.Declarator.{Declared, declared_step, parameter_step, type_id_step}
 use Rattle.cf_elab.specs.Expression.{expression_step}
-use Rattle.cf_elab.specs.Lists.{Tree, branch, listed, expression_tree}
+use Rattle.cf_elab.specs.Lists.{Tree, branch, listed, expression_outline, expression_tree}
 use Rattle.cf_elab.specs.Declaration.{Declares, behind_equals, in_brackets}
 use Rattle.cf_elab.specs.Enumeration.{Item, enumeration_row}
 use Rattle.cf_elab.specs.Statement.{Made, declaration_made}
@@ -127,6 +127,9 @@ basic_word at b = specifier.Basic at b
 abbrev pub type_in : ℕ → List TypeSpecifier → Declared → Elab ℕ
 type_in at ss d = type_id_step (record { at = at; specifiers = ss; declarator = d })
 
+abbrev pub size_of_type : ℕ → Elab ℕ → Part
+size_of_type at t = step (Expr-F.SizeofType at t)
+
 abbrev pub cast : ℕ → Elab ℕ → Part → Part
 cast at t a = step (Expr-F.Cast at t a)
 
@@ -137,20 +140,28 @@ plain at d = record { at = at; declared = d; initial = None }
 
 -- = value, at the `=`
 abbrev pub with_value : ℕ → Declared → ℕ → ℕ → Part → Declares
-with_value at d equals first x = record { at = at; declared = d; initial = Some (behind_equals equals (expression_tree first x)) }
+with_value at d equals first x = record { at = at; declared = d; initial = Some (behind_equals equals (expression_outline first x) (expression_tree first x)) }
 
-abbrev pub with_list : ℕ → Declared → ℕ → ℕ → List (Elab Tree) → Declares
-with_list at d equals brace ts = record { at = at; declared = d; initial = Some (behind_equals equals (in_braces brace ts)) }
+-- an initialiser in braces
+pub record Initial : Type 0 where
+  pub outline : Tree
+  pub run : Elab Tree
+
+abbrev pub value_at : ℕ → Part → Initial
+value_at at x = record { outline = expression_outline at x; run = expression_tree at x }
+
+abbrev pub with_list : ℕ → Declared → ℕ → ℕ → List Initial → Declares
+with_list at d equals brace list = record { at = at; declared = d; initial = Some (behind_equals equals (outlines brace list) (in_braces brace list)) }
   where
-    all_of : List (Elab Tree) → Elab (List Tree)
+    all_of : List Initial → Elab (List Tree)
     all_of [] = gives []
-    all_of (t ∷ ts) = t >>= (λ u. all_of ts >>= (λ us. gives (u ∷ us)))
+    all_of (i ∷ is) = i.run >>= (λ u. all_of is >>= (λ us. gives (u ∷ us)))
 
-    in_braces : ℕ → List (Elab Tree) → Elab Tree
-    in_braces brace ts = all_of ts >>= (λ us. gives (branch brace (listed us)))
+    in_braces : ℕ → List Initial → Elab Tree
+    in_braces brace is = all_of is >>= (λ us. gives (branch brace (listed us)))
 
-abbrev pub value_at : ℕ → Part → Elab Tree
-value_at at x = expression_tree at x
+    outlines : ℕ → List Initial → Tree
+    outlines brace is = branch brace (listed (map (λ (i : Initial). i.outline) is))
 
 abbrev pub declaring : ℕ → List SpecifierRow → List Declares → DeclarationRow
 declaring at ss ds = record { at = at; run = declaration_of at ss ds }
@@ -178,6 +189,13 @@ all_forms = record { overloads = true; computed = true; elsewhere = true }
 
 abbrev pub elaborates : List (Elab (Unit {0})) → First
 elaborates items = core_of_items all_forms [] items
+
+-- where no more than is built so far may stand: the file defines these names
+abbrev pub no_forms : Extent
+no_forms = record { overloads = false; computed = false; elsewhere = false }
+
+abbrev pub elaborates_alone : List (List ℕ) → List (Elab (Unit {0})) → First
+elaborates_alone defines items = core_of_items no_forms defines items
 
 -- the rule that is broken and its place
 abbrev pub refusal : First → Option (ℕ × ℕ)

@@ -91,12 +91,12 @@ takes_null (data_pointer c t) = true
 takes_null (method_pointer c f) = true
 takes_null other = false
 
--- the constant 0 is a null pointer of every kind
+-- what is cast stands at the cast, and so do its conversions; the constant 0 is a null pointer of every kind
+abbrev pub cast_plain : ℕ → ℕ → Sort → Value → Elab Value
+cast_plain at t s x = known >>= (λ env. if is_zero x.number && takes_null s then gives (null_of t x) else cast_scalar at t x s (sort_of env.types x.type))
+
 abbrev pub cast_value : ℕ → ℕ → Sort → Value → Elab Value
-cast_value at t s v = do
-  x ← plain v
-  env ← known
-  if is_zero x.number && takes_null s then gives (null_of t x) else cast_scalar at t x s (sort_of env.types x.type)
+cast_value at t s v = plain v >>= (λ x. cast_plain at t s (record x { at = at }))
 
 -- to void the value is not read
 abbrev pub to_nothing : Env → ℕ → ℕ → Value → Value

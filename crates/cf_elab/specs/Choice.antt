@@ -1,5 +1,5 @@
 -- Conditional expressions, assignments, commas (5.16 to 5.18).
-use Rattle.std.specs.Prelude.{ℕ, Bool, true, false, ◌==◌, ◌&&◌, if◌then◌else◌, List, [], ◌∷◌, map, ℤ, Option, None, Some}
+use Rattle.std.specs.Prelude.{ℕ, Bool, true, false, ◌==◌, ◌&&◌, if◌then◌else◌, List, [], ◌∷◌, ℤ, Option, None, Some}
 use Rattle.cf_base.specs.declared.kind.Kind.{Kind}
 use Rattle.cf_base.specs.declared.arith.Arith.{Arith}
 use Rattle.cf_base.specs.declared.arith.Arith.TheVariants as op
@@ -43,9 +43,9 @@ abbrev pub one_of : ℕ → Value → Value → Value → ℕ → Value
 one_of at c a b t =
     record (computed at (node.Conditional at c.node a.node b.node) t) { number = chosen c.number a.number b.number; is_fixed = false }
 
--- two lvalues of one type stay an lvalue of it
+-- two lvalues of one type stay an lvalue of it, and two const ones whose numbers are known have the chosen number (5.19)
 abbrev pub one_place : ℕ → Value → Value → Value → Value
-one_place at c a b = place_of at (node.Conditional at c.node a.node b.node) a.type false
+one_place at c a b = record (place_of at (node.Conditional at c.node a.node b.node) a.type false) { number = chosen c.number a.number b.number }
 
 abbrev pub both_arithmetic : ℕ → Value → Value → Value → Kind → Kind → Elab Value
 both_arithmetic at c x y k l = do

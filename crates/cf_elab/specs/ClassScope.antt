@@ -91,7 +91,7 @@ abbrev pub declare_enum : Name → ℕ → ℕ → ℕ → Elab (Unit {0})
 declare_enum name at e t = known >>= (λ env. if in_class env then add_plain name at what.Alias t else declare name (enum_name e))
 
 abbrev pub declare_enumerator : Name → ℕ → ℕ → ℤ → Elab (Unit {0})
-declare_enumerator name at t z = known >>= (λ env. if in_class env then add_plain name at (what.Enumerator z) t else declare name (enumerator t z))
+declare_enumerator name at t z = known >>= (λ env. if in_class env then add_plain name at (what.Enumerator z) t else declare name (enumerator t (Some z)))
 
 -- a class's name
 abbrev pub declare_class : Name → ℕ → ℕ → ℕ → Elab (Unit {0})

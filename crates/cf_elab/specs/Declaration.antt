@@ -21,7 +21,7 @@ use Rattle.cf_elab.specs.Members.{static_link}
 use Rattle.cf_elab.specs.Paths.{class_of_names}
 use Rattle.cf_elab.specs.ClassScope.{in_class_scope}
 use Rattle.cf_elab.specs.Answer.{Elab, ◌>>=◌, ◌>>◌, gives, done, breaks, need, none_at, known, each, maybe}
-use Rattle.cf_elab.specs.Made.{int, same_ty}
+use Rattle.cf_elab.specs.Made.{int, array_of, same_ty}
 use Rattle.cf_elab.specs.Operand.{Part, sort_of, is_function, is_void, defs}
 use Rattle.cf_elab.specs.Names.{declared_here, declare, is_file_scope, key}
 use Rattle.cf_elab.specs.Complete.{complete, type_within}
@@ -29,31 +29,35 @@ use Rattle.cf_elab.specs.Specifiers.{Gathered, base_type, is_typedef, is_static,
 use Rattle.cf_elab.specs.Shape.{Parameter, Shape, is_inner, function_of, Position, Shaped, whole, unbounded, typed, bounds_constant, nowhere}
 use Rattle.cf_elab.specs.Expression.{elaborated, declared}
 use Rattle.cf_elab.specs.Declarator.{Declared, only_whole}
-use Rattle.cf_elab.specs.Lists.{Tree, tree_of, expression_tree}
+use Rattle.cf_elab.specs.Lists.{Tree, branch, listed, tree_of, outline_of, expression_outline, expression_tree, count_in}
 use Rattle.cf_elab.specs.Objects as objects
-use Rattle.cf_elab.specs.Objects.{Reached, Written, equals, bracketed, declare_linked, define_in_file, define_in_function, define_local, parts_first}
+use Rattle.cf_elab.specs.Objects.{Reached, Written, equals, bracketed, declare_linked, define_in_file, define_in_function, define_local}
 use Rattle.cf_elab.specs.Functions as function
 use Rattle.cf_elab.specs.Functions.{declare_function}
 
 -- ---- initialisers
 
--- an initialiser, with its place
+-- an initialiser, with its place; behind `=` its outline, and what its expressions become
 pub data Initial : Type 0 where
-  behind_equals : ℕ → Elab Tree → Initial
+  behind_equals : ℕ → Tree → Elab Tree → Initial
   in_brackets : ℕ → List Part → Initial
 
+abbrev pub outline : Initial → Tree
+outline (behind_equals at o t) = o
+outline (in_brackets at xs) = branch at (listed (map (expression_outline at) xs))
+
 abbrev pub written : Initial → Elab Written
-written (behind_equals at t) = t >>= (λ x. gives (equals at x))
+written (behind_equals at o t) = t >>= (λ x. gives (equals at x))
 written (in_brackets at xs) = each (expression_tree at) xs >>= (λ ts. gives (bracketed at ts))
 
 abbrev pub parts_of : Option Initial → Elab (Option Written)
 parts_of w = maybe written w
 
 abbrev pub initial_place : Initial → ℕ
-initial_place (behind_equals at t) = at
+initial_place (behind_equals at o t) = at
 initial_place (in_brackets at xs) = at
 
--- an initialiser where none may stand is K28
+-- an initialiser where none may stand is K28, behind its parts
 abbrev pub no_initialiser : Option Initial → Elab (Unit {0})
 no_initialiser w = none_at (option_map_or (λ i. Some (initial_place i)) w None) 28
 
@@ -64,7 +68,7 @@ pub record Declares : Type 0 where
   pub initial : Option Initial
 
 abbrev pub initial_of : Initialiser → Initial
-initial_of (initialiser.Equals at i) = behind_equals at (tree_of i)
+initial_of (initialiser.Equals at i) = behind_equals at (outline_of i) (tree_of i)
 initial_of (initialiser.Arguments at xs) = in_brackets at (map elaborated xs)
 
 abbrev pub declares : InitDeclarator → Declares
@@ -116,6 +120,7 @@ abbrev pub typedef_row : Name → ℕ → ℕ → Option Initial → Elab (Unit 
 typedef_row name at t w = do
   env ← known
   aliased name at t (declared_here env name)
+  x ← parts_of w
   no_initialiser w
 
 -- a function; operators are looked up by the piece of their link name
@@ -127,8 +132,8 @@ called_as in_file other = Plain (key other)
 abbrev pub parameters_of : Shape → List Parameter
 parameters_of s = option_map_or (λ ps. ps) (function_of s) []
 
-abbrev pub function_says : Gathered → WrittenName → ℕ → Shape → Bool → function.Says
-function_says g n t s defines = record {
+abbrev pub function_says : Gathered → WrittenName → ℕ → Shape → Bool → Bool → function.Says
+function_says g n t s defines initialised = record {
   name = key n.last;
   called = called_as true n.last;
   at = n.last_at;
@@ -137,6 +142,7 @@ function_says g n t s defines = record {
   is_static = is_static g;
   is_inline = is_some g.inline_at;
   defines = defines;
+  is_initialised = initialised;
 }
 
 -- a conversion function is a member K47, and so is a destructor K42 (12.3.2, 12.4)
@@ -149,18 +155,20 @@ abbrev pub function_row : Gathered → WrittenName → ℕ → Shape → Option 
 function_row g n t s w = do
   need_plain_name n.last n.last_at
   i ← int
-  k ← declare_function i (function_says g n t s false)
+  k ← declare_function i (function_says g n t s false (is_some w))
+  x ← parts_of w
   no_initialiser w
 
 -- an object of the file, or of a block: `extern` without an initialiser declares one of the file, and with one it is K28 in a block
-abbrev pub object_says : Gathered → Name → ℕ → ℕ → Bool → objects.Says
-object_says g name at t defines = record {
+abbrev pub object_says : Gathered → Name → ℕ → ℕ → Bool → Bool → objects.Says
+object_says g name at t defines initialised = record {
   name = name;
   at = at;
   type = t;
   is_static = is_static g;
   is_extern = is_extern g;
   defines = defines;
+  is_initialised = initialised;
 }
 
 abbrev pub only_declared : objects.Says → Elab (List Reached)
@@ -168,12 +176,12 @@ only_declared d = declare_linked d >> gives []
 
 abbrev pub file_object : Gathered → Name → ℕ → ℕ → Elab (Option Written) → Option Initial → Elab (List Reached)
 file_object g name at t parts w =
-    if is_extern g && not (is_some w) then only_declared (object_says g name at t false)
-    else (define_in_file (object_says g name at t true) parts >> gives [])
+    if is_extern g && not (is_some w) then only_declared (object_says g name at t false (is_some w))
+    else (define_in_file (object_says g name at t true (is_some w)) parts >> gives [])
 
 abbrev pub block_object : Gathered → Name → ℕ → ℕ → Elab (Option Written) → Option Initial → Elab (List Reached)
 block_object g name at t parts w =
-    if is_extern g then (only_declared (object_says g name at t false) >> parts >> no_initialiser w >> gives [])
+    if is_extern g then (only_declared (object_says g name at t false (is_some w)) >> parts >> no_initialiser w >> gives [])
     else (if is_static g then define_in_function at name t parts else define_local at name t parts)
 
 abbrev pub object_row : Bool → Gathered → Name → ℕ → ℕ → Elab (Option Written) → Option Initial → Elab (List Reached)
@@ -207,12 +215,17 @@ by_kind in_file g n s w t = do
     kind_of false true = function_row g n t s w >> gives []
     kind_of false false = plain_name n n.last >>= (λ name. object_row in_file g name n.last_at t (parts_of w) w)
 
+-- an array whose initialiser gives the bound, by its outline (8.2.4): so the object has its type before the expressions are elaborated
+abbrev pub bound_given : ℕ → ℕ → Option Initial → Elab ℕ
+bound_given at u None = breaks 26 at
+bound_given at u (Some w) = known >>= (λ env. array_of u (count_in env.types u (outline w)))
+
 abbrev pub by_shape : Bool → Gathered → WrittenName → Shape → Option Initial → Shaped → Elab (List Reached)
 by_shape in_file g n s w (whole t) = by_kind in_file g n s w t
 by_shape in_file g n s w (unbounded u) = do
   name ← plain_name n n.last
-  x ← parts_first n.last_at name u (parts_of w)
-  object_row in_file g name n.last_at x.0 (gives x.1) w
+  t ← bound_given n.last_at u w
+  object_row in_file g name n.last_at t (parts_of w) w
 
 abbrev pub named_declarator : Gathered → ℕ → Option Initial → Shape → WrittenName → Elab (List Reached)
 named_declarator g at w s n = do

@@ -11,7 +11,7 @@ use Rattle.cf_syntax.specs.declared.declarator.DeclTree.TheOpen.{DeclTree-F}
 use Rattle.cf_syntax.specs.declared.declarator.Param.{Param-F}
 use Rattle.cf_syntax.specs.declared.declarator.TypeId.{TypeId-F}
 use Rattle.cf_elab.specs.Env.{Env}
-use Rattle.cf_elab.specs.Answer.{Elab, ◌>>=◌, ◌>>◌, gives, need, none_at, known, each, all, maybe, hand_changed}
+use Rattle.cf_elab.specs.Answer.{Elab, ◌>>=◌, ◌>>◌, gives, need, none_at, known, each, maybe, hand_changed}
 use Rattle.cf_elab.specs.Made.{pointer_to}
 use Rattle.cf_elab.specs.Operand.{Part, evaluated, Sort, array_sort, enumeral, class_sort, sort_of, is_void, is_function}
 use Rattle.cf_elab.specs.Paths.{type_at_path, keyed_type, class_at_path}
@@ -72,16 +72,19 @@ named_at p = elim p.name [ None ↦ p.at | Some n ↦ n.last_at ]
 abbrev pub no_void : Parameter → Elab (Unit {0})
 no_void p = known >>= (λ env. need (not (is_void (sort_of env.types p.type))) 26 (named_at p))
 
-abbrev pub all_objects : List Parameter → Elab (List Parameter)
-all_objects [] = gives []
-all_objects (p ∷ ps) = do
+-- each is an object, before the next is looked at
+abbrev pub object_parameter : Elab Parameter → Elab Parameter
+object_parameter run = do
+  p ← run
   no_void p
-  qs ← all_objects ps
-  gives (p ∷ qs)
+  gives p
 
-abbrev pub parameters : List Parameter → Elab (List Parameter)
-parameters (p ∷ []) = known >>= (λ env. if is_nothing env p then gives [] else all_objects (p ∷ []))
-parameters ps = all_objects ps
+abbrev pub only_parameter : Parameter → Elab (List Parameter)
+only_parameter p = known >>= (λ env. if is_nothing env p then gives [] else (no_void p >> gives (p ∷ [])))
+
+abbrev pub parameters : List (Elab Parameter) → Elab (List Parameter)
+parameters (run ∷ []) = run >>= only_parameter
+parameters runs = each object_parameter runs
 
 abbrev pub declared_step : DeclTree-F Declared Part (Elab Parameter) (Elab ℕ) → Declared
 declared_step DeclTree-F.Unnamed = record { name = None; shape = gives inner }
@@ -90,7 +93,7 @@ declared_step (DeclTree-F.Pointed p d) = record { name = d.name; shape = d.shape
 declared_step (DeclTree-F.Bracketed at d) = d
 declared_step (DeclTree-F.Function at d ps is_const) = record {
   name = d.name;
-  shape = d.shape >>= (λ s. all ps >>= parameters >>= (λ qs. gives (taking at qs is_const s)));
+  shape = d.shape >>= (λ s. parameters ps >>= (λ qs. gives (taking at qs is_const s)));
 }
 declared_step (DeclTree-F.Array at d bound) = record {
   name = d.name;

@@ -31,7 +31,7 @@ use Rattle.cf_elab.specs.Declarator.{type_from}
 use Rattle.cf_elab.specs.Expression.{pointed_shape}
 use Rattle.cf_elab.specs.Objects.{declare_in_block, block_object}
 use Rattle.cf_elab.specs.Functions.{declare_function}
-use Rattle.cf_elab.specs.Declaration.{need_plain_name, conflict, earlier, unqualified, no_definition, function_says}
+use Rattle.cf_elab.specs.Declaration.{need_plain_name, conflict, declares_function, earlier, unqualified, no_definition, function_says}
 use Rattle.cf_elab.specs.Methods.{conversion_name, has_type, MethodKind, ordinary, constructs, destroys, converts, operates, Says, method_kind, declare_method, params_now, is_const_type, same_bool, label_name}
 use Rattle.cf_elab.specs.ClassDefinition.{method_conflict}
 use Rattle.cf_elab.specs.Bodies.{WrittenInit, body_kind, role_of, body_by_what}
@@ -104,9 +104,9 @@ define_function ps run (Some f) = do
       body ← with_hand (body_hand f.link (if is_main f.link then main_body else plain_body) (outside f.name f.type) result ps) ps run
       changed (λ e. record e { functions = e.functions ++ core_function f result ps body ∷ [] })
 
--- a `typedef` has no body
-abbrev pub definition_conflict : ℕ → Gathered → Option ℕ
-definition_conflict at g = earlier (conflict true true at g) (if is_typedef g then storage_at g else None)
+-- as any declaration in a file; and a `typedef` has no body
+abbrev pub definition_conflict : Bool → ℕ → Gathered → Option ℕ
+definition_conflict is_function at g = earlier (conflict true is_function at g) (if is_typedef g then storage_at g else None)
 
 -- it names no function: K26
 abbrev pub parameters_or : ℕ → Option (List Parameter) → Elab (List Parameter)
@@ -124,7 +124,8 @@ type_of_shaped (unbounded t) = gives t
 abbrev pub named_definition : Gathered → ℕ → Shape → List WrittenInit → Elab Node → WrittenName → Elab (Unit {0})
 named_definition g at s inits run n = do
   base ← base_type g
-  none_at (definition_conflict at g) 24
+  env ← known
+  none_at (definition_conflict (declares_function env base s) at g) 24
   unqualified n
   no_definition g s
   x ← typed nowhere s base
@@ -133,10 +134,10 @@ named_definition g at s inits run n = do
   bounds_constant s
   need_plain_name n.last n.last_at
   i ← int
-  k ← declare_function i (function_says g n t s true)
+  k ← declare_function i (function_says g n t s true false)
   no_initialisers inits
-  env ← known
-  define_function ps run (slice_get env.entries k)
+  now ← known
+  define_function ps run (slice_get now.entries k)
 
 -- ---- member functions
 
@@ -253,7 +254,7 @@ any_const = record { unbounded = false; const_function = true }
 abbrev pub member_definition : Gathered → ℕ → Shape → List WrittenInit → Elab Node → WrittenName → ℕ → Elab (Unit {0})
 member_definition g at s inits run n c = do
   env ← known
-  none_at (definition_conflict at g) 24
+  none_at (definition_conflict (is_some (function_of s)) at g) 24
   no_definition g s
   base ← method_base g (outside_kind env c n.last) n.last
   x ← typed any_const s base

@@ -8,12 +8,12 @@ use Rattle.cf_types.specs.declared.ty.Ty.TheVariants as ty
 use Rattle.cf_syntax.specs.declared.expression.Expr.{Expr}
 use Rattle.cf_unit.specs.declared.enumeration.EnumDef.{EnumDef}
 use Rattle.cf_unit.specs.declared.enumeration.Enumerator.{Enumerator}
-use Rattle.cf_elab.specs.Env.{Name, enumerator}
+use Rattle.cf_elab.specs.Env.{Name, enumerator, enum_name}
 use Rattle.cf_elab.specs.Answer.{Elab, ◌>>=◌, ◌>>◌, gives, done, need, known, changed, maybe}
 use Rattle.cf_elab.specs.Made.{intern}
 use Rattle.cf_elab.specs.Operand.{Value, Part, evaluated}
 use Rattle.cf_elab.specs.Expression.{elaborated}
-use Rattle.cf_elab.specs.Names.{declare, enter_scope, leave_scope, is_file_scope}
+use Rattle.cf_elab.specs.Names.{declare, scoped, is_file_scope}
 use Rattle.cf_elab.specs.ClassScope.{has_name, open_class, declare_enum, declare_enumerator}
 
 -- an enumerator as it is written
@@ -48,12 +48,16 @@ number_or_zero (Some z) = z
 abbrev pub int_or_zero : Option ℤ → ℤ
 int_or_zero z = if fits kind.Int (number_or_zero z) then number_or_zero z else pos 0
 
+-- its expression, in which it is known itself, without a value (3.2)
+abbrev pub own_value : ℕ → Item → Elab (Option Value)
+own_value t e = maybe (λ (x : Part). scoped (declare e.name (enumerator t None) >> evaluated x)) e.value
+
 -- the expressions in order, each with the enumerators before it
 abbrev pub counted : ℕ → Option ℤ → List Item → Elab (List Counted)
 counted t next [] = gives []
 counted t next (e ∷ es) = do
-  v ← maybe evaluated e.value
-  declare e.name (enumerator t (int_or_zero (number_of next v)))
+  v ← own_value t e
+  declare e.name (enumerator t (Some (int_or_zero (number_of next v))))
   rest ← counted t (one_more (number_of next v)) es
   gives (record { at = e.at; name = e.name; number = number_of next v } ∷ rest)
 
@@ -97,6 +101,11 @@ abbrev pub name_declared : ℕ → ℕ → Option (ℕ × Name) → Elab (Unit {
 name_declared e t None = done
 name_declared e t (Some n) = declare_enum n.1 n.0 e t
 
+-- its own name is known in the expressions (3.2)
+abbrev pub name_known : ℕ → Option (ℕ × Name) → Elab (Unit {0})
+name_known e None = done
+name_known e (Some n) = declare n.1 (enum_name e)
+
 -- a new enumeration; without a name it has that of the `typedef` that it stands in
 abbrev pub new_enum : Name → Elab ℕ
 new_enum name = do
@@ -109,9 +118,7 @@ abbrev pub enumeration_row : Option Name → ℕ → Option (ℕ × Name) → Li
 enumeration_row alias at name list = do
   e ← new_enum (label_name name alias)
   t ← intern (ty.Enum e)
-  enter_scope
-  cs ← counted t (Some (pos 0)) list
-  leave_scope
+  cs ← scoped (name_known e name >> scoped (counted t (Some (pos 0)) list))
   env ← known
   need (is_file_scope env.scopes || not (is_some name)) 48 at
   name_checked name

@@ -51,7 +51,7 @@ pub data Entity : Type 0 where
   alias : ℕ → Entity  -- a type that `typedef` names
   class_name : ℕ → Entity
   enum_name : ℕ → Entity
-  enumerator : ℕ → ℤ → Entity  -- its type and its value
+  enumerator : ℕ → Option ℤ → Entity  -- its type, and its value, which it does not have yet in its own expression
 
 -- what kind of function a body belongs to (6.6.3, 9.3.1)
 pub data BodyKind : Type 0 where

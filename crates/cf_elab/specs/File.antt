@@ -1,7 +1,7 @@
 -- Files: `First`, the core of a file, or the first rule that it breaks and where (3.4, 7.4, 17).
 use Rattle.std.specs.Prelude.{ℕ, Bool, true, false, not, ◌&&◌, ◌||◌, if◌then◌else◌, List, [], ◌∷◌, ◌++◌, length, map, codes, Option, None, Some, slice_get, is_some, bytes_eq}
 use Rattle.std.specs.List.{list_all}
-use Rattle.std.specs.Option.{option_map_or}
+use Rattle.std.specs.Option.{option_map_or, option_or}
 use Rattle.cf_base.specs.declared.limit.Bound.{Bound}
 use Rattle.cf_types.specs.Table.{Table}
 use Rattle.cf_syntax.specs.declared.name.Last.{Last}
@@ -14,12 +14,13 @@ use Rattle.cf_unit.specs.declared.file.Item.TheVariants as item
 use Rattle.cf_unit.specs.declared.file.Linkage.{Linkage}
 use Rattle.cf_unit.specs.declared.file.Unit.{Unit as FileTree}
 use Rattle.cf_core.specs.FromUnit.{Unit as CoreUnit}
-use Rattle.cf_elab.specs.Env.{Env, Name, Hand, file_level, Extent, Entity, functions, FunctionEntry}
+use Rattle.cf_elab.specs.Env.{Env, Name, Hand, file_level, Extent, Entity, object, functions, FunctionEntry}
 use Rattle.cf_elab.specs.Access.{outside}
 use Rattle.cf_elab.specs.Answer.{Answer, Made, Refused, Passed, Elab, ◌>>=◌, ◌>>◌, done, need, known, changed, for_each}
 use Rattle.cf_elab.specs.Made.{int, void, function_type}
 use Rattle.cf_elab.specs.Names.{declare, entity_named}
 use Rattle.cf_elab.specs.Functions.{is_library}
+use Rattle.cf_elab.specs.Declaration.{earlier}
 use Rattle.cf_elab.specs.Expression.{declared}
 use Rattle.cf_elab.specs.Trees.{declaration, definition}
 use Rattle.cf_elab.specs.Scan.{defined_names}
@@ -128,10 +129,22 @@ abbrev pub first_undefined : List FunctionEntry → Option ℕ
 first_undefined [] = None
 first_undefined (f ∷ fs) = if f.is_defined || is_library f.link then first_undefined fs else Some f.at
 
+-- an object that is only declared
+abbrev pub undefined_object : Entity → Option ℕ
+undefined_object (object x) = if x.is_defined then None else Some x.at
+undefined_object other = None
+
+abbrev pub first_object : List Entity → Option ℕ
+first_object [] = None
+first_object (x ∷ xs) = option_or (undefined_object x) (first_object xs)
+
+abbrev pub undefined_at : Env → Option ℕ
+undefined_at env = earlier (first_undefined env.entries) (first_object env.entities)
+
 abbrev pub all_defined : Elab (Unit {0})
 all_defined = do
   env ← known
-  need (env.extent.elsewhere || not (is_some (first_undefined env.entries))) 48 (option_map_or (λ at. at) (first_undefined env.entries) 0)
+  need (env.extent.elsewhere || not (is_some (undefined_at env))) 48 (option_map_or (λ at. at) (undefined_at env) 0)
 
 abbrev pub in_turn : List (Elab (Unit {0})) → Elab (Unit {0})
 in_turn items = beginning >> for_each (λ (i : Elab (Unit {0})). i) items >> all_defined

@@ -41,6 +41,7 @@ pub record Says : Type 0 where
   pub is_static : Bool
   pub is_inline : Bool
   pub defines : Bool
+  pub is_initialised : Bool  -- whether an initialiser stands behind it, which it may not have (8.4)
 
 abbrev pub says_internal : Says → Bool
 says_internal d = d.is_static || d.is_inline
@@ -160,15 +161,20 @@ entry env d ds = record {
   is_internal = says_internal d;
 }
 
--- while definitions in other files are not built, the file itself defines what it declares
+-- while definitions in other files are not built, the file itself defines what it declares; what its initialiser breaks comes first
 abbrev pub need_definition : Env → Says → Elab (Unit {0})
-need_definition env d = need (env.extent.elsewhere || d.defines || list_any (bytes_eq d.name) env.defines) 48 d.at
+need_definition env d = need (env.extent.elsewhere || d.defines || d.is_initialised || list_any (bytes_eq d.name) env.defines) 48 d.at
+
+-- a second function of one name with other parameters, where that is built (13.1)
+abbrev pub need_single : Env → Says → Elab (Unit {0})
+need_single env d = need (env.extent.overloads || not (list_any (λ (f : FunctionEntry). bytes_eq f.name d.name) env.entries)) 48 d.at
 
 abbrev pub new_entry : Says → Elab ℕ
 new_entry d = do
   ds ← defaults_of d []
   env ← known
   need (parameters_complete env d) 30 d.at
+  need_single env d
   need_definition env d
   name_within (function_link env d.called d.type)
   changed (λ e. record e { entries = e.entries ++ entry env d ds ∷ [] })
@@ -188,10 +194,6 @@ entry_or_new d (Some n) = do
 abbrev pub joins : ℕ → List ℕ → List ℕ
 joins n fs = if list_any (nat_eq n) fs then fs else fs ++ n ∷ []
 
--- a second function of one name with other parameters, where that is built (13.1)
-abbrev pub need_single : Says → List ℕ → ℕ → Elab (Unit {0})
-need_single d fs n = known >>= (λ env. need (env.extent.overloads || list_any (nat_eq n) fs) 48 d.at)
-
 abbrev pub entity_joined : Says → ℕ → Option ℕ → Elab (Unit {0})
 entity_joined d n None = declare d.name (functions (n ∷ []))
 entity_joined d n (Some e) = do
@@ -199,7 +201,7 @@ entity_joined d n (Some e) = do
   join_set (slice_get env.entities e)
   where
     join_set : Option Entity → Elab (Unit {0})
-    join_set (Some (functions fs)) = need_single d fs n >> redeclare e (functions (joins n fs))
+    join_set (Some (functions fs)) = redeclare e (functions (joins n fs))
     join_set other = breaks 8 d.at
 
 abbrev pub is_function_set : Env → Option ℕ → Bool

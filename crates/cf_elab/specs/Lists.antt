@@ -14,7 +14,7 @@ use Rattle.cf_core.specs.declared.node.Core.TheVariants as node
 use Rattle.cf_elab.specs.UserFit.{initial}
 use Rattle.cf_elab.specs.Answer.{Elab, ◌>>=◌, gives, breaks, known, all}
 use Rattle.cf_elab.specs.Made.{place_in, same_ty}
-use Rattle.cf_elab.specs.Operand.{Value, Part, evaluated, value_of}
+use Rattle.cf_elab.specs.Operand.{Value, Part, computed, evaluated, value_of}
 use Rattle.cf_elab.specs.Initial.{Start, fixed_start, Keeper}
 use Rattle.cf_elab.specs.Expression.{elaborated, literal}
 
@@ -56,6 +56,20 @@ tree_step (Init-F.List at ts) = all ts >>= (λ us. gives (branch at (listed us))
 
 abbrev pub tree_of : Init → Elab Tree
 tree_of = fold-Init (Elab Tree) tree_step
+
+-- its outline: the braces and the literals, and for each other expression a leaf that has no value yet
+abbrev pub no_value : ℕ → Value
+no_value at = computed at (node.Blank at) 0
+
+abbrev pub expression_outline : ℕ → Part → Tree
+expression_outline at p = option_map_or (λ s. text at s.0 s.1) p.text (leaf at (no_value at))
+
+abbrev pub outline_step : Init-F Tree → Tree
+outline_step (Init-F.Value at x) = expression_outline at (elaborated x)
+outline_step (Init-F.List at ts) = branch at (listed ts)
+
+abbrev pub outline_of : Init → Tree
+outline_of = fold-Init Tree outline_step
 
 -- ---- what initialises what
 

@@ -1,5 +1,5 @@
 -- Names, and what they stand for (3.2, 3.3, 5.1).
-use Rattle.std.specs.Prelude.{ℕ, zero, suc, Bool, true, false, not, if◌then◌else◌, List, [], ◌∷◌, ◌++◌, length, codes, Option, None, Some, slice_get, bytes_eq}
+use Rattle.std.specs.Prelude.{ℕ, zero, suc, Bool, true, false, not, if◌then◌else◌, List, [], ◌∷◌, ◌++◌, length, codes, ℤ, pos, Option, None, Some, slice_get, bytes_eq}
 use Rattle.cf_syntax.specs.declared.name.Last.{Last}
 use Rattle.cf_syntax.specs.declared.name.Last.TheVariants as last
 use Rattle.cf_types.specs.declared.ty.Ty.TheVariants as ty
@@ -9,7 +9,7 @@ use Rattle.cf_core.specs.declared.node.Core.TheVariants as node
 use Rattle.cf_elab.specs.Env.{Env, Name, Entity, object, functions, alias, class_name, enum_name, enumerator, Object, Home, local_home, static_home, FunctionEntry}
 use Rattle.cf_elab.specs.Answer.{Elab, ◌>>=◌, ◌>>◌, gives, breaks, need, known, changed}
 use Rattle.cf_elab.specs.Made.{intern}
-use Rattle.cf_elab.specs.Operand.{Value, Operand, value, functions as named_functions, place_of, constant, result_value}
+use Rattle.cf_elab.specs.Operand.{Value, Operand, value, functions as named_functions, place_of, constant, computed, result_value}
 
 -- ---- scopes
 
@@ -106,6 +106,11 @@ some_main env (f ∷ fs) = main_entry (slice_get env.entries f)
     main_entry None = false
     main_entry (Some f) = is_main f.link
 
+-- an enumerator is a constant; in its own expression it has no value yet (3.2)
+abbrev pub enumerator_value : ℕ → ℕ → Option ℤ → Value
+enumerator_value at t (Some z) = constant at z t
+enumerator_value at t None = computed at (node.Number at (pos 0)) t
+
 -- K10; `main` may not be used, K11 (3.4)
 abbrev pub operand_of : ℕ → Option Entity → Elab Operand
 operand_of at None = breaks 10 at
@@ -117,7 +122,7 @@ operand_of at (Some (functions fs)) = do
 operand_of at (Some (alias t)) = breaks 10 at
 operand_of at (Some (class_name c)) = breaks 10 at
 operand_of at (Some (enum_name e)) = breaks 10 at
-operand_of at (Some (enumerator t z)) = gives (value (constant at z t))
+operand_of at (Some (enumerator t z)) = gives (value (enumerator_value at t z))
 
 -- ---- the type that a name stands for
 

@@ -14,11 +14,11 @@ use Rattle.cf_core.specs.declared.node.Holder.TheVariants as holder
 use Rattle.cf_core.specs.declared.unit.CoreStatic.{CoreStatic}
 use Rattle.cf_elab.specs.Env.{Env, Name, Entity, object, Object, Home, local_home, static_home}
 use Rattle.cf_elab.specs.Answer.{Elab, ◌>>=◌, ◌>>◌, gives, done, breaks, need, known, changed, hand_changed, each}
-use Rattle.cf_elab.specs.Made.{array_of, intern}
+use Rattle.cf_elab.specs.Made.{intern}
 use Rattle.cf_elab.specs.Operand.{Value, value_of, defs, sort_of, is_arithmetic, is_reference}
-use Rattle.cf_elab.specs.Names.{declared_here, bind_name, declare, redeclare, is_file_scope, scoped}
+use Rattle.cf_elab.specs.Names.{declared_here, bind_name, declare, redeclare}
 use Rattle.cf_elab.specs.Initial.{Start, fixed_start, Keeper, kept}
-use Rattle.cf_elab.specs.Lists.{Tree, leaf, text, branch, start_by, count_in}
+use Rattle.cf_elab.specs.Lists.{Tree, leaf, text, branch, start_by}
 use Rattle.cf_elab.specs.Construct.{constructed, has_constructor, default_start, need_object_class, need_destructor}
 use Rattle.cf_elab.specs.UserFit.{fit}
 use Rattle.cf_elab.specs.Copying.{is_of}
@@ -134,6 +134,7 @@ pub record Says : Type 0 where
   pub is_static : Bool
   pub is_extern : Bool
   pub defines : Bool
+  pub is_initialised : Bool  -- whether an initialiser stands behind it
 
 -- local to the file where it says `static`, or is const and no declaration so far says `extern`
 abbrev pub says_internal : Env → Says → Bool
@@ -168,9 +169,9 @@ redeclared d e x = do
   redeclare e (object (again d x))
   gives (again d x)
 
--- while definitions in other files are not built, the file itself defines what it declares
+-- while definitions in other files are not built, the file itself defines what it declares; an initialiser that may not stand comes first
 abbrev pub need_definition : Env → Says → Elab (Unit {0})
-need_definition env d = need (env.extent.elsewhere || d.defines || list_any (bytes_eq d.name) env.defines) 48 d.at
+need_definition env d = need (env.extent.elsewhere || d.defines || d.is_initialised || list_any (bytes_eq d.name) env.defines) 48 d.at
 
 abbrev pub first_declared : Says → Elab Object
 first_declared d = do
@@ -316,11 +317,11 @@ reached at link s = if s.is_constant then [] else record { node = node.Once at l
 abbrev pub define_static_local : ℕ → Name → ℕ → Elab (Option Written) → Name → Name → Elab (List Reached)
 define_static_local at name t parts link owner = do
   hand_changed (λ h. record h { statics = h.statics + 1 })
-  name_within link
   declare_in_block name at (block_object t (static_home link) at)
   w ← parts
   s ← started (static_keeper link (Some owner) at) name at t w
   need_constant at w s
+  name_within link
   define_static (static_of link t (if s.is_constant then s.node else node.Blank at) (Some owner) s.is_constant true)
   gives (reached at link s)
 
@@ -335,25 +336,3 @@ define_local at name t parts = do
   w ← parts
   s ← started local_keeper name at t w
   gives (record { node = node.Declare at i t s.node; initialises = is_some w || not s.is_constant } ∷ [])
-
--- ---- an array whose initialiser gives the bound
-
-abbrev pub bound_given : ℕ → ℕ → Option Written → Elab ℕ
-bound_given at u None = breaks 26 at
-bound_given at u (Some w) = do
-  x ← one_tree w
-  env ← known
-  array_of u (count_in env.types u x)
-
--- its name is known in its own initialiser; what else the innermost scope declares by the name is looked at before
-abbrev pub is_redeclarable : Env → Name → Bool
-is_redeclarable env name = not (is_some (declared_here env name)) || is_file_scope env.scopes
-
-abbrev pub parts_first : ℕ → Name → ℕ → Elab (Option Written) → Elab (ℕ × Option Written)
-parts_first at name u parts = do
-  env ← known
-  need (is_redeclarable env name) 8 at
-  t ← array_of u 1
-  w ← scoped (declare name (object (block_object t (static_home (variable_link name)) at)) >> parts)
-  a ← bound_given at u w
-  gives (a, w)

@@ -126,7 +126,7 @@ module _ (position : Position) where
     need_at (is_inner s && position.unbounded) at
     gives (unbounded t)
 
--- each bound is a constant, K19
+-- each bound is a constant, K19; the inner ones come first in the text
 abbrev pub bounds_constant : Shape → Elab (Unit {0})
 bounds_constant inner = done
 bounds_constant (pointing at c s) = bounds_constant s
@@ -134,4 +134,4 @@ bounds_constant (referring at s) = bounds_constant s
 bounds_constant (to_member at c k s) = bounds_constant s
 bounds_constant (taking at ps c s) = bounds_constant s
 bounds_constant (holding at None s) = bounds_constant s
-bounds_constant (holding at (Some b) s) = need (is_some b.number) 19 at >> bounds_constant s
+bounds_constant (holding at (Some b) s) = bounds_constant s >> need (is_some b.number) 19 at

@@ -208,7 +208,7 @@ friend_function g s n = do
   t ← type_of_shaped x
   bounds_constant s
   i ← int
-  k ← declare_function i (function_says g n t s false)
+  k ← declare_function i (function_says g n t s false false)
   add_friend (friend.Function (names.key n.last) t)
 
 abbrev pub data_name : WrittenName → Last → Elab Name

@@ -28,7 +28,7 @@ use Rattle.cf_elab_apart.proofs.Alike.{alike-Conditional}
 use Rattle.cf_elab_apart.proofs.Answers.{Tells, tells-behind, tells-still}
 use Rattle.cf_elab_apart.proofs.Fit.{Both, both-when, PlainBoth, plain-both, converted-both}
 use Rattle.cf_elab_apart.proofs.Operators.{TestedBoth, to_kind-both, truth-both}
-use Rattle.cf_elab_apart.proofs.Settled.{bare-apart, number-apart}
+use Rattle.cf_elab_apart.proofs.Settled.{place-apart, number-apart}
 
 -- one of three numbers is known where all are
 record AllKnown (c a b : Option ℤ) : Type 0 where
@@ -126,7 +126,7 @@ module _ (s : Scene) (scene : IsScene s) where
       go : (c : Value) (e1 : Env) → Classless e1 → When s e1 (Holds s e1) → When s e1 (TestedBoth s scene c e1) → When s e1 (Both s x e1) → When s e1 (Both s y e1) → (m : Bool)
           → (let run : Elab Value = if m then (λ f. Made (row.one_place at c x y) f)
           else (λ f. onward (plain x f) (λ a k. onward (plain y k) (λ b n. row.alternatives at c a b (sort_of n.types a.type) (sort_of n.types b.type) (arithmetic (sort_of n.types a.type)) (arithmetic (sort_of n.types b.type)) n))) in Tells s (Apart s) (run e1))
-      go c e1 c1 h1 pc bx by true = λ w. bare-apart s (row.one_place at c x y) refl refl
+      go c e1 c1 h1 pc bx by true = λ w. place-apart s (row.one_place at c x y) refl refl
       go c e1 c1 h1 pc bx by false =
           tells-behind s (PlainBoth s (decayed_tree s x.type (sort_of e1.types x.type))) (Apart s) e1 (plain x e1) _ (plain-both s scene e1 x c1 h1 bx)
           (λ a e2 g2 c2 h2 pa. tells-behind s (PlainBoth s (decayed_tree s y.type (sort_of e2.types y.type))) (Apart s) e2 (plain y e2) _ (plain-both s scene e2 y c2 h2 (both-when s e1 e2 y g2 by))

@@ -1,5 +1,5 @@
 -- Names, constants and literals, and the value of an operand (3.7, 5.1, 2.5.4).
-use Rattle.std.proofs.Common.{◌≡◌, ℕ, ◌+◌, true, false, not, if◌then◌else◌, List, [], ◌∷◌, ◌++◌, length, ℤ, Option, Some, None, slice_get, refl, sym, subst, true≢false}
+use Rattle.std.proofs.Common.{◌≡◌, ℕ, ◌+◌, true, false, not, if◌then◌else◌, List, [], ◌∷◌, ◌++◌, length, ℤ, pos, Option, Some, None, slice_get, refl, sym, subst, true≢false}
 use Rattle.cf_base.specs.declared.kind.Kind.{Kind}
 use Rattle.cf_base.specs.declared.kind.Kind.TheVariants as kind
 use Rattle.cf_types.specs.declared.ty.Ty.{Ty}
@@ -11,7 +11,7 @@ use Rattle.cf_elab.specs.Answer.{Answer, Made, Refused, Passed, Elab, onward, ne
 use Rattle.cf_elab.specs.Env.{Env, Name, Object, Home, local_home, static_home, Entity, object, functions, alias, class_name, enum_name, enumerator, FunctionEntry}
 use Rattle.cf_elab.specs.Expression as expression
 use Rattle.cf_elab.specs.Made.{of_kind, array_of}
-use Rattle.cf_elab.specs.Names.{home_node, object_value, some_main, operand_of, entity_of}
+use Rattle.cf_elab.specs.Names.{home_node, object_value, enumerator_value, some_main, operand_of, entity_of}
 use Rattle.cf_elab.specs.Operand.{Value, Operand, value, functions as named_functions, methods, field_name, bound_method, result_step, constant, place_of, function_value, one_function, value_of}
 use Rattle.cf_elab.specs.Paths.{found_alone, operand_found}
 use Rattle.cf_elab_env.proofs.Finding.{found-alone}
@@ -69,6 +69,10 @@ module _ (s : Scene) where
       by (ty.MemFun k m) = own x.home
       by (ty.Const k) = own x.home
 
+  enumerator-apart : (at t : ℕ) (z : Option ℤ) → Apart s (enumerator_value at t z)
+  enumerator-apart at t (Some z) = constant-apart at z t
+  enumerator-apart at t None = alike-apart s (enumerator_value at t None) (alike-Number s at (pos 0))
+
   operand_of-known : (at : ℕ) (o : Option Entity) (e : Env) → Known (OperandApart s) (operand_of at o e)
   operand_of-known at None e = tt
   operand_of-known at (Some (object x)) e = object-apart e at x
@@ -76,7 +80,7 @@ module _ (s : Scene) where
   operand_of-known at (Some (alias t)) e = tt
   operand_of-known at (Some (class_name k)) e = tt
   operand_of-known at (Some (enum_name n)) e = tt
-  operand_of-known at (Some (enumerator t z)) e = constant-apart at z t
+  operand_of-known at (Some (enumerator t z)) e = enumerator-apart at t z
 
   -- an identifier by itself
   pub name-tells : (at : ℕ) (name : Name) (e : Env) → Classless e → Tells s (OperandApart s) (operand_found at (found_alone e false name) e)

@@ -26,6 +26,10 @@ module _ (s : Scene) where
   pub bare-apart : (v : Value) → v.number ≡ None → v.is_fixed ≡ false → Apart s v
   bare-apart v n f = record { fixed = λ q. absurd (true≢false (sym q ∙ f)); number = λ l z. absurd (true≢false (sym z ∙ ap is_some n)) }
 
+  -- a place that is not fixed
+  pub place-apart : (v : Value) → v.is_lvalue ≡ true → v.is_fixed ≡ false → Apart s v
+  place-apart v l f = record { fixed = λ q. absurd (true≢false (sym q ∙ f)); number = λ m z. absurd (true≢false (sym l ∙ m)) }
+
   pub alike-apart : (v : Value) → Alike s v.node → Apart s v
   alike-apart v h = record { fixed = λ q. h; number = λ l z. h }
 

@@ -1,5 +1,6 @@
 -- Casts by what they go to. No value is a class object.
 use Rattle.std.proofs.Common.{◌≡◌, ℕ, Bool, true, false, ◌&&◌, if◌then◌else◌, Option, None, Some, refl, sym, ap, ◌∙◌}
+use Rattle.cf_types.specs.Table.{Table}
 use Rattle.cf_convert.specs.Constness.{bare}
 use Rattle.cf_elab.specs.Answer.{Answer, Made, Refused, onward, need, gives}
 use Rattle.cf_elab.specs.Cast as row
@@ -8,7 +9,7 @@ use Rattle.cf_elab.specs.Env.{Env}
 use Rattle.cf_elab.specs.Members.{class_number}
 use Rattle.cf_elab.specs.Fit.{null_of}
 use Rattle.cf_elab.specs.Operand.{Value, Sort, sort_of, is_zero, void_sort, reference_sort}
-use Rattle.cf_elab_env.specs.Holds.{IsEnv, IsType, Grows}
+use Rattle.cf_elab_env.specs.Holds.{IsEnv, IsType, Known, Grows}
 use Rattle.cf_elab_env.proofs.Bare.{sort_bare}
 use Rattle.cf_elab_env.proofs.Growth.{grown_laws}
 use Rattle.cf_elab_fit.specs.Shut as fit
@@ -40,12 +41,16 @@ behind at t s x env = (if is_zero x.number && row.takes_null s then gives (null_
 
 module _ (at t : ℕ) (v x : Value) (env next : Env) where
   -- the type is of the same sort in what the table grows to
-  pub value_is : fit.plain v env ≡ Made x next → Grows env.types next.types → IsType env.types t → IsEnv next → shut.cast_value at t v env ≡ shut.cast_plain at t x next
+  pub value_is : fit.plain v env ≡ Made x next → Grows env.types next.types → IsType env.types t → IsEnv next
+      → shut.cast_value at t v env ≡ shut.cast_plain at t (record x { at = at }) next
   unfolding shut.cast_value fit.plain shut.cast_plain form_at
   value_is found g typed e =
-      ap (λ a. onward a (λ x next. behind at t (sort_of env.types t) x next)) found
-      ∙ ap (λ s. behind at t s x next) (sym (g.sorts t typed))
-      ∙ plain_cast at t x next e.no_class_type (sort_of next.types t) (sort_of next.types x.type)
+      ap (λ a. onward a (λ x next. behind at t (sort_of env.types t) (record x { at = at }) next)) found
+      ∙ ap (λ s. behind at t s (record x { at = at }) next) (sym (g.sorts t typed))
+      ∙ plain_cast at t (record x { at = at }) next e.no_class_type (sort_of next.types t) (sort_of next.types x.type)
+
+pub known_at : (types : Table) (x : Value) (at : ℕ) → Known types x → Known types (record x { at = at })
+known_at types x at k = record { typed = k.typed; number = k.number }
 
 pub plain_is : (at t : ℕ) (x : Value) (env : Env) → shut.cast_plain at t x env ≡ shut.cast_by at t (form_at env.types t x.type x.number) x env
 unfolding shut.cast_plain
@@ -117,7 +122,7 @@ module _ (at t : ℕ) (v : Value) (env : Env) (e : IsEnv env) (typed : IsType en
 
 pub ruleset place_laws = (place_retyped, no_place)
 
-pub ruleset value_laws = (value_is, grown_laws)
+pub ruleset value_laws = (value_is, known_at, grown_laws)
 
 pub ruleset plain_laws = (plain_is, form_allowed)
 

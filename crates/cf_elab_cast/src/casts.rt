@@ -70,7 +70,7 @@ fn as_place(env: &Env, at: u32, ty: TyId, value: Value) -> Result<Value, Stop>
     }
 }
 
-/// A value as one of a type that is no reference and not void.
+/// A value as one of a type that is no reference and not void. What is cast stands at the cast.
 #[tactic(auto, using(crate::proofs::CastLaws::value_laws))]
 fn cast_value(env: &mut Env, at: u32, ty: TyId, value: Value) -> Result<Value, Stop>
     requires known { Known env.old.types value }
@@ -81,7 +81,7 @@ fn cast_value(env: &mut Env, at: u32, ty: TyId, value: Value) -> Result<Value, S
 {
     let found = plain(env, value)?;
     env.holds();
-    let cast = cast_plain(env, at, ty, found)?;
+    let cast = cast_plain(env, at, ty, found.with_at(at))?;
     Ok(cast)
 }
 

@@ -1,12 +1,13 @@
 -- What is known of a value that a condition chooses.
-use Rattle.std.proofs.Common.{◌≡◌, ℕ, Bool, true, false, ◌&&◌, if◌then◌else◌, ℤ, Option, None, Some, refl, sym, ap, subst, ◌∙◌, true≢false}
+use Rattle.std.proofs.Common.{◌≡◌, ℕ, ◌==◌, Bool, true, false, ◌&&◌, if◌then◌else◌, ℤ, Option, None, Some, refl, sym, ap, subst, ◌∙◌, true≢false, arith}
+use Rattle.std.proofs.lemmas.Bool.Decides.{nat_tests}
 use Rattle.cf_base.specs.declared.kind.Kind.{Kind}
 use Rattle.cf_types.specs.Table.{Table}
 use Rattle.cf_elab.specs.Arithmetic.{is_nonzero}
 use Rattle.cf_elab.specs.Choice as choice
 use Rattle.cf_elab.specs.Operand.{Value, Sort, sort_of, is_void, integral, enumeral, object_pointer, void_pointer, function_pointer, data_pointer, method_pointer, class_sort, array_sort, function_sort, void_sort, reference_sort}
 use Rattle.cf_elab_arith.proofs.Known.{integer_known}
-use Rattle.cf_elab_choice.specs.Asked.{are_void, void_at}
+use Rattle.cf_elab_choice.specs.Asked.{are_void, void_at, is_one_place}
 use Rattle.cf_elab_env.specs.Holds.{Known, IsType, FitsIn, fits_sort}
 use Rattle.cf_elab_numbers.specs.Numbers.{NumberOf}
 
@@ -25,15 +26,26 @@ one_known types at c x y v t e f g =
     let known : Known types (choice.one_of at c x y t) = record { typed = f.typed; number = chosen_fits types t c.number x.number y.number f.number g.number } in
     subst (Known types) (sym e) known
 
-pub place_known : (types : Table) (at : ℕ) (c x y v : Value) → v ≡ choice.one_place at c x y → Known types x → Known types v
-place_known types at c x y v e k =
-    let known : Known types (choice.one_place at c x y) = record { typed = k.typed; number = tt } in
+pub place_known : (types : Table) (at : ℕ) (c x y v : Value) → v ≡ choice.one_place at c x y → Known types x → Known types (record y { type = x.type }) → Known types v
+place_known types at c x y v e f g =
+    let known : Known types (choice.one_place at c x y) = record { typed = f.typed; number = chosen_fits types x.type c.number x.number y.number f.number g.number } in
     subst (Known types) (sym e) known
 
 -- ---- a value as one of a type
 
 pub known_as : (types : Table) (v : Value) (t : ℕ) → v.type ≡ t → Known types v → Known types (record v { type = t })
 known_as types v t e k = subst (λ t. Known types (record v { type = t })) e k
+
+-- the second of two places of one type
+last-true : (a b : Bool) → a && b ≡ true → b ≡ true
+last-true true b h = h
+last-true false b h = absurd (true≢false (sym h))
+
+pub second_place : (types : Table) (x y : Value) → is_one_place x y ≡ true → Known types y → Known types (record y { type = x.type })
+unfolding is_one_place
+second_place types x y is k =
+    let test : (x.type == y.type) ≡ true = last-true (x.is_lvalue && y.is_lvalue) (x.type == y.type) is in
+    let same : y.type ≡ x.type = grind (arith, nat_tests) in known_as types y x.type same k
 
 pub integer_as : (types : Table) (v : Value) (t : ℕ) (k : Kind) → IsType types t → sort_of types t ≡ integral k → NumberOf k v.number → Known types (record v { type = t })
 integer_as types v t k typed e f = integer_known types (record v { type = t }) k typed e f

@@ -1,5 +1,5 @@
 -- What each row is, step by step, by the names of its steps.
-use Rattle.std.proofs.Common.{◌≡◌, ℕ, Bool, true, false, ◌&&◌, ◌||◌, if◌then◌else◌, List, Option, None, Some, refl, sym, ap, ◌∙◌, true≢false}
+use Rattle.std.proofs.Common.{◌≡◌, ℕ, Bool, true, false, ◌&&◌, ◌||◌, if◌then◌else◌, List, Option, None, Some, refl, sym, ap, ◌∙◌}
 use Rattle.cf_base.specs.declared.kind.Kind.{Kind}
 use Rattle.cf_base.specs.declared.kind.Kind.TheVariants as kind
 use Rattle.cf_base.specs.Promotion.{promoted}
@@ -17,7 +17,7 @@ use Rattle.cf_elab_fit.specs.Shut as fit
 use Rattle.cf_elab_choice.specs.Asked.{common, common_kind, are_void, void_at, is_one_pointer, pointer_at, is_one_place, steps_between}
 use Rattle.cf_elab_choice.specs.Shut as shut
 use Rattle.cf_elab_choice.proofs.AskedLaws.{between_steps}
-use Rattle.cf_elab_choice.proofs.Chosen.{known_as, integer_as, void_as}
+use Rattle.cf_elab_choice.proofs.Chosen.{known_as, integer_as, second_place, void_as}
 
 -- ---- two values as values of one type
 
@@ -188,7 +188,7 @@ pub ruleset not_arithmetic_laws = (both_void, not_void, void_as, known_as, grown
 
 pub ruleset alternatives_laws = (of_kind, of_no_kind)
 
-pub ruleset chosen_one_laws = (place_chosen, value_chosen, grown_laws)
+pub ruleset chosen_one_laws = (place_chosen, value_chosen, second_place, grown_laws)
 
 pub ruleset by_values_laws = (by_values_is, grown_laws)
 

@@ -5,7 +5,7 @@ ghost use Rattle.cf_elab_env.specs.Answered.{Agrees};
 ghost use Rattle.cf_elab_env.specs.Holds.{Known, Grows};
 
 use crate::alternatives::alternatives;
-use crate::asked::{is_one_place, no_class};
+use crate::asked::{chosen, is_one_place, no_class};
 use cf_base::{Boxed, Memory, Rule};
 use cf_core::Core;
 use cf_elab_env::{Env, Stop, Value};
@@ -51,14 +51,16 @@ fn chosen_one(env: &mut Env, at: u32, condition: Value, x: Value, y: Value) -> R
     }
 }
 
-/// Two places of one type as a place of it.
+/// Two places of one type as a place of it, with the chosen number where all are known (5.19).
 #[tactic(auto, using(crate::proofs::Chosen::place_known))]
 fn one_place(env: &Env, at: u32, condition: Value, x: Value, y: Value) -> Result<Value, Memory>
-    requires { Known env.now.types x }
+    requires first { Known env.now.types x }
+    requires second { Known env.now.types (record y { type = x.type }) }
     ensures made { IfOk result (λ v. v ≡ choice.one_place at condition x y) }
     ensures known { IfOk result (λ v. Known env.now.types v) }
 {
     let ty = x.ty();
+    let number = chosen(condition.number(), x.number(), y.number());
     let node = Boxed::new(
         env.alloc(),
         Core::Conditional {
@@ -68,7 +70,7 @@ fn one_place(env: &Env, at: u32, condition: Value, x: Value, y: Value) -> Result
             no: y.into_node(),
         },
     )?;
-    Ok(Value::place(at, node, ty, false))
+    Ok(Value::place(at, node, ty, false).with_number(number))
 }
 
 /// Two values that are read, by their types.

@@ -1,25 +1,20 @@
 -- What a name is declared as.
-use Rattle.std.proofs.Common.{◌≡◌, ℕ, Bool, true, false, List, [], Option, None, Some, refl, ap, ◌∙◌}
-use Rattle.std.specs.Option.{option_map}
+use Rattle.std.proofs.Common.{◌≡◌, ℕ, Bool, true, false, List, [], Option, refl, ap, ◌∙◌}
 use Rattle.cf_syntax.specs.declared.name.Last.{Last}
 use Rattle.cf_syntax.specs.declared.name.Last.TheVariants as last
 use Rattle.cf_syntax.specs.declared.name.Name.{Name as WrittenName}
 use Rattle.cf_unit.specs.declared.initialiser.Initialiser.{Initialiser}
 use Rattle.cf_elab.specs.Answer.{Elab, Made, onward, gives, ◌>>=◌, ◌>>◌}
 use Rattle.cf_elab.specs.Declaration as declaration
-use Rattle.cf_elab.specs.Declaration.{Initial, initial_place}
 use Rattle.cf_elab.specs.Env.{Env, Name}
 use Rattle.cf_elab.specs.Objects.{Reached}
 use Rattle.cf_elab.specs.Operand.{Sort, sort_of, is_function, function_sort}
 use Rattle.cf_elab.specs.Shape.{Shape, whole, unbounded}
 use Rattle.cf_elab.specs.Specifiers.{Gathered, is_typedef}
 use Rattle.cf_elab_declarator.specs.Shut as shut
-use Rattle.cf_elab_declare.specs.Shut as declare
-use Rattle.cf_elab_declare.proofs.Rows.{function_is}
 use Rattle.cf_elab_env.specs.Holds.{IsFunctionSort}
 use Rattle.cf_elab_env.proofs.Growth.{grown_laws}
-use Rattle.cf_elab_objects.specs.Shut as objects
-use Rattle.cf_elab_written.specs.Given.{given, place_of}
+use Rattle.cf_elab_written.specs.Given.{given}
 
 module _ (in_file : Bool) (g : Gathered) (n : WrittenName) (s : Shape) (i : Option Initialiser) (env : Env) where
   pub whole_is : (t : ℕ) → shut.by_shape in_file g n s i (whole t) env ≡ shut.by_kind in_file g n s i t env
@@ -29,11 +24,6 @@ module _ (in_file : Bool) (g : Gathered) (n : WrittenName) (s : Shape) (i : Opti
   pub unbounded_is : (u : ℕ) → shut.by_shape in_file g n s i (unbounded u) env ≡ shut.unbounded in_file g n i u env
   unfolding shut.by_shape shut.unbounded
   unbounded_is u = refl
-
-  same_alias : (w : Option Initial) (name : Name) (t : ℕ) → declaration.typedef_row name n.last_at t w env ≡ objects.typedef_row name n.last_at t (option_map initial_place w) env
-  unfolding objects.typedef_row objects.aliased objects.no_initialiser
-  same_alias None name t = refl
-  same_alias (Some x) name t = refl
 
   module _ (t : ℕ) where
     -- as the definition has it
@@ -47,17 +37,16 @@ module _ (in_file : Bool) (g : Gathered) (n : WrittenName) (s : Shape) (i : Opti
     opened = refl
 
     pub typedef_is : (name : Name) → n.last ≡ last.Ident name → is_typedef g ≡ true
-        → shut.by_kind in_file g n s i t env ≡ onward (objects.typedef_row name n.last_at t (place_of i) env) (λ _ env. Made [] env)
+        → shut.by_kind in_file g n s i t env ≡ onward (shut.typedef_row name n.last_at t i env) (λ _ env. Made [] env)
+    unfolding shut.typedef_row
     typedef_is name is h =
         opened ∙ ap (λ b. kind_of b (is_function (sort_of env.types t)) env) h
         ∙ ap (λ (l : Last). onward (onward (declaration.plain_name n l env) (λ name. declaration.typedef_row name n.last_at t (given i))) (λ _ env. let none : List Reached = [] in Made none env)) is
-        ∙ ap (λ a. onward a (λ _ env. Made [] env)) (same_alias (given i) name t)
 
     pub function_there : is_typedef g ≡ false → is_function (sort_of env.types t) ≡ true
-        → shut.by_kind in_file g n s i t env ≡ onward (declare.function_row g n t s (place_of i) env) (λ _ env. Made [] env)
-    function_there h f =
-        opened ∙ ap (λ b. kind_of b (is_function (sort_of env.types t)) env) h ∙ ap (λ b. kind_of false b env) f
-        ∙ ap (λ a. onward a (λ _ env. Made [] env)) (function_is g n t s (given i) env)
+        → shut.by_kind in_file g n s i t env ≡ onward (shut.function_row g n t s i env) (λ _ env. Made [] env)
+    unfolding shut.function_row
+    function_there h f = opened ∙ ap (λ b. kind_of b (is_function (sort_of env.types t)) env) h ∙ ap (λ b. kind_of false b env) f
 
     pub object_there : is_typedef g ≡ false → is_function (sort_of env.types t) ≡ false → shut.by_kind in_file g n s i t env ≡ shut.object_row in_file g n t i env
     unfolding shut.object_row

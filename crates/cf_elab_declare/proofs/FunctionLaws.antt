@@ -1,5 +1,5 @@
 -- Declarations of functions.
-use Rattle.std.proofs.Common.{◌≡◌, ℕ, Bool, true, false, List, [], Option, None, Some, All, if◌then◌else◌, refl, sym, ap, subst, ◌∙◌, arith}
+use Rattle.std.proofs.Common.{◌≡◌, ℕ, Bool, true, false, List, [], None, Some, All, if◌then◌else◌, refl, sym, ap, subst, ◌∙◌, arith}
 use Rattle.cf_syntax.specs.declared.name.Last.{Last}
 use Rattle.cf_syntax.specs.declared.name.Last.TheVariants as last
 use Rattle.cf_syntax.specs.declared.name.Name.{Name as WrittenName}
@@ -21,7 +21,6 @@ use Rattle.cf_elab_env.proofs.Growth.{grown_laws, All-into}
 use Rattle.cf_elab_functions.specs.Seen.{NoDefault}
 use Rattle.cf_elab_functions.specs.Shut as functions
 use Rattle.cf_elab_functions.proofs.Without.{without}
-use Rattle.cf_elab_objects.specs.Shut as objects
 use Rattle.cf_elab_shape.specs.Holds.{IsParameter, IsShape}
 use Rattle.cf_elab_shape.proofs.TypedLaws.{shape_grown}
 
@@ -36,13 +35,13 @@ plain_is n env built = by n.last refl
     by (last.Destructor name) is = absurd (is_identifier n built (λ other h. cc))
     by (last.Conversion ss ps) is = absurd (is_identifier n built (λ other h. cc))
 
-module _ (g : Gathered) (n : WrittenName) (t : ℕ) (s : Shape) (w : Option ℕ) (env : Env) where
+module _ (g : Gathered) (n : WrittenName) (t : ℕ) (s : Shape) (initialised : Bool) (env : Env) where
   abbrev behind_name : Env → Answer (Unit {0})
   behind_name env =
-      onward (made.int env) (λ i env. onward (functions.declare_function i (declaration.function_says g n t s false) env) (λ _ env. objects.no_initialiser w env))
+      onward (made.int env) (λ i env. onward (functions.declare_function i (declaration.function_says g n t s false initialised) env) (λ _ env. Made tt env))
 
-  pub row_is : of_name n ≡ None → shut.function_row g n t s w env ≡ behind_name env
-  unfolding shut.function_row made.int
+  pub row_is : of_name n ≡ None → shut.function_declared g n t s initialised env ≡ behind_name env
+  unfolding shut.function_declared made.int
   row_is built = ap (λ a. onward a (λ _. behind_name)) (plain_is n env built)
 
 pub function_grown : (a b : Table) (t : ℕ) → Grows a b → IsType a t → IsFunctionSort (sort_of a t) → IsFunctionSort (sort_of b t)
@@ -70,8 +69,8 @@ no_defaults types (taking at ps c s) k = by (is_inner s) (no_defaults types s k.
     by true inside = All-into (IsParameter types) NoDefault ps (λ p h. h.no_default) k.0
     by false inside = inside
 
-pub said : (i : ℕ) (g : Gathered) (n : WrittenName) (t : ℕ) (s : Shape) (defines : Bool) (x : Says) (env : Env) → IsEnv env → IsShape env.types s
-    → x ≡ record (declaration.function_says g n t s defines) { parameters = [] }
-    → functions.declare_function i (declaration.function_says g n t s defines) env ≡ functions.declare_function i x env
-said i g n t s defines x env e k is =
-    without env e (declaration.function_says g n t s defines) (no_defaults env.types s k) i ∙ ap (λ d. functions.declare_function i d env) (sym is)
+pub said : (i : ℕ) (g : Gathered) (n : WrittenName) (t : ℕ) (s : Shape) (defines initialised : Bool) (x : Says) (env : Env) → IsEnv env → IsShape env.types s
+    → x ≡ record (declaration.function_says g n t s defines initialised) { parameters = [] }
+    → functions.declare_function i (declaration.function_says g n t s defines initialised) env ≡ functions.declare_function i x env
+said i g n t s defines initialised x env e k is =
+    without env e (declaration.function_says g n t s defines initialised) (no_defaults env.types s k) i ∙ ap (λ d. functions.declare_function i d env) (sym is)

@@ -8,6 +8,7 @@ use Rattle.cf_elab.specs.Complete.{complete, type_within}
 use Rattle.cf_elab.specs.Declaration as declaration
 use Rattle.cf_elab.specs.Declaration.{Initial, initial_place, declares_function}
 use Rattle.cf_elab.specs.Env.{Env, Name, Object}
+use Rattle.cf_elab.specs.Made.{int}
 use Rattle.cf_elab.specs.Names.{is_file_scope}
 use Rattle.cf_elab.specs.Objects as elaborated
 use Rattle.cf_elab.specs.Objects.{Says, Written, Reached}
@@ -69,13 +70,47 @@ module _ (g : Gathered) (at : ℕ) (w : Option Initial) (s : Shape) (n : Written
       (λ j. onward (base_type g env) (λ base e. sym (all_are base e e) j))
       ∙ sym (twice (base_type g env) (λ base e. all_steps base e e) behind_head)
 
+-- ---- an initialiser that may not stand
+
+pub same_place : (w : Option Initial) (env : Env) → declaration.no_initialiser w env ≡ objects.no_initialiser (option_map initial_place w) env
+unfolding objects.no_initialiser
+same_place None env = refl
+same_place (Some i) env = refl
+
 -- ---- functions
 
-pub function_is : (g : Gathered) (n : WrittenName) (t : ℕ) (s : Shape) (w : Option Initial) (env : Env)
-    → declaration.function_row g n t s w env ≡ shut.function_row g n t s (option_map initial_place w) env
-unfolding shut.function_row functions.declare_function objects.no_initialiser
-function_is g n t s None env = refl
-function_is g n t s (Some i) env = refl
+module _ (g : Gathered) (n : WrittenName) (t : ℕ) (s : Shape) (w : Option Initial) where
+  abbrev refused : Env → Answer (Unit {0})
+  refused env = onward (declaration.parts_of w env) (λ _ env. objects.no_initialiser (option_map initial_place w) env)
+
+  abbrev declared : ℕ → Elab ℕ
+  declared i = functions.declare_function i (declaration.function_says g n t s false (is_some w))
+
+  by_declared : (a : Answer ℕ)
+      → onward a (λ _ env. onward (declaration.parts_of w env) (λ _ env. declaration.no_initialiser w env)) ≡ onward (onward a (λ _ env. Made (tt {0}) env)) (λ _ env. refused env)
+  by_declared (Made k env) = λ j. onward (declaration.parts_of w env) (λ _ env. same_place w env j)
+  by_declared (Refused rule at) = refl
+  by_declared (Passed b most) = refl
+
+  by_int : (a : Answer ℕ)
+      → onward a (λ i env. onward (declared i env) (λ _ env. onward (declaration.parts_of w env) (λ _ env. declaration.no_initialiser w env)))
+      ≡ onward (onward a (λ i env. onward (declared i env) (λ _ env. Made (tt {0}) env))) (λ _ env. refused env)
+  by_int (Made i env) = by_declared (declared i env)
+  by_int (Refused rule at) = refl
+  by_int (Passed b most) = refl
+
+  by_name : (a : Answer (Unit {0}))
+      → onward a (λ _ env. onward (int env) (λ i env. onward (declared i env) (λ _ env. onward (declaration.parts_of w env) (λ _ env. declaration.no_initialiser w env))))
+      ≡ onward (onward a (λ _ env. onward (int env) (λ i env. onward (declared i env) (λ _ env. Made (tt {0}) env)))) (λ _ env. refused env)
+  by_name (Made u env) = by_int (int env)
+  by_name (Refused rule at) = refl
+  by_name (Passed b most) = refl
+
+  pub function_is : (env : Env)
+      → declaration.function_row g n t s w env
+      ≡ onward (shut.function_declared g n t s (is_some w) env) (λ _ env. onward (declaration.parts_of w env) (λ _ env. objects.no_initialiser (option_map initial_place w) env))
+  unfolding shut.function_declared functions.declare_function
+  function_is env = by_name (declaration.need_plain_name n.last n.last_at env)
 
 -- ---- objects
 
@@ -88,13 +123,13 @@ abbrev pub defines : Bool → Gathered → Bool → Bool
 defines in_file g given = not (is_extern g) || (in_file && given)
 
 module _ (name : Name) (at t : ℕ) (parts : Elab (Option Written)) where
-  abbrev says : Bool → Bool → Bool → Says
-  says static extern defining = record { name = name; at = at; type = t; is_static = static; is_extern = extern; defines = defining }
+  abbrev says : Bool → Bool → Bool → Bool → Says
+  says static extern defining given = record { name = name; at = at; type = t; is_static = static; is_extern = extern; defines = defining; is_initialised = given }
 
   abbrev as_file : Bool → Bool → Option Initial → Elab (List Reached)
   as_file static extern w =
-      if extern && not (is_some w) then declaration.only_declared (says static extern false)
-      else (elaborated.define_in_file (says static extern true) parts >> gives [])
+      if extern && not (is_some w) then declaration.only_declared (says static extern false (is_some w))
+      else (elaborated.define_in_file (says static extern true (is_some w)) parts >> gives [])
 
   -- one that is defined in the file
   defined_in_file : (d : Says) (w : Option ℕ) (env : Env)
@@ -125,22 +160,17 @@ module _ (name : Name) (at t : ℕ) (parts : Elab (Option Written)) where
   declared_in_file d empty (Passed b most) = refl
 
   file_is : (static extern : Bool) (w : Option Initial) (env : Env) → (w ≡ None → (e : Env) → parts e ≡ Made None e)
-      → as_file static extern w env ≡ nodes true (says static extern (not extern || (true && is_some w))) (option_map initial_place w) parts env
+      → as_file static extern w env ≡ nodes true (says static extern (not extern || (true && is_some w)) (is_some w)) (option_map initial_place w) parts env
   unfolding shut.begin objects.declare_linked
-  file_is static false None env empty = defined_in_file (says static false true) None env
-  file_is static false (Some i) env empty = defined_in_file (says static false true) (Some (initial_place i)) env
-  file_is static true (Some i) env empty = defined_in_file (says static true true) (Some (initial_place i)) env
-  file_is static true None env empty = declared_in_file (says static true false) (empty refl) (elaborated.declare_linked (says static true false) env)
+  file_is static false None env empty = defined_in_file (says static false true false) None env
+  file_is static false (Some i) env empty = defined_in_file (says static false true true) (Some (initial_place i)) env
+  file_is static true (Some i) env empty = defined_in_file (says static true true true) (Some (initial_place i)) env
+  file_is static true None env empty = declared_in_file (says static true false false) (empty refl) (elaborated.declare_linked (says static true false false) env)
 
   abbrev as_block : Bool → Bool → Option Initial → Elab (List Reached)
   as_block static extern w =
-      if extern then (declaration.only_declared (says static extern false) >> parts >> declaration.no_initialiser w >> gives [])
+      if extern then (declaration.only_declared (says static extern false (is_some w)) >> parts >> declaration.no_initialiser w >> gives [])
       else (if static then elaborated.define_in_function at name t parts else elaborated.define_local at name t parts)
-
-  same_place : (w : Option Initial) (env : Env) → declaration.no_initialiser w env ≡ objects.no_initialiser (option_map initial_place w) env
-  unfolding objects.no_initialiser
-  same_place None env = refl
-  same_place (Some i) env = refl
 
   declared_in_block : (d : Says) (w : Option Initial) (a : Answer Object)
       → onward (onward (onward (onward a (λ _ e. let none : List Reached = [] in Made none e)) (λ _. parts)) (λ _. declaration.no_initialiser w)) (λ _ e. let none : List Reached = [] in Made none e)
@@ -153,20 +183,20 @@ module _ (name : Name) (at t : ℕ) (parts : Elab (Option Written)) where
   declared_in_block d w (Passed b most) = refl
 
   block_is : (static extern : Bool) (w : Option Initial) (env : Env)
-      → as_block static extern w env ≡ nodes false (says static extern (not extern || (false && is_some w))) (option_map initial_place w) parts env
+      → as_block static extern w env ≡ nodes false (says static extern (not extern || (false && is_some w)) (is_some w)) (option_map initial_place w) parts env
   unfolding shut.begin shut.begin_in_block objects.declare_linked shut.finish
-  block_is static true w env = declared_in_block (says static true false) w (elaborated.declare_linked (says static true false) env)
+  block_is static true w env = declared_in_block (says static true false (is_some w)) w (elaborated.declare_linked (says static true false (is_some w)) env)
   block_is true false w env =
       define_in_function_is at name t parts env ∙ sym (twice (define.begin_static_local at name t env) (λ n e. Made (static_local n) e) _)
   block_is false false w env = define_local_is at name t parts env ∙ sym (twice (define.begin_local at name t env) (λ i e. Made (local i) e) _)
 
   module _ (in_file : Bool) (g : Gathered) (w : Option Initial) (empty : w ≡ None → (e : Env) → parts e ≡ Made None e) where
     abbrev row_says : Says
-    row_says = declaration.object_says g name at t (defines in_file g (is_some w))
+    row_says = declaration.object_says g name at t (defines in_file g (is_some w)) (is_some w)
 
     nodes_are : (file : Bool) (env : Env)
         → (if file then declaration.file_object g name at t parts w else declaration.block_object g name at t parts w) env
-        ≡ nodes file (declaration.object_says g name at t (defines file g (is_some w))) (option_map initial_place w) parts env
+        ≡ nodes file (declaration.object_says g name at t (defines file g (is_some w)) (is_some w)) (option_map initial_place w) parts env
     nodes_are true env = file_is (is_static g) (is_extern g) w env empty
     nodes_are false env = block_is (is_static g) (is_extern g) w env
 

@@ -1,7 +1,7 @@
 -- The rows of declarators behind their parts, each under a name of its own that does not unfold. `Rattle.cf_elab_declare.proofs` says what each is.
 use Rattle.std.specs.Prelude.{ℕ, Bool, false, not, ◌&&◌, if◌then◌else◌, List, [], ◌∷◌, Option}
 use Rattle.cf_syntax.specs.declared.name.Name.{Name as WrittenName}
-use Rattle.cf_elab.specs.Answer.{Elab, ◌>>=◌, ◌>>◌, gives, known, need, none_at}
+use Rattle.cf_elab.specs.Answer.{Elab, ◌>>=◌, ◌>>◌, gives, done, known, need, none_at}
 use Rattle.cf_elab.specs.Complete.{complete}
 use Rattle.cf_elab.specs.Declaration as declaration
 use Rattle.cf_elab.specs.Declaration.{conflict, declares_function}
@@ -41,13 +41,13 @@ head g at s given = do
 
 -- ---- functions
 
--- which has no initialiser; where one stands is given
-unfoldable pub function_row : Gathered → WrittenName → ℕ → Shape → Option ℕ → Elab (Unit {0})
-function_row g n t s w = do
+-- without a body; whether an initialiser stands behind it is given
+unfoldable pub function_declared : Gathered → WrittenName → ℕ → Shape → Bool → Elab (Unit {0})
+function_declared g n t s initialised = do
   declaration.need_plain_name n.last n.last_at
   i ← int
-  k ← functions.declare_function i (declaration.function_says g n t s false)
-  objects.no_initialiser w
+  k ← functions.declare_function i (declaration.function_says g n t s false initialised)
+  done
 
 -- ---- objects
 

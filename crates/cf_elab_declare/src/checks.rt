@@ -36,7 +36,7 @@ pub fn check_conflict(
 }
 
 /// Whether a declarator declares a function, behind specifiers that name this type.
-pub(crate) fn declares_function(env: &Env, base: TyId, shape: &Shape) -> bool
+pub fn declares_function(env: &Env, base: TyId, shape: &Shape) -> bool
     requires { IsType env.now.types base }
     ensures { result ≡ declaration.declares_function env.now base (shape_seen shape.now) }
 {

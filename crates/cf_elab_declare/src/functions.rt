@@ -15,37 +15,35 @@ use crate::names::identifier;
 use cf_base::{Memory, Name};
 use cf_elab_env::{Env, Stop};
 use cf_elab_functions::{Called, Says, declare_function as declare_said};
-use cf_elab_objects::check_no_initialiser;
 use cf_elab_shape::Shape;
 use cf_elab_specifiers::Gathered;
 use cf_syntax::Name as WrittenName;
 use cf_types::TyId;
 use std::alloc::Global;
 
-/// A declaration of a function of this name and type, which has no initialiser, K28; `initial_at` is where one stands (8.2.5).
+/// A declaration of a function of this name and type without a body. An initialiser that stands behind it is looked at later (8.2.5).
 #[tactic(auto, using(crate::proofs::FunctionLaws::row_laws))]
-pub fn function_row(
+pub fn function_declared(
     env: &mut Env,
     gathered: &Gathered,
     name: &WrittenName,
     shape: &Shape,
     ty: TyId,
-    initial_at: Option<u32>,
+    is_initialised: bool,
 ) -> Result<(), Stop>
     requires built { of_name name.now ≡ None }
     requires known { IsType env.old.types ty }
     requires function { IsFunctionSort (sort_of env.old.types ty) }
     requires shape_known { IsShape env.old.types (shape_seen shape.now) }
-    ensures made { Agrees (shut.function_row gathered.now name.now ty (shape_seen shape.now) initial_at env.old) result env.new }
+    ensures made { Agrees (shut.function_declared gathered.now name.now ty (shape_seen shape.now) is_initialised env.old) result env.new }
     ensures grows { OnOk result (Grows env.old.types env.new.types) }
 {
     let int = env.int()?;
-    let _number = declare_function(env, int, gathered, name, shape, ty, false)?;
-    check_no_initialiser(env, initial_at)?;
+    let _number = declare_function(env, int, gathered, name, shape, ty, false, is_initialised)?;
     Ok(())
 }
 
-/// A function of this name and type is declared, with a body or without: its number. The type `int` is given.
+/// A function of this name and type is declared, with a body or without, and with an initialiser behind it or without: its number. The type `int` is given.
 pub fn declare_function(
     env: &mut Env,
     int: TyId,
@@ -54,17 +52,18 @@ pub fn declare_function(
     shape: &Shape,
     ty: TyId,
     defines: bool,
+    is_initialised: bool,
 ) -> Result<u32, Stop>
     requires built { of_name name.now ≡ None }
     requires known { IsType env.old.types ty }
     requires function { IsFunctionSort (sort_of env.old.types ty) }
     requires shape_known { IsShape env.old.types (shape_seen shape.now) }
-    ensures made { Agrees (functions.declare_function int (declaration.function_says gathered.now name.now ty (shape_seen shape.now) defines) env.old) result env.new }
+    ensures made { Agrees (functions.declare_function int (declaration.function_says gathered.now name.now ty (shape_seen shape.now) defines is_initialised) env.old) result env.new }
     ensures types { env.new.types ≡ env.old.types }
 {
     env.holds();
     let _parameters = shape;
-    let says = function_says(env.alloc(), gathered, name, ty, defines)?;
+    let says = function_says(env.alloc(), gathered, name, ty, defines, is_initialised)?;
     let number = declare_said(env, int, &says)?;
     Ok(number)
 }
@@ -76,10 +75,11 @@ fn function_says(
     name: &WrittenName,
     ty: TyId,
     defines: bool,
+    is_initialised: bool,
 ) -> Result<Says, Memory>
     requires { of_name name.now ≡ None }
     ensures typed { IfOk result (λ says. says.ty ≡ ty) }
-    ensures value { IfOk result (λ says. (s : Shaping) → says_seen says ≡ record (declaration.function_says gathered.now name.now ty s defines) { parameters = [] }) }
+    ensures value { IfOk result (λ says. (s : Shaping) → says_seen says ≡ record (declaration.function_says gathered.now name.now ty s defines is_initialised) { parameters = [] }) }
 {
     let own = identifier(name);
     Ok(Says {
@@ -90,6 +90,7 @@ fn function_says(
         is_static: gathered.is_static(),
         is_inline: gathered.inline_at.is_some(),
         defines,
+        is_initialised,
     })
 }
 

@@ -14,8 +14,8 @@ mod objects;
 mod saying;
 
 pub use begun::Begun;
-pub use checks::{check_conflict, check_no_definition};
-pub use functions::{declare_function, function_row};
+pub use checks::{check_conflict, check_no_definition, declares_function};
+pub use functions::{declare_function, function_declared};
 pub use heads::{Headed, head};
 pub use names::identifier;
 pub use objects::{begin, check_object, finish};

@@ -8,7 +8,7 @@ use cf_elab_specifiers::Gathered;
 use cf_types::TyId;
 use std::alloc::Global;
 
-/// How a declaration says an object of this name and type, which it defines or not (3.3).
+/// How a declaration says an object of this name and type, which it defines or not, with an initialiser or without (3.3).
 pub fn object_says(
     alloc: Global,
     gathered: &Gathered,
@@ -16,8 +16,9 @@ pub fn object_says(
     at: u32,
     ty: TyId,
     defines: bool,
+    is_initialised: bool,
 ) -> Result<Says, Memory>
-    ensures { IfOk result (λ says. says_seen says ≡ declaration.object_says gathered.now name.now at ty defines) }
+    ensures { IfOk result (λ says. says_seen says ≡ declaration.object_says gathered.now name.now at ty defines is_initialised) }
 {
     Ok(Says {
         name: Name::from_slice(alloc, name)?,
@@ -26,5 +27,6 @@ pub fn object_says(
         is_static: gathered.is_static(),
         is_extern: gathered.is_extern(),
         defines,
+        is_initialised,
     })
 }

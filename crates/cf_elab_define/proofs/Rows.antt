@@ -1,12 +1,9 @@
 -- The rows that define objects are their steps, with the parts of the initialiser between them.
-use Rattle.std.proofs.Common.{◌≡◌, ℕ, ◌+◌, Bool, true, false, List, [], ◌∷◌, ◌++◌, length, Option, is_some, refl, sym, ◌∙◌}
-use Rattle.cf_elab.specs.Answer.{Answer, Elab, Made, Refused, Passed, onward, need, ◌>>◌}
-use Rattle.cf_elab.specs.Complete.{name_within}
-use Rattle.cf_elab.specs.Env.{Env, Name, object, local_home, static_home}
-use Rattle.cf_elab.specs.Made.{array_of}
-use Rattle.cf_elab.specs.Names.{declare, enter_scope, leave_scope, scoped}
+use Rattle.std.proofs.Common.{◌≡◌, ℕ, ◌+◌, List, [], ◌∷◌, ◌++◌, length, Option, is_some, refl, sym, ◌∙◌}
+use Rattle.cf_elab.specs.Answer.{Answer, Elab, Made, Refused, Passed, onward}
+use Rattle.cf_elab.specs.Env.{Env, Name, local_home, static_home}
 use Rattle.cf_elab.specs.Objects as objects
-use Rattle.cf_elab.specs.Objects.{Says, Written, Reached, block_object, variable_link}
+use Rattle.cf_elab.specs.Objects.{Says, Written, Reached, block_object}
 use Rattle.cf_elab_define.specs.Reached.{StaticNames, names_at, local_reached}
 use Rattle.cf_elab_define.specs.Shut as shut
 
@@ -45,28 +42,10 @@ module _ (at : ℕ) (name : Name) (t : ℕ) (parts : Elab (Option Written)) (env
 
   pub define_in_function_is : objects.define_in_function at name t parts env ≡ onward (shut.begin_static_local at name t env) static_behind
   unfolding shut.begin_static_local shut.begin_static shut.static_defined shut.added
-  define_in_function_is = sym (twice (onward checked declared) (λ _ e. Made (names_at env name) e) static_behind ∙ twice checked declared (λ _ e. static_behind (names_at env name) e))
+  define_in_function_is = sym (twice (declared next) (λ _ e. Made (names_at env name) e) static_behind)
     where
-      checked : Answer (Unit {0})
-      checked = name_within (names_at env name).link (record env { hand = record env.hand { statics = env.hand.statics + 1 } })
+      next : Env
+      next = record env { hand = record env.hand { statics = env.hand.statics + 1 } }
 
-      declared : Unit {0} → Env → Answer (Unit {0})
-      declared _ = objects.declare_in_block name at (block_object t (static_home (names_at env name).link) at)
-
-module _ (at : ℕ) (name : Name) (u : ℕ) (parts : Elab (Option Written)) (env : Env) where
-  abbrev named : ℕ → Elab (Unit {0})
-  named t = declare name (object (block_object t (static_home (variable_link name)) at))
-
-  abbrev bound_behind : Option Written → Env → Answer (ℕ × Option Written)
-  bound_behind w env = onward (shut.bound_given at u w env) (λ a env. Made (a, w) env)
-
-  by_test : (b : Bool)
-      → onward (need b 8 at env) (λ _ e. onward (array_of u 1 e) (λ t e. onward (scoped (named t >> parts) e) bound_behind))
-      ≡ onward (onward (need b 8 at env) (λ _ e. onward (array_of u 1 e) (λ t e. onward (enter_scope e) (λ _. named t)))) (λ _ e. onward (parts e) (λ w e. onward (leave_scope e) (λ _ e. bound_behind w e)))
-  by_test true = twice (parts _) (λ w e. onward (leave_scope e) (λ _ e. Made w e)) bound_behind
-  by_test false = refl
-
-  pub parts_first_is : objects.parts_first at name u parts env
-      ≡ onward (shut.begin_unbounded at name u env) (λ _ env. onward (parts env) (λ w env. onward (leave_scope env) (λ _ env. bound_behind w env)))
-  unfolding shut.begin_unbounded shut.bound_given
-  parts_first_is = by_test (objects.is_redeclarable env name)
+      declared : Env → Answer (Unit {0})
+      declared = objects.declare_in_block name at (block_object t (static_home (names_at env name).link) at)

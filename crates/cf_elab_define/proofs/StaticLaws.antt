@@ -24,9 +24,9 @@ function_is at name t env = refl
 pub ruleset function_laws = (function_is)
 
 pub begin_is : (at : ℕ) (name : Name) (t : ℕ) (link : Name) (env next : Env) → next ≡ record env { hand = record env.hand { statics = env.hand.statics + 1 } }
-    → shut.begin_static at name t link env ≡ onward (links.name_within link next) (λ _ env. declaring.declare_in_block name at (block_object t (static_home link) at) env)
-unfolding shut.begin_static links.name_within declaring.declare_in_block
-begin_is at name t link env next is = ap (λ s. onward (links.name_within link s) (λ _ env. declaring.declare_in_block name at (block_object t (static_home link) at) env)) (sym is)
+    → shut.begin_static at name t link env ≡ declaring.declare_in_block name at (block_object t (static_home link) at) next
+unfolding shut.begin_static declaring.declare_in_block
+begin_is at name t link env next is = ap (λ s. declaring.declare_in_block name at (block_object t (static_home link) at) s) (sym is)
 
 pub ruleset begin_laws = (begin_is, block_known)
 
@@ -52,8 +52,9 @@ pub ruleset added_laws = (added_constant, added_reached)
 
 pub defined_is : (at : ℕ) (name : Name) (t : ℕ) (n : StaticNames) (w : Option Written) (env : Env)
     → shut.static_defined at name t n w env
-    ≡ onward (start.started (static_keeper n.link (Some n.owner) at) name at t w env) (λ s env. onward (start.check_constant (start_place w at) s env) (λ _ env. shut.added at t n s env))
-unfolding shut.static_defined start.started start.check_constant shut.added
+    ≡ onward (start.started (static_keeper n.link (Some n.owner) at) name at t w env) (λ s env. onward (start.check_constant (start_place w at) s env) (λ _ env.
+    onward (links.name_within n.link env) (λ _ env. shut.added at t n s env)))
+unfolding shut.static_defined start.started start.check_constant links.name_within shut.added
 defined_is at name t n w env = refl
 
 pub ruleset defined_laws = (defined_is, grown_laws)

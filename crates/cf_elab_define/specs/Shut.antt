@@ -2,13 +2,12 @@
 -- elaborated, and those behind. `Rattle.cf_elab_define.proofs.Rows` says that the rows are these steps.
 use Rattle.std.specs.Prelude.{ℕ, ◌+◌, Bool, true, if◌then◌else◌, List, Option, None, Some, is_some}
 use Rattle.cf_core.specs.declared.node.Core.TheVariants as node
-use Rattle.cf_elab.specs.Answer.{Elab, ◌>>=◌, ◌>>◌, gives, known, need, hand_changed}
+use Rattle.cf_elab.specs.Answer.{Elab, ◌>>=◌, ◌>>◌, gives, known, hand_changed}
 use Rattle.cf_elab.specs.Complete.{name_within}
-use Rattle.cf_elab.specs.Env.{Name, object, local_home, static_home}
+use Rattle.cf_elab.specs.Env.{Name, local_home, static_home}
 use Rattle.cf_elab.specs.Initial.{Start}
-use Rattle.cf_elab.specs.Lists.{count_in}
+use Rattle.cf_elab.specs.Lists.{Tree, count_in}
 use Rattle.cf_elab.specs.Made.{array_of}
-use Rattle.cf_elab.specs.Names.{declare, enter_scope}
 use Rattle.cf_elab.specs.Objects as objects
 use Rattle.cf_elab.specs.Objects.{Says, Written, Reached, variable_link, block_object}
 use Rattle.cf_elab_define.specs.Reached.{StaticNames, names_at, local_reached}
@@ -42,7 +41,6 @@ local_defined at name t i w = do
 unfoldable pub begin_static : ℕ → Name → ℕ → Name → Elab (Unit {0})
 begin_static at name t link = do
   hand_changed (λ h. record h { statics = h.statics + 1 })
-  name_within link
   objects.declare_in_block name at (block_object t (static_home link) at)
 
 unfoldable pub begin_static_local : ℕ → Name → ℕ → Elab StaticNames
@@ -60,23 +58,10 @@ unfoldable pub static_defined : ℕ → Name → ℕ → StaticNames → Option 
 static_defined at name t n w = do
   s ← objects.started (objects.static_keeper n.link (Some n.owner) at) name at t w
   objects.need_constant at w s
+  name_within n.link
   added at t n s
 
--- ---- an array whose initialiser gives the bound
+-- ---- an array whose initialiser gives the bound, by its outline
 
-unfoldable pub begin_unbounded : ℕ → Name → ℕ → Elab (Unit {0})
-begin_unbounded at name u = do
-  env ← known
-  need (objects.is_redeclarable env name) 8 at
-  t ← array_of u 1
-  enter_scope
-  declare name (object (block_object t (static_home (variable_link name)) at))
-
-unfoldable pub bound_in : ℕ → Written → Elab ℕ
-bound_in u w = do
-  x ← objects.one_tree w
-  env ← known
-  array_of u (count_in env.types u x)
-
-unfoldable pub bound_given : ℕ → ℕ → Option Written → Elab ℕ
-bound_given = objects.bound_given
+unfoldable pub array_given : ℕ → Tree → Elab ℕ
+array_given u o = known >>= (λ env. array_of u (count_in env.types u o))

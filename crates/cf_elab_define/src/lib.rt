@@ -9,7 +9,7 @@ mod files;
 mod locals;
 mod statics;
 
-pub use bounds::{begin_unbounded, bound_given};
+pub use bounds::array_given;
 pub use files::file_defined;
 pub use locals::{begin_local, local_defined};
 pub use statics::{StaticLocal, begin_static_local, static_defined};

@@ -59,7 +59,6 @@ fn begin_static(env: &mut Env, at: u32, name: &[u8], ty: TyId, link: &Name) -> R
     ensures types { OnOk result (env.new.types ≡ env.old.types) }
 {
     env.count_static()?;
-    check_link(env, link.as_slice())?;
     let home = Items::from_slice(env.alloc(), link.as_slice())?;
     let object = block_object(ty, Home::Static(home), at);
     declare_in_block(env, name, at, object)?;
@@ -67,7 +66,7 @@ fn begin_static(env: &mut Env, at: u32, name: &[u8], ty: TyId, link: &Name) -> R
 }
 
 /// The static object by what is written, and where its initialiser is not constant the statement that initialises it when it is reached first. Such
-/// an initialiser is K48 where none is built (6.7).
+/// an initialiser is K48 where none is built; and then the limit on names (6.7).
 #[tactic(auto, using(crate::proofs::StaticLaws::defined_laws))]
 pub fn static_defined(
     env: &mut Env,
@@ -86,6 +85,7 @@ pub fn static_defined(
     let keeping = keeping_of(env.alloc(), &names, at)?;
     let start = started(env, &keeping, name, at, ty, written)?;
     check_constant(env, place, &start)?;
+    check_link(env, names.link.as_slice())?;
     let statement = added(env, at, ty, names, start)?;
     Ok(statement)
 }

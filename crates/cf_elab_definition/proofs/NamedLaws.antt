@@ -1,5 +1,5 @@
 -- A definition behind its specifiers and its declarator.
-use Rattle.std.proofs.Common.{◌≡◌, ℕ, true, List, map, Option, None, Some, slice_get, refl, sym, ap, subst, ◌∙◌}
+use Rattle.std.proofs.Common.{◌≡◌, ℕ, true, false, List, map, Option, None, Some, slice_get, refl, sym, ap, subst, ◌∙◌}
 use Rattle.cf_syntax.specs.declared.name.Last.{Last}
 use Rattle.cf_syntax.specs.declared.name.Last.TheVariants as last
 use Rattle.cf_syntax.specs.declared.name.Name.{Name as WrittenName}
@@ -38,7 +38,7 @@ use Rattle.cf_elab_definition.proofs.FunctionShapes.{makes_function, objects_of}
 
 module _ (g : Gathered) (at : ℕ) (s : Shape) (env : Env) where
   abbrev checked : (Shaped → Elab ℕ) → ℕ → Elab ℕ
-  checked go b e = onward (shut.no_conflict at g e) (λ _ e. onward (declare.no_definition g s e) (λ _ e. onward (shaping.typed nowhere s b e) go))
+  checked go b e = onward (shut.no_conflict (declaration.declares_function e b s) at g e) (λ _ e. onward (declare.no_definition g s e) (λ _ e. onward (shaping.typed nowhere s b e) go))
 
   abbrev its_type : Shaped → Elab ℕ
   its_type x e = Done (type_of x) e
@@ -48,12 +48,12 @@ module _ (g : Gathered) (at : ℕ) (s : Shape) (env : Env) where
   typed_is = refl
 
   pub type_is : shut.function_typed g at s env
-      ≡ onward (specifying.base_type g env) (λ b e. onward (shut.no_conflict at g e) (λ _ e. onward (declare.no_definition g s e)
+      ≡ onward (specifying.base_type g env) (λ b e. onward (shut.no_conflict (declaration.declares_function e b s) at g e) (λ _ e. onward (declare.no_definition g s e)
       (λ _ e. onward (shaping.typed nowhere s b e) (λ x e. Done (type_of x) e))))
   type_is =
       typed_is
       ∙ onward-same (specifying.base_type g env) (checked shaping.type_of_shaped) (checked its_type)
-      (λ b e. onward-same (shut.no_conflict at g e) (λ _. behind shaping.type_of_shaped b) (λ _. behind its_type b)
+      (λ b e. onward-same (shut.no_conflict (declaration.declares_function e b s) at g e) (λ _. behind shaping.type_of_shaped b) (λ _. behind its_type b)
       (λ _ e. onward-same (declare.no_definition g s e) (λ _ e. onward (shaping.typed nowhere s b e) shaping.type_of_shaped) (λ _ e. onward (shaping.typed nowhere s b e) its_type)
       (λ _ e. onward-same (shaping.typed nowhere s b e) shaping.type_of_shaped its_type type_of_shaped_is)))
     where
@@ -70,7 +70,7 @@ pub ruleset typed_laws = (type_is, shape_grown, grown_laws)
 -- ---- the declaration, and the body behind it
 
 pub declare_is : (g : Gathered) (s : Shape) (n : WrittenName) (t : ℕ) (env : Env)
-    → shut.declare g s n t env ≡ onward (making.int env) (λ i e. declaring.declare_function i (declaration.function_says g n t s true) e)
+    → shut.declare g s n t env ≡ onward (making.int env) (λ i e. declaring.declare_function i (declaration.function_says g n t s true false) e)
 unfolding shut.declare making.int declaring.declare_function
 declare_is g s n t env = refl
 
@@ -116,7 +116,7 @@ module _ (g : Gathered) (at : ℕ) (s : Shape) (n : WrittenName) (b : ℕ) (body
     abbrev with_body : List Parameter → Elab (Unit {0})
     with_body ps e =
         onward (made.int e)
-        (λ i e. onward (functions.declare_function i (declaration.function_says g n t s true) e)
+        (λ i e. onward (functions.declare_function i (declaration.function_says g n t s true false) e)
         (λ k e. definition.define_function ps (definition.body_of b (map tree.statement body)) (slice_get e.entries k) e))
 
     abbrev behind_parameters : (Elab (Unit {0}) → Elab (Unit {0})) → Option (List Parameter) → Elab (Unit {0})
@@ -149,7 +149,7 @@ module _ (g : Gathered) (at : ℕ) (s : Shape) (n : WrittenName) (b : ℕ) (body
   abbrev in_order : (ℕ → Elab (Unit {0})) → Elab (Unit {0})
   in_order go env =
       onward (base_type g env)
-      (λ base e. onward (none_at (definition.definition_conflict at g) 24 e)
+      (λ base e. onward (none_at (definition.definition_conflict (declaration.declares_function e base s) at g) 24 e)
       (λ _ e. onward (declaration.unqualified n e) (λ _ e. onward (declaration.no_definition g s e) (λ _. typed_then go base))))
 
   written : (env : Env) → shut.named g at s n b body env ≡ in_order behind_type env
@@ -159,32 +159,32 @@ module _ (g : Gathered) (at : ℕ) (s : Shape) (n : WrittenName) (b : ℕ) (body
   abbrev with_type : (ℕ → Elab (Unit {0})) → Elab (Unit {0})
   with_type go env =
       onward (base_type g env)
-      (λ base e. onward (none_at (definition.definition_conflict at g) 24 e) (λ _ e. onward (declaration.no_definition g s e) (λ _. typed_then go base)))
+      (λ base e. onward (none_at (definition.definition_conflict (declaration.declares_function e base s) at g) 24 e) (λ _ e. onward (declaration.no_definition g s e) (λ _. typed_then go base)))
 
   without_qualified : (go : ℕ → Elab (Unit {0})) (env : Env) → in_order go env ≡ with_type go env
   without_qualified go env =
       onward-same (base_type g env) (λ base e. before base e) (λ base e. after base e)
-      (λ base e. onward-same (none_at (definition.definition_conflict at g) 24 e) (λ _ e. onward (declaration.unqualified n e) (λ _. rest base)) (λ _. rest base)
+      (λ base e. onward-same (none_at (definition.definition_conflict (declaration.declares_function e base s) at g) 24 e) (λ _ e. onward (declaration.unqualified n e) (λ _. rest base)) (λ _. rest base)
       (λ _ e. ap (λ a. onward a (λ _. rest base)) (unqualified_is n e h)))
     where
       rest : ℕ → Elab (Unit {0})
       rest base e = onward (declaration.no_definition g s e) (λ _. typed_then go base)
 
       before : ℕ → Elab (Unit {0})
-      before base e = onward (none_at (definition.definition_conflict at g) 24 e) (λ _ e. onward (declaration.unqualified n e) (λ _. rest base))
+      before base e = onward (none_at (definition.definition_conflict (declaration.declares_function e base s) at g) 24 e) (λ _ e. onward (declaration.unqualified n e) (λ _. rest base))
 
       after : ℕ → Elab (Unit {0})
-      after base e = onward (none_at (definition.definition_conflict at g) 24 e) (λ _. rest base)
+      after base e = onward (none_at (definition.definition_conflict (declaration.declares_function e base s) at g) 24 e) (λ _. rest base)
 
   -- the type by itself
   grouped : (go : ℕ → Elab (Unit {0})) (env : Env) → onward (shut.function_typed g at s env) go ≡ with_type go env
   unfolding shut.function_typed shut.no_conflict
   grouped go env =
-      onward-assoc (base_type g env) (λ base e. onward (none_at (definition.definition_conflict at g) 24 e) (λ _. checking base)) go
-      ∙ onward-same (base_type g env) (λ base e. onward (onward (none_at (definition.definition_conflict at g) 24 e) (λ _. checking base)) go)
-      (λ base e. onward (none_at (definition.definition_conflict at g) 24 e) (λ _ e. onward (declaration.no_definition g s e) (λ _. typed_then go base)))
-      (λ base e. onward-assoc (none_at (definition.definition_conflict at g) 24 e) (λ _. checking base) go
-      ∙ onward-same (none_at (definition.definition_conflict at g) 24 e) (λ _ e. onward (checking base e) go) (λ _ e. onward (declaration.no_definition g s e) (λ _. typed_then go base))
+      onward-assoc (base_type g env) (λ base e. onward (none_at (definition.definition_conflict (declaration.declares_function e base s) at g) 24 e) (λ _. checking base)) go
+      ∙ onward-same (base_type g env) (λ base e. onward (onward (none_at (definition.definition_conflict (declaration.declares_function e base s) at g) 24 e) (λ _. checking base)) go)
+      (λ base e. onward (none_at (definition.definition_conflict (declaration.declares_function e base s) at g) 24 e) (λ _ e. onward (declaration.no_definition g s e) (λ _. typed_then go base)))
+      (λ base e. onward-assoc (none_at (definition.definition_conflict (declaration.declares_function e base s) at g) 24 e) (λ _. checking base) go
+      ∙ onward-same (none_at (definition.definition_conflict (declaration.declares_function e base s) at g) 24 e) (λ _ e. onward (checking base e) go) (λ _ e. onward (declaration.no_definition g s e) (λ _. typed_then go base))
       (λ _ e. onward-assoc (declaration.no_definition g s e) (λ _. typing base) go
       ∙ onward-same (declaration.no_definition g s e) (λ _ e. onward (typing base e) go) (λ _. typed_then go base)
       (λ _ e. onward-assoc (typed nowhere s base e) definition.type_of_shaped go)))

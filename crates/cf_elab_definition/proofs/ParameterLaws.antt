@@ -1,6 +1,6 @@
 -- Parameters as objects of the outermost block.
 use Rattle.std.proofs.Common.{◌≡◌, ℕ, ◌+◌, List, [], ◌∷◌, length, None, Some, All, refl, sym, ap, subst, ◌∙◌}
-use Rattle.std.proofs.lemmas.List.Elements.{All-tail}
+use Rattle.std.proofs.lemmas.List.Elements.{All-head, All-tail}
 use Rattle.cf_syntax.specs.declared.name.Last.{Last}
 use Rattle.cf_syntax.specs.declared.name.Last.TheVariants as last
 use Rattle.cf_syntax.specs.declared.name.Name.{Name as WrittenName}
@@ -12,7 +12,6 @@ use Rattle.cf_elab.specs.Shape.{Parameter}
 use Rattle.cf_elab_define.proofs.BlockObjects.{block_known}
 use Rattle.cf_elab_env.specs.Holds.{IsType}
 use Rattle.cf_elab_objects.specs.Shut as object
-use Rattle.cf_elab_shape.proofs.VoidLaws.{first_typed}
 use Rattle.cf_elab_definition.specs.Shut as shut
 use Rattle.cf_elab_definition.proofs.Rows.{no_parameters, parameters_are}
 
@@ -55,6 +54,10 @@ module _ (i t : ℕ) (n : WrittenName) (env : Env) where
       by (last.Destructor name) other = refl
       by (last.Operator k) other = refl
       by (last.Conversion ss pointers) other = refl
+
+pub first_typed : (types : Table) (ps rest : List Parameter) (p : Parameter) → ps ≡ p ∷ rest → All (λ p. IsType types p.type) ps → IsType types p.type
+first_typed types ps rest p is all =
+    All-head (λ (p : Parameter). IsType types p.type) p rest (subst (All (λ (p : Parameter). IsType types p.type)) is all)
 
 pub rest_typed : (a b : Table) (ps rest : List Parameter) (p : Parameter) → ps ≡ p ∷ rest → b ≡ a → All (λ p. IsType a p.type) ps → All (λ p. IsType b p.type) rest
 rest_typed a b ps rest p is same all =

@@ -1,5 +1,5 @@
 -- Functions with a body, in steps under names that do not unfold. `Rattle.cf_elab_definition.proofs` says that a definition is these steps.
-use Rattle.std.specs.Prelude.{◌≡◌, ℕ, true, if◌then◌else◌, List, [], ◌∷◌, ◌++◌, drop, length, map, Option, None, Some, slice_get}
+use Rattle.std.specs.Prelude.{◌≡◌, ℕ, Bool, true, false, if◌then◌else◌, List, [], ◌∷◌, ◌++◌, drop, length, map, Option, None, Some, slice_get}
 use Rattle.cf_core.specs.declared.node.Core.{Core as Node}
 use Rattle.cf_syntax.specs.declared.declarator.DeclTree.{DeclTree}
 use Rattle.cf_syntax.specs.declared.name.Last.{Last}
@@ -80,24 +80,25 @@ define_at k ps at body = known >>= (λ env. definition.define_function ps (defin
 -- ---- a definition behind its specifiers and its declarator
 
 -- the specifiers do not conflict; else K24 at the first that does
-unfoldable pub definition_conflict : ℕ → Gathered → Option ℕ
+unfoldable pub definition_conflict : Bool → ℕ → Gathered → Option ℕ
 definition_conflict = definition.definition_conflict
 
-unfoldable pub no_conflict : ℕ → Gathered → Elab (Unit {0})
-no_conflict at g = none_at (definition.definition_conflict at g) 24
+unfoldable pub no_conflict : Bool → ℕ → Gathered → Elab (Unit {0})
+no_conflict is_function at g = none_at (definition.definition_conflict is_function at g) 24
 
 -- the type that is declared
 unfoldable pub function_typed : Gathered → ℕ → Shape → Elab ℕ
 function_typed g at s = do
   base ← base_type g
-  no_conflict at g
+  env ← known
+  no_conflict (declaration.declares_function env base s) at g
   declaration.no_definition g s
   x ← typed nowhere s base
   definition.type_of_shaped x
 
 -- the function's declaration, with its number
 unfoldable pub declare : Gathered → Shape → WrittenName → ℕ → Elab ℕ
-declare g s n t = int >>= (λ i. functions.declare_function i (declaration.function_says g n t s true))
+declare g s n t = int >>= (λ i. functions.declare_function i (declaration.function_says g n t s true false))
 
 -- behind its type, with its body
 unfoldable pub define_shape : Gathered → Shape → WrittenName → ℕ → ℕ → List Stmt → Elab (Unit {0})

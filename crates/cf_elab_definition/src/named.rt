@@ -14,7 +14,7 @@ ghost use Rattle.cf_elab_definition.specs.Shut as shut;
 use crate::bodies::define_function;
 use crate::checks::check_conflict;
 use cf_base::{Broken, Rule};
-use cf_elab_declare::{check_no_definition, declare_function};
+use cf_elab_declare::{check_no_definition, declare_function, declares_function};
 use cf_elab_env::{Env, Stop};
 use cf_elab_shape::{Position, Shape, check_bounds, typed};
 use cf_elab_specifiers::{Gathered, base_type};
@@ -58,7 +58,8 @@ fn function_typed(env: &mut Env, gathered: &Gathered, at: u32, shape: &Shape) ->
     ensures grows { OnOk result (Grows env.old.types env.new.types) }
 {
     let base = base_type(env, gathered)?;
-    check_conflict(env, at, gathered)?;
+    let is_function = declares_function(env, base, shape);
+    check_conflict(env, is_function, at, gathered)?;
     check_no_definition(env, gathered, shape)?;
     let position = Position {
         unbounded: false,
@@ -118,6 +119,6 @@ fn declare(
     ensures grows { OnOk result (Grows env.old.types env.new.types) }
 {
     let int = env.int()?;
-    let number = declare_function(env, int, gathered, name, shape, ty, true)?;
+    let number = declare_function(env, int, gathered, name, shape, ty, true, false)?;
     Ok(number)
 }

@@ -1,5 +1,5 @@
 -- The rows of enumerations, each under a name of its own that does not unfold. `Rattle.cf_elab_enumeration.proofs` says what each is.
-use Rattle.std.specs.Prelude.{ℕ, Bool, not, ◌||◌, List, Option}
+use Rattle.std.specs.Prelude.{ℕ, Bool, not, ◌||◌, List, Option, None, Some}
 use Rattle.cf_elab.specs.Answer.{Elab, ◌>>=◌, known, need}
 use Rattle.cf_elab.specs.ClassScope.{declare_enumerator}
 use Rattle.cf_elab.specs.Enumeration as enumeration
@@ -29,13 +29,21 @@ declare_all = enumeration.declare_all
 
 -- an enumerator, for the expressions behind it, where one past int counts as 0
 unfoldable pub declare_counted : ℕ → Counted → Elab (Unit {0})
-declare_counted t c = declare c.name (enumerator t (enumeration.int_or_zero c.number))
+declare_counted t c = declare c.name (enumerator t (Some (enumeration.int_or_zero c.number)))
+
+-- an enumerator, for its own expression, where it has no value yet
+unfoldable pub declare_own : ℕ → Name → Elab (Unit {0})
+declare_own t name = declare name (enumerator t None)
 
 unfoldable pub declare_one : ℕ → Counted → Elab (Unit {0})
 declare_one t c = declare_enumerator c.name c.at t (enumeration.number_or_zero c.number)
 
 unfoldable pub name_checked : Option (ℕ × Name) → Elab (Unit {0})
 name_checked = enumeration.name_checked
+
+-- an enumeration's name, for the expressions
+unfoldable pub name_known : ℕ → Option (ℕ × Name) → Elab (Unit {0})
+name_known = enumeration.name_known
 
 unfoldable pub name_declared : ℕ → ℕ → Option (ℕ × Name) → Elab (Unit {0})
 name_declared = enumeration.name_declared

@@ -26,16 +26,13 @@ pub fn check_place(env: &Env, at: u32, is_named: bool) -> Result<(), Stop>
 pub fn check_constant(env: &Env, list: &[Counted]) -> Result<(), Stop>
     ensures { Agrees (shut.all_constant list.now env.now) result env.now }
 {
-    match list.split_first() {
-        None => Ok(()),
-        Some((first, rest)) => {
-            if !first.is_constant() {
-                return Err(Stop::Broken(broken(19, first.at())));
-            }
-            check_constant(env, rest)?;
-            Ok(())
+    let _env = env;
+    for one in list {
+        if !one.is_constant() {
+            return Err(Stop::Broken(broken(19, one.at())));
         }
     }
+    Ok(())
 }
 
 /// Each number is one of `int`; else K5 at its enumerator (7.2).
@@ -44,16 +41,13 @@ pub fn check_ints(env: &Env, list: &[Counted]) -> Result<(), Stop>
     ensures made { Agrees (shut.all_ints list.now env.now) result env.now }
     ensures ints { OnOk result (All (λ (c : Listed). IsTrue (fits Kind.Int (its_number c.number))) list.now) }
 {
-    match list.split_first() {
-        None => Ok(()),
-        Some((first, rest)) => {
-            if !is_int(first) {
-                return Err(Stop::Broken(broken(5, first.at())));
-            }
-            check_ints(env, rest)?;
-            Ok(())
+    let _env = env;
+    for one in list {
+        if !is_int(one) {
+            return Err(Stop::Broken(broken(5, one.at())));
         }
     }
+    Ok(())
 }
 
 /// Whether `int` has its value.

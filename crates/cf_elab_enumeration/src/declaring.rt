@@ -38,14 +38,10 @@ pub fn declare_all(env: &mut Env, number: u32, ty: TyId, list: &[Counted]) -> Re
     ensures made { OnOk result (shut.declare_all ty list.now env.old ≡ Made tt env.new) }
     ensures types { env.new.types ≡ env.old.types }
 {
-    match list.split_first() {
-        None => Ok(()),
-        Some((first, rest)) => {
-            declare_one(env, number, ty, first)?;
-            declare_all(env, number, ty, rest)?;
-            Ok(())
-        }
+    for one in list {
+        declare_one(env, number, ty, one)?;
     }
+    Ok(())
 }
 
 /// One of them.
@@ -59,7 +55,10 @@ fn declare_one(env: &mut Env, number: u32, ty: TyId, one: &Counted) -> Result<()
 {
     env.holds();
     let _enumeration = number;
-    env.declare(one.name().as_slice(), Entity::Enumerator(ty, one.value()))?;
+    env.declare(
+        one.name().as_slice(),
+        Entity::Enumerator(ty, Some(one.value())),
+    )?;
     Ok(())
 }
 
@@ -74,7 +73,29 @@ pub fn declare_counted(env: &mut Env, number: u32, ty: TyId, one: &Counted) -> R
     let _enumeration = number;
     env.declare(
         one.name().as_slice(),
-        Entity::Enumerator(ty, one.counts_as()),
+        Entity::Enumerator(ty, Some(one.counts_as())),
     )?;
+    Ok(())
+}
+
+/// An enumerator is declared for its own expression, where it has no value yet (3.2).
+#[tactic(auto, using(crate::proofs::DeclareLaws::own_laws))]
+pub fn declare_own(env: &mut Env, ty: TyId, name: &[u8]) -> Result<(), Memory>
+    requires { IsType env.old.types ty }
+    ensures made { OnOk result (shut.declare_own ty name.now env.old ≡ Made tt env.new) }
+    ensures types { env.new.types ≡ env.old.types }
+{
+    env.declare(name, Entity::Enumerator(ty, None))?;
+    Ok(())
+}
+
+/// The enumeration's name stands for it in the expressions of its enumerators (3.2).
+#[tactic(auto, using(crate::proofs::DeclareLaws::known_laws))]
+pub fn know_name(env: &mut Env, at: u32, name: &[u8], enumeration: u32) -> Result<(), Memory>
+    ensures made { OnOk result (shut.name_known enumeration (Some (at, name.now)) env.old ≡ Made tt env.new) }
+    ensures types { env.new.types ≡ env.old.types }
+{
+    let _place = at;
+    env.declare(name, Entity::Enum(enumeration))?;
     Ok(())
 }

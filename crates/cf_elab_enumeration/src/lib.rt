@@ -11,6 +11,6 @@ mod numbers;
 
 pub use checks::{check_constant, check_ints, check_place};
 pub use counted::Counted;
-pub use declaring::{declare_all, declare_counted, declare_name};
+pub use declaring::{declare_all, declare_counted, declare_name, declare_own, know_name};
 pub use names::{check_all_new, check_name};
 pub use numbers::{int_or_zero, number_of, number_or_zero, one_more};

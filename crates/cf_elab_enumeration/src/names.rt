@@ -48,16 +48,12 @@ fn add_own<'a>(before: &mut Names<'a>, own: &'a [Name]) -> Result<(), Memory>
 fn check_each<'a>(env: &Env, before: &mut Names<'a>, list: &'a [Counted]) -> Result<(), Stop>
     ensures { Agrees (shut.all_new before.old list.now env.now) result env.now }
 {
-    match list.split_first() {
-        None => Ok(()),
-        Some((first, rest)) => {
-            let name = first.name().as_slice();
-            check_new(env, name, first.at(), before)?;
-            before.add(name)?;
-            check_each(env, before, rest)?;
-            Ok(())
-        }
+    for one in list {
+        let name = one.name().as_slice();
+        check_new(env, name, one.at(), before)?;
+        before.add(name)?;
     }
+    Ok(())
 }
 
 /// Neither the innermost scope nor one of these before has the name; else K8.

@@ -6,9 +6,10 @@ use Rattle.cf_unit.specs.declared.enumeration.Enumerator.{Enumerator}
 use Rattle.cf_elab.specs.Answer.{Answer, Made, Refused, Passed, onward}
 use Rattle.cf_elab.specs.Enumeration as spec
 use Rattle.cf_elab.specs.Enumeration.{Counted, item_of, one_more}
-use Rattle.cf_elab.specs.Env.{Env}
+use Rattle.cf_elab.specs.Env.{Env, Name}
 use Rattle.cf_elab.specs.Operand.{Value}
 use Rattle.cf_elab_env.specs.Answered.{Stops}
+use Rattle.cf_elab_env.specs.Shut as made
 use Rattle.cf_elab_env.specs.declared.stop.Stop.{Stop}
 use Rattle.cf_elab_env.specs.declared.stop.Stop.TheVariants.{Broken as RuleBroken, Passed as LimitPassed, Memory}
 use Rattle.cf_elab_env.proofs.Growth.{grown_laws}
@@ -19,21 +20,46 @@ use Rattle.cf_elab_enums.specs.Shut as shut
 
 -- ---- the value
 
-pub no_value : (env : Env) → shut.value None env ≡ Made None env
-unfolding shut.value
-no_value env = refl
+module _ (t : ℕ) (e : Enumerator) (env : Env) where
+  pub no_value : e.value ≡ None → shut.value t e env ≡ Made None env
+  unfolding shut.value
+  no_value is = ap (λ x. spec.own_value t (item_of (record e { value = x })) env) is
 
-pub some_value : (x : ℕ × Expr) (env : Env) → shut.value (Some x) env ≡ onward (expression.valued x.1 env) (λ v env. Made (Some v) env)
-unfolding shut.value expression.valued
-some_value x env = refl
+  pub some_value : (x : ℕ × Expr) → e.value ≡ Some x → shut.value t e env ≡ onward (shut.own_value t e.name x.1 env) (λ v env. Made (Some v) env)
+  unfolding shut.value shut.own_value
+  some_value x is = ap (λ x. spec.own_value t (item_of (record e { value = x })) env) is
+
+  -- by its name and its expression as the code holds them
+  module _ (x : ℕ × Expr) (name : Name) (expr : Expr) (is : e.value ≡ Some x) (called : name ≡ e.name) (same : expr ≡ x.1) where
+    abbrev as_some : Answer Value → Answer (Option Value)
+    as_some a = onward a (λ v env. Made (Some v) env)
+
+    some_is : shut.value t e env ≡ as_some (shut.own_value t name expr env)
+    some_is = some_value x is ∙ (λ j. as_some (shut.own_value t (sym called j) (sym same j) env))
+
+    pub some_stops : (stop : Stop) → Stops (shut.own_value t name expr env) stop → Stops (shut.value t e env) stop
+    some_stops (RuleBroken b) g = some_is ∙ ap as_some g
+    some_stops (LimitPassed l) g = some_is ∙ ap as_some g
+    some_stops Memory g = tt
+
+    pub some_made : (v : Value) (next : Env) → shut.own_value t name expr env ≡ Made v next → shut.value t e env ≡ Made (Some v) next
+    some_made v next h = some_is ∙ ap as_some h
+
+pub own_is : (t : ℕ) (name : Name) (e : Expr) (env : Env)
+    → shut.own_value t name e env
+    ≡ onward (made.enter_scope env) (λ _ env. onward (row.declare_own t name env) (λ _ env. onward (expression.valued e env) (λ v env. onward (made.leave_scope env) (λ _ env. Made v env))))
+unfolding shut.own_value made.enter_scope row.declare_own expression.valued made.leave_scope
+own_is t name e env = refl
 
 pub ruleset value_laws = (no_value, some_value, grown_laws)
+
+pub ruleset own_laws = (own_is, grown_laws)
 
 -- ---- one
 
 module _ (t : ℕ) (next : Option ℤ) (e : Enumerator) (env : Env) where
   pub one_is : shut.counted_one t next e env
-      ≡ onward (shut.value e.value env) (λ v env. onward (row.declare_counted t (shut.counted_as next e v) env) (λ _ env. Made (shut.counted_as next e v) env))
+      ≡ onward (shut.value t e env) (λ v env. onward (row.declare_counted t (shut.counted_as next e v) env) (λ _ env. Made (shut.counted_as next e v) env))
   unfolding shut.counted_one
   one_is = refl
 
@@ -65,7 +91,7 @@ module _ (t : ℕ) (next : Option ℤ) where
 
     first_is : shut.counted t next (e ∷ es) env ≡ rest_of (shut.counted_one t next e env)
     unfolding shut.counted shut.counted_one shut.value row.declare_counted
-    first_is = by (shut.value e.value env)
+    first_is = by (shut.value t e env)
       where
         declared : Option Value → Env → Answer Counted
         declared v env = onward (row.declare_counted t (shut.counted_as next e v) env) (λ _ env. Made (shut.counted_as next e v) env)

@@ -6,9 +6,10 @@ ghost use Rattle.cf_elab_env.specs.Answered.{Agrees};
 ghost use Rattle.cf_elab_env.specs.Holds.{Grows, IsType};
 ghost use Rattle.cf_elab_enums.specs.Forms.{AreBuilt, IsBuilt};
 ghost use Rattle.cf_elab_enums.specs.Shut as shut;
+ghost use Rattle.cf_elab_expr.specs.Shut as expression;
 
-use cf_base::{Boxed, Items, Name};
-use cf_elab_enumeration::{Counted, declare_counted, number_of, one_more};
+use cf_base::{Items, Name};
+use cf_elab_enumeration::{Counted, declare_counted, declare_own, number_of, one_more};
 use cf_elab_env::{Env, Stop, Value};
 use cf_elab_expr::evaluated;
 use cf_syntax::Expr;
@@ -59,7 +60,7 @@ fn counted_one(
     ensures made { Agrees (shut.counted_one ty next e.now env.old) result env.new }
     ensures grows { OnOk result (Grows env.old.types env.new.types) }
 {
-    let value = value_behind(&e.value, env)?;
+    let value = value_behind(e, ty, env)?;
     let one = Counted {
         at: e.at,
         name: Name::from_slice(env.alloc(), e.name.as_slice())?,
@@ -71,16 +72,32 @@ fn counted_one(
 
 /// The value behind `=`, if there is one.
 #[tactic(auto, using(crate::proofs::CountingLaws::value_laws))]
-fn value_behind(value: &Option<(u32, Boxed<Expr>)>, env: &mut Env) -> Result<Option<Value>, Stop>
-    requires { IsBuilt value.now }
-    ensures made { Agrees (shut.value value.now env.old) result env.new }
+fn value_behind(e: &Enumerator, ty: TyId, env: &mut Env) -> Result<Option<Value>, Stop>
+    requires built { IsBuilt e.now.value }
+    requires known { IsType env.old.types ty }
+    ensures made { Agrees (shut.value ty e.now env.old) result env.new }
     ensures grows { OnOk result (Grows env.old.types env.new.types) }
 {
-    match value {
+    match &e.value {
         None => Ok(None),
-        Some((_, e)) => {
-            let value = evaluated(e.get(), env)?;
+        Some((_, expression)) => {
+            let value = own_value(expression.get(), ty, e.name.as_slice(), env)?;
             Ok(Some(value))
         }
     }
+}
+
+/// The value of the expression of an enumerator of this name, in a scope in which the name stands for it and has no value yet (3.2).
+#[tactic(auto, using(crate::proofs::CountingLaws::own_laws))]
+fn own_value(e: &Expr, ty: TyId, name: &[u8], env: &mut Env) -> Result<Value, Stop>
+    requires built { expression.IsBuilt e.now }
+    requires known { IsType env.old.types ty }
+    ensures made { Agrees (shut.own_value ty name.now e.now env.old) result env.new }
+    ensures grows { OnOk result (Grows env.old.types env.new.types) }
+{
+    env.enter_scope()?;
+    declare_own(env, ty, name)?;
+    let value = evaluated(e, env)?;
+    env.leave_scope();
+    Ok(value)
 }

@@ -17,7 +17,7 @@ use crate::checking::check;
 use crate::counting::counted;
 use crate::making::{label, new_type};
 use cf_base::{Items, Kind, Memory, Name};
-use cf_elab_enumeration::{Counted, declare_all, declare_name};
+use cf_elab_enumeration::{Counted, declare_all, declare_name, know_name};
 use cf_elab_env::{Env, Stop};
 use cf_types::TyId;
 use cf_unit::{EnumDef, Enumerator};
@@ -33,15 +33,52 @@ pub fn enumeration(d: &EnumDef, alias: Option<&Name>, env: &mut Env) -> Result<T
 {
     let label = label(env.alloc(), &d.name, alias)?;
     let (number, ty) = new_type(env, label)?;
-    let list = in_scope(d.enumerators.as_slice(), number, ty, env)?;
+    let list = in_scope(d.enumerators.as_slice(), &d.name, number, ty, env)?;
     check(env, d.at, &d.name, list.as_slice())?;
     declare(env, &d.name, number, ty, list.as_slice())?;
     Ok(ty)
 }
 
-/// The enumerators with their expressions, in a scope of their own.
+/// The enumerators with their expressions, in a scope in which the enumeration's own name is known (3.2).
 #[tactic(auto, using(crate::proofs::DefiningLaws::scope_laws))]
 fn in_scope(
+    list: &[Enumerator],
+    name: &Option<(u32, Name)>,
+    number: u32,
+    ty: TyId,
+    env: &mut Env,
+) -> Result<Items<Counted>, Stop>
+    requires built { AreBuilt list.now }
+    requires known { IsType env.old.types ty }
+    requires enumeration { sort_of env.old.types ty ≡ enumeral number }
+    ensures made { Agrees (shut.in_scope number ty name.now list.now env.old) result env.new }
+    ensures grows { OnOk result (Grows env.old.types env.new.types) }
+{
+    env.enter_scope()?;
+    know_own_name(env, name, number)?;
+    let all = in_own_scope(list, number, ty, env)?;
+    env.leave_scope();
+    Ok(all)
+}
+
+/// The enumeration's own name stands for it, if it has one.
+#[tactic(auto, using(crate::proofs::DefiningLaws::known_laws))]
+fn know_own_name(env: &mut Env, name: &Option<(u32, Name)>, number: u32) -> Result<(), Memory>
+    ensures made { OnOk result (row.name_known number name.now env.old ≡ Made tt env.new) }
+    ensures types { env.new.types ≡ env.old.types }
+{
+    match name {
+        None => Ok(()),
+        Some((at, name)) => {
+            know_name(env, *at, name.as_slice(), number)?;
+            Ok(())
+        }
+    }
+}
+
+/// The enumerators with their expressions, in a scope of their own.
+#[tactic(auto, using(crate::proofs::DefiningLaws::own_scope_laws))]
+fn in_own_scope(
     list: &[Enumerator],
     number: u32,
     ty: TyId,
@@ -50,7 +87,7 @@ fn in_scope(
     requires built { AreBuilt list.now }
     requires known { IsType env.old.types ty }
     requires enumeration { sort_of env.old.types ty ≡ enumeral number }
-    ensures made { Agrees (shut.in_scope ty list.now env.old) result env.new }
+    ensures made { Agrees (shut.in_own_scope ty list.now env.old) result env.new }
     ensures grows { OnOk result (Grows env.old.types env.new.types) }
 {
     env.enter_scope()?;

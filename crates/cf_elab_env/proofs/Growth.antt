@@ -148,7 +148,7 @@ module _ (a b : Table) (g : Grows a b) where
   entity_grown count (alias t) k = type_grown a b t g k
   entity_grown count (class_name c) k = k
   entity_grown count (enum_name e) k = k
-  entity_grown count (enumerator t z) k = let P : Sort → Type 0 = λ s. IsTrue (fits_sort s z) in (type_grown a b t g k.0, subst P (sym (g.sorts t k.0)) k.1)
+  entity_grown count (enumerator t z) k = (type_grown a b t g k.0, fits_grown a b t z g k.0 k.1)
 
   entry_grown : (f : FunctionEntry) → IsEntry a f → IsEntry b f
   entry_grown f k = record { typed = type_grown a b f.type g k.typed; no_defaults = k.no_defaults; function = subst IsFunctionSort (sym (g.sorts f.type k.typed)) k.function }

@@ -51,7 +51,7 @@ below_known count given wanted id n known is there same =
 
 -- ---- all that a name is found as
 
-named_known : (count : ℕ) (name : Name) (names : List (Name × ℕ)) → AreNames count names → All (λ n. n < count) (named_in name names)
+pub named_known : (count : ℕ) (name : Name) (names : List (Name × ℕ)) → AreNames count names → All (λ n. n < count) (named_in name names)
 named_known count name names all =
     All-map (λ n. n < count) (λ (x : Name × ℕ). x.1) (filter (λ (x : Name × ℕ). pointwise nat_eq name x.0) names)
     (All-filter (λ (x : Name × ℕ). pointwise nat_eq name x.0) (λ (x : Name × ℕ). x.1 < count) names all)

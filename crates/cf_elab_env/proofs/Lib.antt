@@ -7,6 +7,7 @@ pub mod InOrder
 pub mod Interned
 pub mod Known
 pub mod Making
+pub mod NamedEntries
 pub mod Opened
 pub mod Scoped
 pub mod Sorts

@@ -271,9 +271,9 @@ pub redeclared_is : (env : Env) (n : ℕ) (x : Entity) → shut.redeclare n x en
 unfolding shut.redeclare
 redeclared_is env n x = ap (λ l. Made tt (record env { entities = l })) (replaced-set env.entities n x)
 
-pub set_entry_is : (env : Env) (n : ℕ) (f : FunctionEntry) → shut.set_entry n f env ≡ Made tt (record env { entries = set env.entries n f })
+pub set_entry_is : (env : Env) (n : ℕ) (f : FunctionEntry) (entries : List FunctionEntry) → entries ≡ set env.entries n f → shut.set_entry n f env ≡ Made tt (record env { entries = entries })
 unfolding shut.set_entry
-set_entry_is env n f = ap (λ l. Made tt (record env { entries = l })) (replaced-set env.entries n f)
+set_entry_is env n f entries is = ap (λ l. Made tt (record env { entries = l })) (replaced-set env.entries n f ∙ sym is)
 
 pub new_enum_is : (env : Env) (classes : ClassTable) (name : Name) (n : ℕ) → env.open_classes ≡ [] → n ≡ length env.classes.enums
     → classes.enums ≡ env.classes.enums ++ record { name = name; outer = None } ∷ [] → classes.labels ≡ env.classes.labels → classes.defined ≡ env.classes.defined

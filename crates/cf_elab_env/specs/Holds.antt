@@ -92,7 +92,7 @@ IsEntity types count (functions fs) = All (λ f. f < count) fs
 IsEntity types count (alias t) = IsType types t
 IsEntity types count (class_name c) = ⊥
 IsEntity types count (enum_name e) = Unit {0}
-IsEntity types count (enumerator t z) = IsType types t × IsTrue (fits_sort (sort_of types t) z)
+IsEntity types count (enumerator t z) = IsType types t × FitsIn types t z
 
 abbrev pub AreNames : ℕ → List (List ℕ × ℕ) → Type 0
 AreNames count names = All (λ n. n.1 < count) names

@@ -1,4 +1,5 @@
 pub mod Answered
+pub mod Entries
 pub mod Holds
 pub mod Seen
 pub mod SeenEnv

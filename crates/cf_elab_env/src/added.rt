@@ -1,9 +1,10 @@
 ghost use Rattle.std.specs.Prelude.{◌≡◌, ◌<◌, ◌++◌, ◌∷◌, [], length, IfOk, OnOk};
 ghost use Rattle.cf_elab.specs.Answer.{Made};
+ghost use Rattle.cf_elab_env.specs.Entries.{HasName};
 ghost use Rattle.cf_elab_env.specs.Holds.{IsEntry};
 ghost use Rattle.cf_elab_env.specs.Shut as shut;
 
-use crate::env::{Env, next_number};
+use crate::env::Env;
 use crate::functions::FunctionEntry;
 use cf_base::{Memory, Name};
 use cf_classes::Label;
@@ -18,19 +19,19 @@ impl Env {
         ensures state { OnOk result (self.new ≡ record self.old { entries = self.old.entries ++ entry ∷ [] }) }
         ensures types { self.new.types ≡ self.old.types }
     {
-        let number = next_number(self.entries.len())?;
-        self.entries.push(entry)?;
+        let number = self.entries.add(entry)?;
         Ok(number)
     }
 
-    /// The function of this number is declared so from here on.
+    /// The function of this number is declared so from here on, by the name that it has.
     pub fn set_entry(&mut self, number: u32, entry: FunctionEntry)
         requires place { number < length self.old.entries }
+        requires name { HasName self.old.entries number entry.name }
         requires known { IsEntry self.old.types entry }
         ensures made { shut.set_entry number entry self.old ≡ Made tt self.new }
         ensures types { self.new.types ≡ self.old.types }
     {
-        self.entries[number as usize] = entry;
+        self.entries.set(number, entry);
     }
 
     /// One more defined function.

@@ -12,6 +12,6 @@ pub enum Entity {
     Alias(TyId),
     /// The enumeration of this number.
     Enum(u32),
-    /// A constant of an enumeration: its type and its value.
-    Enumerator(TyId, i64),
+    /// A constant of an enumeration: its type, and its value, which it does not have yet in its own expression.
+    Enumerator(TyId, Option<i64>),
 }

@@ -1,14 +1,16 @@
-ghost use Rattle.std.specs.Prelude.{◌≡◌, [], length, slice_get, All, IfOk, None, Some, bytes_eq};
+ghost use Rattle.std.specs.Prelude.{◌≡◌, [], length, slice_get, map, All, IfOk, None, Some, bytes_eq};
 ghost use Rattle.std.specs.List.{list_any};
 ghost use Rattle.cf_types.specs.Table.{IsTable};
 ghost use Rattle.cf_core.specs.FromUnit.{IsValid};
 ghost use Rattle.cf_elab.specs.File.{first_env, core_unit};
 ghost use Rattle.cf_elab.specs.Answer.{Made};
 ghost use Rattle.cf_elab_env.specs.Holds.{IsEnv, EnumGiven, IsEntry, IsType, HasNoClass};
+ghost use Rattle.cf_elab_env.specs.Seen.{entity_seen};
 ghost use Rattle.cf_elab_env.specs.Shut as shut;
 
 use crate::declared::Declared;
 use crate::entity::Entity;
+use crate::entries::Entries;
 use crate::extent::Extent;
 use crate::functions::FunctionEntry;
 use crate::hand::Hand;
@@ -34,7 +36,7 @@ pub struct Env {
     pub(crate) entities: Vec<Entity>,
     /// The objects with linkage, by the numbers of their entities: names of one scope of their own (3.3).
     pub(crate) linked: Scopes,
-    pub(crate) entries: Vec<FunctionEntry>,
+    pub(crate) entries: Entries,
     pub(crate) hand: Hand,
     pub(crate) functions: Items<CoreFn>,
     pub(crate) statics: Items<CoreStatic>,
@@ -79,7 +81,7 @@ impl Env {
             scopes: Scopes::new(alloc),
             entities: Vec::new(alloc),
             linked: Scopes::new(alloc),
-            entries: Vec::new(alloc),
+            entries: Entries::new(alloc),
             hand,
             functions: Items::new(alloc),
             statics: Items::new(alloc),
@@ -130,6 +132,13 @@ impl Env {
         ensures { result.now ≡ self.now.defines }
     {
         self.defines.as_slice()
+    }
+
+    /// What names stand for, in order of declaration.
+    pub fn entities(&self) -> &[Entity]
+        ensures { map entity_seen result.now ≡ self.now.entities }
+    {
+        self.entities.as_slice()
     }
 
     /// Whether the file's own declarations define the name.

@@ -8,6 +8,7 @@ mod added;
 mod at_hand;
 mod declared;
 mod entity;
+mod entries;
 mod env;
 mod extent;
 mod functions;

@@ -3,6 +3,7 @@ ghost use Rattle.std.specs.Option.{option_map, option_copied};
 ghost use Rattle.cf_lookup.specs.Scope.{all_found};
 ghost use Rattle.cf_elab.specs.Names as names;
 ghost use Rattle.cf_elab.specs.Paths.{found_alone, entity as entity_found};
+ghost use Rattle.cf_elab_env.specs.Entries.{numbers_named};
 ghost use Rattle.cf_elab_env.specs.Holds.{IsEntity, IsEntry};
 ghost use Rattle.cf_elab_env.specs.Seen.{entity_seen};
 
@@ -58,12 +59,21 @@ impl Env {
         &self.entities[number as usize]
     }
 
+    /// The declared functions of this name, by their numbers, in order of declaration.
+    pub fn entries_named(&self, name: &[u8]) -> Result<Vec<u32>, Memory>
+        ensures value { IfOk result (λ numbers. numbers.items ≡ numbers_named name.now self.now.entries) }
+        ensures known { IfOk result (λ numbers. All (λ number. number < length self.now.entries) numbers.items) }
+    {
+        let numbers = self.entries.numbers_named(self.alloc, name)?;
+        Ok(numbers)
+    }
+
     /// The declared function of this number.
     pub fn entry(&self, number: u32) -> &FunctionEntry
         requires { number < length self.now.entries }
         ensures value { slice_get self.now.entries number ≡ Some result.now }
         ensures known { IsEntry self.now.types result.now }
     {
-        &self.entries[number as usize]
+        self.entries.get(number)
     }
 }

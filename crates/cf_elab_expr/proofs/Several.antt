@@ -37,16 +37,16 @@ module _ (start : Answer (List elaborated.Operand)) (found : List Operand) (es :
 
 -- ---- parameters
 
-pub parameters_end : (found : List Parameter) (ps : List Param) (i : ℕ) (env : Env) → length ps ≤ i → behind found (shut.parameters (drop i ps) env) ≡ Made found env
-unfolding shut.parameters
-parameters_end found ps i env le = order.at_end shut.parameter found ps i env le
+pub parameters_end : (found : List Parameter) (ps : List Param) (i : ℕ) (env : Env) → length ps ≤ i → behind found (shut.object_parameters (drop i ps) env) ≡ Made found env
+unfolding shut.object_parameters
+parameters_end found ps i env le = order.at_end shut.object_parameter found ps i env le
 
 module _ (start : Answer (List Parameter)) (found : List Parameter) (ps : List Param) (i : ℕ) (p : Param) (env : Env)
-    (so_far : start ≡ behind found (shut.parameters (drop i ps) env)) (within : i < length ps) (there : p ≡ get_or ps i p) where
-  pub parameters_stopped : (stop : Stop) → Stops (shut.parameter p env) stop → Stops start stop
-  unfolding shut.parameters
-  parameters_stopped = order.stopped shut.parameter found ps i p env start so_far within there
+    (so_far : start ≡ behind found (shut.object_parameters (drop i ps) env)) (within : i < length ps) (there : p ≡ get_or ps i p) where
+  pub parameters_stopped : (stop : Stop) → Stops (shut.object_parameter p env) stop → Stops start stop
+  unfolding shut.object_parameters
+  parameters_stopped = order.stopped shut.object_parameter found ps i p env start so_far within there
 
-  pub parameters_going : (q : Parameter) (next : Env) → shut.parameter p env ≡ Made q next → start ≡ behind (found ++ q ∷ []) (shut.parameters (drop (i + 1) ps) next)
-  unfolding shut.parameters
-  parameters_going = order.going shut.parameter found ps i p env start so_far within there
+  pub parameters_going : (q : Parameter) (next : Env) → shut.object_parameter p env ≡ Made q next → start ≡ behind (found ++ q ∷ []) (shut.object_parameters (drop (i + 1) ps) next)
+  unfolding shut.object_parameters
+  parameters_going = order.going shut.object_parameter found ps i p env start so_far within there

@@ -1,5 +1,5 @@
 -- What declarators, parameters and types in brackets are by their parts (8).
-use Rattle.std.proofs.Common.{◌≡◌, ℕ, Bool, List, Option, None, Some, refl, sym, ap, subst, ◌∙◌}
+use Rattle.std.proofs.Common.{◌≡◌, ℕ, ◌<◌, ◌≤◌, Bool, List, [], ◌∷◌, length, map, get_or, Option, None, Some, refl, sym, ap, subst, ◌∙◌, arith}
 use Rattle.cf_syntax.specs.declared.declarator.DeclTree.{DeclTree, roll-DeclTree}
 use Rattle.cf_syntax.specs.declared.declarator.DeclTree.TheOpen.{DeclTree-F}
 use Rattle.cf_syntax.specs.declared.declarator.DeclTree.TheFolds.{fold-roll-DeclTree, fold_out-Param, fold_out-TypeId, map-DeclTree}
@@ -10,8 +10,8 @@ use Rattle.cf_syntax.specs.declared.expression.Expr.{Expr}
 use Rattle.cf_syntax.specs.declared.name.Name.{Name as WrittenName}
 use Rattle.cf_syntax.specs.declared.specifier.Pointer.{Pointer}
 use Rattle.cf_syntax.specs.declared.specifier.TypeSpecifier.{TypeSpecifier}
-use Rattle.cf_elab.specs.Answer.{Answer, Made, Refused, Passed, onward, Elab, ◌>>=◌, ◌>>◌, gives, none_at}
-use Rattle.cf_elab.specs.Declarator.{Declared, declared_step, parameter_step, type_id_step, pointed, words_of, as_object}
+use Rattle.cf_elab.specs.Answer.{Answer, Made, Refused, Passed, onward, Elab, ◌>>=◌, ◌>>◌, gives, none_at, each}
+use Rattle.cf_elab.specs.Declarator.{Declared, declared_step, parameter_step, type_id_step, pointed, words_of, as_object, object_parameter}
 use Rattle.cf_elab.specs.Env.{Env}
 use Rattle.cf_elab.specs.Expression.{elaborated, declared, expression_step}
 use Rattle.cf_elab.specs.Operand.{Part}
@@ -20,6 +20,7 @@ use Rattle.cf_elab.specs.Shape.{Parameter, Shape, typed, bounds_constant}
 use Rattle.cf_elab.specs.Specifiers.{Word, gathered, base_type, parameter_conflict}
 use Rattle.cf_elab_env.specs.Answered.{Stops}
 use Rattle.cf_elab_env.specs.declared.stop.Stop.{Stop}
+use Rattle.cf_elab_env.specs.declared.stop.Stop.TheVariants.{Broken as RuleBroken, Passed as LimitPassed, Memory}
 use Rattle.cf_elab_shape.specs.Seen.{pointed_shape}
 use Rattle.cf_elab_shape.specs.Shut as shape_row
 use Rattle.cf_elab_shape.proofs.StepLaws.{pointed_is}
@@ -117,9 +118,9 @@ module _ (env : Env) where
 
   -- behind what stands inside
   pub taking_is : (at : ℕ) (ps : List Param) (c : Bool) (s : Shape)
-      → shut.taking at ps c s env ≡ onward (shut.parameters ps env) (λ all env. onward (shape_row.parameters all env) (λ qs env. Made (shape.taking at qs c s) env))
-  unfolding shut.taking shut.parameters shape_row.parameters
-  taking_is at ps c s = through (shut.parameters ps env) (λ all env. shape_row.parameters all env) (λ qs env. Made (shape.taking at qs c s) env)
+      → shut.taking at ps c s env ≡ onward (shut.parameters ps env) (λ qs env. Made (shape.taking at qs c s) env)
+  unfolding shut.taking shut.parameters
+  taking_is at ps c s = refl
 
   pub holding_is : (at : ℕ) (b : Option Expr) (s : Shape) → shut.holding at b s env ≡ onward (shut.bound b env) (λ v env. Made (shape.holding at v s) env)
   unfolding shut.holding shut.bound
@@ -156,6 +157,55 @@ unfolding shut.type_by shut.shape_of type_name.words_of type_row.type_behind
 type_by_is ss d env = refl
 
 -- ---- parameters
+
+pub object_parameter_is : (p : Param) (env : Env)
+    → shut.object_parameter p env ≡ onward (shut.parameter p env) (λ q env. onward (shape_row.no_void q env) (λ _ env. Made q env))
+unfolding shut.object_parameter shut.parameter shape_row.no_void
+object_parameter_is p env = refl
+
+same_objects : (ps : List Param) (env : Env) → each object_parameter (map parameter ps) env ≡ shut.object_parameters ps env
+unfolding shut.object_parameters shut.object_parameter shut.parameter
+same_objects [] env = refl
+same_objects (p ∷ ps) env =
+    onward-same (object_parameter (parameter p) env) (λ y e. onward (each object_parameter (map parameter ps) e) (λ ys e. Made (y ∷ ys) e)) (λ y e. onward (shut.object_parameters ps e) (λ ys e. Made (y ∷ ys) e))
+    (λ y e. ap (λ a. onward a (λ ys e. Made (y ∷ ys) e)) (same_objects ps e))
+
+pub one_parameter : (ps : List Param) (p : Param) (env : Env) → 1 ≤ length ps → length ps < 2 → p ≡ get_or ps 0 p
+    → shut.parameters ps env ≡ onward (shut.parameter p env) (λ q env. shape_row.only_parameter q env)
+unfolding shut.parameters shut.parameter shape_row.only_parameter
+one_parameter [] p env some few is = absurd (omega arith)
+one_parameter (q ∷ []) p env some few is = ap (λ (x : Param). shut.parameters (x ∷ []) env) (sym is)
+one_parameter (q ∷ r ∷ ps) p env some few is = absurd (omega arith)
+
+pub more_parameters : (ps : List Param) (env : Env) → (length ps ≡ 1 → ⊥) → shut.parameters ps env ≡ shut.object_parameters ps env
+unfolding shut.parameters shut.parameter
+more_parameters [] env other = same_objects [] env
+more_parameters (p ∷ []) env other = absurd (other refl)
+more_parameters (p ∷ q ∷ ps) env other = same_objects (p ∷ q ∷ ps) env
+
+pub ruleset parameters_laws = (one_parameter, more_parameters)
+
+-- what stops a step stops what is behind it
+stops_behind : {A B : Type 0} (a : Answer A) (f : A → Elab B) (stop : Stop) → Stops a stop → Stops (onward a f) stop
+stops_behind a f (RuleBroken b) g = ap (λ a. onward a f) g
+stops_behind a f (LimitPassed l) g = ap (λ a. onward a f) g
+stops_behind a f Memory g = tt
+
+module _ (ps : List Param) (p : Param) (env : Env) (some : 1 ≤ length ps) (few : length ps < 2) (is : p ≡ get_or ps 0 p) where
+  abbrev alone : Answer Parameter → Answer (List Parameter)
+  alone a = onward a (λ q env. shape_row.only_parameter q env)
+
+  pub parameter_stops : (stop : Stop) → Stops (shut.parameter p env) stop → Stops (shut.parameters ps env) stop
+  parameter_stops stop g =
+      subst (λ (a : Answer (List Parameter)). Stops a stop) (sym (one_parameter ps p env some few is))
+      (stops_behind (shut.parameter p env) (λ q env. shape_row.only_parameter q env) stop g)
+
+  pub list_stops : (q : Parameter) (next : Env) (stop : Stop) → shut.parameter p env ≡ Made q next → Stops (shape_row.only_parameter q next) stop → Stops (shut.parameters ps env) stop
+  list_stops q next stop h g = subst (λ (a : Answer (List Parameter)). Stops a stop) (sym (one_parameter ps p env some few is ∙ ap alone h)) g
+
+  pub list_made : (q : Parameter) (list : List Parameter) (next : Env) → shut.parameter p env ≡ Made q next → shape_row.only_parameter q next ≡ Made list next
+      → shut.parameters ps env ≡ Made list next
+  list_made q list next h g = one_parameter ps p env some few is ∙ ap alone h ∙ g
 
 -- what comes behind five steps comes behind the last of them
 module _ {B C D E F : Type 0} (b : Elab B) (t : B → Elab C) (c : Elab D) (o : C → Elab E) (go : E → Elab F) where

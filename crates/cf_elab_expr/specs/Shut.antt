@@ -112,12 +112,20 @@ parameter_by at ss d = do
   t ← parameter_behind ws s
   gives (record { at = at; name = (declared d).name; type = t; default = None })
 
+-- one that is an object
+unfoldable pub object_parameter : Param → Elab Parameter
+object_parameter p = declarator.object_parameter (parameter p)
+
+unfoldable pub object_parameters : List Param → Elab (List Parameter)
+object_parameters ps = all (map object_parameter ps)
+
+-- those of a function: `(void)` has none
 unfoldable pub parameters : List Param → Elab (List Parameter)
-parameters ps = all (map parameter ps)
+parameters ps = declarator.parameters (map parameter ps)
 
 -- a declarator of a function, and of an array, whose inside is elaborated
 unfoldable pub taking : ℕ → List Param → Bool → Shape → Elab Shape
-taking at ps is_const s = all (map parameter ps) >>= declarator.parameters >>= (λ qs. gives (shape.taking at qs is_const s))
+taking at ps is_const s = declarator.parameters (map parameter ps) >>= (λ qs. gives (shape.taking at qs is_const s))
 
 unfoldable pub holding : ℕ → Option Expr → Shape → Elab Shape
 holding at b s = maybe evaluated (option_map elaborated b) >>= (λ v. gives (shape.holding at v s))

@@ -1,10 +1,10 @@
 //! Declarators with the bounds and the parameters in them (8.2).
 
-ghost use Rattle.std.specs.Prelude.{◌≡◌, None, All, IfOk, OnOk};
+ghost use Rattle.std.specs.Prelude.{◌≡◌, None, IfOk, OnOk};
 ghost use Rattle.cf_elab.specs.Built.{of_specifiers};
 ghost use Rattle.cf_elab_env.specs.Answered.{Agrees, AgreesAs};
 ghost use Rattle.cf_elab_env.specs.Holds.{Grows, IsType};
-ghost use Rattle.cf_elab_shape.specs.Holds.{IsShape};
+ghost use Rattle.cf_elab_shape.specs.Holds.{AreObjects, IsParameter, IsShape};
 ghost use Rattle.cf_elab_shape.specs.Seen.{shape_seen};
 ghost use Rattle.cf_elab_expr.specs.Shut as shut;
 
@@ -13,7 +13,7 @@ use crate::expression::evaluated;
 use crate::names::copied_name;
 use cf_base::{Boxed, Items};
 use cf_elab_env::{Env, Stop, Value};
-use cf_elab_shape::{Parameter, Shape, parameters, pointed};
+use cf_elab_shape::{Parameter, Shape, check_parameter, only_parameter, pointed};
 use cf_elab_type_id::parameter_behind;
 use cf_elab_type_names::words_of;
 use cf_syntax::{DeclTree, Expr, Param, TypeSpecifier};
@@ -71,8 +71,7 @@ fn taking(
     ensures known { IfOk result (λ s. IsShape env.new.types (shape_seen s)) }
     ensures grows { OnOk result (Grows env.old.types env.new.types) }
 {
-    let found = written_parameters(all, env)?;
-    let parameters = parameters(env, found)?;
+    let parameters = parameters(all, env)?;
     let inside = Boxed::new(env.alloc(), inside)?;
     Ok(Shape::Taking {
         at,
@@ -119,19 +118,55 @@ fn bound(written: &Option<Boxed<Expr>>, env: &mut Env) -> Result<Option<Value>, 
     }
 }
 
-/// Parameters as they are written, in order (8.2.5).
+/// The parameters of a function: none of `(void)`, and otherwise each is an object, K26, before the next is elaborated (8.2.5).
 #[cycle(expressions)]
-#[tactic(auto, using(cf_elab_env::proofs::Growth::grown_laws))]
-fn written_parameters(all: &[Param], env: &mut Env) -> Result<Items<Parameter>, Stop>
+#[tactic(auto, using(crate::proofs::Trees::parameters_laws, cf_elab_env::proofs::Growth::grown_laws))]
+fn parameters(all: &[Param], env: &mut Env) -> Result<Items<Parameter>, Stop>
     requires { shut.ParametersAreBuilt all.now }
     ensures made { Agrees (shut.parameters all.now env.old) result env.new }
-    ensures known { IfOk result (λ ps. All (λ p. IsType env.new.types p.type) ps) }
+    ensures known { IfOk result (λ ps. AreObjects env.new.types ps) }
+    ensures grows { OnOk result (Grows env.old.types env.new.types) }
+{
+    match all {
+        [only] => {
+            let found = parameter(only, env)?;
+            let list = only_parameter(env, found)?;
+            Ok(list)
+        }
+        _ => {
+            let list = object_parameters(all, env)?;
+            Ok(list)
+        }
+    }
+}
+
+/// Parameters that are objects, in order.
+#[cycle(expressions)]
+#[tactic(auto, using(cf_elab_shape::proofs::ParameterLaws::objects_grown, cf_elab_env::proofs::Growth::grown_laws))]
+fn object_parameters(all: &[Param], env: &mut Env) -> Result<Items<Parameter>, Stop>
+    requires { shut.ParametersAreBuilt all.now }
+    ensures made { Agrees (shut.object_parameters all.now env.old) result env.new }
+    ensures known { IfOk result (λ ps. AreObjects env.new.types ps) }
     ensures grows { OnOk result (Grows env.old.types env.new.types) }
 {
     let mut found = Items::new(env.alloc());
     for p in all {
-        found.push(parameter(p, env)?)?;
+        found.push(object_parameter(p, env)?)?;
     }
+    Ok(found)
+}
+
+/// A parameter that is an object, K26.
+#[cycle(expressions)]
+#[tactic(auto, using(crate::proofs::Trees::object_parameter_is, cf_elab_env::proofs::Growth::grown_laws))]
+fn object_parameter(p: &Param, env: &mut Env) -> Result<Parameter, Stop>
+    requires { shut.ParameterIsBuilt p.now }
+    ensures made { Agrees (shut.object_parameter p.now env.old) result env.new }
+    ensures known { IfOk result (λ p. IsParameter env.new.types p) }
+    ensures grows { OnOk result (Grows env.old.types env.new.types) }
+{
+    let found = parameter(p, env)?;
+    check_parameter(env, &found)?;
     Ok(found)
 }
 

@@ -1,5 +1,6 @@
 -- A function that is known and said again.
 use Rattle.std.proofs.Common.{◌≡◌, ℕ, zero, suc, ◌==◌, ◌<◌, Bool, true, false, not, ◌||◌, List, [], Option, None, Some, slice_get, length, ◌∷◌, refl, sym, ap, ◌∙◌, arith}
+use Rattle.std.specs.Option.{option_map}
 use Rattle.cf_classes.specs.TypeTree.{params_of}
 use Rattle.cf_elab.specs.Answer.{Answer, Elab, Made, Refused, onward, need, none_at}
 use Rattle.cf_elab.specs.Arguments.{fun_at, result_of}
@@ -8,6 +9,7 @@ use Rattle.cf_elab.specs.Functions as functions
 use Rattle.cf_elab.specs.Functions.{Says, default_fault, earlier_defaults, new_defaults, says_internal, is_library, parameters_complete, set_entry}
 use Rattle.cf_elab.specs.Names.{replaced}
 use Rattle.cf_elab.specs.Shape.{Parameter}
+use Rattle.cf_elab_env.specs.Entries.{HasName}
 use Rattle.cf_elab_env.specs.Holds.{IsEnv}
 use Rattle.cf_elab_env.specs.Shut as made
 use Rattle.cf_elab_functions.specs.Shut as shut
@@ -98,6 +100,10 @@ module _ (n : ℕ) (x : FunctionEntry) (env new : Env) (set : made.set_entry n x
 
   pub entities_kept : new.entities ≡ env.entities
   entities_kept = ap (λ (e : Env). e.entities) (sym new_is)
+
+-- it keeps its name
+pub name_kept : (env : Env) (n : ℕ) (f x : FunctionEntry) (b : Bool) → slice_get env.entries n ≡ Some f → x ≡ record f { defaults = []; is_defined = b } → HasName env.entries n x.name
+name_kept env n f x b has is = ap (option_map (λ (g : FunctionEntry). g.name)) has ∙ ap (λ (g : FunctionEntry). Some g.name) (sym is)
 
 pub ruleset need_laws = (is_so, is_not_so)
 

@@ -5,7 +5,7 @@ use Rattle.std.specs.List.{list_any}
 use Rattle.cf_types.specs.declared.ty.Fun.{Fun}
 use Rattle.cf_types.specs.Table.{Table}
 use Rattle.cf_elab.specs.Answer.{Answer, Made, Refused, need}
-use Rattle.cf_elab.specs.Env.{Env}
+use Rattle.cf_elab.specs.Env.{Env, FunctionEntry}
 use Rattle.cf_elab.specs.Functions.{Says, says_internal, is_called_main}
 use Rattle.cf_elab_functions.specs.Shut as shut
 
@@ -41,29 +41,61 @@ module _ (int_type : ℕ) (d : Says) (env : Env) where
   main_wrong h f = ap (λ m. asked m (shut.main_form env.types int_type d)) h ∙ ap (asked true) f
 
 module _ (d : Says) (env : Env) where
-  abbrev found : Bool → Bool → Bool → Answer (Unit {0})
-  found elsewhere defines among = need (elsewhere || defines || among) 48 d.at env
+  abbrev found : Bool → Bool → Bool → Bool → Answer (Unit {0})
+  found elsewhere defines initialised among = need (elsewhere || defines || initialised || among) 48 d.at env
 
-  definition_is : shut.need_definition d env ≡ found env.extent.elsewhere d.defines (list_any (bytes_eq d.name) env.defines)
+  abbrev among : Bool
+  among = list_any (bytes_eq d.name) env.defines
+
+  definition_is : shut.need_definition d env ≡ found env.extent.elsewhere d.defines d.is_initialised among
   unfolding shut.need_definition
   definition_is = refl
 
   pub elsewhere_fine : env.extent.elsewhere ≡ true → shut.need_definition d env ≡ Made tt env
-  elsewhere_fine h = definition_is ∙ ap (λ e. found e d.defines (list_any (bytes_eq d.name) env.defines)) h
+  elsewhere_fine h = definition_is ∙ ap (λ e. found e d.defines d.is_initialised among) h
+
+  here : env.extent.elsewhere ≡ false → shut.need_definition d env ≡ found false d.defines d.is_initialised among
+  here e = definition_is ∙ ap (λ e. found e d.defines d.is_initialised among) e
 
   pub defined_fine : env.extent.elsewhere ≡ false → d.defines ≡ true → shut.need_definition d env ≡ Made tt env
-  defined_fine e h = definition_is ∙ ap (λ e. found e d.defines (list_any (bytes_eq d.name) env.defines)) e ∙ ap (λ b. found false b (list_any (bytes_eq d.name) env.defines)) h
+  defined_fine e h = here e ∙ ap (λ b. found false b d.is_initialised among) h
 
-  pub among_fine : env.extent.elsewhere ≡ false → d.defines ≡ false → list_any (bytes_eq d.name) env.defines ≡ true → shut.need_definition d env ≡ Made tt env
-  among_fine e h a =
-      definition_is ∙ ap (λ e. found e d.defines (list_any (bytes_eq d.name) env.defines)) e ∙ ap (λ b. found false b (list_any (bytes_eq d.name) env.defines)) h ∙ ap (found false false) a
+  declared : env.extent.elsewhere ≡ false → d.defines ≡ false → shut.need_definition d env ≡ found false false d.is_initialised among
+  declared e h = here e ∙ ap (λ b. found false b d.is_initialised among) h
 
-  pub not_defined : env.extent.elsewhere ≡ false → d.defines ≡ false → list_any (bytes_eq d.name) env.defines ≡ false → shut.need_definition d env ≡ Refused 48 d.at
-  not_defined e h a =
-      definition_is ∙ ap (λ e. found e d.defines (list_any (bytes_eq d.name) env.defines)) e ∙ ap (λ b. found false b (list_any (bytes_eq d.name) env.defines)) h ∙ ap (found false false) a
+  pub initialised_fine : env.extent.elsewhere ≡ false → d.defines ≡ false → d.is_initialised ≡ true → shut.need_definition d env ≡ Made tt env
+  initialised_fine e h i = declared e h ∙ ap (λ b. found false false b among) i
+
+  pub among_fine : env.extent.elsewhere ≡ false → d.defines ≡ false → d.is_initialised ≡ false → list_any (bytes_eq d.name) env.defines ≡ true → shut.need_definition d env ≡ Made tt env
+  among_fine e h i a = declared e h ∙ ap (λ b. found false false b among) i ∙ ap (found false false false) a
+
+  pub not_defined : env.extent.elsewhere ≡ false → d.defines ≡ false → d.is_initialised ≡ false → list_any (bytes_eq d.name) env.defines ≡ false → shut.need_definition d env ≡ Refused 48 d.at
+  not_defined e h i a = declared e h ∙ ap (λ b. found false false b among) i ∙ ap (found false false false) a
+
+  -- ---- the only one of its name
+
+  abbrev alone : Bool → Bool → Answer (Unit {0})
+  alone overloads named = need (overloads || not named) 48 d.at env
+
+  abbrev named : Bool
+  named = list_any (λ (f : FunctionEntry). bytes_eq f.name d.name) env.entries
+
+  pub overloaded : env.extent.overloads ≡ true → shut.need_single d env ≡ Made tt env
+  unfolding shut.need_single
+  overloaded h = ap (λ o. alone o named) h
+
+  pub only_one : env.extent.overloads ≡ false → list_any (λ (f : FunctionEntry). bytes_eq f.name d.name) env.entries ≡ false → shut.need_single d env ≡ Made tt env
+  unfolding shut.need_single
+  only_one o h = ap (λ o. alone o named) o ∙ ap (alone false) h
+
+  pub another_one : env.extent.overloads ≡ false → list_any (λ (f : FunctionEntry). bytes_eq f.name d.name) env.entries ≡ true → shut.need_single d env ≡ Refused 48 d.at
+  unfolding shut.need_single
+  another_one o h = ap (λ o. alone o named) o ∙ ap (alone false) h
 
 pub ruleset main_laws = (other_name, main_fine, main_wrong)
 
 pub ruleset form_laws = (some_form, no_form)
 
-pub ruleset definition_laws = (elsewhere_fine, defined_fine, among_fine, not_defined)
+pub ruleset definition_laws = (elsewhere_fine, defined_fine, initialised_fine, among_fine, not_defined)
+
+pub ruleset single_laws = (overloaded, only_one, another_one)

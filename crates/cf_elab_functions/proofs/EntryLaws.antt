@@ -1,48 +1,81 @@
--- The function of a name and parameters, entry by entry.
-use Rattle.std.proofs.Common.{◌≡◌, ℕ, suc, ◌+◌, ◌<◌, Bool, true, false, ◌&&◌, if◌then◌else◌, List, [], ◌∷◌, length, drop, get_or, Option, None, Some, refl, sym, ap, ◌∙◌, arith, add-one, drop-cons}
-use Rattle.std.proofs.Math.ListN.{drop_of_length-le}
+-- The function of a name and parameters, among the functions of the name.
+use Rattle.std.proofs.Common.{◌≡◌, ℕ, zero, suc, ◌+◌, ◌<◌, ◌≤◌, Bool, true, false, ◌&&◌, cond, if◌then◌else◌, List, [], ◌∷◌, length, map, filter, drop, get_or, slice_get, Option, None, Some, refl, sym, ap, ◌∙◌, arith}
+use Rattle.std.proofs.lemmas.Cmp.{nat_list_eq_equiv}
+use Rattle.std.proofs.lemmas.List.{at_drop_more, at_drop_all}
 use Rattle.std.specs.Prelude.{bytes_eq, nat_eq}
 use Rattle.std.specs.Cmp.Lexicographic.{pointwise}
 use Rattle.cf_types.specs.Table.{Table}
+use Rattle.cf_classes.specs.TypeTree.{params_of}
+use Rattle.cf_elab.specs.Arguments.{fun_at}
 use Rattle.cf_elab.specs.Env.{Env, Name, FunctionEntry}
-use Rattle.cf_elab.specs.Functions.{Says}
-use Rattle.cf_elab_functions.specs.Entries.{entry_from}
+use Rattle.cf_elab.specs.Functions.{Says, same_params}
+use Rattle.cf_elab_env.specs.Entries.{numbered, numbers_named}
+use Rattle.cf_elab_functions.specs.Entries.{has_params, by_params, first_of}
 use Rattle.cf_elab_functions.specs.Shut as shut
 
 pub same_is : (types : Table) (t u : ℕ) (a b : List ℕ) (r : Bool) → a ≡ shut.params_of types t → b ≡ shut.params_of types u → r ≡ pointwise nat_eq a b → r ≡ shut.same_params types t u
 unfolding shut.params_of shut.same_params
 same_is types t u a b r p q h = h ∙ ap (λ a. pointwise nat_eq a b) p ∙ ap (pointwise nat_eq (shut.params_of types t)) q
 
-module _ (types : Table) (name : Name) (t i : ℕ) (fs : List FunctionEntry) where
-  pub at_end : i ≡ length fs → None ≡ entry_from types name t i (drop i fs)
-  unfolding entry_from
-  at_end is = sym (ap (λ l. entry_from types name t i l) (drop_of_length-le fs (omega arith)))
+-- ---- number by number
 
-  module _ (f : FunctionEntry) (inside : i < length fs) (is : f ≡ get_or fs i f) where
-    back : drop i fs ≡ f ∷ drop (i + 1) fs
-    back = drop-cons fs i f inside ∙ ap (λ x. x ∷ drop (suc i) fs) (sym is) ∙ ap (λ j. f ∷ drop j fs) (sym (add-one i))
+module _ (types : Table) (fs : List FunctionEntry) (t i : ℕ) (ns : List ℕ) (so_far : first_of types fs t (drop i ns) ≡ first_of types fs t ns) where
+  pub none_fits : length ns ≤ i → None ≡ first_of types fs t ns
+  unfolding first_of
+  none_fits ended = sym (sym so_far ∙ at_drop_all (first_of types fs t) ns i ended)
 
-    pub found_here : (b : Bool) → b ≡ (bytes_eq f.name name && shut.same_params types t f.type) → b ≡ true → Some i ≡ entry_from types name t i (drop i fs)
-    unfolding entry_from shut.same_params
-    found_here b h found =
-        sym (ap (λ l. entry_from types name t i l) back ∙ ap (λ b. if b then Some i else entry_from types name t (i + 1) (drop (i + 1) fs)) (sym h ∙ found))
+  module _ (n d : ℕ) (f : FunctionEntry) (b : Bool) (inside : i < length ns) (is : n ≡ get_or ns i d) (has : slice_get fs n ≡ Some f) (h : b ≡ shut.same_params types t f.type) where
+    turn : first_of types fs t ns ≡ (if b then Some n else first_of types fs t (drop (i + 1) ns))
+    unfolding first_of shut.same_params
+    turn =
+        sym so_far ∙ at_drop_more (first_of types fs t) ns i d inside ∙ ap (λ m. first_of types fs t (m ∷ drop (i + 1) ns)) (sym is)
+        ∙ ap (λ o. if has_params types (params_of (fun_at types t)) o then Some n else first_of types fs t (drop (i + 1) ns)) has
+        ∙ ap (λ b. if b then Some n else first_of types fs t (drop (i + 1) ns)) (sym h)
 
-    pub found_behind : (b : Bool) (o : Option ℕ) → b ≡ (bytes_eq f.name name && shut.same_params types t f.type) → b ≡ false → o ≡ entry_from types name t (i + 1) (drop (i + 1) fs)
-        → o ≡ entry_from types name t i (drop i fs)
-    unfolding entry_from shut.same_params
-    found_behind b o h no_one rest =
-        rest ∙ sym (ap (λ l. entry_from types name t i l) back ∙ ap (λ b. if b then Some i else entry_from types name t (i + 1) (drop (i + 1) fs)) (sym h ∙ no_one))
+    pub one_fits : b ≡ true → Some n ≡ first_of types fs t ns
+    one_fits fits = sym (turn ∙ ap (λ b. if b then Some n else first_of types fs t (drop (i + 1) ns)) fits)
 
-pub entry_is : (env : Env) (d : Says) (o : Option ℕ) → o ≡ entry_from env.types d.name d.type 0 (drop 0 env.entries) → o ≡ shut.entry_of env d
-unfolding entry_from shut.entry_of
-entry_is env d o h = h ∙ by env.entries
+    pub other_is : b ≡ false → first_of types fs t (drop (i + 1) ns) ≡ first_of types fs t ns
+    other_is other = sym (turn ∙ ap (λ b. if b then Some n else first_of types fs t (drop (i + 1) ns)) other)
+
+-- ---- the functions of the name alone
+
+-- as the definition has it
+abbrev entry_from : Table → Name → List ℕ → ℕ → List FunctionEntry → Option ℕ
+entry_from types name ps n [] = None
+entry_from types name ps n (f ∷ fs) = if bytes_eq f.name name && same_params types ps f.type then Some n else entry_from types name ps (n + 1) fs
+
+module _ (types : Table) (all : List FunctionEntry) (name : Name) (ps : List ℕ) where
+  by_name : (n : ℕ) (f : FunctionEntry) (r : List (Name × ℕ)) → slice_get all n ≡ Some f → (b : Bool)
+      → by_params types all ps (map (λ (x : Name × ℕ). x.1) (cond b ((f.name, n) ∷ r) r))
+      ≡ (if b && same_params types ps f.type then Some n else by_params types all ps (map (λ (x : Name × ℕ). x.1) r))
+  by_name n f r has true = ap (λ o. if has_params types ps o then Some n else by_params types all ps (map (λ (x : Name × ℕ). x.1) r)) has
+  by_name n f r has false = refl
+
+  from_is : (n : ℕ) (fs : List FunctionEntry) → ((i : ℕ) → slice_get all (n + i) ≡ slice_get fs i)
+      → by_params types all ps (map (λ (x : Name × ℕ). x.1) (filter (λ (x : Name × ℕ). pointwise nat_eq name x.0) (numbered n fs))) ≡ entry_from types name ps n fs
+  from_is n [] at = refl
+  from_is n (f ∷ fs) at =
+      let here : n ≡ n + 0 = omega arith in
+      let has : slice_get all n ≡ Some f = ap (slice_get all) here ∙ at 0 in
+      let further : (i : ℕ) → (n + 1) + i ≡ n + suc i = λ i. omega arith in
+      let rest = filter (λ (x : Name × ℕ). pointwise nat_eq name x.0) (numbered (n + 1) fs) in
+      by_name n f rest has (pointwise nat_eq name f.name)
+      ∙ (λ i. if nat_list_eq_equiv.symm name f.name i && same_params types ps f.type then Some n
+      else from_is (n + 1) fs (λ i. ap (slice_get all) (further i) ∙ at (suc i)) i)
+
+pub entry_is : (env : Env) (d : Says) (o : Option ℕ) (ns ms : List ℕ) (name : Name) → o ≡ first_of env.types env.entries d.type ns → ns ≡ ms → ms ≡ numbers_named name env.entries → name ≡ d.name
+    → o ≡ shut.entry_of env d
+unfolding first_of shut.entry_of
+entry_is env d o ns ms name h held is called =
+    h ∙ ap (first_of env.types env.entries d.type) (held ∙ is ∙ ap (λ (n : Name). numbers_named n env.entries) called)
+    ∙ from_is env.types env.entries d.name (params_of (fun_at env.types d.type)) 0 env.entries (λ i. ap (slice_get env.entries) (zero_more i))
   where
-    by : (fs : List FunctionEntry) → entry_from env.types d.name d.type 0 (drop 0 fs) ≡ entry_from env.types d.name d.type 0 fs
-    by [] = refl
-    by (f ∷ fs) = refl
+    zero_more : (i : ℕ) → 0 + i ≡ i
+    zero_more i = omega arith
 
 pub ruleset same_laws = (same_is)
 
-pub ruleset from_laws = (at_end, found_here, found_behind)
+pub ruleset first_laws = (none_fits, one_fits, other_is)
 
 pub ruleset entry_laws = (entry_is)

@@ -2,7 +2,7 @@
 use Rattle.std.proofs.Common.{◌≡◌, ℕ, ◌<◌, Bool, true, false, if◌then◌else◌, nat_eq, List, [], ◌∷◌, ◌++◌, Option, None, Some, slice_get, All, refl, sym, ap, ◌∙◌}
 use Rattle.std.proofs.lemmas.List.Elements.{All-push}
 use Rattle.std.specs.List.{list_any}
-use Rattle.cf_elab.specs.Answer.{Answer, Elab, ◌>>◌, Made, Refused, onward, breaks}
+use Rattle.cf_elab.specs.Answer.{Answer, Elab, Made, Refused, breaks}
 use Rattle.cf_elab.specs.Env.{Env, Entity, functions}
 use Rattle.cf_elab.specs.Functions as declaring
 use Rattle.cf_elab.specs.Functions.{Says}
@@ -38,28 +38,21 @@ join_old d n e here env is = ap (λ o. shut.entity_joined d n o env) is
 module _ (d : Says) (n e : ℕ) (env : Env) (x : Entity) (has : slice_get env.entities e ≡ Some x) where
   -- as the definition has it
   abbrev join_set : Option Entity → Elab (Unit {0})
-  join_set (Some (functions fs)) = declaring.need_single d fs n >> redeclare e (functions (declaring.joins n fs))
+  join_set (Some (functions fs)) = redeclare e (functions (declaring.joins n fs))
   join_set other = breaks 8 d.at
 
   opened : shut.join_at d n e env ≡ join_set (Some x) env
   unfolding shut.join_at
   opened = ap (λ o. join_set o env) has
 
-  pub join_functions : (fs : List ℕ) → x ≡ functions fs
-      → shut.join_at d n e env ≡ onward (shut.need_single d fs n env) (λ _ g. made.redeclare e (functions (shut.joins n fs)) g)
-  unfolding shut.need_single made.redeclare shut.joins
+  join_functions : (fs : List ℕ) → x ≡ functions fs → shut.join_at d n e env ≡ made.redeclare e (functions (shut.joins n fs)) env
+  unfolding made.redeclare shut.joins
   join_functions fs is = opened ∙ ap (λ x. join_set (Some x) env) is
 
-  pub join_named : (fs gs : List ℕ) → x ≡ functions fs → gs ≡ fs
-      → shut.join_at d n e env ≡ onward (shut.need_single d gs n env) (λ _ g. made.redeclare e (functions (shut.joins n gs)) g)
-  join_named fs gs is same =
-      join_functions fs is ∙ ap (λ fs. onward (shut.need_single d fs n env) (λ _ g. made.redeclare e (functions (shut.joins n fs)) g)) (sym same)
-
-  pub join_made : (fs gs hs all : List ℕ) (new : Env) → x ≡ functions fs → gs ≡ fs → shut.need_single d gs n env ≡ Made tt env → hs ≡ fs → all ≡ shut.joins n hs
-      → made.redeclare e (functions all) env ≡ Made tt new → shut.join_at d n e env ≡ Made tt new
-  join_made fs gs hs all new is same single other joined set =
-      join_named fs gs is same ∙ ap (λ a. onward a (λ _ g. made.redeclare e (functions (shut.joins n gs)) g)) single
-      ∙ ap (λ l. made.redeclare e (functions l) env) (ap (shut.joins n) (same ∙ sym other) ∙ sym joined) ∙ set
+  pub join_made : (fs gs all : List ℕ) (new : Env) → x ≡ functions fs → gs ≡ fs → all ≡ shut.joins n gs → made.redeclare e (functions all) env ≡ Made tt new
+      → shut.join_at d n e env ≡ Made tt new
+  join_made fs gs all new is same joined set =
+      join_functions fs is ∙ ap (λ l. made.redeclare e (functions l) env) (ap (shut.joins n) (sym same) ∙ sym joined) ∙ set
 
   pub join_other : ((fs : List ℕ) → x ≡ functions fs → ⊥) → shut.join_at d n e env ≡ Refused 8 d.at
   join_other other = opened ∙ by x other

@@ -75,26 +75,32 @@ module _ (env : Env) (e : IsEnv env) (d : Says) where
 
   -- where its declaration gives no default arguments
   pub new_from : functions.defaults_of d [] env ≡ Made [] env → shut.new_entry d env
-      ≡ onward (shut.need_definition d env) (λ _ g. onward (links.name_or_limit (links.function_link env d.called d.type) g) (λ l f. Made (length env.entries) (entered env d l f)))
-  unfolding shut.new_entry shut.need_definition links.name_or_limit links.function_link
-  new_from given =
-      ap (λ a. onward a rest) given ∙ ap behind parameters_fine
-      ∙ by (env.extent.elsewhere || d.defines || list_any (bytes_eq d.name) env.defines)
+      ≡ onward (shut.need_single d env) (λ _ e. onward (shut.need_definition d e) (λ _ g.
+      onward (links.name_or_limit (links.function_link env d.called d.type) g) (λ l f. Made (length env.entries) (entered env d l f))))
+  unfolding shut.new_entry shut.need_single shut.need_definition links.name_or_limit links.function_link
+  new_from given = ap (λ a. onward a rest) given ∙ ap behind parameters_fine ∙ by (env.extent.overloads || not (list_any (λ (f : FunctionEntry). bytes_eq f.name d.name) env.entries))
     where
       tail : Env → Answer ℕ
       tail g = onward (name_within (function_link env d.called d.type) g) (λ _ h. Made (length env.entries) (entered env d (function_link env d.called d.type) h))
 
       behind : Bool → Answer ℕ
-      behind b = onward (need b 30 d.at env) (λ _ f. onward (functions.need_definition env d f) (λ _ g. tail g))
+      behind b = onward (need b 30 d.at env) (λ _ f. onward (functions.need_single env d f) (λ _ g. onward (functions.need_definition env d g) (λ _ h. tail h)))
 
       rest : List Default → Env → Answer ℕ
       rest ds f =
-          onward (need (parameters_complete f d) 30 d.at f) (λ _ g. onward (functions.need_definition f d g) (λ _ h.
-          onward (name_within (function_link f d.called d.type) h) (λ _ i. Made (length f.entries) (record i { entries = i.entries ++ entry f d ds ∷ [] }))))
+          onward (need (parameters_complete f d) 30 d.at f) (λ _ g. onward (functions.need_single f d g) (λ _ h. onward (functions.need_definition f d h) (λ _ i.
+          onward (name_within (function_link f d.called d.type) i) (λ _ j. Made (length f.entries) (record j { entries = j.entries ++ entry f d ds ∷ [] })))))
 
-      by : (b : Bool) → onward (need b 48 d.at env) (λ _ g. tail g)
-          ≡ onward (need b 48 d.at env) (λ _ g. onward (onward (name_within (function_link env d.called d.type) g) (λ _ h. Made (function_link env d.called d.type) h)) (λ l f. Made (length env.entries) (entered env d l f)))
-      by true = paired (name_within (function_link env d.called d.type) env) (function_link env d.called d.type) (length env.entries) (entered env d)
+      paired_tail : Env → Answer ℕ
+      paired_tail g = onward (onward (name_within (function_link env d.called d.type) g) (λ _ h. Made (function_link env d.called d.type) h)) (λ l f. Made (length env.entries) (entered env d l f))
+
+      by_definition : (b : Bool) → onward (need b 48 d.at env) (λ _ g. tail g) ≡ onward (need b 48 d.at env) (λ _ g. paired_tail g)
+      by_definition true = paired (name_within (function_link env d.called d.type) env) (function_link env d.called d.type) (length env.entries) (entered env d)
+      by_definition false = refl
+
+      by : (b : Bool) → onward (need b 48 d.at env) (λ _ g. onward (functions.need_definition env d g) (λ _ h. tail h))
+          ≡ onward (need b 48 d.at env) (λ _ g. onward (functions.need_definition g d g) (λ _ h. paired_tail h))
+      by true = by_definition (env.extent.elsewhere || d.defines || d.is_initialised || list_any (bytes_eq d.name) env.defines)
       by false = refl
 
 module _ (env : Env) (d : Says) (none : d.parameters ≡ []) where
@@ -109,7 +115,8 @@ module _ (env : Env) (d : Says) (none : d.parameters ≡ []) where
   defaults_are = ap defaults_by none ∙ no_defaults types_of (earlier_defaults (length types_of) []) env
 
   pub new_is : IsEnv env → shut.new_entry d env
-      ≡ onward (shut.need_definition d env) (λ _ g. onward (links.name_or_limit (links.function_link env d.called d.type) g) (λ l f. Made (length env.entries) (entered env d l f)))
+      ≡ onward (shut.need_single d env) (λ _ e. onward (shut.need_definition d e) (λ _ g.
+      onward (links.name_or_limit (links.function_link env d.called d.type) g) (λ l f. Made (length env.entries) (entered env d l f))))
   new_is e = new_from env e d defaults_are
 
 pub ruleset new_laws = (new_is)

@@ -1,15 +1,21 @@
--- The functions of the file by their names and parameters.
-use Rattle.std.specs.Prelude.{ℕ, ◌+◌, ◌&&◌, if◌then◌else◌, List, [], ◌∷◌, Option, None, Some, bytes_eq}
+-- The functions of a name by their parameters.
+use Rattle.std.specs.Prelude.{ℕ, Bool, false, if◌then◌else◌, List, [], ◌∷◌, Option, None, Some, slice_get}
 use Rattle.cf_types.specs.Table.{Table}
 use Rattle.cf_classes.specs.TypeTree.{params_of}
 use Rattle.cf_elab.specs.Arguments.{fun_at}
-use Rattle.cf_elab.specs.Env.{Name, FunctionEntry}
+use Rattle.cf_elab.specs.Env.{FunctionEntry}
 use Rattle.cf_elab.specs.Functions.{same_params}
 
--- the first from this number on that has the name and the parameters of this function type
-abbrev by_name : Table → Name → List ℕ → ℕ → List FunctionEntry → Option ℕ
-by_name types name ps n [] = None
-by_name types name ps n (f ∷ fs) = if bytes_eq f.name name && same_params types ps f.type then Some n else by_name types name ps (n + 1) fs
+-- whether it is a function with these parameters
+abbrev pub has_params : Table → List ℕ → Option FunctionEntry → Bool
+has_params types ps None = false
+has_params types ps (Some f) = same_params types ps f.type
 
-unfoldable pub entry_from : Table → Name → ℕ → ℕ → List FunctionEntry → Option ℕ
-entry_from types name t n fs = by_name types name (params_of (fun_at types t)) n fs
+-- the first of these numbers whose function has these parameters
+abbrev pub by_params : Table → List FunctionEntry → List ℕ → List ℕ → Option ℕ
+by_params types fs ps [] = None
+by_params types fs ps (n ∷ ns) = if has_params types ps (slice_get fs n) then Some n else by_params types fs ps ns
+
+-- those of this function type
+unfoldable pub first_of : Table → List FunctionEntry → ℕ → List ℕ → Option ℕ
+first_of types fs t ns = by_params types fs (params_of (fun_at types t)) ns

@@ -21,6 +21,7 @@ says_seen d = record {
   is_static = d.is_static;
   is_inline = d.is_inline;
   defines = d.defines;
+  is_initialised = d.is_initialised;
 }
 
 -- a parameter without a default argument

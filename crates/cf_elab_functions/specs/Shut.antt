@@ -42,8 +42,8 @@ need_set here at = known >>= (λ env. need (functions.is_function_set env here) 
 unfoldable pub need_definition : Says → Elab (Unit {0})
 need_definition d = known >>= (λ env. functions.need_definition env d)
 
-unfoldable pub need_single : Says → List ℕ → ℕ → Elab (Unit {0})
-need_single = functions.need_single
+unfoldable pub need_single : Says → Elab (Unit {0})
+need_single d = known >>= (λ env. functions.need_single env d)
 
 unfoldable pub new_entry : Says → Elab ℕ
 new_entry = functions.new_entry

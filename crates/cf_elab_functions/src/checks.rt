@@ -1,4 +1,6 @@
-ghost use Rattle.std.specs.Prelude.{◌≡◌, ◌==◌, ◌&&◌, not, length};
+ghost use Rattle.std.specs.Prelude.{◌≡◌, ◌==◌, ◌&&◌, not, length, bytes_eq};
+ghost use Rattle.std.specs.List.{list_any};
+ghost use Rattle.cf_elab.specs.Env.{FunctionEntry};
 ghost use Rattle.cf_elab_env.specs.Answered.{Agrees};
 ghost use Rattle.cf_elab_env.specs.Holds.{IsType};
 ghost use Rattle.cf_elab_functions.specs.Seen.{says_seen};
@@ -48,12 +50,37 @@ fn is_main(fun: &Fun, int: TyId, is_internal: bool) -> bool
     returns_int && takes_nothing && !is_internal
 }
 
-/// While definitions in other files are not built, the file itself defines what it declares; else K48.
+/// The function is the only one of its name, while others with other parameters are not built; else K48 (13.1).
+#[tactic(auto, using(crate::proofs::CheckLaws::single_laws))]
+pub(crate) fn check_single(env: &Env, says: &Says) -> Result<(), Stop>
+    ensures { Agrees (shut.need_single (says_seen says.now) env.now) result env.now }
+{
+    if env.extent().overloads || !is_named(env, says) {
+        Ok(())
+    } else {
+        Err(Stop::Broken(broken(48, says.at)))
+    }
+}
+
+/// Whether a function of its name is declared.
+fn is_named(env: &Env, says: &Says) -> bool
+    ensures { result ≡ list_any (λ (f : FunctionEntry). bytes_eq f.name says.now.name) env.now.entries }
+{
+    env.entries()
+        .iter()
+        .any(|entry| entry.name.as_slice() == says.name.as_slice())
+}
+
+/// While definitions in other files are not built, the file itself defines what it declares; else K48. What its initialiser breaks comes first.
 #[tactic(auto, using(crate::proofs::CheckLaws::definition_laws))]
 pub(crate) fn check_definition(env: &Env, says: &Says) -> Result<(), Stop>
     ensures { Agrees (shut.need_definition (says_seen says.now) env.now) result env.now }
 {
-    if env.extent().elsewhere || says.defines || env.defines_name(says.name.as_slice()) {
+    if env.extent().elsewhere
+        || says.defines
+        || says.is_initialised
+        || env.defines_name(says.name.as_slice())
+    {
         Ok(())
     } else {
         Err(Stop::Broken(broken(48, says.at)))

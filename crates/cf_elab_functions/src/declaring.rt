@@ -8,7 +8,7 @@ ghost use Rattle.cf_elab_functions.specs.Shut as shut;
 ghost use Rattle.cf_elab_links.specs.Shut as links;
 
 use crate::again::known_entry;
-use crate::checks::{check_definition, check_main};
+use crate::checks::{check_definition, check_main, check_single};
 use crate::entities::{check_set, join};
 use crate::entries::entry_of;
 use crate::says::{Called, Says};
@@ -17,8 +17,8 @@ use cf_elab_env::{Env, FunctionEntry, Stop};
 use cf_elab_links::{main_link, plain_link};
 use cf_types::TyId;
 
-/// A declaration of a function: the form of `main` K11, what else has the name K8, another result K8, linkage K9, a definition elsewhere K48, a second
-/// body K8, and a second function of the name K48; and the limit on names. The number of the function (3.3, 8.2.5, 13.1).
+/// A declaration of a function: the form of `main` K11, what else has the name K8, another result K8, linkage K9, a second body K8, a second function of
+/// the name K48, and a definition elsewhere K48; and the limit on names. The number of the function (3.3, 8.2.5, 13.1).
 #[tactic(auto, using(crate::proofs::DeclareLaws::declare_laws))]
 pub fn declare_function(env: &mut Env, int: TyId, says: &Says) -> Result<u32, Stop>
     requires known { IsType env.old.types says.now.ty }
@@ -58,7 +58,8 @@ fn entry_or_new(env: &mut Env, says: &Says, found: Option<u32>) -> Result<u32, S
     }
 }
 
-/// A function that no declaration before said: the file defines it, else K48, and its link name is within the limit on names.
+/// A function that no declaration before said: it is the only one of its name and the file defines it, else K48; and its link name is within the limit on
+/// names.
 #[tactic(auto, using(crate::proofs::NewLaws::new_laws))]
 fn new_entry(env: &mut Env, says: &Says) -> Result<u32, Stop>
     requires known { IsType env.old.types says.now.ty }
@@ -69,6 +70,7 @@ fn new_entry(env: &mut Env, says: &Says) -> Result<u32, Stop>
     ensures entities { OnOk result (env.new.entities ≡ env.old.entities) }
 {
     env.holds();
+    check_single(env, says)?;
     check_definition(env, says)?;
     let link = link_of(env, says)?;
     let name = Name::from_slice(env.alloc(), says.name.as_slice())?;

@@ -66,7 +66,6 @@ fn join_at(env: &mut Env, says: &Says, number: u32, place: u32) -> Result<(), St
 {
     match env.entity(place) {
         Entity::Functions(numbers) => {
-            check_single(env, says, numbers.as_slice(), number)?;
             let joined = joined(env.alloc(), number, numbers.as_slice())?;
             env.redeclare(place, Entity::Functions(joined));
             Ok(())
@@ -85,18 +84,6 @@ fn joined(alloc: Global, number: u32, numbers: &[u32]) -> Result<Items<u32>, Mem
         all.push(number)?;
     }
     Ok(all)
-}
-
-/// The function is the only one of its name, while others with other parameters are not built; else K48 (13.1).
-#[tactic(auto, using(crate::proofs::EntityLaws::single_laws))]
-fn check_single(env: &Env, says: &Says, numbers: &[u32], number: u32) -> Result<(), Stop>
-    ensures { Agrees (shut.need_single (says_seen says.now) numbers.now number env.now) result env.now }
-{
-    if env.extent().overloads || is_among(number, numbers) {
-        Ok(())
-    } else {
-        Err(Stop::Broken(broken(48, says.at)))
-    }
 }
 
 /// Whether it is one of these numbers.

@@ -26,6 +26,8 @@ pub struct Says {
     pub is_inline: bool,
     /// Whether it has a body.
     pub defines: bool,
+    /// Whether an initialiser stands behind it, which it may not have.
+    pub is_initialised: bool,
 }
 
 impl Says {

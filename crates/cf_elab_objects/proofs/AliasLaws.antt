@@ -3,7 +3,7 @@ use Rattle.std.proofs.Common.{◌≡◌, ℕ, Bool, true, false, Option, None, S
 use Rattle.cf_types.specs.declared.ty.Ty.{Ty}
 use Rattle.cf_types.specs.declared.ty.Ty.TheVariants as ty
 use Rattle.cf_convert.specs.Constness.{type_at}
-use Rattle.cf_elab.specs.Answer.{Answer, Made, Refused, onward, need}
+use Rattle.cf_elab.specs.Answer.{Answer, Made, Refused, need}
 use Rattle.cf_elab.specs.Declaration as declaration
 use Rattle.cf_elab.specs.Env.{Env, Name, Entity, alias, enum_name}
 use Rattle.cf_elab.specs.Made.{same_ty}
@@ -83,9 +83,3 @@ unfolding shut.no_initialiser
 one_there w at env h = ap (λ w. shut.no_initialiser w env) h
 
 pub ruleset initialiser_laws = (none_there, one_there)
-
-pub typedef_is : (name : Name) (at t : ℕ) (w : Option ℕ) (env : Env) → shut.typedef_row name at t w env ≡ onward (shut.aliased name at t env) (λ _ env. shut.no_initialiser w env)
-unfolding shut.typedef_row
-typedef_is name at t w env = refl
-
-pub ruleset typedef_laws = (typedef_is)

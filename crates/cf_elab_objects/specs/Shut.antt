@@ -38,7 +38,7 @@ unfoldable pub with_entity : Says → ℕ → Elab Bool
 with_entity d e = internal_of (known >>= (λ env. objects.with_entity d e (slice_get env.entities e)))
 
 unfoldable pub is_defined_somewhere : Env → Says → Bool
-is_defined_somewhere env d = env.extent.elsewhere || d.defines || list_any (bytes_eq d.name) env.defines
+is_defined_somewhere env d = env.extent.elsewhere || d.defines || d.is_initialised || list_any (bytes_eq d.name) env.defines
 
 unfoldable pub check_new : Says → Elab (Unit {0})
 check_new d = do
@@ -94,8 +94,3 @@ aliased name at t = known >>= (λ env. declaration.aliased name at t (declared_h
 -- where an initialiser stands that may not
 unfoldable pub no_initialiser : Option ℕ → Elab (Unit {0})
 no_initialiser w = none_at w 28
-
-unfoldable pub typedef_row : Name → ℕ → ℕ → Option ℕ → Elab (Unit {0})
-typedef_row name at t w = do
-  aliased name at t
-  no_initialiser w

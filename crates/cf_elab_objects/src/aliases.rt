@@ -12,28 +12,9 @@ use cf_elab_env::{Entity, Env, Stop};
 use cf_syntax::{Last, Name};
 use cf_types::{Ty, TyId};
 
-/// A `typedef` of this name: K8 where the innermost scope declares the name as anything but the same type; and K28 at its initialiser, which it
-/// may not have (7.1.3).
-#[tactic(auto, using(crate::proofs::AliasLaws::typedef_laws))]
-pub fn typedef_row(
-    env: &mut Env,
-    name: &[u8],
-    at: u32,
-    ty: TyId,
-    initial_at: Option<u32>,
-) -> Result<(), Stop>
-    requires { IsType env.old.types ty }
-    ensures made { Agrees (shut.typedef_row name.now at ty initial_at env.old) result env.new }
-    ensures types { OnOk result (env.new.types ≡ env.old.types) }
-{
-    aliased(env, name, at, ty)?;
-    check_no_initialiser(env, initial_at)?;
-    Ok(())
-}
-
-/// The name stands for the type, and did before if the scope declares it.
+/// A `typedef` of this name, which stands for the type, and did before if the innermost scope declares it; else K8 (7.1.3).
 #[tactic(auto, using(crate::proofs::AliasLaws::aliased_laws))]
-fn aliased(env: &mut Env, name: &[u8], at: u32, ty: TyId) -> Result<(), Stop>
+pub fn aliased(env: &mut Env, name: &[u8], at: u32, ty: TyId) -> Result<(), Stop>
     requires { IsType env.old.types ty }
     ensures made { Agrees (shut.aliased name.now at ty env.old) result env.new }
     ensures types { OnOk result (env.new.types ≡ env.old.types) }

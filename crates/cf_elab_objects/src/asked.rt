@@ -23,13 +23,6 @@ fn is_reference(sort: Sort) -> bool
     matches!(sort, Sort::Reference(_))
 }
 
-/// Whether the innermost scope may declare an object of the name: nothing there has it, or the scope is the file's.
-pub fn is_redeclarable(env: &Env, name: &[u8]) -> bool
-    ensures { result ≡ objects.is_redeclarable env.now name.now }
-{
-    env.declared_here(name).is_none() || env.is_file_scope()
-}
-
 /// A static object, which the files of a program do not share.
 pub fn static_of(
     name: Name,

@@ -10,8 +10,8 @@ mod linkage;
 mod numbers;
 mod says;
 
-pub use aliases::{check_no_initialiser, plain_name, typedef_row};
-pub use asked::{is_redeclarable, needs_initialiser, static_of};
+pub use aliases::{aliased, check_no_initialiser, plain_name};
+pub use asked::{needs_initialiser, static_of};
 pub use blocks::{block_object, declare_in_block};
 pub use linkage::declare_linked;
 pub use numbers::{constant_number, number_known};

@@ -159,12 +159,15 @@ fn check_new(env: &Env, says: &Says, link: &[u8]) -> Result<(), Stop>
     }
 }
 
-/// While definitions in other files are not built, the file itself defines what it declares.
+/// While definitions in other files are not built, the file itself defines what it declares. An initialiser that may not stand comes first.
 #[tactic(auto, unfolding(crate::specs::Shut::is_defined_somewhere))]
 fn is_defined_somewhere(env: &Env, says: &Says) -> bool
     ensures { result ≡ shut.is_defined_somewhere env.now (says_seen says.now) }
 {
-    env.extent().elsewhere || says.defines || env.defines_name(says.name.as_slice())
+    env.extent().elsewhere
+        || says.defines
+        || says.is_initialised
+        || env.defines_name(says.name.as_slice())
 }
 
 /// What the innermost scope declares by the name is an object with linkage.

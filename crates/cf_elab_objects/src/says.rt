@@ -23,6 +23,8 @@ pub struct Says {
     pub is_extern: bool,
     /// Whether it defines the object.
     pub defines: bool,
+    /// Whether an initialiser stands behind it.
+    pub is_initialised: bool,
 }
 
 impl Says {

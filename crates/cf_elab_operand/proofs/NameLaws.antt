@@ -1,5 +1,5 @@
 -- What a name is as an operand, by what it is found as.
-use Rattle.std.proofs.Common.{◌≡◌, ℕ, ℤ, Bool, true, false, List, [], ◌∷◌, None, Some, sym, ap, subst, ◌∙◌}
+use Rattle.std.proofs.Common.{◌≡◌, ℕ, ℤ, Bool, true, false, List, [], ◌∷◌, Option, None, Some, sym, ap, subst, ◌∙◌}
 use Rattle.cf_syntax.specs.declared.name.Last.{Last}
 use Rattle.cf_syntax.specs.declared.name.Last.TheVariants as last
 use Rattle.cf_syntax.specs.declared.name.Name.{Name as WrittenName}
@@ -8,9 +8,9 @@ use Rattle.cf_elab.specs.Answer.{Made, Refused}
 use Rattle.cf_elab.specs.Built.{of_name}
 use Rattle.cf_elab.specs.Env.{Env, Name, Entity}
 use Rattle.cf_elab.specs.Names as names
-use Rattle.cf_elab.specs.Operand.{Value, value, constant}
+use Rattle.cf_elab.specs.Operand.{Value, value}
 use Rattle.cf_elab.specs.Paths.{named, operand_found, found_alone, entity as entity_found}
-use Rattle.cf_elab_env.specs.Holds.{Known, IsEntity, IsObject}
+use Rattle.cf_elab_env.specs.Holds.{Known, FitsIn, IsEntity, IsObject}
 use Rattle.cf_elab_env.specs.Seen.{entity_seen, object_seen}
 use Rattle.cf_elab_env.specs.declared.entity.Entity.{Entity as FoundEntity}
 use Rattle.cf_elab_env.specs.declared.entity.Entity.TheVariants as found
@@ -46,7 +46,7 @@ module _ (at : ℕ) (e : FoundEntity) (env : Env) where
   unfolding shut.operand_of shut.functions_of
   functions_are fs is = ap (λ e. names.operand_of at (Some (entity_seen e)) env) is
 
-  pub enumerator_is : (t : ℕ) (z : ℤ) (v : Value) → e ≡ found.Enumerator t z → v ≡ constant at z t → shut.operand_of at (entity_seen e) env ≡ Made (value v) env
+  pub enumerator_is : (t : ℕ) (z : Option ℤ) (v : Value) → e ≡ found.Enumerator t z → v ≡ names.enumerator_value at t z → shut.operand_of at (entity_seen e) env ≡ Made (value v) env
   unfolding shut.operand_of
   enumerator_is t z v is made = ap (λ e. names.operand_of at (Some (entity_seen e)) env) is ∙ ap (λ v. Made (value v) env) (sym made)
 
@@ -62,11 +62,13 @@ module _ (types : Table) (count : ℕ) (e : FoundEntity) (known : IsEntity types
   pub object_known : (x : FoundObject) → e ≡ found.Object x → IsObject types (object_seen x)
   object_known x is = subst (λ e. IsEntity types count (entity_seen e)) is known
 
-  pub enumerator_known : (at t : ℕ) (z : ℤ) (v : Value) → e ≡ found.Enumerator t z → v ≡ constant at z t → Known types v
+  pub enumerator_known : (at t : ℕ) (z : Option ℤ) (v : Value) → e ≡ found.Enumerator t z → v ≡ names.enumerator_value at t z → Known types v
   enumerator_known at t z v is made =
-      let k = subst (λ e. IsEntity types count (entity_seen e)) is known in
-      let c : Known types (constant at z t) = record { typed = k.0; number = k.1 } in
-      subst (Known types) (sym made) c
+      let k = subst (λ e. IsEntity types count (entity_seen e)) is known in subst (Known types) (sym made) (by z k.1)
+    where
+      by : (z : Option ℤ) → FitsIn types t z → Known types (names.enumerator_value at t z)
+      by None f = record { typed = (subst (λ e. IsEntity types count (entity_seen e)) is known).0; number = tt }
+      by (Some w) f = record { typed = (subst (λ e. IsEntity types count (entity_seen e)) is known).0; number = f }
 
 pub ruleset named_laws = (named_is)
 

@@ -1,5 +1,6 @@
 ghost use Rattle.std.specs.Prelude.{◌≡◌, length, None, IfOk};
 ghost use Rattle.cf_elab.specs.Built.{of_name};
+ghost use Rattle.cf_elab.specs.Names as names;
 ghost use Rattle.cf_elab_env.specs.Answered.{AgreesAs};
 ghost use Rattle.cf_elab_env.specs.Holds.{IsEntity};
 ghost use Rattle.cf_elab_env.specs.Seen.{entity_seen};
@@ -9,9 +10,13 @@ ghost use Rattle.cf_elab_operand.specs.Shut as shut;
 
 use crate::functions::functions_named;
 use crate::objects::object_value;
+use cf_base::{Boxed, Memory};
+use cf_core::Core;
 use cf_elab_arith::broken;
 use cf_elab_env::{Entity, Env, Operand, Stop, Value};
 use cf_syntax::{Last, Name};
+use cf_types::TyId;
+use std::alloc::Global;
 
 /// What a name is as an operand: K10 where it stands for no object, function or enumerator, and K11 where it is `main` (3.2, 3.4, 5.1).
 /// The name is an identifier by itself.
@@ -62,10 +67,23 @@ fn operand_of(env: &Env, at: u32, entity: &Entity) -> Result<Operand, Stop>
             Ok(named)
         }
         Entity::Enumerator(ty, number) => {
-            let value = Value::constant(env.alloc(), at, *number, *ty)?;
+            let value = enumerator_value(env.alloc(), at, *ty, *number)?;
             Ok(Operand::Value(value))
         }
         Entity::Alias(_) => Err(Stop::Broken(broken(10, at))),
         Entity::Enum(_) => Err(Stop::Broken(broken(10, at))),
+    }
+}
+
+/// A constant of an enumeration; in its own expression it has no value yet (3.2).
+fn enumerator_value(alloc: Global, at: u32, ty: TyId, number: Option<i64>) -> Result<Value, Memory>
+    ensures { IfOk result (λ v. v ≡ names.enumerator_value at ty number) }
+{
+    match number {
+        Some(number) => Value::constant(alloc, at, number, ty),
+        None => {
+            let node = Boxed::new(alloc, Core::Number { at, value: 0 })?;
+            Ok(Value::computed(at, node, ty))
+        }
     }
 }

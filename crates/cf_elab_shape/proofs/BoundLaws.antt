@@ -1,6 +1,6 @@
 -- Bounds that are constants, declarator by declarator.
 use Rattle.std.proofs.Common.{◌≡◌, ℕ, Bool, true, false, List, Option, None, Some, is_some, refl, ap, ◌∙◌}
-use Rattle.cf_elab.specs.Answer.{Answer, Made, Refused, onward, need}
+use Rattle.cf_elab.specs.Answer.{Answer, Made, Refused, Passed, onward, need}
 use Rattle.cf_elab.specs.Env.{Env}
 use Rattle.cf_elab.specs.Operand.{Value}
 use Rattle.cf_elab.specs.Shape as shape
@@ -35,12 +35,17 @@ module _ (x s : Shape) (env : Env) where
   bounds_taking at ps c is = ap at_shape is ∙ ap seen_at (seen_taking at ps c s)
 
   pub bounds_holding : (at : ℕ) (b : Option Value) → x ≡ form.Holding at b s
-      → shut.bounds_constant (shape_seen x) env ≡ onward (shut.known_bound at b env) (λ _ e. shut.bounds_constant (shape_seen s) e)
+      → shut.bounds_constant (shape_seen x) env ≡ onward (shut.bounds_constant (shape_seen s) env) (λ _ e. shut.known_bound at b e)
   unfolding shut.bounds_constant shut.known_bound
   bounds_holding at b is = ap at_shape is ∙ ap seen_at (seen_holding at b s) ∙ by b
     where
-      by : (b : Option Value) → seen_at (holding at b (shape_seen s)) ≡ onward (shut.known_bound at b env) (λ _ e. shut.bounds_constant (shape_seen s) e)
-      by None = refl
+      then_nothing : (a : Answer (Unit {0})) → a ≡ onward a (λ _ e. Made tt e)
+      then_nothing (Made u e) = refl
+      then_nothing (Refused rule at) = refl
+      then_nothing (Passed bound most) = refl
+
+      by : (b : Option Value) → seen_at (holding at b (shape_seen s)) ≡ onward (shut.bounds_constant (shape_seen s) env) (λ _ e. shut.known_bound at b e)
+      by None = then_nothing (seen_at (shape_seen s))
       by (Some v) = refl
 
 pub no_bound : (at : ℕ) (b : Option Value) (env : Env) → b ≡ None → shut.known_bound at b env ≡ Made tt env

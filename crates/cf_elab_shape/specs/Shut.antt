@@ -1,11 +1,10 @@
 -- The rows of declarators, each under a name of its own that does not unfold. `Rattle.cf_elab_shape.proofs` says what each is.
-use Rattle.std.specs.Prelude.{ℕ, Bool, false, not, ◌||◌, List, [], ◌∷◌, Option, None, Some, is_some}
+use Rattle.std.specs.Prelude.{ℕ, Bool, not, ◌||◌, List, [], ◌∷◌, Option, None, Some, is_some}
 use Rattle.cf_types.specs.Table.{Table}
 use Rattle.cf_syntax.specs.declared.specifier.Pointer.{Pointer}
 use Rattle.cf_elab.specs.Answer.{Elab, ◌>>=◌, ◌>>◌, gives, done, need, known, each}
 use Rattle.cf_elab.specs.Declarator as declarator
 use Rattle.cf_elab.specs.Definition as definition
-use Rattle.cf_elab.specs.Env.{Env}
 use Rattle.cf_elab.specs.Made.{pointer_to, reference_to, array_of, const_if, function_type}
 use Rattle.cf_elab.specs.Operand.{Value, sort_of, is_array, is_function, is_void, is_reference}
 use Rattle.cf_elab.specs.Shape as shape
@@ -94,20 +93,9 @@ known_bound = constant
 unfoldable pub no_void : Parameter → Elab (Unit {0})
 no_void = declarator.no_void
 
--- that all of them are objects
-unfoldable pub all_fine : List Parameter → Elab (Unit {0})
-all_fine ps = declarator.all_objects ps >> done
-
--- `(void)`
-abbrev only_nothing : Env → List Parameter → Bool
-only_nothing env (p ∷ []) = declarator.is_nothing env p
-only_nothing env ps = false
-
-unfoldable pub are_nothing : Env → List Parameter → Bool
-are_nothing = only_nothing
-
-unfoldable pub parameters : List Parameter → Elab (List Parameter)
-parameters = declarator.parameters
+-- one alone, which may be `(void)`
+unfoldable pub only_parameter : Parameter → Elab (List Parameter)
+only_parameter = declarator.only_parameter
 
 unfoldable pub as_object : Shaped → Elab ℕ
 as_object = declarator.as_object

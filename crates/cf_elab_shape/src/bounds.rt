@@ -6,7 +6,7 @@ use crate::shape::Shape;
 use cf_elab_arith::broken;
 use cf_elab_env::{Env, Stop, Value};
 
-/// Each bound is a constant; else K19 at the first that is none, from the outside in (8.2.4).
+/// Each bound is a constant; else K19 at the first in the text that is none: those inside come first (8.2.4).
 #[tactic(auto, using(crate::proofs::BoundLaws::bound_laws))]
 pub fn check_bounds(env: &Env, shape: &Shape) -> Result<(), Stop>
     ensures { Agrees (shut.bounds_constant (shape_seen shape.now) env.now) result env.now }
@@ -26,8 +26,8 @@ pub fn check_bounds(env: &Env, shape: &Shape) -> Result<(), Stop>
             Ok(())
         }
         Shape::Holding { at, bound, inside } => {
-            check_bound(env, *at, bound)?;
             check_bounds(env, inside.get())?;
+            check_bound(env, *at, bound)?;
             Ok(())
         }
     }

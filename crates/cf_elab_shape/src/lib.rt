@@ -16,7 +16,7 @@ mod shaped;
 mod typing;
 
 pub use bounds::check_bounds;
-pub use parameter_list::parameters;
+pub use parameter_list::{check_parameter, only_parameter};
 pub use pointers::pointed;
 pub use position::Position;
 pub use shape::{Parameter, Shape};

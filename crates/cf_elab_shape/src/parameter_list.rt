@@ -1,41 +1,39 @@
-ghost use Rattle.std.specs.Prelude.{◌≡◌, false, None, All, IfOk, OnOk};
+ghost use Rattle.std.specs.Prelude.{◌≡◌, false, None, [], ◌∷◌, IfOk, OnOk};
 ghost use Rattle.cf_elab.specs.Declarator as declarator;
 ghost use Rattle.cf_elab.specs.Operand.{sort_of, is_void as void};
 ghost use Rattle.cf_elab_env.specs.Answered.{Agrees};
 ghost use Rattle.cf_elab_env.specs.Holds.{IsType};
-ghost use Rattle.cf_elab_shape.specs.Holds.{AreObjects};
+ghost use Rattle.cf_elab_shape.specs.Holds.{AreObjects, IsParameter};
 ghost use Rattle.cf_elab_shape.specs.Shut as shut;
 
 use crate::forms::is_void;
 use crate::shape::Parameter;
-use cf_base::Items;
+use cf_base::{Items, Memory};
 use cf_elab_arith::broken;
 use cf_elab_env::{Env, Stop};
+use std::alloc::Global;
 
-/// The parameters of a function: none of `(void)`, and otherwise each is an object; else K26 at its name (8.2.5).
-#[tactic(auto, using(crate::proofs::VoidLaws::parameters_laws))]
-pub fn parameters(env: &Env, list: Items<Parameter>) -> Result<Items<Parameter>, Stop>
-    requires { All (λ p. IsType env.now.types p.type) list }
-    ensures made { Agrees (shut.parameters list env.now) result env.now }
+/// The parameters of a function with one: none where it is `(void)`, and otherwise an object; else K26 at its name (8.2.5).
+#[tactic(auto, using(crate::proofs::VoidLaws::only_laws))]
+pub fn only_parameter(env: &Env, parameter: Parameter) -> Result<Items<Parameter>, Stop>
+    requires { IsType env.now.types parameter.type }
+    ensures made { Agrees (shut.only_parameter parameter env.now) result env.now }
     ensures objects { IfOk result (λ ps. AreObjects env.now.types ps) }
 {
-    if are_nothing(env, list.as_slice()) {
+    if is_nothing(env, &parameter) {
         return Ok(Items::new(env.alloc()));
     }
-    check_objects(env, list.as_slice())?;
+    check_parameter(env, &parameter)?;
+    let list = alone(env.alloc(), parameter)?;
     Ok(list)
 }
 
-/// Whether they are `(void)`.
-#[tactic(auto, using(crate::proofs::VoidLaws::nothing_laws))]
-fn are_nothing(env: &Env, list: &[Parameter]) -> bool
-    requires { All (λ p. IsType env.now.types p.type) list.now }
-    ensures { result ≡ shut.are_nothing env.now list.now }
+fn alone(alloc: Global, parameter: Parameter) -> Result<Items<Parameter>, Memory>
+    ensures { IfOk result (λ ps. ps ≡ parameter ∷ []) }
 {
-    match list.split_first() {
-        Some((first, rest)) => rest.is_empty() && is_nothing(env, first),
-        None => false,
-    }
+    let mut list = Items::new(alloc);
+    list.push(parameter)?;
+    Ok(list)
 }
 
 /// Whether it is `void` and has no name. None has a default argument.
@@ -46,25 +44,18 @@ fn is_nothing(env: &Env, parameter: &Parameter) -> bool
     is_void(env.sort_of(parameter.ty)) && parameter.name.is_none()
 }
 
-/// Each of these is an object.
-#[tactic(auto, using(crate::proofs::VoidLaws::fine_laws))]
-fn check_objects(env: &Env, list: &[Parameter]) -> Result<(), Stop>
-    requires { All (λ p. IsType env.now.types p.type) list.now }
-    ensures made { Agrees (shut.all_fine list.now env.now) result env.now }
-    ensures objects { OnOk result (AreObjects env.now.types list.now) }
+/// Its type is not void; else K26 at its name, or where it has none at its first token (8.2.5).
+#[tactic(auto, using(crate::proofs::VoidLaws::void_laws))]
+pub fn check_parameter(env: &Env, parameter: &Parameter) -> Result<(), Stop>
+    requires { IsType env.now.types parameter.now.type }
+    ensures made { Agrees (shut.no_void parameter.now env.now) result env.now }
+    ensures object { OnOk result (IsParameter env.now.types parameter.now) }
 {
-    match list.split_first() {
-        None => Ok(()),
-        Some((first, rest)) => {
-            check_object(env, first)?;
-            check_objects(env, rest)?;
-            Ok(())
-        }
-    }
+    check_object(env, parameter)?;
+    Ok(())
 }
 
-/// Its type is not void; else K26 at its name, or where it has none at its first token.
-#[tactic(auto, using(crate::proofs::VoidLaws::void_laws))]
+#[tactic(auto, using(crate::proofs::VoidLaws::object_laws))]
 fn check_object(env: &Env, parameter: &Parameter) -> Result<(), Stop>
     requires { IsType env.now.types parameter.now.type }
     ensures made { Agrees (shut.no_void parameter.now env.now) result env.now }

@@ -30,7 +30,7 @@ use Rattle.cf_elab.specs.MethodNode.{unused}
 use Rattle.cf_elab.specs.Operand.{Value, Sort, void_sort, sort_of, arithmetic, val, defs, plain}
 use Rattle.cf_elab.specs.Cast.{takes_null}
 use Rattle.cf_elab_valid.specs.Answers.{Fine}
-use Rattle.cf_elab_valid.specs.Scene.{Scene, IsScene, tree, typed, core, scope_of, Inside, Classless, Holds, Fits, AllFit, IsPlain, Meets, is_allowed}
+use Rattle.cf_elab_valid.specs.Scene.{Scene, IsScene, tree, typed, core, scope_of, Inside, Classless, Holds, Fits, AllFit, IsPlain, HoldsKnown, Meets, is_allowed}
 use Rattle.cf_elab_valid.proofs.Arithmetic.{IsOperand, IsTested, tested-condition, tested-when, truth-fine, of_kind-then, int-tree, plain-operand}
 use Rattle.cf_elab_valid.proofs.FitRows.{to_kind-fine, converted-fine}
 use Rattle.cf_elab_valid.proofs.Nodes.{core-Conditional, core-Comma, known-Conditional, known-Comma}
@@ -67,10 +67,11 @@ module _ (s : Scene) (scene : IsScene s) where
   -- two places of one type
   one_place-fits : (at : ℕ) (c a b : Value) (e : Env) → a.is_lvalue ≡ true → b.is_lvalue ≡ true → a.type ≡ b.type → IsTested s c e → Fits s e a → Fits s e b → Fits s e (row.one_place at c a b)
   one_place-fits at c a b e la lb same pc fa fb =
-      place-fits s e at a.type (node.Conditional at c.node a.node b.node) None false fa.inside (all_known at c.node a.node b.node pc.plain.fits.numbers fa.numbers fb.numbers) (place-no-void a.is_lvalue (tree s a.type) la fa.allowed) (place-no-reference a.is_lvalue (tree s a.type) la fa.allowed)
+      place-fits s e at a.type (node.Conditional at c.node a.node b.node) (row.chosen c.number a.number b.number) false fa.inside (all_known at c.node a.node b.node pc.plain.fits.numbers fa.numbers fb.numbers) (place-no-void a.is_lvalue (tree s a.type) la fa.allowed) (place-no-reference a.is_lvalue (tree s a.type) la fa.allowed)
       (chosen (λ x. IsPlace x (tree s a.type)) at c.node a.node b.node (tested-condition s c e pc)
       (either-place (typed s a.node) (typed s b.node) (tree s a.type) (subst (λ l. Meets l (typed s a.node) (tree s a.type)) la fa.meets)
-      (subst (λ t. IsPlace (typed s b.node) (tree s t)) (sym same) (subst (λ l. Meets l (typed s b.node) (tree s b.type)) lb fb.meets)))) tt
+      (subst (λ t. IsPlace (typed s b.node) (tree s t)) (sym same) (subst (λ l. Meets l (typed s b.node) (tree s b.type)) lb fb.meets))))
+      (chosen-holds c.number a.number b.number (tree s a.type) fa.number (subst (λ t. HoldsKnown b.number (tree s t)) (sym same) fb.number))
 
   -- ---- by the types of the two
 

@@ -1,5 +1,5 @@
 -- Constants, and names by themselves (2.5, 3.2, 5.1).
-use Rattle.std.proofs.Common.{◌≡◌, ℕ, Bool, true, false, not, if◌then◌else◌, List, [], ◌∷◌, ◌++◌, map, ℤ, Option, Some, None, slice_get, refl, sym, ap, subst, ◌∙◌, true≢false, arith}
+use Rattle.std.proofs.Common.{◌≡◌, ℕ, Bool, true, false, not, if◌then◌else◌, List, [], ◌∷◌, ◌++◌, map, ℤ, pos, Option, Some, None, slice_get, refl, sym, ap, subst, ◌∙◌, true≢false, arith}
 use Rattle.std.specs.Prelude.{option_map}
 use Rattle.std.proofs.lemmas.Option.{slice_get-map, slice_get_within}
 use Rattle.cf_types.specs.declared.ty.Fun.{Fun}
@@ -20,7 +20,8 @@ use Rattle.cf_core_typed.proofs.Values.{allow, of_place-is, of_number-is}
 use Rattle.cf_elab.specs.Answer.{Answer, Made, Refused, Passed, Elab, onward, need}
 use Rattle.cf_elab.specs.Env.{Env, Name, Home, local_home, static_home, Entity, Object, object, functions, alias, class_name, enum_name, enumerator, FunctionEntry}
 use Rattle.cf_elab.specs.Expression.{one}
-use Rattle.cf_elab.specs.Names.{home_node, object_value, entity_of, operand_of, some_main}
+use Rattle.cf_elab.specs.Enumeration.{number_or_zero}
+use Rattle.cf_elab.specs.Names.{home_node, object_value, enumerator_value, entity_of, operand_of, some_main}
 use Rattle.cf_elab.specs.Operand.{Value, Operand, value, functions as named_functions, methods, field_name, bound_method, place_of, constant, result_step, value_of, one_function, function_value}
 use Rattle.cf_elab.specs.Paths.{found_alone, operand_found}
 use Rattle.cf_elab_env.proofs.Finding.{found-alone}
@@ -164,6 +165,11 @@ module _ (s : Scene) (scene : IsScene s) where
 
   -- ---- what a name stands for
 
+  enumerator-fits : (at t : ℕ) (z : Option ℤ) (e : Env) → Inside e t → holds_number (number_or_zero z) (tree s t) ≡ true → Fits s e (enumerator_value at t z)
+  enumerator-fits at t (Some z) e i h = constant-fits at z t e i h
+  enumerator-fits at t None e i h =
+      let f = constant-fits at (pos 0) t e i h in record { inside = f.inside; numbers = f.numbers; allowed = f.allowed; meets = f.meets; number = tt }
+
   pub operand_of-fine : (at : ℕ) (o : Option Entity) (e : Env) → Classless e → When s e (Holds s e) → When s e ((x : Entity) → o ≡ Some x → EntityFits s e x) → FineOperand s e (operand_of at o e)
   operand_of-fine at None e c h f = tt
   operand_of-fine at (Some (object x)) e c h f = operand-made s e (object_value e at x) c h (λ w. object-fits e w at x (f w (object x) refl))
@@ -176,7 +182,7 @@ module _ (s : Scene) (scene : IsScene s) where
   operand_of-fine at (Some (class_name k)) e c h f = tt
   operand_of-fine at (Some (enum_name n)) e c h f = tt
   operand_of-fine at (Some (enumerator t z)) e c h f =
-      operand-made s e (constant at z t) c h (λ w. let g = f w (enumerator t z) refl in constant-fits at z t e g.0 g.1)
+      operand-made s e (enumerator_value at t z) c h (λ w. let g = f w (enumerator t z) refl in enumerator-fits at t z e g.0 g.1)
 
   entity-fits : (e : Env) → Holds s e → (name : Name) (n : Option ℕ) → found name e.scopes ≡ n → (x : Entity) → entity_of e n ≡ Some x → EntityFits s e x
   entity-fits e h name None is x at = absurd cc

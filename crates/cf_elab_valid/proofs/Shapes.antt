@@ -9,9 +9,9 @@ use Rattle.cf_syntax.specs.declared.name.Name.{Name as WrittenName}
 use Rattle.cf_syntax.specs.declared.specifier.Pointer.{Pointer}
 use Rattle.cf_syntax.specs.declared.specifier.Pointer.TheVariants as pointer
 use Rattle.cf_syntax.specs.declared.specifier.TypeSpecifier.{TypeSpecifier}
-use Rattle.cf_elab.specs.Answer.{Answer, Made, Refused, Passed, Elab, onward, need, none_at, gives, each, all, maybe}
+use Rattle.cf_elab.specs.Answer.{Answer, Made, Refused, Passed, Elab, onward, need, none_at, gives, each, maybe}
 use Rattle.cf_elab.specs.Built as built
-use Rattle.cf_elab.specs.Declarator.{pointed, is_nothing, named_at, no_void, all_objects, parameters, as_object, only_whole, type_from, words_of}
+use Rattle.cf_elab.specs.Declarator.{pointed, is_nothing, named_at, no_void, object_parameter, only_parameter, parameters, as_object, only_whole, type_from, words_of}
 use Rattle.cf_elab.specs.Env.{Env, object}
 use Rattle.cf_elab.specs.Made.{entered_fun, place_in, same_fun, intern, intern_fun, pointer_to, reference_to, array_of, const_if, parameter_step, function_type}
 use Rattle.cf_elab.specs.Operand.{Value, Part, evaluated, Sort, integral, enumeral, object_pointer, void_pointer, function_pointer, data_pointer, method_pointer, class_sort, array_sort, function_sort, void_sort, reference_sort, sort_of, is_array, is_function, is_void, is_reference}
@@ -215,7 +215,7 @@ module _ (s : Scene) (scene : IsScene s) where
   bounds_still (to_member at k b x) e = bounds_still x e
   bounds_still (taking at ps b x) e = bounds_still x e
   bounds_still (holding at None x) e = bounds_still x e
-  bounds_still (holding at (Some b) x) e = still-onward e (need (is_some b.number) 19 at e) (λ _. bounds_constant x) (needed e (is_some b.number) 19 at) (λ _. bounds_still x e)
+  bounds_still (holding at (Some b) x) e = still-onward e (bounds_constant x e) (λ _. need (is_some b.number) 19 at) (bounds_still x e) (λ _. needed e (is_some b.number) 19 at)
 
   -- ---- a declarator and its specifiers, fine wherever it is elaborated
 
@@ -246,28 +246,37 @@ pub record IsTypeId (s : Scene) (run : Elab ℕ) : Type 0 where
   pub fine : (e : Env) → Classless e → When s e (Holds s e) → Fine s IsThere e (run e)
 
 module _ (s : Scene) where
-  run-fine : (ps : List (Elab Parameter)) (e : Env) → AreParameters s ps → Classless e → When s e (Holds s e) → FineAs s NoDefaults ParametersThere e (all ps e)
-  run-fine [] e a c h = as-made s NoDefaults ParametersThere e [] tt c h (λ w. tt)
-  run-fine (p ∷ ps) e a c h =
-      as-onward s (λ q. q.default ≡ None) (λ q f. Inside f q.type) NoDefaults ParametersThere e (p e) (λ q f. onward (all ps f) (λ qs. gives (q ∷ qs))) (a.0.fine e c h)
-      (λ q e1 d g c1 h1 i. as-onward s NoDefaults ParametersThere NoDefaults ParametersThere e1 (all ps e1) (λ qs. gives (q ∷ qs)) (run-fine ps e1 a.1 c1 h1)
+  abbrev no_default : Parameter → Type 0
+  no_default p = p.default ≡ None
+
+  abbrev is_there : Parameter → Env → Type 0
+  is_there p e = Inside e p.type
+
+  object-fine : (run : Elab Parameter) (e : Env) → IsParameter s run → Classless e → When s e (Holds s e) → FineAs s no_default is_there e (object_parameter run e)
+  object-fine run e k c h =
+      as-onward s no_default is_there no_default is_there e (run e) (λ p f. onward (no_void p f) (λ _. gives p)) (k.fine e c h)
+      (λ p e1 d g c1 h1 i. still-as s no_default is_there e1 (no_void p e1) (gives p) (needed e1 (not (is_void (sort_of e1.types p.type))) 26 (named_at p)) (as-made s no_default is_there e1 p d c1 h1 i))
+
+  objects-fine : (ps : List (Elab Parameter)) (e : Env) → AreParameters s ps → Classless e → When s e (Holds s e) → FineAs s NoDefaults ParametersThere e (each object_parameter ps e)
+  objects-fine [] e a c h = as-made s NoDefaults ParametersThere e [] tt c h (λ w. tt)
+  objects-fine (p ∷ ps) e a c h =
+      as-onward s no_default is_there NoDefaults ParametersThere e (object_parameter p e) (λ q f. onward (each object_parameter ps f) (λ qs. gives (q ∷ qs))) (object-fine p e a.0 c h)
+      (λ q e1 d g c1 h1 i. as-onward s NoDefaults ParametersThere NoDefaults ParametersThere e1 (each object_parameter ps e1) (λ qs. gives (q ∷ qs)) (objects-fine ps e1 a.1 c1 h1)
       (λ qs e2 ds g2 c2 h2 is. as-made s NoDefaults ParametersThere e2 (q ∷ qs) (d, ds) c2 h2 (λ w. (inside-later e1 e2 q.type g2 (i (within-before e1 e2 s g2 w)), is w))))
 
-  objects-fine : (ps : List Parameter) (e : Env) → NoDefaults ps → Classless e → When s e (Holds s e) → When s e (ParametersThere ps e) → FineAs s NoDefaults ParametersThere e (all_objects ps e)
-  objects-fine [] e d c h f = as-made s NoDefaults ParametersThere e [] tt c h (λ w. tt)
-  objects-fine (p ∷ ps) e d c h f =
-      still-as s NoDefaults ParametersThere e (no_void p e) (λ k. onward (all_objects ps k) (λ qs. gives (p ∷ qs))) (needed e (not (is_void (sort_of e.types p.type))) 26 (named_at p))
-      (as-onward s NoDefaults ParametersThere NoDefaults ParametersThere e (all_objects ps e) (λ qs. gives (p ∷ qs)) (objects-fine ps e d.1 c h (λ w. (f w).1))
-      (λ qs e1 ds g c1 h1 is. as-made s NoDefaults ParametersThere e1 (p ∷ qs) (d.0, ds) c1 h1 (λ w. (inside-later e e1 p.type g (f (within-before e e1 s g w)).0, is w))))
-
-  parameters-fine : (ps : List Parameter) (e : Env) → NoDefaults ps → Classless e → When s e (Holds s e) → When s e (ParametersThere ps e) → FineAs s NoDefaults ParametersThere e (parameters ps e)
-  parameters-fine [] e d c h f = objects-fine [] e d c h f
-  parameters-fine (p ∷ q ∷ ps) e d c h f = objects-fine (p ∷ q ∷ ps) e d c h f
-  parameters-fine (p ∷ []) e d c h f = by (is_nothing e p)
+  alone-fine : (p : Parameter) (e : Env) → p.default ≡ None → Classless e → When s e (Holds s e) → When s e (Inside e p.type) → FineAs s NoDefaults ParametersThere e (only_parameter p e)
+  alone-fine p e d c h i = by (is_nothing e p)
     where
-      by : (b : Bool) → FineAs s NoDefaults ParametersThere e (let run : Elab (List Parameter) = if b then gives [] else all_objects (p ∷ []) in run e)
+      by : (b : Bool) → FineAs s NoDefaults ParametersThere e (let run : Elab (List Parameter) = if b then gives [] else (λ f. onward (no_void p f) (λ _. gives (p ∷ []))) in run e)
       by true = as-made s NoDefaults ParametersThere e [] tt c h (λ w. tt)
-      by false = objects-fine (p ∷ []) e d c h f
+      by false =
+          still-as s NoDefaults ParametersThere e (no_void p e) (gives (p ∷ [])) (needed e (not (is_void (sort_of e.types p.type))) 26 (named_at p))
+          (as-made s NoDefaults ParametersThere e (p ∷ []) (d, tt) c h (λ w. (i w, tt)))
+
+  parameters-fine : (ps : List (Elab Parameter)) (e : Env) → AreParameters s ps → Classless e → When s e (Holds s e) → FineAs s NoDefaults ParametersThere e (parameters ps e)
+  parameters-fine [] e a c h = objects-fine [] e a c h
+  parameters-fine (p ∷ q ∷ ps) e a c h = objects-fine (p ∷ q ∷ ps) e a c h
+  parameters-fine (p ∷ []) e a c h = as-onward s no_default is_there NoDefaults ParametersThere e (p e) only_parameter (a.0.fine e c h) (λ q e1 d g c1 h1 i. alone-fine q e1 d c1 h1 i)
 
 -- ---- declarators
 
@@ -286,11 +295,10 @@ module _ (s : Scene) (scene : IsScene s) where
       by (pointer.ToMember at path q) b x e1 plain c1 h1 f = never_none at b
 
   pub function-shape : (at : ℕ) (d : Elab Shape) (ps : List (Elab Parameter)) (b : Bool) → IsShape s scene d → AreParameters s ps
-      → IsShape s scene (λ e. onward (d e) (λ x f. onward (onward (all ps f) parameters) (λ qs. gives (taking at qs b x))))
+      → IsShape s scene (λ e. onward (d e) (λ x f. onward (parameters ps f) (λ qs. gives (taking at qs b x))))
   function-shape at d ps b k parts = record {
     fine = λ e c h. as-onward s IsPlainShape ShapeThere IsPlainShape ShapeThere e (d e) _ (k.fine e c h)
-        (λ x e1 plain g c1 h1 f. as-onward s NoDefaults ParametersThere IsPlainShape ShapeThere e1 (onward (all ps e1) parameters) (λ qs. gives (taking at qs b x))
-        (as-onward s NoDefaults ParametersThere NoDefaults ParametersThere e1 (all ps e1) parameters (run-fine s ps e1 parts c1 h1) (λ qs e2 ds g2 c2 h2 is. parameters-fine s qs e2 ds c2 h2 is))
+        (λ x e1 plain g c1 h1 f. as-onward s NoDefaults ParametersThere IsPlainShape ShapeThere e1 (parameters ps e1) (λ qs. gives (taking at qs b x)) (parameters-fine s ps e1 parts c1 h1)
         (λ qs e2 ds g2 c2 h2 is. as-made s IsPlainShape ShapeThere e2 (taking at qs b x) (ds, plain) c2 h2 (λ w. (is w, shape-later e1 e2 x g2 (f (within-before e1 e2 s g2 w))))));
   }
 

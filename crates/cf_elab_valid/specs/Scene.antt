@@ -29,6 +29,7 @@ use Rattle.cf_core.specs.View.{core_of}
 use Rattle.cf_core_typed.specs.Meets.{IsPlace, IsValue}
 use Rattle.cf_core_typed.specs.Same.{Same, is_operand}
 use Rattle.cf_elab.specs.Complete.{most_bytes}
+use Rattle.cf_elab.specs.Enumeration.{number_or_zero}
 use Rattle.cf_elab.specs.Env.{Env, Hand, Name, Object, Home, local_home, static_home, Entity, object, functions, alias, class_name, enum_name, enumerator, FunctionEntry}
 use Rattle.cf_elab.specs.Members.{class_of_body}
 use Rattle.cf_elab.specs.Objects.{is_static_home}
@@ -154,7 +155,7 @@ EntityFits s env (functions fs) = Unit {0}
 EntityFits s env (alias t) = Inside env t
 EntityFits s env (class_name c) = ⊥
 EntityFits s env (enum_name e) = e < length env.classes.enums
-EntityFits s env (enumerator t z) = Inside env t × (holds_number z (tree s t) ≡ true)
+EntityFits s env (enumerator t z) = Inside env t × (holds_number (number_or_zero z) (tree s t) ≡ true)
 
 -- a type that a name stands for, whether the name is hidden or not
 abbrev pub TypeFits : Env → Entity → Type 0

@@ -3,6 +3,7 @@ use Rattle.std.proofs.Common.{◌≡◌, inl, inr, ℕ, ◌<◌, Bool, true, fal
 use Rattle.std.specs.List.{list_any}
 use Rattle.cf_base.specs.declared.kind.Kind.TheVariants as kind
 use Rattle.cf_base.specs.Integers.{fits}
+use Rattle.cf_types.specs.declared.ty.Ty.{Ty}
 use Rattle.cf_types.specs.declared.ty.Ty.TheVariants as ty
 use Rattle.cf_types.proofs.Places.{get-snoc}
 use Rattle.cf_classes.specs.declared.class.What.TheVariants as what
@@ -16,7 +17,7 @@ use Rattle.cf_elab.specs.Enumeration as row
 use Rattle.cf_elab.specs.Enumeration.{Item, Counted, number_of, one_more, number_or_zero, int_or_zero, label_name, own_names, needs_new}
 use Rattle.cf_elab.specs.Env.{Env, Name, Entity, object, class_name, enum_name, enumerator}
 use Rattle.cf_elab.specs.Made.{intern}
-use Rattle.cf_elab.specs.Names.{declare, is_file_scope}
+use Rattle.cf_elab.specs.Names.{declare, scoped, is_file_scope}
 use Rattle.cf_elab.specs.Operand.{Value, Part, evaluated}
 use Rattle.cf_elab_valid.specs.Answers.{Fine, IsPart}
 use Rattle.cf_elab_valid.specs.Scene.{Scene, IsScene, tree, Steps, Within, Inside, Classless, Holds}
@@ -26,8 +27,8 @@ use Rattle.cf_elab_valid.proofs.Making.{IsType, intern-fine}
 use Rattle.cf_elab_valid.proofs.Named.{IsThere}
 use Rattle.cf_elab_valid.proofs.Parts.{evaluated-fine}
 use Rattle.cf_elab_valid.proofs.Trees.{tree-at}
-use Rattle.cf_elab_valid.proofs.Ways.{begins-get, begins-same, begins-last, homes-same, same-hand, entity-later, named-later, entry-later, fine-as, fine-before, made-fine, onward-fine, steps-through, within-before, When}
-use Rattle.cf_elab_valid_statements.proofs.Scoped.{entered, entered-classless, entered-holds, left, scope-left}
+use Rattle.cf_elab_valid.proofs.Ways.{begins-get, begins-same, begins-last, homes-same, same-hand, entity-later, named-later, entry-later, fine-as, made-fine, onward-fine, steps-through, within-before, When}
+use Rattle.cf_elab_valid_statements.proofs.Scoped.{entered, entered-classless, entered-holds, scoped-fine}
 use Rattle.cf_elab_valid_objects.proofs.Growing.{part-later}
 use Rattle.cf_elab_valid_objects.proofs.Naming.{named}
 use Rattle.cf_elab_valid_statics.proofs.Names.{Any}
@@ -150,27 +151,43 @@ module _ (s : Scene) (scene : IsScene s) where
   number-holds : (n t : ℕ) (z : ℤ) (e : Env) → Within e s → IsType (ty.Enum n) t e → fits kind.Int z ≡ true → holds_number z (tree s t) ≡ true
   number-holds n t z e w is f = ap (holds_number z) (tree-at s.tables scene.table t (ty.Enum n) (begins-get e.types.types s.tables.types.types t (ty.Enum n) w.types is.here)) ∙ f
 
-  no_class : (t : ℕ) (z : ℤ) (k : ℕ) → enumerator t z ≡ class_name k → ⊥
+  no_class : (t : ℕ) (z : Option ℤ) (k : ℕ) → enumerator t z ≡ class_name k → ⊥
   no_class t z k is = absurd cc
 
-  enumerator-fine : {A : Type 0} (P : A → Env → Type 0) (a : A) (name : Name) (n t : ℕ) (z : ℤ) (e : Env) → fits kind.Int z ≡ true → Classless e → When s e (Holds s e) → When s e (IsType (ty.Enum n) t e)
+  enumerator-fine : {A : Type 0} (P : A → Env → Type 0) (a : A) (name : Name) (n t : ℕ) (z : Option ℤ) (e : Env) → fits kind.Int (number_or_zero z) ≡ true → Classless e → When s e (Holds s e) → When s e (IsType (ty.Enum n) t e)
       → When s e (P a (named name (enumerator t z) e)) → Fine s P e (Made a (named name (enumerator t z) e))
-  enumerator-fine P a name n t z e f c h is p = named-fine s P a name (enumerator t z) e (no_class t z) c h (λ w. ((is w).inside, number-holds n t z e w (is w) f)) (λ w. tt) p
+  enumerator-fine P a name n t z e f c h is p = named-fine s P a name (enumerator t z) e (no_class t z) c h (λ w. ((is w).inside, number-holds n t (number_or_zero z) e w (is w) f)) (λ w. tt) p
+
+  -- what is within a scope that is entered is so without it
+  outside : (e : Env) → Within (entered e) s → Within e s
+  outside e w = record { types = w.types; funs = w.funs; enums = w.enums; locals = w.locals; statics = w.statics; functions = w.functions }
+
+  type-inside : (u : Ty) (t : ℕ) (e : Env) → When s e (IsType u t e) → When s (entered e) (IsType u t (entered e))
+  type-inside u t e is w = let k = is (outside e w) in record { inside = k.inside; here = k.here }
 
   counted-fine : (n t : ℕ) (next : Option ℤ) (xs : List Item) (e : Env) → AreItems s xs → Classless e → When s e (Holds s e) → When s e (IsType (ty.Enum n) t e) → Fine s Any e (row.counted t next xs e)
   counted-fine n t next [] e k c h is = made-fine s Any e [] c h (λ w. tt)
   counted-fine n t next (x ∷ xs) e k c h is =
-      onward-fine s (Any {A = Option Value}) (Any {A = List Counted}) e (maybe evaluated x.value e) _ (value-fine x.value k.0)
-      (λ v e1 g1 c1 h1 any. onward-fine s (Any {A = Unit {0}}) (Any {A = List Counted}) e1 (declare x.name (enumerator t (int_or_zero (number_of next v))) e1) (λ _ f. onward (row.counted t (one_more (number_of next v)) xs f) (λ rest. gives (record { at = x.at; name = x.name; number = number_of next v } ∷ rest)))
-      (enumerator-fine Any tt x.name n t (int_or_zero (number_of next v)) e1 (int-fits (number_of next v)) c1 h1 (λ w. type-later (ty.Enum n) t e e1 g1 (is (within-before e e1 s g1 w))) (λ w. tt))
+      onward-fine s (Any {A = Option Value}) (Any {A = List Counted}) e (row.own_value t x e) _ (value-fine x.value k.0)
+      (λ v e1 g1 c1 h1 any. onward-fine s (Any {A = Unit {0}}) (Any {A = List Counted}) e1 (declare x.name (enumerator t (Some (int_or_zero (number_of next v)))) e1) (λ _ f. onward (row.counted t (one_more (number_of next v)) xs f) (λ rest. gives (record { at = x.at; name = x.name; number = number_of next v } ∷ rest)))
+      (enumerator-fine Any tt x.name n t (Some (int_or_zero (number_of next v))) e1 (int-fits (number_of next v)) c1 h1 (λ w. type-later (ty.Enum n) t e e1 g1 (is (within-before e e1 s g1 w))) (λ w. tt))
       (λ u e2 g2 c2 h2 any2. onward-fine s (Any {A = List Counted}) (Any {A = List Counted}) e2 (row.counted t (one_more (number_of next v)) xs e2) (λ rest. gives (record { at = x.at; name = x.name; number = number_of next v } ∷ rest))
       (counted-fine n t (one_more (number_of next v)) xs e2 k.1 c2 h2 (λ w. let g = steps-through e e1 e2 g1 g2 in type-later (ty.Enum n) t e e2 g (is (within-before e e2 s g w))))
       (λ cs e3 g3 c3 h3 any3. made-fine s (Any {A = List Counted}) e3 (record { at = x.at; name = x.name; number = number_of next v } ∷ cs) c3 h3 (λ w. tt))))
     where
-      value-fine : (o : Option Part) → ((p : Part) → o ≡ Some p → IsPart s p) → Fine s Any e (maybe evaluated o e)
+      own : Part → Elab Value
+      own p f = onward (declare x.name (enumerator t None) f) (λ _. evaluated p)
+
+      own-fine : (p : Part) → IsPart s p → Fine s Any (entered e) (own p (entered e))
+      own-fine p q =
+          onward-fine s (Any {A = Unit {0}}) (Any {A = Value}) (entered e) (declare x.name (enumerator t None) (entered e)) (λ _. evaluated p)
+          (enumerator-fine Any tt x.name n t None (entered e) refl (entered-classless s e c) (entered-holds s e h) (type-inside (ty.Enum n) t e is) (λ w. tt))
+          (λ u e1 g1 c1 h1 any. fine-as s (IsOperand s) Any e1 (evaluated p e1) (λ y f r. tt) (evaluated-fine s scene p e1 q c1 h1))
+
+      value-fine : (o : Option Part) → ((p : Part) → o ≡ Some p → IsPart s p) → Fine s Any e (maybe (λ (p : Part). scoped (own p)) o e)
       value-fine None q = made-fine s Any e None c h (λ w. tt)
       value-fine (Some p) q =
-          onward-fine s (IsOperand s) Any e (evaluated p e) (λ y. gives (Some y)) (evaluated-fine s scene p e (q p refl) c h) (λ y e1 g c1 h1 f. made-fine s Any e1 (Some y) c1 h1 (λ w. tt))
+          onward-fine s (Any {A = Value}) Any e (scoped (own p) e) (λ y. gives (Some y)) (scoped-fine s Any (own p) e (λ y f r. tt) (own-fine p (q p refl))) (λ y e1 g c1 h1 f. made-fine s Any e1 (Some y) c1 h1 (λ w. tt))
 
   -- ---- what is declared at last
 
@@ -178,8 +195,8 @@ module _ (s : Scene) (scene : IsScene s) where
   all-declared n t [] e k c h is = made-fine s Any e tt c h (λ w. tt)
   all-declared n t (x ∷ xs) e k c h is =
       onward-fine s Any Any e (declare_enumerator x.name x.at t (number_or_zero x.number) e) (λ _. row.declare_all t xs)
-      (subst (λ b. let run : Elab (Unit {0}) = if b then add_plain x.name x.at (what.Enumerator (number_or_zero x.number)) t else declare x.name (enumerator t (number_or_zero x.number)) in Fine s Any e (run e)) (sym (in-no-class e c))
-      (enumerator-fine Any tt x.name n t (number_or_zero x.number) e k.0 c h is (λ w. tt)))
+      (subst (λ b. let run : Elab (Unit {0}) = if b then add_plain x.name x.at (what.Enumerator (number_or_zero x.number)) t else declare x.name (enumerator t (Some (number_or_zero x.number))) in Fine s Any e (run e)) (sym (in-no-class e c))
+      (enumerator-fine Any tt x.name n t (Some (number_or_zero x.number)) e k.0 c h is (λ w. tt)))
       (λ u e1 g c1 h1 any. all-declared n t xs e1 k.1 c1 h1 (λ w. type-later (ty.Enum n) t e e1 g (is (within-before e e1 s g w))))
 
   name-declared : (n t : ℕ) (name : Option (ℕ × Name)) (e : Env) → Classless e → When s e (Holds s e) → When s e (IsEnum n e) → Fine s Any e (row.name_declared n t name e)
@@ -187,6 +204,10 @@ module _ (s : Scene) (scene : IsScene s) where
   name-declared n t (Some x) e c h i =
       subst (λ b. let run : Elab (Unit {0}) = if b then add_plain x.1 x.0 what.Alias t else declare x.1 (enum_name n) in Fine s Any e (run e)) (sym (in-no-class e c))
       (named-fine s Any tt x.1 (enum_name n) e (λ k is. absurd cc) c h i i (λ w. tt))
+
+  name-known : (n : ℕ) (name : Option (ℕ × Name)) (e : Env) → Classless e → When s e (Holds s e) → When s e (IsEnum n e) → Fine s Any e (row.name_known n name e)
+  name-known n None e c h i = made-fine s Any e tt c h (λ w. tt)
+  name-known n (Some x) e c h i = named-fine s Any tt x.1 (enum_name n) e (λ k is. absurd cc) c h i i (λ w. tt)
 
   -- ---- the whole
 
@@ -212,25 +233,27 @@ module _ (s : Scene) (scene : IsScene s) where
         (all-declared n t cs e1 k c1 h1 (λ w. type-later (ty.Enum n) t e e1 g1 (is (within-before e e1 s g1 w))))
         (λ v e2 g2 c2 h2 any2. made-fine s IsThere e2 t c2 h2 (λ w. let g = steps-through e e1 e2 g1 g2 in (type-later (ty.Enum n) t e e2 g (is (within-before e e2 s g w))).inside))))))))
 
-    -- the enumerators are in a scope of their own until then
-    behind-scope : (n t : ℕ) (e : Env) → Classless e → When s e (Holds s e) → When s e (IsEnum n e) → When s e (IsType (ty.Enum n) t e)
-        → Fine s IsThere e (onward (row.counted t (Some (pos 0)) list (entered e)) (λ cs f. checked n t cs (left f)))
-    behind-scope n t e c h i is =
-        by (row.counted t (Some (pos 0)) list (entered e)) (counted-fine n t (Some (pos 0)) list (entered e) items (entered-classless s e c) (entered-holds s e h) (λ w. let k = is (there w) in record { inside = k.inside; here = k.here }))
-      where
-        there : Within (entered e) s → Within e s
-        there w = record { types = w.types; funs = w.funs; enums = w.enums; locals = w.locals; statics = w.statics; functions = w.functions }
+    -- the enumerators are in a scope of their own until then, and the enumeration's name in one around it
+    abbrev in_scope : ℕ → ℕ → Elab (List Counted)
+    in_scope n t f = onward (row.name_known n name f) (λ _. scoped (row.counted t (Some (pos 0)) list))
 
-        by : (r : Answer (List Counted)) → Fine s Any (entered e) r → Fine s IsThere e (onward r (λ cs f. checked n t cs (left f)))
-        by (Made cs f) g =
-            let k = scope-left s Any e f cs (λ f p. tt) g in
-            fine-before s IsThere e (left f) (checked n t cs (left f)) k.steps
-            (checked-fine n t cs (left f) k.classless k.holds (λ w. enum-later (left f) k.steps (i (within-before e (left f) s k.steps w))) (λ w. type-later (ty.Enum n) t e (left f) k.steps (is (within-before e (left f) s k.steps w))))
-          where
-            enum-later : (b : Env) → Steps e b → IsEnum n e → IsEnum n b
-            enum-later b g k = omega (arith, k, ap length g.enums.all, length-append e.classes.enums g.enums.more)
-        by (Refused rule place) g = tt
-        by (Passed bound most) g = tt
+    scope-fine : (n t : ℕ) (e : Env) → Classless e → When s e (Holds s e) → When s e (IsEnum n e) → When s e (IsType (ty.Enum n) t e) → Fine s Any e (scoped (in_scope n t) e)
+    scope-fine n t e c h i is =
+        scoped-fine s Any (in_scope n t) e (λ cs f p. tt)
+        (onward-fine s (Any {A = Unit {0}}) (Any {A = List Counted}) (entered e) (row.name_known n name (entered e)) (λ _. scoped (row.counted t (Some (pos 0)) list))
+        (name-known n name (entered e) (entered-classless s e c) (entered-holds s e h) (λ w. i (outside e w)))
+        (λ u e1 g1 c1 h1 any. scoped-fine s Any (row.counted t (Some (pos 0)) list) e1 (λ cs f p. tt)
+        (counted-fine n t (Some (pos 0)) list (entered e1) items (entered-classless s e1 c1) (entered-holds s e1 h1)
+        (type-inside (ty.Enum n) t e1 (λ w. type-later (ty.Enum n) t (entered e) e1 g1 (type-inside (ty.Enum n) t e is (within-before (entered e) e1 s g1 w)))))))
+
+    behind-scope : (n t : ℕ) (e : Env) → Classless e → When s e (Holds s e) → When s e (IsEnum n e) → When s e (IsType (ty.Enum n) t e)
+        → Fine s IsThere e (onward (scoped (in_scope n t) e) (λ cs. checked n t cs))
+    behind-scope n t e c h i is =
+        onward-fine s (Any {A = List Counted}) IsThere e (scoped (in_scope n t) e) (λ cs. checked n t cs) (scope-fine n t e c h i is)
+        (λ cs f g c1 h1 any. checked-fine n t cs f c1 h1 (λ w. enum-later f g (i (within-before e f s g w))) (λ w. type-later (ty.Enum n) t e f g (is (within-before e f s g w))))
+      where
+        enum-later : (b : Env) → Steps e b → IsEnum n e → IsEnum n b
+        enum-later b g k = omega (arith, k, ap length g.enums.all, length-append e.classes.enums g.enums.more)
 
     pub enumeration-fine : (e : Env) → Classless e → When s e (Holds s e) → Fine s IsThere e (row.enumeration_row alias at name list e)
     enumeration-fine e c h =

@@ -1,5 +1,5 @@
 -- Declarations of functions, without classes and default arguments (3.3, 8.3).
-use Rattle.std.proofs.Common.{◌≡◌, inl, inr, ℕ, zero, suc, ◌-◌, ◌<◌, Bool, true, false, not, ◌==◌, ◌&&◌, ◌||◌, nat_eq, is_some, nat_le, List, [], ◌∷◌, ◌++◌, length, Option, Some, None, slice_get, bytes_eq, IsTrue, refl, sym, ap, subst, ◌∙◌, true≢false, arith}
+use Rattle.std.proofs.Common.{◌≡◌, inl, inr, ℕ, zero, suc, ◌-◌, ◌<◌, Bool, true, false, not, ◌==◌, ◌&&◌, ◌||◌, is_some, nat_le, List, [], ◌∷◌, ◌++◌, length, Option, Some, None, slice_get, bytes_eq, IsTrue, refl, sym, ap, subst, ◌∙◌, true≢false, arith}
 use Rattle.std.specs.List.{list_any}
 use Rattle.cf_base.specs.declared.limit.Bound.TheVariants as bound_of
 use Rattle.cf_types.specs.declared.ty.Ty.{Ty}
@@ -167,7 +167,7 @@ module _ (s : Scene) (scene : IsScene s) (d : Says) where
 
   module _ (e : Env) (no_defaults : NoDefaults d.parameters) (c : Classless e) (h : When s e (Holds s e)) (is : When s e (IsFun e d.type)) where
     new-entry : Fine s Any e (row.new_entry d e)
-    new-entry = defaults-still [] e refl no_defaults Any _ (by (parameters_complete e d) (e.extent.elsewhere || d.defines || list_any (bytes_eq d.name) e.defines) (nat_le (length (function_link e d.called d.type)) most_name))
+    new-entry = defaults-still [] e refl no_defaults Any _ (by (parameters_complete e d) (e.extent.overloads || not (list_any (λ (f : FunctionEntry). bytes_eq f.name d.name) e.entries)) (e.extent.elsewhere || d.defines || d.is_initialised || list_any (bytes_eq d.name) e.defines) (nat_le (length (function_link e d.called d.type)) most_name))
       where
         fit : When s e ((n : ℕ) (f : FunctionEntry) → slice_get (e.entries ++ entry e d [] ∷ []) n ≡ Some f → EntryFits s e f)
         fit w n f at = elim (get-snoc e.entries (entry e d []) n f at) [ inl a ↦ (h w).entries n f a | inr b ↦ subst (EntryFits s e) b.1 (record { fun = (is w).fun; here = (is w).here }) ]
@@ -175,11 +175,13 @@ module _ (s : Scene) (scene : IsScene s) (d : Says) where
         none : (n : ℕ) (f : FunctionEntry) → slice_get (e.entries ++ entry e d [] ∷ []) n ≡ Some f → f.defaults ≡ []
         none n f at = elim (get-snoc e.entries (entry e d []) n f at) [ inl a ↦ c.no_defaults n f a | inr b ↦ subst (λ (x : FunctionEntry). x.defaults ≡ []) b.1 refl ]
 
-        by : (a b k : Bool) → Fine s Any e (onward (need a 30 d.at e) (λ _ f. onward (need b 48 d.at f) (λ _ g. onward (within k bound_of.Names most_name g) (λ _ m. Made (length e.entries) (added (entry e d []) m)))))
-        by false b k = tt
-        by true false k = tt
-        by true true false = tt
-        by true true true = entries-fine s Any (length e.entries) (e.entries ++ entry e d [] ∷ []) e none fit c h (λ w. tt)
+        by : (a o b k : Bool) → Fine s Any e (onward (need a 30 d.at e) (λ _ f. onward (need o 48 d.at f) (λ _ i. onward (need b 48 d.at i)
+            (λ _ g. onward (within k bound_of.Names most_name g) (λ _ m. Made (length e.entries) (added (entry e d []) m))))))
+        by false o b k = tt
+        by true false b k = tt
+        by true true false k = tt
+        by true true true false = tt
+        by true true true true = entries-fine s Any (length e.entries) (e.entries ++ entry e d [] ∷ []) e none fit c h (λ w. tt)
 
     known-entry : (n : ℕ) (f : FunctionEntry) → slice_get e.entries n ≡ Some f → Fine s Any e (row.known_entry d n f e)
     known-entry n f there =
@@ -214,7 +216,7 @@ module _ (s : Scene) (scene : IsScene s) (d : Says) where
   joined-fine n (Some k) e c h = by (slice_get e.entities k) refl
     where
       join_set : Option Entity → Elab (Unit {0})
-      join_set (Some (functions fs)) = row.need_single d fs n >> redeclare k (functions (joins n fs))
+      join_set (Some (functions fs)) = redeclare k (functions (joins n fs))
       join_set other = breaks 8 d.at
 
       by : (o : Option Entity) → slice_get e.entities k ≡ o → Fine s Any e (join_set o e)
@@ -224,9 +226,7 @@ module _ (s : Scene) (scene : IsScene s) (d : Says) where
       by (Some (class_name t)) there = tt
       by (Some (enum_name t)) there = tt
       by (Some (enumerator t z)) there = tt
-      by (Some (functions fs)) there =
-          still-fine s Any e (row.need_single d fs n e) _ (needed e (e.extent.overloads || list_any (nat_eq n) fs) 48 d.at)
-          (redeclared-fine s Any k (functions fs) (functions (joins n fs)) e there refl (λ m is. absurd cc) c h (λ w. tt) (λ w. tt) (λ w. tt))
+      by (Some (functions fs)) there = redeclared-fine s Any k (functions fs) (functions (joins n fs)) e there refl (λ m is. absurd cc) c h (λ w. tt) (λ w. tt) (λ w. tt)
 
   pub declared-fine : (int_type : ℕ) (e : Env) → NoDefaults d.parameters → Classless e → When s e (Holds s e) → When s e (IsFun e d.type) → Fine s Any e (row.declare_function int_type d e)
   declared-fine int_type e n c h is =

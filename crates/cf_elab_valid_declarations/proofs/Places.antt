@@ -58,11 +58,11 @@ module _ (s : Scene) (scene : IsScene s) (arrays : NoVoidElements s.tables) wher
       → When s e (Inside e t) → When s e (is_void (tree s t) ≡ false) → Fine s (λ rs f. Nothing rs) e (objects_of true g name at t parts w e)
   file-objects none g name at t parts w e o given c h i n = by (is_extern g && not (is_some w))
     where
-      by : (b : Bool) → Fine s (λ rs f. Nothing rs) e (let run : Elab (List Reached) = if b then row.only_declared (object_says g name at t false) else (λ f. onward (define_in_file (object_says g name at t true) parts f) (λ _. gives [])) in run e)
-      by true = only-fine (object_says g name at t false) e c h i n
+      by : (b : Bool) → Fine s (λ rs f. Nothing rs) e (let run : Elab (List Reached) = if b then row.only_declared (object_says g name at t false (is_some w)) else (λ f. onward (define_in_file (object_says g name at t true (is_some w)) parts f) (λ _. gives [])) in run e)
+      by true = only-fine (object_says g name at t false (is_some w)) e c h i n
       by false =
-          onward-fine s Any (λ rs f. Nothing rs) e (define_in_file (object_says g name at t true) parts e) (λ _. gives [])
-          (file-fine s scene arrays none (object_says g name at t true) parts e given.initial c h i n) (λ u e1 g1 c1 h1 any. made-fine s (λ rs f. Nothing rs) e1 [] c1 h1 (λ w. tt))
+          onward-fine s Any (λ rs f. Nothing rs) e (define_in_file (object_says g name at t true (is_some w)) parts e) (λ _. gives [])
+          (file-fine s scene arrays none (object_says g name at t true (is_some w)) parts e given.initial c h i n) (λ u e1 g1 c1 h1 any. made-fine s (λ rs f. Nothing rs) e1 [] c1 h1 (λ w. tt))
 
   pub file-rows : s.locals ≡ [] → (at : ℕ) (g : Gathered) (ds : List Declares) (e : Env) → AreDeclarators s scene ds → Outside e → Classless e → When s e (Holds s e) → When s e (NamedFits g e) → Fine s (λ rs f. Nothing rs) e (row.declaration_row at g ds e)
   file-rows none at g ds e k o c h m =
@@ -80,13 +80,13 @@ module _ (s : Scene) (scene : IsScene s) (arrays : NoVoidElements s.tables) wher
 
     module _ (g : Gathered) (name : Name) (at t : ℕ) (parts : Elab (Option Written)) (w : Option Initial) (e : Env) (inner : Inner s n m e) (given : AreParts s e parts) (c : Classless e) (h : When s e (Holds s e)) (i : When s e (Inside e t)) (v : When s e (is_void (tree s t) ≡ false)) where
       abbrev external : Env → Answer (List Reached)
-      external f = onward (onward (onward (row.only_declared (object_says g name at t false) f) (λ _. parts)) (λ _. row.no_initialiser w)) (λ _. gives [])
+      external f = onward (onward (onward (row.only_declared (object_says g name at t false (is_some w)) f) (λ _. parts)) (λ _. row.no_initialiser w)) (λ _. gives [])
 
       external-fine : Fine s (λ rs f. Reaches rs) e (external e)
       external-fine =
-          onward-fine s Any (λ rs f. Reaches rs) e (onward (onward (row.only_declared (object_says g name at t false) e) (λ _. parts)) (λ _. row.no_initialiser w)) (λ _. gives [])
-          (onward-fine s Any Any e (onward (row.only_declared (object_says g name at t false) e) (λ _. parts)) (λ _. row.no_initialiser w)
-          (onward-fine s Any Any e (row.only_declared (object_says g name at t false) e) (λ _. parts) (only-fine (object_says g name at t false) e c h i v)
+          onward-fine s Any (λ rs f. Reaches rs) e (onward (onward (row.only_declared (object_says g name at t false (is_some w)) e) (λ _. parts)) (λ _. row.no_initialiser w)) (λ _. gives [])
+          (onward-fine s Any Any e (onward (row.only_declared (object_says g name at t false (is_some w)) e) (λ _. parts)) (λ _. row.no_initialiser w)
+          (onward-fine s Any Any e (row.only_declared (object_says g name at t false (is_some w)) e) (λ _. parts) (only-fine (object_says g name at t false (is_some w)) e c h i v)
           (λ x e1 g1 c1 h1 any. fine-as s (λ y f. MaybeFits s f y) Any e1 (parts e1) (λ y f p. tt) (given.initial.fine e1 g1 c1 h1)))
           (λ y e2 g2 c2 h2 any. still-alone s e2 (row.no_initialiser w e2) (none_still (option_map_or (λ i. Some (initial_place i)) w None) 28 e2) c2 h2))
           (λ u e3 g3 c3 h3 any. made-fine s (λ rs f. Reaches rs) e3 [] c3 h3 (λ w. tt))

@@ -18,7 +18,7 @@ use Rattle.cf_elab.specs.Env.{Env, Name, alias}
 use Rattle.cf_elab.specs.Functions.{declare_function}
 use Rattle.cf_elab.specs.Made.{int}
 use Rattle.cf_elab.specs.Names.{declared_here, is_file_scope}
-use Rattle.cf_elab.specs.Objects.{Reached, Written, parts_first}
+use Rattle.cf_elab.specs.Objects.{Reached, Written}
 use Rattle.cf_elab.specs.Operand.{Sort, sort_of, is_void, is_function}
 use Rattle.cf_elab.specs.Shape.{Parameter, Shape, function_of, Shaped, whole, unbounded, typed, bounds_constant}
 use Rattle.cf_elab.specs.Specifiers.{Gathered, base_type, is_typedef, is_extern}
@@ -31,38 +31,34 @@ use Rattle.cf_elab_valid.proofs.Named.{IsThere, NamedFits, base-fine}
 use Rattle.cf_elab_valid.proofs.Options.{none_some, some_is}
 use Rattle.cf_elab_valid.proofs.Shapes.{NoDefaults, IsPlainShape, ShapeThere, shape-later, ShapedThere, typed-fine, bounds_still, IsShape, none_still}
 use Rattle.cf_elab_valid.proofs.Statements.{no_void}
-use Rattle.cf_elab_valid.proofs.Ways.{as-then, fine-before, inside-later, made-fine, onward-fine, steps-through, within-before, When}
-use Rattle.cf_elab_valid_objects.specs.Declared.{AreInitial}
+use Rattle.cf_elab_valid.proofs.Ways.{as-then, fine-as, inside-later, made-fine, onward-fine, steps-none, within-before, When}
 use Rattle.cf_elab_valid_objects.specs.Starts.{NoVoidElements, MaybeFits}
-use Rattle.cf_elab_valid_objects.proofs.Initialisers.{leaves-none}
-use Rattle.cf_elab_valid_statics.specs.Fixed.{IsFixed, AreParts}
-use Rattle.cf_elab_valid_statics.proofs.Arrays.{maybe-later, unbounded-fine}
+use Rattle.cf_elab_valid_statics.specs.Fixed.{AreParts}
+use Rattle.cf_elab_valid_statics.proofs.Arrays.{IsBound, bound-fine}
 use Rattle.cf_elab_valid_statics.proofs.Names.{Any}
 use Rattle.cf_elab_valid_declarations.proofs.Declarators.{function-plain}
 use Rattle.cf_elab_valid_declarations.proofs.Entering.{named-fine, still-alone}
 use Rattle.cf_elab_valid_declarations.proofs.Functions.{IsFun, fun-later, function-there, declared-fine}
 
--- parts that are there are fine from there on
-given-parts : (s : Scene) (b : Env) (w : Option Written) → When s b (MaybeFits s b w) → When s b (IsFixed s w) → AreParts s b (gives w)
-given-parts s b w f k = record {
-  initial = record {
-    fine = λ e g c h. made-fine s (λ w f. MaybeFits s f w) e w c h (λ v. maybe-later s w b e g (f (within-before b e s g v)));
-    leaves = λ e g c. leaves-none e c;
-  };
-  fixed = λ e g c h v. k (within-before b e s g v);
-}
-
--- a function has no initialiser, and no name two
+-- a function has no initialiser, and no name of a type
 initial-still : (w : Option Initial) (e : Env) → Still e (row.no_initialiser w e)
 initial-still w e = none_still (option_map_or (λ i. Some (initial_place i)) w None) 28 e
 
 module _ (s : Scene) (scene : IsScene s) where
+  -- ---- an initialiser that may not stand, behind its parts
+
+  refused-fine : (w : Option Initial) (e : Env) → AreParts s e (parts_of w) → Classless e → When s e (Holds s e) → Fine s Any e (onward (parts_of w e) (λ _. row.no_initialiser w))
+  refused-fine w e given c h =
+      onward-fine s (Any {A = Option Written}) (Any {A = Unit {0}}) e (parts_of w e) (λ _. row.no_initialiser w)
+      (fine-as s (λ y f. MaybeFits s f y) Any e (parts_of w e) (λ y f p. tt) (given.initial.fine e (steps-none e) c h))
+      (λ y e1 g1 c1 h1 any. still-alone s e1 (row.no_initialiser w e1) (initial-still w e1) c1 h1)
+
   -- ---- names of types
 
-  typedef-fine : (name : Name) (at t : ℕ) (w : Option Initial) (e : Env) → Classless e → When s e (Holds s e) → When s e (Inside e t) → Fine s Any e (row.typedef_row name at t w e)
-  typedef-fine name at t w e c h i =
-      onward-fine s Any Any e (row.aliased name at t (declared_here e name) e) (λ _. row.no_initialiser w) (by (declared_here e name))
-      (λ u e1 g1 c1 h1 any. still-alone s e1 (row.no_initialiser w e1) (initial-still w e1) c1 h1)
+  typedef-fine : (name : Name) (at t : ℕ) (w : Option Initial) (e : Env) → ((b : Env) → AreParts s b (parts_of w)) → Classless e → When s e (Holds s e) → When s e (Inside e t) → Fine s Any e (row.typedef_row name at t w e)
+  typedef-fine name at t w e given c h i =
+      onward-fine s Any Any e (row.aliased name at t (declared_here e name) e) (λ _ f. onward (parts_of w f) (λ _. row.no_initialiser w)) (by (declared_here e name))
+      (λ u e1 g1 c1 h1 any. refused-fine w e1 (given e1) c1 h1)
     where
       by : (o : Option ℕ) → Fine s Any e (row.aliased name at t o e)
       by None = named-fine s Any tt name (alias t) e (λ k is. absurd cc) c h i i (λ w. tt)
@@ -87,14 +83,14 @@ module _ (s : Scene) (scene : IsScene s) where
   plain-still (last.Ident name) at e = refl
   plain-still (last.Operator n) at e = refl
 
-  function-fine : (g : Gathered) (n : WrittenName) (t : ℕ) (x : Shape) (w : Option Initial) (e : Env) → IsPlainShape x → Classless e → When s e (Holds s e) → When s e (Inside e t) → When s e (is_function (sort_of e.types t) ≡ true)
+  function-fine : (g : Gathered) (n : WrittenName) (t : ℕ) (x : Shape) (w : Option Initial) (e : Env) → IsPlainShape x → ((b : Env) → AreParts s b (parts_of w)) → Classless e → When s e (Holds s e) → When s e (Inside e t) → When s e (is_function (sort_of e.types t) ≡ true)
       → Fine s Any e (row.function_row g n t x w e)
-  function-fine g n t x w e plain c h i f =
+  function-fine g n t x w e plain given c h i f =
       still-fine s Any e (row.need_plain_name n.last n.last_at e) _ (plain-still n.last n.last_at e)
       (onward-fine s (IsType (ty.Int kind.Int)) Any e (int e) _ (of_kind-fine s kind.Int e c h)
-      (λ k e1 g1 c1 h1 is. onward-fine s Any Any e1 (declare_function k (function_says g n t x false) e1) (λ _. row.no_initialiser w)
-      (declared-fine s scene (function_says g n t x false) k e1 (parameters-plain x plain) c1 h1 (λ v. let early = within-before e e1 s g1 v in fun-later e e1 t g1 (function-there s scene e t early (i early) (f early))))
-      (λ u e2 g2 c2 h2 any. still-alone s e2 (row.no_initialiser w e2) (initial-still w e2) c2 h2)))
+      (λ k e1 g1 c1 h1 is. onward-fine s Any Any e1 (declare_function k (function_says g n t x false (is_some w)) e1) (λ _ f. onward (parts_of w f) (λ _. row.no_initialiser w))
+      (declared-fine s scene (function_says g n t x false (is_some w)) k e1 (parameters-plain x plain) c1 h1 (λ v. let early = within-before e e1 s g1 v in fun-later e e1 t g1 (function-there s scene e t early (i early) (f early))))
+      (λ u e2 g2 c2 h2 any. refused-fine w e2 (given e2) c2 h2)))
 
 -- ---- declarators, in a function or outside of functions
 
@@ -167,16 +163,15 @@ module _ (s : Scene) (scene : IsScene s) (arrays : NoVoidElements s.tables) (in_
         kind_of false false = λ k. onward (row.plain_name n n.last k) (λ name. row.object_row in_file g name n.last_at t (parts_of w) w)
 
         by : (a b : Bool) → is_function (sort_of e.types t) ≡ b → Fine s Reaches e (kind_of a b e)
-        by true b is = reaches-none e (onward (row.plain_name n n.last e) (λ name. row.typedef_row name n.last_at t w)) (plain-name s Any n e (λ name. row.typedef_row name n.last_at t w) (λ name. typedef-fine s scene name n.last_at t w e c h i))
-        by false true is = reaches-none e (row.function_row g n t x w e) (function-fine s scene g n t x w e plain c h i (λ v. is))
+        by true b is = reaches-none e (onward (row.plain_name n n.last e) (λ name. row.typedef_row name n.last_at t w)) (plain-name s Any n e (λ name. row.typedef_row name n.last_at t w) (λ name. typedef-fine s scene name n.last_at t w e given c h i))
+        by false true is = reaches-none e (row.function_row g n t x w e) (function-fine s scene g n t x w e plain given c h i (λ v. is))
         by false false is = plain-name s Reaches n e _ (λ name. object-fine g name n.last_at t (parts_of w) w e here (given e) c h i)
 
     shaped-fine : (t : Shaped) → When s e (ShapedThere s scene t e) → Fine s Reaches e (row.by_shape in_file g n x w t e)
     shaped-fine (whole t) i = kind-fine t i
     shaped-fine (unbounded u) i =
-        plain-name s Reaches n e _ (λ name. onward-fine s (λ y f. Inside f y.0 × MaybeFits s f y.1 × IsFixed s y.1) Reaches e (parts_first n.last_at name u (parts_of w) e) _
-        (unbounded-fine s scene arrays n.last_at name u (parts_of w) given e c h i)
-        (λ y e1 g1 c1 h1 p. object-fine g name n.last_at y.0 (gives y.1) w e1 (later e e1 g1 here) (given-parts s e1 y.1 (λ v. (p v).1) (λ v. (p v).2)) c1 h1 (λ v. (p v).0)))
+        plain-name s Reaches n e _ (λ name. onward-fine s (IsBound s n.last_at u) Reaches e (row.bound_given n.last_at u w e) _ (bound-fine s n.last_at u w e c h)
+        (λ t e1 g1 c1 h1 it. object-fine g name n.last_at t (parts_of w) w e1 (later e e1 g1 here) (given e1) c1 h1 it))
 
   module _ (g : Gathered) (at : ℕ) (w : Option Initial) (x : Shape) (n : WrittenName) (plain : IsPlainShape x) (given : (b : Env) → AreParts s b (parts_of w)) where
     abbrev behind : ℕ → Env → Answer (List Reached)

@@ -12,7 +12,7 @@ use Rattle.cf_elab.specs.Answer.{Answer, Made, Elab, onward, for_each, done}
 use Rattle.cf_elab.specs.Built as built
 use Rattle.cf_elab.specs.Env.{Env, Name, Extent, functions, FunctionEntry}
 use Rattle.cf_elab.specs.File as row
-use Rattle.cf_elab.specs.File.{first_env, library_entry, item_row, in_turn, first_undefined}
+use Rattle.cf_elab.specs.File.{first_env, library_entry, item_row, in_turn}
 use Rattle.cf_elab.specs.Made.{int, void, function_type}
 use Rattle.cf_elab.specs.Names.{declare}
 use Rattle.cf_elab.specs.Objects.{Reached}
@@ -68,7 +68,7 @@ module _ (s : Scene) (end : IsFileEnd s) where
       (λ u e1 g1 c1 h1 a1. onward-fine s (Any {A = Unit {0}}) (Any {A = Unit {0}}) e1 (row.library (codes "getchar") i [] e1) (λ _. exit_row i v) (library-fine (codes "getchar") i [] e1 c1 h1)
       (λ u2 e2 g2 c2 h2 a2. library-fine (codes "exit") v (i ∷ []) e2 c2 h2))
 
-  beginning-fine : (e : Env) → Classless e → When s e (Holds s e) → Fine s (Any {A = Unit {0}}) e (row.beginning e)
+  pub beginning-fine : (e : Env) → Classless e → When s e (Holds s e) → Fine s (Any {A = Unit {0}}) e (row.beginning e)
   beginning-fine e c h =
       onward-fine s (IsType (ty.Int kind.Int)) (Any {A = Unit {0}}) e (int e) (λ i f. onward (void f) (λ v. rest i v)) (of_kind-fine s kind.Int e c h)
       (λ i e1 g1 c1 h1 is. onward-fine s (IsType ty.Void) (Any {A = Unit {0}}) e1 (void e1) (λ v. rest i v) (intern-fine s ty.Void e1 refl (λ w. tt) c1 h1) (λ v e2 g2 c2 h2 is2. rest-fine i v e2 c2 h2))
@@ -84,10 +84,10 @@ module _ (s : Scene) (end : IsFileEnd s) where
   abbrev is_end : IsEnd s
   is_end = record { scene = end.scene; arrays = end.arrays; frame = λ i t at. absurd (no_local i t at) }
 
-  outermost-later : (a b : Env) → Steps a b → is_outermost a.scopes.outer ≡ true → is_outermost b.scopes.outer ≡ true
+  pub outermost-later : (a b : Env) → Steps a b → is_outermost a.scopes.outer ≡ true → is_outermost b.scopes.outer ≡ true
   outermost-later a b g o = ap is_outermost g.outer ∙ o
 
-  item-fine : ConstantsAreApart → (x : Item) → built.of_item x ≡ None → item_fits x ≡ true → (e : Env) → is_outermost e.scopes.outer ≡ true → Classless e → When s e (Holds s e) → Fine s Any e (item_row x e)
+  pub item-fine : ConstantsAreApart → (x : Item) → built.of_item x ≡ None → item_fits x ≡ true → (e : Env) → is_outermost e.scopes.outer ≡ true → Classless e → When s e (Holds s e) → Fine s Any e (item_row x e)
   item-fine apart (item.Function f) b fits e o c h = function-law apart f b fits s end e o c h
   item-fine apart (item.Declaration d) b fits e o c h =
       onward-fine s (Any {A = List Reached}) (Any {A = Unit {0}}) e ((declaration d).run e) (λ _. done) ((declaration-tree-law apart d b fits).outside s is_end end.outside e o c h) (λ rs e1 g1 c1 h1 any. made-fine s Any e1 tt c1 h1 (λ w. tt))

@@ -6,4 +6,4 @@
 
 mod laws;
 
-pub use laws::{constants_are_apart, elaborated_files_are_valid};
+pub use laws::{constants_are_apart, elaborated_files_are_valid, finished_files_are_valid};

@@ -17,7 +17,7 @@ use Rattle.cf_elab.specs.Answer.{Answer, Made, Refused, Passed, Elab, onward, ne
 use Rattle.cf_elab.specs.Built as built
 use Rattle.cf_elab.specs.Built.{Place}
 use Rattle.cf_elab.specs.Bodies.{WrittenInit}
-use Rattle.cf_elab.specs.Declaration.{parameters_of, function_says}
+use Rattle.cf_elab.specs.Declaration.{parameters_of, declares_function, function_says}
 use Rattle.cf_elab.specs.Declaration as declaration_row
 use Rattle.cf_elab.specs.Declarator.{Declared}
 use Rattle.cf_elab.specs.Definition as row
@@ -100,7 +100,7 @@ module _ (s : Scene) (end : IsFileEnd s) (body_at : ℕ) (ss : List (Elab MadeOf
         onward (bounds_constant x e)
         (λ _ f. onward (declaration_row.need_plain_name n.last n.last_at f)
         (λ _ f. onward (int f)
-        (λ i f. onward (declare_function i (function_says g n t x true) f)
+        (λ i f. onward (declare_function i (function_says g n t x true false) f)
         (λ k f. onward (row.no_initialisers inits f)
         (λ _ f. row.define_function ps (body_of body_at ss) (slice_get f.entries k) f)))))
 
@@ -116,13 +116,13 @@ module _ (s : Scene) (end : IsFileEnd s) (body_at : ℕ) (ss : List (Elab MadeOf
         still-fine s Any e (bounds_constant x e) _ (bounds_still s end.scene x e)
         (still-fine s Any e (declaration_row.need_plain_name n.last n.last_at e) _ (plain-still n.last n.last_at e) (typed-int (int e) (of_kind-fine s kind.Int e c h) (intern-some (ty.Int kind.Int) e)))
       where
-        typed-int : (r : Answer ℕ) → Fine s (IsType (ty.Int kind.Int)) e r → IsSome r → Fine s Any e (onward r (λ i f. onward (declare_function i (function_says g n t x true) f)
+        typed-int : (r : Answer ℕ) → Fine s (IsType (ty.Int kind.Int)) e r → IsSome r → Fine s Any e (onward r (λ i f. onward (declare_function i (function_says g n t x true false) f)
             (λ k f. onward (row.no_initialisers inits f)
             (λ _ f. row.define_function ps (body_of body_at ss) (slice_get f.entries k) f))))
         typed-int (Made i e1) q some =
             fine-before s Any e e1 _ q.steps
-            (onward-fine s Any Any e1 (declare_function i (function_says g n t x true) e1) _
-            (declared-fine s end.scene (function_says g n t x true) i e1 parameters-plain q.classless q.holds (λ w. fun-later e e1 t q.steps (fun (within-before e e1 s q.steps w))))
+            (onward-fine s Any Any e1 (declare_function i (function_says g n t x true false) e1) _
+            (declared-fine s end.scene (function_says g n t x true false) i e1 parameters-plain q.classless q.holds (λ w. fun-later e e1 t q.steps (fun (within-before e e1 s q.steps w))))
             (λ k e2 g2 c2 h2 any. still-fine s Any e2 (row.no_initialisers inits e2) _ (inits-still inits e2)
             (entry-fine ps k e2 (let longer = begins-longer e1.types.types e2.types.types g2.types in omega (arith, some, longer)) c2 h2
             (λ w. let step = steps-through e e1 e2 q.steps g2 in function-params x ps e2 is (shape-later e e2 x step (f (within-before e e2 s step w)))))))
@@ -152,7 +152,7 @@ module _ (s : Scene) (end : IsFileEnd s) (body_at : ℕ) (ss : List (Elab MadeOf
     named-definition : (e : Env) → Classless e → When s e (Holds s e) → When s e (ShapeThere x e) → When s e (NamedFits g e) → Fine s Any e (row.named_definition g at x inits (body_of body_at ss) n e)
     named-definition e c h f m =
         onward-fine s IsThere Any e (base_type g e) _ (base-fine s end.scene g e c h m)
-        (λ base e1 g1 c1 h1 ib. still-fine s Any e1 (none_at (definition_conflict at g) 24 e1) _ (none_still (definition_conflict at g) 24 e1)
+        (λ base e1 g1 c1 h1 ib. still-fine s Any e1 (none_at (definition_conflict (declares_function e1 base x) at g) 24 e1) _ (none_still (definition_conflict (declares_function e1 base x) at g) 24 e1)
         (still-fine s Any e1 (declaration_row.unqualified n e1) _ (needed e1 _ 48 n.at)
         (still-fine s Any e1 (declaration_row.no_definition g x e1) _ (none_still _ 26 e1) (typed-behind base e1 c1 h1 (λ w. shape-later e e1 x g1 (f (within-before e e1 s g1 w))) ib))))
 

@@ -45,7 +45,8 @@ scalar-quiet at t x k l e c = tt
 value-quiet : (at t : ℕ) (k : Sort) (v : Value) (e : Env) → Classless e → QuietIn e (row.cast_value at t k v e)
 value-quiet at t k v e c =
     quiet-onward e (plain v e) _ c (plain-quiet v e c)
-    (λ x f cf. if-quiet f (is_zero x.number && takes_null k) (gives (null_of t x)) (row.cast_scalar at t x k (sort_of f.types x.type)) (quiet-none f cf) (scalar-quiet at t x k (sort_of f.types x.type) f cf))
+    (λ x f cf. let y : Value = record x { at = at } in
+    if-quiet f (is_zero x.number && takes_null k) (gives (null_of t y)) (row.cast_scalar at t y k (sort_of f.types x.type)) (quiet-none f cf) (scalar-quiet at t y k (sort_of f.types x.type) f cf))
 
 place-quiet : (at u : ℕ) (v : Value) (e : Env) → Classless e → QuietIn e (row.as_place at u v e)
 place-quiet at u v e c = need-quiet e v.is_lvalue 17 at _ (classes-quiet at u v u v.type e c)

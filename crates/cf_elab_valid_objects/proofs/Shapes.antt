@@ -7,9 +7,9 @@ use Rattle.cf_syntax.specs.declared.name.Name.{Name as WrittenName}
 use Rattle.cf_syntax.specs.declared.specifier.Pointer.{Pointer}
 use Rattle.cf_syntax.specs.declared.specifier.Pointer.TheVariants as pointer
 use Rattle.cf_syntax.specs.declared.specifier.TypeSpecifier.{TypeSpecifier}
-use Rattle.cf_elab.specs.Answer.{Answer, Made, Refused, Passed, Elab, onward, need, none_at, gives, each, all, maybe}
+use Rattle.cf_elab.specs.Answer.{Answer, Made, Refused, Passed, Elab, onward, need, none_at, gives, each, maybe}
 use Rattle.cf_elab.specs.Built as built
-use Rattle.cf_elab.specs.Declarator.{pointed, is_nothing, named_at, all_objects, parameters, as_object, only_whole, type_from, words_of}
+use Rattle.cf_elab.specs.Declarator.{pointed, is_nothing, named_at, no_void, object_parameter, only_parameter, parameters, as_object, only_whole, type_from, words_of}
 use Rattle.cf_elab.specs.Env.{Env}
 use Rattle.cf_elab.specs.Made.{pointer_to, reference_to, array_of, const_if, parameter_step, function_type}
 use Rattle.cf_elab.specs.Operand.{Part, evaluated, Sort, integral, enumeral, object_pointer, void_pointer, function_pointer, data_pointer, method_pointer, class_sort, array_sort, function_sort, void_sort, reference_sort, sort_of, is_array, is_function, is_void, is_reference}
@@ -109,7 +109,7 @@ bounds-still (referring at x) e = bounds-still x e
 bounds-still (to_member at k b x) e = bounds-still x e
 bounds-still (taking at ps b x) e = bounds-still x e
 bounds-still (holding at None x) e = bounds-still x e
-bounds-still (holding at (Some b) x) e = still-onward e (need (is_some b.number) 19 at e) (λ _. bounds_constant x) (needed e (is_some b.number) 19 at) (λ _. bounds-still x e)
+bounds-still (holding at (Some b) x) e = still-onward e (bounds_constant x e) (λ _. need (is_some b.number) 19 at) (bounds-still x e) (λ _. needed e (is_some b.number) 19 at)
 
 -- ---- declarators
 
@@ -132,25 +132,29 @@ abbrev pub AreQuiet : List (Elab Parameter) → Type 0
 AreQuiet [] = Unit {0}
 AreQuiet (p ∷ ps) = IsQuiet p × AreQuiet ps
 
-run-quiet : (ps : List (Elab Parameter)) (e : Env) → AreQuiet ps → Classless e → QuietIn e (all ps e)
-run-quiet [] e k c = quiet-none e c
-run-quiet (p ∷ ps) e k c = quiet-onward e (p e) _ c (k.0.fine e c) (λ q f cf. quiet-onward f (all ps f) (λ qs. gives (q ∷ qs)) cf (run-quiet ps f k.1 cf) (λ qs g cg. quiet-none g cg))
+object-quiet : (p : Elab Parameter) (e : Env) → IsQuiet p → Classless e → QuietIn e (object_parameter p e)
+object-quiet p e k c = quiet-onward e (p e) _ c (k.fine e c) (λ q f cf. need-quiet f (not (is_void (sort_of f.types q.type))) 26 (named_at q) _ (quiet-none f cf))
 
-objects-quiet : (ps : List Parameter) (e : Env) → Classless e → QuietIn e (all_objects ps e)
-objects-quiet [] e c = quiet-none e c
-objects-quiet (p ∷ ps) e c =
-    need-quiet e (not (is_void (sort_of e.types p.type))) 26 (named_at p) _ (quiet-onward e (all_objects ps e) (λ qs. gives (p ∷ qs)) c (objects-quiet ps e c) (λ qs f cf. quiet-none f cf))
+objects-quiet : (ps : List (Elab Parameter)) (e : Env) → AreQuiet ps → Classless e → QuietIn e (each object_parameter ps e)
+objects-quiet [] e k c = quiet-none e c
+objects-quiet (p ∷ ps) e k c =
+    quiet-onward e (object_parameter p e) _ c (object-quiet p e k.0 c)
+    (λ q f cf. quiet-onward f (each object_parameter ps f) (λ qs. gives (q ∷ qs)) cf (objects-quiet ps f k.1 cf) (λ qs g cg. quiet-none g cg))
 
-parameters-quiet : (ps : List Parameter) (e : Env) → Classless e → QuietIn e (parameters ps e)
-parameters-quiet [] e c = objects-quiet [] e c
-parameters-quiet (p ∷ q ∷ ps) e c = objects-quiet (p ∷ q ∷ ps) e c
-parameters-quiet (p ∷ []) e c = if-quiet e (is_nothing e p) (gives []) (all_objects (p ∷ [])) (quiet-none e c) (objects-quiet (p ∷ []) e c)
+alone-quiet : (p : Parameter) (e : Env) → Classless e → QuietIn e (only_parameter p e)
+alone-quiet p e c =
+    if-quiet e (is_nothing e p) (gives []) (λ f. onward (no_void p f) (λ _. gives (p ∷ []))) (quiet-none e c) (need-quiet e (not (is_void (sort_of e.types p.type))) 26 (named_at p) _ (quiet-none e c))
+
+parameters-quiet : (ps : List (Elab Parameter)) (e : Env) → AreQuiet ps → Classless e → QuietIn e (parameters ps e)
+parameters-quiet [] e k c = objects-quiet [] e k c
+parameters-quiet (p ∷ q ∷ ps) e k c = objects-quiet (p ∷ q ∷ ps) e k c
+parameters-quiet (p ∷ []) e k c = quiet-onward e (p e) only_parameter c (k.0.fine e c) (λ q f cf. alone-quiet q f cf)
 
 pub function-quiet : (at : ℕ) (d : Elab Shape) (ps : List (Elab Parameter)) (b : Bool) → IsQuietShape d → AreQuiet ps
-    → IsQuietShape (λ e. onward (d e) (λ x f. onward (onward (all ps f) parameters) (λ qs. gives (taking at qs b x))))
+    → IsQuietShape (λ e. onward (d e) (λ x f. onward (parameters ps f) (λ qs. gives (taking at qs b x))))
 function-quiet at d ps b k parts = record {
   fine = λ e c. shape-onward e (d e) _ c (k.fine e c)
-      (λ x f plain cf. shape-made f (onward (all ps f) parameters) (λ qs. taking at qs b x) (quiet-onward f (all ps f) parameters cf (run-quiet ps f parts cf) (λ qs g cg. parameters-quiet qs g cg)) (λ qs. plain));
+      (λ x f plain cf. shape-made f (parameters ps f) (λ qs. taking at qs b x) (parameters-quiet ps f parts cf) (λ qs. plain));
 }
 
 pub array-quiet : (at : ℕ) (d : Elab Shape) (bound : Option Part) → IsQuietShape d → ((p : Part) → bound ≡ Some p → IsQuietPart p)

@@ -28,7 +28,7 @@ use Rattle.cf_elab.specs.Objects.{Written, Reached, written_place, block_object,
 use Rattle.cf_elab_valid.specs.Answers.{Fine}
 use Rattle.cf_elab_valid.specs.Scene.{Scene, IsScene, tree, core, typed, scope_of, file_scope, OwnerThere, StaticFits, Steps, Within, Inside, Classless, Holds}
 use Rattle.cf_elab_valid.specs.Statements.{body_of}
-use Rattle.cf_elab_valid.proofs.FitRows.{needed, still-fine}
+use Rattle.cf_elab_valid.proofs.FitRows.{Still, needed, still-fine}
 use Rattle.cf_elab_valid.proofs.Moved.{moved-holds, moved-classless}
 use Rattle.cf_elab_valid.proofs.Nodes.{core-Blank, known-Blank}
 use Rattle.cf_elab_valid.proofs.Options.{some_is}
@@ -173,15 +173,21 @@ module _ (s : Scene) (scene : IsScene s) (arrays : NoVoidElements s.tables) (n :
     -- ---- behind the parts
 
     abbrev ending : Option Written → Start → Elab (List Reached)
-    ending w st f = onward (row.need_constant at w st f) (λ _ g. Made (row.reached at link st) (defined s scene (made st) g))
+    ending w st f =
+        onward (row.need_constant at w st f) (λ _ g. onward (within (nat_le (length link) most_name) bound_of.Names most_name g) (λ _ q. Made (row.reached at link st) (defined s scene (made st) q)))
+
+    short-still : (b : Bool) (f : Env) → Still f (within b bound_of.Names most_name f)
+    short-still true f = refl
+    short-still false f = tt
 
     ended-fine : (w : Option Written) (st : Start) (f : Env) → Steps e f → Classless f → When s f (Holds s f) → When s f (StartFits s (tree s t) st × IsApart s st) → Fine s Result f (ending w st f)
     ended-fine w st f g c1 h1 k =
-        still-fine s Result f (row.need_constant at w st f) (λ q. Made (row.reached at link st) (defined s scene (made st) q)) (needed f (f.extent.computed || st.is_constant) 48 (option_map_or written_place w at))
+        still-fine s Result f (row.need_constant at w st f) _ (needed f (f.extent.computed || st.is_constant) 48 (option_map_or written_place w at))
+        (still-fine s Result f (within (nat_le (length link) most_name) bound_of.Names most_name f) (λ q. Made (row.reached at link st) (defined s scene (made st) q)) (short-still (nat_le (length link) most_name) f)
         (defined-fine s scene Result (row.reached at link st) (made st) f c1 h1
         (λ w. let early = within-before f (defined s scene (made st) f) s (defined-steps s scene (made st) f) w in
         made-fits st f own early (inside-later e f t g (i (within-before e f s g early))) (k early).0 (k early).1)
-        (λ w. reached-fits st f w (k (within-before f (defined s scene (made st) f) s (defined-steps s scene (made st) f) w)).0))
+        (λ w. reached-fits st f w (k (within-before f (defined s scene (made st) f) s (defined-steps s scene (made st) f) w)).0)))
 
     body-fine : is_some (declared_here begun name) ≡ false → Fine s Result told (onward (parts told) (λ w f. onward (started keeper name at t w f) (ending w)))
     body-fine fresh =
@@ -196,17 +202,12 @@ module _ (s : Scene) (scene : IsScene s) (arrays : NoVoidElements s.tables) (n :
         (λ st k g2 c2 h2 p. ended-fine w st k (steps-through e f k step g2) c2 h2 p))
 
     pub frame-fine : Fine s Result e (row.define_static_local at name t parts link owner e)
-    frame-fine = by (nat_le (length link) most_name)
+    frame-fine = fresh (is_some (declared_here begun name)) refl
       where
         fresh : (b : Bool) → is_some (declared_here begun name) ≡ b
             → Fine s Result e (onward (onward (need (not b) 8 at begun) (λ _. declare_row name (object x))) (λ _ g. onward (parts g) (λ w q. onward (started keeper name at t w q) (ending w))))
         fresh true is = tt
         fresh false is = fine-before s Result e told (onward (parts told) (λ w q. onward (started keeper name at t w q) (ending w))) steps (body-fine is)
-
-        by : (k : Bool) → Fine s Result e (onward (within k bound_of.Names most_name begun) (λ _ f. onward (onward (need (not (is_some (declared_here f name))) 8 at f) (λ _. declare_row name (object x)))
-            (λ _ g. onward (parts g) (λ w q. onward (started keeper name at t w q) (ending w)))))
-        by false = tt
-        by true = fresh (is_some (declared_here begun name)) refl
 
 module _ (s : Scene) (scene : IsScene s) (arrays : NoVoidElements s.tables) where
   pub function-fine : (n : ℕ) (m : Bool) (at : ℕ) (name : Name) (t : ℕ) (parts : Elab (Option Written)) (e : Env) → AreParts s e parts → OwnerThere s (Some e.hand.link) → Classless e → When s e (Holds s e)

@@ -82,7 +82,7 @@ module _ (s : Scene) (scene : IsScene s) (d : Says) where
         ap (λ (o : Object). o.type) (sym same)
 
     first-fine : Fine s Stands e (row.first_declared d e)
-    first-fine = by (e.extent.elsewhere || d.defines || list_any (bytes_eq d.name) e.defines) (nat_le (length (variable_link d.name)) most_name)
+    first-fine = by (e.extent.elsewhere || d.defines || d.is_initialised || list_any (bytes_eq d.name) e.defines) (nat_le (length (variable_link d.name)) most_name)
       where
         by : (b k : Bool) → Fine s Stands e (onward (need b 48 d.at e) (λ _ f. onward (within k bound_of.Names most_name f) (λ _ g. onward (declare d.name (object x) g)
             (λ _ q. Made x (listed (q.linked ++ (d.name, length e.entities) ∷ []) q)))))

@@ -1,4 +1,5 @@
 pub mod BuiltParts
+pub mod OutlineLaws
 pub mod Several
 pub mod TextLaws
 pub mod TreeLaws

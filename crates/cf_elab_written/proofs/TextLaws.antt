@@ -38,7 +38,7 @@ text_of x = (expression_step (map-Expr DeclTree Expr Param TypeId Declared Part 
 -- ---- a string literal
 
 module _ (at n : ℕ) (bytes : List ℕ) where
-  text_there : (elaborated (form.Text n bytes)).text ≡ Some (n, bytes)
+  pub text_there : (elaborated (form.Text n bytes)).text ≡ Some (n, bytes)
   text_there = ap (λ e. (elaborated e).text) (sym (rolls-Text n bytes)) ∙ ap (λ (p : Part). p.text) (made_of (Expr-F.Text n bytes))
 
   pub text_made : (env : Env) → shut.expression_tree at (form.Text n bytes) env ≡ Made (tree_seen (tree.Text at n bytes)) env
@@ -51,17 +51,17 @@ module _ (at n : ℕ) (bytes : List ℕ) where
 
 -- ---- any other expression
 
-abbrev NoText : Expr → Type 0
+abbrev pub NoText : Expr → Type 0
 NoText e = (n : ℕ) (bytes : List ℕ) → e ≡ form.Text n bytes → ⊥
 
-abbrev HasNone : Expr → Type 0
+abbrev pub HasNone : Expr → Type 0
 HasNone e = NoText e → (elaborated e).text ≡ None
 
 none_of : (x : Expr-F DeclTree Expr Param TypeId) → NoText (roll-Expr x) → text_of x ≡ None
 none_of (Expr-F.Text n bytes) other = absurd (other n bytes (rolls-Text n bytes))
 none_of x other = refl
 
-has_none : (e : Expr) → HasNone e
+pub has_none : (e : Expr) → HasNone e
 has_none =
     ind-Expr (λ _. Unit {0}) HasNone (λ _. Unit {0}) (λ _. Unit {0}) (λ _ _ _. tt)
     (λ x y is h. ap (λ (p : Part). p.text) (made_of x) ∙ none_of x h)

@@ -32,6 +32,17 @@ tree_of = lists.tree_of
 unfoldable pub trees_of : List Init → Elab (List Tree)
 trees_of is = all (map tree_of is)
 
+-- ---- outlines, without the expressions
+
+unfoldable pub expression_outline : ℕ → Expr → Tree
+expression_outline at e = lists.expression_outline at (elaborated e)
+
+unfoldable pub outline_of : Init → Tree
+outline_of = lists.outline_of
+
+unfoldable pub outline : Initialiser → Tree
+outline i = declaration.outline (declaration.initial_of i)
+
 -- ---- initialisers of declarators
 
 unfoldable pub written : Initialiser → Elab Written

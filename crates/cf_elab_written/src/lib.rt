@@ -7,7 +7,9 @@
 mod built;
 mod expressions;
 mod initialisers;
+mod outlines;
 mod trees;
 
 pub use initialisers::{initial_at, parts_of, written};
+pub use outlines::outline;
 pub use trees::tree_of;

@@ -1,1 +1,12 @@
+pub mod Labels
+pub mod Laws
+pub mod Leaving
+pub mod Lists
+pub mod Sequence
+pub mod Setup
+pub mod Standing
+pub mod Switching
+pub mod Turning
 pub mod Turns
+pub mod Whole
+pub mod Written

@@ -9,38 +9,34 @@ use Rattle.cf_plain.specs.Running.{does, all}
 use Rattle.cc_whole_mean.specs.Flow as c
 use Rattle.cc_whole_mean.specs.Mean as mean
 use Rattle.cc_whole_mean.proofs.Growth.{grows-runs, grows-helps}
-use Rattle.cf_lower.specs.Kept.{Keeping, after}
 use Rattle.cf_lower.specs.Statements.{all_lowered}
 use Rattle.cf_lower_control.specs.Loops.{IsReturn}
 use Rattle.cf_lower_steps.specs.Flows.{Simulates}
 use Rattle.cf_lower_turns.specs.Around.{Around, turns, stepped, step, depth_of, inside_at}
-use Rattle.cf_lower_turns.specs.Here.{Here, Narrows}
-use Rattle.cf_lower_turns.specs.Scene.{GivesBack, Scene, fixed_in, again_at, c_again_at, helps_at, list_at, Same}
-use Rattle.cf_lower_turns.proofs.Setup.{Setup, Runners, LoopNeeds, TurnsAgain, LeavesRun, loop_of, ends}
-use Rattle.cf_lower_turns.proofs.Standing.{here-laws}
-use Rattle.cf_lower_turns.proofs.Turning.{plain-loop, step-loop}
-use Rattle.cf_lower_turns.proofs.Whole.{list-same}
-use Rattle.cf_lower_bounds.specs.Bounds.{LeafRunsTo, NeededTo, kept_behind_to}
+use Rattle.cf_lower_turns.specs.Scene.{Scene, again_at, c_again_at, helps_at, list_at}
+use Rattle.cf_lower_bounds.specs.Points.{Point, At, Returned}
+use Rattle.cf_lower_bounds.specs.Bounds.{SameAt, LeafRunsTo, NeededTo}
+use Rattle.cf_lower_bounds.proofs.Setup.{Setup, Runners, LoopNeeds, TurnsAgain, LeavesRun, loop_of, ends}
+use Rattle.cf_lower_bounds.proofs.Standing.{at-laws}
+use Rattle.cf_lower_bounds.proofs.Turning.{plain-loop, step-loop}
+use Rattle.cf_lower_bounds.proofs.Whole.{list-same}
 
 module _ (z : Scene) (n : ℕ) where
-  returned : (v : Value) (s : State) (flow : c.Flow) → GivesBack (fixed_in z) z.body z.result v s flow → IsReturn flow
-  returned v s flow h = subst IsReturn (sym h.is) tt
+  returned : (v : Value) (s : State) (flow : c.Flow) → Returned z v s flow → IsReturn flow
+  returned v s flow h = subst IsReturn (sym h.back.is) tt
 
   abbrev setup : Setup
   setup = record {
-    Point = Keeping;
-    kept = λ p. p;
-    next = after z.inside.locals;
-    Within = Narrows (fixed_in z) z.body;
+    Point = Point;
+    kept = λ (p : Point). p.kept;
     flags = z.body.flags.bound;
     Leaf = LeafRunsTo z n;
     scope = z.body.scope;
-    R = Here (fixed_in z) z.body;
-    gives = GivesBack (fixed_in z) z.body z.result;
+    R = At z;
+    gives = Returned z;
     inside = z.inside;
-    laws = here-laws (fixed_in z) z.body;
+    laws = at-laws z;
     returns = returned;
-    kept_next = λ s p. refl;
   }
 
   abbrev runners : ℕ → Runners
@@ -57,19 +53,19 @@ module _ (z : Scene) (n : ℕ) where
   }
 
   leaves-run : (k : ℕ) → k ≤ n → LeavesRun setup (runners k)
-  leaves-run k le around p s leaf = leaf k le
+  leaves-run k le around p s q leaf = leaf k le
 
-  turn-of : (k : ℕ) → k ≤ n → TurnsAgain setup (runners k) → (ss ts : Plains) (around : Around Keeping) (h : Keeping) → LoopNeeds setup ss ts around h
-      → (g : Registers) (s : State) (t : c.State) (w : World) → Here (fixed_in z) z.body h (depth_of around) g s t
+  turn-of : (k : ℕ) → k ≤ n → TurnsAgain setup (runners k) → (ss ts : Plains) (around : Around Point) (h : Point) → LoopNeeds setup ss ts around h
+      → (g : Registers) (s : State) (t : c.State) (w : World) → At z h (depth_of around) g s t
       → Simulates (ends setup around h) (does (again_at z k) z.program (loop ss ts) g s w)
       (mean.does (c_again_at z k) (helps_at z k) z.c_program z.helper (loop_of setup ss ts around h) z.body.scope z.depth t w)
   turn-of k le again ss nothing around h needs =
-      plain-loop setup (runners k) around h ss (again ss nothing around h needs) needs.1
-      (list-same setup (runners k) again (leaves-run k le) ss (turns h around) h needs.0)
+      plain-loop setup (runners k) around h ss (again ss nothing around h needs)
+      (list-same setup (runners k) again (leaves-run k le) ss (turns h around) h h needs)
   turn-of k le again ss (more t1 ts) around h needs =
-      step-loop setup (runners k) around h ss (more t1 ts) (again ss (more t1 ts) around h needs) needs.0 needs.1.0.1 needs.1.1.1
-      (list-same setup (runners k) again (leaves-run k le) ss (stepped h around) h needs.1.0.0)
-      (list-same setup (runners k) again (leaves-run k le) (more t1 ts) (step h around) h needs.1.1.0)
+      step-loop setup (runners k) around h ss (more t1 ts) (again ss (more t1 ts) around h needs) needs.0
+      (list-same setup (runners k) again (leaves-run k le) ss (stepped h around) h h needs.1.0)
+      (list-same setup (runners k) again (leaves-run k le) (more t1 ts) (step h around) h h needs.1.1)
 
   turns-again : (k : ℕ) → k ≤ n → TurnsAgain setup (runners k)
   turns-again zero le ss ts around h needs g s t w r = record { by = refl }
@@ -77,8 +73,8 @@ module _ (z : Scene) (n : ℕ) where
       let less : k ≤ n = omega (arith, le) in
       turn-of k less (turns-again k less) ss ts around h needs g s t w r
 
-  pub statements-to : (ss : Plains) (around : Around Keeping) (p : Keeping) → NeededTo z n ss around p
-      → Same z p around (kept_behind_to z n ss p) (all (again_at z n) z.program ss) (λ t w. list_at z n (all_lowered ss (inside_at z.inside around) p) t w)
-  statements-to ss around p needed =
+  pub statements-to : (ss : Plains) (around : Around Point) (p q : Point) → NeededTo z n ss around p q
+      → SameAt z p around q (all (again_at z n) z.program ss) (λ t w. list_at z n (all_lowered ss (inside_at z.inside around) p.kept) t w)
+  statements-to ss around p q needed =
       let itself : n ≤ n = omega arith in
-      list-same setup (runners n) (turns-again n itself) (leaves-run n itself) ss around p needed
+      list-same setup (runners n) (turns-again n itself) (leaves-run n itself) ss around p q needed

@@ -1,4 +1,5 @@
 pub mod Actions
+mod OpenedRows
 pub mod Operands
 pub mod Statements
 pub mod Turns

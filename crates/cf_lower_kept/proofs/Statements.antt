@@ -1,5 +1,5 @@
 -- What plain statements tell of registers behind them, lowering tells too.
-use Rattle.std.proofs.Common.{◌≡◌, ℕ, Bool, true, false, ◌&&◌, ◌==◌, if◌then◌else◌, refl, sym, ◌∙◌, ap, subst}
+use Rattle.std.proofs.Common.{◌≡◌, ℕ, Bool, true, false, ◌&&◌, ◌||◌, ◌==◌, if◌then◌else◌, refl, sym, ◌∙◌, ap, subst}
 use Rattle.std.specs.Prelude.{Option, Some, None, is_some, slice_get}
 use Rattle.cf_base.proofs.Tests.{both, all_of}
 use Rattle.cf_core.specs.Types.{SourceType, takes, gives, without_const, type_eq, same_but_const}
@@ -36,6 +36,10 @@ object-self false i t = address-self (without_const t)
 
 some-type : {t u : SourceType} → Some t ≡ Some u → t ≡ u
 some-type e = cc
+
+either-false : (a b c d : Bool) → (a ≡ false → c ≡ false) → (b ≡ false → d ≡ false) → (a || b) ≡ false → (c || d) ≡ false
+either-false true b c d first second e = absurd (cc)
+either-false false b c d first second e = ap (λ x. x || d) (first refl) ∙ second e
 
 module _ (locals : Locals) where
   places-join : (t u : SourceType) (y z : Kept) → y ≡ holds (sort_to (without_const t)) → z ≡ holds (sort_to (without_const u)) → (b : Bool) → same_but_const t u ≡ b
@@ -74,6 +78,33 @@ module _ (locals : Locals) where
   both-told (Some (plain.a_member t)) (Some (plain.a_member u)) y z h k = members-join t (both_kept y z) (same_but_const t u)
   both-told (Some (plain.an_object i t)) (Some (plain.an_object j u)) y z h k = objects-join i j t u y z h k ((i == j) && same_but_const t u) refl
   both-told o p y z h k = tt
+
+  -- ---- what a switch does not set
+
+  mutual
+    sets-none : (r : Register) (s : Plain) → plain.sets r s ≡ false → lower.sets locals r s ≡ false
+    sets-none r (act a) e = refl
+    sets-none r (set q a) e = e
+    sets-none r (branch q ss ts) e =
+        either-false (plain.all_set r ss) (plain.all_set r ts) (lower.all_set locals r ss) (lower.all_set locals r ts) (none-set r ss) (none-set r ts) e
+    sets-none r (loop ss ts) e =
+        either-false (plain.all_set r ss) (plain.all_set r ts) (lower.all_set locals r ss) (lower.all_set locals r ts) (none-set r ss) (none-set r ts) e
+    sets-none r (switch q ss) e = none-set r ss e
+    sets-none r (parts ps) e = absurd (cc)
+    sets-none r s e = refl
+
+    none-set : (r : Register) (ss : Plains) → plain.all_set r ss ≡ false → lower.all_set locals r ss ≡ false
+    none-set r nothing e = refl
+    none-set r (more s ss) e = either-false (plain.sets r s) (plain.all_set r ss) (lower.sets locals r s) (lower.all_set locals r ss) (sets-none r s) (none-set r ss) e
+
+  untouched-told : (ss : Plains) (g : plain.Keeping) (h : Keeping) → AllTold locals g h → AllTold locals (plain.untouched g ss) (lower.untouched locals h ss)
+  untouched-told ss g h told r = by (plain.all_set r ss) refl
+    where
+      by : (b : Bool) → plain.all_set r ss ≡ b → ToldIf locals (plain.untouched g ss r) (lower.untouched locals h ss r)
+      by true e = subst (λ b. ToldIf locals (if b then None else g r) (lower.untouched locals h ss r)) (sym e) tt
+      by false e =
+          subst (λ b. ToldIf locals (if b then None else g r) (lower.untouched locals h ss r)) (sym e)
+          (subst (λ b. ToldIf locals (g r) (if b then unknown else h r)) (sym (none-set r ss e)) (told r))
 
   module _ (result : SourceType) where
     ways-told : (o p : Option plain.Keeping) (c d : Keeping) → AllToldIf locals o c → AllToldIf locals p d → AllToldIf locals (plain.joined locals.types result o p) (lower.common c d)
@@ -126,8 +157,8 @@ module _ (locals : Locals) where
           if-told (is_some (plain.after_all locals.types result ss plain.nothing_set) && is_some (plain.after_all locals.types result ts plain.nothing_set))
           (Some plain.nothing_set) (lower.untouched locals (lower.untouched locals h ss) ts) (none-told (lower.untouched locals (lower.untouched locals h ss) ts))
       statement-told (switch r ss) g h told e =
-          if-told (plain.integer_in (g r) && is_some (plain.after_all locals.types result ss plain.nothing_set)) (Some plain.nothing_set) (lower.untouched locals h ss)
-          (none-told (lower.untouched locals h ss))
+          if-told (plain.integer_in (g r) && is_some (plain.after_all locals.types result ss plain.nothing_set)) (Some (plain.untouched g ss)) (lower.untouched locals h ss)
+          (untouched-told ss g h told)
       statement-told (case_label z) g h told e = none-told h
       statement-told default_label g h told e = none-told h
       statement-told leave g h told e = told

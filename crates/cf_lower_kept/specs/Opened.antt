@@ -1,9 +1,12 @@
 -- Which parameters and locals of a plain function have an object where control is, and of which the first value is still to come: a local is declared where it has
--- none, gets its first value in the register that it was declared in, is an argument once it has one, and is gone where the function ends.
-use Rattle.std.specs.Prelude.{ℕ, suc, Bool, true, false, ◌&&◌, not, ◌==◌, if◌then◌else◌, List, [], ◌∷◌, ◌++◌, map, filter, Option, Some, None}
+-- none, gets its first value in the register that it was declared in, is an argument once it has one, and is gone where the function ends. A switch of which a
+-- label passes a local stands behind a switch by the same register, which declares the local.
+use Rattle.std.specs.Prelude.{ℕ, suc, Bool, true, false, ◌&&◌, not, ◌==◌, if◌then◌else◌, List, [], ◌∷◌, ◌++◌, map, filter, ℤ, int_le, Option, Some, None}
 use Rattle.std.specs.List.{list_all, list_any}
 use Rattle.cf_core.specs.Types.{SourceType, parameters, result as result_type}
 use Rattle.cf_plain.specs.Plain.{Register, Action, declare, first, finish, call, Plain, Plains, act, set, branch, loop, switch, case_label, default_label, leave, continue, give, parts, nothing, more, PlainFunction, PlainFile}
+use Rattle.cf_plain.specs.Running.{has_case}
+use Rattle.cf_plain.specs.Valid.{has_default}
 use Rattle.cf_plain_kept.specs.Kept.{Kept, an_object, Keeping, nothing_set, after}
 
 -- a local that has an object, the register with its place while it has no value, and whether it has one
@@ -130,42 +133,90 @@ abbrev pub keeping_or : Option Keeping → Keeping
 keeping_or None = nothing_set
 keeping_or (Some g) = g
 
+-- what is open where `break` and `continue` lead and at each label of the switch around, a case or the default, if they stand there
+pub record Ways : Type 0 where
+  pub breaks : Option (List Opened)
+  pub continues : Option (List Opened)
+  pub labels : Option ℤ → Option (List Opened)
+
+abbrev pub no_label : Option ℤ → Option (List Opened)
+no_label l = None
+
+-- ---- a switch before a switch, which declares what each label passes (6.7)
+
+abbrev pub is_the_label : Option ℤ → Plain → Bool
+is_the_label (Some z) (case_label y) = int_le y z && int_le z y
+is_the_label None default_label = true
+is_the_label l s = false
+
+-- what is open where it is left, behind declarations alone
+abbrev pub declared : Plains → List Opened → Option (List Opened)
+declared (more (act (declare i t)) ss) xs = if is_open i xs then None else declared ss (record { local = i; begun = None; has_value = false } ∷ xs)
+declared (more leave ss) xs = Some xs
+declared ss xs = None
+
+abbrev pub declared_at : Plains → List Opened → Option ℤ → Option (List Opened)
+declared_at nothing xs l = None
+declared_at (more s ss) xs l = if is_the_label l s then declared ss xs else declared_at ss xs l
+
+-- whether it has no label that the switch has not, and declares and leaves alone
+abbrev pub stands_before : Plains → Plains → Bool
+stands_before nothing ts = true
+stands_before (more (case_label z) ss) ts = has_case z ts && stands_before ss ts
+stands_before (more default_label ss) ts = has_default [] ts && stands_before ss ts
+stands_before (more (act (declare i t)) ss) ts = stands_before ss ts
+stands_before (more leave ss) ts = stands_before ss ts
+stands_before (more s ss) ts = false
+
 module _ (locals : List SourceType) (result : SourceType) where
   abbrev mutual
-    -- A statement, before which registers hold this and these are open; and what is open where `break` and `continue` lead, if they stand there.
-    pub opens : Plain → Keeping → Option (List Opened) → Option (List Opened) → List Opened → Where
-    opens (act a) g breaks continues xs = only_if (action_opens g a xs) (falls (opened_by g None a xs))
-    opens (set r a) g breaks continues xs = only_if (action_opens g a xs) (falls (opened_by g (Some r) a (set_in r xs)))
-    opens (branch r ss ts) g breaks continues xs = joined (all_open ss g breaks continues xs) (all_open ts g breaks continues xs)
-    opens (loop ss ts) g breaks continues xs =
+    -- a statement, before which registers hold this and these are open
+    pub opens : Plain → Keeping → Ways → List Opened → Where
+    opens (act a) g w xs = only_if (action_opens g a xs) (falls (opened_by g None a xs))
+    opens (set r a) g w xs = only_if (action_opens g a xs) (falls (opened_by g (Some r) a (set_in r xs)))
+    opens (branch r ss ts) g w xs = joined (all_open ss g w xs) (all_open ts g w xs)
+    opens (loop ss ts) g w xs =
         let ys = map settled xs in
-        only_if (comes_to ys (all_open ss nothing_set (Some ys) (Some ys) ys) && comes_to ys (all_open ts nothing_set (Some ys) None ys)) (falls ys)
-    opens (switch r ss) g breaks continues xs =
+        only_if
+        (comes_to ys (all_open ss nothing_set (record { breaks = Some ys; continues = Some ys; labels = no_label }) ys)
+        && comes_to ys (all_open ts nothing_set (record { breaks = Some ys; continues = None; labels = no_label }) ys)) (falls ys)
+    opens (switch r ss) g w xs =
         let ys = map settled xs in
-        only_if (comes_to ys (all_open ss nothing_set (Some ys) continues ys)) (falls ys)
-    opens (case_label z) g breaks continues xs = only_if (is_at breaks xs) (falls (map settled xs))
-    opens default_label g breaks continues xs = only_if (is_at breaks xs) (falls (map settled xs))
-    opens leave g breaks continues xs = only_if (is_at breaks xs) away
-    opens continue g breaks continues xs = only_if (is_at continues xs) away
-    opens (give r) g breaks continues [] = away
-    opens (give r) g breaks continues (x ∷ xs) = wrong
-    opens (parts ps) g breaks continues xs = wrong
+        only_if (comes_to ys (all_open ss nothing_set (record { breaks = Some ys; continues = w.continues; labels = λ l. Some ys }) ys)) (falls ys)
+    opens (case_label z) g w xs = only_if (is_at (w.labels (Some z)) xs) (falls (map settled xs))
+    opens default_label g w xs = only_if (is_at (w.labels None) xs) (falls (map settled xs))
+    opens leave g w xs = only_if (is_at w.breaks xs) away
+    opens continue g w xs = only_if (is_at w.continues xs) away
+    opens (give r) g w [] = away
+    opens (give r) g w (x ∷ xs) = wrong
+    opens (parts ps) g w xs = wrong
 
-    pub all_open : Plains → Keeping → Option (List Opened) → Option (List Opened) → List Opened → Where
-    all_open nothing g breaks continues xs = falls xs
-    all_open (more s ss) g breaks continues xs =
-        elim (opens s g breaks continues xs) [
+    pub all_open : Plains → Keeping → Ways → List Opened → Where
+    all_open nothing g w xs = falls xs
+    all_open (more (switch q ss) (more (switch r ts) rest)) g w xs =
+        let ys = map settled xs in
+        let inside : Ways = record { breaks = Some ys; continues = w.continues; labels = declared_at ss ys } in
+        let first = keeping_or (after locals result (switch q ss) g) in
+        if (q == r) && stands_before ss ts
+        then (if comes_to ys (all_open ts nothing_set inside ys) then all_open rest (keeping_or (after locals result (switch r ts) first)) w ys else wrong)
+        else elim (opens (switch q ss) g w xs) [
           | wrong ↦ wrong
-          | away ↦ from_label ss breaks continues
-          | falls ys ↦ all_open ss (keeping_or (after locals result s g)) breaks continues ys
+          | away ↦ from_label (more (switch r ts) rest) w
+          | falls zs ↦ all_open (more (switch r ts) rest) first w zs
+        ]
+    all_open (more s ss) g w xs =
+        elim (opens s g w xs) [
+          | wrong ↦ wrong
+          | away ↦ from_label ss w
+          | falls ys ↦ all_open ss (keeping_or (after locals result s g)) w ys
         ]
 
     -- where control does not come a label may still stand
-    pub from_label : Plains → Option (List Opened) → Option (List Opened) → Where
-    from_label nothing breaks continues = away
-    from_label (more (case_label z) ss) breaks continues = elim breaks [ None ↦ wrong | Some ys ↦ all_open ss nothing_set (Some ys) continues ys ]
-    from_label (more default_label ss) breaks continues = elim breaks [ None ↦ wrong | Some ys ↦ all_open ss nothing_set (Some ys) continues ys ]
-    from_label (more s ss) breaks continues = from_label ss breaks continues
+    pub from_label : Plains → Ways → Where
+    from_label nothing w = away
+    from_label (more (case_label z) ss) w = elim (w.labels (Some z)) [ None ↦ wrong | Some ys ↦ all_open ss nothing_set w ys ]
+    from_label (more default_label ss) w = elim (w.labels None) [ None ↦ wrong | Some ys ↦ all_open ss nothing_set w ys ]
+    from_label (more s ss) w = from_label ss w
 
 -- parameters are open as a function is entered, and have their values
 abbrev pub parameters_open : ℕ → List SourceType → List Opened
@@ -174,7 +225,10 @@ parameters_open i (t ∷ ts) = record { local = i; begun = None; has_value = tru
 
 -- nothing is open where a function ends
 abbrev pub function_opens : PlainFunction → Bool
-function_opens f = comes_to [] (all_open (parameters f.type ++ f.locals) (result_type f.type) f.body nothing_set None None (parameters_open 0 (parameters f.type)))
+function_opens f =
+    comes_to []
+    (all_open (parameters f.type ++ f.locals) (result_type f.type) f.body nothing_set (record { breaks = None; continues = None; labels = no_label })
+    (parameters_open 0 (parameters f.type)))
 
 abbrev pub functions_open : PlainFile → Bool
 functions_open file = list_all function_opens file.functions

@@ -13,7 +13,7 @@ use Rattle.cf_core.specs.Calls as core
 use Rattle.cf_core.specs.Calls.{Program, function_named, is_library, byte_value, get, put, leave_with, argument, run_library, frame_of, local_count, returned, enter, enter_found, run_named, name_function}
 use Rattle.cf_plain.specs.Acts.{objects_of}
 use Rattle.cf_plain.specs.Running.{Again, Flow, entered, calls, core_flow}
-use Rattle.cf_plain_frames.specs.Since.{is_among, IsOwn, Since, Always, Keeps}
+use Rattle.cf_plain_frames.specs.Since.{is_among, IsOwn, HasValue, Since, Always, Keeps}
 use Rattle.cf_plain_frames.proofs.Acts.{keeps-gives, keeps-malformed, keeps-next, keeps-then, keeps-some, keeps-when, keeps-at}
 use Rattle.cf_plain_frames.proofs.Values.{keeps-function}
 
@@ -129,6 +129,8 @@ module _ (e : State) (os : List ℕ) where
     locals = h.locals;
     kept = λ o lt ne.
         x.kept o (let a = h.next in omega (arith, a, lt, next)) (not-among ps own o lt ne) ∙ ap (λ (f : ℕ → Object). (f o).is_gone) objects ∙ h.kept o lt ne;
+    valued = λ o lt v.
+        x.valued o (let a = h.next in omega (arith, a, lt, next)) (subst (λ (f : ℕ → Object). HasValue (f o)) (sym objects) (h.valued o lt v));
   }
 
   module _ (again : Again) (stay : EntersStay again) where

@@ -8,14 +8,14 @@ use Rattle.cf_base.specs.Integers.{convert as converted}
 use Rattle.cf_core.specs.Types.{Name, SourceType, void, integer, enumeration, class, pointer, reference, array, takes, gives as gives_type, data_member, function_member, const, is_array}
 use Rattle.cf_core.specs.Classes.{Class, class_named, destructor_in}
 use Rattle.cf_core.specs.Core.{item}
-use Rattle.cf_core.specs.Places.{Place, inner, type_at, is_scalar}
+use Rattle.cf_core.specs.Places.{Route, Place, inner, type_at, is_scalar}
 use Rattle.cf_core.specs.Store.{Value, Nothing, Missing, Built, Number, Null, At, Code, DataMember, FunctionMember, Object, new_object, automatic, zero_of, hold, hold_all, is_constant_place}
 use Rattle.cf_core.specs.Run.{Frame, Literal, State, Act, Gives, ◌>>=◌, ◌>>◌, gives, malformed, state, done, need, valid, some_or, when, upd, with_object, tick, for_each_back, object_changed, born, changed, gone, frame_changed, lists_local}
 use Rattle.cf_core.specs.Access.{place_type, used, names_scalar, use_place, write_place, first_value, fill_zeros}
 use Rattle.cf_core.specs.Calls.{Program, Again, root, destroy, by_destructor, has_destructor}
 use Rattle.cf_core.specs.Objects.{literal_of, found_literal, literal_object, new_local, settle, write_bytes, element_count}
 use Rattle.cf_plain.specs.Acts.{object_of, doing}
-use Rattle.cf_plain_frames.specs.Since.{is_among, IsOwn, Since, Always, Keeps}
+use Rattle.cf_plain_frames.specs.Since.{is_among, IsOwn, HasValue, Since, Always, Keeps}
 use Rattle.cf_plain_frames.proofs.Acts.{always-then, keeps-then, keeps-next, keeps-gives, keeps-malformed, keeps-need, keeps-valid, keeps-some, keeps-when, keeps-at}
 use Rattle.cf_plain_frames.proofs.Values.{keeps-used, keeps-names, keeps-use}
 
@@ -37,20 +37,40 @@ no-destructor (data_member c t) = refl
 no-destructor (function_member c t) = refl
 no-destructor (const t) = no-destructor t
 
+-- ---- a value that is held
+
+pub hold-has : (π : Route) (v : Value) (x : Object) → HasValue x → HasValue (hold π (Some v) x)
+hold-has [] v x h = record { value = v; held = refl }
+hold-has (i ∷ π) v x h = record { value = h.value; held = h.held }
+
+pub hold_all-has : (π : Route) (f : Route → Value) (x : Object) → HasValue x → HasValue (hold_all π (λ r. Some (f r)) x)
+hold_all-has [] f x h = record { value = f []; held = refl }
+hold_all-has (i ∷ π) f x h = record { value = h.value; held = h.held }
+
+-- an object among others, where one is another
+pub value-at : (s : State) (p : ℕ) (x : Object) → (HasValue (s.object p) → HasValue x) → (o : ℕ) (b : Bool) → o == p ≡ b → HasValue (s.object o)
+    → HasValue (upd p x s.object o)
+value-at s p x has o true k v =
+    let at : o ≡ p = grind (arith, nat_tests, k) in
+    subst HasValue (sym (ap (λ (t : Bool). if t then x else s.object o) k)) (has (subst (λ (i : ℕ). HasValue (s.object i)) at v))
+value-at s p x has o false k v = subst HasValue (sym (ap (λ (t : Bool). if t then x else s.object o) k)) v
+
 module _ (e : State) (os : List ℕ) where
   abbrev Q : State → Type 0
   Q = Since e os
 
   -- ---- an object changes, and does not end
 
-  object-since : (s : State) (p : ℕ) (x : Object) → x.is_gone ≡ (s.object p).is_gone → Q s → Q (record s { object = upd p x s.object })
-  object-since s p x same h = record {
+  object-since : (s : State) (p : ℕ) (x : Object) → x.is_gone ≡ (s.object p).is_gone → (HasValue (s.object p) → HasValue x) → Q s
+      → Q (record s { object = upd p x s.object })
+  object-since s p x same has h = record {
     function = h.function;
     count = h.count;
     depth = h.depth;
     next = h.next;
     locals = h.locals;
     kept = λ o lt ne. by_test o (o == p) refl ∙ h.kept o lt ne;
+    valued = λ o lt v. value-at s p x has o (o == p) refl (h.valued o lt v);
   }
     where
       by_test : (o : ℕ) (b : Bool) → o == p ≡ b → (upd p x s.object o).is_gone ≡ (s.object o).is_gone
@@ -59,23 +79,25 @@ module _ (e : State) (os : List ℕ) where
           ap (λ (t : Bool). (if t then x else s.object o).is_gone) k ∙ same ∙ ap (λ (i : ℕ). (s.object i).is_gone) (sym at)
       by_test o false k = ap (λ (t : Bool). (if t then x else s.object o).is_gone) k
 
-  pub keeps-object_changed : (p : ℕ) (f : Object → Object) → ((x : Object) → (f x).is_gone ≡ x.is_gone) → Keeps Q (object_changed p f)
-  keeps-object_changed p f same = record { by = λ s w h. record { by = object-since s p (f (s.object p)) (same (s.object p)) h } }
+  pub keeps-object_changed : (p : ℕ) (f : Object → Object) → ((x : Object) → (f x).is_gone ≡ x.is_gone) → ((x : Object) → HasValue x → HasValue (f x))
+      → Keeps Q (object_changed p f)
+  keeps-object_changed p f same has = record { by = λ s w h. record { by = object-since s p (f (s.object p)) (same (s.object p)) (has (s.object p)) h } }
 
   pub keeps-first_value : (p : Place) (v : Value) → Keeps Q (first_value p v)
-  keeps-first_value p v = keeps-object_changed p.object (hold p.route (Some v)) (λ x. refl)
+  keeps-first_value p v = keeps-object_changed p.object (hold p.route (Some v)) (λ x. refl) (hold-has p.route v)
 
   pub keeps-write : (classes : List Class) (p : Place) (v : Value) → Keeps Q (write_place classes p v)
   keeps-write classes p v =
       keeps-next Q (names_scalar classes p) _ (keeps-names Q classes p)
       (keeps-next Q (use_place classes p) _ (keeps-use Q classes p)
       (keeps-at Q _ (λ s. keeps-next Q (need (not (is_constant_place classes (s.object p.object) p.route)) 15) _ (keeps-need Q _ 15)
-      (keeps-object_changed p.object (hold p.route (Some v)) (λ x. refl)))))
+      (keeps-object_changed p.object (hold p.route (Some v)) (λ x. refl) (hold-has p.route v)))))
 
   pub keeps-zeros : (classes : List Class) (p : Place) → Keeps Q (fill_zeros classes p)
   keeps-zeros classes p =
       keeps-at Q _ (λ s. keeps-object_changed p.object
-      (hold_all p.route (λ r. Some (zero_of (type_at classes (s.object p.object).type (r ++ p.route))))) (λ x. refl))
+      (hold_all p.route (λ r. Some (zero_of (type_at classes (s.object p.object).type (r ++ p.route))))) (λ x. refl)
+      (hold_all-has p.route (λ r. zero_of (type_at classes (s.object p.object).type (r ++ p.route)))))
 
   pub keeps-bytes : (p : Place) (i : ℕ) (b : List ℕ) → Keeps Q (write_bytes p i b)
   keeps-bytes p i [] = keeps-gives Q tt
@@ -101,6 +123,10 @@ module _ (e : State) (os : List ℕ) where
     next = let n = h.next in omega (arith, n);
     locals = h.locals;
     kept = λ o lt ne. by_test o lt (o == s.next) refl ∙ h.kept o lt ne;
+    valued = λ o lt v.
+        let n = h.next in
+        let older : o == s.next ≡ false = grind (arith, nat_tests, lt, n) in
+        subst HasValue (sym (ap (λ (t : Bool). if t then x else s.object o) older)) (h.valued o lt v);
   }
     where
       by_test : (o : ℕ) → o < e.next → (b : Bool) → o == s.next ≡ b → (upd s.next x s.object o).is_gone ≡ (s.object o).is_gone
@@ -116,6 +142,7 @@ module _ (e : State) (os : List ℕ) where
     next = h.next;
     locals = λ j p is. by_test j p (j == i) refl is;
     kept = h.kept;
+    valued = h.valued;
   }
     where
       by_test : (j p : ℕ) (b : Bool) → j == i ≡ b → upd i (Some o) s.frame.locals j ≡ Some p → IsOwn e os p
@@ -136,7 +163,8 @@ module _ (e : State) (os : List ℕ) where
       }))
 
   literal-listed : (s : State) (ls : List Literal) → Q s → Q (record s { literals = ls })
-  literal-listed s ls h = record { function = h.function; count = h.count; depth = h.depth; next = h.next; locals = h.locals; kept = h.kept }
+  literal-listed s ls h =
+      record { function = h.function; count = h.count; depth = h.depth; next = h.next; locals = h.locals; kept = h.kept; valued = h.valued }
 
   pub keeps-literal : (j : ℕ) (b : List ℕ) → Keeps Q (literal_object j b)
   keeps-literal j b =
@@ -169,6 +197,7 @@ module _ (e : State) (os : List ℕ) where
     next = h.next;
     locals = h.locals;
     kept = λ o lt ne. ap (λ (t : Bool). (if t then gone (s.object p) else s.object o).is_gone) (other-since o p own lt ne) ∙ h.kept o lt ne;
+    valued = λ o lt v. value-at s p (gone (s.object p)) (λ y. record { value = y.value; held = y.held }) o (o == p) refl (h.valued o lt v);
   }
 
   module _ (again : Again) (P : Program) (none : P.classes ≡ []) where

@@ -237,6 +237,7 @@ module _ (P : Program) (none : P.classes ≡ []) (fs : List PlainFunction) (are_
     next = omega arith;
     locals = λ i o is. inl (among-at os i o (sym (args i) ∙ is));
     kept = λ o lt ne. refl;
+    valued = λ o lt v. v;
   }
 
   mutual

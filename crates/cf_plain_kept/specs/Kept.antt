@@ -12,7 +12,7 @@ use Rattle.cf_core.specs.declared.operators.PointerOperator.TheVariants as point
 use Rattle.cf_core.specs.Types.{SourceType, void, integer, enumeration, class, pointer, reference, array, takes, gives, data_member, function_member, const, same_but_const, is_void, parameters, result as result_type}
 use Rattle.cf_core.specs.Typing.{is_comparison}
 use Rattle.cf_core.specs.Core.{Change, arithmetic, moved}
-use Rattle.cf_plain.specs.Plain.{Register, Action, number, text, local, static_object, function, read, dereference, decay, index, convert, from_void, operate, unary, truth, logical_not, pointer_operate, changed, store, declare, first, zeros, bytes, finish, call, Plain, Plains, act, set, branch, loop, switch, case_label, default_label, leave, continue, give, nothing, more, PlainFunction, PlainFile}
+use Rattle.cf_plain.specs.Plain.{Register, Action, number, text, local, static_object, function, read, dereference, decay, index, convert, from_void, operate, unary, truth, logical_not, pointer_operate, changed, store, declare, first, zeros, bytes, finish, call, Plain, Plains, act, set, branch, loop, switch, case_label, default_label, leave, continue, give, parts, nothing, more, PlainFunction, PlainFile}
 
 -- What a register holds behind the action that has set it.
 pub data Kept : Type 0 where
@@ -95,6 +95,25 @@ common g h r = both (g r) (h r)
     both : Option Kept → Option Kept → Option Kept
     both (Some x) (Some y) = both_kept x y
     both x y = None
+
+-- Whether statements set a register. What builds the parts of an object may set any.
+abbrev mutual
+  pub sets : Register → Plain → Bool
+  sets r (act a) = false
+  sets r (set q a) = q == r
+  sets r (branch q ss ts) = all_set r ss || all_set r ts
+  sets r (loop ss ts) = all_set r ss || all_set r ts
+  sets r (switch q ss) = all_set r ss
+  sets r (parts ps) = true
+  sets r s = false
+
+  pub all_set : Register → Plains → Bool
+  all_set r nothing = false
+  all_set r (more s ss) = sets r s || all_set r ss
+
+-- what stays where statements may begin at any label
+abbrev pub untouched : Keeping → Plains → Keeping
+untouched g ss r = if all_set r ss then None else g r
 
 -- Actions, by what their operands hold.
 
@@ -259,14 +278,14 @@ module _ (locals : List SourceType) (result : SourceType) where
   joined g h = None
 
   -- What the registers hold behind a statement that falls through; none where an operand in it is not what is taken. A turn of a loop, and what stands
-  -- behind a label, a loop or a switch, may come from several places: of these nothing is told.
+  -- behind a label or a loop, may come from several places: of these nothing is told. Behind a switch the registers stay that it does not set.
   abbrev mutual
     pub after : Plain → Keeping → Option Keeping
     after (act a) g = elim (kept_by g a) [ None ↦ None | Some x ↦ Some g ]
     after (set r a) g = elim (kept_by g a) [ None ↦ None | Some x ↦ Some (keep g r x) ]
     after (branch r ss ts) g = if integer_in (g r) then joined (after_all ss g) (after_all ts g) else None
     after (loop ss ts) g = if is_some (after_all ss nothing_set) && is_some (after_all ts nothing_set) then Some nothing_set else None
-    after (switch r ss) g = if integer_in (g r) && is_some (after_all ss nothing_set) then Some nothing_set else None
+    after (switch r ss) g = if integer_in (g r) && is_some (after_all ss nothing_set) then Some (untouched g ss) else None
     after (case_label z) g = Some nothing_set
     after default_label g = Some nothing_set
     after leave g = Some g

@@ -154,5 +154,5 @@ local_static = record { core = refl; plain = refl }
 loops_are_built : is_plainly_built with_continue ≡ true
 loops_are_built = refl
 
-label_that_passes_a_local_is_not_built : is_plainly_built (passing 1) ≡ false
-label_that_passes_a_local_is_not_built = refl
+label_that_passes_a_local_is_built : is_plainly_built (passing 1) ≡ true
+label_that_passes_a_local_is_built = refl

@@ -1,7 +1,6 @@
 -- The plain statements of a statement do what the statement does.
 use Rattle.std.proofs.Common.{◌≡◌, ℕ, suc, ◌+◌, ◌≤◌, Bool, true, false, not, ◌&&◌, nat_lt, nat_le, ◌==◌, List, [], ◌∷◌, ◌++◌, length, refl, sym, ◌∙◌, ap, subst, arith, append_assoc, if◌then◌else◌}
 use Rattle.std.specs.Prelude.{Some, None}
-use Rattle.std.proofs.lemmas.Bool.Decides.{nat_tests}
 use Rattle.cf_base.proofs.Tests.{both}
 use Rattle.cf_base.specs.World.{World, Ran, and_then}
 use Rattle.cf_core.specs.declared.operators.LoopForm.TheVariants as form
@@ -9,8 +8,8 @@ use Rattle.cf_core.specs.Types.{SourceType, Name, is_class}
 use Rattle.cf_core.specs.Core as core
 use Rattle.cf_core.specs.Core.{Core, Cores, MaybeCore, Function, none, absent, given}
 use Rattle.cf_core.specs.Nodes.{nodes, nodes_all, nodes_maybe}
-use Rattle.cf_core.specs.Store.{Value, Nothing, At, new_object, automatic}
-use Rattle.cf_core.specs.Run.{State, Frame, Did, Act, ◌>>=◌, ◌>>◌, gives, malformed, some_or, valid, when, upd, declared_object, frame_changed, lists_local, lists_in_scope, with_frame}
+use Rattle.cf_core.specs.Store.{Value, Nothing, At}
+use Rattle.cf_core.specs.Run.{State, Frame, Did, Act, ◌>>=◌, ◌>>◌, gives, malformed, some_or, valid, when, declared_object, frame_changed, lists_local, lists_in_scope, with_frame}
 use Rattle.cf_core.specs.Joined.{is_nothing}
 use Rattle.cf_core.specs.Access.{used}
 use Rattle.cf_core.specs.Scalars.{truth_of}
@@ -31,7 +30,7 @@ use Rattle.cf_sequence.specs.Expressions.{destination, finished, settled, whole,
 use Rattle.cf_sequence.specs.Statements.{statement, statement_or, statements, started, returned}
 use Rattle.cf_sequence.proofs.Following.{on, pull, pull-two}
 use Rattle.cf_sequence.proofs.Calling.{Bodies, never}
-use Rattle.cf_sequence.proofs.Kept.{Kept, kept-all, Ready, added-two, keep-same, listed-kept, listed-there}
+use Rattle.cf_sequence.proofs.Kept.{Kept, kept-all, Ready, added-two, keep-same, listed-there}
 use Rattle.cf_sequence.proofs.PlainSteps.{Usable, pick, runs_on, branch-steps, declare-steps}
 use Rattle.cf_sequence.proofs.Operands.{H, first-room, second-room}
 use Rattle.cf_sequence.proofs.Filling.{filling-holds, filled-steps}
@@ -40,6 +39,7 @@ use Rattle.cf_sequence.proofs.Moving.{all_gone, Held, held-kept, held-append, fi
 use Rattle.cf_sequence.proofs.Fulls.{nothing-is, held-none, full-steps, condition-steps, used-steps}
 use Rattle.cf_sequence.proofs.Standing.{Open, inside_of, opened, Stands, stands-later, moved-all, settled_full, result_act, next-more, Turns}
 use Rattle.cf_sequence.proofs.Scopes.{Ways, ways-later, Fallen, fall-on, closing_scope, moved-out, block-ways, close-steps, Does, by-or, behind, arm-steps, stands-on}
+use Rattle.cf_sequence.proofs.Passing.{declared-state, declared-moved, low-number, low-bound}
 use Rattle.cf_sequence.proofs.Switching.{DoAll, switch-steps}
 use Rattle.cf_sequence.proofs.Loops.{loop-first, loop-last, loop-whole, maybe-width}
 
@@ -50,9 +50,6 @@ module _ (again : calling.Again) (again' : running.Again) (P : Program) (bodies 
   -- ---- declarations
 
   -- a local is there, with its object
-  abbrev declared-state : ℕ → SourceType → State → State
-  declared-state i T s = record s { next = suc s.next; object = upd s.next (new_object T automatic) s.object; frame = lists_local i s.next s.frame }
-
   declared-ready : (i k : ℕ) (o : ℕ) (e f : Frame) → Ready k e f → Ready k (lists_local i o e) (lists_local i o f)
   declared-ready i k o e f r = record {
     alike = record { function = r.alike.function; this = r.alike.this; result = r.alike.result; depth = r.alike.depth };
@@ -60,22 +57,6 @@ module _ (again : calling.Again) (again' : running.Again) (P : Program) (bodies 
     wide = r.wide;
     locals = λ j lt. ap (λ z. if j == i then Some o else z) (r.locals j lt);
   }
-
-  -- behind its initialiser it is listed in the scope at hand
-  declared-moved : (m i k o : ℕ) (s : State) (f : Frame) (t : State) (g : Frame) → m ≤ i → m ≤ k → Ready k s.frame f → t.frame ≡ lists_local i o s.frame → Kept k (lists_local i o f) g
-      → Moved m s f (with_frame (lists_in_scope o t.frame) t) g
-  declared-moved m i k o s f t g le less ready same kept = record {
-    core = ap (λ (x : Frame). record x { scope = o ∷ t.frame.scope }) same ∙ ap (λ (x : Frame). record s.frame { locals = x.locals; scope = o ∷ t.frame.scope }) (sym same);
-    plain = kept.frame;
-    below = λ j lt. kept.below j (omega arith) ∙ (listed-kept i o f).below j (omega arith);
-    locals = λ j lt. kept.below j (let c1 = ready.count in omega arith) ∙ ap (λ z. if j == i then Some o else z) (ready.locals j lt) ∙ ap (λ (x : Frame). x.locals j) (sym same);
-  }
-
-  low-number : (i n : ℕ) → nat_lt i n ≡ true → suc i ≤ n
-  low-number i n lt = grind (arith, nat_tests)
-
-  low-bound : (m i : ℕ) → nat_le m i ≡ true → m ≤ i
-  low-bound m i le = grind (arith, nat_tests)
 
   -- the local is declared and falls through
   declared-falls : (i k o : ℕ) (T : SourceType) (m : ℕ) (op : Open) (D : Beyond) (rest : Plains) (s : State) (f : Frame) (c : calling.Flow → Act A) (K : Flow → Act B)

@@ -124,6 +124,17 @@ answer-steps (answers a) c g s t w next = next a
 answer-steps (fails n) c g s t w next = record { by = refl }
 answer-steps wrong c g s t w next = record { by = tt }
 
+-- the same, where what follows may use what is given
+pub pure-known : {A C D : Type 0} {S : C → State → D → State → Type 0} (act : Act A) → Pure act → (c : A → Act C) (g : A → Act D) (s t : State) (w : World)
+    → ((a : A) → act ≡ gives a → Follows S (c a s w) (g a t w))
+    → Follows S (and_then (act s w) (on c)) (and_then (act t w) (on g))
+pure-known {A} {C} {D} {S} act p c g s t w next = by p.answer p.runs
+  where
+    by : (x : Answer A) → act ≡ of_answer x → Follows S (and_then (act s w) (on c)) (and_then (act t w) (on g))
+    by (answers a) e = subst (λ (b : Act A). Follows S (and_then (b s w) (on c)) (and_then (b t w) (on g))) (sym e) (next a e)
+    by (fails n) e = subst (λ (b : Act A). Follows S (and_then (b s w) (on c)) (and_then (b t w) (on g))) (sym e) (record { by = refl })
+    by wrong e = subst (λ (b : Act A). Follows S (and_then (b s w) (on c)) (and_then (b t w) (on g))) (sym e) (record { by = tt })
+
 -- The same step in any two states.
 pub pure-steps : {A C D : Type 0} {S : C → State → D → State → Type 0} (act : Act A) → Pure act → (c : A → Act C) (g : A → Act D) (s t : State) (w : World)
     → ((a : A) → Follows S (c a s w) (g a t w))

@@ -1,12 +1,12 @@
 -- The labels of a switch, in a core and in its plain statements: what has no label of its own is passed over.
-use Rattle.std.proofs.Common.{◌≡◌, ℕ, ◌+◌, Bool, true, false, not, ◌&&◌, ◌||◌, nat_le, if◌then◌else◌, List, [], ◌∷◌, ◌++◌, refl, sym, ◌∙◌, ap}
-use Rattle.std.specs.Prelude.{ℤ, Some, None}
+use Rattle.std.proofs.Common.{◌≡◌, ℕ, ◌+◌, Bool, true, false, not, ◌&&◌, ◌||◌, nat_le, if◌then◌else◌, List, [], ◌∷◌, ◌++◌, reverse, refl, sym, ◌∙◌, ap, subst}
+use Rattle.std.specs.Prelude.{ℤ, int_le, Some, None}
 use Rattle.cf_base.proofs.Tests.{both}
 use Rattle.cf_core.specs.declared.operators.LoopForm.TheVariants as form
 use Rattle.cf_core.specs.Types.{SourceType, is_class}
 use Rattle.cf_core.specs.Core as core
 use Rattle.cf_core.specs.Core.{Core, Cores, MaybeCore, Function, none, absent, given}
-use Rattle.cf_core.specs.Run.{Act}
+use Rattle.cf_core.specs.Run.{Act, ◌>>=◌, ◌>>◌, when}
 use Rattle.cf_core.specs.Joined.{is_nothing}
 use Rattle.cf_core.specs.Valid.{is_label, has_label}
 use Rattle.cf_core.specs.Calls as calling
@@ -20,13 +20,13 @@ use Rattle.cf_plain.specs.Running.{Flow, Falls, Breaks, Continues, Returns, fall
 use Rattle.cf_sequence.specs.Built.{is_value, is_start, is_filling, is_initial, declares_here, is_statement, is_inner_or, are_statements, are_cases, next_local}
 use Rattle.cf_sequence.specs.Made.{Local, width, declared, declared_all}
 use Rattle.cf_sequence.specs.Expressions.{Full, destination, finished, settled, whole, value, used as use_of}
-use Rattle.cf_sequence.specs.Statements.{in_switch, statement, statement_or, statements, started, passing, passes_local, passed}
+use Rattle.cf_sequence.specs.Statements.{Inside, in_switch, statement, statement_or, statements, started, made, passing, passes_local, passed}
 use Rattle.cf_sequence.proofs.Calling.{never}
 use Rattle.cf_sequence.proofs.Operands.{H}
 use Rattle.cf_sequence.proofs.Filling.{fill, started-is}
 use Rattle.cf_sequence.proofs.Fulls.{whole-is, nothing-is}
-use Rattle.cf_sequence.proofs.Standing.{Open, inside_of, opened, inner-declared}
-use Rattle.cf_sequence.proofs.Silent.{Silent, silent-none, silent-set, silent-act, silent-then, silent-used, silent-settled, silent-finished, silent-leave, silent-continue, silent-give, silent-value}
+use Rattle.cf_sequence.proofs.Standing.{Open, inside_of, opened}
+use Rattle.cf_sequence.proofs.Silent.{Silent, silent-none, silent-set, silent-act, silent-then, silent-used, silent-switch, silent-settled, silent-finished, silent-leave, silent-continue, silent-give, silent-value}
 
 -- what a switch looks for
 pub data Aim : Type 0 where
@@ -63,18 +63,6 @@ pub or-else : {X : Type 0} (a b : Bool) → (a || b) ≡ true → (a ≡ true �
 or-else true b ok f g = f refl
 or-else false b ok f g = g ok
 
--- statements that declare nothing are passed without a step
-pub passed-by : (again : calling.Again) (P : Program) (aim : Aim) (m : ℕ) (s : Core) (rest : Cores) → not (declares_here s) ≡ true → is_statement m s ≡ true
-    → core_from again P aim (core.more s rest) ≡ core_from again P aim rest
-passed-by again P (to_case z) m (core.case_label y) rest free ok = never ok
-passed-by again P (to_case z) m (core.declare i t e) rest free ok = never free
-passed-by again P (to_case z) m (core.sequence es) rest free ok = never free
-passed-by again P (to_case z) m s rest free ok = refl
-passed-by again P to_default m core.default_label rest free ok = never ok
-passed-by again P to_default m (core.declare i t e) rest free ok = never free
-passed-by again P to_default m (core.sequence es) rest free ok = never free
-passed-by again P to_default m s rest free ok = refl
-
 pub no-label : (aim : Aim) (m : ℕ) (s : Core) (rest : Cores) → is_statement m s ≡ true → core_has aim (core.more s rest) ≡ core_has aim rest
 no-label (to_case z) m (core.case_label y) rest ok = never ok
 no-label (to_case z) m s rest ok = refl
@@ -89,19 +77,12 @@ pub label-next : (m : ℕ) (s : Core) → Label s → next_local m s ≡ m
 label-next m s (a_case y e) = ap (next_local m) e
 label-next m s (the_default e) = ap (next_local m) e
 
--- what stands in a switch before these: a label, or a statement that declares nothing that a label passes
-abbrev pub fits_case : ℕ → Core → Cores → Bool
-fits_case m s rest = is_label s || (not (declares_here s && has_label rest) && is_statement m s)
+-- what stands in a switch: a label, or a statement
+abbrev pub fits_case : ℕ → Core → Bool
+fits_case m s = is_label s || is_statement m s
 
-pub by-case : {X : Type 0} (m : ℕ) (s : Core) (rest : Cores) → fits_case m s rest ≡ true → (Label s → X) → (not (declares_here s && has_label rest) ≡ true → is_statement m s ≡ true → X) → X
-by-case m s rest ok f g =
-    or-else (is_label s) (not (declares_here s && has_label rest) && is_statement m s) ok (λ l. f (label-of s l))
-    (λ is. let parts = both (not (declares_here s && has_label rest)) (is_statement m s) is in g parts.0 parts.1)
-
--- what comes to a label behind it declares nothing
-pub declares-none : (a b : Bool) → not (a && b) ≡ true → b ≡ true → not a ≡ true
-declares-none true b ok there = ap not (sym there) ∙ ok
-declares-none false b ok there = refl
+pub by-case : {X : Type 0} (m : ℕ) (s : Core) → fits_case m s ≡ true → (Label s → X) → (is_statement m s ≡ true → X) → X
+by-case m s ok f g = or-else (is_label s) (is_statement m s) ok (λ l. f (label-of s l)) g
 
 pub there-is-label : (aim : Aim) (es : Cores) → core_has aim es ≡ true → has_label es ≡ true
 there-is-label (to_case z) none has = never has
@@ -113,28 +94,88 @@ there-is-label to_default (core.more (core.case_label y) rest) has = refl
 there-is-label to_default (core.more core.default_label rest) has = refl
 there-is-label to_default (core.more s rest) has = or-right (is_label s) (has_label rest) (there-is-label to_default rest has)
 
-neither-passes : (xs : List Local) (a b : Bool) → a ≡ false → b ≡ false → (elim xs as (λ _. Bool) [ [] ↦ b | x ∷ xs ↦ a || b ]) ≡ false
-neither-passes [] a b first second = second
-neither-passes (x ∷ xs) a b first second = ap (λ c. c || b) first ∙ second
+pub none-has : (aim : Aim) → core_has aim none ≡ false
+none-has (to_case z) = refl
+none-has to_default = refl
 
-is-passed : (s : Core) (declares labelled : Bool) (later : Bool) → (not declares ≡ true → declared s ≡ []) → not (declares && labelled) ≡ true → later ≡ false
-    → (elim (declared s) as (λ _. Bool) [ [] ↦ later | x ∷ xs ↦ labelled || later ]) ≡ false
-is-passed s false labelled later empty ok none-there = ap (λ xs. elim xs as (λ _. Bool) [ [] ↦ later | x ∷ xs ↦ labelled || later ]) (empty refl) ∙ none-there
-is-passed s true true later empty ok none-there = never ok
-is-passed s true false later empty ok none-there = neither-passes (declared s) false later refl none-there
+-- a statement is passed
+pub core-past : (again : calling.Again) (P : Program) (aim : Aim) (m : ℕ) (s1 : Core) (es : Cores) → is_statement m s1 ≡ true → core_from again P aim (core.more s1 es) ≡ (does.passes s1 >> core_from again P aim es)
+core-past again P (to_case z) m (core.case_label y) es ok = never ok
+core-past again P (to_case z) m s1 es ok = refl
+core-past again P to_default m core.default_label es ok = never ok
+core-past again P to_default m s1 es ok = refl
 
--- no label passes a local
-pub none-passed : (m : ℕ) (es : Cores) → are_cases m es ≡ true → passes_local es ≡ false
-none-passed m none ok = refl
-none-passed m (core.more s rest) ok =
-    let parts = both (fits_case m s rest) (are_cases (next_local m s) rest) ok in
-    let later = none-passed (next_local m s) rest parts.1 in
-    by-case m s rest parts.0
-    (λ l. ap (λ xs. elim xs as (λ _. Bool) [ [] ↦ passes_local rest | x ∷ xs ↦ has_label rest || passes_local rest ]) (label-declares s l) ∙ later)
-    (λ free is. is-passed s (declares_here s) (has_label rest) (passes_local rest) (inner-declared s) free later)
+-- ---- what a label passes
 
+-- behind what declares nothing
+pub passes-behind : (xs : List Local) (a b : Bool) → xs ≡ [] → (elim xs as (λ _. Bool) [ [] ↦ b | x ∷ xs ↦ a || b ]) ≡ b
+passes-behind xs a b empty = ap (λ xs. elim xs as (λ _. Bool) [ [] ↦ b | x ∷ xs ↦ a || b ]) empty
+
+-- what passes no local before a label declares none
+pub none-before : (xs : List Local) (a b : Bool) → a ≡ true → (elim xs as (λ _. Bool) [ [] ↦ b | x ∷ xs ↦ a || b ]) ≡ false → (xs ≡ []) × (b ≡ false)
+none-before [] a b there e = (refl, e)
+none-before (x ∷ xs) true b there e = never (sym e)
+none-before (x ∷ xs) false b there e = never there
+
+-- a switch before the switch, where a label passes a local
 pub not-passed : (n : Register) (es : Cores) (rest : Plains) → passes_local es ≡ false → passed n es rest ≡ rest
 not-passed n es rest none-there = ap (λ b. if b then more (plain.switch n (passing [] es)) rest else rest) none-there
+
+pub does-pass : (n : Register) (es : Cores) (rest : Plains) → passes_local es ≡ true → passed n es rest ≡ more (plain.switch n (passing [] es)) rest
+does-pass n es rest there = ap (λ b. if b then more (plain.switch n (passing [] es)) rest else rest) there
+
+pub passing-past : (m : ℕ) (s : Core) → is_statement m s ≡ true → (before : List Local) (rest : Cores) → passing before (core.more s rest) ≡ passing (declared s ++ before) rest
+passing-past m (core.case_label y) ok before rest = never ok
+passing-past m core.default_label ok before rest = never ok
+passing-past m s ok before rest = refl
+
+-- ---- a label
+
+-- as a plain statement
+abbrev pub mark : {s : Core} → Label s → Plain
+mark (a_case y e) = plain.case_label y
+mark (the_default e) = plain.default_label
+
+-- whether it is the one that is looked for
+abbrev pub hits : {s : Core} → Aim → Label s → Bool
+hits (to_case z) (a_case y e) = int_le y z && int_le z y
+hits (to_case z) (the_default e) = false
+hits to_default (a_case y e) = false
+hits to_default (the_default e) = true
+
+pub label-has : (aim : Aim) (s : Core) (l : Label s) (rest : Cores) → core_has aim (core.more s rest) ≡ hits aim l || core_has aim rest
+label-has (to_case z) s (a_case y e) rest = ap (λ s. does.has_case z (core.more s rest)) e
+label-has (to_case z) s (the_default e) rest = ap (λ s. does.has_case z (core.more s rest)) e
+label-has to_default s (a_case y e) rest = ap (λ s. does.has_default (core.more s rest)) e
+label-has to_default s (the_default e) rest = ap (λ s. does.has_default (core.more s rest)) e
+
+pub label-goes : (again : calling.Again) (P : Program) (aim : Aim) (s : Core) (l : Label s) (rest : Cores)
+    → core_from again P aim (core.more s rest) ≡ when (hits aim l) (does.does_all again P rest) (core_from again P aim rest)
+label-goes again P (to_case z) s (a_case y e) rest = ap (λ s. does.from_case again P z (core.more s rest)) e
+label-goes again P (to_case z) s (the_default e) rest = ap (λ s. does.from_case again P z (core.more s rest)) e
+label-goes again P to_default s (a_case y e) rest = ap (λ s. does.from_default again P (core.more s rest)) e
+label-goes again P to_default s (the_default e) rest = ap (λ s. does.from_default again P (core.more s rest)) e
+
+pub label-passing : (s : Core) (l : Label s) (before : List Local) (rest : Cores)
+    → passing before (core.more s rest) ≡ more (mark l) (made (reverse before) (more leave (passing before rest)))
+label-passing s (a_case y e) before rest = ap (λ s. passing before (core.more s rest)) e
+label-passing s (the_default e) before rest = ap (λ s. passing before (core.more s rest)) e
+
+pub label-written : (s : Core) (l : Label s) (f : Inside) (rest : Cores) (k : ℕ) (last : Plains)
+    → statements f (core.more s rest) k last ≡ more (mark l) (statements f rest (k + width s) last)
+label-written s (a_case y e) f rest k last = subst (λ s. statements f (core.more s rest) k last ≡ more (plain.case_label y) (statements f rest (k + width s) last)) (sym e) refl
+label-written s (the_default e) f rest k last = subst (λ s. statements f (core.more s rest) k last ≡ more plain.default_label (statements f rest (k + width s) last)) (sym e) refl
+
+pub mark-has : (z : ℤ) (s : Core) (l : Label s) (rest : Plains) → running.has_case z (more (mark l) rest) ≡ hits (to_case z) l || running.has_case z rest
+mark-has z s (a_case y e) rest = refl
+mark-has z s (the_default e) rest = refl
+
+pub mark-goes : (again : running.Again) (H : Program) (aim : Aim) (s : Core) (l : Label s) (rest : Plains) (g : Registers)
+    → plain_from again H aim (more (mark l) rest) g ≡ when (hits aim l) (all again H rest g) (plain_from again H aim rest g)
+mark-goes again H (to_case z) s (a_case y e) rest g = refl
+mark-goes again H (to_case z) s (the_default e) rest g = refl
+mark-goes again H to_default s (a_case y e) rest g = refl
+mark-goes again H to_default s (the_default e) rest g = refl
 
 -- ---- no statement but a switch's own has its labels
 
@@ -146,6 +187,13 @@ silent-by again H F G same p = record {
 }
 
 module _ (again : running.Again) (H : Program) (P : Program) (R C : SourceType) (plain-result : is_class R ≡ false) where
+  silent-passed : (n : Register) (es : Cores) → Silent again H (passed n es)
+  silent-passed n es = by-test (passes_local es)
+    where
+      by-test : (b : Bool) → Silent again H (λ rest. if b then more (plain.switch n (passing [] es)) rest else rest)
+      by-test true = silent-switch again H n (passing [] es)
+      by-test false = silent-none again H
+
   mutual
     pub silent-statement : (s : Core) (m : ℕ) → is_statement m s ≡ true → (o : Open) (k : ℕ) → Silent again H (statement (inside_of P R C o) s k)
     silent-statement (core.full e) m ok o k =
@@ -184,16 +232,18 @@ module _ (again : running.Again) (H : Program) (P : Program) (R C : SourceType) 
     silent-statement (core.loop form.For q e s) m ok o k = record { labels = λ z rest. refl; at_case = λ z rest g. refl; at_default = λ rest g. refl }
     silent-statement (core.loop form.Do q e s) m ok o k = record { labels = λ z rest. refl; at_case = λ z rest g. refl; at_default = λ rest g. refl }
     silent-statement (core.switch e es) m ok o k =
-        let parts = both (is_value e) (are_cases m es) ok in
+        let is = (both (is_value e) (are_cases m es) ok).0 in
         let code : Full → Register → Plains → Plains = λ x n rest. value P.classes x e None n k (use_of n rest) in
         let body : Plains = statements (in_switch (inside_of P R C o)) es (k + width e) (finished (declared_all es) nothing) in
         let n : ℕ = 0 + width e in
+        let last : Plains → Plains = λ rest. more (plain.switch n body) rest in
         silent-by again H (statement (inside_of P R C o) (core.switch e es) k)
-        (λ rest. value P.classes (record { first = k; base = 0 }) e None n k (use_of n (more (plain.switch n body) rest)))
-        (λ rest. whole-is e parts.0 0 k code (λ n. passed n es (more (plain.switch n body) rest))
-        ∙ ap (λ ss. value P.classes (record { first = k; base = 0 }) e None n k (use_of n ss)) (not-passed n es (more (plain.switch n body) rest) (none-passed m es parts.1)))
-        (silent-then again H (value P.classes (record { first = k; base = 0 }) e None n k) (λ rest. use_of n (more (plain.switch n body) rest))
-        (silent-value again H P e parts.0 (record { first = k; base = 0 }) None n k) (record { labels = λ z rest. refl; at_case = λ z rest g. refl; at_default = λ rest g. refl }))
+        (λ rest. value P.classes (record { first = k; base = 0 }) e None n k (use_of n (passed n es (last rest))))
+        (λ rest. whole-is e is 0 k code (λ n. passed n es (more (plain.switch n body) rest)))
+        (silent-then again H (value P.classes (record { first = k; base = 0 }) e None n k) (λ rest. use_of n (passed n es (last rest)))
+        (silent-value again H P e is (record { first = k; base = 0 }) None n k)
+        (silent-then again H (use_of n) (λ rest. passed n es (last rest)) (silent-used again H n)
+        (silent-then again H (passed n es) last (silent-passed n es) (silent-switch again H n body))))
     silent-statement core.leave m ok o k =
         silent-then again H (finished (o.here ++ o.breaks)) (λ rest. more leave rest) (silent-finished again H (o.here ++ o.breaks)) (silent-leave again H)
     silent-statement core.continue m ok o k =

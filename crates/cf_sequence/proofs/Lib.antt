@@ -18,6 +18,7 @@ pub mod Fulls
 pub mod Joining
 pub mod Kept
 pub mod Moving
+pub mod Passing
 pub mod PlainSteps
 pub mod Pointers
 pub mod Sample

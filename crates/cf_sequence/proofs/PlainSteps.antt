@@ -37,7 +37,7 @@ wider i m n le lt = grind (arith, nat_tests)
 below : (i m : ℕ) → nat_lt i m ≡ true → i < m
 below i m lt = grind (arith, nat_tests)
 
-room-for : (i n : ℕ) → i < n → nat_lt i n ≡ true
+pub room-for : (i n : ℕ) → i < n → nat_lt i n ≡ true
 room-for i n lt = grind (arith, nat_tests)
 
 module _ (again : running.Again) (H : Program) where

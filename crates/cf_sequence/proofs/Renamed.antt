@@ -238,7 +238,7 @@ module _ (r : Name → Name) where
   same-label core.default_label = refl
   same-label s = refl
 
-  same-has-label : (es : Cores) → has_label (renamed_all r es) ≡ has_label es
+  pub same-has-label : (es : Cores) → has_label (renamed_all r es) ≡ has_label es
   same-has-label none = refl
   same-has-label (core.more s es) = ap (λ b. b || has_label (renamed_all r es)) (same-label s) ∙ ap (λ b. is_label s || b) (same-has-label es)
 
@@ -271,14 +271,8 @@ module _ (r : Name → Name) where
     pub same-cases : (m : ℕ) (es : Cores) → are_cases m (renamed_all r es) ≡ are_cases m es
     same-cases m none = refl
     same-cases m (core.more s es) =
-        let there = not (declares_here (renamed r s) && has_label (renamed_all r es)) in
-        let here = not (declares_here s && has_label es) in
-        two-same (is_label (renamed r s) || (there && is_statement m (renamed r s))) (are_cases (next_local m (renamed r s)) (renamed_all r es))
-        (is_label s || (here && is_statement m s)) (are_cases (next_local m s) es)
-        (ap (λ b. b || (there && is_statement m (renamed r s))) (same-label s)
-        ∙ ap (λ b. is_label s || b)
-        (two-same there (is_statement m (renamed r s)) here (is_statement m s)
-        (ap not (two-same (declares_here (renamed r s)) (has_label (renamed_all r es)) (declares_here s) (has_label es) (same-declares s) (same-has-label es))) (same-statement m s)))
+        two-same (is_label (renamed r s) || is_statement m (renamed r s)) (are_cases (next_local m (renamed r s)) (renamed_all r es)) (is_label s || is_statement m s) (are_cases (next_local m s) es)
+        (ap (λ b. b || is_statement m (renamed r s)) (same-label s) ∙ ap (λ b. is_label s || b) (same-statement m s))
         (ap (λ k. are_cases k (renamed_all r es)) (same-next m s) ∙ same-cases (next_local m s) es)
 
     same-statements : (m : ℕ) (es : Cores) → are_statements m (renamed_all r es) ≡ are_statements m es

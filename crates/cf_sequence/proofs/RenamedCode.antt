@@ -1,5 +1,5 @@
 -- The plain statements of a core whose names are replaced are those of the core, with the names replaced.
-use Rattle.std.proofs.Common.{◌≡◌, ℕ, suc, ◌+◌, Bool, true, false, not, ◌&&◌, nat_le, List, [], ◌∷◌, ◌++◌, length, refl, sym, ◌∙◌, ap, subst, if◌then◌else◌}
+use Rattle.std.proofs.Common.{◌≡◌, ℕ, suc, ◌+◌, Bool, true, false, not, ◌&&◌, ◌||◌, nat_le, List, [], ◌∷◌, ◌++◌, length, reverse, refl, sym, ◌∙◌, ap, subst, if◌then◌else◌}
 use Rattle.std.specs.Prelude.{pos, Option, Some, None}
 use Rattle.cf_base.proofs.Tests.{both}
 use Rattle.cf_core.specs.declared.operators.LoopForm.TheVariants as form
@@ -15,12 +15,12 @@ use Rattle.cf_plain.specs.Joined as joined
 use Rattle.cf_sequence.specs.Built.{is_value, are_values, are_arguments, is_chain, is_condition, is_start, is_filling, is_initial, declares_here, is_statement, is_inner_or, are_cases, are_statements, next_local}
 use Rattle.cf_sequence.specs.Made.{Local, numbers, width, width_maybe, declared, declared_all}
 use Rattle.cf_sequence.specs.Expressions.{Full, Destination, destination, value, values, arguments, settled, builds, result_register, whole, finished, used}
-use Rattle.cf_sequence.specs.Statements.{Inside, opened, in_loop, in_switch, declares, condition, held, stepped, started, returned, looping, passed, statement, statement_or, statements}
+use Rattle.cf_sequence.specs.Statements.{Inside, opened, in_loop, in_switch, declares, condition, held, stepped, started, returned, looping, made, passing, passes_local, passed, statement, statement_or, statements}
 use Rattle.cf_sequence.proofs.Calling.{never}
 use Rattle.cf_sequence.proofs.Filling.{fill, started-is}
 use Rattle.cf_sequence.proofs.Fulls.{whole-is, nothing-is}
-use Rattle.cf_sequence.proofs.Labels.{or-else, none-passed, not-passed}
-use Rattle.cf_sequence.proofs.Renamed.{same-width, same-width-maybe, same-builds, same-value, same-filling, same-declared, same-declared-all, same-cases}
+use Rattle.cf_sequence.proofs.Labels.{or-else, passing-past}
+use Rattle.cf_sequence.proofs.Renamed.{same-width, same-width-maybe, same-builds, same-value, same-filling, same-declared, same-declared-all, same-has-label, same-statement}
 
 module _ (r : Name → Name) where
   abbrev again : Core → Core
@@ -220,6 +220,41 @@ module _ (r : Name → Name) where
       ∙ ap (λ w. statement (in_loop f) (again body) (k + w + width_maybe e) (finished (declared (again body)) nothing)) (sym (same-width-maybe r q))
       ∙ ap (λ w. statement (in_loop f) (again body) (k + width_maybe (renamed_maybe r q) + w) (finished (declared (again body)) nothing)) (sym (same-width-maybe r e))
 
+  -- what a label passes
+
+  same-passes : (es : Cores) → passes_local (renamed_all r es) ≡ passes_local es
+  same-passes none = refl
+  same-passes (core.more s es) =
+      ap (λ (xs : List Local). elim xs as (λ _. Bool) [ [] ↦ passes_local (renamed_all r es) | x ∷ xs ↦ has_label (renamed_all r es) || passes_local (renamed_all r es) ]) (same-declared r s)
+      ∙ ap (λ b. elim (declared s) as (λ _. Bool) [ [] ↦ b | x ∷ xs ↦ has_label (renamed_all r es) || b ]) (same-passes es)
+      ∙ ap (λ b. elim (declared s) as (λ _. Bool) [ [] ↦ passes_local es | x ∷ xs ↦ b || passes_local es ]) (same-has-label r es)
+
+  over-made : (xs : List Local) (rest : Plains) → over (made xs rest) ≡ made xs (over rest)
+  over-made [] rest = refl
+  over-made (x ∷ xs) rest = ap (more (act (plain.declare x.number x.type))) (over-made xs rest)
+
+  over-label : (before : List Local) (rest : Plains) → over (made before (more leave rest)) ≡ made before (more leave (over rest))
+  over-label before rest = over-made before (more leave rest)
+
+  over-passing : (es : Cores) (m : ℕ) → are_cases m es ≡ true → (before : List Local) → over (passing before es) ≡ passing before (renamed_all r es)
+  over-passing none m ok before = refl
+  over-passing (core.more (core.case_label z) es) m ok before =
+      ap (more (case_label z)) (over-label (reverse before) (passing before es) ∙ ap (λ ss. made (reverse before) (more leave ss)) (over-passing es m ok before))
+  over-passing (core.more core.default_label es) m ok before =
+      ap (more default_label) (over-label (reverse before) (passing before es) ∙ ap (λ ss. made (reverse before) (more leave ss)) (over-passing es m ok before))
+  over-passing (core.more s es) m ok before =
+      let parts = both (is_statement m s) (are_cases (next_local m s) es) ok in
+      over-passing es (next_local m s) parts.1 (declared s ++ before) ∙ ap (λ xs. passing (xs ++ before) (renamed_all r es)) (sym (same-declared r s))
+      ∙ sym (passing-past m (again s) (same-statement r m s ∙ parts.0) before (renamed_all r es))
+
+  over-passed : (n : Register) (es : Cores) (m : ℕ) → are_cases m es ≡ true → (rest : Plains) → over (passed n es rest) ≡ passed n (renamed_all r es) (over rest)
+  over-passed n es m ok rest =
+      by (passes_local es) ∙ ap (λ b. if b then more (switch n (passing [] (renamed_all r es))) (over rest) else over rest) (sym (same-passes es))
+    where
+      by : (b : Bool) → over (if b then more (switch n (passing [] es)) rest else rest) ≡ (if b then more (switch n (passing [] (renamed_all r es))) (over rest) else over rest)
+      by true = ap (λ ss. more (switch n ss) (over rest)) (over-passing es m ok [])
+      by false = refl
+
   mutual
     pub over-statement : (s : Core) (m : ℕ) → is_statement m s ≡ true → (f : Inside) → is_class f.result ≡ false → (k : ℕ) (rest : Plains)
         → over (statement f s k rest) ≡ statement f (again s) k (over rest)
@@ -264,8 +299,6 @@ module _ (r : Name → Name) where
         ∙ ap (λ ss. more (loop (turned_code body q e f k) ss) (over rest)) (over-held f.classes q parts.0 k nothing nothing refl)
     over-statement (core.switch e es) m ok f pr k rest =
         let parts = both (is_value e) (are_cases m es) ok in
-        let none_here = none-passed m es parts.1 in
-        let none_there = none-passed m (renamed_all r es) (same-cases r m es ∙ parts.1) in
         let body : ℕ → List Local → Plains = λ w xs. statements (in_switch f) (renamed_all r es) (k + w) (finished xs nothing) in
         let inner : over (statements (in_switch f) es (k + width e) (finished (declared_all es) nothing)) ≡ body (width (again e)) (declared_all (renamed_all r es)) =
         over-cases es m parts.1 (in_switch f) pr (k + width e) (finished (declared_all es) nothing)
@@ -276,9 +309,8 @@ module _ (r : Name → Name) where
         (λ n. passed n (renamed_all r es) (more (switch n (body (width (again e)) (declared_all (renamed_all r es)))) (over rest)))
         (λ m ss. refl)
         (λ n.
-        ap over (not-passed n es (more (switch n (statements (in_switch f) es (k + width e) (finished (declared_all es) nothing))) rest) none_here)
-        ∙ ap (λ ss. more (switch n ss) (over rest)) inner
-        ∙ sym (not-passed n (renamed_all r es) (more (switch n (body (width (again e)) (declared_all (renamed_all r es)))) (over rest)) none_there))
+        over-passed n es m parts.1 (more (switch n (statements (in_switch f) es (k + width e) (finished (declared_all es) nothing))) rest)
+        ∙ ap (λ ss. passed n (renamed_all r es) (more (switch n ss) (over rest))) inner)
     over-statement core.leave m ok f pr k rest = over-left (f.here ++ f.breaks) leave rest refl
     over-statement core.continue m ok f pr k rest = over-left (f.here ++ f.continues) continue rest refl
     over-statement (core.give absent) m ok f pr k rest = over-left (f.here ++ f.returns) (give None) rest refl
@@ -307,8 +339,8 @@ module _ (r : Name → Name) where
     over-cases (core.more (core.case_label z) es) m ok f pr k rest = ap (more (case_label z)) (over-cases es m ok f pr (k + 0) rest)
     over-cases (core.more core.default_label es) m ok f pr k rest = ap (more default_label) (over-cases es m ok f pr (k + 0) rest)
     over-cases (core.more s es) m ok f pr k rest =
-        let parts = both (not (declares_here s && has_label es) && is_statement m s) (are_cases (next_local m s) es) ok in
-        over-statement s m (both (not (declares_here s && has_label es)) (is_statement m s) parts.0).1 f pr k (statements (declares (declared s) f) es (k + width s) rest)
+        let parts = both (is_statement m s) (are_cases (next_local m s) es) ok in
+        over-statement s m parts.0 f pr k (statements (declares (declared s) f) es (k + width s) rest)
         ∙ ap (statement f (again s) k)
         (over-cases es (next_local m s) parts.1 (declares (declared s) f) pr (k + width s) rest
         ∙ ap (λ xs. statements (declares xs f) (renamed_all r es) (k + width s) (over rest)) (sym (same-declared r s))

@@ -7,7 +7,6 @@ use Rattle.cf_core.specs.declared.operators.LoopForm.TheVariants as form
 use Rattle.cf_core.specs.Types.{parameters}
 use Rattle.cf_core.specs.Core as core
 use Rattle.cf_core.specs.Core.{Core, Cores, MaybeCore, Function, Static, none, absent, given}
-use Rattle.cf_core.specs.Valid.{has_label}
 use Rattle.cf_plain.specs.Plain.{Plains, PlainFunction, branch, loop, switch, case_label, default_label, nothing, more}
 use Rattle.cf_sequence.specs.Built.{is_value, is_condition, declares_here, is_statement, is_inner_or, are_cases, are_statements, next_local, is_built_function}
 use Rattle.cf_sequence.specs.Made.{width, width_maybe, declared, declared_all}
@@ -68,9 +67,9 @@ module _ (xs : List Static) where
     same-cases (core.more (core.case_label z) es) m ok f k rest = ap (more (case_label z)) (same-cases es m ok f (k + 0) rest)
     same-cases (core.more core.default_label es) m ok f k rest = ap (more default_label) (same-cases es m ok f (k + 0) rest)
     same-cases (core.more s es) m ok f k rest =
-        let parts = both (not (declares_here s && has_label es) && is_statement m s) (are_cases (next_local m s) es) ok in
+        let parts = both (is_statement m s) (are_cases (next_local m s) es) ok in
         ap (statement (over f) s k) (same-cases es (next_local m s) parts.1 (declares (declared s) f) (k + width s) rest)
-        ∙ same-statement s m (both (not (declares_here s && has_label es)) (is_statement m s) parts.0).1 f k (statements (declares (declared s) f) es (k + width s) rest)
+        ∙ same-statement s m parts.0 f k (statements (declares (declared s) f) es (k + width s) rest)
 
   pub same-function : (f : Function) → is_built_function f ≡ true → sequenced_function [] xs f ≡ sequenced_function [] [] f
   same-function f ok =

@@ -1,42 +1,44 @@
--- Switches (6.4.2): the statements behind a label, in a scope of their own, where no label passes a local.
-use Rattle.std.proofs.Common.{◌≡◌, ℕ, ◌+◌, ◌≤◌, Bool, true, false, not, ◌&&◌, ◌||◌, List, [], ◌∷◌, ◌++◌, length, refl, sym, ◌∙◌, ap, subst, arith, append-nil, append_assoc}
-use Rattle.std.specs.Prelude.{ℤ, int_le, Option, Some, None}
+-- Switches (6.4.2): the statements behind a label, in a scope of their own, with the locals that the label passes.
+use Rattle.std.proofs.Common.{◌≡◌, ℕ, ◌+◌, ◌≤◌, Bool, true, false, ◌||◌, List, [], ◌∷◌, ◌++◌, reverse, length, refl, sym, ◌∙◌, ap, subst, arith, append-nil, append_assoc}
+use Rattle.std.specs.Prelude.{ℤ, Option, Some, None}
+use Rattle.std.proofs.lemmas.List.{reverse-append}
 use Rattle.cf_base.proofs.Tests.{both}
 use Rattle.cf_base.specs.World.{World, Ran, and_then}
 use Rattle.cf_core.specs.Types.{SourceType, Name, is_class}
 use Rattle.cf_core.specs.Core as core
-use Rattle.cf_core.specs.Core.{Core, Cores, MaybeCore, Function, none, absent, given}
+use Rattle.cf_core.specs.Core.{Core, Cores, Function, none}
 use Rattle.cf_core.specs.Nodes.{nodes, nodes_all}
 use Rattle.cf_core.specs.Store.{Value}
-use Rattle.cf_core.specs.Run.{State, Frame, Did, Act, ◌>>=◌, gives, malformed, some_or, when, with_frame}
+use Rattle.cf_core.specs.Run.{State, Frame, Did, Act, ◌>>=◌, ◌>>◌, gives, malformed, some_or, when, with_frame}
 use Rattle.cf_core.specs.Access.{used, number_of}
 use Rattle.cf_core.specs.Valid.{has_label}
 use Rattle.cf_core.specs.Calls as calling
 use Rattle.cf_core.specs.Calls.{Program, function_named, in_scope, full_expression}
 use Rattle.cf_core.specs.Expressions as meaning
 use Rattle.cf_core.specs.Statements as does
-use Rattle.cf_plain.specs.Plain.{Register, Plain, Plains, act, set, loop, leave, continue, give, nothing, more}
+use Rattle.cf_plain.specs.Plain.{Register, Plains, leave, nothing, more}
 use Rattle.cf_plain.specs.Plain as plain
 use Rattle.cf_plain.specs.Acts.{Registers}
 use Rattle.cf_plain.specs.Running as running
-use Rattle.cf_plain.specs.Running.{Flow, Falls, Breaks, Continues, Returns, falling, all}
+use Rattle.cf_plain.specs.Running.{Flow, Falls, Continues, Returns, falling, all}
 use Rattle.cf_sequence.specs.Follows.{Follows}
-use Rattle.cf_sequence.specs.Built.{is_value, is_chain, declares_here, is_statement, are_cases, next_local, next_locals}
+use Rattle.cf_sequence.specs.Built.{is_value, is_chain, is_statement, are_cases, next_local, next_locals}
 use Rattle.cf_sequence.specs.Made.{Local, width, added, declared, declared_all}
 use Rattle.cf_sequence.specs.Expressions.{Full, finished, whole, value, used as use_of}
-use Rattle.cf_sequence.specs.Statements.{statement, statements, passed}
-use Rattle.cf_sequence.proofs.Following.{on, pull, pull-two, push, pure-steps}
+use Rattle.cf_sequence.specs.Statements.{statement, statements, made, passing, passes_local, passed}
+use Rattle.cf_sequence.proofs.Following.{on, pull, pull-two, push, pure-known}
 use Rattle.cf_sequence.proofs.Steps.{pure-number_of}
 use Rattle.cf_sequence.proofs.Calling.{Bodies, never}
-use Rattle.cf_sequence.proofs.Kept.{ready-more}
-use Rattle.cf_sequence.proofs.PlainSteps.{runs_on}
+use Rattle.cf_sequence.proofs.Kept.{Kept, ready-more}
+use Rattle.cf_sequence.proofs.PlainSteps.{Usable, runs_on}
 use Rattle.cf_sequence.proofs.Operands.{H, first-room, second-room}
 use Rattle.cf_sequence.proofs.Moving.{all_gone, Held, held-append, held-kept, finished-steps, Moved, moved-count, moved-then, with_scope, Beyond}
 use Rattle.cf_sequence.proofs.Fulls.{used-steps}
-use Rattle.cf_sequence.proofs.Standing.{Open, inside_of, Stands, stands-later, Turns, moved-all, next-more, inner-next, inner-declared}
+use Rattle.cf_sequence.proofs.Standing.{Open, inside_of, Stands, stands-later, Turns, moved-all, next-more}
 use Rattle.cf_sequence.proofs.Scopes.{Ways, ways-later, Fallen, closing_scope, scope-closed, scope-gone, moved-out, Does, behind, stands-on}
 use Rattle.cf_sequence.proofs.Silent.{Silent, silent-finished}
-use Rattle.cf_sequence.proofs.Labels.{Aim, core_from, plain_from, core_has, Label, fits_case, by-case, label-next, label-declares, declares-none, there-is-label, passed-by, no-label, none-passed, not-passed, silent-statement, to_case, to_default, a_case, the_default}
+use Rattle.cf_sequence.proofs.Labels.{Aim, core_from, plain_from, core_has, Label, fits_case, by-case, hits, label-next, label-declares, label-has, label-goes, label-passing, label-written, mark-has, mark-goes, there-is-label, no-label, none-has, core-past, passing-past, passes-behind, none-before, not-passed, does-pass, silent-statement, to_case, to_default, a_case, the_default}
+use Rattle.cf_sequence.proofs.Passing.{made-more, silent-passed_by, passing-has, passing-without, neither, core_by, plain_by, chosen_case, looked, Picks, picks, Passed, pass-one}
 
 -- the locals of the scopes around a switch's own
 abbrev pub switched : Open → Open
@@ -90,11 +92,11 @@ module _ (again : calling.Again) (again' : running.Again) (P : Program) (bodies 
   label-does m s1 (a_case y e) = subst (OneDoes m) (sym e) (λ o D k rest g s f w c K st room ways falls. falls s f g w (moved-all m k s f st.ready) st.here st.low)
   label-does m s1 (the_default e) = subst (OneDoes m) (sym e) (λ o D k rest g s f w c K st room ways falls. falls s f g w (moved-all m k s f st.ready) st.here st.low)
 
-  case-does : (m : ℕ) (s1 : Core) (es : Cores) → fits_case m s1 es ≡ true → Does again again' P bodies chains classless turns R C plain-result A B S s1 → OneDoes m s1
-  case-does m s1 es ok does-it = by-case m s1 es ok (label-does m s1) (λ free is. does-it m is)
+  case-does : (m : ℕ) (s1 : Core) → fits_case m s1 ≡ true → Does again again' P bodies chains classless turns R C plain-result A B S s1 → OneDoes m s1
+  case-does m s1 ok does-it = by-case m s1 ok (label-does m s1) (λ is. does-it m is)
 
-  case-more : (m : ℕ) (s1 : Core) (es : Cores) → fits_case m s1 es ≡ true → m ≤ next_local m s1
-  case-more m s1 es ok = by-case m s1 es ok (λ l. let e = label-next m s1 l in omega arith) (λ free is. next-more m s1 is)
+  case-more : (m : ℕ) (s1 : Core) → fits_case m s1 ≡ true → m ≤ next_local m s1
+  case-more m s1 ok = by-case m s1 ok (λ l. let e = label-next m s1 l in omega arith) (λ is. next-more m s1 is)
 
   -- the labels and statements of a switch from one on, in order
   in-order : (es : Cores) (m : ℕ) → are_cases m es ≡ true → DoAll es → (o : Open) (D : Beyond) (k : ℕ) (rest : Plains) (g : Registers) (s : State) (f : Frame) (w : World)
@@ -103,12 +105,12 @@ module _ (again : calling.Again) (again' : running.Again) (P : Program) (bodies 
       → Follows S (and_then (does.does_all again P es s w) (on c)) (runs_on again' (H again again' P) (sts o es k rest) g K (with_frame f s) w)
   in-order none m ok all-do o D k rest g s f w c K st room ways falls = falls s f g w (moved-all m k s f st.ready) st.here st.low
   in-order (core.more s1 es) m ok all-do o D k rest g s f w c K st room ways falls =
-      let parts = both (fits_case m s1 es) (are_cases (next_local m s1) es) ok in
-      let more-locals : m ≤ next_local m s1 = case-more m s1 es parts.0 in
+      let parts = both (fits_case m s1) (are_cases (next_local m s1) es) ok in
+      let more-locals : m ≤ next_local m s1 = case-more m s1 parts.0 in
       let first : k + width s1 ≤ f.count = first-room k f.count (nodes s1) (nodes_all es) room in
       let second : (k + width s1) + length (added (nodes_all es)) ≤ f.count = second-room k f.count (nodes s1) (nodes_all es) room in
       pull (does.does again P s1 s w) (does.falling (does.does_all again P es)) c _
-      (case-does m s1 es parts.0 all-do.0 o D k (sts (record o { here = declared s1 ++ o.here }) es (k + width s1) rest) g s f w
+      (case-does m s1 parts.0 all-do.0 o D k (sts (record o { here = declared s1 ++ o.here }) es (k + width s1) rest) g s f w
       (λ flow. does.falling (does.does_all again P es) flow >>= c) K st first
       (record { breaks = ways.breaks; continues = ways.continues; returns = ways.returns }) (λ t g1 h w1 v held-now low.
       let count : g1.count ≡ f.count = ap (λ (x : Frame). x.count) v.plain in
@@ -118,7 +120,7 @@ module _ (again : calling.Again) (again' : running.Again) (P : Program) (bodies 
       falls u g2 h2 w2 (moved-then m (next_local m s1) s f t g1 u g2 more-locals v v2)
       (subst (λ xs. Held g2.locals (next_locals (next_local m s1) es) xs u.frame.scope) (sym (append_assoc (declared_all es) (declared s1) o.here)) held-then) low2)))
 
-  -- what declares nothing is as if it did not stand there
+  -- a label is as if it did not stand there
   end-past : (s1 : Core) (es : Cores) (m : ℕ) (o : Open) (rest : Plains) (s : State) (f : Frame) (c : calling.Flow → Act A) (K : Flow → Act B)
       → next_local m s1 ≡ m → declared s1 ≡ []
       → End (next_locals m (core.more s1 es)) (declared_all (core.more s1 es) ++ o.here) m c K rest s f → End (next_locals m es) (declared_all es ++ o.here) m c K rest s f
@@ -128,120 +130,137 @@ module _ (again : calling.Again) (again' : running.Again) (P : Program) (bodies 
 
   -- ---- from a label on
 
-  after-or : (a b : Bool) → (a || b) ≡ true → a ≡ false → b ≡ true
-  after-or true b e f = never (sym f)
-  after-or false b e f = e
-
-  -- a case, and where it is another's
-  at-case : (b : Bool) (z : ℤ) (es : Cores) (ss : Plains) (g : Registers) (s : State) (t : State) (w : World) (c : calling.Flow → Act A) (K : Flow → Act B)
-      → Follows S (and_then (does.does_all again P es s w) (on c)) (runs_on again' (H again again' P) ss g K t w)
-      → (b ≡ false → Follows S (and_then (does.from_case again P z es s w) (on c)) (and_then (running.from_case again' (H again again' P) z ss g t w) (on K)))
-      → Follows S (and_then (when b (does.does_all again P es) (does.from_case again P z es) s w) (on c))
-      (and_then (when b (all again' (H again again' P) ss g) (running.from_case again' (H again again' P) z ss g) t w) (on K))
-  at-case true z es ss g s t w c K here later = here
-  at-case false z es ss g s t w c K here later = later refl
-
-  -- a label that is looked at
-  at-label : (aim : Aim) (s1 : Core) → Label s1 → (es : Cores) (o : Open) (k : ℕ) (rest : Plains) (g : Registers) (s : State) (f : Frame) (w : World) (c : calling.Flow → Act A) (K : Flow → Act B)
-      → core_has aim (core.more s1 es) ≡ true
-      → Follows S (and_then (does.does_all again P es s w) (on c)) (runs_on again' (H again again' P) (sts o es (k + width s1) rest) g K (with_frame f s) w)
-      → (core_has aim es ≡ true → Follows S (and_then (core_from again P aim es s w) (on c)) (and_then (plain_from again' (H again again' P) aim (sts o es (k + width s1) rest) g (with_frame f s) w) (on K)))
-      → Follows S (and_then (core_from again P aim (core.more s1 es) s w) (on c)) (and_then (plain_from again' (H again again' P) aim (sts o (core.more s1 es) k rest) g (with_frame f s) w) (on K))
-  at-label (to_case z) s1 (a_case y e) es o k rest g s f w c K =
-      subst (λ s1. does.has_case z (core.more s1 es) ≡ true
-      → Follows S (and_then (does.does_all again P es s w) (on c)) (runs_on again' (H again again' P) (sts o es (k + width s1) rest) g K (with_frame f s) w)
-      → (does.has_case z es ≡ true → Follows S (and_then (does.from_case again P z es s w) (on c)) (and_then (running.from_case again' (H again again' P) z (sts o es (k + width s1) rest) g (with_frame f s) w) (on K)))
-      → Follows S (and_then (does.from_case again P z (core.more s1 es) s w) (on c)) (and_then (running.from_case again' (H again again' P) z (sts o (core.more s1 es) k rest) g (with_frame f s) w) (on K))) (sym e)
-      (λ has here later. at-case (int_le y z && int_le z y) z es (sts o es (k + width (core.case_label y)) rest) g s (with_frame f s) w c K here
-      (λ other. later (after-or (int_le y z && int_le z y) (does.has_case z es) has other)))
-  at-label (to_case z) s1 (the_default e) es o k rest g s f w c K =
-      subst (λ s1. does.has_case z (core.more s1 es) ≡ true
-      → Follows S (and_then (does.does_all again P es s w) (on c)) (runs_on again' (H again again' P) (sts o es (k + width s1) rest) g K (with_frame f s) w)
-      → (does.has_case z es ≡ true → Follows S (and_then (does.from_case again P z es s w) (on c)) (and_then (running.from_case again' (H again again' P) z (sts o es (k + width s1) rest) g (with_frame f s) w) (on K)))
-      → Follows S (and_then (does.from_case again P z (core.more s1 es) s w) (on c)) (and_then (running.from_case again' (H again again' P) z (sts o (core.more s1 es) k rest) g (with_frame f s) w) (on K))) (sym e)
-      (λ has here later. later has)
-  at-label to_default s1 (a_case y e) es o k rest g s f w c K =
-      subst (λ s1. does.has_default (core.more s1 es) ≡ true
-      → Follows S (and_then (does.does_all again P es s w) (on c)) (runs_on again' (H again again' P) (sts o es (k + width s1) rest) g K (with_frame f s) w)
-      → (does.has_default es ≡ true → Follows S (and_then (does.from_default again P es s w) (on c)) (and_then (running.from_default again' (H again again' P) (sts o es (k + width s1) rest) g (with_frame f s) w) (on K)))
-      → Follows S (and_then (does.from_default again P (core.more s1 es) s w) (on c)) (and_then (running.from_default again' (H again again' P) (sts o (core.more s1 es) k rest) g (with_frame f s) w) (on K))) (sym e)
-      (λ has here later. later has)
-  at-label to_default s1 (the_default e) es o k rest g s f w c K =
-      subst (λ s1. does.has_default (core.more s1 es) ≡ true
-      → Follows S (and_then (does.does_all again P es s w) (on c)) (runs_on again' (H again again' P) (sts o es (k + width s1) rest) g K (with_frame f s) w)
-      → (does.has_default es ≡ true → Follows S (and_then (does.from_default again P es s w) (on c)) (and_then (running.from_default again' (H again again' P) (sts o es (k + width s1) rest) g (with_frame f s) w) (on K)))
-      → Follows S (and_then (does.from_default again P (core.more s1 es) s w) (on c)) (and_then (running.from_default again' (H again again' P) (sts o (core.more s1 es) k rest) g (with_frame f s) w) (on K))) (sym e)
-      (λ has here later. here)
-
   passes-over : (aim : Aim) (F : Plains → Plains) → Silent again' (H again again' P) F → (ss : Plains) (g : Registers)
       → plain_from again' (H again again' P) aim (F ss) g ≡ plain_from again' (H again again' P) aim ss g
   passes-over (to_case z) F p ss g = p.at_case z ss g
   passes-over to_default F p ss g = p.at_default ss g
 
-  none-has : (aim : Aim) → core_has aim none ≡ false
-  none-has (to_case z) = refl
-  none-has to_default = refl
+  -- What plain code does up to the label that is looked for: the switch before declares what the label passes, and the switch goes on behind the label.
+  pub record Path (aim : Aim) (es : Cores) (o : Open) (k : ℕ) (rest : Plains) (s : State) (f : Frame) (w : World) (later : Cores) (p : Open) (l : ℕ) (t : State) (g : Frame) : Type 0 where
+    pub new : List Local
+    pub here : p.here ≡ new ++ o.here
+    pub tail : Plains
+    pub first : (h : Registers) → plain_from again' (H again again' P) aim (passing o.here es) h ≡ all again' (H again again' P) (made (reverse p.here) (more leave tail)) h
+    pub second : (h : Registers) → plain_from again' (H again again' P) aim (sts o es k rest) h ≡ all again' (H again again' P) (sts p later l rest) h
+    pub runs : (zs : Plains) (h : Registers) (K : Flow → Act B) → runs_on again' (H again again' P) (made (reverse new) zs) h K (with_frame f s) w ≡ runs_on again' (H again again' P) zs h K (with_frame g t) w
+    pub alone : passes_local es ≡ false → new ≡ []
 
-  -- from the label that is looked for on
+  -- at the label
+  path-here : (aim : Aim) (s1 : Core) (l : Label s1) → hits aim l ≡ true → (es : Cores) (o : Open) (k : ℕ) (rest : Plains) (s : State) (f : Frame) (w : World)
+      → Path aim (core.more s1 es) o k rest s f w es o (k + width s1) s f
+  path-here aim s1 l hit es o k rest s f w =
+      let tail : Plains = passing o.here es in
+      let before : Plains = made (reverse o.here) (more leave tail) in
+      let behind_it : Plains = sts o es (k + width s1) rest in
+      record {
+        new = [];
+        here = refl;
+        tail = tail;
+        first = λ h. ap (λ ss. plain_from again' (H again again' P) aim ss h) (label-passing s1 l o.here es) ∙ mark-goes again' (H again again' P) aim s1 l before h
+            ∙ ap (λ b. when b (all again' (H again again' P) before h) (plain_from again' (H again again' P) aim before h)) hit;
+        second = λ h. ap (λ ss. plain_from again' (H again again' P) aim ss h) (label-written s1 l (inside_of P R C o) es k rest) ∙ mark-goes again' (H again again' P) aim s1 l behind_it h
+            ∙ ap (λ b. when b (all again' (H again again' P) behind_it h) (plain_from again' (H again again' P) aim behind_it h)) hit;
+        runs = λ zs h K. refl;
+        alone = λ e. refl;
+      }
+
+  -- past another label
+  path-label : (aim : Aim) (s1 : Core) (l : Label s1) → hits aim l ≡ false → (es : Cores) (o : Open) (k : ℕ) (rest : Plains) (s : State) (f : Frame) (w : World) (later : Cores) (p : Open) (n : ℕ) (t : State) (g : Frame)
+      → Path aim es o (k + width s1) rest s f w later p n t g → Path aim (core.more s1 es) o k rest s f w later p n t g
+  path-label aim s1 l miss es o k rest s f w later p n t g path =
+      let before : Plains = made (reverse o.here) (more leave (passing o.here es)) in
+      let behind_it : Plains = sts o es (k + width s1) rest in
+      record {
+        new = path.new;
+        here = path.here;
+        tail = path.tail;
+        first = λ h. ap (λ ss. plain_from again' (H again again' P) aim ss h) (label-passing s1 l o.here es) ∙ mark-goes again' (H again again' P) aim s1 l before h
+            ∙ ap (λ b. when b (all again' (H again again' P) before h) (plain_from again' (H again again' P) aim before h)) miss
+            ∙ passes-over aim (λ rest. made (reverse o.here) (more leave rest)) (silent-passed_by again' (H again again' P) (reverse o.here)) (passing o.here es) h ∙ path.first h;
+        second = λ h. ap (λ ss. plain_from again' (H again again' P) aim ss h) (label-written s1 l (inside_of P R C o) es k rest) ∙ mark-goes again' (H again again' P) aim s1 l behind_it h
+            ∙ ap (λ b. when b (all again' (H again again' P) behind_it h) (plain_from again' (H again again' P) aim behind_it h)) miss ∙ path.second h;
+        runs = path.runs;
+        alone = λ e. path.alone (sym (passes-behind (declared s1) (has_label es) (passes_local es) (label-declares s1 l)) ∙ e);
+      }
+
+  -- past a statement
+  path-past : (aim : Aim) (m : ℕ) (s1 : Core) → is_statement m s1 ≡ true → (es : Cores) → core_has aim es ≡ true → (o : Open) (k : ℕ) (rest : Plains) (s : State) (f : Frame) (w : World) (t : State) (g : Frame)
+      → Passed again again' P A B S m (next_local m s1) (declared s1) o.here s f w t g
+      → (later : Cores) (p : Open) (n : ℕ) (u : State) (h : Frame) → Path aim es (record o { here = declared s1 ++ o.here }) (k + width s1) rest t g w later p n u h
+      → Path aim (core.more s1 es) o k rest s f w later p n u h
+  path-past aim m s1 is es there o k rest s f w t g q later p n u h path = record {
+    new = path.new ++ declared s1;
+    here = path.here ∙ sym (append_assoc path.new (declared s1) o.here);
+    tail = path.tail;
+    first = λ r. ap (λ ss. plain_from again' (H again again' P) aim ss r) (passing-past m s1 is o.here es) ∙ path.first r;
+    second = λ r.
+        passes-over aim (statement (inside_of P R C o) s1 k) (silent-statement again' (H again again' P) P R C plain-result s1 m is o k) (sts (record o { here = declared s1 ++ o.here }) es (k + width s1) rest) r
+        ∙ path.second r;
+    runs = λ zs r K.
+        ap (λ ys. runs_on again' (H again again' P) (made ys zs) r K (with_frame f s) w) (reverse-append path.new (declared s1))
+        ∙ ap (λ ss. runs_on again' (H again again' P) ss r K (with_frame f s) w) (made-more (reverse (declared s1)) (reverse path.new) zs)
+        ∙ q.runs (made (reverse path.new) zs) r K ∙ path.runs zs r K;
+    alone = λ e.
+        let two = none-before (declared s1) (has_label es) (passes_local es) (there-is-label aim es there) e in
+        ap (λ xs. xs ++ declared s1) (path.alone two.1) ∙ two.0;
+  }
+
+  hit-or-miss : {X : Type 0} (b : Bool) → (b ≡ true → X) → (b ≡ false → X) → X
+  hit-or-miss true f g = f refl
+  hit-or-miss false f g = g refl
+
+  -- From the label that is looked for on: what follows on the path follows.
   from-label : (aim : Aim) (es : Cores) (m : ℕ) → are_cases m es ≡ true → DoAll es → core_has aim es ≡ true
       → (o : Open) (D : Beyond) (k : ℕ) (rest : Plains) (g : Registers) (s : State) (f : Frame) (w : World) (c : calling.Flow → Act A) (K : Flow → Act B)
       → Stands o D m k s f → k + length (added (nodes_all es)) ≤ f.count → Out D m s f c K → End (next_locals m es) (declared_all es ++ o.here) m c K rest s f
-      → Follows S (and_then (core_from again P aim es s w) (on c)) (and_then (plain_from again' (H again again' P) aim (sts o es k rest) g (with_frame f s) w) (on K))
-  from-label aim none m ok all-do has o D k rest g s f w c K st room ways falls = never (sym (none-has aim) ∙ has)
-  from-label aim (core.more s1 es) m ok all-do has o D k rest g s f w c K st room ways falls =
-      let parts = both (fits_case m s1 es) (are_cases (next_local m s1) es) ok in
+      → (Y : Ran (Did B))
+      → ((later : Cores) (p : Open) (l : ℕ) (t : State) (f1 : Frame) (x : Ran (Did A)) → Path aim es o k rest s f w later p l t f1
+      → Follows S x (runs_on again' (H again again' P) (sts p later l rest) g K (with_frame f1 t) w) → Follows S x Y)
+      → Follows S (and_then (core_from again P aim es s w) (on c)) Y
+  from-label aim none m ok all-do has o D k rest g s f w c K st room ways falls Y meets = never (sym (none-has aim) ∙ has)
+  from-label aim (core.more s1 es) m ok all-do has o D k rest g s f w c K st room ways falls Y meets =
+      let parts = both (fits_case m s1) (are_cases (next_local m s1) es) ok in
       let first : k + width s1 ≤ f.count = first-room k f.count (nodes s1) (nodes_all es) room in
       let second : (k + width s1) + length (added (nodes_all es)) ≤ f.count = second-room k f.count (nodes s1) (nodes_all es) room in
-      let st1 : Stands o D m (k + width s1) s f = further-on o D m k (k + width s1) s f st (omega arith) first in
-      by-case m s1 es parts.0
+      by-case m s1 parts.0
       (λ l.
+      let st1 : Stands o D m (k + width s1) s f = further-on o D m k (k + width s1) s f st (omega arith) first in
       let later : are_cases m es ≡ true = subst (λ n. are_cases n es ≡ true) (label-next m s1 l) parts.1 in
       let falls1 = end-past s1 es m o rest s f c K (label-next m s1 l) (label-declares s1 l) falls in
-      at-label aim s1 l es o k rest g s f w c K has
-      (in-order es m later all-do.1 o D (k + width s1) rest g s f w c K st1 second ways falls1)
-      (λ has-later. from-label aim es m later all-do.1 has-later o D (k + width s1) rest g s f w c K st1 second ways falls1))
-      (λ free is.
-      let has-later : core_has aim es ≡ true = sym (no-label aim m s1 es is) ∙ has in
-      let inner : not (declares_here s1) ≡ true = declares-none (declares_here s1) (has_label es) free (there-is-label aim es has-later) in
-      let later : are_cases m es ≡ true = subst (λ n. are_cases n es ≡ true) (inner-next m s1 inner) parts.1 in
-      subst (λ (a : Act calling.Flow). Follows S (and_then (a s w) (on c)) (and_then (plain_from again' (H again again' P) aim (sts o (core.more s1 es) k rest) g (with_frame f s) w) (on K)))
-      (sym (passed-by again P aim m s1 es inner is))
-      (subst (λ (a : Act Flow). Follows S (and_then (core_from again P aim es s w) (on c)) (and_then (a (with_frame f s) w) (on K)))
-      (sym (passes-over aim (statement (inside_of P R C o) s1 k) (silent-statement again' (H again again' P) P R C plain-result s1 m is o k) (sts (record o { here = declared s1 ++ o.here }) es (k + width s1) rest) g))
-      (subst (λ xs. Follows S (and_then (core_from again P aim es s w) (on c)) (and_then (plain_from again' (H again again' P) aim (sts (record o { here = xs ++ o.here }) es (k + width s1) rest) g (with_frame f s) w) (on K)))
-      (sym (inner-declared s1 inner))
-      (from-label aim es m later all-do.1 has-later o D (k + width s1) rest g s f w c K st1 second ways
-      (end-past s1 es m o rest s f c K (inner-next m s1 inner) (inner-declared s1 inner) falls)))))
-
-  label-same : (z : ℤ) (s1 : Core) → Label s1 → (es : Cores) (o : Open) (k : ℕ) (rest : Plains) → running.has_case z (sts o es (k + width s1) rest) ≡ does.has_case z es
-      → running.has_case z (sts o (core.more s1 es) k rest) ≡ does.has_case z (core.more s1 es)
-  label-same z s1 (a_case y e) es o k rest =
-      subst (λ s1. running.has_case z (sts o es (k + width s1) rest) ≡ does.has_case z es → running.has_case z (sts o (core.more s1 es) k rest) ≡ does.has_case z (core.more s1 es))
-      (sym e) (λ h. ap (λ b. (int_le y z && int_le z y) || b) h)
-  label-same z s1 (the_default e) es o k rest =
-      subst (λ s1. running.has_case z (sts o es (k + width s1) rest) ≡ does.has_case z es → running.has_case z (sts o (core.more s1 es) k rest) ≡ does.has_case z (core.more s1 es))
-      (sym e) (λ h. h)
-
-  label-without : (s1 : Core) → Label s1 → (es : Cores) (o : Open) (k : ℕ) (rest : Plains) (g : Registers) → does.has_default (core.more s1 es) ≡ false
-      → (does.has_default es ≡ false → running.from_default again' (H again again' P) (sts o es (k + width s1) rest) g ≡ gives (Falls g))
-      → running.from_default again' (H again again' P) (sts o (core.more s1 es) k rest) g ≡ gives (Falls g)
-  label-without s1 (a_case y e) es o k rest g =
-      subst (λ s1. does.has_default (core.more s1 es) ≡ false
-      → (does.has_default es ≡ false → running.from_default again' (H again again' P) (sts o es (k + width s1) rest) g ≡ gives (Falls g))
-      → running.from_default again' (H again again' P) (sts o (core.more s1 es) k rest) g ≡ gives (Falls g)) (sym e) (λ has later. later has)
-  label-without s1 (the_default e) es o k rest g =
-      subst (λ s1. does.has_default (core.more s1 es) ≡ false
-      → (does.has_default es ≡ false → running.from_default again' (H again again' P) (sts o es (k + width s1) rest) g ≡ gives (Falls g))
-      → running.from_default again' (H again again' P) (sts o (core.more s1 es) k rest) g ≡ gives (Falls g)) (sym e) (λ has later. never (sym has))
+      subst (λ (a : Act calling.Flow). Follows S (and_then (a s w) (on c)) Y) (sym (label-goes again P aim s1 l es))
+      (hit-or-miss (hits aim l)
+      (λ hit. subst (λ b. Follows S (and_then (when b (does.does_all again P es) (core_from again P aim es) s w) (on c)) Y) (sym hit)
+      (meets es o (k + width s1) s f _ (path-here aim s1 l hit es o k rest s f w)
+      (in-order es m later all-do.1 o D (k + width s1) rest g s f w c K st1 second ways falls1)))
+      (λ miss. subst (λ b. Follows S (and_then (when b (does.does_all again P es) (core_from again P aim es) s w) (on c)) Y) (sym miss)
+      (from-label aim es m later all-do.1 (sym (ap (λ b. b || core_has aim es) miss) ∙ sym (label-has aim s1 l es) ∙ has) o D (k + width s1) rest g s f w c K st1 second ways falls1 Y
+      (λ further p n t f1 x path follows. meets further p n t f1 x (path-label aim s1 l miss es o k rest s f w further p n t f1 path) follows)))))
+      (λ is.
+      let there : core_has aim es ≡ true = sym (no-label aim m s1 es is) ∙ has in
+      let more-locals : m ≤ next_local m s1 = next-more m s1 is in
+      let o1 : Open = record o { here = declared s1 ++ o.here } in
+      subst (λ (a : Act calling.Flow). Follows S (and_then (a s w) (on c)) Y) (sym (core-past again P aim m s1 es is))
+      (pull (does.passes s1 s w) (λ u. core_from again P aim es) c Y
+      (pass-one again again' P A B S s1 m is o D k s f w (core_from again P aim es >>= c) Y st (λ t f1 q.
+      let v = q.moved in
+      let count : f1.count ≡ f.count = ap (λ (x : Frame). x.count) v.plain in
+      from-label aim es (next_local m s1) parts.1 all-do.1 there o1 D (k + width s1) rest g t f1 w c K
+      (stands-later o D m (next_local m s1) k (k + width s1) (declared s1 ++ o.here) s f t f1 st v more-locals q.low (omega arith) (omega arith) q.held)
+      (omega arith) (ways-later again again' P bodies chains classless turns R C plain-result A B S D m (next_local m s1) s f t f1 c K more-locals v ways) (λ u g2 h2 w2 v2 held-then low2.
+      falls u g2 h2 w2 (moved-then m (next_local m s1) s f t f1 u g2 more-locals v v2)
+      (subst (λ xs. Held g2.locals (next_locals (next_local m s1) es) xs u.frame.scope) (sym (append_assoc (declared_all es) (declared s1) o.here)) held-then) low2) Y
+      (λ further p n u f2 x path follows. meets further p n u f2 x (path-past aim m s1 is es there o k rest s f w t f1 q further p n u f2 path) follows)))))
 
   -- the plain statements have the labels of the core's, where what follows has none
   same-cases : (z : ℤ) (es : Cores) (m : ℕ) → are_cases m es ≡ true → (o : Open) (k : ℕ) (rest : Plains) → running.has_case z rest ≡ false → running.has_case z (sts o es k rest) ≡ does.has_case z es
   same-cases z none m ok o k rest free = free
   same-cases z (core.more s1 es) m ok o k rest free =
-      let parts = both (fits_case m s1 es) (are_cases (next_local m s1) es) ok in
-      by-case m s1 es parts.0
-      (λ l. label-same z s1 l es o k rest (same-cases z es (next_local m s1) parts.1 o (k + width s1) rest free))
-      (λ passes-no is.
+      let parts = both (fits_case m s1) (are_cases (next_local m s1) es) ok in
+      by-case m s1 parts.0
+      (λ l.
+      ap (running.has_case z) (label-written s1 l (inside_of P R C o) es k rest) ∙ mark-has z s1 l (sts o es (k + width s1) rest)
+      ∙ ap (λ b. hits (to_case z) l || b) (same-cases z es (next_local m s1) parts.1 o (k + width s1) rest free) ∙ sym (label-has (to_case z) s1 l es))
+      (λ is.
       (silent-statement again' (H again again' P) P R C plain-result s1 m is o k).labels z (sts (record o { here = declared s1 ++ o.here }) es (k + width s1) rest)
       ∙ same-cases z es (next_local m s1) parts.1 (record o { here = declared s1 ++ o.here }) (k + width s1) rest free ∙ sym (no-label (to_case z) m s1 es is))
 
@@ -250,10 +269,15 @@ module _ (again : calling.Again) (again' : running.Again) (P : Program) (bodies 
       → running.from_default again' (H again again' P) rest g ≡ gives (Falls g) → running.from_default again' (H again again' P) (sts o es k rest) g ≡ gives (Falls g)
   no-default none m ok has o k rest g free = free
   no-default (core.more s1 es) m ok has o k rest g free =
-      let parts = both (fits_case m s1 es) (are_cases (next_local m s1) es) ok in
-      by-case m s1 es parts.0
-      (λ l. label-without s1 l es o k rest g has (λ has-later. no-default es (next_local m s1) parts.1 has-later o (k + width s1) rest g free))
-      (λ passes-no is.
+      let parts = both (fits_case m s1) (are_cases (next_local m s1) es) ok in
+      by-case m s1 parts.0
+      (λ l.
+      let two = neither again' (H again again' P) (hits to_default l) (does.has_default es) (sym (label-has to_default s1 l es) ∙ has) in
+      let behind_it : Plains = sts o es (k + width s1) rest in
+      ap (λ ss. running.from_default again' (H again again' P) ss g) (label-written s1 l (inside_of P R C o) es k rest) ∙ mark-goes again' (H again again' P) to_default s1 l behind_it g
+      ∙ ap (λ b. when b (all again' (H again again' P) behind_it g) (running.from_default again' (H again again' P) behind_it g)) two.0
+      ∙ no-default es (next_local m s1) parts.1 two.1 o (k + width s1) rest g free)
+      (λ is.
       (silent-statement again' (H again again' P) P R C plain-result s1 m is o k).at_default (sts (record o { here = declared s1 ++ o.here }) es (k + width s1) rest) g
       ∙ no-default es (next_local m s1) parts.1 (sym (no-label to_default m s1 es is) ∙ has) (record o { here = declared s1 ++ o.here }) (k + width s1) rest g free)
 
@@ -265,10 +289,6 @@ module _ (again : calling.Again) (again' : running.Again) (P : Program) (bodies 
   scope-leave os flow t w c y h =
       subst (λ r. Follows S (and_then (and_then r (on does.leaving)) (on c)) y) (sym (scope-closed again again' P bodies chains classless turns R C plain-result A B S os flow t w)) h
 
-  -- a case, the default, or neither
-  abbrev chosen_case : ℤ → Cores → Act calling.Flow
-  chosen_case z es = when (does.has_case z es) (does.from_case again P z es) (when (does.has_default es) (does.from_default again P es) (gives calling.Falls))
-
   -- the locals of the switch's own block end behind its statements
   abbrev ending : Cores → Plains
   ending es = finished (declared_all es) nothing
@@ -276,30 +296,30 @@ module _ (again : calling.Again) (again' : running.Again) (P : Program) (bodies 
   abbrev cases_of : Open → Cores → ℕ → Plains
   cases_of o es k = sts o es k (ending es)
 
-  choose : (b d : Bool) (z : ℤ) (es : Cores) (m : ℕ) → are_cases m es ≡ true → DoAll es → does.has_case z es ≡ b → does.has_default es ≡ d
-      → (o : Open) (D : Beyond) (k : ℕ) (g : Registers) (s : State) (f : Frame) (w : World) (c : calling.Flow → Act A) (K : Flow → Act B)
-      → Stands o D m k s f → k + length (added (nodes_all es)) ≤ f.count → Out D m s f c K → End (next_locals m es) (declared_all es ++ o.here) m c K (ending es) s f
-      → Follows S (c calling.Falls s w) (K (Falls g) (with_frame f s) w)
-      → Follows S (and_then (when b (does.from_case again P z es) (when d (does.from_default again P es) (gives calling.Falls)) s w) (on c))
-      (and_then (when b (running.from_case again' (H again again' P) z (cases_of o es k) g) (running.from_default again' (H again again' P) (cases_of o es k) g) (with_frame f s) w) (on K))
-  choose true d z es m ok all-do has has-default o D k g s f w c K st room ways falls left = from-label (to_case z) es m ok all-do has o D k (ending es) g s f w c K st room ways falls
-  choose false true z es m ok all-do has has-default o D k g s f w c K st room ways falls left = from-label to_default es m ok all-do has-default o D k (ending es) g s f w c K st room ways falls
-  choose false false z es m ok all-do has has-default o D k g s f w c K st room ways falls left =
-      subst (λ (a : Act Flow). Follows S (c calling.Falls s w) (and_then (a (with_frame f s) w) (on K)))
-      (sym (no-default es m ok has-default o k (ending es) g ((silent-finished again' (H again again' P) (declared_all es)).at_default nothing g))) left
+  abbrev pick : (z : ℤ) (es : Cores) → Picks again again' P (H again again' P) z es
+  pick z es = picks again again' P (H again again' P) z es
 
-  -- the value is looked up among the labels
+  abbrev look : Plains → Registers → ℤ → Act Flow
+  look ss h z = looked again' (H again again' P) ss h z
+
+  -- what follows the switch
+  abbrev left_by : Plains → (Flow → Act B) → Flow → Act B
+  left_by rest K = λ flow. running.leaving flow >>= follows_by rest K
+
+  -- the label is looked for: what follows on the path, or where there is none, follows
   dispatched : (z : ℤ) (es : Cores) (m : ℕ) → are_cases m es ≡ true → DoAll es → (o : Open) (D : Beyond) (k l : ℕ) (rest : Plains) (h : Registers) (s : State) (f : Frame) (t : State) (g : Frame) (w : World)
       (c : calling.Flow → Act A) (K : Flow → Act B)
       → Stands o D m k s f → Moved m s f t g → t.frame.scope ≡ s.frame.scope → Stands o D m l t g → l + length (added (nodes_all es)) ≤ g.count → Out D m s f c K → End m o.here m c K rest s f
-      → Follows S (and_then ((in_scope again P (chosen_case z es) >>= does.leaving) t w) (on c))
-      (and_then ((when (running.has_case z (cases_of (switched o) es l)) (running.from_case again' (H again again' P) z (cases_of (switched o) es l) h)
-      (running.from_default again' (H again again' P) (cases_of (switched o) es l) h) >>= running.leaving) (with_frame g t) w) (on (follows_by rest K)))
-  dispatched z es m ok all-do o D k l rest h s f t g w c K st v same st1 room ways falls =
+      → (Y : Ran (Did B))
+      → ((pick z es).aim ≡ None → (x : Ran (Did A)) → Follows S x (left_by rest K (Falls h) (with_frame g t) w) → Follows S x Y)
+      → ((a : Aim) → (pick z es).aim ≡ Some a → (later : Cores) (p : Open) (n : ℕ) (u : State) (f1 : Frame) (x : Ran (Did A)) → Path a es (switched o) l (ending es) (with_scope [] t) g w later p n u f1
+      → Follows S x (runs_on again' (H again again' P) (sts p later n (ending es)) h (left_by rest K) (with_frame f1 u) w) → Follows S x Y)
+      → Follows S (and_then ((in_scope again P (chosen_case again P z es) >>= does.leaving) t w) (on c)) Y
+  dispatched z es m ok all-do o D k l rest h s f t g w c K st v same st1 room ways falls Y falls-off meets =
       let os : List ℕ = t.frame.scope in
       let D1 : Beyond = record { breaks = []; continues = os ++ D.continues; returns = os ++ D.returns } in
       let c1 : calling.Flow → Act A = λ flow. (closes os flow >>= does.leaving) >>= c in
-      let K1 : Flow → Act B = λ flow. running.leaving flow >>= follows_by rest K in
+      let K1 : Flow → Act B = left_by rest K in
       let t0 : State = with_scope [] t in
       let st0 : Stands (switched o) D1 m l t0 g = record {
         ready = record { alike = record { function = st1.ready.alike.function; this = st1.ready.alike.this; result = st1.ready.alike.result; depth = st1.ready.alike.depth }; count = st1.ready.count; wide = st1.ready.wide; locals = st1.ready.locals };
@@ -317,13 +337,7 @@ module _ (again : calling.Again) (again' : running.Again) (P : Program) (bodies 
       falls (with_scope os (all_gone u.frame.scope u)) g2 h2 w2 later
       (subst (λ xs. Held g2.locals m o.here xs) (sym same) (held-kept f.locals g2.locals m m o.here s.frame.scope st.here (omega arith) later.below))
       (let a = moved-count m s f (with_scope os (all_gone u.frame.scope u)) g2 later in let low = st.low in omega arith) in
-      pull-two (chosen_case z es t0 w) (closes os) does.leaving c _
-      (push _ running.leaving (follows_by rest K) _
-      (subst (λ b. Follows S (and_then (chosen_case z es t0 w) (on c1))
-      (and_then (when b (running.from_case again' (H again again' P) z (cases_of (switched o) es l) h) (running.from_default again' (H again again' P) (cases_of (switched o) es l) h) (with_frame g t) w) (on K1)))
-      (sym (same-cases z es m ok (switched o) l (ending es) ((silent-finished again' (H again again' P) (declared_all es)).labels z nothing)))
-      (choose (does.has_case z es) (does.has_default es) z es m ok all-do refl refl (switched o) D1 l h t0 g w c1 K1 st0 room
-      (record {
+      let leaves : Out D1 m t0 g c1 K1 = record {
         breaks = λ u g2 h2 w2 v2.
             scope-leave os calling.Breaks u w2 c _
             (subst (λ xs. Follows S (c calling.Falls (with_scope os (all_gone u.frame.scope u)) w2) (runs_on again' (H again again' P) rest h2 K (with_frame g2 (all_gone xs u)) w2)) (sym (append-nil u.frame.scope))
@@ -340,12 +354,115 @@ module _ (again : calling.Again) (again' : running.Again) (P : Program) (bodies 
             (scope-gone again again' P bodies chains classless turns R C plain-result A B S (os ++ D.returns) u.frame.scope u g2 (record (all_gone u.frame.scope u).frame { scope = os }))
             (ways.returns x (with_scope os (all_gone u.frame.scope u)) g2 w2
             (moved-then m m s f t g (with_scope os (all_gone u.frame.scope u)) g2 (omega arith) v (moved-out again again' P bodies chains classless turns R C plain-result A B S m t g u g2 v2))));
-      })
-      (λ u g2 h2 w2 v2 held-now low.
-      finished-steps again' (H again again' P) classless A B S (declared_all es) u.frame.scope (next_locals m es) nothing h2 K1 _ u g2 w2
-      (subst (λ xs. Held g2.locals (next_locals m es) xs u.frame.scope) (append-nil (declared_all es)) held-now)
-      (scope-leave os calling.Falls u w2 c _ (out u g2 h2 w2 v2)))
-      (scope-leave os calling.Falls t0 w c _ (out t0 g h w (moved-all m l t0 g st0.ready))))))
+      } in
+      let by-aim : (a : Option Aim) → (pick z es).aim ≡ a → Follows S (and_then (core_by again P a es t0 w) (on c1)) Y = λ a.
+      elim a as (λ a. (pick z es).aim ≡ a → Follows S (and_then (core_by again P a es t0 w) (on c1)) Y) [
+        | None ↦ (λ is. falls-off is _ (scope-leave os calling.Falls t0 w c _ (out t0 g h w (moved-all m l t0 g st0.ready))))
+        | Some a ↦ (λ is.
+            from-label a es m ok all-do ((pick z es).has a is) (switched o) D1 l (ending es) h t0 g w c1 K1 st0 room leaves
+            (λ u g2 h2 w2 v2 held-now low.
+            finished-steps again' (H again again' P) classless A B S (declared_all es) u.frame.scope (next_locals m es) nothing h2 K1 _ u g2 w2
+            (subst (λ xs. Held g2.locals (next_locals m es) xs u.frame.scope) (append-nil (declared_all es)) held-now)
+            (scope-leave os calling.Falls u w2 c _ (out u g2 h2 w2 v2))) Y (meets a is))
+      ] in
+      pull-two (chosen_case again P z es t0 w) (closes os) does.leaving c _
+      (subst (λ (a : Act calling.Flow). Follows S (and_then (a t0 w) (on c1)) Y) (sym (pick z es).core) (by-aim (pick z es).aim refl))
+
+  -- a switch by a number in a register
+  look-steps : (n : Register) (v : Value) (z : ℤ) (ss rest : Plains) (h : Registers) (K : Flow → Act B) (x : Ran (Did A)) (u : State) (w : World)
+      → h n ≡ Some v → Usable v → number_of v ≡ gives z → Follows S x (and_then (look ss h z u w) (on (left_by rest K))) → Follows S x (runs_on again' (H again again' P) (more (plain.switch n ss) rest) h K u w)
+  look-steps n v z ss rest h K x u w at usable number next =
+      let left : ℤ → Act Flow = λ z. look ss h z >>= running.leaving in
+      push (running.does again' (H again again' P) (plain.switch n ss) h u w) (falling (λ h. all again' (H again again' P) rest h)) K x
+      (subst (λ r. Follows S x (and_then ((((some_or r malformed >>= used) >>= number_of) >>= left) u w) (on (follows_by rest K)))) (sym at)
+      (subst (λ (a : Act Value). Follows S x (and_then (((a >>= number_of) >>= left) u w) (on (follows_by rest K)))) (sym usable)
+      (subst (λ (a : Act ℤ). Follows S x (and_then ((a >>= left) u w) (on (follows_by rest K)))) (sym number)
+      (push (look ss h z u w) running.leaving (follows_by rest K) x next))))
+
+  module _ (e : Core) (es : Cores) (all-do : DoAll es) (m : ℕ) (is : is_value e ≡ true) (ok : are_cases m es ≡ true) (o : Open) (D : Beyond) (k : ℕ) (rest : Plains) (s : State) (f : Frame)
+      (c : calling.Flow → Act A) (K : Flow → Act B) (st : Stands o D m k s f) (room : k + length (added (nodes e ++ nodes_all es)) ≤ f.count) (ways : Out D m s f c K) (falls : End m o.here m c K rest s f) where
+    abbrev l : ℕ
+    l = k + width e
+
+    abbrev body : Plains
+    body = cases_of (switched o) es l
+
+    abbrev chosen : ℤ → Act calling.Flow
+    chosen z = in_scope again P (chosen_case again P z es) >>= does.leaving
+
+    first : l ≤ f.count
+    first = first-room k f.count (nodes e) (nodes_all es) room
+
+    second : l + length (added (nodes_all es)) ≤ f.count
+    second = second-room k f.count (nodes e) (nodes_all es) room
+
+    -- the switch comes to what is chosen
+    body-looks : (z : ℤ) (h : Registers) → look body h z ≡ plain_by again' (H again again' P) (pick z es).aim body h
+    body-looks z h =
+        (pick z es).plain body (same-cases z es m ok (switched o) l (ending es) ((silent-finished again' (H again again' P) (declared_all es)).labels z nothing))
+        (λ g has. no-default es m ok has (switched o) l (ending es) g ((silent-finished again' (H again again' P) (declared_all es)).at_default nothing g)) h
+
+    -- and so does the switch before
+    before-looks : (z : ℤ) (h : Registers) → look (passing [] es) h z ≡ plain_by again' (H again again' P) (pick z es).aim (passing [] es) h
+    before-looks z h =
+        (pick z es).plain (passing [] es) (passing-has again' (H again again' P) z es m ok [])
+        (λ g has. passing-without again' (H again again' P) es m ok has [] g) h
+
+    -- behind the value: it is looked up among the labels
+    abbrev Looks : Plains → Plains → Type 0
+    Looks ss behind_it =
+        (v : Value) (z : ℤ) (t : State) (h : Registers) (f1 : Frame) (w : World) → h (0 + width e) ≡ Some v → Usable v → number_of v ≡ gives z → t.frame ≡ s.frame → Kept k f f1
+        → Follows S (and_then (chosen z t w) (on c)) (and_then (look ss h z (with_frame f1 t) w) (on (left_by behind_it K)))
+
+    by-body : passes_local es ≡ false → Looks body rest
+    by-body alone v z t h f1 w at usable number same kept =
+        let later = stands-on again again' P bodies chains classless turns R C plain-result A B S o D m k l s f t f1 st same kept (omega arith) first in
+        let count : f1.count ≡ f.count = ap (λ (x : Frame). x.count) kept.frame in
+        dispatched z es m ok all-do o D k l rest h s f t f1 w c K st later.0 (ap (λ (x : Frame). x.scope) same) later.1 (let sum : l + length (added (nodes_all es)) ≤ f.count = second in omega arith) ways falls _
+        (λ none_there x follows.
+        subst (λ (a : Act Flow). Follows S x (and_then (a (with_frame f1 t) w) (on (left_by rest K)))) (sym (body-looks z h ∙ ap (λ a. plain_by again' (H again again' P) a body h) none_there)) follows)
+        (λ a there further p n u f2 x path follows.
+        subst (λ (a : Act Flow). Follows S x (and_then (a (with_frame f1 t) w) (on (left_by rest K))))
+        (sym (body-looks z h ∙ ap (λ a. plain_by again' (H again again' P) a body h) there ∙ path.second h))
+        (subst (Follows S x)
+        (sym (path.runs (sts p further n (ending es)) h (left_by rest K))
+        ∙ ap (λ ys. runs_on again' (H again again' P) (made (reverse ys) (sts p further n (ending es))) h (left_by rest K) (with_frame f1 t) w) (path.alone alone)) follows))
+
+    by-both : Looks (passing [] es) (more (plain.switch (0 + width e) body) rest)
+    by-both v z t h f1 w at usable number same kept =
+        let later = stands-on again again' P bodies chains classless turns R C plain-result A B S o D m k l s f t f1 st same kept (omega arith) first in
+        let count : f1.count ≡ f.count = ap (λ (x : Frame). x.count) kept.frame in
+        let behind_it : Plains = more (plain.switch (0 + width e) body) rest in
+        dispatched z es m ok all-do o D k l rest h s f t f1 w c K st later.0 (ap (λ (x : Frame). x.scope) same) later.1 (let sum : l + length (added (nodes_all es)) ≤ f.count = second in omega arith) ways falls _
+        (λ none_there x follows.
+        subst (λ (a : Act Flow). Follows S x (and_then (a (with_frame f1 t) w) (on (left_by behind_it K)))) (sym (before-looks z h ∙ ap (λ a. plain_by again' (H again again' P) a (passing [] es) h) none_there))
+        (look-steps (0 + width e) v z body rest h K x (with_frame f1 t) w at usable number
+        (subst (λ (a : Act Flow). Follows S x (and_then (a (with_frame f1 t) w) (on (left_by rest K)))) (sym (body-looks z h ∙ ap (λ a. plain_by again' (H again again' P) a body h) none_there)) follows)))
+        (λ a there further p n u f2 x path follows.
+        subst (λ (a : Act Flow). Follows S x (and_then (a (with_frame f1 t) w) (on (left_by behind_it K))))
+        (sym (before-looks z h ∙ ap (λ a. plain_by again' (H again again' P) a (passing [] es) h) there ∙ path.first h))
+        (subst (λ ys. Follows S x (runs_on again' (H again again' P) (made (reverse ys) (more leave path.tail)) h (left_by behind_it K) (with_frame f1 t) w)) (sym (path.here ∙ append-nil path.new))
+        (subst (Follows S x) (sym (path.runs (more leave path.tail) h (left_by behind_it K)))
+        (look-steps (0 + width e) v z body rest h K x (with_frame f2 u) w at usable number
+        (subst (λ (a : Act Flow). Follows S x (and_then (a (with_frame f2 u) w) (on (left_by rest K))))
+        (sym (body-looks z h ∙ ap (λ a. plain_by again' (H again again' P) a body h) there ∙ path.second h)) follows)))))
+
+    -- the value, and then a switch by it
+    by-value : (ss behind_it : Plains) → Looks ss behind_it → (g : Registers) (w : World)
+        → Follows S (and_then (does.does again P (core.switch e es) s w) (on c))
+        (runs_on again' (H again again' P) (whole e 0 k (λ x n rest. value P.classes x e None n k (use_of n rest)) (λ n. more (plain.switch (0 + width e) ss) behind_it)) g K (with_frame f s) w)
+    by-value ss behind_it looks g w =
+        pull (and_then (full_expression again P (meaning.value again P e None >>= used) s w) (on number_of)) chosen c _
+        (pull (full_expression again P (meaning.value again P e None >>= used) s w) number_of (λ z. chosen z >>= c) _
+        (used-steps again again' P bodies chains A B S e is k (λ x. more (plain.switch (0 + width e) ss) behind_it) g s f w (λ v. number_of v >>= (λ z. chosen z >>= c)) K st.ready first
+        (λ v t h f1 w1 usable at same kept.
+        let left : ℤ → Act Flow = λ z. look ss h z >>= running.leaving in
+        push (running.does again' (H again again' P) (plain.switch (0 + width e) ss) h (with_frame f1 t) w1) (falling (λ h. all again' (H again again' P) behind_it h)) K _
+        (subst (λ r. Follows S (and_then (number_of v t w1) (on (λ z. chosen z >>= c))) (and_then ((((some_or r malformed >>= used) >>= number_of) >>= left) (with_frame f1 t) w1) (on (follows_by behind_it K)))) (sym at)
+        (subst (λ (a : Act Value). Follows S (and_then (number_of v t w1) (on (λ z. chosen z >>= c))) (and_then (((a >>= number_of) >>= left) (with_frame f1 t) w1) (on (follows_by behind_it K)))) (sym usable)
+        (push (number_of v (with_frame f1 t) w1) left (follows_by behind_it K) _
+        (pure-known (number_of v) (pure-number_of v) (λ z. chosen z >>= c) (λ z. left z >>= follows_by behind_it K) t (with_frame f1 t) w1 (λ z number.
+        push (look ss h z (with_frame f1 t) w1) running.leaving (follows_by behind_it K) _ (looks v z t h f1 w1 at usable number same kept)))))))))
 
   pub switch-steps : (e : Core) (es : Cores) → DoAll es → (m : ℕ) → is_value e ≡ true → are_cases m es ≡ true → (o : Open) (D : Beyond) (k : ℕ) (rest : Plains) (g : Registers) (s : State) (f : Frame) (w : World)
       (c : calling.Flow → Act A) (K : Flow → Act B)
@@ -353,24 +470,13 @@ module _ (again : calling.Again) (again' : running.Again) (P : Program) (bodies 
       → Follows S (and_then (does.does again P (core.switch e es) s w) (on c)) (runs_on again' (H again again' P) (statement (inside_of P R C o) (core.switch e es) k rest) g K (with_frame f s) w)
   switch-steps e es all-do m is ok o D k rest g s f w c K st room ways falls =
       let n : ℕ = 0 + width e in
-      let l : ℕ = k + width e in
-      let body : Plains = cases_of (switched o) es l in
-      let first : k + width e ≤ f.count = first-room k f.count (nodes e) (nodes_all es) room in
-      let second : (k + width e) + length (added (nodes_all es)) ≤ f.count = second-room k f.count (nodes e) (nodes_all es) room in
+      let body : Plains = cases_of (switched o) es (k + width e) in
       let code : Full → Register → Plains → Plains = λ x n rest. value P.classes x e None n k (use_of n rest) in
-      let chosen : ℤ → Act calling.Flow = λ z. in_scope again P (chosen_case z es) >>= does.leaving in
-      let looked : Registers → ℤ → Act Flow = λ h z. when (running.has_case z body) (running.from_case again' (H again again' P) z body h) (running.from_default again' (H again again' P) body h) >>= running.leaving in
-      let code-same : passed n es (more (plain.switch n body) rest) ≡ more (plain.switch n body) rest = not-passed n es (more (plain.switch n body) rest) (none-passed m es ok) in
-      subst (λ q. Follows S (and_then (does.does again P (core.switch e es) s w) (on c)) (runs_on again' (H again again' P) (whole e 0 k code (λ n. q)) g K (with_frame f s) w)) (sym code-same)
-      (pull (and_then (full_expression again P (meaning.value again P e None >>= used) s w) (on number_of)) chosen c _
-      (pull (full_expression again P (meaning.value again P e None >>= used) s w) number_of (λ z. chosen z >>= c) _
-      (used-steps again again' P bodies chains A B S e is k (λ x. more (plain.switch n body) rest) g s f w (λ v. number_of v >>= (λ z. chosen z >>= c)) K st.ready first
-      (λ v t h f1 w1 usable at same kept.
-      let count : f1.count ≡ f.count = ap (λ (x : Frame). x.count) kept.frame in
-      let later = stands-on again again' P bodies chains classless turns R C plain-result A B S o D m k l s f t f1 st same kept (omega arith) first in
-      push (running.does again' (H again again' P) (plain.switch n body) h (with_frame f1 t) w1) (falling (λ h. all again' (H again again' P) rest h)) K _
-      (subst (λ r. Follows S (and_then (number_of v t w1) (on (λ z. chosen z >>= c))) (and_then ((((some_or r malformed >>= used) >>= number_of) >>= looked h) (with_frame f1 t) w1) (on (follows_by rest K)))) (sym at)
-      (subst (λ (a : Act Value). Follows S (and_then (number_of v t w1) (on (λ z. chosen z >>= c))) (and_then (((a >>= number_of) >>= looked h) (with_frame f1 t) w1) (on (follows_by rest K)))) (sym usable)
-      (push (number_of v (with_frame f1 t) w1) (looked h) (follows_by rest K) _
-      (pure-steps (number_of v) (pure-number_of v) (λ z. chosen z >>= c) (λ z. looked h z >>= follows_by rest K) t (with_frame f1 t) w1 (λ z.
-      dispatched z es m ok all-do o D k l rest h s f t f1 w1 c K st later.0 (ap (λ (x : Frame). x.scope) same) later.1 (omega arith) ways falls)))))))))
+      let written : Plains → Ran (Did B) = λ q. runs_on again' (H again again' P) (whole e 0 k code (λ n. q)) g K (with_frame f s) w in
+      hit-or-miss (passes_local es)
+      (λ there. subst (λ q. Follows S (and_then (does.does again P (core.switch e es) s w) (on c)) (written q)) (sym (does-pass n es (more (plain.switch n body) rest) there))
+      (by-value e es all-do m is ok o D k rest s f c K st room ways falls (passing [] es) (more (plain.switch n body) rest)
+      (by-both e es all-do m is ok o D k rest s f c K st room ways falls) g w))
+      (λ alone. subst (λ q. Follows S (and_then (does.does again P (core.switch e es) s w) (on c)) (written q)) (sym (not-passed n es (more (plain.switch n body) rest) alone))
+      (by-value e es all-do m is ok o D k rest s f c K st room ways falls body rest
+      (by-body e es all-do m is ok o D k rest s f c K st room ways falls alone) g w))

@@ -1,5 +1,5 @@
--- The cores that are built so far: functions over numbers and pointers, with locals, references to objects, literals, calls by name and all statements,
--- where no label of a `switch` passes a local, and static objects with constant initialisers; no class, no temporary and no list.
+-- The cores that are built so far: functions over numbers and pointers, with locals, references to objects, literals, calls by name and all statements, and
+-- static objects with constant initialisers; no class, no temporary and no list.
 use Rattle.std.specs.Prelude.{ℕ, suc, Bool, true, false, ◌&&◌, ◌||◌, not, nat_le, nat_eq, List, [], ◌∷◌, length, bytes_eq, codes}
 use Rattle.std.specs.List.{list_all, starts_with}
 use Rattle.cf_core.specs.Types.{Name, SourceType, takes, gives, result, is_class, parameters}
@@ -8,7 +8,7 @@ use Rattle.cf_core.specs.Core.{Core, Cores, MaybeCore, no_temporary, none, absen
 use Rattle.cf_core.specs.Calls.{Program, Setting}
 use Rattle.cf_core.specs.Places.{is_reference}
 use Rattle.cf_core.specs.Joined.{is_nothing}
-use Rattle.cf_core.specs.Valid.{is_label, has_label}
+use Rattle.cf_core.specs.Valid.{is_label}
 use Rattle.cf_sequence.specs.Statements.{type_of_static}
 
 -- a function type: its parameters, and then its result
@@ -111,10 +111,10 @@ abbrev mutual
   is_inner_or m absent = true
   is_inner_or m (given s) = not (declares_here s) && is_statement m s
 
-  -- the labels of a switch and its statements: what declares locals in the switch's own block stands behind the last label
+  -- the labels of a switch and its statements
   pub are_cases : ℕ → Cores → Bool
   are_cases m none = true
-  are_cases m (core.more s rest) = (is_label s || (not (declares_here s && has_label rest) && is_statement m s)) && are_cases (next_local m s) rest
+  are_cases m (core.more s rest) = (is_label s || is_statement m s) && are_cases (next_local m s) rest
 
   pub are_statements : ℕ → Cores → Bool
   are_statements m none = true

@@ -61,18 +61,13 @@ abbrev pub inner_or : ℕ → ℕ → Option Test → Option ℕ
 inner_or at m None = None
 inner_or at m (Some s) = inner at m s
 
--- whether a label stands among them
-abbrev pub any_label : List Test → Bool
-any_label [] = false
-any_label (s ∷ ss) = s.is_label || any_label ss
+-- a label of a switch, or a statement
+abbrev pub case : ℕ → Test → Option ℕ
+case m s = if s.is_label then None else s.statement m
 
--- A label of a switch, or a statement that stands before these: no label passes a local.
-abbrev pub case : ℕ → ℕ → Test → List Test → Option ℕ
-case at m s ss = if s.is_label then None else (if s.declares && any_label ss then Some at else s.statement m)
-
-abbrev pub each_case : ℕ → ℕ → List Test → Option ℕ
-each_case at m [] = None
-each_case at m (s ∷ ss) = option_or (case at m s ss) (each_case at (s.next m) ss)
+abbrev pub each_case : ℕ → List Test → Option ℕ
+each_case m [] = None
+each_case m (s ∷ ss) = option_or (case m s) (each_case (s.next m) ss)
 
 abbrev pub next_of_all : ℕ → List Test → ℕ
 next_of_all m [] = m
@@ -103,7 +98,7 @@ statement_step (Core-F.Sequence at ss) m = each_statement m ss
 statement_step (Core-F.Declare at i t e) m = if nat_le m i then initial e else Some at
 statement_step (Core-F.If at c a b) m = option_or c.value (option_or (inner at m a) (inner_or at m b))
 statement_step (Core-F.Loop at how c e s) m = option_or (given c) (option_or (given e) (s.statement m))
-statement_step (Core-F.Switch at e ss) m = option_or e.value (each_case at m ss)
+statement_step (Core-F.Switch at e ss) m = option_or e.value (each_case m ss)
 statement_step (Core-F.Break at) m = None
 statement_step (Core-F.Continue at) m = None
 statement_step (Core-F.Return at e) m = given e

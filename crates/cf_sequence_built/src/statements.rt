@@ -68,18 +68,6 @@ fn is_label(s: &Core) -> bool
     matches!(s, Core::Case { .. } | Core::Default { .. })
 }
 
-/// Whether a label of a switch stands among statements.
-fn any_label(all: &[Core]) -> bool
-    ensures { (tables : Tables) → result ≡ spec.any_label (map (test tables) all.now) }
-{
-    for s in all {
-        if is_label(s) {
-            return true;
-        }
-    }
-    false
-}
-
 /// The number behind that of each local that a statement declares in the scope at hand.
 #[cycle(nexts)]
 fn next(below: u64, s: &Core) -> u64
@@ -147,8 +135,8 @@ pub fn statement(unit: &CoreUnit, below: u64, s: &Core) -> Option<u32>
             body,
             ..
         } => { given(unit, condition).or(given(unit, step).or(statement(unit, below, body.get()))) }
-        Core::Switch { at, operand, body } => {
-            value(unit, operand.get()).or(each_case(unit, *at, below, body.as_slice()))
+        Core::Switch { operand, body, .. } => {
+            value(unit, operand.get()).or(each_case(unit, below, body.as_slice()))
         }
         Core::Break { .. } | Core::Continue { .. } => None,
         Core::Return { value: e, .. } => given(unit, e),
@@ -198,16 +186,14 @@ fn inner_or(unit: &CoreUnit, at: u32, below: u64, s: &Option<Boxed<Core>>) -> Op
     }
 }
 
-/// Of one label or statement of a switch, before what stands behind it (6.4.2). No label passes a local.
+/// Of one label or statement of a switch (6.4.2).
 #[cycle(statements)]
-fn case(unit: &CoreUnit, at: u32, below: u64, s: &Core, behind: &[Core]) -> Option<u32>
+fn case(unit: &CoreUnit, below: u64, s: &Core) -> Option<u32>
     requires { are_known (tables_of unit.now) s.now ≡ true }
-    ensures { result ≡ spec.case at below (test (tables_of unit.now) s.now) (map (test (tables_of unit.now)) behind.now) }
+    ensures { result ≡ spec.case below (test (tables_of unit.now) s.now) }
 {
     if is_label(s) {
         None
-    } else if declares(s) && any_label(behind) {
-        Some(at)
     } else {
         statement(unit, below, s)
     }
@@ -215,15 +201,13 @@ fn case(unit: &CoreUnit, at: u32, below: u64, s: &Core, behind: &[Core]) -> Opti
 
 /// Of the labels and statements of a switch.
 #[cycle(statements)]
-fn each_case(unit: &CoreUnit, at: u32, below: u64, all: &[Core]) -> Option<u32>
+fn each_case(unit: &CoreUnit, below: u64, all: &[Core]) -> Option<u32>
     requires { all_of (tables_of unit.now) (map (are_known (tables_of unit.now)) all.now) ≡ true }
-    ensures { result ≡ spec.each_case at below (map (test (tables_of unit.now)) all.now) }
+    ensures { result ≡ spec.each_case below (map (test (tables_of unit.now)) all.now) }
 {
     let mut first = below;
-    let mut seen = 0;
     for s in all {
-        seen += 1;
-        let found = case(unit, at, first, s, &all[seen..]);
+        let found = case(unit, first, s);
         if found.is_some() {
             return found;
         }

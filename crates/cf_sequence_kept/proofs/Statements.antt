@@ -1,5 +1,5 @@
 -- Statements: each register is set before it is used, and holds there what is taken.
-use Rattle.std.proofs.Common.{◌≡◌, ℕ, ◌+◌, ◌<◌, Bool, true, false, ◌&&◌, not, nat_le, if◌then◌else◌, List, [], ◌∷◌, ◌++◌, refl, ap, ◌∙◌, arith}
+use Rattle.std.proofs.Common.{◌≡◌, ℕ, ◌+◌, ◌<◌, Bool, true, false, ◌&&◌, not, nat_le, if◌then◌else◌, List, [], ◌∷◌, ◌++◌, reverse, refl, ap, ◌∙◌, arith}
 use Rattle.std.specs.Prelude.{Option, Some, None, is_some, slice_get}
 use Rattle.cf_base.proofs.Tests.{both, all_of}
 use Rattle.cf_core.specs.declared.operators.LoopForm.{LoopForm}
@@ -12,19 +12,19 @@ use Rattle.cf_core.specs.Typing.{Scope, Typing, is_integer, is_expression, same_
 use Rattle.cf_core.specs.Typing as typed
 use Rattle.cf_core.specs.Typed.{typing}
 use Rattle.cf_core.specs.Valid as valid
-use Rattle.cf_core.specs.Valid.{Body, is_complete, fits, all_fit, fits_maybe, labelled_fit, condition_fits, expression_fits, passes_none, is_label, has_label}
+use Rattle.cf_core.specs.Valid.{Body, is_complete, fits, all_fit, fits_maybe, labelled_fit, condition_fits, expression_fits, passes_none}
 use Rattle.cf_plain.specs.Plain.{Register, Plain, Plains, act, set, branch, loop, switch, leave, continue, give, nothing, more}
 use Rattle.cf_plain.specs.Plain as plain
 use Rattle.cf_plain_kept.specs.Kept as kept
-use Rattle.cf_plain_kept.specs.Kept.{Kept, no_value, an_object, a_truth, Keeping, keep, nothing_set, common, tested, given, integer_in, suits, after, after_all}
+use Rattle.cf_plain_kept.specs.Kept.{Kept, no_value, an_object, a_truth, Keeping, keep, nothing_set, common, tested, given, integer_in, suits, all_set, untouched, after, after_all}
 use Rattle.cf_sequence.specs.Built.{is_value, is_condition, is_start, is_filling, is_initial, declares_here, is_statement, is_inner_or, are_cases, are_statements, next_local}
 use Rattle.cf_sequence.specs.Made.{Local, width, width_maybe, declared, declared_all}
 use Rattle.cf_sequence.specs.Expressions.{Full, Destination, destination, value, whole, settled, finished, used}
-use Rattle.cf_sequence.specs.Statements.{Inside, declares, opened, in_loop, in_switch, held, stepped, started, passed, looping, statement, statement_or, statements}
+use Rattle.cf_sequence.specs.Statements.{Inside, declares, opened, in_loop, in_switch, held, stepped, started, made, passing, passes_local, passed, looping, statement, statement_or, statements}
 use Rattle.cf_sequence.proofs.Calling.{never}
 use Rattle.cf_sequence.proofs.Filling.{fill, started-is}
 use Rattle.cf_sequence.proofs.Fulls.{whole-is, nothing-is}
-use Rattle.cf_sequence.proofs.Labels.{none-passed, not-passed}
+use Rattle.cf_sequence.proofs.Labels.{passing-past}
 use Rattle.cf_sequence_kept.proofs.Suits.{scalar-tested, integer-tested}
 use Rattle.cf_sequence_kept.proofs.Related.{conditions-kept, integers-kept}
 use Rattle.cf_sequence_kept.proofs.Values.{keep-at, runs, set-runs, act-runs, Keeps, use-runs}
@@ -134,13 +134,13 @@ module _ (body : Body) (locals : List SourceType) (keeps : locals_of.Kept body.s
         (all_of (is_some (run ss nothing_set)) (is_some (run ts nothing_set)) (is-there (run ss nothing_set) h first) (is-there (run ts nothing_set) j second));
   }
 
-  switch-runs : (g : Keeping) (n : Register) (ss : Plains) (h : Keeping) → integer_in (g n) ≡ true → run ss nothing_set ≡ Some h → Runs g (λ rest. more (switch n ss) rest)
+  switch-goes : (g : Keeping) (n : Register) (ss : Plains) (h : Keeping) → integer_in (g n) ≡ true → run ss nothing_set ≡ Some h → (rest : Plains) → run (more (switch n ss) rest) g ≡ run rest (untouched g ss)
   unfolding then_rest
-  switch-runs g n ss h int inner = record {
-    now = nothing_set;
-    goes = λ rest.
-        ap (λ b. then_rest rest (if b then Some nothing_set else None)) (all_of (integer_in (g n)) (is_some (run ss nothing_set)) int (is-there (run ss nothing_set) h inner));
-  }
+  switch-goes g n ss h int inner rest =
+      ap (λ b. then_rest rest (if b then Some (untouched g ss) else None)) (all_of (integer_in (g n)) (is_some (run ss nothing_set)) int (is-there (run ss nothing_set) h inner))
+
+  switch-runs : (g : Keeping) (n : Register) (ss : Plains) (h : Keeping) → integer_in (g n) ≡ true → run ss nothing_set ≡ Some h → Runs g (λ rest. more (switch n ss) rest)
+  switch-runs g n ss h int inner = record { now = untouched g ss; goes = switch-goes g n ss h int inner }
 
   -- a loop is left where its condition doesn't hold
   held-runs : (f : Inside) (q : MaybeCore) → is_condition q ≡ true → condition_fits body q ≡ true → (k : ℕ) (g : Keeping) → Runs g (held f.classes q k)
@@ -153,6 +153,53 @@ module _ (body : Body) (locals : List SourceType) (keeps : locals_of.Kept body.s
   pub record Ends (g : Keeping) (code : Plains) : Type 0 where
     pub now : Keeping
     pub is : run code g ≡ Some now
+
+  -- What a label passes is declared by the switch before, which sets no register.
+
+  made-runs : (xs : List Local) (g : Keeping) (rest : Plains) → run (made xs rest) g ≡ run rest g
+  made-runs [] g rest = refl
+  made-runs (x ∷ xs) g rest = act-runs locals body.result g (plain.declare x.number x.type) (an_object x.number x.type) (made xs rest) refl ∙ made-runs xs g rest
+
+  made-sets : (n : Register) (xs : List Local) (rest : Plains) → all_set n (made xs rest) ≡ all_set n rest
+  made-sets n [] rest = refl
+  made-sets n (x ∷ xs) rest = made-sets n xs rest
+
+  passing-ends : (es : Cores) (m : ℕ) → are_cases m es ≡ true → (before : List Local) (g : Keeping) → Ends g (passing before es)
+  passing-ends none m ok before g = record { now = g; is = refl }
+  passing-ends (core.more (core.case_label y) es) m ok before g =
+      let q = passing-ends es m ok before nothing_set in record { now = q.now; is = made-runs (reverse before) nothing_set (more leave (passing before es)) ∙ q.is }
+  passing-ends (core.more core.default_label es) m ok before g =
+      let q = passing-ends es m ok before nothing_set in record { now = q.now; is = made-runs (reverse before) nothing_set (more leave (passing before es)) ∙ q.is }
+  passing-ends (core.more s es) m ok before g =
+      let forms = both (is_statement m s) (are_cases (next_local m s) es) ok in
+      let q = passing-ends es (next_local m s) forms.1 (declared s ++ before) g in
+      record { now = q.now; is = ap (λ ss. run ss g) (passing-past m s forms.0 before es) ∙ q.is }
+
+  passing-sets : (n : Register) (es : Cores) (m : ℕ) → are_cases m es ≡ true → (before : List Local) → all_set n (passing before es) ≡ false
+  passing-sets n none m ok before = refl
+  passing-sets n (core.more (core.case_label y) es) m ok before = made-sets n (reverse before) (more leave (passing before es)) ∙ passing-sets n es m ok before
+  passing-sets n (core.more core.default_label es) m ok before = made-sets n (reverse before) (more leave (passing before es)) ∙ passing-sets n es m ok before
+  passing-sets n (core.more s es) m ok before =
+      let forms = both (is_statement m s) (are_cases (next_local m s) es) ok in
+      ap (all_set n) (passing-past m s forms.0 before es) ∙ passing-sets n es (next_local m s) forms.1 (declared s ++ before)
+
+  record Passes (g : Keeping) (n : Register) (es : Cores) : Type 0 where
+    pub now : Keeping
+    pub int : integer_in (now n) ≡ true
+    pub goes : (rest : Plains) → run (passed n es rest) g ≡ run rest now
+
+  passed-runs : (g : Keeping) (n : Register) (es : Cores) (m : ℕ) → are_cases m es ≡ true → integer_in (g n) ≡ true → Passes g n es
+  passed-runs g n es m ok int = by (passes_local es) refl
+    where
+      by : (b : Bool) → passes_local es ≡ b → Passes g n es
+      by true e =
+          let q = passing-ends es m ok [] nothing_set in
+          record {
+            now = untouched g (passing [] es);
+            int = ap (λ b. integer_in (if b then None else g n)) (passing-sets n es m ok []) ∙ int;
+            goes = λ rest. ap (λ b. run (if b then more (switch n (passing [] es)) rest else rest) g) e ∙ switch-goes g n (passing [] es) q.now int q.is rest;
+          }
+      by false e = record { now = g; int = int; goes = λ rest. ap (λ b. run (if b then more (switch n (passing [] es)) rest else rest) g) e }
 
   stepped-ends : (f : Inside) (q : MaybeCore) → is_condition q ≡ true → expression_fits body q ≡ true → (k : ℕ) (g : Keeping) → Ends g (stepped f.classes q k)
   stepped-ends f absent ok is k g = record { now = g; is = refl }
@@ -259,13 +306,13 @@ module _ (body : Body) (locals : List SourceType) (keeps : locals_of.Kept body.s
         let inner = runs-cases es m c forms.1 parts.1 (in_switch f) sr (k + width e) nothing_set in
         let ended = runs-finished (declared_all es) inner.now in
         let code : Plains = statements (in_switch f) es (k + width e) (finished (declared_all es) nothing) in
-        let w = switch-runs p.now n code ended.now (ap integer_in p.at ∙ held_int) (inner.goes (finished (declared_all es) nothing) ∙ ended.goes nothing) in
+        let q = passed-runs p.now n es m forms.1 (ap integer_in p.at ∙ held_int) in
+        let w = switch-runs q.now n code ended.now q.int (inner.goes (finished (declared_all es) nothing) ∙ ended.goes nothing) in
         record {
           now = w.now;
           goes = λ rest.
               ap (λ ss. run ss g) (whole-is e forms.0 0 k (λ x n rest. value f.classes x e None n k (used n rest)) (λ n. passed n es (more (switch n code) rest)))
-              ∙ ap (λ ss. run (F (used n ss)) g) (not-passed n es (more (switch n code) rest) (none-passed m es forms.1))
-              ∙ use-runs locals body.result F p (integer-tested p.kept held_int) (more (switch n code) rest) ∙ w.goes rest;
+              ∙ use-runs locals body.result F p (integer-tested p.kept held_int) (passed n es (more (switch n code) rest)) ∙ q.goes (more (switch n code) rest) ∙ w.goes rest;
         }
     runs-statement core.leave m b c ok is f sr k g =
         let q = runs-finished (f.here ++ f.breaks) g in record { now = q.now; goes = λ rest. q.goes (more leave rest) }
@@ -298,7 +345,7 @@ module _ (body : Body) (locals : List SourceType) (keeps : locals_of.Kept body.s
     runs-cases (core.more core.default_label es) m c ok is f sr k g =
         let q = runs-cases es m c ok is f sr (k + 0) nothing_set in record { now = q.now; goes = λ rest. q.goes rest }
     runs-cases (core.more s es) m c ok is f sr k g =
-        let forms = both (not (declares_here s && has_label es) && is_statement m s) (are_cases (next_local m s) es) ok in
+        let forms = both (is_statement m s) (are_cases (next_local m s) es) ok in
         let parts = both (fits body true c s) (labelled_fit body true c es) is in
-        let p = runs-statement s m true c (both (not (declares_here s && has_label es)) (is_statement m s) forms.0).1 parts.0 f sr k g in
+        let p = runs-statement s m true c forms.0 parts.0 f sr k g in
         runs-then (statement f s k) (statements (declares (declared s) f) es (k + width s)) g p (runs-cases es (next_local m s) c forms.1 parts.1 (declares (declared s) f) sr (k + width s) p.now)

@@ -103,3 +103,12 @@ switched n before b = on (λ w. record w { code = before ++ plain.Switch n w.cod
 -- these statements stand for those that were written last
 unfoldable pub with_code : List Plain → Body → Body
 with_code code b = on (λ w. record w { code = code }) b
+
+-- these locals are there, the oldest first
+abbrev pub there : List Open → Writing → Writing
+there [] w = w
+there (x ∷ xs) w = there xs (act (action.Declare x.number x.ty) w)
+
+-- a label behind which these locals are there, and then the end of the switch
+unfoldable pub passed_at : Plain → List Open → Body → Body
+passed_at l xs b = stated plain.Break (on (there xs) (stated l b))

@@ -1,5 +1,5 @@
 -- What is written for statements, node by node.
-use Rattle.std.specs.Prelude.{ℕ, suc, Bool, true, false, List, [], ◌∷◌, length, Option, Some, None}
+use Rattle.std.specs.Prelude.{ℕ, suc, Bool, true, false, ◌&&◌, ◌||◌, nat_lt, if◌then◌else◌, List, [], ◌∷◌, ◌++◌, length, Option, Some, None, is_some}
 use Rattle.cf_types.specs.Table.{Table}
 use Rattle.cf_core.specs.declared.operators.LoopForm.{LoopForm}
 use Rattle.cf_core.specs.declared.operators.LoopForm.TheVariants as form
@@ -12,14 +12,17 @@ use Rattle.cf_plain.specs.declared.statement.Plain.{Plain}
 use Rattle.cf_plain.specs.declared.statement.Plain.TheVariants as plain
 use Rattle.cf_sequence_expr.specs.Pieces.{Piece, piece_step}
 use Rattle.cf_sequence_stmt.specs.declared.body.Body.{Body}
+use Rattle.cf_sequence_stmt.specs.declared.body.Open.{Open}
 use Rattle.cf_sequence_stmt.specs.declared.body.Ways.{Ways}
-use Rattle.cf_sequence_stmt.specs.Bodies.{Initial, does_nothing, fills, gives, behind_flags, left_to, closed_to, full, given, tested, declared, stated, begun, chosen, turned, switched, with_code}
+use Rattle.cf_sequence_stmt.specs.Bodies.{Initial, does_nothing, fills, gives, behind_flags, left_to, closed_to, full, given, tested, declared, stated, begun, chosen, turned, switched, with_code, passed_at}
 
 pub record Step : Type 0 where
   pub piece : Piece  -- as an expression
   pub initial : Initial  -- as an initialiser
   -- as a statement, where `break` and `continue` leave the locals behind so many
   pub act : Ways → Body → Body
+  pub label : Option Plain  -- as a label of a switch
+  pub opens : List Open → List Open  -- the locals that it declares in the scope at hand, behind those so far
 
 -- the statements in order
 abbrev pub in_order : List Step → Ways → Body → Body
@@ -66,13 +69,38 @@ loop how c e s b =
     let second = stepped e (begun first) in
     repeated how b.writing.code first.writing.code second.writing.code s (begun second)
 
+abbrev pub all_open : List Step → List Open → List Open
+all_open [] xs = xs
+all_open (s ∷ ss) xs = all_open ss (s.opens xs)
+
+-- a label of the switch before a switch: what it passes is there
+abbrev pub labelled : Option Plain → List Open → Body → Body
+labelled None xs b = b
+labelled (Some l) xs b = passed_at l xs b
+
+-- the labels of these statements, behind which these locals are there
+abbrev pub passing : List Step → List Open → Body → Body
+passing [] xs b = b
+passing (s ∷ ss) xs b = passing ss (s.opens xs) (labelled s.label xs b)
+
+-- whether one passes a local
+abbrev pub passes : Bool → List Step → List Open → Bool
+passes is [] xs = is
+passes is (s ∷ ss) xs = passes (is || (is_some s.label && nat_lt 0 (length xs))) ss (s.opens xs)
+
+-- the switch before, where a label passes a local (6.7)
+abbrev pub selected : ℕ → List Step → Body → Body
+selected n ss b =
+    let c = passing ss [] (begun b) in
+    if passes false ss [] then switched n b.writing.code c else with_code b.writing.code c
+
 -- the statements of a switch, in a scope of their own
 abbrev pub cases : List Step → Ways → Body → Body
 cases ss ways b = closed_to (length b.scope) (in_order ss (inside_switch ways b) b)
 
 abbrev pub selection : Step → List Step → Ways → Body → Body
 selection e ss ways b =
-    let v = given e.piece b in
+    let v = selected (behind_flags 0 e.piece) ss (given e.piece b) in
     switched (behind_flags 0 e.piece) v.writing.code (cases ss ways (begun v))
 
 abbrev pub choice : Step → Step → Option Step → Ways → Body → Body
@@ -105,6 +133,16 @@ act_step (Core-F.Continue at) ways b = stated plain.Continue (left_to ways.conti
 act_step (Core-F.Return at e) ways b = returned e b
 act_step other ways b = b
 
+abbrev pub label_step : Core-F Step Step → Option Plain
+label_step (Core-F.Case at z) = Some (plain.Case z)
+label_step (Core-F.Default at) = Some plain.Default
+label_step other = None
+
+abbrev pub opens_step : Core-F Step Step → List Open → List Open
+opens_step (Core-F.Declare at i t e) xs = xs ++ record { number = i; ty = t } ∷ []
+opens_step (Core-F.Sequence at ss) xs = all_open ss xs
+opens_step other xs = xs
+
 abbrev pub initial_step : Core-F Step Step → Initial
 initial_step (Core-F.Blank at) = does_nothing
 initial_step (Core-F.Zeros at) = fills (action.Zeros 0)
@@ -117,6 +155,8 @@ module _ (types : Table) where
     piece = piece_step types (map-Core _ _ _ _ Step.piece Step.piece x);
     initial = initial_step x;
     act = act_step x;
+    label = label_step x;
+    opens = opens_step x;
   }
 
   abbrev pub part_step : PartStart-F Step Step → Step

@@ -9,6 +9,7 @@ ghost use Rattle.cf_sequence_stmt.specs.Steps as spec;
 
 use crate::body::{Body, Ways};
 use crate::expressions::{declared, full, given, tested};
+use crate::passing::selected;
 use cf_base::{Boxed, Items, Memory};
 use cf_core::{Core, CoreUnit, LoopForm};
 use cf_plain::Plain;
@@ -60,10 +61,7 @@ pub fn statement(unit: &CoreUnit, s: &Core, ways: Ways, b: &mut Body) -> Result<
             ..
         } => { looped(unit, body.get(), *form, condition, further, b) }
         Core::Switch { operand, body, .. } => {
-            let n = given(unit, operand.get(), b)?;
-            let before = b.begin();
-            cases(unit, body.as_slice(), ways, b)?;
-            b.switch(n, before)
+            selection(unit, body.as_slice(), operand.get(), ways, b)
         }
         Core::Case { value, .. } => b.put(Plain::Case { value: *value }),
         Core::Default { .. } => b.put(Plain::Default),
@@ -156,6 +154,26 @@ fn otherwise(
         None => Ok(()),
         Some(s) => statement(unit, s.get(), ways, b),
     }
+}
+
+/// Writes a switch behind its value, and the switch before it that declares what a label passes (6.4.2, 6.7).
+#[cycle(statements)]
+fn selection(
+    unit: &CoreUnit,
+    all: &[Core],
+    operand: &Core,
+    ways: Ways,
+    b: &mut Body,
+) -> Result<(), Memory>
+    requires operand { are_known (tables_of unit.now) operand.now ≡ true }
+    requires body { all_of (tables_of unit.now) (map (are_known (tables_of unit.now)) all.now) ≡ true }
+    ensures { OnOk result (b.new ≡ spec.selection (step unit.now.types operand.now) (map (step unit.now.types) all.now) ways b.old) }
+{
+    let n = given(unit, operand, b)?;
+    selected(unit, all, n, b)?;
+    let before = b.begin();
+    cases(unit, all, ways, b)?;
+    b.switch(n, before)
 }
 
 /// Writes the statements of a switch, in a scope of their own (6.4.2).

@@ -6,6 +6,7 @@
 mod body;
 mod expressions;
 mod forms;
+mod passing;
 
 pub use body::{Body, Open, Ways};
 pub use expressions::placed;

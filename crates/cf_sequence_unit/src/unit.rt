@@ -32,7 +32,7 @@ fn sequenced(alloc: Global, unit: CoreUnit) -> Result<PlainUnit, Memory>
 /// `cf_sequence`'s definition, and each has the bound of its frame.
 ///
 /// What is not built is refused by the byte place of its first construct: classes, static objects whose initialisers are not constant, calls
-/// through pointers, temporaries, and switches that declare in their own block.
+/// through pointers, and temporaries.
 pub fn sequence(alloc: Global, unit: CoreUnit) -> Result<PlainUnit, SequenceFault>
     ensures value { Gives unit result }
     ensures meaning { IfOk result (λ made. (input : List ℕ) (heap depth n : ℕ) (x : Outcome)

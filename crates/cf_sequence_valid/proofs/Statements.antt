@@ -14,7 +14,7 @@ use Rattle.cf_core.specs.Typing.{Scope, Typing, is_integer, is_expression, same_
 use Rattle.cf_core.specs.Typing as typed
 use Rattle.cf_core.specs.Typed.{typing}
 use Rattle.cf_core.specs.Valid as valid
-use Rattle.cf_core.specs.Valid.{Body, is_complete, fits, all_fit, fits_maybe, labelled_fit, condition_fits, expression_fits, passes_none, is_label, has_label}
+use Rattle.cf_core.specs.Valid.{Body, is_complete, fits, all_fit, fits_maybe, labelled_fit, condition_fits, expression_fits, passes_none}
 use Rattle.cf_core.specs.Statements as labels
 use Rattle.cf_plain.specs.Plain.{Register, Plains, act, set, branch, loop, switch, leave, continue, give, nothing, more}
 use Rattle.cf_plain.specs.Plain as plain
@@ -28,8 +28,8 @@ use Rattle.cf_sequence.specs.Statements.{Inside, declares, opened, in_loop, in_s
 use Rattle.cf_sequence.proofs.Calling.{never}
 use Rattle.cf_sequence.proofs.Filling.{fill, filling-adds, filling-holds, started-is}
 use Rattle.cf_sequence.proofs.Fulls.{whole-is, nothing-is, held-none}
-use Rattle.cf_sequence.proofs.Labels.{none-passed, not-passed}
 use Rattle.cf_sequence_valid.proofs.Fine.{Fine, fine-none, fine-then, fine-by, fine-act, fine-set, fine-branch, fine-loop, fine-switch, fine-leave, fine-continue, fine-give, fine-used, fine-finished, fine-settled}
+use Rattle.cf_sequence_valid.proofs.Passing.{fine-passed}
 use Rattle.cf_sequence_valid.proofs.Serves.{Serves, as_start, either-true, integers-serve, conditions-serve, expressions-serve}
 use Rattle.cf_sequence_valid.proofs.Stands.{Stand, stand-left, stand-right, stand-third, are_there, there-two}
 use Rattle.cf_sequence_valid.proofs.Values.{Kept, Good, good-value, complete-two}
@@ -273,8 +273,7 @@ module _ (body : Body) (locals : List SourceType) (keeps : Kept body.scope local
       fine-whole f e is s 0 k (stand-left locals k (nodes e) (nodes_all es) l) (λ n rest. used n rest) (λ n rest. passed n es (more (switch n code) rest))
       (λ n. fine-used locals n)
       (λ n.
-      fine-by locals (λ rest. passed n es (more (switch n code) rest)) (λ rest. more (switch n code) rest)
-      (λ rest. not-passed n es (more (switch n code) rest) (none-passed m es are)) (fine-switch locals n code differ fit)) None
+      fine-then locals (passed n es) (λ rest. more (switch n code) rest) (fine-passed locals n es m are work.there differs) (fine-switch locals n code differ fit)) None
 
   returned-fine : {b c : Bool} (f : Inside) (e : Core) → Stays locals f → is_value e ≡ true → Serves (typing scope e) → (k : ℕ) → Stand locals k (added (nodes e))
       → Fine locals b c (statement f (core.give (given e)) k)
@@ -461,6 +460,6 @@ module _ (body : Body) (locals : List SourceType) (keeps : Kept body.scope local
     work-cases (core.more (core.case_label y) es) m c ok is = case-label y es (work-cases es m c ok is)
     work-cases (core.more core.default_label es) m c ok is = the-default es (work-cases es m c ok is)
     work-cases (core.more s es) m c ok is =
-        let forms = both (not (declares_here s && has_label es) && is_statement m s) (are_cases (next_local m s) es) ok in
+        let forms = both (is_statement m s) (are_cases (next_local m s) es) ok in
         let parts = both (fits body true c s) (labelled_fit body true c es) is in
-        case-more s es (works s m true c (both (not (declares_here s && has_label es)) (is_statement m s) forms.0).1 parts.0) (work-cases es (next_local m s) c forms.1 parts.1) (λ z. refl) refl refl
+        case-more s es (works s m true c forms.0 parts.0) (work-cases es (next_local m s) c forms.1 parts.1) (λ z. refl) refl refl

@@ -29,6 +29,7 @@ use Rattle.cf_sequence_fn.specs.Functions.{opens_from, begun, written_body, writ
 use Rattle.cf_sequence_written.proofs.Known.{is_known, KnownPiece, and-true}
 use Rattle.cf_sequence_written.proofs.KnownPieces.{known-piece}
 use Rattle.cf_sequence_written.proofs.Objects.{objects-known}
+use Rattle.cf_sequence_written.proofs.KnownPassed.{known-passes}
 use Rattle.cf_sequence_written.proofs.KnownSteps.{have_types, KnownBody, KnownStep, KnownSteps, no_step, one_step, known-left, known-closed, known-stated, initial-known, known-declared, known-full, known-returned, known-loop, known-choice, known-selection}
 
 module _ (tables : Tables) (names : (i : ℕ) (v : Ty) → slice_get tables.types.types i ≡ Some v → Names tables.types.funs i (length tables.types.funs) v) where
@@ -110,7 +111,7 @@ module _ (tables : Tables) (names : (i : ℕ) (v : Ty) → slice_get tables.type
       record { acts = λ ways b k. known-loop tables how (step tables.types s.0) b (one_step _ (whole c two.0)) (one_step _ (whole e two.1)) (whole s parts.1) k }
   layer (Core-F.Switch at e es) ok =
       let parts = both (known_of e) (all_known es) ok in
-      record { acts = λ ways b k. known-selection tables (step tables.types e.0) _ ways b (whole e parts.0) (row es parts.1) k }
+      record { acts = λ ways b k. known-selection tables (step tables.types e.0) _ ways b (whole e parts.0) (row es parts.1) (known-passes tables (map node_of es) parts.1) k }
   layer (Core-F.Case at z) ok = record {
     acts = λ ways b k.
         known-stated tables (code.Case z) b

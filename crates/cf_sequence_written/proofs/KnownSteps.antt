@@ -1,5 +1,5 @@
 -- The numbers of types in what is written for the kinds of statements are there in the tables.
-use Rattle.std.proofs.Common.{◌≡◌, ℕ, zero, suc, Bool, true, false, ◌&&◌, List, [], ◌∷◌, map, length, take, drop, Option, Some, None, refl, ap, sym, subst, ◌∙◌}
+use Rattle.std.proofs.Common.{◌≡◌, ℕ, zero, suc, Bool, true, false, ◌&&◌, List, [], ◌∷◌, map, length, take, drop, Option, Some, None, if◌then◌else◌, refl, ap, sym, subst, ◌∙◌}
 use Rattle.std.specs.List.{list_all}
 use Rattle.std.proofs.lemmas.List.Folds.{list_all-append}
 use Rattle.cf_base.proofs.Tests.{both}
@@ -24,9 +24,9 @@ use Rattle.cf_sequence_expr.specs.Pieces.{Piece}
 use Rattle.cf_sequence_stmt.specs.declared.body.Body.{Body}
 use Rattle.cf_sequence_stmt.specs.declared.body.Open.{Open}
 use Rattle.cf_sequence_stmt.specs.declared.body.Ways.{Ways}
-use Rattle.cf_sequence_stmt.specs.Bodies.{Initial, does_nothing, fills, gives, on, behind_flags, opened, ended, left_to, closed_to, full, given, tested, started, declared, stated, begun, chosen, turned, switched, with_code}
+use Rattle.cf_sequence_stmt.specs.Bodies.{Initial, does_nothing, fills, gives, on, behind_flags, opened, ended, left_to, closed_to, full, given, tested, started, declared, stated, begun, chosen, turned, switched, with_code, there, passed_at}
 use Rattle.cf_sequence_stmt.specs.Steps as steps
-use Rattle.cf_sequence_stmt.specs.Steps.{Step, step, step_step, initial_step, in_order, or_nothing, inside_loop, inside_switch, held, stepped, turn, repeated, loop, selection, choice, returned}
+use Rattle.cf_sequence_stmt.specs.Steps.{Step, step, step_step, initial_step, in_order, or_nothing, inside_loop, inside_switch, held, stepped, turn, repeated, loop, labelled, passing, passes, selected, selection, choice, returned}
 use Rattle.cf_sequence_written.proofs.Known.{is_known, KnownPiece, Keeps, keeps-none, keeps-then, keeps-put, keeps-set, keeps-act, keeps-used, keeps-truth, known-last, known-If, all-mapped, emptied-known, branched-known, and-true}
 
 module _ (tables : Tables) where
@@ -198,11 +198,53 @@ module _ (tables : Tables) where
       let first = k.acts ways (begun (tested c.piece b)) (known-begun (tested c.piece b) t) in
       known-chosen (behind_flags 0 c.piece) _ _ _ t.code first.code (known-or ways _ o (known-begun (a.act ways (begun (tested c.piece b))) first))
 
-  pub known-selection : (e : Step) (ss : List Step) (ways : Ways) (b : Body) → KnownStep e → KnownSteps ss → KnownBody b → KnownBody (selection e ss ways b)
-  known-selection e ss ways b q all ok =
-      let v = known-given e.piece b q.piece ok in
-      let within = all.acts (inside_switch ways (begun (given e.piece b))) (begun (given e.piece b)) (known-begun (given e.piece b) v) in
-      known-switched (behind_flags 0 e.piece) _ _ v.code (known-closed (length (Body.scope (begun (given e.piece b)))) _ within)
+  -- Labels of a switch, and what they pass.
+
+  pub record KnownPass (s : Step) : Type 0 where
+    pub label : (l : Plain) → s.label ≡ Some l → is_known tables l ≡ true
+    pub opens : (xs : List Open) → have_types xs ≡ true → have_types (s.opens xs) ≡ true
+
+  abbrev pub KnownPasses : List Step → Type 0
+  KnownPasses [] = Unit {0}
+  KnownPasses (s ∷ ss) = KnownPass s × KnownPasses ss
+
+  keeps-there : (xs : List Open) → have_types xs ≡ true → Keeps tables (there xs)
+  keeps-there [] ok = keeps-none tables
+  keeps-there (x ∷ xs) ok =
+      let parts = both (has_type tables x.ty) (have_types xs) ok in keeps-then tables (keeps-act tables (action.Declare x.number x.ty) parts.0) (keeps-there xs parts.1)
+
+  break-known : is_known tables code.Break ≡ true
+  break-known = ap (is_known tables) (sym rolls-Break) ∙ fold-roll-Plain Bool Bool (plain.known_step tables) (plain.known_part tables) Plain-F.Break
+
+  known-passed_at : (l : Plain) (xs : List Open) (b : Body) → is_known tables l ≡ true → have_types xs ≡ true → KnownBody b → KnownBody (passed_at l xs b)
+  unfolding passed_at
+  known-passed_at l xs b one all ok = known-stated code.Break _ break-known (known-on (stated l b) (keeps-there xs all) (known-stated l b one ok))
+
+  known-labelled : (o : Option Plain) (xs : List Open) (b : Body) → ((l : Plain) → o ≡ Some l → is_known tables l ≡ true) → have_types xs ≡ true → KnownBody b → KnownBody (labelled o xs b)
+  known-labelled None xs b one all ok = ok
+  known-labelled (Some l) xs b one all ok = known-passed_at l xs b (one l refl) all ok
+
+  known-passing : (ss : List Step) (xs : List Open) (b : Body) → KnownPasses ss → have_types xs ≡ true → KnownBody b → KnownBody (passing ss xs b)
+  known-passing [] xs b all types ok = ok
+  known-passing (s ∷ ss) xs b all types ok =
+      known-passing ss (s.opens xs) (labelled s.label xs b) all.1 (all.0.opens xs types) (known-labelled s.label xs b all.0.label types ok)
+
+  known-selected : (n : ℕ) (ss : List Step) (b : Body) → KnownPasses ss → KnownBody b → KnownBody (selected n ss b)
+  known-selected n ss b all ok = by (passes false ss [])
+    where
+      within : KnownBody (passing ss [] (begun b))
+      within = known-passing ss [] (begun b) all refl (known-begun b ok)
+
+      by : (t : Bool) → KnownBody (if t then switched n (Writing.code b.writing) (passing ss [] (begun b)) else with_code (Writing.code b.writing) (passing ss [] (begun b)))
+      by true = known-switched n (Writing.code b.writing) (passing ss [] (begun b)) ok.code within
+      by false = known-with_code (Writing.code b.writing) (passing ss [] (begun b)) ok.code within
+
+  pub known-selection : (e : Step) (ss : List Step) (ways : Ways) (b : Body) → KnownStep e → KnownSteps ss → KnownPasses ss → KnownBody b → KnownBody (selection e ss ways b)
+  known-selection e ss ways b q all passed ok =
+      let v = selected (behind_flags 0 e.piece) ss (given e.piece b) in
+      let known = known-selected (behind_flags 0 e.piece) ss (given e.piece b) passed (known-given e.piece b q.piece ok) in
+      let within = all.acts (inside_switch ways (begun v)) (begun v) (known-begun v known) in
+      known-switched (behind_flags 0 e.piece) _ _ known.code (known-closed (length (Body.scope (begun v))) _ within)
 
   return-known : (r : Option ℕ) → is_known tables (code.Return r) ≡ true
   return-known r = ap (is_known tables) (sym (rolls-Return r)) ∙ fold-roll-Plain Bool Bool (plain.known_step tables) (plain.known_part tables) (Plain-F.Return r)

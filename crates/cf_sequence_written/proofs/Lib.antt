@@ -10,6 +10,7 @@ pub mod Bodies
 pub mod Standing
 pub mod Wholes
 pub mod Statements
+pub mod Passed
 pub mod Loops
 pub mod Stated
 pub mod Parameters
@@ -23,4 +24,5 @@ pub mod TestedFiles
 pub mod Known
 pub mod KnownPieces
 pub mod KnownSteps
+pub mod KnownPassed
 pub mod KnownFiles

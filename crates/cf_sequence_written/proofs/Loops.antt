@@ -20,21 +20,20 @@ use Rattle.cf_sequence.specs.Made.{Local, added, width, width_maybe, declared, d
 use Rattle.cf_sequence.specs.Expressions.{finished, value, used as use_of}
 use Rattle.cf_sequence.specs.Statements.{Inside, statement, statements, in_loop, in_switch, passed}
 use Rattle.cf_sequence.specs.Statements as definition
-use Rattle.cf_sequence.proofs.Labels.{none-passed, not-passed}
 use Rattle.cf_sequence_expr.specs.declared.writing.Writing.{Writing}
 use Rattle.cf_sequence_stmt.specs.declared.body.Body.{Body}
 use Rattle.cf_sequence_stmt.specs.declared.body.Ways.{Ways}
 use Rattle.cf_sequence_stmt.specs.Bodies.{begun, tested, turned, with_code, behind_flags}
 use Rattle.cf_sequence_stmt.specs.Bodies as bodies
-use Rattle.cf_sequence_stmt.specs.Steps.{Step, held, stepped, turn, loop, cases, selection, inside_loop, inside_switch}
+use Rattle.cf_sequence_stmt.specs.Steps.{Step, held, stepped, turn, loop, cases, selected, selection, inside_loop, inside_switch}
 use Rattle.cf_sequence_written.proofs.Views.{of-If, of-Break}
 use Rattle.cf_sequence_written.proofs.Followed.{followed, followed-end}
 use Rattle.cf_sequence_written.proofs.Values.{nodes-count}
 use Rattle.cf_sequence_written.proofs.Bodies.{Goes, goes-none, goes-as, goes-rest, goes-stated, goes-closed, goes-alone, code-begun, next-begun, scope-begun, same-scope, code-turned, next-turned, scope-turned, code-switched, next-switched, scope-switched, code-with_code, next-with_code, scope-with_code}
-use Rattle.cf_sequence_written.proofs.Opens.{no-opens}
 use Rattle.cf_sequence_written.proofs.Standing.{Stands, stands-in_loop, stands-in_switch}
-use Rattle.cf_sequence_written.proofs.Wholes.{Whole, whole-start, first_at, register, goes-full, goes-given, goes-tested, condition-is}
+use Rattle.cf_sequence_written.proofs.Wholes.{Whole, whole-start, register, goes-full, goes-given, goes-tested, condition-is}
 use Rattle.cf_sequence_written.proofs.Statements.{Acts, ActsAll, IsStated, stated-cases}
+use Rattle.cf_sequence_written.proofs.Passed.{PassesAll, goes-selected}
 
 maybe-count : (c : MaybeCore) → width_maybe c ≡ length (added (nodes_maybe c))
 maybe-count absent = refl
@@ -174,38 +173,41 @@ module _ (tables : Tables) (signature : MemberRef → Name) where
 
   -- Switches.
 
-  pub goes-switch : (s : Step) {e : Core} {ss : List Step} {es : Cores} → Whole tables signature s.piece e → ActsAll tables signature ss es
+  pub goes-switch : (s : Step) {e : Core} {ss : List Step} {es : Cores} → Whole tables signature s.piece e → ActsAll tables signature ss es → PassesAll tables signature ss es
       → (m : ℕ) → are_cases m es ≡ true → (f : Inside) (ways : Ways) (b : Body) → Stands tables f ways b.scope
       → Goes tables signature (λ k rest. statement f (core.switch e es) k rest) (width (core.switch e es)) [] b (selection s ss ways b)
-  goes-switch s {e} {ss} {es} w all m ok f ways b at =
-      let v = bodies.given s.piece b in
-      let value_there = goes-given tables signature f.classes b w in
-      let at-begun : Stands tables f ways (Body.scope (begun v)) = subst (Stands tables f ways) (sym (scope-begun tables signature v ∙ same-scope tables signature value_there)) at in
-      let within = goes-closed tables signature (ActsAll.acts all (stated-cases m es ok) (in_switch f) (inside_switch ways (begun v)) (begun v) (stands-in_switch tables (begun v) at-begun)) in
-      let k = Writing.next b.writing in
+  goes-switch s {e} {ss} {es} w all passing m ok f ways b at =
+      let n = 0 + width e in
       let r = behind_flags 0 s.piece in
+      let k = Writing.next b.writing in
+      let stated = stated-cases m es ok in
+      let value_there = goes-given tables signature f.classes b w in
+      let before : Goes tables signature (λ k rest. passed n es rest) 0 [] (bodies.given s.piece b) (selected r ss (bodies.given s.piece b)) =
+      goes-as tables signature (goes-selected tables signature r ss es passing stated (bodies.given s.piece b)) (λ rest. ap (λ q. passed q es rest) (register tables signature w)) refl in
+      let v = selected r ss (bodies.given s.piece b) in
+      let front = goes-rest tables signature value_there before in
+      let at-begun : Stands tables f ways (Body.scope (begun v)) = subst (Stands tables f ways) (sym (scope-begun tables signature v ∙ same-scope tables signature front)) at in
+      let within = goes-closed tables signature (ActsAll.acts all stated (in_switch f) (inside_switch ways (begun v)) (begun v) (stands-in_switch tables (begun v) at-begun)) in
       let inner : Plains = statements (in_switch f) es (k + width e) (finished (declared_all es) nothing) in
       let c = cases ss ways (begun v) in
       record {
         code = λ rest.
             code-switched tables signature r (Writing.code v.writing) c rest
             ∙ ap (λ ts. followed tables signature (Writing.code v.writing) (more (plain.switch r ts) rest))
-            (goes-alone tables signature v within ∙ ap (λ i. statements (in_switch f) es i (finished (declared_all es) nothing)) (Goes.next value_there))
+            (goes-alone tables signature v within ∙ ap (λ i. statements (in_switch f) es i (finished (declared_all es) nothing)) (Goes.next front))
             ∙ ap (λ q. followed tables signature (Writing.code v.writing) (more (plain.switch q inner) rest)) (register tables signature w)
-            ∙ Goes.code value_there (more (plain.switch (0 + width e) inner) rest)
-            ∙ ap (λ z. followed tables signature (Writing.code b.writing) (value f.classes (first_at tables signature k 0) e None (0 + width e) k (use_of (0 + width e) z)))
-            (sym (not-passed (0 + width e) es (more (plain.switch (0 + width e) inner) rest) (none-passed m es ok)))
+            ∙ Goes.code front (more (plain.switch n inner) rest)
             ∙ ap (followed tables signature (Writing.code b.writing))
             (sym (whole-start e (Whole.start w) 0 k (λ x n rest. value f.classes x e None n k (use_of n rest))
             (λ n. passed n es (more (plain.switch n inner) rest))));
         next =
-            let one = Goes.next value_there in
+            let one = Goes.next front in
             let two = Goes.next within in
             let three = next-begun tables signature v in
             let four = nodes-count (nodes e) (nodes_all es) in
             next-switched tables signature r (Writing.code v.writing) c ∙ omega (arith, one, two, three, four);
         opens = [];
-        scope = scope-switched tables signature r (Writing.code v.writing) c ∙ same-scope tables signature within ∙ scope-begun tables signature v ∙ Goes.scope value_there
-            ∙ ap (λ l. b.scope ++ l) (no-opens tables (Goes.opens value_there) (Goes.ends value_there));
+        scope = scope-switched tables signature r (Writing.code v.writing) c ∙ same-scope tables signature within ∙ scope-begun tables signature v ∙ same-scope tables signature front
+            ∙ sym (append-nil b.scope);
         ends = refl;
       }

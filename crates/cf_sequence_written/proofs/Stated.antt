@@ -15,12 +15,8 @@ use Rattle.cf_core.specs.FromTypes.{Tables, type_of}
 use Rattle.cf_core.specs.View.{Started, core_step, started_step, core_of, listed}
 use Rattle.cf_plain.specs.declared.statement.Plain.TheVariants as code
 use Rattle.cf_plain.specs.Plain as plain
-use Rattle.cf_sequence.specs.Built.{is_value, is_start, is_filling, is_initial, is_statement, is_inner_or, are_cases, declares_here}
-use Rattle.cf_sequence.specs.Made.{held_by}
+use Rattle.cf_sequence.specs.Built.{is_value, is_start, is_initial, is_statement, is_inner_or, are_cases, declares_here}
 use Rattle.cf_sequence.proofs.Calling.{never}
-use Rattle.cf_sequence.proofs.Filling.{filling-holds}
-use Rattle.cf_sequence.proofs.Fulls.{held-none}
-use Rattle.cf_sequence.proofs.Labels.{or-else}
 use Rattle.cf_sequence_expr.specs.Parameters.{parameters_at}
 use Rattle.cf_sequence_expr.specs.Pieces.{Piece}
 use Rattle.cf_sequence_stmt.specs.Steps.{Step, step, step_step}
@@ -33,14 +29,8 @@ use Rattle.cf_sequence_written.proofs.Evaluated.{written-start, value-start}
 use Rattle.cf_sequence_written.proofs.Bodies.{goes-stated, goes-declares}
 use Rattle.cf_sequence_written.proofs.Wholes.{Whole, Begins, Initiates, goes-full, goes-declared}
 use Rattle.cf_sequence_written.proofs.Statements.{Acts, ActsAll, stated-statement, stated-all, acts-none, acts-more, acts-absent, acts-given, goes-block, goes-choice, goes-leave, goes-continue, goes-give, goes-given_back}
+use Rattle.cf_sequence_written.proofs.Passed.{held-initial, passed-nodes}
 use Rattle.cf_sequence_written.proofs.Loops.{Part, no_part, one_part, goes-loop, goes-switch}
-
-held-start : (e : Core) → is_start e ≡ true → held_by e ≡ []
-held-start core.blank ok = refl
-held-start e ok = held-none e ok
-
-held-initial : (e : Core) → is_initial e ≡ true → held_by e ≡ []
-held-initial e ok = or-else (is_filling e) (is_start e) ok (filling-holds e) (held-start e)
 
 module _ (tables : Tables) (signature : MemberRef → Name) (params : (t : ℕ) → map (type_of tables) (parameters_at tables.types t) ≡ parameters (type_of tables t)) where
   pub record Stated (s : Step) (c : Core) : Type 0 where
@@ -196,7 +186,7 @@ module _ (tables : Tables) (signature : MemberRef → Name) (params : (t : ℕ) 
     acts = record {
       acts = λ ok f ways b there.
           let parts = both (is_value (of e)) (are_cases ok.below (cores_of es)) ok.stated in
-          goes-switch tables signature (step_of e) (operand_value e parts.0) (row es) ok.below parts.1 f ways b there;
+          goes-switch tables signature (step_of e) (operand_value e parts.0) (row es) (passed-nodes tables signature (map node_of es)) ok.below parts.1 f ways b there;
     };
   }
   layer (Core-F.Case at z) = record { initial = (refl, refl); acts = record { acts = λ ok f ways b there. goes-stated tables signature (code.Case z) (plain.case_label z) b (of-Case tables signature z) } }

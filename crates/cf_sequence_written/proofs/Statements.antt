@@ -7,7 +7,7 @@ use Rattle.cf_core.specs.Types.{Name, is_class}
 use Rattle.cf_core.specs.Core as core
 use Rattle.cf_core.specs.Core.{Core, Cores, MaybeCore, absent, given}
 use Rattle.cf_core.specs.Nodes.{nodes, nodes_all, nodes_maybe}
-use Rattle.cf_core.specs.Valid.{is_label, has_label}
+use Rattle.cf_core.specs.Valid.{is_label}
 use Rattle.cf_core.specs.FromTypes.{Tables}
 use Rattle.cf_plain.specs.declared.statement.Plain.TheVariants as code
 use Rattle.cf_plain.specs.Plain.{Plains, nothing, more, branch, leave, continue, give, set as sets}
@@ -36,11 +36,6 @@ or-right : (a b : Bool) → b ≡ true → a || b ≡ true
 or-right true b ok = refl
 or-right false b ok = ok
 
-without : (l d s : Bool) → l || (not d && s) ≡ true → l || s ≡ true
-without true d s ok = refl
-without false true s ok = never ok
-without false false s ok = ok
-
 -- a label, or a statement where the locals below some number are those of the open scopes
 pub record IsStated (c : Core) : Type 0 where
   pub below : ℕ
@@ -62,8 +57,8 @@ stated-all m (core.more c cs) ok =
 pub stated-cases : (m : ℕ) (cs : Cores) → are_cases m cs ≡ true → AllStated cs
 stated-cases m core.none ok = tt
 stated-cases m (core.more c cs) ok =
-    let parts = both (is_label c || (not (declares_here c && has_label cs) && is_statement m c)) (are_cases (next_local m c) cs) ok in
-    (record { below = m; stated = without (is_label c) (declares_here c && has_label cs) (is_statement m c) parts.0 }, stated-cases (next_local m c) cs parts.1)
+    let parts = both (is_label c || is_statement m c) (are_cases (next_local m c) cs) ok in
+    (record { below = m; stated = parts.0 }, stated-cases (next_local m c) cs parts.1)
 
 -- what declares nothing in the scope at hand
 pub undeclared-inner : (m : ℕ) (c : Core) → not (declares_here c) && is_statement m c ≡ true → declared c ≡ []

@@ -11,11 +11,11 @@ use Rattle.cf_core.specs.declared.node.Holder.TheVariants as holder
 use Rattle.cf_core.specs.Types.{Name, SourceType, takes, result, is_class}
 use Rattle.cf_core.specs.Core.{Core, Cores, MaybeCore}
 use Rattle.cf_core.specs.Joined.{is_nothing}
-use Rattle.cf_core.specs.Valid.{is_label, has_label}
+use Rattle.cf_core.specs.Valid.{is_label}
 use Rattle.cf_core.specs.FromTypes.{Tables, type_of}
 use Rattle.cf_core.specs.View.{Started, core_step, started_step, core_of, listed, maybe}
 use Rattle.cf_sequence.specs.Built.{is_value, is_start, is_filling, is_initial, is_condition, is_statement, is_inner_or, are_values, are_arguments, are_statements, are_cases, declares_here, next_local, next_locals, is_chain}
-use Rattle.cf_sequence_built.specs.Unbuilt.{Test, test, test_step, start, initial, given, each_value, some_values, each_statement, inner, inner_or, any_label, case, each_case, next_of_all, called, is_function_type, is_called}
+use Rattle.cf_sequence_built.specs.Unbuilt.{Test, test, test_step, start, initial, given, each_value, some_values, each_statement, inner, inner_or, case, each_case, next_of_all, called, is_function_type, is_called}
 use Rattle.cf_sequence_built.specs.Unbuilt as unbuilt
 
 -- whether nothing was found
@@ -133,20 +133,9 @@ module _ (tables : Tables) (signature : MemberRef → Name) where
   given-is None = refl
   given-is (Some e) = e.1.value
 
-  labels-in : (es : List Child) → any_label (tests_of es) ≡ has_label (cores_of es)
-  labels-in [] = refl
-  labels-in (s ∷ ss) = ap (λ b. b || any_label (tests_of ss)) s.1.label ∙ ap (λ b. is_label (of s) || b) (labels-in ss)
-
-  case-is : (at m : ℕ) (s : Child) (ss : List Child)
-      → clear (case at m (test_of s) (tests_of ss)) ≡ is_label (of s) || (not (declares_here (of s) && has_label (cores_of ss)) && is_statement m (of s))
-  case-is at m s ss =
-      let there : Option ℕ = (test_of s).statement m in
-      let labelled : Bool = any_label (tests_of ss) in
-      let inside : clear (if (test_of s).declares && labelled then Some at else there) ≡ not (declares_here (of s) && has_label (cores_of ss)) && is_statement m (of s) =
-      ap (λ b. clear (if b && labelled then Some at else there)) s.1.declares ∙ ap (λ b. clear (if declares_here (of s) && b then Some at else there)) (labels-in ss)
-      ∙ where-false at (declares_here (of s) && has_label (cores_of ss)) there _ (s.1.statement m) in
-      ap (λ b. clear (if b then None else (if (test_of s).declares && labelled then Some at else there))) s.1.label
-      ∙ where-not (is_label (of s)) (if (test_of s).declares && labelled then Some at else there) _ inside
+  case-is : (m : ℕ) (s : Child) → clear (case m (test_of s)) ≡ is_label (of s) || is_statement m (of s)
+  case-is m s =
+      ap (λ b. clear (if b then None else (test_of s).statement m)) s.1.label ∙ where-not (is_label (of s)) ((test_of s).statement m) _ (s.1.statement m)
 
   in_arguments : (es : List Child) → clear (each_value (tests_of es)) ≡ are_arguments (cores_of es)
   in_arguments [] = refl
@@ -171,10 +160,10 @@ module _ (tables : Tables) (signature : MemberRef → Name) where
   nexts m [] = refl
   nexts m (s ∷ ss) = ap (λ k. next_of_all k (tests_of ss)) (s.1.next m) ∙ nexts (next_local m (of s)) ss
 
-  in_cases : (at m : ℕ) (es : List Child) → clear (each_case at m (tests_of es)) ≡ are_cases m (cores_of es)
-  in_cases at m [] = refl
-  in_cases at m (s ∷ ss) =
-      and-is (case at m (test_of s) (tests_of ss)) _ _ _ (case-is at m s ss) (ap (λ k. clear (each_case at k (tests_of ss))) (s.1.next m) ∙ in_cases at (next_local m (of s)) ss)
+  in_cases : (m : ℕ) (es : List Child) → clear (each_case m (tests_of es)) ≡ are_cases m (cores_of es)
+  in_cases m [] = refl
+  in_cases m (s ∷ ss) =
+      and-is (case m (test_of s)) _ _ _ (case-is m s) (ap (λ k. clear (each_case k (tests_of ss))) (s.1.next m) ∙ in_cases (next_local m (of s)) ss)
 
   in_call : (at t : ℕ) (es : List Child) → clear (called at (is_called tables t) None (tests_of es))
       ≡ not (is_class (result (type_of tables t))) && (is_chain (type_of tables t) && are_arguments (cores_of es))
@@ -255,7 +244,7 @@ module _ (tables : Tables) (signature : MemberRef → Name) where
   layer (Core-F.Loop at f None (Some e) s) = record { value = refl; statement = in_loop None (Some e) s; next = λ m. refl; blank = refl; filling = refl; declares = refl; label = refl }
   layer (Core-F.Loop at f (Some c) None s) = record { value = refl; statement = in_loop (Some c) None s; next = λ m. refl; blank = refl; filling = refl; declares = refl; label = refl }
   layer (Core-F.Loop at f (Some c) (Some e) s) = record { value = refl; statement = in_loop (Some c) (Some e) s; next = λ m. refl; blank = refl; filling = refl; declares = refl; label = refl }
-  layer (Core-F.Switch at e es) = record { value = refl; statement = λ m. and-is _ _ _ _ e.1.value (in_cases at m es); next = λ m. refl; blank = refl; filling = refl; declares = refl; label = refl }
+  layer (Core-F.Switch at e es) = record { value = refl; statement = λ m. and-is _ _ _ _ e.1.value (in_cases m es); next = λ m. refl; blank = refl; filling = refl; declares = refl; label = refl }
   layer (Core-F.Case at z) = record { value = refl; statement = λ m. refl; next = λ m. refl; blank = refl; filling = refl; declares = refl; label = refl }
   layer (Core-F.Default at) = record { value = refl; statement = λ m. refl; next = λ m. refl; blank = refl; filling = refl; declares = refl; label = refl }
   layer (Core-F.Break at) = record { value = refl; statement = λ m. refl; next = λ m. refl; blank = refl; filling = refl; declares = refl; label = refl }

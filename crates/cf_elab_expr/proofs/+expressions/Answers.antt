@@ -9,20 +9,22 @@ use Rattle.cf_syntax.specs.declared.declarator.Param.{Param}
 use Rattle.cf_syntax.specs.declared.expression.Expr.{Expr}
 use Rattle.cf_elab.specs.Answer.{Made}
 use Rattle.cf_elab.specs.Shape.{Parameter}
-use Rattle.cf_elab_env.specs.Holds.{Grows, IsType}
+use Rattle.cf_elab_env.specs.Holds.{Grows}
 use Rattle.cf_elab_env.specs.SeenOperand.{operand_seen}
 use Rattle.cf_elab_env.specs.declared.operand.Operand.{Operand}
-use Rattle.cf_elab_env.proofs.Growth.{grows_through, type_grown, All-into}
+use Rattle.cf_elab_env.proofs.Growth.{grows_through}
 use Rattle.cf_elab_operand.specs.Operands.{IsOperand}
 use Rattle.cf_elab_shape.specs.Seen.{shape_seen}
 use Rattle.cf_elab_expr.specs.Seen.{operands_seen}
+use Rattle.cf_elab_shape.specs.Holds.{IsParameter, AreObjects}
+use Rattle.cf_elab_shape.proofs.ParameterLaws.{objects_grown}
 use Rattle.cf_elab_expr.specs.Shut as shut
 use Rattle.cf_elab_expr.proofs.BuiltForms.{one_built}
 use Rattle.cf_elab_operand.proofs.Grown.{operands_grown}
 use Rattle.cf_elab_expr.proofs.BuiltTrees.{one_parameter}
 use Rattle.cf_elab_env.proofs.InOrder.{behind}
 use Rattle.cf_elab_expr.proofs.Several.{operands_stopped, operands_going, operands_end, parameters_stopped, parameters_going, parameters_end}
-use Rattle.cf_elab_expr.proofs.Trees.{array_stopped}
+use Rattle.cf_elab_expr.proofs.Trees.{array_stopped, parameter_stops, list_stops, list_made}
 use Rattle.cf_elab_expr.proofs.+expressions.Goals as goal
 
 pub lists::run-operand-requires : goal.lists::run-operand-requires
@@ -57,37 +59,62 @@ lists::run-returns-clause-made t c =
     let past : length c.args.all.now ≤ c.loop-e.e-index = search rules in
     c.loop-e.invariant.made ∙ operands_end c.loop-e.found c.args.all.now c.loop-e.e-index c.loop-e.env past
 
-pub declarators::written_parameters-parameter-requires : goal.declarators::written_parameters-parameter-requires
-declarators::written_parameters-parameter-requires t c =
+pub declarators::parameters-parameter-requires : goal.declarators::parameters-parameter-requires
+declarators::parameters-parameter-requires t c =
+    let items = c.args.all.now in
+    let le = at_most (λ (x : Param). param.the_size x) items 0 c.only-item.result c.in-len1.len_at_least in
+    let there : param.the_size c.only-item.result ≤ most (λ (x : Param). param.the_size x) items =
+    subst (λ (x : Param). param.the_size x ≤ most (λ (x : Param). param.the_size x) items) (sym c.only-item.is) le in
+    (grind (arith, there), one_parameter items 0 c.only-item.result c.requires c.in-len1.len_at_least c.only-item.is)
+
+pub declarators::parameters-returns-in_err-found-in-len1-clause-made : goal.declarators::parameters-returns-in_err-found-in-len1-clause-made
+declarators::parameters-returns-in_err-found-in-len1-clause-made t c =
+    let p = err_from_is_err_and c.from_residual.result c.from_residual.ensures.1 in
+    rw (p.1, p.2)
+    (parameter_stops c.args.all.now c.only-item.result c.args.env.now c.in-len1.len_at_least c.in-len1.len_below c.only-item.is c.in_err-found-in-len1.field-0.0
+    c.in_err-found-in-len1.ensures.made)
+
+pub declarators::parameters-returns-in_err-list-in-len1-clause-made : goal.declarators::parameters-returns-in_err-list-in-len1-clause-made
+declarators::parameters-returns-in_err-list-in-len1-clause-made t c =
+    let p = err_from_is_err_and c.from_residual-in_err-list-in-len1.result c.from_residual-in_err-list-in-len1.ensures.1 in
+    rw (p.1, p.2)
+    (list_stops c.args.all.now c.only-item.result c.args.env.now c.in-len1.len_at_least c.in-len1.len_below c.only-item.is c.in_ok-found-in-len1.found c.parameter.new.env
+    c.in_err-list-in-len1.field-0.0 c.in_ok-found-in-len1.ensures.made c.in_err-list-in-len1.ensures.made)
+
+pub declarators::parameters-returns-in_ok-list-in-len1-clause-made : goal.declarators::parameters-returns-in_ok-list-in-len1-clause-made
+declarators::parameters-returns-in_ok-list-in-len1-clause-made t c =
+    list_made c.args.all.now c.only-item.result c.args.env.now c.in-len1.len_at_least c.in-len1.len_below c.only-item.is c.in_ok-found-in-len1.found
+    c.in_ok-list-in-len1.list c.parameter.new.env c.in_ok-found-in-len1.ensures.made c.in_ok-list-in-len1.ensures.made
+
+pub declarators::object_parameters-object_parameter-requires : goal.declarators::object_parameters-object_parameter-requires
+declarators::object_parameters-object_parameter-requires t c =
     let items = c.args.all.now in
     let le = at_most (λ (x : Param). param.the_size x) items c.loop-p.p-index c.p-item.result c.loop-p-test.true in
     let there : param.the_size c.p-item.result ≤ most (λ (x : Param). param.the_size x) items =
     subst (λ (x : Param). param.the_size x ≤ most (λ (x : Param). param.the_size x) items) (sym c.p-item.is) le in
     (grind (arith, there), one_parameter items c.loop-p.p-index c.p-item.result c.requires c.loop-p-test.true c.p-item.is)
 
-pub declarators::written_parameters-returns-in_err-parameter-clause-made : goal.declarators::written_parameters-returns-in_err-parameter-clause-made
-declarators::written_parameters-returns-in_err-parameter-clause-made t c =
+pub declarators::object_parameters-returns-in_err-object_parameter-clause-made : goal.declarators::object_parameters-returns-in_err-object_parameter-clause-made
+declarators::object_parameters-returns-in_err-object_parameter-clause-made t c =
     let p = err_from_is_err_and c.from_residual.result c.from_residual.ensures.1 in
     rw (p.1, p.2)
-    (parameters_stopped (shut.parameters c.args.all.now c.args.env.now) c.loop-p.found c.args.all.now c.loop-p.p-index c.p-item.result c.loop-p.env c.loop-p.invariant.made c.loop-p-test.true c.p-item.is
-    c.in_err-parameter.field-0.0 c.in_err-parameter.ensures.made)
+    (parameters_stopped (shut.object_parameters c.args.all.now c.args.env.now) c.loop-p.found c.args.all.now c.loop-p.p-index c.p-item.result c.loop-p.env c.loop-p.invariant.made c.loop-p-test.true c.p-item.is
+    c.in_err-object_parameter.field-0.0 c.in_err-object_parameter.ensures.made)
 
-pub declarators::written_parameters-loop-p-preserved : goal.declarators::written_parameters-loop-p-preserved
-declarators::written_parameters-loop-p-preserved t c =
-    let q = c.in_ok-parameter.field-0 in
-    let next = c.parameter.new.env in
-    let more = parameters_going (shut.parameters c.args.all.now c.args.env.now) c.loop-p.found c.args.all.now c.loop-p.p-index c.p-item.result c.loop-p.env c.loop-p.invariant.made c.loop-p-test.true c.p-item.is q next c.in_ok-parameter.ensures.made in
-    let kept =
-    All-into (λ (q : Parameter). IsType c.loop-p.env.types q.type) (λ (q : Parameter). IsType next.types q.type) c.loop-p.found
-    (λ (q : Parameter). type_grown c.loop-p.env.types next.types q.type c.in_ok-parameter.ensures.grows) c.loop-p.invariant.known in
+pub declarators::object_parameters-loop-p-preserved : goal.declarators::object_parameters-loop-p-preserved
+declarators::object_parameters-loop-p-preserved t c =
+    let q = c.in_ok-object_parameter.field-0 in
+    let next = c.object_parameter.new.env in
+    let more = parameters_going (shut.object_parameters c.args.all.now c.args.env.now) c.loop-p.found c.args.all.now c.loop-p.p-index c.p-item.result c.loop-p.env c.loop-p.invariant.made c.loop-p-test.true c.p-item.is q next c.in_ok-object_parameter.ensures.made in
+    let kept : AreObjects next.types c.loop-p.found = objects_grown c.loop-p.env.types next.types c.loop-p.found c.in_ok-object_parameter.ensures.grows c.loop-p.invariant.known in
     record {
-      made = more ∙ ap (λ (l : List Parameter). behind l (shut.parameters (drop (c.loop-p.p-index + 1) c.args.all.now) next)) (sym c.in_ok-push.ensures.ok);
-      known = subst (λ (l : List Parameter). All (λ q. IsType next.types q.type) l) (sym c.in_ok-push.ensures.ok) (All-push (λ (q : Parameter). IsType next.types q.type) c.loop-p.found q kept c.in_ok-parameter.ensures.known);
-      grows = grows_through c.args.env.now.types c.loop-p.env.types next.types c.loop-p.invariant.grows c.in_ok-parameter.ensures.grows;
+      made = more ∙ ap (λ (l : List Parameter). behind l (shut.object_parameters (drop (c.loop-p.p-index + 1) c.args.all.now) next)) (sym c.in_ok-push.ensures.ok);
+      known = subst (λ (l : List Parameter). All (λ q. IsParameter next.types q) l) (sym c.in_ok-push.ensures.ok) (All-push (λ (q : Parameter). IsParameter next.types q) c.loop-p.found q kept c.in_ok-object_parameter.ensures.known);
+      grows = grows_through c.args.env.now.types c.loop-p.env.types next.types c.loop-p.invariant.grows c.in_ok-object_parameter.ensures.grows;
     }
 
-pub declarators::written_parameters-returns-clause-made : goal.declarators::written_parameters-returns-clause-made
-declarators::written_parameters-returns-clause-made t c =
+pub declarators::object_parameters-returns-clause-made : goal.declarators::object_parameters-returns-clause-made
+declarators::object_parameters-returns-clause-made t c =
     let past : length c.args.all.now ≤ c.loop-p.p-index = search rules in
     c.loop-p.invariant.made ∙ parameters_end c.loop-p.found c.args.all.now c.loop-p.p-index c.loop-p.env past
 

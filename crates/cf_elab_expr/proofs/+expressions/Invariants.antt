@@ -1,7 +1,8 @@
 use Rattle.std.proofs.Common.{◌≡◌, map, drop, All}
-use Rattle.cf_elab_env.specs.Holds.{Grows, IsType}
+use Rattle.cf_elab_env.specs.Holds.{Grows}
 use Rattle.cf_elab_env.specs.SeenOperand.{operand_seen}
 use Rattle.cf_elab_operand.specs.Operands.{IsOperand}
+use Rattle.cf_elab_shape.specs.Holds.{AreObjects}
 use Rattle.cf_elab_expr.specs.Shut as shut
 use Rattle.cf_elab_env.proofs.InOrder.{behind}
 use Rattle.cf_elab_expr.proofs.+expressions.Given as goal
@@ -13,9 +14,9 @@ invariant-lists::run-loop-e l = record {
   grows : Grows l.fn.env.types l.env.types;
 }
 
-abbrev pub invariant-declarators::written_parameters-loop-p : goal.invariant-declarators::written_parameters-loop-p
-invariant-declarators::written_parameters-loop-p l = record {
-  made : shut.parameters l.all l.fn.env ≡ behind l.found (shut.parameters (drop l.p-index l.all) l.env);
-  known : All (λ p. IsType l.env.types p.type) l.found;
+abbrev pub invariant-declarators::object_parameters-loop-p : goal.invariant-declarators::object_parameters-loop-p
+invariant-declarators::object_parameters-loop-p l = record {
+  made : shut.object_parameters l.all l.fn.env ≡ behind l.found (shut.object_parameters (drop l.p-index l.all) l.env);
+  known : AreObjects l.env.types l.found;
   grows : Grows l.fn.env.types l.env.types;
 }

@@ -1,6 +1,6 @@
-use Rattle.std.proofs.Common.{rules, refl}
+use Rattle.std.proofs.Common.{rules, refl, ◌||◌}
 use Rattle.cf_elab_functions.specs.Seen.{says_seen}
-use Rattle.cf_elab_functions.proofs.AgainLaws.{known_is, known_made, entries_kept, entities_kept}
+use Rattle.cf_elab_functions.proofs.AgainLaws.{known_is, known_made, entries_kept, entities_kept, name_kept}
 use Rattle.cf_elab_functions.proofs.again.known_entry.Goals as goal
 
 pub returns-in_err-check_again-clause-made : goal.returns-in_err-check_again-clause-made
@@ -16,3 +16,8 @@ returns-clause-number c = entries_kept c.args.number c.in_ok-changed.changed c.a
 
 pub returns-clause-entities : goal.returns-clause-entities
 returns-clause-entities c = entities_kept c.args.number c.in_ok-changed.changed c.args.env.now c.set_entry.new.self c.set_entry.ensures.made
+
+pub set_entry-requires-clause-name : goal.set_entry-requires-clause-name
+set_entry-requires-clause-name c =
+    name_kept c.args.env.now c.args.number c.entry-entry.result.now c.in_ok-changed.changed (c.entry-entry.result.now.is_defined || c.args.says.now.defines)
+    c.entry-entry.ensures.value c.in_ok-changed.ensures

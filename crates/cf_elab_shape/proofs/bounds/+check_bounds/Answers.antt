@@ -2,8 +2,8 @@ use Rattle.std.proofs.Common.{rules}
 use Rattle.cf_elab_shape.proofs.BoundLaws.{bounds_holding}
 use Rattle.cf_elab_shape.proofs.bounds.+check_bounds.Goals as goal
 
-pub returns-in_ok-check_bounds-in-Holding : goal.returns-in_ok-check_bounds-in-Holding
-returns-in_ok-check_bounds-in-Holding t c =
+pub returns-in_ok-check_bound-in-Holding : goal.returns-in_ok-check_bound-in-Holding
+returns-in_ok-check_bound-in-Holding t c =
     rw (bounds_holding c.args.shape.now c.in-Holding.inside c.args.env.now c.in-Holding.at c.in-Holding.bound c.in-Holding.is) (search rules)
 
 pub returns-in_err-check_bounds-in-Holding : goal.returns-in_err-check_bounds-in-Holding

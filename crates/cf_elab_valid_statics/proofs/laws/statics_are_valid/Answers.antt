@@ -1,4 +1,4 @@
-use Rattle.cf_elab_valid_statics.proofs.Arrays.{unbounded-fine}
+use Rattle.cf_elab_valid_statics.proofs.Arrays.{bound-fine}
 use Rattle.cf_elab_valid_statics.proofs.Files.{file-fine}
 use Rattle.cf_elab_valid_statics.proofs.Frames.{function-fine}
 use Rattle.cf_elab_valid_statics.proofs.Linked.{linked-fine}
@@ -9,5 +9,5 @@ returns c = λ s scene arrays. record {
   linked = λ d e classless h i n. linked-fine s scene d e classless h i n;
   in_file = λ none d parts e initial classless h i n. file-fine s scene arrays none d parts e initial classless h i n;
   in_function = λ parameters is_main at name t parts e given own classless h i n. function-fine s scene arrays parameters is_main at name t parts e given own classless h i n;
-  unbounded = λ at name u parts given e classless h i. unbounded-fine s scene arrays at name u parts given e classless h i;
+  unbounded = λ at u w e classless h. bound-fine s at u w e classless h;
 }

@@ -13,6 +13,5 @@ invariant-each_statement-loop-s l = record {
 abbrev pub invariant-each_case-loop-s : goal.invariant-each_case-loop-s
 invariant-each_case-loop-s l = record {
   known : all_of (tables_of l.unit) (map (are_known (tables_of l.unit)) (drop l.s-index l.initial.all)) ≡ true;
-  found : each_case l.at l.first (map (test (tables_of l.unit)) (drop l.s-index l.initial.all)) ≡ each_case l.at l.below (map (test (tables_of l.unit)) l.initial.all);
-  seen : l.seen ≡ l.s-index;
+  found : each_case l.first (map (test (tables_of l.unit)) (drop l.s-index l.initial.all)) ≡ each_case l.below (map (test (tables_of l.unit)) l.initial.all);
 }

@@ -1,2 +1,0 @@
-pub mod FileRows
-pub mod ItemRows

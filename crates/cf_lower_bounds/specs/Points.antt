@@ -1,0 +1,86 @@
+-- Between two statements of a function: what registers hold, which of its parameters and locals have an object that stands, and what is so of both programs.
+use Rattle.std.specs.Prelude.{◌≡◌, ℕ, ◌<◌, true, false, List, [], ◌∷◌, length, ℤ, Some}
+use Rattle.cf_core.specs.Types.{Name}
+use Rattle.cf_core.specs.Store as source
+use Rattle.cf_core.specs.Run.{State}
+use Rattle.cf_core.specs.Calls.{root}
+use Rattle.cf_core.specs.Objects.{static_number}
+use Rattle.cf_plain.specs.Plain.{Register}
+use Rattle.cf_plain.specs.Acts.{Registers}
+use Rattle.cf_plain_frames.specs.Since.{HasValue}
+use Rattle.cc_whole_mean.specs.Flow as c
+use Rattle.cf_lower.specs.Kept.{Keeping}
+use Rattle.cf_lower_kept.specs.Opened.{Opened, is_open}
+use Rattle.cf_lower_turns.specs.Here.{Here}
+use Rattle.cf_lower_turns.specs.Scene.{Scene, GivesBack, fixed_in}
+
+-- ---- which locals stand
+
+pub data Standing : Type 0 where
+  never : Standing  -- control does not come here
+  these : List Opened → Standing
+  by_number : Register → (ℤ → List Opened) → Standing  -- by the number in a register, where a switch follows of which labels pass locals (6.7)
+
+-- the object of one of so many parameters and locals stands; the register that it was declared in has its place until the first value, and once it has one it
+-- holds a value
+pub record IsOpen (count : ℕ) (x : Opened) (g : Registers) (s : State) : Type 0 where
+  pub below : x.local < count
+  pub object : ℕ
+  pub there : s.frame.locals x.local ≡ Some object
+  pub stands : (s.object object).is_gone ≡ false
+  pub begun : (r : Register) → x.begun ≡ Some r → g r ≡ Some (source.At (root object))
+  pub value : x.has_value ≡ true → HasValue (s.object object)
+
+abbrev pub AllOpen : ℕ → List Opened → Registers → State → Type 0
+AllOpen count [] g s = Unit {0}
+AllOpen count (x ∷ xs) g s = IsOpen count x g s × AllOpen count xs g s
+
+-- these stand, and no others
+pub record Open (count : ℕ) (xs : List Opened) (g : Registers) (s : State) : Type 0 where
+  pub each : AllOpen count xs g s
+  pub over : (i o : ℕ) → i < count → is_open i xs ≡ false → s.frame.locals i ≡ Some o → (s.object o).is_gone ≡ true
+
+abbrev pub StandsAs : ℕ → Standing → Registers → State → Type 0
+StandsAs count never g s = ⊥
+StandsAs count (these xs) g s = Open count xs g s
+StandsAs count (by_number r xs) g s = (n : ℤ) → g r ≡ Some (source.Number n) → Open count (xs n) g s
+
+-- ---- points
+
+pub record Point : Type 0 where
+  pub kept : Keeping
+  pub standing : Standing
+
+-- where these are open, and where control does not come
+abbrev pub point_at : Keeping → List Opened → Point
+point_at h xs = record { kept = h; standing = these xs }
+
+abbrev pub point_never : Keeping → Point
+point_never h = record { kept = h; standing = never }
+
+-- a static object stands, and is no local's
+pub record StaticStands (s : State) (o : ℕ) : Type 0 where
+  pub stands : (s.object o).is_gone ≡ false
+  pub apart : (i : ℕ) → s.frame.locals i ≡ Some o → ⊥
+
+-- the frame is the function's, as deep as the C's calls, and static objects stand
+pub record InFrame (z : Scene) (s : State) : Type 0 where
+  pub function : s.frame.function ≡ z.inside.function
+  pub depth : s.frame.depth ≡ z.depth
+  pub statics : (name : Name) (o : ℕ) → static_number z.program name ≡ Some o → StaticStands s o
+
+-- how many parameters and locals the function has
+abbrev pub local_count : Scene → ℕ
+local_count z = length z.body.own.locals.types
+
+-- both programs are at this point, and so many flags are 0
+pub record At (z : Scene) (p : Point) (d : ℕ) (g : Registers) (s : State) (t : c.State) : Type 0 where
+  pub here : Here (fixed_in z) z.body p.kept d g s t
+  pub frame : InFrame z s
+  pub standing : StandsAs (local_count z) p.standing g s
+
+-- both return, and no object of the function's parameters and locals stands
+pub record Returned (z : Scene) (v : source.Value) (s : State) (flow : c.Flow) : Type 0 where
+  pub back : GivesBack (fixed_in z) z.body z.result v s flow
+  pub frame : InFrame z s
+  pub over : (i o : ℕ) → i < local_count z → s.frame.locals i ≡ Some o → (s.object o).is_gone ≡ true

@@ -1,0 +1,4 @@
+use Rattle.cf_lower_types.proofs.form.+form_of.Given as goal
+
+abbrev pub decreases-form_of : goal.decreases-form_of
+decreases-form_of l = l.id
