@@ -7,7 +7,7 @@ ghost use Rattle.cf_lower_held.specs.Scenes.{action_in, holding, locals_in};
 ghost use Rattle.cf_lower_types.specs.Bare.{classes_of};
 
 use crate::conversions::{changed, converted, from_void};
-use crate::operators::{changed_by, number, operated};
+use crate::operators::{changed_by, constant_of, operated};
 use crate::places::{local_place, place_named};
 use crate::pointers::{pointer_operated, sum, tested};
 use crate::scalars::{read_value, same_value};
@@ -31,7 +31,7 @@ pub fn value(x: &Scene<'_>, rs: &Registers, a: &Action) -> Result<Boxed<CExpress
     ensures { IfOk result (λ made. expression_of made ≡ spec.value (classes_of x.now.tables.now) x.now.function.now (locals_in x.now) (holding x.now rs.now) (action_in x.now a.now)) }
 {
     match a {
-        Action::Number { value } => number(x.alloc, *value),
+        Action::Number { value } => constant_of(x.alloc, *value),
         Action::Text { number, .. } => {
             let name = literal_name(x.alloc, x.function, *number)?;
             address_of(x.alloc, name)

@@ -12,4 +12,5 @@ mod pointers;
 mod scalars;
 
 pub use actions::value;
+pub use operators::constant_of;
 pub use scalars::{cell, value_in};

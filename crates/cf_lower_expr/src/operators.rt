@@ -14,7 +14,7 @@ use cf_types::convert_int;
 use std::alloc::Global;
 
 /// A number, by its bits as an int.
-pub fn number(alloc: Global, value: i64) -> Result<Boxed<CExpression>, Memory>
+pub fn constant_of(alloc: Global, value: i64) -> Result<Boxed<CExpression>, Memory>
     ensures { IfOk result (λ made. expression_of made ≡ spec.constant_of value) }
 {
     let Ok(value) = i32::try_from(convert_int(value, Kind::Int)) else {

@@ -45,7 +45,7 @@ pub fn flag_name(alloc: Global, depth: u32) -> Result<Name, Memory>
 }
 
 /// Types in an order of their own.
-fn type_number(ty: CType) -> u32
+pub fn type_number(ty: CType) -> u32
     ensures { result ≡ written.type_number ty }
 {
     match ty {

@@ -34,7 +34,7 @@ fn passed(alloc: Global, arguments: &[u32]) -> Result<Items<CExpression>, Memory
 
 /// The C type of a scalar, if there is one.
 #[tactic(auto, using(cf_lower_names::proofs::CellLaws::type_by_cell))]
-fn scalar_type(scalar: Option<Scalar>) -> Option<CType>
+pub fn scalar_type(scalar: Option<Scalar>) -> Option<CType>
     ensures { (tables : TablesOf) → result ≡ type_or_none (option_map (sort_in tables) scalar) }
 {
     match scalar {

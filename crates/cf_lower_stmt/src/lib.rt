@@ -12,6 +12,7 @@ mod stores;
 mod writes;
 
 pub use around::{Around, Way};
+pub use calls::scalar_type;
 pub use statements::statements;
-pub use stores::{put, zeros_at};
+pub use stores::{character, put};
 pub use writes::no_value;

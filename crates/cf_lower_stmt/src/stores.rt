@@ -160,7 +160,7 @@ fn zero_at(
 }
 
 /// Zeros are stored in every scalar of an object of this type, so many bytes behind the place in a register.
-pub fn zeros_at(
+fn zeros_at(
     x: &Scene<'_>,
     code: &mut Items<CStatement>,
     ty: TyId,
@@ -244,7 +244,7 @@ fn put_bytes(
 }
 
 /// A byte as the constant of a char.
-fn character(alloc: Global, byte: u8) -> Result<Boxed<CExpression>, Memory>
+pub fn character(alloc: Global, byte: u8) -> Result<Boxed<CExpression>, Memory>
     ensures { IfOk result (λ made. expression_of made ≡ plain.constant (constants.Signed (convert kind.Char (pos byte)))) }
 {
     let Ok(held) = i32::try_from(convert_int(i64::from(byte), Kind::Char)) else {

@@ -10,11 +10,11 @@ use Rattle.cf_lower_layout.specs.Sorts.{sort_to}
 use Rattle.cf_lower_types.specs.Bare.{is_code, IsFunction, IsNoFunction}
 use Rattle.cf_lower_types.specs.Forms.{function_in}
 
-parameters_taking : (ps : List SourceType) (t : SourceType) (c : Bool) → parameters (taking ps (gives t c)) ≡ ps
+pub parameters_taking : (ps : List SourceType) (t : SourceType) (c : Bool) → parameters (taking ps (gives t c)) ≡ ps
 parameters_taking [] t c = refl
 parameters_taking (p ∷ ps) t c = ap (λ l. p ∷ l) (parameters_taking ps t c)
 
-result_taking : (ps : List SourceType) (t : SourceType) (c : Bool) → result (taking ps (gives t c)) ≡ t
+pub result_taking : (ps : List SourceType) (t : SourceType) (c : Bool) → result (taking ps (gives t c)) ≡ t
 result_taking [] t c = refl
 result_taking (p ∷ ps) t c = result_taking ps t c
 

@@ -30,6 +30,11 @@ abbrev pub target_in : Ty → Option ℕ
 target_in (ty.Ref t) = Some t
 target_in v = None
 
+-- the type that an array has for its elements
+abbrev pub item_in : Ty → Option ℕ
+item_in (ty.Array t n) = Some t
+item_in v = None
+
 -- the number of a function's type
 abbrev pub function_in : Ty → Option ℕ
 function_in (ty.Fun f) = Some f

@@ -15,7 +15,7 @@ mod tables;
 
 pub use form::{Form, form_of};
 pub use functions::{is_function, parameters, result_sort};
-pub use place::{PlaceType, element_of, place_scalar};
+pub use place::{PlaceType, element_of, item_of, place_scalar};
 pub use reference::{place_sort, referred};
 pub use scalar::{Scalar, is_scalar, sort_of, sort_to};
 pub use sizes::{place_size, size_of};

@@ -1,0 +1,5 @@
+pub mod Lists
+pub mod Numbers
+pub mod Operated
+pub mod Places
+pub mod Truths

@@ -1,0 +1,208 @@
+//! The stores that are written.
+
+ghost use Rattle.std.specs.Prelude.{◌≡◌, ◌++◌, IfOk, OnOk};
+ghost use Rattle.std.specs.Option.{option_map};
+ghost use Rattle.cc_whole.specs.Plain as plain;
+ghost use Rattle.cc_whole.specs.Plain.{expression_of};
+ghost use Rattle.cf_lower.specs.Constants as definition;
+ghost use Rattle.cf_lower.specs.Statements as spec;
+ghost use Rattle.cf_lower_layout.specs.Sorts as sorts;
+ghost use Rattle.cf_lower_stmt.specs.Steps.{written};
+ghost use Rattle.cf_lower_types.specs.Bare.{classes_of, sort_in};
+ghost use Rattle.cf_core.specs.FromTypes.{Tables as TablesOf};
+ghost use Rattle.cf_lower_constants.specs.Knowing.{label_in, target_in};
+ghost use Rattle.cf_lower_constants.specs.Sites.{action_at, told, told_all};
+ghost use Rattle.cf_lower_constants.specs.Stored.{put_if};
+
+use crate::known::{Known, Label, Target};
+use crate::registers::Knowns;
+use crate::site::Site;
+use cc_whole::{CExpression, CStatement};
+use cf_base::{Arith, Boxed, Items, Kind, Memory, Name};
+use cf_lower_expr::{cell, constant_of};
+use cf_lower_names::{Cell, address_of, binary, literal_name, load_named, number, zero};
+use cf_lower_stmt::{character, put};
+use cf_lower_types::{Scalar, Tables, place_scalar, sort_of};
+use cf_plain::Action;
+
+/// The name of an object, in a list of its own.
+fn name_of(x: &Site<'_>, label: Label<'_>) -> Result<Name, Memory>
+    ensures { IfOk result (λ name. name ≡ label_in x.now.owner.now label.entry) }
+{
+    match label {
+        Label::Link(name) => Items::from_slice(x.alloc, name),
+        Label::Literal(number) => literal_name(x.alloc, x.owner, number),
+    }
+}
+
+/// The place so many bytes behind the start of an object.
+fn place_at(x: &Site<'_>, label: Label<'_>, at: u64) -> Result<Boxed<CExpression>, Memory>
+    ensures { IfOk result (λ made. expression_of made ≡ spec.behind (plain.address (label_in x.now.owner.now label.entry)) at) }
+{
+    let name = name_of(x, label)?;
+    let start = address_of(x.alloc, name)?;
+    binary(x.alloc, Arith::Add, start, number(x.alloc, at)?)
+}
+
+/// A known value, for a store.
+fn written_value(x: &Site<'_>, known: Known<'_>) -> Result<Boxed<CExpression>, Memory>
+    ensures { IfOk result (λ made. expression_of made ≡ definition.written (classes_of x.now.tables.now) (told x.now known.entry)) }
+{
+    match known {
+        Known::Number(value) => constant_of(x.alloc, value),
+        Known::At(label, at, _) => place_at(x, label, at),
+        Known::Function(name) => load_named(x.alloc, Items::from_slice(x.alloc, name)?),
+        Known::Nothing | Known::Null => zero(x.alloc),
+    }
+}
+
+/// What the scalar at a place is, if an object of this type is one.
+fn target_scalar(tables: &Tables<'_>, target: Target) -> Option<Scalar>
+    ensures { option_map (sort_in tables.now) result ≡ sorts.sort_of (target_in tables.now target) }
+{
+    match target {
+        Target::Exactly(id) => sort_of(tables, id),
+        Target::Place(ty) => place_scalar(tables, ty),
+    }
+}
+
+/// A known value is stored in the scalar at a place, if it is one.
+#[tactic(auto, using(cf_lower_stmt::proofs::Cells::put_by_cell))]
+fn store_scalar(
+    x: &Site<'_>,
+    code: &mut Items<CStatement>,
+    scalar: Option<Scalar>,
+    label: Label<'_>,
+    at: u64,
+    value: Known<'_>,
+) -> Result<(), Memory>
+    ensures { (tables : TablesOf) → OnOk result (written code.new ≡ written code.old ++ put_if (option_map (sort_in tables) scalar) (spec.behind (plain.address (label_in x.now.owner.now label.entry)) at) (definition.written (classes_of x.now.tables.now) (told x.now value.entry))) }
+{
+    match scalar {
+        None => Ok(()),
+        Some(scalar) => {
+            let there = place_at(x, label, at)?;
+            let given = written_value(x, value)?;
+            put(x.alloc, code, cell(scalar), there, given)?;
+            Ok(())
+        }
+    }
+}
+
+/// A known value is stored where a place is known.
+fn store(
+    x: &Site<'_>,
+    code: &mut Items<CStatement>,
+    place: Known<'_>,
+    value: Known<'_>,
+) -> Result<(), Memory>
+    ensures { OnOk result (written code.new ≡ written code.old ++ definition.stored (classes_of x.now.tables.now) (told x.now place.entry) (told x.now value.entry)) }
+{
+    match place {
+        Known::At(label, at, target) => {
+            store_scalar(x, code, target_scalar(x.tables, target), label, at, value)
+        }
+        Known::Nothing | Known::Number(_) | Known::Null | Known::Function(_) => Ok(()),
+    }
+}
+
+/// Bytes are stored from a place on.
+fn put_bytes(
+    x: &Site<'_>,
+    code: &mut Items<CStatement>,
+    label: Label<'_>,
+    at: u64,
+    bytes: &[u8],
+) -> Result<(), Memory>
+    ensures { OnOk result (written code.new ≡ written code.old ++ spec.put_bytes (spec.behind (plain.address (label_in x.now.owner.now label.entry)) at) 0 bytes.now) }
+{
+    let mut index = 0;
+    for byte in bytes {
+        let start = place_at(x, label, at)?;
+        let there = binary(x.alloc, Arith::Add, start, number(x.alloc, index)?)?;
+        let held = character(x.alloc, *byte)?;
+        put(x.alloc, code, Cell::Number(Kind::Char), there, held)?;
+        index = index.checked_add(1).ok_or(Memory)?;
+    }
+    Ok(())
+}
+
+/// Bytes are stored where a place is known.
+fn store_bytes(
+    x: &Site<'_>,
+    code: &mut Items<CStatement>,
+    place: Known<'_>,
+    bytes: &[u8],
+) -> Result<(), Memory>
+    ensures { OnOk result (written code.new ≡ written code.old ++ definition.stored_bytes (classes_of x.now.tables.now) (told x.now place.entry) bytes.now) }
+{
+    match place {
+        Known::At(label, at, _) => put_bytes(x, code, label, at, bytes),
+        Known::Nothing | Known::Number(_) | Known::Null | Known::Function(_) => Ok(()),
+    }
+}
+
+/// Writes what an action of an initialiser does. Static storage is 0 before, so zeros need no store.
+pub(crate) fn done(
+    x: &Site<'_>,
+    known: &Knowns<'_>,
+    a: &Action,
+    code: &mut Items<CStatement>,
+) -> Result<(), Memory>
+    ensures { OnOk result (written code.new ≡ written code.old ++ definition.constant_done (classes_of x.now.tables.now) (told_all x.now known.now) (action_at x.now a.now)) }
+{
+    match a {
+        Action::First { place, value } => {
+            store(x, code, known.get(*place), known.get(*value))
+        }
+        Action::Characters { place, bytes } => {
+            store_bytes(x, code, known.get(*place), bytes.as_slice())
+        }
+        Action::Number { .. }
+        | Action::Text { .. }
+        | Action::This
+        | Action::Result
+        | Action::Local { .. }
+        | Action::Static { .. }
+        | Action::Function { .. }
+        | Action::Member { .. }
+        | Action::Part { .. }
+        | Action::Read { .. }
+        | Action::Dereference { .. }
+        | Action::Decay { .. }
+        | Action::Index { .. }
+        | Action::Convert { .. }
+        | Action::Up { .. }
+        | Action::Down { .. }
+        | Action::FromVoid { .. }
+        | Action::ToMember { .. }
+        | Action::DataPointer { .. }
+        | Action::FunctionPointer { .. }
+        | Action::Through { .. }
+        | Action::Operate { .. }
+        | Action::Unary { .. }
+        | Action::Truth { .. }
+        | Action::Not { .. }
+        | Action::PointerOperate { .. }
+        | Action::Changed { .. }
+        | Action::Store { .. }
+        | Action::Declare { .. }
+        | Action::Zeros { .. }
+        | Action::BeginList { .. }
+        | Action::EndList { .. }
+        | Action::Carry { .. }
+        | Action::CarryOver { .. }
+        | Action::Finish { .. }
+        | Action::New { .. }
+        | Action::NewArray { .. }
+        | Action::Delete { .. }
+        | Action::DeleteArray { .. }
+        | Action::IsReached { .. }
+        | Action::Reach { .. }
+        | Action::FinishStatic { .. }
+        | Action::Call { .. }
+        | Action::VirtualCall { .. }
+        | Action::PointerCall { .. }
+        | Action::Build { .. } => Ok(()),
+    }
+}
