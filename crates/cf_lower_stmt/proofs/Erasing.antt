@@ -13,7 +13,9 @@ use Rattle.cf_lower.specs.Kept.{Kept, unknown, integer_of, holds, argument, Keep
 use Rattle.cf_lower.specs.Expressions.{value_in, value, zero as nought, address_in, integer_in}
 use Rattle.cf_lower.specs.Statements.{Inside, stored_in, first_in, zeros_in, put_bytes, done, put_in, kept, given, lowered, all_lowered, items, stated_all, in_loop, in_stepped, in_switch, block, flag_set, if_flag}
 use Rattle.cf_lower_expr.proofs.Erasing.{value_in_erased, value_erased, local_erased}
+use Rattle.cf_lower_layout.specs.Sorts.{Sort}
 use Rattle.cf_lower_held.specs.Holds.{erased, erasing}
+use Rattle.cf_lower_stmt.specs.Steps.{set_if, value_kept}
 use Rattle.cf_lower_held.proofs.Erased.{kept_by_erased}
 use Rattle.cf_lower_held.proofs.After.{alike, after_erased, untouched_erased, untouched_twice}
 
@@ -46,12 +48,24 @@ module _ (x : Inside) where
   pub as_kept : (g : Keeping) (a : Action) → local_kept (kept_by x.locals (erasing g) a) ≡ local_kept (kept_by x.locals g a)
   as_kept g a = sym (local_erased (kept_by x.locals (erasing g) a)) ∙ ap local_kept (kept_by_erased x.locals g a) ∙ local_erased (kept_by x.locals g a)
 
+  -- a value in its register, by what that holds
+  pub put_is : (o : Option Sort) (r : Register) (e : Expression) → set_if o r e ≡ put_in x o r e
+  put_is None r e = refl
+  put_is (Some s) r e = refl
+
   put_erased : (g : Keeping) (r : Register) (a : Action)
       → put_in x (local_kept (kept_by x.locals (erasing g) a)) r (value x.classes x.function x.locals (erasing g) a)
       ≡ put_in x (local_kept (kept_by x.locals g a)) r (value x.classes x.function x.locals g a)
   put_erased g r a =
       ap (λ s. put_in x s r (value x.classes x.function x.locals (erasing g) a)) (as_kept g a)
       ∙ ap (put_in x (local_kept (kept_by x.locals g a)) r) (value_erased x.classes x.function x.locals g a)
+
+  -- what is written by what the register holds, without the kinds of an integer
+  pub kept_put : (g : Keeping) (r : Register) (a : Action) (h : Kept) (e : Expression) (w v : List Statement) → h ≡ erased (kept_by x.locals g a)
+      → e ≡ value x.classes x.function x.locals g a → v ≡ w ++ set_if (local_kept h) r e → v ≡ w ++ value_kept x g r a
+  kept_put g r a h e w v is made written =
+      written ∙ ap (λ k. w ++ set_if (local_kept k) r e) is ∙ ap (λ o. w ++ set_if o r e) (local_erased (kept_by x.locals g a))
+      ∙ ap (λ l. w ++ l) (put_is (local_kept (kept_by x.locals g a)) r e) ∙ ap (λ y. w ++ put_in x (local_kept (kept_by x.locals g a)) r y) made
 
   kept_erased : (g : Keeping) (r : Register) (a : Action) → kept x (erasing g) r a ≡ kept x g r a
   kept_erased g r (plain.call n t o is into) = refl
@@ -115,7 +129,7 @@ mutual
   items_first (more default_label ss) x g h = ap c.otherwise (items_first ss x g (erasing g) ∙ items_second ss x g g)
   items_first (more s ss) x g h = ap (stated_all (lowered s x h)) (items_first ss x g (after x.locals s h))
 
-  items_second : (ss : Plains) (x : Inside) (g h : Keeping) → items ss x g (erasing h) ≡ items ss x g h
+  pub items_second : (ss : Plains) (x : Inside) (g h : Keeping) → items ss x g (erasing h) ≡ items ss x g h
   items_second nothing x g h = refl
   items_second (more (case_label z) ss) x g h = refl
   items_second (more default_label ss) x g h = refl

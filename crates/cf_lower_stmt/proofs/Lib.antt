@@ -1,4 +1,6 @@
 pub mod Cells
 pub mod Erasing
 pub mod Labels
+pub mod Lists
+pub mod Loops
 pub mod Walks

@@ -1,15 +1,16 @@
 -- The steps of the walk over statements.
-use Rattle.std.proofs.Common.{◌≡◌, ℕ, ◌+◌, ◌<◌, List, ◌∷◌, ◌++◌, length, drop, get_or, sym, ap, ◌∙◌, append_assoc}
+use Rattle.std.proofs.Common.{◌≡◌, ℕ, ◌+◌, ◌<◌, ◌==◌, Bool, true, false, if◌then◌else◌, List, [], ◌∷◌, ◌++◌, length, drop, get_or, sym, ap, ◌∙◌, append_assoc}
 use Rattle.cc_whole.specs.Plain.{Statement}
 use Rattle.cf_plain.specs.declared.statement.Plain.{Plain as CodePlain}
-use Rattle.cf_lower.specs.Kept.{Keeping, after, after_all}
+use Rattle.cf_lower.specs.Kept.{Kept, Keeping, after, after_all, common, keep, nothing_kept}
+use Rattle.cf_plain.specs.Plain.{Register}
 use Rattle.cf_lower.specs.Statements.{lowered, all_lowered}
 use Rattle.cf_lower_held.specs.declared.registers.Registers.{Registers}
 use Rattle.cf_lower_held.specs.declared.scene.Scene.{Scene}
-use Rattle.cf_lower_held.specs.Holds.{erasing, held_at}
+use Rattle.cf_lower_held.specs.Holds.{erased, erasing, held_at, kept_in}
 use Rattle.cf_lower_held.specs.Scenes.{holding, locals_in, statement_in, statements_in}
 use Rattle.cf_lower_held.proofs.After.{after_all_erased}
-use Rattle.cf_lower_held.proofs.Erased.{erased_kept}
+use Rattle.cf_lower_held.proofs.Erased.{both_erased, erased_kept}
 use Rattle.cf_lower_held.proofs.Forgotten.{drop_item}
 use Rattle.cf_lower_stmt.specs.declared.around.Around.{Around}
 use Rattle.cf_lower_stmt.specs.Steps.{inside}
@@ -18,6 +19,26 @@ use Rattle.cf_lower_stmt.proofs.Erasing.{all_erased}
 -- what code's registers hold has no kinds
 pub holding_erased : (x : Scene) (rs : Registers) → erasing (holding x rs) ≡ holding x rs
 holding_erased x rs = λ j r. erased_kept x.tables.now (held_at rs.held.items r) j
+
+pub as_erased : (x : Scene) (rs : Registers) (k : Keeping) → holding x rs ≡ k → holding x rs ≡ erasing k
+as_erased x rs k e = sym (holding_erased x rs) ∙ ap erasing e
+
+-- no register holds anything
+pub nothing_held : (x : Scene) (rs : Registers) → rs.held.items ≡ [] → holding x rs ≡ nothing_kept
+nothing_held x rs e = λ j r. ap (λ l. kept_in x.tables.now (held_at l r)) e j
+
+-- one register holds something else
+pub set_held : (x : Scene) (rs : Registers) (r : Register) (k l : Kept) (h : Keeping) → l ≡ erased k → h ≡ keep (holding x rs) r l → h ≡ erasing (keep (holding x rs) r k)
+set_held x rs r k l h e p = p ∙ (λ j q. by q (q == r) j)
+  where
+    by : (q : Register) (b : Bool) → (if b then l else holding x rs q) ≡ erased (if b then k else holding x rs q)
+    by q true = e
+    by q false = sym (erased_kept x.tables.now (held_at rs.held.items q))
+
+-- the registers behind a branch
+pub met : (x : Scene) (rs : Registers) (f g a b : Keeping) → holding x rs ≡ common f g → f ≡ erasing a → g ≡ erasing b → holding x rs ≡ erasing (common a b)
+met x rs f g a b e p q =
+    as_erased x rs (common (erasing a) (erasing b)) (e ∙ ap (λ k. common k g) p ∙ ap (common (erasing a)) q) ∙ (λ j r. both_erased (a r) (b r) j)
 
 module _ (x : Scene) (all : List CodePlain) (i : ℕ) (s : CodePlain) (within : i < length all) (is : s ≡ get_or all i s) (g h : Keeping)
     (behind : h ≡ erasing (after (locals_in x) (statement_in x s) g)) where

@@ -5,10 +5,13 @@ use Rattle.cc_whole.specs.declared.statement.CSwitchItem.{CSwitchItem}
 use Rattle.cc_whole.specs.Plain as c
 use Rattle.cc_whole.specs.Plain.{Body, Expression, Statement, SwitchItem, SwitchItems}
 use Rattle.cf_core.specs.FromTypes.{type_of}
-use Rattle.cf_lower.specs.Statements.{Inside, all_lowered, behind, block, flag_set, if_flag, in_loop, in_stepped, put, set_register, stated_all}
-use Rattle.cf_lower.specs.Expressions.{integer_in, zero as nought}
-use Rattle.cf_lower.specs.Kept.{Keeping}
-use Rattle.cf_plain.specs.Plain.{Plains}
+use Rattle.cf_lower.specs.Statements.{Inside, all_lowered, behind, block, flag_set, if_flag, in_loop, in_stepped, put, put_in, set_register, stated_all}
+use Rattle.cf_lower.specs.Expressions.{integer_in, value, zero as nought}
+use Rattle.cf_lower.specs.Kept.{Keeping, kept_by, local_kept}
+use Rattle.cf_plain.specs.Plain.{Action, Plain, Plains, case_label, default_label}
+use Rattle.cc_whole.specs.declared.types.CConstant.TheVariants as constants
+use Rattle.cf_base.specs.declared.kind.Kind.TheVariants.{Int}
+use Rattle.cf_base.specs.Integers.{convert}
 use Rattle.cf_lower.specs.Written.{if_scalar}
 use Rattle.cf_lower_layout.specs.Sorts.{Sort}
 use Rattle.cf_lower_held.specs.declared.scene.Scene.{Scene}
@@ -52,12 +55,22 @@ abbrev pub set_if : Option Sort → ℕ → Expression → List Statement
 set_if None r e = []
 set_if (Some s) r e = set_register s r e ∷ []
 
+-- what an action gives that is no call, kept in a register
+abbrev pub value_kept : Inside → Keeping → ℕ → Action → List Statement
+value_kept x g r a = put_in x (local_kept (kept_by x.locals g a)) r (value x.classes x.function x.locals g a)
+
 -- labels and statements of a switch, in front of others
 abbrev pub in_front : List SwitchItem → SwitchItems → SwitchItems
 in_front [] rest = rest
 in_front (c.label k ∷ xs) rest = c.labelled k (in_front xs rest)
 in_front (c.default_label ∷ xs) rest = c.otherwise (in_front xs rest)
 in_front (c.inner s ∷ xs) rest = c.stated s (in_front xs rest)
+
+-- the label that a statement of a switch is
+abbrev pub label_in : Plain → Option SwitchItem
+label_in (case_label z) = Some (c.label (constants.Signed (convert Int z)))
+label_in default_label = Some c.default_label
+label_in s = None
 
 -- a branch by the number in a register
 abbrev pub branched : ℕ → Body → Body → Statement

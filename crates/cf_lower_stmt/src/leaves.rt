@@ -4,13 +4,12 @@ ghost use Rattle.std.specs.Prelude.{◌≡◌, ◌++◌, OnOk};
 ghost use Rattle.std.specs.Option.{option_map};
 ghost use Rattle.cc_whole.specs.Plain.{expression_of};
 ghost use Rattle.cf_core.specs.FromTypes.{Tables as TablesOf};
-ghost use Rattle.cf_lower.specs.Expressions as given;
 ghost use Rattle.cf_lower.specs.Kept as definition;
 ghost use Rattle.cf_lower.specs.Statements as spec;
 ghost use Rattle.cf_lower_held.specs.Holds.{erased, kept_in};
 ghost use Rattle.cf_lower_held.specs.Scenes.{action_in, holding, locals_in};
-ghost use Rattle.cf_lower_types.specs.Bare.{classes_of, sort_in};
-ghost use Rattle.cf_lower_stmt.specs.Steps.{inside, set_if, written};
+ghost use Rattle.cf_lower_types.specs.Bare.{sort_in};
+ghost use Rattle.cf_lower_stmt.specs.Steps.{inside, set_if, value_kept, written};
 ghost use Rattle.cf_lower_stmt.specs.declared.around.Around.{Around};
 
 use crate::calls::{by_name, call_alone, call_into, through};
@@ -129,6 +128,7 @@ fn put_in(
 }
 
 /// Writes an action that is no call, whose value is kept in a register that holds this from then on.
+#[tactic(auto, using(crate::proofs::Erasing::kept_put))]
 fn kept_value(
     x: &Scene<'_>,
     register: u32,
@@ -137,10 +137,12 @@ fn kept_value(
     rs: &Registers,
     code: &mut Items<CStatement>,
 ) -> Result<(), Memory>
-    ensures { OnOk result (written code.new ≡ written code.old ++ set_if (definition.local_kept (kept_in x.now.tables.now held.now)) register (given.value (classes_of x.now.tables.now) x.now.function.now (locals_in x.now) (holding x.now rs.now) (action_in x.now a.now))) }
+    requires { kept_in x.now.tables.now held.now ≡ erased (definition.kept_by (locals_in x.now) (holding x.now rs.now) (action_in x.now a.now)) }
+    ensures { (around : Around) → OnOk result (written code.new ≡ written code.old ++ value_kept (inside x.now around) (holding x.now rs.now) register (action_in x.now a.now)) }
 {
     let made = value(x, rs, a)?;
-    put_in(x.alloc, local_of(*held), register, made, code)
+    put_in(x.alloc, local_of(*held), register, made, code)?;
+    Ok(())
 }
 
 /// Writes an action whose value is kept in a register, which holds this from then on.

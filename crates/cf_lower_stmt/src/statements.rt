@@ -1,8 +1,8 @@
 //! The statements of a function.
 
-ghost use Rattle.std.specs.Prelude.{◌≡◌, ◌++◌, [], ◌∷◌, map, IfOk, OnOk};
+ghost use Rattle.std.specs.Prelude.{◌≡◌, ◌++◌, [], ◌∷◌, map, option_map, IfOk, OnOk};
 ghost use Rattle.cc_whole.specs.Plain as c;
-ghost use Rattle.cc_whole.specs.Plain.{body_of, inner, switch_in_order};
+ghost use Rattle.cc_whole.specs.Plain.{body_of, inner, switch_in_order, switch_item_of};
 ghost use Rattle.cc_whole.specs.declared.types.CConstant.TheVariants as constants;
 ghost use Rattle.cf_base.specs.Integers.{convert};
 ghost use Rattle.cf_base.specs.declared.kind.Kind.TheVariants as kind;
@@ -11,9 +11,10 @@ ghost use Rattle.cf_lower.specs.Statements as spec;
 ghost use Rattle.cf_lower_held.specs.Holds.{erasing};
 ghost use Rattle.cf_lower_held.specs.Scenes.{holding, locals_in, statement_in, statements_in};
 ghost use Rattle.cf_lower_held.specs.declared.scene.Scene.{Scene as SceneOf};
-ghost use Rattle.cf_lower_stmt.specs.Steps.{branched, inside, stepped, written, written_items};
+ghost use Rattle.cf_lower_stmt.specs.Steps.{branched, in_front, inside, label_in, stepped, written, written_items};
 ghost use Rattle.cf_lower_stmt.specs.declared.around.Around.{Around as AroundOf};
 ghost use Rattle.cf_plain.specs.Plain as plain;
+ghost use Rattle.cf_plain.specs.Plain.{Plains};
 
 use crate::around::{Around, Way};
 use crate::leaves::{done, kept};
@@ -133,6 +134,7 @@ pub fn statements(
 
 /// Writes a branch by the number in a register (6.4.1).
 #[cycle(statements)]
+#[tactic(auto, using(crate::proofs::Walks::met))]
 fn branch(
     x: &Scene<'_>,
     yes: &Items<Plain>,
@@ -214,6 +216,7 @@ fn stepped_loop(
 
 /// Writes a loop (6.5).
 #[cycle(statements)]
+#[tactic(auto, using(crate::proofs::Loops::without_step, crate::proofs::Loops::with_step))]
 fn looped(
     x: &Scene<'_>,
     turn: &Items<Plain>,
@@ -228,14 +231,64 @@ fn looped(
     forget(x, turn, rs);
     forget(x, step, rs);
     if step.is_empty() {
-        plain_loop(x, turn, around, rs, code)
-    } else {
-        stepped_loop(x, turn, step, around, rs, code)
+        plain_loop(x, turn, around, rs, code)?;
+        return Ok(());
+    }
+    stepped_loop(x, turn, step, around, rs, code)?;
+    Ok(())
+}
+
+/// The label that a statement of a switch is, if it is one.
+fn label_of(s: &Plain) -> Result<Option<CSwitchItem>, Memory>
+    ensures { (x : SceneOf) → IfOk result (λ found. option_map switch_item_of found ≡ label_in (statement_in x s.now)) }
+{
+    match s {
+        Plain::Case { value } => Ok(Some(CSwitchItem::Case(label(*value)?))),
+        Plain::Default => Ok(Some(CSwitchItem::Default)),
+        Plain::Act { .. }
+        | Plain::Set { .. }
+        | Plain::If { .. }
+        | Plain::Loop { .. }
+        | Plain::Switch { .. }
+        | Plain::Break
+        | Plain::Continue
+        | Plain::Return { .. }
+        | Plain::Parts { .. } => Ok(None),
     }
 }
 
-/// The labels and statements of a switch. At a label the registers hold what they hold at each.
+/// A label or statement of a switch comes behind others. At a label the registers hold what they hold at each.
 #[cycle(statements)]
+#[tactic(auto, using(crate::proofs::Labels::front_label, crate::proofs::Labels::front_statement))]
+fn item(
+    x: &Scene<'_>,
+    s: &Plain,
+    around: Around,
+    rs: &Registers,
+    running: &mut Registers,
+    made: &mut Items<CSwitchItem>,
+) -> Result<(), Memory>
+    ensures { (rest : Plains) → OnOk result (in_front (written_items made.new) (spec.items rest (inside x.now around) (holding x.now rs.now) (holding x.now running.new))
+        ≡ in_front (written_items made.old) (spec.items (plain.more (statement_in x.now s.now) rest) (inside x.now around) (holding x.now rs.now) (holding x.now running.old))) }
+{
+    match label_of(s)? {
+        Some(found) => {
+            made.push(found)?;
+            *running = rs.copied(x.alloc)?;
+            Ok(())
+        }
+        None => {
+            let mut code = Items::new(x.alloc);
+            statement(x, s, around, running, &mut code)?;
+            state_all(made, code)?;
+            Ok(())
+        }
+    }
+}
+
+/// The labels and statements of a switch, where the registers hold this before it and at each label.
+#[cycle(statements)]
+#[tactic(auto, using(crate::proofs::Labels::front_all))]
 fn items(
     x: &Scene<'_>,
     all: &Items<Plain>,
@@ -247,27 +300,14 @@ fn items(
     let mut made = Items::new(x.alloc);
     let mut running = rs.copied(x.alloc)?;
     for s in all.as_slice() {
-        match s {
-            Plain::Case { value } => {
-                made.push(CSwitchItem::Case(label(*value)?))?;
-                running = rs.copied(x.alloc)?;
-            }
-            Plain::Default => {
-                made.push(CSwitchItem::Default)?;
-                running = rs.copied(x.alloc)?;
-            }
-            _ => {
-                let mut code = Items::new(x.alloc);
-                statement(x, s, around, &mut running, &mut code)?;
-                state_all(&mut made, code)?;
-            }
-        }
+        item(x, s, around, rs, &mut running, &mut made)?;
     }
     Ok(made)
 }
 
 /// Writes a switch by the number in a register (6.4.2).
 #[cycle(statements)]
+#[tactic(auto, using(crate::proofs::Lists::three_more))]
 fn switched(
     x: &Scene<'_>,
     all: &Items<Plain>,
@@ -288,11 +328,13 @@ fn switched(
     )?;
     let mut onward = Items::new(x.alloc);
     put_way(x.alloc, &mut onward, around.going_on)?;
-    if_flag(x.alloc, code, around.depth, onward)
+    if_flag(x.alloc, code, around.depth, onward)?;
+    Ok(())
 }
 
 /// Writes a statement, and tells what the registers hold behind it.
 #[cycle(statements)]
+#[tactic(auto, using(crate::proofs::Walks::as_erased, crate::proofs::Walks::set_held, crate::proofs::Walks::nothing_held))]
 fn statement(
     x: &Scene<'_>,
     s: &Plain,
@@ -304,19 +346,41 @@ fn statement(
     ensures held { OnOk result (holding x.now rs.new ≡ erasing (definition.after (locals_in x.now) (statement_in x.now s.now) (holding x.now rs.old))) }
 {
     match s {
-        Plain::Act { action } => done(x, action, rs, code),
+        Plain::Act { action } => {
+            done(x, action, rs, code)?;
+            Ok(())
+        }
         Plain::Set { register, action } => {
             let held = kept_by(x, rs, action);
             kept(x, *register, action, &held, rs, code)?;
-            rs.keep(*register, held)
+            rs.keep(*register, held)?;
+            Ok(())
         }
-        Plain::If { register, yes, no } => branch(x, yes, no, *register, around, rs, code),
-        Plain::Loop { body, next } => looped(x, body, next, around, rs, code),
-        Plain::Switch { register, body } => switched(x, body, *register, around, rs, code),
+        Plain::If { register, yes, no } => {
+            branch(x, yes, no, *register, around, rs, code)?;
+            Ok(())
+        }
+        Plain::Loop { body, next } => {
+            looped(x, body, next, around, rs, code)?;
+            Ok(())
+        }
+        Plain::Switch { register, body } => {
+            switched(x, body, *register, around, rs, code)?;
+            Ok(())
+        }
         Plain::Case { .. } | Plain::Default => Ok(()),
-        Plain::Break => put_way(x.alloc, code, around.leaving),
-        Plain::Continue => put_way(x.alloc, code, around.going_on),
-        Plain::Return { register } => put_return(x, *register, rs, code),
+        Plain::Break => {
+            put_way(x.alloc, code, around.leaving)?;
+            Ok(())
+        }
+        Plain::Continue => {
+            put_way(x.alloc, code, around.going_on)?;
+            Ok(())
+        }
+        Plain::Return { register } => {
+            put_return(x, *register, rs, code)?;
+            Ok(())
+        }
         Plain::Parts { .. } => {
             rs.clear_all();
             Ok(())
