@@ -1,5 +1,7 @@
 -- Lists of items, made part by part.
 use Rattle.std.proofs.Common.{◌≡◌, ℕ, Bool, true, false, List, [], ◌∷◌, ◌++◌, map, refl, sym, ap, ◌∙◌, append_assoc}
+use Rattle.std.proofs.lemmas.List.{map-append}
+use Rattle.std.proofs.lemmas.List.Concat.{flat_map-append}
 use Rattle.std.specs.Prelude.{filter}
 use Rattle.std.specs.List.{flat_map}
 use Rattle.cc_whole.specs.declared.unit.CVariable.{CVariable}
@@ -15,21 +17,13 @@ use Rattle.cf_lower_fn.specs.Walks.{statements_at}
 use Rattle.cf_lower_types.specs.Bare.{classes_of}
 use Rattle.cf_lower_unit.specs.Pieces.{all_done, all_started, named_by, file_with, start_code}
 
-map_both : {A B : Type 0} (f : A → B) (xs ys : List A) → map f (xs ++ ys) ≡ map f xs ++ map f ys
-map_both f [] ys = refl
-map_both f (x ∷ xs) ys = ap (λ l. f x ∷ l) (map_both f xs ys)
-
-flat_both : {A B : Type 0} (f : A → List B) (xs ys : List A) → flat_map f (xs ++ ys) ≡ flat_map f xs ++ flat_map f ys
-flat_both f [] ys = refl
-flat_both f (x ∷ xs) ys = ap (λ l. f x ++ l) (flat_both f xs ys) ∙ sym (append_assoc (f x) (flat_map f xs) (flat_map f ys))
-
 -- ---- the static objects and the literals
 
 pub three_parts : (a b c : List CVariable) (x y z : List Item) → x ≡ [] ++ map defines_variable a → y ≡ x ++ map defines_variable b → z ≡ y ++ map defines_variable c
     → z ≡ map defines_variable (a ++ b ++ c)
 three_parts a b c x y z p q r =
     r ∙ ap (λ l. l ++ map defines_variable c) (q ∙ ap (λ l. l ++ map defines_variable b) p) ∙ append_assoc (map defines_variable a) (map defines_variable b) (map defines_variable c)
-    ∙ ap (λ l. map defines_variable a ++ l) (sym (map_both defines_variable b c)) ∙ sym (map_both defines_variable a (b ++ c))
+    ∙ ap (λ l. map defines_variable a ++ l) (sym (map-append defines_variable b c)) ∙ sym (map-append defines_variable a (b ++ c))
 
 -- ---- what a file names
 
@@ -38,21 +32,21 @@ module _ (tables : Tables) where
       → named_by tables (all_done tables fs) ≡ flat_map (λ (f : PlainFunction). flat_map (declared_at (classes_of tables)) (all_actions f.body)) (map (function_of tables) fs)
   named_done [] = refl
   named_done (f ∷ fs) =
-      flat_both (declared_at (classes_of tables)) (all_actions (statements_at tables f.body)) (all_done tables fs)
+      flat_map-append (declared_at (classes_of tables)) (all_actions (statements_at tables f.body)) (all_done tables fs)
       ∙ ap (λ l. named_by tables (all_actions (statements_at tables f.body)) ++ l) (named_done fs)
 
   named_started : (xs : List PlainStatic)
       → named_by tables (all_started tables xs) ≡ flat_map (λ (x : StaticOf). flat_map (declared_at (classes_of tables)) (all_actions x.start)) (map (static_of tables) xs)
   named_started [] = refl
   named_started (x ∷ xs) =
-      flat_both (declared_at (classes_of tables)) (all_actions (statements_at tables x.start)) (all_started tables xs)
+      flat_map-append (declared_at (classes_of tables)) (all_actions (statements_at tables x.start)) (all_started tables xs)
       ∙ ap (λ l. named_by tables (all_actions (statements_at tables x.start)) ++ l) (named_started xs)
 
   module _ (fs : List PlainFn) (xs : List PlainStatic) where
     named_all : named_by tables (all_done tables fs ++ all_started tables xs) ≡ named_in (file_with tables fs xs)
     named_all =
-        flat_both (declared_at (classes_of tables)) (all_done tables fs) (all_started tables xs)
-        ∙ ap (λ l. l ++ named_by tables (all_started tables xs)) (named_done fs) ∙ ap (λ l. flat_map _ (map (function_of tables) fs) ++ l) (named_started xs)
+        flat_map-append (declared_at (classes_of tables)) (all_done tables fs) (all_started tables xs)
+        ∙ ap (λ l. l ++ named_by tables (all_started tables xs)) (named_done fs) ∙ ap (λ l. flat_map (λ (f : PlainFunction). flat_map (declared_at (classes_of tables)) (all_actions f.body)) (map (function_of tables) fs) ++ l) (named_started xs)
 
     -- ---- the items of a file
 
@@ -67,7 +61,7 @@ module _ (tables : Tables) where
     others_are v is =
         ap (λ l. other_names (map name_of heads ++ map name_of v) l) named_all
         ∙ ap (λ l. other_names (map name_of heads ++ map name_of l) (named_in (file_with tables fs xs))) is
-        ∙ ap (λ l. other_names l (named_in (file_with tables fs xs))) (sym (map_both name_of heads (own_variables (file_with tables fs xs))) ∙ ap (map name_of) (append_assoc library _ _))
+        ∙ ap (λ l. other_names l (named_in (file_with tables fs xs))) (sym (map-append name_of heads (own_variables (file_with tables fs xs))) ∙ ap (map name_of) (append_assoc library (own_prototypes (file_with tables fs xs)) (own_variables (file_with tables fs xs))))
 
     pub all_items : (a b o v c d e f : List Item)
         → a ≡ [] ++ library
