@@ -24,7 +24,9 @@ use cf_base::{Arith, Boxed, Items, Kind, Memory};
 use cf_lower_expr::cell;
 use cf_lower_held::{Held, Scene};
 use cf_lower_names::{Cell, address_in, as_stored, binary, constant, local_name, number, zero};
-use cf_lower_types::{Form, PlaceType, Scalar, form_of, place_scalar, size_of, sort_of};
+use cf_lower_types::{
+    Elements, PlaceType, Scalar, elements_in, form_of, place_scalar, size_of, sort_of,
+};
 use cf_types::{TyId, convert_int};
 use std::alloc::Global;
 
@@ -159,7 +161,30 @@ fn zero_at(
     }
 }
 
+/// Zeros are stored in every scalar of so many objects of this type, so many bytes behind the place in a register.
+#[cycle(zeros)]
+#[tactic(auto, using(crate::proofs::Zeros::turn))]
+fn zeros_each(
+    x: &Scene<'_>,
+    code: &mut Items<CStatement>,
+    elements: &Elements,
+    place: u32,
+    at: u64,
+) -> Result<(), Memory>
+    ensures { OnOk result (written code.new ≡ written code.old ++ spec.zeros (classes_of x.now.tables.now) (array (bare x.now.tables.now elements.now.ty) elements.now.count) (value.address_in place) at) }
+{
+    let each = size_of(x.tables, elements.ty)?;
+    for i in 0..elements.count {
+        let before = u64::from(i).checked_mul(each).ok_or(Memory)?;
+        let there = at.checked_add(before).ok_or(Memory)?;
+        zeros_at(x, code, elements.ty, place, there)?;
+    }
+    Ok(())
+}
+
 /// Zeros are stored in every scalar of an object of this type, so many bytes behind the place in a register.
+#[cycle(zeros)]
+#[tactic(auto, using(crate::proofs::Zeros::of_array, crate::proofs::Zeros::of_other, cf_lower_types::proofs::Forms::elements_below))]
 fn zeros_at(
     x: &Scene<'_>,
     code: &mut Items<CStatement>,
@@ -169,21 +194,21 @@ fn zeros_at(
 ) -> Result<(), Memory>
     ensures { OnOk result (written code.new ≡ written code.old ++ spec.zeros (classes_of x.now.tables.now) (bare x.now.tables.now ty) (value.address_in place) at) }
 {
-    match form_of(x.tables, ty) {
-        Form::Array(element, count) => {
-            let each = size_of(x.tables, element)?;
-            for i in 0..count {
-                let before = u64::from(i).checked_mul(each).ok_or(Memory)?;
-                let there = at.checked_add(before).ok_or(Memory)?;
-                zeros_at(x, code, element, place, there)?;
-            }
+    let form = form_of(x.tables, ty);
+    match elements_in(&form) {
+        Some(elements) => {
+            zeros_each(x, code, &elements, place, at)?;
             Ok(())
         }
-        _ => zero_at(x.alloc, code, sort_of(x.tables, ty), place, at),
+        None => {
+            zero_at(x.alloc, code, sort_of(x.tables, ty), place, at)?;
+            Ok(())
+        }
     }
 }
 
 /// The same of so many characters.
+#[tactic(auto, using(crate::proofs::Zeros::character_turn))]
 fn zero_characters(
     alloc: Global,
     code: &mut Items<CStatement>,

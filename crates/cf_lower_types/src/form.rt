@@ -80,13 +80,13 @@ pub fn form_of(tables: &Tables<'_>, id: TyId) -> Form
 
 /// What an array holds.
 #[derive(Clone, Copy, Debug, PartialEq, Eq)]
-pub(crate) struct Elements {
+pub struct Elements {
     pub ty: TyId,
     pub count: u32,
 }
 
 /// The elements of an array.
-pub(crate) fn elements_in(form: &Form) -> Option<Elements>
+pub fn elements_in(form: &Form) -> Option<Elements>
     ensures { option_map (λ e. (e.ty, e.count)) result ≡ spec.elements_in form.now }
 {
     match form {

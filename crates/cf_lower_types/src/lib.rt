@@ -13,7 +13,7 @@ mod scalar;
 mod sizes;
 mod tables;
 
-pub use form::{Form, form_of};
+pub use form::{Elements, Form, elements_in, form_of};
 pub use functions::{is_function, parameters, result_sort};
 pub use place::{PlaceType, element_of, item_of, place_scalar};
 pub use reference::{place_sort, referred};
