@@ -10,9 +10,7 @@ mod nodes;
 mod values;
 
 pub use cell::{Cell, c_integer};
-pub use names::{
-    flag_name, literal_name, local_name, register_name, result_name, type_number,
-};
+pub use names::{flag_name, literal_name, local_name, register_name, result_name, type_number};
 pub use nodes::{address_of, binary, cast, constant, load_at, load_named, number, unary};
 pub use values::{
     address_in, as_bits, as_stored, as_value, at_kind, in_register, integer_in, loaded, zero,

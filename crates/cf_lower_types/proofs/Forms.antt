@@ -1,5 +1,5 @@
 -- Forms of types, and what they name.
-use Rattle.std.proofs.Common.{◌≡◌, ℕ, ◌<◌, length, All, Some, None, slice_get, refl, ap, ◌∙◌, arith}
+use Rattle.std.proofs.Common.{◌≡◌, ℕ, ◌<◌, length, Some, None, refl, ap, ◌∙◌, arith}
 use Rattle.cf_types.specs.declared.ty.Ty.{Ty}
 use Rattle.cf_types.specs.declared.ty.Ty.TheVariants as ty
 use Rattle.cf_types.specs.Table.{Names, NamesBelow}

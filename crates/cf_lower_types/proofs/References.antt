@@ -1,5 +1,5 @@
 -- What a name of a reference's type stands for.
-use Rattle.std.proofs.Common.{◌≡◌, ℕ, Bool, true, false, List, [], ◌∷◌, map, Option, Some, None, slice_get, refl, sym, ap, subst, ◌∙◌}
+use Rattle.std.proofs.Common.{◌≡◌, ℕ, Bool, true, false, if◌then◌else◌, List, [], ◌∷◌, map, Option, Some, None, slice_get, refl, sym, ap, subst, ◌∙◌}
 use Rattle.cf_types.specs.declared.ty.Fun.{Fun}
 use Rattle.cf_types.specs.declared.ty.Ty.{Ty}
 use Rattle.cf_types.specs.declared.ty.Ty.TheVariants as ty
@@ -17,7 +17,7 @@ pub itself : (t : SourceType) → is_reference t ≡ false → referred t ≡ t
 itself (reference t) e = cc
 itself (const t) e = by (is_reference t) e
   where
-    by : (b : Bool) → b ≡ false → elim b as (λ _. SourceType) [ true ↦ referred t | false ↦ const t ] ≡ const t
+    by : (b : Bool) → b ≡ false → (if b then referred t else const t) ≡ const t
     by true e = cc
     by false e = refl
 itself void e = refl
@@ -35,7 +35,7 @@ itself (function_member c t) e = refl
 pub within_const : (t u : SourceType) → is_reference t ≡ true → referred t ≡ u → referred (const t) ≡ u
 within_const t u e p = by (is_reference t) e ∙ p
   where
-    by : (b : Bool) → b ≡ true → elim b as (λ _. SourceType) [ true ↦ referred t | false ↦ const t ] ≡ referred t
+    by : (b : Bool) → b ≡ true → (if b then referred t else const t) ≡ referred t
     by true e = refl
     by false e = cc
 
@@ -51,16 +51,16 @@ module _ (tables : Tables) (t : ℕ) where
       (ap is_reference at ∙ r.0, ap referred at ∙ within_const (type_of tables u) (type_of tables z) r.0 r.1)
   const_refers v u o e k r = cc
 
-  pub other_refers : (v : Ty) → type_of tables t ≡ type_step tables (type_of tables) v → under_const v ≡ None → Refers tables t (target_in v)
-  other_refers (ty.Ref u) e k = (ap is_reference e, ap referred e)
-  other_refers (ty.Const u) e k = cc
-  other_refers ty.Void e k = ap is_reference e
-  other_refers (ty.Int l) e k = ap is_reference e
-  other_refers (ty.Enum n) e k = ap is_reference e
-  other_refers (ty.Class c) e k = ap is_reference e
-  other_refers (ty.Ptr u) e k = ap is_reference e
-  other_refers (ty.Array u n) e k = ap is_reference e
-  other_refers (ty.Fun f) e k = ap is_reference e ∙ no_reference (slice_get tables.types.funs f)
+  other_form : (v : Ty) → type_of tables t ≡ type_step tables (type_of tables) v → under_const v ≡ None → Refers tables t (target_in v)
+  other_form (ty.Ref u) e k = (ap is_reference e, ap referred e)
+  other_form (ty.Const u) e k = cc
+  other_form ty.Void e k = ap is_reference e
+  other_form (ty.Int l) e k = ap is_reference e
+  other_form (ty.Enum n) e k = ap is_reference e
+  other_form (ty.Class c) e k = ap is_reference e
+  other_form (ty.Ptr u) e k = ap is_reference e
+  other_form (ty.Array u n) e k = ap is_reference e
+  other_form (ty.Fun f) e k = ap is_reference e ∙ no_reference (slice_get tables.types.funs f)
     where
       no_reference : (o : Option Fun) → is_reference (fun_type (type_of tables) o) ≡ false
       no_reference None = refl
@@ -69,8 +69,11 @@ module _ (tables : Tables) (t : ℕ) where
           by : (ps : List ℕ) → is_reference (taking (map (type_of tables) ps) (gives (type_of tables g.result) g.is_const)) ≡ false
           by [] = refl
           by (p ∷ ps) = refl
-  other_refers (ty.MemData c u) e k = ap is_reference e
-  other_refers (ty.MemFun c f) e k = ap is_reference e
+  other_form (ty.MemData c u) e k = ap is_reference e
+  other_form (ty.MemFun c f) e k = ap is_reference e
+
+  pub other_refers : (v : Ty) (o : Option ℕ) → type_of tables t ≡ type_step tables (type_of tables) v → under_const v ≡ None → o ≡ target_in v → Refers tables t o
+  other_refers v o e k is = subst (Refers tables t) (sym is) (other_form v e k)
 
   pub sort_refers : (o : Option ℕ) (u : ℕ) (s : Scalar) → Refers tables t o → o ≡ Some u → sort_in tables s ≡ sort_to (bare tables u)
       → sort_in tables s ≡ sort_to (without_const (referred (type_of tables t)))
