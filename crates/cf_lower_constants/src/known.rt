@@ -46,13 +46,7 @@ pub(crate) fn truth(known: Known<'_>) -> Option<bool>
 {
     match known {
         Known::Nothing => None,
-        Known::Number(number) => {
-            if number == 0 {
-                Some(false)
-            } else {
-                Some(true)
-            }
-        }
+        Known::Number(number) => { if number == 0 { Some(false) } else { Some(true) } }
         Known::Null => Some(false),
         Known::At(_, _, _) | Known::Function(_) => Some(true),
     }

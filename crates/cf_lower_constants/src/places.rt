@@ -87,7 +87,9 @@ fn sum_with<'k>(x: &Site<'_>, a: Known<'k>, b: Known<'k>) -> Result<Known<'k>, M
 {
     match b {
         Known::Number(count) => moved(x, a, count),
-        Known::Nothing | Known::At(_, _, _) | Known::Null | Known::Function(_) => Ok(Known::Nothing),
+        Known::Nothing | Known::At(_, _, _) | Known::Null | Known::Function(_) => Ok(
+            Known::Nothing,
+        ),
     }
 }
 
@@ -117,7 +119,9 @@ fn less<'k>(x: &Site<'_>, a: Known<'k>, b: Known<'k>) -> Result<Known<'k>, Memor
             let back = count.checked_neg().ok_or(Memory)?;
             moved(x, a, back)
         }
-        Known::Nothing | Known::At(_, _, _) | Known::Null | Known::Function(_) => Ok(Known::Nothing),
+        Known::Nothing | Known::At(_, _, _) | Known::Null | Known::Function(_) => Ok(
+            Known::Nothing,
+        ),
     }
 }
 

@@ -152,9 +152,7 @@ pub(crate) fn done(
     ensures { OnOk result (written code.new ≡ written code.old ++ definition.constant_done (classes_of x.now.tables.now) (told_all x.now known.now) (action_at x.now a.now)) }
 {
     match a {
-        Action::First { place, value } => {
-            store(x, code, known.get(*place), known.get(*value))
-        }
+        Action::First { place, value } => { store(x, code, known.get(*place), known.get(*value)) }
         Action::Characters { place, bytes } => {
             store_bytes(x, code, known.get(*place), bytes.as_slice())
         }

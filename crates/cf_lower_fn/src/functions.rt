@@ -13,11 +13,11 @@ ghost use Rattle.cf_lower_fn.specs.Walks.{action_at, statements_at, told};
 ghost use Rattle.cf_plain.specs.Named.{all_actions};
 ghost use Rattle.cf_plain.specs.View as view;
 
-use crate::actions::actions;
 use crate::counts::{bound, nesting};
 use crate::locals::{add_flags, add_locals, add_registers};
 use crate::prototypes::own_prototype;
 use crate::results::add_results;
+use crate::walk::actions;
 use cc_whole::{CBody, CFunction, CLocal, CStatement};
 use cf_base::{Items, Memory};
 use cf_lower_held::{Registers, Scene};
@@ -94,11 +94,7 @@ fn add_all(numbers: &[u32], made: &mut Items<u32>) -> Result<(), Memory>
 }
 
 /// The locals that are the objects of parameters of calls.
-fn arguments_of(
-    alloc: Global,
-    tables: &Tables<'_>,
-    all: &[&Action],
-) -> Result<Items<u32>, Memory>
+fn arguments_of(alloc: Global, tables: &Tables<'_>, all: &[&Action]) -> Result<Items<u32>, Memory>
     ensures { IfOk result (λ made. made ≡ flat_map spec.arguments_at (told tables.now all.now)) }
 {
     let _types = tables.types();
@@ -175,11 +171,7 @@ fn code(
 }
 
 /// The C function of a plain one.
-pub fn lower_function(
-    alloc: Global,
-    tables: &Tables<'_>,
-    f: &PlainFn,
-) -> Result<CFunction, Memory>
+pub fn lower_function(alloc: Global, tables: &Tables<'_>, f: &PlainFn) -> Result<CFunction, Memory>
     ensures { IfOk result (λ made. c.function_of made ≡ spec.lowered_function (classes_of tables.now) (view.function_of tables.now f.now)) }
 {
     let mut all = Vec::new(alloc);

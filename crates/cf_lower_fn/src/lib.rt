@@ -1,17 +1,17 @@
 //! The C functions of plain ones.
 //!
-//! `actions` has what a function's statements do, in order, `counts` how many registers and flags they take, `locals` the C locals of a function,
+//! `walk` has what a function's statements do, in order, `counts` how many registers and flags they take, `locals` the C locals of a function,
 //! `results` those for what calls give, `prototypes` heads of functions, and `functions` whole functions.
 #![tactic(auto)]
 
-mod actions;
 mod counts;
 mod functions;
 mod locals;
 mod prototypes;
 mod results;
+mod walk;
 
-pub use actions::actions;
 pub use functions::lower_function;
 pub use locals::object_type;
 pub use prototypes::{own_prototype, prototype_of};
+pub use walk::actions;

@@ -92,11 +92,7 @@ pub fn prototype_of(
 
 /// The head of a function of the file.
 #[tactic(auto, using(cf_lower_types::proofs::FunctionLaws::parameters_taking, cf_lower_types::proofs::FunctionLaws::result_taking))]
-pub fn own_prototype(
-    alloc: Global,
-    tables: &Tables<'_>,
-    f: &PlainFn,
-) -> Result<CPrototype, Memory>
+pub fn own_prototype(alloc: Global, tables: &Tables<'_>, f: &PlainFn) -> Result<CPrototype, Memory>
     ensures { IfOk result (λ made. made ≡ spec.prototype (view.function_of tables.now f.now)) }
 {
     let made = head(

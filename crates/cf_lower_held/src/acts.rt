@@ -20,6 +20,7 @@ use cf_plain::Action;
 use cf_types::TyId;
 
 /// What a register holds that is set by an action.
+#[tactic(auto, using(crate::proofs::Erased::erased_result))]
 pub fn kept_by(x: &Scene<'_>, rs: &Registers, a: &Action) -> Held
     ensures { kept_in x.now.tables.now result ≡ erased (definition.kept_by (locals_in x.now) (holding x.now rs.now) (action_in x.now a.now)) }
 {

@@ -13,6 +13,7 @@ use cf_plain::{Plain, PlainPart};
 
 /// The registers that statements set hold nothing any more.
 #[cycle(forgets)]
+#[tactic(auto, using(crate::proofs::Forgotten::forget_step))]
 pub fn forget(x: &Scene<'_>, all: &Items<Plain>, rs: &mut Registers)
     ensures { holding x.now rs.new ≡ definition.untouched (locals_in x.now) (holding x.now rs.old) (statements_in x.now all.now) }
 {
@@ -23,6 +24,7 @@ pub fn forget(x: &Scene<'_>, all: &Items<Plain>, rs: &mut Registers)
 
 /// Those that one statement sets.
 #[cycle(forgets)]
+#[tactic(auto, using(crate::proofs::Forgotten::both_forgotten))]
 fn forget_one(x: &Scene<'_>, s: &Plain, rs: &mut Registers)
     ensures { holding x.now rs.new ≡ without (λ r. definition.sets (locals_in x.now) r (statement_in x.now s.now)) (holding x.now rs.old) }
 {
@@ -49,6 +51,7 @@ fn forget_one(x: &Scene<'_>, s: &Plain, rs: &mut Registers)
 
 /// Those that the statements of bases and data members set.
 #[cycle(forgets)]
+#[tactic(auto, using(crate::proofs::Forgotten::part_step))]
 fn forget_parts(x: &Scene<'_>, parts: &Items<PlainPart>, rs: &mut Registers)
     ensures { holding x.now rs.new ≡ without (λ r. definition.parts_set (locals_in x.now) r (parts_in_order (map (built_in x.now) parts.now))) (holding x.now rs.old) }
 {

@@ -76,7 +76,7 @@ module _ (tables : Tables) where
     all_items a b o v c d e f p1 p2 p3 p4 p5 p6 p7 p8 =
         let begun : b ≡ heads = p2 ∙ ap (λ l. l ++ own_prototypes (file_with tables fs xs)) p1 in
         let others : o ≡ defined_elsewhere (file_with tables fs xs) =
-            p4 ∙ ap (λ l. other_names (map name_of l ++ map name_of v) (named_by tables (all_done tables fs ++ all_started tables xs))) begun ∙ others_are v p3 in
+        p4 ∙ ap (λ l. other_names (map name_of l ++ map name_of v) (named_by tables (all_done tables fs ++ all_started tables xs))) begun ∙ others_are v p3 in
         p8 ∙ ap (λ l. l ++ constants_function stores) (p7 ∙ ap (λ l. l ++ fn_items) (p6 ∙ ap (λ l. l ++ v) (p5 ∙ ap (λ l. l ++ o) begun)))
         ∙ ap (λ l. (((heads ++ l) ++ v) ++ fn_items) ++ constants_function stores) others
         ∙ ap (λ l. (((heads ++ defined_elsewhere (file_with tables fs xs)) ++ l) ++ fn_items) ++ constants_function stores) p3

@@ -185,7 +185,15 @@ fn literals_of(
     let mut all = Vec::new(alloc);
     actions(tables, &f.body, &mut all)?;
     let owner = f.name.as_slice();
-    define_literals(alloc, tables, owner, f.is_shared, f.is_local, all.as_slice(), made)?;
+    define_literals(
+        alloc,
+        tables,
+        owner,
+        f.is_shared,
+        f.is_local,
+        all.as_slice(),
+        made,
+    )?;
     Ok(())
 }
 
@@ -194,7 +202,7 @@ pub(crate) fn owner_of(x: &PlainStatic) -> &[u8]
     ensures { result.now ≡ pieces.owner_or x.now.owner }
 {
     match &x.owner {
-        None => b"__sti",
+        None => b"__sti".as_slice(),
         Some(name) => name.as_slice(),
     }
 }
@@ -211,7 +219,15 @@ fn start_literals_of(
     let mut all = Vec::new(alloc);
     actions(tables, &x.start, &mut all)?;
     let is_local = x.is_local || !x.is_shared;
-    define_literals(alloc, tables, owner_of(x), x.is_shared, is_local, all.as_slice(), made)?;
+    define_literals(
+        alloc,
+        tables,
+        owner_of(x),
+        x.is_shared,
+        is_local,
+        all.as_slice(),
+        made,
+    )?;
     Ok(())
 }
 

@@ -2,7 +2,7 @@ use Rattle.std.proofs.Common.{◌≡◌, ◌++◌, drop, map}
 use Rattle.cf_plain.specs.Named.{all_actions, part_actions}
 use Rattle.cf_plain.specs.View.{parts_in_order}
 use Rattle.cf_lower_fn.specs.Walks.{built_at, statements_at, told}
-use Rattle.cf_lower_fn.proofs.actions.+actions.Given as goal
+use Rattle.cf_lower_fn.proofs.walk.+actions.Given as goal
 
 abbrev pub invariant-actions-loop-s : goal.invariant-actions-loop-s
 invariant-actions-loop-s l =

@@ -4,7 +4,7 @@ use Rattle.cf_lower.specs.Statements.{all_lowered, items}
 use Rattle.cf_lower_held.specs.Holds.{erasing}
 use Rattle.cf_lower_held.specs.Scenes.{holding, locals_in, statements_in}
 use Rattle.cf_lower_stmt.specs.Steps.{in_front, inside, written, written_items}
-use Rattle.cf_lower_stmt.proofs.statements.+statements.Given as goal
+use Rattle.cf_lower_stmt.proofs.walk.+statements.Given as goal
 
 abbrev pub invariant-statements-loop-s : goal.invariant-statements-loop-s
 invariant-statements-loop-s l = record {

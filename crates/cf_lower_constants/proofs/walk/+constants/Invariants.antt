@@ -3,7 +3,7 @@ use Rattle.cf_lower.specs.Constants.{constant_code, all_known_after}
 use Rattle.cf_lower_stmt.specs.Steps.{written}
 use Rattle.cf_lower_types.specs.Bare.{classes_of}
 use Rattle.cf_lower_constants.specs.Sites.{statements_at, told_all}
-use Rattle.cf_lower_constants.proofs.constants.+constants.Given as goal
+use Rattle.cf_lower_constants.proofs.walk.+constants.Given as goal
 
 abbrev pub invariant-constants-loop-s : goal.invariant-constants-loop-s
 invariant-constants-loop-s l = record {

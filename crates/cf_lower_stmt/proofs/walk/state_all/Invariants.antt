@@ -1,7 +1,7 @@
 use Rattle.std.proofs.Common.{◌≡◌, ◌++◌, drop, length, map}
 use Rattle.cc_whole.specs.Plain.{inner}
 use Rattle.cf_lower_stmt.specs.Steps.{written, written_items}
-use Rattle.cf_lower_stmt.proofs.statements.state_all.Given as goal
+use Rattle.cf_lower_stmt.proofs.walk.state_all.Given as goal
 
 abbrev pub invariant-loop-statement : goal.invariant-loop-statement
 invariant-loop-statement l =
