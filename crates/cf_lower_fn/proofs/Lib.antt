@@ -1,3 +1,5 @@
+pub mod Heads
+pub mod Locals
 pub mod Loops
 pub mod Results
 pub mod Whole

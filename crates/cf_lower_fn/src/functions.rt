@@ -100,7 +100,7 @@ fn arguments_of(alloc: Global, tables: &Tables<'_>, all: &[&Action]) -> Result<I
     let _types = tables.types();
     let mut made = Items::new(alloc);
     for action in all {
-        add_arguments(action, &mut made)?;
+        add_arguments(*action, &mut made)?;
     }
     Ok(made)
 }

@@ -62,6 +62,7 @@ pub fn object_type(tables: &Tables<'_>, ty: TyId) -> Result<CVariableType, Memor
 }
 
 /// The C locals of locals, from a number on.
+#[tactic(auto, using(crate::proofs::Locals::local_more))]
 pub(crate) fn add_locals(
     alloc: Global,
     tables: &Tables<'_>,
@@ -94,6 +95,7 @@ fn add_register(alloc: Global, register: u32, made: &mut Items<CLocal>) -> Resul
 }
 
 /// Those of each register below a number.
+#[tactic(auto, using(crate::proofs::Locals::register_more))]
 pub(crate) fn add_registers(
     alloc: Global,
     bound: u64,
@@ -111,6 +113,7 @@ pub(crate) fn add_registers(
 }
 
 /// The flags.
+#[tactic(auto, using(crate::proofs::Locals::flag_more))]
 pub(crate) fn add_flags(alloc: Global, depth: u32, made: &mut Items<CLocal>) -> Result<(), Memory>
     ensures { OnOk result (made.new ≡ made.old ++ spec.flags depth) }
 {

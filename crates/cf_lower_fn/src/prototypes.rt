@@ -39,6 +39,7 @@ fn add_parameter(
 }
 
 /// Parameters of these types.
+#[tactic(auto, using(crate::proofs::Heads::parameter_more))]
 fn parameters(
     alloc: Global,
     tables: &Tables<'_>,
@@ -77,6 +78,7 @@ fn head(
 }
 
 /// The head of a function of this name and type that another file defines.
+#[tactic(auto, using(crate::proofs::Heads::other_head))]
 pub fn prototype_of(
     alloc: Global,
     tables: &Tables<'_>,
@@ -91,7 +93,7 @@ pub fn prototype_of(
 }
 
 /// The head of a function of the file.
-#[tactic(auto, using(cf_lower_types::proofs::FunctionLaws::parameters_taking, cf_lower_types::proofs::FunctionLaws::result_taking))]
+#[tactic(auto, using(crate::proofs::Heads::own_head))]
 pub fn own_prototype(alloc: Global, tables: &Tables<'_>, f: &PlainFn) -> Result<CPrototype, Memory>
     ensures { IfOk result (λ made. made ≡ spec.prototype (view.function_of tables.now f.now)) }
 {

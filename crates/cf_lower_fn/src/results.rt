@@ -94,7 +94,7 @@ fn result_types(alloc: Global, tables: &Tables<'_>, all: &[&Action]) -> Result<V
 {
     let mut made = Vec::new(alloc);
     for action in all {
-        add_result(tables, action, &mut made)?;
+        add_result(tables, *action, &mut made)?;
     }
     Ok(made)
 }

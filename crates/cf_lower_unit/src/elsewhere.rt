@@ -193,7 +193,7 @@ fn declare_all<'a>(
 {
     let mut made = Items::new(alloc);
     for action in all {
-        declare(alloc, tables, action, names, &mut made)?;
+        declare(alloc, tables, *action, names, &mut made)?;
     }
     Ok(made)
 }

@@ -168,7 +168,7 @@ fn define_literals(
 {
     let _types = tables.types();
     for action in all {
-        define_literal(alloc, owner, is_shared, is_local, action, made)?;
+        define_literal(alloc, owner, is_shared, is_local, *action, made)?;
     }
     Ok(())
 }
