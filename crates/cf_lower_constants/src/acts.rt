@@ -42,10 +42,10 @@ fn operated<'k>(
 ) -> Result<Known<'k>, Memory>
     ensures { IfOk result (λ given. told x.now given ≡ definition.known_by (classes_of x.now.tables.now) x.now.owner.now (told_all x.now known.now) (plain.operate op kind left right)) }
 {
-    let Some(a) = number_of(known.get(left)) else {
+    let Some(a) = number_of(&known.get(left)) else {
         return Ok(Known::Nothing);
     };
-    let Some(b) = number_of(known.get(right)) else {
+    let Some(b) = number_of(&known.get(right)) else {
         return Ok(Known::Nothing);
     };
     let given = computed(op, kind, a, b)?;
@@ -63,14 +63,19 @@ fn changed<'k>(
 ) -> Result<Known<'k>, Memory>
     ensures { IfOk result (λ given. told x.now given ≡ definition.known_by (classes_of x.now.tables.now) x.now.owner.now (told_all x.now known.now) (plain.unary op kind operand)) }
 {
-    let Some(a) = number_of(known.get(operand)) else {
+    let Some(a) = number_of(&known.get(operand)) else {
         return Ok(Known::Nothing);
     };
-    let given = match op {
-        UnaryOperator::Negate => computed(Arith::Subtract, kind, 0, a)?,
-        UnaryOperator::Complement => computed(Arith::Xor, kind, a, convert_int(-1, kind))?,
-    };
-    Ok(of_number(given))
+    match op {
+        UnaryOperator::Negate => {
+            let given = computed(Arith::Subtract, kind, 0, a)?;
+            Ok(of_number(given))
+        }
+        UnaryOperator::Complement => {
+            let given = computed(Arith::Xor, kind, a, convert_int(-1, kind))?;
+            Ok(of_number(given))
+        }
+    }
 }
 
 /// What a register holds that is set by an action.
@@ -92,13 +97,13 @@ pub(crate) fn known_by<'k>(
         }
         Action::Function { name, .. } => Ok(Known::Function(name.as_slice())),
         Action::Dereference { pointer } => Ok(known.get(*pointer)),
-        Action::Decay { array } => Ok(decayed(x, known.get(*array))),
-        Action::Index { left, right } => sum(x, known.get(*left), known.get(*right)),
+        Action::Decay { array } => Ok(decayed(x, &known.get(*array))),
+        Action::Index { left, right } => sum(x, &known.get(*left), &known.get(*right)),
         Action::Convert { ty, operand } => {
-            Ok(converted(sort_of(x.tables, *ty), known.get(*operand)))
+            Ok(converted(sort_of(x.tables, *ty), &known.get(*operand)))
         }
         Action::FromVoid { ty, operand } => {
-            Ok(as_address(Target::Exactly(*ty), known.get(*operand)))
+            Ok(as_address(Target::Exactly(*ty), &known.get(*operand)))
         }
         Action::Operate {
             op,
@@ -107,10 +112,10 @@ pub(crate) fn known_by<'k>(
             right,
         } => operated(x, known, *op, *kind, *left, *right),
         Action::Unary { op, kind, operand } => changed(x, known, *op, *kind, *operand),
-        Action::Truth { operand } => Ok(of_truth(truth(known.get(*operand)))),
-        Action::Not { operand } => Ok(of_truth(inverted(truth(known.get(*operand))))),
+        Action::Truth { operand } => Ok(of_truth(truth(&known.get(*operand)))),
+        Action::Not { operand } => Ok(of_truth(inverted(truth(&known.get(*operand))))),
         Action::PointerOperate { op, left, right } => {
-            pointer_operated(x, *op, known.get(*left), known.get(*right))
+            pointer_operated(x, *op, &known.get(*left), &known.get(*right))
         }
         Action::This
         | Action::Result

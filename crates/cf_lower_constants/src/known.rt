@@ -41,19 +41,25 @@ pub enum Known<'a> {
 
 /// Whether it is neither 0 nor null, where that is known (4.1, 5.3).
 #[tactic(auto, using(crate::proofs::Truths::zero_is_false, crate::proofs::Truths::other_is_true))]
-pub(crate) fn truth(known: Known<'_>) -> Option<bool>
-    ensures { (tables : TablesOf) (f : NameOf) → result ≡ definition.holds_truth (known_in tables f known.entry) }
+pub(crate) fn truth(known: &Known<'_>) -> Option<bool>
+    ensures { (tables : TablesOf) (f : NameOf) → result ≡ definition.holds_truth (known_in tables f known.now) }
 {
     match known {
         Known::Nothing => None,
-        Known::Number(number) => { if number == 0 { Some(false) } else { Some(true) } }
+        Known::Number(number) => {
+            if *number == 0 {
+                Some(false)
+            } else {
+                Some(true)
+            }
+        }
         Known::Null => Some(false),
         Known::At(_, _, _) | Known::Function(_) => Some(true),
     }
 }
 
 /// A truth, as a number.
-pub(crate) fn of_truth<'a>(truth: Option<bool>) -> Known<'a>
+pub(crate) fn of_truth<'k>(truth: Option<bool>) -> Known<'k>
     ensures { (tables : TablesOf) (f : NameOf) → known_in tables f result ≡ definition.truth_known truth }
 {
     match truth {
@@ -74,12 +80,12 @@ pub(crate) fn inverted(truth: Option<bool>) -> Option<bool>
 }
 
 /// What is known as an address of this type: 0 is null, and a place is one of it.
-pub(crate) fn as_address(target: Target, known: Known<'_>) -> Known<'_>
-    ensures { (tables : TablesOf) (f : NameOf) → known_in tables f result ≡ definition.converted_known (Some (address (target_in tables target))) (known_in tables f known.entry) }
+pub(crate) fn as_address<'k>(target: Target, known: &Known<'k>) -> Known<'k>
+    ensures { (tables : TablesOf) (f : NameOf) → known_in tables f result ≡ definition.converted_known (Some (address (target_in tables target))) (known_in tables f known.now) }
 {
     match known {
         Known::Number(_) => Known::Null,
-        Known::At(label, at, _) => Known::At(label, at, target),
+        Known::At(label, at, _) => Known::At(*label, *at, target),
         Known::Nothing => Known::Nothing,
         Known::Null => Known::Null,
         Known::Function(name) => Known::Function(name),
@@ -87,12 +93,12 @@ pub(crate) fn as_address(target: Target, known: Known<'_>) -> Known<'_>
 }
 
 /// The same as a function: 0 is null.
-fn as_code(known: Known<'_>) -> Known<'_>
-    ensures { (tables : TablesOf) (f : NameOf) (t : SourceType) → known_in tables f result ≡ definition.converted_known (Some (code t)) (known_in tables f known.entry) }
+fn as_code<'k>(known: &Known<'k>) -> Known<'k>
+    ensures { (tables : TablesOf) (f : NameOf) (t : SourceType) → known_in tables f result ≡ definition.converted_known (Some (code t)) (known_in tables f known.now) }
 {
     match known {
         Known::Number(_) => Known::Null,
-        Known::At(label, at, target) => Known::At(label, at, target),
+        Known::At(label, at, target) => Known::At(*label, *at, *target),
         Known::Nothing => Known::Nothing,
         Known::Null => Known::Null,
         Known::Function(name) => Known::Function(name),
@@ -100,12 +106,12 @@ fn as_code(known: Known<'_>) -> Known<'_>
 }
 
 /// The same as a number of a kind.
-fn as_number(kind: Kind, known: Known<'_>) -> Known<'_>
-    ensures { (tables : TablesOf) (f : NameOf) → known_in tables f result ≡ definition.converted_known (Some (number kind)) (known_in tables f known.entry) }
+fn as_number<'k>(kind: Kind, known: &Known<'k>) -> Known<'k>
+    ensures { (tables : TablesOf) (f : NameOf) → known_in tables f result ≡ definition.converted_known (Some (number kind)) (known_in tables f known.now) }
 {
     match known {
-        Known::Number(number) => Known::Number(convert_int(number, kind)),
-        Known::At(label, at, target) => Known::At(label, at, target),
+        Known::Number(number) => Known::Number(convert_int(*number, kind)),
+        Known::At(label, at, target) => Known::At(*label, *at, *target),
         Known::Nothing => Known::Nothing,
         Known::Null => Known::Null,
         Known::Function(name) => Known::Function(name),
@@ -113,11 +119,11 @@ fn as_number(kind: Kind, known: Known<'_>) -> Known<'_>
 }
 
 /// What is known as a scalar of this sort (4).
-pub(crate) fn converted(to: Option<Scalar>, known: Known<'_>) -> Known<'_>
-    ensures { (tables : TablesOf) (f : NameOf) → known_in tables f result ≡ definition.converted_known (option_map (sort_in tables) to) (known_in tables f known.entry) }
+pub(crate) fn converted<'k>(to: Option<Scalar>, known: &Known<'k>) -> Known<'k>
+    ensures { (tables : TablesOf) (f : NameOf) → known_in tables f result ≡ definition.converted_known (option_map (sort_in tables) to) (known_in tables f known.now) }
 {
     match to {
-        None => known,
+        None => *known,
         Some(Scalar::Number(kind)) => as_number(kind, known),
         Some(Scalar::Address(place)) => as_address(Target::Place(place), known),
         Some(Scalar::Code(_)) => as_code(known),

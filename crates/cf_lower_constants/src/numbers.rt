@@ -13,11 +13,11 @@ use cf_base::{Arith, Kind, Memory};
 use cf_types::{convert_int, int_op};
 
 /// The number, if it is known to be one.
-pub(crate) fn number_of(known: Known<'_>) -> Option<i64>
-    ensures { (tables : TablesOf) (f : NameOf) → result ≡ number_in (known_in tables f known.entry) }
+pub(crate) fn number_of(known: &Known<'_>) -> Option<i64>
+    ensures { (tables : TablesOf) (f : NameOf) → result ≡ number_in (known_in tables f known.now) }
 {
     match known {
-        Known::Number(number) => Some(number),
+        Known::Number(number) => Some(*number),
         Known::Nothing | Known::Null | Known::At(_, _, _) | Known::Function(_) => None,
     }
 }

@@ -38,13 +38,13 @@ fn target_item(tables: &Tables<'_>, target: Target) -> Target
 }
 
 /// A pointer to the first element of an array (4.6).
-pub(crate) fn decayed<'k>(x: &Site<'_>, known: Known<'k>) -> Known<'k>
-    ensures { told x.now result ≡ definition.decayed (told x.now known.entry) }
+pub(crate) fn decayed<'k>(x: &Site<'_>, known: &Known<'k>) -> Known<'k>
+    ensures { told x.now result ≡ definition.decayed (told x.now known.now) }
 {
     match known {
-        Known::At(label, at, target) => Known::At(label, at, target_item(x.tables, target)),
+        Known::At(label, at, target) => { Known::At(*label, *at, target_item(x.tables, *target)) }
         Known::Nothing => Known::Nothing,
-        Known::Number(number) => Known::Number(number),
+        Known::Number(number) => Known::Number(*number),
         Known::Null => Known::Null,
         Known::Function(name) => Known::Function(name),
     }
@@ -72,21 +72,21 @@ fn further<'k>(
 }
 
 /// What is known, so many elements further.
-fn moved<'k>(x: &Site<'_>, known: Known<'k>, count: i64) -> Result<Known<'k>, Memory>
-    ensures { IfOk result (λ there. told x.now there ≡ definition.moved (classes_of x.now.tables.now) (told x.now known.entry) count) }
+fn moved<'k>(x: &Site<'_>, known: &Known<'k>, count: i64) -> Result<Known<'k>, Memory>
+    ensures { IfOk result (λ there. told x.now there ≡ definition.moved (classes_of x.now.tables.now) (told x.now known.now) count) }
 {
     match known {
-        Known::At(label, at, target) => further(x, label, at, target, count),
+        Known::At(label, at, target) => further(x, *label, *at, *target, count),
         Known::Nothing | Known::Number(_) | Known::Null | Known::Function(_) => Ok(Known::Nothing),
     }
 }
 
 /// The same where the first is no number.
-fn sum_with<'k>(x: &Site<'_>, a: Known<'k>, b: Known<'k>) -> Result<Known<'k>, Memory>
-    ensures { IfOk result (λ there. told x.now there ≡ sum_with (classes_of x.now.tables.now) (told x.now a.entry) (told x.now b.entry)) }
+fn sum_with<'k>(x: &Site<'_>, a: &Known<'k>, b: &Known<'k>) -> Result<Known<'k>, Memory>
+    ensures { IfOk result (λ there. told x.now there ≡ sum_with (classes_of x.now.tables.now) (told x.now a.now) (told x.now b.now)) }
 {
     match b {
-        Known::Number(count) => moved(x, a, count),
+        Known::Number(count) => moved(x, a, *count),
         Known::Nothing | Known::At(_, _, _) | Known::Null | Known::Function(_) => Ok(
             Known::Nothing,
         ),
@@ -95,8 +95,8 @@ fn sum_with<'k>(x: &Site<'_>, a: Known<'k>, b: Known<'k>) -> Result<Known<'k>, M
 
 /// A place and a number, in either order.
 #[tactic(auto, using(crate::proofs::Places::sum_first, crate::proofs::Places::sum_second))]
-pub(crate) fn sum<'k>(x: &Site<'_>, a: Known<'k>, b: Known<'k>) -> Result<Known<'k>, Memory>
-    ensures { IfOk result (λ there. told x.now there ≡ definition.sum (classes_of x.now.tables.now) (told x.now a.entry) (told x.now b.entry)) }
+pub(crate) fn sum<'k>(x: &Site<'_>, a: &Known<'k>, b: &Known<'k>) -> Result<Known<'k>, Memory>
+    ensures { IfOk result (λ there. told x.now there ≡ definition.sum (classes_of x.now.tables.now) (told x.now a.now) (told x.now b.now)) }
 {
     match number_of(a) {
         Some(count) => {
@@ -111,8 +111,8 @@ pub(crate) fn sum<'k>(x: &Site<'_>, a: Known<'k>, b: Known<'k>) -> Result<Known<
 }
 
 /// A place less a number.
-fn less<'k>(x: &Site<'_>, a: Known<'k>, b: Known<'k>) -> Result<Known<'k>, Memory>
-    ensures { IfOk result (λ there. told x.now there ≡ definition.pointer_known (classes_of x.now.tables.now) pointer.Subtract (told x.now a.entry) (told x.now b.entry)) }
+fn less<'k>(x: &Site<'_>, a: &Known<'k>, b: &Known<'k>) -> Result<Known<'k>, Memory>
+    ensures { IfOk result (λ there. told x.now there ≡ definition.pointer_known (classes_of x.now.tables.now) pointer.Subtract (told x.now a.now) (told x.now b.now)) }
 {
     match b {
         Known::Number(count) => {
@@ -129,10 +129,10 @@ fn less<'k>(x: &Site<'_>, a: Known<'k>, b: Known<'k>) -> Result<Known<'k>, Memor
 pub(crate) fn pointer_operated<'k>(
     x: &Site<'_>,
     op: PointerOperator,
-    a: Known<'k>,
-    b: Known<'k>,
+    a: &Known<'k>,
+    b: &Known<'k>,
 ) -> Result<Known<'k>, Memory>
-    ensures { IfOk result (λ there. told x.now there ≡ definition.pointer_known (classes_of x.now.tables.now) op (told x.now a.entry) (told x.now b.entry)) }
+    ensures { IfOk result (λ there. told x.now there ≡ definition.pointer_known (classes_of x.now.tables.now) op (told x.now a.now) (told x.now b.now)) }
 {
     match op {
         PointerOperator::Add => sum(x, a, b),

@@ -55,12 +55,12 @@ impl<'a> Knowns<'a> {
     }
 
     /// This is known of a register from now on.
-    pub fn know(&mut self, register: u32, known: Known<'a>) -> Result<(), Memory>
-        ensures { (tables : TablesOf) (f : NameOf) → OnOk result (knowing tables f self.new ≡ definition.know (knowing tables f self.old) register (known_in tables f known.entry)) }
+    pub fn know(&mut self, register: u32, known: &Known<'a>) -> Result<(), Memory>
+        ensures { (tables : TablesOf) (f : NameOf) → OnOk result (knowing tables f self.new ≡ definition.know (knowing tables f self.old) register (known_in tables f known.now)) }
     {
         let index = register as usize;
         reach(&mut self.known, index)?;
-        self.known[index] = known;
+        self.known[index] = *known;
         Ok(())
     }
 

@@ -45,12 +45,12 @@ fn place_at(x: &Site<'_>, label: Label<'_>, at: u64) -> Result<Boxed<CExpression
 }
 
 /// A known value, for a store.
-fn written_value(x: &Site<'_>, known: Known<'_>) -> Result<Boxed<CExpression>, Memory>
-    ensures { IfOk result (λ made. expression_of made ≡ definition.written (classes_of x.now.tables.now) (told x.now known.entry)) }
+fn written_value(x: &Site<'_>, known: &Known<'_>) -> Result<Boxed<CExpression>, Memory>
+    ensures { IfOk result (λ made. expression_of made ≡ definition.written (classes_of x.now.tables.now) (told x.now known.now)) }
 {
     match known {
-        Known::Number(value) => constant_of(x.alloc, value),
-        Known::At(label, at, _) => place_at(x, label, at),
+        Known::Number(value) => constant_of(x.alloc, *value),
+        Known::At(label, at, _) => place_at(x, *label, *at),
         Known::Function(name) => load_named(x.alloc, Items::from_slice(x.alloc, name)?),
         Known::Nothing | Known::Null => zero(x.alloc),
     }
@@ -74,9 +74,9 @@ fn store_scalar(
     scalar: Option<Scalar>,
     label: Label<'_>,
     at: u64,
-    value: Known<'_>,
+    value: &Known<'_>,
 ) -> Result<(), Memory>
-    ensures { (tables : TablesOf) → OnOk result (written code.new ≡ written code.old ++ put_if (option_map (sort_in tables) scalar) (spec.behind (plain.address (label_in x.now.owner.now label.entry)) at) (definition.written (classes_of x.now.tables.now) (told x.now value.entry))) }
+    ensures { (tables : TablesOf) → OnOk result (written code.new ≡ written code.old ++ put_if (option_map (sort_in tables) scalar) (spec.behind (plain.address (label_in x.now.owner.now label.entry)) at) (definition.written (classes_of x.now.tables.now) (told x.now value.now))) }
 {
     match scalar {
         None => Ok(()),
@@ -93,14 +93,21 @@ fn store_scalar(
 fn store(
     x: &Site<'_>,
     code: &mut Items<CStatement>,
-    place: Known<'_>,
-    value: Known<'_>,
+    place: &Known<'_>,
+    value: &Known<'_>,
 ) -> Result<(), Memory>
-    ensures { OnOk result (written code.new ≡ written code.old ++ definition.stored (classes_of x.now.tables.now) (told x.now place.entry) (told x.now value.entry)) }
+    ensures { OnOk result (written code.new ≡ written code.old ++ definition.stored (classes_of x.now.tables.now) (told x.now place.now) (told x.now value.now)) }
 {
     match place {
         Known::At(label, at, target) => {
-            store_scalar(x, code, target_scalar(x.tables, target), label, at, value)
+            store_scalar(
+                x,
+                code,
+                target_scalar(x.tables, *target),
+                *label,
+                *at,
+                value,
+            )
         }
         Known::Nothing | Known::Number(_) | Known::Null | Known::Function(_) => Ok(()),
     }
@@ -131,13 +138,13 @@ fn put_bytes(
 fn store_bytes(
     x: &Site<'_>,
     code: &mut Items<CStatement>,
-    place: Known<'_>,
+    place: &Known<'_>,
     bytes: &[u8],
 ) -> Result<(), Memory>
-    ensures { OnOk result (written code.new ≡ written code.old ++ definition.stored_bytes (classes_of x.now.tables.now) (told x.now place.entry) bytes.now) }
+    ensures { OnOk result (written code.new ≡ written code.old ++ definition.stored_bytes (classes_of x.now.tables.now) (told x.now place.now) bytes.now) }
 {
     match place {
-        Known::At(label, at, _) => put_bytes(x, code, label, at, bytes),
+        Known::At(label, at, _) => put_bytes(x, code, *label, *at, bytes),
         Known::Nothing | Known::Number(_) | Known::Null | Known::Function(_) => Ok(()),
     }
 }
@@ -152,9 +159,9 @@ pub(crate) fn done(
     ensures { OnOk result (written code.new ≡ written code.old ++ definition.constant_done (classes_of x.now.tables.now) (told_all x.now known.now) (action_at x.now a.now)) }
 {
     match a {
-        Action::First { place, value } => { store(x, code, known.get(*place), known.get(*value)) }
+        Action::First { place, value } => { store(x, code, &known.get(*place), &known.get(*value)) }
         Action::Characters { place, bytes } => {
-            store_bytes(x, code, known.get(*place), bytes.as_slice())
+            store_bytes(x, code, &known.get(*place), bytes.as_slice())
         }
         Action::Number { .. }
         | Action::Text { .. }

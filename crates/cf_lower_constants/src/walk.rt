@@ -46,7 +46,7 @@ fn branch<'k>(
     ensures code { OnOk result (written code.new ≡ written code.old ++ definition.constant_stores (classes_of x.now.tables.now) (plain.branch register (statements_at x.now yes.now) (statements_at x.now no.now)) x.now.owner.now (told_all x.now known.old)) }
     ensures known { OnOk result (told_all x.now known.new ≡ definition.known_after (classes_of x.now.tables.now) (plain.branch register (statements_at x.now yes.now) (statements_at x.now no.now)) x.now.owner.now (told_all x.now known.old)) }
 {
-    match truth(known.get(register)) {
+    match truth(&known.get(register)) {
         None => {
             known.forget();
             Ok(())
@@ -71,7 +71,8 @@ fn constant<'k>(
         Plain::Act { action } => done(x, known, action, code),
         Plain::Set { register, action } => {
             let given = known_by(x, known, action)?;
-            known.know(*register, given)
+            known.know(*register, &given)?;
+            Ok(())
         }
         Plain::If { register, yes, no } => branch(x, yes, no, *register, known, code),
         Plain::Loop { .. }

@@ -199,13 +199,13 @@ fn declare_all<'a>(
 }
 
 /// Declares what a file names, but for the names of these items.
-pub(crate) fn declare_others(
+pub(crate) fn declare_others<'a>(
     alloc: Global,
     tables: &Tables<'_>,
-    functions: &[PlainFn],
-    statics: &[PlainStatic],
-    heads: &[CItem],
-    variables: &[CItem],
+    functions: &'a [PlainFn],
+    statics: &'a [PlainStatic],
+    heads: &'a [CItem],
+    variables: &'a [CItem],
 ) -> Result<Items<CItem>, Memory>
     ensures { IfOk result (λ made. items_of made
         ≡ spec.other_names (map name_of (items_of heads.now) ++ map name_of (items_of variables.now))
