@@ -2,7 +2,7 @@
 
 ghost use Rattle.std.specs.Prelude.{◌≡◌, ◌++◌, [], ◌∷◌, map, option_map, IfOk, OnOk};
 ghost use Rattle.cc_whole.specs.Plain as c;
-ghost use Rattle.cc_whole.specs.Plain.{body_of, inner, switch_in_order, switch_item_of};
+ghost use Rattle.cc_whole.specs.Plain.{body_of, inner, statement_of, switch_in_order, switch_item_of};
 ghost use Rattle.cc_whole.specs.declared.types.CConstant.TheVariants as constants;
 ghost use Rattle.cf_base.specs.Integers.{convert};
 ghost use Rattle.cf_base.specs.declared.kind.Kind.TheVariants as kind;
@@ -60,12 +60,20 @@ fn in_switch(around: Around) -> Result<Around, Memory>
     })
 }
 
+/// A statement comes among the labels of a switch.
+fn state(items: &mut Items<CSwitchItem>, statement: CStatement) -> Result<(), Memory>
+    ensures { OnOk result (written_items items.new ≡ written_items items.old ++ inner (statement_of statement) ∷ []) }
+{
+    items.push(CSwitchItem::Statement(statement))?;
+    Ok(())
+}
+
 /// Statements come among the labels of a switch.
 fn state_all(items: &mut Items<CSwitchItem>, statements: Items<CStatement>) -> Result<(), Memory>
     ensures { OnOk result (written_items items.new ≡ written_items items.old ++ map inner (written statements)) }
 {
     for statement in statements.into_vec() {
-        items.push(CSwitchItem::Statement(statement))?;
+        state(items, statement)?;
     }
     Ok(())
 }

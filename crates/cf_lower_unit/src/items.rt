@@ -19,7 +19,7 @@ pub(crate) fn append(made: &mut Items<CItem>, more: Items<CItem>) -> Result<(), 
     ensures { OnOk result (items_of made.new ≡ items_of made.old ++ items_of more) }
 {
     for item in more.into_vec() {
-        made.push(item)?;
+        push(made, item)?;
     }
     Ok(())
 }
