@@ -1,4 +1,4 @@
-use Rattle.std.proofs.Common.{List, length, map, ◌++◌, ◌∷◌, [], ap, sym, ◌∙◌, append-nil}
+use Rattle.std.proofs.Common.{arith, List, length, map, ◌≤◌, ◌++◌, ◌∷◌, [], ap, sym, ◌∙◌, append-nil}
 use Rattle.std.proofs.lemmas.Iterator.Adapters.{YieldsList-from_vec}
 use Rattle.std.proofs.lemmas.Iterator.Consumers.{YieldsList-turn, YieldsList-end}
 use Rattle.std.proofs.lemmas.List.{length_push, at_drop_all}
@@ -24,6 +24,7 @@ returns c =
     let given = c.into_iter-statement-iterator.ensures.into_iter_gives in
     let items = YieldsList-from_vec {s = c.into_iter-statement-iterator.result} c.args.statements (given.0 ∙ all) (given.1 ∙ c.into_vec-statement-items.result.ok.0 ∙ ap length all) in
     let last = YieldsList-end items c.loop-statement.yielded c.loop-statement.statement-iterator c.loop-statement.yielded_by _ c.next.new.self c.in-None.is c.next.ensures.steps in
+    let past : length c.args.statements ≤ length c.loop-statement.yielded = omega (arith, last.1) in
     sym (append-nil (written_items c.loop-statement.items))
-    ∙ sym (at_drop_all (λ (l : List CStatement). written_items c.loop-statement.items ++ map inner (written l)) c.args.statements (length c.loop-statement.yielded) last.1)
+    ∙ sym (at_drop_all (λ (l : List CStatement). written_items c.loop-statement.items ++ map inner (written l)) c.args.statements (length c.loop-statement.yielded) past)
     ∙ c.loop-statement.invariant
