@@ -1,5 +1,5 @@
 -- Operands that a type takes.
-use Rattle.std.proofs.Common.{◌≡◌, Bool, true, ◌||◌, IsTrue, refl, sym, subst, ◌∙◌}
+use Rattle.std.proofs.Common.{◌≡◌, Bool, true, false, ◌||◌, IsTrue, refl, sym, subst, ◌∙◌}
 use Rattle.std.specs.Prelude.{ℤ}
 use Rattle.cf_base.specs.declared.arith.Arith.{Arith}
 use Rattle.cf_base.specs.declared.kind.Kind.{Kind}
@@ -10,7 +10,7 @@ use Rattle.cc_whole_eval.proofs.Converted.{convert-fits}
 pub fits_same : (k : Kind) (z w : ℤ) → w ≡ convert k z → w ≡ z → IsTrue (fits k z)
 fits_same k z w e same = subst (λ y. IsTrue (fits k y)) (sym e ∙ same) (convert-fits k z)
 
-one_so : (a b : Bool) → IsTrue a → IsTrue (a || b)
+one_so : (a b : Bool) → a ≡ true → IsTrue (a || b)
 one_so true b e = refl
 one_so false b e = cc
 

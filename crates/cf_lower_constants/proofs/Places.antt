@@ -1,5 +1,6 @@
 -- Known places that move.
-use Rattle.std.proofs.Common.{◌≡◌, ℕ, ◌+◌, ◌-◌, ◌*◌, List, Some, None, refl, sym, ap, ◌∙◌}
+use Rattle.std.proofs.Common.{◌≡◌, ℕ, suc, ◌+◌, ◌-◌, ◌*◌, arith, List, Some, None, refl, sym, ap, ◌∙◌}
+use Rattle.std.proofs.lemmas.Int.{ints}
 use Rattle.std.specs.Prelude.{ℤ, pos, negsuc, ◌≤ℤ◌, ◌<ℤ◌, unsigned_abs}
 use Rattle.cf_base.specs.declared.kind.Kind.TheVariants.{Char}
 use Rattle.cf_core.specs.Types.{Name, SourceType, void, integer, enumeration, class, pointer, reference, array, takes, gives, data_member, function_member, const, plain, without_const, element}
@@ -41,11 +42,11 @@ module _ (tables : Tables) where
 
 pub further_on : (n : Name) (t : SourceType) (a bytes w : ℕ) (z : ℤ) → pos 0 ≤ℤ z → w ≡ a + unsigned_abs z * bytes → at n w t ≡ further n t a bytes z
 further_on n t a bytes w (pos k) le e = ap (λ o. at n o t) e
-further_on n t a bytes w (negsuc k) le e = absurd le
+further_on n t a bytes w (negsuc k) le e = absurd (omega (arith, ints, le))
 
 pub further_back : (n : Name) (t : SourceType) (a bytes w : ℕ) (z : ℤ) → z <ℤ pos 0 → w ≡ a - unsigned_abs z * bytes → at n w t ≡ further n t a bytes z
-further_back n t a bytes w (pos k) lt e = absurd lt
-further_back n t a bytes w (negsuc k) lt e = ap (λ o. at n o t) e
+further_back n t a bytes w (pos k) lt e = absurd (omega (arith, ints, lt))
+further_back n t a bytes w (negsuc k) lt e = ap (λ o. at n o t) (e ∙ ap (λ m. a - m * bytes) (let next : suc k ≡ k + 1 = omega arith in next))
 
 -- ---- sums
 

@@ -5,7 +5,7 @@ use Rattle.cc_whole.specs.Plain.{Statement, SwitchItem, SwitchItems, label, defa
 use Rattle.cc_whole.specs.declared.statement.CStatement.{CStatement}
 use Rattle.cc_whole.specs.declared.statement.CSwitchItem.{CSwitchItem}
 use Rattle.cf_plain.specs.Plain as plain
-use Rattle.cf_plain.specs.Plain.{Plain, Plains, more, case_label, default_label}
+use Rattle.cf_plain.specs.Plain.{Plain, Plains, more, case_label}
 use Rattle.cf_lower.specs.Kept.{Keeping, after}
 use Rattle.cf_lower.specs.Statements.{Inside, items, lowered, stated_all}
 use Rattle.cf_lower_held.specs.Holds.{erasing}
@@ -40,21 +40,18 @@ stated_more xs ys whole all n k s within is so_far pushed next =
 
 -- ---- a statement of a switch, by whether it is a label
 
+same_label : (a b : SwitchItem) → Some a ≡ Some b → a ≡ b
+same_label a b e = cc
+
 module _ (x : Inside) (g h : Keeping) (rest : Plains) where
   at_label : (s : Plain) (l : SwitchItem) → label_in s ≡ Some l → items (more s rest) x g h ≡ in_front (l ∷ []) (items rest x g g)
-  at_label (case_label z) l e = ap (λ k. in_front (k ∷ []) (items rest x g g)) (same e)
-    where
-      same : {a b : SwitchItem} → Some a ≡ Some b → a ≡ b
-      same e = cc
-  at_label default_label l e = ap (λ k. in_front (k ∷ []) (items rest x g g)) (same e)
-    where
-      same : {a b : SwitchItem} → Some a ≡ Some b → a ≡ b
-      same e = cc
+  at_label (case_label z) l e = ap (λ k. in_front (k ∷ []) (items rest x g g)) (same_label _ l e)
+  at_label plain.default_label l e = ap (λ k. in_front (k ∷ []) (items rest x g g)) (same_label _ l e)
   at_label s l e = cc
 
   at_statement : (s : Plain) → label_in s ≡ None → items (more s rest) x g h ≡ stated_all (lowered s x h) (items rest x g (after x.locals s h))
   at_statement (case_label z) e = cc
-  at_statement default_label e = cc
+  at_statement plain.default_label e = cc
   at_statement (plain.act a) e = refl
   at_statement (plain.set r a) e = refl
   at_statement (plain.branch r ss ts) e = refl

@@ -43,7 +43,7 @@ module _ (tables : Tables) (p : Expression) where
   pub of_array : (t : ℕ) (x : Form) (u n at : ℕ) (w v : List Statement) → bare tables t ≡ form_type tables x → elements_in x ≡ Some (u, n)
       → v ≡ w ++ zeros (classes_of tables) (array (bare tables u) n) p at → v ≡ w ++ zeros (classes_of tables) (bare tables t) p at
   of_array t (form.Array a m) u n at w v e k written =
-      written ∙ ap (λ y. w ++ zeros (classes_of tables) (array (bare tables (y.0)) (y.1)) p at) (sym (same (a, m) (u, n) k)) ∙ sym (ap (λ s. w ++ zeros (classes_of tables) s p at) e)
+      written ∙ ap (λ (y : ℕ × ℕ). w ++ zeros (classes_of tables) (array (bare tables y.0) y.1) p at) (sym (same (a, m) (u, n) k)) ∙ sym (ap (λ s. w ++ zeros (classes_of tables) s p at) e)
     where
       same : (a b : ℕ × ℕ) → Some a ≡ Some b → a ≡ b
       same a b e = cc
