@@ -3,3 +3,4 @@ pub mod Numbers
 pub mod Operated
 pub mod Places
 pub mod Truths
+pub mod Turns

@@ -8,7 +8,8 @@ use Rattle.cf_plain.specs.Plain.{Register}
 use Rattle.cf_lower.specs.Constants as definition
 use Rattle.cf_lower_constants.specs.declared.known.Known.{Known}
 use Rattle.cf_lower_constants.specs.declared.known.Known.TheVariants as known
-use Rattle.cf_lower_constants.specs.Knowing.{known_at, known_in}
+use Rattle.cf_lower_constants.specs.declared.registers.Knowns.{Knowns}
+use Rattle.cf_lower_constants.specs.Knowing.{known_at, known_in, knowing}
 
 -- nothing more is known where nothing is put at the end
 pub at_longer : (xs : List Known) (q : ℕ) → known_at (xs ++ known.Nothing ∷ []) q ≡ known_at xs q
@@ -57,3 +58,11 @@ module _ (tables : Tables) (f : Name) where
   -- nothing is known
   pub none_known : (xs : List Known) → xs ≡ [] → of_list xs ≡ definition.nothing_known
   none_known xs e = ap of_list e
+
+-- of the registers themselves
+pub know_one : (tables : Tables) (f : Name) (old new : Knowns) (ys : List Known) (i r : ℕ) (x : Known) → ((q : ℕ) → known_at ys q ≡ known_at old.known.items q) → i < length ys
+    → i ≡ r → new.known.items ≡ slice_set ys i x → knowing tables f new ≡ definition.know (knowing tables f old) r (known_in tables f x)
+know_one tables f old new ys i r x same lt at set = known_one tables f old.known.items ys new.known.items i r x same lt at set
+
+pub knows_nothing : (tables : Tables) (f : Name) (ks : Knowns) → ks.known.items ≡ [] → knowing tables f ks ≡ definition.nothing_known
+knows_nothing tables f ks e = none_known tables f ks.known.items e

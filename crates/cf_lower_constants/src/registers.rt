@@ -27,6 +27,7 @@ fn at<'k>(all: &[Known<'k>], index: usize) -> Known<'k>
 }
 
 /// Makes room up to an index, with nothing known there.
+#[tactic(auto, using(crate::proofs::Lists::at_longer))]
 fn reach(all: &mut Vec<Known<'_>>, index: usize) -> Result<(), Memory>
     ensures same { (q : ℕ) → OnOk result (known_at all.new.items q ≡ known_at all.old.items q) }
     ensures long { OnOk result (index < length all.new.items) }
@@ -55,6 +56,7 @@ impl<'a> Knowns<'a> {
     }
 
     /// This is known of a register from now on.
+    #[tactic(auto, using(crate::proofs::Lists::know_one))]
     pub fn know(&mut self, register: u32, known: &Known<'a>) -> Result<(), Memory>
         ensures { (tables : TablesOf) (f : NameOf) → OnOk result (knowing tables f self.new ≡ definition.know (knowing tables f self.old) register (known_in tables f known.now)) }
     {

@@ -18,6 +18,7 @@ use cf_plain::Plain;
 
 /// Writes the stores of statements in order, and tells what is known behind them.
 #[cycle(constants)]
+#[tactic(auto, using(crate::proofs::Turns::stored_more, crate::proofs::Turns::known_more))]
 pub fn constants<'k>(
     x: &Site<'_>,
     all: &'k Items<Plain>,
@@ -35,6 +36,7 @@ pub fn constants<'k>(
 
 /// A branch is the statements that are taken, where that is known (5.14 to 5.16).
 #[cycle(constants)]
+#[tactic(auto, using(crate::proofs::Lists::knows_nothing, crate::proofs::Turns::untold_code, crate::proofs::Turns::true_code, crate::proofs::Turns::false_code, crate::proofs::Turns::untold_known, crate::proofs::Turns::true_known, crate::proofs::Turns::false_known))]
 fn branch<'k>(
     x: &Site<'_>,
     yes: &'k Items<Plain>,
@@ -51,8 +53,14 @@ fn branch<'k>(
             known.forget();
             Ok(())
         }
-        Some(true) => constants(x, yes, known, code),
-        Some(false) => constants(x, no, known, code),
+        Some(true) => {
+            constants(x, yes, known, code)?;
+            Ok(())
+        }
+        Some(false) => {
+            constants(x, no, known, code)?;
+            Ok(())
+        }
     }
 }
 

@@ -7,7 +7,8 @@ use Rattle.cf_plain.specs.Plain.{Register}
 use Rattle.cf_lower.specs.Kept.{Kept, unknown, integer_of, holds, argument, Keeping, keep, common, both_kept}
 use Rattle.cf_lower_held.specs.declared.held.Held.{Held}
 use Rattle.cf_lower_held.specs.declared.held.Held.TheVariants as held
-use Rattle.cf_lower_held.specs.Holds.{held_at, kept_in, without}
+use Rattle.cf_lower_held.specs.declared.registers.Registers.{Registers}
+use Rattle.cf_lower_held.specs.Holds.{held_at, keeping, kept_in, without}
 use Rattle.cf_lower_held.proofs.Lists.{at_set}
 
 module _ (tables : Tables) where
@@ -110,3 +111,21 @@ module _ (tables : Tables) (first second : List Held) where
           let past : n ≤ q = grind (arith, nat_tests) in
           let none = ap (kept_in tables) (behind tables first q (omega (arith, past, len))) in
           none ∙ sym (ap (λ k. both_kept k (kept_in tables (held_at second q))) none ∙ nothing_met (kept_in tables (held_at second q)))
+
+-- ---- of the registers themselves
+
+module _ (tables : Tables) (old new : Registers) where
+  pub set_one : (ys : List Held) (i r : ℕ) (x : Held) → ((q : ℕ) → held_at ys q ≡ held_at old.held.items q) → i < length ys → i ≡ r → new.held.items ≡ slice_set ys i x
+      → keeping tables new ≡ keep (keeping tables old) r (kept_in tables x)
+  set_one ys i r x same lt at set = kept_one tables old.held.items ys new.held.items i r x same lt at set
+
+  pub clear_one : (i r : ℕ) → i < length old.held.items → i ≡ r → new.held.items ≡ slice_set old.held.items i held.Nothing
+      → keeping tables new ≡ without (λ q. r == q) (keeping tables old)
+  clear_one i r lt at set = cleared tables old.held.items new.held.items i r lt at set
+
+  pub meet_all : (other : Registers) (n : ℕ) → n ≡ length old.held.items → IsMet tables old.held.items other.held.items n new.held.items
+      → keeping tables new ≡ common (keeping tables old) (keeping tables other)
+  meet_all other n len met = met_all tables old.held.items other.held.items n new.held.items len met
+
+pub clear_none : (tables : Tables) (old : Registers) (i n r : ℕ) → n ≡ length old.held.items → n ≤ i → i ≡ r → keeping tables old ≡ without (λ q. r == q) (keeping tables old)
+clear_none tables old i n r len le at = cleared_behind tables old.held.items r (omega (arith, len, le, at))

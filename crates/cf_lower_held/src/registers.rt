@@ -66,6 +66,7 @@ impl Registers {
     }
 
     /// A register holds this from now on.
+    #[tactic(auto, using(crate::proofs::Keepings::set_one))]
     pub fn keep(&mut self, register: u32, kept: Held) -> Result<(), Memory>
         ensures { (tables : TablesOf) → OnOk result (keeping tables self.new ≡ definition.keep (keeping tables self.old) register (kept_in tables kept)) }
     {
@@ -76,6 +77,7 @@ impl Registers {
     }
 
     /// A register holds nothing from now on.
+    #[tactic(auto, using(crate::proofs::Keepings::clear_one, crate::proofs::Keepings::clear_none))]
     pub fn clear(&mut self, register: u32)
         ensures { (tables : TablesOf) → keeping tables self.new ≡ without (λ r. register == r) (keeping tables self.old) }
     {
@@ -93,6 +95,7 @@ impl Registers {
     }
 
     /// Each register holds what it holds here and there.
+    #[tactic(auto, using(crate::proofs::Keepings::met_more, crate::proofs::Keepings::meet_all))]
     pub fn meet(&mut self, tables: &Tables<'_>, other: &Registers) -> Result<(), Memory>
         ensures { OnOk result (keeping tables.now self.new ≡ definition.common (keeping tables.now self.old) (keeping tables.now other.now)) }
     {
