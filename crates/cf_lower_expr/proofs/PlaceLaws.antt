@@ -1,7 +1,7 @@
 -- The place that a name stands for, by whether its type is a reference.
 use Rattle.std.proofs.Common.{◌≡◌, ℕ, Bool, true, false, if◌then◌else◌, Option, Some, None, refl, sym, ap, subst, ◌∙◌}
 use Rattle.cc_whole.specs.Plain.{Expression, named, load, address}
-use Rattle.cf_core.specs.Types.{Name, SourceType, takes, gives}
+use Rattle.cf_core.specs.Types.{Name, SourceType, void, takes, gives}
 use Rattle.cf_core.specs.Places.{is_reference}
 use Rattle.cf_lower_layout.specs.Sorts.{sort_to}
 use Rattle.cf_lower.specs.Kept.{referred}
@@ -25,6 +25,14 @@ named_itself name t e = by (is_reference t) e
     by : (b : Bool) → b ≡ false → elim b as (λ _. Expression) [ true ↦ as_value (sort_to (referred t)) (load (named name)) | false ↦ address name ] ≡ address name
     by true e = cc
     by false e = refl
+
+-- a name and a type that are the same
+pub named_same : (n m : Name) (t u : SourceType) (e : Expression) → n ≡ m → u ≡ t → e ≡ place_named n u → e ≡ place_named m t
+named_same n m t u e name type is = is ∙ ap (λ k. place_named k u) name ∙ ap (place_named m) type
+
+-- where there is no local
+pub named_void : (n m : Name) (t : SourceType) (e : Expression) → n ≡ m → void ≡ t → e ≡ address n → e ≡ place_named m t
+named_void n m t e name none is = is ∙ ap address name ∙ ap (place_named m) none
 
 -- a pointer is cast as one to a function, or as an address
 by_code : (t : SourceType) (e : Expression) → as_value (sort_for (if is_code (sort_to t) then cell.Code else cell.Address)) e ≡ as_value (sort_to t) e

@@ -48,6 +48,7 @@ pub fn place_named(x: &Scene<'_>, name: Name, ty: TyId) -> Result<Boxed<CExpress
 }
 
 /// The place that a local's name stands for.
+#[tactic(auto, using(crate::proofs::PlaceLaws::named_same, crate::proofs::PlaceLaws::named_void))]
 pub fn local_place(x: &Scene<'_>, local: u32) -> Result<Boxed<CExpression>, Memory>
     ensures { IfOk result (λ made. expression_of made ≡ spec.place_named (written.local_name local) (kept.type_of_local (locals_in x.now) local)) }
 {

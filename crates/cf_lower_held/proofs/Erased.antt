@@ -1,14 +1,15 @@
 -- What an integer's kinds are left out of.
-use Rattle.std.proofs.Common.{◌≡◌, ℕ, Bool, true, false, if◌then◌else◌, refl, ap}
+use Rattle.std.proofs.Common.{◌≡◌, ℕ, Bool, true, false, if◌then◌else◌, refl, ap, ◌∙◌}
 use Rattle.cf_base.specs.declared.kind.Kind.{Kind}
 use Rattle.cf_base.specs.declared.arith.Arith.{Arith}
 use Rattle.cf_base.specs.declared.arith.Arith.TheVariants as op
 use Rattle.cf_core.specs.FromTypes.{Tables}
+use Rattle.cf_core.specs.Types.{SourceType, void, without_const}
 use Rattle.cf_core.specs.Core.{Change, arithmetic, moved}
 use Rattle.cf_core.specs.declared.operators.PointerOperator.{PointerOperator}
 use Rattle.cf_core.specs.declared.operators.PointerOperator.TheVariants as pointer
-use Rattle.cf_lower.specs.Kept.{Kept, unknown, integer_of, holds, argument, Keeping, Locals, result_kept, read_kept, decayed_kept, pointer_of, operated_kept, changed_kept, kept_by, same_kept, both_kept}
-use Rattle.cf_lower_layout.specs.Sorts.{number, address, code}
+use Rattle.cf_lower.specs.Kept.{Kept, unknown, integer_of, holds, argument, Keeping, Locals, place_of, referred, result_kept, read_kept, decayed_kept, pointer_of, operated_kept, changed_kept, kept_by, same_kept, both_kept}
+use Rattle.cf_lower_layout.specs.Sorts.{Sort, number, address, code, sort_to}
 use Rattle.cf_plain.specs.Plain as plain
 use Rattle.cf_plain.specs.Plain.{Action}
 use Rattle.cf_lower_held.specs.declared.held.Held.{Held}
@@ -35,6 +36,15 @@ erased_twice unknown = refl
 erased_twice (integer_of f) = refl
 erased_twice (holds s) = refl
 erased_twice (argument i t) = refl
+
+-- ---- the place that a name stands for
+
+pub place_erased : (t u : SourceType) (s : Sort) → u ≡ t → s ≡ sort_to (without_const (referred u)) → holds s ≡ erased (place_of t)
+place_erased t u s same is = ap holds (is ∙ ap (λ w. sort_to (without_const (referred w))) same)
+
+-- where there is no local
+pub void_place : (t : SourceType) → void ≡ t → holds (address void) ≡ erased (place_of t)
+void_place t none = ap (λ w. holds (sort_to (without_const (referred w)))) none
 
 -- ---- what actions give depends on erased operands, but for the kinds of integers
 

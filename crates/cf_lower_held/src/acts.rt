@@ -113,6 +113,7 @@ fn number(value: i64) -> Held
 }
 
 /// What a local's name gives.
+#[tactic(auto, using(crate::proofs::Erased::place_erased, crate::proofs::Erased::void_place))]
 fn named(x: &Scene<'_>, local: u32) -> Held
     ensures { kept_in x.now.tables.now result ≡ erased (definition.place_of (definition.type_of_local (locals_in x.now) local)) }
 {
