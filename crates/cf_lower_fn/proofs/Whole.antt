@@ -19,7 +19,14 @@ use Rattle.cf_lower_types.specs.Bare.{classes_of}
 use Rattle.cf_plain.specs.Named.{all_actions}
 use Rattle.cf_plain.specs.View.{function_of}
 use Rattle.cf_plain.specs.declared.unit.PlainFn.{PlainFn}
-use Rattle.cf_lower_fn.specs.Walks.{statements_at}
+use Rattle.cf_plain.specs.declared.action.Action.{Action as CodeAction}
+use Rattle.cf_plain.specs.Plain.{Action}
+use Rattle.std.specs.Borrow.{Bor}
+use Rattle.cf_lower_fn.specs.Walks.{statements_at, told}
+
+-- the first actions of a list
+pub told_first : (tables : Tables) (none all : List (Bor CodeAction)) (rest : List Action) → none ≡ [] → told tables all ≡ told tables none ++ rest → told tables all ≡ rest
+told_first tables none all rest empty e = e ∙ ap (λ l. told tables l ++ rest) empty
 
 module _ (tables : Tables) (f : PlainFn) where
   -- a function that stands in nothing

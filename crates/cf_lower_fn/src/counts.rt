@@ -106,8 +106,14 @@ fn nesting_of(tables: &Tables<'_>, s: &Plain) -> Result<u32, Memory>
             let second = nesting(tables, no)?;
             Ok(first.max(second))
         }
-        Plain::Loop { body, next } => loop_nesting(tables, body, next),
-        Plain::Switch { body, .. } => nested(tables, body),
+        Plain::Loop { body, next } => {
+            let depth = loop_nesting(tables, body, next)?;
+            Ok(depth)
+        }
+        Plain::Switch { body, .. } => {
+            let depth = nested(tables, body)?;
+            Ok(depth)
+        }
         Plain::Act { .. }
         | Plain::Set { .. }
         | Plain::Case { .. }

@@ -17,7 +17,7 @@ use crate::counts::{bound, nesting};
 use crate::locals::{add_flags, add_locals, add_registers};
 use crate::prototypes::own_prototype;
 use crate::results::add_results;
-use crate::walk::actions;
+use crate::walk::actions_of;
 use cc_whole::{CBody, CFunction, CLocal, CStatement};
 use cf_base::{Items, Memory};
 use cf_lower_held::{Registers, Scene};
@@ -174,8 +174,7 @@ fn code(
 pub fn lower_function(alloc: Global, tables: &Tables<'_>, f: &PlainFn) -> Result<CFunction, Memory>
     ensures { IfOk result (λ made. c.function_of made ≡ spec.lowered_function (classes_of tables.now) (view.function_of tables.now f.now)) }
 {
-    let mut all = Vec::new(alloc);
-    actions(tables, &f.body, &mut all)?;
+    let all = actions_of(alloc, tables, &f.body)?;
     let prototype = own_prototype(alloc, tables, f)?;
     let locals = c_locals(alloc, tables, f, all.as_slice())?;
     let statements = code(alloc, tables, f, all.as_slice())?;

@@ -14,4 +14,4 @@ mod walk;
 pub use functions::lower_function;
 pub use locals::object_type;
 pub use prototypes::{own_prototype, prototype_of};
-pub use walk::actions;
+pub use walk::{actions, actions_of};

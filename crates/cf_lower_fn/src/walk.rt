@@ -1,6 +1,6 @@
 //! What statements do, in order.
 
-ghost use Rattle.std.specs.Prelude.{◌≡◌, ◌++◌, ◌∷◌, [], map, OnOk};
+ghost use Rattle.std.specs.Prelude.{◌≡◌, ◌++◌, ◌∷◌, [], map, IfOk, OnOk};
 ghost use Rattle.cf_core.specs.FromTypes.{Tables as TablesOf};
 ghost use Rattle.cf_plain.specs.Named as spec;
 ghost use Rattle.cf_plain.specs.View.{parts_in_order};
@@ -9,6 +9,7 @@ ghost use Rattle.cf_lower_fn.specs.Walks.{action_at, built_at, statement_at, sta
 use cf_base::{Items, Memory};
 use cf_lower_types::Tables;
 use cf_plain::{Action, Plain, PlainPart};
+use std::alloc::Global;
 
 /// Puts the actions of statements behind others.
 #[cycle(actions)]
@@ -76,4 +77,18 @@ fn of_parts<'a>(
         actions(tables, &part.statements, out)?;
     }
     Ok(())
+}
+
+/// What statements do, in order.
+#[tactic(auto, using(crate::proofs::Whole::told_first))]
+pub fn actions_of<'a>(
+    alloc: Global,
+    tables: &Tables<'_>,
+    all: &'a Items<Plain>,
+) -> Result<Vec<&'a Action>, Memory>
+    ensures { IfOk result (λ made. told tables.now made.items ≡ spec.all_actions (statements_at tables.now all.now)) }
+{
+    let mut made = Vec::new(alloc);
+    actions(tables, all, &mut made)?;
+    Ok(made)
 }

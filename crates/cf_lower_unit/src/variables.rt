@@ -15,7 +15,7 @@ ghost use Rattle.cf_lower_unit.specs.Pieces as pieces;
 use crate::items::push;
 use cc_whole::{CConstant, CInitialiser, CItem, CVariable, CVariableType};
 use cf_base::{Bytes, Items, Memory};
-use cf_lower_fn::{actions, object_type};
+use cf_lower_fn::{actions_of, object_type};
 use cf_lower_names::literal_name;
 use cf_lower_types::Tables;
 use cf_plain::{Action, PlainFn, PlainStatic};
@@ -182,8 +182,7 @@ fn literals_of(
 ) -> Result<(), Memory>
     ensures { OnOk result (items_of made.new ≡ items_of made.old ++ map defines_variable (spec.literals (function_of tables.now f.now))) }
 {
-    let mut all = Vec::new(alloc);
-    actions(tables, &f.body, &mut all)?;
+    let all = actions_of(alloc, tables, &f.body)?;
     let owner = f.name.as_slice();
     define_literals(
         alloc,
@@ -216,8 +215,7 @@ fn start_literals_of(
 ) -> Result<(), Memory>
     ensures { OnOk result (items_of made.new ≡ items_of made.old ++ map defines_variable (spec.start_literals (static_of tables.now x.now))) }
 {
-    let mut all = Vec::new(alloc);
-    actions(tables, &x.start, &mut all)?;
+    let all = actions_of(alloc, tables, &x.start)?;
     let is_local = x.is_local || !x.is_shared;
     define_literals(
         alloc,
