@@ -88,7 +88,7 @@ pub(crate) fn as_address<'k>(target: Target, known: &Known<'k>) -> Known<'k>
         Known::At(label, at, _) => Known::At(*label, *at, target),
         Known::Nothing => Known::Nothing,
         Known::Null => Known::Null,
-        Known::Function(name) => Known::Function(name),
+        Known::Function(name) => Known::Function(*name),
     }
 }
 
@@ -101,7 +101,7 @@ fn as_code<'k>(known: &Known<'k>) -> Known<'k>
         Known::At(label, at, target) => Known::At(*label, *at, *target),
         Known::Nothing => Known::Nothing,
         Known::Null => Known::Null,
-        Known::Function(name) => Known::Function(name),
+        Known::Function(name) => Known::Function(*name),
     }
 }
 
@@ -114,7 +114,7 @@ fn as_number<'k>(kind: Kind, known: &Known<'k>) -> Known<'k>
         Known::At(label, at, target) => Known::At(*label, *at, *target),
         Known::Nothing => Known::Nothing,
         Known::Null => Known::Null,
-        Known::Function(name) => Known::Function(name),
+        Known::Function(name) => Known::Function(*name),
     }
 }
 

@@ -46,7 +46,7 @@ pub(crate) fn decayed<'k>(x: &Site<'_>, known: &Known<'k>) -> Known<'k>
         Known::Nothing => Known::Nothing,
         Known::Number(number) => Known::Number(*number),
         Known::Null => Known::Null,
-        Known::Function(name) => Known::Function(name),
+        Known::Function(name) => Known::Function(*name),
     }
 }
 

@@ -51,7 +51,7 @@ fn written_value(x: &Site<'_>, known: &Known<'_>) -> Result<Boxed<CExpression>, 
     match known {
         Known::Number(value) => constant_of(x.alloc, *value),
         Known::At(label, at, _) => place_at(x, *label, *at),
-        Known::Function(name) => load_named(x.alloc, Items::from_slice(x.alloc, name)?),
+        Known::Function(name) => load_named(x.alloc, Items::from_slice(x.alloc, *name)?),
         Known::Nothing | Known::Null => zero(x.alloc),
     }
 }

@@ -34,28 +34,34 @@ pub fn value(x: &Scene<'_>, rs: &Registers, a: &Action) -> Result<Boxed<CExpress
         Action::Number { value } => constant_of(x.alloc, *value),
         Action::Text { number, .. } => {
             let name = literal_name(x.alloc, x.function, *number)?;
-            address_of(x.alloc, name)
+            let made = address_of(x.alloc, name)?;
+            Ok(made)
         }
         Action::Local { number } => local_place(x, *number),
         Action::Static { name, ty } => {
             let name = copied(x.alloc, name)?;
-            place_named(x, name, *ty)
+            let made = place_named(x, name, *ty)?;
+            Ok(made)
         }
         Action::Function { name, .. } => {
             let name = copied(x.alloc, name)?;
-            load_named(x.alloc, name)
+            let made = load_named(x.alloc, name)?;
+            Ok(made)
         }
-        Action::Read { place } => read_value(x, rs.get(*place), *place),
+        Action::Read { place } => {
+            let made = read_value(x, rs.get(*place), *place)?;
+            Ok(made)
+        }
         Action::Dereference { pointer: at } | Action::Decay { array: at } => {
-            same_value(x.alloc, rs.get(*at), *at)
+            let made = same_value(x.alloc, rs.get(*at), *at)?;
+            Ok(made)
         }
         Action::Index { left, right } => sum(x, rs, *left, *right),
-        Action::Convert { ty, operand } => converted(
-            x.alloc,
-            sort_of(x.tables, *ty),
-            rs.get(*operand),
-            *operand,
-        ),
+        Action::Convert { ty, operand } => {
+            let to = sort_of(x.tables, *ty);
+            let made = converted(x.alloc, to, rs.get(*operand), *operand)?;
+            Ok(made)
+        }
         Action::FromVoid { operand, .. } => from_void(x.alloc, *operand),
         Action::Operate {
             op,
@@ -63,8 +69,9 @@ pub fn value(x: &Scene<'_>, rs: &Registers, a: &Action) -> Result<Boxed<CExpress
             left,
             right,
         } => {
-            let made = operated(x.alloc, *op, *kind, *left, *right)?;
-            as_bits(x.alloc, made)
+            let value = operated(x.alloc, *op, *kind, *left, *right)?;
+            let made = as_bits(x.alloc, value)?;
+            Ok(made)
         }
         Action::Unary { op, kind, operand } => changed_by(x.alloc, *op, *kind, *operand),
         Action::Truth { operand } => tested(x, Arith::NotEqual, rs, *operand),
@@ -73,7 +80,8 @@ pub fn value(x: &Scene<'_>, rs: &Registers, a: &Action) -> Result<Boxed<CExpress
         Action::Changed { change, value, by } => changed(x, *change, rs, *value, *by),
         Action::Declare { local, .. } => {
             let name = local_name(x.alloc, *local)?;
-            address_of(x.alloc, name)
+            let made = address_of(x.alloc, name)?;
+            Ok(made)
         }
         Action::This
         | Action::Result

@@ -68,10 +68,12 @@ pub fn converted(
 {
     match to {
         None => zero(alloc),
-        Some(Scalar::Number(kind)) => as_bits(
-            alloc,
-            at_kind(alloc, kind, integer_in(alloc, operand)?)?,
-        ),
+        Some(Scalar::Number(kind)) => {
+            let integer = integer_in(alloc, operand)?;
+            let value = at_kind(alloc, kind, integer)?;
+            let made = as_bits(alloc, value)?;
+            Ok(made)
+        }
         Some(Scalar::Address(ty)) => {
             let made = as_pointer(alloc, Scalar::Address(ty), held, operand)?;
             Ok(made)
@@ -87,7 +89,9 @@ pub fn converted(
 pub fn from_void(alloc: Global, operand: u32) -> Result<Boxed<CExpression>, Memory>
     ensures { (t : SourceType) → IfOk result (λ made. expression_of made ≡ definition.as_value (address t) (definition.address_in operand)) }
 {
-    as_value(alloc, Cell::Address, address_in(alloc, operand)?)
+    let address = address_in(alloc, operand)?;
+    let made = as_value(alloc, Cell::Address, address)?;
+    Ok(made)
 }
 
 /// The new value of a scalar that is changed in place (5.17).
@@ -103,7 +107,9 @@ pub fn changed(
     match change {
         Change::Arithmetic { op, at, to } => {
             let made = operated(x.alloc, op, at, value, by)?;
-            as_bits(x.alloc, at_kind(x.alloc, to, made)?)
+            let value = at_kind(x.alloc, to, made)?;
+            let bits = as_bits(x.alloc, value)?;
+            Ok(bits)
         }
         Change::Moved { back: false } => moved(x, Arith::Add, rs, value, by),
         Change::Moved { back: true } => moved(x, Arith::Subtract, rs, value, by),

@@ -20,7 +20,8 @@ pub fn constant_of(alloc: Global, value: i64) -> Result<Boxed<CExpression>, Memo
     let Ok(value) = i32::try_from(convert_int(value, Kind::Int)) else {
         return Err(Memory);
     };
-    constant(alloc, value)
+    let made = constant(alloc, value)?;
+    Ok(made)
 }
 
 /// Whether the right operand is a count (5.8).
@@ -43,9 +44,12 @@ pub fn operated(
     let a = at_kind(alloc, kind, integer_in(alloc, left)?)?;
     let b = integer_in(alloc, right)?;
     if is_shift(op) {
-        binary(alloc, op, a, b)
+        let made = binary(alloc, op, a, b)?;
+        Ok(made)
     } else {
-        binary(alloc, op, a, at_kind(alloc, kind, b)?)
+        let other = at_kind(alloc, kind, b)?;
+        let made = binary(alloc, op, a, other)?;
+        Ok(made)
     }
 }
 
@@ -68,5 +72,7 @@ pub fn changed_by(
     ensures { IfOk result (λ made. expression_of made ≡ spec.as_bits (plain.unary (spec.prefix_of op) (spec.at_kind kind (spec.integer_in operand)))) }
 {
     let value = at_kind(alloc, kind, integer_in(alloc, operand)?)?;
-    as_bits(alloc, unary(alloc, prefix_of(op), value)?)
+    let changed = unary(alloc, prefix_of(op), value)?;
+    let made = as_bits(alloc, changed)?;
+    Ok(made)
 }

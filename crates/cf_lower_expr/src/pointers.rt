@@ -48,7 +48,9 @@ fn moved_by(
         integer_in(alloc, count)?,
         number(alloc, bytes)?,
     )?;
-    binary(alloc, op, address_in(alloc, at)?, by)
+    let start = address_in(alloc, at)?;
+    let made = binary(alloc, op, start, by)?;
+    Ok(made)
 }
 
 /// The pointer in a register, moved forward or back by a number of its elements.
@@ -62,7 +64,8 @@ pub fn moved(
     ensures { IfOk result (λ made. expression_of made ≡ spec.moved_by op (spec.address_in at) (spec.element_bytes (classes_of x.now.tables.now) (holding x.now rs.now at)) (spec.integer_in count)) }
 {
     let bytes = element_bytes(x, rs.get(at))?;
-    moved_by(x.alloc, op, at, bytes, count)
+    let made = moved_by(x.alloc, op, at, bytes, count)?;
+    Ok(made)
 }
 
 /// A pointer and an integer, in either order.
@@ -77,13 +80,17 @@ pub fn sum(
     match rs.get(left) {
         Held::Value(Scalar::Address(ty)) => {
             let bytes = place_size(x.tables, ty)?;
-            moved_by(x.alloc, Arith::Add, left, bytes, right)
+            let made = moved_by(x.alloc, Arith::Add, left, bytes, right)?;
+            Ok(made)
         }
         Held::Value(Scalar::Number(_))
         | Held::Value(Scalar::Code(_))
         | Held::Nothing
         | Held::Integer
-        | Held::Argument(_, _) => moved(x, Arith::Add, rs, right, left),
+        | Held::Argument(_, _) => {
+            let made = moved(x, Arith::Add, rs, right, left)?;
+            Ok(made)
+        }
     }
 }
 
@@ -103,7 +110,9 @@ fn difference(
         address_in(x.alloc, left)?,
         address_in(x.alloc, right)?,
     )?;
-    binary(x.alloc, Arith::Divide, apart, number(x.alloc, bytes)?)
+    let each = number(x.alloc, bytes)?;
+    let made = binary(x.alloc, Arith::Divide, apart, each)?;
+    Ok(made)
 }
 
 /// Two values, compared.
@@ -117,7 +126,9 @@ fn compared(
     ensures { IfOk result (λ made. expression_of made ≡ plain.binary op (spec.value_in (holding x.now rs.now) left) (spec.value_in (holding x.now rs.now) right)) }
 {
     let a = value_in(x, rs, left)?;
-    binary(x.alloc, op, a, value_in(x, rs, right)?)
+    let b = value_in(x, rs, right)?;
+    let made = binary(x.alloc, op, a, b)?;
+    Ok(made)
 }
 
 /// A value, compared with 0.
@@ -130,7 +141,9 @@ pub fn tested(
     ensures { IfOk result (λ made. expression_of made ≡ plain.binary op (spec.value_in (holding x.now rs.now) operand) spec.zero) }
 {
     let value = value_in(x, rs, operand)?;
-    binary(x.alloc, op, value, zero(x.alloc)?)
+    let nothing = zero(x.alloc)?;
+    let made = binary(x.alloc, op, value, nothing)?;
+    Ok(made)
 }
 
 /// Whether two pointers are equal. Of two to functions one is null, and each is compared with 0 (5.10).
@@ -147,13 +160,17 @@ fn equated(
         Held::Value(Scalar::Code(_)) => {
             let a = tested(x, Arith::Equal, rs, left)?;
             let b = tested(x, Arith::Equal, rs, right)?;
-            binary(x.alloc, op, a, b)
+            let made = binary(x.alloc, op, a, b)?;
+            Ok(made)
         }
         Held::Value(Scalar::Number(_))
         | Held::Value(Scalar::Address(_))
         | Held::Nothing
         | Held::Integer
-        | Held::Argument(_, _) => compared(x, op, rs, left, right),
+        | Held::Argument(_, _) => {
+            let made = compared(x, op, rs, left, right)?;
+            Ok(made)
+        }
     }
 }
 

@@ -50,7 +50,9 @@ fn local_value(
 pub fn value_in(x: &Scene<'_>, rs: &Registers, register: u32) -> Result<Boxed<CExpression>, Memory>
     ensures { IfOk result (λ made. expression_of made ≡ spec.value_in (holding x.now rs.now) register) }
 {
-    local_value(x.alloc, local_of(rs.get(register)), register)
+    let scalar = local_of(rs.get(register));
+    let made = local_value(x.alloc, scalar, register)?;
+    Ok(made)
 }
 
 /// What a register holds, once more.
@@ -98,7 +100,8 @@ pub fn read_value(x: &Scene<'_>, held: Held, register: u32) -> Result<Boxed<CExp
 {
     match held {
         Held::Value(Scalar::Address(ty)) => {
-            loaded_or(x.alloc, place_scalar(x.tables, ty), register)
+            let made = loaded_or(x.alloc, place_scalar(x.tables, ty), register)?;
+            Ok(made)
         }
         Held::Value(Scalar::Number(_))
         | Held::Value(Scalar::Code(_))

@@ -139,10 +139,10 @@ fn c_locals(
 }
 
 /// The C statements of a function that does this. One that flows off its end gives what nothing can use.
-fn code(
+fn code<'x>(
     alloc: Global,
-    tables: &Tables<'_>,
-    f: &PlainFn,
+    tables: &'x Tables<'x>,
+    f: &'x PlainFn,
     all: &[&Action],
 ) -> Result<Items<CStatement>, Memory>
     requires { told tables.now all.now ≡ all_actions (statements_at tables.now f.now.body) }

@@ -14,7 +14,7 @@ use std::alloc::Global;
 pub fn constant(alloc: Global, value: i32) -> Result<Boxed<CExpression>, Memory>
     ensures { IfOk result (λ made. expression_of made ≡ plain.constant (constants.Signed value)) }
 {
-    Boxed::new(alloc, CExpression::Constant(CConstant::Signed(value)))
+    Ok(Boxed::new(alloc, CExpression::Constant(CConstant::Signed(value)))?)
 }
 
 /// The constant of a number. A number that no int is, is answered as if memory had ended.
@@ -24,14 +24,15 @@ pub fn number(alloc: Global, number: u64) -> Result<Boxed<CExpression>, Memory>
     let Ok(value) = i32::try_from(number) else {
         return Err(Memory);
     };
-    constant(alloc, value)
+    let made = constant(alloc, value)?;
+    Ok(made)
 }
 
 /// The value of the variable, local or function of this name.
 pub fn load_named(alloc: Global, name: Name) -> Result<Boxed<CExpression>, Memory>
     ensures { IfOk result (λ made. expression_of made ≡ plain.load (plain.named name)) }
 {
-    Boxed::new(alloc, CExpression::Load(CPlace::Name(name)))
+    Ok(Boxed::new(alloc, CExpression::Load(CPlace::Name(name)))?)
 }
 
 /// The value of this type at an address.
@@ -42,7 +43,7 @@ pub fn load_at(
 ) -> Result<Boxed<CExpression>, Memory>
     ensures { IfOk result (λ made. expression_of made ≡ plain.load (plain.pointed ty (expression_of address))) }
 {
-    Boxed::new(alloc, CExpression::Load(CPlace::At(ty, address)))
+    Ok(Boxed::new(alloc, CExpression::Load(CPlace::At(ty, address)))?)
 }
 
 /// An operator before an operand.
@@ -53,7 +54,7 @@ pub fn unary(
 ) -> Result<Boxed<CExpression>, Memory>
     ensures { IfOk result (λ made. expression_of made ≡ plain.unary op (expression_of operand)) }
 {
-    Boxed::new(alloc, CExpression::Unary(op, operand))
+    Ok(Boxed::new(alloc, CExpression::Unary(op, operand))?)
 }
 
 /// `(type)operand`
@@ -64,14 +65,14 @@ pub fn cast(
 ) -> Result<Boxed<CExpression>, Memory>
     ensures { IfOk result (λ made. expression_of made ≡ plain.cast ty (expression_of operand)) }
 {
-    Boxed::new(alloc, CExpression::Cast(ty, operand))
+    Ok(Boxed::new(alloc, CExpression::Cast(ty, operand))?)
 }
 
 /// The address of a variable, parameter or local.
 pub fn address_of(alloc: Global, name: Name) -> Result<Boxed<CExpression>, Memory>
     ensures { IfOk result (λ made. expression_of made ≡ plain.address name) }
 {
-    Boxed::new(alloc, CExpression::AddressOf(name))
+    Ok(Boxed::new(alloc, CExpression::AddressOf(name))?)
 }
 
 /// An operator between two operands.
@@ -83,5 +84,5 @@ pub fn binary(
 ) -> Result<Boxed<CExpression>, Memory>
     ensures { IfOk result (λ made. expression_of made ≡ plain.binary op (expression_of left) (expression_of right)) }
 {
-    Boxed::new(alloc, CExpression::Binary(op, left, right))
+    Ok(Boxed::new(alloc, CExpression::Binary(op, left, right))?)
 }

@@ -23,7 +23,9 @@ pub fn zero(alloc: Global) -> Result<Boxed<CExpression>, Memory>
 pub fn in_register(alloc: Global, cell: Cell, register: u32) -> Result<Boxed<CExpression>, Memory>
     ensures { IfOk result (λ made. expression_of made ≡ spec.in_register (sort_for cell) register) }
 {
-    load_named(alloc, register_name(alloc, cell, register)?)
+    let name = register_name(alloc, cell, register)?;
+    let made = load_named(alloc, name)?;
+    Ok(made)
 }
 
 /// The integer in a register.
@@ -48,7 +50,8 @@ pub fn as_value(
 ) -> Result<Boxed<CExpression>, Memory>
     ensures { IfOk result (λ made. expression_of made ≡ spec.as_value (sort_for cell) (expression_of value)) }
 {
-    cast(alloc, cell.register_type(), value)
+    let made = cast(alloc, cell.register_type(), value)?;
+    Ok(made)
 }
 
 /// A value as memory has it.
@@ -59,7 +62,8 @@ pub fn as_stored(
 ) -> Result<Boxed<CExpression>, Memory>
     ensures { IfOk result (λ made. expression_of made ≡ spec.as_stored (sort_for cell) (expression_of value)) }
 {
-    cast(alloc, cell.c_type(), value)
+    let made = cast(alloc, cell.c_type(), value)?;
+    Ok(made)
 }
 
 /// What a scalar at an address holds.
@@ -70,7 +74,9 @@ pub fn loaded(
 ) -> Result<Boxed<CExpression>, Memory>
     ensures { IfOk result (λ made. expression_of made ≡ spec.loaded (sort_for cell) (expression_of address)) }
 {
-    as_value(alloc, cell, load_at(alloc, cell.c_type(), address)?)
+    let held = load_at(alloc, cell.c_type(), address)?;
+    let made = as_value(alloc, cell, held)?;
+    Ok(made)
 }
 
 /// An integer of a kind, from its bits.
@@ -81,7 +87,8 @@ pub fn at_kind(
 ) -> Result<Boxed<CExpression>, Memory>
     ensures { IfOk result (λ made. expression_of made ≡ spec.at_kind kind (expression_of value)) }
 {
-    cast(alloc, c_integer(kind), value)
+    let made = cast(alloc, c_integer(kind), value)?;
+    Ok(made)
 }
 
 /// The bits of an integer, as an int.

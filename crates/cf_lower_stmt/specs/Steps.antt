@@ -1,21 +1,17 @@
 -- What a statement stands in, and what is written of it.
-use Rattle.std.specs.Prelude.{ℕ, ◌+◌, ◌*◌, List, [], ◌∷◌, map, Option, Some, None}
+use Rattle.std.specs.Prelude.{ℕ, List, [], ◌∷◌, map, Option, Some, None}
 use Rattle.cc_whole.specs.declared.statement.CStatement.{CStatement}
 use Rattle.cc_whole.specs.declared.statement.CSwitchItem.{CSwitchItem}
 use Rattle.cc_whole.specs.Plain as c
 use Rattle.cc_whole.specs.Plain.{Body, Expression, Statement, SwitchItem, SwitchItems}
-use Rattle.cf_core.specs.Classes.{Class}
 use Rattle.cf_core.specs.FromTypes.{type_of}
-use Rattle.cf_core.specs.Size.{size}
-use Rattle.cf_core.specs.Types.{SourceType}
-use Rattle.cf_lower.specs.Statements.{Inside, all_lowered, behind, block, flag_set, if_flag, in_loop, in_stepped, put, put_in, set_register, stated_all, zeros}
+use Rattle.cf_lower.specs.Statements.{Inside, all_lowered, block, flag_set, if_flag, in_loop, in_stepped, put_in, set_register, stated_all}
 use Rattle.cf_lower.specs.Expressions.{integer_in, value, zero as nought}
 use Rattle.cf_lower.specs.Kept.{Keeping, kept_by, local_kept}
 use Rattle.cf_plain.specs.Plain.{Action, Plain, Plains, case_label, default_label}
 use Rattle.cc_whole.specs.declared.types.CConstant.TheVariants as constants
 use Rattle.cf_base.specs.declared.kind.Kind.TheVariants.{Int}
 use Rattle.cf_base.specs.Integers.{convert}
-use Rattle.cf_lower.specs.Written.{if_scalar}
 use Rattle.cf_lower_layout.specs.Sorts.{Sort}
 use Rattle.cf_lower_held.specs.declared.scene.Scene.{Scene}
 use Rattle.cf_lower_held.specs.Scenes.{locals_in}
@@ -48,14 +44,6 @@ inside x around = record {
   leaving = way_of around.leaving;
   going_on = way_of around.going_on;
 }
-
--- zero, stored in the scalar so many bytes behind an address
-abbrev pub zero_of : Option Sort → Expression → ℕ → List Statement
-zero_of s p at = if_scalar s [] (λ t. put t (behind p at) nought ∷ [])
-
--- zeros in the element of this number, of elements of this type that begin so many bytes behind an address
-abbrev pub zeros_of : List Class → SourceType → Expression → ℕ → ℕ → List Statement
-zeros_of classes t p at i = zeros classes t p (at + i * size classes t)
 
 -- a value, kept in a register that holds this
 abbrev pub set_if : Option Sort → ℕ → Expression → List Statement

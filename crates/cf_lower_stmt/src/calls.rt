@@ -26,7 +26,8 @@ fn passed(alloc: Global, arguments: &[u32]) -> Result<Items<CExpression>, Memory
 {
     let mut made = Items::new(alloc);
     for local in arguments {
-        let value = load_named(alloc, local_name(alloc, *local)?)?;
+        let name = local_name(alloc, *local)?;
+        let value = load_named(alloc, name)?;
         made.push(value.into_inner())?;
     }
     Ok(made)
@@ -49,7 +50,10 @@ fn add_type(x: &Scene<'_>, made: &mut Items<CType>, ty: TyId) -> Result<(), Memo
 {
     match scalar_type(sort_of(x.tables, ty)) {
         None => Ok(()),
-        Some(c_type) => made.push(c_type),
+        Some(c_type) => {
+            made.push(c_type)?;
+            Ok(())
+        }
     }
 }
 
@@ -72,7 +76,8 @@ fn signature(x: &Scene<'_>, ty: TyId) -> Result<CSignature, Memory>
 pub(crate) fn by_name(alloc: Global, name: &Name) -> Result<CCallee, Memory>
     ensures { IfOk result (λ made. callee_of made ≡ c.by_name name.now) }
 {
-    Ok(CCallee::Name(Items::from_slice(alloc, name.as_slice())?))
+    let copy = Items::from_slice(alloc, name.as_slice())?;
+    Ok(CCallee::Name(copy))
 }
 
 /// What a pointer to functions of this type points to, in a register.
@@ -94,7 +99,22 @@ pub(crate) fn call_alone(
     ensures { OnOk result (written code.new ≡ written code.old ++ c.call None (callee_of callee) (spec.passed arguments.now) ∷ []) }
 {
     let values = passed(alloc, arguments)?;
-    push(code, CStatement::Call(None, callee, values))
+    push(code, CStatement::Call(None, callee, values))?;
+    Ok(())
+}
+
+/// A call whose result goes to the C local of this name.
+fn call_to(
+    code: &mut Items<CStatement>,
+    into: Name,
+    callee: CCallee,
+    values: Items<CExpression>,
+) -> Result<(), Memory>
+    ensures { OnOk result (written code.new ≡ written code.old ++ c.call (Some (c.named into)) (callee_of callee) (map expression_of values) ∷ []) }
+{
+    let place = CPlace::Name(into);
+    push(code, CStatement::Call(Some(place), callee, values))?;
+    Ok(())
 }
 
 /// A call whose result goes through a C local of its type to a register.
@@ -111,9 +131,10 @@ fn call_for(
 {
     let cell = cell(scalar);
     let values = passed(alloc, arguments)?;
-    let into = CPlace::Name(result_name(alloc, cell.c_type())?);
-    push(code, CStatement::Call(Some(into), callee, values))?;
-    let held = load_named(alloc, result_name(alloc, cell.c_type())?)?;
+    let into = result_name(alloc, cell.c_type())?;
+    call_to(code, into, callee, values)?;
+    let name = result_name(alloc, cell.c_type())?;
+    let held = load_named(alloc, name)?;
     let value = as_value(alloc, cell, held)?;
     set_register(alloc, code, cell, register, value)?;
     Ok(())
@@ -131,7 +152,13 @@ pub(crate) fn call_into(
     ensures { OnOk result (written code.new ≡ written code.old ++ spec.called (callee_of callee) (type_of x.now.tables.now ty) arguments.now (Some register)) }
 {
     match result_sort(x.tables, ty) {
-        None => call_alone(x.alloc, code, callee, arguments),
-        Some(scalar) => call_for(x.alloc, code, callee, arguments, scalar, register),
+        None => {
+            call_alone(x.alloc, code, callee, arguments)?;
+            Ok(())
+        }
+        Some(scalar) => {
+            call_for(x.alloc, code, callee, arguments, scalar, register)?;
+            Ok(())
+        }
     }
 }

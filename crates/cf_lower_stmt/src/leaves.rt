@@ -35,15 +35,21 @@ pub(crate) fn done(
     match a {
         Action::Store { place, value } => {
             let given = value_in(x, rs, *value)?;
-            stored_in(x, code, &rs.get(*place), *place, given)
+            stored_in(x, code, &rs.get(*place), *place, given)?;
+            Ok(())
         }
         Action::First { place, value } => {
             let given = value_in(x, rs, *value)?;
-            first_in(x, code, &rs.get(*place), *place, given)
+            first_in(x, code, &rs.get(*place), *place, given)?;
+            Ok(())
         }
-        Action::Zeros { place } => zeros_in(x, code, rs.get(*place), *place),
+        Action::Zeros { place } => {
+            zeros_in(x, code, rs.get(*place), *place)?;
+            Ok(())
+        }
         Action::Characters { place, bytes } => {
-            bytes_in(x, code, rs.get(*place), *place, bytes.as_slice())
+            bytes_in(x, code, rs.get(*place), *place, bytes.as_slice())?;
+            Ok(())
         }
         Action::Call {
             function,
@@ -51,7 +57,8 @@ pub(crate) fn done(
             ..
         } => {
             let callee = by_name(x.alloc, function)?;
-            call_alone(x.alloc, code, callee, arguments.as_slice())
+            call_alone(x.alloc, code, callee, arguments.as_slice())?;
+            Ok(())
         }
         Action::PointerCall {
             pointer,
@@ -60,7 +67,8 @@ pub(crate) fn done(
             ..
         } => {
             let callee = through(x, *pointer, *ty)?;
-            call_alone(x.alloc, code, callee, arguments.as_slice())
+            call_alone(x.alloc, code, callee, arguments.as_slice())?;
+            Ok(())
         }
         Action::Number { .. }
         | Action::Text { .. }
@@ -165,7 +173,8 @@ pub(crate) fn kept(
             ..
         } => {
             let callee = by_name(x.alloc, function)?;
-            call_into(x, code, callee, *ty, arguments.as_slice(), register)
+            call_into(x, code, callee, *ty, arguments.as_slice(), register)?;
+            Ok(())
         }
         Action::PointerCall {
             pointer,
@@ -174,7 +183,8 @@ pub(crate) fn kept(
             ..
         } => {
             let callee = through(x, *pointer, *ty)?;
-            call_into(x, code, callee, *ty, arguments.as_slice(), register)
+            call_into(x, code, callee, *ty, arguments.as_slice(), register)?;
+            Ok(())
         }
         Action::Number { .. }
         | Action::Text { .. }

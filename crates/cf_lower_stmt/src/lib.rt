@@ -1,15 +1,18 @@
 //! The C statements of plain statements.
 //!
 //! A function goes on from what is written so far, `specs/Steps` has what a walk stands in. `around` is the loops and switches around a statement,
-//! `writes` the statements that are written, `stores` those of objects, `calls` those of calls, `leaves` those of one action, and `walk` all statements.
+//! `writes` the statements that are written, `spots` the scalars of an object, `zeros` zeros in them, `stores` values and bytes in objects, `calls`
+//! calls, `leaves` the statements of one action, and `walk` all statements.
 #![tactic(auto)]
 
 mod around;
 mod calls;
 mod leaves;
+mod spots;
 mod stores;
 mod walk;
 mod writes;
+mod zeros;
 
 pub use around::{Around, Way};
 pub use calls::scalar_type;

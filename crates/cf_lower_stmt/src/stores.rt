@@ -1,32 +1,29 @@
 //! What is stored in objects.
 
-ghost use Rattle.std.specs.Prelude.{◌≡◌, ◌++◌, [], ◌∷◌, List, pos, OnOk, IfOk};
+ghost use Rattle.std.specs.Prelude.{◌≡◌, ◌++◌, [], ◌∷◌, pos, OnOk, IfOk};
 ghost use Rattle.std.specs.Option.{option_map};
 ghost use Rattle.cc_whole.specs.Plain as plain;
 ghost use Rattle.cc_whole.specs.Plain.{expression_of};
 ghost use Rattle.cc_whole.specs.declared.types.CConstant.TheVariants as constants;
 ghost use Rattle.cf_base.specs.Integers.{convert};
 ghost use Rattle.cf_base.specs.declared.kind.Kind.TheVariants as kind;
-ghost use Rattle.cf_core.specs.Classes.{Class};
-ghost use Rattle.cf_core.specs.Types.{array, integer};
 ghost use Rattle.cf_core.specs.FromTypes.{type_of, Tables as TablesOf};
 ghost use Rattle.cf_lower.specs.Expressions as value;
 ghost use Rattle.cf_lower.specs.Kept as definition;
 ghost use Rattle.cf_lower.specs.Statements as spec;
 ghost use Rattle.cf_lower_held.specs.Holds.{kept_in};
 ghost use Rattle.cf_lower_names.specs.Cells.{sort_for};
-ghost use Rattle.cf_lower_types.specs.Bare.{bare, classes_of, sort_in};
-ghost use Rattle.cf_lower_stmt.specs.Steps.{written, zero_of};
+ghost use Rattle.cf_lower_types.specs.Bare.{classes_of, sort_in};
+ghost use Rattle.cf_lower_stmt.specs.Steps.{written};
 
 use crate::writes::{assign, push};
+use crate::zeros::zeros_in;
 use cc_whole::{CExpression, CPlace, CStatement};
 use cf_base::{Arith, Boxed, Items, Kind, Memory};
 use cf_lower_expr::cell;
 use cf_lower_held::{Held, Scene};
-use cf_lower_names::{Cell, address_in, as_stored, binary, constant, local_name, number, zero};
-use cf_lower_types::{
-    Elements, PlaceType, Scalar, elements_in, form_of, place_scalar, size_of, sort_of,
-};
+use cf_lower_names::{Cell, address_in, as_stored, binary, constant, local_name, number};
+use cf_lower_types::{Scalar, place_scalar, sort_of};
 use cf_types::{TyId, convert_int};
 use std::alloc::Global;
 
@@ -41,10 +38,9 @@ pub fn put(
     ensures { OnOk result (written code.new ≡ written code.old ++ spec.put (sort_for cell) (expression_of address) (expression_of given) ∷ []) }
 {
     let stored = as_stored(alloc, cell, given)?;
-    push(
-        code,
-        CStatement::Assign(CPlace::At(cell.c_type(), address), stored),
-    )
+    let there = CPlace::At(cell.c_type(), address);
+    push(code, CStatement::Assign(there, stored))?;
+    Ok(())
 }
 
 /// A value is stored in the scalar whose place is in a register, if it is one.
@@ -124,129 +120,28 @@ pub(crate) fn first_in(
     ensures { OnOk result (written code.new ≡ written code.old ++ spec.first_in (kept_in x.now.tables.now kept.now) place (expression_of given)) }
 {
     match kept {
-        Held::Argument(local, ty) => first_argument(x, code, *local, *ty, given),
-        Held::Value(_) | Held::Nothing | Held::Integer => stored_in(x, code, kept, place, given),
+        Held::Argument(local, ty) => {
+            first_argument(x, code, *local, *ty, given)?;
+            Ok(())
+        }
+        Held::Value(_) | Held::Nothing | Held::Integer => {
+            stored_in(x, code, kept, place, given)?;
+            Ok(())
+        }
     }
 }
 
 /// The place so many bytes behind an address.
-fn behind(
+pub(crate) fn behind(
     alloc: Global,
     address: Boxed<CExpression>,
     bytes: u64,
 ) -> Result<Boxed<CExpression>, Memory>
     ensures { IfOk result (λ made. expression_of made ≡ spec.behind (expression_of address) bytes) }
 {
-    binary(alloc, Arith::Add, address, number(alloc, bytes)?)
-}
-
-/// Zero is stored in the scalar so many bytes behind the place in a register, if there is one.
-#[tactic(auto, using(crate::proofs::Cells::put_by_cell))]
-fn zero_at(
-    alloc: Global,
-    code: &mut Items<CStatement>,
-    scalar: Option<Scalar>,
-    place: u32,
-    at: u64,
-) -> Result<(), Memory>
-    ensures { (tables : TablesOf) → OnOk result (written code.new ≡ written code.old ++ zero_of (option_map (sort_in tables) scalar) (value.address_in place) at) }
-{
-    match scalar {
-        None => Ok(()),
-        Some(scalar) => {
-            let there = behind(alloc, address_in(alloc, place)?, at)?;
-            put(alloc, code, cell(scalar), there, zero(alloc)?)?;
-            Ok(())
-        }
-    }
-}
-
-/// Zeros are stored in every scalar of so many objects of this type, so many bytes behind the place in a register.
-#[cycle(zeros)]
-#[tactic(auto, using(crate::proofs::Zeros::turn))]
-fn zeros_each(
-    x: &Scene<'_>,
-    code: &mut Items<CStatement>,
-    elements: &Elements,
-    place: u32,
-    at: u64,
-) -> Result<(), Memory>
-    ensures { OnOk result (written code.new ≡ written code.old ++ spec.zeros (classes_of x.now.tables.now) (array (bare x.now.tables.now elements.now.ty) elements.now.count) (value.address_in place) at) }
-{
-    let each = size_of(x.tables, elements.ty)?;
-    for i in 0..elements.count {
-        let before = u64::from(i).checked_mul(each).ok_or(Memory)?;
-        let there = at.checked_add(before).ok_or(Memory)?;
-        zeros_at(x, code, elements.ty, place, there)?;
-    }
-    Ok(())
-}
-
-/// Zeros are stored in every scalar of an object of this type, so many bytes behind the place in a register.
-#[cycle(zeros)]
-#[tactic(auto, using(crate::proofs::Zeros::of_array, crate::proofs::Zeros::of_other, cf_lower_types::proofs::Forms::elements_below))]
-fn zeros_at(
-    x: &Scene<'_>,
-    code: &mut Items<CStatement>,
-    ty: TyId,
-    place: u32,
-    at: u64,
-) -> Result<(), Memory>
-    ensures { OnOk result (written code.new ≡ written code.old ++ spec.zeros (classes_of x.now.tables.now) (bare x.now.tables.now ty) (value.address_in place) at) }
-{
-    let form = form_of(x.tables, ty);
-    match elements_in(&form) {
-        Some(elements) => {
-            zeros_each(x, code, &elements, place, at)?;
-            Ok(())
-        }
-        None => {
-            zero_at(x.alloc, code, sort_of(x.tables, ty), place, at)?;
-            Ok(())
-        }
-    }
-}
-
-/// The same of so many characters.
-#[tactic(auto, using(crate::proofs::Zeros::character_turn))]
-fn zero_characters(
-    alloc: Global,
-    code: &mut Items<CStatement>,
-    count: u64,
-    place: u32,
-) -> Result<(), Memory>
-    ensures { (cs : List Class) → OnOk result (written code.new ≡ written code.old ++ spec.zeros cs (array (integer kind.Char) count) (value.address_in place) 0) }
-{
-    for i in 0..count {
-        zero_at(alloc, code, Some(Scalar::Number(Kind::Char)), place, i)?;
-    }
-    Ok(())
-}
-
-/// Zeros are stored in every scalar of the object whose place a register holds.
-pub(crate) fn zeros_in(
-    x: &Scene<'_>,
-    code: &mut Items<CStatement>,
-    kept: Held,
-    place: u32,
-) -> Result<(), Memory>
-    ensures { OnOk result (written code.new ≡ written code.old ++ spec.zeros_in (classes_of x.now.tables.now) (kept_in x.now.tables.now kept) place) }
-{
-    match kept {
-        Held::Value(Scalar::Address(PlaceType::Of(ty))) => zeros_at(x, code, ty, place, 0),
-        Held::Value(Scalar::Address(PlaceType::Character)) => {
-            zero_at(x.alloc, code, Some(Scalar::Number(Kind::Char)), place, 0)
-        }
-        Held::Value(Scalar::Address(PlaceType::Characters(count))) => {
-            zero_characters(x.alloc, code, count, place)
-        }
-        Held::Value(Scalar::Address(PlaceType::Void))
-        | Held::Value(Scalar::Number(_))
-        | Held::Value(Scalar::Code(_))
-        | Held::Nothing
-        | Held::Integer
-        | Held::Argument(_, _) => Ok(()),
-    }
+    let offset = number(alloc, bytes)?;
+    let made = binary(alloc, Arith::Add, address, offset)?;
+    Ok(made)
 }
 
 /// Bytes are stored from the place in a register on.
@@ -260,7 +155,8 @@ fn put_bytes(
 {
     let mut at = 0;
     for byte in bytes {
-        let there = behind(alloc, address_in(alloc, place)?, at)?;
+        let start = address_in(alloc, place)?;
+        let there = behind(alloc, start, at)?;
         let held = character(alloc, *byte)?;
         put(alloc, code, Cell::Number(Kind::Char), there, held)?;
         at = at.checked_add(1).ok_or(Memory)?;
@@ -275,7 +171,8 @@ pub fn character(alloc: Global, byte: u8) -> Result<Boxed<CExpression>, Memory>
     let Ok(held) = i32::try_from(convert_int(i64::from(byte), Kind::Char)) else {
         return Err(Memory);
     };
-    constant(alloc, held)
+    let made = constant(alloc, held)?;
+    Ok(made)
 }
 
 /// The bytes of a literal are stored in an array of characters, and 0 behind them (8.4.2).
@@ -289,5 +186,6 @@ pub(crate) fn bytes_in(
     ensures { OnOk result (written code.new ≡ written code.old ++ spec.bytes_in (classes_of x.now.tables.now) (kept_in x.now.tables.now kept) place bytes.now) }
 {
     zeros_in(x, code, kept, place)?;
-    put_bytes(x.alloc, code, place, bytes)
+    put_bytes(x.alloc, code, place, bytes)?;
+    Ok(())
 }

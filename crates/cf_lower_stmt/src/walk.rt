@@ -2,7 +2,7 @@
 
 ghost use Rattle.std.specs.Prelude.{◌≡◌, ◌++◌, [], ◌∷◌, map, option_map, IfOk, OnOk};
 ghost use Rattle.cc_whole.specs.Plain as c;
-ghost use Rattle.cc_whole.specs.Plain.{body_of, inner, statement_of, switch_in_order, switch_item_of};
+ghost use Rattle.cc_whole.specs.Plain.{body_of, default_label, inner, statement_of, switch_in_order, switch_item_of};
 ghost use Rattle.cc_whole.specs.declared.types.CConstant.TheVariants as constants;
 ghost use Rattle.cf_base.specs.Integers.{convert};
 ghost use Rattle.cf_base.specs.declared.kind.Kind.TheVariants as kind;
@@ -26,6 +26,7 @@ use cf_lower_held::{Registers, Scene, forget, kept_by};
 use cf_lower_names::{integer_in, zero};
 use cf_plain::Plain;
 use cf_types::convert_int;
+use std::alloc::Global;
 
 /// What is around the body of a loop whose turns end in a step: `continue` goes to the step, and `break` sets the flag before.
 fn in_stepped(around: Around) -> Result<Around, Memory>
@@ -98,16 +99,21 @@ fn put_return(
     ensures { (around : AroundOf) → OnOk result (written code.new ≡ written code.old ++ spec.lowered (plain.give register) (inside x.now around) (holding x.now rs.now)) }
 {
     match register {
-        None => no_value(x, code),
+        None => {
+            no_value(x, code)?;
+            Ok(())
+        }
         Some(register) => {
             let value = value_in(x, rs, register)?;
-            give(x, code, value)
+            give(x, code, value)?;
+            Ok(())
         }
     }
 }
 
 /// The body of these statements.
 #[cycle(statements)]
+#[tactic(auto, using(crate::proofs::Loops::body_is))]
 fn body(
     x: &Scene<'_>,
     all: &Items<Plain>,
@@ -119,7 +125,8 @@ fn body(
 {
     let mut code = Items::new(x.alloc);
     statements(x, all, around, rs, &mut code)?;
-    block(x.alloc, code)
+    let made = block(x.alloc, code)?;
+    Ok(made)
 }
 
 /// Writes statements in order, and tells what the registers hold behind them.
@@ -160,7 +167,8 @@ fn branch(
     let rest = body(x, no, around, &mut other)?;
     rs.meet(x.tables, &other)?;
     let tested = integer_in(x.alloc, register)?;
-    push(code, CStatement::If(tested, chosen, Some(rest)))
+    push(code, CStatement::If(tested, chosen, Some(rest)))?;
+    Ok(())
 }
 
 /// Writes a loop whose turns end without a step, with what registers hold at each turn.
@@ -176,11 +184,22 @@ fn plain_loop(
 {
     let mut inner = rs.copied(x.alloc)?;
     let made = body(x, turn, in_loop(around), &mut inner)?;
-    push(code, CStatement::Loop(made))
+    push(code, CStatement::Loop(made))?;
+    Ok(())
+}
+
+/// The label of all other numbers, alone.
+fn default_first(alloc: Global) -> Result<Items<CSwitchItem>, Memory>
+    ensures { IfOk result (λ made. written_items made ≡ default_label ∷ []) }
+{
+    let mut made = Items::new(alloc);
+    made.push(CSwitchItem::Default)?;
+    Ok(made)
 }
 
 /// The statements of a turn that a step follows, in a switch that `continue` leaves.
 #[cycle(statements)]
+#[tactic(auto, using(crate::proofs::Loops::turn_items))]
 fn stepped_turn(
     x: &Scene<'_>,
     turn: &Items<Plain>,
@@ -192,14 +211,14 @@ fn stepped_turn(
     let mut inner = rs.copied(x.alloc)?;
     let mut code = Items::new(x.alloc);
     statements(x, turn, in_stepped(around)?, &mut inner, &mut code)?;
-    let mut items = Items::new(x.alloc);
-    items.push(CSwitchItem::Default)?;
+    let mut items = default_first(x.alloc)?;
     state_all(&mut items, code)?;
     Ok(items)
 }
 
 /// Writes a loop whose turns end in a step, with what registers hold at each turn.
 #[cycle(statements)]
+#[tactic(auto, using(crate::proofs::Loops::stepped_is))]
 fn stepped_loop(
     x: &Scene<'_>,
     turn: &Items<Plain>,
@@ -213,13 +232,16 @@ fn stepped_loop(
     let mut made = Items::new(x.alloc);
     flag_set(x.alloc, &mut made, around.depth, 0)?;
     let items = stepped_turn(x, turn, around, rs)?;
-    push(&mut made, CStatement::Switch(zero(x.alloc)?, items))?;
+    let nothing = zero(x.alloc)?;
+    push(&mut made, CStatement::Switch(nothing, items))?;
     let mut left = Items::new(x.alloc);
     push(&mut left, CStatement::Break)?;
     if_flag(x.alloc, &mut made, around.depth, left)?;
     let mut inner = rs.copied(x.alloc)?;
     statements(x, step, in_loop(around), &mut inner, &mut made)?;
-    push(code, CStatement::Loop(block(x.alloc, made)?))
+    let whole = block(x.alloc, made)?;
+    push(code, CStatement::Loop(whole))?;
+    Ok(())
 }
 
 /// Writes a loop (6.5).
@@ -330,10 +352,8 @@ fn switched(
     flag_set(x.alloc, code, around.depth, 0)?;
     forget(x, all, rs);
     let made = items(x, all, in_switch(around)?, rs)?;
-    push(
-        code,
-        CStatement::Switch(integer_in(x.alloc, register)?, made),
-    )?;
+    let tested = integer_in(x.alloc, register)?;
+    push(code, CStatement::Switch(tested, made))?;
     let mut onward = Items::new(x.alloc);
     put_way(x.alloc, &mut onward, around.going_on)?;
     if_flag(x.alloc, code, around.depth, onward)?;

@@ -33,7 +33,8 @@ pub(crate) fn assign(
 ) -> Result<(), Memory>
     ensures { OnOk result (written code.new ≡ written code.old ++ c.assign (c.named name) (expression_of value) ∷ []) }
 {
-    push(code, CStatement::Assign(CPlace::Name(name), value))
+    push(code, CStatement::Assign(CPlace::Name(name), value))?;
+    Ok(())
 }
 
 /// A value goes to the C local of a register.
@@ -46,20 +47,17 @@ pub(crate) fn set_register(
 ) -> Result<(), Memory>
     ensures { OnOk result (written code.new ≡ written code.old ++ spec.set_register (sort_for cell) register (expression_of value) ∷ []) }
 {
-    assign(code, register_name(alloc, cell, register)?, value)
+    let name = register_name(alloc, cell, register)?;
+    assign(code, name, value)?;
+    Ok(())
 }
 
 /// A body of these statements, with no locals of its own.
 pub(crate) fn block(alloc: Global, statements: Items<CStatement>) -> Result<Boxed<CBody>, Memory>
     ensures { IfOk result (λ made. body_of made ≡ spec.block (written statements)) }
 {
-    Boxed::new(
-        alloc,
-        CBody {
-            locals: Items::new(alloc),
-            statements,
-        },
-    )
+    let locals = Items::new(alloc);
+    Ok(Boxed::new(alloc, CBody { locals, statements })?)
 }
 
 /// The flag of a loop or switch gets a number.
@@ -72,7 +70,9 @@ pub(crate) fn flag_set(
     ensures { OnOk result (written code.new ≡ written code.old ++ spec.flag_set flag value ∷ []) }
 {
     let name = flag_name(alloc, flag)?;
-    assign(code, name, number(alloc, value)?)
+    let made = number(alloc, value)?;
+    assign(code, name, made)?;
+    Ok(())
 }
 
 /// Control leaves the statement.
@@ -81,11 +81,18 @@ pub(crate) fn put_way(alloc: Global, code: &mut Items<CStatement>, way: Way) -> 
 {
     match way {
         Way::Nowhere => Ok(()),
-        Way::Break => push(code, CStatement::Break),
-        Way::Continue => push(code, CStatement::Continue),
+        Way::Break => {
+            push(code, CStatement::Break)?;
+            Ok(())
+        }
+        Way::Continue => {
+            push(code, CStatement::Continue)?;
+            Ok(())
+        }
         Way::Flagged(flag) => {
             flag_set(alloc, code, flag, 1)?;
-            push(code, CStatement::Break)
+            push(code, CStatement::Break)?;
+            Ok(())
         }
     }
 }
@@ -100,8 +107,10 @@ pub(crate) fn if_flag(
     ensures { OnOk result (written code.new ≡ written code.old ++ spec.if_flag flag (written statements) ∷ []) }
 {
     let chosen = block(alloc, statements)?;
-    let tested = load_named(alloc, flag_name(alloc, flag)?)?;
-    push(code, CStatement::If(tested, chosen, None))
+    let name = flag_name(alloc, flag)?;
+    let tested = load_named(alloc, name)?;
+    push(code, CStatement::If(tested, chosen, None))?;
+    Ok(())
 }
 
 /// `return e;` with a value of the function's result; without one where that is no scalar.
@@ -114,10 +123,14 @@ pub(crate) fn give(
     ensures { OnOk result (written code.new ≡ written code.old ++ spec.given (type_of x.now.tables.now x.now.result) (expression_of value)) }
 {
     match sort_of(x.tables, x.result) {
-        None => push(code, CStatement::Return(None)),
+        None => {
+            push(code, CStatement::Return(None))?;
+            Ok(())
+        }
         Some(scalar) => {
             let stored = as_stored(x.alloc, cell(scalar), value)?;
-            push(code, CStatement::Return(Some(stored)))
+            push(code, CStatement::Return(Some(stored)))?;
+            Ok(())
         }
     }
 }
@@ -126,5 +139,7 @@ pub(crate) fn give(
 pub fn no_value(x: &Scene<'_>, code: &mut Items<CStatement>) -> Result<(), Memory>
     ensures { OnOk result (written code.new ≡ written code.old ++ spec.no_value (type_of x.now.tables.now x.now.result)) }
 {
-    give(x, code, zero(x.alloc)?)
+    let value = zero(x.alloc)?;
+    give(x, code, value)?;
+    Ok(())
 }

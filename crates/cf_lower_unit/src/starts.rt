@@ -21,10 +21,10 @@ use cf_plain::PlainStatic;
 use std::alloc::Global;
 
 /// Writes the stores of a constant initialiser.
-fn store_start(
+fn store_start<'x>(
     alloc: Global,
-    tables: &Tables<'_>,
-    x: &PlainStatic,
+    tables: &'x Tables<'x>,
+    x: &'x PlainStatic,
     code: &mut Items<CStatement>,
 ) -> Result<(), Memory>
     ensures { OnOk result (written code.new ≡ written code.old ++ pieces.start_code tables.now (static_of tables.now x.now)) }
