@@ -98,7 +98,10 @@ pub(crate) fn known_by<'k>(
         Action::Function { name, .. } => Ok(Known::Function(name.as_slice())),
         Action::Dereference { pointer } => Ok(known.get(*pointer)),
         Action::Decay { array } => Ok(decayed(x, &known.get(*array))),
-        Action::Index { left, right } => sum(x, &known.get(*left), &known.get(*right)),
+        Action::Index { left, right } => {
+            let given = sum(x, &known.get(*left), &known.get(*right))?;
+            Ok(given)
+        }
         Action::Convert { ty, operand } => {
             Ok(converted(sort_of(x.tables, *ty), &known.get(*operand)))
         }
@@ -115,7 +118,8 @@ pub(crate) fn known_by<'k>(
         Action::Truth { operand } => Ok(of_truth(truth(&known.get(*operand)))),
         Action::Not { operand } => Ok(of_truth(inverted(truth(&known.get(*operand))))),
         Action::PointerOperate { op, left, right } => {
-            pointer_operated(x, *op, &known.get(*left), &known.get(*right))
+            let given = pointer_operated(x, *op, &known.get(*left), &known.get(*right))?;
+            Ok(given)
         }
         Action::This
         | Action::Result

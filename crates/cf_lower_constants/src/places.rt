@@ -76,7 +76,10 @@ fn moved<'k>(x: &Site<'_>, known: &Known<'k>, count: i64) -> Result<Known<'k>, M
     ensures { IfOk result (λ there. told x.now there ≡ definition.moved (classes_of x.now.tables.now) (told x.now known.now) count) }
 {
     match known {
-        Known::At(label, at, target) => further(x, *label, *at, *target, count),
+        Known::At(label, at, target) => {
+            let there = further(x, *label, *at, *target, count)?;
+            Ok(there)
+        }
         Known::Nothing | Known::Number(_) | Known::Null | Known::Function(_) => Ok(Known::Nothing),
     }
 }
@@ -86,7 +89,10 @@ fn sum_with<'k>(x: &Site<'_>, a: &Known<'k>, b: &Known<'k>) -> Result<Known<'k>,
     ensures { IfOk result (λ there. told x.now there ≡ sum_with (classes_of x.now.tables.now) (told x.now a.now) (told x.now b.now)) }
 {
     match b {
-        Known::Number(count) => moved(x, a, *count),
+        Known::Number(count) => {
+            let there = moved(x, a, *count)?;
+            Ok(there)
+        }
         Known::Nothing | Known::At(_, _, _) | Known::Null | Known::Function(_) => Ok(
             Known::Nothing,
         ),
@@ -117,7 +123,8 @@ fn less<'k>(x: &Site<'_>, a: &Known<'k>, b: &Known<'k>) -> Result<Known<'k>, Mem
     match b {
         Known::Number(count) => {
             let back = count.checked_neg().ok_or(Memory)?;
-            moved(x, a, back)
+            let there = moved(x, a, back)?;
+            Ok(there)
         }
         Known::Nothing | Known::At(_, _, _) | Known::Null | Known::Function(_) => Ok(
             Known::Nothing,

@@ -41,7 +41,9 @@ fn place_at(x: &Site<'_>, label: Label<'_>, at: u64) -> Result<Boxed<CExpression
 {
     let name = name_of(x, label)?;
     let start = address_of(x.alloc, name)?;
-    binary(x.alloc, Arith::Add, start, number(x.alloc, at)?)
+    let offset = number(x.alloc, at)?;
+    let made = binary(x.alloc, Arith::Add, start, offset)?;
+    Ok(made)
 }
 
 /// A known value, for a store.
@@ -51,7 +53,11 @@ fn written_value(x: &Site<'_>, known: &Known<'_>) -> Result<Boxed<CExpression>, 
     match known {
         Known::Number(value) => constant_of(x.alloc, *value),
         Known::At(label, at, _) => place_at(x, *label, *at),
-        Known::Function(name) => load_named(x.alloc, Items::from_slice(x.alloc, *name)?),
+        Known::Function(name) => {
+            let copy = Items::from_slice(x.alloc, *name)?;
+            let made = load_named(x.alloc, copy)?;
+            Ok(made)
+        }
         Known::Nothing | Known::Null => zero(x.alloc),
     }
 }
@@ -100,14 +106,9 @@ fn store(
 {
     match place {
         Known::At(label, at, target) => {
-            store_scalar(
-                x,
-                code,
-                target_scalar(x.tables, *target),
-                *label,
-                *at,
-                value,
-            )
+            let scalar = target_scalar(x.tables, *target);
+            store_scalar(x, code, scalar, *label, *at, value)?;
+            Ok(())
         }
         Known::Nothing | Known::Number(_) | Known::Null | Known::Function(_) => Ok(()),
     }
@@ -126,7 +127,8 @@ fn put_bytes(
     let mut index = 0;
     for byte in bytes {
         let start = place_at(x, label, at)?;
-        let there = binary(x.alloc, Arith::Add, start, number(x.alloc, index)?)?;
+        let offset = number(x.alloc, index)?;
+        let there = binary(x.alloc, Arith::Add, start, offset)?;
         let held = character(x.alloc, *byte)?;
         put(x.alloc, code, Cell::Number(Kind::Char), there, held)?;
         index = index.checked_add(1).ok_or(Memory)?;
@@ -144,7 +146,10 @@ fn store_bytes(
     ensures { OnOk result (written code.new ≡ written code.old ++ definition.stored_bytes (classes_of x.now.tables.now) (told x.now place.now) bytes.now) }
 {
     match place {
-        Known::At(label, at, _) => put_bytes(x, code, *label, *at, bytes),
+        Known::At(label, at, _) => {
+            put_bytes(x, code, *label, *at, bytes)?;
+            Ok(())
+        }
         Known::Nothing | Known::Number(_) | Known::Null | Known::Function(_) => Ok(()),
     }
 }
@@ -159,9 +164,13 @@ pub(crate) fn done(
     ensures { OnOk result (written code.new ≡ written code.old ++ definition.constant_done (classes_of x.now.tables.now) (told_all x.now known.now) (action_at x.now a.now)) }
 {
     match a {
-        Action::First { place, value } => { store(x, code, &known.get(*place), &known.get(*value)) }
+        Action::First { place, value } => {
+            store(x, code, &known.get(*place), &known.get(*value))?;
+            Ok(())
+        }
         Action::Characters { place, bytes } => {
-            store_bytes(x, code, &known.get(*place), bytes.as_slice())
+            store_bytes(x, code, &known.get(*place), bytes.as_slice())?;
+            Ok(())
         }
         Action::Number { .. }
         | Action::Text { .. }

@@ -76,13 +76,19 @@ fn constant<'k>(
     ensures known { OnOk result (told_all x.now known.new ≡ definition.known_after (classes_of x.now.tables.now) (statement_at x.now s.now) x.now.owner.now (told_all x.now known.old)) }
 {
     match s {
-        Plain::Act { action } => done(x, known, action, code),
+        Plain::Act { action } => {
+            done(x, known, action, code)?;
+            Ok(())
+        }
         Plain::Set { register, action } => {
             let given = known_by(x, known, action)?;
             known.know(*register, &given)?;
             Ok(())
         }
-        Plain::If { register, yes, no } => branch(x, yes, no, *register, known, code),
+        Plain::If { register, yes, no } => {
+            branch(x, yes, no, *register, known, code)?;
+            Ok(())
+        }
         Plain::Loop { .. }
         | Plain::Switch { .. }
         | Plain::Case { .. }

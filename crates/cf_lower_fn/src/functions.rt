@@ -32,8 +32,14 @@ fn add_arguments(a: &Action, made: &mut Items<u32>) -> Result<(), Memory>
     ensures { (tables : TablesOf) → OnOk result (made.new ≡ made.old ++ spec.arguments_at (action_at tables a.now)) }
 {
     match a {
-        Action::Call { arguments, .. } => add_all(arguments.as_slice(), made),
-        Action::PointerCall { arguments, .. } => add_all(arguments.as_slice(), made),
+        Action::Call { arguments, .. } => {
+            add_all(arguments.as_slice(), made)?;
+            Ok(())
+        }
+        Action::PointerCall { arguments, .. } => {
+            add_all(arguments.as_slice(), made)?;
+            Ok(())
+        }
         Action::Number { .. }
         | Action::Text { .. }
         | Action::This

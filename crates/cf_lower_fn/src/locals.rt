@@ -91,7 +91,8 @@ fn add_register(alloc: Global, register: u32, made: &mut Items<CLocal>) -> Resul
     let pointer = register_name(alloc, Cell::Address, register)?;
     push_scalar(made, CType::Pointer, pointer)?;
     let function = register_name(alloc, Cell::Code, register)?;
-    push_scalar(made, CType::FunctionPointer, function)
+    push_scalar(made, CType::FunctionPointer, function)?;
+    Ok(())
 }
 
 /// Those of each register below a number.

@@ -131,5 +131,6 @@ pub(crate) fn add_results(
     ensures { OnOk result (made.new ≡ made.old ++ spec.results (told tables.now all.now)) }
 {
     let types = result_types(alloc, tables, all)?;
-    add_each(alloc, types.as_slice(), made)
+    add_each(alloc, types.as_slice(), made)?;
+    Ok(())
 }

@@ -40,11 +40,13 @@ fn of_statement<'a>(
         Plain::Set { action, .. } => put(action, out),
         Plain::If { yes, no, .. } => {
             actions(tables, yes, out)?;
-            actions(tables, no, out)
+            actions(tables, no, out)?;
+            Ok(())
         }
         Plain::Loop { body, next } => {
             actions(tables, body, out)?;
-            actions(tables, next, out)
+            actions(tables, next, out)?;
+            Ok(())
         }
         Plain::Switch { body, .. } => actions(tables, body, out),
         Plain::Parts { parts } => of_parts(tables, parts, out),

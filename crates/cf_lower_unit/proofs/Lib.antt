@@ -1,4 +1,5 @@
 pub mod Appended
 pub mod Bytes
+pub mod Helper
 pub mod Joined
 pub mod Names

@@ -217,5 +217,6 @@ pub(crate) fn declare_others<'a>(
     let mut names = Names::new(alloc);
     add_names(&mut names, variables)?;
     add_names(&mut names, heads)?;
-    declare_all(alloc, tables, all.as_slice(), &mut names)
+    let made = declare_all(alloc, tables, all.as_slice(), &mut names)?;
+    Ok(made)
 }

@@ -36,22 +36,24 @@ fn declare(
     ensures { OnOk result (items_of made.new ≡ items_of made.old ++ declares (record { is_static = false; result = given; name = name.now; parameters = parameters }) ∷ []) }
 {
     let name = Items::from_slice(alloc, name)?;
-    push(
-        made,
-        CItem::Prototype(CPrototype {
-            is_static: false,
-            result: given,
-            name,
-            parameters,
-        }),
-    )
+    let head = CPrototype {
+        is_static: false,
+        result: given,
+        name,
+        parameters,
+    };
+    push(made, CItem::Prototype(head))?;
+    Ok(())
 }
 
 /// Declares the library's functions.
 pub(crate) fn declare_library(alloc: Global, made: &mut Items<CItem>) -> Result<(), Memory>
     ensures { OnOk result (items_of made.new ≡ items_of made.old ++ spec.library) }
 {
-    declare(alloc, b"putchar", Some(CType::Int), one_int(alloc)?, made)?;
+    let letter = one_int(alloc)?;
+    declare(alloc, b"putchar", Some(CType::Int), letter, made)?;
     declare(alloc, b"getchar", Some(CType::Int), Items::new(alloc), made)?;
-    declare(alloc, b"exit", None, one_int(alloc)?, made)
+    let status = one_int(alloc)?;
+    declare(alloc, b"exit", None, status, made)?;
+    Ok(())
 }

@@ -57,6 +57,7 @@ fn stores(
 }
 
 /// Defines the helper that stores this, if there is anything.
+#[tactic(auto, using(crate::proofs::Helper::none_stored, crate::proofs::Helper::some_stored))]
 fn define_helper(
     alloc: Global,
     code: Items<CStatement>,
@@ -77,14 +78,13 @@ fn define_helper(
         locals: Items::new(alloc),
         statements: code,
     };
-    push(
-        made,
-        CItem::Function(CFunction {
-            is_shared: false,
-            prototype,
-            body,
-        }),
-    )
+    let helper = CFunction {
+        is_shared: false,
+        prototype,
+        body,
+    };
+    push(made, CItem::Function(helper))?;
+    Ok(())
 }
 
 /// Defines the helper that stores what constant initialisers do.

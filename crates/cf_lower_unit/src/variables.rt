@@ -102,7 +102,8 @@ fn define_literal(
     match a {
         Action::Text { number, bytes } => {
             let variable = literal(alloc, owner, is_shared, is_local, *number, bytes)?;
-            push(made, CItem::Variable(variable))
+            push(made, CItem::Variable(variable))?;
+            Ok(())
         }
         Action::Number { .. }
         | Action::This
