@@ -4,3 +4,4 @@ pub mod Erased
 pub mod Forgotten
 pub mod Keepings
 pub mod Lists
+pub mod Locals

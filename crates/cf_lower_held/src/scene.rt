@@ -27,6 +27,7 @@ pub struct Scene<'a> {
 }
 
 /// The type of a local, if there is one of this number.
+#[tactic(auto, using(crate::proofs::Locals::type_there))]
 pub fn type_of_local(x: &Scene<'_>, local: u32) -> Option<TyId>
     ensures { kept.type_or_void (option_map (type_of x.now.tables.now) result) ≡ kept.type_of_local (locals_in x.now) local }
 {
