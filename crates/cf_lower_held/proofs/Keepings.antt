@@ -129,3 +129,6 @@ module _ (tables : Tables) (old new : Registers) where
 
 pub clear_none : (tables : Tables) (old : Registers) (i n r : ℕ) → n ≡ length old.held.items → n ≤ i → i ≡ r → keeping tables old ≡ without (λ q. r == q) (keeping tables old)
 clear_none tables old i n r len le at = cleared_behind tables old.held.items r (omega (arith, len, le, at))
+
+pub same_items : (tables : Tables) (old new : Registers) → new.held.items ≡ old.held.items → keeping tables new ≡ keeping tables old
+same_items tables old new e = ap (of_list tables) e

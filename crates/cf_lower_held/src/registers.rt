@@ -57,8 +57,9 @@ impl Registers {
     }
 
     /// The same in a list of its own.
+    #[tactic(auto, using(crate::proofs::Keepings::same_items))]
     pub fn copied(&self, alloc: Global) -> Result<Registers, Memory>
-        ensures { IfOk result (λ made. made.held.items ≡ self.now.held.items) }
+        ensures { (tables : TablesOf) → IfOk result (λ made. keeping tables made ≡ keeping tables self.now) }
     {
         Ok(Registers {
             held: Vec::from_slice(alloc, self.held.as_slice())?,

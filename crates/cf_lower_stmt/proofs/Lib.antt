@@ -1,8 +1,10 @@
+pub mod Arounds
 pub mod Cells
 pub mod Erasing
 pub mod Labels
 pub mod Lists
 pub mod Loops
 pub mod Spots
+pub mod Switches
 pub mod Types
 pub mod Walks

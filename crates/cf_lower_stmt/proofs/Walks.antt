@@ -1,5 +1,6 @@
 -- The steps of the walk over statements.
-use Rattle.std.proofs.Common.{◌≡◌, ℕ, ◌+◌, ◌<◌, ◌==◌, Bool, true, false, if◌then◌else◌, List, [], ◌∷◌, ◌++◌, length, drop, get_or, sym, ap, ◌∙◌, append_assoc}
+use Rattle.std.proofs.Common.{◌≡◌, ℕ, ◌+◌, ◌<◌, ◌≤◌, ◌==◌, Bool, true, false, if◌then◌else◌, List, [], ◌∷◌, ◌++◌, length, drop, get_or, sym, ap, ◌∙◌, append_assoc, append-nil}
+use Rattle.std.proofs.lemmas.List.{at_drop_all}
 use Rattle.cc_whole.specs.Plain.{Statement}
 use Rattle.cf_plain.specs.declared.statement.Plain.{Plain as CodePlain}
 use Rattle.cf_lower.specs.Kept.{Kept, Keeping, after, after_all, common, keep, nothing_kept}
@@ -59,3 +60,14 @@ module _ (x : Scene) (all : List CodePlain) (i : ℕ) (s : CodePlain) (within : 
       let rest = statements_in x (drop (i + 1) all) in
       ap (λ k. erasing (after_all (locals_in x) rest k)) behind ∙ after_all_erased (locals_in x) rest (after (locals_in x) (statement_in x s) g)
       ∙ sym (ap (λ l. erasing (after_all (locals_in x) (statements_in x l) g)) (drop_item all i s within is)) ∙ p
+
+-- ---- behind the last statement
+
+module _ (x : Scene) (all : List CodePlain) (i : ℕ) (past : length all ≤ i) where
+  pub all_written : (around : Around) (g : Keeping) (w whole : List Statement) → w ++ all_lowered (statements_in x (drop i all)) (inside x around) g ≡ whole → w ≡ whole
+  all_written around g w whole so_far =
+      sym (append-nil w) ∙ sym (at_drop_all (λ (l : List CodePlain). w ++ all_lowered (statements_in x l) (inside x around) g) all i past) ∙ so_far
+
+  pub all_held : (rs : Registers) (whole : Keeping) → erasing (after_all (locals_in x) (statements_in x (drop i all)) (holding x rs)) ≡ whole → holding x rs ≡ whole
+  all_held rs whole so_far =
+      sym (holding_erased x rs) ∙ sym (at_drop_all (λ (l : List CodePlain). erasing (after_all (locals_in x) (statements_in x l) (holding x rs))) all i past) ∙ so_far

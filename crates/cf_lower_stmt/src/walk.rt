@@ -29,11 +29,13 @@ use cf_types::convert_int;
 use std::alloc::Global;
 
 /// What is around the body of a loop whose turns end in a step: `continue` goes to the step, and `break` sets the flag before.
+#[tactic(auto, using(crate::proofs::Arounds::around_stepped))]
 fn in_stepped(around: Around) -> Result<Around, Memory>
     ensures { (x : SceneOf) → IfOk result (λ inner. inside x inner ≡ spec.in_stepped (inside x around)) }
 {
+    let depth = around.depth.checked_add(1).ok_or(Memory)?;
     Ok(Around {
-        depth: around.depth.checked_add(1).ok_or(Memory)?,
+        depth,
         leaving: Way::Flagged(around.depth),
         going_on: Way::Break,
     })
@@ -51,11 +53,13 @@ fn in_loop(around: Around) -> Around
 }
 
 /// What is around the statements of a switch: `continue` leaves it with the flag set.
+#[tactic(auto, using(crate::proofs::Arounds::around_switch))]
 fn in_switch(around: Around) -> Result<Around, Memory>
     ensures { (x : SceneOf) → IfOk result (λ inner. inside x inner ≡ spec.in_switch (inside x around)) }
 {
+    let depth = around.depth.checked_add(1).ok_or(Memory)?;
     Ok(Around {
-        depth: around.depth.checked_add(1).ok_or(Memory)?,
+        depth,
         leaving: Way::Break,
         going_on: Way::Flagged(around.depth),
     })
@@ -66,6 +70,14 @@ fn state(items: &mut Items<CSwitchItem>, statement: CStatement) -> Result<(), Me
     ensures { OnOk result (written_items items.new ≡ written_items items.old ++ inner (statement_of statement) ∷ []) }
 {
     items.push(CSwitchItem::Statement(statement))?;
+    Ok(())
+}
+
+/// A label comes among the statements of a switch.
+fn put_label(items: &mut Items<CSwitchItem>, label: CSwitchItem) -> Result<(), Memory>
+    ensures { OnOk result (written_items items.new ≡ written_items items.old ++ switch_item_of label ∷ []) }
+{
+    items.push(label)?;
     Ok(())
 }
 
@@ -131,6 +143,7 @@ fn body(
 
 /// Writes statements in order, and tells what the registers hold behind them.
 #[cycle(statements)]
+#[tactic(auto, using(crate::proofs::Walks::one_statement, crate::proofs::Walks::held_behind, crate::proofs::Walks::all_written, crate::proofs::Walks::all_held))]
 pub fn statements(
     x: &Scene<'_>,
     all: &Items<Plain>,
@@ -303,7 +316,7 @@ fn item(
 {
     match label_of(s)? {
         Some(found) => {
-            made.push(found)?;
+            put_label(made, found)?;
             *running = rs.copied(x.alloc)?;
             Ok(())
         }
@@ -318,7 +331,7 @@ fn item(
 
 /// The labels and statements of a switch, where the registers hold this before it and at each label.
 #[cycle(statements)]
-#[tactic(auto, using(crate::proofs::Labels::front_all))]
+#[tactic(auto, using(crate::proofs::Switches::items_begun, crate::proofs::Switches::items_turn, crate::proofs::Switches::items_ended))]
 fn items(
     x: &Scene<'_>,
     all: &Items<Plain>,
