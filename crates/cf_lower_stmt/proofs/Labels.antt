@@ -67,9 +67,10 @@ module _ (x : Inside) (g h : Keeping) (rest : Plains) where
   front_label xs ys s l k e pushed same =
       ap (λ j. in_front ys (items rest x g j)) same ∙ ap (λ l. in_front l (items rest x g g)) pushed ∙ front_both xs (l ∷ []) (items rest x g g) ∙ ap (in_front xs) (sym (at_label s l (sym e)))
 
-  pub front_statement : (xs ys : List SwitchItem) (s : Plain) (ss : List Statement) (k : Keeping) → None ≡ label_in s → ss ≡ lowered s x h → k ≡ erasing (after x.locals s h)
-      → ys ≡ xs ++ map inner ss → in_front ys (items rest x g k) ≡ in_front xs (items (more s rest) x g h)
-  front_statement xs ys s ss k e code held pushed =
+  pub front_statement : (xs ys : List SwitchItem) (s : Plain) (none : List CStatement) (ss : List Statement) (k : Keeping) → None ≡ label_in s → none ≡ []
+      → ss ≡ written none ++ lowered s x h → k ≡ erasing (after x.locals s h) → ys ≡ xs ++ map inner ss → in_front ys (items rest x g k) ≡ in_front xs (items (more s rest) x g h)
+  front_statement xs ys s none ss k e empty code held pushed =
       ap (λ l. in_front l (items rest x g k)) pushed ∙ front_both xs (map inner ss) (items rest x g k) ∙ ap (in_front xs) (front_stated ss (items rest x g k))
-      ∙ ap (λ l. in_front xs (stated_all l (items rest x g k))) code ∙ ap (λ j. in_front xs (stated_all (lowered s x h) (items rest x g j))) held
+      ∙ ap (λ l. in_front xs (stated_all l (items rest x g k))) (code ∙ ap (λ l. written l ++ lowered s x h) empty)
+      ∙ ap (λ j. in_front xs (stated_all (lowered s x h) (items rest x g j))) held
       ∙ ap (λ j. in_front xs (stated_all (lowered s x h) j)) (items_second rest x g (after x.locals s h)) ∙ ap (in_front xs) (sym (at_statement s (sym e)))

@@ -118,7 +118,7 @@ fn call_to(
 }
 
 /// A call whose result goes through a C local of its type to a register.
-#[tactic(auto, using(crate::proofs::Cells::result_by_cell))]
+#[tactic(auto, using(crate::proofs::Cells::call_kept))]
 fn call_for(
     alloc: Global,
     code: &mut Items<CStatement>,
@@ -130,10 +130,11 @@ fn call_for(
     ensures { (tables : TablesOf) → OnOk result (written code.new ≡ written code.old ++ result_kept (callee_of callee) arguments.now register (sort_in tables scalar)) }
 {
     let cell = cell(scalar);
+    let ty = cell.c_type();
     let values = passed(alloc, arguments)?;
-    let into = result_name(alloc, cell.c_type())?;
+    let into = result_name(alloc, ty)?;
     call_to(code, into, callee, values)?;
-    let name = result_name(alloc, cell.c_type())?;
+    let name = result_name(alloc, ty)?;
     let held = load_named(alloc, name)?;
     let value = as_value(alloc, cell, held)?;
     set_register(alloc, code, cell, register, value)?;

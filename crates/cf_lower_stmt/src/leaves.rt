@@ -13,8 +13,9 @@ ghost use Rattle.cf_lower_stmt.specs.Steps.{inside, set_if, value_kept, written}
 ghost use Rattle.cf_lower_stmt.specs.declared.around.Around.{Around};
 
 use crate::calls::{by_name, call_alone, call_into, through};
-use crate::stores::{bytes_in, first_in, stored_in, zeros_in};
+use crate::stores::{bytes_in, first_in, stored_in};
 use crate::writes::set_register;
+use crate::zeros::zeros_in;
 use cc_whole::{CExpression, CStatement};
 use cf_base::{Boxed, Items, Memory};
 use cf_lower_expr::{cell, value, value_in};
