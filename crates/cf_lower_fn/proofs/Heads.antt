@@ -11,24 +11,26 @@ use Rattle.cf_lower_layout.specs.Sorts.{Sort, sort_of}
 use Rattle.cf_lower_types.proofs.FunctionLaws.{parameters_taking, result_taking}
 use Rattle.cf_plain.specs.declared.unit.PlainFn.{PlainFn}
 use Rattle.cf_plain.specs.View.{function_of}
+use Rattle.cc_whole.specs.declared.types.CType.{CType}
+use Rattle.cf_lower_stmt.specs.Calls.{type_or_none}
 use Rattle.cf_lower_fn.specs.Parts.{head, one_parameter}
 
-by_parts : (l : Bool) (n : Name) (t : SourceType) (ts : List SourceType) (s : Option Sort) (made : CPrototype) → ts ≡ parameters t → s ≡ sort_of (result t) → made ≡ head l n ts s
+by_parts : (l : Bool) (n : Name) (t : SourceType) (ts : List SourceType) (s : Option CType) (made : CPrototype) → ts ≡ parameters t → s ≡ type_or_none (sort_of (result t)) → made ≡ head l n ts s
     → made ≡ prototype_of l n t
 by_parts l n t ts s made types given is = is ∙ ap (λ us. head l n us s) types ∙ ap (head l n (parameters t)) given
 
 module _ (tables : Tables) where
-  pub other_head : (n : Name) (t : ℕ) (ts : List ℕ) (s : Option Sort) (made : CPrototype) → map (type_of tables) ts ≡ parameters (type_of tables t)
-      → s ≡ sort_of (result (type_of tables t)) → made ≡ head false n (map (type_of tables) ts) s → made ≡ prototype_of false n (type_of tables t)
+  pub other_head : (n : Name) (t : ℕ) (ts : List ℕ) (s : Option CType) (made : CPrototype) → map (type_of tables) ts ≡ parameters (type_of tables t)
+      → s ≡ type_or_none (sort_of (result (type_of tables t))) → made ≡ head false n (map (type_of tables) ts) s → made ≡ prototype_of false n (type_of tables t)
   other_head n t ts s made types given is = by_parts false n (type_of tables t) (map (type_of tables) ts) s made types given is
 
-  pub own_head : (f : PlainFn) (s : Option Sort) (made : CPrototype) → s ≡ sort_of (type_of tables f.result) → made ≡ head f.is_local f.name (map (type_of tables) f.params) s
+  pub own_head : (f : PlainFn) (s : Option CType) (made : CPrototype) → s ≡ type_or_none (sort_of (type_of tables f.result)) → made ≡ head f.is_local f.name (map (type_of tables) f.params) s
       → made ≡ prototype (function_of tables f)
   own_head f s made given is =
       let ps = map (type_of tables) f.params in
       let t = taking ps (gives (type_of tables f.result) false) in
       by_parts f.is_local f.name t ps s made (sym (parameters_taking ps (type_of tables f.result) false))
-      (given ∙ ap sort_of (sym (result_taking ps (type_of tables f.result) false))) is
+      (given ∙ ap (λ u. type_or_none (sort_of u)) (sym (result_taking ps (type_of tables f.result) false))) is
 
   -- parameters, one more
   first_parameter : (i : ℕ) (t : SourceType) (ts : List SourceType) → one_parameter i (sort_of t) ++ lowered_parameters (suc i) ts ≡ lowered_parameters i (t ∷ ts)

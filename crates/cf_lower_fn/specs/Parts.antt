@@ -11,16 +11,11 @@ use Rattle.cf_core.specs.Types.{Name, SourceType, void}
 use Rattle.cf_lower.specs.Functions.{scalar, lowered_parameters}
 use Rattle.cf_lower.specs.Written.{if_scalar, c_type, register_name, local_name, type_number, result_name}
 use Rattle.cf_lower_layout.specs.Sorts.{Sort, number, address, code}
-use Rattle.cf_lower_stmt.specs.Calls.{type_or_none}
 
 -- the three C locals of a register
 abbrev pub three : ℕ → List CLocal
 three r =
     scalar ty.Int (register_name (number Int) r) ∷ scalar ty.Pointer (register_name (address void) r) ∷ scalar ty.FunctionPointer (register_name (code void) r) ∷ []
-
--- the C type of a scalar, if there is one
-abbrev pub one_type : Option Sort → List CType
-one_type s = if_scalar s [] (λ t. c_type t ∷ [])
 
 -- whether a type stands in a list
 abbrev pub occurs : CType → List CType → Bool
@@ -35,10 +30,10 @@ abbrev pub one_parameter : ℕ → Option Sort → List CParameter
 one_parameter i s = if_scalar s [] (λ t. record { ty = c_type t; name = local_name i } ∷ [])
 
 -- the head of a function with these parameters and this result
-abbrev pub head : Bool → Name → List SourceType → Option Sort → CPrototype
+abbrev pub head : Bool → Name → List SourceType → Option CType → CPrototype
 head is_local name types given = record {
   is_static = is_local;
-  result = type_or_none given;
+  result = given;
   name = name;
   parameters = lowered_parameters 0 types;
 }

@@ -15,7 +15,7 @@ use cc_whole::{CConstant, CLocal, CLocalType, CType, CVariableType};
 use cf_base::{Items, Kind, Memory, Name};
 use cf_lower_names::{Cell, flag_name, local_name, register_name};
 use cf_lower_stmt::scalar_type;
-use cf_lower_types::{Tables, size_of, sort_of};
+use cf_lower_types::{Tables, size_of};
 use cf_types::TyId;
 use std::alloc::Global;
 
@@ -42,21 +42,29 @@ fn words(tables: &Tables<'_>, ty: TyId) -> Result<CConstant, Memory>
 }
 
 /// A scalar is one; any other object is an array of ints.
+#[tactic(auto, using(crate::proofs::ObjectTypes::local_none, crate::proofs::ObjectTypes::local_some))]
 fn local_type(tables: &Tables<'_>, ty: TyId) -> Result<CLocalType, Memory>
     ensures { IfOk result (λ made. made ≡ written.local_type (classes_of tables.now) (type_of tables.now ty)) }
 {
-    match scalar_type(sort_of(tables, ty)) {
-        None => Ok(CLocalType::Ints(words(tables, ty)?)),
+    match scalar_type(tables, ty) {
+        None => {
+            let count = words(tables, ty)?;
+            Ok(CLocalType::Ints(count))
+        }
         Some(scalar) => Ok(CLocalType::Scalar(scalar)),
     }
 }
 
 /// The same of a static object.
+#[tactic(auto, using(crate::proofs::ObjectTypes::variable_none, crate::proofs::ObjectTypes::variable_some))]
 pub fn object_type(tables: &Tables<'_>, ty: TyId) -> Result<CVariableType, Memory>
     ensures { IfOk result (λ made. made ≡ written.variable_type (classes_of tables.now) (type_of tables.now ty)) }
 {
-    match scalar_type(sort_of(tables, ty)) {
-        None => Ok(CVariableType::Ints(words(tables, ty)?)),
+    match scalar_type(tables, ty) {
+        None => {
+            let count = words(tables, ty)?;
+            Ok(CVariableType::Ints(count))
+        }
         Some(scalar) => Ok(CVariableType::Scalar(scalar)),
     }
 }

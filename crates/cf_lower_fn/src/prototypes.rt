@@ -1,24 +1,23 @@
 //! Heads of functions.
 
 ghost use Rattle.std.specs.Prelude.{◌≡◌, ◌++◌, map, IfOk, OnOk, false};
-ghost use Rattle.std.specs.Option.{option_map};
 ghost use Rattle.cf_core.specs.FromTypes.{type_of};
 ghost use Rattle.cf_lower.specs.Functions as spec;
 ghost use Rattle.cf_lower_layout.specs.Sorts as sorts;
-ghost use Rattle.cf_lower_types.specs.Bare.{sort_in};
 ghost use Rattle.cf_lower_fn.specs.Parts as parts;
 ghost use Rattle.cf_plain.specs.View as view;
 
-use cc_whole::{CParameter, CPrototype};
+use cc_whole::{CParameter, CPrototype, CType};
 use cf_base::{Items, Memory, Name};
 use cf_lower_names::local_name;
-use cf_lower_stmt::scalar_type;
-use cf_lower_types::{Scalar, Tables, result_sort, sort_of};
+use cf_lower_stmt::{result_type, scalar_type};
+use cf_lower_types::Tables;
 use cf_plain::PlainFn;
 use cf_types::TyId;
 use std::alloc::Global;
 
 /// Puts the parameter of this number behind others, if it is a scalar.
+#[tactic(auto, using(crate::proofs::ObjectTypes::parameter_none, crate::proofs::ObjectTypes::parameter_some))]
 fn add_parameter(
     alloc: Global,
     tables: &Tables<'_>,
@@ -28,7 +27,7 @@ fn add_parameter(
 ) -> Result<(), Memory>
     ensures { OnOk result (made.new ≡ made.old ++ parts.one_parameter number (sorts.sort_of (type_of tables.now id))) }
 {
-    match scalar_type(sort_of(tables, id)) {
+    match scalar_type(tables, id) {
         None => Ok(()),
         Some(ty) => {
             let name = local_name(alloc, number)?;
@@ -63,15 +62,15 @@ fn head(
     is_local: bool,
     name: &Name,
     types: &[TyId],
-    given: Option<Scalar>,
+    given: Option<CType>,
 ) -> Result<CPrototype, Memory>
-    ensures { IfOk result (λ made. made ≡ parts.head is_local name.now (map (type_of tables.now) types.now) (option_map (sort_in tables.now) given)) }
+    ensures { IfOk result (λ made. made ≡ parts.head is_local name.now (map (type_of tables.now) types.now) given) }
 {
     let name = Items::from_slice(alloc, name.as_slice())?;
     let parameters = parameters(alloc, tables, types)?;
     Ok(CPrototype {
         is_static: is_local,
-        result: scalar_type(given),
+        result: given,
         name,
         parameters,
     })
@@ -88,7 +87,7 @@ pub fn prototype_of(
     ensures { IfOk result (λ made. made ≡ spec.prototype_of false name.now (type_of tables.now ty)) }
 {
     let types = cf_lower_types::parameters(tables, ty);
-    let made = head(alloc, tables, false, name, types, result_sort(tables, ty))?;
+    let made = head(alloc, tables, false, name, types, result_type(tables, ty))?;
     Ok(made)
 }
 
@@ -103,7 +102,7 @@ pub fn own_prototype(alloc: Global, tables: &Tables<'_>, f: &PlainFn) -> Result<
         f.is_local,
         &f.name,
         f.params.as_slice(),
-        sort_of(tables, f.result),
+        scalar_type(tables, f.result),
     )?;
     Ok(made)
 }

@@ -7,23 +7,25 @@ ghost use Rattle.cf_core.specs.Types as types;
 ghost use Rattle.cf_lower.specs.Functions as spec;
 ghost use Rattle.cf_lower_layout.specs.Sorts as sorts;
 ghost use Rattle.cf_lower_fn.specs.Parts as parts;
+ghost use Rattle.cf_lower_stmt.specs.Calls as calls;
 ghost use Rattle.cf_lower_fn.specs.Walks.{action_at, told};
 
 use crate::locals::push_scalar;
 use cc_whole::{CLocal, CType};
 use cf_base::{Items, Memory};
 use cf_lower_names::{result_name, type_number};
-use cf_lower_stmt::scalar_type;
-use cf_lower_types::{Tables, result_sort};
+use cf_lower_stmt::result_type;
+use cf_lower_types::Tables;
 use cf_plain::Action;
 use cf_types::TyId;
 use std::alloc::Global;
 
 /// Puts the C type of what a function of this type gives behind others, if it is a scalar.
+#[tactic(auto, using(cf_lower_stmt::proofs::Types::one_none, cf_lower_stmt::proofs::Types::one_some))]
 fn add_type(tables: &Tables<'_>, ty: TyId, made: &mut Vec<CType>) -> Result<(), Memory>
-    ensures { OnOk result (made.new.items ≡ made.old.items ++ parts.one_type (sorts.sort_of (types.result (type_of tables.now ty)))) }
+    ensures { OnOk result (made.new.items ≡ made.old.items ++ calls.one_type (sorts.sort_of (types.result (type_of tables.now ty)))) }
 {
-    match scalar_type(result_sort(tables, ty)) {
+    match result_type(tables, ty) {
         None => Ok(()),
         Some(given) => {
             made.push(given)?;

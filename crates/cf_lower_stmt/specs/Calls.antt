@@ -8,8 +8,13 @@ use Rattle.cf_lower.specs.Statements.{passed, set_register}
 use Rattle.cf_lower.specs.Written.{c_type, if_scalar, result_name}
 use Rattle.cf_lower_layout.specs.Sorts.{Sort}
 
+-- the C type of a scalar, if there is one
 abbrev pub type_or_none : Option Sort → Option CType
 type_or_none s = if_scalar s None (λ t. Some (c_type t))
+
+-- the same as a list
+abbrev pub one_type : Option Sort → List CType
+one_type s = if_scalar s [] (λ t. c_type t ∷ [])
 
 -- a call whose result, which is this scalar, is kept in a register
 abbrev pub result_kept : Callee → List ℕ → ℕ → Sort → List Statement

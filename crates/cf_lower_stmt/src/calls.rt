@@ -5,9 +5,11 @@ ghost use Rattle.std.specs.Option.{option_map};
 ghost use Rattle.cc_whole.specs.Plain as c;
 ghost use Rattle.cc_whole.specs.Plain.{callee_of, expression_of};
 ghost use Rattle.cf_core.specs.FromTypes.{Tables as TablesOf, type_of};
+ghost use Rattle.cf_core.specs.Types as types;
 ghost use Rattle.cf_lower.specs.Statements as spec;
+ghost use Rattle.cf_lower_layout.specs.Sorts as sorts;
 ghost use Rattle.cf_lower_types.specs.Bare.{sort_in};
-ghost use Rattle.cf_lower_stmt.specs.Calls.{type_or_none, result_kept};
+ghost use Rattle.cf_lower_stmt.specs.Calls.{one_type, result_kept, type_or_none};
 ghost use Rattle.cf_lower_stmt.specs.Steps.{written};
 
 use crate::writes::{push, set_register};
@@ -16,7 +18,7 @@ use cf_base::{Items, Memory, Name};
 use cf_lower_expr::cell;
 use cf_lower_held::Scene;
 use cf_lower_names::{Cell, as_value, in_register, load_named, local_name, result_name};
-use cf_lower_types::{Scalar, parameters, result_sort, sort_of};
+use cf_lower_types::{Scalar, Tables, parameters, result_sort, sort_of};
 use cf_types::TyId;
 use std::alloc::Global;
 
@@ -35,7 +37,7 @@ fn passed(alloc: Global, arguments: &[u32]) -> Result<Items<CExpression>, Memory
 
 /// The C type of a scalar, if there is one.
 #[tactic(auto, using(cf_lower_names::proofs::CellLaws::type_by_cell))]
-pub fn scalar_type(scalar: Option<Scalar>) -> Option<CType>
+fn c_type(scalar: Option<Scalar>) -> Option<CType>
     ensures { (tables : TablesOf) → result ≡ type_or_none (option_map (sort_in tables) scalar) }
 {
     match scalar {
@@ -44,14 +46,29 @@ pub fn scalar_type(scalar: Option<Scalar>) -> Option<CType>
     }
 }
 
-/// Adds the C type of a parameter of this type, if it is a scalar.
-fn add_type(x: &Scene<'_>, made: &mut Items<CType>, ty: TyId) -> Result<(), Memory>
-    ensures { OnOk result (made.new ≡ made.old ++ spec.c_types (type_of x.now.tables.now ty ∷ [])) }
+/// The C type of objects of this type, if they are scalars.
+pub fn scalar_type(tables: &Tables<'_>, ty: TyId) -> Option<CType>
+    ensures { result ≡ type_or_none (sorts.sort_of (type_of tables.now ty)) }
 {
-    match scalar_type(sort_of(x.tables, ty)) {
+    c_type(sort_of(tables, ty))
+}
+
+/// The C type of what functions of this type give, if it is a scalar.
+pub fn result_type(tables: &Tables<'_>, ty: TyId) -> Option<CType>
+    ensures { result ≡ type_or_none (sorts.sort_of (types.result (type_of tables.now ty))) }
+{
+    c_type(result_sort(tables, ty))
+}
+
+/// Puts the C type of a parameter of this type behind others, if it is a scalar.
+#[tactic(auto, using(crate::proofs::Types::one_none, crate::proofs::Types::one_some))]
+fn add_type(x: &Scene<'_>, made: &mut Items<CType>, ty: TyId) -> Result<(), Memory>
+    ensures { OnOk result (made.new ≡ made.old ++ one_type (sorts.sort_of (type_of x.now.tables.now ty))) }
+{
+    match scalar_type(x.tables, ty) {
         None => Ok(()),
-        Some(c_type) => {
-            made.push(c_type)?;
+        Some(given) => {
+            made.push(given)?;
             Ok(())
         }
     }
@@ -62,13 +79,13 @@ fn add_type(x: &Scene<'_>, made: &mut Items<CType>, ty: TyId) -> Result<(), Memo
 fn signature(x: &Scene<'_>, ty: TyId) -> Result<CSignature, Memory>
     ensures { IfOk result (λ made. made ≡ spec.signature (type_of x.now.tables.now ty)) }
 {
-    let mut types = Items::new(x.alloc);
+    let mut made = Items::new(x.alloc);
     for parameter in parameters(x.tables, ty) {
-        add_type(x, &mut types, *parameter)?;
+        add_type(x, &mut made, *parameter)?;
     }
     Ok(CSignature {
-        result: scalar_type(result_sort(x.tables, ty)),
-        parameters: types,
+        result: result_type(x.tables, ty),
+        parameters: made,
     })
 }
 

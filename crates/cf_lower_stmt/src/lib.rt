@@ -15,7 +15,7 @@ mod writes;
 mod zeros;
 
 pub use around::{Around, Way};
-pub use calls::scalar_type;
+pub use calls::{result_type, scalar_type};
 pub use stores::{character, put};
 pub use walk::statements;
 pub use writes::no_value;

@@ -5,4 +5,4 @@ use Rattle.cf_lower_stmt.proofs.calls.signature.Given as goal
 
 abbrev pub invariant-loop-parameter : goal.invariant-loop-parameter
 invariant-loop-parameter l =
-    l.types ++ c_types (map (type_of l.x.tables.now) (drop l.parameter-index l.parameter-items)) ≡ c_types (map (type_of l.x.tables.now) l.parameter-items)
+    l.made ++ c_types (map (type_of l.x.tables.now) (drop l.parameter-index l.parameter-items)) ≡ c_types (map (type_of l.x.tables.now) l.parameter-items)
