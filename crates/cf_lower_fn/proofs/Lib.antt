@@ -1,4 +1,5 @@
 pub mod Heads
+pub mod Lists
 pub mod Locals
 pub mod Loops
 pub mod ObjectTypes

@@ -100,6 +100,7 @@ fn add_all(numbers: &[u32], made: &mut Items<u32>) -> Result<(), Memory>
 }
 
 /// The locals that are the objects of parameters of calls.
+#[tactic(auto, using(crate::proofs::Lists::arguments_more))]
 fn arguments_of(alloc: Global, tables: &Tables<'_>, all: &[&Action]) -> Result<Items<u32>, Memory>
     ensures { IfOk result (λ made. made ≡ flat_map spec.arguments_at (told tables.now all.now)) }
 {
@@ -145,6 +146,7 @@ fn c_locals(
 }
 
 /// The C statements of a function that does this. One that flows off its end gives what nothing can use.
+#[tactic(auto, using(crate::proofs::Whole::lowered_code))]
 fn code<'x>(
     alloc: Global,
     tables: &'x Tables<'x>,

@@ -91,6 +91,7 @@ fn add_result(tables: &Tables<'_>, a: &Action, made: &mut Vec<CType>) -> Result<
 }
 
 /// The C types of what actions give that are calls.
+#[tactic(auto, using(crate::proofs::Lists::results_more))]
 fn result_types(alloc: Global, tables: &Tables<'_>, all: &[&Action]) -> Result<Vec<CType>, Memory>
     ensures { IfOk result (λ made. made.items ≡ flat_map spec.result_at (told tables.now all.now)) }
 {

@@ -75,7 +75,7 @@ fn add_type(x: &Scene<'_>, made: &mut Items<CType>, ty: TyId) -> Result<(), Memo
 }
 
 /// The type of functions of this type in C.
-#[tactic(auto, using(crate::proofs::Types::one_more))]
+#[tactic(auto, using(crate::proofs::Types::one_more, crate::proofs::Types::signature_is))]
 fn signature(x: &Scene<'_>, ty: TyId) -> Result<CSignature, Memory>
     ensures { IfOk result (λ made. made ≡ spec.signature (type_of x.now.tables.now ty)) }
 {

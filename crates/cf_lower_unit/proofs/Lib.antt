@@ -3,3 +3,4 @@ pub mod Bytes
 pub mod Helper
 pub mod Joined
 pub mod Names
+pub mod Turns

@@ -155,6 +155,7 @@ fn declare<'a>(
 }
 
 /// What functions do.
+#[tactic(auto, using(crate::proofs::Turns::done_more))]
 fn done_by<'a>(
     tables: &Tables<'_>,
     functions: &'a [PlainFn],
@@ -169,6 +170,7 @@ fn done_by<'a>(
 }
 
 /// What initialisers do.
+#[tactic(auto, using(crate::proofs::Turns::started_more))]
 fn started_by<'a>(
     tables: &Tables<'_>,
     statics: &'a [PlainStatic],
@@ -183,6 +185,7 @@ fn started_by<'a>(
 }
 
 /// Declares what actions name, but for these names, and each once.
+#[tactic(auto, using(crate::proofs::Turns::declared_more))]
 fn declare_all<'a>(
     alloc: Global,
     tables: &Tables<'_>,

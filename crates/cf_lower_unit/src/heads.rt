@@ -16,6 +16,7 @@ use cf_plain::PlainFn;
 use std::alloc::Global;
 
 /// Declares the file's functions.
+#[tactic(auto, using(crate::proofs::Turns::heads_more))]
 pub(crate) fn declare_functions(
     alloc: Global,
     tables: &Tables<'_>,
@@ -32,6 +33,7 @@ pub(crate) fn declare_functions(
 }
 
 /// Defines the file's functions.
+#[tactic(auto, using(crate::proofs::Turns::bodies_more))]
 pub(crate) fn define_functions(
     alloc: Global,
     tables: &Tables<'_>,

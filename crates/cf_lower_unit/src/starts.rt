@@ -40,6 +40,7 @@ fn store_start<'x>(
 }
 
 /// The stores of constant initialisers.
+#[tactic(auto, using(crate::proofs::Turns::stores_more, crate::proofs::Turns::stores_same))]
 fn stores(
     alloc: Global,
     tables: &Tables<'_>,

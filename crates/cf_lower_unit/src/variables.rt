@@ -37,6 +37,7 @@ fn lower_static(alloc: Global, tables: &Tables<'_>, x: &PlainStatic) -> Result<C
 }
 
 /// Defines static objects.
+#[tactic(auto, using(crate::proofs::Turns::objects_more))]
 fn define_statics(
     alloc: Global,
     tables: &Tables<'_>,
@@ -156,6 +157,7 @@ fn define_literal(
 }
 
 /// Defines the literals of actions.
+#[tactic(auto, using(crate::proofs::Turns::literal_more))]
 fn define_literals(
     alloc: Global,
     tables: &Tables<'_>,
@@ -231,6 +233,7 @@ fn start_literals_of(
 }
 
 /// Defines the literals of functions.
+#[tactic(auto, using(crate::proofs::Turns::texts_more))]
 fn define_texts(
     alloc: Global,
     tables: &Tables<'_>,
@@ -246,6 +249,7 @@ fn define_texts(
 }
 
 /// Defines the literals of initialisers.
+#[tactic(auto, using(crate::proofs::Turns::start_texts_more))]
 fn define_start_texts(
     alloc: Global,
     tables: &Tables<'_>,
