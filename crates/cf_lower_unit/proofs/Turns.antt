@@ -128,7 +128,7 @@ module _ (tables : Tables) (all : List (Bor CodeAction)) (i : ℕ) (a : Bor Code
   pub literal_more : (owner : Name) (s l : Bool) (made more whole : List Item) → made ++ texts owner s l (told tables (drop i all)) ≡ whole
       → more ≡ made ++ map defines_variable (literal_at owner s l (action_at tables a.now)) → more ++ texts owner s l (told tables (drop (i + 1) all)) ≡ whole
   literal_more owner s l made more whole so_far pushed =
-      next_item (λ as. texts owner s l (told tables as)) (λ b. map defines_variable (literal_at owner s l (action_at tables b.now))) all i a made more whole
+      next_item (λ bs. texts owner s l (told tables bs)) (λ b. map defines_variable (literal_at owner s l (action_at tables b.now))) all i a made more whole
       (λ y ys. map-append defines_variable (literal_at owner s l (action_at tables y.now)) (flat_map (literal_at owner s l) (told tables ys))) within is so_far pushed
 
   pub declared_more : (made more whole : List Item) (names behind : List Name)
