@@ -115,6 +115,7 @@ fn store(
 }
 
 /// Bytes are stored from a place on.
+#[tactic(auto, using(cf_lower_stmt::proofs::Lists::bytes_more))]
 fn put_bytes(
     x: &Site<'_>,
     code: &mut Items<CStatement>,

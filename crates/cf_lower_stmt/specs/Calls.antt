@@ -20,3 +20,7 @@ one_type s = if_scalar s [] (λ t. c_type t ∷ [])
 abbrev pub result_kept : Callee → List ℕ → ℕ → Sort → List Statement
 result_kept f is r s =
     c.call (Some (named (result_name (c_type s)))) f (passed is) ∷ set_register s r (as_value s (load (named (result_name (c_type s))))) ∷ []
+
+-- a call whose result is kept in a register, if it is a scalar
+abbrev pub called_as : Callee → List ℕ → ℕ → Option Sort → List Statement
+called_as f is r s = if_scalar s (c.call None f (passed is) ∷ []) (result_kept f is r)

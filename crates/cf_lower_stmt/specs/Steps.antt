@@ -6,12 +6,13 @@ use Rattle.cc_whole.specs.Plain as c
 use Rattle.cc_whole.specs.Plain.{Body, Expression, Statement, SwitchItem, SwitchItems}
 use Rattle.cf_core.specs.FromTypes.{type_of}
 use Rattle.cf_lower.specs.Statements.{Inside, all_lowered, block, flag_set, if_flag, in_loop, in_stepped, put_in, set_register, stated_all}
-use Rattle.cf_lower.specs.Expressions.{integer_in, value, zero as nought}
+use Rattle.cf_lower.specs.Expressions.{as_stored, integer_in, value, zero as nought}
 use Rattle.cf_lower.specs.Kept.{Keeping, kept_by, local_kept}
 use Rattle.cf_plain.specs.Plain.{Action, Plain, Plains, case_label, default_label}
 use Rattle.cc_whole.specs.declared.types.CConstant.TheVariants as constants
 use Rattle.cf_base.specs.declared.kind.Kind.TheVariants.{Int}
 use Rattle.cf_base.specs.Integers.{convert}
+use Rattle.cf_lower.specs.Written.{if_scalar, local_name}
 use Rattle.cf_lower_layout.specs.Sorts.{Sort}
 use Rattle.cf_lower_held.specs.declared.scene.Scene.{Scene}
 use Rattle.cf_lower_held.specs.Scenes.{locals_in}
@@ -44,6 +45,14 @@ inside x around = record {
   leaving = way_of around.leaving;
   going_on = way_of around.going_on;
 }
+
+-- a value, stored in the C local of this number, if it is a scalar
+abbrev pub local_stored : Option Sort → ℕ → Expression → List Statement
+local_stored s i e = if_scalar s [] (λ t. c.assign (c.named (local_name i)) (as_stored t e) ∷ [])
+
+-- what a function gives whose result is this scalar
+abbrev pub given_as : Option Sort → Expression → List Statement
+given_as s e = if_scalar s (c.give None ∷ []) (λ t. c.give (Some (as_stored t e)) ∷ [])
 
 -- a value, kept in a register that holds this
 abbrev pub set_if : Option Sort → ℕ → Expression → List Statement

@@ -9,7 +9,7 @@ ghost use Rattle.cf_core.specs.Types as types;
 ghost use Rattle.cf_lower.specs.Statements as spec;
 ghost use Rattle.cf_lower_layout.specs.Sorts as sorts;
 ghost use Rattle.cf_lower_types.specs.Bare.{sort_in};
-ghost use Rattle.cf_lower_stmt.specs.Calls.{one_type, result_kept, type_or_none};
+ghost use Rattle.cf_lower_stmt.specs.Calls.{called_as, one_type, result_kept, type_or_none};
 ghost use Rattle.cf_lower_stmt.specs.Steps.{written};
 
 use crate::writes::{push, set_register};
@@ -23,6 +23,7 @@ use cf_types::TyId;
 use std::alloc::Global;
 
 /// The values of the C locals that are the objects of parameters.
+#[tactic(auto, using(crate::proofs::Lists::passed_more))]
 fn passed(alloc: Global, arguments: &[u32]) -> Result<Items<CExpression>, Memory>
     ensures { IfOk result (λ made. map expression_of made ≡ spec.passed arguments.now) }
 {
@@ -158,6 +159,29 @@ fn call_for(
     Ok(())
 }
 
+/// A call whose result, this scalar, is kept in a register; there is none to keep where it is no scalar.
+fn call_as(
+    alloc: Global,
+    code: &mut Items<CStatement>,
+    callee: CCallee,
+    arguments: &[u32],
+    scalar: Option<Scalar>,
+    register: u32,
+) -> Result<(), Memory>
+    ensures { (tables : TablesOf) → OnOk result (written code.new ≡ written code.old ++ called_as (callee_of callee) arguments.now register (option_map (sort_in tables) scalar)) }
+{
+    match scalar {
+        None => {
+            call_alone(alloc, code, callee, arguments)?;
+            Ok(())
+        }
+        Some(scalar) => {
+            call_for(alloc, code, callee, arguments, scalar, register)?;
+            Ok(())
+        }
+    }
+}
+
 /// A call of a function of this type, whose result is kept in a register.
 pub(crate) fn call_into(
     x: &Scene<'_>,
@@ -169,14 +193,7 @@ pub(crate) fn call_into(
 ) -> Result<(), Memory>
     ensures { OnOk result (written code.new ≡ written code.old ++ spec.called (callee_of callee) (type_of x.now.tables.now ty) arguments.now (Some register)) }
 {
-    match result_sort(x.tables, ty) {
-        None => {
-            call_alone(x.alloc, code, callee, arguments)?;
-            Ok(())
-        }
-        Some(scalar) => {
-            call_for(x.alloc, code, callee, arguments, scalar, register)?;
-            Ok(())
-        }
-    }
+    let scalar = result_sort(x.tables, ty);
+    call_as(x.alloc, code, callee, arguments, scalar, register)?;
+    Ok(())
 }

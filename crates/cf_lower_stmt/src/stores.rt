@@ -9,12 +9,12 @@ ghost use Rattle.cf_base.specs.Integers.{convert};
 ghost use Rattle.cf_base.specs.declared.kind.Kind.TheVariants as kind;
 ghost use Rattle.cf_core.specs.FromTypes.{type_of, Tables as TablesOf};
 ghost use Rattle.cf_lower.specs.Expressions as value;
-ghost use Rattle.cf_lower.specs.Kept as definition;
 ghost use Rattle.cf_lower.specs.Statements as spec;
 ghost use Rattle.cf_lower_held.specs.Holds.{kept_in};
+ghost use Rattle.cf_lower_layout.specs.Sorts as sorts;
 ghost use Rattle.cf_lower_names.specs.Cells.{sort_for};
 ghost use Rattle.cf_lower_types.specs.Bare.{classes_of, sort_in};
-ghost use Rattle.cf_lower_stmt.specs.Steps.{written};
+ghost use Rattle.cf_lower_stmt.specs.Steps.{local_stored, written};
 
 use crate::writes::{assign, push};
 use crate::zeros::zeros_in;
@@ -87,8 +87,29 @@ pub(crate) fn stored_in(
     }
 }
 
-/// A value goes to the C local of an argument's object.
+/// A value goes to the C local of this number, as this scalar, if it is one.
 #[tactic(auto, using(cf_lower_names::proofs::CellLaws::stored_by_cell))]
+fn stored_local(
+    alloc: Global,
+    code: &mut Items<CStatement>,
+    scalar: Option<Scalar>,
+    local: u32,
+    given: Boxed<CExpression>,
+) -> Result<(), Memory>
+    ensures { (tables : TablesOf) → OnOk result (written code.new ≡ written code.old ++ local_stored (option_map (sort_in tables) scalar) local (expression_of given)) }
+{
+    match scalar {
+        None => Ok(()),
+        Some(scalar) => {
+            let name = local_name(alloc, local)?;
+            let value = as_stored(alloc, cell(scalar), given)?;
+            assign(code, name, value)?;
+            Ok(())
+        }
+    }
+}
+
+/// A value goes to the C local of an argument's object.
 fn first_argument(
     x: &Scene<'_>,
     code: &mut Items<CStatement>,
@@ -96,17 +117,10 @@ fn first_argument(
     ty: TyId,
     given: Boxed<CExpression>,
 ) -> Result<(), Memory>
-    ensures { OnOk result (written code.new ≡ written code.old ++ spec.first_in (definition.argument local (type_of x.now.tables.now ty)) 0 (expression_of given)) }
+    ensures { OnOk result (written code.new ≡ written code.old ++ local_stored (sorts.sort_of (type_of x.now.tables.now ty)) local (expression_of given)) }
 {
-    match sort_of(x.tables, ty) {
-        None => Ok(()),
-        Some(scalar) => {
-            let name = local_name(x.alloc, local)?;
-            let stored = as_stored(x.alloc, cell(scalar), given)?;
-            assign(code, name, stored)?;
-            Ok(())
-        }
-    }
+    stored_local(x.alloc, code, sort_of(x.tables, ty), local, given)?;
+    Ok(())
 }
 
 /// The first value of a scalar: of the object of an argument it goes to the C local that is passed.
@@ -145,6 +159,7 @@ pub(crate) fn behind(
 }
 
 /// Bytes are stored from the place in a register on.
+#[tactic(auto, using(crate::proofs::Lists::bytes_more))]
 fn put_bytes(
     alloc: Global,
     code: &mut Items<CStatement>,

@@ -3,10 +3,12 @@
 ghost use Rattle.std.specs.Prelude.{◌≡◌, ◌++◌, [], ◌∷◌, IfOk, OnOk};
 ghost use Rattle.cc_whole.specs.Plain as c;
 ghost use Rattle.cc_whole.specs.Plain.{body_of, expression_of, statement_of};
-ghost use Rattle.cf_core.specs.FromTypes.{type_of};
+ghost use Rattle.cf_core.specs.FromTypes.{Tables as TablesOf, type_of};
 ghost use Rattle.cf_lower.specs.Statements as spec;
 ghost use Rattle.cf_lower_names.specs.Cells.{sort_for};
-ghost use Rattle.cf_lower_stmt.specs.Steps.{way_of, written};
+ghost use Rattle.cf_lower_types.specs.Bare.{sort_in};
+ghost use Rattle.std.specs.Option.{option_map};
+ghost use Rattle.cf_lower_stmt.specs.Steps.{given_as, way_of, written};
 
 use crate::around::Way;
 use cc_whole::{CBody, CExpression, CPlace, CStatement};
@@ -14,7 +16,7 @@ use cf_base::{Boxed, Items, Memory, Name};
 use cf_lower_expr::cell;
 use cf_lower_held::Scene;
 use cf_lower_names::{Cell, as_stored, flag_name, load_named, number, register_name, zero};
-use cf_lower_types::sort_of;
+use cf_lower_types::{Scalar, sort_of};
 use std::alloc::Global;
 
 /// A statement comes behind those so far.
@@ -113,8 +115,30 @@ pub(crate) fn if_flag(
     Ok(())
 }
 
-/// `return e;` with a value of the function's result; without one where that is no scalar.
+/// `return e;` with a value as this scalar; without one where there is none.
 #[tactic(auto, using(cf_lower_names::proofs::CellLaws::stored_by_cell))]
+fn give_as(
+    alloc: Global,
+    code: &mut Items<CStatement>,
+    scalar: Option<Scalar>,
+    value: Boxed<CExpression>,
+) -> Result<(), Memory>
+    ensures { (tables : TablesOf) → OnOk result (written code.new ≡ written code.old ++ given_as (option_map (sort_in tables) scalar) (expression_of value)) }
+{
+    match scalar {
+        None => {
+            push(code, CStatement::Return(None))?;
+            Ok(())
+        }
+        Some(scalar) => {
+            let stored = as_stored(alloc, cell(scalar), value)?;
+            push(code, CStatement::Return(Some(stored)))?;
+            Ok(())
+        }
+    }
+}
+
+/// `return e;` with a value of the function's result; without one where that is no scalar.
 pub(crate) fn give(
     x: &Scene<'_>,
     code: &mut Items<CStatement>,
@@ -122,17 +146,8 @@ pub(crate) fn give(
 ) -> Result<(), Memory>
     ensures { OnOk result (written code.new ≡ written code.old ++ spec.given (type_of x.now.tables.now x.now.result) (expression_of value)) }
 {
-    match sort_of(x.tables, x.result) {
-        None => {
-            push(code, CStatement::Return(None))?;
-            Ok(())
-        }
-        Some(scalar) => {
-            let stored = as_stored(x.alloc, cell(scalar), value)?;
-            push(code, CStatement::Return(Some(stored)))?;
-            Ok(())
-        }
-    }
+    give_as(x.alloc, code, sort_of(x.tables, x.result), value)?;
+    Ok(())
 }
 
 /// What a function gives that ends without a value: nothing can use it.
