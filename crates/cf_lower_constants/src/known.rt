@@ -1,7 +1,8 @@
 //! What a register holds.
 
-ghost use Rattle.std.specs.Prelude.{◌≡◌, Some};
+ghost use Rattle.std.specs.Prelude.{◌≡◌, List, Some};
 ghost use Rattle.std.specs.Option.{option_map};
+ghost use Rattle.cf_core.specs.Classes.{Class};
 ghost use Rattle.cf_core.specs.FromTypes.{Tables as TablesOf};
 ghost use Rattle.cf_core.specs.Types.{Name as NameOf, SourceType};
 ghost use Rattle.cf_lower.specs.Constants as definition;
@@ -81,7 +82,7 @@ pub(crate) fn inverted(truth: Option<bool>) -> Option<bool>
 
 /// What is known as an address of this type: 0 is null, and a place is one of it.
 pub(crate) fn as_address<'k>(target: Target, known: &Known<'k>) -> Known<'k>
-    ensures { (tables : TablesOf) (f : NameOf) → known_in tables f result ≡ definition.converted_known (Some (address (target_in tables target))) (known_in tables f known.now) }
+    ensures { (tables : TablesOf) (f : NameOf) (cs : List Class) → known_in tables f result ≡ definition.converted_known cs (Some (address (target_in tables target))) (known_in tables f known.now) }
 {
     match known {
         Known::Number(_) => Known::Null,
@@ -94,7 +95,7 @@ pub(crate) fn as_address<'k>(target: Target, known: &Known<'k>) -> Known<'k>
 
 /// The same as a function: 0 is null.
 fn as_code<'k>(known: &Known<'k>) -> Known<'k>
-    ensures { (tables : TablesOf) (f : NameOf) (t : SourceType) → known_in tables f result ≡ definition.converted_known (Some (code t)) (known_in tables f known.now) }
+    ensures { (tables : TablesOf) (f : NameOf) (cs : List Class) (t : SourceType) → known_in tables f result ≡ definition.converted_known cs (Some (code t)) (known_in tables f known.now) }
 {
     match known {
         Known::Number(_) => Known::Null,
@@ -107,7 +108,7 @@ fn as_code<'k>(known: &Known<'k>) -> Known<'k>
 
 /// The same as a number of a kind.
 fn as_number<'k>(kind: Kind, known: &Known<'k>) -> Known<'k>
-    ensures { (tables : TablesOf) (f : NameOf) → known_in tables f result ≡ definition.converted_known (Some (number kind)) (known_in tables f known.now) }
+    ensures { (tables : TablesOf) (f : NameOf) (cs : List Class) → known_in tables f result ≡ definition.converted_known cs (Some (number kind)) (known_in tables f known.now) }
 {
     match known {
         Known::Number(number) => Known::Number(convert_int(*number, kind)),
@@ -120,7 +121,7 @@ fn as_number<'k>(kind: Kind, known: &Known<'k>) -> Known<'k>
 
 /// What is known as a scalar of this sort (4).
 pub(crate) fn converted<'k>(to: Option<Scalar>, known: &Known<'k>) -> Known<'k>
-    ensures { (tables : TablesOf) (f : NameOf) → known_in tables f result ≡ definition.converted_known (option_map (sort_in tables) to) (known_in tables f known.now) }
+    ensures { (tables : TablesOf) (f : NameOf) (cs : List Class) → known_in tables f result ≡ definition.converted_known cs (option_map (sort_in tables) to) (known_in tables f known.now) }
 {
     match to {
         None => *known,

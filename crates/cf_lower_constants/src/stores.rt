@@ -18,10 +18,10 @@ use crate::known::{Known, Label, Target};
 use crate::registers::Knowns;
 use crate::site::Site;
 use cc_whole::{CExpression, CStatement};
-use cf_base::{Arith, Boxed, Items, Kind, Memory, Name};
+use cf_base::{Boxed, Items, Kind, Memory, Name};
 use cf_lower_expr::{cell, constant_of};
-use cf_lower_names::{Cell, address_of, binary, literal_name, load_named, number, zero};
-use cf_lower_stmt::{character, put};
+use cf_lower_names::{Cell, address_of, literal_name, load_named, zero};
+use cf_lower_stmt::{behind, character, put};
 use cf_lower_types::{Scalar, Tables, place_scalar, sort_of};
 use cf_plain::Action;
 
@@ -41,8 +41,7 @@ fn place_at(x: &Site<'_>, label: Label<'_>, at: u64) -> Result<Boxed<CExpression
 {
     let name = name_of(x, label)?;
     let start = address_of(x.alloc, name)?;
-    let offset = number(x.alloc, at)?;
-    let made = binary(x.alloc, Arith::Add, start, offset)?;
+    let made = behind(x.alloc, start, at)?;
     Ok(made)
 }
 
@@ -128,8 +127,7 @@ fn put_bytes(
     let mut index = 0;
     for byte in bytes {
         let start = place_at(x, label, at)?;
-        let offset = number(x.alloc, index)?;
-        let there = binary(x.alloc, Arith::Add, start, offset)?;
+        let there = behind(x.alloc, start, index)?;
         let held = character(x.alloc, *byte)?;
         put(x.alloc, code, Cell::Number(Kind::Char), there, held)?;
         index = index.checked_add(1).ok_or(Memory)?;

@@ -1,13 +1,9 @@
 //! The C locals of a function.
 
 ghost use Rattle.std.specs.Prelude.{◌≡◌, ◌++◌, ◌∷◌, [], map, IfOk, OnOk};
-ghost use Rattle.cc_whole.specs.declared.types.CType.TheVariants as ty;
-ghost use Rattle.cf_base.specs.declared.kind.Kind.TheVariants as kind;
 ghost use Rattle.cf_core.specs.FromTypes.{type_of};
-ghost use Rattle.cf_core.specs.Types.{void};
 ghost use Rattle.cf_lower.specs.Functions as spec;
 ghost use Rattle.cf_lower.specs.Written as written;
-ghost use Rattle.cf_lower_layout.specs.Sorts.{address, code, number};
 ghost use Rattle.cf_lower_types.specs.Bare.{classes_of};
 ghost use Rattle.cf_lower_fn.specs.Parts.{three};
 

@@ -2,7 +2,7 @@
 
 ghost use Rattle.std.specs.Prelude.{◌≡◌, ◌++◌, ◌==◌, map, IfOk, OnOk};
 ghost use Rattle.std.specs.List.{flat_map};
-ghost use Rattle.cf_core.specs.FromTypes.{Tables as TablesOf, type_of};
+ghost use Rattle.cf_core.specs.FromTypes.{type_of};
 ghost use Rattle.cf_core.specs.Types as types;
 ghost use Rattle.cf_lower.specs.Functions as spec;
 ghost use Rattle.cf_lower_layout.specs.Sorts as sorts;

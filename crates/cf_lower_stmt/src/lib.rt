@@ -16,6 +16,6 @@ mod zeros;
 
 pub use around::{Around, Way};
 pub use calls::{result_type, scalar_type};
-pub use stores::{character, put};
+pub use stores::{behind, character, put};
 pub use walk::statements;
 pub use writes::no_value;

@@ -146,7 +146,7 @@ pub(crate) fn first_in(
 }
 
 /// The place so many bytes behind an address.
-pub(crate) fn behind(
+pub fn behind(
     alloc: Global,
     address: Boxed<CExpression>,
     bytes: u64,

@@ -1,12 +1,10 @@
 //! What constant initialisers store.
 
-ghost use Rattle.std.specs.Prelude.{◌≡◌, ◌++◌, ◌∷◌, [], filter, map, IfOk, OnOk};
+ghost use Rattle.std.specs.Prelude.{◌≡◌, ◌++◌, filter, map, IfOk, OnOk};
 ghost use Rattle.std.specs.List.{flat_map};
 ghost use Rattle.cc_whole.specs.Plain.{items_of};
-ghost use Rattle.cf_lower.specs.Constants as definition;
 ghost use Rattle.cf_lower.specs.Functions as spec;
 ghost use Rattle.cf_lower_stmt.specs.Steps.{written};
-ghost use Rattle.cf_lower_types.specs.Bare.{classes_of};
 ghost use Rattle.cf_plain.specs.Plain.{PlainStatic as StaticOf};
 ghost use Rattle.cf_plain.specs.View.{static_of};
 ghost use Rattle.cf_lower_unit.specs.Pieces as pieces;

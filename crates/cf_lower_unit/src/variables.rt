@@ -3,12 +3,10 @@
 ghost use Rattle.std.specs.Prelude.{◌≡◌, ◌++◌, map, IfOk, OnOk};
 ghost use Rattle.std.specs.List.{flat_map};
 ghost use Rattle.cc_whole.specs.Plain.{defines_variable, items_of};
-ghost use Rattle.cc_whole.specs.declared.unit.CVariable.{CVariable as VariableOf};
 ghost use Rattle.cf_core.specs.FromTypes.{Tables as TablesOf};
 ghost use Rattle.cf_lower.specs.Functions as spec;
 ghost use Rattle.cf_lower_types.specs.Bare.{classes_of};
 ghost use Rattle.cf_lower_fn.specs.Walks.{action_at, told};
-ghost use Rattle.cf_plain.specs.Plain.{PlainFunction, PlainStatic as StaticOf};
 ghost use Rattle.cf_plain.specs.View.{function_of, static_of};
 ghost use Rattle.cf_lower_unit.specs.Pieces as pieces;
 
