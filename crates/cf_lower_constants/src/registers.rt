@@ -27,7 +27,6 @@ fn at<'k>(all: &[Known<'k>], index: usize) -> Known<'k>
 }
 
 /// Makes room up to an index, with nothing known there.
-#[tactic(auto, using(crate::proofs::Lists::at_longer))]
 fn reach(all: &mut Vec<Known<'_>>, index: usize) -> Result<(), Memory>
     ensures same { (q : ℕ) → OnOk result (known_at all.new.items q ≡ known_at all.old.items q) }
     ensures long { OnOk result (index < length all.new.items) }

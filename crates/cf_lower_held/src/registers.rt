@@ -28,7 +28,6 @@ fn at(all: &[Held], index: usize) -> Held
 }
 
 /// Makes room up to an index, with nothing held there.
-#[tactic(auto, using(crate::proofs::Lists::at_longer))]
 fn reach(all: &mut Vec<Held>, index: usize) -> Result<(), Memory>
     ensures same { (q : ℕ) → OnOk result (held_at all.new.items q ≡ held_at all.old.items q) }
     ensures long { OnOk result (index < length all.new.items) }
