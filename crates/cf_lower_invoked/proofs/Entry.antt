@@ -19,7 +19,6 @@ use Rattle.cf_lower.specs.Kept.{Keeping, Locals, type_of_local}
 use Rattle.cf_lower_relate.specs.Map.{Fixed, Map, Stage, hidden, shown, ended, is_ended, is_shown, is_hidden, entered}
 use Rattle.cf_lower_steps.specs.Own.{LocalObject}
 use Rattle.cf_lower_steps.proofs.Values.{stage-shown}
-use Rattle.cf_lower_turns.specs.Around.{Around, depth_of}
 use Rattle.cf_lower_turns.specs.Here.{Here}
 use Rattle.cf_lower_turns.specs.Texts.{TextsLaid}
 use Rattle.cf_lower_turns.specs.Scene.{Scene, fixed_in}
@@ -89,18 +88,18 @@ typed-count F [] (t ∷ ts) xs = absurd xs
 typed-count F (o ∷ os) [] xs = absurd xs
 typed-count F (o ∷ os) (t ∷ ts) xs = ap suc (typed-count F os ts xs.1)
 
-module _ (z : Scene) (around : Around Keeping) (p : Keeping) (f : Function) (e : c_tree.Function) (is : List ℕ) (needs : Invokes z f e is) (g : Registers) (s : State)
-    (u : c.State) (h : Here (fixed_in z) z.body p (depth_of around) g s u) (os : List ℕ) (before : InvokedBefore z is os s) where
+module _ (z : Scene) (d : ℕ) (p : Keeping) (f : Function) (e : c_tree.Function) (is : List ℕ) (needs : Invokes z f e is) (g : Registers) (s : State)
+    (u : c.State) (h : Here (fixed_in z) z.body p d g s u) (os : List ℕ) (before : InvokedBefore z is os s) where
   pub values : Evaluates (fixed_in z) h.map z.body.scope s u.memory is os
   values =
       evaluates (fixed_in z) h.map z.body.scope s u.memory h.between.rel is os
-      (in-locals (fixed_in z) z.body p (depth_of around) g s u h needs.shaped is os needs.passed before.there)
+      (in-locals (fixed_in z) z.body p d g s u h needs.shaped is os needs.passed before.there)
 
   pub differ : Differ os
-  differ = all-differ (fixed_in z) z.body p (depth_of around) g s u h is os needs.passed before.there
+  differ = all-differ (fixed_in z) z.body p d g s u h is os needs.passed before.there
 
   pub own : AllInOwn z.body.own h.map os
-  own = all-own (fixed_in z) z.body p (depth_of around) g s u h is os needs.passed before.there
+  own = all-own (fixed_in z) z.body p d g s u h is os needs.passed before.there
 
   pub entering : Enters (fixed_in z) h.map s u.memory os values.values
   entering = enters (fixed_in z) s os values.values h.map u.memory h.between.rel differ values.passed_there
@@ -146,7 +145,7 @@ module _ (z : Scene) (around : Around Keeping) (p : Keeping) (f : Function) (e :
   have-types (j ∷ js) (q ∷ qs) (t ∷ ts) pass there types =
       let two = both (is_passed z.body.own.locals j) (not (is_among j js) && are_passed z.body.own.locals js) pass in
       let more = both (not (is_among j js)) (are_passed z.body.own.locals js) two.1 in
-      let lt = local-there (fixed_in z) z.body p (depth_of around) g s u h j q two.0 there.0 in
+      let lt = local-there (fixed_in z) z.body p d g s u h j q two.0 there.0 in
       let object = h.between.locals.objects j q lt there.0.local in
       (ap without_const (entering.grows.type q object.known) ∙ object.type ∙ types.0, have-types js qs ts more.1 there.1 types.1)
 

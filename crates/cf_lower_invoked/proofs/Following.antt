@@ -15,6 +15,7 @@ use Rattle.cc_whole_memory.specs.Blocks.{Memory}
 use Rattle.cc_whole_mean.specs.Flow as c
 use Rattle.cf_lower_relate.specs.Map.{Fixed, Map}
 use Rattle.cf_lower_steps.specs.Flows.{Simulates, ExitsAs}
+use Rattle.cf_plain_frames.specs.Since.{Always}
 use Rattle.cf_lower_turns.specs.Texts.{Texts}
 use Rattle.cf_lower_returns.specs.Called.{CameBack, ComesBack}
 
@@ -35,7 +36,8 @@ module _ (K : Fixed) (texts : Texts) (E : Map) (first : Memory) (s : State) (os 
     (k : source.Value → Act Flow) (go : c.Flow → World → Ran c.Flow)
     (exits : (z : ℤ) (u : c.State) (w : World) → ExitsAs z w (go (c.Exits z u) w))
     (adds : (flow : c.Flow) (w : World) → Adds w.trace (go flow w))
-    (next : (v : source.Value) (u : State) (flow : c.Flow) (w : World) → CameBack K texts E first s os result v u flow
+    (T : State → Type 0)
+    (next : (v : source.Value) (u : State) (flow : c.Flow) (w : World) → CameBack K texts E first s os result v u flow → T u
     → Simulates S (k (given_value t v) (with_frame s.frame u) w) (go flow w)) where
   -- the source's part of it: the frame of the caller stands again, and the value is given
   abbrev behind : Ran (Did Flow) → Ran (Did Flow)
@@ -43,20 +45,22 @@ module _ (K : Fixed) (texts : Texts) (E : Map) (first : Memory) (s : State) (os 
       and_then (and_then (and_then x (λ did w. onward did (λ flow. gives (core_flow flow)) w)) (λ did w. onward did (λ flow. changed (with_frame s.frame) >> returned t flow) w))
       (λ did w. onward did k w)
 
-  came-back : (flow : Flow) (u : State) (d : c.Flow) (w : World) → ComesBack K texts E first s os result flow u d → Simulates S (behind (Went (Gives flow u) w)) (go d w)
-  came-back (Falls g) u d w h = next source.Nothing u d w h
-  came-back (Returns v) u d w h = next v u d w h
-  came-back (Breaks g) u d w h = absurd h
-  came-back (Continues g) u d w h = absurd h
+  came-back : (flow : Flow) (u : State) (d : c.Flow) (w : World) → ComesBack K texts E first s os result flow u d → T u
+      → Simulates S (behind (Went (Gives flow u) w)) (go d w)
+  came-back (Falls g) u d w h q = next source.Nothing u d w h q
+  came-back (Returns v) u d w h q = next v u d w h q
+  came-back (Breaks g) u d w h q = absurd h
+  came-back (Continues g) u d w h q = absurd h
 
-  pub sim-back : (x : Ran (Did Flow)) (y : Ran c.Flow) → Simulates (ComesBack K texts E first s os result) x y → Simulates S (behind x) (and_then y go)
-  sim-back (Went (Gives flow u) w) y h =
-      subst (λ r. Simulates S (behind (Went (Gives flow u) w)) r) (sym (ap (λ r. and_then r go) h.by.run)) (came-back flow u h.by.value w h.by.related)
-  sim-back (Went (Exits z u) w) y h =
+  -- where the states in which the function ends are so
+  pub sim-back : (x : Ran (Did Flow)) (y : Ran c.Flow) → Always T x → Simulates (ComesBack K texts E first s os result) x y → Simulates S (behind x) (and_then y go)
+  sim-back (Went (Gives flow u) w) y q h =
+      subst (λ r. Simulates S (behind (Went (Gives flow u) w)) r) (sym (ap (λ r. and_then r go) h.by.run)) (came-back flow u h.by.value w h.by.related q.by)
+  sim-back (Went (Exits z u) w) y q h =
       let done = exits z h.by.after w in
       record { by = record { after = done.after; run = ap (λ r. and_then r go) h.by.run ∙ done.run } }
-  sim-back (Went Malformed w) y h = record { by = tt }
-  sim-back (Stops (Undefined act) trace) y h = record { by = (adds-then trace y go (record { by = h.by }) adds).by }
-  sim-back (Stops (Ended status) trace) y h = record { by = ap (λ r. and_then r go) h.by }
-  sim-back (Stops Ticks trace) y h = record { by = ap (λ r. and_then r go) h.by }
-  sim-back (Stops Depth trace) y h = record { by = ap (λ r. and_then r go) h.by }
+  sim-back (Went Malformed w) y q h = record { by = tt }
+  sim-back (Stops (Undefined act) trace) y q h = record { by = (adds-then trace y go (record { by = h.by }) adds).by }
+  sim-back (Stops (Ended status) trace) y q h = record { by = ap (λ r. and_then r go) h.by }
+  sim-back (Stops Ticks trace) y q h = record { by = ap (λ r. and_then r go) h.by }
+  sim-back (Stops Depth trace) y q h = record { by = ap (λ r. and_then r go) h.by }

@@ -1,3 +1,5 @@
+pub mod Arguments
+pub mod Closing
 pub mod Entry
 pub mod Source
 pub mod Written

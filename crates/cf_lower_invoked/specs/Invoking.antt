@@ -1,25 +1,18 @@
 -- What a call of a function of the program needs, where it stands in another.
-use Rattle.std.specs.Prelude.{◌≡◌, ℕ, ◌<◌, true, false, List, [], ◌∷◌, Some, None}
-use Rattle.cf_base.specs.World.{World}
+use Rattle.std.specs.Prelude.{◌≡◌, ℕ, ◌<◌, Bool, true, false, List, [], ◌∷◌, Some}
+use Rattle.std.specs.List.{list_all}
 use Rattle.cf_core.specs.Types.{Name, SourceType, without_const, parameters}
 use Rattle.cf_core.specs.Core.{Function}
 use Rattle.cf_core.specs.Run.{State}
 use Rattle.cf_core.specs.Objects.{static_number, static_type}
-use Rattle.cf_plain.specs.Plain.{Plain}
-use Rattle.cf_plain.specs.Acts.{Registers}
-use Rattle.cf_plain.specs.Running.{does}
 use Rattle.cc_whole.specs.Plain as c_tree
 use Rattle.cc_whole_mean.specs.declared.named.Named.TheVariants as meant
 use Rattle.cc_whole_mean.specs.declared.named.Shape.{Shape}
-use Rattle.cc_whole_mean.specs.Flow as c
-use Rattle.cf_lower.specs.Kept.{Keeping, Locals, type_of_local, after}
-use Rattle.cf_lower.specs.Statements.{lowered}
+use Rattle.cf_lower.specs.Kept.{Keeping, Locals, type_of_local}
 use Rattle.cf_lower_relate.specs.Map.{is_hidden}
-use Rattle.cf_lower_steps.specs.Flows.{Simulates}
-use Rattle.cf_lower_turns.specs.Around.{Around, inside_at}
-use Rattle.cf_lower_turns.specs.Here.{Here}
-use Rattle.cf_lower_turns.specs.Ways.{ends}
-use Rattle.cf_lower_turns.specs.Scene.{Scene, GivesBack, fixed_in, again_at, list_at}
+use Rattle.cf_lower_kept.specs.Opened.{Opened, has_its_value, closed_all}
+use Rattle.cf_lower_bounds.specs.Points.{these, Point}
+use Rattle.cf_lower_turns.specs.Scene.{Scene}
 use Rattle.cf_lower_arguments.specs.Passing.{are_passed, Shaped, ArgumentsThere}
 use Rattle.cf_lower_returns.specs.Called.{Programs, Pair}
 
@@ -64,8 +57,10 @@ pub record InvokedBefore (z : Scene) (is os : List ℕ) (s : State) : Type 0 whe
   pub depth : s.frame.depth ≡ z.depth
   pub statics : (name : Name) (o : ℕ) → static_number z.program name ≡ Some o → (s.object o).is_gone ≡ false
 
--- the statement and its C do the same, at this bound of ticks
-abbrev pub Alike : Scene → Around Keeping → Keeping → Plain → ℕ → Registers → State → c.State → World → Type 0
-Alike z around p st n g s t w =
-    Simulates (ends Keeping z.body.scope (Here (fixed_in z) z.body) (GivesBack (fixed_in z) z.body z.result) around (after z.inside.locals st p))
-    (does (again_at z n) z.program st g s w) (list_at z n (lowered st (inside_at z.inside around) p) t w)
+-- where these are open each argument has its value
+abbrev pub all_valued : List ℕ → List Opened → Bool
+all_valued is xs = list_all (has_its_value xs) is
+
+-- the point behind a call whose result is not kept: the objects of the arguments are gone
+abbrev pub point_called : Keeping → List ℕ → List Opened → Point
+point_called h is xs = record { kept = h; standing = these (closed_all is xs) }

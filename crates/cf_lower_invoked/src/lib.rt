@@ -1,27 +1,27 @@
-//! Calls of the program's functions as statements of others, beside their C: where functions do the same at a bound of ticks, their callers do. As definitions and
-//! laws; nothing here runs.
+//! Calls of the program's functions as statements of others, beside their C: where functions do the same at every bound of ticks up to one, calls of them are leaves
+//! between the points of their callers. As definitions and laws; nothing here runs.
 #![tactic(auto)]
 
-ghost use Rattle.std.specs.Prelude.{ℕ, List, None};
-ghost use Rattle.cf_base.specs.World.{World};
+ghost use Rattle.std.specs.Prelude.{◌≡◌, ◌≤◌, ℕ, List, [], true, None};
 ghost use Rattle.cf_core.specs.Types.{SourceType};
 ghost use Rattle.cf_core.specs.Core.{Function};
-ghost use Rattle.cf_core.specs.Run.{State};
 ghost use Rattle.cf_plain.specs.Plain as plain;
 ghost use Rattle.cf_plain.specs.Plain.{act};
-ghost use Rattle.cf_plain.specs.Acts.{Registers};
+ghost use Rattle.cf_plain_frames.specs.Simple.{functions_simple};
 ghost use Rattle.cc_whole.specs.Plain as c_tree;
-ghost use Rattle.cc_whole_mean.specs.Flow as c;
 ghost use Rattle.cf_lower.specs.Kept.{Keeping};
-ghost use Rattle.cf_lower_turns.specs.Around.{Around, depth_of};
-ghost use Rattle.cf_lower_turns.specs.Here.{Here};
-ghost use Rattle.cf_lower_turns.specs.Scene.{Scene, fixed_in};
+ghost use Rattle.cf_lower_kept.specs.Opened.{Opened};
+ghost use Rattle.cf_lower_turns.specs.Around.{Around};
+ghost use Rattle.cf_lower_turns.specs.Scene.{Scene};
 ghost use Rattle.cf_lower_returns.specs.Called.{FunctionsAlike};
-ghost use Rattle.cf_lower_invoked.specs.Invoking.{programs_of, Invokes, InvokedBefore, Alike};
+ghost use Rattle.cf_lower_bounds.specs.Points.{Point, point_at};
+ghost use Rattle.cf_lower_bounds.specs.Bounds.{LeafRunsTo};
+ghost use Rattle.cf_lower_invoked.specs.Invoking.{programs_of, Invokes, all_valued, point_called};
 
-/// The law that a call whose result is not kept does the same in both, at a bound of ticks at which functions that are entered do (5.2.2). It does nothing.
-pub fn calls_are_made()
-    ensures { (z : Scene) (n : ℕ) → FunctionsAlike (programs_of z) n → (around : Around Keeping) (p : Keeping) (f : Function) (e : c_tree.Function) (is : List ℕ)
-        → Invokes z f e is → (t : SourceType) (g : Registers) (s : State) (u : c.State) (w : World) → Here (fixed_in z) z.body p (depth_of around) g s u
-        → (os : List ℕ) → InvokedBefore z is os s → Alike z around p (act (plain.call f.name t None is None)) n g s u w }
+/// The law that a call whose result is not kept leads in both from a point to the next, where its arguments have their values, at a bound of ticks up to which functions
+/// that are entered do the same (5.2.2). It does nothing.
+pub fn calls_lead_on()
+    ensures { (z : Scene) → z.program.classes ≡ [] → functions_simple z.functions ≡ true → (n : ℕ) → ((k : ℕ) → k ≤ n → FunctionsAlike (programs_of z) k)
+        → (around : Around Point) (h : Keeping) (xs : List Opened) (f : Function) (e : c_tree.Function) (is : List ℕ) → Invokes z f e is → all_valued is xs ≡ true
+        → (t : SourceType) → LeafRunsTo z n around (point_at h xs) (act (plain.call f.name t None is None)) (point_called h is xs) }
 {}
