@@ -73,7 +73,7 @@ or-later : (a b : Bool) → b ≡ true → (a || b) ≡ true
 or-later true b h = refl
 or-later false b h = h
 
-among-number : (os : List ℕ) (i o : ℕ) → slice_get os i ≡ Some o → is_among o os ≡ true
+pub among-number : (os : List ℕ) (i o : ℕ) → slice_get os i ≡ Some o → is_among o os ≡ true
 among-number [] i o e = absurd (let k = e in cc)
 among-number (p ∷ ps) zero o e =
     let at : p ≡ o = some-number e in
@@ -86,7 +86,7 @@ pub record There (os : List ℕ) (i : ℕ) : Type 0 where
   pub object : ℕ
   pub is : slice_get os i ≡ Some object
 
-there-at : (os : List ℕ) (i : ℕ) → i < length os → There os i
+pub there-at : (os : List ℕ) (i : ℕ) → i < length os → There os i
 there-at [] i lt = absurd (let k : i < 0 = lt in omega (arith, k))
 there-at (p ∷ ps) zero lt = record { object = p; is = refl }
 there-at (p ∷ ps) (suc i) lt =

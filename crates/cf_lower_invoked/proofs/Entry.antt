@@ -30,6 +30,7 @@ use Rattle.cf_lower_arguments.specs.Passing.{is_passed, are_passed, ArgumentsThe
 use Rattle.cf_lower_arguments.proofs.Standing.{local-there, in-locals, all-differ, all-own}
 use Rattle.cf_lower_returns.specs.Called.{EntryMap, HaveTypes, StaticThere, Entry}
 use Rattle.cf_lower_returns.proofs.Objects.{free-entered}
+use Rattle.cf_lower_invoked.proofs.Arguments.{one-of}
 use Rattle.cf_lower_invoked.specs.Invoking.{programs_of, HaveLocalTypes, Invokes, InvokedBefore}
 
 -- ---- the map of the entry
@@ -50,7 +51,7 @@ none-among o (p ∷ ps) e = (λ same. differs same (halves (p == o) (is_among o 
     differs same ne = grind (arith, nat_tests, same, ne)
 
 -- an argument's object stands in its block
-entered-at : (E : Map) (os : List ℕ) (b : ℕ) → StandIn E os b → (o : ℕ) → is_among o os ≡ true → (is_shown (E.stage o) ≡ true) × (b ≤ E.block o)
+pub entered-at : (E : Map) (os : List ℕ) (b : ℕ) → StandIn E os b → (o : ℕ) → is_among o os ≡ true → (is_shown (E.stage o) ≡ true) × (b ≤ E.block o)
 entered-at E [] b h o e = absurd (let k = e in cc)
 entered-at E (p ∷ ps) b h o e = by_test (λ k. entered-at E ps (suc b) h.1 o k) (p == o) refl
   where
@@ -206,4 +207,6 @@ module _ (z : Scene) (d : ℕ) (p : Keeping) (f : Function) (e : c_tree.Function
     texts = texts-stay (fixed_in z) z.body.texts u.memory.next h.map E entering.grows s s refl u.memory (born_arguments values.values u.memory) laid-now
         (λ b lb free. free-entered h.map E u.memory.next os entry-map b lb free) (λ b lb free. arguments-below values.values u.memory b lb) h.texts;
     statics = static-there;
+    apart = static-other;
+    valued = λ o e. let a = one-of s is os o before.there e in record { value = a.there.value; held = a.there.held };
   }

@@ -1,0 +1,4 @@
+pub mod Parameters
+pub mod Source
+pub mod Ended
+pub mod Alike
