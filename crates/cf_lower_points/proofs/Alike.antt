@@ -100,8 +100,8 @@ not-held K F (Some (code t)) (holds (code u)) found e h = h.same
 not-held K F o x found e h = absurd (let k = e in cc)
 
 record HoldsScalar (x : Kept) : Type 0 where
-  sort : Option Sort
-  test : may_hold sort x ≡ true
+  pub sort : Option Sort
+  pub test : may_hold sort x ≡ true
 
 first-holds : (locals : Locals) (y x : Kept) → leaf.may_first locals y x ≡ true → HoldsScalar x
 first-holds locals (argument i t) x e = record { sort = sort_of t; test = (both (leaf.is_local locals i t) (may_hold (sort_of t) x) e).1 }

@@ -8,9 +8,9 @@ use Rattle.cf_core.specs.Types.{is_array}
 use Rattle.cf_core.specs.Classes.{Class}
 use Rattle.cf_core.specs.Core.{item}
 use Rattle.cf_core.specs.Places.{Place, inner, type_at}
-use Rattle.cf_core.specs.Store.{Value, Nothing, Number, At, Code, Object, hold, hold_all, zero_of}
+use Rattle.cf_core.specs.Store.{Value, Nothing, Number, At, Code, Object, hold, hold_all, zero_of, is_constant_place}
 use Rattle.cf_core.specs.Run.{State, Literal, Act, upd, ◌>>=◌, ◌>>◌, gives, need, valid, object_changed}
-use Rattle.cf_core.specs.Access.{place_type, names_scalar, use_place, is_constant_place, first_value, write_place, read_place, followed, fill_zeros}
+use Rattle.cf_core.specs.Access.{place_type, names_scalar, use_place, first_value, write_place, read_place, followed, fill_zeros}
 use Rattle.cf_core.specs.Pointers.{truth_value, pointer_op, from_void_value}
 use Rattle.cf_core.specs.Scalars.{truth_of, converted_value, operated, signed, changed_value, indexed, decayed, pointed_to}
 use Rattle.cf_core.specs.Calls.{Program, root, name_function}
