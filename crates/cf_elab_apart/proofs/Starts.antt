@@ -22,7 +22,7 @@ use Rattle.cf_elab_valid.proofs.Names.{operand-onward, value_of-fine}
 use Rattle.cf_elab_valid.proofs.Sizes.{literal-fine}
 use Rattle.cf_elab_valid.proofs.Unary.{classless-number}
 use Rattle.cf_elab_valid.proofs.Ways.{inside-later, within-before, When}
-use Rattle.cf_elab_valid_objects.specs.Starts.{NoVoidElements, StartFits, IsKeeper, TreeFits, WrittenFits, MaybeFits}
+use Rattle.cf_elab_valid_objects.specs.Starts.{WholeElements, StartFits, IsKeeper, TreeFits, WrittenFits, MaybeFits}
 use Rattle.cf_elab_valid_objects.proofs.Carried.{Started, Listed, carried-fine, all-carried}
 use Rattle.cf_elab_valid_objects.proofs.Keepers.{static_keeper-is}
 use Rattle.cf_elab_valid_objects.proofs.Kept.{initial-as}
@@ -90,7 +90,7 @@ module _ (s : Scene) (scene : IsScene s) (keeper : ℕ → Elab Keeper) (keeps :
 
   -- ---- by what is written
 
-  module _ (arrays : NoVoidElements s.tables) where
+  module _ (arrays : WholeElements s.tables) where
     start-by-tells : (at t : ℕ) (x : Tree) (e : Env) → Classless e → When s e (Holds s e) → When s e (TreeFits s e x) → When s e (TreeApart s x) → When s e (Inside e t) → When s e (is_void (tree s t) ≡ false)
         → Tells s (StartApart s) (start_by keeper at t x e)
     start-by-tells at t x e c h f a i n =
@@ -119,7 +119,7 @@ module _ (s : Scene) (scene : IsScene s) (keeper : ℕ → Elab Keeper) (keeps :
     starting-tells at t (Some w) e c h f a i n = written-tells t w e c h f a i n
 
 -- a static object of a function
-pub static-starts : (s : Scene) → IsScene s → NoVoidElements s.tables → (reference owner : Name) → OwnerThere s (Some owner) → (place at t : ℕ) (w : Option Written) (e : Env) → Classless e → When s e (Holds s e)
+pub static-starts : (s : Scene) → IsScene s → WholeElements s.tables → (reference owner : Name) → OwnerThere s (Some owner) → (place at t : ℕ) (w : Option Written) (e : Env) → Classless e → When s e (Holds s e)
     → When s e (MaybeFits s e w) → When s e (MaybeApart s w) → When s e (Inside e t) → When s e (is_void (tree s t) ≡ false) → Fine s (λ x f. StartApart s x) e (row.start_or_none (static_keeper reference (Some owner) place) at t w e)
 static-starts s scene arrays reference owner own place at t w e c h f a i n =
     let keeper = static_keeper reference (Some owner) place in

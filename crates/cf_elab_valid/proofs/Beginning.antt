@@ -37,6 +37,7 @@ first-holds s r extent names = record {
   statics = λ n x h. absurd cc;
   functions = λ n x h. absurd cc;
   result = sym r;
+  frame = λ i t h. absurd cc;
 }
 
 -- a file of ints

@@ -55,7 +55,7 @@ module _ (s : Scene) (scene : IsScene s) (n : ℕ) (m : Bool) where
   scope-left e f ms breaks continues g = record {
     steps = record { types = g.steps.types; funs = g.steps.funs; enums = g.steps.enums; locals = g.steps.locals; statics = g.steps.statics; functions = g.steps.functions; homes = g.steps.homes; hand = g.steps.hand; outer = ap (λ (o : OpenScopes). o.outer) back };
     classless = moved-classless s f.hand (without_last f.scopes.outer) f refl g.classless;
-    holds = λ w. moved-holds s f.hand (without_last f.scopes.outer) f refl opened (g.holds (there w));
+    holds = λ w. moved-holds s f.hand (without_last f.scopes.outer) f refl refl opened (g.holds (there w));
     made = λ w. same-statements breaks continues ms f (left f) (g.made (there w));
   }
     where
@@ -81,7 +81,7 @@ module _ (s : Scene) (scene : IsScene s) (n : ℕ) (m : Bool) where
       inside = record { main = i.main; there = λ w. i.there (there w); behind = i.behind; deep = within-another e.scopes.outer e.scopes.inner; owner = i.owner }
 
       held : When s (entered e) (Holds s (entered e))
-      held w = moved-holds s e.hand (entered e).scopes e refl (λ j q. empty-numbered j (e.scopes.outer ++ e.scopes.inner ∷ []) q) (h (there w))
+      held w = moved-holds s e.hand (entered e).scopes e refl refl (λ j q. empty-numbered j (e.scopes.outer ++ e.scopes.inner ∷ []) q) (h (there w))
 
       by : (r : Answer (List Made)) → Fine s (Statements e.hand.breaks e.hand.continues) (entered e) r → Fine s (Statements e.hand.breaks e.hand.continues) e (onward r (λ ms f. MadeIn ms (left f)))
       by (MadeIn ms f) g = scope-left e f ms e.hand.breaks e.hand.continues g

@@ -75,6 +75,7 @@ holds-types s e types b parts h =
       statics = h.statics;
       functions = h.functions;
       result = h.result;
+      frame = h.frame;
     }
   where
     part_same : (v : Ty) → PartInside e v → PartInside (record e { types = record e.types { types = types } }) v

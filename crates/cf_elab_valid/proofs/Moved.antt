@@ -1,11 +1,12 @@
 -- An environment with another hand and in other scopes: what can be named fits as before.
-use Rattle.std.proofs.Common.{◌≡◌, ℕ, ap, ◌∙◌}
+use Rattle.std.proofs.Common.{◌≡◌, ℕ, true, [], Some, slice_get, sym, ap, ◌∙◌}
 use Rattle.cf_types.specs.declared.ty.Ty.{Ty}
 use Rattle.cf_types.specs.declared.ty.Ty.TheVariants as ty
 use Rattle.cf_lookup.specs.Scope.{OpenScopes}
+use Rattle.cf_core.specs.Valid.{is_complete}
 use Rattle.cf_elab.specs.Env.{Env, Hand, Entity, object, functions, alias, class_name, enum_name, enumerator}
 use Rattle.cf_elab.specs.Members.{class_of_body}
-use Rattle.cf_elab_valid.specs.Scene.{Scene, PartInside, IsOpen, EntityFits, TypeFits, Classless, Holds}
+use Rattle.cf_elab_valid.specs.Scene.{Scene, tree, PartInside, IsOpen, EntityFits, TypeFits, Classless, Holds}
 
 module _ (s : Scene) where
   -- the same environment with another hand and in other scopes
@@ -41,19 +42,25 @@ module _ (s : Scene) where
   part-moved a o e (ty.MemFun f q) p = p
   part-moved a o e (ty.Const f) p = p
 
-  pub moved-holds : (a : Hand) (o : OpenScopes) (e : Env) → a.result ≡ e.hand.result → ((i : ℕ) → IsOpen i o → IsOpen i e.scopes) → Holds s e → Holds s (moved a o e)
-  moved-holds a o e r opened k = record {
+  -- where the locals at hand are objects
+  pub framed-holds : (a : Hand) (o : OpenScopes) (e : Env) → a.result ≡ e.hand.result → ((i : ℕ) → IsOpen i o → IsOpen i e.scopes) → ((i t : ℕ) → slice_get a.locals i ≡ Some t → is_complete [] (tree s t) ≡ true) → Holds s e
+      → Holds s (moved a o e)
+  framed-holds a o e r opened frame k = record {
     parts = λ t v at. part-moved a o e v (k.parts t v at);
     no_outer = k.no_outer;
     entities = λ i x q at. entity-moved a o e x (k.entities i x (opened i q) at);
     named_types = λ i x at. named-moved a o e x (k.named_types i x at);
-    entries = λ i f at. let p = k.entries i f at in record { fun = p.fun; here = p.here };
+    entries = λ i f at. let p = k.entries i f at in record { fun = p.fun; here = p.here; short = p.short };
     open_there = λ i q. k.open_there i (opened i q);
     outside = λ i x at home. entity-moved a o e (object x) (k.outside i x at home);
     statics = k.statics;
     functions = k.functions;
     result = r ∙ k.result;
+    frame = frame;
   }
+
+  pub moved-holds : (a : Hand) (o : OpenScopes) (e : Env) → a.result ≡ e.hand.result → a.locals ≡ e.hand.locals → ((i : ℕ) → IsOpen i o → IsOpen i e.scopes) → Holds s e → Holds s (moved a o e)
+  moved-holds a o e r l opened k = framed-holds a o e r opened (λ i t at. k.frame i t (ap (λ x. slice_get x i) (sym l) ∙ at)) k
 
   pub moved-classless : (a : Hand) (o : OpenScopes) (e : Env) → a.kind ≡ e.hand.kind → Classless e → Classless (moved a o e)
   moved-classless a o e q c =

@@ -112,6 +112,7 @@ module _ (s : Scene) where
               statics = k.statics;
               functions = k.functions;
               result = k.result;
+              frame = k.frame;
             };
             made = λ w. omega (arith, length-append e.types.funs (g ∷ []));
           }

@@ -126,6 +126,7 @@ module _ (s : Scene) (scene : IsScene s) where
         statics = k.statics;
         functions = k.functions;
         result = k.result;
+        frame = k.frame;
       }
 
   text-fits : (at j t ch : ℕ) (bytes : List ℕ) (e : Env) → Within e s → IsType (ty.Int kind.Char) ch e → IsType (ty.Array ch (length bytes + 1)) t e → Fits s e (place_of at (node.Text at j (bytes ++ 0 ∷ [])) t true)

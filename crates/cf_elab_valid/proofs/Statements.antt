@@ -236,7 +236,7 @@ module _ (s : Scene) (scene : IsScene s) (n : ℕ) (m : Bool) where
   within-flagged b k e w = record { types = w.types; funs = w.funs; enums = w.enums; locals = w.locals; statics = w.statics; functions = w.functions }
 
   flagged-holds : (b k : Bool) (e : Env) → When s e (Holds s e) → When s (flagged b k e) (Holds s (flagged b k e))
-  flagged-holds b k e h w = moved-holds s (record e.hand { breaks = b; continues = k }) e.scopes e refl (λ i q. q) (h (within-flagged b k e w))
+  flagged-holds b k e h w = moved-holds s (record e.hand { breaks = b; continues = k }) e.scopes e refl refl (λ i q. q) (h (within-flagged b k e w))
 
   -- a body in which both may stand
   looped-fine : (run : Elab Made) → IsStatement s n m run → (e : Env) → Inner s n m e → Classless e → When s e (Holds s e) → Fine s (λ x f. StatementFits s n m true true x f) e (row.looped run e)

@@ -67,7 +67,7 @@ module _ (s : Scene) (scene : IsScene s) where
         other v at no_function = absurd (true≢false (sym function ∙ ap is_function (whole v at) ∙ no_function))
 
         by : (v : Ty) → type_at e.types t ≡ v → EntryFits s e (entry_of t)
-        by (ty.Fun f) at = record { fun = f; here = here e.types t inside ∙ ap Some at }
+        by (ty.Fun f) at = record { fun = f; here = here e.types t inside ∙ ap Some at; short = refl }
         by ty.Void at = other ty.Void at refl
         by (ty.Int k) at = other (ty.Int k) at refl
         by (ty.Enum k) at = other (ty.Enum k) at refl

@@ -101,7 +101,7 @@ named-later a b (enum_name e) g f = begins-inside a.classes.enums b.classes.enum
 named-later a b (enumerator t z) g f = tt
 
 pub entry-later : (s : Scene) (a b : Env) (f : FunctionEntry) → Steps a b → EntryFits s a f → EntryFits s b f
-entry-later s a b f g k = record { fun = k.fun; here = begins-get a.types.types b.types.types f.type (ty.Fun k.fun) g.types k.here }
+entry-later s a b f g k = record { fun = k.fun; here = begins-get a.types.types b.types.types f.type (ty.Fun k.fun) g.types k.here; short = k.short }
 
 -- ---- answers
 

@@ -17,14 +17,14 @@ use Rattle.cf_core.specs.declared.unit.Role.TheVariants as role
 use Rattle.cf_core.specs.Core.{Core, Static}
 use Rattle.cf_core.specs.FromClasses.{signature_of}
 use Rattle.cf_core.specs.FromTypes.{Tables, type_of}
-use Rattle.cf_core.specs.FromUnit.{static_of}
+use Rattle.cf_core.specs.FromUnit.{static_of, is_short}
 use Rattle.cf_core.specs.Joined.{is_nothing}
 use Rattle.cf_core.specs.Numbers.{are_known, has_type}
 use Rattle.cf_core.specs.Typed.{typing}
 use Rattle.cf_core.specs.Places.{is_reference}
 use Rattle.cf_core.specs.Types.{SourceType, is_void}
 use Rattle.cf_core.specs.Typing.{Scope, Typing, holds_number}
-use Rattle.cf_core.specs.Valid.{Body, fits}
+use Rattle.cf_core.specs.Valid.{Body, fits, is_complete, result_fits}
 use Rattle.cf_core.specs.View.{core_of}
 use Rattle.cf_core_typed.specs.Meets.{IsPlace, IsValue}
 use Rattle.cf_core_typed.specs.Same.{Same, is_operand}
@@ -166,6 +166,7 @@ TypeFits env other = Unit {0}
 pub record EntryFits (s : Scene) (env : Env) (f : FunctionEntry) : Type 0 where
   pub fun : ℕ
   pub here : slice_get env.types.types f.type ≡ Some (ty.Fun fun)
+  pub short : is_short f.link ≡ true
 
 -- the function type or the enumeration that a type names is there already
 abbrev pub PartInside : Env → Ty → Type 0
@@ -193,10 +194,11 @@ abbrev pub OwnerThere : Scene → Option Name → Type 0
 OwnerThere s None = Unit {0}
 OwnerThere s (Some name) = list_any (λ (f : CoreFn). bytes_eq f.name name) s.functions ≡ true
 
--- the initialiser starts an object of the type, or stands in the function that owns it
+-- an object can be of the type, and the initialiser starts one or stands in the function that owns it
 pub record StaticFits (s : Scene) (x : CoreStatic) : Type 0 where
   pub type : has_type s.tables x.ty ≡ true
   pub numbers : are_known s.tables x.start ≡ true
+  pub whole : is_complete [] (tree s x.ty) ≡ true
   pub start : ((is_some x.owner && is_nothing (core s x.start)) || (typing (file_scope s) (core s x.start)).start (tree s x.ty)) ≡ true
   pub owner : OwnerThere s x.owner
 
@@ -211,7 +213,7 @@ function_body s f = record {
   is_main = bytes_eq f.name (codes "__main");
 }
 
--- a function that is no member, with its numbers there and a body that fits it
+-- a function that is no member, with its numbers there, a body that fits it, objects in its frame, a type that it can give, and a short link name
 pub record FunctionFits (s : Scene) (f : CoreFn) : Type 0 where
   pub plain : f.role ≡ role.Plain
   pub result : has_type s.tables f.result ≡ true
@@ -219,8 +221,11 @@ pub record FunctionFits (s : Scene) (f : CoreFn) : Type 0 where
   pub locals : list_all (has_type s.tables) f.locals ≡ true
   pub numbers : are_known s.tables f.body ≡ true
   pub body : fits (function_body s f) false false (core s f.body) ≡ true
+  pub frame : (i t : ℕ) → slice_get (f.params ++ f.locals) i ≡ Some t → is_complete [] (tree s t) ≡ true
+  pub gives : result_fits [] (tree s f.result) ≡ true
+  pub short : is_short f.name ≡ true
 
--- what can be named fits, objects outside of frames whether they are hidden or not, static objects are initialised, and functions have bodies that fit
+-- what can be named fits, objects outside of frames whether they are hidden or not, static objects are initialised, functions have bodies that fit, and the locals at hand are objects
 pub record Holds (s : Scene) (env : Env) : Type 0 where
   pub parts : (t : ℕ) (v : Ty) → slice_get env.types.types t ≡ Some v → PartInside env v
   pub no_outer : (n : ℕ) (l : Label) → slice_get env.classes.enums n ≡ Some l → l.outer ≡ None
@@ -232,6 +237,7 @@ pub record Holds (s : Scene) (env : Env) : Type 0 where
   pub statics : (n : ℕ) (x : CoreStatic) → slice_get env.statics n ≡ Some x → StaticFits s x
   pub functions : (n : ℕ) (f : CoreFn) → slice_get env.functions n ≡ Some f → FunctionFits s f
   pub result : env.hand.result ≡ s.result
+  pub frame : (i t : ℕ) → slice_get env.hand.locals i ≡ Some t → is_complete [] (tree s t) ≡ true
 
 -- ---- values
 

@@ -41,7 +41,7 @@ use Rattle.cf_elab_valid_statements.specs.Entries.{IsEntry, AreEntries}
 use Rattle.cf_elab_valid_statements.proofs.Braces.{statement-entry, case-entry, default-entry}
 use Rattle.cf_elab_valid_statements.proofs.Switches.{switch-statement}
 use Rattle.cf_elab_valid_objects.specs.Declared.{AllReached}
-use Rattle.cf_elab_valid_objects.specs.Starts.{NoVoidElements}
+use Rattle.cf_elab_valid_objects.specs.Starts.{WholeElements}
 use Rattle.cf_elab_valid_objects.proofs.Statements.{declaration-statement}
 use Rattle.cf_elab_valid_declarations.specs.Items.{AreItems}
 use Rattle.cf_elab_valid_declarations.proofs.Declarators.{name-built, no-scopes}
@@ -210,7 +210,7 @@ module _ (apart : ConstantsAreApart) where
 
   -- ---- declarations
 
-  declarators-of : (s : Scene) (scene : IsScene s) → NoVoidElements s.tables → (xs : List InitDeclarator) → built.first_of (map built.of_declarator xs) ≡ None → all_of (map init_declarator_fits xs) ≡ true → AreDeclarators s scene (map declares xs)
+  declarators-of : (s : Scene) (scene : IsScene s) → WholeElements s.tables → (xs : List InitDeclarator) → built.first_of (map built.of_declarator xs) ≡ None → all_of (map init_declarator_fits xs) ≡ true → AreDeclarators s scene (map declares xs)
   declarators-of s scene arrays [] b f = tt
   declarators-of s scene arrays (x ∷ xs) b f =
       let split = first-none (built.of_declarator x) (built.first_of (map built.of_declarator xs)) b in
@@ -228,7 +228,7 @@ module _ (apart : ConstantsAreApart) where
       → DeclaresOf (record { at = at; run = tree.declaration_of at xs (map declares ds) })
   declared-law at xs ds k b f = record {
     inside = λ s end n m e i c h. declaration-fine s end.scene (λ rs. AllReached s n m rs) at xs (map declares ds) e (k s end.scene) c h
-        (λ g e1 step c1 h1 named. block-rows s end.scene end.arrays end.frame n m at g (map declares ds) e1 (declarators-of s end.scene end.arrays ds b f) (inner-later s n m e e1 step i) c1 h1 named);
+        (λ g e1 step c1 h1 named. block-rows s end.scene end.arrays n m at g (map declares ds) e1 (declarators-of s end.scene end.arrays ds b f) (inner-later s n m e e1 step i) c1 h1 named);
     outside = λ s end none e o c h. declaration-fine s end.scene (λ rs. Unit {0}) at xs (map declares ds) e (k s end.scene) c h
         (λ g e1 step c1 h1 named. file-rows s end.scene end.arrays none at g (map declares ds) e1 (declarators-of s end.scene end.arrays ds b f) (outside-later e e1 step (record { outermost = o })) c1 h1 named);
   }

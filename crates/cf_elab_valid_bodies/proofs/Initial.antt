@@ -26,7 +26,7 @@ use Rattle.cf_elab_valid.proofs.Parts.{evaluated-fine}
 use Rattle.cf_elab_valid.proofs.Ways.{made-fine, onward-fine, within-before, When}
 use Rattle.cf_elab_valid_objects.specs.Declared.{AreInitial}
 use Rattle.cf_elab_valid_objects.specs.Quiet.{LeavesIn}
-use Rattle.cf_elab_valid_objects.specs.Starts.{NoVoidElements, TreeFits, TreesFit, ListFits, WrittenFits, MaybeFits}
+use Rattle.cf_elab_valid_objects.specs.Starts.{WholeElements, TreeFits, TreesFit, ListFits, WrittenFits, MaybeFits}
 use Rattle.cf_elab_valid_objects.proofs.Conversions.{evaluated-quiet}
 use Rattle.cf_elab_valid_objects.proofs.Expressions as quiet
 use Rattle.cf_elab_valid_objects.proofs.Initialisers.{leaves-quiet, leaves-none, leaves-onward}
@@ -159,7 +159,7 @@ module _ (s : Scene) (scene : IsScene s) where
         leaves = λ e c. leaves-onward e (each (expression_tree at) (map elaborated xs) e) (λ ts. gives (bracketed at ts)) c (k.leaves e c) (λ ts f cf. leaves-none f cf);
       })
 
-  pub parts-fit : ConstantsAreApart → NoVoidElements s.tables → (w : Option Initialiser) → built.of_initialiser w ≡ None → initialiser_fits w ≡ true → (b : Env) → AreParts s b (parts_of (option_map initial_of w))
+  pub parts-fit : ConstantsAreApart → WholeElements s.tables → (w : Option Initialiser) → built.of_initialiser w ≡ None → initialiser_fits w ≡ true → (b : Env) → AreParts s b (parts_of (option_map initial_of w))
   parts-fit apart arrays w built_so fits b =
       let k = parts-run w built_so fits in record {
         initial = record { fine = λ e g c h. k.fine e c h; leaves = λ e g c. k.leaves e c };

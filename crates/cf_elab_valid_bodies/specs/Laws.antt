@@ -13,8 +13,8 @@ use Rattle.cf_elab_valid.specs.Answers.{Fine}
 use Rattle.cf_elab_valid.specs.Scene.{Scene, IsScene, Within, Classless, Holds}
 use Rattle.cf_elab_valid.specs.Statements.{is_outermost, Inner, IsStatement}
 use Rattle.cf_elab_valid_statements.specs.Entries.{IsEntry}
-use Rattle.cf_elab_valid_objects.specs.Declared.{AllReached, AreComplete}
-use Rattle.cf_elab_valid_objects.specs.Starts.{NoVoidElements}
+use Rattle.cf_elab_valid_objects.specs.Declared.{AllReached}
+use Rattle.cf_elab_valid_objects.specs.Starts.{WholeElements}
 use Rattle.cf_elab_valid_statics.specs.Fixed.{FixedIn}
 use Rattle.cf_elab_valid_bodies.specs.Trees.{statement_told, declaration_fits, initialiser_fits}
 
@@ -25,16 +25,15 @@ statement_place = fold-Stmt Place Place Place Place Place Place built.member_ste
 abbrev pub declaration_place : Declaration → Place
 declaration_place = fold-Declaration Place Place Place Place Place Place built.member_step built.specifier_step built.statement_step built.class_step built.function_step built.declaration_step
 
--- an end, with what is asked of its tables and of the frame of the function at hand
+-- an end, with what is asked of its tables
 pub record IsEnd (s : Scene) : Type 0 where
   pub scene : IsScene s
-  pub arrays : NoVoidElements s.tables
-  pub frame : AreComplete s
+  pub arrays : WholeElements s.tables
 
 -- a constant initialiser names no local, wherever it is elaborated and what can be named fits
 abbrev pub ConstantsAreApart : Type 0
 ConstantsAreApart =
-    (s : Scene) → IsScene s → NoVoidElements s.tables → (w : Option Initialiser) → built.of_initialiser w ≡ None → initialiser_fits w ≡ true → (e : Env) → Classless e → (Within e s → Holds s e)
+    (s : Scene) → IsScene s → WholeElements s.tables → (w : Option Initialiser) → built.of_initialiser w ≡ None → initialiser_fits w ≡ true → (e : Env) → Classless e → (Within e s → Holds s e)
     → FixedIn s (parts_of (option_map initial_of w) e)
 
 -- a statement of forms that are built: what stands in the braces of a `switch` and, unless it is a label, a statement

@@ -129,6 +129,7 @@ module _ (s : Scene) (scene : IsScene s) where
         statics = h.statics;
         functions = h.functions;
         result = h.result;
+        frame = h.frame;
       }
 
   enlarged-classless : (name : Name) (e : Env) → Classless e → Classless (enlarged name e)

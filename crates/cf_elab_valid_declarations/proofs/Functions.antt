@@ -141,6 +141,7 @@ module _ (s : Scene) where
           statics = k.statics;
           functions = k.functions;
           result = k.result;
+          frame = k.frame;
         };
         made = λ w. p (within-before e next s g w);
       }
@@ -167,21 +168,21 @@ module _ (s : Scene) (scene : IsScene s) (d : Says) where
 
   module _ (e : Env) (no_defaults : NoDefaults d.parameters) (c : Classless e) (h : When s e (Holds s e)) (is : When s e (IsFun e d.type)) where
     new-entry : Fine s Any e (row.new_entry d e)
-    new-entry = defaults-still [] e refl no_defaults Any _ (by (parameters_complete e d) (e.extent.overloads || not (list_any (λ (f : FunctionEntry). bytes_eq f.name d.name) e.entries)) (e.extent.elsewhere || d.defines || d.is_initialised || list_any (bytes_eq d.name) e.defines) (nat_le (length (function_link e d.called d.type)) most_name))
+    new-entry = defaults-still [] e refl no_defaults Any _ (by (parameters_complete e d) (e.extent.overloads || not (list_any (λ (f : FunctionEntry). bytes_eq f.name d.name) e.entries)) (e.extent.elsewhere || d.defines || d.is_initialised || list_any (bytes_eq d.name) e.defines) (nat_le (length (function_link e d.called d.type)) most_name) refl)
       where
-        fit : When s e ((n : ℕ) (f : FunctionEntry) → slice_get (e.entries ++ entry e d [] ∷ []) n ≡ Some f → EntryFits s e f)
-        fit w n f at = elim (get-snoc e.entries (entry e d []) n f at) [ inl a ↦ (h w).entries n f a | inr b ↦ subst (EntryFits s e) b.1 (record { fun = (is w).fun; here = (is w).here }) ]
+        fit : nat_le (length (function_link e d.called d.type)) most_name ≡ true → When s e ((n : ℕ) (f : FunctionEntry) → slice_get (e.entries ++ entry e d [] ∷ []) n ≡ Some f → EntryFits s e f)
+        fit short w n f at = elim (get-snoc e.entries (entry e d []) n f at) [ inl a ↦ (h w).entries n f a | inr b ↦ subst (EntryFits s e) b.1 (record { fun = (is w).fun; here = (is w).here; short = short }) ]
 
         none : (n : ℕ) (f : FunctionEntry) → slice_get (e.entries ++ entry e d [] ∷ []) n ≡ Some f → f.defaults ≡ []
         none n f at = elim (get-snoc e.entries (entry e d []) n f at) [ inl a ↦ c.no_defaults n f a | inr b ↦ subst (λ (x : FunctionEntry). x.defaults ≡ []) b.1 refl ]
 
-        by : (a o b k : Bool) → Fine s Any e (onward (need a 30 d.at e) (λ _ f. onward (need o 48 d.at f) (λ _ i. onward (need b 48 d.at i)
+        by : (a o b k : Bool) → nat_le (length (function_link e d.called d.type)) most_name ≡ k → Fine s Any e (onward (need a 30 d.at e) (λ _ f. onward (need o 48 d.at f) (λ _ i. onward (need b 48 d.at i)
             (λ _ g. onward (within k bound_of.Names most_name g) (λ _ m. Made (length e.entries) (added (entry e d []) m))))))
-        by false o b k = tt
-        by true false b k = tt
-        by true true false k = tt
-        by true true true false = tt
-        by true true true true = entries-fine s Any (length e.entries) (e.entries ++ entry e d [] ∷ []) e none fit c h (λ w. tt)
+        by false o b k short = tt
+        by true false b k short = tt
+        by true true false k short = tt
+        by true true true false short = tt
+        by true true true true short = entries-fine s Any (length e.entries) (e.entries ++ entry e d [] ∷ []) e none (fit short) c h (λ w. tt)
 
     known-entry : (n : ℕ) (f : FunctionEntry) → slice_get e.entries n ≡ Some f → Fine s Any e (row.known_entry d n f e)
     known-entry n f there =
@@ -199,7 +200,7 @@ module _ (s : Scene) (scene : IsScene s) (d : Says) where
         none m g at = elim (replaced-get n m again g e.entries at) [ inl a ↦ c.no_defaults m g a | inr b ↦ subst (λ (x : FunctionEntry). x.defaults ≡ []) b.1 refl ]
 
         fit : When s e ((m : ℕ) (g : FunctionEntry) → slice_get (replaced n again e.entries) m ≡ Some g → EntryFits s e g)
-        fit w m g at = elim (replaced-get n m again g e.entries at) [ inl a ↦ (h w).entries m g a | inr b ↦ subst (EntryFits s e) b.1 (let k = (h w).entries n f there in record { fun = k.fun; here = k.here }) ]
+        fit w m g at = elim (replaced-get n m again g e.entries at) [ inl a ↦ (h w).entries m g a | inr b ↦ subst (EntryFits s e) b.1 (let k = (h w).entries n f there in record { fun = k.fun; here = k.here; short = k.short }) ]
 
     entry-fine : (o : Option ℕ) → Fine s Any e (row.entry_or_new d o e)
     entry-fine None = new-entry

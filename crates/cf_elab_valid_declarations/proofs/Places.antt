@@ -2,6 +2,7 @@
 use Rattle.std.proofs.Common.{◌≡◌, ℕ, Bool, true, false, not, ◌&&◌, if◌then◌else◌, is_some, List, [], ◌∷◌, ◌++◌, Option, Some, None, refl, sym, ap, subst, ◌∙◌}
 use Rattle.std.specs.Option.{option_map_or}
 use Rattle.cf_core.specs.Types.{is_void}
+use Rattle.cf_core.specs.Valid.{is_complete}
 use Rattle.cf_elab.specs.Answer.{Answer, Made, Elab, onward, gives}
 use Rattle.cf_elab.specs.Declaration as row
 use Rattle.cf_elab.specs.Declaration.{Initial, initial_place, object_says, Declares}
@@ -16,9 +17,10 @@ use Rattle.cf_elab_valid.proofs.Named.{NamedFits}
 use Rattle.cf_elab_valid.proofs.Shapes.{none_still}
 use Rattle.cf_elab_valid.proofs.Statements.{inner-later}
 use Rattle.cf_elab_valid.proofs.Ways.{fine-as, made-fine, onward-fine, When}
-use Rattle.cf_elab_valid_objects.specs.Declared.{AllReached, AreComplete}
-use Rattle.cf_elab_valid_objects.specs.Starts.{NoVoidElements, MaybeFits}
+use Rattle.cf_elab_valid_objects.specs.Declared.{AllReached}
+use Rattle.cf_elab_valid_objects.specs.Starts.{WholeElements, MaybeFits}
 use Rattle.cf_elab_valid_objects.proofs.Locals.{local-fine}
+use Rattle.cf_elab_valid_objects.proofs.Whole.{complete-no-void}
 use Rattle.cf_elab_valid_statics.specs.Fixed.{AreParts}
 use Rattle.cf_elab_valid_statics.specs.Linked.{StandsFor}
 use Rattle.cf_elab_valid_statics.proofs.Files.{file-fine}
@@ -42,7 +44,7 @@ pub record Outside (e : Env) : Type 0 where
 pub outside-later : (a b : Env) → Steps a b → Outside a → Outside b
 outside-later a b g o = record { outermost = ap is_outermost g.outer ∙ o.outermost }
 
-module _ (s : Scene) (scene : IsScene s) (arrays : NoVoidElements s.tables) where
+module _ (s : Scene) (scene : IsScene s) (arrays : WholeElements s.tables) where
   -- ---- declared only
 
   only-fine : (d : Says) (e : Env) → Classless e → When s e (Holds s e) → When s e (Inside e d.type) → When s e (is_void (tree s d.type) ≡ false) → Fine s Any e (row.only_declared d e)
@@ -55,14 +57,14 @@ module _ (s : Scene) (scene : IsScene s) (arrays : NoVoidElements s.tables) wher
   Nothing rs = Unit {0}
 
   file-objects : s.locals ≡ [] → (g : Gathered) (name : Name) (at t : ℕ) (parts : Elab (Option Written)) (w : Option Initial) (e : Env) → Outside e → AreParts s e parts → Classless e → When s e (Holds s e)
-      → When s e (Inside e t) → When s e (is_void (tree s t) ≡ false) → Fine s (λ rs f. Nothing rs) e (objects_of true g name at t parts w e)
-  file-objects none g name at t parts w e o given c h i n = by (is_extern g && not (is_some w))
+      → When s e (Inside e t) → When s e (is_complete [] (tree s t) ≡ true) → Fine s (λ rs f. Nothing rs) e (objects_of true g name at t parts w e)
+  file-objects none g name at t parts w e o given c h i whole = by (is_extern g && not (is_some w))
     where
       by : (b : Bool) → Fine s (λ rs f. Nothing rs) e (let run : Elab (List Reached) = if b then row.only_declared (object_says g name at t false (is_some w)) else (λ f. onward (define_in_file (object_says g name at t true (is_some w)) parts f) (λ _. gives [])) in run e)
-      by true = only-fine (object_says g name at t false (is_some w)) e c h i n
+      by true = only-fine (object_says g name at t false (is_some w)) e c h i (λ v. complete-no-void (tree s t) (whole v))
       by false =
           onward-fine s Any (λ rs f. Nothing rs) e (define_in_file (object_says g name at t true (is_some w)) parts e) (λ _. gives [])
-          (file-fine s scene arrays none (object_says g name at t true (is_some w)) parts e given.initial c h i n) (λ u e1 g1 c1 h1 any. made-fine s (λ rs f. Nothing rs) e1 [] c1 h1 (λ w. tt))
+          (file-fine s scene arrays none (object_says g name at t true (is_some w)) parts e given.initial c h i whole) (λ u e1 g1 c1 h1 any. made-fine s (λ rs f. Nothing rs) e1 [] c1 h1 (λ w. tt))
 
   pub file-rows : s.locals ≡ [] → (at : ℕ) (g : Gathered) (ds : List Declares) (e : Env) → AreDeclarators s scene ds → Outside e → Classless e → When s e (Holds s e) → When s e (NamedFits g e) → Fine s (λ rs f. Nothing rs) e (row.declaration_row at g ds e)
   file-rows none at g ds e k o c h m =
@@ -70,7 +72,7 @@ module _ (s : Scene) (scene : IsScene s) (arrays : NoVoidElements s.tables) wher
 
   -- ---- in a function
 
-  module _ (frame : AreComplete s) (n : ℕ) (m : Bool) where
+  module _ (n : ℕ) (m : Bool) where
     abbrev Reaches : List Reached → Type 0
     Reaches rs = AllReached s n m rs
 
@@ -78,7 +80,7 @@ module _ (s : Scene) (scene : IsScene s) (arrays : NoVoidElements s.tables) wher
     both-reached [] ys p q = q
     both-reached (x ∷ xs) ys p q = (p.0, both-reached xs ys p.1 q)
 
-    module _ (g : Gathered) (name : Name) (at t : ℕ) (parts : Elab (Option Written)) (w : Option Initial) (e : Env) (inner : Inner s n m e) (given : AreParts s e parts) (c : Classless e) (h : When s e (Holds s e)) (i : When s e (Inside e t)) (v : When s e (is_void (tree s t) ≡ false)) where
+    module _ (g : Gathered) (name : Name) (at t : ℕ) (parts : Elab (Option Written)) (w : Option Initial) (e : Env) (inner : Inner s n m e) (given : AreParts s e parts) (c : Classless e) (h : When s e (Holds s e)) (i : When s e (Inside e t)) (whole : When s e (is_complete [] (tree s t) ≡ true)) where
       abbrev external : Env → Answer (List Reached)
       external f = onward (onward (onward (row.only_declared (object_says g name at t false (is_some w)) f) (λ _. parts)) (λ _. row.no_initialiser w)) (λ _. gives [])
 
@@ -86,7 +88,7 @@ module _ (s : Scene) (scene : IsScene s) (arrays : NoVoidElements s.tables) wher
       external-fine =
           onward-fine s Any (λ rs f. Reaches rs) e (onward (onward (row.only_declared (object_says g name at t false (is_some w)) e) (λ _. parts)) (λ _. row.no_initialiser w)) (λ _. gives [])
           (onward-fine s Any Any e (onward (row.only_declared (object_says g name at t false (is_some w)) e) (λ _. parts)) (λ _. row.no_initialiser w)
-          (onward-fine s Any Any e (row.only_declared (object_says g name at t false (is_some w)) e) (λ _. parts) (only-fine (object_says g name at t false (is_some w)) e c h i v)
+          (onward-fine s Any Any e (row.only_declared (object_says g name at t false (is_some w)) e) (λ _. parts) (only-fine (object_says g name at t false (is_some w)) e c h i (λ v. complete-no-void (tree s t) (whole v)))
           (λ x e1 g1 c1 h1 any. fine-as s (λ y f. MaybeFits s f y) Any e1 (parts e1) (λ y f p. tt) (given.initial.fine e1 g1 c1 h1)))
           (λ y e2 g2 c2 h2 any. still-alone s e2 (row.no_initialiser w e2) (none_still (option_map_or (λ i. Some (initial_place i)) w None) 28 e2) c2 h2))
           (λ u e3 g3 c3 h3 any. made-fine s (λ rs f. Reaches rs) e3 [] c3 h3 (λ w. tt))
@@ -96,10 +98,10 @@ module _ (s : Scene) (scene : IsScene s) (arrays : NoVoidElements s.tables) wher
         where
           by : (a b : Bool) → Fine s (λ rs f. Reaches rs) e (let run : Elab (List Reached) = if a then external else (if b then define_in_function at name t parts else define_local at name t parts) in run e)
           by true b = external-fine
-          by false true = function-fine s scene arrays n m at name t parts e given inner.owner c h i v
-          by false false = local-fine s scene arrays frame n m at name t parts e given.initial inner.behind c h i
+          by false true = function-fine s scene arrays n m at name t parts e given inner.owner c h i whole
+          by false false = local-fine s scene arrays n m at name t parts e given.initial inner.behind c h i whole
 
     pub block-rows : (at : ℕ) (g : Gathered) (ds : List Declares) (e : Env) → AreDeclarators s scene ds → Inner s n m e → Classless e → When s e (Holds s e) → When s e (NamedFits g e) → Fine s (λ rs f. Reaches rs) e (row.declaration_row at g ds e)
     block-rows at g ds e k inner c h f =
         declared-rows s scene arrays false (Inner s n m) Reaches (inner-later s n m) (λ e p. file-told e ∙ p.deep) tt both-reached
-        (λ g name at t parts w e inner given c h i v. block-objects g name at t parts w e inner given c h i v) at g ds e k inner c h f
+        (λ g name at t parts w e inner given c h i whole. block-objects g name at t parts w e inner given c h i whole) at g ds e k inner c h f

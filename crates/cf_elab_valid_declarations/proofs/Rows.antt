@@ -7,7 +7,7 @@ use Rattle.cf_syntax.specs.declared.name.Last.{Last}
 use Rattle.cf_syntax.specs.declared.name.Last.TheVariants as last
 use Rattle.cf_syntax.specs.declared.name.Name.{Name as WrittenName}
 use Rattle.cf_base.specs.declared.limit.Bound.TheVariants as bound_of
-use Rattle.cf_core.specs.Types.{is_void as void_tree}
+use Rattle.cf_core.specs.Valid.{is_complete}
 use Rattle.cf_elab.specs.Answer.{Answer, Made, Elab, onward, need, none_at, gives, done}
 use Rattle.cf_elab.specs.Built as built
 use Rattle.cf_elab.specs.Complete.{complete, within, most_bytes, bytes_of, type_within}
@@ -24,15 +24,14 @@ use Rattle.cf_elab.specs.Shape.{Parameter, Shape, function_of, Shaped, whole, un
 use Rattle.cf_elab.specs.Specifiers.{Gathered, base_type, is_typedef, is_extern}
 use Rattle.cf_elab_valid.specs.Answers.{Fine, FineAs}
 use Rattle.cf_elab_valid.specs.Scene.{Scene, IsScene, tree, Steps, Within, Inside, Classless, Holds}
-use Rattle.cf_elab_valid.proofs.Early.{early-sort-is}
 use Rattle.cf_elab_valid.proofs.FitRows.{Still, needed, still-fine}
 use Rattle.cf_elab_valid.proofs.Making.{IsType, of_kind-fine}
 use Rattle.cf_elab_valid.proofs.Named.{IsThere, NamedFits, base-fine}
 use Rattle.cf_elab_valid.proofs.Options.{none_some, some_is}
 use Rattle.cf_elab_valid.proofs.Shapes.{NoDefaults, IsPlainShape, ShapeThere, shape-later, ShapedThere, typed-fine, bounds_still, IsShape, none_still}
-use Rattle.cf_elab_valid.proofs.Statements.{no_void}
 use Rattle.cf_elab_valid.proofs.Ways.{as-then, fine-as, inside-later, made-fine, onward-fine, steps-none, within-before, When}
-use Rattle.cf_elab_valid_objects.specs.Starts.{NoVoidElements, MaybeFits}
+use Rattle.cf_elab_valid_objects.specs.Starts.{WholeElements, MaybeFits}
+use Rattle.cf_elab_valid_objects.proofs.Whole.{object-whole}
 use Rattle.cf_elab_valid_statics.specs.Fixed.{AreParts}
 use Rattle.cf_elab_valid_statics.proofs.Arrays.{IsBound, bound-fine}
 use Rattle.cf_elab_valid_statics.proofs.Names.{Any}
@@ -121,7 +120,7 @@ plain-name {B} s Q n e go next = by n.last
     by (last.Operator o) = tt
     by (last.Conversion specifiers pointers) = tt
 
-module _ (s : Scene) (scene : IsScene s) (arrays : NoVoidElements s.tables) (in_file : Bool) (Here : Env → Type 0) (Result : List Reached → Type 0) (later : (a b : Env) → Steps a b → Here a → Here b) (placed : (e : Env) → Here e → is_file_scope e.scopes ≡ in_file) (nothing : Result []) (joined : (xs ys : List Reached) → Result xs → Result ys → Result (xs ++ ys)) (objects : (g : Gathered) (name : Name) (at t : ℕ) (parts : Elab (Option Written)) (w : Option Initial) (e : Env) → Here e → AreParts s e parts → Classless e → When s e (Holds s e) → When s e (Inside e t) → When s e (void_tree (tree s t) ≡ false) → Fine s (λ rs f. Result rs) e (objects_of in_file g name at t parts w e)) where
+module _ (s : Scene) (scene : IsScene s) (arrays : WholeElements s.tables) (in_file : Bool) (Here : Env → Type 0) (Result : List Reached → Type 0) (later : (a b : Env) → Steps a b → Here a → Here b) (placed : (e : Env) → Here e → is_file_scope e.scopes ≡ in_file) (nothing : Result []) (joined : (xs ys : List Reached) → Result xs → Result ys → Result (xs ++ ys)) (objects : (g : Gathered) (name : Name) (at t : ℕ) (parts : Elab (Option Written)) (w : Option Initial) (e : Env) → Here e → AreParts s e parts → Classless e → When s e (Holds s e) → When s e (Inside e t) → When s e (is_complete [] (tree s t) ≡ true) → Fine s (λ rs f. Result rs) e (objects_of in_file g name at t parts w e)) where
   abbrev pub Reaches : List Reached → Env → Type 0
   Reaches rs f = Result rs
 
@@ -131,8 +130,8 @@ module _ (s : Scene) (scene : IsScene s) (arrays : NoVoidElements s.tables) (in_
 
   -- ---- objects
 
-  module _ (g : Gathered) (name : Name) (at t : ℕ) (parts : Elab (Option Written)) (w : Option Initial) (e : Env) (here : Here e) (given : AreParts s e parts) (c : Classless e) (h : When s e (Holds s e)) (i : When s e (Inside e t)) where
-    ended-fine : When s e (void_tree (tree s t) ≡ false) → Fine s Reaches e (onward (objects_of in_file g name at t parts w e) (λ nodes k. onward (type_within t k) (λ _. gives nodes)))
+  module _ (g : Gathered) (name : Name) (at t : ℕ) (parts : Elab (Option Written)) (w : Option Initial) (e : Env) (here : Here e) (given : AreParts s e parts) (c : Classless e) (h : When s e (Holds s e)) (i : When s e (Inside e t)) (no_function : When s e (is_function (sort_of e.types t) ≡ false)) where
+    ended-fine : When s e (is_complete [] (tree s t) ≡ true) → Fine s Reaches e (onward (objects_of in_file g name at t parts w e) (λ nodes k. onward (type_within t k) (λ _. gives nodes)))
     ended-fine n =
         onward-fine s Reaches Reaches e (objects_of in_file g name at t parts w e) _ (objects g name at t parts w e here given c h i n)
         (λ nodes e1 g1 c1 h1 r. still-fine s Reaches e1 (type_within t e1) (λ k. Made nodes k) (within-still e1 (nat_le (bytes_of e1 t) most_bytes)) (made-fine s Reaches e1 nodes c1 h1 r))
@@ -149,7 +148,7 @@ module _ (s : Scene) (scene : IsScene s) (arrays : NoVoidElements s.tables) (in_
         by true is = tt
         by false is =
             still-fine s Reaches e (need (complete e t) 30 at e) _ (needed e (complete e t) 30 at)
-            (ended-fine (λ v. no_void s scene 0 false (sort_of e.types t) t (early-sort-is s.tables scene.table e.types v.types scene.no_class scene.none_to_reference t (i v)) is))
+            (ended-fine (λ v. object-whole s scene arrays e v t (i v) is (no_function v)))
 
   -- ---- by what is declared
 
@@ -165,13 +164,13 @@ module _ (s : Scene) (scene : IsScene s) (arrays : NoVoidElements s.tables) (in_
         by : (a b : Bool) → is_function (sort_of e.types t) ≡ b → Fine s Reaches e (kind_of a b e)
         by true b is = reaches-none e (onward (row.plain_name n n.last e) (λ name. row.typedef_row name n.last_at t w)) (plain-name s Any n e (λ name. row.typedef_row name n.last_at t w) (λ name. typedef-fine s scene name n.last_at t w e given c h i))
         by false true is = reaches-none e (row.function_row g n t x w e) (function-fine s scene g n t x w e plain given c h i (λ v. is))
-        by false false is = plain-name s Reaches n e _ (λ name. object-fine g name n.last_at t (parts_of w) w e here (given e) c h i)
+        by false false is = plain-name s Reaches n e _ (λ name. object-fine g name n.last_at t (parts_of w) w e here (given e) c h i (λ v. is))
 
     shaped-fine : (t : Shaped) → When s e (ShapedThere s scene t e) → Fine s Reaches e (row.by_shape in_file g n x w t e)
     shaped-fine (whole t) i = kind-fine t i
     shaped-fine (unbounded u) i =
         plain-name s Reaches n e _ (λ name. onward-fine s (IsBound s n.last_at u) Reaches e (row.bound_given n.last_at u w e) _ (bound-fine s n.last_at u w e c h)
-        (λ t e1 g1 c1 h1 it. object-fine g name n.last_at t (parts_of w) w e1 (later e e1 g1 here) (given e1) c1 h1 it))
+        (λ t e1 g1 c1 h1 it. object-fine g name n.last_at t (parts_of w) w e1 (later e e1 g1 here) (given e1) c1 h1 (λ v. (it v).0) (λ v. (it v).1)))
 
   module _ (g : Gathered) (at : ℕ) (w : Option Initial) (x : Shape) (n : WrittenName) (plain : IsPlainShape x) (given : (b : Env) → AreParts s b (parts_of w)) where
     abbrev behind : ℕ → Env → Answer (List Reached)

@@ -13,16 +13,16 @@ use Rattle.cf_core.specs.declared.unit.CoreFn.{CoreFn}
 use Rattle.cf_core.specs.declared.unit.CoreStatic.{CoreStatic}
 use Rattle.cf_core.specs.FromTypes.{Tables, type_of}
 use Rattle.cf_core.specs.FromUnit.{is_short}
-use Rattle.cf_core.specs.Valid.{is_complete, result_fits, all_differ}
+use Rattle.cf_core.specs.Valid.{is_complete, all_differ}
 use Rattle.cf_core_typed.proofs.Same.{and-left, and-right}
 use Rattle.cf_elab.specs.Env.{Env}
 use Rattle.cf_elab.specs.Operand.{sort_of, is_reference, is_void}
 use Rattle.cf_elab_env.specs.Holds.{HasNoClass}
 use Rattle.cf_elab_env.proofs.Sorts.{below_at}
 use Rattle.cf_elab_valid.specs.Sorts.{Aims}
-use Rattle.cf_elab_valid_file.specs.Ends.{is_object, is_given, aims_right, no_locals, names_right, can_be_made, can_be_given, frame_right, objects_right, is_finished}
+use Rattle.cf_elab_valid_file.specs.Ends.{is_object, is_given, aims_right, no_locals, names_right, can_be_made, params_right, is_finished}
 use Rattle.cf_elab_valid_file.specs.Laws.{tables_of, IsFinished}
-use Rattle.cf_elab_valid_file.proofs.Sorted.{reference-told, void-told, given-told, complete-told, result-told}
+use Rattle.cf_elab_valid_file.proofs.Sorted.{reference-told, void-told, given-told, complete-told}
 
 -- each of a list passes
 all-get : {A : Type 0} (test : A → Bool) (xs : List A) (n : ℕ) (x : A) → list_all test xs ≡ true → slice_get xs n ≡ Some x → test x ≡ true
@@ -82,11 +82,6 @@ module _ (T : Tables) (well : IsTable T.types) (plain : HasNoClass T.types) (rig
       let a : Bool = nat_lt t (length T.types.types) in
       complete-told T well plain elements-told t (lt-told t (length T.types.types) (and-left a (is_object (sort_of T.types t)) h)) (and-right a (is_object (sort_of T.types t)) h)
 
-  gives-told : (t : ℕ) → can_be_given T.types t ≡ true → result_fits [] (type_of T t) ≡ true
-  gives-told t h =
-      let a : Bool = nat_lt t (length T.types.types) in
-      result-told T well plain elements-told t (lt-told t (length T.types.types) (and-left a (is_given (sort_of T.types t)) h)) (and-right a (is_given (sort_of T.types t)) h)
-
   whole-told : (t u n : ℕ) → slice_get T.types.types t ≡ Some (ty.Array u n) → is_complete [] (type_of T u) ≡ true
   whole-told t u n at = complete-told T well plain elements-told u (below t u (ty.Array u n) at (below_at T.types t (ty.Array u n) well at)) (elements-told t u n at)
 
@@ -94,28 +89,19 @@ pub decided : (e : Env) → IsTable e.types → HasNoClass e.types → is_finish
 decided e table plain h =
     let T = tables_of e in
     let begun : Bool = no_locals e.hand.locals && list_all (aims_right e.types) e.types.types in
-    let ended : Bool = names_right e && objects_right e in
+    let ended : Bool = names_right e && params_right e in
     let first = and-left begun ended h in
     let right = and-right (no_locals e.hand.locals) (list_all (aims_right e.types) e.types.types) first in
-    let names = and-left (names_right e) (objects_right e) (and-right begun ended h) in
-    let objects = and-right (names_right e) (objects_right e) (and-right begun ended h) in
+    let names = and-left (names_right e) (params_right e) (and-right begun ended h) in
+    let params = and-right (names_right e) (params_right e) (and-right begun ended h) in
     let differ : Bool = all_differ (map (λ (f : CoreFn). f.name) e.functions ++ map (λ (x : CoreStatic). x.name) e.statics) in
-    let functions_short : Bool = list_all (λ (f : CoreFn). is_short f.name) e.functions in
-    let statics_short : Bool = list_all (λ (x : CoreStatic). is_short x.name) e.statics in
-    let short = and-right differ (functions_short && statics_short) names in
-    let frames : Bool = list_all (frame_right e.types) e.functions in
-    let whole : Bool = list_all (λ (x : CoreStatic). can_be_made e.types x.ty) e.statics in
-    let framed = and-left frames whole objects in record {
+    let short : Bool = list_all (λ (x : CoreStatic). is_short x.name) e.statics in record {
       table = table;
       aims = λ t v at. aim T table plain right t v at;
       elements = λ t u n at. whole-told T table plain right t u n at;
       hand = none-told e.hand.locals (and-left (no_locals e.hand.locals) (list_all (aims_right e.types) e.types.types) first);
-      names = and-left differ (functions_short && statics_short) names;
-      short_functions = and-left functions_short statics_short short;
-      short_statics = and-right functions_short statics_short short;
-      frames = λ n f at i t there. made-told T table plain right t
-          (all-get (can_be_made e.types) (f.params ++ f.locals) i t (and-left (list_all (can_be_made e.types) (f.params ++ f.locals)) (can_be_given e.types f.result) (all-get (frame_right e.types) e.functions n f framed at)) there);
-      results = λ n f at. gives-told T table plain right f.result
-          (and-right (list_all (can_be_made e.types) (f.params ++ f.locals)) (can_be_given e.types f.result) (all-get (frame_right e.types) e.functions n f framed at));
-      statics = λ n x at. made-told T table plain right x.ty (all-get (λ (y : CoreStatic). can_be_made e.types y.ty) e.statics n x (and-right frames whole objects) at);
+      names = and-left differ short names;
+      short_statics = and-right differ short names;
+      params = λ n f at i t there. made-told T table plain right t
+          (all-get (can_be_made e.types) f.params i t (all-get (λ (g : CoreFn). list_all (can_be_made e.types) g.params) e.functions n f params at) there);
     }

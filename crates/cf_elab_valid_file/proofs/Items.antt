@@ -7,6 +7,7 @@ use Rattle.cf_types.proofs.Places.{get-snoc}
 use Rattle.cf_unit.specs.declared.declaration.Declaration.{Declaration}
 use Rattle.cf_unit.specs.declared.file.Item.{Item}
 use Rattle.cf_unit.specs.declared.file.Item.TheVariants as item
+use Rattle.cf_core.specs.FromUnit.{is_short}
 use Rattle.cf_core_typed.proofs.Same.{and-left, and-right}
 use Rattle.cf_elab.specs.Answer.{Answer, Made, Elab, onward, for_each, done}
 use Rattle.cf_elab.specs.Built as built
@@ -43,16 +44,16 @@ module _ (s : Scene) (end : IsFileEnd s) where
   abbrev listed : Name → ℕ → Env → Answer (Unit {0})
   listed name t f = Made (tt {0}) (record f { entries = f.entries ++ library_entry name t ∷ [] })
 
-  listed-fine : (name : Name) (t : ℕ) (e : Env) → Classless e → When s e (Holds s e) → When s e (IsFun e t) → Fine s (Any {A = Unit {0}}) e (listed name t e)
-  listed-fine name t e c h fun =
+  listed-fine : (name : Name) (t : ℕ) (e : Env) → is_short name ≡ true → Classless e → When s e (Holds s e) → When s e (IsFun e t) → Fine s (Any {A = Unit {0}}) e (listed name t e)
+  listed-fine name t e short c h fun =
       entries-fine s (Any {A = Unit {0}}) tt (e.entries ++ library_entry name t ∷ []) e
       (λ n f at. elim (get-snoc e.entries (library_entry name t) n f at) [ inl a ↦ c.no_defaults n f a | inr b ↦ subst (λ (x : FunctionEntry). x.defaults ≡ []) b.1 refl ])
-      (λ w n f at. elim (get-snoc e.entries (library_entry name t) n f at) [ inl a ↦ (h w).entries n f a | inr b ↦ subst (EntryFits s e) b.1 (record { fun = (fun w).fun; here = (fun w).here }) ]) c h (λ w. tt)
+      (λ w n f at. elim (get-snoc e.entries (library_entry name t) n f at) [ inl a ↦ (h w).entries n f a | inr b ↦ subst (EntryFits s e) b.1 (record { fun = (fun w).fun; here = (fun w).here; short = short }) ]) c h (λ w. tt)
 
-  library-fine : (name : Name) (result : ℕ) (params : List ℕ) (e : Env) → Classless e → When s e (Holds s e) → Fine s (Any {A = Unit {0}}) e (row.library name result params e)
-  library-fine name result params e c h =
+  library-fine : (name : Name) (result : ℕ) (params : List ℕ) (e : Env) → is_short name ≡ true → Classless e → When s e (Holds s e) → Fine s (Any {A = Unit {0}}) e (row.library name result params e)
+  library-fine name result params e short c h =
       onward-fine s (λ t f. IsFun f t) (Any {A = Unit {0}}) e (function_type result params false e) (λ t f. onward (listed name t f) (λ _. declare name (functions (length f.entries ∷ [])))) (made-function s end.scene result params false e c h)
-      (λ t e1 g1 c1 h1 fun. onward-fine s (Any {A = Unit {0}}) (Any {A = Unit {0}}) e1 (listed name t e1) (λ _. declare name (functions (length e1.entries ∷ []))) (listed-fine name t e1 c1 h1 fun)
+      (λ t e1 g1 c1 h1 fun. onward-fine s (Any {A = Unit {0}}) (Any {A = Unit {0}}) e1 (listed name t e1) (λ _. declare name (functions (length e1.entries ∷ []))) (listed-fine name t e1 short c1 h1 fun)
       (λ u e2 g2 c2 h2 any. named-fine s (Any {A = Unit {0}}) tt name (functions (length e1.entries ∷ [])) e2 (λ k is. absurd cc) c2 h2 (λ w. tt) (λ w. tt) (λ w. tt)))
 
   -- behind the two types
@@ -64,9 +65,9 @@ module _ (s : Scene) (end : IsFileEnd s) where
 
   rest-fine : (i v : ℕ) (e : Env) → Classless e → When s e (Holds s e) → Fine s (Any {A = Unit {0}}) e (rest i v e)
   rest-fine i v e c h =
-      onward-fine s (Any {A = Unit {0}}) (Any {A = Unit {0}}) e (row.library (codes "putchar") i (i ∷ []) e) (λ _ g. onward (row.library (codes "getchar") i [] g) (λ _. exit_row i v)) (library-fine (codes "putchar") i (i ∷ []) e c h)
-      (λ u e1 g1 c1 h1 a1. onward-fine s (Any {A = Unit {0}}) (Any {A = Unit {0}}) e1 (row.library (codes "getchar") i [] e1) (λ _. exit_row i v) (library-fine (codes "getchar") i [] e1 c1 h1)
-      (λ u2 e2 g2 c2 h2 a2. library-fine (codes "exit") v (i ∷ []) e2 c2 h2))
+      onward-fine s (Any {A = Unit {0}}) (Any {A = Unit {0}}) e (row.library (codes "putchar") i (i ∷ []) e) (λ _ g. onward (row.library (codes "getchar") i [] g) (λ _. exit_row i v)) (library-fine (codes "putchar") i (i ∷ []) e refl c h)
+      (λ u e1 g1 c1 h1 a1. onward-fine s (Any {A = Unit {0}}) (Any {A = Unit {0}}) e1 (row.library (codes "getchar") i [] e1) (λ _. exit_row i v) (library-fine (codes "getchar") i [] e1 refl c1 h1)
+      (λ u2 e2 g2 c2 h2 a2. library-fine (codes "exit") v (i ∷ []) e2 refl c2 h2))
 
   pub beginning-fine : (e : Env) → Classless e → When s e (Holds s e) → Fine s (Any {A = Unit {0}}) e (row.beginning e)
   beginning-fine e c h =

@@ -17,7 +17,7 @@ use Rattle.cf_elab_env.specs.Holds.{HasNoClass, without_class}
 use Rattle.cf_elab_env.proofs.Growth.{here}
 use Rattle.cf_elab_env.proofs.Sorts.{below_at, no_class_at}
 use Rattle.cf_elab_valid.proofs.Trees.{tree-at}
-use Rattle.cf_elab_valid_file.specs.Laws.{WholeElements}
+use Rattle.cf_elab_valid_objects.specs.Starts.{WholeElements}
 
 -- a tree of at most so many bytes as a type may have, and of so many where objects of it can be made
 record Takes (x : SourceType) (bytes : ℕ) : Type 0 where

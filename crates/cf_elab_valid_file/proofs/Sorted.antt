@@ -7,8 +7,8 @@ use Rattle.cf_convert.specs.Constness.{type_at, bare}
 use Rattle.cf_core.specs.FromTypes.{Tables, type_of, type_step}
 use Rattle.cf_core.specs.Places as tree_of
 use Rattle.cf_core.specs.Types as tree_is
-use Rattle.cf_core.specs.Types.{SourceType, array, const, without_const}
-use Rattle.cf_core.specs.Valid.{is_complete, result_fits}
+use Rattle.cf_core.specs.Types.{SourceType}
+use Rattle.cf_core.specs.Valid.{is_complete}
 use Rattle.cf_core_typed.specs.Same.{Same, is_operand}
 use Rattle.cf_core_typed.proofs.Same.{same-void, same-reference, same-operand, function-operand}
 use Rattle.cf_elab.specs.Operand.{sort_of, ty_sort, is_reference, is_void}
@@ -18,16 +18,8 @@ use Rattle.cf_elab_env.proofs.Growth.{here, bare_const, bare-known}
 use Rattle.cf_elab_env.proofs.Sorts.{below_at, no_class_at}
 use Rattle.cf_elab_valid.specs.Sorts.{is_result}
 use Rattle.cf_elab_valid.proofs.Trees.{tree-form, function-form}
+use Rattle.cf_elab_valid_objects.proofs.Whole.{same-complete}
 use Rattle.cf_elab_valid_file.specs.Ends.{is_object, is_given}
-
--- const makes no difference to whether an object can be made
-complete-plain : (t : SourceType) → is_complete [] (without_const t) ≡ is_complete [] t
-complete-plain (array t n) = complete-plain t
-complete-plain (const t) = complete-plain t
-complete-plain t = refl
-
-same-complete : (t u : SourceType) → Same t u → is_complete [] t ≡ is_complete [] u
-same-complete t u h = sym (complete-plain t) ∙ ap (is_complete []) h ∙ complete-plain u
 
 or-right : (a b : Bool) → b ≡ true → (a || b) ≡ true
 or-right true b h = refl
@@ -167,22 +159,3 @@ module _ (T : Tables) (well : IsTable T.types) (plain : HasNoClass T.types) wher
 
     pub complete-told : (t : ℕ) → Known t → is_object (sort_of T.types t) ≡ true → is_complete [] (tree t) ≡ true
     complete-told t k h = complete-below (bare T.types t + 1) t (omega arith) k h
-
-    pub result-told : (t : ℕ) → Known t → is_given (sort_of T.types t) ≡ true → result_fits [] (tree t) ≡ true
-    result-told t k h = by (under t) refl h
-      where
-        whole : (v : Ty) → under t ≡ v → is_complete [] (type_step T tree v) ≡ true → result_fits [] (tree t) ≡ true
-        whole v e c = or-right (tree_is.is_void (tree t)) (is_complete [] (tree t)) (same-complete (tree t) (type_step T tree v) (form t k v e) ∙ c)
-
-        by : (v : Ty) → under t ≡ v → is_given (ty_sort T.types v) ≡ true → result_fits [] (tree t) ≡ true
-        by ty.Void e h = or-left (tree_is.is_void (tree t)) (is_complete [] (tree t)) (same-void (tree t) (type_step T tree ty.Void) (form t k ty.Void e))
-        by (ty.Fun f) e h = absurd (true≢false (sym h))
-        by (ty.Array u n) e h = absurd (true≢false (sym h))
-        by (ty.Const u) e h = absurd (no-const t k u e)
-        by (ty.Class n) e h = absurd (class-free t k n e)
-        by (ty.Ref u) e h = whole (ty.Ref u) e refl
-        by (ty.Int n) e h = whole (ty.Int n) e refl
-        by (ty.Enum n) e h = whole (ty.Enum n) e refl
-        by (ty.Ptr u) e h = whole (ty.Ptr u) e refl
-        by (ty.MemData n u) e h = whole (ty.MemData n u) e refl
-        by (ty.MemFun n f) e h = whole (ty.MemFun n f) e refl

@@ -37,7 +37,7 @@ use Rattle.cf_elab_valid.specs.Answers.{Good, Fine}
 use Rattle.cf_elab_valid.specs.Scene.{Scene, IsScene, tree, core, OwnerThere, StaticFits, FunctionFits, PartInside, Within, Classless, Holds}
 use Rattle.cf_elab_valid.proofs.Calls.{taken_parameters, taken_result, taken_function}
 use Rattle.cf_elab_valid.proofs.Ways.{begins-same}
-use Rattle.cf_elab_valid_objects.proofs.Locals.{complete-no-void}
+use Rattle.cf_elab_valid_objects.proofs.Whole.{complete-no-void}
 use Rattle.cf_elab_valid_statics.proofs.Names.{Any}
 use Rattle.cf_elab_valid_bodies.specs.Laws.{ConstantsAreApart}
 use Rattle.cf_elab_valid_functions.specs.Laws.{IsFileEnd}
@@ -63,7 +63,7 @@ module _ (e : Env) (finished : IsFinished e) (c : Classless e) (sizes : (t : ℕ
   is_scene = record { table = finished.table; no_class = c.no_type; none_to_reference = finished.aims; sizes = sizes }
 
   pub file-end : IsFileEnd scene
-  file-end = record { scene = is_scene; arrays = λ t u n at. complete-no-void (tree scene u) (finished.elements t u n at); outside = refl; frames = finished.frames }
+  file-end = record { scene = is_scene; arrays = λ t u n at. complete-no-void (tree scene u) (finished.elements t u n at); outside = refl; params = finished.params }
 
   static-names : all_differ (map (λ (x : CoreStatic). x.name) e.statics) ≡ true
   static-names = differ-behind (map (λ (f : CoreFn). f.name) e.functions) (map (λ (x : CoreStatic). x.name) e.statics) finished.names
@@ -141,8 +141,8 @@ module _ (e : Env) (finished : IsFinished e) (c : Classless e) (sizes : (t : ℕ
           (and-both (is_function own.type && role_fits [] (class_of_role own.role) && list_all (is_complete []) (parameters own.type ++ ls)) (result_fits [] (result own.type))
           (and-both (is_function own.type && role_fits [] (class_of_role own.role)) (list_all (is_complete []) (parameters own.type ++ ls))
           (and-both (is_function own.type) (role_fits [] (class_of_role own.role)) (taken_function scene is_scene ps r false) (ap (λ q. role_fits [] (class_of_role (role_of T q))) k.plain))
-          (ap (λ l. list_all (is_complete []) (l ++ ls)) taken ∙ ap (list_all (is_complete [])) (sym (map-append (tree scene) f.params f.locals)) ∙ all-mapped (is_complete []) (tree scene) (f.params ++ f.locals) (λ i t there. finished.frames n f at i t there)))
-          (ap (result_fits []) given ∙ finished.results n f at)) body-fits
+          (ap (λ l. list_all (is_complete []) (l ++ ls)) taken ∙ ap (list_all (is_complete [])) (sym (map-append (tree scene) f.params f.locals)) ∙ all-mapped (is_complete []) (tree scene) (f.params ++ f.locals) (λ i t there. k.frame i t there)))
+          (ap (result_fits []) given ∙ k.gives)) body-fits
 
     -- ---- static objects
 
@@ -156,7 +156,7 @@ module _ (e : Env) (finished : IsFinished e) (c : Classless e) (sizes : (t : ℕ
     static-valid : (n : ℕ) (x : CoreStatic) → slice_get e.statics n ≡ Some x → static_fits file (static_of T x) ≡ true
     static-valid n x at =
         let k = held.statics n x at in
-        and-both _ (owner_fits file x.owner) (and-both (is_complete [] (tree scene x.ty)) _ (finished.statics n x at) k.start) (owner-valid x.owner k.owner)
+        and-both _ (owner_fits file x.owner) (and-both (is_complete [] (tree scene x.ty)) _ k.whole k.start) (owner-valid x.owner k.owner)
 
     -- ---- the whole
 
@@ -209,7 +209,7 @@ module _ (e : Env) (finished : IsFinished e) (c : Classless e) (sizes : (t : ℕ
     limits : WithinLimits (core_unit e)
     limits = record {
       sizes = λ t k. subst (λ (ds : List (ℕ × ClassDef)). size (classes_in T ds) (tree scene t) ≤ 2 ^ 22) (sym c.none) (size-small T finished.table c.no_type finished.elements sizes t k);
-      functions = finished.short_functions;
+      functions = all-from (λ (f : CoreFn). is_short f.name) e.functions (λ n f at. (held.functions n f at).short);
       statics = finished.short_statics;
       descriptions = ap (λ (ds : List (ℕ × ClassDef)). list_all (λ (x : Class). is_short x.description) (classes_in T ds)) c.none;
     }
@@ -228,7 +228,7 @@ module _ (e : Env) (finished : IsFinished e) (c : Classless e) (sizes : (t : ℕ
 
 -- an end that no environment leads to, for what does not depend on it
 nowhere-file : IsFileEnd (nowhere [] 0)
-nowhere-file = let k = nowhere-end [] 0 in record { scene = k.scene; arrays = k.arrays; outside = refl; frames = λ n f at. absurd cc }
+nowhere-file = let k = nowhere-end [] 0 in record { scene = k.scene; arrays = k.arrays; outside = refl; params = λ n f at. absurd cc }
 
 pub file-law : ConstantsAreApart → (extent : Extent) (u : FileTree) → not_built u ≡ None → file_fits u ≡ true → (e : Env) → in_turn (map item_row u.items) (first_env extent (defined_names u)) ≡ Made tt e → IsFinished e → IsValid (core_unit e)
 file-law apart extent u b fits e run finished =

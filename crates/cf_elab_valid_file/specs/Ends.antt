@@ -1,4 +1,4 @@
--- Whether the end of a file is as the law of files asks: a look at the table of types, the link names, the functions and the static objects.
+-- Whether the end of a file is as the law of files asks: a look at the table of types, the link names and the parameters of functions.
 use Rattle.std.specs.Prelude.{ℕ, Bool, true, false, not, ◌&&◌, nat_lt, List, [], ◌∷◌, ◌++◌, length, map, slice_get}
 use Rattle.std.specs.List.{list_all}
 use Rattle.std.specs.Option.{option_map_or}
@@ -40,20 +40,14 @@ no_locals (t ∷ ts) = false
 abbrev pub names_right : Env → Bool
 names_right env =
     all_differ (map (λ (f : CoreFn). f.name) env.functions ++ map (λ (x : CoreStatic). x.name) env.statics)
-    && (list_all (λ (f : CoreFn). is_short f.name) env.functions && list_all (λ (x : CoreStatic). is_short x.name) env.statics)
+    && list_all (λ (x : CoreStatic). is_short x.name) env.statics
 
--- types of the table, of which objects are and which functions give
+-- a type of the table, of which objects can be
 abbrev pub can_be_made : Table → ℕ → Bool
 can_be_made types t = nat_lt t (length types.types) && is_object (sort_of types t)
 
-abbrev pub can_be_given : Table → ℕ → Bool
-can_be_given types t = nat_lt t (length types.types) && is_given (sort_of types t)
-
-abbrev pub frame_right : Table → CoreFn → Bool
-frame_right types f = list_all (can_be_made types) (f.params ++ f.locals) && can_be_given types f.result
-
-abbrev pub objects_right : Env → Bool
-objects_right env = list_all (frame_right env.types) env.functions && list_all (λ (x : CoreStatic). can_be_made env.types x.ty) env.statics
+abbrev pub params_right : Env → Bool
+params_right env = list_all (λ (f : CoreFn). list_all (can_be_made env.types) f.params) env.functions
 
 abbrev pub is_finished : Env → Bool
-is_finished env = (no_locals env.hand.locals && list_all (aims_right env.types) env.types.types) && (names_right env && objects_right env)
+is_finished env = (no_locals env.hand.locals && list_all (aims_right env.types) env.types.types) && (names_right env && params_right env)

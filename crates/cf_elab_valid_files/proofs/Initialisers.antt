@@ -23,7 +23,7 @@ use Rattle.cf_elab_valid.specs.Constants.{all_of, constants_fit}
 use Rattle.cf_elab_valid.specs.Scene.{Scene, IsScene, Classless, Holds}
 use Rattle.cf_elab_valid.proofs.Named.{first-none}
 use Rattle.cf_elab_valid.proofs.Ways.{made-fine, onward-fine, within-before, When}
-use Rattle.cf_elab_valid_objects.specs.Starts.{NoVoidElements}
+use Rattle.cf_elab_valid_objects.specs.Starts.{WholeElements}
 use Rattle.cf_elab_valid_statics.specs.Fixed.{ApartIn, FixedIn}
 use Rattle.cf_elab_valid_bodies.specs.Laws.{ConstantsAreApart}
 use Rattle.cf_elab_valid_bodies.specs.Trees as well
@@ -147,7 +147,7 @@ module _ (s : Scene) (scene : IsScene s) where
   started-apart (Refused rule at) e k = tt
   started-apart (Passed bound most) e k = tt
 
-  parts-fixed : NoVoidElements s.tables → (e : Env) (r : Answer (Option Written)) → Fine s Apart_maybe e r → FixedIn s r
+  parts-fixed : WholeElements s.tables → (e : Env) (r : Answer (Option Written)) → Fine s Apart_maybe e r → FixedIn s r
   parts-fixed arrays e (Made w f) k = λ v. record {
     starts = λ e1 c h fits reference owner own place at t i n.
         started-apart (start_or_none (static_keeper reference (Some owner) place) at t w e1) e1 (static-starts s scene arrays reference owner own place at t w e1 c h fits (λ _. k.made v) i n);

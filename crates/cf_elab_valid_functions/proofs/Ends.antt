@@ -42,7 +42,6 @@ nowhere-end fs result = record {
     sizes = λ t w. absurd (omega arith);
   };
   arrays = λ t u n h. absurd cc;
-  frame = λ i t h. absurd cc;
 }
 
 pub never-within : (e : Env) (fs : List CoreFn) (result : ℕ) → zero < length e.types.types → Within e (nowhere fs result) → ⊥

@@ -13,7 +13,7 @@ use Rattle.cf_core.specs.declared.unit.CoreFn.{CoreFn}
 use Rattle.cf_core.specs.declared.unit.CoreStatic.{CoreStatic}
 use Rattle.cf_core.specs.Numbers.{has_type}
 use Rattle.cf_core.specs.Types.{SourceType}
-use Rattle.cf_core.specs.Valid.{Body, fits, is_complete}
+use Rattle.cf_core.specs.Valid.{Body, fits, is_complete, result_fits}
 use Rattle.cf_core_typed.proofs.Same.{and-both}
 use Rattle.cf_elab.specs.Answer.{Answer, Made, Refused, Passed, Elab, onward}
 use Rattle.cf_elab.specs.Arguments.{fun_at, result_of}
@@ -29,20 +29,20 @@ use Rattle.cf_elab.specs.Statement.{Made as MadeOf, is_main_body}
 use Rattle.cf_elab_valid.specs.Answers.{Good, Fine}
 use Rattle.cf_elab_valid.specs.Scene.{Scene, IsScene, tree, core, OwnerThere, Within, Steps, Inside, IsOpen, IsNumberedIn, HomeFits, EntityFits, TypeFits, EntryFits, PartInside, StaticFits, FunctionFits, in_frame, Classless, Holds}
 use Rattle.cf_elab_valid.specs.Statements.{Inner, AreStatements}
-use Rattle.cf_elab_valid.proofs.Calls.{fun-is, entry_result}
+use Rattle.cf_elab_valid.proofs.Calls.{fun-is, result-fits, entry_result}
 use Rattle.cf_elab_valid.proofs.Options.{some_is}
 use Rattle.cf_elab_valid.proofs.Scopes.{empty-numbered, left-numbered, left-scopes, within-another}
 use Rattle.cf_elab_valid.proofs.Shapes.{ParametersThere}
 use Rattle.cf_elab_valid.proofs.Values.{has_type-is}
 use Rattle.cf_elab_valid.proofs.Ways.{begins-get, begins-last, begins-same, begins-through, same-hand, within-before, When}
-use Rattle.cf_elab_valid_objects.specs.Declared.{AreComplete}
+use Rattle.cf_elab_valid_objects.proofs.Whole.{given-fits}
 use Rattle.cf_elab_valid_statements.proofs.Scoped.{entered, left}
 use Rattle.cf_elab_valid_statics.proofs.Names.{Any}
 use Rattle.cf_elab_valid_bodies.specs.Laws.{IsEnd}
 use Rattle.cf_elab_valid_functions.specs.Laws.{IsFileEnd}
 use Rattle.cf_elab_valid_functions.proofs.Bodies.{BodyFits, body-fine}
 use Rattle.cf_elab_valid_functions.proofs.Ends.{nowhere, nowhere-end, never-within, has-complete, same-name, any-at, get-behind}
-use Rattle.cf_elab_valid_functions.proofs.Parameters.{AreHomes}
+use Rattle.cf_elab_valid_functions.proofs.Parameters.{AreHomes, AreComplete}
 
 -- ---- where types and enumerations are the same
 
@@ -68,7 +68,7 @@ named-same a b (class_name n) p q k = tt
 named-same a b (enumerator t z) p q k = tt
 
 entry-same : (s z : Scene) (a b : Env) (f : FunctionEntry) → b.types ≡ a.types → EntryFits s a f → EntryFits z b f
-entry-same s z a b f p k = record { fun = k.fun; here = subst (λ u. slice_get u.types f.type ≡ Some (ty.Fun k.fun)) (sym p) k.here }
+entry-same s z a b f p k = record { fun = k.fun; here = subst (λ u. slice_get u.types f.type ≡ Some (ty.Fun k.fun)) (sym p) k.here; short = k.short }
 
 -- ---- a frame of its own
 
@@ -118,24 +118,24 @@ module _ (s : Scene) (none : s.locals ≡ []) (L : List ℕ) (r : ℕ) where
   entity-out a b (enumerator t z) p q k f = (subst (λ u. t < length u.types) (sym p) f.0, f.1)
 
   static-into : (x : CoreStatic) → StaticFits s x → StaticFits (framed s L r) x
-  static-into x k = record { type = k.type; numbers = k.numbers; start = k.start; owner = owner-into x.owner k.owner }
+  static-into x k = record { type = k.type; whole = k.whole; numbers = k.numbers; start = k.start; owner = owner-into x.owner k.owner }
     where
       owner-into : (o : Option Name) → OwnerThere s o → OwnerThere (framed s L r) o
       owner-into None q = tt
       owner-into (Some name) q = q
 
   static-out : (x : CoreStatic) → StaticFits (framed s L r) x → StaticFits s x
-  static-out x k = record { type = k.type; numbers = k.numbers; start = k.start; owner = owner-out x.owner k.owner }
+  static-out x k = record { type = k.type; whole = k.whole; numbers = k.numbers; start = k.start; owner = owner-out x.owner k.owner }
     where
       owner-out : (o : Option Name) → OwnerThere (framed s L r) o → OwnerThere s o
       owner-out None q = tt
       owner-out (Some name) q = q
 
   function-into : (f : CoreFn) → FunctionFits s f → FunctionFits (framed s L r) f
-  function-into f k = record { plain = k.plain; result = k.result; params = k.params; locals = k.locals; numbers = k.numbers; body = k.body }
+  function-into f k = record { plain = k.plain; result = k.result; params = k.params; locals = k.locals; numbers = k.numbers; body = k.body; frame = k.frame; gives = k.gives; short = k.short }
 
   function-out : (f : CoreFn) → FunctionFits (framed s L r) f → FunctionFits s f
-  function-out f k = record { plain = k.plain; result = k.result; params = k.params; locals = k.locals; numbers = k.numbers; body = k.body }
+  function-out f k = record { plain = k.plain; result = k.result; params = k.params; locals = k.locals; numbers = k.numbers; body = k.body; frame = k.frame; gives = k.gives; short = k.short }
 
 -- ---- a definition
 
@@ -182,15 +182,15 @@ module _ (s : Scene) (end : IsFileEnd s) (e : Env) (f : FunctionEntry) (at : ℕ
   types-length = let same = length-map ps (λ (p : Parameter). p.type) in omega (arith, same)
 
   -- in each scene where the function is one of the file
-  in-scene : (z : Scene) → IsEnd z → OwnerThere z (Some f.link) → When z start (Inside start result) → When z start (Holds z start) → When z start (ParametersThere ps start) → When z start (AreHomes z 0 ps)
+  in-scene : (z : Scene) → IsEnd z → OwnerThere z (Some f.link) → When z start (Inside start result) → When z start (Holds z start) → When z start (ParametersThere ps start) → When z start (AreComplete z ps) → When z start (AreHomes z 0 ps)
       → Fine z (λ x g. BodyFits z n m false false x) start (run start)
-  in-scene z whole owner there held params homes =
+  in-scene z whole owner there held params complete homes =
       body-fine z whole n m at ss (statements z whole n m) ps start refl refl homes
-      (record { main = main-told; there = there; behind = types-length; deep = within-another e.scopes.outer e.scopes.inner; owner = owner }) start-classless held params
+      (record { main = main-told; there = there; behind = types-length; deep = within-another e.scopes.outer e.scopes.inner; owner = owner }) start-classless held params complete
 
   -- ---- behind the body
 
-  module _ (x : Node) (g : Env) (in-any : (z : Scene) → IsEnd z → OwnerThere z (Some f.link) → When z start (Inside start result) → When z start (Holds z start) → When z start (ParametersThere ps start) → When z start (AreHomes z 0 ps)
+  module _ (x : Node) (g : Env) (in-any : (z : Scene) → IsEnd z → OwnerThere z (Some f.link) → When z start (Inside start result) → When z start (Holds z start) → When z start (ParametersThere ps start) → When z start (AreComplete z ps) → When z start (AreHomes z 0 ps)
       → Good z (λ y b. BodyFits z n m false false y) start x g) where
     abbrev L : List ℕ
     L = g.hand.locals
@@ -208,6 +208,7 @@ module _ (s : Scene) (end : IsFileEnd s) (e : Env) (f : FunctionEntry) (at : ℕ
     first : Good ended (λ y b. BodyFits ended n m false false y) start x g
     first = in-any ended (nowhere-end (fn ∷ []) result) (any-at (λ (y : CoreFn). bytes_eq y.name f.link) (fn ∷ []) 0 fn refl (same-name f.link))
         (λ w. absurd (never-within start (fn ∷ []) result some w)) (λ w. absurd (never-within start (fn ∷ []) result some w)) (λ w. absurd (never-within start (fn ∷ []) result some w)) (λ w. absurd (never-within start (fn ∷ []) result some w))
+        (λ w. absurd (never-within start (fn ∷ []) result some w))
 
     abbrev before : OpenScopes
     before = record { outer = e.scopes.outer; inner = e.scopes.inner }
@@ -256,11 +257,11 @@ module _ (s : Scene) (end : IsFileEnd s) (e : Env) (f : FunctionEntry) (at : ℕ
       fn-there : slice_get s.functions (length g.functions) ≡ Some fn
       fn-there = begins-get (g.functions ++ fn ∷ []) s.functions (length g.functions) fn w.functions (get-last g.functions fn)
 
-      frame : AreComplete z
-      frame i t there = end.frames (length g.functions) fn fn-there i t (ap (λ l. slice_get l i) whole-frame ∙ there)
+      own-complete : (i t : ℕ) → slice_get (own_types ps) i ≡ Some t → is_complete [] (tree s t) ≡ true
+      own-complete i t there = end.params (length g.functions) fn fn-there i t there
 
       z-end : IsEnd z
-      z-end = record { scene = record { table = end.scene.table; no_class = end.scene.no_class; none_to_reference = end.scene.none_to_reference; sizes = end.scene.sizes }; arrays = end.arrays; frame = frame }
+      z-end = record { scene = record { table = end.scene.table; no_class = end.scene.no_class; none_to_reference = end.scene.none_to_reference; sizes = end.scene.sizes }; arrays = end.arrays }
 
       owner : OwnerThere z (Some f.link)
       owner = any-at (λ (y : CoreFn). bytes_eq y.name f.link) s.functions (length g.functions) fn fn-there (same-name f.link)
@@ -299,14 +300,19 @@ module _ (s : Scene) (end : IsFileEnd s) (e : Env) (f : FunctionEntry) (at : ℕ
         statics = λ i y q. static-into s end.outside L result y (held.statics i y q);
         functions = λ i y q. function-into s end.outside L result y (held.functions i y q);
         result = refl;
+        frame = own-complete;
       }
+
+      complete-from : (qs : List Parameter) → ((i t : ℕ) → slice_get (own_types qs) i ≡ Some t → is_complete [] (tree s t) ≡ true) → AreComplete z qs
+      complete-from [] at = tt
+      complete-from (q ∷ qs) at = (at 0 q.type refl, complete-from qs (λ i t there. at (suc i) t there))
 
       params-there : (qs : List Parameter) → ParametersThere qs e → ParametersThere qs start
       params-there [] p = tt
       params-there (q ∷ qs) p = (p.0, params-there qs p.1)
 
       made : Good z (λ y b. BodyFits z n m false false y) start x g
-      made = in-any z z-end owner (λ v. result-there) (λ v. start-holds) (λ v. params-there ps (inside early)) (λ v. homes)
+      made = in-any z z-end owner (λ v. result-there) (λ v. start-holds) (λ v. params-there ps (inside early)) (λ v. complete-from ps own-complete) (λ v. homes)
 
       there-end : Within g z
       there-end = record {
@@ -328,22 +334,31 @@ module _ (s : Scene) (end : IsFileEnd s) (e : Env) (f : FunctionEntry) (at : ℕ
       all-there [] q = refl
       all-there (t ∷ l) q = and-both (has_type s.tables t) (list_all (has_type s.tables) l) (has-complete s.tables t (q 0 t refl)) (all-there l (λ i u p. q (suc i) u p))
 
-      params-complete : (i t : ℕ) → slice_get (own_types ps) i ≡ Some t → is_complete [] (tree s t) ≡ true
-      params-complete i t p = frame i t (ap (λ l. slice_get l i) split ∙ get-left (own_types ps) first.steps.locals.more i t p)
+      frame-complete : (i t : ℕ) → slice_get (own_types ps ++ drop (length ps) L) i ≡ Some t → is_complete [] (tree s t) ≡ true
+      frame-complete i t p = behind.frame i t (sym (ap (λ l. slice_get l i) whole-frame) ∙ p)
 
       locals-complete : (i t : ℕ) → slice_get (drop (length ps) L) i ≡ Some t → is_complete [] (tree s t) ≡ true
-      locals-complete i t p =
-          end.frames (length g.functions) fn fn-there (length (own_types ps) + i) t (get-behind (own_types ps) (drop (length ps) L) i t p)
+      locals-complete i t p = frame-complete (length (own_types ps) + i) t (get-behind (own_types ps) (drop (length ps) L) i t p)
+
+      -- its result is that of its type
+      result-given : result_fits [] (tree s result) ≡ true
+      result-given =
+          let entry = held.entries k f there in
+          let is = fun-is s end.scene e early held f entry in
+          subst (λ o. result_fits [] (tree s (result_of o)) ≡ true) (sym is) (given-fits _ (result-fits s end.scene e early held f entry _ is))
 
       function-fits : FunctionFits s fn
       function-fits = record {
         plain = refl;
         result = has_type-is s e result early result-there;
-        params = all-there (own_types ps) params-complete;
+        params = all-there (own_types ps) own-complete;
         locals = all-there (drop (length ps) L) locals-complete;
         numbers = body.numbers;
         body = subst (λ l. fits (own_body (map (tree s) l)) false false (core s x) ≡ true) (sym whole-frame)
             (subst (λ q. fits (record (own_body (map (tree s) L)) { parameters = q }) false false (core s x) ≡ true) (sym (length-map ps (λ (p : Parameter). p.type))) body.fine);
+        frame = frame-complete;
+        gives = result-given;
+        short = (held.entries k f there).short;
       }
         where
           own_body : List SourceType → Body
@@ -376,6 +391,7 @@ module _ (s : Scene) (end : IsFileEnd s) (e : Env) (f : FunctionEntry) (at : ℕ
         statics = λ i y q. static-out s end.outside L result y (behind.statics i y q);
         functions = λ i y q. elim (get-snoc g.functions fn i y q) [ inl a ↦ function-out s end.outside L result y (behind.functions i y a) | inr b ↦ subst (FunctionFits s) b.1 function-fits ];
         result = held.result;
+        frame = held.frame;
       }
 
     defined-good : Good s (Any {A = Unit {0}}) e (tt {0}) final
@@ -386,7 +402,7 @@ module _ (s : Scene) (end : IsFileEnd s) (e : Env) (f : FunctionEntry) (at : ℕ
     where
       Scened : Answer Node → Type 0
       Scened r =
-          (z : Scene) → IsEnd z → OwnerThere z (Some f.link) → When z start (Inside start result) → When z start (Holds z start) → When z start (ParametersThere ps start) → When z start (AreHomes z 0 ps)
+          (z : Scene) → IsEnd z → OwnerThere z (Some f.link) → When z start (Inside start result) → When z start (Holds z start) → When z start (ParametersThere ps start) → When z start (AreComplete z ps) → When z start (AreHomes z 0 ps)
           → Fine z (λ x g. BodyFits z n m false false x) start r
 
       by : (r : Answer Node) → Scened r → Fine s Any e (onward (onward (onward r (λ x g. Made x (left g))) (λ x g. Made (x, drop (length ps) g.hand.locals) (record g { hand = e.hand })))

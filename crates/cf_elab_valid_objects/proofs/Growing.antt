@@ -20,6 +20,7 @@ pub record Unchanged (a b : Env) : Type 0 where
   pub entries : b.entries ≡ a.entries
   pub scopes : b.scopes ≡ a.scopes
   pub functions : b.functions ≡ a.functions
+  pub locals : b.hand.locals ≡ a.hand.locals
 
 pub holds-unchanged : (s : Scene) (a b : Env) → Steps a b → Unchanged a b → ((n : ℕ) (x : CoreStatic) → slice_get b.statics n ≡ Some x → StaticFits s x) → Holds s a → Holds s b
 holds-unchanged s a b g same statics h = record {
@@ -33,4 +34,5 @@ holds-unchanged s a b g same statics h = record {
   statics = statics;
   functions = λ n f at. h.functions n f (ap (λ l. slice_get l n) (sym same.functions) ∙ at);
   result = g.hand.result ∙ h.result;
+  frame = λ i t at. h.frame i t (ap (λ l. slice_get l i) (sym same.locals) ∙ at);
 }

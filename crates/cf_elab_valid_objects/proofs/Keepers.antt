@@ -15,6 +15,7 @@ use Rattle.cf_core.specs.Joined.{is_nothing}
 use Rattle.cf_core.specs.Numbers.{are_known, has_type, has_holder}
 use Rattle.cf_core.specs.Places.{is_reference}
 use Rattle.cf_core.specs.Typed.{typing, holds_for}
+use Rattle.cf_core.specs.Valid.{is_complete}
 use Rattle.cf_core.specs.Types.{reference}
 use Rattle.cf_core_typed.specs.Meets.{IsPlace}
 use Rattle.cf_core_typed.proofs.Same.{and-both, same-itself}
@@ -27,7 +28,7 @@ use Rattle.cf_elab.specs.Objects.{local_keeper, static_keeper, static_of as stat
 use Rattle.cf_elab_valid.specs.Answers.{Fine}
 use Rattle.cf_elab_valid.specs.Scene.{Scene, IsScene, tree, typed, core, scope_of, file_scope, OwnerThere, StaticFits, Within, Steps, Inside, Classless, Holds}
 use Rattle.cf_elab_valid.proofs.Early.{early-known}
-use Rattle.cf_elab_valid.proofs.Moved.{moved-holds, moved-classless}
+use Rattle.cf_elab_valid.proofs.Moved.{framed-holds, moved-classless}
 use Rattle.cf_elab_valid.proofs.Nodes.{core-Bind, core-Blank, core-Temporary, known-Bind, known-Blank, known-Temporary}
 use Rattle.cf_elab_valid.proofs.Trees.{tree-normal}
 use Rattle.cf_elab_valid.proofs.Values.{has_type-is}
@@ -54,7 +55,7 @@ module _ (s : Scene) (scene : IsScene s) where
   }
 
   pub no_keeper-is : IsKeeper s no_keeper
-  no_keeper-is = record { fine = λ u e c h i n. made-fine s (λ k f. KeeperFits s u k) e full_expression c h (λ w. none-keeps u e w (i w)) }
+  no_keeper-is = record { fine = λ u e c h i n k. made-fine s (λ k f. KeeperFits s u k) e full_expression c h (λ w. none-keeps u e w (i w)) }
 
   -- ---- a local of the function
 
@@ -80,11 +81,16 @@ module _ (s : Scene) (scene : IsScene s) where
   pub local-typed : (i u : ℕ) → slice_get s.locals i ≡ Some u → slice_get (map (tree s) s.locals) i ≡ Some (tree s u)
   local-typed i u h = slice_get-map (tree s) s.locals i ∙ ap (option_map (tree s)) h
 
-  pub longer-fine : {A : Type 0} (P : A → Env → Type 0) (a : A) (u : ℕ) (e : Env) → Classless e → When s e (Holds s e) → When s (longer u e) (P a (longer u e)) → Fine s P e (Made a (longer u e))
-  longer-fine P a u e c h p = record {
+  -- the locals are objects where this one is
+  pub longer-frame : (u : ℕ) (e : Env) → Holds s e → is_complete [] (tree s u) ≡ true → (i t : ℕ) → slice_get (e.hand.locals ++ u ∷ []) i ≡ Some t → is_complete [] (tree s t) ≡ true
+  longer-frame u e h whole i t at = elim (get-snoc e.hand.locals u i t at) [ inl a ↦ h.frame i t a | inr b ↦ subst (λ x. is_complete [] (tree s x) ≡ true) b.1 whole ]
+
+  pub longer-fine : {A : Type 0} (P : A → Env → Type 0) (a : A) (u : ℕ) (e : Env) → Classless e → When s e (Holds s e) → When s e (is_complete [] (tree s u) ≡ true) → When s (longer u e) (P a (longer u e)) → Fine s P e (Made a (longer u e))
+  longer-fine P a u e c h whole p = record {
     steps = longer-steps u e;
     classless = moved-classless s (longer u e).hand e.scopes e refl c;
-    holds = λ w. moved-holds s (longer u e).hand e.scopes e refl (λ i q. q) (h (within-before e (longer u e) s (longer-steps u e) w));
+    holds = λ w. let early = within-before e (longer u e) s (longer-steps u e) w in
+        framed-holds s (longer u e).hand e.scopes e refl (λ i q. q) (longer-frame u e (h early) (whole early)) (h early);
     made = p;
   }
 
@@ -100,7 +106,7 @@ module _ (s : Scene) (scene : IsScene s) where
 
   pub local_keeper-is : IsKeeper s local_keeper
   local_keeper-is = record {
-    fine = λ u e c h i n. longer-fine (λ k f. KeeperFits s u k) (kept (holder.LocalTemporary (length e.hand.locals) u)) u e c h
+    fine = λ u e c h i n k. longer-fine (λ k f. KeeperFits s u k) (kept (holder.LocalTemporary (length e.hand.locals) u)) u e c h k
         (λ w. let early = within-before e (longer u e) s (longer-steps u e) w in local-keeps (length e.hand.locals) u e early (i early) (local-there u e w));
   }
 
@@ -132,7 +138,7 @@ module _ (s : Scene) (scene : IsScene s) where
     steps = defined-steps x e;
     classless = record { none = c.none; none_open = c.none_open; no_body = c.no_body; no_type = c.no_type; no_name = c.no_name; no_defaults = c.no_defaults };
     holds = λ w. let held = h (within-before e (defined x e) s (defined-steps x e) w) in
-        holds-unchanged s e (defined x e) (defined-steps x e) (record { types = refl; enums = refl; entities = refl; entries = refl; scopes = refl; functions = refl }) (defined-statics x e held (f w)) held;
+        holds-unchanged s e (defined x e) (defined-steps x e) (record { types = refl; enums = refl; entities = refl; entries = refl; scopes = refl; functions = refl; locals = refl }) (defined-statics x e held (f w)) held;
     made = p;
   }
 
@@ -144,9 +150,10 @@ module _ (s : Scene) (scene : IsScene s) where
   abbrev temporary : Name → ℕ → Option Name → ℕ → CoreStatic
   temporary name at owner u = static_object name u (node.Blank at) owner true true
 
-  temporary-fits : (name : Name) (at : ℕ) (owner : Option Name) (u : ℕ) (e : Env) → OwnerThere s owner → Within e s → Inside e u → is_reference (tree s u) ≡ false → StaticFits s (temporary name at owner u)
-  temporary-fits name at owner u e own w i n = record {
+  temporary-fits : (name : Name) (at : ℕ) (owner : Option Name) (u : ℕ) (e : Env) → OwnerThere s owner → Within e s → Inside e u → is_reference (tree s u) ≡ false → is_complete [] (tree s u) ≡ true → StaticFits s (temporary name at owner u)
+  temporary-fits name at owner u e own w i n whole = record {
     type = has_type-is s e u w i;
+    whole = whole;
     numbers = known-Blank s.tables at;
     start = ap (λ c. (is_some owner && is_nothing c) || (typing (file_scope s) c).start (tree s u)) (core-Blank s.tables (signature_of s.tables) at)
         ∙ ap (λ b. (is_some owner && true) || not b) (reference-told (file_scope s) (tree s u) ∙ n) ∙ or_true (is_some owner && true);
@@ -169,12 +176,12 @@ module _ (s : Scene) (scene : IsScene s) where
   }
 
   pub static_keeper-is : (own : Name) (owner : Option Name) (at : ℕ) → OwnerThere s owner → IsKeeper s (static_keeper own owner at)
-  static_keeper-is own owner at there = record { fine = λ u e c h i n. by u e c h i n (nat_le (length (temporary_name own)) most_name) }
+  static_keeper-is own owner at there = record { fine = λ u e c h i n k. by u e c h i n k (nat_le (length (temporary_name own)) most_name) }
     where
-      by : (u : ℕ) (e : Env) → Classless e → When s e (Holds s e) → When s e (Inside e u) → When s e (is_reference (tree s u) ≡ false) → (b : Bool)
+      by : (u : ℕ) (e : Env) → Classless e → When s e (Holds s e) → When s e (Inside e u) → When s e (is_reference (tree s u) ≡ false) → When s e (is_complete [] (tree s u) ≡ true) → (b : Bool)
           → Fine s (λ k f. KeeperFits s u k) e (onward (within b bound.Names most_name e) (λ _ f. Made (kept (holder.StaticTemporary (temporary_name own))) (defined (temporary (temporary_name own) at owner u) f)))
-      by u e c h i n false = tt
-      by u e c h i n true =
+      by u e c h i n k false = tt
+      by u e c h i n k true =
           defined-fine (λ k f. KeeperFits s u k) (kept (holder.StaticTemporary (temporary_name own))) (temporary (temporary_name own) at owner u) e c h
           (λ w. let early = within-before e (defined (temporary (temporary_name own) at owner u) e) s (defined-steps (temporary (temporary_name own) at owner u) e) w in
-          temporary-fits (temporary_name own) at owner u e there early (i early) (n early)) (λ w. static-keeps (temporary_name own) at owner u e w)
+          temporary-fits (temporary_name own) at owner u e there early (i early) (n early) (k early)) (λ w. static-keeps (temporary_name own) at owner u e w)

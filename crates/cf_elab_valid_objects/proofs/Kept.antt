@@ -14,6 +14,7 @@ use Rattle.cf_core.specs.Numbers.{are_known, has_holder}
 use Rattle.cf_core.specs.Places.{is_scalar, is_reference as tree_is_reference}
 use Rattle.cf_core.specs.Typed.{typing}
 use Rattle.cf_core.specs.Types.{SourceType, reference, is_void}
+use Rattle.cf_core.specs.Valid.{is_complete}
 use Rattle.cf_core_typed.specs.Same.{Same}
 use Rattle.cf_core_typed.specs.Meets.{IsPlace}
 use Rattle.cf_core_typed.proofs.Same.{and-both, operand-scalar, same-operand, same-void}
@@ -43,6 +44,7 @@ use Rattle.cf_elab_valid.proofs.Unary.{bare_once, bare_sort}
 use Rattle.cf_elab_valid.proofs.Values.{plain-value, plain-number}
 use Rattle.cf_elab_valid.proofs.Ways.{inside-later, made-fine, onward-fine, within-before, When}
 use Rattle.cf_elab_valid_objects.specs.Starts.{StartFits, KeeperFits, IsKeeper}
+use Rattle.cf_elab_valid_objects.proofs.Whole.{operand-complete}
 
 module _ (s : Scene) (scene : IsScene s) (keeper : ℕ → Elab Keeper) (keeps : IsKeeper s keeper) where
   -- an initialiser of the type
@@ -119,6 +121,10 @@ module _ (s : Scene) (scene : IsScene s) (keeper : ℕ → Elab Keeper) (keeps :
         steps true = made-fine s Bound e (record v { type = u }) c h bound_there
         steps false = made-fine s Bound e (record v { type = u }) c h bound_there
 
+    -- what a value was made for is an object
+    scalar-whole : (u : ℕ) (x : Value) (g : Env) → IsPlain s (tree s u) x g → is_void (tree s u) ≡ false → is_complete [] (tree s u) ≡ true
+    scalar-whole u x g p n = operand-complete (tree s u) (sym (same-operand (tree s x.type) (tree s u) p.same) ∙ subst (λ b. is_allowed b (tree s x.type) ≡ true) p.no_place p.fits.allowed) n
+
     -- bound to a temporary, which is kept
     temporary-fine : (at u : ℕ) → When s e (Inside e u) → When s e (tree_is_reference (tree s u) ≡ false) → When s e (is_void (tree s u) ≡ false) → (m : Bool)
         → Fine s (Started (reference (tree s u))) e (onward (need m 29 at e) (λ _ g. onward (user.fit at v u g) (λ x k. onward (keeper u k) (λ y n. Made (row.keeps at u y x) n))))
@@ -126,7 +132,7 @@ module _ (s : Scene) (scene : IsScene s) (keeper : ℕ → Elab Keeper) (keeps :
     temporary-fine at u i r n true =
         onward-fine s (IsPlain s (tree s u)) (Started (reference (tree s u))) e (user.fit at v u e) _ (user_fit-fine s scene e v c h f at u i (λ w. sort_no_reference w))
         (λ x e1 g d held p. onward-fine s (λ k _. KeeperFits s u k) (Started (reference (tree s u))) e1 (keeper u e1) (λ y n. Made (row.keeps at u y x) n)
-        (keeps.fine u e1 d held (λ w. inside-later e e1 u g (i (within-before e e1 s g w))) (λ w. r (within-before e e1 s g w)))
+        (keeps.fine u e1 d held (λ w. inside-later e e1 u g (i (within-before e e1 s g w))) (λ w. r (within-before e e1 s g w)) (λ w. scalar-whole u x e1 (p w) (n (within-before e e1 s g w))))
         (λ y e2 g2 d2 held2 q. made-fine s (Started (reference (tree s u))) e2 (row.keeps at u y x) d2 held2
         (λ w. let early = within-before e1 e2 s g2 w in
         (q w).keeps at x (p early).fits.numbers (plain-starts (tree s u) x e1 (p early) (n (within-before e e1 s g early))))))

@@ -19,4 +19,5 @@ pub mod References
 pub mod Shapes
 pub mod Statements
 pub mod Steps
+pub mod Whole
 pub mod Written

@@ -7,7 +7,7 @@ use Rattle.cf_core.specs.Core.{declare, blank}
 use Rattle.cf_core.specs.declared.node.Core.TheVariants as node
 use Rattle.cf_core.specs.FromClasses.{signature_of}
 use Rattle.cf_core.specs.Numbers.{are_known, has_type}
-use Rattle.cf_core.specs.Types.{SourceType, void, reference, const, is_void}
+use Rattle.cf_core.specs.Types.{is_void}
 use Rattle.cf_core.specs.Typing.{same_type}
 use Rattle.cf_core.specs.Valid.{fits, is_complete, initialises_local}
 use Rattle.cf_core_typed.proofs.Same.{and-both, same-told}
@@ -21,17 +21,18 @@ use Rattle.cf_elab.specs.Operand.{sort_of, is_arithmetic}
 use Rattle.cf_elab_valid.specs.Answers.{Fine}
 use Rattle.cf_elab_valid.specs.Scene.{Scene, IsScene, tree, typed, core, in_frame, Within, Steps, Inside, HoldsKnown, Classless, Holds}
 use Rattle.cf_elab_valid.specs.Statements.{body_of}
-use Rattle.cf_elab_valid.proofs.Moved.{moved-holds, moved-classless}
+use Rattle.cf_elab_valid.proofs.Moved.{framed-holds, moved-classless}
 use Rattle.cf_elab_valid.proofs.Nodes.{core-Blank, core-Declare, known-Declare}
 use Rattle.cf_elab_valid.proofs.Options.{never_none, some_is}
 use Rattle.cf_elab_valid.proofs.Values.{has_type-is}
 use Rattle.cf_elab_valid.proofs.Ways.{fine-as, fine-before, inside-later, steps-through, within-before, When}
 use Rattle.cf_elab_valid_objects.specs.Quiet.{LeavesNames, LeavesIn}
 use Rattle.cf_elab_valid_objects.proofs.Initialisers.{leaves-through, written-leaves}
-use Rattle.cf_elab_valid_objects.specs.Starts.{NoVoidElements, StartFits, MaybeFits}
-use Rattle.cf_elab_valid_objects.proofs.Keepers.{longer, longer-steps, local-there, local-typed, local_keeper-is}
+use Rattle.cf_elab_valid_objects.specs.Starts.{WholeElements, StartFits, MaybeFits}
+use Rattle.cf_elab_valid_objects.proofs.Keepers.{longer, longer-steps, longer-frame, local-there, local-typed, local_keeper-is}
+use Rattle.cf_elab_valid_objects.proofs.Whole.{complete-no-void}
 use Rattle.cf_elab_valid_objects.proofs.Written.{nothing-fine, starting-fine}
-use Rattle.cf_elab_valid_objects.specs.Declared.{ReachedFits, AllReached, AreInitial, AreComplete}
+use Rattle.cf_elab_valid_objects.specs.Declared.{ReachedFits, AllReached, AreInitial}
 use Rattle.cf_elab_valid_objects.proofs.Naming.{found-last, named, named-steps, named-classless, named-holds, renamed, StandsAs, renamed-steps, renamed-classless, renamed-holds}
 
 -- behind an answer that leaves the names
@@ -40,11 +41,6 @@ pub leaving-fine : {A B : Type 0} (s : Scene) (P : A → Env → Type 0) (Q : B 
 leaving-fine s P Q e (Made a f) go k l next = fine-before s Q e f (go a f) k.steps (next a f l k.steps k.classless k.holds k.made)
 leaving-fine s P Q e (Refused rule at) go k l next = tt
 leaving-fine s P Q e (Passed bound most) go k l next = tt
-
-pub complete-no-void : (t : SourceType) → is_complete [] t ≡ true → is_void t ≡ false
-complete-no-void void h = absurd (true≢false (sym h))
-complete-no-void (const t) h = complete-no-void t h
-complete-no-void t h = refl
 
 le-told : (n m : ℕ) → n ≤ m → nat_le n m ≡ true
 le-told n m h = grind (arith, nat_tests, h)
@@ -59,7 +55,7 @@ no_class x k is = absurd cc
 not-told : (b : Bool) → b ≡ false → not b ≡ true
 not-told b h = ap not h
 
-module _ (s : Scene) (scene : IsScene s) (arrays : NoVoidElements s.tables) (frame : AreComplete s) (n : ℕ) (m : Bool) (at : ℕ) (name : Name) (t : ℕ) where
+module _ (s : Scene) (scene : IsScene s) (arrays : WholeElements s.tables) (n : ℕ) (m : Bool) (at : ℕ) (name : Name) (t : ℕ) where
   -- what a number of this start is known as
   number-fits : (e : Env) (z : Option ℤ) → HoldsKnown z (tree s t) → HoldsKnown (constant_number e t z) (tree s t)
   number-fits e z h = by (is_const e.types t && is_arithmetic (sort_of e.types t))
@@ -106,7 +102,7 @@ module _ (s : Scene) (scene : IsScene s) (arrays : NoVoidElements s.tables) (fra
       (λ x g p. record { fits = p; blank = λ is. never_none w is })
       (starting-fine s scene arrays local_keeper (local_keeper-is s scene) at t (Some w) e c h f i v)
 
-  module _ (parts : Elab (Option Written)) (e : Env) (initial : AreInitial s e parts) (low : n ≤ length e.hand.locals) (c : Classless e) (h : When s e (Holds s e)) (i : When s e (Inside e t)) where
+  module _ (parts : Elab (Option Written)) (e : Env) (initial : AreInitial s e parts) (low : n ≤ length e.hand.locals) (c : Classless e) (h : When s e (Holds s e)) (i : When s e (Inside e t)) (whole : When s e (is_complete [] (tree s t) ≡ true)) where
     abbrev own : ℕ
     own = length e.hand.locals
 
@@ -132,12 +128,12 @@ module _ (s : Scene) (scene : IsScene s) (arrays : NoVoidElements s.tables) (fra
     here w = local-there s scene t e (within-before begun told s (named-steps name (object x) begun) w)
 
     no_void : Within told s → is_void (tree s t) ≡ false
-    no_void w = complete-no-void (tree s t) (frame own t (here w))
+    no_void w = complete-no-void (tree s t) (whole (within-before e told s steps w))
 
     holds : When s told (Holds s told)
     holds w =
         let early = within-before e told s steps w in
-        named-holds s name (object x) begun (i early, here w, no_void w, tt) tt (moved-holds s begun.hand e.scopes e refl (λ j q. q) (h early))
+        named-holds s name (object x) begun (i early, here w, no_void w, tt) tt (framed-holds s begun.hand e.scopes e refl (λ j q. q) (longer-frame s scene t e (h early) (whole early)) (h early))
 
     -- ---- its number
 
@@ -171,7 +167,7 @@ module _ (s : Scene) (scene : IsScene s) (arrays : NoVoidElements s.tables) (fra
             (inside-later told f t g (i (within-before e told s steps v0)), here v0, no_void v0, number-fits f st.number (fst v1).fits.number) tt (hf v1);
         made = λ v. let v1 = within-before f (numbered z f) s (renamed-steps entity (object (record x { number = z })) f stands) v in
             let v0 = within-before told f s g v1 in
-            (declares own w st f v1 (inside-later told f t g (i (within-before e told s steps v0))) low (here v0) (frame own t (here v0)) (fst v1), tt);
+            (declares own w st f v1 (inside-later told f t g (i (within-before e told s steps v0))) low (here v0) (whole (within-before e told s steps v0)) (fst v1), tt);
       }
 
       number-known : Fine s (λ rs k. AllReached s n m rs) f (onward (onward (row.number_known name z f) (λ _. gives st)) (λ y k. Made (reached own w y ∷ []) k))

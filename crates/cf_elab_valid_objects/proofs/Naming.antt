@@ -117,6 +117,7 @@ named-holds s name x e fit type h =
       statics = h.statics;
       functions = h.functions;
       result = h.result;
+      frame = h.frame;
     }
 
 -- ---- a name that stands for something else
@@ -168,4 +169,5 @@ renamed-holds s j x e same fit type h =
       statics = h.statics;
       functions = h.functions;
       result = h.result;
+      frame = h.frame;
     }

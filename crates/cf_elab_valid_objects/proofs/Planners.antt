@@ -26,16 +26,17 @@ use Rattle.cf_elab_env.proofs.Sorts.{below_at}
 use Rattle.cf_elab_valid.specs.Scene.{Scene, IsScene, tree, scope_of, Within, Inside}
 use Rattle.cf_elab_valid.proofs.Trees.{tree-at, tree-normal}
 use Rattle.cf_elab_valid.proofs.Ways.{begins-get, inside-end}
-use Rattle.cf_elab_valid_objects.specs.Starts.{NoVoidElements}
+use Rattle.cf_elab_valid_objects.specs.Starts.{WholeElements}
 use Rattle.cf_elab_valid_objects.proofs.Elements.{PlannerFits, scalar-fits, array-fits}
 use Rattle.cf_elab_valid_objects.proofs.Plans.{plan-const}
+use Rattle.cf_elab_valid_objects.proofs.Whole.{complete-no-void}
 
 number_made : Answer ℕ → ℕ
 number_made (Made n e) = n
 number_made (Refused rule at) = 0
 number_made (Passed bound most) = 0
 
-module _ (s : Scene) (scene : IsScene s) (arrays : NoVoidElements s.tables) (e : Env) (w : Within e s) where
+module _ (s : Scene) (scene : IsScene s) (arrays : WholeElements s.tables) (e : Env) (w : Within e s) where
   at_end : (t : ℕ) (v : Ty) → slice_get e.types.types t ≡ Some v → slice_get s.tables.types.types t ≡ Some v
   at_end t v h = begins-get e.types.types s.tables.types.types t v w.types h
 
@@ -108,7 +109,7 @@ module _ (s : Scene) (scene : IsScene s) (arrays : NoVoidElements s.tables) (e :
         by (ty.Array u m) at below rec same whole each =
             let lt : u < t = below in
             subst (PlannerFits s e (planner_step e.types rec (ty.Array u m))) (sym whole)
-            (array-fits s e (rec u) (tree s u) (subst (λ p. PlannerFits s e p (tree s u)) (sym (same u below)) (each u below (omega arith) (arrays t u m (at_end t (ty.Array u m) at)))) m
+            (array-fits s e (rec u) (tree s u) (subst (λ p. PlannerFits s e p (tree s u)) (sym (same u below)) (each u below (omega arith) (complete-no-void (tree s u) (arrays t u m (at_end t (ty.Array u m) at))))) m
             (is_char e.types u) (λ is. char-told u (omega arith) is) (scene.none_to_reference t (ty.Array u m) (at_end t (ty.Array u m) at)))
         by (ty.Const u) at below rec same whole each =
             let lt : u < t = below in

@@ -27,7 +27,7 @@ use Rattle.cf_elab_valid.proofs.Early.{early-sort-is}
 use Rattle.cf_elab_valid.proofs.Nodes.{core-Blank, known-Blank}
 use Rattle.cf_elab_valid.proofs.Unary.{classless-number}
 use Rattle.cf_elab_valid.proofs.Ways.{fine-as, made-fine, When}
-use Rattle.cf_elab_valid_objects.specs.Starts.{NoVoidElements, StartFits, IsKeeper, TreeFits, WrittenFits, MaybeFits}
+use Rattle.cf_elab_valid_objects.specs.Starts.{WholeElements, StartFits, IsKeeper, TreeFits, WrittenFits, MaybeFits}
 use Rattle.cf_elab_valid_objects.proofs.Carried.{Started, carried-fine}
 use Rattle.cf_elab_valid_objects.proofs.Consts.{Plain, all-reversed}
 use Rattle.cf_elab_valid_objects.proofs.Planners.{planner-fits}
@@ -61,7 +61,7 @@ void_no_reference void h = refl
 void_no_reference (const t) h = void_no_reference t h
 void_no_reference t h = absurd (true≢false (sym h))
 
-module _ (s : Scene) (scene : IsScene s) (arrays : NoVoidElements s.tables) (keeper : ℕ → Elab Keeper) (keeps : IsKeeper s keeper) where
+module _ (s : Scene) (scene : IsScene s) (arrays : WholeElements s.tables) (keeper : ℕ → Elab Keeper) (keeps : IsKeeper s keeper) where
   abbrev Starts_as : SourceType → Start → Env → Type 0
   Starts_as t = Started s scene keeper keeps t
 

@@ -1,7 +1,7 @@
 -- What holds of what a declaration in a block reaches, and of the parts of its initialiser (6.7).
-use Rattle.std.specs.Prelude.{◌≡◌, ℕ, Bool, true, List, [], ◌∷◌, Option, Some, slice_get}
+use Rattle.std.specs.Prelude.{◌≡◌, ℕ, Bool, true, List, [], ◌∷◌, Option}
 use Rattle.cf_core.specs.Numbers.{are_known}
-use Rattle.cf_core.specs.Valid.{fits, initialises_local, is_complete}
+use Rattle.cf_core.specs.Valid.{fits, initialises_local}
 use Rattle.cf_elab.specs.Answer.{Elab}
 use Rattle.cf_elab.specs.Env.{Env}
 use Rattle.cf_elab.specs.Objects.{Written, Reached}
@@ -25,7 +25,3 @@ AllReached s parameters is_main (r ∷ rs) = ReachedFits s parameters is_main r 
 pub record AreInitial (s : Scene) (begin : Env) (parts : Elab (Option Written)) : Type 0 where
   pub fine : (e : Env) → Steps begin e → Classless e → (Within e s → Holds s e) → Fine s (λ w f. MaybeFits s f w) e (parts e)
   pub leaves : (e : Env) → Steps begin e → Classless e → LeavesIn e (parts e)
-
--- the parameters, locals and temporaries of the function at hand are of complete types
-abbrev pub AreComplete : Scene → Type 0
-AreComplete s = (i t : ℕ) → slice_get s.locals i ≡ Some t → is_complete [] (tree s t) ≡ true

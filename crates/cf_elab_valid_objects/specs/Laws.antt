@@ -9,16 +9,17 @@ use Rattle.cf_elab_valid.specs.Answers.{Fine}
 use Rattle.cf_elab_valid.specs.Scene.{Scene, IsScene, tree, OwnerThere, Within, Inside, Classless, Holds, Fits}
 use Rattle.cf_elab_valid.specs.Statements.{StatementFits}
 use Rattle.cf_core.specs.Types.{is_void}
+use Rattle.cf_core.specs.Valid.{is_complete}
 use Rattle.cf_elab.specs.Env.{Env, Name}
 use Rattle.cf_elab.specs.Initial.{Keeper, no_keeper}
 use Rattle.cf_elab.specs.Objects.{Written, local_keeper, static_keeper, start_or_none, Reached, define_local}
 use Rattle.cf_elab.specs.UserFit.{initial}
-use Rattle.cf_elab_valid_objects.specs.Starts.{NoVoidElements, StartFits, IsKeeper, MaybeFits}
+use Rattle.cf_elab_valid_objects.specs.Starts.{WholeElements, StartFits, IsKeeper, MaybeFits}
 use Rattle.cf_syntax.specs.declared.declarator.DeclTree.{DeclTree}
 use Rattle.cf_syntax.specs.declared.expression.Expr.{Expr}
 use Rattle.cf_elab.specs.Expression.{elaborated, declared}
 use Rattle.cf_elab_valid_objects.specs.Quiet.{QuietIn, IsQuietPart, LeavesIn}
-use Rattle.cf_elab_valid_objects.specs.Declared.{AllReached, AreInitial, AreComplete}
+use Rattle.cf_elab_valid_objects.specs.Declared.{AllReached, AreInitial}
 
 -- ---- initialisers (8.4)
 
@@ -40,7 +41,7 @@ pub record InitialisersFit (s : Scene) (keeper : ℕ → Elab Keeper) : Type 0 w
 
 abbrev pub InitialisersAreValid : Type 0
 InitialisersAreValid =
-    (s : Scene) → IsScene s → NoVoidElements s.tables → (keeper : ℕ → Elab Keeper) → IsKeeper s keeper → InitialisersFit s keeper
+    (s : Scene) → IsScene s → WholeElements s.tables → (keeper : ℕ → Elab Keeper) → IsKeeper s keeper → InitialisersFit s keeper
 
 -- ---- what is left as it was
 
@@ -62,8 +63,8 @@ InitialisersLeaveNames = (keeper : ℕ → Elab Keeper) → ((u : ℕ) (e : Env)
 -- an object that is declared behind the parameters of the function; and the statement that a declaration is
 pub record LocalsFit (s : Scene) (parameters : ℕ) (is_main : Bool) : Type 0 where
   pub object : (at : ℕ) (name : Name) (t : ℕ) (parts : Elab (Option Written)) (e : Env) → AreInitial s e parts → parameters ≤ length e.hand.locals → Classless e → (Within e s → Holds s e)
-      → (Within e s → Inside e t) → Fine s (λ rs f. AllReached s parameters is_main rs) e (define_local at name t parts e)
+      → (Within e s → Inside e t) → (Within e s → is_complete [] (tree s t) ≡ true) → Fine s (λ rs f. AllReached s parameters is_main rs) e (define_local at name t parts e)
   pub statement : (at : ℕ) (rs : List Reached) (breaks continues : Bool) (e : Env) → AllReached s parameters is_main rs → StatementFits s parameters is_main breaks continues (declaration_made at rs) e
 
 abbrev pub LocalsAreValid : Type 0
-LocalsAreValid = (s : Scene) (parameters : ℕ) (is_main : Bool) → IsScene s → NoVoidElements s.tables → AreComplete s → LocalsFit s parameters is_main
+LocalsAreValid = (s : Scene) (parameters : ℕ) (is_main : Bool) → IsScene s → WholeElements s.tables → LocalsFit s parameters is_main

@@ -5,7 +5,8 @@ use Rattle.std.specs.Prelude.{slice_get}
 use Rattle.cf_core.specs.FromTypes.{Tables, type_of}
 use Rattle.cf_core.specs.Numbers.{are_known}
 use Rattle.cf_core.specs.Places.{is_reference}
-use Rattle.cf_core.specs.Types.{SourceType, reference, is_void}
+use Rattle.cf_core.specs.Types.{SourceType, reference}
+use Rattle.cf_core.specs.Valid.{is_complete}
 use Rattle.cf_elab.specs.Answer.{Elab}
 use Rattle.cf_elab.specs.Env.{Env}
 use Rattle.cf_elab.specs.Initial as row
@@ -18,9 +19,9 @@ use Rattle.cf_elab_valid.specs.Scene.{Scene, tree, typed, Within, Inside, Classl
 
 -- ---- the end
 
--- an array's elements are no void (8.2.4)
-abbrev pub NoVoidElements : Tables → Type 0
-NoVoidElements T = (t u n : ℕ) → slice_get T.types.types t ≡ Some (ty.Array u n) → is_void (type_of T u) ≡ false
+-- an array's elements are objects (8.2.4)
+abbrev pub WholeElements : Tables → Type 0
+WholeElements T = (t u n : ℕ) → slice_get T.types.types t ≡ Some (ty.Array u n) → is_complete [] (type_of T u) ≡ true
 
 -- ---- initialisers
 
@@ -37,7 +38,8 @@ pub record KeeperFits (s : Scene) (u : ℕ) (k : Keeper) : Type 0 where
   pub keeps : (at : ℕ) (x : Value) → are_known s.tables x.node ≡ true → (typed s x.node).start (tree s u) ≡ true → StartFits s (reference (tree s u)) (row.keeps at u k x)
 
 pub record IsKeeper (s : Scene) (keeper : ℕ → Elab Keeper) : Type 0 where
-  pub fine : (u : ℕ) (e : Env) → Classless e → (Within e s → Holds s e) → (Within e s → Inside e u) → (Within e s → is_reference (tree s u) ≡ false) → Fine s (λ k f. KeeperFits s u k) e (keeper u e)
+  pub fine : (u : ℕ) (e : Env) → Classless e → (Within e s → Holds s e) → (Within e s → Inside e u) → (Within e s → is_reference (tree s u) ≡ false) → (Within e s → is_complete [] (tree s u) ≡ true)
+      → Fine s (λ k f. KeeperFits s u k) e (keeper u e)
 
 -- ---- the parts
 

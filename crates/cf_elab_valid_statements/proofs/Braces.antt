@@ -84,7 +84,7 @@ module _ (s : Scene) (scene : IsScene s) (n : ℕ) (m : Bool) where
   breaking-within b e w = record { types = w.types; funs = w.funs; enums = w.enums; locals = w.locals; statics = w.statics; functions = w.functions }
 
   breaking-holds : (b : Bool) (e : Env) → When s e (Holds s e) → When s (breaking b e) (Holds s (breaking b e))
-  breaking-holds b e h w = moved-holds s (record e.hand { breaks = b }) e.scopes e refl (λ i q. q) (h (breaking-within b e w))
+  breaking-holds b e h w = moved-holds s (record e.hand { breaks = b }) e.scopes e refl refl (λ i q. q) (h (breaking-within b e w))
 
   pub braces-fine : (ss : List (Elab Made)) → AreEntries s n m ss → (e : Env) → Inner s n m e → Classless e → When s e (Holds s e) → Fine s (Entries true e.hand.continues) e (row.braces ss e)
   braces-fine ss k e i c h =

@@ -27,14 +27,14 @@ module _ (s : Scene) where
   entered-classless e c = moved-classless s e.hand (entered e).scopes e refl c
 
   pub entered-holds : (e : Env) → When s e (Holds s e) → When s (entered e) (Holds s (entered e))
-  entered-holds e h w = moved-holds s e.hand (entered e).scopes e refl (λ j q. empty-numbered j (e.scopes.outer ++ e.scopes.inner ∷ []) q) (h (entered-within e w))
+  entered-holds e h w = moved-holds s e.hand (entered e).scopes e refl refl (λ j q. empty-numbered j (e.scopes.outer ++ e.scopes.inner ∷ []) q) (h (entered-within e w))
 
   -- the scope is left as it was entered
   pub scope-left : {A : Type 0} (P : A → Env → Type 0) (e f : Env) (a : A) → ((f : Env) → P a f → P a (left f)) → Good s P (entered e) a f → Good s P e a (left f)
   scope-left P e f a keeps g = record {
     steps = record { types = g.steps.types; funs = g.steps.funs; enums = g.steps.enums; locals = g.steps.locals; statics = g.steps.statics; functions = g.steps.functions; homes = g.steps.homes; hand = g.steps.hand; outer = ap (λ (o : OpenScopes). o.outer) back };
     classless = moved-classless s f.hand (without_last f.scopes.outer) f refl g.classless;
-    holds = λ w. moved-holds s f.hand (without_last f.scopes.outer) f refl opened (g.holds (left-within f w));
+    holds = λ w. moved-holds s f.hand (without_last f.scopes.outer) f refl refl opened (g.holds (left-within f w));
     made = λ w. keeps f (g.made (left-within f w));
   }
     where

@@ -1,10 +1,12 @@
 -- Arrays whose initialiser gives the bound (8.2.4).
-use Rattle.std.proofs.Common.{ℕ, Option, Some, None, refl}
+use Rattle.std.proofs.Common.{◌≡◌, ℕ, false, Option, Some, None, unwrap_or, refl, ap, ◌∙◌}
 use Rattle.cf_types.specs.declared.ty.Ty.TheVariants as ty
+use Rattle.cf_convert.specs.Constness.{type_at, bare}
 use Rattle.cf_elab.specs.Declaration.{Initial, outline, bound_given}
 use Rattle.cf_elab.specs.Env.{Env}
 use Rattle.cf_elab.specs.Lists.{count_in}
 use Rattle.cf_elab.specs.Made.{array_of}
+use Rattle.cf_elab.specs.Operand.{sort_of, ty_sort, is_function}
 use Rattle.cf_elab_valid.specs.Answers.{Fine}
 use Rattle.cf_elab_valid.specs.Scene.{Scene, Inside, Classless, Holds}
 use Rattle.cf_elab_valid.proofs.Making.{IsType, intern-fine}
@@ -12,10 +14,17 @@ use Rattle.cf_elab_valid.proofs.Ways.{fine-as, When}
 
 module _ (s : Scene) (at u : ℕ) where
   abbrev pub IsBound : ℕ → Env → Type 0
-  IsBound a f = Inside f a
+  IsBound a f = Inside f a × (is_function (sort_of f.types a) ≡ false)
+
+  -- an array is no function
+  array-told : (n a : ℕ) (f : Env) → IsType (ty.Array u n) a f → is_function (sort_of f.types a) ≡ false
+  array-told n a f is =
+      let found : type_at f.types a ≡ ty.Array u n = ap (λ o. unwrap_or o ty.Void) is.here in
+      let plain : bare f.types a ≡ a = rw found refl in
+      ap (λ b. is_function (ty_sort f.types (type_at f.types b))) plain ∙ ap (λ v. is_function (ty_sort f.types v)) found
 
   counted-fine : (n : ℕ) (e : Env) → Classless e → When s e (Holds s e) → Fine s IsBound e (array_of u n e)
-  counted-fine n e c h = fine-as s (IsType (ty.Array u n)) IsBound e (array_of u n e) (λ a f is. is.inside) (intern-fine s (ty.Array u n) e refl (λ w. tt) c h)
+  counted-fine n e c h = fine-as s (IsType (ty.Array u n)) IsBound e (array_of u n e) (λ a f is. (is.inside, array-told n a f is)) (intern-fine s (ty.Array u n) e refl (λ w. tt) c h)
 
   pub bound-fine : (w : Option Initial) (e : Env) → Classless e → When s e (Holds s e) → Fine s IsBound e (bound_given at u w e)
   bound-fine None e c h = tt

@@ -10,6 +10,7 @@ use Rattle.cf_core.specs.Numbers.{are_known}
 use Rattle.cf_core.specs.Typed.{typing}
 use Rattle.cf_core.specs.Types.{is_void}
 use Rattle.cf_core.specs.Typing.{Scope}
+use Rattle.cf_core.specs.Valid.{is_complete}
 use Rattle.cf_classes.specs.OwnedName.{temporary_name}
 use Rattle.cf_elab.specs.Answer.{Answer, Made, Refused, Passed, Elab, onward, need, gives}
 use Rattle.cf_elab.specs.Complete.{within, most_name}
@@ -24,9 +25,10 @@ use Rattle.cf_elab_valid.proofs.Values.{has_type-is}
 use Rattle.cf_elab_valid.proofs.Ways.{fine-as, inside-later, onward-fine, steps-through, within-before, When}
 use Rattle.cf_elab_valid_objects.specs.Declared.{AreInitial}
 use Rattle.cf_elab_valid_objects.specs.Quiet.{LeavesNames, LeavesIn}
-use Rattle.cf_elab_valid_objects.specs.Starts.{NoVoidElements, StartFits, MaybeFits}
+use Rattle.cf_elab_valid_objects.specs.Starts.{WholeElements, StartFits, MaybeFits}
 use Rattle.cf_elab_valid_objects.proofs.Keepers.{defined, defined-steps, defined-fine, static_keeper-is}
 use Rattle.cf_elab_valid_objects.proofs.Locals.{leaving-fine}
+use Rattle.cf_elab_valid_objects.proofs.Whole.{complete-no-void}
 use Rattle.cf_elab_valid_statics.specs.Linked.{StandsFor}
 use Rattle.cf_elab_valid_statics.proofs.Linked.{linked-fine}
 use Rattle.cf_elab_valid_statics.proofs.Names.{Any}
@@ -50,7 +52,7 @@ nothing_known s (Made x f) = λ w. tt
 nothing_known s (Refused rule at) = tt
 nothing_known s (Passed bound most) = tt
 
-module _ (s : Scene) (scene : IsScene s) (arrays : NoVoidElements s.tables) (none : s.locals ≡ []) (d : Says) (parts : Elab (Option Written)) (e : Env) (initial : AreInitial s e parts) where
+module _ (s : Scene) (scene : IsScene s) (arrays : WholeElements s.tables) (none : s.locals ≡ []) (d : Says) (parts : Elab (Option Written)) (e : Env) (initial : AreInitial s e parts) where
   abbrev keeper : ℕ → Elab Keeper
   keeper = static_keeper (variable_link d.name) None d.at
 
@@ -61,20 +63,24 @@ module _ (s : Scene) (scene : IsScene s) (arrays : NoVoidElements s.tables) (non
   abbrev made : Object → Start → CoreStatic
   made x st = static_of (variable_link d.name) d.type st.node None st.is_constant x.is_internal
 
-  made-fits : (x : Object) (st : Start) (f : Env) → Within f s → Inside f d.type → StartFits s (tree s d.type) st → StaticFits s (made x st)
-  made-fits x st f w i k = record {
+  made-fits : (x : Object) (st : Start) (f : Env) → Within f s → Inside f d.type → is_complete [] (tree s d.type) ≡ true → StartFits s (tree s d.type) st → StaticFits s (made x st)
+  made-fits x st f w i whole k = record {
     type = has_type-is s f d.type w i;
+    whole = whole;
     numbers = k.numbers;
     start = ap (λ c. (typing c (core s st.node)).start (tree s d.type)) (sym (scope-outside s none)) ∙ k.starts;
     owner = tt;
   }
 
-  module _ (c : Classless e) (h : When s e (Holds s e)) (i : When s e (Inside e d.type)) (n : When s e (is_void (tree s d.type) ≡ false)) where
+  module _ (c : Classless e) (h : When s e (Holds s e)) (i : When s e (Inside e d.type)) (whole : When s e (is_complete [] (tree s d.type) ≡ true)) where
+    n : When s e (is_void (tree s d.type) ≡ false)
+    n w = complete-no-void (tree s d.type) (whole w)
+
     defining-fine : (x : Object) (st : Start) (g : Env) → Steps e g → Classless g → When s g (Holds s g) → When s g (StartFits s (tree s d.type) st) → Fine s Any g (define_static (made x st) g)
     defining-fine x st g step c1 h1 k =
         defined-fine s scene Any tt (made x st) g c1 h1
         (λ w. let early = within-before g (defined s scene (made x st) g) s (defined-steps s scene (made x st) g) w in
-        made-fits x st g early (inside-later e g d.type step (i (within-before e g s step early))) (k early)) (λ w. tt)
+        made-fits x st g early (inside-later e g d.type step (i (within-before e g s step early))) (whole (within-before e g s step early)) (k early)) (λ w. tt)
 
     ended-fine : (x : Object) (w : Option Written) (st : Start) (g : Env) → Steps e g → Classless g → When s g (Holds s g) → When s g (StartFits s (tree s d.type) st)
         → Fine s Any g (onward (row.need_constant d.at w st g) (λ _. define_static (made x st)))

@@ -16,7 +16,7 @@ use Rattle.cf_core.specs.Joined.{is_nothing}
 use Rattle.cf_core.specs.Numbers.{are_known, known_step, known_part}
 use Rattle.cf_core.specs.Typed.{typing}
 use Rattle.cf_core.specs.Types.{is_void}
-use Rattle.cf_core.specs.Valid.{fits, constant_starts, initialises_local}
+use Rattle.cf_core.specs.Valid.{fits, constant_starts, initialises_local, is_complete}
 use Rattle.cf_core.specs.View.{Started as StartedCore, core_step, started_step}
 use Rattle.cf_elab.specs.Answer.{Answer, Made, Refused, Passed, Elab, onward, need, gives}
 use Rattle.cf_elab.specs.Complete.{within, most_name}
@@ -36,9 +36,10 @@ use Rattle.cf_elab_valid.proofs.Values.{has_type-is}
 use Rattle.cf_elab_valid.proofs.Ways.{begins-same, homes-same, fine-before, inside-later, onward-fine, steps-through, within-before, When}
 use Rattle.cf_elab_valid_objects.specs.Declared.{ReachedFits, AllReached}
 use Rattle.cf_elab_valid_objects.specs.Quiet.{LeavesNames, LeavesIn}
-use Rattle.cf_elab_valid_objects.specs.Starts.{NoVoidElements, StartFits, MaybeFits}
+use Rattle.cf_elab_valid_objects.specs.Starts.{WholeElements, StartFits, MaybeFits}
 use Rattle.cf_elab_valid_objects.proofs.Keepers.{defined, defined-steps, defined-fine, defined-there, static_keeper-is}
 use Rattle.cf_elab_valid_objects.proofs.Naming.{found-last, named, named-steps, named-classless, named-holds}
+use Rattle.cf_elab_valid_objects.proofs.Whole.{complete-no-void}
 use Rattle.cf_elab_valid_statics.specs.Fixed.{IsApart, ApartIn, IsFixed, FixedIn, AreParts}
 use Rattle.cf_elab_valid_statics.specs.Linked.{StandsFor}
 use Rattle.cf_elab_valid_statics.proofs.Files.{static-leaves}
@@ -80,7 +81,7 @@ module _ (s : Scene) where
   known-Once : (at : ℕ) (n : Name) (e : Node) → are_known s.tables (node.Once at n e) ≡ are_known s.tables e
   known-Once at n e = ap (are_known s.tables) (sym (rolls-Once at n e)) ∙ fold-roll-Core Bool Bool (known_step s.tables) (known_part s.tables) (Core-F.Once at n e)
 
-module _ (s : Scene) (scene : IsScene s) (arrays : NoVoidElements s.tables) (n : ℕ) (m : Bool) (at : ℕ) (name : Name) (t : ℕ) (link owner : Name) where
+module _ (s : Scene) (scene : IsScene s) (arrays : WholeElements s.tables) (n : ℕ) (m : Bool) (at : ℕ) (name : Name) (t : ℕ) (link owner : Name) where
   abbrev keeper : ℕ → Elab Keeper
   keeper = static_keeper link (Some owner) at
 
@@ -95,18 +96,20 @@ module _ (s : Scene) (scene : IsScene s) (arrays : NoVoidElements s.tables) (n :
   abbrev made : Start → CoreStatic
   made st = static_of link t (if st.is_constant then st.node else node.Blank at) (Some owner) st.is_constant true
 
-  made-fits : (st : Start) (f : Env) → OwnerThere s (Some owner) → Within f s → Inside f t → StartFits s (tree s t) st → IsApart s st → StaticFits s (made st)
-  made-fits st f own w i k apart = by st.is_constant refl
+  made-fits : (st : Start) (f : Env) → OwnerThere s (Some owner) → Within f s → Inside f t → is_complete [] (tree s t) ≡ true → StartFits s (tree s t) st → IsApart s st → StaticFits s (made st)
+  made-fits st f own w i whole k apart = by st.is_constant refl
     where
       by : (b : Bool) → st.is_constant ≡ b → StaticFits s (static_of link t (if b then st.node else node.Blank at) (Some owner) st.is_constant true)
       by true is = record {
         type = has_type-is s f t w i;
+        whole = whole;
         numbers = k.numbers;
         start = ap (λ b. is_nothing (core s st.node) || b) (apart.apart is (tree s t) k.starts) ∙ or_true (is_nothing (core s st.node));
         owner = own;
       }
       by false is = record {
         type = has_type-is s f t w i;
+        whole = whole;
         numbers = known-Blank s.tables at;
         start = ap (λ c. is_nothing c || (typing (file_scope s) c).start (tree s t)) (core-Blank s.tables (signature_of s.tables) at);
         owner = own;
@@ -129,7 +132,10 @@ module _ (s : Scene) (scene : IsScene s) (arrays : NoVoidElements s.tables) (n :
         tt,
       )
 
-  module _ (parts : Elab (Option Written)) (e : Env) (given : AreParts s e parts) (own : OwnerThere s (Some owner)) (c : Classless e) (h : When s e (Holds s e)) (i : When s e (Inside e t)) (v : When s e (is_void (tree s t) ≡ false)) where
+  module _ (parts : Elab (Option Written)) (e : Env) (given : AreParts s e parts) (own : OwnerThere s (Some owner)) (c : Classless e) (h : When s e (Holds s e)) (i : When s e (Inside e t)) (whole : When s e (is_complete [] (tree s t) ≡ true)) where
+    v : When s e (is_void (tree s t) ≡ false)
+    v w = complete-no-void (tree s t) (whole w)
+
     abbrev counting : Hand
     counting = record e.hand { statics = e.hand.statics + 1 }
 
@@ -162,7 +168,7 @@ module _ (s : Scene) (scene : IsScene s) (arrays : NoVoidElements s.tables) (n :
     classless = named-classless name (object x) begun no_class (moved-classless s counting e.scopes e refl c)
 
     holds : When s told (Holds s told)
-    holds w = let early = within-before e told s steps w in named-holds s name (object x) begun (i early, tt, v early, tt) tt (moved-holds s counting e.scopes e refl (λ j q. q) (h early))
+    holds w = let early = within-before e told s steps w in named-holds s name (object x) begun (i early, tt, v early, tt) tt (moved-holds s counting e.scopes e refl refl (λ j q. q) (h early))
 
     stands : is_some (declared_here begun name) ≡ false → StandsFor name t told
     stands fresh j y found there =
@@ -186,7 +192,7 @@ module _ (s : Scene) (scene : IsScene s) (arrays : NoVoidElements s.tables) (n :
         (still-fine s Result f (within (nat_le (length link) most_name) bound_of.Names most_name f) (λ q. Made (row.reached at link st) (defined s scene (made st) q)) (short-still (nat_le (length link) most_name) f)
         (defined-fine s scene Result (row.reached at link st) (made st) f c1 h1
         (λ w. let early = within-before f (defined s scene (made st) f) s (defined-steps s scene (made st) f) w in
-        made-fits st f own early (inside-later e f t g (i (within-before e f s g early))) (k early).0 (k early).1)
+        made-fits st f own early (inside-later e f t g (i (within-before e f s g early))) (whole (within-before e f s g early)) (k early).0 (k early).1)
         (λ w. reached-fits st f w (k (within-before f (defined s scene (made st) f) s (defined-steps s scene (made st) f) w)).0)))
 
     body-fine : is_some (declared_here begun name) ≡ false → Fine s Result told (onward (parts told) (λ w f. onward (started keeper name at t w f) (ending w)))
@@ -209,7 +215,7 @@ module _ (s : Scene) (scene : IsScene s) (arrays : NoVoidElements s.tables) (n :
         fresh true is = tt
         fresh false is = fine-before s Result e told (onward (parts told) (λ w q. onward (started keeper name at t w q) (ending w))) steps (body-fine is)
 
-module _ (s : Scene) (scene : IsScene s) (arrays : NoVoidElements s.tables) where
+module _ (s : Scene) (scene : IsScene s) (arrays : WholeElements s.tables) where
   pub function-fine : (n : ℕ) (m : Bool) (at : ℕ) (name : Name) (t : ℕ) (parts : Elab (Option Written)) (e : Env) → AreParts s e parts → OwnerThere s (Some e.hand.link) → Classless e → When s e (Holds s e)
-      → When s e (Inside e t) → When s e (is_void (tree s t) ≡ false) → Fine s (λ rs f. AllReached s n m rs) e (row.define_in_function at name t parts e)
+      → When s e (Inside e t) → When s e (is_complete [] (tree s t) ≡ true) → Fine s (λ rs f. AllReached s n m rs) e (row.define_in_function at name t parts e)
   function-fine n m at name t parts e given own c h i v = frame-fine s scene arrays n m at name t (local_static_name name e.hand.statics e.hand.link) e.hand.link parts e given own c h i v

@@ -49,7 +49,7 @@ listed-fine s P l a e c h p = record {
   steps = listed-steps l e;
   classless = record { none = c.none; none_open = c.none_open; no_body = c.no_body; no_type = c.no_type; no_name = c.no_name; no_defaults = c.no_defaults };
   holds = λ w. let held = h (within-before e (listed l e) s (listed-steps l e) w) in
-      holds-unchanged s e (listed l e) (listed-steps l e) (record { types = refl; enums = refl; entities = refl; entries = refl; scopes = refl; functions = refl }) held.statics held;
+      holds-unchanged s e (listed l e) (listed-steps l e) (record { types = refl; enums = refl; entities = refl; entries = refl; scopes = refl; functions = refl; locals = refl }) held.statics held;
   made = λ w. p (within-before e (listed l e) s (listed-steps l e) w);
 }
 

@@ -72,6 +72,7 @@ bound-holds s name k x e at fit h =
       statics = h.statics;
       functions = h.functions;
       result = h.result;
+      frame = h.frame;
     }
 
 -- ---- an entity that stands for something else

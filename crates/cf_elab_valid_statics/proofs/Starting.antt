@@ -13,7 +13,7 @@ use Rattle.cf_elab_valid.specs.Answers.{Fine}
 use Rattle.cf_elab_valid.specs.Scene.{Scene, IsScene, tree, Steps, Within, Inside, HoldsKnown, Classless, Holds}
 use Rattle.cf_elab_valid.proofs.Ways.{fine-before, made-fine, onward-fine, within-before, When}
 use Rattle.cf_elab_valid_objects.specs.Quiet.{LeavesNames, LeavesIn}
-use Rattle.cf_elab_valid_objects.specs.Starts.{NoVoidElements, StartFits, IsKeeper, MaybeFits}
+use Rattle.cf_elab_valid_objects.specs.Starts.{WholeElements, StartFits, IsKeeper, MaybeFits}
 use Rattle.cf_elab_valid_objects.proofs.Initialisers.{written-leaves}
 use Rattle.cf_elab_valid_objects.proofs.Written.{starting-fine}
 use Rattle.cf_elab_valid_statics.specs.Fixed.{IsApart, ApartIn}
@@ -39,7 +39,7 @@ Known s K (Made x f) = Within f s → K x
 Known s K (Refused rule place) = Unit {0}
 Known s K (Passed bound most) = Unit {0}
 
-module _ (s : Scene) (scene : IsScene s) (arrays : NoVoidElements s.tables) (keeper : ℕ → Elab Keeper) (keeps : IsKeeper s keeper) (leaves : (u : ℕ) (e : Env) → Classless e → LeavesIn e (keeper u e)) (name : Name) (at t : ℕ) where
+module _ (s : Scene) (scene : IsScene s) (arrays : WholeElements s.tables) (keeper : ℕ → Elab Keeper) (keeps : IsKeeper s keeper) (leaves : (u : ℕ) (e : Env) → Classless e → LeavesIn e (keeper u e)) (name : Name) (at t : ℕ) where
   -- of each start that is made this is known too
   module _ (K : Start → Type 0) where
     abbrev pub Given : Start → Env → Type 0
