@@ -1,3 +1,4 @@
+mod Constants
 pub mod Alike
 pub mod Arithmetic
 pub mod Assign
@@ -9,7 +10,6 @@ pub mod Cast
 pub mod Choice
 pub mod Compared
 pub mod ConstOf
-mod Constants
 pub mod Constructs
 pub mod Early
 pub mod EarlyTrees
@@ -43,3 +43,4 @@ pub mod Trees
 pub mod Unary
 pub mod Values
 pub mod Ways
+pub mod Whole

@@ -9,6 +9,8 @@ use Rattle.cf_syntax.specs.declared.name.Name.{Name as WrittenName}
 use Rattle.cf_syntax.specs.declared.specifier.Pointer.{Pointer}
 use Rattle.cf_syntax.specs.declared.specifier.Pointer.TheVariants as pointer
 use Rattle.cf_syntax.specs.declared.specifier.TypeSpecifier.{TypeSpecifier}
+use Rattle.cf_core.specs.Types as tree_is
+use Rattle.cf_core.specs.Valid.{is_complete}
 use Rattle.cf_elab.specs.Answer.{Answer, Made, Refused, Passed, Elab, onward, need, none_at, gives, each, maybe}
 use Rattle.cf_elab.specs.Built as built
 use Rattle.cf_elab.specs.Declarator.{pointed, is_nothing, named_at, no_void, object_parameter, only_parameter, parameters, as_object, only_whole, type_from, words_of}
@@ -20,15 +22,19 @@ use Rattle.cf_elab.specs.Specifiers.{Gathered, gathered, base_type, parameter_co
 use Rattle.cf_elab_env.proofs.Growth.{here}
 use Rattle.cf_elab_env.proofs.Sorts.{below_at}
 use Rattle.cf_elab_valid.specs.Answers.{Fine, FineAs, IsPart}
-use Rattle.cf_elab_valid.specs.Scene.{Scene, IsScene, Within, Steps, Inside, PartInside, Classless, Holds}
+use Rattle.cf_elab_valid.specs.Sorts.{SortIs}
+use Rattle.cf_elab_valid.specs.Scene.{Scene, IsScene, tree, Within, Steps, Inside, PartInside, Classless, Holds}
 use Rattle.cf_elab_valid.proofs.Arithmetic.{IsOperand}
 use Rattle.cf_elab_valid.proofs.ConstOf.{IsAlike, const_if-fine}
+use Rattle.cf_elab_valid.proofs.Early.{early-sort-is}
 use Rattle.cf_elab_valid.proofs.FitRows.{Still, needed, still-fine, still-onward}
 use Rattle.cf_elab_valid.proofs.Making.{IsType, place-sound, intern-fine, pointer_to-fine}
 use Rattle.cf_elab_valid.proofs.Named.{IsThere, WordsFit, words-later, words-fine, NamedFits, gathered_named, base-fine}
 use Rattle.cf_elab_valid.proofs.Options.{never_none}
 use Rattle.cf_elab_valid.proofs.Parts.{evaluated-fine}
-use Rattle.cf_elab_valid.proofs.Ways.{same-hand, begins-get, begins-last, begins-same, homes-same, entity-later, named-later, entry-later, fine-as, as-made, as-onward, as-behind, inside-later, made-fine, onward-fine, steps-through, within-before, When}
+use Rattle.cf_elab_valid.proofs.Trees.{tree-at}
+use Rattle.cf_elab_valid.proofs.Whole.{sort-no-void, sort-complete}
+use Rattle.cf_elab_valid.proofs.Ways.{same-hand, begins-get, begins-last, begins-same, homes-same, entity-later, named-later, entry-later, fine-as, fine-within, as-made, as-onward, as-behind, inside-later, made-fine, onward-fine, steps-through, within-before, When}
 
 pub still-as : {A B : Type 0} (s : Scene) (T : B → Type 0) (R : B → Env → Type 0) (e : Env) (r : Answer A) (go : Env → Answer B) → Still e r → FineAs s T R e (go e) → FineAs s T R e (onward r (λ _. go))
 still-as s T R e (Made a b) go h f = subst (λ x. FineAs s T R e (go x)) (sym h) f
@@ -50,9 +56,17 @@ abbrev pub NoDefaults : List Parameter → Type 0
 NoDefaults [] = Unit {0}
 NoDefaults (p ∷ ps) = (p.default ≡ None) × NoDefaults ps
 
-abbrev pub ParametersThere : List Parameter → Env → Type 0
-ParametersThere [] e = Unit {0}
-ParametersThere (p ∷ ps) e = Inside e p.type × ParametersThere ps e
+-- a type that is there, and of which objects are unless it is void
+abbrev pub MayBe : Scene → ℕ → Env → Type 0
+MayBe s t e = Inside e t × (tree_is.is_void (tree s t) ≡ false → is_complete [] (tree s t) ≡ true)
+
+-- an object of a type that is there
+abbrev pub IsObject : Scene → Parameter → Env → Type 0
+IsObject s p e = Inside e p.type × (is_complete [] (tree s p.type) ≡ true)
+
+abbrev pub ParametersThere : Scene → List Parameter → Env → Type 0
+ParametersThere s [] e = Unit {0}
+ParametersThere s (p ∷ ps) e = IsObject s p e × ParametersThere s ps e
 
 abbrev pub IsPlainShape : Shape → Type 0
 IsPlainShape inner = Unit {0}
@@ -62,25 +76,25 @@ IsPlainShape (to_member at c k s) = ⊥
 IsPlainShape (taking at ps c s) = NoDefaults ps × IsPlainShape s
 IsPlainShape (holding at b s) = IsPlainShape s
 
-abbrev pub ShapeThere : Shape → Env → Type 0
-ShapeThere inner e = Unit {0}
-ShapeThere (pointing at c s) e = ShapeThere s e
-ShapeThere (referring at s) e = ShapeThere s e
-ShapeThere (to_member at c k s) e = ShapeThere s e
-ShapeThere (taking at ps c s) e = ParametersThere ps e × ShapeThere s e
-ShapeThere (holding at b s) e = ShapeThere s e
+abbrev pub ShapeThere : Scene → Shape → Env → Type 0
+ShapeThere s inner e = Unit {0}
+ShapeThere s (pointing at c x) e = ShapeThere s x e
+ShapeThere s (referring at x) e = ShapeThere s x e
+ShapeThere s (to_member at c k x) e = ShapeThere s x e
+ShapeThere s (taking at ps c x) e = ParametersThere s ps e × ShapeThere s x e
+ShapeThere s (holding at b x) e = ShapeThere s x e
 
-pub parameters-later : (a b : Env) (ps : List Parameter) → Steps a b → ParametersThere ps a → ParametersThere ps b
-parameters-later a b [] g f = tt
-parameters-later a b (p ∷ ps) g f = (inside-later a b p.type g f.0, parameters-later a b ps g f.1)
+pub parameters-later : (s : Scene) (a b : Env) (ps : List Parameter) → Steps a b → ParametersThere s ps a → ParametersThere s ps b
+parameters-later s a b [] g f = tt
+parameters-later s a b (p ∷ ps) g f = ((inside-later a b p.type g f.0.0, f.0.1), parameters-later s a b ps g f.1)
 
-pub shape-later : (a b : Env) (x : Shape) → Steps a b → ShapeThere x a → ShapeThere x b
-shape-later a b inner g f = tt
-shape-later a b (pointing at c x) g f = shape-later a b x g f
-shape-later a b (referring at x) g f = shape-later a b x g f
-shape-later a b (to_member at c k x) g f = shape-later a b x g f
-shape-later a b (taking at ps c x) g f = (parameters-later a b ps g f.0, shape-later a b x g f.1)
-shape-later a b (holding at n x) g f = shape-later a b x g f
+pub shape-later : (s : Scene) (a b : Env) (x : Shape) → Steps a b → ShapeThere s x a → ShapeThere s x b
+shape-later s a b inner g f = tt
+shape-later s a b (pointing at c x) g f = shape-later s a b x g f
+shape-later s a b (referring at x) g f = shape-later s a b x g f
+shape-later s a b (to_member at c k x) g f = shape-later s a b x g f
+shape-later s a b (taking at ps c x) g f = (parameters-later s a b ps g f.0, shape-later s a b x g f.1)
+shape-later s a b (holding at n x) g f = shape-later s a b x g f
 
 -- ---- function types
 
@@ -167,12 +181,12 @@ module _ (s : Scene) (scene : IsScene s) where
   abbrev pub Any : List ℕ → Env → Type 0
   Any ts e = Unit {0}
 
-  pub parameter_types-fine : (ps : List Parameter) (e : Env) → Classless e → When s e (Holds s e) → When s e (ParametersThere ps e) → Fine s Any e (each (λ (p : Parameter). parameter_type p.type) ps e)
+  pub parameter_types-fine : (ps : List Parameter) (e : Env) → Classless e → When s e (Holds s e) → When s e (ParametersThere s ps e) → Fine s Any e (each (λ (p : Parameter). parameter_type p.type) ps e)
   parameter_types-fine [] e c h f = made-fine s Any e [] c h (λ w. tt)
   parameter_types-fine (p ∷ ps) e c h f =
-      onward-fine s IsThere Any e (parameter_type p.type e) _ (parameter_type-fine p.type e c h (λ w. (f w).0))
+      onward-fine s IsThere Any e (parameter_type p.type e) _ (parameter_type-fine p.type e c h (λ w. (f w).0.0))
       (λ t e1 g c1 h1 it. onward-fine s Any Any e1 (each (λ (q : Parameter). parameter_type q.type) ps e1) (λ ts. gives (t ∷ ts))
-      (parameter_types-fine ps e1 c1 h1 (λ w. parameters-later e e1 ps g (f (within-before e e1 s g w)).1)) (λ ts e2 g2 c2 h2 a. made-fine s Any e2 (t ∷ ts) c2 h2 (λ w. tt)))
+      (parameter_types-fine ps e1 c1 h1 (λ w. parameters-later s e e1 ps g (f (within-before e e1 s g w)).1)) (λ ts e2 g2 c2 h2 a. made-fine s Any e2 (t ∷ ts) c2 h2 (λ w. tt)))
 
   -- ---- the type of a declarator
 
@@ -180,30 +194,30 @@ module _ (s : Scene) (scene : IsScene s) where
   ShapedThere (whole t) e = Inside e t
   ShapedThere (unbounded t) e = Inside e t
 
-  pub typed-fine : (position : Position) (x : Shape) (t : ℕ) (e : Env) → IsPlainShape x → Classless e → When s e (Holds s e) → When s e (ShapeThere x e) → When s e (Inside e t) → Fine s ShapedThere e (typed position x t e)
+  pub typed-fine : (position : Position) (x : Shape) (t : ℕ) (e : Env) → IsPlainShape x → Classless e → When s e (Holds s e) → When s e (ShapeThere s x e) → When s e (Inside e t) → Fine s ShapedThere e (typed position x t e)
   typed-fine position inner t e plain c h f i = made-fine s ShapedThere e (whole t) c h i
   typed-fine position (pointing at b x) t e plain c h f i =
       still-fine s ShapedThere e (need (not (is_reference (sort_of e.types t))) 26 at e) _ (needed e (not (is_reference (sort_of e.types t))) 26 at)
       (onward-fine s IsThere ShapedThere e (pointer_to t e) _ (there-fine s (ty.Ptr t) e (pointer_to-fine s t e c h))
       (λ p e1 g1 c1 h1 ip. onward-fine s IsThere ShapedThere e1 (const_if b p e1) (λ q. typed position x q) (fine-as s (IsAlike s p) IsThere e1 (const_if b p e1) (λ u k q. q.inside) (const_if-fine s scene b p e1 c1 h1 ip))
-      (λ q e2 g2 c2 h2 iq. typed-fine position x q e2 plain c2 h2 (λ w. shape-later e e2 x (steps-through e e1 e2 g1 g2) (f (within-before e e2 s (steps-through e e1 e2 g1 g2) w))) iq)))
+      (λ q e2 g2 c2 h2 iq. typed-fine position x q e2 plain c2 h2 (λ w. shape-later s e e2 x (steps-through e e1 e2 g1 g2) (f (within-before e e2 s (steps-through e e1 e2 g1 g2) w))) iq)))
   typed-fine position (referring at x) t e plain c h f i =
       still-fine s ShapedThere e (need (not (is_reference (sort_of e.types t) || is_void (sort_of e.types t))) 26 at e) _ (needed e (not (is_reference (sort_of e.types t) || is_void (sort_of e.types t))) 26 at)
       (onward-fine s IsThere ShapedThere e (reference_to t e) (λ r. typed position x r) (there-fine s (ty.Ref t) e (intern-fine s (ty.Ref t) e refl (λ w. tt) c h))
-      (λ r e1 g1 c1 h1 ir. typed-fine position x r e1 plain c1 h1 (λ w. shape-later e e1 x g1 (f (within-before e e1 s g1 w))) ir))
+      (λ r e1 g1 c1 h1 ir. typed-fine position x r e1 plain c1 h1 (λ w. shape-later s e e1 x g1 (f (within-before e e1 s g1 w))) ir))
   typed-fine position (to_member at k b x) t e plain c h f i = absurd plain
   typed-fine position (taking at ps b x) t e plain c h f i =
       still-fine s ShapedThere e (need (not (is_array (sort_of e.types t) || is_function (sort_of e.types t))) 26 at e) _ (needed e (not (is_array (sort_of e.types t) || is_function (sort_of e.types t))) 26 at)
       (still-fine s ShapedThere e (need (not b || (is_inner x && position.const_function)) 26 at e) _ (needed e (not b || (is_inner x && position.const_function)) 26 at)
       (onward-fine s Any ShapedThere e (each (λ (p : Parameter). parameter_type p.type) ps e) _ (parameter_types-fine ps e c h (λ w. (f w).0))
       (λ qs e1 g1 c1 h1 a. onward-fine s IsThere ShapedThere e1 (function_type t qs b e1) (λ u. typed position x u) (function_type-fine s t qs b e1 c1 h1)
-      (λ u e2 g2 c2 h2 iu. typed-fine position x u e2 plain.1 c2 h2 (λ w. shape-later e e2 x (steps-through e e1 e2 g1 g2) (f (within-before e e2 s (steps-through e e1 e2 g1 g2) w)).1) iu))))
+      (λ u e2 g2 c2 h2 iu. typed-fine position x u e2 plain.1 c2 h2 (λ w. shape-later s e e2 x (steps-through e e1 e2 g1 g2) (f (within-before e e2 s (steps-through e e1 e2 g1 g2) w)).1) iu))))
   typed-fine position (holding at (Some b) x) t e plain c h f i =
       still-fine s ShapedThere e (need (not (is_reference (sort_of e.types t) || is_void (sort_of e.types t) || is_function (sort_of e.types t))) 26 at e) _
       (needed e (not (is_reference (sort_of e.types t) || is_void (sort_of e.types t) || is_function (sort_of e.types t))) 26 at)
       (still-fine s ShapedThere e (need (fine_bound b.number) 26 at e) _ (needed e (fine_bound b.number) 26 at)
       (onward-fine s IsThere ShapedThere e (array_of t (count_of b.number) e) (λ u. typed position x u) (there-fine s (ty.Array t (count_of b.number)) e (intern-fine s (ty.Array t (count_of b.number)) e refl (λ w. tt) c h))
-      (λ u e1 g1 c1 h1 iu. typed-fine position x u e1 plain c1 h1 (λ w. shape-later e e1 x g1 (f (within-before e e1 s g1 w))) iu)))
+      (λ u e1 g1 c1 h1 iu. typed-fine position x u e1 plain c1 h1 (λ w. shape-later s e e1 x g1 (f (within-before e e1 s g1 w))) iu)))
   typed-fine position (holding at None x) t e plain c h f i =
       still-fine s ShapedThere e (need (not (is_reference (sort_of e.types t) || is_void (sort_of e.types t) || is_function (sort_of e.types t))) 26 at e) _
       (needed e (not (is_reference (sort_of e.types t) || is_void (sort_of e.types t) || is_function (sort_of e.types t))) 26 at)
@@ -221,22 +235,22 @@ module _ (s : Scene) (scene : IsScene s) where
   -- ---- a declarator and its specifiers, fine wherever it is elaborated
 
   pub record IsShape (run : Elab Shape) : Type 0 where
-    pub fine : (e : Env) → Classless e → When s e (Holds s e) → FineAs s IsPlainShape ShapeThere e (run e)
+    pub fine : (e : Env) → Classless e → When s e (Holds s e) → FineAs s IsPlainShape (ShapeThere s) e (run e)
 
   -- behind the type of a declarator
   pub typed_then : {B : Type 0} (T : B → Type 0) (R : B → Env → Type 0) (position : Position) (x : Shape) (g : Gathered) (go : Shaped → Env → Answer B) (e : Env)
-      → IsPlainShape x → Classless e → When s e (Holds s e) → When s e (ShapeThere x e) → When s e (NamedFits g e)
+      → IsPlainShape x → Classless e → When s e (Holds s e) → When s e (ShapeThere s x e) → When s e (NamedFits g e)
       → ((t : Shaped) (e1 : Env) → Classless e1 → When s e1 (Holds s e1) → When s e1 (ShapedThere t e1) → FineAs s T R e1 (go t e1))
       → FineAs s T R e (onward (base_type g e) (λ base k. onward (typed position x base k) (λ t m. onward (bounds_constant x m) (λ _. go t))))
   typed_then T R position x g go e plain c h f n next =
       as-behind s IsThere T R e (base_type g e) _ (base-fine s scene g e c h n)
-      (λ base e1 g1 c1 h1 ib. as-behind s ShapedThere T R e1 (typed position x base e1) _ (typed-fine position x base e1 plain c1 h1 (λ w. shape-later e e1 x g1 (f (within-before e e1 s g1 w))) ib)
+      (λ base e1 g1 c1 h1 ib. as-behind s ShapedThere T R e1 (typed position x base e1) _ (typed-fine position x base e1 plain c1 h1 (λ w. shape-later s e e1 x g1 (f (within-before e e1 s g1 w))) ib)
       (λ t e2 g2 c2 h2 it. still-as s T R e2 (bounds_constant x e2) (go t) (bounds_still x e2) (next t e2 c2 h2 it)))
 
 -- ---- parameters
 
 pub record IsParameter (s : Scene) (run : Elab Parameter) : Type 0 where
-  pub fine : (e : Env) → Classless e → When s e (Holds s e) → FineAs s (λ q. q.default ≡ None) (λ q f. Inside f q.type) e (run e)
+  pub fine : (e : Env) → Classless e → When s e (Holds s e) → FineAs s (λ q. q.default ≡ None) (λ q f. MayBe s q.type f) e (run e)
 
 abbrev pub AreParameters : Scene → List (Elab Parameter) → Type 0
 AreParameters s [] = Unit {0}
@@ -246,74 +260,86 @@ AreParameters s (p ∷ ps) = IsParameter s p × AreParameters s ps
 pub record IsTypeId (s : Scene) (run : Elab ℕ) : Type 0 where
   pub fine : (e : Env) → Classless e → When s e (Holds s e) → Fine s IsThere e (run e)
 
-module _ (s : Scene) where
+module _ (s : Scene) (scene : IsScene s) where
   abbrev no_default : Parameter → Type 0
   no_default p = p.default ≡ None
 
-  abbrev is_there : Parameter → Env → Type 0
-  is_there p e = Inside e p.type
+  abbrev may_be : Parameter → Env → Type 0
+  may_be p e = MayBe s p.type e
 
-  object-fine : (run : Elab Parameter) (e : Env) → IsParameter s run → Classless e → When s e (Holds s e) → FineAs s no_default is_there e (object_parameter run e)
+  -- what is no void is an object
+  object-told : (p : Parameter) (e : Env) → Within e s → MayBe s p.type e → is_void (sort_of e.types p.type) ≡ false → IsObject s p e
+  object-told p e w i no_void_sort =
+      (i.0, i.1 (sort-no-void s (sort_of e.types p.type) p.type (early-sort-is s.tables scene.table e.types w.types scene.no_class scene.none_to_reference p.type i.0) no_void_sort))
+
+  -- behind the check
+  checked : {B : Type 0} (T : B → Type 0) (R : B → Env → Type 0) (p : Parameter) (b : B) (e : Env) → T b → Classless e → When s e (Holds s e) → When s e (may_be p e) → When s e (IsObject s p e → R b e) → FineAs s T R e (onward (no_void p e) (λ _. gives b))
+  checked T R p b e t c h i made = by (is_void (sort_of e.types p.type)) refl
+    where
+      by : (k : Bool) → is_void (sort_of e.types p.type) ≡ k → FineAs s T R e (onward (need (not k) 26 (named_at p) e) (λ _. gives b))
+      by true is = tt
+      by false is = as-made s T R e b t c h (λ w. made w (object-told p e w (i w) is))
+
+  object-fine : (run : Elab Parameter) (e : Env) → IsParameter s run → Classless e → When s e (Holds s e) → FineAs s no_default (IsObject s) e (object_parameter run e)
   object-fine run e k c h =
-      as-onward s no_default is_there no_default is_there e (run e) (λ p f. onward (no_void p f) (λ _. gives p)) (k.fine e c h)
-      (λ p e1 d g c1 h1 i. still-as s no_default is_there e1 (no_void p e1) (gives p) (needed e1 (not (is_void (sort_of e1.types p.type))) 26 (named_at p)) (as-made s no_default is_there e1 p d c1 h1 i))
+      as-onward s no_default may_be no_default (IsObject s) e (run e) (λ p f. onward (no_void p f) (λ _. gives p)) (k.fine e c h)
+      (λ p e1 d g c1 h1 i. checked no_default (IsObject s) p p e1 d c1 h1 i (λ w o. o))
 
-  objects-fine : (ps : List (Elab Parameter)) (e : Env) → AreParameters s ps → Classless e → When s e (Holds s e) → FineAs s NoDefaults ParametersThere e (each object_parameter ps e)
-  objects-fine [] e a c h = as-made s NoDefaults ParametersThere e [] tt c h (λ w. tt)
+  objects-fine : (ps : List (Elab Parameter)) (e : Env) → AreParameters s ps → Classless e → When s e (Holds s e) → FineAs s NoDefaults (ParametersThere s) e (each object_parameter ps e)
+  objects-fine [] e a c h = as-made s NoDefaults (ParametersThere s) e [] tt c h (λ w. tt)
   objects-fine (p ∷ ps) e a c h =
-      as-onward s no_default is_there NoDefaults ParametersThere e (object_parameter p e) (λ q f. onward (each object_parameter ps f) (λ qs. gives (q ∷ qs))) (object-fine p e a.0 c h)
-      (λ q e1 d g c1 h1 i. as-onward s NoDefaults ParametersThere NoDefaults ParametersThere e1 (each object_parameter ps e1) (λ qs. gives (q ∷ qs)) (objects-fine ps e1 a.1 c1 h1)
-      (λ qs e2 ds g2 c2 h2 is. as-made s NoDefaults ParametersThere e2 (q ∷ qs) (d, ds) c2 h2 (λ w. (inside-later e1 e2 q.type g2 (i (within-before e1 e2 s g2 w)), is w))))
+      as-onward s no_default (IsObject s) NoDefaults (ParametersThere s) e (object_parameter p e) (λ q f. onward (each object_parameter ps f) (λ qs. gives (q ∷ qs))) (object-fine p e a.0 c h)
+      (λ q e1 d g c1 h1 i. as-onward s NoDefaults (ParametersThere s) NoDefaults (ParametersThere s) e1 (each object_parameter ps e1) (λ qs. gives (q ∷ qs)) (objects-fine ps e1 a.1 c1 h1)
+      (λ qs e2 ds g2 c2 h2 is. as-made s NoDefaults (ParametersThere s) e2 (q ∷ qs) (d, ds) c2 h2
+      (λ w. let early = i (within-before e1 e2 s g2 w) in ((inside-later e1 e2 q.type g2 early.0, early.1), is w))))
 
-  alone-fine : (p : Parameter) (e : Env) → p.default ≡ None → Classless e → When s e (Holds s e) → When s e (Inside e p.type) → FineAs s NoDefaults ParametersThere e (only_parameter p e)
+  alone-fine : (p : Parameter) (e : Env) → p.default ≡ None → Classless e → When s e (Holds s e) → When s e (may_be p e) → FineAs s NoDefaults (ParametersThere s) e (only_parameter p e)
   alone-fine p e d c h i = by (is_nothing e p)
     where
-      by : (b : Bool) → FineAs s NoDefaults ParametersThere e (let run : Elab (List Parameter) = if b then gives [] else (λ f. onward (no_void p f) (λ _. gives (p ∷ []))) in run e)
-      by true = as-made s NoDefaults ParametersThere e [] tt c h (λ w. tt)
-      by false =
-          still-as s NoDefaults ParametersThere e (no_void p e) (gives (p ∷ [])) (needed e (not (is_void (sort_of e.types p.type))) 26 (named_at p))
-          (as-made s NoDefaults ParametersThere e (p ∷ []) (d, tt) c h (λ w. (i w, tt)))
+      by : (b : Bool) → FineAs s NoDefaults (ParametersThere s) e (let run : Elab (List Parameter) = if b then gives [] else (λ f. onward (no_void p f) (λ _. gives (p ∷ []))) in run e)
+      by true = as-made s NoDefaults (ParametersThere s) e [] tt c h (λ w. tt)
+      by false = checked NoDefaults (ParametersThere s) p (p ∷ []) e (d, tt) c h i (λ w o. (o, tt))
 
-  parameters-fine : (ps : List (Elab Parameter)) (e : Env) → AreParameters s ps → Classless e → When s e (Holds s e) → FineAs s NoDefaults ParametersThere e (parameters ps e)
+  parameters-fine : (ps : List (Elab Parameter)) (e : Env) → AreParameters s ps → Classless e → When s e (Holds s e) → FineAs s NoDefaults (ParametersThere s) e (parameters ps e)
   parameters-fine [] e a c h = objects-fine [] e a c h
   parameters-fine (p ∷ q ∷ ps) e a c h = objects-fine (p ∷ q ∷ ps) e a c h
-  parameters-fine (p ∷ []) e a c h = as-onward s no_default is_there NoDefaults ParametersThere e (p e) only_parameter (a.0.fine e c h) (λ q e1 d g c1 h1 i. alone-fine q e1 d c1 h1 i)
+  parameters-fine (p ∷ []) e a c h = as-onward s no_default may_be NoDefaults (ParametersThere s) e (p e) only_parameter (a.0.fine e c h) (λ q e1 d g c1 h1 i. alone-fine q e1 d c1 h1 i)
 
 -- ---- declarators
 
 module _ (s : Scene) (scene : IsScene s) where
   pub inner-shape : IsShape s scene (gives inner)
-  inner-shape = record { fine = λ e c h. as-made s IsPlainShape ShapeThere e inner tt c h (λ w. tt) }
+  inner-shape = record { fine = λ e c h. as-made s IsPlainShape (ShapeThere s) e inner tt c h (λ w. tt) }
 
   pub pointed-shape : (p : Pointer) (d : Elab Shape) → built.of_pointer p ≡ None → IsShape s scene d → IsShape s scene (λ e. onward (d e) (pointed p))
   pointed-shape p d b k = record {
-    fine = λ e c h. as-onward s IsPlainShape ShapeThere IsPlainShape ShapeThere e (d e) (pointed p) (k.fine e c h) (λ x e1 plain g c1 h1 f. by p b x e1 plain c1 h1 f);
+    fine = λ e c h. as-onward s IsPlainShape (ShapeThere s) IsPlainShape (ShapeThere s) e (d e) (pointed p) (k.fine e c h) (λ x e1 plain g c1 h1 f. by p b x e1 plain c1 h1 f);
   }
     where
-      by : (p : Pointer) → built.of_pointer p ≡ None → (x : Shape) (e1 : Env) → IsPlainShape x → Classless e1 → When s e1 (Holds s e1) → When s e1 (ShapeThere x e1) → FineAs s IsPlainShape ShapeThere e1 (pointed p x e1)
-      by (pointer.To at q) b x e1 plain c1 h1 f = as-made s IsPlainShape ShapeThere e1 (pointing at q x) plain c1 h1 f
-      by (pointer.Reference at) b x e1 plain c1 h1 f = as-made s IsPlainShape ShapeThere e1 (referring at x) plain c1 h1 f
+      by : (p : Pointer) → built.of_pointer p ≡ None → (x : Shape) (e1 : Env) → IsPlainShape x → Classless e1 → When s e1 (Holds s e1) → When s e1 (ShapeThere s x e1) → FineAs s IsPlainShape (ShapeThere s) e1 (pointed p x e1)
+      by (pointer.To at q) b x e1 plain c1 h1 f = as-made s IsPlainShape (ShapeThere s) e1 (pointing at q x) plain c1 h1 f
+      by (pointer.Reference at) b x e1 plain c1 h1 f = as-made s IsPlainShape (ShapeThere s) e1 (referring at x) plain c1 h1 f
       by (pointer.ToMember at path q) b x e1 plain c1 h1 f = never_none at b
 
   pub function-shape : (at : ℕ) (d : Elab Shape) (ps : List (Elab Parameter)) (b : Bool) → IsShape s scene d → AreParameters s ps
       → IsShape s scene (λ e. onward (d e) (λ x f. onward (parameters ps f) (λ qs. gives (taking at qs b x))))
   function-shape at d ps b k parts = record {
-    fine = λ e c h. as-onward s IsPlainShape ShapeThere IsPlainShape ShapeThere e (d e) _ (k.fine e c h)
-        (λ x e1 plain g c1 h1 f. as-onward s NoDefaults ParametersThere IsPlainShape ShapeThere e1 (parameters ps e1) (λ qs. gives (taking at qs b x)) (parameters-fine s ps e1 parts c1 h1)
-        (λ qs e2 ds g2 c2 h2 is. as-made s IsPlainShape ShapeThere e2 (taking at qs b x) (ds, plain) c2 h2 (λ w. (is w, shape-later e1 e2 x g2 (f (within-before e1 e2 s g2 w))))));
+    fine = λ e c h. as-onward s IsPlainShape (ShapeThere s) IsPlainShape (ShapeThere s) e (d e) _ (k.fine e c h)
+        (λ x e1 plain g c1 h1 f. as-onward s NoDefaults (ParametersThere s) IsPlainShape (ShapeThere s) e1 (parameters ps e1) (λ qs. gives (taking at qs b x)) (parameters-fine s scene ps e1 parts c1 h1)
+        (λ qs e2 ds g2 c2 h2 is. as-made s IsPlainShape (ShapeThere s) e2 (taking at qs b x) (ds, plain) c2 h2 (λ w. (is w, shape-later s e1 e2 x g2 (f (within-before e1 e2 s g2 w))))));
   }
 
   pub array-shape : (at : ℕ) (d : Elab Shape) (bound : Option Part) → IsShape s scene d → ((p : Part) → bound ≡ Some p → IsPart s p)
       → IsShape s scene (λ e. onward (d e) (λ x f. onward (maybe evaluated bound f) (λ b. gives (holding at b x))))
-  array-shape at d bound k part = record { fine = λ e c h. as-onward s IsPlainShape ShapeThere IsPlainShape ShapeThere e (d e) _ (k.fine e c h) (λ x e1 plain g c1 h1 f. by bound part x e1 plain c1 h1 f) }
+  array-shape at d bound k part = record { fine = λ e c h. as-onward s IsPlainShape (ShapeThere s) IsPlainShape (ShapeThere s) e (d e) _ (k.fine e c h) (λ x e1 plain g c1 h1 f. by bound part x e1 plain c1 h1 f) }
     where
-      by : (o : Option Part) → ((p : Part) → o ≡ Some p → IsPart s p) → (x : Shape) (e1 : Env) → IsPlainShape x → Classless e1 → When s e1 (Holds s e1) → When s e1 (ShapeThere x e1)
-          → FineAs s IsPlainShape ShapeThere e1 (onward (maybe evaluated o e1) (λ b. gives (holding at b x)))
-      by None part x e1 plain c1 h1 f = as-made s IsPlainShape ShapeThere e1 (holding at None x) plain c1 h1 f
+      by : (o : Option Part) → ((p : Part) → o ≡ Some p → IsPart s p) → (x : Shape) (e1 : Env) → IsPlainShape x → Classless e1 → When s e1 (Holds s e1) → When s e1 (ShapeThere s x e1)
+          → FineAs s IsPlainShape (ShapeThere s) e1 (onward (maybe evaluated o e1) (λ b. gives (holding at b x)))
+      by None part x e1 plain c1 h1 f = as-made s IsPlainShape (ShapeThere s) e1 (holding at None x) plain c1 h1 f
       by (Some p) part x e1 plain c1 h1 f =
-          as-behind s Bound IsPlainShape ShapeThere e1 (onward (evaluated p e1) (λ y. gives (Some y))) (λ b. gives (holding at b x))
+          as-behind s Bound IsPlainShape (ShapeThere s) e1 (onward (evaluated p e1) (λ y. gives (Some y))) (λ b. gives (holding at b x))
           (onward-fine s (IsOperand s) Bound e1 (evaluated p e1) (λ y. gives (Some y)) (evaluated-fine s scene p e1 (part p refl) c1 h1) (λ y e2 g c2 h2 fy. made-fine s Bound e2 (Some y) c2 h2 (λ w. tt)))
-          (λ b e2 g2 c2 h2 u. as-made s IsPlainShape ShapeThere e2 (holding at b x) plain c2 h2 (λ w. shape-later e1 e2 x g2 (f (within-before e1 e2 s g2 w))))
+          (λ b e2 g2 c2 h2 u. as-made s IsPlainShape (ShapeThere s) e2 (holding at b x) plain c2 h2 (λ w. shape-later s e1 e2 x g2 (f (within-before e1 e2 s g2 w))))
         where
           Bound : Option Value → Env → Type 0
           Bound v e = Unit {0}
@@ -324,29 +350,33 @@ module _ (s : Scene) (scene : IsScene s) where
   array_pointer t (array_sort u n) = pointer_to u
   array_pointer t other = gives t
 
-  as_object-fine : (x : Shaped) (e : Env) → Classless e → When s e (Holds s e) → When s e (ShapedThere s scene x e) → Fine s IsThere e (as_object x e)
-  as_object-fine (unbounded t) e c h i = there-fine s (ty.Ptr t) e (pointer_to-fine s t e c h)
-  as_object-fine (whole t) e c h i = by (sort_of e.types t)
+  -- a pointer is an object
+  pointer-made : (u : ℕ) (e : Env) → Classless e → When s e (Holds s e) → Fine s (MayBe s) e (pointer_to u e)
+  pointer-made u e c h =
+      fine-within s (IsType (ty.Ptr u)) (MayBe s) e (pointer_to u e)
+      (λ t f g w is. (is.inside, λ v. ap (is_complete []) (tree-at s.tables scene.table t (ty.Ptr u) (begins-get f.types.types s.tables.types.types t (ty.Ptr u) w.types is.here)))) (pointer_to-fine s u e c h)
+
+  as_object-fine : (x : Shaped) (e : Env) → Classless e → When s e (Holds s e) → When s e (ShapedThere s scene x e) → Fine s (MayBe s) e (as_object x e)
+  as_object-fine (unbounded t) e c h i = pointer-made t e c h
+  as_object-fine (whole t) e c h i = by (sort_of e.types t) refl
     where
-      pointer : (u : ℕ) → Fine s IsThere e (pointer_to u e)
-      pointer u = there-fine s (ty.Ptr u) e (pointer_to-fine s u e c h)
+      itself : (k : Sort) → sort_of e.types t ≡ k → is_array k ≡ false → is_function k ≡ false → Fine s (MayBe s) e (Made t e)
+      itself k is a f = made-fine s (MayBe s) e t c h (λ w.
+          (i w, λ v. sort-complete s k t (subst (λ q. SortIs s.tables q (tree s t)) is (early-sort-is s.tables scene.table e.types w.types scene.no_class scene.none_to_reference t (i w))) a f v))
 
-      itself : Fine s IsThere e (Made t e)
-      itself = made-fine s IsThere e t c h i
-
-      by : (k : Sort) → Fine s IsThere e ((elim (is_function k) as (λ _. Elab ℕ) [ true ↦ pointer_to t | false ↦ array_pointer t k ]) e)
-      by (array_sort u n) = pointer u
-      by (function_sort f) = pointer t
-      by (integral k) = itself
-      by (enumeral k) = itself
-      by (object_pointer u) = itself
-      by void_pointer = itself
-      by (function_pointer u) = itself
-      by (data_pointer k u) = itself
-      by (method_pointer k u) = itself
-      by (class_sort k) = itself
-      by void_sort = itself
-      by (reference_sort u) = itself
+      by : (k : Sort) → sort_of e.types t ≡ k → Fine s (MayBe s) e ((elim (is_function k) as (λ _. Elab ℕ) [ true ↦ pointer_to t | false ↦ array_pointer t k ]) e)
+      by (array_sort u n) is = pointer-made u e c h
+      by (function_sort f) is = pointer-made t e c h
+      by (integral k) is = itself (integral k) is refl refl
+      by (enumeral k) is = itself (enumeral k) is refl refl
+      by (object_pointer u) is = itself (object_pointer u) is refl refl
+      by void_pointer is = itself void_pointer is refl refl
+      by (function_pointer u) is = itself (function_pointer u) is refl refl
+      by (data_pointer k u) is = itself (data_pointer k u) is refl refl
+      by (method_pointer k u) is = itself (method_pointer k u) is refl refl
+      by (class_sort k) is = itself (class_sort k) is refl refl
+      by void_sort is = itself void_sort is refl refl
+      by (reference_sort u) is = itself (reference_sort u) is refl refl
 
   module _ (specifiers : List TypeSpecifier) (d : Elab Shape) (words_built : built.of_specifiers specifiers ≡ None) (k : IsShape s scene d) where
     -- the words and the declarator first
@@ -356,7 +386,7 @@ module _ (s : Scene) (scene : IsScene s) where
         (λ _ j. onward (base_type (gathered ws) j) (λ base l. onward (typed position x base l) (λ t m. onward (bounds_constant x m) (λ _. go x t)))))))
     described T R conflict position go e c h next =
         as-behind s WordsFit T R e (words_of specifiers e) _ (words-fine s specifiers e words_built c h)
-        (λ ws e1 g1 c1 h1 fw. as-onward s IsPlainShape ShapeThere T R e1 (d e1) _ (k.fine e1 c1 h1)
+        (λ ws e1 g1 c1 h1 fw. as-onward s IsPlainShape (ShapeThere s) T R e1 (d e1) _ (k.fine e1 c1 h1)
         (λ x e2 plain g2 c2 h2 f. still-as s T R e2 (none_at (conflict (gathered ws)) 24 e2)
         (λ j. onward (base_type (gathered ws) j) (λ base l. onward (typed position x base l) (λ t m. onward (bounds_constant x m) (λ _. go x t)))) (none_still (conflict (gathered ws)) 24 e2)
         (typed_then s scene T R position x (gathered ws) (go x) e2 plain c2 h2 f (λ w. gathered_named ws e2 (words-later e1 e2 ws g2 (fw (within-before e1 e2 s g2 w)))) (λ t e3 c3 h3 it. next x t e3 c3 h3 it))))
@@ -365,10 +395,10 @@ module _ (s : Scene) (scene : IsScene s) where
         (λ _ j. onward (base_type (gathered ws) j) (λ base l. onward (typed (record { unbounded = true; const_function = false }) x base l) (λ t m. onward (bounds_constant x m)
         (λ _ n. onward (as_object t n) (λ u o. Made (record { at = at; name = name; type = u; default = None }) o))))))))
     parameter-fine at name = record {
-      fine = λ e c h. described (λ q. q.default ≡ None) (λ q f. Inside f q.type) parameter_conflict (record { unbounded = true; const_function = false })
+      fine = λ e c h. described (λ q. q.default ≡ None) (λ q f. MayBe s q.type f) parameter_conflict (record { unbounded = true; const_function = false })
           (λ x t n. onward (as_object t n) (λ u o. Made (record { at = at; name = name; type = u; default = None }) o)) e c h
-          (λ x t e1 c1 h1 it. as-behind s IsThere (λ q. q.default ≡ None) (λ q f. Inside f q.type) e1 (as_object t e1) (λ u o. Made (record { at = at; name = name; type = u; default = None }) o) (as_object-fine t e1 c1 h1 it)
-          (λ u e2 g c2 h2 iu. as-made s (λ q. q.default ≡ None) (λ q f. Inside f q.type) e2 (record { at = at; name = name; type = u; default = None }) refl c2 h2 iu));
+          (λ x t e1 c1 h1 it. as-behind s (MayBe s) (λ q. q.default ≡ None) (λ q f. MayBe s q.type f) e1 (as_object t e1) (λ u o. Made (record { at = at; name = name; type = u; default = None }) o) (as_object-fine t e1 c1 h1 it)
+          (λ u e2 g c2 h2 iu. as-made s (λ q. q.default ≡ None) (λ q f. MayBe s q.type f) e2 (record { at = at; name = name; type = u; default = None }) refl c2 h2 iu));
     }
 
     only-fine : (t : Shaped) (e : Env) → Classless e → When s e (Holds s e) → When s e (ShapedThere s scene t e) → FineAs s (λ _. Unit {0}) IsThere e (only_whole t e)

@@ -15,6 +15,7 @@ use Rattle.cf_elab.specs.Env.{Env, Name}
 use Rattle.cf_elab.specs.Expression.{elaborated, declared, expression_step}
 use Rattle.cf_elab.specs.Operand.{Part}
 use Rattle.cf_elab.specs.Shape.{Parameter, Shape, inner, pointing, referring, to_member, taking, holding, is_inner, function_of}
+use Rattle.cf_elab_valid.specs.Scene.{Scene}
 use Rattle.cf_elab_valid.proofs.Named.{first-none}
 use Rattle.cf_elab_valid.proofs.Options.{none_some, some_is, never_none}
 use Rattle.cf_elab_valid.proofs.Shapes.{NoDefaults, ParametersThere, IsPlainShape, ShapeThere}
@@ -102,14 +103,14 @@ function-plain (taking at qs c x) ps is p = by (λ q. function-plain x ps q p.1)
     by rest true q = subst NoDefaults (some_is qs ps q) p.0
     by rest false q = rest q
 
-pub function-params : (x : Shape) (ps : List Parameter) (e : Env) → function_of x ≡ Some ps → ShapeThere x e → ParametersThere ps e
-function-params inner ps e is p = absurd (none_some ps is)
-function-params (pointing at c x) ps e is p = function-params x ps e is p
-function-params (referring at x) ps e is p = function-params x ps e is p
-function-params (to_member at c k x) ps e is p = function-params x ps e is p
-function-params (holding at b x) ps e is p = function-params x ps e is p
-function-params (taking at qs c x) ps e is p = by (λ q. function-params x ps e q p.1) (is_inner x) is
+pub function-params : (s : Scene) (x : Shape) (ps : List Parameter) (e : Env) → function_of x ≡ Some ps → ShapeThere s x e → ParametersThere s ps e
+function-params s inner ps e is p = absurd (none_some ps is)
+function-params s (pointing at c x) ps e is p = function-params s x ps e is p
+function-params s (referring at x) ps e is p = function-params s x ps e is p
+function-params s (to_member at c k x) ps e is p = function-params s x ps e is p
+function-params s (holding at b x) ps e is p = function-params s x ps e is p
+function-params s (taking at qs c x) ps e is p = by (λ q. function-params s x ps e q p.1) (is_inner x) is
   where
-    by : (function_of x ≡ Some ps → ParametersThere ps e) → (b : Bool) → (if b then Some qs else function_of x) ≡ Some ps → ParametersThere ps e
-    by rest true q = subst (λ l. ParametersThere l e) (some_is qs ps q) p.0
+    by : (function_of x ≡ Some ps → ParametersThere s ps e) → (b : Bool) → (if b then Some qs else function_of x) ≡ Some ps → ParametersThere s ps e
+    by rest true q = subst (λ l. ParametersThere s l e) (some_is qs ps q) p.0
     by rest false q = rest q

@@ -20,7 +20,7 @@ use Rattle.cf_elab_valid.proofs.Ways.{fine-as, made-fine, onward-fine, When}
 use Rattle.cf_elab_valid_objects.specs.Declared.{AllReached}
 use Rattle.cf_elab_valid_objects.specs.Starts.{WholeElements, MaybeFits}
 use Rattle.cf_elab_valid_objects.proofs.Locals.{local-fine}
-use Rattle.cf_elab_valid_objects.proofs.Whole.{complete-no-void}
+use Rattle.cf_elab_valid.proofs.Whole.{complete-no-void}
 use Rattle.cf_elab_valid_statics.specs.Fixed.{AreParts}
 use Rattle.cf_elab_valid_statics.specs.Linked.{StandsFor}
 use Rattle.cf_elab_valid_statics.proofs.Files.{file-fine}

@@ -182,7 +182,7 @@ module _ (s : Scene) (scene : IsScene s) (arrays : WholeElements s.tables) (in_f
         (λ t f. onward (bounds_constant x f)
         (λ _. row.by_shape (is_file_scope e.scopes) g n x w t)))))
 
-    behind-fine : (base : ℕ) (e : Env) → Here e → Classless e → When s e (Holds s e) → When s e (ShapeThere x e) → When s e (Inside e base) → Fine s Reaches e (behind base e)
+    behind-fine : (base : ℕ) (e : Env) → Here e → Classless e → When s e (Holds s e) → When s e (ShapeThere s x e) → When s e (Inside e base) → Fine s Reaches e (behind base e)
     behind-fine base e here c h f i =
         still-fine s Reaches e (none_at (conflict (is_file_scope e.scopes) (declares_function e base x) at g) 24 e) _ (none_still (conflict (is_file_scope e.scopes) (declares_function e base x) at g) 24 e)
         (still-fine s Reaches e (row.unqualified n e) _ (needed e _ 48 n.at)
@@ -191,10 +191,10 @@ module _ (s : Scene) (scene : IsScene s) (arrays : WholeElements s.tables) (in_f
         (λ t e1 g1 c1 h1 it. still-fine s Reaches e1 (bounds_constant x e1) (row.by_shape (is_file_scope e.scopes) g n x w t) (bounds_still s scene x e1)
         (subst (λ b. Fine s Reaches e1 (row.by_shape b g n x w t e1)) (sym (placed e here)) (shaped-fine g n x w plain given e1 (later e e1 g1 here) c1 h1 t it))))))
 
-    named-declarator : (e : Env) → Here e → Classless e → When s e (Holds s e) → When s e (ShapeThere x e) → When s e (NamedFits g e) → Fine s Reaches e (row.named_declarator g at w x n e)
+    named-declarator : (e : Env) → Here e → Classless e → When s e (Holds s e) → When s e (ShapeThere s x e) → When s e (NamedFits g e) → Fine s Reaches e (row.named_declarator g at w x n e)
     named-declarator e here c h f m =
         onward-fine s IsThere Reaches e (base_type g e) behind (base-fine s scene g e c h m)
-        (λ base e1 g1 c1 h1 ib. behind-fine base e1 (later e e1 g1 here) c1 h1 (λ v. shape-later e e1 x g1 (f (within-before e e1 s g1 v))) ib)
+        (λ base e1 g1 c1 h1 ib. behind-fine base e1 (later e e1 g1 here) c1 h1 (λ v. shape-later s e e1 x g1 (f (within-before e e1 s g1 v))) ib)
 
   -- ---- the declarators
 
@@ -202,10 +202,10 @@ module _ (s : Scene) (scene : IsScene s) (arrays : WholeElements s.tables) (in_f
   declarator-fine g d e k here c h m = by d.declared.name refl
     where
       by : (o : Option WrittenName) → d.declared.name ≡ o → Fine s Reaches e (row.with_name g d.at d.initial d.declared.shape o e)
-      by None is = as-then s IsPlainShape ShapeThere Reaches e (d.declared.shape e) _ (k.shape.fine e c h) (λ x e1 plain g1 c1 h1 f. tt)
+      by None is = as-then s IsPlainShape (ShapeThere s) Reaches e (d.declared.shape e) _ (k.shape.fine e c h) (λ x e1 plain g1 c1 h1 f. tt)
       by (Some n) is =
           subst (λ l. Fine s Reaches e (row.declarator_of_name g d.at d.initial d.declared.shape n l e)) (sym (k.name n is))
-          (as-then s IsPlainShape ShapeThere Reaches e (d.declared.shape e) (λ x. row.named_declarator g d.at d.initial x n) (k.shape.fine e c h)
+          (as-then s IsPlainShape (ShapeThere s) Reaches e (d.declared.shape e) (λ x. row.named_declarator g d.at d.initial x n) (k.shape.fine e c h)
           (λ x e1 plain g1 c1 h1 f. named-declarator g d.at d.initial x n plain k.parts e1 (later e e1 g1 here) c1 h1 f (λ v. named-fits-later g e e1 g1 (m (within-before e e1 s g1 v)))))
 
   declarators-fine : (g : Gathered) (ds : List Declares) (e : Env) → AreDeclarators s scene ds → Here e → Classless e → When s e (Holds s e) → When s e (NamedFits g e) → Fine s Reaches e (row.declarators_row g ds e)

@@ -20,7 +20,7 @@ use Rattle.cf_elab.specs.Operand.{sort_of, is_reference, is_void}
 use Rattle.cf_elab_env.specs.Holds.{HasNoClass}
 use Rattle.cf_elab_env.proofs.Sorts.{below_at}
 use Rattle.cf_elab_valid.specs.Sorts.{Aims}
-use Rattle.cf_elab_valid_file.specs.Ends.{is_object, is_given, aims_right, no_locals, names_right, can_be_made, params_right, is_finished}
+use Rattle.cf_elab_valid_file.specs.Ends.{is_object, is_given, aims_right, no_locals, names_right, is_finished}
 use Rattle.cf_elab_valid_file.specs.Laws.{tables_of, IsFinished}
 use Rattle.cf_elab_valid_file.proofs.Sorted.{reference-told, void-told, given-told, complete-told}
 
@@ -37,9 +37,6 @@ not-told true h = absurd (true≢false (sym h))
 none-told : (l : List ℕ) → no_locals l ≡ true → l ≡ []
 none-told [] h = refl
 none-told (t ∷ l) h = absurd (true≢false (sym h))
-
-lt-told : (n m : ℕ) → nat_lt n m ≡ true → n < m
-lt-told n m h = grind (arith, nat_tests, h)
 
 module _ (T : Tables) (well : IsTable T.types) (plain : HasNoClass T.types) (right : list_all (aims_right T.types) T.types.types ≡ true) where
   abbrev Known : ℕ → Type 0
@@ -77,11 +74,6 @@ module _ (T : Tables) (well : IsTable T.types) (plain : HasNoClass T.types) (rig
   aim t (ty.MemFun n m) at = tt
   aim t (ty.Const u) at = tt
 
-  made-told : (t : ℕ) → can_be_made T.types t ≡ true → is_complete [] (type_of T t) ≡ true
-  made-told t h =
-      let a : Bool = nat_lt t (length T.types.types) in
-      complete-told T well plain elements-told t (lt-told t (length T.types.types) (and-left a (is_object (sort_of T.types t)) h)) (and-right a (is_object (sort_of T.types t)) h)
-
   whole-told : (t u n : ℕ) → slice_get T.types.types t ≡ Some (ty.Array u n) → is_complete [] (type_of T u) ≡ true
   whole-told t u n at = complete-told T well plain elements-told u (below t u (ty.Array u n) at (below_at T.types t (ty.Array u n) well at)) (elements-told t u n at)
 
@@ -89,11 +81,9 @@ pub decided : (e : Env) → IsTable e.types → HasNoClass e.types → is_finish
 decided e table plain h =
     let T = tables_of e in
     let begun : Bool = no_locals e.hand.locals && list_all (aims_right e.types) e.types.types in
-    let ended : Bool = names_right e && params_right e in
-    let first = and-left begun ended h in
+    let first = and-left begun (names_right e) h in
     let right = and-right (no_locals e.hand.locals) (list_all (aims_right e.types) e.types.types) first in
-    let names = and-left (names_right e) (params_right e) (and-right begun ended h) in
-    let params = and-right (names_right e) (params_right e) (and-right begun ended h) in
+    let names = and-right begun (names_right e) h in
     let differ : Bool = all_differ (map (λ (f : CoreFn). f.name) e.functions ++ map (λ (x : CoreStatic). x.name) e.statics) in
     let short : Bool = list_all (λ (x : CoreStatic). is_short x.name) e.statics in record {
       table = table;
@@ -102,6 +92,4 @@ decided e table plain h =
       hand = none-told e.hand.locals (and-left (no_locals e.hand.locals) (list_all (aims_right e.types) e.types.types) first);
       names = and-left differ short names;
       short_statics = and-right differ short names;
-      params = λ n f at i t there. made-told T table plain right t
-          (all-get (can_be_made e.types) f.params i t (all-get (λ (g : CoreFn). list_all (can_be_made e.types) g.params) e.functions n f params at) there);
     }

@@ -18,7 +18,7 @@ use Rattle.cf_elab_env.proofs.Growth.{here, bare_const, bare-known}
 use Rattle.cf_elab_env.proofs.Sorts.{below_at, no_class_at}
 use Rattle.cf_elab_valid.specs.Sorts.{is_result}
 use Rattle.cf_elab_valid.proofs.Trees.{tree-form, function-form}
-use Rattle.cf_elab_valid_objects.proofs.Whole.{same-complete}
+use Rattle.cf_elab_valid.proofs.Whole.{same-complete}
 use Rattle.cf_elab_valid_file.specs.Ends.{is_object, is_given}
 
 or-right : (a b : Bool) → b ≡ true → (a || b) ≡ true

@@ -37,7 +37,6 @@ use Rattle.cf_elab_valid.specs.Answers.{Good, Fine}
 use Rattle.cf_elab_valid.specs.Scene.{Scene, IsScene, tree, core, OwnerThere, StaticFits, FunctionFits, PartInside, Within, Classless, Holds}
 use Rattle.cf_elab_valid.proofs.Calls.{taken_parameters, taken_result, taken_function}
 use Rattle.cf_elab_valid.proofs.Ways.{begins-same}
-use Rattle.cf_elab_valid_objects.proofs.Whole.{complete-no-void}
 use Rattle.cf_elab_valid_statics.proofs.Names.{Any}
 use Rattle.cf_elab_valid_bodies.specs.Laws.{ConstantsAreApart}
 use Rattle.cf_elab_valid_functions.specs.Laws.{IsFileEnd}
@@ -63,7 +62,7 @@ module _ (e : Env) (finished : IsFinished e) (c : Classless e) (sizes : (t : ℕ
   is_scene = record { table = finished.table; no_class = c.no_type; none_to_reference = finished.aims; sizes = sizes }
 
   pub file-end : IsFileEnd scene
-  file-end = record { scene = is_scene; arrays = λ t u n at. complete-no-void (tree scene u) (finished.elements t u n at); outside = refl; params = finished.params }
+  file-end = record { scene = is_scene; arrays = finished.elements; outside = refl }
 
   static-names : all_differ (map (λ (x : CoreStatic). x.name) e.statics) ≡ true
   static-names = differ-behind (map (λ (f : CoreFn). f.name) e.functions) (map (λ (x : CoreStatic). x.name) e.statics) finished.names
@@ -228,7 +227,7 @@ module _ (e : Env) (finished : IsFinished e) (c : Classless e) (sizes : (t : ℕ
 
 -- an end that no environment leads to, for what does not depend on it
 nowhere-file : IsFileEnd (nowhere [] 0)
-nowhere-file = let k = nowhere-end [] 0 in record { scene = k.scene; arrays = k.arrays; outside = refl; params = λ n f at. absurd cc }
+nowhere-file = let k = nowhere-end [] 0 in record { scene = k.scene; arrays = k.arrays; outside = refl }
 
 pub file-law : ConstantsAreApart → (extent : Extent) (u : FileTree) → not_built u ≡ None → file_fits u ≡ true → (e : Env) → in_turn (map item_row u.items) (first_env extent (defined_names u)) ≡ Made tt e → IsFinished e → IsValid (core_unit e)
 file-law apart extent u b fits e run finished =

@@ -1,5 +1,5 @@
--- Whether the end of a file is as the law of files asks: a look at the table of types, the link names and the parameters of functions.
-use Rattle.std.specs.Prelude.{ℕ, Bool, true, false, not, ◌&&◌, nat_lt, List, [], ◌∷◌, ◌++◌, length, map, slice_get}
+-- Whether the end of a file is as the law of files asks: a look at the table of types and the link names.
+use Rattle.std.specs.Prelude.{ℕ, Bool, true, false, not, ◌&&◌, List, [], ◌∷◌, ◌++◌, map, slice_get}
 use Rattle.std.specs.List.{list_all}
 use Rattle.std.specs.Option.{option_map_or}
 use Rattle.cf_types.specs.Table.{Table}
@@ -42,12 +42,5 @@ names_right env =
     all_differ (map (λ (f : CoreFn). f.name) env.functions ++ map (λ (x : CoreStatic). x.name) env.statics)
     && list_all (λ (x : CoreStatic). is_short x.name) env.statics
 
--- a type of the table, of which objects can be
-abbrev pub can_be_made : Table → ℕ → Bool
-can_be_made types t = nat_lt t (length types.types) && is_object (sort_of types t)
-
-abbrev pub params_right : Env → Bool
-params_right env = list_all (λ (f : CoreFn). list_all (can_be_made env.types) f.params) env.functions
-
 abbrev pub is_finished : Env → Bool
-is_finished env = (no_locals env.hand.locals && list_all (aims_right env.types) env.types.types) && (names_right env && params_right env)
+is_finished env = (no_locals env.hand.locals && list_all (aims_right env.types) env.types.types) && names_right env

@@ -20,7 +20,7 @@ use Rattle.cf_elab_valid.proofs.Statements.{inner-later}
 use Rattle.cf_elab_valid.proofs.Ways.{made-fine, onward-fine, When}
 use Rattle.cf_elab_valid_bodies.specs.Laws.{IsEnd}
 use Rattle.cf_elab_valid_statics.proofs.Names.{Any}
-use Rattle.cf_elab_valid_functions.proofs.Parameters.{AreHomes, AreComplete, parameters-fine}
+use Rattle.cf_elab_valid_functions.proofs.Parameters.{AreHomes, parameters-fine}
 
 -- a body that fits, where `break` and `continue` stand as told
 pub record BodyFits (s : Scene) (n : ℕ) (m breaks continues : Bool) (x : Node) : Type 0 where
@@ -37,9 +37,9 @@ module _ (s : Scene) (end : IsEnd s) (n : ℕ) (m : Bool) (at : ℕ) (ss : List 
         fine = ap (fits (body_of s n m) e.hand.breaks e.hand.continues) (core-Block s.tables (signature_of s.tables) at (nodes_of ms)) ∙ p.1;
       }))
 
-  pub body-fine : (e : Env) → e.hand.breaks ≡ false → e.hand.continues ≡ false → When s e (AreHomes s 0 ps) → Inner s n m e → Classless e → When s e (Holds s e) → When s e (ParametersThere ps e) → When s e (AreComplete s ps)
+  pub body-fine : (e : Env) → e.hand.breaks ≡ false → e.hand.continues ≡ false → When s e (AreHomes s 0 ps) → Inner s n m e → Classless e → When s e (Holds s e) → When s e (ParametersThere s ps e)
       → Fine s (λ x f. BodyFits s n m false false x) e (onward (row.declare_parameters 0 ps e) (λ _. row.body_of at ss))
-  body-fine e b q homes i c h f whole =
-      onward-fine s Any (λ x f. BodyFits s n m false false x) e (row.declare_parameters 0 ps e) (λ _. row.body_of at ss) (parameters-fine s 0 ps e homes c h f whole)
+  body-fine e b q homes i c h f =
+      onward-fine s Any (λ x f. BodyFits s n m false false x) e (row.declare_parameters 0 ps e) (λ _. row.body_of at ss) (parameters-fine s 0 ps e homes c h f)
       (λ u e1 g c1 h1 any. subst (λ x. Fine s (λ y f. BodyFits s n m x false y) e1 (row.body_of at ss e1)) (g.hand.breaks ∙ b)
       (subst (λ x. Fine s (λ y f. BodyFits s n m e1.hand.breaks x y) e1 (row.body_of at ss e1)) (g.hand.continues ∙ q) (statements-fine e1 (inner-later s n m e e1 g i) c1 h1)))

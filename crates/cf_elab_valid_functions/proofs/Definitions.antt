@@ -85,7 +85,7 @@ plain-still (last.Operator n) at e = refl
 module _ (s : Scene) (end : IsFileEnd s) (body_at : ℕ) (ss : List (Elab MadeOf)) (statements : (z : Scene) → IsEnd z → (n : ℕ) (m : Bool) → AreStatements z n m ss) where
   -- ---- by the number of the function
 
-  entry-fine : (ps : List Parameter) (k : ℕ) (e : Env) → zero < length e.types.types → Classless e → When s e (Holds s e) → When s e (ParametersThere ps e) → Fine s Any e (row.define_function ps (body_of body_at ss) (slice_get e.entries k) e)
+  entry-fine : (ps : List Parameter) (k : ℕ) (e : Env) → zero < length e.types.types → Classless e → When s e (Holds s e) → When s e (ParametersThere s ps e) → Fine s Any e (row.define_function ps (body_of body_at ss) (slice_get e.entries k) e)
   entry-fine ps k e some c h f = by (slice_get e.entries k) refl
     where
       by : (o : Option FunctionEntry) → slice_get e.entries k ≡ o → Fine s Any e (row.define_function ps (body_of body_at ss) o e)
@@ -111,7 +111,7 @@ module _ (s : Scene) (end : IsFileEnd s) (body_at : ℕ) (ss : List (Elab MadeOf
         by None is = tt
         by (Some ps) is = function-plain x ps is plain
 
-    declares-fine : (ps : List Parameter) (t : ℕ) (e : Env) → function_of x ≡ Some ps → Classless e → When s e (Holds s e) → When s e (ShapeThere x e) → When s e (IsFun e t) → Fine s Any e (declares ps t e)
+    declares-fine : (ps : List Parameter) (t : ℕ) (e : Env) → function_of x ≡ Some ps → Classless e → When s e (Holds s e) → When s e (ShapeThere s x e) → When s e (IsFun e t) → Fine s Any e (declares ps t e)
     declares-fine ps t e is c h f fun =
         still-fine s Any e (bounds_constant x e) _ (bounds_still s end.scene x e)
         (still-fine s Any e (declaration_row.need_plain_name n.last n.last_at e) _ (plain-still n.last n.last_at e) (typed-int (int e) (of_kind-fine s kind.Int e c h) (intern-some (ty.Int kind.Int) e)))
@@ -125,14 +125,14 @@ module _ (s : Scene) (end : IsFileEnd s) (body_at : ℕ) (ss : List (Elab MadeOf
             (declared-fine s end.scene (function_says g n t x true false) i e1 parameters-plain q.classless q.holds (λ w. fun-later e e1 t q.steps (fun (within-before e e1 s q.steps w))))
             (λ k e2 g2 c2 h2 any. still-fine s Any e2 (row.no_initialisers inits e2) _ (inits-still inits e2)
             (entry-fine ps k e2 (let longer = begins-longer e1.types.types e2.types.types g2.types in omega (arith, some, longer)) c2 h2
-            (λ w. let step = steps-through e e1 e2 q.steps g2 in function-params x ps e2 is (shape-later e e2 x step (f (within-before e e2 s step w)))))))
+            (λ w. let step = steps-through e e1 e2 q.steps g2 in function-params s x ps e2 is (shape-later s e e2 x step (f (within-before e e2 s step w)))))))
         typed-int (Refused rule place) q some = tt
         typed-int (Passed bound most) q some = tt
 
     abbrev shaped : Option (List Parameter) → Shaped → Env → Answer (Unit {0})
     shaped o y e = onward (row.type_of_shaped y e) (λ t f. onward (row.parameters_or n.last_at o f) (λ ps. declares ps t))
 
-    typed-behind : (base : ℕ) (e : Env) → Classless e → When s e (Holds s e) → When s e (ShapeThere x e) → When s e (Inside e base) → Fine s Any e (onward (typed nowhere x base e) (shaped (function_of x)))
+    typed-behind : (base : ℕ) (e : Env) → Classless e → When s e (Holds s e) → When s e (ShapeThere s x e) → When s e (Inside e base) → Fine s Any e (onward (typed nowhere x base e) (shaped (function_of x)))
     typed-behind base e c h f i = by (function_of x) refl
       where
         by : (o : Option (List Parameter)) → function_of x ≡ o → Fine s Any e (onward (typed nowhere x base e) (shaped o))
@@ -143,18 +143,18 @@ module _ (s : Scene) (end : IsFileEnd s) (body_at : ℕ) (ss : List (Elab MadeOf
             refused (unbounded t) e1 = tt
         by (Some ps) is =
             onward-fine s FunShaped Any e (typed nowhere x base e) (shaped (Some ps)) (function-shaped s end.scene nowhere x ps base e is plain c h f i)
-            (λ y e1 g1 c1 h1 p. given y e1 c1 h1 (λ w. shape-later e e1 x g1 (f (within-before e e1 s g1 w))) p)
+            (λ y e1 g1 c1 h1 p. given y e1 c1 h1 (λ w. shape-later s e e1 x g1 (f (within-before e e1 s g1 w))) p)
           where
-            given : (y : Shaped) (e1 : Env) → Classless e1 → When s e1 (Holds s e1) → When s e1 (ShapeThere x e1) → When s e1 (FunShaped y e1) → Fine s Any e1 (shaped (Some ps) y e1)
+            given : (y : Shaped) (e1 : Env) → Classless e1 → When s e1 (Holds s e1) → When s e1 (ShapeThere s x e1) → When s e1 (FunShaped y e1) → Fine s Any e1 (shaped (Some ps) y e1)
             given (whole t) e1 c1 h1 f1 p = declares-fine ps t e1 is c1 h1 f1 p
             given (unbounded t) e1 c1 h1 f1 p = declares-fine ps t e1 is c1 h1 f1 (λ w. absurd (p w))
 
-    named-definition : (e : Env) → Classless e → When s e (Holds s e) → When s e (ShapeThere x e) → When s e (NamedFits g e) → Fine s Any e (row.named_definition g at x inits (body_of body_at ss) n e)
+    named-definition : (e : Env) → Classless e → When s e (Holds s e) → When s e (ShapeThere s x e) → When s e (NamedFits g e) → Fine s Any e (row.named_definition g at x inits (body_of body_at ss) n e)
     named-definition e c h f m =
         onward-fine s IsThere Any e (base_type g e) _ (base-fine s end.scene g e c h m)
         (λ base e1 g1 c1 h1 ib. still-fine s Any e1 (none_at (definition_conflict (declares_function e1 base x) at g) 24 e1) _ (none_still (definition_conflict (declares_function e1 base x) at g) 24 e1)
         (still-fine s Any e1 (declaration_row.unqualified n e1) _ (needed e1 _ 48 n.at)
-        (still-fine s Any e1 (declaration_row.no_definition g x e1) _ (none_still _ 26 e1) (typed-behind base e1 c1 h1 (λ w. shape-later e e1 x g1 (f (within-before e e1 s g1 w))) ib))))
+        (still-fine s Any e1 (declaration_row.no_definition g x e1) _ (none_still _ 26 e1) (typed-behind base e1 c1 h1 (λ w. shape-later s e e1 x g1 (f (within-before e e1 s g1 w))) ib))))
 
   -- ---- by its name
 
@@ -163,10 +163,10 @@ module _ (s : Scene) (end : IsFileEnd s) (body_at : ℕ) (ss : List (Elab MadeOf
   written-fine g at d inits e shape plain_name c h m = by d.name refl
     where
       by : (o : Option WrittenName) → d.name ≡ o → Fine s Any e (row.with_written_name g at d.shape inits (body_of body_at ss) o e)
-      by None is = as-then s IsPlainShape ShapeThere Any e (d.shape e) _ (shape.fine e c h) (λ x e1 plain g1 c1 h1 f. tt)
+      by None is = as-then s IsPlainShape (ShapeThere s) Any e (d.shape e) _ (shape.fine e c h) (λ x e1 plain g1 c1 h1 f. tt)
       by (Some n) is =
           subst (λ l. Fine s Any e (row.definition_of_name g at d.shape inits (body_of body_at ss) n l e)) (sym (plain_name n is))
-          (as-then s IsPlainShape ShapeThere Any e (d.shape e) (λ x. row.named_definition g at x inits (body_of body_at ss) n) (shape.fine e c h)
+          (as-then s IsPlainShape (ShapeThere s) Any e (d.shape e) (λ x. row.named_definition g at x inits (body_of body_at ss) n) (shape.fine e c h)
           (λ x e1 plain g1 c1 h1 f. named-definition g at x inits n plain e1 c1 h1 f (λ v. named-fits-later g e e1 g1 (m (within-before e e1 s g1 v)))))
 
   row-fine : (xs : List SpecifierRow) (at : ℕ) (d : Declared) (inits : List WrittenInit) (e : Env) → AreSpecifiers s xs → IsShape s end.scene d.shape → ((n : WrittenName) → d.name ≡ Some n → n.scopes ≡ []) → Classless e → When s e (Holds s e)

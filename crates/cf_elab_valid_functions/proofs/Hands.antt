@@ -35,14 +35,14 @@ use Rattle.cf_elab_valid.proofs.Scopes.{empty-numbered, left-numbered, left-scop
 use Rattle.cf_elab_valid.proofs.Shapes.{ParametersThere}
 use Rattle.cf_elab_valid.proofs.Values.{has_type-is}
 use Rattle.cf_elab_valid.proofs.Ways.{begins-get, begins-last, begins-same, begins-through, same-hand, within-before, When}
-use Rattle.cf_elab_valid_objects.proofs.Whole.{given-fits}
+use Rattle.cf_elab_valid.proofs.Whole.{given-fits}
 use Rattle.cf_elab_valid_statements.proofs.Scoped.{entered, left}
 use Rattle.cf_elab_valid_statics.proofs.Names.{Any}
 use Rattle.cf_elab_valid_bodies.specs.Laws.{IsEnd}
 use Rattle.cf_elab_valid_functions.specs.Laws.{IsFileEnd}
 use Rattle.cf_elab_valid_functions.proofs.Bodies.{BodyFits, body-fine}
 use Rattle.cf_elab_valid_functions.proofs.Ends.{nowhere, nowhere-end, never-within, has-complete, same-name, any-at, get-behind}
-use Rattle.cf_elab_valid_functions.proofs.Parameters.{AreHomes, AreComplete}
+use Rattle.cf_elab_valid_functions.proofs.Parameters.{AreHomes}
 
 -- ---- where types and enumerations are the same
 
@@ -139,7 +139,7 @@ module _ (s : Scene) (none : s.locals ≡ []) (L : List ℕ) (r : ℕ) where
 
 -- ---- a definition
 
-module _ (s : Scene) (end : IsFileEnd s) (e : Env) (f : FunctionEntry) (at : ℕ) (ss : List (Elab MadeOf)) (ps : List Parameter) (statements : (z : Scene) → IsEnd z → (n : ℕ) (m : Bool) → AreStatements z n m ss) (some : zero < length e.types.types) (c : Classless e) (h : When s e (Holds s e)) (k : ℕ) (there : slice_get e.entries k ≡ Some f) (inside : When s e (ParametersThere ps e)) where
+module _ (s : Scene) (end : IsFileEnd s) (e : Env) (f : FunctionEntry) (at : ℕ) (ss : List (Elab MadeOf)) (ps : List Parameter) (statements : (z : Scene) → IsEnd z → (n : ℕ) (m : Bool) → AreStatements z n m ss) (some : zero < length e.types.types) (c : Classless e) (h : When s e (Holds s e)) (k : ℕ) (there : slice_get e.entries k ≡ Some f) (inside : When s e (ParametersThere s ps e)) where
   abbrev result : ℕ
   result = result_of (fun_at e.types f.type)
 
@@ -182,15 +182,15 @@ module _ (s : Scene) (end : IsFileEnd s) (e : Env) (f : FunctionEntry) (at : ℕ
   types-length = let same = length-map ps (λ (p : Parameter). p.type) in omega (arith, same)
 
   -- in each scene where the function is one of the file
-  in-scene : (z : Scene) → IsEnd z → OwnerThere z (Some f.link) → When z start (Inside start result) → When z start (Holds z start) → When z start (ParametersThere ps start) → When z start (AreComplete z ps) → When z start (AreHomes z 0 ps)
+  in-scene : (z : Scene) → IsEnd z → OwnerThere z (Some f.link) → When z start (Inside start result) → When z start (Holds z start) → When z start (ParametersThere z ps start) → When z start (AreHomes z 0 ps)
       → Fine z (λ x g. BodyFits z n m false false x) start (run start)
-  in-scene z whole owner there held params complete homes =
+  in-scene z whole owner there held params homes =
       body-fine z whole n m at ss (statements z whole n m) ps start refl refl homes
-      (record { main = main-told; there = there; behind = types-length; deep = within-another e.scopes.outer e.scopes.inner; owner = owner }) start-classless held params complete
+      (record { main = main-told; there = there; behind = types-length; deep = within-another e.scopes.outer e.scopes.inner; owner = owner }) start-classless held params
 
   -- ---- behind the body
 
-  module _ (x : Node) (g : Env) (in-any : (z : Scene) → IsEnd z → OwnerThere z (Some f.link) → When z start (Inside start result) → When z start (Holds z start) → When z start (ParametersThere ps start) → When z start (AreComplete z ps) → When z start (AreHomes z 0 ps)
+  module _ (x : Node) (g : Env) (in-any : (z : Scene) → IsEnd z → OwnerThere z (Some f.link) → When z start (Inside start result) → When z start (Holds z start) → When z start (ParametersThere z ps start) → When z start (AreHomes z 0 ps)
       → Good z (λ y b. BodyFits z n m false false y) start x g) where
     abbrev L : List ℕ
     L = g.hand.locals
@@ -208,7 +208,6 @@ module _ (s : Scene) (end : IsFileEnd s) (e : Env) (f : FunctionEntry) (at : ℕ
     first : Good ended (λ y b. BodyFits ended n m false false y) start x g
     first = in-any ended (nowhere-end (fn ∷ []) result) (any-at (λ (y : CoreFn). bytes_eq y.name f.link) (fn ∷ []) 0 fn refl (same-name f.link))
         (λ w. absurd (never-within start (fn ∷ []) result some w)) (λ w. absurd (never-within start (fn ∷ []) result some w)) (λ w. absurd (never-within start (fn ∷ []) result some w)) (λ w. absurd (never-within start (fn ∷ []) result some w))
-        (λ w. absurd (never-within start (fn ∷ []) result some w))
 
     abbrev before : OpenScopes
     before = record { outer = e.scopes.outer; inner = e.scopes.inner }
@@ -258,7 +257,12 @@ module _ (s : Scene) (end : IsFileEnd s) (e : Env) (f : FunctionEntry) (at : ℕ
       fn-there = begins-get (g.functions ++ fn ∷ []) s.functions (length g.functions) fn w.functions (get-last g.functions fn)
 
       own-complete : (i t : ℕ) → slice_get (own_types ps) i ≡ Some t → is_complete [] (tree s t) ≡ true
-      own-complete i t there = end.params (length g.functions) fn fn-there i t there
+      own-complete i t at = own-from ps (inside early) i t at
+        where
+          own-from : (qs : List Parameter) → ParametersThere s qs e → (i t : ℕ) → slice_get (own_types qs) i ≡ Some t → is_complete [] (tree s t) ≡ true
+          own-from [] f i t at = absurd cc
+          own-from (q ∷ qs) f zero t at = let same : q.type ≡ t = cc in subst (λ x. is_complete [] (tree s x) ≡ true) same f.0.1
+          own-from (q ∷ qs) f (suc i) t at = own-from qs f.1 i t at
 
       z-end : IsEnd z
       z-end = record { scene = record { table = end.scene.table; no_class = end.scene.no_class; none_to_reference = end.scene.none_to_reference; sizes = end.scene.sizes }; arrays = end.arrays }
@@ -303,16 +307,12 @@ module _ (s : Scene) (end : IsFileEnd s) (e : Env) (f : FunctionEntry) (at : ℕ
         frame = own-complete;
       }
 
-      complete-from : (qs : List Parameter) → ((i t : ℕ) → slice_get (own_types qs) i ≡ Some t → is_complete [] (tree s t) ≡ true) → AreComplete z qs
-      complete-from [] at = tt
-      complete-from (q ∷ qs) at = (at 0 q.type refl, complete-from qs (λ i t there. at (suc i) t there))
-
-      params-there : (qs : List Parameter) → ParametersThere qs e → ParametersThere qs start
+      params-there : (qs : List Parameter) → ParametersThere s qs e → ParametersThere z qs start
       params-there [] p = tt
       params-there (q ∷ qs) p = (p.0, params-there qs p.1)
 
       made : Good z (λ y b. BodyFits z n m false false y) start x g
-      made = in-any z z-end owner (λ v. result-there) (λ v. start-holds) (λ v. params-there ps (inside early)) (λ v. complete-from ps own-complete) (λ v. homes)
+      made = in-any z z-end owner (λ v. result-there) (λ v. start-holds) (λ v. params-there ps (inside early)) (λ v. homes)
 
       there-end : Within g z
       there-end = record {
@@ -402,7 +402,7 @@ module _ (s : Scene) (end : IsFileEnd s) (e : Env) (f : FunctionEntry) (at : ℕ
     where
       Scened : Answer Node → Type 0
       Scened r =
-          (z : Scene) → IsEnd z → OwnerThere z (Some f.link) → When z start (Inside start result) → When z start (Holds z start) → When z start (ParametersThere ps start) → When z start (AreComplete z ps) → When z start (AreHomes z 0 ps)
+          (z : Scene) → IsEnd z → OwnerThere z (Some f.link) → When z start (Inside start result) → When z start (Holds z start) → When z start (ParametersThere z ps start) → When z start (AreHomes z 0 ps)
           → Fine z (λ x g. BodyFits z n m false false x) start r
 
       by : (r : Answer Node) → Scened r → Fine s Any e (onward (onward (onward r (λ x g. Made x (left g))) (λ x g. Made (x, drop (length ps) g.hand.locals) (record g { hand = e.hand })))

@@ -15,7 +15,7 @@ use Rattle.cf_elab_valid.specs.Answers.{Fine}
 use Rattle.cf_elab_valid.specs.Scene.{Scene, tree, Steps, Within, Inside, Classless, Holds}
 use Rattle.cf_elab_valid.proofs.Shapes.{ParametersThere, parameters-later}
 use Rattle.cf_elab_valid.proofs.Ways.{made-fine, onward-fine, within-before, When}
-use Rattle.cf_elab_valid_objects.proofs.Whole.{complete-no-void}
+use Rattle.cf_elab_valid.proofs.Whole.{complete-no-void}
 use Rattle.cf_elab_valid_statics.proofs.Names.{Any}
 use Rattle.cf_elab_valid_declarations.proofs.Entering.{named-fine}
 
@@ -25,11 +25,6 @@ AreHomes s i [] = Unit {0}
 AreHomes s i (p ∷ ps) = (slice_get s.locals i ≡ Some p.type) × AreHomes s (i + 1) ps
 
 module _ (s : Scene) where
-  -- each is of a complete type
-  abbrev pub AreComplete : List Parameter → Type 0
-  AreComplete [] = Unit {0}
-  AreComplete (p ∷ ps) = (is_complete [] (tree s p.type) ≡ true) × AreComplete ps
-
   object-fine : (i t : ℕ) (name : Name) (at : ℕ) (e : Env) → When s e (slice_get s.locals i ≡ Some t) → Classless e → When s e (Holds s e) → When s e (Inside e t) → When s e (is_complete [] (tree s t) ≡ true) → Fine s Any e (declare_in_block name at (block_object t (local_home i) at) e)
   object-fine i t name at e home c h inside whole = by (is_some (declared_here e name))
     where
@@ -37,11 +32,11 @@ module _ (s : Scene) where
       by true = tt
       by false = named-fine s Any tt name (object (block_object t (local_home i) at)) e (λ k is. absurd cc) c h (λ w. (inside w, home w, complete-no-void (tree s t) (whole w), tt)) (λ w. tt) (λ w. tt)
 
-  pub parameters-fine : (i : ℕ) (ps : List Parameter) (e : Env) → When s e (AreHomes s i ps) → Classless e → When s e (Holds s e) → When s e (ParametersThere ps e) → When s e (AreComplete ps) → Fine s Any e (row.declare_parameters i ps e)
-  parameters-fine i [] e k c h f whole = made-fine s Any e tt c h (λ w. tt)
-  parameters-fine i (p ∷ ps) e k c h f whole =
+  pub parameters-fine : (i : ℕ) (ps : List Parameter) (e : Env) → When s e (AreHomes s i ps) → Classless e → When s e (Holds s e) → When s e (ParametersThere s ps e) → Fine s Any e (row.declare_parameters i ps e)
+  parameters-fine i [] e k c h f = made-fine s Any e tt c h (λ w. tt)
+  parameters-fine i (p ∷ ps) e k c h f =
       onward-fine s Any Any e (declare_parameter p.name e) (λ _. row.declare_parameters (i + 1) ps) (by p.name)
-      (λ u e1 g c1 h1 any. parameters-fine (i + 1) ps e1 (λ w. (k (within-before e e1 s g w)).1) c1 h1 (λ w. parameters-later e e1 ps g (f (within-before e e1 s g w)).1) (λ w. (whole (within-before e e1 s g w)).1))
+      (λ u e1 g c1 h1 any. parameters-fine (i + 1) ps e1 (λ w. (k (within-before e e1 s g w)).1) c1 h1 (λ w. parameters-later s e e1 ps g (f (within-before e e1 s g w)).1))
     where
       named : ℕ → Last → Elab (Unit {0})
       named at (last.Ident name) = declare_in_block name at (block_object p.type (local_home i) at)
@@ -56,7 +51,7 @@ module _ (s : Scene) where
       by (Some n) = by_last n.last
         where
           by_last : (l : Last) → Fine s Any e (named n.last_at l e)
-          by_last (last.Ident name) = object-fine i p.type name n.last_at e (λ w. (k w).0) c h (λ w. (f w).0) (λ w. (whole w).0)
+          by_last (last.Ident name) = object-fine i p.type name n.last_at e (λ w. (k w).0) c h (λ w. (f w).0.0) (λ w. (f w).0.1)
           by_last (last.Destructor name) = tt
           by_last (last.Operator o) = tt
           by_last (last.Conversion specifiers pointers) = tt

@@ -44,7 +44,7 @@ use Rattle.cf_elab_valid.proofs.Unary.{bare_once, bare_sort}
 use Rattle.cf_elab_valid.proofs.Values.{plain-value, plain-number}
 use Rattle.cf_elab_valid.proofs.Ways.{inside-later, made-fine, onward-fine, within-before, When}
 use Rattle.cf_elab_valid_objects.specs.Starts.{StartFits, KeeperFits, IsKeeper}
-use Rattle.cf_elab_valid_objects.proofs.Whole.{operand-complete}
+use Rattle.cf_elab_valid.proofs.Whole.{operand-complete}
 
 module _ (s : Scene) (scene : IsScene s) (keeper : ℕ → Elab Keeper) (keeps : IsKeeper s keeper) where
   -- an initialiser of the type

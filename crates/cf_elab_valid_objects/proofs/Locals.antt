@@ -30,7 +30,7 @@ use Rattle.cf_elab_valid_objects.specs.Quiet.{LeavesNames, LeavesIn}
 use Rattle.cf_elab_valid_objects.proofs.Initialisers.{leaves-through, written-leaves}
 use Rattle.cf_elab_valid_objects.specs.Starts.{WholeElements, StartFits, MaybeFits}
 use Rattle.cf_elab_valid_objects.proofs.Keepers.{longer, longer-steps, longer-frame, local-there, local-typed, local_keeper-is}
-use Rattle.cf_elab_valid_objects.proofs.Whole.{complete-no-void}
+use Rattle.cf_elab_valid.proofs.Whole.{complete-no-void}
 use Rattle.cf_elab_valid_objects.proofs.Written.{nothing-fine, starting-fine}
 use Rattle.cf_elab_valid_objects.specs.Declared.{ReachedFits, AllReached, AreInitial}
 use Rattle.cf_elab_valid_objects.proofs.Naming.{found-last, named, named-steps, named-classless, named-holds, renamed, StandsAs, renamed-steps, renamed-classless, renamed-holds}

@@ -29,7 +29,7 @@ use Rattle.cf_elab_valid.proofs.Ways.{begins-get, inside-end}
 use Rattle.cf_elab_valid_objects.specs.Starts.{WholeElements}
 use Rattle.cf_elab_valid_objects.proofs.Elements.{PlannerFits, scalar-fits, array-fits}
 use Rattle.cf_elab_valid_objects.proofs.Plans.{plan-const}
-use Rattle.cf_elab_valid_objects.proofs.Whole.{complete-no-void}
+use Rattle.cf_elab_valid.proofs.Whole.{complete-no-void}
 
 number_made : Answer ℕ → ℕ
 number_made (Made n e) = n

@@ -1,14 +1,10 @@
--- Types of which objects can be made, and types that functions give (8.2.4, 8.2.5).
-use Rattle.std.proofs.Common.{◌≡◌, ℕ, Bool, true, false, ◌||◌, [], Some, slice_get, refl, sym, ap, ◌∙◌, true≢false}
+-- Types of which objects can be made (8.2.4).
+use Rattle.std.proofs.Common.{◌≡◌, ℕ, Bool, true, false, [], Some, slice_get, refl, sym, ap, ◌∙◌, true≢false}
 use Rattle.cf_types.specs.declared.ty.Ty.{Ty}
 use Rattle.cf_types.specs.declared.ty.Ty.TheVariants as ty
 use Rattle.cf_convert.specs.Constness.{type_at, bare}
 use Rattle.cf_core.specs.FromTypes.{type_step}
-use Rattle.cf_core.specs.Places.{is_reference}
-use Rattle.cf_core.specs.Types as tree_is
-use Rattle.cf_core.specs.Types.{SourceType, void, class, array, takes, gives, const, reference, without_const}
-use Rattle.cf_core.specs.Valid.{is_complete, result_fits}
-use Rattle.cf_core_typed.specs.Same.{Same, is_operand}
+use Rattle.cf_core.specs.Valid.{is_complete}
 use Rattle.cf_elab.specs.Env.{Env}
 use Rattle.cf_elab.specs.Operand.{ty_sort, sort_of, is_void, is_function}
 use Rattle.cf_elab_env.proofs.Growth.{here}
@@ -16,43 +12,8 @@ use Rattle.cf_elab_env.proofs.Sorts.{no_class_at}
 use Rattle.cf_elab_valid.specs.Scene.{Scene, IsScene, tree, Within, Inside}
 use Rattle.cf_elab_valid.proofs.Early.{early-form, early-inside}
 use Rattle.cf_elab_valid.proofs.Ways.{begins-get}
+use Rattle.cf_elab_valid.proofs.Whole.{same-complete}
 use Rattle.cf_elab_valid_objects.specs.Starts.{WholeElements}
-
--- what is complete is no void
-pub complete-no-void : (t : SourceType) → is_complete [] t ≡ true → tree_is.is_void t ≡ false
-complete-no-void void h = absurd (true≢false (sym h))
-complete-no-void (const t) h = complete-no-void t h
-complete-no-void t h = refl
-
--- const makes no difference
-complete-plain : (t : SourceType) → is_complete [] (without_const t) ≡ is_complete [] t
-complete-plain (array t n) = complete-plain t
-complete-plain (const t) = complete-plain t
-complete-plain t = refl
-
-pub same-complete : (t u : SourceType) → Same t u → is_complete [] t ≡ is_complete [] u
-same-complete t u h = sym (complete-plain t) ∙ ap (is_complete []) h ∙ complete-plain u
-
--- a scalar is one
-pub operand-complete : (t : SourceType) → is_operand t ≡ true → tree_is.is_void t ≡ false → is_complete [] t ≡ true
-operand-complete void o v = absurd (true≢false v)
-operand-complete (class c) o v = absurd (true≢false (sym o))
-operand-complete (reference t) o v = refl
-operand-complete (array t n) o v = absurd (true≢false (sym o))
-operand-complete (takes p t) o v = absurd (true≢false (sym o))
-operand-complete (gives t c) o v = absurd (true≢false (sym o))
-operand-complete (const t) o v = operand-complete t o v
-operand-complete t o v = refl
-
--- a function gives a scalar, a reference or nothing
-pub given-fits : (t : SourceType) → (is_operand t || is_reference t) ≡ true → result_fits [] t ≡ true
-given-fits void h = refl
-given-fits (class c) h = absurd (true≢false (sym h))
-given-fits (array t n) h = absurd (true≢false (sym h))
-given-fits (takes p t) h = absurd (true≢false (sym h))
-given-fits (gives t c) h = absurd (true≢false (sym h))
-given-fits (const t) h = given-fits t h
-given-fits t h = refl
 
 -- ---- neither void nor a function
 

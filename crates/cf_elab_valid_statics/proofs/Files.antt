@@ -28,7 +28,7 @@ use Rattle.cf_elab_valid_objects.specs.Quiet.{LeavesNames, LeavesIn}
 use Rattle.cf_elab_valid_objects.specs.Starts.{WholeElements, StartFits, MaybeFits}
 use Rattle.cf_elab_valid_objects.proofs.Keepers.{defined, defined-steps, defined-fine, static_keeper-is}
 use Rattle.cf_elab_valid_objects.proofs.Locals.{leaving-fine}
-use Rattle.cf_elab_valid_objects.proofs.Whole.{complete-no-void}
+use Rattle.cf_elab_valid.proofs.Whole.{complete-no-void}
 use Rattle.cf_elab_valid_statics.specs.Linked.{StandsFor}
 use Rattle.cf_elab_valid_statics.proofs.Linked.{linked-fine}
 use Rattle.cf_elab_valid_statics.proofs.Names.{Any}

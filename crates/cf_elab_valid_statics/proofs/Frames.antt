@@ -39,7 +39,7 @@ use Rattle.cf_elab_valid_objects.specs.Quiet.{LeavesNames, LeavesIn}
 use Rattle.cf_elab_valid_objects.specs.Starts.{WholeElements, StartFits, MaybeFits}
 use Rattle.cf_elab_valid_objects.proofs.Keepers.{defined, defined-steps, defined-fine, defined-there, static_keeper-is}
 use Rattle.cf_elab_valid_objects.proofs.Naming.{found-last, named, named-steps, named-classless, named-holds}
-use Rattle.cf_elab_valid_objects.proofs.Whole.{complete-no-void}
+use Rattle.cf_elab_valid.proofs.Whole.{complete-no-void}
 use Rattle.cf_elab_valid_statics.specs.Fixed.{IsApart, ApartIn, IsFixed, FixedIn, AreParts}
 use Rattle.cf_elab_valid_statics.specs.Linked.{StandsFor}
 use Rattle.cf_elab_valid_statics.proofs.Files.{static-leaves}
