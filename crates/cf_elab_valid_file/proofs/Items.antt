@@ -76,14 +76,8 @@ module _ (s : Scene) (end : IsFileEnd s) where
 
   -- ---- the items
 
-  no_local : (i t : ℕ) → slice_get s.locals i ≡ Some t → ⊥
-  no_local i t at = by (subst (λ l. slice_get l i ≡ Some t) end.outside at)
-    where
-      by : slice_get [] i ≡ Some t → ⊥
-      by q = absurd cc
-
   abbrev is_end : IsEnd s
-  is_end = record { scene = end.scene; arrays = end.arrays; frame = λ i t at. absurd (no_local i t at) }
+  is_end = record { scene = end.scene; arrays = end.arrays }
 
   pub outermost-later : (a b : Env) → Steps a b → is_outermost a.scopes.outer ≡ true → is_outermost b.scopes.outer ≡ true
   outermost-later a b g o = ap is_outermost g.outer ∙ o
