@@ -1,5 +1,5 @@
 -- The first environment of a file keeps the invariants, and there are ends to which they apply.
-use Rattle.std.proofs.Common.{◌≡◌, inl, inr, ℕ, zero, suc, ◌<◌, ◌≤◌, List, [], ◌∷◌, Some, IsTrue, slice_get, refl, sym, subst, arith, lit≤}
+use Rattle.std.proofs.Common.{◌≡◌, inl, inr, ℕ, zero, suc, ◌<◌, ◌≤◌, false, List, [], ◌∷◌, Some, IsTrue, slice_get, refl, sym, subst, arith, lit≤}
 use Rattle.cf_base.specs.declared.kind.Kind.TheVariants.{Int}
 use Rattle.cf_types.specs.declared.ty.Ty.{Ty}
 use Rattle.cf_types.specs.declared.ty.Ty.TheVariants as ty
@@ -20,7 +20,7 @@ first-within s extent names = record {
   types = record { more = s.tables.types.types; all = refl };
   funs = record { more = s.tables.types.funs; all = refl };
   enums = record { more = s.tables.classes.enums; all = refl };
-  locals = record { more = s.locals; all = refl };
+  locals = λ f. record { more = s.locals; all = refl };
   statics = λ n x h. absurd cc;
   functions = record { more = s.functions; all = refl };
 }
@@ -42,7 +42,7 @@ first-holds s r extent names = record {
 
 -- a file of ints
 abbrev of_int : Scene
-of_int = record { tables = record { types = record { types = ty.Int Int ∷ []; funs = [] }; classes = record { labels = []; enums = []; defined = [] } }; statics = []; functions = []; locals = []; result = 0 }
+of_int = record { tables = record { types = record { types = ty.Int Int ∷ []; funs = [] }; classes = record { labels = []; enums = []; defined = [] } }; statics = []; functions = []; has_frame = false; locals = []; result = 0 }
 
 only_int : (i : ℕ) (v : Ty) → slice_get (ty.Int Int ∷ []) i ≡ Some v → ty.Int Int ≡ v
 only_int zero v h = cc

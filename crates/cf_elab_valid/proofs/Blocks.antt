@@ -78,7 +78,7 @@ module _ (s : Scene) (scene : IsScene s) (n : ℕ) (m : Bool) where
       there w = record { types = w.types; funs = w.funs; enums = w.enums; locals = w.locals; statics = w.statics; functions = w.functions }
 
       inside : Inner s n m (entered e)
-      inside = record { main = i.main; there = λ w. i.there (there w); behind = i.behind; deep = within-another e.scopes.outer e.scopes.inner; owner = i.owner }
+      inside = record { frame = i.frame; main = i.main; there = λ w. i.there (there w); behind = i.behind; deep = within-another e.scopes.outer e.scopes.inner; owner = i.owner }
 
       held : When s (entered e) (Holds s (entered e))
       held w = moved-holds s e.hand (entered e).scopes e refl refl (λ j q. empty-numbered j (e.scopes.outer ++ e.scopes.inner ∷ []) q) (h (there w))

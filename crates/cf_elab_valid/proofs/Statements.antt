@@ -81,6 +81,7 @@ full_fits f b k c h = h
 
 pub inner-later : (s : Scene) (n : ℕ) (m : Bool) (a b : Env) → Steps a b → Inner s n m a → Inner s n m b
 inner-later s n m a b g i = record {
+  frame = i.frame;
   main = λ h. i.main (ap is_main_body (sym g.hand.kind) ∙ h);
   there = λ w. subst (Inside b) (sym g.hand.result) (inside-later a b a.hand.result g (i.there (within-before a b s g w)));
   behind = let longer = begins-longer a.hand.locals b.hand.locals g.locals in let before = i.behind in omega arith;
@@ -243,7 +244,7 @@ module _ (s : Scene) (scene : IsScene s) (n : ℕ) (m : Bool) where
   looped-fine run k e i c h = by (run (flagged true true e)) (k.fine (flagged true true e) inside (flagged-classless true true e c) (flagged-holds true true e h))
     where
       inside : Inner s n m (flagged true true e)
-      inside = record { main = i.main; there = λ w. i.there (within-flagged true true e w); behind = i.behind; deep = i.deep; owner = i.owner }
+      inside = record { frame = i.frame; main = i.main; there = λ w. i.there (within-flagged true true e w); behind = i.behind; deep = i.deep; owner = i.owner }
 
       by : (r : Answer Made) → Fine s (λ x f. StatementFits s n m true true x f) (flagged true true e) r
           → Fine s (λ x f. StatementFits s n m true true x f) e (onward r (λ x f. MadeIn x (flagged e.hand.breaks e.hand.continues f)))

@@ -70,7 +70,7 @@ within-before a b s g w = record {
   types = begins-through a.types.types b.types.types s.tables.types.types g.types w.types;
   funs = begins-through a.types.funs b.types.funs s.tables.types.funs g.funs w.funs;
   enums = begins-through a.classes.enums b.classes.enums s.tables.classes.enums g.enums w.enums;
-  locals = begins-through a.hand.locals b.hand.locals s.locals g.locals w.locals;
+  locals = λ f. begins-through a.hand.locals b.hand.locals s.locals g.locals (w.locals f);
   statics = λ n x at. w.statics n x (begins-get a.statics b.statics n x g.statics at);
   functions = begins-through a.functions b.functions s.functions g.functions w.functions;
 }

@@ -39,11 +39,12 @@ use Rattle.cf_elab_valid.specs.Sorts.{NoneToReference}
 
 -- ---- the end
 
--- the tables, the static objects and the functions of the file, and of the function at hand the types of its locals and of its result
+-- the tables, the static objects and the functions of the file; and whether a function is at hand, with the types of its locals and of its result
 pub record Scene : Type 0 where
   pub tables : Tables
   pub statics : List Static
   pub functions : List CoreFn
+  pub has_frame : Bool
   pub locals : List ℕ
   pub result : ℕ
 
@@ -78,12 +79,12 @@ pub record Begins {A : Type 0} (xs ys : List A) : Type 0 where
 abbrev pub AreThere : Scene → List CoreStatic → Type 0
 AreThere s xs = (n : ℕ) (x : CoreStatic) → slice_get xs n ≡ Some x → find (λ (y : Static). bytes_eq y.name x.name) s.statics ≡ Some (static_of s.tables x)
 
--- what an environment has of types, of enumerations, of functions and of locals stands first at the end, which has its static objects
+-- what an environment has of types, of enumerations, of functions and of the locals of the function at hand stands first at the end, which has its static objects
 pub record Within (env : Env) (s : Scene) : Type 0 where
   pub types : Begins env.types.types s.tables.types.types
   pub funs : Begins env.types.funs s.tables.types.funs
   pub enums : Begins env.classes.enums s.tables.classes.enums
-  pub locals : Begins env.hand.locals s.locals
+  pub locals : s.has_frame ≡ true → Begins env.hand.locals s.locals
   pub statics : AreThere s env.statics
   pub functions : Begins env.functions s.functions
 

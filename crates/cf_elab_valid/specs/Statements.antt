@@ -26,6 +26,7 @@ is_outermost (x ∷ xs) = false
 
 -- in the body of a function of the file whose result is there, behind its parameters
 pub record Inner (s : Scene) (parameters : ℕ) (is_main : Bool) (e : Env) : Type 0 where
+  pub frame : s.has_frame ≡ true
   pub main : is_main_body e.hand.kind ≡ true → is_main ≡ true
   pub there : Within e s → Inside e e.hand.result
   pub behind : parameters ≤ length e.hand.locals

@@ -99,7 +99,7 @@ module _ (s : Scene) (scene : IsScene s) (arrays : WholeElements s.tables) where
           by : (a b : Bool) → Fine s (λ rs f. Reaches rs) e (let run : Elab (List Reached) = if a then external else (if b then define_in_function at name t parts else define_local at name t parts) in run e)
           by true b = external-fine
           by false true = function-fine s scene arrays n m at name t parts e given inner.owner c h i whole
-          by false false = local-fine s scene arrays n m at name t parts e given.initial inner.behind c h i whole
+          by false false = local-fine s scene arrays inner.frame n m at name t parts e given.initial inner.behind c h i whole
 
     pub block-rows : (at : ℕ) (g : Gathered) (ds : List Declares) (e : Env) → AreDeclarators s scene ds → Inner s n m e → Classless e → When s e (Holds s e) → When s e (NamedFits g e) → Fine s (λ rs f. Reaches rs) e (row.declaration_row at g ds e)
     block-rows at g ds e k inner c h f =

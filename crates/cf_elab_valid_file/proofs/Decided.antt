@@ -20,7 +20,7 @@ use Rattle.cf_elab.specs.Operand.{sort_of, is_reference, is_void}
 use Rattle.cf_elab_env.specs.Holds.{HasNoClass}
 use Rattle.cf_elab_env.proofs.Sorts.{below_at}
 use Rattle.cf_elab_valid.specs.Sorts.{Aims}
-use Rattle.cf_elab_valid_file.specs.Ends.{is_object, is_given, aims_right, no_locals, names_right, is_finished}
+use Rattle.cf_elab_valid_file.specs.Ends.{is_object, is_given, aims_right, names_right, is_finished}
 use Rattle.cf_elab_valid_file.specs.Laws.{tables_of, IsFinished}
 use Rattle.cf_elab_valid_file.proofs.Sorted.{reference-told, void-told, given-told, complete-told}
 
@@ -33,10 +33,6 @@ all-get test (y ∷ ys) (suc n) x h at = all-get test ys n x (and-right (test y)
 not-told : (b : Bool) → not b ≡ true → b ≡ false
 not-told false h = refl
 not-told true h = absurd (true≢false (sym h))
-
-none-told : (l : List ℕ) → no_locals l ≡ true → l ≡ []
-none-told [] h = refl
-none-told (t ∷ l) h = absurd (true≢false (sym h))
 
 module _ (T : Tables) (well : IsTable T.types) (plain : HasNoClass T.types) (right : list_all (aims_right T.types) T.types.types ≡ true) where
   abbrev Known : ℕ → Type 0
@@ -80,16 +76,14 @@ module _ (T : Tables) (well : IsTable T.types) (plain : HasNoClass T.types) (rig
 pub decided : (e : Env) → IsTable e.types → HasNoClass e.types → is_finished e ≡ true → IsFinished e
 decided e table plain h =
     let T = tables_of e in
-    let begun : Bool = no_locals e.hand.locals && list_all (aims_right e.types) e.types.types in
-    let first = and-left begun (names_right e) h in
-    let right = and-right (no_locals e.hand.locals) (list_all (aims_right e.types) e.types.types) first in
-    let names = and-right begun (names_right e) h in
+    let aimed : Bool = list_all (aims_right e.types) e.types.types in
+    let right = and-left aimed (names_right e) h in
+    let names = and-right aimed (names_right e) h in
     let differ : Bool = all_differ (map (λ (f : CoreFn). f.name) e.functions ++ map (λ (x : CoreStatic). x.name) e.statics) in
     let short : Bool = list_all (λ (x : CoreStatic). is_short x.name) e.statics in record {
       table = table;
       aims = λ t v at. aim T table plain right t v at;
       elements = λ t u n at. whole-told T table plain right t u n at;
-      hand = none-told e.hand.locals (and-left (no_locals e.hand.locals) (list_all (aims_right e.types) e.types.types) first);
       names = and-left differ short names;
       short_statics = and-right differ short names;
     }

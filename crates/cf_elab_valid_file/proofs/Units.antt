@@ -56,7 +56,7 @@ module _ (e : Env) (finished : IsFinished e) (c : Classless e) (sizes : (t : ℕ
   -- ---- the scene of the end
 
   abbrev scene : Scene
-  scene = record { tables = T; statics = map (static_of T) e.statics; functions = e.functions; locals = []; result = 0 }
+  scene = record { tables = T; statics = map (static_of T) e.statics; functions = e.functions; has_frame = false; locals = []; result = 0 }
 
   is_scene : IsScene scene
   is_scene = record { table = finished.table; no_class = c.no_type; none_to_reference = finished.aims; sizes = sizes }
@@ -69,13 +69,13 @@ module _ (e : Env) (finished : IsFinished e) (c : Classless e) (sizes : (t : ℕ
 
   -- ---- at the end
 
-  module _ (locals : e.hand.locals ≡ []) (holds : Within e scene → Holds scene e) where
+  module _ (holds : Within e scene → Holds scene e) where
     within : Within e scene
     within = record {
       types = begins-same e.types.types;
       funs = begins-same e.types.funs;
       enums = begins-same e.classes.enums;
-      locals = record { more = []; all = sym (ap (λ l. l ++ []) locals) };
+      locals = λ frame. absurd (true≢false (sym frame));
       statics = λ n x at. find-own T e.statics n x at static-names;
       functions = begins-same e.functions;
     }
@@ -235,7 +235,7 @@ file-law apart extent u b fits e run finished =
     let first : Good (nowhere [] 0) Any begin tt e = subst (λ r. Fine (nowhere [] 0) Any begin r) run (turn-fine (nowhere [] 0) nowhere-file apart u.items b fits refl extent (defined_names u)) in
     let small = subst (λ (r : Answer (Unit {0})). SmallIn e.types finished.table r) run (turn-small e.types finished.table (nowhere [] 0) nowhere-file apart u.items b fits refl extent (defined_names u)) (begins-same e.types.types) in
     let good : Good (scene e finished first.classless small) Any begin tt e = subst (λ r. Fine (scene e finished first.classless small) Any begin r) run (turn-fine (scene e finished first.classless small) (file-end e finished first.classless small) apart u.items b fits refl extent (defined_names u)) in
-    unit-valid e finished first.classless small finished.hand good.holds
+    unit-valid e finished first.classless small good.holds
 
 -- where a look at the end finds it well formed
 pub finished-law : ConstantsAreApart → (extent : Extent) (u : FileTree) → not_built u ≡ None → file_fits u ≡ true → (e : Env) → in_turn (map item_row u.items) (first_env extent (defined_names u)) ≡ Made tt e → IsTable e.types → is_finished e ≡ true → IsValid (core_unit e)

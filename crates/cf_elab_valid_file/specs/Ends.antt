@@ -1,5 +1,5 @@
 -- Whether the end of a file is as the law of files asks: a look at the table of types and the link names.
-use Rattle.std.specs.Prelude.{ℕ, Bool, true, false, not, ◌&&◌, List, [], ◌∷◌, ◌++◌, map, slice_get}
+use Rattle.std.specs.Prelude.{Bool, true, false, not, ◌&&◌, ◌++◌, map, slice_get}
 use Rattle.std.specs.List.{list_all}
 use Rattle.std.specs.Option.{option_map_or}
 use Rattle.cf_types.specs.Table.{Table}
@@ -33,14 +33,10 @@ aims_right types (ty.Array t n) = not (is_reference (sort_of types t)) && is_obj
 aims_right types (ty.Fun f) = option_map_or (λ (g : Fun). is_given (sort_of types g.result)) (slice_get types.funs f) true
 aims_right types other = true
 
-abbrev pub no_locals : List ℕ → Bool
-no_locals [] = true
-no_locals (t ∷ ts) = false
-
 abbrev pub names_right : Env → Bool
 names_right env =
     all_differ (map (λ (f : CoreFn). f.name) env.functions ++ map (λ (x : CoreStatic). x.name) env.statics)
     && list_all (λ (x : CoreStatic). is_short x.name) env.statics
 
 abbrev pub is_finished : Env → Bool
-is_finished env = (no_locals env.hand.locals && list_all (aims_right env.types) env.types.types) && names_right env
+is_finished env = list_all (aims_right env.types) env.types.types && names_right env

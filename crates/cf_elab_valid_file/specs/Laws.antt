@@ -36,13 +36,12 @@ file_fits u = all_of (map item_fits u.items)
 abbrev pub tables_of : Env → Tables
 tables_of env = record { types = env.types; classes = env.classes }
 
--- What a look at the table of types and the link names tells at the end of a file: the table is well formed, nothing leads to a reference, and arrays have objects; no function is
--- at hand; and link names differ, and those of static objects are short.
+-- What a look at the table of types and the link names tells at the end of a file: the table is well formed, nothing leads to a reference, and arrays have objects; and link names
+-- differ, and those of static objects are short.
 pub record IsFinished (env : Env) : Type 0 where
   pub table : IsTable env.types
   pub aims : NoneToReference (tables_of env)
   pub elements : WholeElements (tables_of env)
-  pub hand : env.hand.locals ≡ []
   pub names : all_differ (map (λ (f : CoreFn). f.name) env.functions ++ map (λ (x : CoreStatic). x.name) env.statics) ≡ true
   pub short_statics : list_all (λ (x : CoreStatic). is_short x.name) env.statics ≡ true
 

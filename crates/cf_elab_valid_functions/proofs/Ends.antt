@@ -22,7 +22,7 @@ use Rattle.cf_elab_valid_bodies.specs.Laws.{IsEnd}
 
 -- with these functions and this result
 abbrev pub nowhere : List CoreFn → ℕ → Scene
-nowhere fs result = record { tables = record { types = record { types = []; funs = [] }; classes = record { labels = []; enums = []; defined = [] } }; statics = []; functions = fs; locals = []; result = result }
+nowhere fs result = record { tables = record { types = record { types = []; funs = [] }; classes = record { labels = []; enums = []; defined = [] } }; statics = []; functions = fs; has_frame = true; locals = []; result = result }
 
 pub nowhere-end : (fs : List CoreFn) (result : ℕ) → IsEnd (nowhere fs result)
 nowhere-end fs result = record {

@@ -74,7 +74,7 @@ entry-same s z a b f p k = record { fun = k.fun; here = subst (λ u. slice_get u
 
 -- the scene with another frame and another result
 abbrev pub framed : Scene → List ℕ → ℕ → Scene
-framed s locals result = record s { locals = locals; result = result }
+framed s locals result = record s { has_frame = true; locals = locals; result = result }
 
 not-static : (h : Home) → not (is_static_home h) ≡ false → is_static_home h ≡ true
 not-static (static_home name) k = refl
@@ -182,15 +182,15 @@ module _ (s : Scene) (end : IsFileEnd s) (e : Env) (f : FunctionEntry) (at : ℕ
   types-length = let same = length-map ps (λ (p : Parameter). p.type) in omega (arith, same)
 
   -- in each scene where the function is one of the file
-  in-scene : (z : Scene) → IsEnd z → OwnerThere z (Some f.link) → When z start (Inside start result) → When z start (Holds z start) → When z start (ParametersThere z ps start) → When z start (AreHomes z 0 ps)
+  in-scene : (z : Scene) → IsEnd z → z.has_frame ≡ true → OwnerThere z (Some f.link) → When z start (Inside start result) → When z start (Holds z start) → When z start (ParametersThere z ps start) → When z start (AreHomes z 0 ps)
       → Fine z (λ x g. BodyFits z n m false false x) start (run start)
-  in-scene z whole owner there held params homes =
+  in-scene z whole frame owner there held params homes =
       body-fine z whole n m at ss (statements z whole n m) ps start refl refl homes
-      (record { main = main-told; there = there; behind = types-length; deep = within-another e.scopes.outer e.scopes.inner; owner = owner }) start-classless held params
+      (record { frame = frame; main = main-told; there = there; behind = types-length; deep = within-another e.scopes.outer e.scopes.inner; owner = owner }) start-classless held params
 
   -- ---- behind the body
 
-  module _ (x : Node) (g : Env) (in-any : (z : Scene) → IsEnd z → OwnerThere z (Some f.link) → When z start (Inside start result) → When z start (Holds z start) → When z start (ParametersThere z ps start) → When z start (AreHomes z 0 ps)
+  module _ (x : Node) (g : Env) (in-any : (z : Scene) → IsEnd z → z.has_frame ≡ true → OwnerThere z (Some f.link) → When z start (Inside start result) → When z start (Holds z start) → When z start (ParametersThere z ps start) → When z start (AreHomes z 0 ps)
       → Good z (λ y b. BodyFits z n m false false y) start x g) where
     abbrev L : List ℕ
     L = g.hand.locals
@@ -206,7 +206,7 @@ module _ (s : Scene) (end : IsFileEnd s) (e : Env) (f : FunctionEntry) (at : ℕ
     ended = nowhere (fn ∷ []) result
 
     first : Good ended (λ y b. BodyFits ended n m false false y) start x g
-    first = in-any ended (nowhere-end (fn ∷ []) result) (any-at (λ (y : CoreFn). bytes_eq y.name f.link) (fn ∷ []) 0 fn refl (same-name f.link))
+    first = in-any ended (nowhere-end (fn ∷ []) result) refl (any-at (λ (y : CoreFn). bytes_eq y.name f.link) (fn ∷ []) 0 fn refl (same-name f.link))
         (λ w. absurd (never-within start (fn ∷ []) result some w)) (λ w. absurd (never-within start (fn ∷ []) result some w)) (λ w. absurd (never-within start (fn ∷ []) result some w)) (λ w. absurd (never-within start (fn ∷ []) result some w))
 
     abbrev before : OpenScopes
@@ -312,14 +312,14 @@ module _ (s : Scene) (end : IsFileEnd s) (e : Env) (f : FunctionEntry) (at : ℕ
       params-there (q ∷ qs) p = (p.0, params-there qs p.1)
 
       made : Good z (λ y b. BodyFits z n m false false y) start x g
-      made = in-any z z-end owner (λ v. result-there) (λ v. start-holds) (λ v. params-there ps (inside early)) (λ v. homes)
+      made = in-any z z-end refl owner (λ v. result-there) (λ v. start-holds) (λ v. params-there ps (inside early)) (λ v. homes)
 
       there-end : Within g z
       there-end = record {
         types = w.types;
         funs = w.funs;
         enums = w.enums;
-        locals = begins-same L;
+        locals = λ _. begins-same L;
         statics = w.statics;
         functions = begins-through g.functions (g.functions ++ fn ∷ []) s.functions (begins-last g.functions fn) w.functions;
       }
@@ -402,7 +402,7 @@ module _ (s : Scene) (end : IsFileEnd s) (e : Env) (f : FunctionEntry) (at : ℕ
     where
       Scened : Answer Node → Type 0
       Scened r =
-          (z : Scene) → IsEnd z → OwnerThere z (Some f.link) → When z start (Inside start result) → When z start (Holds z start) → When z start (ParametersThere z ps start) → When z start (AreHomes z 0 ps)
+          (z : Scene) → IsEnd z → z.has_frame ≡ true → OwnerThere z (Some f.link) → When z start (Inside start result) → When z start (Holds z start) → When z start (ParametersThere z ps start) → When z start (AreHomes z 0 ps)
           → Fine z (λ x g. BodyFits z n m false false x) start r
 
       by : (r : Answer Node) → Scened r → Fine s Any e (onward (onward (onward r (λ x g. Made x (left g))) (λ x g. Made (x, drop (length ps) g.hand.locals) (record g { hand = e.hand })))

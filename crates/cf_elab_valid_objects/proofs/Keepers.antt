@@ -75,8 +75,8 @@ module _ (s : Scene) (scene : IsScene s) where
     outer = refl;
   }
 
-  pub local-there : (u : ℕ) (e : Env) → Within (longer u e) s → slice_get s.locals (length e.hand.locals) ≡ Some u
-  local-there u e w = begins-get (e.hand.locals ++ u ∷ []) s.locals (length e.hand.locals) u w.locals (get-last e.hand.locals u)
+  pub local-there : s.has_frame ≡ true → (u : ℕ) (e : Env) → Within (longer u e) s → slice_get s.locals (length e.hand.locals) ≡ Some u
+  local-there frame u e w = begins-get (e.hand.locals ++ u ∷ []) s.locals (length e.hand.locals) u (w.locals frame) (get-last e.hand.locals u)
 
   pub local-typed : (i u : ℕ) → slice_get s.locals i ≡ Some u → slice_get (map (tree s) s.locals) i ≡ Some (tree s u)
   local-typed i u h = slice_get-map (tree s) s.locals i ∙ ap (option_map (tree s)) h
@@ -104,10 +104,10 @@ module _ (s : Scene) (scene : IsScene s) where
     };
   }
 
-  pub local_keeper-is : IsKeeper s local_keeper
-  local_keeper-is = record {
+  pub local_keeper-is : s.has_frame ≡ true → IsKeeper s local_keeper
+  local_keeper-is frame = record {
     fine = λ u e c h i n k. longer-fine (λ k f. KeeperFits s u k) (kept (holder.LocalTemporary (length e.hand.locals) u)) u e c h k
-        (λ w. let early = within-before e (longer u e) s (longer-steps u e) w in local-keeps (length e.hand.locals) u e early (i early) (local-there u e w));
+        (λ w. let early = within-before e (longer u e) s (longer-steps u e) w in local-keeps (length e.hand.locals) u e early (i early) (local-there frame u e w));
   }
 
   -- ---- a static object of the file

@@ -55,7 +55,7 @@ no_class x k is = absurd cc
 not-told : (b : Bool) → b ≡ false → not b ≡ true
 not-told b h = ap not h
 
-module _ (s : Scene) (scene : IsScene s) (arrays : WholeElements s.tables) (n : ℕ) (m : Bool) (at : ℕ) (name : Name) (t : ℕ) where
+module _ (s : Scene) (scene : IsScene s) (arrays : WholeElements s.tables) (frame : s.has_frame ≡ true) (n : ℕ) (m : Bool) (at : ℕ) (name : Name) (t : ℕ) where
   -- what a number of this start is known as
   number-fits : (e : Env) (z : Option ℤ) → HoldsKnown z (tree s t) → HoldsKnown (constant_number e t z) (tree s t)
   number-fits e z h = by (is_const e.types t && is_arithmetic (sort_of e.types t))
@@ -96,11 +96,11 @@ module _ (s : Scene) (scene : IsScene s) (arrays : WholeElements s.tables) (n : 
   starts-fine : (w : Option Written) (e : Env) → Classless e → When s e (Holds s e) → When s e (MaybeFits s e w) → When s e (Inside e t) → When s e (is_void (tree s t) ≡ false) → Fine s (Started w) e (start_or_none local_keeper at t w e)
   starts-fine None e c h f i v =
       fine-as s (λ x g. (x.node ≡ node.Blank at) × StartFits s (tree s t) x) (Started None) e (start_or_none local_keeper at t None e) (λ x g p. record { fits = p.1; blank = λ _. p.0 })
-      (nothing-fine s scene arrays local_keeper (local_keeper-is s scene) at t e c h i)
+      (nothing-fine s scene arrays local_keeper (local_keeper-is s scene frame) at t e c h i)
   starts-fine (Some w) e c h f i v =
       fine-as s (λ x g. StartFits s (tree s t) x) (Started (Some w)) e (start_or_none local_keeper at t (Some w) e)
       (λ x g p. record { fits = p; blank = λ is. never_none w is })
-      (starting-fine s scene arrays local_keeper (local_keeper-is s scene) at t (Some w) e c h f i v)
+      (starting-fine s scene arrays local_keeper (local_keeper-is s scene frame) at t (Some w) e c h f i v)
 
   module _ (parts : Elab (Option Written)) (e : Env) (initial : AreInitial s e parts) (low : n ≤ length e.hand.locals) (c : Classless e) (h : When s e (Holds s e)) (i : When s e (Inside e t)) (whole : When s e (is_complete [] (tree s t) ≡ true)) where
     abbrev own : ℕ
@@ -125,7 +125,7 @@ module _ (s : Scene) (scene : IsScene s) (arrays : WholeElements s.tables) (n : 
     classless = named-classless name (object x) begun (no_class x) (moved-classless s begun.hand e.scopes e refl c)
 
     here : Within told s → slice_get s.locals own ≡ Some t
-    here w = local-there s scene t e (within-before begun told s (named-steps name (object x) begun) w)
+    here w = local-there s scene frame t e (within-before begun told s (named-steps name (object x) begun) w)
 
     no_void : Within told s → is_void (tree s t) ≡ false
     no_void w = complete-no-void (tree s t) (whole (within-before e told s steps w))

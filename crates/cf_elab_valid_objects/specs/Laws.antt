@@ -25,7 +25,7 @@ use Rattle.cf_elab_valid_objects.specs.Declared.{AllReached, AreInitial}
 
 pub record KeepersFit (s : Scene) : Type 0 where
   pub none : IsKeeper s no_keeper
-  pub local : IsKeeper s local_keeper
+  pub local : s.has_frame ≡ true → IsKeeper s local_keeper
   pub static : (reference : Name) (owner : Option Name) (at : ℕ) → OwnerThere s owner → IsKeeper s (static_keeper reference owner at)
 
 abbrev pub KeepersAreValid : Type 0
@@ -67,4 +67,4 @@ pub record LocalsFit (s : Scene) (parameters : ℕ) (is_main : Bool) : Type 0 wh
   pub statement : (at : ℕ) (rs : List Reached) (breaks continues : Bool) (e : Env) → AllReached s parameters is_main rs → StatementFits s parameters is_main breaks continues (declaration_made at rs) e
 
 abbrev pub LocalsAreValid : Type 0
-LocalsAreValid = (s : Scene) (parameters : ℕ) (is_main : Bool) → IsScene s → WholeElements s.tables → LocalsFit s parameters is_main
+LocalsAreValid = (s : Scene) (parameters : ℕ) (is_main : Bool) → IsScene s → WholeElements s.tables → s.has_frame ≡ true → LocalsFit s parameters is_main

@@ -96,7 +96,7 @@ module _ (s : Scene) (scene : IsScene s) (n : ℕ) (m : Bool) where
       begun = breaking true e
 
       inside : Inner s n m (entered begun)
-      inside = record { main = i.main; there = λ w. i.there (record { types = w.types; funs = w.funs; enums = w.enums; locals = w.locals; statics = w.statics; functions = w.functions }); behind = i.behind; deep = within-another e.scopes.outer e.scopes.inner; owner = i.owner }
+      inside = record { frame = i.frame; main = i.main; there = λ w. i.there (record { types = w.types; funs = w.funs; enums = w.enums; locals = w.locals; statics = w.statics; functions = w.functions }); behind = i.behind; deep = within-another e.scopes.outer e.scopes.inner; owner = i.owner }
 
       by : (r : Answer (List Made)) → Fine s (Entries true e.hand.continues) begun r → Fine s (Entries true e.hand.continues) e (onward r (λ ms f. MadeIn ms (breaking e.hand.breaks f)))
       by (MadeIn ms f) g = record {
