@@ -281,11 +281,19 @@ impl<'a> Machine<'a> {
     {
         match function_named(program, name) {
             None => Err(Stop::Malformed),
-            Some(f) => {
-                self.doing = Doing::Enter(f, made);
-                Ok(Step::On)
-            }
+            Some(f) => self.enter_on(f, made),
         }
+    }
+
+    /// It is entered on as many objects as it has parameters.
+    fn enter_on(&mut self, f: &'a RunFn, made: Vec<usize>) -> Result<Step<'a>, Stop>
+        ensures { (p : Program) → Comes p (λ T o. from_value T p self.old (going.entering T p self.old.fuel f.now made.items) o) result self.new }
+    {
+        if made.len() != f.signature.params.len() {
+            return Err(Stop::Malformed);
+        }
+        self.doing = Doing::Enter(f, made);
+        Ok(Step::On)
     }
 
     /// A function of the library is called.

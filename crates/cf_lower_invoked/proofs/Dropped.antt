@@ -42,7 +42,7 @@ use Rattle.cf_lower_returns.proofs.Caller.{here-again}
 use Rattle.cf_lower_invoked.specs.Invoking.{programs_of, Invokes, InvokedBefore, Alike}
 use Rattle.cf_lower_invoked.proofs.Entry.{passed-count, typed-count, values, entry-map, apart-from-first, entry}
 use Rattle.cf_lower_invoked.proofs.Following.{then-follows, sim-entered, sim-back}
-use Rattle.cf_lower_invoked.proofs.Source.{call-tested, call-entered}
+use Rattle.cf_lower_invoked.proofs.Source.{entering, call-tested, call-entered}
 use Rattle.cf_lower_invoked.proofs.Written.{call-runs}
 
 module _ (z : Scene) (n : ℕ) (alike : FunctionsAlike (programs_of z) n) (around : Around Keeping) (p : Keeping) (f : Function) (e : c_tree.Function) (is : List ℕ)
@@ -119,11 +119,14 @@ module _ (z : Scene) (n : ℕ) (alike : FunctionsAlike (programs_of z) n) (aroun
 
   -- ---- the statement
 
+  as-declared : length os ≡ length (parameters f.type)
+  as-declared = typed-count E os (parameters f.type) (entry z around p f e is needs g s u h os before).typed
+
   as-many : length e.prototype.parameters == length vs ≡ true
   as-many =
       let one = needs.pair.count in
       let two = passed-count (fixed_in z) h.map s os vs (values z around p f e is needs g s u h os before).passed_there in
-      let three = typed-count E os (parameters f.type) (entry z around p f e is needs g s u h os before).typed in
+      let three = as-declared in
       let same : length e.prototype.parameters ≡ length vs = omega (arith, one, two, three) in
       grind (arith, nat_tests, same)
 
@@ -142,13 +145,13 @@ module _ (z : Scene) (n : ℕ) (alike : FunctionsAlike (programs_of z) n) (aroun
       (c_tree.call None (by_name f.name) (passed is)) z.body.scope z.depth u w)
 
   abbrev tested : Bool → Ran (Did source.Value)
-  tested b = (need b 9 >> (objects_of is >>= (λ qs. enter core_again f qs None None))) s w
+  tested b = (need b 9 >> (objects_of is >>= entering core_again z.program f needs.pair.found needs.pair.no_library t g s w is os before.there)) s w
 
   by-type : (b : Bool) → Simulates S (source-all (tested b)) c-list
   by-type false = record { by = c-grows.by }
   by-type true =
       sim-of S _ (source-all (tested true)) c-list
-      (ap source-all (call-entered core_again z.program f needs.pair.found needs.pair.no_library t g s w is os before.there))
+      (ap source-all (call-entered core_again z.program f needs.pair.found needs.pair.no_library t g s w is os before.there as-declared))
       (sim-as S _ _ c-list c-runs both-entered)
 
   pub call-dropped : Alike z around p (act (plain.call f.name t None is None)) n g s u w

@@ -1,20 +1,20 @@
 -- A call keeps the frame of its caller, and the objects that are not the caller's own.
-use Rattle.std.proofs.Common.{◌≡◌, ℕ, zero, suc, ◌≤◌, ◌<◌, Bool, true, false, ◌||◌, ◌==◌, if◌then◌else◌, List, [], ◌∷◌, codes, bytes_eq, refl, sym, ◌∙◌, ap, subst, arith, inl, inr}
-use Rattle.std.specs.Prelude.{ℤ, Option, Some, None, slice_get, ◌⊎◌}
+use Rattle.std.proofs.Common.{◌≡◌, ℕ, zero, suc, ◌≤◌, ◌<◌, Bool, true, false, ◌||◌, ◌==◌, if◌then◌else◌, List, [], ◌∷◌, length, codes, bytes_eq, refl, sym, ◌∙◌, ap, subst, arith, inl, inr}
+use Rattle.std.specs.Prelude.{ℤ, Option, Some, None, slice_get, nat_eq, ◌⊎◌}
 use Rattle.std.proofs.lemmas.Bool.Decides.{nat_tests}
 use Rattle.cf_base.specs.Event.{Enter}
 use Rattle.cf_base.specs.World.{World, Ran, Went, Stops, and_then, spend_of, deeper, show, next_of}
-use Rattle.cf_core.specs.Types.{Name, SourceType, result}
+use Rattle.cf_core.specs.Types.{Name, SourceType, parameters, result}
 use Rattle.cf_core.specs.Core.{Function}
 use Rattle.cf_core.specs.Places.{Place}
 use Rattle.cf_core.specs.Store.{Value, Number, Object}
-use Rattle.cf_core.specs.Run.{State, Did, Gives, Exits, Malformed, Act, onward, ◌>>=◌, ◌>>◌, gives, malformed, state, changed, some_or, when, with_frame}
+use Rattle.cf_core.specs.Run.{State, Did, Gives, Exits, Malformed, Act, onward, ◌>>=◌, ◌>>◌, gives, malformed, state, changed, some_or, valid, when, with_frame}
 use Rattle.cf_core.specs.Calls as core
 use Rattle.cf_core.specs.Calls.{Program, function_named, is_library, byte_value, get, put, leave_with, argument, run_library, frame_of, local_count, returned, enter, enter_found, run_named, name_function}
 use Rattle.cf_plain.specs.Acts.{objects_of}
 use Rattle.cf_plain.specs.Running.{Again, Flow, entered, calls, core_flow}
 use Rattle.cf_plain_frames.specs.Since.{is_among, IsOwn, Since, Always, Keeps}
-use Rattle.cf_plain_frames.proofs.Acts.{keeps-gives, keeps-malformed, keeps-next, keeps-then, keeps-some, keeps-when, keeps-at}
+use Rattle.cf_plain_frames.proofs.Acts.{keeps-gives, keeps-malformed, keeps-next, keeps-then, keeps-some, keeps-valid, keeps-when, keeps-at}
 use Rattle.cf_plain_frames.proofs.Values.{keeps-function}
 
 -- functions that are entered keep the objects of before
@@ -164,7 +164,8 @@ module _ (e : State) (os : List ℕ) where
 
     keeps-entered : (f : Option Function) (ps : List ℕ) → AllOwn ps → Keeps Q (enter_found (calls again) f ps None None)
     keeps-entered None ps own = keeps-malformed Q
-    keeps-entered (Some f) ps own = keeps-enter f ps own
+    keeps-entered (Some f) ps own =
+        keeps-then Q (valid (nat_eq (length ps) (length (parameters f.type)))) (λ u. enter (calls again) f ps None None) (keeps-valid Q (nat_eq (length ps) (length (parameters f.type)))) (λ u. keeps-enter f ps own)
 
     module _ (P : Program) where
       keeps-named : (name : Name) (ps : List ℕ) → AllOwn ps → Keeps Q (run_named (calls again) P name ps None None)

@@ -150,6 +150,9 @@ module _ (r : Name → Name) where
         (two-same (is_value (renamed r a)) (is_value (renamed r b)) (is_value a) (is_value b) (same-value a) (same-value b))
     same-value (core.comma es) = same-values es
     same-value (core.call name t absent args) = ap (λ b. not (is_class (result t)) && (is_chain t && b)) (same-arguments args)
+    same-value (core.pointer_call absent e t args) =
+        ap (λ b. not (is_class (result t)) && b)
+        (two-same (is_value (renamed r e)) (are_arguments (renamed_all r args)) (is_value e) (are_arguments args) (same-value e) (same-arguments args))
     same-value e = refl
 
     pub same-values : (es : Cores) → are_values (renamed_all r es) ≡ are_values es

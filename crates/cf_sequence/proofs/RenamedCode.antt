@@ -117,6 +117,14 @@ module _ (r : Name → Name) where
           ap (more (act (plain.function (r name) t)))
           (over-arguments (parameters t) args (both (is_chain t) (are_arguments args) p.1).1 x n k (k + length (parameters t) + 0)
           (more (set n (plain.call name t None (numbers k (parameters t)) (result_register t into))) rest))
+      over-value (core.pointer_call absent e t args) ok x into n k rest =
+          let p = both (is_value e) (are_arguments args) (both (not (is_class (result t))) (is_value e && are_arguments args) ok).1 in
+          let l : ℕ = k + length (parameters t) + 0 in
+          let last : Plains → Plains = λ rest. more (set n (plain.pointer_call None n t (numbers k (parameters t)) (result_register t into))) rest in
+          over-value e p.0 x None n l (used n (arguments cs x (parameters t) args (suc n) k (l + width e) (last rest)))
+          ∙ ap (λ ss. value cs x (again e) None n l (used n ss))
+          (over-arguments (parameters t) args p.1 x (suc n) k (l + width e) (last rest)
+          ∙ ap (λ w. arguments cs x (parameters t) (renamed_all r args) (suc n) k (l + w) (last (over rest))) (sym (same-width r e)))
       over-value e ok x into n k rest = never ok
 
       over-values : (es : Cores) → are_values es ≡ true → (x : Full) (n : Register) (k : ℕ) (rest : Plains) → over (values cs x es n k rest) ≡ values cs x (renamed_all r es) n k (over rest)

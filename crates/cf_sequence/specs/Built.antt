@@ -1,4 +1,4 @@
--- The cores that are built so far: functions over numbers and pointers, with locals, references to objects, literals, calls by name and all statements, and
+-- The cores that are built so far: functions over numbers and pointers, with locals, references to objects, literals, calls and all statements, and
 -- static objects with constant initialisers; no class, no temporary and no list.
 use Rattle.std.specs.Prelude.{ℕ, suc, Bool, true, false, ◌&&◌, ◌||◌, not, nat_le, nat_eq, List, [], ◌∷◌, length, bytes_eq, codes}
 use Rattle.std.specs.List.{list_all, starts_with}
@@ -44,6 +44,7 @@ abbrev mutual
   is_value (core.step is_postfix c e) = is_value e
   is_value (core.bind no_temporary e) = is_value e
   is_value (core.call name t absent args) = not (is_class (result t)) && (is_chain t && are_arguments args)
+  is_value (core.pointer_call absent e t args) = not (is_class (result t)) && (is_value e && are_arguments args)
   is_value e = false
 
   -- an expression's parts: one at least
