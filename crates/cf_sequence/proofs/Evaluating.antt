@@ -257,8 +257,8 @@ module _ (again : calling.Again) (again' : running.Again) (P : Program) (bodies 
         (subst (λ e. Alike e f1) (sym frame) (kept-alike k s.frame f f1 kept ready.alike)) (λ v s2 w2 same.
         next v s2 (keep h n v) f1 w2 (after-set n k g h s.frame f f1 v s2 below (same ∙ frame) kept))))))))
     follow-value (core.pointer_call absent e t args) ok into into' x n k rest g s f w c K ready room next =
-        let conditions = both (not (is_class (result t))) (is_value e && are_arguments args) ok in
-        let parts = both (is_value e) (are_arguments args) conditions.1 in
+        let conditions = both (not (is_class (result t))) (is_chain t && (is_value e && are_arguments args)) ok in
+        let parts = both (is_value e) (are_arguments args) (both (is_chain t) (is_value e && are_arguments args) conditions.1).1 in
         let l : ℕ = k + length (parameters t) + 0 in
         let two-room : l + length (added (nodes e ++ nodes_all args)) ≤ f.count = (let z = length-append (parameters t) (added (nodes e ++ nodes_all args)) in omega arith) in
         let room-e : l + width e ≤ f.count = first-room l f.count (nodes e) (nodes_all args) two-room in

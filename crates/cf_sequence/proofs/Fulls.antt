@@ -74,7 +74,7 @@ mutual
   no-temporaries (core.call name t absent args) ok b k =
       no-temporaries-in args (both (is_chain t) (are_arguments args) (both (not (is_class (result t))) (is_chain t && are_arguments args) ok).1).1 b (k + length (parameters t) + 0)
   no-temporaries (core.pointer_call absent e t args) ok b k =
-      let parts = both (is_value e) (are_arguments args) (both (not (is_class (result t))) (is_value e && are_arguments args) ok).1 in
+      let parts = both (is_value e) (are_arguments args) (both (is_chain t) (is_value e && are_arguments args) (both (not (is_class (result t))) (is_chain t && (is_value e && are_arguments args)) ok).1).1 in
       let l : ℕ = k + length (parameters t) + 0 in
       empty-two _ _ (no-temporaries e parts.0 b l) (no-temporaries-in args parts.1 b (l + width e))
   no-temporaries (core.number z) ok b k = refl

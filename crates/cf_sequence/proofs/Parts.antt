@@ -169,7 +169,7 @@ module _ (again : calling.Again) (again' : running.Again) (P : Program) (bodies 
   value-gives (core.each e) ok = never ok
   value-gives (core.list es e) ok = never ok
   value-gives (core.virtual_call name t e args) ok = never ok
-  value-gives (core.pointer_call absent e t args) ok = no-class (is_class (result t)) (both (not (is_class (result t))) (is_value e && are_arguments args) ok).0
+  value-gives (core.pointer_call absent e t args) ok = no-class (is_class (result t)) (both (not (is_class (result t))) (is_chain t && (is_value e && are_arguments args)) ok).0
   value-gives (core.pointer_call (core.given o) e t args) ok = never ok
   value-gives (core.call name t absent args) ok = no-class (is_class (result t)) (both (not (is_class (result t))) (is_chain t && are_arguments args) ok).0
   value-gives (core.call name t (core.given e) args) ok = never ok

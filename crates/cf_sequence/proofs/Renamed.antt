@@ -151,7 +151,7 @@ module _ (r : Name → Name) where
     same-value (core.comma es) = same-values es
     same-value (core.call name t absent args) = ap (λ b. not (is_class (result t)) && (is_chain t && b)) (same-arguments args)
     same-value (core.pointer_call absent e t args) =
-        ap (λ b. not (is_class (result t)) && b)
+        ap (λ b. not (is_class (result t)) && (is_chain t && b))
         (two-same (is_value (renamed r e)) (are_arguments (renamed_all r args)) (is_value e) (are_arguments args) (same-value e) (same-arguments args))
     same-value e = refl
 

@@ -118,7 +118,7 @@ module _ (r : Name → Name) where
           (over-arguments (parameters t) args (both (is_chain t) (are_arguments args) p.1).1 x n k (k + length (parameters t) + 0)
           (more (set n (plain.call name t None (numbers k (parameters t)) (result_register t into))) rest))
       over-value (core.pointer_call absent e t args) ok x into n k rest =
-          let p = both (is_value e) (are_arguments args) (both (not (is_class (result t))) (is_value e && are_arguments args) ok).1 in
+          let p = both (is_value e) (are_arguments args) (both (is_chain t) (is_value e && are_arguments args) (both (not (is_class (result t))) (is_chain t && (is_value e && are_arguments args)) ok).1).1 in
           let l : ℕ = k + length (parameters t) + 0 in
           let last : Plains → Plains = λ rest. more (set n (plain.pointer_call None n t (numbers k (parameters t)) (result_register t into))) rest in
           over-value e p.0 x None n l (used n (arguments cs x (parameters t) args (suc n) k (l + width e) (last rest)))

@@ -151,7 +151,7 @@ module _ (again : Again) (H : Program) where
           (silent-then (arguments P.classes x (parameters t) args n k (k + length (parameters t) + 0)) last (silent-arguments (parameters t) args given_args x n k (k + length (parameters t) + 0))
           (silent-set n (plain.call name t None (numbers k (parameters t)) (result_register t into))))
       silent-value (core.pointer_call absent e t args) ok x into n k =
-          let parts = both (is_value e) (are_arguments args) (both (not (is_class (result t))) (is_value e && are_arguments args) ok).1 in
+          let parts = both (is_value e) (are_arguments args) (both (is_chain t) (is_value e && are_arguments args) (both (not (is_class (result t))) (is_chain t && (is_value e && are_arguments args)) ok).1).1 in
           let l : ℕ = k + length (parameters t) + 0 in
           let last : Plains → Plains = λ rest. more (set n (plain.pointer_call None n t (numbers k (parameters t)) (result_register t into))) rest in
           silent-operands (value P.classes x e None n l) (arguments P.classes x (parameters t) args (suc n) k (l + width e)) last n

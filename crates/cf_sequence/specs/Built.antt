@@ -44,7 +44,7 @@ abbrev mutual
   is_value (core.step is_postfix c e) = is_value e
   is_value (core.bind no_temporary e) = is_value e
   is_value (core.call name t absent args) = not (is_class (result t)) && (is_chain t && are_arguments args)
-  is_value (core.pointer_call absent e t args) = not (is_class (result t)) && (is_value e && are_arguments args)
+  is_value (core.pointer_call absent e t args) = not (is_class (result t)) && (is_chain t && (is_value e && are_arguments args))
   is_value e = false
 
   -- an expression's parts: one at least

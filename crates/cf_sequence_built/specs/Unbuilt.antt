@@ -77,7 +77,7 @@ abbrev pub bound : ℕ → Holder → Option ℕ → Option ℕ
 bound at holder.NoTemporary e = e
 bound at h e = Some at
 
--- a call by name, of a function whose result is no class
+-- a call of a function whose result is no class, of these parts
 abbrev pub called : ℕ → Bool → Option Test → List Test → Option ℕ
 called at is_plain None es = if is_plain then each_value es else Some at
 called at is_plain (Some object) es = Some at
@@ -159,6 +159,7 @@ module _ (tables : Tables) where
   value_step (Core-F.Update at a c b) = option_or a.value b.value
   value_step (Core-F.Increment at is_postfix c e) = e.value
   value_step (Core-F.Call at f t object es) = called at (is_called t) object es
+  value_step (Core-F.PointerCall at object e t es) = called at (is_called t) object (e ∷ es)
   value_step (Core-F.Bind at h e) = bound at h e.value
   value_step x = Some (place_in x)
 

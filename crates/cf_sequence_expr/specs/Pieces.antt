@@ -106,6 +106,16 @@ abbrev pub by_call : List ℕ → ℕ → List ℕ → Option Piece → List Pie
 by_call name t ts None es n w = called name t ts es n w
 by_call name t ts (Some object) es n w = w
 
+-- a call through a pointer, which is there before the arguments
+unfoldable pub pointed : ℕ → List ℕ → Piece → List Piece → ℕ → Writing → Writing
+pointed t ts e es n w =
+    set n (action.PointerCall None n t (counted w.next (length ts)) None)
+    (arguments ts 0 es (suc n) w.next (used n (e.value n (passed (length ts) w))))
+
+abbrev pub by_pointer : Option Piece → Piece → ℕ → List ℕ → List Piece → ℕ → Writing → Writing
+by_pointer None e t ts es n w = pointed t ts e es n w
+by_pointer (Some object) e t ts es n w = w
+
 module _ (types : Table) where
   abbrev pub piece_step : Core-F Piece Piece → Piece
   piece_step (Core-F.Number at z) = record { locals = λ l. l; value = λ n. set n (action.Number z) }
@@ -148,7 +158,8 @@ module _ (types : Table) where
       record { locals = λ l. in_all es (in_maybe object (l ++ ts)); value = by_call name t ts object es }
   piece_step (Core-F.VirtualCall at m t e es) = record { locals = λ l. in_all es (e.locals (l ++ parameters_at types t)); value = silent }
   piece_step (Core-F.PointerCall at object e t es) =
-      record { locals = λ l. in_all es (e.locals (in_maybe object (l ++ parameters_at types t))); value = silent }
+      let ts = parameters_at types t in
+      record { locals = λ l. in_all es (e.locals (in_maybe object (l ++ ts))); value = by_pointer object e t ts es }
   piece_step (Core-F.New at t e) = record { locals = e.locals; value = silent }
   piece_step (Core-F.NewArray at t a b) = record { locals = in_two a b; value = silent }
   piece_step (Core-F.Delete at t e) = record { locals = e.locals; value = silent }

@@ -225,6 +225,16 @@ pub fn value(unit: &CoreUnit, e: &Core, n: u32, w: &mut Writing) -> Result<(), M
             None => called(unit, arguments.as_slice(), function, *ty, n, w),
             Some(_) => Ok(()),
         },
+        Core::PointerCall {
+            object,
+            pointer,
+            ty,
+            arguments,
+            ..
+        } => match object {
+            None => pointed(unit, pointer.get(), arguments.as_slice(), *ty, n, w),
+            Some(_) => Ok(()),
+        },
         Core::Bind {
             holder,
             operand,
@@ -244,7 +254,6 @@ pub fn value(unit: &CoreUnit, e: &Core, n: u32, w: &mut Writing) -> Result<(), M
         | Core::Assign { .. }
         | Core::Temporary { .. }
         | Core::VirtualCall { .. }
-        | Core::PointerCall { .. }
         | Core::New { .. }
         | Core::NewArray { .. }
         | Core::Delete { .. }
@@ -339,6 +348,42 @@ fn called(
             function,
             ty,
             object: None,
+            arguments,
+            result: None,
+        },
+    )
+}
+
+/// Writes a call of the function that a pointer holds, which has this type (5.2.2).
+#[cycle(values)]
+#[tactic(auto, unfolding(crate::specs::Pieces::pointed))]
+fn pointed(
+    unit: &CoreUnit,
+    pointer: &Core,
+    given: &[Core],
+    ty: TyId,
+    n: u32,
+    w: &mut Writing,
+) -> Result<(), Memory>
+    requires pointer { are_known (tables_of unit.now) pointer.now ≡ true }
+    requires known { all_of (tables_of unit.now) (map (are_known (tables_of unit.now)) given.now) ≡ true }
+    requires typed { ty < length unit.now.types.types }
+    ensures { OnOk result (w.new ≡ spec.pointed ty (parameters_at unit.now.types ty) (piece unit.now.types pointer.now) (map (piece unit.now.types) given.now) n w.old) }
+{
+    let first = w.next;
+    let types = parameters(unit, ty);
+    let second = behind(n)?;
+    w.pass(types.len())?;
+    value(unit, pointer, n, w)?;
+    w.used(n)?;
+    arguments(unit, given, types, second, first, w)?;
+    let arguments = numbers(w.alloc, first, types.len())?;
+    w.set(
+        n,
+        Action::PointerCall {
+            object: None,
+            pointer: n,
+            ty,
             arguments,
             result: None,
         },

@@ -25,7 +25,7 @@ use Rattle.cf_sequence_expr.specs.declared.writing.Writing.{Writing}
 use Rattle.cf_sequence_expr.specs.Writes.{put, set, act, used, emptied, branched, within, passed}
 use Rattle.cf_sequence_expr.specs.Parameters.{parameters_at, counted}
 use Rattle.cf_sequence_expr.specs.Pieces as pieces
-use Rattle.cf_sequence_expr.specs.Pieces.{Piece, left, two, truth, all_values, updated, stepped, stepped_behind, argument, arguments, called}
+use Rattle.cf_sequence_expr.specs.Pieces.{Piece, left, two, truth, all_values, updated, stepped, stepped_behind, argument, arguments, called, pointed}
 
 pub and-true : (a b : Bool) → a ≡ true → b ≡ true → a && b ≡ true
 and-true a b p q = ap (λ c. c && b) p ∙ q
@@ -173,6 +173,16 @@ module _ (tables : Tables) where
         let before = keeps-then (keeps-act (action.Function name t) there) (keeps-passed (length ts)) in
         Keeps.keeps (keeps-set n (action.Call name t None (counted w.next (length ts)) None) there) _
         (Keeps.keeps (all.arguments ts types 0 n w.next) _ (before.keeps w ok));
+  }
+
+  pub keeps-pointed : {p : Piece} {ps : List Piece} (t : ℕ) (ts : List ℕ) (n : ℕ) → has_type tables t ≡ true → list_all (has_type tables) ts ≡ true → KnownPiece p → KnownAll ps
+      → Keeps (pointed t ts p ps n)
+  unfolding pointed
+  keeps-pointed {p} {ps} t ts n there types one all = record {
+    keeps = λ w ok.
+        let before = keeps-then (keeps-then (keeps-passed (length ts)) (one.value n)) (keeps-used n) in
+        Keeps.keeps (keeps-set n (action.PointerCall None n t (counted w.next (length ts)) None) there) _
+        (Keeps.keeps (all.arguments ts types 0 (suc n) w.next) _ (before.keeps w ok));
   }
 
   module _ (names : (i : ℕ) (v : Ty) → slice_get tables.types.types i ≡ Some v → Names tables.types.funs i (length tables.types.funs) v) where

@@ -20,7 +20,7 @@ use Rattle.cf_sequence_expr.specs.Writes.{set}
 use Rattle.cf_sequence_expr.specs.Parameters.{parameters_at}
 use Rattle.cf_sequence_expr.specs.Pieces as pieces
 use Rattle.cf_sequence_expr.specs.Pieces.{Piece, piece, part_piece, piece_step}
-use Rattle.cf_sequence_written.proofs.Known.{KnownPiece, KnownAll, Keeps, keeps-none, keeps-then, keeps-set, keeps-act, keeps-used, keeps-within, keeps-two, keeps-truth, keeps-updated, keeps-stepped, keeps-stepped_behind, keeps-called, known-none, known-more, own-known, parameters-known, and-true}
+use Rattle.cf_sequence_written.proofs.Known.{KnownPiece, KnownAll, Keeps, keeps-none, keeps-then, keeps-set, keeps-act, keeps-used, keeps-within, keeps-two, keeps-truth, keeps-updated, keeps-stepped, keeps-stepped_behind, keeps-called, keeps-pointed, known-none, known-more, own-known, parameters-known, and-true}
 
 module _ (tables : Tables) (names : (i : ℕ) (v : Ty) → slice_get tables.types.types i ≡ Some v → Names tables.types.funs i (length tables.types.funs) v) where
   abbrev part_known : PartStart → Bool
@@ -207,12 +207,15 @@ module _ (tables : Tables) (names : (i : ℕ) (v : Ty) → slice_get tables.type
   layer (Core-F.PointerCall at None e t es) ok =
       let parts = both (true && known_of e && has_type tables t) (all_known es) ok in
       let two = both (known_of e) (has_type tables t) parts.0 in
-      silently (λ l good. (row es parts.1).locals _ ((e.1 two.0).locals _ (own-known tables names t two.1 l good)))
+      record {
+        value = λ n. keeps-pointed tables t (parameters_at tables.types t) n two.1 (parameters-known tables names t two.1) (e.1 two.0) (row es parts.1);
+        locals = λ l good. (row es parts.1).locals _ ((e.1 two.0).locals _ (own-known tables names t two.1 l good));
+      }
   layer (Core-F.PointerCall at (Some o) e t es) ok =
       let parts = both (known_of o && known_of e && has_type tables t) (all_known es) ok in
       let two = both (known_of o && known_of e) (has_type tables t) parts.0 in
       let three = both (known_of o) (known_of e) two.0 in
-      silently (λ l good. (row es parts.1).locals _ ((e.1 three.1).locals _ ((o.1 three.0).locals _ (own-known tables names t two.1 l good))))
+      record { value = λ n. keeps-none tables; locals = λ l good. (row es parts.1).locals _ ((e.1 three.1).locals _ ((o.1 three.0).locals _ (own-known tables names t two.1 l good))) }
   layer (Core-F.Build at name t es) ok =
       let parts = both (has_type tables t) (all_known es) ok in silently (λ l good. (row es parts.1).locals _ (own-known tables names t parts.0 l good))
   layer (Core-F.Copy at t e es) ok =

@@ -217,7 +217,7 @@ module _ (tables : Tables) (signature : MemberRef → Name) where
   layer (Core-F.Call at f t None es) = record { value = in_call at t es; statement = λ m. refl; next = λ m. refl; blank = refl; filling = refl; declares = refl; label = refl }
   layer (Core-F.Call at f t (Some object) es) = record { value = refl; statement = λ m. refl; next = λ m. refl; blank = refl; filling = refl; declares = refl; label = refl }
   layer (Core-F.VirtualCall at m t e es) = record { value = refl; statement = λ m. refl; next = λ m. refl; blank = refl; filling = refl; declares = refl; label = refl }
-  layer (Core-F.PointerCall at None e t es) = record { value = refl; statement = λ m. refl; next = λ m. refl; blank = refl; filling = refl; declares = refl; label = refl }
+  layer (Core-F.PointerCall at None e t es) = record { value = in_call at t (e ∷ es); statement = λ m. refl; next = λ m. refl; blank = refl; filling = refl; declares = refl; label = refl }
   layer (Core-F.PointerCall at (Some object) e t es) = record { value = refl; statement = λ m. refl; next = λ m. refl; blank = refl; filling = refl; declares = refl; label = refl }
   layer (Core-F.New at t e) = record { value = refl; statement = λ m. refl; next = λ m. refl; blank = refl; filling = refl; declares = refl; label = refl }
   layer (Core-F.NewArray at t n e) = record { value = refl; statement = λ m. refl; next = λ m. refl; blank = refl; filling = refl; declares = refl; label = refl }
