@@ -241,3 +241,11 @@ bind-serves scope x (of_type t e) = absurd (cc)
 bind-serves scope x (as_number z e) = absurd (cc)
 bind-serves scope x (as_value t e) = never e
 bind-serves scope x (as_start t e) = bound-serves scope x t e
+
+-- what is called through a pointer
+pub called-serves : (t : SourceType) (x : Typing) → (x.value (pointer t) || same_type x.place t) ≡ true → Serves x
+called-serves t x ok = either-true (x.value (pointer t)) (same_type x.place t) ok (as_value (pointer t)) (by x.place refl)
+  where
+    by : (o : Option SourceType) → x.place ≡ o → same_type o t ≡ true → Serves x
+    by None e ok = never ok
+    by (Some u) e ok = as_place u e
