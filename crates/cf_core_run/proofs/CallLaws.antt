@@ -3,7 +3,8 @@ use Rattle.std.proofs.Common.{◌≡◌, ◌∙◌, ℕ, zero, suc, ◌+◌, ◌
 use Rattle.std.proofs.lemmas.List.{append-nil}
 use Rattle.std.proofs.Common.{append_assoc}
 use Rattle.std.specs.Global.{Global}
-use Rattle.std.specs.Prelude.{Vec}
+use Rattle.std.specs.Prelude.{Vec, nat_eq}
+use Rattle.std.proofs.lemmas.List.{length-map}
 use Rattle.cf_base.specs.Event.{Enter, Ticks, Depth}
 use Rattle.cf_base.specs.World.{World, Ran, Went, spend_of, deeper, show}
 use Rattle.cf_core.specs.FromTypes.{Tables, taking}
@@ -12,7 +13,7 @@ use Rattle.cf_core.specs.Core.{Core, Function, more, absent, pointer_call}
 use Rattle.cf_core.specs.Access.{used}
 use Rattle.cf_core.specs.Places.{Place}
 use Rattle.cf_core.specs.Store.{Value, Code, new_object, automatic}
-use Rattle.cf_core.specs.Run.{State, Frame, Did, Gives, Malformed, need, done, cast_from_void, Act, ◌>>=◌, ◌>>◌, gives, malformed, some_or, when, upd, changed, with_frame, for_all, state}
+use Rattle.cf_core.specs.Run.{State, Frame, Did, Gives, Malformed, need, done, cast_from_void, Act, ◌>>=◌, ◌>>◌, gives, malformed, some_or, valid, when, upd, changed, with_frame, for_all, state}
 use Rattle.cf_core.specs.Objects.{settle, settled, result_place, run_pointer}
 use Rattle.cf_core.specs.Calls.{Flow, Falls, body, root, enter, returned, local_count, end_object, name_function}
 use Rattle.cf_core.specs.Calls as calls
@@ -84,6 +85,22 @@ start-goes T p k f g es into c s w en ep er em =
     ∙ ap (λ (ps : List Shape). (arguments (again T p k) (program_of T p) (map (shape_type T) ps) (cores T p es) >>= (λ os. called T p k (value_of c.callee) os)) s w) (sym ep)
     ∙ ap (λ (es : List Node). (arguments (again T p k) (program_of T p) (map (shape_type T) c.params.now) (cores T p es) >>= (λ os. called T p k (value_of c.callee) os)) s w) (sym er)
     ∙ ap (λ (made : List ℕ). (arguments (again T p k) (program_of T p) (map (shape_type T) c.params.now) (cores T p c.rest.now) >>= (λ os. called T p k (value_of c.callee) (made ++ os))) s w) (sym em)
+
+-- a function is entered on as many objects as it has parameters
+abbrev entering : Tables → Program → ℕ → RunFn → List ℕ → Bool → Act Value
+entering T p k f args b = valid b >> enter (again T p k) (function_of T p f) args None None
+
+as-declared : (T : Tables) (f : RunFn) (args : List ℕ) (b : Bool) → nat_eq (length args) (length f.signature.params) ≡ b
+    → nat_eq (length args) (length (parameters (signature_type T f.signature))) ≡ b
+as-declared T f args b e = ap (nat_eq (length args)) (ap length (signature-params T f.signature) ∙ length-map f.signature.params (shape_type T)) ∙ e
+
+pub entered-as : (T : Tables) (p : Program) (k : ℕ) (f : RunFn) (args : List ℕ) (s : State) (w : World) → nat_eq (length args) (length f.signature.params) ≡ true
+    → calls.enter_found (again T p k) (Some (function_of T p f)) args None None s w ≡ enter (again T p k) (function_of T p f) args None None s w
+entered-as T p k f args s w e = ap (λ b. entering T p k f args b s w) (as-declared T f args true e)
+
+pub entered-wrong : (T : Tables) (p : Program) (k : ℕ) (f : RunFn) (args : List ℕ) (s : State) (w : World) → nat_eq (length args) (length f.signature.params) ≡ false
+    → calls.enter_found (again T p k) (Some (function_of T p f)) args None None s w ≡ Went Malformed w
+entered-wrong T p k f args s w e = ap (λ b. entering T p k f args b s w) (as-declared T f args false e)
 
 -- a result of class type is built nowhere
 pub result-none : (T : Tables) (f : Signature) (into : Option Place) → result_place (signature_type T f) into ≡ None

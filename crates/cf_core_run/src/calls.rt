@@ -287,13 +287,15 @@ impl<'a> Machine<'a> {
 
     /// It is entered on as many objects as it has parameters.
     fn enter_on(&mut self, f: &'a RunFn, made: Vec<usize>) -> Result<Step<'a>, Stop>
-        ensures { (p : Program) → Comes p (λ T o. from_value T p self.old (going.entering T p self.old.fuel f.now made.items) o) result self.new }
+        ensures { (p : Program) → Comes p (λ T o. from_value T p self.old (calls.enter_found (again T p self.old.fuel) (Some (function_of T p f.now)) made.items None None) o) result self.new }
     {
-        if made.len() != f.signature.params.len() {
-            return Err(Stop::Malformed);
+        let fits = made.len() == f.signature.params.len();
+        if fits {
+            self.doing = Doing::Enter(f, made);
+            Ok(Step::On)
+        } else {
+            Err(Stop::Malformed)
         }
-        self.doing = Doing::Enter(f, made);
-        Ok(Step::On)
     }
 
     /// A function of the library is called.
