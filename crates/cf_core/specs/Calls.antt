@@ -1,5 +1,5 @@
 -- Entering functions, and destroying and copying objects by the functions of their classes (5.2.2, 12.4, 12.8).
-use Rattle.std.specs.Prelude.{ℕ, ◌+◌, length, if◌then◌else◌, Bool, true, false, ◌&&◌, ◌||◌, not, List, [], ◌∷◌, pos, negsuc, Option, Some, None, find, slice_get, is_some, codes, bytes_eq}
+use Rattle.std.specs.Prelude.{ℕ, ◌+◌, length, if◌then◌else◌, Bool, true, false, ◌&&◌, ◌||◌, not, List, [], ◌∷◌, pos, negsuc, Option, Some, None, find, slice_get, is_some, nat_eq, codes, bytes_eq}
 use Rattle.cf_base.specs.Event.{Enter, Out}
 use Rattle.cf_base.specs.World.{Went, spend, deeper, show, next_byte}
 use Rattle.cf_base.specs.Integers.{bits_of}
@@ -8,7 +8,7 @@ use Rattle.cf_core.specs.Classes.{Class, MemberFunction, Special, class_named, d
 use Rattle.cf_core.specs.Core.{Core, item, Function, Static}
 use Rattle.cf_core.specs.Places.{Route, Place, inner, whole, class_of, route_eq}
 use Rattle.cf_core.specs.Store.{Value, Nothing, Missing, Number, Null, At, Object, new_object, hold, is_settled, life_at, is_dead, Storage, automatic, free_store}
-use Rattle.cf_core.specs.Run.{State, Frame, Gives, Act, ◌>>=◌, ◌>>◌, gives, malformed, exits, undefined, state, changed, done, tick, need, some_or, when, for_each, for_each_back, for_all, object_changed, born, declared_object, gone, with_frame, frame_changed, lists_temporary, give_heap, not_alive, cast_from_void, wrong_delete, delete_through_base}
+use Rattle.cf_core.specs.Run.{State, Frame, Gives, Act, ◌>>=◌, ◌>>◌, gives, malformed, exits, undefined, state, changed, done, tick, need, valid, some_or, when, for_each, for_each_back, for_all, object_changed, born, declared_object, gone, with_frame, frame_changed, lists_temporary, give_heap, not_alive, cast_from_void, wrong_delete, delete_through_base}
 use Rattle.cf_core.specs.Access.{copy_first, copy_over}
 use Rattle.cf_core.specs.Building.{BuiltPart, part_place, is_whole, whole_life}
 
@@ -81,6 +81,10 @@ run_library name args = do
     | false ↦ some_or (argument args s) malformed >>= (λ v. when (bytes_eq name (codes "putchar")) (put v) (leave_with v))
   ]
 
+-- behind it the storage of its parameters ends, as behind every function
+abbrev pub call_library : Name → List ℕ → Act Value
+call_library name args = run_library name args >>= (λ v. for_all args (λ o. object_changed o gone) >> gives v)
+
 -- Functions of the program.
 
 abbrev pub frame_of : Name → ℕ → List ℕ → Option Place → Option Place → ℕ → Frame
@@ -121,14 +125,15 @@ enter again f args this into = λ s w.
     (again (body f args) >>= (λ flow. changed (with_frame s.frame) >> returned (result f.type) flow))
     (with_frame (frame_of f.name (local_count f) args this into depth) s) (show (Enter f.name) w)))
 
+-- It is entered on as many objects as it has parameters: no core of another kind comes from elaboration.
 abbrev pub enter_found : Again → Option Function → List ℕ → Option Place → Option Place → Act Value
 enter_found again None args this result = malformed
-enter_found again (Some f) args this result = enter again f args this result
+enter_found again (Some f) args this result = valid (nat_eq (length args) (length (parameters f.type))) >> enter again f args this result
 
 -- the function of this name is run on the objects of its parameters, on an object, and with a place for its result
 abbrev pub run_named : Again → Program → Name → List ℕ → Option Place → Option Place → Act Value
 run_named again P name args this result =
-    elim (is_library name) [ true ↦ run_library name args | false ↦ enter_found again (function_named P name) args this result ]
+    elim (is_library name) [ true ↦ call_library name args | false ↦ enter_found again (function_named P name) args this result ]
 
 -- A name that a file declares with another type than its definition has, otherwise than in const, is used as if cast from `void*`.
 abbrev pub has_type : Option Function → SourceType → Act (Unit {0})

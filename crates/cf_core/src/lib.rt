@@ -7,8 +7,6 @@
 mod node;
 mod operators;
 mod place;
-#[cfg(test)]
-mod tests;
 mod unit;
 
 pub use node::{BuiltPart, Change, Core, Holder, PartStart, Target};

@@ -1,9 +1,9 @@
 -- How a call passes its arguments, how a function is entered, and how it ends.
 use Rattle.std.proofs.Common.{◌≡◌, ◌∙◌, ℕ, zero, suc, ◌+◌, ◌-◌, Bool, true, false, if◌then◌else◌, List, [], ◌∷◌, ◌++◌, length, slice_get, codes, bytes_eq, Option, Some, None, option_map, Bor, refl, ap, sym, subst, map, reverse, find, cond, arith}
-use Rattle.std.proofs.lemmas.List.{append-nil}
+use Rattle.std.proofs.lemmas.List.{append-nil, reverse-reverse}
 use Rattle.std.proofs.Common.{append_assoc}
 use Rattle.std.specs.Global.{Global}
-use Rattle.std.specs.Prelude.{Vec}
+use Rattle.std.specs.Prelude.{Vec, nat_eq}
 use Rattle.cf_base.specs.Event.{Enter, Ticks, Depth}
 use Rattle.cf_base.specs.World.{World, Ran, Went, spend_of, deeper, show}
 use Rattle.cf_core.specs.FromTypes.{Tables, taking}
@@ -12,7 +12,7 @@ use Rattle.cf_core.specs.Core.{Core, Function, more, absent, pointer_call}
 use Rattle.cf_core.specs.Access.{used}
 use Rattle.cf_core.specs.Places.{Place}
 use Rattle.cf_core.specs.Store.{Value, Code, new_object, automatic}
-use Rattle.cf_core.specs.Run.{State, Frame, Did, Gives, Malformed, need, done, cast_from_void, Act, ◌>>=◌, ◌>>◌, gives, malformed, some_or, when, upd, changed, with_frame, for_all, state}
+use Rattle.cf_core.specs.Run.{State, Frame, Did, Gives, Malformed, need, done, cast_from_void, Act, ◌>>=◌, ◌>>◌, gives, malformed, some_or, valid, when, upd, changed, with_frame, for_all, object_changed, gone, state}
 use Rattle.cf_core.specs.Objects.{settle, settled, result_place, run_pointer}
 use Rattle.cf_core.specs.Calls.{Flow, Falls, body, root, enter, returned, local_count, end_object, name_function}
 use Rattle.cf_core.specs.Calls as calls
@@ -38,7 +38,7 @@ use Rattle.cf_core_run.specs.declared.mark.Doing.TheVariants as doing
 use Rattle.cf_core_run.specs.declared.state.Machine.{Machine}
 use Rattle.cf_core_objects.specs.Store.{state_of, value_of, frame_of, local_object}
 use Rattle.cf_core_objects.specs.Then.{◌▷◌}
-use Rattle.cf_core_run.specs.Going.{on_value, on_flow, finish, from_value, from_flow, world_of, GoesOn, EndsAs, OpensScope, valued, performed, cores, scoped, again, called, passing, pass_next, starting, go_callee, go_argument, go_parameters, library_by}
+use Rattle.cf_core_run.specs.Going.{on_value, on_flow, finish, from_value, from_flow, world_of, Outside, GoesOn, EndsAs, OpensScope, valued, performed, cores, scoped, again, called, passing, pass_next, starting, go_callee, go_argument, go_parameters, library_by, library_on}
 use Rattle.cf_core_objects.proofs.ThenLaws.{then-assoc, then-same}
 use Rattle.cf_core_run.proofs.Laws.{pushed, value-stops}
 use Rattle.cf_core_run.proofs.ShapeLaws.{same-itself}
@@ -84,6 +84,26 @@ start-goes T p k f g es into c s w en ep er em =
     ∙ ap (λ (ps : List Shape). (arguments (again T p k) (program_of T p) (map (shape_type T) ps) (cores T p es) >>= (λ os. called T p k (value_of c.callee) os)) s w) (sym ep)
     ∙ ap (λ (es : List Node). (arguments (again T p k) (program_of T p) (map (shape_type T) c.params.now) (cores T p es) >>= (λ os. called T p k (value_of c.callee) os)) s w) (sym er)
     ∙ ap (λ (made : List ℕ). (arguments (again T p k) (program_of T p) (map (shape_type T) c.params.now) (cores T p c.rest.now) >>= (λ os. called T p k (value_of c.callee) (made ++ os))) s w) (sym em)
+
+length-map : {A B : Type 0} (f : A → B) (xs : List A) → length (map f xs) ≡ length xs
+length-map f [] = refl
+length-map f (x ∷ xs) = ap suc (length-map f xs)
+
+-- a function is entered on as many objects as it has parameters
+abbrev on-so-many : Tables → Program → ℕ → RunFn → List ℕ → Bool → Act Value
+on-so-many T p k f args b = valid b >> enter (again T p k) (function_of T p f) args None None
+
+as-declared : (T : Tables) (f : RunFn) (args : List ℕ) (b : Bool) → nat_eq (length args) (length f.signature.params) ≡ b
+    → nat_eq (length args) (length (parameters (signature_type T f.signature))) ≡ b
+as-declared T f args b e = ap (nat_eq (length args)) (ap length (signature-params T f.signature) ∙ length-map (shape_type T) f.signature.params) ∙ e
+
+pub entered-as : (T : Tables) (p : Program) (k : ℕ) (f : RunFn) (args : List ℕ) (s : State) (w : World) → nat_eq (length args) (length f.signature.params) ≡ true
+    → calls.enter_found (again T p k) (Some (function_of T p f)) args None None s w ≡ enter (again T p k) (function_of T p f) args None None s w
+entered-as T p k f args s w e = ap (λ b. on-so-many T p k f args b s w) (as-declared T f args true e)
+
+pub entered-wrong : (T : Tables) (p : Program) (k : ℕ) (f : RunFn) (args : List ℕ) (s : State) (w : World) → nat_eq (length args) (length f.signature.params) ≡ false
+    → calls.enter_found (again T p k) (Some (function_of T p f)) args None None s w ≡ Went Malformed w
+entered-wrong T p k f args s w e = ap (λ b. on-so-many T p k f args b s w) (as-declared T f args false e)
 
 -- a result of class type is built nowhere
 pub result-none : (T : Tables) (f : Signature) (into : Option Place) → result_place (signature_type T f) into ≡ None
@@ -170,10 +190,6 @@ some-map [] i = refl
 some-map (x ∷ args) zero = refl
 some-map (x ∷ args) (suc i) = some-map args i
 
-length-map : {A B : Type 0} (f : A → B) (xs : List A) → length (map f xs) ≡ length xs
-length-map f [] = refl
-length-map f (x ∷ xs) = ap suc (length-map f xs)
-
 pub entered-frame : (T : Tables) (p : Program) (f : RunFn) (args : List ℕ) (e : Entered) → e.name.now ≡ f.name → e.locals.items ≡ map Some args → e.scope.items ≡ [] → e.temporaries.items ≡ []
     → e.count ≡ length f.signature.params + length f.locals → frame_of e ≡ calls.frame_of f.name (local_count (function_of T p f)) args None None e.depth
 entered-frame T p f args e en el es et ec =
@@ -239,34 +255,45 @@ argument-passes T p k c made object s w is =
     then-same (arguments (again T p k) (program_of T p) (map (shape_type T) c.params.now) (cores T p c.rest.now) s w) (λ os. called T p k (value_of c.callee) (c.made.items ++ object ∷ os)) (λ os. called T p k (value_of c.callee) (made.items ++ os))
     (λ os s w. ap (λ (l : List ℕ). called T p k (value_of c.callee) l s w) (sym (ap (λ (l : List ℕ). l ++ os) is ∙ append_assoc c.made.items (object ∷ []) os)))
 
--- a function of the library is called
-pub library-goes : (T : Tables) (p : Program) (name args : List ℕ) (b : Bool) (s : State) (w : World) → bytes_eq name (codes "getchar") ≡ b
-    → calls.run_library name args s w ≡ library_by T p b name args s w
-library-goes T p name args b s w is =
-    ap (λ (b : Bool). let r : Act Value = elim b [
-      | true ↦ calls.get
-      | false ↦ some_or (calls.argument args s) malformed >>= (λ v. when (bytes_eq name (codes "putchar")) (calls.put v) (calls.leave_with v))
-    ] in r s w) is ∙ at b
+-- a function of the library runs
+library-goes : (T : Tables) (p : Program) (name args : List ℕ) (s : State) (w : World) → calls.run_library name args s w ≡ library_on T p name (calls.argument args s) s w
+library-goes T p name args s w = at (bytes_eq name (codes "getchar"))
   where
     at : (b : Bool) → (let r : Act Value = elim b [
       | true ↦ calls.get
       | false ↦ some_or (calls.argument args s) malformed >>= (λ v. when (bytes_eq name (codes "putchar")) (calls.put v) (calls.leave_with v))
-    ] in r s w) ≡ library_by T p b name args s w
+    ] in r s w) ≡ library_by T p b name (calls.argument args s) s w
     at true = refl
     at false = refl
 
+-- and then the storage of its parameters ends
+pub library-ends : (T : Tables) (p : Program) (old : Machine) (stack : Vec Mark Global) (name args : List ℕ) (made : Vec ℕ Global) (first : Option Given) (o : Outside)
+    → stack.items ≡ old.stack.items ++ mark.Value old.fuel (vm.Library made) ∷ [] → made.items ≡ reverse args
+    → option_map value_of first ≡ calls.argument args (state_of T old.entered old.objects)
+    → from_value T p old (calls.call_library name args) o ≡ from_value T p (record old { stack = stack }) (library_on T p name (option_map value_of first)) o
+library-ends T p old stack name args made first o items back is =
+    let S = state_of T old.entered old.objects in
+    let w = world_of old.ticks o in
+    let R : Option Value → Ran (Did Value) = λ x. library_on T p name x S w in
+    let ends : List ℕ → Value → Act Value = λ l v. for_all l (λ o. object_changed o gone) >> gives v in
+    sym (ap (λ (ms : List Mark). finish T p o (on_value T p (reverse ms) (R (option_map value_of first)))) items
+    ∙ ap (λ (ms : List Mark). finish T p o (on_value T p ms (R (option_map value_of first)))) (pushed old.stack.items (mark.Value old.fuel (vm.Library made)))
+    ∙ ap (λ (l : List ℕ). finish T p o (on_value T p (reverse old.stack.items) (R (option_map value_of first) ▷ ends l))) (ap reverse back ∙ reverse-reverse args)
+    ∙ ap (λ (x : Option Value). finish T p o (on_value T p (reverse old.stack.items) (R x ▷ ends args))) is
+    ∙ ap (λ r. finish T p o (on_value T p (reverse old.stack.items) (r ▷ ends args))) (sym (library-goes T p name args S w)))
+
 -- a function is called by its name
 pub called-library : (T : Tables) (p : Program) (k : ℕ) (name args : List ℕ) (s : State) (w : World) → calls.is_library name ≡ true
-    → called T p k (Code name) args s w ≡ calls.run_library name args s w
+    → called T p k (Code name) args s w ≡ calls.call_library name args s w
 called-library T p k name args s w is = ap (λ (b : Bool). let r : Act Value = elim b [
-  | true ↦ calls.run_library name args
+  | true ↦ calls.call_library name args
   | false ↦ calls.enter_found (again T p k) (calls.function_named (program_of T p) name) args None None
 ] in r s w) is
 
 pub called-function : (T : Tables) (p : Program) (k : ℕ) (name args : List ℕ) (s : State) (w : World) → calls.is_library name ≡ false
     → called T p k (Code name) args s w ≡ calls.enter_found (again T p k) (calls.function_named (program_of T p) name) args None None s w
 called-function T p k name args s w is = ap (λ (b : Bool). let r : Act Value = elim b [
-  | true ↦ calls.run_library name args
+  | true ↦ calls.call_library name args
   | false ↦ calls.enter_found (again T p k) (calls.function_named (program_of T p) name) args None None
 ] in r s w) is
 

@@ -10,7 +10,7 @@ use Rattle.cf_core.specs.Places.{Place, inner}
 use Rattle.cf_core.specs.Joined.{in_file, constant_setting}
 use Rattle.cf_core.specs.Store.{Value, Built, At, Code}
 use Rattle.cf_core.specs.Pointers.{truth_value}
-use Rattle.cf_core.specs.Run.{Did, Act, ◌>>=◌, ◌>>◌, gives, malformed, state, changed, when, for_all, with_frame, frame_changed, lists_in_scope, lists_temporary, declared_object, some_or}
+use Rattle.cf_core.specs.Run.{Did, Act, ◌>>=◌, ◌>>◌, gives, malformed, state, changed, when, for_all, with_frame, frame_changed, lists_in_scope, lists_temporary, declared_object, object_changed, gone, some_or}
 use Rattle.cf_core.specs.Access.{used, number_of, fill_zeros}
 use Rattle.cf_core.specs.Scalars.{truth_of}
 use Rattle.cf_core.specs.Objects.{settle, settled, result_place, run_pointer, write_bytes}
@@ -71,6 +71,10 @@ flow_of way.Breaks = Breaks
 flow_of way.Continues = Continues
 flow_of (way.Returns v) = Returns (value_of v)
 
+-- a function of the library has given a value, and the storage of its parameters ends, which stand here in reverse
+abbrev pub go_library : List ℕ → Value → Act Value
+go_library made v = for_all (reverse made) (λ o. object_changed o gone) >> gives v
+
 -- what the runner does not hold: the input left, the heap left, the trace so far, and the bound and depth that the run began with
 pub record Outside : Type 0 where
   pub input : List ℕ
@@ -120,13 +124,13 @@ module _ (T : Tables) (p : Program) where
   abbrev pub put_or_exit : List ℕ → Value → Act Value
   put_or_exit name v = when (bytes_eq name (codes "putchar")) (calls.put v) (calls.leave_with v)
 
-  abbrev pub library_on : List ℕ → List ℕ → Act Value
-  library_on name args = state >>= (λ s. some_or (calls.argument args s) malformed >>= put_or_exit name)
+  -- `getchar`, where true, or another function of the library, where its first parameter holds this
+  abbrev pub library_by : Bool → List ℕ → Option Value → Act Value
+  library_by true name first = get
+  library_by false name first = some_or first malformed >>= put_or_exit name
 
-  -- `getchar`, where true, or another function of the library
-  abbrev pub library_by : Bool → List ℕ → List ℕ → Act Value
-  library_by true name args = get
-  library_by false name args = library_on name args
+  abbrev pub library_on : List ℕ → Option Value → Act Value
+  library_on name first = library_by (bytes_eq name (codes "getchar")) name first
 
   -- the other arguments of a call, and then the call
   abbrev pub passing : ℕ → Calling → Act Value
@@ -275,6 +279,7 @@ module _ (T : Tables) (p : Program) where
   go_value k (on_value_mark.Argument c o) v = go_argument k c o v
   go_value k (on_value_mark.Temporary o) v = go_temporary k o v
   go_value k (on_value_mark.Held o) v = go_held k o v
+  go_value k (on_value_mark.Library made) v = go_library made.items v
   go_value k (on_value_mark.Element q l) v = go_element k q l v
   go_value k (on_value_mark.Constant o xs) v = go_constant k o xs.now v
   go_value k (on_value_mark.Whole around) v = closed k (reverse around.items) v

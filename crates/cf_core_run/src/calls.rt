@@ -1,4 +1,4 @@
-ghost use Rattle.std.specs.Prelude.{◌≡◌, [], ◌∷◌, map, find, bytes_eq, Some, None, Option, option_map, IfOk};
+ghost use Rattle.std.specs.Prelude.{◌≡◌, [], ◌∷◌, map, find, bytes_eq, nat_eq, false, Some, None, Option, option_map, IfOk};
 ghost use Rattle.std.specs.Option.{option_copied};
 ghost use Rattle.cf_base.specs.Integers.{bits_of};
 ghost use Rattle.cf_base.specs.World.{World};
@@ -21,7 +21,7 @@ ghost use Rattle.cf_core_objects.specs.Store.{state_of, value_of};
 
 use crate::mark::{Calling, Doing, FlowMark, Mark, ValueMark};
 use crate::state::{Machine, RunEnd, Step};
-use cf_core_objects::{Entered, Integer, Stop, Value, new_object, used, whole_held};
+use cf_core_objects::{Entered, Integer, Stop, Value, end_objects, new_object, used, whole_held};
 use cf_core_place::Goal;
 use cf_run_tree::{Node, Program, RunFn, Shape, Signature};
 use std::alloc::{AllocError, Global};
@@ -44,6 +44,13 @@ fn is_library(name: &[u8]) -> bool
     ensures { result ≡ calls.is_library name.now }
 {
     name == b"putchar".as_slice() || name == b"getchar".as_slice() || name == b"exit".as_slice()
+}
+
+/// Whether so many objects were made as there are parameters.
+fn as_many(made: usize, params: usize) -> bool
+    ensures { result ≡ nat_eq made params }
+{
+    made == params
 }
 
 /// The byte that a number is modulo 256.
@@ -264,7 +271,7 @@ impl<'a> Machine<'a> {
         ensures { Comes program.now (λ T o. from_value T program.now self.old (called T program.now self.old.fuel (Code name.now) made.items) o) result self.new }
     {
         if is_library(name) {
-            self.call_library(name, made.as_slice())
+            self.call_library(name, made)
         } else {
             self.call_function(name, made, program)
         }
@@ -281,32 +288,66 @@ impl<'a> Machine<'a> {
     {
         match function_named(program, name) {
             None => Err(Stop::Malformed),
-            Some(f) => {
-                self.doing = Doing::Enter(f, made);
-                Ok(Step::On)
-            }
+            Some(f) => self.enter_on(f, made),
         }
     }
 
-    /// A function of the library is called.
-    fn call_library(&mut self, name: &'a [u8], made: &[usize]) -> Result<Step<'a>, Stop>
-        ensures { (p : Program) → Comes p (λ T o. from_value T p self.old (calls.run_library name.now made.now) o) result self.new }
+    /// It is entered on as many objects as it has parameters.
+    fn enter_on(&mut self, f: &'a RunFn, made: Vec<usize>) -> Result<Step<'a>, Stop>
+        ensures { (p : Program) → Comes p (λ T o. from_value T p self.old (calls.enter_found (again T p self.old.fuel) (Some (function_of T p f.now)) made.items None None) o) result self.new }
+    {
+        if as_many(made.len(), f.signature.params.len()) {
+            self.doing = Doing::Enter(f, made);
+            Ok(Step::On)
+        } else {
+            Err(Stop::Malformed)
+        }
+    }
+
+    /// A function of the library is called: behind it the storage of its parameters ends.
+    fn call_library(&mut self, name: &'a [u8], made: Vec<usize>) -> Result<Step<'a>, Stop>
+        ensures { (p : Program) → Comes p (λ T o. from_value T p self.old (calls.call_library name.now made.items) o) result self.new }
+    {
+        let first = self.first_argument(made.as_slice());
+        let mut made = made;
+        made.reverse();
+        self.stack
+            .push(Mark::Value(self.fuel, ValueMark::Library(made)))?;
+        self.run_library(name, first)
+    }
+
+    /// A function of the library runs, where its first parameter holds this.
+    fn run_library(&mut self, name: &'a [u8], first: Option<Value<'a>>) -> Result<Step<'a>, Stop>
+        ensures { (p : Program) → Comes p (λ T o. from_value T p self.old (going.library_on T p name.now (option_map value_of first.entry)) o) result self.new }
     {
         if name == b"getchar".as_slice() {
             self.doing = Doing::Asks;
             Ok(Step::On)
         } else {
-            self.call_on(name, made)
+            self.run_on(name, first)
         }
     }
 
-    /// `putchar` or `exit` is called.
-    fn call_on(&mut self, name: &'a [u8], made: &[usize]) -> Result<Step<'a>, Stop>
-        ensures { (p : Program) → Comes p (λ T o. from_value T p self.old (going.library_on T p name.now made.now) o) result self.new }
+    /// `putchar` or `exit` runs.
+    fn run_on(&mut self, name: &'a [u8], first: Option<Value<'a>>) -> Result<Step<'a>, Stop>
+        ensures { (p : Program) → Comes p (λ T o. from_value T p self.old (going.library_by T p false name.now (option_map value_of first.entry)) o) result self.new }
     {
-        match self.first_argument(made) {
+        match first {
             None => Err(Stop::Malformed),
             Some(v) => self.put_or_exit(name, v),
+        }
+    }
+
+    /// A function of the library has run: the storage of its parameters ends, which stand here in reverse.
+    pub fn end_library(&mut self, made: Vec<usize>, v: Value<'a>) -> Result<Step<'a>, Stop>
+        ensures { (p : Program) → Comes p (λ T o. from_value T p self.old (going.go_library made.items (value_of v.entry)) o) result self.new }
+    {
+        match end_objects(&mut self.objects, made.as_slice()) {
+            Err(stop) => Err(stop),
+            Ok(()) => {
+                self.doing = Doing::Gives(v);
+                Ok(Step::On)
+            }
         }
     }
 

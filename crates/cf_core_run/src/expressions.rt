@@ -165,6 +165,7 @@ impl<'a> Machine<'a> {
             ValueMark::Argument(calling, object) => self.argument(calling, object, v),
             ValueMark::Temporary(object) => self.made(object, v),
             ValueMark::Held(object) => self.held(object, v),
+            ValueMark::Library(made) => self.end_library(made, v),
             ValueMark::Element(element, listing) => self.element(element, listing, v),
             ValueMark::Constant(number, rest) => self.constant(number, rest, v),
             ValueMark::Whole(around) => self.close_whole(around, v),

@@ -66,6 +66,8 @@ pub enum ValueMark<'a> {
     Temporary(usize),
     /// The temporary with this object gets the value, and lives as long as a local.
     Held(usize),
+    /// A function of the library has given the value, and the storage of these parameters ends, the last of the list first.
+    Library(Vec<usize>),
     /// This element of an array gets the value, and the others come.
     Element(Goal, Listing<'a>),
     /// The static object of this number gets the value, and these others come.

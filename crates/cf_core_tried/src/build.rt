@@ -141,6 +141,21 @@ impl Build {
         self.node(Node::Call(name, signature, arguments))
     }
 
+    /// The function of this name and of these parameters, which gives an int.
+    pub fn function(self, name: &[u8], params: &[Shape]) -> Tree {
+        let name = Name::from_slice(self.alloc, name)?;
+        let signature = signature(self.alloc, params)?;
+        self.node(Node::Function(name, signature))
+    }
+
+    /// A call through a pointer to a function of these parameters, which gives an int.
+    pub fn call_through(self, pointer: Tree, params: &[Shape], arguments: List) -> Tree {
+        let pointer = pointer?;
+        let arguments = arguments.trees?;
+        let signature = signature(self.alloc, params)?;
+        self.node(Node::PointerCall(pointer, signature, arguments))
+    }
+
     /// `putchar(value)`
     pub fn put(self, value: Tree) -> Tree {
         self.call(b"putchar".as_slice(), &[INT], self.list().then(value))

@@ -7,6 +7,8 @@ mod arrays;
 #[cfg(test)]
 mod build;
 #[cfg(test)]
+mod calls;
+#[cfg(test)]
 mod enumerations;
 #[cfg(test)]
 mod file;

@@ -23,6 +23,11 @@ pub fn pointer() -> Shape {
     open(Form::Pointer(TyId::new(0)))
 }
 
+/// `int(*)(int,int)`
+pub fn function_pointer() -> Shape {
+    open(Form::Pointer(TyId::new(2)))
+}
+
 /// `int&`
 pub fn reference() -> Shape {
     open(Form::Reference(TyId::new(0)))

@@ -98,6 +98,18 @@ pub fn comes_to(rt: &impl Abort, file: File, trace: &[u8], end: End) -> Result<(
     runs(rt, file, LONG, trace, end)
 }
 
+/// A run of this file has no meaning: elaboration makes no such core.
+pub fn has_none(rt: &impl Abort, file: File) -> Result<(), Fail> {
+    let alloc = file.alloc();
+    let program = file.whole()?;
+    let stopped = match outcome_of(alloc, &program, LONG, b"".as_slice()) {
+        Err(stop) => stop == Stop::Malformed,
+        Ok(_) => false,
+    };
+    assert!(rt; stopped);
+    Ok(())
+}
+
 /// With this status.
 pub fn ended(status: i64) -> End {
     End::Ended(Integer::new(status))

@@ -10,7 +10,5 @@ mod files;
 mod names;
 mod place;
 mod statements;
-#[cfg(test)]
-mod tests;
 
 pub use files::not_built;

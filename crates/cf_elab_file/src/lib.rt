@@ -13,6 +13,3 @@ pub use defined::check_all_defined;
 pub use known::is_library;
 pub use library::begun;
 pub use linkage::check_linkage;
-
-#[cfg(test)]
-mod tests;

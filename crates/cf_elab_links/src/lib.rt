@@ -13,6 +13,3 @@ mod text;
 pub use functions::{main_link, plain_link};
 pub use limit::check_link;
 pub use objects::{local_static_name, temporary_name, variable_link};
-
-#[cfg(test)]
-mod tests;

@@ -8,6 +8,3 @@ mod scan;
 pub use declarator::{declared_name, is_bare, is_function};
 pub use keys::key;
 pub use scan::defined_names;
-
-#[cfg(test)]
-mod tests;

@@ -6,8 +6,6 @@
 mod costs;
 mod functions;
 mod sizes;
-#[cfg(test)]
-mod tests;
 mod walk;
 
 pub use functions::{frame, frames};

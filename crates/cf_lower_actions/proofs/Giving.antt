@@ -7,7 +7,7 @@ use Rattle.cf_core.specs.Types.{SourceType}
 use Rattle.cf_core.specs.Store as source
 use Rattle.cf_core.specs.Run.{State, Gives, ◌>>=◌, gives, malformed, some_or}
 use Rattle.cf_core.specs.Access.{used}
-use Rattle.cf_lower_layout.specs.Sorts.{Sort, sort_of}
+use Rattle.cf_lower_layout.specs.Sorts.{Sort, number, address, code, sort_of}
 use Rattle.cf_plain.specs.Plain.{Register, give}
 use Rattle.cf_plain.specs.Acts.{Registers}
 use Rattle.cf_plain.specs.Running.{Flow, Returns, does}
@@ -26,7 +26,7 @@ use Rattle.cf_lower.specs.Kept.{Kept, Keeping, local_kept}
 use Rattle.cf_lower.specs.Written.{if_scalar, c_type}
 use Rattle.cf_lower.specs.Expressions.{zero as nought, local_value, as_stored}
 use Rattle.cf_lower.specs.Statements.{lowered, no_value, given}
-use Rattle.cf_lower_relate.specs.Map.{Is}
+use Rattle.cf_lower_relate.specs.Map.{Fixed, Map, Is}
 use Rattle.cf_lower_relate.specs.Scalars.{c_scalar}
 use Rattle.cf_lower_steps.specs.Steps.{HasValue, KeptAs}
 use Rattle.cf_lower_steps.specs.Flows.{Simulates}
@@ -40,6 +40,17 @@ use Rattle.cf_lower_turns.specs.Scene.{SameBack, GivenBack, GivesBack, Scene, fi
 use Rattle.cf_lower_turns.proofs.Following.{sim-here}
 use Rattle.cf_lower_actions.specs.Fits.{Fits}
 use Rattle.cf_lower_actions.proofs.Noughts.{nought-fits}
+
+-- what can't be used is no scalar's value
+nothing-is : (K : Fixed) (F : Map) (u : Sort) (y : Value) → Is K F u source.Nothing y → ⊥
+nothing-is K F (number k) y h = h
+nothing-is K F (address t) y h = h
+nothing-is K F (code t) y h = h
+
+missing-is : (K : Fixed) (F : Map) (u : Sort) (y : Value) → Is K F u source.Missing y → ⊥
+missing-is K F (number k) y h = h
+missing-is K F (address t) y h = h
+missing-is K F (code t) y h = h
 
 module _ (z : Scene) (fits : Fits z) (around : Around Keeping) (p : Keeping) (n : ℕ) (g : Registers) (s : State) (t : c.State) (w : World)
     (h : Here (fixed_in z) z.body p (depth_of around) g s t) where
@@ -76,7 +87,7 @@ module _ (z : Scene) (fits : Fits z) (around : Around Keeping) (p : Keeping) (n 
   none-back None e = back source.Nothing (c_tree.give None ∷ []) None refl (subst (λ a. GivenBack (fixed_in z) h.map a source.Nothing None) (sym e) refl)
   none-back (Some u) e =
       back source.Nothing (c_tree.give (Some (as_stored u nought)) ∷ []) (Some (zero_of (c_scalar u))) (run-give (as_stored u nought) (zero_of (c_scalar u)) (nought-fits u))
-      (subst (λ a. GivenBack (fixed_in z) h.map a source.Nothing (Some (zero_of (c_scalar u)))) (sym e) (record { back = zero_of (c_scalar u); is = refl; same = tt }))
+      (subst (λ a. GivenBack (fixed_in z) h.map a source.Nothing (Some (zero_of (c_scalar u)))) (sym e) (record { back = zero_of (c_scalar u); is = refl; same = refl }))
 
   pub give-none : Simulates S (does (again_at z n) z.program (give None) g s w) (list_at z n (lowered (give None) (inside_at z.inside around) p) t w)
   give-none =
@@ -125,8 +136,8 @@ module _ (z : Scene) (fits : Fits z) (around : Around Keeping) (p : Keeping) (n 
         (subst (λ y. KeptAs (fixed_in z) h.map y v (value_of (local_value (local_kept y) r) z.body.scope t.memory)) kr (h.between.registers r v is)))
 
     same-back : (v : source.Value) (y : Value) → Is (fixed_in z) h.map u v y → SameBack (fixed_in z) h.map u v y
-    same-back source.Nothing y h = tt
-    same-back source.Missing y h = tt
+    same-back source.Nothing y k = absurd (nothing-is (fixed_in z) h.map u y k)
+    same-back source.Missing y k = absurd (missing-is (fixed_in z) h.map u y k)
     same-back v y h = h
 
     value-back : (v : source.Value) → g r ≡ Some v → usable v ≡ true

@@ -19,3 +19,5 @@ pub mod Tested
 pub mod Voids
 pub mod Zeroed
 pub mod Zeros
+pub mod LowerObjects
+pub mod LowerLeaves

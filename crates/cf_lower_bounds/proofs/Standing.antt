@@ -10,6 +10,8 @@ use Rattle.cf_core.specs.Run.{State}
 use Rattle.cf_plain.specs.Plain.{Register}
 use Rattle.cf_plain.specs.Acts.{Registers}
 use Rattle.cc_whole_memory.specs.declared.value.Value.{Value}
+use Rattle.cc_whole_memory.specs.Values.{bytes_of}
+use Rattle.cc_whole_mean.specs.Types.{scalar_of}
 use Rattle.cc_whole_mean.specs.Values.{value_of}
 use Rattle.cc_whole_mean.specs.Flow as c
 use Rattle.cc_whole_mean.specs.Flow.{in_memory}
@@ -20,7 +22,7 @@ use Rattle.cf_lower_steps.specs.Steps.{HasValue, KeptAs}
 use Rattle.cf_lower_turns.specs.Flags.{Shows, FlagSet}
 use Rattle.cf_lower_turns.specs.Here.{Body, Here, Narrows}
 use Rattle.cf_lower_turns.specs.Scene.{Scene, fixed_in}
-use Rattle.cf_lower_turns.proofs.Flags.{after, set-flag, shows-new, shows-other, flags-after, between-after, outer-after, texts-after}
+use Rattle.cf_lower_turns.proofs.Flags.{after, set-flag, shows-new, shows-other, flags-after, between-after, room-after, outer-after, texts-after}
 use Rattle.cf_lower_bounds.specs.Points.{Point, At}
 use Rattle.cf_lower_bounds.specs.Bounds.{LiesWithin, TellsAll, TellsAllBy}
 use Rattle.cf_lower_bounds.proofs.Laws.{HasNumber, Laws}
@@ -100,7 +102,12 @@ module _ (K : Fixed) (at : Body) where
       bounded = h.bounded;
       unset = λ e le. shows-other at.own at.flags h.map at.scope t.memory h.flags_there d n lt small e 0 (omega (arith, le, lt)) (different-below e d le) (h.unset e le);
       outer = outer-after at.own at.flags h.map at.scope t.memory h.flags_there d n lt small at.texts at.start at.first (h.later.flags d lt) h.outer;
-      placed = record { registers = h.placed.registers; flags = h.placed.flags };
+      placed = record {
+        registers = h.placed.registers;
+        flags = h.placed.flags;
+        results = λ x b is. room-after at.own at.flags h.map at.scope t.memory h.flags_there d n lt small b (bytes_of (scalar_of x))
+            (λ same. (h.later.results x b is).flags d lt same) (h.placed.results x b is);
+      };
       homes = h.homes;
       arguments = h.arguments;
       texts_laid = h.texts_laid;

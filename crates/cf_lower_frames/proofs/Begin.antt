@@ -42,7 +42,7 @@ shown-seen hidden h = absurd (let k = h in cc)
 shown-seen shown h = refl
 shown-seen ended h = absurd (let k = h in cc)
 
-shown-stands : (st : Stage) → is_shown st ≡ true → is_ended st ≡ false
+pub shown-stands : (st : Stage) → is_shown st ≡ true → is_ended st ≡ false
 shown-stands hidden h = absurd (let k = h in cc)
 shown-stands shown h = refl
 shown-stands ended h = absurd (let k = h in cc)
@@ -53,7 +53,7 @@ pub record At (E : Map) (b i o : ℕ) : Type 0 where
   pub base : E.base o ≡ 0
   pub shown : is_shown (E.stage o) ≡ true
 
-at-number : (E : Map) (os : List ℕ) (b : ℕ) → StandIn E os b → (i o : ℕ) → slice_get os i ≡ Some o → At E b i o
+pub at-number : (E : Map) (os : List ℕ) (b : ℕ) → StandIn E os b → (i o : ℕ) → slice_get os i ≡ Some o → At E b i o
 at-number E [] b h i o e = absurd (let k = e in cc)
 at-number E (p ∷ ps) b h zero o e =
     subst (At E b 0) (some-number e) (record { block = let at = h.0.0 in omega (arith, at); base = h.0.1.0; shown = h.0.1.1 })
@@ -61,7 +61,7 @@ at-number E (p ∷ ps) b h (suc i) o e =
     let rest = at-number E ps (suc b) h.1 i o e in
     record { block = let at = rest.block in omega (arith, at); base = rest.base; shown = rest.shown }
 
-typed-number : (E : Map) (kind : ℕ → SourceType) (os : List ℕ) (ts : List SourceType) → HaveTypes E os ts
+pub typed-number : (E : Map) (kind : ℕ → SourceType) (os : List ℕ) (ts : List SourceType) → HaveTypes E os ts
     → ((i : ℕ) (t : SourceType) → slice_get ts i ≡ Some t → kind i ≡ t) → (i o : ℕ) → slice_get os i ≡ Some o → without_const (E.type o) ≡ without_const (kind i)
 typed-number E kind [] ts h fit i o e = absurd (let k = e in cc)
 typed-number E kind (p ∷ ps) [] h fit i o e = absurd h
@@ -73,7 +73,7 @@ or-later : (a b : Bool) → b ≡ true → (a || b) ≡ true
 or-later true b h = refl
 or-later false b h = h
 
-among-number : (os : List ℕ) (i o : ℕ) → slice_get os i ≡ Some o → is_among o os ≡ true
+pub among-number : (os : List ℕ) (i o : ℕ) → slice_get os i ≡ Some o → is_among o os ≡ true
 among-number [] i o e = absurd (let k = e in cc)
 among-number (p ∷ ps) zero o e =
     let at : p ≡ o = some-number e in
@@ -86,7 +86,7 @@ pub record There (os : List ℕ) (i : ℕ) : Type 0 where
   pub object : ℕ
   pub is : slice_get os i ≡ Some object
 
-there-at : (os : List ℕ) (i : ℕ) → i < length os → There os i
+pub there-at : (os : List ℕ) (i : ℕ) → i < length os → There os i
 there-at [] i lt = absurd (let k : i < 0 = lt in omega (arith, k))
 there-at (p ∷ ps) zero lt = record { object = p; is = refl }
 there-at (p ∷ ps) (suc i) lt =
@@ -227,7 +227,7 @@ module _ (B : Programs) (f : Function) (E : Map) (s : State) (first : Memory) (o
     bounded = omega arith;
     unset = λ d lt. absurd (omega (arith, lt));
     outer = outer-first;
-    placed = record { registers = frame.registers.below; flags = frame.flags_there.below };
+    placed = record { registers = frame.registers.below; flags = frame.flags_there.below; results = frame.results.room };
     homes = homes-first;
     arguments = arguments-first;
     texts_laid = entry.texts_laid;
@@ -236,5 +236,12 @@ module _ (B : Programs) (f : Function) (E : Map) (s : State) (first : Memory) (o
       registers = λ a r lr. let n = frame.registers.behind a r lr in omega (arith, n);
       locals = local-later;
       flags = λ d ld. let n = frame.flags_there.behind d ld in omega (arith, n);
+      results = λ x b is. record {
+        named = frame.results.named x b is;
+        later = let n = frame.results.behind x b is in omega (arith, n);
+        registers = frame.results.registers x b is;
+        locals = frame.results.locals x b is;
+        flags = frame.results.flags_apart x b is;
+      };
     };
   }

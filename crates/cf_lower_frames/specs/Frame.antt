@@ -7,7 +7,9 @@ use Rattle.cf_plain.specs.Plain.{Register}
 use Rattle.cf_plain_frames.specs.Since.{is_among}
 use Rattle.cc_whole_memory.specs.declared.value.Scalar.TheVariants as scalar
 use Rattle.cf_base.specs.declared.kind.Kind.TheVariants.{Int}
+use Rattle.cc_whole.specs.declared.types.CType.{CType}
 use Rattle.cc_whole_memory.specs.declared.value.Value.{Value}
+use Rattle.cc_whole_memory.specs.Values.{bytes_of}
 use Rattle.cc_whole_memory.specs.Blocks.{Memory}
 use Rattle.cc_whole_mean.specs.declared.named.Named.TheVariants as named
 use Rattle.cc_whole_mean.specs.declared.named.Shape.TheVariants.{Single as single}
@@ -15,11 +17,11 @@ use Rattle.cc_whole_mean.specs.Flow.{born_arguments}
 use Rattle.cc_whole_mean.specs.Scope.{Scope}
 use Rattle.cc_whole_mean.specs.Types.{scalar_of}
 use Rattle.cf_lower.specs.Kept.{is_argument, type_of_local}
-use Rattle.cf_lower.specs.Written.{register_name, register_type, flag_name}
+use Rattle.cf_lower.specs.Written.{register_name, register_type, flag_name, result_name}
 use Rattle.cf_lower_relate.specs.Map.{Fixed, Map}
 use Rattle.cf_lower_steps.specs.Own.{Own, class_of, Lives, LocalBlock}
 use Rattle.cf_lower_turns.specs.Flags.{Flags}
-use Rattle.cf_lower_turns.specs.Here.{Body}
+use Rattle.cf_lower_turns.specs.Here.{Body, HasRoom}
 use Rattle.cf_lower_turns.specs.Texts.{Texts}
 
 -- what stands where, since the function was entered with this map and memory
@@ -52,11 +54,21 @@ pub record LocalBlocks (K : Fixed) (own : Own) (scope : Scope) (first count : �
   pub behind : (i : ℕ) → i < length own.locals.types → count ≤ i → first + count ≤ own.local i
   pub none_passed : (i : ℕ) → i < count → is_argument own.locals i ≡ false
 
+-- those that results of calls go through
+pub record ResultBlocks (own : Own) (flags : Flags) (scope : Scope) (b : ℕ) (m : Memory) : Type 0 where
+  pub named : (t : CType) (c : ℕ) → flags.result t ≡ Some c → scope (result_name t) ≡ Some (named.Variable c (single (scalar_of t)))
+  pub room : (t : CType) (c : ℕ) → flags.result t ≡ Some c → HasRoom m c (bytes_of (scalar_of t))
+  pub behind : (t : CType) (c : ℕ) → flags.result t ≡ Some c → b ≤ c
+  pub registers : (t : CType) (c : ℕ) → flags.result t ≡ Some c → (u : Sort) (r : Register) → r < own.bound → own.block u r ≡ c → ⊥
+  pub locals : (t : CType) (c : ℕ) → flags.result t ≡ Some c → (i : ℕ) → i < length own.locals.types → own.local i ≡ c → ⊥
+  pub flags_apart : (t : CType) (c : ℕ) → flags.result t ≡ Some c → (d : ℕ) → d < flags.bound → flags.block d ≡ c → ⊥
+
 -- all of them, in a memory in which the parameters' blocks and those of before are as they were born
 pub record Frame (K : Fixed) (own : Own) (flags : Flags) (scope : Scope) (first : Memory) (cs : List Value) (m : Memory) : Type 0 where
   pub registers : RegisterBlocks own scope (first.next + length cs) m
   pub flags_there : FlagBlocks own flags scope (first.next + length cs) m
   pub locals : LocalBlocks K own scope first.next (length cs) m
+  pub results : ResultBlocks own flags scope (first.next + length cs) m
   pub next : first.next + length cs ≤ m.next
   pub kept : (b : ℕ) → b < first.next + length cs → m.block b ≡ (born_arguments cs first).block b
 

@@ -1,12 +1,12 @@
 -- What plain statements tell of what an action gives, lowering tells too.
 use Rattle.std.proofs.Common.{◌≡◌, Bool, true, false, ◌&&◌, ◌||◌, if◌then◌else◌, refl, sym, ap}
-use Rattle.std.specs.Prelude.{Option, Some, None, slice_get}
+use Rattle.std.specs.Prelude.{ℕ, List, Option, Some, None, slice_get}
 use Rattle.cf_base.specs.declared.kind.Kind.TheVariants.{Int, UInt}
 use Rattle.cf_base.specs.Integers.{fits}
-use Rattle.cf_core.specs.Types.{SourceType, without_const, result as result_type}
+use Rattle.cf_core.specs.Types.{SourceType, without_const, same_but_const, result as result_type}
 use Rattle.cf_core.specs.Core.{arithmetic, moved}
 use Rattle.cf_lower_layout.specs.Sorts.{Sort}
-use Rattle.cf_plain.specs.Plain.{Action, number, text, local, static_object, function, read, dereference, decay, index, convert, from_void, operate, unary, truth, logical_not, pointer_operate, changed, store, declare, first, zeros, bytes, finish, call}
+use Rattle.cf_plain.specs.Plain.{Action, number, text, local, static_object, function, read, dereference, decay, index, convert, from_void, operate, unary, truth, logical_not, pointer_operate, changed, store, declare, first, zeros, bytes, finish, call, pointer_call, Register}
 use Rattle.cf_plain_kept.specs.Kept as plain
 use Rattle.cf_lower.specs.Kept as lower
 use Rattle.cf_lower.specs.Kept.{integer_of, holds, unknown, Keeping, Locals}
@@ -15,6 +15,14 @@ use Rattle.cf_lower_kept.specs.Told.{ToldIf, AllTold}
 use Rattle.cf_lower_kept.proofs.Operands.{value-told, read-told, named-told, local-told, pointed-told, decayed-told, moved-told, back-told, pointers-told, converted-told, from_void-told, tested-told, operated-told, kind-told, stored-told, begun-told, filled-told, declared-told, code-sort}
 
 module _ (locals : Locals) (result : SourceType) (g : plain.Keeping) (h : Keeping) (told : AllTold locals g h) where
+  called-told : (r : Register) (t : SourceType) (is : List ℕ) (o : Option plain.Kept) → ToldIf locals (plain.pointed_call t o) (lower.kept_by locals h (pointer_call None r t is None))
+  called-told r t is (Some (plain.a_place u)) = by (same_but_const u t)
+    where
+      by : (b : Bool) → ToldIf locals (plain.given b (plain.value_of (result_type t))) (lower.kept_by locals h (pointer_call None r t is None))
+      by true = value-told locals (result_type t)
+      by false = tt
+  called-told r t is o = tt
+
   pub action-told : (a : Action) → action_ready locals.types result g a ≡ true → ToldIf locals (plain.kept_by locals.types result g a) (lower.kept_by locals h a)
   action-told (number z) e = record {
     kinds = λ k. fits k z;
@@ -45,4 +53,5 @@ module _ (locals : Locals) (result : SourceType) (g : plain.Keeping) (h : Keepin
   action-told (bytes r b) e = filled-told locals (g r) unknown
   action-told (finish t i) e = tt
   action-told (call name t None is None) e = value-told locals (result_type t)
+  action-told (pointer_call None r t is None) e = called-told r t is (g r)
   action-told a e = tt

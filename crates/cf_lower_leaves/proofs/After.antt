@@ -8,8 +8,10 @@ use Rattle.cf_lower_layout.specs.Sorts.{Sort}
 use Rattle.cf_plain.specs.Plain.{Register}
 use Rattle.cf_plain.specs.Acts.{Registers}
 use Rattle.cc_whole_memory.specs.declared.value.Scalar.TheVariants as scalar
+use Rattle.cc_whole_memory.specs.Values.{bytes_of}
 use Rattle.cc_whole_memory.specs.Cells.{load}
 use Rattle.cc_whole_memory.specs.Blocks.{Block, Memory, inside, on_ok, value_or_act}
+use Rattle.cc_whole_mean.specs.Types.{scalar_of}
 use Rattle.cc_whole_mean.specs.Values.{named_value}
 use Rattle.cc_whole_mean.specs.Flow as c
 use Rattle.cc_whole_mean.specs.Flow.{in_memory}
@@ -24,28 +26,39 @@ use Rattle.cf_lower_steps.proofs.Between.{between-elsewhere}
 use Rattle.cf_lower_steps.proofs.Locals.{locals-stored}
 use Rattle.cf_lower_steps.proofs.Statements.{different}
 use Rattle.cf_lower_turns.specs.Flags.{Shows}
-use Rattle.cf_lower_turns.specs.Here.{Body, Remains, Here}
+use Rattle.cf_lower_turns.specs.Here.{Body, Remains, HasRoom, Here}
 use Rattle.cf_lower_turns.specs.Texts.{Free}
 use Rattle.cf_lower_turns.proofs.Literals.{texts-stay}
 use Rattle.cf_lower_leaves.proofs.Remains.{Keeps}
 
 -- the sizes add up
-remains-through : (x : Block) (a b : Option Block) → Remains x a → ((y : Block) → a ≡ Some y → Remains y b) → Remains x b
+pub remains-through : (x : Block) (a b : Option Block) → Remains x a → ((y : Block) → a ≡ Some y → Remains y b) → Remains x b
 remains-through x a b h go =
     let k = go h.block h.there in
     record { block = k.block; there = k.there; size = let one = h.size in let two = k.size in omega (arith, one, two) }
+
+-- and what has room has it still
+pub room-kept : (m e : Memory) → Keeps m e → (b k : ℕ) → HasRoom m b k → HasRoom e b k
+room-kept m e keeps b k h =
+    let r = keeps.remains b h.block h.there in
+    record {
+      block = r.block;
+      there = r.there;
+      size = let one = h.size in let two = r.size in omega (arith, one, two);
+      below = let n = keeps.next in let o = h.below in omega (arith, n, o);
+    }
 
 module _ (K : Fixed) (at : Body) (p q : Keeping) (d : ℕ) (g r : Registers) (s u : State) (t : c.State) (m : Memory) (h : Here K at p d g s t)
     (between : Between K at.own at.scope h.map q r u m) (below : Below at.own q) (keeps : Keeps t.memory m)
     (frame : u.frame ≡ s.frame) (literals : u.literals ≡ s.literals) (flags : (e : ℕ) → e < at.flags.bound → m.block (at.flags.block e) ≡ t.memory.block (at.flags.block e))
     (same : (b : ℕ) → b < at.first.next → Free h.map b → m.block b ≡ t.memory.block b) where
-  shows-same : (e n : ℕ) → e < at.flags.bound → Shows at.scope e n t.memory → Shows at.scope e n m
+  pub shows-same : (e n : ℕ) → e < at.flags.bound → Shows at.scope e n t.memory → Shows at.scope e n m
   shows-same e n le shown =
       ap (λ x. named_value x m) (h.flags_there.named e le)
       ∙ ap (λ x. on_ok (inside (at.flags.block e) 0 4 x) (λ at. value_or_act (load (scalar.Integer Int) at.block.cells at.offset))) (flags e le)
       ∙ sym (ap (λ x. named_value x t.memory) (h.flags_there.named e le)) ∙ shown
 
-  pub here-after : Here K at q d r u (in_memory t m)
+  abbrev pub here-after : Here K at q d r u (in_memory t m)
   here-after = record {
     map = h.map;
     grows = h.grows;
@@ -72,6 +85,7 @@ module _ (K : Fixed) (at : Body) (p q : Keeping) (d : ℕ) (g r : Registers) (s 
     placed = record {
       registers = λ a x lx. let n = keeps.next in let o = h.placed.registers a x lx in omega (arith, n, o);
       flags = λ e le. let n = keeps.next in let o = h.placed.flags e le in omega (arith, n, o);
+      results = λ x b is. room-kept t.memory m keeps b (bytes_of (scalar_of x)) (h.placed.results x b is);
     };
     homes = h.homes;
     arguments = λ i o li a e live. h.arguments i o li a (ap (λ (f : Frame). f.locals i) (sym frame) ∙ e) live;

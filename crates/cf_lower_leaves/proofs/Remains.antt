@@ -29,7 +29,7 @@ some-block : {x y : Block} → Some x ≡ Some y → x ≡ y
 some-block e = cc
 
 -- a block that is there gets other cells
-changed-keeps : (m : Memory) (b : ℕ) (old : Block) → m.block b ≡ Some old → (cells : Cells) → Keeps m (record m { block = put_block b (Some (record old { cells = cells })) m.block })
+pub changed-keeps : (m : Memory) (b : ℕ) (old : Block) → m.block b ≡ Some old → (cells : Cells) → Keeps m (record m { block = put_block b (Some (record old { cells = cells })) m.block })
 changed-keeps m b old there cells = record { remains = λ c x e. by_test c x e (c == b) refl; next = refl }
   where
     by_test : (c : ℕ) (x : Block) → m.block c ≡ Some x → (t : Bool) → c == b ≡ t → Remains x (put_block b (Some (record old { cells = cells })) m.block c)

@@ -44,6 +44,37 @@ given-value K F (argument i y) t v found e h = absurd (cc)
 given-value K F (integer_of f) t v found e h = h
 given-value K F (holds a) t v found e h = h
 
+-- a register's C local has been assigned a value
+pub record IsSet (K : Fixed) (at : Body) (p : Keeping) (d : ℕ) (g : Registers) (s : State) (t : c.State) (u : Sort) (r : Register) (e : Expression) : Type 0 where
+  pub after : Memory
+  pub is : assigned (named (register_name u r)) e at.scope t.memory ≡ Ok after
+  pub here : Here K at p d g s (in_memory t after)
+
+module _ (K : Fixed) (at : Body) (p : Keeping) (d : ℕ) (g : Registers) (s : State) (t : c.State) (h : Here K at p d g s t) (y : Kept) (u : Sort) (r : Register)
+    (lt : r < at.own.bound) (local : local_kept y ≡ Some u) (e : Expression) (no_load : source_of e at.scope t.memory ≡ None) (v : source.Value)
+    (given : GivenAs K h.map y v (value_of e at.scope t.memory)) where
+  pub register-set : IsSet K at (keep p r y) d (keep_value g r v) s t u r e
+  register-set =
+      let found = given-value K h.map y u v (value_of e at.scope t.memory) local given in
+      let done = assign-register K h.map at.own s t.memory h.between.rel at.scope h.between.blocks p g h.between.registers h.below y u r lt v found.value local
+      found.same e found.is no_load in
+      record {
+        after = done.after;
+        is = done.is;
+        here = here-after K at p (keep p r y) d g (keep_value g r v) s s t done.after h
+            (record {
+              rel = done.rel;
+              registers = done.registers;
+              blocks = done.own_blocks;
+              locals = locals-elsewhere K at.own h.map at.scope s t.memory h.between.locals done.after
+                  (λ i li. done.elsewhere (at.own.local i) (different (at.own.local i) (at.own.block u r) (λ o. (h.between.locals.blocks i li).apart u r lt (sym o)))) done.next;
+            })
+            (below-keep at.own p r y h.below lt)
+            (assigned-keeps t.memory done.after at.scope (named (register_name u r)) e done.is) refl refl
+            (λ f lf. done.elsewhere (at.flags.block f) (different (at.flags.block f) (at.own.block u r) (λ o. h.flags_there.registers f u r lf lt (sym o))))
+            (λ b lb free. done.elsewhere b (different b (at.own.block u r) (λ o. let later = h.later.registers u r lt in omega (arith, lb, later, o))));
+      }
+
 module _ (z : Scene) (n : ℕ) (around : Around Keeping) (p q : Keeping) (g : Registers) (s : State) (t : c.State) (w : World)
     (h : Here (fixed_in z) z.body p (depth_of around) g s t) where
   abbrev S : Flow → State → c.Flow → Type 0
@@ -56,9 +87,7 @@ module _ (z : Scene) (n : ℕ) (around : Around Keeping) (p q : Keeping) (g : Re
     set-value : (v : source.Value) → GivenAs (fixed_in z) h.map y v (value_of e z.body.scope t.memory)
         → Simulates S (Went (Gives (Falls (keep_value g r v)) s) w) (list_at z n (set_register u r e ∷ []) t w)
     set-value v given =
-        let found = given-value (fixed_in z) h.map y u v (value_of e z.body.scope t.memory) local given in
-        let done = assign-register (fixed_in z) h.map z.body.own s t.memory h.between.rel z.body.scope h.between.blocks p g h.between.registers h.below y u r lt v found.value local
-        found.same e found.is no_load in
+        let done = register-set (fixed_in z) z.body p (depth_of around) g s t h y u r lt local e no_load v given in
         let after : c.State = in_memory t done.after in
         sim-here S (Falls (keep_value g r v)) s w (list_at z n (set_register u r e ∷ []) t w) (c.Falls after)
         (runs-one (c_again_at z n) (helps_at z n) z.c_program z.helper z.body.scope z.depth (set_register u r e) t w after (ap (λ x. tried x w (λ m. Went (c.Falls (in_memory t m)) w)) done.is))
@@ -67,18 +96,7 @@ module _ (z : Scene) (n : ℕ) (around : Around Keeping) (p q : Keeping) (g : Re
           is = refl;
           related =
               subst (λ k. Here (fixed_in z) z.body k (depth_of around) (keep_value g r v) s after) (sym comes)
-              (here-after (fixed_in z) z.body p (keep p r y) (depth_of around) g (keep_value g r v) s s t done.after h
-              (record {
-                rel = done.rel;
-                registers = done.registers;
-                blocks = done.own_blocks;
-                locals = locals-elsewhere (fixed_in z) z.body.own h.map z.body.scope s t.memory h.between.locals done.after
-                    (λ i li. done.elsewhere (z.body.own.local i) (different (z.body.own.local i) (z.body.own.block u r) (λ o. (h.between.locals.blocks i li).apart u r lt (sym o)))) done.next;
-              })
-              (below-keep z.body.own p r y h.below lt)
-              (assigned-keeps t.memory done.after z.body.scope (named (register_name u r)) e done.is) refl refl
-              (λ d ld. done.elsewhere (z.body.flags.block d) (different (z.body.flags.block d) (z.body.own.block u r) (λ o. h.flags_there.registers d u r ld lt (sym o))))
-              (λ b lb free. done.elsewhere b (different b (z.body.own.block u r) (λ o. let later = h.later.registers u r lt in omega (arith, lb, later, o)))));
+              done.here;
         })
 
     -- by an action whose C expression is no load, and that changes nothing

@@ -1,1 +1,5 @@
 pub mod Library
+pub mod Pointed
+pub mod LowerPoints
+pub mod LowerActions
+pub mod LowerInvoked

@@ -3,15 +3,18 @@ use Rattle.std.proofs.Common.{◌≡◌, ℕ, List, [], ◌∷◌, ◌++◌, ref
 use Rattle.std.specs.Prelude.{pos, Some, None, true, false, codes}
 use Rattle.std.specs.Fmt.{digits}
 use Rattle.cf_base.specs.declared.kind.Kind.TheVariants.{Char, Int, UInt}
-use Rattle.cf_core.specs.Types.{Name, SourceType, void, integer, pointer, data_member, takes, gives}
+use Rattle.cf_core.specs.Types.{Name, SourceType, void, integer, pointer, reference, data_member, takes, gives, const}
 use Rattle.cf_core.specs.Core.{plain_function}
 use Rattle.cf_plain.specs.Plain.{Plain, Plains, PlainFunction, PlainStatic, PlainFile, nothing, more, act, set, branch, give, number, text, read, decay, convert, truth, store, declare, first, call, function, static_object, reach, finish_static}
 use Rattle.cc_whole.specs.Types.{same_type}
+use Rattle.cc_whole.specs.ValidUnit.{valid_items}
+use Rattle.cf_lower.specs.Functions.{lowered_file}
 use Rattle.cf_lower_program.specs.Types.{types_lowered}
 use Rattle.cf_lower_program.specs.Actions.{actions_lowered}
 use Rattle.cf_lower_program.specs.Operands.{operands_lowered}
 use Rattle.cf_lower_program.specs.Names.{names_lowered, names_used, may_be_object, may_be_function}
 use Rattle.cf_lower_program.specs.Starts.{statics_known, texts_fit}
+use Rattle.cf_lower_program.specs.Counts.{shared_apart}
 use Rattle.cf_lower_program.specs.Lowerable.{Lowerable}
 
 abbrev statements : List Plain → Plains
@@ -87,6 +90,8 @@ whole-is-lowered = record {
   texts = refl;
   literals = refl;
   labels = refl;
+  counts = refl;
+  shared = refl;
   kept = refl;
   ready = refl;
   opened = refl;
@@ -160,3 +165,53 @@ code-as-void-refused = refl
 unused-name-refused : names_used (file (main_of [] (act (static_object (codes "y") int) ∷ returns_seven) ∷ []) []) ≡ false
 unfolding digits
 unused-name-refused = refl
+
+-- Files that the other tests let through, and whose units are not valid. Elaboration and sequencing make none of them.
+
+-- a function that is shared and local to its file (V12)
+abbrev shared_and_local : PlainFile
+shared_and_local = file (record (main_of [] returns_seven) { is_shared = true; is_local = true } ∷ []) []
+
+shared-local-invalid : valid_items (lowered_file shared_and_local) ≡ false
+unfolding digits same_type
+shared-local-invalid = refl
+
+shared-local-refused : shared_apart shared_and_local ≡ false
+unfolding digits
+shared-local-refused = refl
+
+-- an object of a function's type, whose place goes to the register of a function (V4)
+abbrev function_as_object : PlainFile
+function_as_object = file (main_of [] (set 0 (static_object (codes "y") f_type) ∷ returns_seven) ∷ []) []
+
+function-object-invalid : valid_items (lowered_file function_as_object) ≡ false
+unfolding digits same_type
+function-object-invalid = refl
+
+function-object-refused : types_lowered function_as_object ≡ false
+unfolding digits
+function-object-refused = refl
+
+-- a reference to a const function (V3)
+abbrev to_const_function : PlainFile
+to_const_function = file (main_of [] (set 0 (static_object (codes "r") (reference (const f_type))) ∷ returns_seven) ∷ []) []
+
+const-function-invalid : valid_items (lowered_file to_const_function) ≡ false
+unfolding digits same_type
+const-function-invalid = refl
+
+const-function-refused : types_lowered to_const_function ≡ false
+unfolding digits
+const-function-refused = refl
+
+-- int*p=5; without a conversion (V3)
+abbrev number_as_pointer : PlainFile
+number_as_pointer = with_seven (static_of (codes "p") (pointer int) (set 1 (number (pos 5)) ∷ act (first 0 1) ∷ []) ∷ [])
+
+number-pointer-invalid : valid_items (lowered_file number_as_pointer) ≡ false
+unfolding digits same_type
+number-pointer-invalid = refl
+
+number-pointer-refused : statics_known number_as_pointer ≡ false
+unfolding digits
+number-pointer-refused = refl

@@ -4,6 +4,7 @@ pub mod Actions
 pub mod Operands
 pub mod Starts
 pub mod Labels
+pub mod Counts
 pub mod Lowerable
 pub mod Links
 pub mod Agrees

@@ -1,9 +1,10 @@
 -- Static objects whose initialisers are lowered: all that these do is known before the run.
-use Rattle.std.specs.Prelude.{ℕ, ◌^◌, Bool, true, false, ◌&&◌, not, nat_lt, nat_le, ◌==◌, List, [], ◌∷◌, Some, None, length, bytes_eq}
+use Rattle.std.specs.Prelude.{ℕ, ◌^◌, Bool, true, false, ◌&&◌, not, nat_lt, nat_le, ◌==◌, List, [], ◌∷◌, Option, Some, None, length, bytes_eq}
 use Rattle.std.specs.List.{list_all, list_any}
 use Rattle.cf_core.specs.Types.{Name}
+use Rattle.cf_lower_layout.specs.Sorts.{Sort, number, address, code, sort_of}
 use Rattle.cf_plain.specs.Plain.{Register, Action, text, truth, first, zeros, bytes, reach, finish_static, Plain, Plains, act, set, branch, nothing, more, PlainFunction, PlainStatic, PlainFile}
-use Rattle.cf_lower.specs.Constants.{Known, unknown, nothing_known, holds_truth, known_by, known_after}
+use Rattle.cf_lower.specs.Constants.{Known, unknown, a_number, null, at, a_function, nothing_known, holds_truth, known_by, known_after}
 use Rattle.cf_lower.specs.Functions.{owner_of}
 use Rattle.cf_lower_program.specs.Types.{file_actions}
 
@@ -11,12 +12,27 @@ abbrev pub is_known : Known → Bool
 is_known unknown = false
 is_known x = true
 
+-- whether it is what a scalar holds
+abbrev pub is_value_of : Option Sort → Known → Bool
+is_value_of None x = true
+is_value_of (Some (number k)) (a_number z) = true
+is_value_of (Some (address t)) null = true
+is_value_of (Some (address t)) (at n o u) = true
+is_value_of (Some (code t)) null = true
+is_value_of (Some (code t)) (a_function name) = true
+is_value_of s x = false
+
+-- whether the object at a place may have it as its first value: a value is converted to the object's type before (8.4)
+abbrev pub starts_well : Known → Known → Bool
+starts_well (at n o t) x = is_value_of (sort_of t) x
+starts_well y x = true
+
 -- an action whose value is not kept
 abbrev pub act_known : (Register → Known) → Action → Bool
 act_known g (reach name) = true
 act_known g (finish_static name) = true
 act_known g (truth r) = is_known (g r)
-act_known g (first r q) = is_known (g r) && is_known (g q)
+act_known g (first r q) = is_known (g r) && is_known (g q) && starts_well (g r) (g q)
 act_known g (zeros r) = is_known (g r)
 act_known g (bytes r b) = is_known (g r)
 act_known g a = false
@@ -52,6 +68,7 @@ is_text (b ∷ c ∷ rest) = nat_lt b 256 && is_text (c ∷ rest)
 
 abbrev pub text_fits : Action → Bool
 text_fits (text j b) = is_text b && nat_le (length b) (2 ^ 22)
+text_fits (bytes r b) = nat_le (length b) (2 ^ 22)
 text_fits a = true
 
 abbrev pub texts_fit : PlainFile → Bool

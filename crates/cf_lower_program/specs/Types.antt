@@ -1,10 +1,11 @@
 -- Which types are lowered.
-use Rattle.std.specs.Prelude.{◌^◌, Bool, true, false, ◌&&◌, ◌||◌, nat_le, List, [], ◌∷◌, ◌++◌, is_some}
+use Rattle.std.specs.Prelude.{◌^◌, Bool, true, false, ◌&&◌, ◌||◌, not, nat_le, List, [], ◌∷◌, ◌++◌, length, is_some}
 use Rattle.std.specs.List.{flat_map, list_all}
 use Rattle.cf_core.specs.Types.{SourceType, void, integer, enumeration, class, pointer, reference, array, takes, gives, data_member, function_member, const, is_void, parameters, result}
 use Rattle.cf_core.specs.Size.{size}
 use Rattle.cf_lower_layout.specs.Layout.{has_bytes, const_once}
 use Rattle.cf_lower_layout.specs.Sorts.{sort_of}
+use Rattle.cf_lower_kept.specs.Ready.{is_code}
 use Rattle.cf_plain.specs.Plain.{Action, static_object, function, convert, from_void, declare, finish, call, pointer_call, PlainFunction, PlainStatic, PlainFile}
 use Rattle.cf_plain.specs.Named.{all_actions}
 
@@ -12,7 +13,8 @@ use Rattle.cf_plain.specs.Named.{all_actions}
 abbrev pub is_laid : SourceType → Bool
 is_laid t = nat_le (size [] t) (2 ^ 22) && has_bytes t && const_once t
 
--- Whether there is no pointer to a member in a type, and each array in it is laid out. A pointer to a class that is not defined may be there.
+-- Whether there is no pointer to a member in a type, each array in it is laid out, and no const stands on a function (7.1.6). A pointer to a class that is
+-- not defined may be there.
 abbrev pub is_lowered : SourceType → Bool
 is_lowered void = true
 is_lowered (integer k) = true
@@ -25,11 +27,14 @@ is_lowered (takes p t) = is_lowered p && is_lowered t
 is_lowered (gives t c) = is_lowered t
 is_lowered (data_member c t) = false
 is_lowered (function_member c t) = false
-is_lowered (const t) = is_lowered t
+is_lowered (const t) = not (is_code t) && is_lowered t
 
--- whether parameters are scalars, and what is given is one or nothing
+-- Whether parameters are scalars, and what is given is one or nothing. Their numbers are written with 64 digits at most, so no two have one name.
 abbrev pub is_callable : SourceType → Bool
-is_callable t = list_all (λ p. is_some (sort_of p)) (parameters t) && (is_void (result t) || is_some (sort_of (result t)))
+is_callable t =
+    nat_le (length (parameters t)) (2 ^ 64)
+    && list_all (λ p. is_some (sort_of p)) (parameters t)
+    && (is_void (result t) || is_some (sort_of (result t)))
 
 -- the actions of a file's functions and initialisers
 abbrev pub file_actions : PlainFile → List Action
@@ -55,7 +60,7 @@ types_in file =
 
 -- of objects and functions that an action names, wherever they are defined, and of what it calls through a pointer
 abbrev pub is_well_typed : Action → Bool
-is_well_typed (static_object name t) = is_laid t
+is_well_typed (static_object name t) = is_laid t && not (is_code t)
 is_well_typed (function name t) = is_callable t
 is_well_typed (call name t object is into) = is_callable t
 is_well_typed (pointer_call object r t is into) = is_callable t

@@ -12,8 +12,10 @@ use Rattle.cf_plain.specs.Plain.{Register}
 use Rattle.cf_plain.specs.Acts.{Registers}
 use Rattle.cf_plain_frames.specs.Since.{is_among}
 use Rattle.cc_whole_memory.specs.declared.value.Scalar.TheVariants as scalar
+use Rattle.cc_whole_memory.specs.Values.{bytes_of}
 use Rattle.cc_whole_memory.specs.Cells.{load}
 use Rattle.cc_whole_memory.specs.Blocks.{Block, Memory, inside, on_ok, value_or_act}
+use Rattle.cc_whole_mean.specs.Types.{scalar_of}
 use Rattle.cc_whole_mean.specs.Values.{named_value}
 use Rattle.cc_whole_mean.specs.Flow as c
 use Rattle.cc_whole_mean.specs.Flow.{ended_from, ending_state}
@@ -27,7 +29,7 @@ use Rattle.cf_lower_steps.specs.Own.{Lives, OwnBlocks, LocalBlock, LocalObject, 
 use Rattle.cf_lower_steps.specs.Steps.{InRegisters}
 use Rattle.cf_lower_objects.proofs.Growth.{registers-grow}
 use Rattle.cf_lower_turns.specs.Flags.{InFlags, Shows}
-use Rattle.cf_lower_turns.specs.Here.{Body, Remains, Still, Outer, InLocal, HiddenArguments, Here}
+use Rattle.cf_lower_turns.specs.Here.{Body, Remains, HasRoom, Still, Outer, InLocal, HiddenArguments, Here}
 use Rattle.cf_lower_turns.specs.Texts.{Text, NoText, Free, InTexts}
 use Rattle.cf_lower_turns.proofs.Literals.{texts-stay}
 use Rattle.cf_lower_returns.specs.Called.{EntryMap, CameBack}
@@ -98,15 +100,15 @@ module _ (K : Fixed) (at : Body) (p : Keeping) (d : ℕ) (g : Registers) (s : St
   old-or-new : (o : ℕ) → (o < F.count) ⊎ (F.count ≤ o)
   old-or-new o = in-first (nat_lt o F.count) o refl
 
-  rel-again : Rel K M w e
+  pub rel-again : Rel K M w e
   rel-again = rel-other K M w n (rel-framed K M u n s.frame back.rel) e (let q = ended-next k m.next n in omega (arith, q))
       (λ o lo live. ended-below k m.next n (M.block o) (back.homes o lo live))
 
-  registers-again : InRegisters K M p g at.scope e
+  pub registers-again : InRegisters K M p g at.scope e
   registers-again = registers-grow K F M (grows-through F E M entry.grows back.grows) p g at.scope e
       (registers-elsewhere K at.own at.scope F p g m e h.between.blocks h.below register-later h.between.registers)
 
-  blocks-again : OwnBlocks at.own M at.scope e
+  pub blocks-again : OwnBlocks at.own M at.scope e
   blocks-again = record {
     named = h.between.blocks.named;
     lives = λ a r lr. let x = h.between.blocks.lives a r lr in record { block = x.block; there = register-later a r lr ∙ x.there; size = x.size };
@@ -151,10 +153,10 @@ module _ (K : Fixed) (at : Body) (p : Keeping) (d : ℕ) (g : Registers) (s : St
       by_case (inl old) = let x = old-object o old live in h.between.locals.only i o li old x.live (sym x.block ∙ same)
       by_case (inr new) = absurd (let below = new-object o new lo live in let later = h.later.locals i li in omega (arith, below, same, later))
 
-  locals-again : InLocals K at.own M at.scope w e
+  pub locals-again : InLocals K at.own M at.scope w e
   locals-again = record { blocks = local-block; objects = local-object; only = local-only }
 
-  homes-again : (o : ℕ) → o < M.count → is_ended (M.stage o) ≡ false → (M.block o < at.first.next) ⊎ InLocal at (M.block o)
+  pub homes-again : (o : ℕ) → o < M.count → is_ended (M.stage o) ≡ false → (M.block o < at.first.next) ⊎ InLocal at (M.block o)
   homes-again o lo live = by_case (old-or-new o)
     where
       by_case : (o < F.count) ⊎ (F.count ≤ o) → (M.block o < at.first.next) ⊎ InLocal at (M.block o)
@@ -163,7 +165,7 @@ module _ (K : Fixed) (at : Body) (p : Keeping) (d : ℕ) (g : Registers) (s : St
           subst (λ b. (b < at.first.next) ⊎ InLocal at b) (sym x.block) (h.homes o old x.live)
       by_case (inr new) = inl (new-object o new lo live)
 
-  arguments-again : HiddenArguments at.own M w
+  pub arguments-again : HiddenArguments at.own M w
   arguments-again i o li a there live =
       let known = (h.between.locals.objects i o li there).known in
       let old = old-object o known live in
@@ -171,7 +173,7 @@ module _ (K : Fixed) (at : Body) (p : Keeping) (d : ℕ) (g : Registers) (s : St
 
   -- ---- flags
 
-  flags-again : InFlags at.own at.flags M at.scope e
+  pub flags-again : InFlags at.own at.flags M at.scope e
   flags-again = record {
     named = h.flags_there.named;
     lives = λ i li. let x = h.flags_there.lives i li in record { block = x.block; there = flag-same i li ∙ x.there; size = x.size };
@@ -182,7 +184,7 @@ module _ (K : Fixed) (at : Body) (p : Keeping) (d : ℕ) (g : Registers) (s : St
         own-free (at.flags.block i) (h.later.flags i li) (h.placed.flags i li) (λ q lq alive. h.flags_there.free i q li lq alive) o lo live same;
   }
 
-  shows-again : (i : ℕ) → i < at.flags.bound → Shows at.scope i 0 m → Shows at.scope i 0 e
+  pub shows-again : (i : ℕ) → i < at.flags.bound → Shows at.scope i 0 m → Shows at.scope i 0 e
   shows-again i li shows =
       ap (λ x. named_value x e) (h.flags_there.named i li)
       ∙ ap (λ x. on_ok (inside (at.flags.block i) 0 4 x) (λ place. value_or_act (load (scalar.Integer Int) place.block.cells place.offset))) (flag-same i li)
@@ -213,7 +215,7 @@ module _ (K : Fixed) (at : Body) (p : Keeping) (d : ℕ) (g : Registers) (s : St
             base = on.base ∙ out.base ∙ still.base;
           }
 
-  outer-again : Outer at.texts at.start M at.first e
+  pub outer-again : Outer at.texts at.start M at.first e
   outer-again = record {
     next = let a = h.outer.next in let b = back.outer.next in let q = ended-next k m.next n in omega (arith, a, b, q);
     remains = λ b x lb is.
@@ -232,11 +234,22 @@ module _ (K : Fixed) (at : Body) (p : Keeping) (d : ℕ) (g : Registers) (s : St
     before = h.outer.before;
   }
 
-  texts-again : InTexts K at.texts M w e
+  pub texts-again : InTexts K at.texts M w e
   texts-again = texts-stay K at.texts at.first.next M M (grows-same M) u w refl n e h.texts_laid (λ b lb free. free)
       (λ b lb free. ended-below k m.next n b (before b lb)) back.texts_there
 
-  pub here-again : Here K at p d g w (ending_state k m.next back.after)
+  -- the C locals of results
+  pub room-again : (b j : ℕ) → HasRoom m b j → HasRoom e b j
+  room-again b j x =
+      let r = back.outer.remains b x.block x.below x.there in
+      record {
+        block = r.block;
+        there = ended-below k m.next n b x.below ∙ r.there;
+        size = let one = x.size in let two = r.size in omega (arith, one, two);
+        below = let a = x.below in let c = back.outer.next in let q = ended-next k m.next n in omega (arith, a, c, q);
+      }
+
+  abbrev pub here-again : Here K at p d g w (ending_state k m.next back.after)
   here-again = record {
     map = M;
     grows = grows-through at.start F M h.grows (grows-through F E M entry.grows back.grows);
@@ -249,6 +262,7 @@ module _ (K : Fixed) (at : Body) (p : Keeping) (d : ℕ) (g : Registers) (s : St
     placed = record {
       registers = λ a r lr. let x = h.placed.registers a r lr in let b = back.outer.next in let q = ended-next k m.next n in omega (arith, x, b, q);
       flags = λ i li. let x = h.placed.flags i li in let b = back.outer.next in let q = ended-next k m.next n in omega (arith, x, b, q);
+      results = λ x b is. room-again b (bytes_of (scalar_of x)) (h.placed.results x b is);
     };
     homes = homes-again;
     arguments = arguments-again;

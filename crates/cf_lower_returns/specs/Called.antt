@@ -11,7 +11,7 @@ use Rattle.cf_lower_layout.specs.Sorts.{Sort, sort_of}
 use Rattle.cf_plain.specs.Plain.{PlainFunction}
 use Rattle.cf_plain.specs.Running as plain
 use Rattle.cf_plain.specs.Running.{Flow, Falls, Breaks, Continues, Returns, entered}
-use Rattle.cf_plain_frames.specs.Since.{is_among}
+use Rattle.cf_plain_frames.specs.Since.{is_among, HasValue}
 use Rattle.cc_whole.specs.Known.{is_helper, is_main}
 use Rattle.cc_whole.specs.Plain as c_tree
 use Rattle.cc_whole.specs.Plain.{block}
@@ -114,6 +114,8 @@ module _ (B : Programs) where
     pub texts_laid : TextsLaid fixed B.texts m.next
     pub texts : InTexts fixed B.texts E s (born_arguments cs m)
     pub statics : (name : Name) (o : ℕ) → static_number B.program name ≡ Some o → StaticThere E name o
+    pub apart : (name : Name) (o : ℕ) → static_number B.program name ≡ Some o → is_among o os ≡ false
+    pub valued : (o : ℕ) → is_among o os ≡ true → HasValue (s.object o)
 
   -- at a bound of ticks, functions that are entered with the same do the same, and come back
   abbrev pub FunctionsAlike : ℕ → Type 0

@@ -29,7 +29,7 @@ use Rattle.cf_lower_steps.proofs.Between.{between-elsewhere}
 use Rattle.cf_lower_steps.proofs.Locals.{locals-elsewhere}
 use Rattle.cf_lower_steps.proofs.Statements.{different}
 use Rattle.cf_lower_turns.specs.Flags.{Flags, InFlags, Shows}
-use Rattle.cf_lower_turns.specs.Here.{Outer}
+use Rattle.cf_lower_turns.specs.Here.{HasRoom, Outer}
 use Rattle.cf_lower_turns.specs.Texts.{Texts, TextsLaid, InTexts}
 use Rattle.cf_lower_turns.proofs.Literals.{texts-stay}
 
@@ -105,6 +105,10 @@ module _ (own : Own) (flags : Flags) (F : Map) (scope : Scope) (m : Memory) (the
       (rel-other K F s m between.rel after (omega arith) (λ o lo live. other (F.block o) (λ same. there.free d o lt lo live same)))
       (locals-elsewhere K own F scope s m between.locals after (λ i li. other (own.local i) (λ same. there.locals d i lt li same)) refl)
       below (λ u r lr. other (own.block u r) (λ same. there.registers d u r lt lr same))
+
+  -- another block has room as before
+  pub room-after : (c k : ℕ) → (b ≡ c → ⊥) → HasRoom m c k → HasRoom after c k
+  room-after c k ne h = record { block = h.block; there = other c (λ same. ne (sym same)) ∙ h.there; size = h.size; below = h.below }
 
   -- the blocks of before are none of the flags
   pub outer-after : (texts : Texts) (E : Map) (first : Memory) → first.next ≤ flags.block d → Outer texts E F first m → Outer texts E F first after

@@ -1,14 +1,3 @@
 pub mod Flags
 pub mod Following
-pub mod Labels
-pub mod Laws
 pub mod Literals
-pub mod Leaving
-pub mod Sequence
-pub mod Setup
-pub mod Standing
-pub mod Switching
-pub mod Ticks
-pub mod Turning
-pub mod Whole
-pub mod Written

@@ -1,8 +1,9 @@
--- The flags of loops with a step and of switches: C locals of their own, in which no object stands.
-use Rattle.std.specs.Prelude.{◌≡◌, ℕ, ◌<◌, false, Some, Ok, pos, length}
+-- The flags of loops with a step and of switches: C locals of their own, in which no object stands. And the C locals that results of calls go through.
+use Rattle.std.specs.Prelude.{◌≡◌, ℕ, ◌<◌, false, Option, Some, Ok, pos, length}
 use Rattle.cf_base.specs.declared.kind.Kind.TheVariants.{Int}
 use Rattle.cf_lower_layout.specs.Sorts.{Sort}
 use Rattle.cf_plain.specs.Plain.{Register}
+use Rattle.cc_whole.specs.declared.types.CType.{CType}
 use Rattle.cc_whole.specs.Plain.{named, load, constant}
 use Rattle.cc_whole_memory.specs.declared.value.Value.TheVariants as value
 use Rattle.cc_whole_memory.specs.declared.value.Scalar.TheVariants as scalar
@@ -15,10 +16,11 @@ use Rattle.cf_lower.specs.Written.{flag_name, int_constant}
 use Rattle.cf_lower_relate.specs.Map.{Map, is_ended}
 use Rattle.cf_lower_steps.specs.Own.{Own, Lives}
 
--- so many, each in its block
+-- so many, each in its block; and the block of the C local of each type that a result has
 pub record Flags : Type 0 where
   pub bound : ℕ
   pub block : ℕ → ℕ
+  pub result : CType → Option ℕ
 
 -- They live, apart from one another, from the C locals of registers, parameters and locals, and from all objects.
 pub record InFlags (own : Own) (flags : Flags) (F : Map) (scope : Scope) (m : Memory) : Type 0 where

@@ -5,11 +5,17 @@ use Rattle.cf_core.specs.Run.{State}
 use Rattle.cf_lower_layout.specs.Sorts.{Sort}
 use Rattle.cf_plain.specs.Plain.{Register}
 use Rattle.cf_plain.specs.Acts.{Registers}
+use Rattle.cc_whole.specs.declared.types.CType.{CType}
+use Rattle.cc_whole_memory.specs.Values.{bytes_of}
 use Rattle.cc_whole_memory.specs.Blocks.{Block, Memory}
+use Rattle.cc_whole_mean.specs.declared.named.Named.TheVariants as meant
+use Rattle.cc_whole_mean.specs.declared.named.Shape.TheVariants.{Single as single}
+use Rattle.cc_whole_mean.specs.Types.{scalar_of}
 use Rattle.cc_whole_mean.specs.Scope.{Scope}
 use Rattle.cc_whole_mean.specs.Flow as c
 use Rattle.cf_lower_relate.specs.Map.{Fixed, Map, Grows, is_ended, is_hidden}
 use Rattle.cf_lower.specs.Kept.{Keeping, is_argument, type_of_local}
+use Rattle.cf_lower.specs.Written.{result_name}
 use Rattle.cf_lower_control.specs.Loops.{Weaker}
 use Rattle.cf_lower_steps.specs.Own.{Own}
 use Rattle.cf_lower_steps.specs.Flows.{Between}
@@ -49,10 +55,18 @@ pub record Outer (texts : Texts) (E F : Map) (first m : Memory) : Type 0 where
   pub hidden : (o : ℕ) → o < E.count → is_hidden (E.stage o) ≡ true → Still E F o
   pub before : (o : ℕ) → o < E.count → is_hidden (E.stage o) ≡ true → E.block o < first.next
 
--- the C locals of registers and flags are there
+-- a block lives, with room for so many bytes
+pub record HasRoom (m : Memory) (b n : ℕ) : Type 0 where
+  pub block : Block
+  pub there : m.block b ≡ Some block
+  pub size : n ≤ block.size
+  pub below : b < m.next
+
+-- the C locals of registers, flags and results are there
 pub record Placed (at : Body) (m : Memory) : Type 0 where
   pub registers : (t : Sort) (r : Register) → r < at.own.bound → at.own.block t r < m.next
   pub flags : (d : ℕ) → d < at.flags.bound → at.flags.block d < m.next
+  pub results : (t : CType) (b : ℕ) → at.flags.result t ≡ Some b → HasRoom m b (bytes_of (scalar_of t))
 
 -- an object that stands is in a block of before, or in the C local of a parameter or local
 pub record InLocal (at : Body) (b : ℕ) : Type 0 where
@@ -69,11 +83,20 @@ HiddenArguments own F s =
     (i o : ℕ) → i < length own.locals.types → is_argument own.locals i && is_scalar (type_of_local own.locals i) ≡ true → s.frame.locals i ≡ Some o
     → is_ended (F.stage o) ≡ false → is_hidden (F.stage o) ≡ true
 
+-- the C local that results of this type go through is none of those, and the function's own
+pub record ResultLocal (at : Body) (t : CType) (b : ℕ) : Type 0 where
+  pub named : at.scope (result_name t) ≡ Some (meant.Variable b (single (scalar_of t)))
+  pub later : at.first.next ≤ b
+  pub registers : (u : Sort) (r : Register) → r < at.own.bound → at.own.block u r ≡ b → ⊥
+  pub locals : (i : ℕ) → i < length at.own.locals.types → at.own.local i ≡ b → ⊥
+  pub flags : (d : ℕ) → d < at.flags.bound → at.flags.block d ≡ b → ⊥
+
 -- the function's own blocks are later
 pub record Later (at : Body) : Type 0 where
   pub registers : (t : Sort) (r : Register) → r < at.own.bound → at.first.next ≤ at.own.block t r
   pub locals : (i : ℕ) → i < length at.own.locals.types → at.first.next ≤ at.own.local i
   pub flags : (d : ℕ) → d < at.flags.bound → at.first.next ≤ at.flags.block d
+  pub results : (t : CType) (b : ℕ) → at.flags.result t ≡ Some b → ResultLocal at t b
 
 -- The objects stand in the memory, the registers in their C locals, and so many flags are 0.
 pub record Here (K : Fixed) (at : Body) (kept : Keeping) (d : ℕ) (g : Registers) (s : State) (t : c.State) : Type 0 where

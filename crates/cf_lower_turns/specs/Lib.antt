@@ -1,7 +1,6 @@
 pub mod Around
 pub mod Flags
 pub mod Here
-pub mod Needs
 pub mod Scene
 pub mod Ways
 pub mod Texts

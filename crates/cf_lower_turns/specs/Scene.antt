@@ -6,15 +6,17 @@ use Rattle.cf_core.specs.Store as source
 use Rattle.cf_core.specs.Run.{State, Act}
 use Rattle.cf_core.specs.Calls.{Program}
 use Rattle.cf_lower_layout.specs.Sorts.{Sort}
-use Rattle.cf_plain.specs.Plain.{Plain, Plains, PlainFunction}
+use Rattle.cf_plain.specs.Plain.{Plain, PlainFunction}
 use Rattle.cf_plain.specs.Acts.{Registers}
 use Rattle.cf_plain.specs.Running as plain
 use Rattle.cf_plain.specs.Running.{Flow, does}
 use Rattle.cc_whole.specs.Plain.{Statement}
 use Rattle.cc_whole_memory.specs.declared.value.Value.{Value}
+use Rattle.cc_whole_memory.specs.Values.{zero_of}
 use Rattle.cc_whole_mean.specs.Flow as c
 use Rattle.cc_whole_mean.specs.Mean as mean
 use Rattle.cf_lower_relate.specs.Map.{Fixed, Map, Grows, Is}
+use Rattle.cf_lower_relate.specs.Scalars.{c_scalar}
 use Rattle.cf_lower_relate.specs.Relation.{Rel}
 use Rattle.cf_lower.specs.Kept.{Keeping, after}
 use Rattle.cf_lower.specs.Statements.{Inside, lowered}
@@ -22,17 +24,16 @@ use Rattle.cf_lower_steps.specs.Own.{InLocals}
 use Rattle.cf_lower_steps.specs.Flows.{Simulates}
 use Rattle.cf_lower_steps.specs.Lowering.{fixed_of, runs}
 use Rattle.cf_lower_turns.specs.Around.{Around, depth_of, inside_at}
-use Rattle.cf_lower_turns.specs.Here.{Body, Outer, Homes, Here, Narrows}
+use Rattle.cf_lower_turns.specs.Here.{Body, Outer, Homes, Here}
 use Rattle.cf_lower_turns.specs.Texts.{InTexts}
 use Rattle.cf_lower_turns.specs.Ways.{ends}
-use Rattle.cf_lower_turns.specs.Needs as needs
 
 -- ---- what a function gives
 
--- A value of this sort in both. What a function ended without nothing can use.
+-- A value of this sort in both. What a function ended without nothing can use: in C it is 0 or null.
 abbrev pub SameBack : Fixed → Map → Sort → source.Value → Value → Type 0
-SameBack K F u source.Nothing back = Unit {0}
-SameBack K F u source.Missing back = Unit {0}
+SameBack K F u source.Nothing back = back ≡ zero_of (c_scalar u)
+SameBack K F u source.Missing back = back ≡ zero_of (c_scalar u)
 SameBack K F u v back = Is K F u v back
 
 pub record HasBack (K : Fixed) (F : Map) (u : Sort) (v : source.Value) (value : Option Value) : Type 0 where
@@ -100,10 +101,3 @@ module _ (z : Scene) where
   abbrev pub LeafRuns : Around Keeping → Keeping → Plain → Type 0
   LeafRuns around p s =
       (n : ℕ) → Same p around (after z.inside.locals s p) (does (again_at n) z.program s) (λ t w. list_at n (lowered s (inside_at z.inside around) p) t w)
-
-  abbrev pub Needed : Plains → Around Keeping → Keeping → Type 0
-  Needed ss around p =
-      needs.AllNeed Keeping (λ q. q) (after z.inside.locals) (Narrows fixed_in z.body) z.body.flags.bound LeafRuns ss around p
-
-  abbrev pub kept_behind : Plains → Keeping → Keeping
-  kept_behind ss p = needs.next_all Keeping (λ q. q) (after z.inside.locals) (Narrows fixed_in z.body) z.body.flags.bound LeafRuns ss p

@@ -6,8 +6,6 @@
 
 mod action;
 mod statement;
-#[cfg(test)]
-mod tests;
 mod unit;
 
 pub use action::Action;

@@ -1,8 +1,8 @@
 -- Acts that keep what is so of a state, one after another.
-use Rattle.std.proofs.Common.{◌≡◌, ℕ, Bool, true, false, ◌==◌, if◌then◌else◌, refl}
+use Rattle.std.proofs.Common.{ℕ, Bool, true, false}
 use Rattle.std.specs.Prelude.{Option, Some, None, Result, Ok, Err}
-use Rattle.cf_base.specs.World.{World, Ran, Went, Stops, and_then}
-use Rattle.cf_core.specs.Run.{State, Did, Gives, Exits, Malformed, Act, onward, ◌>>=◌, ◌>>◌, gives, malformed, undefined, state, need, valid, some_or, ok_or_act, when, object_changed, upd}
+use Rattle.cf_base.specs.World.{Ran, Went, Stops, and_then}
+use Rattle.cf_core.specs.Run.{State, Did, Gives, Exits, Malformed, Act, onward, ◌>>=◌, ◌>>◌, gives, malformed, undefined, state, need, valid, some_or, ok_or_act, when}
 use Rattle.cf_plain_frames.specs.Since.{Always, Keeps}
 
 module _ (Q : State → Type 0) where

@@ -1,20 +1,21 @@
 -- A call keeps the frame of its caller, and the objects that are not the caller's own.
-use Rattle.std.proofs.Common.{◌≡◌, ℕ, zero, suc, ◌≤◌, ◌<◌, Bool, true, false, ◌||◌, ◌==◌, if◌then◌else◌, List, [], ◌∷◌, codes, bytes_eq, refl, sym, ◌∙◌, ap, subst, arith, inl, inr}
-use Rattle.std.specs.Prelude.{ℤ, Option, Some, None, slice_get, ◌⊎◌}
+use Rattle.std.proofs.Common.{◌≡◌, ℕ, zero, suc, ◌<◌, Bool, true, false, ◌||◌, ◌==◌, List, [], ◌∷◌, length, codes, bytes_eq, refl, sym, ◌∙◌, ap, subst, arith, inl, inr}
+use Rattle.std.specs.Prelude.{Option, Some, None, slice_get, nat_eq, ◌⊎◌}
 use Rattle.std.proofs.lemmas.Bool.Decides.{nat_tests}
 use Rattle.cf_base.specs.Event.{Enter}
 use Rattle.cf_base.specs.World.{World, Ran, Went, Stops, and_then, spend_of, deeper, show, next_of}
-use Rattle.cf_core.specs.Types.{Name, SourceType, result}
+use Rattle.cf_core.specs.Types.{Name, SourceType, parameters, result}
 use Rattle.cf_core.specs.Core.{Function}
-use Rattle.cf_core.specs.Places.{Place}
-use Rattle.cf_core.specs.Store.{Value, Number, Object}
-use Rattle.cf_core.specs.Run.{State, Did, Gives, Exits, Malformed, Act, onward, ◌>>=◌, ◌>>◌, gives, malformed, state, changed, some_or, when, with_frame}
+use Rattle.cf_core.specs.Store.{Value, Number, Null, Code, Object}
+use Rattle.cf_core.specs.Run.{State, Did, Gives, Exits, Malformed, Act, onward, ◌>>=◌, ◌>>◌, gives, malformed, changed, some_or, valid, when, for_all, object_changed, gone, with_frame, null_used}
 use Rattle.cf_core.specs.Calls as core
-use Rattle.cf_core.specs.Calls.{Program, function_named, is_library, byte_value, get, put, leave_with, argument, run_library, frame_of, local_count, returned, enter, enter_found, run_named, name_function}
+use Rattle.cf_core.specs.Calls.{Program, function_named, is_library, byte_value, get, put, leave_with, argument, run_library, call_library, frame_of, local_count, returned, enter, enter_found, run_named, name_function}
+use Rattle.cf_core.specs.Objects.{run_pointer}
 use Rattle.cf_plain.specs.Acts.{objects_of}
 use Rattle.cf_plain.specs.Running.{Again, Flow, entered, calls, core_flow}
 use Rattle.cf_plain_frames.specs.Since.{is_among, IsOwn, HasValue, Since, Always, Keeps}
-use Rattle.cf_plain_frames.proofs.Acts.{keeps-gives, keeps-malformed, keeps-next, keeps-then, keeps-some, keeps-when, keeps-at}
+use Rattle.cf_plain_frames.proofs.Acts.{keeps-gives, keeps-malformed, keeps-undefined, keeps-next, keeps-then, keeps-some, keeps-valid, keeps-when, keeps-at}
+use Rattle.cf_plain_frames.proofs.Objects.{keeps-ends}
 use Rattle.cf_plain_frames.proofs.Values.{keeps-function}
 
 -- functions that are entered keep the objects of before
@@ -166,29 +167,43 @@ module _ (e : State) (os : List ℕ) where
 
     keeps-entered : (f : Option Function) (ps : List ℕ) → AllOwn ps → Keeps Q (enter_found (calls again) f ps None None)
     keeps-entered None ps own = keeps-malformed Q
-    keeps-entered (Some f) ps own = keeps-enter f ps own
+    keeps-entered (Some f) ps own =
+        keeps-then Q (valid (nat_eq (length ps) (length (parameters f.type)))) (λ u. enter (calls again) f ps None None) (keeps-valid Q (nat_eq (length ps) (length (parameters f.type)))) (λ u. keeps-enter f ps own)
 
     module _ (P : Program) where
       keeps-named : (name : Name) (ps : List ℕ) → AllOwn ps → Keeps Q (run_named (calls again) P name ps None None)
       keeps-named name ps own = by_name (is_library name)
         where
           by_name : (b : Bool)
-              → Keeps Q (elim b as (λ x. Act Value) [ true ↦ run_library name ps | false ↦ enter_found (calls again) (function_named P name) ps None None ])
-          by_name true = keeps-library Q name ps
+              → Keeps Q (elim b as (λ x. Act Value) [ true ↦ call_library name ps | false ↦ enter_found (calls again) (function_named P name) ps None None ])
+          by_name true =
+              keeps-then Q (run_library name ps) (λ v. for_all ps (λ o. object_changed o gone) >> gives v) (keeps-library Q name ps)
+              (λ v. keeps-next Q (for_all ps (λ o. object_changed o gone)) (gives v) (keeps-ends e os ps own) (keeps-gives Q v))
           by_name false = keeps-entered (function_named P name) ps own
 
-      abbrev on_objects : Name → List ℕ → Act Value
-      on_objects name is = objects_of is >>= (λ ps. run_named (calls again) P name ps None None)
+      -- through a pointer: a function, or null
+      keeps-pointed : (v : Value) (ps : List ℕ) → AllOwn ps → Keeps Q (run_pointer (calls again) P None v ps None)
+      keeps-pointed (Code name) ps own = keeps-named name ps own
+      keeps-pointed Null ps own = keeps-undefined Q null_used
+      keeps-pointed v ps own = keeps-malformed Q
 
-      abbrev then_run : Name → Ran (Did (List ℕ)) → Ran (Did Value)
-      then_run name r = and_then r (λ did w. onward did (λ ps. run_named (calls again) P name ps None None) w)
+      -- on the objects of the arguments, where they are found
+      module _ (go : List ℕ → Act Value) (keeps : (ps : List ℕ) → AllOwn ps → Keeps Q (go ps)) where
+        abbrev then_run : Ran (Did (List ℕ)) → Ran (Did Value)
+        then_run r = and_then r (λ did w. onward did go w)
 
-      keeps-on_objects : (name : Name) (is : List ℕ) → Keeps Q (on_objects name is)
-      keeps-on_objects name is = record { by = λ s w h. by_found s w h (objects-found is s w h) }
-        where
-          by_found : (s : State) (w : World) → Q s → (objects_of is s w ≡ Went Malformed w) ⊎ Found is s w → Always Q (on_objects name is s w)
-          by_found s w h (inl none) = subst (λ r. Always Q (then_run name r)) (sym none) (record { by = tt })
-          by_found s w h (inr x) = subst (λ r. Always Q (then_run name r)) (sym x.are) ((keeps-named name x.objects x.own).by s w h)
+        keeps-on_objects : (is : List ℕ) → Keeps Q (objects_of is >>= go)
+        keeps-on_objects is = record { by = λ s w h. by_found s w h (objects-found is s w h) }
+          where
+            by_found : (s : State) (w : World) → Q s → (objects_of is s w ≡ Went Malformed w) ⊎ Found is s w → Always Q ((objects_of is >>= go) s w)
+            by_found s w h (inl none) = subst (λ r. Always Q (then_run r)) (sym none) (record { by = tt })
+            by_found s w h (inr x) = subst (λ r. Always Q (then_run r)) (sym x.are) ((keeps x.objects x.own).by s w h)
 
-      pub keeps-call : (name : Name) (t : SourceType) (is : List ℕ) → Keeps Q (name_function P name t >> on_objects name is)
-      keeps-call name t is = keeps-next Q (name_function P name t) (on_objects name is) (keeps-function Q P name t) (keeps-on_objects name is)
+      pub keeps-call : (name : Name) (t : SourceType) (is : List ℕ)
+          → Keeps Q (name_function P name t >> (objects_of is >>= (λ ps. run_named (calls again) P name ps None None)))
+      keeps-call name t is =
+          keeps-next Q (name_function P name t) (objects_of is >>= (λ ps. run_named (calls again) P name ps None None)) (keeps-function Q P name t)
+          (keeps-on_objects (λ ps. run_named (calls again) P name ps None None) (keeps-named name) is)
+
+      pub keeps-pointer-call : (v : Value) (is : List ℕ) → Keeps Q (objects_of is >>= (λ ps. run_pointer (calls again) P None v ps None))
+      keeps-pointer-call v is = keeps-on_objects (λ ps. run_pointer (calls again) P None v ps None) (keeps-pointed v) is

@@ -1,5 +1,5 @@
-mod Acts
-mod Values
-mod Objects
-mod Calls
-mod Statements
+pub mod Acts
+pub mod Values
+pub mod Objects
+pub mod Calls
+pub mod Statements

@@ -1,22 +1,22 @@
 -- Acts that make, fill and end objects keep the frame, and all that is not the function's own.
-use Rattle.std.proofs.Common.{◌≡◌, ℕ, suc, ◌≤◌, ◌<◌, Bool, true, false, ◌&&◌, not, ◌==◌, nat_lt, nat_le, if◌then◌else◌, List, [], ◌∷◌, ◌++◌, length, inl, inr, refl, sym, ◌∙◌, ap, subst, arith}
-use Rattle.std.specs.Prelude.{pos, Option, Some, None, find, bytes_eq, ◌⊎◌}
+use Rattle.std.proofs.Common.{◌≡◌, ℕ, suc, ◌≤◌, ◌<◌, Bool, true, false, ◌&&◌, ◌||◌, not, ◌==◌, nat_lt, if◌then◌else◌, List, [], ◌∷◌, ◌++◌, inl, inr, refl, sym, ◌∙◌, ap, subst, arith}
+use Rattle.std.specs.Prelude.{pos, Option, Some, None, find, bytes_eq}
 use Rattle.std.proofs.lemmas.Bool.Decides.{nat_tests}
-use Rattle.cf_base.specs.World.{World, Went}
+use Rattle.cf_base.specs.World.{World}
 use Rattle.cf_base.specs.declared.kind.Kind.TheVariants.{Char}
 use Rattle.cf_base.specs.Integers.{convert as converted}
-use Rattle.cf_core.specs.Types.{Name, SourceType, void, integer, enumeration, class, pointer, reference, array, takes, gives as gives_type, data_member, function_member, const, is_array}
+use Rattle.cf_core.specs.Types.{SourceType, void, integer, enumeration, class, pointer, reference, array, takes, gives as gives_type, data_member, function_member, const}
 use Rattle.cf_core.specs.Classes.{Class, class_named, destructor_in}
 use Rattle.cf_core.specs.Core.{item}
 use Rattle.cf_core.specs.Places.{Route, Place, inner, type_at, is_scalar}
-use Rattle.cf_core.specs.Store.{Value, Nothing, Missing, Built, Number, Null, At, Code, DataMember, FunctionMember, Object, new_object, automatic, zero_of, hold, hold_all, is_constant_place}
-use Rattle.cf_core.specs.Run.{Frame, Literal, State, Act, Gives, ◌>>=◌, ◌>>◌, gives, malformed, state, done, need, valid, some_or, when, upd, with_object, tick, for_each_back, object_changed, born, changed, gone, frame_changed, lists_local}
+use Rattle.cf_core.specs.Store.{Value, Built, Number, Object, new_object, automatic, zero_of, hold, hold_all, is_constant_place}
+use Rattle.cf_core.specs.Run.{Literal, State, ◌>>=◌, ◌>>◌, malformed, state, done, need, valid, some_or, when, upd, with_object, tick, for_each_back, for_all, object_changed, gone, lists_local}
 use Rattle.cf_core.specs.Access.{place_type, used, names_scalar, use_place, write_place, first_value, fill_zeros}
 use Rattle.cf_core.specs.Calls.{Program, Again, root, destroy, by_destructor, has_destructor}
-use Rattle.cf_core.specs.Objects.{literal_of, found_literal, literal_object, new_local, settle, write_bytes, element_count}
+use Rattle.cf_core.specs.Objects.{literal_of, found_literal, literal_object, new_local, settle, write_bytes}
 use Rattle.cf_plain.specs.Acts.{object_of, doing}
 use Rattle.cf_plain_frames.specs.Since.{is_among, IsOwn, HasValue, Since, Always, Keeps}
-use Rattle.cf_plain_frames.proofs.Acts.{always-then, keeps-then, keeps-next, keeps-gives, keeps-malformed, keeps-need, keeps-valid, keeps-some, keeps-when, keeps-at}
+use Rattle.cf_plain_frames.proofs.Acts.{keeps-then, keeps-next, keeps-gives, keeps-malformed, keeps-need, keeps-valid, keeps-some, keeps-when, keeps-at}
 use Rattle.cf_plain_frames.proofs.Values.{keeps-used, keeps-names, keeps-use}
 
 some-same : {i j : ℕ} → Some i ≡ Some j → i ≡ j
@@ -54,6 +54,19 @@ value-at s p x has o true k v =
     let at : o ≡ p = grind (arith, nat_tests, k) in
     subst HasValue (sym (ap (λ (t : Bool). if t then x else s.object o) k)) (has (subst (λ (i : ℕ). HasValue (s.object i)) at v))
 value-at s p x has o false k v = subst HasValue (sym (ap (λ (t : Bool). if t then x else s.object o) k)) v
+
+same-number : (p : ℕ) → (p == p) ≡ true
+same-number p = grind (arith, nat_tests)
+
+or-true : (b : Bool) → (b || true) ≡ true
+or-true true = refl
+or-true false = refl
+
+among-first : (p : ℕ) (ps : List ℕ) → is_among p (p ∷ ps) ≡ true
+among-first p ps = ap (λ b. b || is_among p ps) (same-number p)
+
+among-more : (o p : ℕ) (ps : List ℕ) → is_among o ps ≡ true → is_among o (p ∷ ps) ≡ true
+among-more o p ps h = ap (λ b. (p == o) || b) h ∙ or-true (p == o)
 
 module _ (e : State) (os : List ℕ) where
   abbrev Q : State → Type 0
@@ -199,6 +212,13 @@ module _ (e : State) (os : List ℕ) where
     kept = λ o lt ne. ap (λ (t : Bool). (if t then gone (s.object p) else s.object o).is_gone) (other-since o p own lt ne) ∙ h.kept o lt ne;
     valued = λ o lt v. value-at s p (gone (s.object p)) (λ y. record { value = y.value; held = y.held }) o (o == p) refl (h.valued o lt v);
   }
+
+  -- the storage of own objects ends
+  pub keeps-ends : (ps : List ℕ) → ((o : ℕ) → is_among o ps ≡ true → IsOwn e os o) → Keeps Q (for_all ps (λ o. object_changed o gone))
+  keeps-ends [] own = keeps-gives Q tt
+  keeps-ends (p ∷ ps) own =
+      keeps-next Q (object_changed p gone) (for_all ps (λ o. object_changed o gone))
+      (record { by = λ s w h. record { by = ended-since s p (own p (among-first p ps)) h } }) (keeps-ends ps (λ o h. own o (among-more o p ps h)))
 
   module _ (again : Again) (P : Program) (none : P.classes ≡ []) where
     -- nothing is destroyed by a function

@@ -1,33 +1,32 @@
 -- Statements keep the frame, by induction on their tree; and functions that are entered do, by the bound of ticks.
-use Rattle.std.proofs.Common.{◌≡◌, ℕ, zero, suc, Bool, true, false, ◌&&◌, ◌||◌, ◌==◌, if◌then◌else◌, List, [], ◌∷◌, bytes_eq, refl, sym, ◌∙◌, ap, subst, arith, inl, inr}
-use Rattle.std.specs.Prelude.{ℤ, int_le, Option, Some, None, find, slice_get, length, nat_le, not, ◌⊎◌}
-use Rattle.std.specs.List.{list_all, list_any}
+use Rattle.std.proofs.Common.{◌≡◌, ℕ, zero, suc, Bool, true, false, ◌&&◌, ◌||◌, ◌==◌, if◌then◌else◌, List, [], ◌∷◌, bytes_eq, refl, sym, ◌∙◌, ap, subst, arith, inl}
+use Rattle.std.specs.Prelude.{ℤ, int_le, Option, Some, None, slice_get, length, nat_le, not}
 use Rattle.std.proofs.lemmas.Bool.Decides.{nat_tests}
-use Rattle.cf_base.specs.World.{World, Ran, Went, Stops, spend_of}
+use Rattle.cf_base.specs.World.{World, Went, spend_of}
 use Rattle.cf_base.proofs.Tests.{both}
 use Rattle.cf_core.specs.Types.{Name, is_array, is_class, result as result_type}
 use Rattle.cf_core.specs.Classes.{Class}
 use Rattle.cf_core.specs.Core.{Role, plain_function, Function}
 use Rattle.cf_core.specs.Places.{Place}
 use Rattle.cf_core.specs.Store.{Value, Nothing, Number, At, Code}
-use Rattle.cf_core.specs.Run.{State, Gives, Act, ◌>>=◌, ◌>>◌, gives, malformed, state, tick, valid, some_or, when}
+use Rattle.cf_core.specs.Run.{State, Gives, Act, ◌>>=◌, ◌>>◌, gives, tick, valid, when}
 use Rattle.cf_core.specs.Access.{place_type, number_of, read_place, write_place, followed, fill_zeros}
 use Rattle.cf_core.specs.Pointers.{truth_value, pointer_op, from_void_value}
 use Rattle.cf_core.specs.Scalars.{truth_of, converted_value, operated, signed, changed_value, indexed, decayed, pointed_to}
 use Rattle.cf_core.specs.Calls as core
 use Rattle.cf_core.specs.Calls.{Program, root, name_function}
-use Rattle.cf_core.specs.Objects.{local_place, static_place, same_type, literal_object, new_local, settle, write_bytes, element_count}
+use Rattle.cf_core.specs.Objects.{local_place, static_place, same_type, literal_object, new_local, settle, write_bytes, element_count, run_pointer}
 use Rattle.cf_core.specs.Program.{begins, ends, unbuilds, ended_well}
 use Rattle.cf_plain.specs.Plain as plain
 use Rattle.cf_plain.specs.Plain.{Register, Action, Plain, Plains, act, set, branch, loop, switch, case_label, default_label, leave, continue, give, parts, nothing, more, PlainFunction}
-use Rattle.cf_plain.specs.Acts.{Registers, no_registers, held, used_in, place_in, doing, acts}
+use Rattle.cf_plain.specs.Acts.{Registers, no_registers, held, objects_of, used_in, place_in, doing, acts}
 use Rattle.cf_plain.specs.Running.{Flow, Falls, Breaks, Continues, Returns, Again, entered, turn, calls, core_flow, keep, falling, turning, leaving, has_case, is_true, does, all, from_case, from_default, plain_named, run_body, run_found, runs}
 use Rattle.cf_plain_frames.specs.Simple.{is_simple, simple, all_simple, is_plain, function_simple, functions_simple}
-use Rattle.cf_plain_frames.specs.Since.{is_among, IsOwn, Since, Always, Keeps}
+use Rattle.cf_plain_frames.specs.Since.{is_among, Since, Always, Keeps}
 use Rattle.cf_plain_frames.proofs.Acts.{keeps-then, keeps-next, keeps-gives, keeps-malformed, keeps-undefined, keeps-valid, keeps-when, keeps-at}
-use Rattle.cf_plain_frames.proofs.Values.{keeps-used, keeps-place, keeps-number, keeps-true, keeps-truth, keeps-pointed, keeps-converted, keeps-operated, keeps-signed, keeps-changed, keeps-indexed, keeps-decayed, keeps-pointers, keeps-from_void, keeps-read, keeps-followed, keeps-local, keeps-static, keeps-same_type, keeps-function, keeps-held, keeps-used_in, keeps-place_in}
+use Rattle.cf_plain_frames.proofs.Values.{keeps-number, keeps-true, keeps-truth, keeps-pointed, keeps-converted, keeps-operated, keeps-signed, keeps-changed, keeps-indexed, keeps-decayed, keeps-pointers, keeps-from_void, keeps-read, keeps-followed, keeps-local, keeps-static, keeps-same_type, keeps-function, keeps-held, keeps-used_in, keeps-place_in}
 use Rattle.cf_plain_frames.proofs.Objects.{keeps-write, keeps-zeros, keeps-bytes, keeps-settle, keeps-new, keeps-literal, keeps-finish}
-use Rattle.cf_plain_frames.proofs.Calls.{EntersStay, keeps-call}
+use Rattle.cf_plain_frames.proofs.Calls.{EntersStay, keeps-call, keeps-pointer-call}
 
 -- turns of loops keep what is so since the function was entered
 abbrev TurnsStay : Again → Type 0
@@ -89,6 +88,9 @@ module _ (again : Again) (turns : TurnsStay again) (enters : EntersStay again) (
         (keeps-next Q (fill_zeros P.classes p) (doing (write_bytes p 0 b)) (keeps-zeros e os P.classes p) (keeps-doing (write_bytes p 0 b) (keeps-bytes e os p 0 b))))))
     action-stays (plain.finish t i) h = keeps-finish e os (calls again) P none t i
     action-stays (plain.call name t None is None) h = keeps-call e os again enters P name t is
+    action-stays (plain.pointer_call None r t is None) h =
+        keeps-then Q (used_in g r) (λ v. objects_of is >>= (λ ps. run_pointer (calls again) P None v ps None)) (keeps-used_in Q g r)
+        (λ v. keeps-pointer-call e os again enters P v is)
     action-stays a h = absurd (let k = h in cc)
 
   -- ---- how statements end

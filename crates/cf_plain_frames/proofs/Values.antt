@@ -1,5 +1,5 @@
 -- Acts that only give values: they change no state.
-use Rattle.std.proofs.Common.{◌≡◌, ℕ, zero, suc, Bool, true, false, ◌&&◌, ◌||◌, not, ◌==◌, nat_lt, nat_le, List, refl}
+use Rattle.std.proofs.Common.{ℕ, zero, Bool, true, false, ◌&&◌, ◌||◌, not, nat_lt, nat_le, List}
 use Rattle.std.specs.Prelude.{ℤ, pos, negsuc, neg_ℤ, Option, Some, None}
 use Rattle.cf_base.specs.declared.kind.Kind.{Kind}
 use Rattle.cf_base.specs.declared.kind.Kind.TheVariants.{Int}
@@ -11,19 +11,19 @@ use Rattle.cf_core.specs.declared.operators.UnaryOperator.{UnaryOperator}
 use Rattle.cf_core.specs.declared.operators.UnaryOperator.TheVariants as sign
 use Rattle.cf_core.specs.declared.operators.PointerOperator.{PointerOperator}
 use Rattle.cf_core.specs.declared.operators.PointerOperator.TheVariants as op
-use Rattle.cf_core.specs.Types.{Name, SourceType, void, integer, enumeration, class, pointer, reference, array, takes, gives as gives_type, data_member, function_member, const, is_array, same_but_const}
+use Rattle.cf_core.specs.Types.{Name, SourceType, void, integer, enumeration, pointer, data_member, function_member, const, is_array, same_but_const}
 use Rattle.cf_core.specs.Classes.{Class}
-use Rattle.cf_core.specs.Core.{item, Change, arithmetic, moved, Function}
-use Rattle.cf_core.specs.Places.{Place, inner, place_eq, is_inside, is_reference, is_scalar}
+use Rattle.cf_core.specs.Core.{Change, arithmetic, moved, Function}
+use Rattle.cf_core.specs.Places.{Place, is_inside, is_reference, is_scalar}
 use Rattle.cf_core.specs.Store.{Value, Nothing, Missing, Built, Number, Null, At, Code, DataMember, FunctionMember, is_usable, is_dead}
-use Rattle.cf_core.specs.Run.{State, Act, ◌>>=◌, ◌>>◌, gives, malformed, undefined, state, done, need, valid, some_or, ok_or_act, when}
+use Rattle.cf_core.specs.Run.{State, ◌>>=◌, gives, malformed, undefined, done, need, valid, some_or, ok_or_act}
 use Rattle.cf_core.specs.Access.{place_type, used, place_of, number_of, use_place, name_part, names_scalar, read_place, bound_to, followed}
-use Rattle.cf_core.specs.Pointers.{element_of, route_of, bound_of, further, up_to, moved_place, moved_value, sum_of, moved_back, both_stand, same_array, truth_value, difference_of, ordered, comparable, unlike_null, equal_values, pointer_op, from_void_value}
+use Rattle.cf_core.specs.Pointers.{element_of, bound_of, further, up_to, moved_place, moved_value, sum_of, moved_back, both_stand, same_array, truth_value, difference_of, ordered, comparable, unlike_null, equal_values, pointer_op, from_void_value}
 use Rattle.cf_core.specs.Scalars.{truth_of, as_pointer, converted_value, operated, signed, minus, moved_by, changed_value, indexed, decayed, pointed_to}
 use Rattle.cf_core.specs.Calls.{Program, root, is_library, has_type, function_named, name_function}
 use Rattle.cf_core.specs.Objects.{local_place, static_place, static_number, static_type, same_type}
 use Rattle.cf_plain.specs.Plain.{Register}
-use Rattle.cf_plain.specs.Acts.{Registers, held, used_in, place_in, object_of, objects_of}
+use Rattle.cf_plain.specs.Acts.{Registers, held, used_in, place_in, object_of}
 use Rattle.cf_plain.specs.Running.{is_true}
 use Rattle.cf_plain_frames.specs.Since.{Keeps}
 use Rattle.cf_plain_frames.proofs.Acts.{keeps-then, keeps-next, keeps-gives, keeps-malformed, keeps-undefined, keeps-need, keeps-valid, keeps-some, keeps-ok, keeps-when, keeps-at}

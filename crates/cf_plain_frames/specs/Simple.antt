@@ -1,8 +1,8 @@
 -- The plain statements that change no object but the function's own and what pointers lead to: those without classes and the free store.
-use Rattle.std.specs.Prelude.{Bool, true, false, ◌&&◌, List, Option, Some, None}
+use Rattle.std.specs.Prelude.{Bool, true, false, ◌&&◌, List, None}
 use Rattle.std.specs.List.{list_all}
 use Rattle.cf_core.specs.Core.{Role, plain_function}
-use Rattle.cf_plain.specs.Plain.{Action, number, text, local, static_object, function, read, dereference, decay, index, convert, from_void, operate, unary, truth, logical_not, pointer_operate, changed, store, declare, first, zeros, bytes, finish, call, Plain, Plains, act, set, branch, loop, switch, parts, nothing, more, PlainFunction}
+use Rattle.cf_plain.specs.Plain.{Action, number, text, local, static_object, function, read, dereference, decay, index, convert, from_void, operate, unary, truth, logical_not, pointer_operate, changed, store, declare, first, zeros, bytes, finish, call, pointer_call, Plain, Plains, act, set, branch, loop, switch, parts, nothing, more, PlainFunction}
 
 abbrev pub is_simple : Action → Bool
 is_simple (number z) = true
@@ -29,6 +29,7 @@ is_simple (zeros r) = true
 is_simple (bytes r b) = true
 is_simple (finish t i) = true
 is_simple (call name t None is None) = true
+is_simple (pointer_call None r t is None) = true
 is_simple a = false
 
 abbrev mutual

@@ -12,7 +12,7 @@ use Rattle.cf_core.specs.declared.operators.PointerOperator.TheVariants as point
 use Rattle.cf_core.specs.Types.{SourceType, void, integer, enumeration, class, pointer, reference, array, takes, gives, data_member, function_member, const, same_but_const, is_void, parameters, result as result_type}
 use Rattle.cf_core.specs.Typing.{is_comparison}
 use Rattle.cf_core.specs.Core.{Change, arithmetic, moved}
-use Rattle.cf_plain.specs.Plain.{Register, Action, number, text, local, static_object, function, read, dereference, decay, index, convert, from_void, operate, unary, truth, logical_not, pointer_operate, changed, store, declare, first, zeros, bytes, finish, call, Plain, Plains, act, set, branch, loop, switch, case_label, default_label, leave, continue, give, parts, nothing, more, PlainFunction, PlainFile}
+use Rattle.cf_plain.specs.Plain.{Register, Action, number, text, local, static_object, function, read, dereference, decay, index, convert, from_void, operate, unary, truth, logical_not, pointer_operate, changed, store, declare, first, zeros, bytes, finish, call, pointer_call, Plain, Plains, act, set, branch, loop, switch, case_label, default_label, leave, continue, give, parts, nothing, more, PlainFunction, PlainFile}
 
 -- What a register holds behind the action that has set it.
 pub data Kept : Type 0 where
@@ -234,6 +234,11 @@ abbrev pub begun : Option Kept → Option Kept → Option Kept
 begun (Some (an_object i t)) (Some x) = given (suits t x) no_value
 begun x y = None
 
+-- what a call through a pointer to a function of this type gives
+abbrev pub pointed_call : SourceType → Option Kept → Option Kept
+pointed_call t (Some (a_place u)) = given (same_but_const u t) (value_of (result_type t))
+pointed_call t x = None
+
 -- an object that is filled by itself: by zeros, or by the characters of a literal
 abbrev pub filled : Option Kept → Option Kept
 filled (Some (an_object i t)) = Some no_value
@@ -266,6 +271,7 @@ module _ (locals : List SourceType) (result : SourceType) where
   kept_by g (bytes r b) = filled (g r)
   kept_by g (finish t i) = Some no_value
   kept_by g (call name t None is None) = Some (value_of (result_type t))
+  kept_by g (pointer_call None r t is None) = pointed_call t (g r)
   kept_by g a = None
 
   -- what is returned

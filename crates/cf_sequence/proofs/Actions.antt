@@ -1,19 +1,20 @@
 -- What the plain statements do to objects, and calls, beside the core's.
-use Rattle.std.proofs.Common.{◌≡◌, ℕ, Bool, true, false, List, [], ◌∷◌, length, refl, sym, ◌∙◌, ap, subst}
+use Rattle.std.proofs.Common.{◌≡◌, ℕ, Bool, true, false, List, [], ◌∷◌, refl, sym, ◌∙◌, ap, subst}
 use Rattle.std.specs.Prelude.{ℤ, Option, Some, None}
 use Rattle.cf_base.specs.Integers.{convert as converted}
 use Rattle.cf_base.specs.World.{World, Went, and_then}
-use Rattle.cf_core.specs.Types.{SourceType, Name, parameters, same_but_const}
+use Rattle.cf_core.specs.Types.{SourceType, Name, same_but_const}
 use Rattle.cf_core.specs.Classes.{Class}
 use Rattle.cf_core.specs.Core.{Function, Change, arithmetic, moved}
 use Rattle.cf_core.specs.Places.{Place}
-use Rattle.cf_core.specs.Store.{Value, Nothing, Missing, Number, Null, At}
+use Rattle.cf_core.specs.Objects.{run_pointer}
+use Rattle.cf_core.specs.Store.{Value, Nothing, Missing, Number, Null, At, Code}
 use Rattle.cf_core.specs.Run.{State, Frame, Gives, Act, ◌>>=◌, ◌>>◌, gives, malformed, done, some_or, need, when, with_frame, cast_from_void}
 use Rattle.cf_core.specs.Access.{used, place_of, number_of, write_place}
 use Rattle.cf_core.specs.Scalars.{operated, minus, moved_by, changed_value}
 use Rattle.cf_core.specs.Pointers.{moved_place}
 use Rattle.cf_core.specs.Calls as calling
-use Rattle.cf_core.specs.Calls.{Program, root, function_named, is_library, name_function, has_type, run_named, run_library, enter_found}
+use Rattle.cf_core.specs.Calls.{Program, root, function_named, is_library, name_function, has_type, run_named, call_library, enter_found}
 use Rattle.cf_plain.specs.Plain.{Register, Plain, Plains, act, set, nothing, more}
 use Rattle.cf_plain.specs.Plain as plain
 use Rattle.cf_plain.specs.Program.{headers}
@@ -21,11 +22,10 @@ use Rattle.cf_plain.specs.Acts.{Registers, objects_of}
 use Rattle.cf_plain.specs.Running as running
 use Rattle.cf_plain.specs.Running.{Flow, calls, keep}
 use Rattle.cf_sequence.specs.Follows.{Follows}
-use Rattle.cf_sequence.specs.Built.{is_chain}
 use Rattle.cf_sequence.specs.Sequenced.{sequenced}
 use Rattle.cf_sequence.proofs.Following.{on, pull, pull-two, push, pure-steps, pure-then, looks-steps}
 use Rattle.cf_sequence.proofs.Steps.{pure-used, pure-number_of, pure-operated, write-steps}
-use Rattle.cf_sequence.proofs.Calling.{Alike, Bodies, plain_function, same-length, named-header, library-steps, enter-steps}
+use Rattle.cf_sequence.proofs.Calling.{Alike, Bodies, plain_function, named-header, call-steps, found-steps}
 use Rattle.cf_sequence.proofs.Pointers.{up_in, looks-up_in, element_at, moved-is}
 use Rattle.cf_sequence.proofs.Kept.{Objects, keep-same, keep-other}
 use Rattle.cf_sequence.proofs.PlainSteps.{Usable, runs_on, set-steps, act-steps, at-two}
@@ -182,21 +182,30 @@ module _ (again : calling.Again) (again' : running.Again) (P : Program) where
         → Follows S (and_then (name_function P name t s w) (on C)) (and_then (name_function (headers (sequenced P)) name t u w) (on G))
     name-steps name t C G s u w next = by-library name t (is_library name) refl C G s u w next
 
-    pub run-steps : (bodies : Bodies again again' P) → ((name : Name) (f : Function) → function_named P name ≡ Some f → is_chain f.type ≡ true)
-        → (name : Name) (t : SourceType) → Callee P name t → is_chain t ≡ true → (os : List ℕ) → length os ≡ length (parameters t)
-        → (s : State) (f : Frame) (w : World) (C : Value → Act A) (G : Value → Act B) → Alike s.frame f
+    -- a function is run on these objects on both sides
+    by-name : (bodies : Bodies again again' P) (name : Name) (os : List ℕ) (s : State) (f : Frame) (w : World) (C : Value → Act A) (G : Value → Act B) → Alike s.frame f
+        → ((v : Value) (u : State) (w : World) → u.frame ≡ s.frame → Follows S (C v u w) (G v (with_frame f u) w))
+        → (x : Option Function) → function_named P name ≡ x
+        → Follows S (and_then (enter_found again x os None None s w) (on C)) (and_then (enter_found (calls again') (function_named (headers (sequenced P)) name) os None None (with_frame f s) w) (on G))
+    by-name bodies name os s f w C G alike next None found = record { by = tt }
+    by-name bodies name os s f w C G alike next (Some h) found =
+        subst (λ x. Follows S (and_then (enter_found again (Some h) os None None s w) (on C)) (and_then (enter_found (calls again') x os None None (with_frame f s) w) (on G)))
+        (sym (plain-named name h found)) (found-steps again again' P bodies s f C G next name h found os alike w)
+
+    pub run-steps : (bodies : Bodies again again' P) (name : Name) (os : List ℕ) (s : State) (f : Frame) (w : World) (C : Value → Act A) (G : Value → Act B) → Alike s.frame f
         → ((v : Value) (u : State) (w : World) → u.frame ≡ s.frame → Follows S (C v u w) (G v (with_frame f u) w))
         → Follows S (and_then (run_named again P name os None None s w) (on C)) (and_then (run_named (calls again') (headers (sequenced P)) name os None None (with_frame f s) w) (on G))
-    run-steps bodies chains name t (of_library e) chain os l s f w C G alike next =
-        subst (λ b. Follows S (and_then (either_act b (run_library name os) (enter_found again (function_named P name) os None None) s w) (on C))
-        (and_then (either_act b (run_library name os) (enter_found (calls again') (function_named (headers (sequenced P)) name) os None None) (with_frame f s) w) (on G)))
-        (sym e) (library-steps s f C G (λ v w. next v s w refl) name os w)
-    run-steps bodies chains name t (of_program h e found same) chain os l s f w C G alike next =
-        subst (λ b. Follows S (and_then (either_act b (run_library name os) (enter_found again (function_named P name) os None None) s w) (on C))
-        (and_then (either_act b (run_library name os) (enter_found (calls again') (function_named (headers (sequenced P)) name) os None None) (with_frame f s) w) (on G)))
-        (sym e)
-        (subst (λ x. Follows S (and_then (enter_found again x os None None s w) (on C))
-        (and_then (enter_found (calls again') (function_named (headers (sequenced P)) name) os None None (with_frame f s) w) (on G))) (sym found)
-        (subst (λ x. Follows S (and_then (enter_found again (Some h) os None None s w) (on C)) (and_then (enter_found (calls again') x os None None (with_frame f s) w) (on G)))
-        (sym (plain-named name h found))
-        (enter-steps again again' P bodies s f C G next name h found os (l ∙ sym (same-length h.type t (chains name h found) chain same)) alike w)))
+    run-steps bodies name os s f w C G alike next = by (is_library name)
+      where
+        by : (b : Bool) → Follows S (and_then (either_act b (call_library name os) (enter_found again (function_named P name) os None None) s w) (on C))
+            (and_then (either_act b (call_library name os) (enter_found (calls again') (function_named (headers (sequenced P)) name) os None None) (with_frame f s) w) (on G))
+        by true = call-steps s f C G next name os w
+        by false = by-name bodies name os s f w C G alike next (function_named P name) refl
+
+    -- and what a pointer holds
+    pub pointer-steps : (bodies : Bodies again again' P) (v : Value) (os : List ℕ) (s : State) (f : Frame) (w : World) (C : Value → Act A) (G : Value → Act B) → Alike s.frame f
+        → ((v : Value) (u : State) (w : World) → u.frame ≡ s.frame → Follows S (C v u w) (G v (with_frame f u) w))
+        → Follows S (and_then (run_pointer again P None v os None s w) (on C)) (and_then (run_pointer (calls again') (headers (sequenced P)) None v os None (with_frame f s) w) (on G))
+    pointer-steps bodies (Code name) os s f w C G alike next = run-steps bodies name os s f w C G alike next
+    pointer-steps bodies Null os s f w C G alike next = record { by = refl }
+    pointer-steps bodies v os s f w C G alike next = record { by = tt }

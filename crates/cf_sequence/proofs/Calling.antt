@@ -1,21 +1,20 @@
 -- Calls by name: the library's functions, and the functions of a program beside those of the plain program.
-use Rattle.std.proofs.Common.{◌≡◌, ℕ, zero, suc, length, cond, Bool, true, false, List, [], ◌∷◌, ◌++◌, map, refl, sym, ap, subst}
-use Rattle.std.specs.Prelude.{Option, Some, None, find, bytes_eq, codes, option_map}
-use Rattle.cf_base.proofs.Tests.{both}
+use Rattle.std.proofs.Common.{◌≡◌, ℕ, zero, suc, length, cond, Bool, true, false, List, [], ◌∷◌, ◌++◌, map, refl, sym, ap, subst, arith}
+use Rattle.std.specs.Prelude.{Option, Some, None, find, nat_eq, bytes_eq, codes, option_map}
+use Rattle.std.proofs.lemmas.Bool.Decides.{nat_tests}
 use Rattle.cf_base.specs.Event.{Enter}
 use Rattle.cf_base.specs.World.{World, Ran, Went, and_then, spend_of, deeper, show, next_of}
-use Rattle.cf_core.specs.Types.{SourceType, Name, takes, gives as gives_type, parameters, result, same_but_const, type_eq, without_const}
+use Rattle.cf_core.specs.Types.{SourceType, Name, parameters, result}
 use Rattle.cf_core.specs.Classes.{Class}
 use Rattle.cf_core.specs.Core.{Function, Static}
 use Rattle.cf_core.specs.Store.{Value, Number}
-use Rattle.cf_core.specs.Run.{State, Frame, Did, Gives, Act, ◌>>=◌, ◌>>◌, gives, malformed, changed, some_or, when, with_frame}
+use Rattle.cf_core.specs.Run.{State, Frame, Did, Gives, Act, ◌>>=◌, ◌>>◌, gives, malformed, changed, some_or, valid, when, for_all, object_changed, with_object, gone, with_frame}
 use Rattle.cf_core.specs.Calls as core
-use Rattle.cf_core.specs.Calls.{Program, body, function_named, is_library, run_library, run_named, name_function, has_type, enter, enter_found, frame_of, local_count, argument, put, get, byte_value, leave_with, returned, given_value, without_value}
+use Rattle.cf_core.specs.Calls.{Program, body, function_named, is_library, run_library, call_library, run_named, name_function, has_type, enter, enter_found, frame_of, local_count, argument, put, get, byte_value, leave_with, returned, given_value, without_value}
 use Rattle.cf_plain.specs.Running as plain
 use Rattle.cf_plain.specs.Running.{calls, core_flow, header}
 use Rattle.cf_plain.specs.Program.{headers}
 use Rattle.cf_plain.specs.Plain.{PlainFunction}
-use Rattle.cf_sequence.specs.Built.{is_chain}
 use Rattle.cf_sequence.specs.Sequenced.{sequenced, sequenced_function}
 use Rattle.cf_sequence.specs.Follows.{Follows}
 use Rattle.cf_sequence.proofs.Following.{on, pull, push, follows-then}
@@ -30,16 +29,8 @@ pub record Alike (f g : Frame) : Type 0 where
 pub never : {A : Type 0} → false ≡ true → A
 never e = absurd (cc)
 
--- function types that are the same otherwise than in const have as many parameters
-pub same-length : (t u : SourceType) → is_chain t ≡ true → is_chain u ≡ true → same_but_const t u ≡ true
-    → length (parameters t) ≡ length (parameters u)
-same-length (takes p t) (takes q u) a b e = ap suc (same-length t u a b (both (type_eq (without_const p) (without_const q)) _ e).1)
-same-length (takes p t) (gives_type u d) a b e = never e
-same-length (takes p t) u a b e = never b
-same-length (gives_type t c) (takes q u) a b e = never e
-same-length (gives_type t c) (gives_type u d) a b e = refl
-same-length (gives_type t c) u a b e = never b
-same-length t u a b e = never a
+same-number : (i j : ℕ) → nat_eq i j ≡ true → i ≡ j
+same-number i j e = grind (arith, nat_tests)
 
 pick : (name : Name) (b : Bool) (x f : Function) (g : Function → Function) (old new : Option Function)
     → (old ≡ Some f → new ≡ Some (g f)) → cond b (Some x) old ≡ Some f → cond b (Some (g x)) new ≡ Some (g f)
@@ -97,12 +88,29 @@ module _ {C D : Type 0} {S : C → State → D → State → Type 0} (s : State)
   by-library true name x w = next-steps w.input w
   by-library false name x w = with-argument name x w
 
-  pub library-steps : (name : Name) (os : List ℕ) (w : World)
+  library-steps : (name : Name) (os : List ℕ) (w : World)
       → Follows S (and_then (run_library name os s w) (on c)) (and_then (run_library name os (with_frame f s) w) (on g))
   library-steps name os w =
       subst (λ x. Follows S (and_then (library_act (bytes_eq name (codes "getchar")) name (argument os s) s w) (on c))
       (and_then (library_act (bytes_eq name (codes "getchar")) name x (with_frame f s) w) (on g)))
       (sym (argument-same os)) (by-library (bytes_eq name (codes "getchar")) name (argument os s) w)
+
+-- the storage of what it was given ends behind it
+abbrev all_end : Value → List ℕ → Act Value
+all_end v os = for_all os (λ o. object_changed o gone) >> gives v
+
+end-steps : {C D : Type 0} {S : C → State → D → State → Type 0} (v : Value) (os : List ℕ) (s : State) (f : Frame) (w : World) (c : Value → Act C) (g : Value → Act D)
+    → ((t : State) → t.frame ≡ s.frame → Follows S (c v t w) (g v (with_frame f t) w))
+    → Follows S (and_then (all_end v os s w) (on c)) (and_then (all_end v os (with_frame f s) w) (on g))
+end-steps v [] s f w c g next = next s refl
+end-steps v (o ∷ os) s f w c g next = end-steps v os (with_object o gone s) f w c g next
+
+pub call-steps : {C D : Type 0} {S : C → State → D → State → Type 0} (s : State) (f : Frame) (c : Value → Act C) (g : Value → Act D)
+    → ((v : Value) (t : State) (w : World) → t.frame ≡ s.frame → Follows S (c v t w) (g v (with_frame f t) w)) → (name : Name) (os : List ℕ) (w : World)
+    → Follows S (and_then (call_library name os s w) (on c)) (and_then (call_library name os (with_frame f s) w) (on g))
+call-steps s f c g next name os w =
+    pull (run_library name os s w) (λ v. all_end v os) c _ (push (run_library name os (with_frame f s) w) (λ v. all_end v os) g _
+    (library-steps s f (λ v. all_end v os >>= c) (λ v. all_end v os >>= g) (λ v w. end-steps v os s f w c g (λ t same. next v t w same)) name os w))
 
 -- ---- functions
 
@@ -188,3 +196,13 @@ module _ (again : core.Again) (again' : plain.Again) (P : Program) where
         → Follows S (and_then (enter again h os None None s w) (on c)) (and_then (enter (calls again') (plain_function h) os None None (with_frame f s) w) (on g))
     enter-steps name h e os l alike w =
         spend-steps w.ticks w _ _ (λ w. deeper-steps s.frame.depth f.depth alike.depth w _ _ (λ depth. body-steps name h e os l depth (show (Enter h.name) w)))
+
+    -- it is entered on as many objects as it has parameters, on both sides
+    pub found-steps : (name : Name) (h : Function) → function_named P name ≡ Some h → (os : List ℕ) → Alike s.frame f → (w : World)
+        → Follows S (and_then (enter_found again (Some h) os None None s w) (on c)) (and_then (enter_found (calls again') (Some (plain_function h)) os None None (with_frame f s) w) (on g))
+    found-steps name h e os alike w = by (nat_eq (length os) (length (parameters h.type))) refl
+      where
+        by : (b : Bool) → nat_eq (length os) (length (parameters h.type)) ≡ b
+            → Follows S (and_then ((valid b >> enter again h os None None) s w) (on c)) (and_then ((valid b >> enter (calls again') (plain_function h) os None None) (with_frame f s) w) (on g))
+        by true same = enter-steps name h e os (same-number (length os) (length (parameters h.type)) same) alike w
+        by false same = record { by = tt }

@@ -1,5 +1,6 @@
 -- Flow of control, conditions and compound assignments: cores and their plain statements show the same.
 use Rattle.std.proofs.Common.{◌≡◌, ℕ, List, [], ◌∷◌, refl}
+use Rattle.std.specs.List.{list_all}
 use Rattle.std.specs.Prelude.{pos, negsuc, ◌++◌, codes, true, false}
 use Rattle.cf_base.specs.declared.kind.Kind.TheVariants.{Int, Char}
 use Rattle.cf_base.specs.declared.arith.Arith.TheVariants as op
@@ -106,10 +107,20 @@ missing_value_is_used_at_once :
 missing_value_is_used_at_once = record { core = refl; plain = refl }
 
 -- const int&r=p(4);return r+p(1);: a reference's temporary
-temporary_of_a_reference :
-    Shows (with_main (declare 0 (reference (const int)) (bind (local_temporary 1 (const int)) (shown 4)) ∷ returns (add (value_of 0) (shown 1)) ∷ []))
-    [] 9 (record { end = Ended (pos 5); out = codes "41" })
+abbrev bound : Program
+bound = with_main (declare 0 (reference (const int)) (bind (local_temporary 1 (const int)) (shown 4)) ∷ returns (add (value_of 0) (shown 1)) ∷ [])
+
+temporary_of_a_reference : Shows bound [] 9 (record { end = Ended (pos 5); out = codes "41" })
 temporary_of_a_reference = record { core = refl; plain = refl }
+
+-- const int*q;{const int&r=p(4);q=&r;putchar('0'+r);}return *q;: the temporary lives as long as its reference, and no longer
+abbrev bound_inside : Program
+bound_inside = with_main (declare 0 (pointer (const int)) blank
+    ∷ in_block (declare 1 (reference (const int)) (bind (local_temporary 2 (const int)) (shown 4)) ∷ set (local 0) (address (local 1)) ∷ put_digit (value_of 1) ∷ [])
+    ∷ returns (read (dereference (value_of 0))) ∷ [])
+
+temporary_ends_with_its_reference : Shows bound_inside [] 9 (record { end = Undefined 5; out = codes "44" })
+temporary_ends_with_its_reference = record { core = refl; plain = refl }
 
 -- int f(const int&r){return r;}int main(){int i=4;return f(i)+(0?f(5):f(2));}: temporaries of arguments, under a branch too
 temporaries_of_arguments :
@@ -156,3 +167,6 @@ loops_are_built = refl
 
 label_that_passes_a_local_is_built : is_plainly_built (passing 1) ≡ true
 label_that_passes_a_local_is_built = refl
+
+temporaries_of_local_references_are_built : list_all is_plainly_built (bound ∷ bound_inside ∷ []) ≡ true
+temporaries_of_local_references_are_built = refl

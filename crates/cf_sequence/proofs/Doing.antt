@@ -1,5 +1,5 @@
 -- The plain statements of a statement do what the statement does.
-use Rattle.std.proofs.Common.{◌≡◌, ℕ, suc, ◌+◌, ◌≤◌, Bool, true, false, not, ◌&&◌, nat_lt, nat_le, ◌==◌, List, [], ◌∷◌, ◌++◌, length, refl, sym, ◌∙◌, ap, subst, arith, append_assoc, if◌then◌else◌}
+use Rattle.std.proofs.Common.{◌≡◌, ℕ, suc, ◌+◌, ◌≤◌, Bool, true, false, not, ◌&&◌, ◌||◌, nat_lt, nat_le, ◌==◌, List, [], ◌∷◌, ◌++◌, length, refl, sym, ◌∙◌, ap, subst, arith, append_assoc, if◌then◌else◌}
 use Rattle.std.specs.Prelude.{Some, None}
 use Rattle.cf_base.proofs.Tests.{both}
 use Rattle.cf_base.specs.World.{World, Ran, and_then}
@@ -24,22 +24,23 @@ use Rattle.cf_plain.specs.Acts.{Registers}
 use Rattle.cf_plain.specs.Running as running
 use Rattle.cf_plain.specs.Running.{Flow, Falls, Breaks, Continues, Returns, keep, falling, turning, all}
 use Rattle.cf_sequence.specs.Follows.{Follows}
-use Rattle.cf_sequence.specs.Built.{is_value, is_start, is_filling, is_initial, is_chain, next_local, next_locals, declares_here, is_statement, is_inner_or, are_cases, are_statements}
+use Rattle.cf_sequence.specs.Built.{is_value, is_start, is_filling, is_initial, is_held, is_chain, next_local, next_locals, declares_here, is_statement, is_inner_or, are_cases, are_statements}
 use Rattle.cf_sequence.specs.Made.{Local, added, width, width_maybe, declared, declared_all, held_by}
 use Rattle.cf_sequence.specs.Expressions.{destination, finished, settled, whole, value, used as use_of}
 use Rattle.cf_sequence.specs.Statements.{statement, statement_or, statements, started, returned}
 use Rattle.cf_sequence.proofs.Following.{on, pull, pull-two}
 use Rattle.cf_sequence.proofs.Calling.{Bodies, never}
-use Rattle.cf_sequence.proofs.Kept.{Kept, kept-all, Ready, added-two, keep-same, listed-there}
+use Rattle.cf_sequence.proofs.Kept.{Kept, kept-all, added-two, keep-same, listed-there}
 use Rattle.cf_sequence.proofs.PlainSteps.{Usable, pick, runs_on, branch-steps, declare-steps}
 use Rattle.cf_sequence.proofs.Operands.{H, first-room, second-room}
 use Rattle.cf_sequence.proofs.Filling.{filling-holds, filled-steps}
 use Rattle.cf_sequence.proofs.Parts.{first-steps, value-gives}
 use Rattle.cf_sequence.proofs.Moving.{all_gone, Held, held-kept, held-append, finished-steps, Moved, moved-count, moved-then, with_scope, Beyond}
 use Rattle.cf_sequence.proofs.Fulls.{nothing-is, held-none, full-steps, condition-steps, used-steps}
-use Rattle.cf_sequence.proofs.Standing.{Open, inside_of, opened, Stands, stands-later, moved-all, settled_full, result_act, next-more, Turns}
+use Rattle.cf_sequence.proofs.Standing.{Open, inside_of, opened, Stands, stands-later, moved-all, settled_full, result_act, behind-initial, next-more, low-bound, Turns}
 use Rattle.cf_sequence.proofs.Scopes.{Ways, ways-later, Fallen, fall-on, closing_scope, moved-out, block-ways, close-steps, Does, by-or, behind, arm-steps, stands-on}
-use Rattle.cf_sequence.proofs.Passing.{declared-state, declared-moved, low-number, low-bound}
+use Rattle.cf_sequence.proofs.Passing.{declared-state, declared-moved, low-number}
+use Rattle.cf_sequence.proofs.References.{declared-ready, held-declaration}
 use Rattle.cf_sequence.proofs.Switching.{DoAll, switch-steps}
 use Rattle.cf_sequence.proofs.Loops.{loop-first, loop-last, loop-whole, maybe-width}
 
@@ -48,15 +49,6 @@ module _ (again : calling.Again) (again' : running.Again) (P : Program) (bodies 
     (classless : P.classes ≡ []) (turns : Turns again again' P) (R C : SourceType) (plain-result : is_class R ≡ false)
     (A B : Type 0) (S : A → State → B → State → Type 0) where
   -- ---- declarations
-
-  -- a local is there, with its object
-  declared-ready : (i k : ℕ) (o : ℕ) (e f : Frame) → Ready k e f → Ready k (lists_local i o e) (lists_local i o f)
-  declared-ready i k o e f r = record {
-    alike = record { function = r.alike.function; this = r.alike.this; result = r.alike.result; depth = r.alike.depth };
-    count = r.count;
-    wide = r.wide;
-    locals = λ j lt. ap (λ z. if j == i then Some o else z) (r.locals j lt);
-  }
 
   -- the local is declared and falls through
   declared-falls : (i k o : ℕ) (T : SourceType) (m : ℕ) (op : Open) (D : Beyond) (rest : Plains) (s : State) (f : Frame) (c : calling.Flow → Act A) (K : Flow → Act B)
@@ -188,10 +180,15 @@ module _ (again : calling.Again) (again' : running.Again) (P : Program) (bodies 
         (let a = moved-count m s f (with_scope s.frame.scope (all_gone t.frame.scope t)) g1 ((moved-out again again' P bodies chains classless turns R C plain-result A B S) m s f t g1 v) in let b = st.low in omega arith))))
     follow-statement (core.sequence es) m ok o D k rest g s f w c K st room ways falls = follow-statements es m ok o D k rest g s f w c K st room ways falls
     follow-statement (core.declare i T e) m ok o D k rest g s f w c K st room ways falls =
-        let parts = both (nat_le m i) (is_initial e) ok in
+        let parts = both (nat_le m i) (is_initial e || is_held i e) ok in
         pull (does.declares again P i T e s w) (λ u. gives calling.Falls) c _
         (pull (new_local i T s w) (λ x. settled_full again P (root x) e >> frame_changed (lists_in_scope x)) (λ u. c calling.Falls) _
-        (declaration i T e m parts.0 parts.1 o D k rest g s f w c K st room falls (nat_lt i s.frame.count) refl))
+        ((by-or again again' P bodies chains classless turns R C plain-result A B S) (is_initial e) (is_held i e) parts.1
+        (λ initial.
+        declaration i T e m parts.0 initial o D k rest g s f w c K st room
+        (subst (λ n. (Fallen again again' P bodies chains classless turns R C plain-result A B S) n ((record { number = i; type = T } ∷ held_by e) ++ o.here) m c K rest s f) (behind-initial i e initial) falls)
+        (nat_lt i s.frame.count) refl)
+        (λ held. held-declaration again again' P bodies chains classless turns R C plain-result A B S i T e m parts.0 held o D k rest g s f w c K st room falls (nat_lt i s.frame.count) refl)))
     follow-statement (core.branch q a b) m ok o D k rest g s f w c K st room ways falls =
         let parts = both (is_value q) ((not (declares_here a) && is_statement m a) && is_inner_or m b) ok in
         let arms = both (not (declares_here a) && is_statement m a) (is_inner_or m b) parts.1 in

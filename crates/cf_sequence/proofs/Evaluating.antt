@@ -14,7 +14,7 @@ use Rattle.cf_core.specs.Run.{State, Frame, Act, ◌>>=◌, ◌>>◌, gives, mal
 use Rattle.cf_core.specs.Access.{used, place_of, read_place, write_place, followed}
 use Rattle.cf_core.specs.Pointers.{truth_value, from_void_value, pointer_op}
 use Rattle.cf_core.specs.Scalars.{truth_of, converted_value, operated, signed, changed_value, indexed, decayed, pointed_to}
-use Rattle.cf_core.specs.Objects.{literal_object, settle, local_place, result_place}
+use Rattle.cf_core.specs.Objects.{literal_object, settle, local_place, result_place, run_pointer}
 use Rattle.cf_core.specs.Calls as calling
 use Rattle.cf_core.specs.Calls.{Program, root, function_named, is_library, name_function, has_type, run_named, run_library, enter_found}
 use Rattle.cf_core.specs.Expressions as meaning
@@ -33,10 +33,10 @@ use Rattle.cf_sequence.proofs.StaticObjects.{named_object, same-named, pure-name
 use Rattle.cf_sequence.proofs.Pointers.{pure-pointed_to, looks-indexed, looks-decayed, looks-from_void, looks-pointer_op, literal-steps}
 use Rattle.cf_sequence.proofs.Calling.{Alike, Bodies, never}
 use Rattle.cf_sequence.proofs.Actions.{store-steps, change-steps, name-steps}
-use Rattle.cf_sequence.proofs.Kept.{Kept, kept-all, kept-then, kept-alike, Ready, ready-kept, ready-more, Objects, added-two, after-set, after-then, keep-same, keep-other, listed-kept, listed-there}
+use Rattle.cf_sequence.proofs.Kept.{Kept, kept-all, kept-then, kept-less, kept-alike, Ready, ready-kept, ready-more, Objects, added-two, after-set, after-then, keep-same, keep-other, listed-kept, listed-there}
 use Rattle.cf_sequence.proofs.PlainSteps.{runs_on, set-steps, act-steps, use-steps, place-cases, branch-steps, truth-steps, local-steps, declare-steps}
 use Rattle.cf_sequence.proofs.Operands.{H, first-room, second-room, Next, Follow, one-operand, two-operands, held-one, used-one, two-used}
-use Rattle.cf_sequence.proofs.Parts.{test_of, and-right, or-right, one-of, ready-next, moved-room, number-and-change, read-first, read-at, first-steps, value-gives, called}
+use Rattle.cf_sequence.proofs.Parts.{test_of, and-right, or-right, one-of, ready-next, moved-room, number-and-change, read-first, read-at, first-steps, value-gives, called, pointed}
 
 module _ (again : calling.Again) (again' : running.Again) (P : Program) (bodies : Bodies again again' P)
     (chains : (name : Name) (f : Function) → function_named P name ≡ Some f → is_chain f.type ≡ true)
@@ -253,9 +253,33 @@ module _ (again : calling.Again) (again' : running.Again) (P : Program) (bodies 
         (follow-arguments (parameters t) args chain.1 x n k (k + length (parameters t) + 0) calling-it g s f w (λ os. runs os >>= c) K
         (ready-more k (k + length (parameters t) + 0) s.frame f (omega arith) (omega arith) ready) ready.count (omega arith) (omega arith)
         (λ os s1 h f1 w1 there many below frame kept.
-        (called again again' P bodies chains A B S) name t callee chain.0 conditions.0 into into' n k os rest h s1 f1 w1 c K there many
+        (called again again' P bodies chains A B S) name t callee conditions.0 into into' n k os rest h s1 f1 w1 c K there
         (subst (λ e. Alike e f1) (sym frame) (kept-alike k s.frame f f1 kept ready.alike)) (λ v s2 w2 same.
         next v s2 (keep h n v) f1 w2 (after-set n k g h s.frame f f1 v s2 below (same ∙ frame) kept))))))))
+    follow-value (core.pointer_call absent e t args) ok into into' x n k rest g s f w c K ready room next =
+        let conditions = both (not (is_class (result t))) (is_chain t && (is_value e && are_arguments args)) ok in
+        let parts = both (is_value e) (are_arguments args) (both (is_chain t) (is_value e && are_arguments args) conditions.1).1 in
+        let l : ℕ = k + length (parameters t) + 0 in
+        let two-room : l + length (added (nodes e ++ nodes_all args)) ≤ f.count = (let z = length-append (parameters t) (added (nodes e ++ nodes_all args)) in omega arith) in
+        let room-e : l + width e ≤ f.count = first-room l f.count (nodes e) (nodes_all args) two-room in
+        let runs : Value → List ℕ → Act Value = λ v os. run_pointer again P None v os (result_place t into) in
+        let passes : Value → Act Value = λ v. meaning.arguments again P (parameters t) args >>= runs v in
+        let calling-it : Plains = more (set n (plain.pointer_call None n t (numbers k (parameters t)) (result_register t into'))) rest in
+        let behind-it : Plains = arguments P.classes x (parameters t) args (suc n) k (l + width e) calling-it in
+        let ready-l : Ready l s.frame f = ready-more k l s.frame f (omega arith) (omega arith) ready in
+        pull (and_then (meaning.value again P e None s w) (on used)) passes c _ (pull (meaning.value again P e None s w) used (λ v. passes v >>= c) _
+        (follow-value e parts.0 None None x n l (use_of n behind-it) g s f w (λ v. used v >>= (λ v. passes v >>= c)) K ready-l room-e (λ v s1 h1 f1 w1 done.
+        use-steps again' (H again again' P) n v h1 done.value (λ v. passes v >>= c) behind-it K s1 (with_frame f1 s1) w1 (λ usable.
+        pull (meaning.arguments again P (parameters t) args s1 w1) (runs v) c _
+        (follow-arguments (parameters t) args parts.1 x (suc n) k (l + width e) calling-it h1 s1 f1 w1 (λ os. runs v os >>= c) K
+        ((ready-next again again' P bodies chains A B S) l (l + width e) s.frame f f1 s1 ready-l done.frame done.kept (omega arith) room-e)
+        (subst (λ (q : Frame). q.count ≤ k) (sym done.frame) ready.count) (omega arith)
+        ((moved-room again again' P bodies chains A B S) l _ f f1 done.kept (second-room l f.count (nodes e) (nodes_all args) two-room))
+        (λ os s2 h2 f2 w2 there many below frame kept.
+        let kept-all-on : Kept k f f2 = kept-then k k f f1 f2 (omega arith) (kept-less k l f f1 (omega arith) done.kept) kept in
+        (pointed again again' P bodies chains A B S) v t conditions.0 into into' n k os rest h2 s2 f2 w2 c K (below n (omega arith) ∙ done.value) usable there
+        (subst (λ (q : Frame). Alike q f2) (sym (frame ∙ done.frame)) (kept-alike k s.frame f f2 kept-all-on ready.alike)) (λ u s3 w3 same.
+        next u s3 (keep h2 n u) f2 w3 (after-set n k g h2 s.frame f f2 u s3 (λ r lt. below r (omega arith) ∙ done.below r lt) (same ∙ frame ∙ done.frame) kept-all-on))))))))
     follow-value e ok into into' x n k rest g s f w c K ready room next = never ok
 
     -- parts of an expression in order

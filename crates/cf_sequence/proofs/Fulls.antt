@@ -1,9 +1,10 @@
 -- Full expressions: their temporaries, and the plain statements of one that makes none.
-use Rattle.std.proofs.Common.{◌≡◌, ℕ, ◌+◌, ◌≤◌, Bool, true, false, not, ◌&&◌, List, [], ◌++◌, length, refl, sym, ◌∙◌, ap, subst, reverse}
+use Rattle.std.proofs.Common.{◌≡◌, ℕ, suc, ◌+◌, ◌≤◌, Bool, true, false, not, ◌&&◌, List, [], ◌++◌, length, refl, sym, ◌∙◌, ap, subst, reverse}
 use Rattle.std.specs.Prelude.{Option, Some, None}
 use Rattle.cf_base.proofs.Tests.{both}
 use Rattle.cf_base.specs.World.{World, Ran, Went, and_then}
-use Rattle.cf_core.specs.Types.{Name, parameters, result, is_class}
+use Rattle.cf_core.specs.Types.{Name, SourceType, parameters, result, is_class}
+use Rattle.cf_core.specs.Classes.{Class}
 use Rattle.cf_core.specs.Core as core
 use Rattle.cf_core.specs.Core.{Core, Cores, Function, no_temporary, local_temporary, none, absent}
 use Rattle.cf_core.specs.Places.{Place}
@@ -16,7 +17,7 @@ use Rattle.cf_core.specs.Access.{used}
 use Rattle.cf_core.specs.Calls as calling
 use Rattle.cf_core.specs.Calls.{Program, function_named, end_object, full_expression}
 use Rattle.cf_core.specs.Expressions as meaning
-use Rattle.cf_plain.specs.Plain.{Register, Plains, set, more}
+use Rattle.cf_plain.specs.Plain.{Register, Plains, act, set, more}
 use Rattle.cf_plain.specs.Plain as plain
 use Rattle.cf_plain.specs.Acts.{Registers}
 use Rattle.cf_plain.specs.Running as running
@@ -24,8 +25,8 @@ use Rattle.cf_plain.specs.Running.{Flow, keep}
 use Rattle.cf_sequence.specs.Follows.{Follows}
 use Rattle.cf_sequence.specs.Built.{is_value, are_values, are_arguments, is_chain}
 use Rattle.cf_sequence.specs.Made.{Temporary, temporaries, temporaries_all, width, held_by}
-use Rattle.cf_sequence.specs.Expressions.{Full, Destination, value, whole, flags, ended, used as use_of}
-use Rattle.cf_sequence.specs.Statements.{condition}
+use Rattle.cf_sequence.specs.Expressions.{Full, Destination, destination, value, whole, flags, ended, settled, used as use_of}
+use Rattle.cf_sequence.specs.Statements.{condition, started}
 use Rattle.cf_sequence.proofs.Following.{on, pull}
 use Rattle.cf_sequence.proofs.Calling.{Bodies, never}
 use Rattle.cf_sequence.proofs.Kept.{Kept, Ready, After, keep-same}
@@ -73,6 +74,10 @@ mutual
   no-temporaries (core.bind no_temporary e) ok b k = no-temporaries e ok b k
   no-temporaries (core.call name t absent args) ok b k =
       no-temporaries-in args (both (is_chain t) (are_arguments args) (both (not (is_class (result t))) (is_chain t && are_arguments args) ok).1).1 b (k + length (parameters t) + 0)
+  no-temporaries (core.pointer_call absent e t args) ok b k =
+      let parts = both (is_value e) (are_arguments args) (both (is_chain t) (is_value e && are_arguments args) (both (not (is_class (result t))) (is_chain t && (is_value e && are_arguments args)) ok).1).1 in
+      let l : ℕ = k + length (parameters t) + 0 in
+      empty-two _ _ (no-temporaries e parts.0 b l) (no-temporaries-in args parts.1 b (l + width e))
   no-temporaries (core.number z) ok b k = refl
   no-temporaries (core.local i) ok b k = refl
   no-temporaries e ok b k = never ok
@@ -90,11 +95,33 @@ mutual
       let parts = both (is_value e) (are_arguments es) ok in empty-two _ _ (no-temporaries e parts.0 b k) (no-temporaries-in es parts.1 b (k + width e))
 
 -- so nothing stands around it
+whole-empty : (e : Core) (n : Register) (k : ℕ) (code : Full → Register → Plains → Plains) (rest : Register → Plains) → temporaries false e k ≡ []
+    → whole e n k code rest ≡ code (record { first = k; base = n }) (n + width e) (rest (n + width e))
+whole-empty e n k code rest none_made =
+    let x : Full = record { first = k; base = n } in
+    ap (λ made. flags x made (code x (n + width e) (ended x (reverse made) (rest (n + width e))))) none_made
+
 pub whole-is : (e : Core) → is_value e ≡ true → (n : Register) (k : ℕ) (code : Full → Register → Plains → Plains) (rest : Register → Plains)
     → whole e n k code rest ≡ code (record { first = k; base = n }) (n + width e) (rest (n + width e))
-whole-is e ok n k code rest =
-    let x : Full = record { first = k; base = n } in
-    ap (λ made. flags x made (code x (n + width e) (ended x (reverse made) (rest (n + width e))))) (no-temporaries e ok false k)
+whole-is e ok n k code rest = whole-empty e n k code rest (no-temporaries e ok false k)
+
+-- nor around the temporary of a local reference
+whole-held : (j : ℕ) (t : SourceType) (e : Core) → is_value e ≡ true → (n : Register) (k : ℕ) (code : Full → Register → Plains → Plains) (rest : Register → Plains)
+    → whole (core.bind (local_temporary j t) e) n k code rest ≡ code (record { first = k; base = n }) (n + width e) (rest (n + width e))
+whole-held j t e ok n k code rest = whole-empty (core.bind (local_temporary j t) e) n k code rest (no-temporaries e ok false k)
+
+-- the register of the temporary's place, which is that of the reference's initialiser
+abbrev pub held_at : Core → Register → Register
+held_at e n = suc n + width e
+
+-- its plain statements: the temporary's object is there, its value is put there, and the reference binds it
+pub held-code : (cs : List Class) (t : SourceType) (j : ℕ) (u : SourceType) (e : Core) → is_value e ≡ true → (n : Register) (k : ℕ) (rest : Plains)
+    → started cs t (core.bind (local_temporary j u) e) n k rest
+    ≡ more (set (suc (held_at e n)) (plain.declare j u)) (more (set (held_at e n) (plain.local j))
+    (value cs (record { first = k; base = suc n }) e (destination (suc (held_at e n)) u) (suc (suc (held_at e n))) k
+    (settled e (suc (held_at e n)) (suc (suc (held_at e n))) (more (act (plain.first n (held_at e n))) rest))))
+held-code cs t j u e ok n k rest =
+    whole-held j u e ok (suc n) k (λ x m rest. value cs x (core.bind (local_temporary j u) e) (destination n t) m k rest) (λ m. more (act (plain.first n m)) rest)
 
 pub nothing-is : (e : Core) → is_nothing e ≡ true → e ≡ core.blank
 nothing-is core.blank ok = refl
@@ -116,7 +143,7 @@ closed again P e t w v same =
 module _ (again : calling.Again) (again' : running.Again) (P : Program) (bodies : Bodies again again' P)
     (chains : (name : Name) (f : Function) → function_named P name ≡ Some f → is_chain f.type ≡ true)
     (A B : Type 0) (S : A → State → B → State → Type 0) where
-  closed-steps : {V : Type 0} (e : Frame) (t : State) (w : World) (v : V) (c : V → Act A) (y : Ran (Did B)) → t.frame ≡ record e { temporaries = [] }
+  pub closed-steps : {V : Type 0} (e : Frame) (t : State) (w : World) (v : V) (c : V → Act A) (y : Ran (Did B)) → t.frame ≡ record e { temporaries = [] }
       → Follows S (c v (with_frame e t) w) y → Follows S (and_then (closing again P e.temporaries v t w) (on c)) y
   closed-steps e t w v c y same h = subst (λ r. Follows S (and_then r (on c)) y) (sym (closed again P e t w v same)) h
 

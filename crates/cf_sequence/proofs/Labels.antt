@@ -1,12 +1,13 @@
 -- The labels of a switch, in a core and in its plain statements: what has no label of its own is passed over.
-use Rattle.std.proofs.Common.{◌≡◌, ℕ, ◌+◌, Bool, true, false, not, ◌&&◌, ◌||◌, nat_le, if◌then◌else◌, List, [], ◌∷◌, ◌++◌, reverse, refl, sym, ◌∙◌, ap, subst}
+use Rattle.std.proofs.Common.{◌≡◌, ℕ, suc, ◌+◌, Bool, true, false, not, ◌&&◌, ◌||◌, nat_le, nat_lt, if◌then◌else◌, List, [], ◌∷◌, ◌++◌, reverse, refl, sym, ◌∙◌, ap, subst}
 use Rattle.std.specs.Prelude.{ℤ, int_le, Some, None}
 use Rattle.cf_base.proofs.Tests.{both}
 use Rattle.cf_core.specs.declared.operators.LoopForm.TheVariants as form
 use Rattle.cf_core.specs.Types.{SourceType, is_class}
 use Rattle.cf_core.specs.Core as core
-use Rattle.cf_core.specs.Core.{Core, Cores, MaybeCore, Function, none, absent, given}
-use Rattle.cf_core.specs.Run.{Act, ◌>>=◌, ◌>>◌, when}
+use Rattle.cf_core.specs.Core.{Core, Cores, MaybeCore, Function, local_temporary, none, absent, given}
+use Rattle.cf_core.specs.Places.{is_reference}
+use Rattle.cf_core.specs.Run.{Act, ◌>>◌, when}
 use Rattle.cf_core.specs.Joined.{is_nothing}
 use Rattle.cf_core.specs.Valid.{is_label, has_label}
 use Rattle.cf_core.specs.Calls as calling
@@ -17,14 +18,14 @@ use Rattle.cf_plain.specs.Plain as plain
 use Rattle.cf_plain.specs.Acts.{Registers}
 use Rattle.cf_plain.specs.Running as running
 use Rattle.cf_plain.specs.Running.{Flow, Falls, Breaks, Continues, Returns, falling, all}
-use Rattle.cf_sequence.specs.Built.{is_value, is_start, is_filling, is_initial, declares_here, is_statement, is_inner_or, are_statements, are_cases, next_local}
+use Rattle.cf_sequence.specs.Built.{is_value, is_start, is_filling, is_initial, is_held, declares_here, is_statement, is_inner_or, are_statements, are_cases, next_local}
 use Rattle.cf_sequence.specs.Made.{Local, width, declared, declared_all}
 use Rattle.cf_sequence.specs.Expressions.{Full, destination, finished, settled, whole, value, used as use_of}
 use Rattle.cf_sequence.specs.Statements.{Inside, in_switch, statement, statement_or, statements, started, made, passing, passes_local, passed}
 use Rattle.cf_sequence.proofs.Calling.{never}
 use Rattle.cf_sequence.proofs.Operands.{H}
 use Rattle.cf_sequence.proofs.Filling.{fill, started-is}
-use Rattle.cf_sequence.proofs.Fulls.{whole-is, nothing-is}
+use Rattle.cf_sequence.proofs.Fulls.{whole-is, nothing-is, held_at, held-code}
 use Rattle.cf_sequence.proofs.Standing.{Open, inside_of, opened}
 use Rattle.cf_sequence.proofs.Silent.{Silent, silent-none, silent-set, silent-act, silent-then, silent-used, silent-switch, silent-settled, silent-finished, silent-leave, silent-continue, silent-give, silent-value}
 
@@ -194,6 +195,36 @@ module _ (again : running.Again) (H : Program) (P : Program) (R C : SourceType) 
       by-test true = silent-switch again H n (passing [] es)
       by-test false = silent-none again H
 
+  -- initialisers
+  silent-started : (t : SourceType) (e : Core) (k : ℕ) → is_initial e ≡ true → Silent again H (started P.classes t e 0 k)
+  silent-started t e k ok =
+      let code : Full → Register → Plains → Plains = λ x n rest. value P.classes x e (destination 0 t) n k rest in
+      let F : Plains → Plains = started P.classes t e 0 k in
+      or-else (is_filling e) (is_start e) ok
+      (λ fills. silent-by again H F (λ rest. more (act (fill e 0)) rest) (started-is P.classes t e fills 0 k) (silent-act again H (fill e 0)))
+      (λ starts. or-else (is_nothing e) (is_value e) starts
+      (λ blank. silent-by again H F (λ rest. rest)
+      (λ rest. ap (λ e. started P.classes t e 0 k rest) (nothing-is e blank)) (silent-none again H))
+      (λ is. silent-by again H F (λ rest. value P.classes (record { first = k; base = 1 }) e (destination 0 t) (1 + width e) k (settled e 0 (1 + width e) rest))
+      (λ rest. whole-is e is 1 k code (λ m. settled e 0 m rest))
+      (silent-then again H (value P.classes (record { first = k; base = 1 }) e (destination 0 t) (1 + width e) k) (settled e 0 (1 + width e))
+      (silent-value again H P e is (record { first = k; base = 1 }) (destination 0 t) (1 + width e) k) (silent-settled again H e 0 (1 + width e)))))
+
+  silent-held : (i : ℕ) (t : SourceType) (e : Core) (k : ℕ) → is_held i e ≡ true → Silent again H (started P.classes t e 0 k)
+  silent-held i t (core.bind (local_temporary j u) e) k ok =
+      let is : is_value e ≡ true = (both (not (is_reference u)) (is_value e) (both (nat_lt i j) (not (is_reference u) && is_value e) ok).1).1 in
+      let n : Register = held_at e 0 in
+      let code : Plains → Plains = value P.classes (record { first = k; base = 1 }) e (destination (suc n) u) (suc (suc n)) k in
+      let last : Plains → Plains = λ rest. more (act (plain.first 0 n)) rest in
+      let inner : Plains → Plains = λ rest. code (settled e (suc n) (suc (suc n)) (last rest)) in
+      let named : Plains → Plains = λ rest. more (set n (plain.local j)) (inner rest) in
+      silent-by again H (started P.classes t (core.bind (local_temporary j u) e) 0 k) (λ rest. more (set (suc n) (plain.declare j u)) (named rest)) (held-code P.classes t j u e is 0 k)
+      (silent-then again H (λ rest. more (set (suc n) (plain.declare j u)) rest) named (silent-set again H (suc n) (plain.declare j u))
+      (silent-then again H (λ rest. more (set n (plain.local j)) rest) inner (silent-set again H n (plain.local j))
+      (silent-then again H code (λ rest. settled e (suc n) (suc (suc n)) (last rest)) (silent-value again H P e is (record { first = k; base = 1 }) (destination (suc n) u) (suc (suc n)) k)
+      (silent-then again H (settled e (suc n) (suc (suc n))) last (silent-settled again H e (suc n) (suc (suc n))) (silent-act again H (plain.first 0 n))))))
+  silent-held i t e k ok = never ok
+
   mutual
     pub silent-statement : (s : Core) (m : ℕ) → is_statement m s ≡ true → (o : Open) (k : ℕ) → Silent again H (statement (inside_of P R C o) s k)
     silent-statement (core.full e) m ok o k =
@@ -207,18 +238,8 @@ module _ (again : running.Again) (H : Program) (P : Program) (R C : SourceType) 
         silent-then again H (statements (inside_of P R C (opened o)) es k) (finished (declared_all es)) (silent-statements es m ok (opened o) k) (silent-finished again H (declared_all es))
     silent-statement (core.sequence es) m ok o k = silent-statements es m ok o k
     silent-statement (core.declare i t e) m ok o k =
-        let code : Full → Register → Plains → Plains = λ x n rest. value P.classes x e (destination 0 t) n k rest in
-        let F : Plains → Plains = λ rest. whole e 1 k code (λ m. settled e 0 m rest) in
-        silent-then again H (λ rest. more (set 0 (plain.declare i t)) rest) F (silent-set again H 0 (plain.declare i t))
-        (or-else (is_filling e) (is_start e) (both (nat_le m i) (is_initial e) ok).1
-        (λ fills. silent-by again H F (λ rest. more (act (fill e 0)) rest) (started-is P.classes t e fills 0 k) (silent-act again H (fill e 0)))
-        (λ starts. or-else (is_nothing e) (is_value e) starts
-        (λ blank. silent-by again H F (λ rest. rest)
-        (λ rest. ap (λ e. whole e 1 k (λ x n rest. value P.classes x e (destination 0 t) n k rest) (λ m. settled e 0 m rest)) (nothing-is e blank)) (silent-none again H))
-        (λ is. silent-by again H F (λ rest. value P.classes (record { first = k; base = 1 }) e (destination 0 t) (1 + width e) k (settled e 0 (1 + width e) rest))
-        (λ rest. whole-is e is 1 k code (λ m. settled e 0 m rest))
-        (silent-then again H (value P.classes (record { first = k; base = 1 }) e (destination 0 t) (1 + width e) k) (settled e 0 (1 + width e))
-        (silent-value again H P e is (record { first = k; base = 1 }) (destination 0 t) (1 + width e) k) (silent-settled again H e 0 (1 + width e))))))
+        silent-then again H (λ rest. more (set 0 (plain.declare i t)) rest) (started P.classes t e 0 k) (silent-set again H 0 (plain.declare i t))
+        (or-else (is_initial e) (is_held i e) (both (nat_le m i) (is_initial e || is_held i e) ok).1 (silent-started t e k) (silent-held i t e k))
     silent-statement (core.branch q a b) m ok o k =
         let is = (both (is_value q) ((not (declares_here a) && is_statement m a) && is_inner_or m b) ok).0 in
         let code : Full → Register → Plains → Plains = λ x n rest. value P.classes x q None n k (more (set n (plain.truth n)) rest) in

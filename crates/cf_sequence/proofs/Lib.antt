@@ -21,6 +21,7 @@ pub mod Moving
 pub mod Passing
 pub mod PlainSteps
 pub mod Pointers
+pub mod References
 pub mod Sample
 pub mod StaticObjects
 pub mod SameTypes

@@ -7,7 +7,7 @@ use Rattle.cf_base.specs.declared.arith.Arith.TheVariants as op
 use Rattle.cf_base.specs.Event.{Ended, Undefined}
 use Rattle.cf_core.specs.declared.operators.PointerOperator.TheVariants as pointer_op
 use Rattle.cf_core.specs.Types.{SourceType, integer, array, pointer}
-use Rattle.cf_core.specs.Core.{Core, Function, Static, CoreFile, absent, function, pointer_call, operate, switch, case_label, default_label, leave, static_object, address, read, dereference, local, decay, index, logical_and, logical_or, conditional, pointer_operate, comma, declare, blank, string, full, store, update, step, arithmetic}
+use Rattle.cf_core.specs.Core.{Core, Function, Static, CoreFile, absent, given, branch, convert, function, pointer_call, operate, switch, case_label, default_label, leave, static_object, address, read, dereference, local, decay, index, logical_and, logical_or, conditional, pointer_operate, comma, declare, blank, string, full, store, update, step, arithmetic}
 use Rattle.cf_core.specs.Calls.{Program}
 use Rattle.cf_core.proofs.Sample.{int, function_type, function_of, listed, in_block, main_of, program, static_of, returns, num, add, put_digit, value_of, set, called}
 use Rattle.cf_sequence.specs.Built.{is_plainly_built, is_built_file}
@@ -171,8 +171,22 @@ by_pointer = program []
 function_before_the_arguments : Shows by_pointer [] 9 (record { end = Ended (pos 1); out = codes "321" })
 function_before_the_arguments = record { core = refl; plain = refl }
 
-calls_through_pointers_are_not_built : is_plainly_built by_pointer ≡ false
-calls_through_pointers_are_not_built = refl
+-- int main(){int(*h)(int,int);if(p(z))h=g;else h=0;return h(p(2),p(1));}: what the pointer holds is called, and null only behind the arguments
+abbrev by_local : ℕ → Program
+by_local z = program []
+    (p ∷ function_of (codes "g__Fii") (int ∷ int ∷ []) int (in_block (returns (operate op.Subtract Int (value_of 0) (value_of 1)) ∷ []))
+    ∷ main_of (declare 0 (pointer two_ints) blank
+    ∷ branch (shown z) (set (local 0) (function (codes "g__Fii") two_ints)) (given (set (local 0) (convert (pointer two_ints) (num 0))))
+    ∷ returns (pointer_call absent (value_of 0) two_ints (listed (shown 2 ∷ shown 1 ∷ []))) ∷ []) ∷ []) []
+
+function_that_a_pointer_holds : Shows (by_local 3) [] 9 (record { end = Ended (pos 1); out = codes "321" })
+function_that_a_pointer_holds = record { core = refl; plain = refl }
+
+null_is_called_behind_its_arguments : Shows (by_local 0) [] 9 (record { end = Undefined 4; out = codes "021" })
+null_is_called_behind_its_arguments = record { core = refl; plain = refl }
+
+calls_through_pointers_are_built : list_all is_plainly_built (by_pointer ∷ by_local 0 ∷ []) ≡ true
+calls_through_pointers_are_built = refl
 
 -- Static objects.
 

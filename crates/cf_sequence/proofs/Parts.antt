@@ -1,5 +1,5 @@
 -- `&&`, `||` and `?:` by branches, changes in place, first values, and calls behind their arguments.
-use Rattle.std.proofs.Common.{◌≡◌, ℕ, ◌+◌, ◌≤◌, ◌<◌, Bool, true, false, not, ◌&&◌, List, length, refl, sym, ◌∙◌, ap, subst, arith, if◌then◌else◌}
+use Rattle.std.proofs.Common.{◌≡◌, ℕ, ◌+◌, ◌≤◌, ◌<◌, Bool, true, false, not, ◌&&◌, List, refl, sym, ◌∙◌, ap, subst, arith, if◌then◌else◌}
 use Rattle.std.specs.Prelude.{pos, Option, Some, None}
 use Rattle.cf_base.proofs.Tests.{both}
 use Rattle.cf_base.specs.World.{World, and_then}
@@ -12,7 +12,7 @@ use Rattle.cf_core.specs.Run.{State, Frame, Act, ◌>>=◌, ◌>>◌, gives, mal
 use Rattle.cf_core.specs.Access.{used, place_of, read_place, write_place}
 use Rattle.cf_core.specs.Pointers.{truth_value}
 use Rattle.cf_core.specs.Scalars.{truth_of, changed_value}
-use Rattle.cf_core.specs.Objects.{settle, result_place}
+use Rattle.cf_core.specs.Objects.{settle, result_place, run_pointer}
 use Rattle.cf_core.specs.Calls as calling
 use Rattle.cf_core.specs.Calls.{Program, root, function_named, is_library, name_function, has_type, run_named, run_library, enter_found}
 use Rattle.cf_core.specs.Expressions as meaning
@@ -28,9 +28,9 @@ use Rattle.cf_sequence.specs.Expressions.{Full, Destination, value, builds, resu
 use Rattle.cf_sequence.proofs.Following.{on, pull, push, looks-steps}
 use Rattle.cf_sequence.proofs.Steps.{looks-read_place, settle-steps}
 use Rattle.cf_sequence.proofs.Calling.{Alike, Bodies, never}
-use Rattle.cf_sequence.proofs.Actions.{placed-by, change-steps, objects-there, Callee, named-again, run-steps}
+use Rattle.cf_sequence.proofs.Actions.{placed-by, change-steps, objects-there, Callee, named-again, run-steps, pointer-steps}
 use Rattle.cf_sequence.proofs.Kept.{Kept, kept-then, kept-count, Ready, ready-kept, ready-more, Objects, after-set, keep-same, keep-other}
-use Rattle.cf_sequence.proofs.PlainSteps.{pick, runs_on, set-steps, act-steps, at-one, at-two, truth-steps}
+use Rattle.cf_sequence.proofs.PlainSteps.{Usable, pick, runs_on, set-steps, act-steps, at-one, at-two, truth-steps}
 use Rattle.cf_sequence.proofs.Operands.{H, Next, Follow}
 
 module _ (again : calling.Again) (again' : running.Again) (P : Program) (bodies : Bodies again again' P)
@@ -169,7 +169,8 @@ module _ (again : calling.Again) (again' : running.Again) (P : Program) (bodies 
   value-gives (core.each e) ok = never ok
   value-gives (core.list es e) ok = never ok
   value-gives (core.virtual_call name t e args) ok = never ok
-  value-gives (core.pointer_call object e t args) ok = never ok
+  value-gives (core.pointer_call absent e t args) ok = no-class (is_class (result t)) (both (not (is_class (result t))) (is_chain t && (is_value e && are_arguments args)) ok).0
+  value-gives (core.pointer_call (core.given o) e t args) ok = never ok
   value-gives (core.call name t absent args) ok = no-class (is_class (result t)) (both (not (is_class (result t))) (is_chain t && are_arguments args) ok).0
   value-gives (core.call name t (core.given e) args) ok = never ok
   value-gives e ok = refl
@@ -182,13 +183,13 @@ module _ (again : calling.Again) (again' : running.Again) (P : Program) (bodies 
   register-nowhere t e (Some d) = ap (λ b. if b then Some d.register else None) e
 
   -- a call, behind its arguments
-  pub called : (name : Name) (t : SourceType) → Callee P name t → is_chain t ≡ true → not (is_class (result t)) ≡ true
+  pub called : (name : Name) (t : SourceType) → Callee P name t → not (is_class (result t)) ≡ true
       → (into : Option Place) (into' : Option Destination) (n k : ℕ) (os : List ℕ) (rest : Plains) (h : Registers) (s : State) (f : Frame) (w : World) (c : Value → Act A) (K : Flow → Act B)
-      → Objects f.locals (numbers k (parameters t)) os → length os ≡ length (parameters t) → Alike s.frame f
+      → Objects f.locals (numbers k (parameters t)) os → Alike s.frame f
       → ((v : Value) (u : State) (w : World) → u.frame ≡ s.frame → Follows S (c v u w) (runs_on again' (H again again' P) rest (keep h n v) K (with_frame f u) w))
       → Follows S (and_then (run_named again P name os None (result_place t into) s w) (on c))
       (runs_on again' (H again again' P) (more (set n (plain.call name t None (numbers k (parameters t)) (result_register t into'))) rest) h K (with_frame f s) w)
-  called name t callee chain plain-result into into' n k os rest h s f w c K there many alike next =
+  called name t callee plain-result into into' n k os rest h s f w c K there alike next =
       let G : Value → Act B = λ v. λ t w. runs_on again' (H again again' P) rest (keep h n v) K t w in
       let no = no-class (is_class (result t)) plain-result in
       let runs : Option Place → Act Value = λ at. run_named (calls again') (H again again' P) name os None at in
@@ -202,4 +203,28 @@ module _ (again : calling.Again) (again' : running.Again) (P : Program) (bodies 
       (sym (named-again again again' P name t callee))
       (subst (λ r. Follows S (and_then (run_named again P name os None None s w) (on c)) (and_then (and_then r (on (λ os. run_named (calls again') (H again again' P) name os None None))) (on G)))
       (sym (objects-there f.locals (numbers k (parameters t)) os there (with_frame f s) w refl))
-      (run-steps again again' P bodies chains name t callee chain os many s f w c G alike next)))))
+      (run-steps again again' P bodies name os s f w c G alike next)))))
+
+  -- and one through a pointer
+  pub pointed : (v : Value) (t : SourceType) → not (is_class (result t)) ≡ true
+      → (into : Option Place) (into' : Option Destination) (n k : ℕ) (os : List ℕ) (rest : Plains) (h : Registers) (s : State) (f : Frame) (w : World) (c : Value → Act A) (K : Flow → Act B)
+      → h n ≡ Some v → Usable v → Objects f.locals (numbers k (parameters t)) os → Alike s.frame f
+      → ((v : Value) (u : State) (w : World) → u.frame ≡ s.frame → Follows S (c v u w) (runs_on again' (H again again' P) rest (keep h n v) K (with_frame f u) w))
+      → Follows S (and_then (run_pointer again P None v os (result_place t into) s w) (on c))
+      (runs_on again' (H again again' P) (more (set n (plain.pointer_call None n t (numbers k (parameters t)) (result_register t into'))) rest) h K (with_frame f s) w)
+  pointed v t plain-result into into' n k os rest h s f w c K at usable there alike next =
+      let G : Value → Act B = λ v. λ t w. runs_on again' (H again again' P) rest (keep h n v) K t w in
+      let no = no-class (is_class (result t)) plain-result in
+      let runs : Value → List ℕ → Act Value = λ v os. run_pointer (calls again') (H again again' P) None v os None in
+      subst (λ r. Follows S (and_then (run_pointer again P None v os r s w) (on c))
+      (runs_on again' (H again again' P) (more (set n (plain.pointer_call None n t (numbers k (parameters t)) (result_register t into'))) rest) h K (with_frame f s) w)) (sym (result-nowhere t no into))
+      (subst (λ r. Follows S (and_then (run_pointer again P None v os None s w) (on c))
+      (runs_on again' (H again again' P) (more (set n (plain.pointer_call None n t (numbers k (parameters t)) r)) rest) h K (with_frame f s) w)) (sym (register-nowhere t no into'))
+      (set-steps again' (H again again' P) n (plain.pointer_call None n t (numbers k (parameters t)) None) rest h K _ (with_frame f s) w
+      (subst (λ o. Follows S (and_then (run_pointer again P None v os None s w) (on c))
+      (and_then (((some_or o malformed >>= used) >>= (λ v. objects_of (numbers k (parameters t)) >>= (λ os. runs v os))) (with_frame f s) w) (on G))) (sym at)
+      (subst (λ (a : Act Value). Follows S (and_then (run_pointer again P None v os None s w) (on c))
+      (and_then ((a >>= (λ v. objects_of (numbers k (parameters t)) >>= (λ os. runs v os))) (with_frame f s) w) (on G))) (sym usable)
+      (subst (λ r. Follows S (and_then (run_pointer again P None v os None s w) (on c)) (and_then (and_then r (on (λ os. runs v os))) (on G)))
+      (sym (objects-there f.locals (numbers k (parameters t)) os there (with_frame f s) w refl))
+      (pointer-steps again again' P bodies v os s f w c G alike next))))))

@@ -1,5 +1,5 @@
 -- What a label of a switch passes (6.7): the core declares it as it goes by, and the switch before the switch at once.
-use Rattle.std.proofs.Common.{◌≡◌, ℕ, suc, ◌+◌, ◌≤◌, Bool, true, false, ◌||◌, nat_lt, nat_le, ◌==◌, List, [], ◌∷◌, ◌++◌, reverse, refl, sym, ◌∙◌, ap, subst, arith, append_assoc, if◌then◌else◌}
+use Rattle.std.proofs.Common.{◌≡◌, ℕ, suc, ◌≤◌, Bool, true, false, ◌||◌, nat_lt, nat_le, ◌==◌, List, [], ◌∷◌, ◌++◌, reverse, refl, sym, ◌∙◌, ap, subst, arith, append_assoc, if◌then◌else◌}
 use Rattle.std.specs.Prelude.{ℤ, Option, Some, None}
 use Rattle.std.proofs.lemmas.Bool.Decides.{nat_tests}
 use Rattle.std.proofs.lemmas.List.{reverse-append}
@@ -20,7 +20,7 @@ use Rattle.cf_plain.specs.Acts.{Registers}
 use Rattle.cf_plain.specs.Running as running
 use Rattle.cf_plain.specs.Running.{Flow, Falls, falling, all}
 use Rattle.cf_sequence.specs.Follows.{Follows}
-use Rattle.cf_sequence.specs.Built.{is_initial, next_local, next_locals, is_statement, are_statements, are_cases}
+use Rattle.cf_sequence.specs.Built.{is_initial, is_held, next_local, next_locals, is_statement, are_statements, are_cases}
 use Rattle.cf_sequence.specs.Made.{Local, declared, declared_all}
 use Rattle.cf_sequence.specs.Statements.{made, passing}
 use Rattle.cf_sequence.proofs.Following.{on, pull}
@@ -29,9 +29,9 @@ use Rattle.cf_sequence.proofs.Kept.{Kept, kept-all, Ready, listed-kept, listed-t
 use Rattle.cf_sequence.proofs.PlainSteps.{runs_on, room-for}
 use Rattle.cf_sequence.proofs.Operands.{H}
 use Rattle.cf_sequence.proofs.Moving.{Held, held-kept, Moved, moved-then, Beyond}
-use Rattle.cf_sequence.proofs.Standing.{Open, Stands, stands-later, moved-all, next-more}
+use Rattle.cf_sequence.proofs.Standing.{Open, Stands, stands-later, moved-all, low-bound, next-more}
 use Rattle.cf_sequence.proofs.Silent.{Silent, silent-none, silent-act, silent-then, silent-leave}
-use Rattle.cf_sequence.proofs.Labels.{Aim, to_case, to_default, core_from, plain_from, core_has, fits_case, by-case, hits, mark, label-has, label-passing, mark-has, mark-goes, no-label, passing-past}
+use Rattle.cf_sequence.proofs.Labels.{Aim, to_case, to_default, core_from, plain_from, core_has, fits_case, by-case, hits, label-has, label-passing, mark-has, mark-goes, no-label, passing-past}
 
 -- ---- code that declares
 
@@ -162,9 +162,6 @@ declared-moved m i k o s f t g le less ready same kept = record {
 pub low-number : (i n : ℕ) → nat_lt i n ≡ true → suc i ≤ n
 low-number i n lt = grind (arith, nat_tests)
 
-pub low-bound : (m i : ℕ) → nat_le m i ≡ true → m ≤ i
-low-bound m i le = grind (arith, nat_tests)
-
 -- ---- what stands before a label is passed
 
 module _ (again : calling.Again) (again' : running.Again) (P : Program) (A B : Type 0) (S : A → State → B → State → Type 0) where
@@ -217,7 +214,7 @@ module _ (again : calling.Again) (again' : running.Again) (P : Program) (A B : T
         → Follows S (and_then (does.passes e s w) (on (λ u. G))) Y
     pass-one (core.declare i T core.blank) m ok o D k s f w G Y st next =
         pull (new_local i T s w) (λ o. frame_changed (lists_in_scope o)) (λ u. G) Y
-        (pass-local i T m (low-bound m i (both (nat_le m i) (is_initial core.blank) ok).0) o D k s f w G Y st next (nat_lt i s.frame.count) refl)
+        (pass-local i T m (low-bound m i (both (nat_le m i) (is_initial core.blank || is_held i core.blank) ok).0) o D k s f w G Y st next (nat_lt i s.frame.count) refl)
     pass-one (core.declare i T e) m ok o D k s f w G Y st next = record { by = tt }
     pass-one (core.sequence es) m ok o D k s f w G Y st next = pass-all es m ok o D k s f w G Y st next
     pass-one e m ok o D k s f w G Y st next = next s f (passed-none m k o D s f w st)

@@ -1,13 +1,14 @@
 -- Cores whose names are replaced: what they are built of, and the locals that they add and declare, stay.
-use Rattle.std.proofs.Common.{◌≡◌, ℕ, Bool, not, ◌&&◌, ◌||◌, nat_le, List, ◌∷◌, ◌++◌, length, refl, sym, ◌∙◌, ap}
+use Rattle.std.proofs.Common.{◌≡◌, ℕ, Bool, not, ◌&&◌, ◌||◌, nat_le, nat_lt, List, ◌∷◌, ◌++◌, length, refl, sym, ◌∙◌, ap}
 use Rattle.std.proofs.lemmas.Grind.{flat_map-append}
 use Rattle.cf_core.specs.Types.{Name, parameters, result, is_class}
 use Rattle.cf_core.specs.Core as core
 use Rattle.cf_core.specs.Core.{Core, Cores, MaybeCore, Parts, Holder, no_temporary, local_temporary, static_temporary, none, absent, given, no_parts, part}
+use Rattle.cf_core.specs.Places.{is_reference}
 use Rattle.cf_core.specs.Nodes.{nodes, nodes_all, nodes_maybe, nodes_parts}
 use Rattle.cf_core.specs.Joined.{renamed, renamed_all, renamed_maybe, renamed_parts, is_nothing}
 use Rattle.cf_core.specs.Valid.{is_label, has_label}
-use Rattle.cf_sequence.specs.Built.{is_chain, is_value, are_values, are_arguments, is_condition, is_start, is_filling, is_initial, next_local, next_locals, declares_here, is_statement, is_inner_or, are_cases, are_statements, is_constant_value, is_constant_initial, is_constant_start}
+use Rattle.cf_sequence.specs.Built.{is_chain, is_value, are_values, are_arguments, is_condition, is_start, is_filling, is_initial, is_held, behind_declared, next_local, next_locals, declares_here, is_statement, is_inner_or, are_cases, are_statements, is_constant_value, is_constant_initial, is_constant_start}
 use Rattle.cf_sequence.specs.Made.{Local, added, makes, width, width_maybe, declared, declared_all, held_by}
 use Rattle.cf_sequence.specs.Expressions.{builds}
 
@@ -150,6 +151,9 @@ module _ (r : Name → Name) where
         (two-same (is_value (renamed r a)) (is_value (renamed r b)) (is_value a) (is_value b) (same-value a) (same-value b))
     same-value (core.comma es) = same-values es
     same-value (core.call name t absent args) = ap (λ b. not (is_class (result t)) && (is_chain t && b)) (same-arguments args)
+    same-value (core.pointer_call absent e t args) =
+        ap (λ b. not (is_class (result t)) && (is_chain t && b))
+        (two-same (is_value (renamed r e)) (are_arguments (renamed_all r args)) (is_value e) (are_arguments args) (same-value e) (same-arguments args))
     same-value e = refl
 
     pub same-values : (es : Cores) → are_values (renamed_all r es) ≡ are_values es
@@ -221,8 +225,21 @@ module _ (r : Name → Name) where
     same-declared-all none = refl
     same-declared-all (core.more s es) = ap (λ (xs : List Local). xs ++ declared (renamed r s)) (same-declared-all es) ∙ ap (λ (xs : List Local). declared_all es ++ xs) (same-declared s)
 
+  same-behind : (i : ℕ) (e : Core) → behind_declared i (renamed r e) ≡ behind_declared i e
+  same-behind i (core.bind no_temporary e) = refl
+  same-behind i (core.bind (local_temporary j t) e) = refl
+  same-behind i (core.bind (static_temporary n) e) = refl
+  same-behind i e = refl
+
+  pub same-kept : (i : ℕ) (e : Core) → is_held i (renamed r e) ≡ is_held i e
+  same-kept i (core.bind no_temporary e) = refl
+  same-kept i (core.bind (local_temporary j t) e) = ap (λ b. nat_lt i j && (not (is_reference t) && b)) (same-value e)
+  same-kept i (core.bind (static_temporary n) e) = refl
+  same-kept i e = refl
+
   mutual
     same-next : (m : ℕ) (s : Core) → next_local m (renamed r s) ≡ next_local m s
+    same-next m (core.declare i t e) = same-behind i e
     same-next m (core.sequence es) = same-nexts m es
     same-next m s = refl
 
@@ -249,7 +266,8 @@ module _ (r : Name → Name) where
     same-statement m (core.full e) = same-start e
     same-statement m (core.block es) = same-statements m es
     same-statement m (core.sequence es) = same-statements m es
-    same-statement m (core.declare i t e) = ap (λ b. nat_le m i && b) (same-initial e)
+    same-statement m (core.declare i t e) =
+        ap (λ b. nat_le m i && (b || is_held i (renamed r e))) (same-initial e) ∙ ap (λ b. nat_le m i && (is_initial e || b)) (same-kept i e)
     same-statement m (core.branch c a b) =
         two-same (is_value (renamed r c)) ((not (declares_here (renamed r a)) && is_statement m (renamed r a)) && is_inner_or m (renamed_maybe r b)) (is_value c)
         ((not (declares_here a) && is_statement m a) && is_inner_or m b) (same-value c)

@@ -1,24 +1,25 @@
 -- The plain statements of a core whose names are replaced are those of the core, with the names replaced.
-use Rattle.std.proofs.Common.{◌≡◌, ℕ, suc, ◌+◌, Bool, true, false, not, ◌&&◌, ◌||◌, nat_le, List, [], ◌∷◌, ◌++◌, length, reverse, refl, sym, ◌∙◌, ap, subst, if◌then◌else◌}
+use Rattle.std.proofs.Common.{◌≡◌, ℕ, suc, ◌+◌, Bool, true, false, not, ◌&&◌, ◌||◌, nat_le, nat_lt, List, [], ◌∷◌, ◌++◌, length, reverse, refl, sym, ◌∙◌, ap, subst, if◌then◌else◌}
 use Rattle.std.specs.Prelude.{pos, Option, Some, None}
 use Rattle.cf_base.proofs.Tests.{both}
 use Rattle.cf_core.specs.declared.operators.LoopForm.TheVariants as form
 use Rattle.cf_core.specs.Types.{Name, SourceType, parameters, result, is_class}
 use Rattle.cf_core.specs.Classes.{Class}
 use Rattle.cf_core.specs.Core as core
-use Rattle.cf_core.specs.Core.{Core, Cores, MaybeCore, no_temporary, none, absent, given}
+use Rattle.cf_core.specs.Core.{Core, Cores, MaybeCore, no_temporary, local_temporary, none, absent, given}
+use Rattle.cf_core.specs.Places.{is_reference}
 use Rattle.cf_core.specs.Joined.{renamed, renamed_all, renamed_maybe, is_nothing}
 use Rattle.cf_core.specs.Valid.{has_label}
 use Rattle.cf_plain.specs.Plain.{Register, Plains, act, set, branch, loop, switch, case_label, default_label, leave, continue, give, nothing, more}
 use Rattle.cf_plain.specs.Plain as plain
 use Rattle.cf_plain.specs.Joined as joined
-use Rattle.cf_sequence.specs.Built.{is_value, are_values, are_arguments, is_chain, is_condition, is_start, is_filling, is_initial, declares_here, is_statement, is_inner_or, are_cases, are_statements, next_local}
+use Rattle.cf_sequence.specs.Built.{is_value, are_values, are_arguments, is_chain, is_condition, is_start, is_filling, is_initial, is_held, declares_here, is_statement, is_inner_or, are_cases, are_statements, next_local}
 use Rattle.cf_sequence.specs.Made.{Local, numbers, width, width_maybe, declared, declared_all}
 use Rattle.cf_sequence.specs.Expressions.{Full, Destination, destination, value, values, arguments, settled, builds, result_register, whole, finished, used}
 use Rattle.cf_sequence.specs.Statements.{Inside, opened, in_loop, in_switch, declares, condition, held, stepped, started, returned, looping, made, passing, passes_local, passed, statement, statement_or, statements}
 use Rattle.cf_sequence.proofs.Calling.{never}
 use Rattle.cf_sequence.proofs.Filling.{fill, started-is}
-use Rattle.cf_sequence.proofs.Fulls.{whole-is, nothing-is}
+use Rattle.cf_sequence.proofs.Fulls.{whole-is, nothing-is, held_at, held-code}
 use Rattle.cf_sequence.proofs.Labels.{or-else, passing-past}
 use Rattle.cf_sequence.proofs.Renamed.{same-width, same-width-maybe, same-builds, same-value, same-filling, same-declared, same-declared-all, same-has-label, same-statement}
 
@@ -117,6 +118,14 @@ module _ (r : Name → Name) where
           ap (more (act (plain.function (r name) t)))
           (over-arguments (parameters t) args (both (is_chain t) (are_arguments args) p.1).1 x n k (k + length (parameters t) + 0)
           (more (set n (plain.call name t None (numbers k (parameters t)) (result_register t into))) rest))
+      over-value (core.pointer_call absent e t args) ok x into n k rest =
+          let p = both (is_value e) (are_arguments args) (both (is_chain t) (is_value e && are_arguments args) (both (not (is_class (result t))) (is_chain t && (is_value e && are_arguments args)) ok).1).1 in
+          let l : ℕ = k + length (parameters t) + 0 in
+          let last : Plains → Plains = λ rest. more (set n (plain.pointer_call None n t (numbers k (parameters t)) (result_register t into))) rest in
+          over-value e p.0 x None n l (used n (arguments cs x (parameters t) args (suc n) k (l + width e) (last rest)))
+          ∙ ap (λ ss. value cs x (again e) None n l (used n ss))
+          (over-arguments (parameters t) args p.1 x (suc n) k (l + width e) (last rest)
+          ∙ ap (λ w. arguments cs x (parameters t) (renamed_all r args) (suc n) k (l + w) (last (over rest))) (sym (same-width r e)))
       over-value e ok x into n k rest = never ok
 
       over-values : (es : Cores) → are_values es ≡ true → (x : Full) (n : Register) (k : ℕ) (rest : Plains) → over (values cs x es n k rest) ≡ values cs x (renamed_all r es) n k (over rest)
@@ -170,6 +179,24 @@ module _ (r : Name → Name) where
         (λ blank. subst (λ e. over (started cs t e n k rest) ≡ started cs t (again e) n k (over rest)) (sym (nothing-is e blank)) refl)
         (λ is.
         over-whole e is (suc n) k (destination n t) (λ m ss. ss) (λ m. settled e n m rest) (λ m. settled (again e) n m (over rest)) (λ m ss. refl) (λ m. over-settled e n m rest)))
+
+    -- a reference's temporary
+    over-kept : (i : ℕ) (t : SourceType) (e : Core) → is_held i e ≡ true → (n : Register) (k : ℕ) (rest : Plains) → over (started cs t e n k rest) ≡ started cs t (again e) n k (over rest)
+    over-kept i t (core.bind (local_temporary j u) e) ok n k rest =
+        let is : is_value e ≡ true = (both (not (is_reference u)) (is_value e) (both (nat_lt i j) (not (is_reference u) && is_value e) ok).1).1 in
+        let x : Full = record { first = k; base = suc n } in
+        let from : Core → Register → Plains → Plains = λ e m rest.
+        more (set (suc m) (plain.declare j u)) (more (set m (plain.local j))
+        (value cs x e (destination (suc m) u) (suc (suc m)) k (settled e (suc m) (suc (suc m)) (more (act (plain.first n m)) rest)))) in
+        let m : Register = held_at e n in
+        let last : Plains = more (act (plain.first n m)) rest in
+        ap over (held-code cs t j u e is n k rest)
+        ∙ ap (λ ss. more (set (suc m) (plain.declare j u)) (more (set m (plain.local j)) ss))
+        (over-value e is x (destination (suc m) u) (suc (suc m)) k (settled e (suc m) (suc (suc m)) last)
+        ∙ ap (value cs x (again e) (destination (suc m) u) (suc (suc m)) k) (over-settled e (suc m) (suc (suc m)) last))
+        ∙ ap (λ w. from (again e) (suc n + w) (over rest)) (sym (same-width r e))
+        ∙ sym (held-code cs t j u (again e) (same-value r e ∙ is) n k (over rest))
+    over-kept i t e ok n k rest = never ok
 
     over-condition : (q : Core) → is_value q ≡ true → (k : ℕ) (rest later : Register → Plains) → ((m : Register) → over (rest m) ≡ later m) → over (condition cs q k rest) ≡ condition cs (again q) k later
     over-condition q ok k rest later same = over-whole q ok 0 k None (λ m ss. more (set m (plain.truth m)) ss) rest later (λ m ss. refl) same
@@ -267,7 +294,9 @@ module _ (r : Name → Name) where
         ∙ ap (statements (opened f) (renamed_all r es) k) (over-finished (declared_all es) rest ∙ ap (λ xs. finished xs (over rest)) (sym (same-declared-all r es)))
     over-statement (core.sequence es) m ok f pr k rest = over-statements es m ok f pr k rest
     over-statement (core.declare i t e) m ok f pr k rest =
-        ap (more (set 0 (plain.declare i t))) (over-started f.classes t e (both (nat_le m i) (is_initial e) ok).1 0 k rest)
+        ap (more (set 0 (plain.declare i t)))
+        (or-else (is_initial e) (is_held i e) (both (nat_le m i) (is_initial e || is_held i e) ok).1
+        (λ initial. over-started f.classes t e initial 0 k rest) (λ kept. over-kept f.classes i t e kept 0 k rest))
     over-statement (core.branch q a b) m ok f pr k rest =
         let parts = both (is_value q) ((not (declares_here a) && is_statement m a) && is_inner_or m b) ok in
         let arms = both (not (declares_here a) && is_statement m a) (is_inner_or m b) parts.1 in

@@ -150,6 +150,13 @@ module _ (again : Again) (H : Program) where
           silent-then (λ rest. more (act (plain.function name t)) rest) (λ rest. arguments P.classes x (parameters t) args n k (k + length (parameters t) + 0) (last rest)) (silent-act (plain.function name t))
           (silent-then (arguments P.classes x (parameters t) args n k (k + length (parameters t) + 0)) last (silent-arguments (parameters t) args given_args x n k (k + length (parameters t) + 0))
           (silent-set n (plain.call name t None (numbers k (parameters t)) (result_register t into))))
+      silent-value (core.pointer_call absent e t args) ok x into n k =
+          let parts = both (is_value e) (are_arguments args) (both (is_chain t) (is_value e && are_arguments args) (both (not (is_class (result t))) (is_chain t && (is_value e && are_arguments args)) ok).1).1 in
+          let l : ℕ = k + length (parameters t) + 0 in
+          let last : Plains → Plains = λ rest. more (set n (plain.pointer_call None n t (numbers k (parameters t)) (result_register t into))) rest in
+          silent-operands (value P.classes x e None n l) (arguments P.classes x (parameters t) args (suc n) k (l + width e)) last n
+          (silent-value e parts.0 x None n l) (silent-arguments (parameters t) args parts.1 x (suc n) k (l + width e))
+          (silent-set n (plain.pointer_call None n t (numbers k (parameters t)) (result_register t into)))
       silent-value e ok x into n k = never ok
 
       silent-values : (es : Cores) → are_values es ≡ true → (x : Full) (n : Register) (k : ℕ) → Silent (values P.classes x es n k)

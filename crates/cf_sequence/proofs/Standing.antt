@@ -1,5 +1,5 @@
 -- How the plain statements stand to the core between statements, and what further turns of a loop are.
-use Rattle.std.proofs.Common.{◌≡◌, ℕ, ◌+◌, ◌≤◌, true, false, not, nat_le, List, [], ◌++◌, refl, ◌∙◌, ap, arith}
+use Rattle.std.proofs.Common.{◌≡◌, ℕ, suc, ◌+◌, ◌≤◌, true, false, not, ◌&&◌, ◌||◌, nat_le, nat_lt, List, [], ◌++◌, refl, ◌∙◌, ap, arith}
 use Rattle.std.specs.Prelude.{Option, Some, None}
 use Rattle.std.proofs.lemmas.Bool.Decides.{nat_tests}
 use Rattle.cf_base.proofs.Tests.{both}
@@ -8,8 +8,8 @@ use Rattle.cf_core.specs.declared.operators.LoopForm.{LoopForm}
 use Rattle.cf_core.specs.declared.operators.LoopForm.TheVariants as form
 use Rattle.cf_core.specs.Types.{SourceType, is_class}
 use Rattle.cf_core.specs.Core as core
-use Rattle.cf_core.specs.Core.{Core, Cores, MaybeCore, Function, none, absent, given}
-use Rattle.cf_core.specs.Places.{Place}
+use Rattle.cf_core.specs.Core.{Core, Cores, MaybeCore, Function, local_temporary, none, absent, given}
+use Rattle.cf_core.specs.Places.{Place, is_reference}
 use Rattle.cf_core.specs.Store.{Value, Built}
 use Rattle.cf_core.specs.Run.{State, Frame, Act, ◌>>=◌, ◌>>◌, gives, with_frame}
 use Rattle.cf_core.specs.Access.{used}
@@ -22,7 +22,7 @@ use Rattle.cf_plain.specs.Acts.{Registers}
 use Rattle.cf_plain.specs.Running as running
 use Rattle.cf_plain.specs.Running.{Flow, Falls, Breaks, Continues, Returns, keep, falling, turning, all}
 use Rattle.cf_sequence.specs.Follows.{Follows}
-use Rattle.cf_sequence.specs.Built.{is_initial, next_local, next_locals, declares_here, is_statement, are_statements}
+use Rattle.cf_sequence.specs.Built.{is_value, is_initial, is_held, behind_declared, next_local, next_locals, declares_here, is_statement, are_statements}
 use Rattle.cf_sequence.specs.Made.{Local, width, width_maybe, declared}
 use Rattle.cf_sequence.specs.Expressions.{finished}
 use Rattle.cf_sequence.specs.Statements.{Inside, in_loop, statement, held, stepped}
@@ -101,10 +101,25 @@ result_act again P e r = elim r [
   | Some p ↦ settled_full again P p e >> gives Built
 ]
 
+pub low-bound : (m i : ℕ) → nat_le m i ≡ true → m ≤ i
+low-bound m i le = grind (arith, nat_tests)
+
+-- the locals of a declaration are numbered on
+pub behind-more : (i : ℕ) (e : Core) → (is_initial e || is_held i e) ≡ true → suc i ≤ behind_declared i e
+behind-more i (core.bind (local_temporary j t) e) ok = let lt : nat_lt i j ≡ true = (both (nat_lt i j) (not (is_reference t) && is_value e) ok).0 in grind (arith, nat_tests)
+behind-more i e ok = omega arith
+
+pub behind-initial : (i : ℕ) (e : Core) → is_initial e ≡ true → behind_declared i e ≡ suc i
+behind-initial i (core.bind (local_temporary j t) e) ok = never ok
+behind-initial i e ok = refl
+
 -- a statement's locals are numbered on
 mutual
   pub next-more : (m : ℕ) (s : Core) → is_statement m s ≡ true → m ≤ next_local m s
-  next-more m (core.declare i t e) ok = let le : nat_le m i ≡ true = (both (nat_le m i) (is_initial e) ok).0 in grind (arith, nat_tests)
+  next-more m (core.declare i t e) ok =
+      let parts = both (nat_le m i) (is_initial e || is_held i e) ok in
+      let low : m ≤ i = low-bound m i parts.0 in
+      let more-locals : suc i ≤ behind_declared i e = behind-more i e parts.1 in omega arith
   next-more m (core.sequence es) ok = next-more-all m es ok
   next-more m s ok = omega arith
 

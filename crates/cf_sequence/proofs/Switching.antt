@@ -1,5 +1,5 @@
 -- Switches (6.4.2): the statements behind a label, in a scope of their own, with the locals that the label passes.
-use Rattle.std.proofs.Common.{◌≡◌, ℕ, ◌+◌, ◌≤◌, Bool, true, false, ◌||◌, List, [], ◌∷◌, ◌++◌, reverse, length, refl, sym, ◌∙◌, ap, subst, arith, append-nil, append_assoc}
+use Rattle.std.proofs.Common.{◌≡◌, ℕ, ◌+◌, ◌≤◌, Bool, true, false, ◌||◌, List, [], ◌++◌, reverse, length, refl, sym, ◌∙◌, ap, subst, arith, append-nil, append_assoc}
 use Rattle.std.specs.Prelude.{ℤ, Option, Some, None}
 use Rattle.std.proofs.lemmas.List.{reverse-append}
 use Rattle.cf_base.proofs.Tests.{both}
@@ -9,7 +9,7 @@ use Rattle.cf_core.specs.Core as core
 use Rattle.cf_core.specs.Core.{Core, Cores, Function, none}
 use Rattle.cf_core.specs.Nodes.{nodes, nodes_all}
 use Rattle.cf_core.specs.Store.{Value}
-use Rattle.cf_core.specs.Run.{State, Frame, Did, Act, ◌>>=◌, ◌>>◌, gives, malformed, some_or, when, with_frame}
+use Rattle.cf_core.specs.Run.{State, Frame, Did, Act, ◌>>=◌, gives, malformed, some_or, when, with_frame}
 use Rattle.cf_core.specs.Access.{used, number_of}
 use Rattle.cf_core.specs.Valid.{has_label}
 use Rattle.cf_core.specs.Calls as calling
@@ -25,7 +25,7 @@ use Rattle.cf_sequence.specs.Follows.{Follows}
 use Rattle.cf_sequence.specs.Built.{is_value, is_chain, is_statement, are_cases, next_local, next_locals}
 use Rattle.cf_sequence.specs.Made.{Local, width, added, declared, declared_all}
 use Rattle.cf_sequence.specs.Expressions.{Full, finished, whole, value, used as use_of}
-use Rattle.cf_sequence.specs.Statements.{statement, statements, made, passing, passes_local, passed}
+use Rattle.cf_sequence.specs.Statements.{statement, statements, made, passing, passes_local}
 use Rattle.cf_sequence.proofs.Following.{on, pull, pull-two, push, pure-known}
 use Rattle.cf_sequence.proofs.Steps.{pure-number_of}
 use Rattle.cf_sequence.proofs.Calling.{Bodies, never}

@@ -33,7 +33,7 @@ use Rattle.cf_sequence.specs.Sequenced.{sequenced, sequenced_function, sequenced
 use Rattle.cf_core.specs.Valid.{class_of_role}
 use Rattle.cf_sequence.proofs.StaticObjects.{same-first}
 use Rattle.cf_sequence.proofs.Following.{on, pull}
-use Rattle.cf_sequence.proofs.Calling.{Alike, Bodies, FlowAs, SameObjects, Ended, never, named-header, enter-steps, plain_program as plain_of, plain_function as beside}
+use Rattle.cf_sequence.proofs.Calling.{Alike, Bodies, FlowAs, SameObjects, Ended, never, named-header, found-steps, plain_program as plain_of, plain_function as beside}
 use Rattle.cf_sequence.proofs.Moving.{all_gone, gone-frame, gone-append, ends-all, destroy-nothing, Held, held-kept, finished-steps, Moved, with_scope, Beyond}
 use Rattle.cf_sequence.proofs.Standing.{Open, Stands, Turned, Turns, inside_of, turn_code, step_code}
 use Rattle.cf_sequence.proofs.Scopes.{Ways, scope-steps, closing_scope}
@@ -172,13 +172,6 @@ built-parts f ok =
     let three = both main_ok (is_body f) two.1 in
     let four = both (not (is_class (result f.type))) (is_statement (length (parameters f.type)) f.body) three.1 in
     record { role = role-is f.role one.0; chain = two.0; main = three.0; scalar = no-result (is_class (result f.type)) four.0; statement = four.1 }
-
-main-takes-nothing : (f : Function) → Parts f → bytes_eq f.name (codes "__main") ≡ true → length (parameters f.type) ≡ 0
-main-takes-nothing f parts e = by-list (parameters f.type) (subst (λ b. (not b || is_none (parameters f.type)) ≡ true) e parts.main)
-  where
-    by-list : (ts : List SourceType) → is_none ts ≡ true → length ts ≡ 0
-    by-list [] ok = refl
-    by-list (t ∷ ts) ok = never ok
 
 module _ (again : calling.Again) (again' : running.Again) (xs : List Static) (ks : List Setting) (fs : List Function) (bodies : Bodies again again' (of_parts xs ks fs))
     (chains : (name : Name) (f : Function) → function_named (of_parts xs ks fs) name ≡ Some f → is_chain f.type ≡ true)
@@ -427,13 +420,11 @@ module _ (xs : List Static) (ks : List Setting) (fs : List Function) (set : list
   main-follows n (Some f) found s g w alike =
       let again = runs (of_parts xs ks fs) n in
       let again' = running.runs Q code_of n in
-      let parts = built-parts f (found-built (codes "__main") fs f found ok) in
       subst (λ x. Follows SameNumber (and_then (calling.enter_found again x [] None None s w) (on status_of))
       (and_then (run_named (calls again') Q (codes "__main") [] None None (with_frame g s) w) (on status_of))) (sym found)
-      (subst (λ x. Follows SameNumber (and_then (calling.enter again f [] None None s w) (on status_of))
+      (subst (λ x. Follows SameNumber (and_then (calling.enter_found again (Some f) [] None None s w) (on status_of))
       (and_then (calling.enter_found (calls again') x [] None None (with_frame g s) w) (on status_of))) (sym (named-header [] xs (codes "__main") fs (sequenced (of_parts xs ks fs)).initialisers f found))
-      (enter-steps again again' (of_parts xs ks fs) (both-at n).bodies s g status_of status_of (λ v t w same. status-steps v t g w) (codes "__main") f found []
-      (sym (main-takes-nothing f parts (found-name (codes "__main") fs f found))) alike w))
+      (found-steps again again' (of_parts xs ks fs) (both-at n).bodies s g status_of status_of (λ v t w same. status-steps v t g w) (codes "__main") f found [] alike w))
 
   pub programs-agree : (input : List ℕ) (heap depth n : ℕ) (o : Outcome) → Mean (of_parts xs ks fs) input heap depth n ≡ Some o → PlainMean (sequenced (of_parts xs ks fs)) input heap depth n ≡ Some o
   programs-agree input heap depth n o is =

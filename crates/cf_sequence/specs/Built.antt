@@ -1,10 +1,10 @@
--- The cores that are built so far: functions over numbers and pointers, with locals, references to objects, literals, calls by name and all statements, and
--- static objects with constant initialisers; no class, no temporary and no list.
-use Rattle.std.specs.Prelude.{ℕ, suc, Bool, true, false, ◌&&◌, ◌||◌, not, nat_le, nat_eq, List, [], ◌∷◌, length, bytes_eq, codes}
+-- The cores that are built so far: functions over numbers and pointers, with locals, references to objects and local references' temporaries, literals,
+-- calls and all statements, and static objects with constant initialisers; no class, no temporary of an expression and no list.
+use Rattle.std.specs.Prelude.{ℕ, suc, Bool, true, false, ◌&&◌, ◌||◌, not, nat_le, nat_lt, nat_eq, List, [], ◌∷◌, length, bytes_eq, codes}
 use Rattle.std.specs.List.{list_all, starts_with}
 use Rattle.cf_core.specs.Types.{Name, SourceType, takes, gives, result, is_class, parameters}
 use Rattle.cf_core.specs.Core as core
-use Rattle.cf_core.specs.Core.{Core, Cores, MaybeCore, no_temporary, none, absent, given, Role, plain_function, Function, Static, CoreFile}
+use Rattle.cf_core.specs.Core.{Core, Cores, MaybeCore, no_temporary, local_temporary, none, absent, given, Role, plain_function, Function, Static, CoreFile}
 use Rattle.cf_core.specs.Calls.{Program, Setting}
 use Rattle.cf_core.specs.Places.{is_reference}
 use Rattle.cf_core.specs.Joined.{is_nothing}
@@ -44,6 +44,7 @@ abbrev mutual
   is_value (core.step is_postfix c e) = is_value e
   is_value (core.bind no_temporary e) = is_value e
   is_value (core.call name t absent args) = not (is_class (result t)) && (is_chain t && are_arguments args)
+  is_value (core.pointer_call absent e t args) = not (is_class (result t)) && (is_chain t && (is_value e && are_arguments args))
   is_value e = false
 
   -- an expression's parts: one at least
@@ -74,10 +75,20 @@ is_filling e = false
 abbrev pub is_initial : Core → Bool
 is_initial e = is_filling e || is_start e
 
+-- the temporary of a reference that is the local i: a local behind it holds it, and a value makes it (8.4.3, 12.2)
+abbrev pub is_held : ℕ → Core → Bool
+is_held i (core.bind (local_temporary j t) e) = nat_lt i j && (not (is_reference t) && is_value e)
+is_held i e = false
+
+-- the number behind those of a declaration's locals
+abbrev pub behind_declared : ℕ → Core → ℕ
+behind_declared i (core.bind (local_temporary j t) e) = suc j
+behind_declared i e = suc i
+
 -- The number behind that of each local that a statement declares in the scope at hand.
 abbrev mutual
   pub next_local : ℕ → Core → ℕ
-  next_local m (core.declare i t e) = suc i
+  next_local m (core.declare i t e) = behind_declared i e
   next_local m (core.sequence es) = next_locals m es
   next_local m s = m
 
@@ -97,7 +108,7 @@ abbrev mutual
   is_statement m (core.full e) = is_start e
   is_statement m (core.block es) = are_statements m es
   is_statement m (core.sequence es) = are_statements m es
-  is_statement m (core.declare i t e) = nat_le m i && is_initial e
+  is_statement m (core.declare i t e) = nat_le m i && (is_initial e || is_held i e)
   is_statement m (core.branch c a b) = is_value c && ((not (declares_here a) && is_statement m a) && is_inner_or m b)
   is_statement m (core.loop _ c e s) = is_condition c && (is_condition e && is_statement m s)
   is_statement m (core.switch e es) = is_value e && are_cases m es

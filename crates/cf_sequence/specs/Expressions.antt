@@ -122,7 +122,8 @@ module _ (classes : List Class) where
   built d rest = if is_class d.type then more (act (plain.end_list d.register)) rest else rest
 
   abbrev mutual
-    -- The value of an expression comes into register n, or what it builds stands at its destination; its locals are numbered from k.
+    -- The value of an expression comes into register n, or what it builds stands at its destination; its locals are numbered from k. The register with a
+    -- temporary's object is used for its first value alone, as that of an argument is; another one has its place.
     pub value : Full → Core → Option Destination → Register → ℕ → Plains → Plains
     value x (core.number z) into n k rest = more (set n (plain.number z)) rest
     value x (core.text j bytes) into n k rest = more (set n (plain.text j bytes)) rest
@@ -185,8 +186,8 @@ module _ (classes : List Class) where
     value x (core.assign t a b args) into n k rest =
         value x a None n k (used n (value x b None (suc n) (k + width a) (more (act (plain.carry_over t n (suc n))) rest)))
     value x (core.temporary t e) into n k rest =
-        more (set n (plain.declare k t))
-        (value x e (destination n t) (suc n) (suc k) (settled e n (suc n) (more (set (flag x k) (plain.number (pos 1))) rest)))
+        more (set (suc n) (plain.declare k t)) (more (set n (plain.local k))
+        (value x e (destination (suc n) t) (suc (suc n)) (suc k) (settled e (suc n) (suc (suc n)) (more (set (flag x k) (plain.number (pos 1))) rest))))
     value x (core.call name t object args) into n k rest =
         more (act (plain.function name t))
         (object_value x object n (k + length (parameters t))
@@ -223,7 +224,8 @@ module _ (classes : List Class) where
     value x core.zeros (Some d) n k rest = more (act (plain.zeros d.register)) rest
     value x (core.bind no_temporary e) into n k rest = value x e None n k rest
     value x (core.bind (local_temporary i t) e) into n k rest =
-        more (set n (plain.declare i t)) (value x e (destination n t) (suc n) k (settled e n (suc n) rest))
+        more (set (suc n) (plain.declare i t)) (more (set n (plain.local i))
+        (value x e (destination (suc n) t) (suc (suc n)) k (settled e (suc n) (suc (suc n)) rest)))
     value x (core.bind (static_temporary name) e) into n k rest = value x e None n k rest
     value x e into n k rest = rest
 

@@ -1,5 +1,5 @@
 -- The place of the first construct of a core that is not built so far.
-use Rattle.std.specs.Prelude.{ℕ, Bool, true, false, ◌&&◌, ◌||◌, not, ◌==◌, nat_le, nat_eq, if◌then◌else◌, List, [], ◌∷◌, length, codes, bytes_eq, suc, Option, Some, None}
+use Rattle.std.specs.Prelude.{ℕ, Bool, true, false, ◌&&◌, ◌||◌, not, ◌==◌, nat_le, nat_lt, nat_eq, if◌then◌else◌, List, [], ◌∷◌, length, codes, bytes_eq, suc, Option, Some, None}
 use Rattle.std.specs.List.{starts_with}
 use Rattle.std.specs.Option.{option_or}
 use Rattle.cf_core.specs.declared.node.Core.{Core as Node, fold-Core}
@@ -18,6 +18,11 @@ use Rattle.cf_core.specs.FromTypes.{Tables, type_of}
 use Rattle.cf_core.specs.FromUnit.{Unit as CoreUnit, tables_of}
 use Rattle.cf_core.specs.NodePlace.{place, place_step}
 
+-- The temporary that a reference's initialiser makes: the local that it is, and its value (8.4.3).
+pub record Temporary : Type 0 where
+  pub number : ℕ
+  pub value : Option ℕ
+
 -- What is known of a node. A place is that of the first construct in it that is not built.
 pub record Test : Type 0 where
   pub value : Option ℕ  -- as an expression
@@ -25,6 +30,7 @@ pub record Test : Type 0 where
   pub next : ℕ → ℕ  -- the number behind that of each local that it declares in the scope at hand
   pub is_blank : Bool
   pub is_filling : Bool  -- whether it fills its object by itself, as an initialiser
+  pub temporary : Option Temporary  -- as an initialiser
   pub declares : Bool  -- whether it declares locals in the scope at hand
   pub is_label : Bool
 
@@ -35,6 +41,22 @@ start e = if e.is_blank then None else e.value
 -- the initialiser of a local
 abbrev pub initial : Test → Option ℕ
 initial e = if e.is_filling then None else start e
+
+-- that of the local of this number, which is declared at this place
+abbrev pub by_temporary : Option Temporary → ℕ → ℕ → Option ℕ → Option ℕ
+by_temporary None at i other = other
+by_temporary (Some x) at i other = if nat_lt i x.number then x.value else Some at
+
+abbrev pub local : ℕ → ℕ → Test → Option ℕ
+local at i e = by_temporary e.temporary at i (initial e)
+
+-- the number behind those of that local and its temporary
+abbrev pub behind_both : Option Temporary → ℕ → ℕ
+behind_both None i = suc i
+behind_both (Some x) i = suc x.number
+
+abbrev pub behind : ℕ → Test → ℕ
+behind i e = behind_both e.temporary i
 
 abbrev pub given : Option Test → Option ℕ
 given None = None
@@ -77,7 +99,7 @@ abbrev pub bound : ℕ → Holder → Option ℕ → Option ℕ
 bound at holder.NoTemporary e = e
 bound at h e = Some at
 
--- a call by name, of a function whose result is no class
+-- a call of a function whose result is no class, of these parts
 abbrev pub called : ℕ → Bool → Option Test → List Test → Option ℕ
 called at is_plain None es = if is_plain then each_value es else Some at
 called at is_plain (Some object) es = Some at
@@ -95,7 +117,7 @@ abbrev pub statement_step : Core-F Test Test → ℕ → Option ℕ
 statement_step (Core-F.Full at e) m = start e
 statement_step (Core-F.Block at ss) m = each_statement m ss
 statement_step (Core-F.Sequence at ss) m = each_statement m ss
-statement_step (Core-F.Declare at i t e) m = if nat_le m i then initial e else Some at
+statement_step (Core-F.Declare at i t e) m = if nat_le m i then local at i e else Some at
 statement_step (Core-F.If at c a b) m = option_or c.value (option_or (inner at m a) (inner_or at m b))
 statement_step (Core-F.Loop at how c e s) m = option_or (given c) (option_or (given e) (s.statement m))
 statement_step (Core-F.Switch at e ss) m = option_or e.value (each_case m ss)
@@ -105,7 +127,7 @@ statement_step (Core-F.Return at e) m = given e
 statement_step x m = Some (place_in x)
 
 abbrev pub next_step : Core-F Test Test → ℕ → ℕ
-next_step (Core-F.Declare at i t e) m = suc i
+next_step (Core-F.Declare at i t e) m = behind i e
 next_step (Core-F.Sequence at ss) m = next_of_all m ss
 next_step x m = m
 
@@ -159,8 +181,21 @@ module _ (tables : Tables) where
   value_step (Core-F.Update at a c b) = option_or a.value b.value
   value_step (Core-F.Increment at is_postfix c e) = e.value
   value_step (Core-F.Call at f t object es) = called at (is_called t) object es
+  value_step (Core-F.PointerCall at object e t es) = called at (is_called t) object (e ∷ es)
   value_step (Core-F.Bind at h e) = bound at h e.value
   value_step x = Some (place_in x)
+
+  -- the value of a temporary of this type, which is no reference
+  abbrev pub kept : ℕ → ℕ → Option ℕ → Option ℕ
+  kept at t e = if is_reference (type_of tables t) then Some at else e
+
+  abbrev pub held_as : ℕ → Holder → Option ℕ → Option Temporary
+  held_as at (holder.LocalTemporary j t) e = Some (record { number = j; value = kept at t e })
+  held_as at h e = None
+
+  abbrev pub temporary_step : Core-F Test Test → Option Temporary
+  temporary_step (Core-F.Bind at h e) = held_as at h e.value
+  temporary_step x = None
 
   abbrev pub test_step : Core-F Test Test → Test
   test_step x = record {
@@ -169,6 +204,7 @@ module _ (tables : Tables) where
     next = next_step x;
     is_blank = blank_step x;
     is_filling = filling_step x;
+    temporary = temporary_step x;
     declares = declares_step x;
     is_label = label_step x;
   }

@@ -1,4 +1,4 @@
-ghost use Rattle.std.specs.Prelude.{◌≡◌, map, true};
+ghost use Rattle.std.specs.Prelude.{◌≡◌, ◌<◌, length, map, true};
 ghost use Rattle.std.specs.Option.{option_map};
 ghost use Rattle.cf_core.specs.FromTypes.{Tables};
 ghost use Rattle.cf_core.specs.FromUnit.{tables_of};
@@ -6,9 +6,11 @@ ghost use Rattle.cf_core.specs.Numbers.{are_known, all_of, maybe_of};
 ghost use Rattle.cf_sequence_built.specs.Unbuilt as spec;
 ghost use Rattle.cf_sequence_built.specs.Unbuilt.{test};
 
+use crate::types::is_reference;
 use crate::values::value;
 use cf_base::Boxed;
-use cf_core::{Core, CoreUnit};
+use cf_core::{Core, CoreUnit, Holder};
+use cf_types::TyId;
 
 /// The place of the first construct of an expression statement that is not built.
 fn start(unit: &CoreUnit, e: &Core) -> Option<u32>
@@ -27,6 +29,53 @@ fn initial(unit: &CoreUnit, e: &Core) -> Option<u32>
     ensures { result ≡ spec.initial (test (tables_of unit.now) e.now) }
 {
     if is_filling(e) { None } else { start(unit, e) }
+}
+
+/// Of that of the local of this number, which is declared at this place: a reference's temporary is a local behind it (8.4.3).
+fn local(unit: &CoreUnit, at: u32, number: u32, e: &Core) -> Option<u32>
+    requires { are_known (tables_of unit.now) e.now ≡ true }
+    ensures { result ≡ spec.local at number (test (tables_of unit.now) e.now) }
+{
+    match e {
+        Core::Bind {
+            at: place,
+            holder: Holder::LocalTemporary { local: held, ty },
+            operand,
+        } => {
+            if number < *held {
+                kept(unit, *place, *ty, operand.get())
+            } else {
+                Some(at)
+            }
+        }
+        _ => initial(unit, e),
+    }
+}
+
+/// Of the value of a temporary of this type, which is no reference.
+fn kept(unit: &CoreUnit, at: u32, ty: TyId, e: &Core) -> Option<u32>
+    requires typed { ty < length unit.now.types.types }
+    requires known { are_known (tables_of unit.now) e.now ≡ true }
+    ensures { result ≡ spec.kept (tables_of unit.now) at ty (test (tables_of unit.now) e.now).value }
+{
+    if is_reference(unit, ty) {
+        Some(at)
+    } else {
+        value(unit, e)
+    }
+}
+
+/// The number behind those of a local and of the temporary that it binds.
+fn behind(number: u32, e: &Core) -> u64
+    ensures { (tables : Tables) → result ≡ spec.behind number (test tables e.now) }
+{
+    match e {
+        Core::Bind {
+            holder: Holder::LocalTemporary { local: held, .. },
+            ..
+        } => *held as u64 + 1,
+        _ => number as u64 + 1,
+    }
 }
 
 /// Of a condition or a step, if there is one.
@@ -74,7 +123,11 @@ fn next(below: u64, s: &Core) -> u64
     ensures { (tables : Tables) → result ≡ (test tables s.now).next below }
 {
     match s {
-        Core::Declare { local, .. } => *local as u64 + 1,
+        Core::Declare {
+            local: number,
+            start: e,
+            ..
+        } => behind(*number, e.get()),
         Core::Sequence { statements, .. } => next_of_all(below, statements.as_slice()),
         _ => below,
     }
@@ -110,12 +163,12 @@ pub fn statement(unit: &CoreUnit, below: u64, s: &Core) -> Option<u32>
         } => { each_statement(unit, below, all.as_slice()) }
         Core::Declare {
             at,
-            local,
+            local: number,
             start: e,
             ..
         } => {
-            if below <= *local as u64 {
-                initial(unit, e.get())
+            if below <= *number as u64 {
+                local(unit, *at, *number, e.get())
             } else {
                 Some(*at)
             }

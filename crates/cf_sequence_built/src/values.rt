@@ -83,6 +83,19 @@ pub fn value(unit: &CoreUnit, e: &Core) -> Option<u32>
                 Some(*at)
             }
         }
+        Core::PointerCall {
+            at,
+            object: None,
+            pointer,
+            ty,
+            arguments,
+        } => {
+            if is_called(unit, *ty) {
+                value(unit, pointer.get()).or(each_value(unit, arguments.as_slice()))
+            } else {
+                Some(*at)
+            }
+        }
         Core::Bind {
             holder: Holder::NoTemporary,
             operand,

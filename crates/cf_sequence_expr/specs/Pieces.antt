@@ -97,14 +97,31 @@ abbrev pub by_increment : Bool → Change → Piece → ℕ → Writing → Writ
 by_increment false change e n w = stepped change n (e.value n w)
 by_increment true change e n w = stepped_behind change n (e.value (suc n) w)
 
+-- The temporary of a local reference is a local of its own: it is there, its place comes into this register, and its value is put there (8.4.3, 12.2).
+unfoldable pub held : ℕ → ℕ → Piece → ℕ → Writing → Writing
+held i t e n w =
+    act (action.First (suc n) (suc (suc n))) (e.value (suc (suc n)) (set n (action.Local i) (set (suc n) (action.Declare i t) w)))
+
 abbrev pub by_holder : Holder → Piece → ℕ → Writing → Writing
 by_holder holder.NoTemporary e n w = e.value n w
-by_holder (holder.LocalTemporary i t) e n w = w
+by_holder (holder.LocalTemporary i t) e n w = held i t e n w
 by_holder (holder.StaticTemporary name) e n w = e.value n w
 
 abbrev pub by_call : List ℕ → ℕ → List ℕ → Option Piece → List Piece → ℕ → Writing → Writing
 by_call name t ts None es n w = called name t ts es n w
 by_call name t ts (Some object) es n w = w
+
+-- what a pointer holds is there before the arguments; the objects of the parameters are numbered first
+unfoldable pub callee : List ℕ → Piece → ℕ → Writing → Writing
+callee ts e n w = used n (e.value n (passed (length ts) w))
+
+-- a call of what the pointer in this register holds, for parameters that are the locals from k
+unfoldable pub pointed : ℕ → List ℕ → List Piece → ℕ → ℕ → Writing → Writing
+pointed t ts es n k w = set n (action.PointerCall None n t (counted k (length ts)) None) (arguments ts 0 es (suc n) k w)
+
+abbrev pub by_pointer : Option Piece → Piece → ℕ → List ℕ → List Piece → ℕ → Writing → Writing
+by_pointer None e t ts es n w = pointed t ts es n w.next (callee ts e n w)
+by_pointer (Some object) e t ts es n w = w
 
 module _ (types : Table) where
   abbrev pub piece_step : Core-F Piece Piece → Piece
@@ -148,7 +165,8 @@ module _ (types : Table) where
       record { locals = λ l. in_all es (in_maybe object (l ++ ts)); value = by_call name t ts object es }
   piece_step (Core-F.VirtualCall at m t e es) = record { locals = λ l. in_all es (e.locals (l ++ parameters_at types t)); value = silent }
   piece_step (Core-F.PointerCall at object e t es) =
-      record { locals = λ l. in_all es (e.locals (in_maybe object (l ++ parameters_at types t))); value = silent }
+      let ts = parameters_at types t in
+      record { locals = λ l. in_all es (e.locals (in_maybe object (l ++ ts))); value = by_pointer object e t ts es }
   piece_step (Core-F.New at t e) = record { locals = e.locals; value = silent }
   piece_step (Core-F.NewArray at t a b) = record { locals = in_two a b; value = silent }
   piece_step (Core-F.Delete at t e) = record { locals = e.locals; value = silent }

@@ -6,8 +6,6 @@
 mod changes;
 mod function_types;
 mod locals;
-#[cfg(test)]
-mod tests;
 mod values;
 mod writing;
 

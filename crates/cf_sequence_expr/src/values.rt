@@ -225,13 +225,26 @@ pub fn value(unit: &CoreUnit, e: &Core, n: u32, w: &mut Writing) -> Result<(), M
             None => called(unit, arguments.as_slice(), function, *ty, n, w),
             Some(_) => Ok(()),
         },
+        Core::PointerCall {
+            object,
+            pointer,
+            ty,
+            arguments,
+            ..
+        } => match object {
+            None => {
+                let local = callee(unit, pointer.get(), *ty, n, w)?;
+                pointed(unit, arguments.as_slice(), *ty, n, local, w)
+            }
+            Some(_) => Ok(()),
+        },
         Core::Bind {
             holder,
             operand,
             ..
         } => match holder {
             Holder::NoTemporary | Holder::StaticTemporary(_) => value(unit, operand.get(), n, w),
-            Holder::LocalTemporary { .. } => Ok(()),
+            Holder::LocalTemporary { local, ty } => held(unit, operand.get(), *local, *ty, n, w),
         },
         Core::This { .. }
         | Core::Member { .. }
@@ -244,7 +257,6 @@ pub fn value(unit: &CoreUnit, e: &Core, n: u32, w: &mut Writing) -> Result<(), M
         | Core::Assign { .. }
         | Core::Temporary { .. }
         | Core::VirtualCall { .. }
-        | Core::PointerCall { .. }
         | Core::New { .. }
         | Core::NewArray { .. }
         | Core::Delete { .. }
@@ -298,6 +310,31 @@ fn truth(unit: &CoreUnit, e: &Core, n: u32, w: &mut Writing) -> Result<(), Memor
     w.set(n, Action::Truth { operand: n })
 }
 
+/// Writes the temporary of a local reference, which is this local, and its place into this register (8.4.3).
+#[cycle(values)]
+#[tactic(auto, unfolding(crate::specs::Pieces::held))]
+fn held(
+    unit: &CoreUnit,
+    e: &Core,
+    local: u32,
+    ty: TyId,
+    n: u32,
+    w: &mut Writing,
+) -> Result<(), Memory>
+    requires { are_known (tables_of unit.now) e.now ≡ true }
+    ensures { OnOk result (w.new ≡ spec.held local ty (piece unit.now.types e.now) n w.old) }
+{
+    let object = behind(n)?;
+    let first = behind(object)?;
+    w.set(object, Action::Declare { local, ty })?;
+    w.set(n, Action::Local { number: local })?;
+    value(unit, e, first, w)?;
+    w.act(Action::First {
+        place: object,
+        value: first,
+    })
+}
+
 /// Writes values in order, each into the same register (5.18).
 #[cycle(values)]
 fn all_values(unit: &CoreUnit, all: &[Core], n: u32, w: &mut Writing) -> Result<(), Memory>
@@ -339,6 +376,53 @@ fn called(
             function,
             ty,
             object: None,
+            arguments,
+            result: None,
+        },
+    )
+}
+
+/// Writes the value of a pointer to a function of this type, which is called, and gives the local that is its first parameter (5.2.2).
+#[cycle(values)]
+#[tactic(auto, unfolding(crate::specs::Pieces::callee))]
+fn callee(unit: &CoreUnit, pointer: &Core, ty: TyId, n: u32, w: &mut Writing) -> Result<u32, Memory>
+    requires known { are_known (tables_of unit.now) pointer.now ≡ true }
+    requires typed { ty < length unit.now.types.types }
+    ensures written { OnOk result (w.new ≡ spec.callee (parameters_at unit.now.types ty) (piece unit.now.types pointer.now) n w.old) }
+    ensures local { IfOk result (λ k. k ≡ w.old.next) }
+{
+    let first = w.next;
+    w.pass(parameters(unit, ty).len())?;
+    value(unit, pointer, n, w)?;
+    w.used(n)?;
+    Ok(first)
+}
+
+/// Writes a call of the function that the pointer in this register holds, for parameters that are the locals from the first on (5.2.2).
+#[cycle(values)]
+#[tactic(auto, unfolding(crate::specs::Pieces::pointed))]
+fn pointed(
+    unit: &CoreUnit,
+    given: &[Core],
+    ty: TyId,
+    n: u32,
+    first: u32,
+    w: &mut Writing,
+) -> Result<(), Memory>
+    requires known { all_of (tables_of unit.now) (map (are_known (tables_of unit.now)) given.now) ≡ true }
+    requires typed { ty < length unit.now.types.types }
+    ensures { OnOk result (w.new ≡ spec.pointed ty (parameters_at unit.now.types ty) (map (piece unit.now.types) given.now) n first w.old) }
+{
+    let types = parameters(unit, ty);
+    let second = behind(n)?;
+    arguments(unit, given, types, second, first, w)?;
+    let arguments = numbers(w.alloc, first, types.len())?;
+    w.set(
+        n,
+        Action::PointerCall {
+            object: None,
+            pointer: n,
+            ty,
             arguments,
             result: None,
         },

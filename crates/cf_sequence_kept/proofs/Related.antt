@@ -1,19 +1,19 @@
 -- What a register holds for a node of an expression, by what the node is.
 use Rattle.std.proofs.Common.{◌≡◌, Bool, true, false, ◌&&◌, ◌||◌, if◌then◌else◌, refl, ap, ◌∙◌, subst}
-use Rattle.std.specs.Prelude.{ℤ, Option, Some, None, is_some}
+use Rattle.std.specs.Prelude.{ℕ, ℤ, Option, Some, None, is_some, slice_get}
 use Rattle.cf_base.specs.declared.kind.Kind.{Kind}
 use Rattle.cf_base.specs.declared.kind.Kind.TheVariants.{Int, ULong}
 use Rattle.cf_base.specs.declared.arith.Arith.{Arith}
 use Rattle.cf_base.specs.Integers.{fits}
 use Rattle.cf_base.proofs.Tests.{both, all_of}
 use Rattle.cf_types.specs.Operators.{is_shift}
-use Rattle.cf_core.specs.Types.{SourceType, void, integer, enumeration, class, pointer, reference, array, takes, gives, data_member, function_member, const, same_but_const, is_class}
-use Rattle.cf_core.specs.Core.{no_temporary}
+use Rattle.cf_core.specs.Types.{SourceType, void, integer, enumeration, class, pointer, reference, array, takes, gives, data_member, function_member, const, same_but_const, is_class, result}
+use Rattle.cf_core.specs.Core.{no_temporary, local_temporary}
 use Rattle.cf_core.specs.Places.{is_scalar}
 use Rattle.cf_core.specs.Typing.{Scope, Typing, no_typing, allowed, is_function, same_type, of_start, of_value, null_if, of_number, holds_number, of_place, of_name, of_result, is_integer, integral_type, scalar_type, is_condition, is_right_operand, or_else, either}
 use Rattle.cf_core.specs.Typing as typing
 use Rattle.cf_core.specs.Typed.{binds}
-use Rattle.cf_plain_kept.specs.Kept.{Kept, no_value, an_integer, a_place, a_member, value_of, suits, both_kept, named, integer_in, has_kind, right_has, tested, a_truth}
+use Rattle.cf_plain_kept.specs.Kept.{Kept, no_value, an_integer, a_place, a_member, value_of, suits, both_kept, named, integer_in, has_kind, right_has, given, pointed_call, tested, a_truth}
 use Rattle.cf_sequence.proofs.Calling.{never}
 use Rattle.cf_sequence.proofs.SameTypes.{same-itself}
 use Rattle.cf_sequence_kept.proofs.Suits.{same-turned, same-then, suits-same, own-suits, refers-too, scalar-tested, integer-kept, enumerator-kept, integer-tested}
@@ -135,6 +135,15 @@ of-bind scope x h r = record {
   start = bound-suits scope x h r;
   scalar = bound-scalar scope x;
 }
+
+-- the place of a temporary, whose type is the local's
+pub held-suits : (scope : Scope) (j : ℕ) (u : SourceType) (x : Typing) (t : SourceType) → binds scope (local_temporary j u) x t ≡ true
+    → (v : SourceType) → same_but_const v u ≡ true → suits t (a_place v) ≡ true
+held-suits scope j u x (reference t) ok v same =
+    let parts = both (same_but_const u t && same_type (slice_get scope.locals j) u) (x.start u) ok in
+    same-then v u t same (both (same_but_const u t) (same_type (slice_get scope.locals j) u) parts.0).0
+held-suits scope j u x (const t) ok v same = held-suits scope j u x t ok v same
+held-suits scope j u x t ok v same = never ok
 
 -- Operands.
 
@@ -290,3 +299,20 @@ module _ (x y : Typing) (h k : Kept) (r : Relates x h) (q : Relates y k) where
     start = λ t ok. let b = start-suits t ok in j.suits_both t b.0 b.1;
     scalar = λ t ok. (both (is_scalar t) (x.value t) (both (is_scalar t && x.value t) (y.value t) ok).0).0;
   }
+
+-- what is called through a pointer is a function of its type
+
+pub called-suits : (x : Typing) (h : Kept) → Relates x h → (t : SourceType) → (x.value (pointer t) || same_type x.place t) ≡ true → suits (pointer t) h ≡ true
+called-suits x h r t ok = either-true (x.value (pointer t)) (same_type x.place t) ok (r.value (pointer t)) (by x.place refl)
+  where
+    by : (o : Option SourceType) → x.place ≡ o → same_type o t ≡ true → suits (pointer t) h ≡ true
+    by None e ok = never ok
+    by (Some u) e ok = suits-same (pointer u) (pointer t) h ok (r.place u e)
+
+pub called-kept : (t : SourceType) (h : Kept) → suits (pointer t) h ≡ true → pointed_call t (Some h) ≡ Some (value_of (result t))
+called-kept t (a_place u) ok = ap (λ b. given b (value_of (result t))) ok
+called-kept t h ok = never ok
+
+pub called-tested : (t : SourceType) (h : Kept) → suits (pointer t) h ≡ true → tested (Some h) ≡ Some a_truth
+called-tested t (a_place u) ok = refl
+called-tested t h ok = never ok

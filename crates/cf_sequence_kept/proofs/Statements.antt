@@ -1,12 +1,13 @@
 -- Statements: each register is set before it is used, and holds there what is taken.
-use Rattle.std.proofs.Common.{◌≡◌, ℕ, ◌+◌, ◌<◌, Bool, true, false, ◌&&◌, not, nat_le, if◌then◌else◌, List, [], ◌∷◌, ◌++◌, reverse, refl, ap, ◌∙◌, arith}
+use Rattle.std.proofs.Common.{◌≡◌, ℕ, suc, ◌+◌, ◌<◌, Bool, true, false, ◌&&◌, ◌||◌, not, nat_le, nat_lt, if◌then◌else◌, List, [], ◌∷◌, ◌++◌, reverse, refl, ap, ◌∙◌, arith}
 use Rattle.std.specs.Prelude.{Option, Some, None, is_some, slice_get}
 use Rattle.cf_base.proofs.Tests.{both, all_of}
 use Rattle.cf_core.specs.declared.operators.LoopForm.{LoopForm}
 use Rattle.cf_core.specs.declared.operators.LoopForm.TheVariants as form
-use Rattle.cf_core.specs.Types.{SourceType, is_class}
+use Rattle.cf_core.specs.Types.{SourceType, same_but_const, is_class}
+use Rattle.cf_core.specs.Places.{is_reference}
 use Rattle.cf_core.specs.Core as core
-use Rattle.cf_core.specs.Core.{Core, Cores, MaybeCore, none, absent, given as some_core}
+use Rattle.cf_core.specs.Core.{Core, Cores, MaybeCore, local_temporary, none, absent, given as some_core}
 use Rattle.cf_core.specs.Joined.{is_nothing}
 use Rattle.cf_core.specs.Typing.{Scope, Typing, is_integer, is_expression, same_type}
 use Rattle.cf_core.specs.Typing as typed
@@ -16,21 +17,21 @@ use Rattle.cf_core.specs.Valid.{Body, is_complete, fits, all_fit, fits_maybe, la
 use Rattle.cf_plain.specs.Plain.{Register, Plain, Plains, act, set, branch, loop, switch, leave, continue, give, nothing, more}
 use Rattle.cf_plain.specs.Plain as plain
 use Rattle.cf_plain_kept.specs.Kept as kept
-use Rattle.cf_plain_kept.specs.Kept.{Kept, no_value, an_object, a_truth, Keeping, keep, nothing_set, common, tested, given, integer_in, suits, all_set, untouched, after, after_all}
-use Rattle.cf_sequence.specs.Built.{is_value, is_condition, is_start, is_filling, is_initial, declares_here, is_statement, is_inner_or, are_cases, are_statements, next_local}
+use Rattle.cf_plain_kept.specs.Kept.{Kept, no_value, a_place, an_object, a_truth, Keeping, keep, nothing_set, common, tested, given, integer_in, suits, all_set, untouched, after, after_all}
+use Rattle.cf_sequence.specs.Built.{is_value, is_condition, is_start, is_filling, is_initial, is_held, declares_here, is_statement, is_inner_or, are_cases, are_statements, next_local}
 use Rattle.cf_sequence.specs.Made.{Local, width, width_maybe, declared, declared_all}
 use Rattle.cf_sequence.specs.Expressions.{Full, Destination, destination, value, whole, settled, finished, used}
 use Rattle.cf_sequence.specs.Statements.{Inside, declares, opened, in_loop, in_switch, held, stepped, started, made, passing, passes_local, passed, looping, statement, statement_or, statements}
 use Rattle.cf_sequence.proofs.Calling.{never}
 use Rattle.cf_sequence.proofs.Filling.{fill, started-is}
-use Rattle.cf_sequence.proofs.Fulls.{whole-is, nothing-is}
+use Rattle.cf_sequence.proofs.Fulls.{whole-is, nothing-is, held_at, held-code}
 use Rattle.cf_sequence.proofs.Labels.{passing-past}
-use Rattle.cf_sequence_kept.proofs.Suits.{scalar-tested, integer-tested}
-use Rattle.cf_sequence_kept.proofs.Related.{conditions-kept, integers-kept}
-use Rattle.cf_sequence_kept.proofs.Values.{keep-at, runs, set-runs, act-runs, Keeps, use-runs}
+use Rattle.cf_sequence_kept.proofs.Suits.{scalar-tested, integer-tested, reference-same, names-place}
+use Rattle.cf_sequence_kept.proofs.Related.{conditions-kept, integers-kept, held-suits}
+use Rattle.cf_sequence_kept.proofs.Values.{keep-at, keep-below, keep-above, runs, set-runs, act-runs, Keeps, use-runs}
 use Rattle.cf_sequence_kept.proofs.Expressions.{truth-of}
 use Rattle.cf_sequence_kept.proofs.Whole.{keeps-value, settled-put}
-use Rattle.cf_sequence_valid.proofs.Serves.{Serves, as_start, either-true, integers-serve, conditions-serve, expressions-serve}
+use Rattle.cf_sequence_valid.proofs.Serves.{Serves, as_start, bound-parts, either-true, integers-serve, conditions-serve, expressions-serve}
 use Rattle.cf_sequence_valid.proofs.Values as locals_of
 
 module _ (body : Body) (locals : List SourceType) (keeps : locals_of.Kept body.scope locals) where
@@ -80,6 +81,19 @@ module _ (body : Body) (locals : List SourceType) (keeps : locals_of.Kept body.s
   runs-fill (core.string bytes) ok i t g at = record { now = g; goes = λ rest. act-runs locals body.result g (plain.bytes 0 bytes) no_value rest (ap kept.filled at) }
   runs-fill e ok i t g at = never ok
 
+  -- the local of a temporary has a type of its own, the same but for const
+  record HeldLocal (j : ℕ) (u : SourceType) : Type 0 where
+    type : SourceType
+    same : same_but_const type u ≡ true
+    named : kept.named (slice_get locals j) ≡ Some (a_place type)
+
+  held-local : (j : ℕ) (u : SourceType) → same_type (slice_get scope.locals j) u ≡ true → not (is_reference u) ≡ true → HeldLocal j u
+  held-local j u same no_reference = by (slice_get scope.locals j) refl same
+    where
+      by : (o : Option SourceType) → slice_get scope.locals j ≡ o → same_type o u ≡ true → HeldLocal j u
+      by None e same = never same
+      by (Some v) e same = record { type = v; same = same; named = ap kept.named (keeps.kept j v e) ∙ names-place v (ap not (reference-same v u same) ∙ no_reference) }
+
   runs-started : (f : Inside) (i : ℕ) (t : SourceType) (e : Core) → is_initial e ≡ true → (is_value e ≡ true → (typing scope e).start t ≡ true) → (k : ℕ) (g : Keeping)
       → g 0 ≡ Some (an_object i t) → Runs g (started f.classes t e 0 k)
   runs-started f i t e ok s k g at =
@@ -99,6 +113,47 @@ module _ (body : Body) (locals : List SourceType) (keeps : locals_of.Kept body.s
             ∙ act-runs locals body.result p.now (plain.first 0 (1 + width e)) no_value rest
             (ap (λ o. kept.begun o (p.now (1 + width e))) (p.below 0 low ∙ at) ∙ ap (kept.begun (Some (an_object i t))) p.at ∙ ap (λ b. given b no_value) (p.related.start t (s is)));
       }))
+
+  -- a reference's temporary: its place is in the register behind
+  runs-held : (f : Inside) (i : ℕ) (t : SourceType) (e : Core) → is_held i e ≡ true → (typing scope e).start t ≡ true → (k : ℕ) (g : Keeping)
+      → g 0 ≡ Some (an_object i t) → Runs g (started f.classes t e 0 k)
+  runs-held f i t (core.bind (local_temporary j u) e) ok fit k g at =
+      let value_parts = both (not (is_reference u)) (is_value e) (both (nat_lt i j) (not (is_reference u) && is_value e) ok).1 in
+      let is : is_value e ≡ true = value_parts.1 in
+      let parts = bound-parts scope j u (typing scope e) t fit in
+      let own = held-local j u parts.0 value_parts.0 in
+      let n : Register = held_at e 0 in
+      let x : Full = record { first = k; base = 1 } in
+      let g1 : Keeping = keep g (suc n) (an_object j u) in
+      let g2 : Keeping = keep g1 n (a_place own.type) in
+      let p = valued f e is (as_start u parts.1) x (destination (suc n) u) (suc (suc n)) k g2 in
+      let object : p.now (suc n) ≡ Some (an_object j u) =
+      p.below (suc n) (omega arith) ∙ keep-above g1 n (suc n) (a_place own.type) (omega arith) ∙ keep-at g (suc n) (an_object j u) in
+      let place : p.now n ≡ Some (a_place own.type) = p.below n (omega arith) ∙ keep-at g1 n (a_place own.type) in
+      let first : p.now 0 ≡ Some (an_object i t) =
+      p.below 0 (omega arith) ∙ keep-below g1 n 0 (a_place own.type) (omega arith) ∙ keep-below g (suc n) 0 (an_object j u) (omega arith) ∙ at in
+      record {
+        now = p.now;
+        goes = λ rest.
+            let last : Plains = more (act (plain.first 0 n)) rest in
+            let inner : Plains = value f.classes x e (destination (suc n) u) (suc (suc n)) k (settled e (suc n) (suc (suc n)) last) in
+            ap (λ ss. run ss g) (held-code f.classes t j u e is 0 k rest)
+            ∙ set-runs locals body.result g (suc n) (plain.declare j u) (an_object j u) (more (set n (plain.local j)) inner) refl
+            ∙ set-runs locals body.result g1 n (plain.local j) (a_place own.type) inner own.named
+            ∙ p.goes (settled e (suc n) (suc (suc n)) last)
+            ∙ ap (λ ss. run ss p.now) (settled-put e is (suc n) (suc (suc n)) last)
+            ∙ act-runs locals body.result p.now (plain.first (suc n) (suc (suc n))) no_value last
+            (ap (λ o. kept.begun o (p.now (suc (suc n)))) object ∙ ap (kept.begun (Some (an_object j u))) p.at ∙ ap (λ b. given b no_value) (p.related.start u parts.1))
+            ∙ act-runs locals body.result p.now (plain.first 0 n) no_value rest
+            (ap (λ o. kept.begun o (p.now n)) first ∙ ap (kept.begun (Some (an_object i t))) place
+            ∙ ap (λ b. given b no_value) (held-suits scope j u (typing scope e) t fit own.type own.same));
+      }
+  runs-held f i t e ok fit k g at = never ok
+
+  runs-initial : (f : Inside) (i : ℕ) (t : SourceType) (e : Core) → (is_initial e || is_held i e) ≡ true → (typing scope e).start t ≡ true → (k : ℕ) (g : Keeping)
+      → g 0 ≡ Some (an_object i t) → Runs g (started f.classes t e 0 k)
+  runs-initial f i t e ok fit k g at =
+      either-true (is_initial e) (is_held i e) ok (λ initial. runs-started f i t e initial (λ v. fit) k g at) (λ held. runs-held f i t e held fit k g at)
 
   -- a condition, 1 or 0 in its register
   pub record Tested (f : Inside) (q : Core) (k : ℕ) (g : Keeping) : Type 0 where
@@ -271,10 +326,10 @@ module _ (body : Body) (locals : List SourceType) (keeps : locals_of.Kept body.s
         runs-then (statements (opened f) es k) (finished (declared_all es)) g q (runs-finished (declared_all es) q.now)
     runs-statement (core.sequence es) m b c ok is f sr k g = runs-statements es m b c ok is f sr k g
     runs-statement (core.declare i t e) m b c ok is f sr k g =
-        let start = (both (nat_le m i) (is_initial e) ok).1 in
+        let start = (both (nat_le m i) (is_initial e || is_held i e) ok).1 in
         let parts = both (nat_le body.parameters i && same_type (slice_get scope.locals i) t && is_complete scope.classes t) ((typing scope e).start t) is in
         let first : Keeping = keep g 0 (an_object i t) in
-        let q = runs-started f i t e start (λ v. parts.1) k first (keep-at g 0 (an_object i t)) in
+        let q = runs-initial f i t e start parts.1 k first (keep-at g 0 (an_object i t)) in
         record { now = q.now; goes = λ rest. set-runs locals body.result g 0 (plain.declare i t) (an_object i t) (started f.classes t e 0 k rest) refl ∙ q.goes rest }
     runs-statement (core.branch q a o) m b c ok is f sr k g =
         let forms = both (is_value q) ((not (declares_here a) && is_statement m a) && is_inner_or m o) ok in

@@ -1,15 +1,15 @@
 -- What registers hold as values of types.
 use Rattle.std.proofs.Common.{◌≡◌, ℕ, Bool, true, false, refl, sym, ap, ◌∙◌, arith}
-use Rattle.std.specs.Prelude.{Some, ◌==◌}
+use Rattle.std.specs.Prelude.{Some, ◌==◌, not}
 use Rattle.std.proofs.lemmas.Bool.Decides.{nat_tests}
 use Rattle.cf_base.specs.declared.kind.Kind.{Kind}
 use Rattle.cf_base.specs.declared.kind.Kind.TheVariants.{Char, SChar, UChar, Short, UShort, Int, UInt, Long, ULong}
 use Rattle.cf_base.proofs.Tests.{both, same_bytes}
 use Rattle.std.specs.Str.{bytes_eq}
 use Rattle.cf_core.specs.Types.{SourceType, void, integer, enumeration, class, pointer, reference, array, takes, gives, data_member, function_member, const, kind_number, bool_eq, type_eq, same_but_const, without_const, plain, is_void}
-use Rattle.cf_core.specs.Places.{is_scalar}
+use Rattle.cf_core.specs.Places.{is_scalar, is_reference}
 use Rattle.cf_core.specs.Typing.{is_function}
-use Rattle.cf_plain_kept.specs.Kept.{Kept, no_value, an_integer, a_place, a_member, an_object, within, kept_of, value_of, suits, integer_in, tested, a_truth, decayed}
+use Rattle.cf_plain_kept.specs.Kept.{Kept, no_value, an_integer, a_place, a_member, an_object, within, kept_of, value_of, suits, integer_in, tested, a_truth, decayed, named}
 use Rattle.cf_sequence.proofs.Calling.{never}
 use Rattle.cf_sequence.proofs.SameTypes.{type-same, same-itself}
 
@@ -216,3 +216,17 @@ function-decays (gives s c) t ok e = record { to = gives s c; is = refl; same = 
 function-decays u (takes p t) ok e = never e
 function-decays u (gives t c) ok e = never e
 function-decays u t ok e = never ok
+
+-- References.
+
+reference-bare : (t : SourceType) → is_reference (without_const t) ≡ is_reference t
+reference-bare (const t) = reference-bare t
+reference-bare t = refl
+
+pub reference-same : (t u : SourceType) → same_but_const t u ≡ true → is_reference t ≡ is_reference u
+reference-same t u e = sym (reference-bare t) ∙ ap is_reference (bare-is t u e) ∙ reference-bare u
+
+-- a name of another type stands for a place of that type
+pub names-place : (t : SourceType) → not (is_reference t) ≡ true → named (Some t) ≡ Some (a_place t)
+names-place (reference t) ok = never ok
+names-place t ok = refl

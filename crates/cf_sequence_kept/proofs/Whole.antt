@@ -1,5 +1,5 @@
 -- Every expression: each register is set before it is used, and holds there what is taken.
-use Rattle.std.proofs.Common.{◌≡◌, ℕ, suc, ◌+◌, ◌<◌, Bool, true, false, ◌&&◌, not, if◌then◌else◌, List, [], ◌∷◌, length, refl, ap, ◌∙◌, arith}
+use Rattle.std.proofs.Common.{◌≡◌, ℕ, suc, ◌+◌, ◌<◌, Bool, true, false, ◌&&◌, ◌||◌, not, if◌then◌else◌, List, [], ◌∷◌, length, refl, ap, ◌∙◌, arith}
 use Rattle.std.specs.Prelude.{Option, Some, None}
 use Rattle.cf_base.specs.declared.kind.Kind.TheVariants.{Char, Int}
 use Rattle.cf_base.specs.Integers.{fits}
@@ -8,22 +8,22 @@ use Rattle.cf_core.specs.Types.{SourceType, integer, pointer, array, plain as un
 use Rattle.cf_core.specs.Classes.{Class}
 use Rattle.cf_core.specs.Core as core
 use Rattle.cf_core.specs.Core.{Core, Cores, no_temporary, none, absent}
-use Rattle.cf_core.specs.Typing.{Scope, is_function, of_value, of_place, of_result, is_condition, is_expression, is_right_operand, pointed, either, converts}
+use Rattle.cf_core.specs.Typing.{Scope, is_function, same_type, of_value, of_place, of_result, is_condition, is_expression, is_right_operand, pointed, either, converts}
 use Rattle.cf_core.specs.Typed.{typing, typings, last_typing, typing_maybe, fit, on_object, read_type, pointed_place, address_type, decayed_type, stepped, void_pointer}
 use Rattle.cf_plain.specs.Plain.{Register, Plains, act, set, more}
 use Rattle.cf_plain.specs.Plain as plain
 use Rattle.cf_plain_kept.specs.Kept as kept
-use Rattle.cf_plain_kept.specs.Kept.{Kept, no_value, an_integer, a_place, an_object, Keeping, keep, value_of, suits, given, kept_by}
+use Rattle.cf_plain_kept.specs.Kept.{Kept, no_value, an_integer, a_place, an_object, Keeping, keep, value_of, suits, given, pointed_call, kept_by}
 use Rattle.cf_sequence.specs.Built.{is_value, are_values, are_arguments, is_chain}
 use Rattle.cf_sequence.specs.Made.{width, numbers}
 use Rattle.cf_sequence.specs.Expressions.{Full, Destination, destination, value, values, arguments, settled, builds, result_register}
 use Rattle.cf_sequence.proofs.Calling.{never}
 use Rattle.cf_sequence.proofs.SameTypes.{same-itself}
-use Rattle.cf_sequence_kept.proofs.Related.{of-number, of-place, of-name, of-result, of-allowed, of-bind}
-use Rattle.cf_sequence_kept.proofs.Values.{keep-at, keep-below, runs, set-runs, act-runs, Keeps, leaf, named-keeps, read-keeps, address-keeps, dereference-keeps, decay-keeps, from-void-keeps}
+use Rattle.cf_sequence_kept.proofs.Related.{of-number, of-place, of-name, of-result, of-allowed, of-bind, called-suits, called-kept, called-tested}
+use Rattle.cf_sequence_kept.proofs.Values.{keep-at, keep-below, runs, set-runs, act-runs, use-runs, Keeps, leaf, named-keeps, read-keeps, address-keeps, dereference-keeps, decay-keeps, from-void-keeps}
 use Rattle.cf_sequence_kept.proofs.Expressions.{and-keeps, or-keeps, conditional-keeps, index-keeps, pointers-keep, operate-keeps, convert-keeps, unary-keeps, not-keeps, store-keeps}
 use Rattle.cf_sequence_kept.proofs.Steps.{update-keeps, prefix-keeps, postfix-keeps}
-use Rattle.cf_sequence_valid.proofs.Serves.{Serves, as_value, as_start, allowed-is, allowed-serves, by-place, by-type, by-pointed, conditions-serve, expressions-serve, right-serves, index-serves, pointer-serves, either-serves, store-serves, update-serves, converts-serve, bind-serves}
+use Rattle.cf_sequence_valid.proofs.Serves.{Serves, as_value, as_start, allowed-is, allowed-serves, by-place, by-type, by-pointed, conditions-serve, expressions-serve, right-serves, index-serves, pointer-serves, either-serves, store-serves, update-serves, converts-serve, bind-serves, called-serves}
 use Rattle.cf_sequence_valid.proofs.Values as locals_of
 
 negated : (b : Bool) → not b ≡ true → b ≡ false
@@ -40,7 +40,8 @@ value-put (core.copy t e args) ok = never ok
 value-put (core.each e) ok = never ok
 value-put (core.list es rest) ok = never ok
 value-put (core.virtual_call f t e args) ok = never ok
-value-put (core.pointer_call object e t args) ok = never ok
+value-put (core.pointer_call absent e t args) ok = negated (is_class (result t)) (both (not (is_class (result t))) (is_chain t && (is_value e && are_arguments args)) ok).0
+value-put (core.pointer_call (core.given o) e t args) ok = never ok
 value-put (core.call name t absent args) ok = negated (is_class (result t)) (both (not (is_class (result t))) (is_chain t && are_arguments args) ok).0
 value-put (core.call name t (core.given e) args) ok = never ok
 value-put e ok = refl
@@ -152,6 +153,32 @@ module _ (locals : List SourceType) (R : SourceType) (classes : List Class) (sco
               let last : Plains = more (set n (plain.call name t None (numbers k (parameters t)) (result_register t into))) rest in
               act-runs locals R g (plain.function name t) (a_place t) (arguments classes x (parameters t) args n k (k + length (parameters t) + 0) last) refl ∙ p.goes last
               ∙ set-runs locals R p.now n (plain.call name t None (numbers k (parameters t)) (result_register t into)) (value_of (result t)) rest call_is;
+        }
+    keeps-value (core.pointer_call absent e t args) ok s x into n k g =
+        let forms = both (not (is_class (result t))) (is_chain t && (is_value e && are_arguments args)) ok in
+        let parts = both (is_value e) (are_arguments args) (both (is_chain t) (is_value e && are_arguments args) forms.1).1 in
+        let scalar = negated (is_class (result t)) forms.0 in
+        let called = (typing scope e).value (pointer t) || same_type (typing scope e).place t in
+        let good = allowed-is (called && fit scope (parameters t) (typings scope args)) (of_result (result t)) s in
+        let fits_all = both called (fit scope (parameters t) (typings scope args)) good in
+        let l : ℕ = k + length (parameters t) + 0 in
+        let p = keeps-value e parts.0 (called-serves t (typing scope e) fits_all.0) x None n l g in
+        let holds = called-suits (typing scope e) p.kept p.related t fits_all.0 in
+        let q = passes-arguments (parameters t) args parts.1 fits_all.1 x (suc n) k (l + width e) p.now in
+        let call = plain.pointer_call None n t (numbers k (parameters t)) (result_register t into) in
+        let call_is : kept_by locals R q.now call ≡ Some (value_of (result t)) =
+        ap (λ o. kept_by locals R q.now (plain.pointer_call None n t (numbers k (parameters t)) o)) (no-result t into scalar)
+        ∙ ap (pointed_call t) (q.below n (omega arith) ∙ p.at) ∙ called-kept t p.kept holds in
+        record {
+          kept = value_of (result t);
+          now = keep q.now n (value_of (result t));
+          related = of-allowed (called && fit scope (parameters t) (typings scope args)) (of_result (result t)) (value_of (result t)) good (of-result (result t) scalar);
+          at = keep-at q.now n (value_of (result t));
+          below = λ r lt. keep-below q.now n r (value_of (result t)) lt ∙ q.below r (omega arith) ∙ p.below r lt;
+          goes = λ rest.
+              let last : Plains = more (set n call) rest in
+              use-runs locals R (value classes x e None n l) p (called-tested t p.kept holds) (arguments classes x (parameters t) args (suc n) k (l + width e) last) ∙ q.goes last
+              ∙ set-runs locals R q.now n call (value_of (result t)) rest call_is;
         }
     keeps-value e ok s x into n k g = never ok
 

@@ -24,6 +24,16 @@ behind_flags n p = n + length (p.locals [])
 unfoldable pub opened : ℕ → ℕ → Body → Body
 opened i t b = record b { scope = b.scope ++ record { number = i; ty = t } ∷ [] }
 
+-- that of a reference's temporary is there too, if there is one (8.4.3)
+unfoldable pub held_too : Option Open → Body → Body
+held_too None b = b
+held_too (Some x) b = opened x.number x.ty b
+
+-- the locals so far, and that of a reference's temporary
+abbrev pub with_held : Option Open → List Open → List Open
+with_held None xs = xs
+with_held (Some x) xs = xs ++ x ∷ []
+
 -- locals end, the newest first (6.6)
 abbrev pub ended : List Open → Writing → Writing
 ended [] w = w
@@ -68,9 +78,9 @@ started does_nothing p w = w
 started (fills a) p w = act a w
 started gives p w = act (action.First 0 (behind_flags 1 p)) (p.value (behind_flags 1 p) w)
 
--- a local with its initialiser (6.7)
-unfoldable pub declared : ℕ → ℕ → Initial → Piece → Body → Body
-declared i t initial p b = opened i t (on (λ w. started initial p (set 0 (action.Declare i t) w)) b)
+-- a local with its initialiser, behind the temporary that it binds (6.7, 8.4.3)
+unfoldable pub declared : ℕ → ℕ → Initial → Option Open → Piece → Body → Body
+declared i t initial held p b = opened i t (held_too held (on (λ w. started initial p (set 0 (action.Declare i t) w)) b))
 
 -- A static object with its initialiser, if it has one: control reaches it, and its place comes into register 0 (6.7, 8.4).
 unfoldable pub placed : List ℕ → ℕ → Initial → Piece → Writing → Writing

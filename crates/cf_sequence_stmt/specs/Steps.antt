@@ -7,6 +7,8 @@ use Rattle.cf_core.specs.declared.node.Core.{Core as Node, fold-Core}
 use Rattle.cf_core.specs.declared.node.Core.TheOpen.{Core-F}
 use Rattle.cf_core.specs.declared.node.Core.TheFolds.{map-Core}
 use Rattle.cf_core.specs.declared.node.PartStart.{PartStart-F}
+use Rattle.cf_core.specs.declared.node.Holder.{Holder}
+use Rattle.cf_core.specs.declared.node.Holder.TheVariants as holder
 use Rattle.cf_plain.specs.declared.action.Action.TheVariants as action
 use Rattle.cf_plain.specs.declared.statement.Plain.{Plain}
 use Rattle.cf_plain.specs.declared.statement.Plain.TheVariants as plain
@@ -14,11 +16,12 @@ use Rattle.cf_sequence_expr.specs.Pieces.{Piece, piece_step}
 use Rattle.cf_sequence_stmt.specs.declared.body.Body.{Body}
 use Rattle.cf_sequence_stmt.specs.declared.body.Open.{Open}
 use Rattle.cf_sequence_stmt.specs.declared.body.Ways.{Ways}
-use Rattle.cf_sequence_stmt.specs.Bodies.{Initial, does_nothing, fills, gives, behind_flags, left_to, closed_to, full, given, tested, declared, stated, begun, chosen, turned, switched, with_code, passed_at}
+use Rattle.cf_sequence_stmt.specs.Bodies.{Initial, does_nothing, fills, gives, with_held, behind_flags, left_to, closed_to, full, given, tested, declared, stated, begun, chosen, turned, switched, with_code, passed_at}
 
 pub record Step : Type 0 where
   pub piece : Piece  -- as an expression
   pub initial : Initial  -- as an initialiser
+  pub held : Option Open  -- the local that is the temporary of the reference that it initialises
   -- as a statement, where `break` and `continue` leave the locals behind so many
   pub act : Ways → Body → Body
   pub label : Option Plain  -- as a label of a switch
@@ -122,7 +125,7 @@ abbrev pub act_step : Core-F Step Step → Ways → Body → Body
 act_step (Core-F.Full at e) ways b = full e.piece b
 act_step (Core-F.Block at ss) ways b = block ss ways b
 act_step (Core-F.Sequence at ss) ways b = in_order ss ways b
-act_step (Core-F.Declare at i t e) ways b = declared i t e.initial e.piece b
+act_step (Core-F.Declare at i t e) ways b = declared i t e.initial e.held e.piece b
 act_step (Core-F.If at c a s) ways b = choice c a s ways b
 act_step (Core-F.Loop at how c e s) ways b = loop how c e s b
 act_step (Core-F.Switch at e ss) ways b = selection e ss ways b
@@ -139,7 +142,7 @@ label_step (Core-F.Default at) = Some plain.Default
 label_step other = None
 
 abbrev pub opens_step : Core-F Step Step → List Open → List Open
-opens_step (Core-F.Declare at i t e) xs = xs ++ record { number = i; ty = t } ∷ []
+opens_step (Core-F.Declare at i t e) xs = with_held e.held xs ++ record { number = i; ty = t } ∷ []
 opens_step (Core-F.Sequence at ss) xs = all_open ss xs
 opens_step other xs = xs
 
@@ -149,11 +152,20 @@ initial_step (Core-F.Zeros at) = fills (action.Zeros 0)
 initial_step (Core-F.Characters at bytes) = fills (action.Characters 0 bytes)
 initial_step other = gives
 
+abbrev pub of_holder : Holder → Option Open
+of_holder (holder.LocalTemporary i t) = Some (record { number = i; ty = t })
+of_holder h = None
+
+abbrev pub held_step : Core-F Step Step → Option Open
+held_step (Core-F.Bind at h e) = of_holder h
+held_step other = None
+
 module _ (types : Table) where
   abbrev pub step_step : Core-F Step Step → Step
   step_step x = record {
     piece = piece_step types (map-Core _ _ _ _ Step.piece Step.piece x);
     initial = initial_step x;
+    held = held_step x;
     act = act_step x;
     label = label_step x;
     opens = opens_step x;

@@ -7,9 +7,9 @@ ghost use Rattle.cf_sequence_stmt.specs.Bodies as spec;
 ghost use Rattle.cf_types.specs.Table.{Table};
 ghost use Rattle.cf_sequence_stmt.specs.Steps.{step};
 
-use crate::body::Body;
+use crate::body::{Body, Open};
 use cf_base::Memory;
-use cf_core::{Core, CoreStatic, CoreUnit};
+use cf_core::{Core, CoreStatic, CoreUnit, Holder};
 use cf_plain::Action;
 use cf_sequence_expr::{Writing, beyond, copied, value, width};
 use cf_types::TyId;
@@ -105,14 +105,42 @@ fn started(unit: &CoreUnit, e: &Core, w: &mut Writing) -> Result<(), Memory>
     }
 }
 
+/// The local that is the temporary of the reference that this initialises, if there is one (8.4.3).
+pub fn held(e: &Core) -> Option<Open>
+    ensures { (types : Table) → result ≡ (step types e.now).held }
+{
+    match e {
+        Core::Bind {
+            holder: Holder::LocalTemporary { local, ty },
+            ..
+        } => Some(Open {
+            number: *local,
+            ty: *ty,
+        }),
+        _ => None,
+    }
+}
+
+/// It is there, behind those so far.
+#[tactic(auto, unfolding(crate::specs::Bodies::held_too))]
+fn hold(held: Option<Open>, b: &mut Body) -> Result<(), Memory>
+    ensures { OnOk result (b.new ≡ spec.held_too held b.old) }
+{
+    match held {
+        None => Ok(()),
+        Some(x) => b.declare(x.number, x.ty),
+    }
+}
+
 /// Writes the declaration of a local, with its initialiser (6.7).
 #[tactic(auto, unfolding(crate::specs::Bodies::declared))]
 pub fn declared(unit: &CoreUnit, e: &Core, local: u32, ty: TyId, b: &mut Body) -> Result<(), Memory>
     requires { are_known (tables_of unit.now) e.now ≡ true }
-    ensures { OnOk result (b.new ≡ spec.declared local ty (step unit.now.types e.now).initial (step unit.now.types e.now).piece b.old) }
+    ensures { OnOk result (b.new ≡ spec.declared local ty (step unit.now.types e.now).initial (step unit.now.types e.now).held (step unit.now.types e.now).piece b.old) }
 {
     b.writing.set(0, Action::Declare { local, ty })?;
     started(unit, e, &mut b.writing)?;
+    hold(held(e), b)?;
     b.declare(local, ty)
 }
 

@@ -1,11 +1,12 @@
 //! What the labels of a switch pass: a switch before it declares the locals that stand before each label, in order (6.7).
 
 ghost use Rattle.std.specs.Prelude.{◌≡◌, [], false, is_some, map, IfOk, OnOk};
-ghost use Rattle.cf_sequence_stmt.specs.Bodies.{there, passed_at};
+ghost use Rattle.cf_sequence_stmt.specs.Bodies.{there, passed_at, with_held};
 ghost use Rattle.cf_sequence_stmt.specs.Steps.{step};
 ghost use Rattle.cf_sequence_stmt.specs.Steps as spec;
 
 use crate::body::{Body, Open};
+use crate::expressions::held;
 use cf_base::{Items, Memory};
 use cf_core::{Core, CoreUnit};
 use cf_plain::{Action, Plain};
@@ -83,16 +84,34 @@ fn declare_all(locals: &[Open], w: &mut Writing) -> Result<(), Memory>
     }
 }
 
+/// Adds the local that is a reference's temporary, if there is one.
+fn hold_in(held: Option<Open>, locals: &mut Items<Open>) -> Result<(), Memory>
+    ensures { OnOk result (locals.new ≡ with_held held locals.old) }
+{
+    match held {
+        None => Ok(()),
+        Some(x) => locals.push(x),
+    }
+}
+
 /// Adds the locals that a statement declares in the scope at hand.
 #[cycle(declares)]
 fn declares(unit: &CoreUnit, s: &Core, locals: &mut Items<Open>) -> Result<(), Memory>
     ensures { OnOk result (locals.new ≡ (step unit.now.types s.now).opens locals.old) }
 {
     match s {
-        Core::Declare { local, ty, .. } => locals.push(Open {
-            number: *local,
-            ty: *ty,
-        }),
+        Core::Declare {
+            local,
+            ty,
+            start,
+            ..
+        } => {
+            hold_in(held(start.get()), locals)?;
+            locals.push(Open {
+                number: *local,
+                ty: *ty,
+            })
+        }
         Core::Sequence { statements, .. } => all_declare(unit, statements.as_slice(), locals),
         _ => Ok(()),
     }

@@ -10,7 +10,7 @@ use Rattle.cf_core.specs.Core as core
 use Rattle.cf_core.specs.Core.{Core, Cores, Change, no_temporary, none, absent}
 use Rattle.cf_core.specs.Places.{is_scalar}
 use Rattle.cf_core.specs.Typing.{Scope, Typing, no_typing, allowed, is_function, of_value, null_if, is_zero, of_number, holds_number, of_place, of_name, of_result, is_integer, is_condition, is_expression, pointed, points_to_object, is_right_operand, operated_type, pointers_alike, may_be_equal, pointer_operated, changes, either, converts}
-use Rattle.cf_core.specs.Typed.{typing, typings, last_typing, typing_maybe, binds, fit, on_object, read_type, pointed_place, address_type, decayed_type, stored, changed_in_place, stepped, void_pointer}
+use Rattle.cf_core.specs.Typed.{typing, typings, last_typing, typing_maybe, binds, fit, is_called, on_object, read_type, pointed_place, address_type, decayed_type, stored, changed_in_place, stepped, void_pointer}
 use Rattle.cf_core.specs.Valid.{is_complete}
 use Rattle.cf_sequence.specs.Built.{is_value, are_values, are_arguments, is_chain}
 use Rattle.cf_sequence.proofs.Calling.{never}
@@ -162,6 +162,13 @@ module _ (classes : List Class) where
       expression-starts (core.call name t absent args) ok =
           let plain-result = (both (not (is_class (result t))) (is_chain t && are_arguments args) ok).0 in
           allowed-starts (is_function t && on_object scope (typing_maybe scope absent) && fit scope (parameters t) (typings scope args)) (of_result (result t)) (result-starts (result t) (negated (is_class (result t)) plain-result))
+        where
+          negated : (b : Bool) → not b ≡ true → b ≡ false
+          negated true e = never e
+          negated false e = refl
+      expression-starts (core.pointer_call absent e t args) ok =
+          let plain-result = (both (not (is_class (result t))) (is_chain t && (is_value e && are_arguments args)) ok).0 in
+          allowed-starts (is_called scope (typing_maybe scope absent) (typing scope e) t && fit scope (parameters t) (typings scope args)) (of_result (result t)) (result-starts (result t) (negated (is_class (result t)) plain-result))
         where
           negated : (b : Bool) → not b ≡ true → b ≡ false
           negated true e = never e

@@ -1,6 +1,6 @@
 -- What a valid node is used for tells that its parts are valid: they are places, values, constants or initialisers.
 use Rattle.std.proofs.Common.{◌≡◌, Bool, true, false, ◌&&◌, ◌||◌, not, if◌then◌else◌, refl, sym, subst, ◌∙◌}
-use Rattle.std.specs.Prelude.{ℤ, Option, Some, None, is_some}
+use Rattle.std.specs.Prelude.{ℕ, ℤ, Option, Some, None, is_some, slice_get}
 use Rattle.cf_base.specs.declared.kind.Kind.{Kind}
 use Rattle.cf_base.specs.declared.kind.Kind.TheVariants.{Int, ULong}
 use Rattle.cf_base.specs.declared.arith.Arith.{Arith}
@@ -9,7 +9,7 @@ use Rattle.cf_types.specs.Operators.{is_shift}
 use Rattle.cf_core.specs.declared.operators.PointerOperator.{PointerOperator}
 use Rattle.cf_core.specs.declared.operators.PointerOperator.TheVariants as ptr
 use Rattle.cf_core.specs.Types.{SourceType, void, integer, enumeration, pointer, reference, data_member, function_member, const, same_but_const, is_void}
-use Rattle.cf_core.specs.Core.{Change, arithmetic, moved, no_temporary}
+use Rattle.cf_core.specs.Core.{Change, arithmetic, moved, no_temporary, local_temporary}
 use Rattle.cf_core.specs.Places.{is_scalar}
 use Rattle.cf_core.specs.Typing.{Scope, Typing, no_typing, allowed, is_function, is_integral, same_type, of_start, of_value, of_name, is_integer, integral_type, scalar_type, compares_with_null, is_condition, is_expression, is_zero, pointed, points_to_object, is_right_operand, pointers_alike, may_be_equal, pointer_operated, changes, either, or_else, to_pointer, converts}
 use Rattle.cf_core.specs.Typing as typing
@@ -241,3 +241,20 @@ bind-serves scope x (of_type t e) = absurd (cc)
 bind-serves scope x (as_number z e) = absurd (cc)
 bind-serves scope x (as_value t e) = never e
 bind-serves scope x (as_start t e) = bound-serves scope x t e
+
+-- what is called through a pointer
+pub called-serves : (t : SourceType) (x : Typing) → (x.value (pointer t) || same_type x.place t) ≡ true → Serves x
+called-serves t x ok = either-true (x.value (pointer t)) (same_type x.place t) ok (as_value (pointer t)) (by x.place refl)
+  where
+    by : (o : Option SourceType) → x.place ≡ o → same_type o t ≡ true → Serves x
+    by None e ok = never ok
+    by (Some u) e ok = as_place u e
+
+-- what a local reference binds that is no place: the local of the temporary has its type, and the value starts it
+pub bound-parts : (scope : Scope) (j : ℕ) (u : SourceType) (x : Typing) (t : SourceType) → binds scope (local_temporary j u) x t ≡ true
+    → (same_type (slice_get scope.locals j) u ≡ true) × (x.start u ≡ true)
+bound-parts scope j u x (reference t) fit =
+    let parts = both (same_but_const u t && same_type (slice_get scope.locals j) u) (x.start u) fit in
+    ((both (same_but_const u t) (same_type (slice_get scope.locals j) u) parts.0).1, parts.1)
+bound-parts scope j u x (const t) fit = bound-parts scope j u x t fit
+bound-parts scope j u x t fit = never fit

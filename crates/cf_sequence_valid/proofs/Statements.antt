@@ -1,13 +1,16 @@
 -- Statements: the plain statements of a valid one are valid, and the locals that it adds have complete types.
-use Rattle.std.proofs.Common.{◌≡◌, ℕ, ◌+◌, Bool, true, false, ◌&&◌, ◌||◌, not, nat_le, if◌then◌else◌, List, [], ◌∷◌, ◌++◌, length, refl, sym, ap, ◌∙◌, subst, suc}
+use Rattle.std.proofs.Common.{◌≡◌, ℕ, ◌+◌, Bool, true, false, ◌&&◌, ◌||◌, not, nat_le, nat_lt, if◌then◌else◌, List, [], ◌∷◌, ◌++◌, length, refl, sym, ap, ◌∙◌, subst, suc}
 use Rattle.std.specs.Prelude.{ℤ, int_le, Option, Some, None, slice_get}
 use Rattle.std.specs.List.{list_all}
+use Rattle.std.proofs.lemmas.Option.{slice_get_within}
+use Rattle.std.proofs.lemmas.Bool.{lt-ltb}
 use Rattle.cf_base.proofs.Tests.{both, all_of}
 use Rattle.cf_core.specs.declared.operators.LoopForm.{LoopForm}
 use Rattle.cf_core.specs.declared.operators.LoopForm.TheVariants as form
 use Rattle.cf_core.specs.Types.{SourceType, is_class}
 use Rattle.cf_core.specs.Core as core
-use Rattle.cf_core.specs.Core.{Core, Cores, MaybeCore, none, absent, given}
+use Rattle.cf_core.specs.Core.{Core, Cores, MaybeCore, local_temporary, none, absent, given}
+use Rattle.cf_core.specs.Places.{is_reference}
 use Rattle.cf_core.specs.Joined.{is_nothing}
 use Rattle.cf_core.specs.Nodes.{nodes, nodes_all, nodes_maybe}
 use Rattle.cf_core.specs.Typing.{Scope, Typing, is_integer, is_expression, same_type}
@@ -21,16 +24,16 @@ use Rattle.cf_plain.specs.Plain as plain
 use Rattle.cf_plain.specs.Running.{has_case}
 use Rattle.cf_plain.specs.Valid as checks
 use Rattle.cf_plain.specs.Valid.{is_of}
-use Rattle.cf_sequence.specs.Built.{is_value, is_condition, is_start, is_filling, is_initial, declares_here, is_statement, is_inner_or, are_cases, are_statements, next_local}
+use Rattle.cf_sequence.specs.Built.{is_value, is_condition, is_start, is_filling, is_initial, is_held, declares_here, is_statement, is_inner_or, are_cases, are_statements, next_local}
 use Rattle.cf_sequence.specs.Made.{Local, added, width, width_maybe, declared, declared_all, held_by}
 use Rattle.cf_sequence.specs.Expressions.{Full, Destination, destination, value, whole, settled, finished, used}
 use Rattle.cf_sequence.specs.Statements.{Inside, declares, opened, in_loop, in_switch, held, stepped, started, passed, looping, statement, statement_or, statements}
 use Rattle.cf_sequence.proofs.Calling.{never}
 use Rattle.cf_sequence.proofs.Filling.{fill, filling-adds, filling-holds, started-is}
-use Rattle.cf_sequence.proofs.Fulls.{whole-is, nothing-is, held-none}
+use Rattle.cf_sequence.proofs.Fulls.{whole-is, nothing-is, held-none, held_at, held-code}
 use Rattle.cf_sequence_valid.proofs.Fine.{Fine, fine-none, fine-then, fine-by, fine-act, fine-set, fine-branch, fine-loop, fine-switch, fine-leave, fine-continue, fine-give, fine-used, fine-finished, fine-settled}
 use Rattle.cf_sequence_valid.proofs.Passing.{fine-passed}
-use Rattle.cf_sequence_valid.proofs.Serves.{Serves, as_start, either-true, integers-serve, conditions-serve, expressions-serve}
+use Rattle.cf_sequence_valid.proofs.Serves.{Serves, as_start, bound-parts, either-true, integers-serve, conditions-serve, expressions-serve}
 use Rattle.cf_sequence_valid.proofs.Stands.{Stand, stand-left, stand-right, stand-third, are_there, there-two}
 use Rattle.cf_sequence_valid.proofs.Values.{Kept, Good, good-value, complete-two}
 
@@ -203,11 +206,52 @@ module _ (body : Body) (locals : List SourceType) (keeps : Kept body.scope local
       by None e ok = never ok
       by (Some u) e ok = ap (λ o. is_of o t) (keeps.kept i u e) ∙ ok
 
-  declared-there : (i : ℕ) (t : SourceType) (e : Core) → is_initial e ≡ true → is_of (slice_get locals i) t ≡ true → are_there locals (declared (core.declare i t e)) ≡ true
-  declared-there i t e ok there =
-      ap (λ (xs : List Local). are_there locals (record { number = i; type = t } ∷ xs))
-      (either-true (is_filling e) (is_start e) ok (filling-holds e) (λ starts. either-true (is_nothing e) (is_value e) starts (λ blank. ap held_by (nothing-is e blank)) (held-none e)))
-      ∙ all_of (is_of (slice_get locals i) t) true there refl
+  number-there : (i : ℕ) (t : SourceType) → same_type (slice_get scope.locals i) t ≡ true → nat_lt i (length locals) ≡ true
+  number-there i t ok = by (slice_get scope.locals i) refl ok
+    where
+      by : (o : Option SourceType) → slice_get scope.locals i ≡ o → same_type o t ≡ true → nat_lt i (length locals) ≡ true
+      by None e ok = never ok
+      by (Some u) e ok = lt-ltb i (length locals) (slice_get_within locals i u (keeps.kept i u e))
+
+  -- An initialiser of a local: what it adds is complete, a temporary that it binds is there, and its code fits.
+  record StartsWell (t : SourceType) (e : Core) : Type 0 where
+    complete : are_complete (added (nodes e)) ≡ true
+    there : are_there locals (held_by e) ≡ true
+    code : (b c : Bool) (f : Inside) (k : ℕ) → Stand locals k (added (nodes e)) → Fine locals b c (started f.classes t e 0 k)
+
+  starts-initial : (t : SourceType) (e : Core) → is_initial e ≡ true → (typing scope e).start t ≡ true → StartsWell t e
+  starts-initial t e ok fit = record {
+    complete = complete-initial e ok (λ v. as_start t fit);
+    there =
+        ap (λ (xs : List Local). are_there locals xs)
+        (either-true (is_filling e) (is_start e) ok (filling-holds e) (λ starts. either-true (is_nothing e) (is_value e) starts (λ blank. ap held_by (nothing-is e blank)) (held-none e)));
+    code = λ b c f k st. fine-started {b = b} {c = c} f t e ok (λ v. as_start t fit) 0 k st;
+  }
+
+  starts-held : (i : ℕ) (t : SourceType) (e : Core) → is_held i e ≡ true → (typing scope e).start t ≡ true → StartsWell t e
+  starts-held i t (core.bind (local_temporary j u) e) ok fit =
+      let is : is_value e ≡ true = (both (not (is_reference u)) (is_value e) (both (nat_lt i j) (not (is_reference u) && is_value e) ok).1).1 in
+      let parts = bound-parts scope j u (typing scope e) t fit in
+      let n : Register = held_at e 0 in
+      record {
+        complete = Good.complete (good-value [] scope locals keeps e is (as_start u parts.1));
+        there = all_of (is_of (slice_get locals j) u) true (local-there j u parts.0) refl;
+        code = λ b c f k st.
+            let x : Full = record { first = k; base = 1 } in
+            let last : Plains → Plains = λ rest. more (act (plain.first 0 n)) rest in
+            let inner : Plains → Plains = λ rest. value f.classes x e (destination (suc n) u) (suc (suc n)) k (settled e (suc n) (suc (suc n)) (last rest)) in
+            fine-by locals (started f.classes t (core.bind (local_temporary j u) e) 0 k)
+            (λ rest. more (set (suc n) (plain.declare j u)) (more (set n (plain.local j)) (inner rest))) (held-code f.classes t j u e is 0 k)
+            (fine-then locals (λ rest. more (set (suc n) (plain.declare j u)) rest) (λ rest. more (set n (plain.local j)) (inner rest)) (fine-set locals (suc n) (plain.declare j u) (local-there j u parts.0))
+            (fine-then locals (λ rest. more (set n (plain.local j)) rest) inner (fine-set locals n (plain.local j) (number-there j u parts.0))
+            (fine-then locals (value f.classes x e (destination (suc n) u) (suc (suc n)) k) (λ rest. settled e (suc n) (suc (suc n)) (last rest))
+            (Good.code (expression-good f e is (as_start u parts.1)) b c x (destination (suc n) u) (suc (suc n)) k st)
+            (fine-then locals (settled e (suc n) (suc (suc n))) last (fine-settled locals e (suc n) (suc (suc n))) (fine-act locals (plain.first 0 n) refl)))));
+      }
+  starts-held i t e ok fit = never ok
+
+  starts-well : (i : ℕ) (t : SourceType) (e : Core) → (is_initial e || is_held i e) ≡ true → (typing scope e).start t ≡ true → StartsWell t e
+  starts-well i t e ok fit = either-true (is_initial e) (is_held i e) ok (λ initial. starts-initial t e initial fit) (λ held. starts-held i t e held fit)
 
   -- a statement of a switch, and those behind it
   case-more : {c : Bool} (s : Core) (es : Cores) → Works true c s → CasesWork c es → ((z : ℤ) → labels.has_case z (core.more s es) ≡ labels.has_case z es)
@@ -340,16 +384,16 @@ module _ (body : Body) (locals : List SourceType) (keeps : Kept body.scope local
     works (core.sequence es) m b c ok is =
         let all = work-all es m b c ok is in record { complete = all.complete; there = all.there; code = all.code }
     works (core.declare i t e) m b c ok is =
-        let start = (both (nat_le m i) (is_initial e) ok).1 in
+        let start = (both (nat_le m i) (is_initial e || is_held i e) ok).1 in
         let parts = both (nat_le body.parameters i && same_type (slice_get scope.locals i) t && is_complete scope.classes t) ((typing scope e).start t) is in
         let typed = both (nat_le body.parameters i && same_type (slice_get scope.locals i) t) (is_complete scope.classes t) parts.0 in
         let there = local-there i t (both (nat_le body.parameters i) (same_type (slice_get scope.locals i) t) typed.0).1 in
+        let good = starts-well i t e start parts.1 in
         record {
-          complete = complete-initial e start (λ v. as_start t parts.1);
-          there = declared-there i t e start there;
+          complete = good.complete;
+          there = all_of (is_of (slice_get locals i) t) (are_there locals (held_by e)) there good.there;
           code = λ f st k l.
-              fine-then locals (λ rest. more (set 0 (plain.declare i t)) rest) (started f.classes t e 0 k) (fine-set locals 0 (plain.declare i t) there)
-              (fine-started f t e start (λ v. as_start t parts.1) 0 k l);
+              fine-then locals (λ rest. more (set 0 (plain.declare i t)) rest) (started f.classes t e 0 k) (fine-set locals 0 (plain.declare i t) there) (good.code b c f k l);
         }
     works (core.branch q a o) m b c ok is =
         let forms = both (is_value q) ((not (declares_here a) && is_statement m a) && is_inner_or m o) ok in

@@ -1,5 +1,5 @@
 -- Expressions: the plain statements of a valid one are valid, and the locals that it adds have complete types.
-use Rattle.std.proofs.Common.{◌≡◌, ℕ, suc, ◌+◌, Bool, true, false, ◌&&◌, not, List, [], ◌∷◌, ◌++◌, length, refl, ap, ◌∙◌, subst, arith}
+use Rattle.std.proofs.Common.{◌≡◌, ℕ, suc, ◌+◌, Bool, true, false, ◌&&◌, ◌||◌, not, List, [], ◌∷◌, ◌++◌, length, refl, ap, ◌∙◌, subst, arith}
 use Rattle.std.specs.Prelude.{pos, Option, Some, None, slice_get, nat_lt}
 use Rattle.std.specs.List.{list_all}
 use Rattle.std.proofs.lemmas.Option.{slice_get_within}
@@ -7,12 +7,12 @@ use Rattle.std.proofs.lemmas.Bool.{lt-ltb}
 use Rattle.std.proofs.lemmas.List.Concat.{flat_map-append}
 use Rattle.std.proofs.lemmas.List.Folds.{list_all-append}
 use Rattle.cf_base.proofs.Tests.{both, all_of}
-use Rattle.cf_core.specs.Types.{SourceType, integer, plain as unqualified, parameters, result, is_class}
+use Rattle.cf_core.specs.Types.{SourceType, integer, pointer, plain as unqualified, parameters, result, is_class}
 use Rattle.cf_core.specs.Classes.{Class}
 use Rattle.cf_core.specs.Core as core
 use Rattle.cf_core.specs.Core.{Core, Cores, no_temporary, none, absent}
 use Rattle.cf_core.specs.Nodes.{nodes, nodes_all}
-use Rattle.cf_core.specs.Typing.{Scope, is_function, of_name, is_condition, is_expression, pointed, is_right_operand, either, converts}
+use Rattle.cf_core.specs.Typing.{Scope, is_function, same_type, of_name, is_condition, is_expression, pointed, is_right_operand, either, converts}
 use Rattle.cf_core.specs.Typed.{typing, typings, last_typing, typing_maybe, fit, on_object, read_type, pointed_place, address_type, decayed_type, stepped, void_pointer}
 use Rattle.cf_core.specs.Valid.{is_complete}
 use Rattle.cf_plain.specs.Plain.{Register, Plains, act, set, branch, nothing, more}
@@ -25,7 +25,7 @@ use Rattle.cf_sequence.proofs.Calling.{never}
 use Rattle.cf_sequence_valid.proofs.Complete.{expression-starts}
 use Rattle.cf_sequence_valid.proofs.Complete as complete
 use Rattle.cf_sequence_valid.proofs.Fine.{Fine, fine-none, fine-then, fine-set, fine-act, fine-branch, fine-used, fine-settled, fine-operands}
-use Rattle.cf_sequence_valid.proofs.Serves.{Serves, as_value, as_start, nothing-serves, allowed-is, allowed-serves, by-place, by-pointed, by-type, conditions-serve, expressions-serve, right-serves, index-serves, pointer-serves, either-serves, store-serves, update-serves, converts-serve, bind-serves}
+use Rattle.cf_sequence_valid.proofs.Serves.{Serves, as_value, as_start, nothing-serves, allowed-is, allowed-serves, by-place, by-pointed, by-type, conditions-serve, expressions-serve, right-serves, index-serves, pointer-serves, either-serves, store-serves, update-serves, converts-serve, bind-serves, called-serves}
 use Rattle.cf_sequence_valid.proofs.Stands.{Stand, stand-first, stand-second, stand-left, stand-right, stand-third, of-itself, numbers-fit}
 
 -- what a function's nodes may name stands among its locals
@@ -258,6 +258,31 @@ module _ (classes : List Class) (scope : Scope) (locals : List SourceType) (keep
               fine-then locals (λ rest. more (act (plain.function name t)) rest) (λ rest. arguments classes x (parameters t) args n k (k + length (parameters t) + 0) (last rest)) (fine-act locals (plain.function name t) refl)
               (fine-then locals (arguments classes x (parameters t) args n k (k + length (parameters t) + 0)) last (good.code b c x n k (k + length (parameters t) + 0) objects behind)
               (fine-set locals n (plain.call name t None (numbers k (parameters t)) (result_register t into)) (numbers-fit locals k (parameters t) objects)));
+        }
+    good-value (core.pointer_call absent e t args) ok s =
+        let forms = both (not (is_class (result t))) (is_chain t && (is_value e && are_arguments args)) ok in
+        let parts = both (is_value e) (are_arguments args) (both (is_chain t) (is_value e && are_arguments args) forms.1).1 in
+        let called = (typing scope e).value (pointer t) || same_type (typing scope e).place t in
+        let fits = both called (fit scope (parameters t) (typings scope args)) (allowed-is (called && fit scope (parameters t) (typings scope args)) _ s) in
+        let first = good-value e parts.0 (called-serves t (typing scope e) fits.0) in
+        let good = good-arguments (parameters t) args parts.1 fits.1 in
+        record {
+          complete =
+              list_all-append (is_complete scope.classes) (parameters t) (added (nodes e ++ nodes_all args))
+              ∙ all_of (are_complete (parameters t)) (are_complete (added (nodes e ++ nodes_all args))) good.objects (complete-two (nodes e) (nodes_all args) first.complete good.complete);
+          code = λ b c x into n k st.
+              let l : ℕ = k + length (parameters t) + 0 in
+              let call = plain.pointer_call None n t (numbers k (parameters t)) (result_register t into) in
+              let given : Plains → Plains = arguments classes x (parameters t) args (suc n) k (l + width e) in
+              let last : Plains → Plains = λ rest. more (set n call) rest in
+              let objects = stand-first locals k (parameters t) (added (nodes e ++ nodes_all args)) st in
+              let behind : Stand locals l (added (nodes e ++ nodes_all args)) =
+              let here : k + length (parameters t) ≡ l = omega arith in
+              subst (λ i. Stand locals i (added (nodes e ++ nodes_all args))) here (stand-second locals k (parameters t) (added (nodes e ++ nodes_all args)) st) in
+              fine-then locals (value classes x e None n l) (λ rest. used n (given (last rest))) (first.code b c x None n l (stand-left locals l (nodes e) (nodes_all args) behind))
+              (fine-then locals (used n) (λ rest. given (last rest)) (fine-used locals n)
+              (fine-then locals given last (good.code b c x (suc n) k (l + width e) objects (stand-right locals l (nodes e) (nodes_all args) behind))
+              (fine-set locals n call (numbers-fit locals k (parameters t) objects))));
         }
     good-value e ok s = never ok
 

@@ -110,16 +110,18 @@ module _ (tables : Tables) (signature : MemberRef → Name) where
         ends = refl;
       }
 
-  pub goes-opened : {g : ℕ → Plains → Plains} {m : ℕ} {b c : Body} (i t : ℕ) → Goes g m [] b c
-      → Goes g m (record { number = i; type = type_of tables t } ∷ []) b (opened i t c)
+  pub goes-opened : {g : ℕ → Plains → Plains} {m : ℕ} {ls : List Local} {b c : Body} (i t : ℕ) → Goes g m ls b c
+      → Goes g m (record { number = i; type = type_of tables t } ∷ ls) b (opened i t c)
   unfolding opened
-  goes-opened {b = b} i t p = record {
-    code = p.code;
-    next = p.next;
-    opens = record { number = i; ty = t } ∷ [];
-    scope = ap (λ s. s ++ record { number = i; ty = t } ∷ []) (same-scope p);
-    ends = refl;
-  }
+  goes-opened {b = b} i t p =
+      let x : Open = record { number = i; ty = t } in
+      record {
+        code = p.code;
+        next = p.next;
+        opens = p.opens ++ x ∷ [];
+        scope = ap (λ s. s ++ x ∷ []) p.scope ∙ append_assoc b.scope p.opens (x ∷ []);
+        ends = ends-more tables p.opens (x ∷ []) ∙ ap (λ ls. record { number = i; type = type_of tables t } ∷ ls) p.ends;
+      }
 
   -- what is written in a list of its own
   pub code-begun : (b : Body) → Writing.code (Body.writing (begun b)) ≡ []

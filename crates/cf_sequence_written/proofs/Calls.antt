@@ -15,13 +15,13 @@ use Rattle.cf_plain.specs.declared.action.Action.TheVariants as action
 use Rattle.cf_plain.specs.Plain.{Plains, more, set as sets, act as acts}
 use Rattle.cf_plain.specs.Plain as plain
 use Rattle.cf_sequence.specs.Made.{added, width, numbers}
-use Rattle.cf_sequence.specs.Expressions.{Full, Destination, destination, settled, builds, value, arguments, result_register}
-use Rattle.cf_sequence_expr.specs.Writes.{set, act, passed}
+use Rattle.cf_sequence.specs.Expressions.{Full, Destination, destination, settled, builds, value, arguments, result_register, used as use_of}
+use Rattle.cf_sequence_expr.specs.Writes.{set, act, used, passed}
 use Rattle.cf_sequence_expr.specs.Parameters.{parameters_at, counted}
 use Rattle.cf_sequence_expr.specs.Pieces as pieces
-use Rattle.cf_sequence_expr.specs.Pieces.{Piece, piece_step, argument, called}
+use Rattle.cf_sequence_expr.specs.Pieces.{Piece, piece_step, argument, called, callee, pointed}
 use Rattle.cf_sequence_written.proofs.Followed.{followed}
-use Rattle.cf_sequence_written.proofs.Puts.{Puts, still-set, still-act, puts-none, puts-as, puts-wide, puts-passed, puts-still, still-puts, puts-then}
+use Rattle.cf_sequence_written.proofs.Puts.{Puts, still-set, still-act, still-used, puts-none, puts-as, puts-wide, puts-passed, puts-still, still-puts, puts-then}
 use Rattle.cf_sequence_written.proofs.Values.{Writes, nodes-count}
 
 -- Lists.
@@ -143,6 +143,58 @@ module _ (tables : Tables) (signature : MemberRef → Name) (classes : List Clas
             ∙ ap (followed tables signature w.code) (as-called x name (T t) (map T ts) es into (length ts) n w.next rest size params scalar);
         next = λ w. Puts.next (calling x name t ts n w.next all) w ∙ ap (λ m. w.next + m) count;
       }
+
+  -- the objects of the parameters, the pointer, the arguments, and the call
+  pointing : {p : Piece} {e : Core} {ps : List Piece} {es : Cores} (x : Full) (t : ℕ) (ts : List ℕ) (n k : ℕ) → Writes tables signature classes p e → WritesArguments ps es
+      → Puts tables signature (λ w. set n (action.PointerCall None n t (counted k (length ts)) None) (pieces.arguments ts 0 ps (suc n) k (used n (p.value n (passed (length ts) w)))))
+      (λ m rest. value classes x e None n (m + length ts) (use_of n (arguments classes x (map (type_of tables) ts) es (suc n) k (m + (length ts + width e))
+      (more (sets n (plain.pointer_call None n (type_of tables t) (counted k (length ts)) None)) rest)))) ((length ts + width e) + length (added (nodes_all es)))
+  pointing x t ts n k one all =
+      puts-still tables signature
+      (puts-then tables signature
+      (puts-still tables signature (puts-then tables signature (puts-passed tables signature (length ts)) (Writes.puts one x None n)) (still-used tables signature n))
+      (all.puts x ts 0 ts refl (suc n) k k (omega arith)))
+      (still-set tables signature n (action.PointerCall None n t (counted k (length ts)) None))
+
+  as-pointed : (x : Full) (e : Core) (t : SourceType) (ts : List SourceType) (es : Cores) (into : Option Destination) (count : ℕ) (n k : ℕ) (rest : Plains)
+      → count ≡ length ts → ts ≡ parameters t → is_class (result t) ≡ false
+      → value classes x e None n (k + count) (use_of n (arguments classes x ts es (suc n) k (k + (count + width e)) (more (sets n (plain.pointer_call None n t (numbers k ts) None)) rest)))
+      ≡ value classes x (core.pointer_call absent e t es) into n k rest
+  as-pointed x e t ts es into count n k rest all params scalar =
+      let first : k + count ≡ k + length ts + 0 = omega (arith, all) in
+      let second : k + (count + width e) ≡ k + length ts + 0 + width e = omega (arith, all) in
+      let call : Option ℕ → List SourceType → Plains = λ r us. more (sets n (plain.pointer_call None n t (numbers k us) r)) rest in
+      ap (λ m. value classes x e None n m (use_of n (arguments classes x ts es (suc n) k (k + (count + width e)) (call None ts)))) first
+      ∙ ap (λ m. value classes x e None n (k + length ts + 0) (use_of n (arguments classes x ts es (suc n) k m (call None ts)))) second
+      ∙ ap (λ us. value classes x e None n (k + length us + 0) (use_of n (arguments classes x us es (suc n) k (k + length us + 0 + width e) (call None us)))) params
+      ∙ ap (λ r. value classes x e None n (k + length (parameters t) + 0)
+      (use_of n (arguments classes x (parameters t) es (suc n) k (k + length (parameters t) + 0 + width e) (call r (parameters t))))) (no-result t into scalar)
+
+  puts-pointed : {p : Piece} {e : Core} {ps : List Piece} {es : Cores} (x : Full) (t : ℕ) (ts : List ℕ) (into : Option Destination) (n : ℕ)
+      → map (type_of tables) ts ≡ parameters (type_of tables t) → is_class (result (type_of tables t)) ≡ false → Writes tables signature classes p e → WritesArguments ps es
+      → Puts tables signature (λ w. pointed t ts ps n w.next (callee ts p n w)) (λ k rest. value classes x (core.pointer_call absent e (type_of tables t) es) into n k rest)
+      (width (core.pointer_call absent e (type_of tables t) es))
+  unfolding callee pointed
+  puts-pointed {p} {e} {ps} {es} x t ts into n params scalar one all =
+      let T = type_of tables in
+      let size : length ts ≡ length (map T ts) = sym (length-map ts T) in
+      let own : length ts ≡ length (parameters (T t)) = size ∙ ap length params in
+      let parts = nodes-count (nodes e) (nodes_all es) in
+      let together = length-append (parameters (T t)) (added (nodes e ++ nodes_all es)) in
+      let count : (length ts + width e) + length (added (nodes_all es)) ≡ length (parameters (T t) ++ added (nodes e ++ nodes_all es)) = omega (arith, own, parts, together) in
+      record {
+        code = λ w rest.
+            Puts.code (pointing x t ts n w.next one all) w rest
+            ∙ ap (λ ks. followed tables signature w.code (value classes x e None n (w.next + length ts) (use_of n (arguments classes x (map T ts) es (suc n) w.next (w.next + (length ts + width e))
+            (more (sets n (plain.pointer_call None n (T t) ks None)) rest))))) (numbers-counted T w.next ts)
+            ∙ ap (followed tables signature w.code) (as-pointed x e (T t) (map T ts) es into (length ts) n w.next rest size params scalar);
+        next = λ w. Puts.next (pointing x t ts n w.next one all) w ∙ ap (λ m. w.next + m) count;
+      }
+
+  pub writes-PointerCall : {p : Piece} {e : Core} {ps : List Piece} {es : Cores} (at t : ℕ) → map (type_of tables) (parameters_at tables.types t) ≡ parameters (type_of tables t)
+      → is_class (result (type_of tables t)) ≡ false → Writes tables signature classes p e → WritesArguments ps es
+      → Writes tables signature classes (piece_step tables.types (Core-F.PointerCall at None p t ps)) (core.pointer_call absent e (type_of tables t) es)
+  writes-PointerCall at t params scalar one all = record { puts = λ x into n. puts-pointed x t (parameters_at tables.types t) into n params scalar one all }
 
   pub writes-Call : {ps : List Piece} {es : Cores} (at : ℕ) (name : Name) (t : ℕ) → map (type_of tables) (parameters_at tables.types t) ≡ parameters (type_of tables t)
       → is_class (result (type_of tables t)) ≡ false → WritesArguments ps es

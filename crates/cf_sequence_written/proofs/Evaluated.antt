@@ -21,7 +21,7 @@ use Rattle.cf_sequence_expr.specs.Pieces as pieces
 use Rattle.cf_sequence_expr.specs.Pieces.{Piece, piece, part_piece, piece_step}
 use Rattle.cf_sequence_written.proofs.Adding.{added-count}
 use Rattle.cf_sequence_written.proofs.Values.{Writes, WritesAll, writes-Number, writes-Text, writes-Local, writes-Static, writes-Function, writes-Read, writes-Address, writes-Dereference, writes-Decay, writes-Convert, writes-FromVoid, writes-Unary, writes-Not, writes-Index, writes-Operate, writes-PointerOperate, writes-Store, writes-And, writes-Or, writes-Conditional, writes-none, writes-more, writes-Comma, writes-Update, writes-Increment, writes-Blank}
-use Rattle.cf_sequence_written.proofs.Calls.{WritesArguments, arguments-none, arguments-more, writes-Call}
+use Rattle.cf_sequence_written.proofs.Calls.{WritesArguments, arguments-none, arguments-more, writes-Call, writes-PointerCall}
 
 pub is-false : (b : Bool) → not b ≡ true → b ≡ false
 is-false true same = sym same
@@ -37,7 +37,8 @@ gives-value (core.copy t e es) ok = never ok
 gives-value (core.each e) ok = never ok
 gives-value (core.list es e) ok = never ok
 gives-value (core.virtual_call signature t e es) ok = never ok
-gives-value (core.pointer_call object e t es) ok = never ok
+gives-value (core.pointer_call (given o) e t es) ok = never ok
+gives-value (core.pointer_call absent e t es) ok = is-false (is_class (result t)) (both (not (is_class (result t))) (is_chain t && (is_value e && are_arguments es)) ok).0
 gives-value (core.call name t (given o) es) ok = never ok
 gives-value (core.call name t absent es) ok = is-false (is_class (result t)) (both (not (is_class (result t))) (is_chain t && are_arguments es) ok).0
 gives-value e ok = refl
@@ -133,6 +134,10 @@ module _ (tables : Tables) (signature : MemberRef → Name) (classes : List Clas
       let parts = both (not (is_class (result (type_of tables t)))) (is_chain (type_of tables t) && are_arguments (cores_of es)) ok in
       writes-Call tables signature classes at name t (params t) (is-false (is_class (result (type_of tables t))) parts.0)
       (given_arguments es (both (is_chain (type_of tables t)) (are_arguments (cores_of es)) parts.1).1)
+  layer (Core-F.PointerCall at None e t es) ok =
+      let parts = both (not (is_class (result (type_of tables t)))) (is_chain (type_of tables t) && (is_value (of e) && are_arguments (cores_of es))) ok in
+      let two = both (is_value (of e)) (are_arguments (cores_of es)) (both (is_chain (type_of tables t)) (is_value (of e) && are_arguments (cores_of es)) parts.1).1 in
+      writes-PointerCall tables signature classes at t (params t) (is-false (is_class (result (type_of tables t))) parts.0) (of_value e two.0) (given_arguments es two.1)
   layer (Core-F.Blank at) ok = writes-Blank tables signature classes at
   layer y ok = never ok
 

@@ -25,7 +25,7 @@ use Rattle.cf_sequence_expr.specs.declared.writing.Writing.{Writing}
 use Rattle.cf_sequence_expr.specs.Writes.{put, set, act, used, emptied, branched, within, passed}
 use Rattle.cf_sequence_expr.specs.Parameters.{parameters_at, counted}
 use Rattle.cf_sequence_expr.specs.Pieces as pieces
-use Rattle.cf_sequence_expr.specs.Pieces.{Piece, left, two, truth, all_values, updated, stepped, stepped_behind, argument, arguments, called}
+use Rattle.cf_sequence_expr.specs.Pieces.{Piece, left, two, truth, all_values, updated, stepped, stepped_behind, argument, arguments, called, callee, pointed, held}
 
 pub and-true : (a b : Bool) → a ≡ true → b ≡ true → a && b ≡ true
 and-true a b p q = ap (λ c. c && b) p ∙ q
@@ -150,6 +150,15 @@ module _ (tables : Tables) where
     keeps = Keeps.keeps (keeps-then (keeps-then (keeps-set n (action.Declare i t) (known t refl)) (one.value (suc n))) (keeps-act (action.First n (suc n)) refl));
   }
 
+  -- a reference's temporary
+  pub keeps-held : {p : Piece} (i t n : ℕ) → has_type tables t ≡ true → KnownPiece p → Keeps (held i t p n)
+  unfolding held
+  keeps-held {p} i t n there one = record {
+    keeps = Keeps.keeps
+        (keeps-then (keeps-then (keeps-then (keeps-set (suc n) (action.Declare i t) there) (keeps-set n (action.Local i) refl)) (one.value (suc (suc n))))
+        (keeps-act (action.First (suc n) (suc (suc n))) refl));
+  }
+
   pub record KnownAll (ps : List Piece) : Type 0 where
     pub values : (n : ℕ) → Keeps (all_values ps n)
     pub arguments : (ts : List ℕ) → list_all (has_type tables) ts ≡ true → (j n k : ℕ) → Keeps (arguments ts j ps n k)
@@ -173,6 +182,16 @@ module _ (tables : Tables) where
         let before = keeps-then (keeps-act (action.Function name t) there) (keeps-passed (length ts)) in
         Keeps.keeps (keeps-set n (action.Call name t None (counted w.next (length ts)) None) there) _
         (Keeps.keeps (all.arguments ts types 0 n w.next) _ (before.keeps w ok));
+  }
+
+  pub keeps-pointed : {p : Piece} {ps : List Piece} (t : ℕ) (ts : List ℕ) (n : ℕ) → has_type tables t ≡ true → list_all (has_type tables) ts ≡ true → KnownPiece p → KnownAll ps
+      → Keeps (λ w. pointed t ts ps n w.next (callee ts p n w))
+  unfolding callee pointed
+  keeps-pointed {p} {ps} t ts n there types one all = record {
+    keeps = λ w ok.
+        let before = keeps-then (keeps-then (keeps-passed (length ts)) (one.value n)) (keeps-used n) in
+        Keeps.keeps (keeps-set n (action.PointerCall None n t (counted w.next (length ts)) None) there) _
+        (Keeps.keeps (all.arguments ts types 0 (suc n) w.next) _ (before.keeps w ok));
   }
 
   module _ (names : (i : ℕ) (v : Ty) → slice_get tables.types.types i ≡ Some v → Names tables.types.funs i (length tables.types.funs) v) where

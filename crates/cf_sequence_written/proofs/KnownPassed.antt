@@ -1,5 +1,5 @@
 -- The numbers of types in what labels of a switch pass are there in the tables.
-use Rattle.std.proofs.Common.{◌≡◌, ℕ, Bool, true, List, [], ◌∷◌, ◌++◌, map, Some, None, refl, ap, sym, subst, ◌∙◌}
+use Rattle.std.proofs.Common.{◌≡◌, ℕ, Bool, true, List, [], ◌∷◌, ◌++◌, map, Option, Some, None, refl, ap, sym, subst, ◌∙◌}
 use Rattle.std.proofs.lemmas.List.Folds.{list_all-append}
 use Rattle.cf_base.proofs.Tests.{both}
 use Rattle.cf_core.specs.declared.node.Core.{Core as Node, roll-Core, ind-Core}
@@ -17,6 +17,8 @@ use Rattle.cf_plain.specs.Numbers as plain
 use Rattle.cf_sequence_stmt.specs.declared.body.Open.{Open}
 use Rattle.cf_sequence_stmt.specs.Steps.{Step, step, step_step, all_open}
 use Rattle.cf_sequence_stmt.specs.Steps as steps
+use Rattle.cf_sequence_stmt.specs.Bodies.{with_held}
+use Rattle.cf_sequence_written.proofs.Held.{KnownHeld, held-known}
 use Rattle.cf_sequence_written.proofs.Known.{is_known, and-true}
 use Rattle.cf_sequence_written.proofs.KnownSteps.{have_types, KnownPass, KnownPasses}
 
@@ -67,12 +69,19 @@ module _ (tables : Tables) where
       list_all-append (λ (x : Open). has_type tables x.ty) xs (record { number = i; ty = t } ∷ [])
       ∙ and-true (have_types tables xs) _ types (and-true (has_type tables t) true there refl)
 
+  with-open : (o : Option Open) → KnownHeld tables o → (xs : List Open) → have_types tables xs ≡ true → have_types tables (with_held o xs) ≡ true
+  with-open None there xs types = types
+  with-open (Some x) there xs types = one-open x.number x.ty there xs types
+
   abbrev IsLayer : Core-F Node PartStart → Type 0
   IsLayer x = known_step tables (map-Core _ _ _ _ (are_known tables) part_known x) ≡ true
       → KnownPass tables (step_step tables.types (map-Core _ _ _ _ (step tables.types) part_step_of x))
 
   layer : (y : Core-F Child PartChild) → IsLayer (shape y)
-  layer (Core-F.Declare at i t e) ok = record { label = no-label; opens = one-open i t (both (has_type tables t) (are_known tables e.0) ok).0 }
+  layer (Core-F.Declare at i t e) ok =
+      let parts = both (has_type tables t) (are_known tables e.0) ok in
+      let held = Step.held (step tables.types e.0) in
+      record { label = no-label; opens = λ xs types. one-open i t parts.0 (with_held held xs) (with-open held (held-known tables e.0 parts.1) xs types) }
   layer (Core-F.Sequence at es) ok = record { label = no-label; opens = all-open es ok }
   layer (Core-F.Case at z) ok = record {
     label = λ l e.

@@ -20,7 +20,7 @@ use Rattle.cf_sequence_expr.specs.Writes.{set}
 use Rattle.cf_sequence_expr.specs.Parameters.{parameters_at}
 use Rattle.cf_sequence_expr.specs.Pieces as pieces
 use Rattle.cf_sequence_expr.specs.Pieces.{Piece, piece, part_piece, piece_step}
-use Rattle.cf_sequence_written.proofs.Known.{KnownPiece, KnownAll, Keeps, keeps-none, keeps-then, keeps-set, keeps-act, keeps-used, keeps-within, keeps-two, keeps-truth, keeps-updated, keeps-stepped, keeps-stepped_behind, keeps-called, known-none, known-more, own-known, parameters-known, and-true}
+use Rattle.cf_sequence_written.proofs.Known.{KnownPiece, KnownAll, Keeps, keeps-none, keeps-then, keeps-set, keeps-act, keeps-used, keeps-within, keeps-two, keeps-truth, keeps-updated, keeps-stepped, keeps-stepped_behind, keeps-called, keeps-pointed, keeps-held, known-none, known-more, own-known, parameters-known, and-true}
 
 module _ (tables : Tables) (names : (i : ℕ) (v : Ty) → slice_get tables.types.types i ≡ Some v → Names tables.types.funs i (length tables.types.funs) v) where
   abbrev part_known : PartStart → Bool
@@ -135,7 +135,10 @@ module _ (tables : Tables) (names : (i : ℕ) (v : Ty) → slice_get tables.type
   layer (Core-F.DeleteArray at t e) ok = silently (KnownPiece.locals (e.1 (both (has_type tables t) (known_of e) ok).1))
   layer (Core-F.Declare at i t e) ok = silently (KnownPiece.locals (e.1 (both (has_type tables t) (known_of e) ok).1))
   layer (Core-F.Bind at holder.NoTemporary e) ok = let good = e.1 ok in record { value = λ n. good.value n; locals = good.locals }
-  layer (Core-F.Bind at (holder.LocalTemporary i t) e) ok = record { value = λ n. keeps-none tables; locals = KnownPiece.locals (e.1 (both (has_type tables t) (known_of e) ok).1) }
+  layer (Core-F.Bind at (holder.LocalTemporary i t) e) ok =
+      let parts = both (has_type tables t) (known_of e) ok in
+      let good = e.1 parts.1 in
+      record { value = λ n. keeps-held tables i t n parts.0 good; locals = good.locals }
   layer (Core-F.Bind at (holder.StaticTemporary name) e) ok = let good = e.1 ok in record { value = λ n. good.value n; locals = good.locals }
   layer (Core-F.Read at e) ok = single e (λ n. action.Read n) (λ n. refl) ok
   layer (Core-F.Address at e) ok = let good = e.1 ok in record { value = λ n. keeps-then tables (good.value n) (keeps-used tables n); locals = good.locals }
@@ -207,12 +210,15 @@ module _ (tables : Tables) (names : (i : ℕ) (v : Ty) → slice_get tables.type
   layer (Core-F.PointerCall at None e t es) ok =
       let parts = both (true && known_of e && has_type tables t) (all_known es) ok in
       let two = both (known_of e) (has_type tables t) parts.0 in
-      silently (λ l good. (row es parts.1).locals _ ((e.1 two.0).locals _ (own-known tables names t two.1 l good)))
+      record {
+        value = λ n. keeps-pointed tables t (parameters_at tables.types t) n two.1 (parameters-known tables names t two.1) (e.1 two.0) (row es parts.1);
+        locals = λ l good. (row es parts.1).locals _ ((e.1 two.0).locals _ (own-known tables names t two.1 l good));
+      }
   layer (Core-F.PointerCall at (Some o) e t es) ok =
       let parts = both (known_of o && known_of e && has_type tables t) (all_known es) ok in
       let two = both (known_of o && known_of e) (has_type tables t) parts.0 in
       let three = both (known_of o) (known_of e) two.0 in
-      silently (λ l good. (row es parts.1).locals _ ((e.1 three.1).locals _ ((o.1 three.0).locals _ (own-known tables names t two.1 l good))))
+      record { value = λ n. keeps-none tables; locals = λ l good. (row es parts.1).locals _ ((e.1 three.1).locals _ ((o.1 three.0).locals _ (own-known tables names t two.1 l good))) }
   layer (Core-F.Build at name t es) ok =
       let parts = both (has_type tables t) (all_known es) ok in silently (λ l good. (row es parts.1).locals _ (own-known tables names t parts.0 l good))
   layer (Core-F.Copy at t e es) ok =

@@ -24,9 +24,10 @@ use Rattle.cf_sequence_expr.specs.Pieces.{Piece}
 use Rattle.cf_sequence_stmt.specs.declared.body.Body.{Body}
 use Rattle.cf_sequence_stmt.specs.declared.body.Open.{Open}
 use Rattle.cf_sequence_stmt.specs.declared.body.Ways.{Ways}
-use Rattle.cf_sequence_stmt.specs.Bodies.{Initial, does_nothing, fills, gives, on, behind_flags, opened, ended, left_to, closed_to, full, given, tested, started, declared, stated, begun, chosen, turned, switched, with_code, there, passed_at}
+use Rattle.cf_sequence_stmt.specs.Bodies.{Initial, does_nothing, fills, gives, on, behind_flags, opened, ended, left_to, closed_to, full, given, tested, started, held_too, declared, stated, begun, chosen, turned, switched, with_code, there, passed_at}
 use Rattle.cf_sequence_stmt.specs.Steps as steps
 use Rattle.cf_sequence_stmt.specs.Steps.{Step, step, step_step, initial_step, in_order, or_nothing, inside_loop, inside_switch, held, stepped, turn, repeated, loop, labelled, passing, passes, selected, selection, choice, returned}
+use Rattle.cf_sequence_written.proofs.Held.{KnownHeld}
 use Rattle.cf_sequence_written.proofs.Known.{is_known, KnownPiece, Keeps, keeps-none, keeps-then, keeps-put, keeps-set, keeps-act, keeps-used, keeps-truth, known-last, known-If, all-mapped, emptied-known, branched-known, and-true}
 
 module _ (tables : Tables) where
@@ -141,11 +142,16 @@ module _ (tables : Tables) where
   keeps-started (fills a) p known q = record { keeps = Keeps.keeps (keeps-act tables a known) }
   keeps-started gives p known q = record { keeps = Keeps.keeps (keeps-then tables (q.value (behind_flags 1 p)) (keeps-act tables (action.First 0 (behind_flags 1 p)) refl)) }
 
-  pub known-declared : (i t : ℕ) (initial : Initial) (p : Piece) (b : Body) → has_type tables t ≡ true → KnownInitial initial → KnownPiece tables p → KnownBody b
-      → KnownBody (declared i t initial p b)
+  known-held_too : (o : Option Open) (b : Body) → KnownHeld tables o → KnownBody b → KnownBody (held_too o b)
+  unfolding held_too
+  known-held_too None b there ok = ok
+  known-held_too (Some x) b there ok = known-opened x.number x.ty b there ok
+
+  pub known-declared : (i t : ℕ) (initial : Initial) (held : Option Open) (p : Piece) (b : Body) → has_type tables t ≡ true → KnownInitial initial → KnownHeld tables held
+      → KnownPiece tables p → KnownBody b → KnownBody (declared i t initial held p b)
   unfolding declared
-  known-declared i t initial p b there known q ok =
-      known-opened i t _ there (known-on b (keeps-then tables (keeps-set tables 0 (action.Declare i t) there) (keeps-started initial p known q)) ok)
+  known-declared i t initial held p b there known typed q ok =
+      known-opened i t _ there (known-held_too held _ typed (known-on b (keeps-then tables (keeps-set tables 0 (action.Declare i t) there) (keeps-started initial p known q)) ok))
 
   -- Statements.
 

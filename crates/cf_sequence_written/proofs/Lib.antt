@@ -5,6 +5,7 @@ pub mod Adding
 pub mod Values
 pub mod Calls
 pub mod Evaluated
+pub mod Held
 pub mod Opens
 pub mod Bodies
 pub mod Standing

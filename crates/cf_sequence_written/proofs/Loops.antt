@@ -31,7 +31,7 @@ use Rattle.cf_sequence_written.proofs.Followed.{followed, followed-end}
 use Rattle.cf_sequence_written.proofs.Values.{nodes-count}
 use Rattle.cf_sequence_written.proofs.Bodies.{Goes, goes-none, goes-as, goes-rest, goes-stated, goes-closed, goes-alone, code-begun, next-begun, scope-begun, same-scope, code-turned, next-turned, scope-turned, code-switched, next-switched, scope-switched, code-with_code, next-with_code, scope-with_code}
 use Rattle.cf_sequence_written.proofs.Standing.{Stands, stands-in_loop, stands-in_switch}
-use Rattle.cf_sequence_written.proofs.Wholes.{Whole, whole-start, register, goes-full, goes-given, goes-tested, condition-is}
+use Rattle.cf_sequence_written.proofs.Wholes.{Whole, register, goes-full, goes-given, goes-tested, condition-is}
 use Rattle.cf_sequence_written.proofs.Statements.{Acts, ActsAll, IsStated, stated-cases}
 use Rattle.cf_sequence_written.proofs.Passed.{PassesAll, goes-selected}
 
@@ -55,7 +55,7 @@ module _ (tables : Tables) (signature : MemberRef → Name) where
       ∙ ap (λ s. branch (0 + width e) nothing (more s nothing)) (of-Break tables signature) in
       goes-as tables signature
       (goes-rest tables signature (goes-tested tables signature classes b w) (goes-stated tables signature (code.If r [] (code.Break ∷ [])) _ (tested s.piece b) out))
-      (λ rest. condition-is tables signature classes e (Whole.start w) (Writing.next b.writing) (λ n. more (branch n nothing (more leave nothing)) rest)) refl
+      (λ rest. condition-is tables signature classes e (Whole.around w) (Writing.next b.writing) (λ n. more (branch n nothing (more leave nothing)) rest)) refl
 
   -- what the step does, before a rest
   abbrev step_before : Inside → MaybeCore → ℕ → Plains → Plains
@@ -198,7 +198,7 @@ module _ (tables : Tables) (signature : MemberRef → Name) where
             ∙ ap (λ q. followed tables signature (Writing.code v.writing) (more (plain.switch q inner) rest)) (register tables signature w)
             ∙ Goes.code front (more (plain.switch n inner) rest)
             ∙ ap (followed tables signature (Writing.code b.writing))
-            (sym (whole-start e (Whole.start w) 0 k (λ x n rest. value f.classes x e None n k (use_of n rest))
+            (sym (Whole.around w 0 k (λ x n rest. value f.classes x e None n k (use_of n rest))
             (λ n. passed n es (more (plain.switch n inner) rest))));
         next =
             let one = Goes.next front in

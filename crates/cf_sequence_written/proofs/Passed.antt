@@ -1,9 +1,8 @@
 -- What is written of the locals that labels of a switch pass is the definition's.
 use Rattle.std.proofs.Common.{◌≡◌, ℕ, suc, ◌+◌, Bool, true, false, ◌&&◌, ◌||◌, nat_lt, List, [], ◌∷◌, ◌++◌, map, reverse, length, Option, Some, None, is_some, refl, ap, sym, subst, ◌∙◌, append-nil, append_assoc, arith}
-use Rattle.std.specs.Prelude.{nat_le, if◌then◌else◌}
+use Rattle.std.specs.Prelude.{if◌then◌else◌}
 use Rattle.std.proofs.lemmas.List.{reverse-append}
 use Rattle.std.proofs.lemmas.Bool.Decides.{nat_tests}
-use Rattle.cf_base.proofs.Tests.{both}
 use Rattle.cf_classes.specs.declared.class.MemberRef.{MemberRef}
 use Rattle.cf_core.specs.declared.node.Core.{Core as Node, roll-Core, ind-Core}
 use Rattle.cf_core.specs.declared.node.Core.TheOpen.{Core-F}
@@ -21,13 +20,11 @@ use Rattle.cf_plain.specs.declared.statement.Plain.TheVariants as code
 use Rattle.cf_plain.specs.Plain.{Plains, nothing, more, leave}
 use Rattle.cf_plain.specs.Plain as plain
 use Rattle.cf_plain.specs.View.{plain_of}
-use Rattle.cf_sequence.specs.Built.{is_start, is_filling, is_initial, is_statement}
-use Rattle.cf_sequence.specs.Made.{Local, declared, declared_all, held_by}
+use Rattle.cf_sequence.specs.Built.{is_statement}
+use Rattle.cf_sequence.specs.Made.{Local, declared, declared_all}
 use Rattle.cf_sequence.specs.Statements.{made, passing, passes_local, passed}
 use Rattle.cf_sequence.proofs.Calling.{never}
-use Rattle.cf_sequence.proofs.Filling.{filling-holds}
-use Rattle.cf_sequence.proofs.Fulls.{held-none}
-use Rattle.cf_sequence.proofs.Labels.{or-else, Label, a_case, the_default, mark, label-declares}
+use Rattle.cf_sequence.proofs.Labels.{Label, a_case, the_default, mark, label-declares}
 use Rattle.cf_sequence_expr.specs.declared.writing.Writing.{Writing}
 use Rattle.cf_sequence_stmt.specs.declared.body.Body.{Body}
 use Rattle.cf_sequence_stmt.specs.declared.body.Open.{Open}
@@ -37,16 +34,10 @@ use Rattle.cf_sequence_stmt.specs.Steps.{Step, step, step_step, all_open, labell
 use Rattle.cf_sequence_written.proofs.Views.{of-Case, of-Default, of-Break}
 use Rattle.cf_sequence_written.proofs.Followed.{followed}
 use Rattle.cf_sequence_written.proofs.Opens.{ends, ends-more, no-opens}
+use Rattle.cf_sequence_written.proofs.Held.{held_list, held-behind, held-is}
 use Rattle.cf_sequence_written.proofs.Puts.{Still, still-act, still-then}
 use Rattle.cf_sequence_written.proofs.Bodies.{Goes, goes-none, goes-as, goes-rest, goes-still, goes-stated, goes-alone, next-begun, scope-begun, same-scope, code-switched, next-switched, scope-switched, code-with_code, next-with_code, scope-with_code}
 use Rattle.cf_sequence_written.proofs.Statements.{IsStated, AllStated, stated-all}
-
-held-start : (e : Core) → is_start e ≡ true → held_by e ≡ []
-held-start core.blank ok = refl
-held-start e ok = held-none e ok
-
-pub held-initial : (e : Core) → is_initial e ≡ true → held_by e ≡ []
-held-initial e ok = or-else (is_filling e) (is_start e) ok (filling-holds e) (held-start e)
 
 -- tests of the labels so far
 
@@ -310,11 +301,12 @@ module _ (tables : Tables) (signature : MemberRef → Name) where
   layer (Core-F.Declare at i t e) = record {
     marks = no_mark _ refl;
     opens = λ ok.
-        let good = (both (nat_le ok.below i) (is_initial (of_node e.0)) ok.stated).1 in
+        let x : Open = record { number = i; ty = t } in
+        let held = Step.held (step tables.types e.0) in
         record {
-          new = record { number = i; ty = t } ∷ [];
-          adds = λ xs. refl;
-          ends = ap (λ ls. record { number = i; type = type_of tables t } ∷ ls) (sym (held-initial (of_node e.0) good));
+          new = held_list held ++ x ∷ [];
+          adds = λ xs. ap (λ ys. ys ++ x ∷ []) (held-behind held xs) ∙ append_assoc xs (held_list held) (x ∷ []);
+          ends = ends-more tables (held_list held) (x ∷ []) ∙ ap (λ ls. record { number = i; type = type_of tables t } ∷ ls) (held-is tables signature e.0);
         };
   }
   layer (Core-F.Sequence at es) = record { marks = no_mark _ refl; opens = λ ok. all-add (row es) (stated-all ok.below (cores_of es) ok.stated) }

@@ -1,6 +1,6 @@
 -- What is written for a built statement is the definition's.
 use Rattle.std.proofs.Common.{◌≡◌, ℕ, true, not, ◌&&◌, ◌||◌, List, [], ◌∷◌, map, length, Option, Some, None, refl, ap, sym, subst, ◌∙◌}
-use Rattle.std.specs.Prelude.{nat_le}
+use Rattle.std.specs.Prelude.{false, nat_le, nat_lt}
 use Rattle.cf_base.proofs.Tests.{both}
 use Rattle.cf_classes.specs.declared.class.MemberRef.{MemberRef}
 use Rattle.cf_core.specs.declared.node.Core.{Core as Node, roll-Core, ind-Core}
@@ -10,13 +10,17 @@ use Rattle.cf_core.specs.declared.node.PartStart.{PartStart, fold-PartStart}
 use Rattle.cf_core.specs.declared.operators.LoopForm.{LoopForm}
 use Rattle.cf_core.specs.Types.{Name, parameters}
 use Rattle.cf_core.specs.Core as core
-use Rattle.cf_core.specs.Core.{Core, Cores, MaybeCore, absent, given}
+use Rattle.cf_core.specs.Core.{Core, Cores, MaybeCore, local_temporary, absent, given}
+use Rattle.cf_core.specs.Places.{is_reference}
 use Rattle.cf_core.specs.FromTypes.{Tables, type_of}
 use Rattle.cf_core.specs.View.{Started, core_step, started_step, core_of, listed}
 use Rattle.cf_plain.specs.declared.statement.Plain.TheVariants as code
 use Rattle.cf_plain.specs.Plain as plain
-use Rattle.cf_sequence.specs.Built.{is_value, is_start, is_initial, is_statement, is_inner_or, are_cases, declares_here}
+use Rattle.cf_sequence.specs.Built.{is_value, is_start, is_initial, is_held, is_statement, is_inner_or, are_cases, declares_here}
+use Rattle.cf_sequence.specs.Expressions.{builds}
 use Rattle.cf_sequence.proofs.Calling.{never}
+use Rattle.cf_sequence.proofs.Fulls.{whole-is}
+use Rattle.cf_sequence.proofs.Labels.{or-else}
 use Rattle.cf_sequence_expr.specs.Parameters.{parameters_at}
 use Rattle.cf_sequence_expr.specs.Pieces.{Piece}
 use Rattle.cf_sequence_stmt.specs.Steps.{Step, step, step_step}
@@ -27,10 +31,20 @@ use Rattle.cf_sequence_written.proofs.Adding.{added-count}
 use Rattle.cf_sequence_written.proofs.Values.{Writes}
 use Rattle.cf_sequence_written.proofs.Evaluated.{written-start, value-start}
 use Rattle.cf_sequence_written.proofs.Bodies.{goes-stated, goes-declares}
-use Rattle.cf_sequence_written.proofs.Wholes.{Whole, Begins, Initiates, goes-full, goes-declared}
+use Rattle.cf_sequence_written.proofs.Wholes.{Whole, Around, whole-start, gives-builds, Begins, Initiates, goes-full, goes-declared}
 use Rattle.cf_sequence_written.proofs.Statements.{Acts, ActsAll, stated-statement, stated-all, acts-none, acts-more, acts-absent, acts-given, goes-block, goes-choice, goes-leave, goes-continue, goes-give, goes-given_back}
-use Rattle.cf_sequence_written.proofs.Passed.{held-initial, passed-nodes}
+use Rattle.cf_sequence_written.proofs.Held.{held-is, written-held}
+use Rattle.cf_sequence_written.proofs.Passed.{passed-nodes}
 use Rattle.cf_sequence_written.proofs.Loops.{Part, no_part, one_part, goes-loop, goes-switch}
+
+held-around : (i : ℕ) (e : Core) → is_held i e ≡ true → Around e
+held-around i (core.bind (local_temporary j t) e) ok n k code rest =
+    whole-is e (both (not (is_reference t)) (is_value e) (both (nat_lt i j) (not (is_reference t) && is_value e) ok).1).1 n k code rest
+held-around i e ok n k code rest = never ok
+
+held-builds : (i : ℕ) (e : Core) → is_held i e ≡ true → builds e ≡ false
+held-builds i (core.bind (local_temporary j t) e) ok = refl
+held-builds i e ok = never ok
 
 module _ (tables : Tables) (signature : MemberRef → Name) (params : (t : ℕ) → map (type_of tables) (parameters_at tables.types t) ≡ parameters (type_of tables t)) where
   pub record Stated (s : Step) (c : Core) : Type 0 where
@@ -82,7 +96,8 @@ module _ (tables : Tables) (signature : MemberRef → Name) (params : (t : ℕ) 
     writes = λ classes.
         subst (λ p. Writes tables signature classes p (of_node n)) (sym (same_piece tables.types n)) (written-start tables signature classes params n ok);
     count = ap (λ (p : Piece). length (p.locals [])) (same_piece tables.types n) ∙ added-count tables signature params n;
-    start = ok;
+    around = whole-start (of_node n) ok;
+    put = gives-builds (of_node n) ok;
   }
 
   -- the initialiser of an object
@@ -91,6 +106,21 @@ module _ (tables : Tables) (signature : MemberRef → Name) (params : (t : ℕ) 
     begins = w.initial;
     whole = λ other. operand_of n (subst (λ b. b || is_start (of_node n) ≡ true) other ok);
   }
+
+  -- that of a reference, with the temporary that it binds
+  held_of : (n : Node) (i : ℕ) → is_held i (of_node n) ≡ true → Whole tables signature (step tables.types n).piece (of_node n)
+  held_of n i ok = record {
+    writes = λ classes.
+        subst (λ p. Writes tables signature classes p (of_node n)) (sym (same_piece tables.types n)) (written-held tables signature classes params n i ok);
+    count = ap (λ (p : Piece). length (p.locals [])) (same_piece tables.types n) ∙ added-count tables signature params n;
+    around = held-around i (of_node n) ok;
+    put = λ there. held-builds i (of_node n) ok;
+  }
+
+  initiates-local : (n : Node) → IsWritten n → (i : ℕ) → (is_initial (of_node n) || is_held i (of_node n)) ≡ true
+      → Initiates tables signature (step tables.types n).initial (step tables.types n).piece (of_node n)
+  initiates-local n w i ok =
+      or-else (is_initial (of_node n)) (is_held i (of_node n)) ok (λ initial. initiates n w initial) (λ held. record { begins = w.initial; whole = λ other. held_of n i held })
 
   operand : (e : Child) → is_start (of e) ≡ true → Whole tables signature (step_of e).piece (of e)
   operand e ok = operand_of e.0 ok
@@ -129,9 +159,9 @@ module _ (tables : Tables) (signature : MemberRef → Name) (params : (t : ℕ) 
     initial = (refl, refl);
     acts = record {
       acts = λ ok f ways b there.
-          let good = (both (nat_le ok.below i) (is_initial (of e)) ok.stated).1 in
-          goes-declares tables signature (goes-declared tables signature f b i t (step_of e).initial (initiates e.0 e.1 good))
-          (ap (λ ls. record { number = i; type = type_of tables t } ∷ ls) (sym (held-initial (of e) good)));
+          let good = (both (nat_le ok.below i) (is_initial (of e) || is_held i (of e)) ok.stated).1 in
+          goes-declares tables signature (goes-declared tables signature f b i t (step_of e).initial (step_of e).held (initiates-local e.0 e.1 i good))
+          (ap (λ ls. record { number = i; type = type_of tables t } ∷ ls) (held-is tables signature e.0));
     };
   }
   layer (Core-F.If at q a None) = record {

@@ -1,6 +1,7 @@
 -- A file is built where the test finds no construct that is not.
 use Rattle.std.proofs.Common.{◌≡◌, ℕ, Bool, true, false, not, ◌&&◌, ◌||◌, List, [], ◌∷◌, map, Option, Some, None, option_map, refl, ap, sym, subst, ◌∙◌}
-use Rattle.std.specs.Prelude.{nat_le, if◌then◌else◌}
+use Rattle.std.specs.Prelude.{suc, nat_le, nat_lt, if◌then◌else◌}
+use Rattle.cf_core.specs.Places.{is_reference}
 use Rattle.std.specs.Option.{option_or}
 use Rattle.cf_classes.specs.declared.class.MemberRef.{MemberRef}
 use Rattle.cf_core.specs.declared.node.Core.{Core as Node, roll-Core, ind-Core}
@@ -14,8 +15,8 @@ use Rattle.cf_core.specs.Joined.{is_nothing}
 use Rattle.cf_core.specs.Valid.{is_label}
 use Rattle.cf_core.specs.FromTypes.{Tables, type_of}
 use Rattle.cf_core.specs.View.{Started, core_step, started_step, core_of, listed, maybe}
-use Rattle.cf_sequence.specs.Built.{is_value, is_start, is_filling, is_initial, is_condition, is_statement, is_inner_or, are_values, are_arguments, are_statements, are_cases, declares_here, next_local, next_locals, is_chain}
-use Rattle.cf_sequence_built.specs.Unbuilt.{Test, test, test_step, start, initial, given, each_value, some_values, each_statement, inner, inner_or, case, each_case, next_of_all, called, is_function_type, is_called}
+use Rattle.cf_sequence.specs.Built.{is_value, is_start, is_filling, is_initial, is_held, behind_declared, is_condition, is_statement, is_inner_or, are_values, are_arguments, are_statements, are_cases, declares_here, next_local, next_locals, is_chain}
+use Rattle.cf_sequence_built.specs.Unbuilt.{Temporary, Test, test, test_step, start, initial, by_temporary, local, behind_both, given, each_value, some_values, each_statement, inner, inner_or, case, each_case, next_of_all, called, is_function_type, is_called}
 use Rattle.cf_sequence_built.specs.Unbuilt as unbuilt
 
 -- whether nothing was found
@@ -54,6 +55,24 @@ pub chain-is : (t : SourceType) → is_function_type t ≡ is_chain t
 chain-is (takes p t) = chain-is t
 chain-is t = refl
 
+-- what is told of the temporary that a local reference binds
+abbrev pub Binds : Option Temporary → Core → Type 0
+Binds None c = ((i : ℕ) → is_held i c ≡ false) × ((i : ℕ) → behind_declared i c ≡ suc i)
+Binds (Some x) c = ((i : ℕ) → is_held i c ≡ nat_lt i x.number && clear x.value) × ((i : ℕ) → behind_declared i c ≡ suc x.number) × (is_initial c ≡ false)
+
+or-false : (b : Bool) → b ≡ (b || false)
+or-false true = refl
+or-false false = refl
+
+local-by : (o : Option Temporary) (c : Core) → Binds o c → (other : Option ℕ) → clear other ≡ is_initial c → (at i : ℕ) → clear (by_temporary o at i other) ≡ (is_initial c || is_held i c)
+local-by None c binds other e at i = e ∙ or-false (is_initial c) ∙ ap (λ b. is_initial c || b) (sym (binds.0 i))
+local-by (Some x) c binds other e at i =
+    where-true at (nat_lt i x.number) x.value (clear x.value) refl ∙ sym (binds.0 i) ∙ ap (λ b. b || is_held i c) (sym binds.2)
+
+behind-by : (o : Option Temporary) (c : Core) → Binds o c → (i : ℕ) → behind_both o i ≡ behind_declared i c
+behind-by None c binds i = sym (binds.1 i)
+behind-by (Some x) c binds i = sym (binds.1 i)
+
 module _ (tables : Tables) (signature : MemberRef → Name) where
   pub record Tests (t : Test) (c : Core) : Type 0 where
     pub value : clear t.value ≡ is_value c
@@ -63,6 +82,7 @@ module _ (tables : Tables) (signature : MemberRef → Name) where
     pub filling : t.is_filling ≡ is_filling c
     pub declares : t.declares ≡ declares_here c
     pub label : t.is_label ≡ is_label c
+    pub temporary : Binds t.temporary c
 
   abbrev of_node : Node → Core
   of_node = core_of tables signature
@@ -120,6 +140,12 @@ module _ (tables : Tables) (signature : MemberRef → Name) where
 
   initial-is : (e : Child) → clear (initial (test_of e)) ≡ is_initial (of e)
   initial-is e = ap (λ b. clear (if b then None else start (test_of e))) e.1.filling ∙ where-not (is_filling (of e)) (start (test_of e)) _ (start-is e)
+
+  local-is : (at i : ℕ) (e : Child) → clear (local at i (test_of e)) ≡ (is_initial (of e) || is_held i (of e))
+  local-is at i e = local-by (test_of e).temporary (of e) e.1.temporary (initial (test_of e)) (initial-is e) at i
+
+  behind-is : (i : ℕ) (e : Child) → unbuilt.behind i (test_of e) ≡ behind_declared i (of e)
+  behind-is i e = behind-by (test_of e).temporary (of e) e.1.temporary i
 
   inner-is : (at m : ℕ) (s : Child) → clear (inner at m (test_of s)) ≡ not (declares_here (of s)) && is_statement m (of s)
   inner-is at m s =
@@ -181,77 +207,90 @@ module _ (tables : Tables) (signature : MemberRef → Name) where
   IsLayer x = Tests (test_step tables (map-Core _ _ _ _ (test tables) part_test x)) (core_step tables signature (map-Core _ _ _ _ of_node started_of x))
 
   layer : (y : Core-F Child PartChild) → IsLayer (shape y)
-  layer (Core-F.Number at z) = record { value = refl; statement = λ m. refl; next = λ m. refl; blank = refl; filling = refl; declares = refl; label = refl }
-  layer (Core-F.Text at j bytes) = record { value = refl; statement = λ m. refl; next = λ m. refl; blank = refl; filling = refl; declares = refl; label = refl }
-  layer (Core-F.This at) = record { value = refl; statement = λ m. refl; next = λ m. refl; blank = refl; filling = refl; declares = refl; label = refl }
-  layer (Core-F.Local at i) = record { value = refl; statement = λ m. refl; next = λ m. refl; blank = refl; filling = refl; declares = refl; label = refl }
-  layer (Core-F.Static at n t) = record { value = refl; statement = λ m. refl; next = λ m. refl; blank = refl; filling = refl; declares = refl; label = refl }
-  layer (Core-F.Function at n t) = record { value = refl; statement = λ m. refl; next = λ m. refl; blank = refl; filling = refl; declares = refl; label = refl }
-  layer (Core-F.Member at e i) = record { value = refl; statement = λ m. refl; next = λ m. refl; blank = refl; filling = refl; declares = refl; label = refl }
-  layer (Core-F.Read at e) = record { value = e.1.value; statement = λ m. refl; next = λ m. refl; blank = refl; filling = refl; declares = refl; label = refl }
-  layer (Core-F.Address at e) = record { value = e.1.value; statement = λ m. refl; next = λ m. refl; blank = refl; filling = refl; declares = refl; label = refl }
-  layer (Core-F.Dereference at e) = record { value = e.1.value; statement = λ m. refl; next = λ m. refl; blank = refl; filling = refl; declares = refl; label = refl }
-  layer (Core-F.Decay at e) = record { value = e.1.value; statement = λ m. refl; next = λ m. refl; blank = refl; filling = refl; declares = refl; label = refl }
-  layer (Core-F.Index at a b) = record { value = two a b; statement = λ m. refl; next = λ m. refl; blank = refl; filling = refl; declares = refl; label = refl }
-  layer (Core-F.Convert at t e) = record { value = e.1.value; statement = λ m. refl; next = λ m. refl; blank = refl; filling = refl; declares = refl; label = refl }
-  layer (Core-F.Up at path e) = record { value = refl; statement = λ m. refl; next = λ m. refl; blank = refl; filling = refl; declares = refl; label = refl }
-  layer (Core-F.Down at c path e) = record { value = refl; statement = λ m. refl; next = λ m. refl; blank = refl; filling = refl; declares = refl; label = refl }
-  layer (Core-F.FromVoid at t e) = record { value = e.1.value; statement = λ m. refl; next = λ m. refl; blank = refl; filling = refl; declares = refl; label = refl }
-  layer (Core-F.ToMember at path e) = record { value = refl; statement = λ m. refl; next = λ m. refl; blank = refl; filling = refl; declares = refl; label = refl }
-  layer (Core-F.DataPointer at i) = record { value = refl; statement = λ m. refl; next = λ m. refl; blank = refl; filling = refl; declares = refl; label = refl }
-  layer (Core-F.FunctionPointer at t) = record { value = refl; statement = λ m. refl; next = λ m. refl; blank = refl; filling = refl; declares = refl; label = refl }
-  layer (Core-F.Through at a b) = record { value = refl; statement = λ m. refl; next = λ m. refl; blank = refl; filling = refl; declares = refl; label = refl }
-  layer (Core-F.Operate at op k a b) = record { value = two a b; statement = λ m. refl; next = λ m. refl; blank = refl; filling = refl; declares = refl; label = refl }
-  layer (Core-F.Unary at op k e) = record { value = e.1.value; statement = λ m. refl; next = λ m. refl; blank = refl; filling = refl; declares = refl; label = refl }
-  layer (Core-F.Not at e) = record { value = e.1.value; statement = λ m. refl; next = λ m. refl; blank = refl; filling = refl; declares = refl; label = refl }
-  layer (Core-F.And at a b) = record { value = two a b; statement = λ m. refl; next = λ m. refl; blank = refl; filling = refl; declares = refl; label = refl }
-  layer (Core-F.Or at a b) = record { value = two a b; statement = λ m. refl; next = λ m. refl; blank = refl; filling = refl; declares = refl; label = refl }
-  layer (Core-F.PointerOperate at op a b) = record { value = two a b; statement = λ m. refl; next = λ m. refl; blank = refl; filling = refl; declares = refl; label = refl }
-  layer (Core-F.Conditional at c a b) = record { value = three c a b; statement = λ m. refl; next = λ m. refl; blank = refl; filling = refl; declares = refl; label = refl }
-  layer (Core-F.Comma at es) = record { value = in_comma at es; statement = λ m. refl; next = λ m. refl; blank = refl; filling = refl; declares = refl; label = refl }
-  layer (Core-F.Store at a b) = record { value = two a b; statement = λ m. refl; next = λ m. refl; blank = refl; filling = refl; declares = refl; label = refl }
-  layer (Core-F.Update at a c b) = record { value = two a b; statement = λ m. refl; next = λ m. refl; blank = refl; filling = refl; declares = refl; label = refl }
-  layer (Core-F.Increment at is_postfix c e) = record { value = e.1.value; statement = λ m. refl; next = λ m. refl; blank = refl; filling = refl; declares = refl; label = refl }
-  layer (Core-F.Assign at t a b es) = record { value = refl; statement = λ m. refl; next = λ m. refl; blank = refl; filling = refl; declares = refl; label = refl }
-  layer (Core-F.Temporary at t e) = record { value = refl; statement = λ m. refl; next = λ m. refl; blank = refl; filling = refl; declares = refl; label = refl }
-  layer (Core-F.Call at f t None es) = record { value = in_call at t es; statement = λ m. refl; next = λ m. refl; blank = refl; filling = refl; declares = refl; label = refl }
-  layer (Core-F.Call at f t (Some object) es) = record { value = refl; statement = λ m. refl; next = λ m. refl; blank = refl; filling = refl; declares = refl; label = refl }
-  layer (Core-F.VirtualCall at m t e es) = record { value = refl; statement = λ m. refl; next = λ m. refl; blank = refl; filling = refl; declares = refl; label = refl }
-  layer (Core-F.PointerCall at None e t es) = record { value = refl; statement = λ m. refl; next = λ m. refl; blank = refl; filling = refl; declares = refl; label = refl }
-  layer (Core-F.PointerCall at (Some object) e t es) = record { value = refl; statement = λ m. refl; next = λ m. refl; blank = refl; filling = refl; declares = refl; label = refl }
-  layer (Core-F.New at t e) = record { value = refl; statement = λ m. refl; next = λ m. refl; blank = refl; filling = refl; declares = refl; label = refl }
-  layer (Core-F.NewArray at t n e) = record { value = refl; statement = λ m. refl; next = λ m. refl; blank = refl; filling = refl; declares = refl; label = refl }
-  layer (Core-F.Delete at t e) = record { value = refl; statement = λ m. refl; next = λ m. refl; blank = refl; filling = refl; declares = refl; label = refl }
-  layer (Core-F.DeleteArray at t e) = record { value = refl; statement = λ m. refl; next = λ m. refl; blank = refl; filling = refl; declares = refl; label = refl }
-  layer (Core-F.Build at f t es) = record { value = refl; statement = λ m. refl; next = λ m. refl; blank = refl; filling = refl; declares = refl; label = refl }
-  layer (Core-F.Copy at t e es) = record { value = refl; statement = λ m. refl; next = λ m. refl; blank = refl; filling = refl; declares = refl; label = refl }
-  layer (Core-F.Each at e) = record { value = refl; statement = λ m. refl; next = λ m. refl; blank = refl; filling = refl; declares = refl; label = refl }
-  layer (Core-F.List at es rest) = record { value = refl; statement = λ m. refl; next = λ m. refl; blank = refl; filling = refl; declares = refl; label = refl }
-  layer (Core-F.Characters at bytes) = record { value = refl; statement = λ m. refl; next = λ m. refl; blank = refl; filling = refl; declares = refl; label = refl }
-  layer (Core-F.Bind at holder.NoTemporary e) = record { value = e.1.value; statement = λ m. refl; next = λ m. refl; blank = refl; filling = refl; declares = refl; label = refl }
-  layer (Core-F.Bind at (holder.LocalTemporary i t) e) = record { value = refl; statement = λ m. refl; next = λ m. refl; blank = refl; filling = refl; declares = refl; label = refl }
-  layer (Core-F.Bind at (holder.StaticTemporary name) e) = record { value = refl; statement = λ m. refl; next = λ m. refl; blank = refl; filling = refl; declares = refl; label = refl }
-  layer (Core-F.Zeros at) = record { value = refl; statement = λ m. refl; next = λ m. refl; blank = refl; filling = refl; declares = refl; label = refl }
-  layer (Core-F.Blank at) = record { value = refl; statement = λ m. refl; next = λ m. refl; blank = refl; filling = refl; declares = refl; label = refl }
-  layer (Core-F.Full at e) = record { value = refl; statement = λ m. start-is e; next = λ m. refl; blank = refl; filling = refl; declares = refl; label = refl }
-  layer (Core-F.Block at es) = record { value = refl; statement = λ m. in_order m es; next = λ m. refl; blank = refl; filling = refl; declares = refl; label = refl }
-  layer (Core-F.Sequence at es) = record { value = refl; statement = λ m. in_order m es; next = λ m. nexts m es; blank = refl; filling = refl; declares = refl; label = refl }
-  layer (Core-F.Declare at i t e) = record { value = refl; statement = λ m. where-true at (nat_le m i) _ _ (initial-is e); next = λ m. refl; blank = refl; filling = refl; declares = refl; label = refl }
-  layer (Core-F.Once at n e) = record { value = refl; statement = λ m. refl; next = λ m. refl; blank = refl; filling = refl; declares = refl; label = refl }
-  layer (Core-F.If at c a None) = record { value = refl; statement = λ m. and-is _ _ _ _ c.1.value (and-is _ _ _ _ (inner-is at m a) (inner_or-is at m None)); next = λ m. refl; blank = refl; filling = refl; declares = refl; label = refl }
-  layer (Core-F.If at c a (Some b)) = record { value = refl; statement = λ m. and-is _ _ _ _ c.1.value (and-is _ _ _ _ (inner-is at m a) (inner_or-is at m (Some b))); next = λ m. refl; blank = refl; filling = refl; declares = refl; label = refl }
-  layer (Core-F.Loop at f None None s) = record { value = refl; statement = in_loop None None s; next = λ m. refl; blank = refl; filling = refl; declares = refl; label = refl }
-  layer (Core-F.Loop at f None (Some e) s) = record { value = refl; statement = in_loop None (Some e) s; next = λ m. refl; blank = refl; filling = refl; declares = refl; label = refl }
-  layer (Core-F.Loop at f (Some c) None s) = record { value = refl; statement = in_loop (Some c) None s; next = λ m. refl; blank = refl; filling = refl; declares = refl; label = refl }
-  layer (Core-F.Loop at f (Some c) (Some e) s) = record { value = refl; statement = in_loop (Some c) (Some e) s; next = λ m. refl; blank = refl; filling = refl; declares = refl; label = refl }
-  layer (Core-F.Switch at e es) = record { value = refl; statement = λ m. and-is _ _ _ _ e.1.value (in_cases m es); next = λ m. refl; blank = refl; filling = refl; declares = refl; label = refl }
-  layer (Core-F.Case at z) = record { value = refl; statement = λ m. refl; next = λ m. refl; blank = refl; filling = refl; declares = refl; label = refl }
-  layer (Core-F.Default at) = record { value = refl; statement = λ m. refl; next = λ m. refl; blank = refl; filling = refl; declares = refl; label = refl }
-  layer (Core-F.Break at) = record { value = refl; statement = λ m. refl; next = λ m. refl; blank = refl; filling = refl; declares = refl; label = refl }
-  layer (Core-F.Continue at) = record { value = refl; statement = λ m. refl; next = λ m. refl; blank = refl; filling = refl; declares = refl; label = refl }
-  layer (Core-F.Return at None) = record { value = refl; statement = λ m. refl; next = λ m. refl; blank = refl; filling = refl; declares = refl; label = refl }
-  layer (Core-F.Return at (Some e)) = record { value = refl; statement = λ m. e.1.value; next = λ m. refl; blank = refl; filling = refl; declares = refl; label = refl }
-  layer (Core-F.Parts at ps s) = record { value = refl; statement = λ m. refl; next = λ m. refl; blank = refl; filling = refl; declares = refl; label = refl }
+  layer (Core-F.Number at z) = record { value = refl; statement = λ m. refl; next = λ m. refl; blank = refl; filling = refl; declares = refl; label = refl; temporary = (λ i. refl, λ i. refl) }
+  layer (Core-F.Text at j bytes) = record { value = refl; statement = λ m. refl; next = λ m. refl; blank = refl; filling = refl; declares = refl; label = refl; temporary = (λ i. refl, λ i. refl) }
+  layer (Core-F.This at) = record { value = refl; statement = λ m. refl; next = λ m. refl; blank = refl; filling = refl; declares = refl; label = refl; temporary = (λ i. refl, λ i. refl) }
+  layer (Core-F.Local at i) = record { value = refl; statement = λ m. refl; next = λ m. refl; blank = refl; filling = refl; declares = refl; label = refl; temporary = (λ i. refl, λ i. refl) }
+  layer (Core-F.Static at n t) = record { value = refl; statement = λ m. refl; next = λ m. refl; blank = refl; filling = refl; declares = refl; label = refl; temporary = (λ i. refl, λ i. refl) }
+  layer (Core-F.Function at n t) = record { value = refl; statement = λ m. refl; next = λ m. refl; blank = refl; filling = refl; declares = refl; label = refl; temporary = (λ i. refl, λ i. refl) }
+  layer (Core-F.Member at e i) = record { value = refl; statement = λ m. refl; next = λ m. refl; blank = refl; filling = refl; declares = refl; label = refl; temporary = (λ i. refl, λ i. refl) }
+  layer (Core-F.Read at e) = record { value = e.1.value; statement = λ m. refl; next = λ m. refl; blank = refl; filling = refl; declares = refl; label = refl; temporary = (λ i. refl, λ i. refl) }
+  layer (Core-F.Address at e) = record { value = e.1.value; statement = λ m. refl; next = λ m. refl; blank = refl; filling = refl; declares = refl; label = refl; temporary = (λ i. refl, λ i. refl) }
+  layer (Core-F.Dereference at e) = record { value = e.1.value; statement = λ m. refl; next = λ m. refl; blank = refl; filling = refl; declares = refl; label = refl; temporary = (λ i. refl, λ i. refl) }
+  layer (Core-F.Decay at e) = record { value = e.1.value; statement = λ m. refl; next = λ m. refl; blank = refl; filling = refl; declares = refl; label = refl; temporary = (λ i. refl, λ i. refl) }
+  layer (Core-F.Index at a b) = record { value = two a b; statement = λ m. refl; next = λ m. refl; blank = refl; filling = refl; declares = refl; label = refl; temporary = (λ i. refl, λ i. refl) }
+  layer (Core-F.Convert at t e) = record { value = e.1.value; statement = λ m. refl; next = λ m. refl; blank = refl; filling = refl; declares = refl; label = refl; temporary = (λ i. refl, λ i. refl) }
+  layer (Core-F.Up at path e) = record { value = refl; statement = λ m. refl; next = λ m. refl; blank = refl; filling = refl; declares = refl; label = refl; temporary = (λ i. refl, λ i. refl) }
+  layer (Core-F.Down at c path e) = record { value = refl; statement = λ m. refl; next = λ m. refl; blank = refl; filling = refl; declares = refl; label = refl; temporary = (λ i. refl, λ i. refl) }
+  layer (Core-F.FromVoid at t e) = record { value = e.1.value; statement = λ m. refl; next = λ m. refl; blank = refl; filling = refl; declares = refl; label = refl; temporary = (λ i. refl, λ i. refl) }
+  layer (Core-F.ToMember at path e) = record { value = refl; statement = λ m. refl; next = λ m. refl; blank = refl; filling = refl; declares = refl; label = refl; temporary = (λ i. refl, λ i. refl) }
+  layer (Core-F.DataPointer at i) = record { value = refl; statement = λ m. refl; next = λ m. refl; blank = refl; filling = refl; declares = refl; label = refl; temporary = (λ i. refl, λ i. refl) }
+  layer (Core-F.FunctionPointer at t) = record { value = refl; statement = λ m. refl; next = λ m. refl; blank = refl; filling = refl; declares = refl; label = refl; temporary = (λ i. refl, λ i. refl) }
+  layer (Core-F.Through at a b) = record { value = refl; statement = λ m. refl; next = λ m. refl; blank = refl; filling = refl; declares = refl; label = refl; temporary = (λ i. refl, λ i. refl) }
+  layer (Core-F.Operate at op k a b) = record { value = two a b; statement = λ m. refl; next = λ m. refl; blank = refl; filling = refl; declares = refl; label = refl; temporary = (λ i. refl, λ i. refl) }
+  layer (Core-F.Unary at op k e) = record { value = e.1.value; statement = λ m. refl; next = λ m. refl; blank = refl; filling = refl; declares = refl; label = refl; temporary = (λ i. refl, λ i. refl) }
+  layer (Core-F.Not at e) = record { value = e.1.value; statement = λ m. refl; next = λ m. refl; blank = refl; filling = refl; declares = refl; label = refl; temporary = (λ i. refl, λ i. refl) }
+  layer (Core-F.And at a b) = record { value = two a b; statement = λ m. refl; next = λ m. refl; blank = refl; filling = refl; declares = refl; label = refl; temporary = (λ i. refl, λ i. refl) }
+  layer (Core-F.Or at a b) = record { value = two a b; statement = λ m. refl; next = λ m. refl; blank = refl; filling = refl; declares = refl; label = refl; temporary = (λ i. refl, λ i. refl) }
+  layer (Core-F.PointerOperate at op a b) = record { value = two a b; statement = λ m. refl; next = λ m. refl; blank = refl; filling = refl; declares = refl; label = refl; temporary = (λ i. refl, λ i. refl) }
+  layer (Core-F.Conditional at c a b) = record { value = three c a b; statement = λ m. refl; next = λ m. refl; blank = refl; filling = refl; declares = refl; label = refl; temporary = (λ i. refl, λ i. refl) }
+  layer (Core-F.Comma at es) = record { value = in_comma at es; statement = λ m. refl; next = λ m. refl; blank = refl; filling = refl; declares = refl; label = refl; temporary = (λ i. refl, λ i. refl) }
+  layer (Core-F.Store at a b) = record { value = two a b; statement = λ m. refl; next = λ m. refl; blank = refl; filling = refl; declares = refl; label = refl; temporary = (λ i. refl, λ i. refl) }
+  layer (Core-F.Update at a c b) = record { value = two a b; statement = λ m. refl; next = λ m. refl; blank = refl; filling = refl; declares = refl; label = refl; temporary = (λ i. refl, λ i. refl) }
+  layer (Core-F.Increment at is_postfix c e) = record { value = e.1.value; statement = λ m. refl; next = λ m. refl; blank = refl; filling = refl; declares = refl; label = refl; temporary = (λ i. refl, λ i. refl) }
+  layer (Core-F.Assign at t a b es) = record { value = refl; statement = λ m. refl; next = λ m. refl; blank = refl; filling = refl; declares = refl; label = refl; temporary = (λ i. refl, λ i. refl) }
+  layer (Core-F.Temporary at t e) = record { value = refl; statement = λ m. refl; next = λ m. refl; blank = refl; filling = refl; declares = refl; label = refl; temporary = (λ i. refl, λ i. refl) }
+  layer (Core-F.Call at f t None es) = record { value = in_call at t es; statement = λ m. refl; next = λ m. refl; blank = refl; filling = refl; declares = refl; label = refl; temporary = (λ i. refl, λ i. refl) }
+  layer (Core-F.Call at f t (Some object) es) = record { value = refl; statement = λ m. refl; next = λ m. refl; blank = refl; filling = refl; declares = refl; label = refl; temporary = (λ i. refl, λ i. refl) }
+  layer (Core-F.VirtualCall at m t e es) = record { value = refl; statement = λ m. refl; next = λ m. refl; blank = refl; filling = refl; declares = refl; label = refl; temporary = (λ i. refl, λ i. refl) }
+  layer (Core-F.PointerCall at None e t es) = record { value = in_call at t (e ∷ es); statement = λ m. refl; next = λ m. refl; blank = refl; filling = refl; declares = refl; label = refl; temporary = (λ i. refl, λ i. refl) }
+  layer (Core-F.PointerCall at (Some object) e t es) = record { value = refl; statement = λ m. refl; next = λ m. refl; blank = refl; filling = refl; declares = refl; label = refl; temporary = (λ i. refl, λ i. refl) }
+  layer (Core-F.New at t e) = record { value = refl; statement = λ m. refl; next = λ m. refl; blank = refl; filling = refl; declares = refl; label = refl; temporary = (λ i. refl, λ i. refl) }
+  layer (Core-F.NewArray at t n e) = record { value = refl; statement = λ m. refl; next = λ m. refl; blank = refl; filling = refl; declares = refl; label = refl; temporary = (λ i. refl, λ i. refl) }
+  layer (Core-F.Delete at t e) = record { value = refl; statement = λ m. refl; next = λ m. refl; blank = refl; filling = refl; declares = refl; label = refl; temporary = (λ i. refl, λ i. refl) }
+  layer (Core-F.DeleteArray at t e) = record { value = refl; statement = λ m. refl; next = λ m. refl; blank = refl; filling = refl; declares = refl; label = refl; temporary = (λ i. refl, λ i. refl) }
+  layer (Core-F.Build at f t es) = record { value = refl; statement = λ m. refl; next = λ m. refl; blank = refl; filling = refl; declares = refl; label = refl; temporary = (λ i. refl, λ i. refl) }
+  layer (Core-F.Copy at t e es) = record { value = refl; statement = λ m. refl; next = λ m. refl; blank = refl; filling = refl; declares = refl; label = refl; temporary = (λ i. refl, λ i. refl) }
+  layer (Core-F.Each at e) = record { value = refl; statement = λ m. refl; next = λ m. refl; blank = refl; filling = refl; declares = refl; label = refl; temporary = (λ i. refl, λ i. refl) }
+  layer (Core-F.List at es rest) = record { value = refl; statement = λ m. refl; next = λ m. refl; blank = refl; filling = refl; declares = refl; label = refl; temporary = (λ i. refl, λ i. refl) }
+  layer (Core-F.Characters at bytes) = record { value = refl; statement = λ m. refl; next = λ m. refl; blank = refl; filling = refl; declares = refl; label = refl; temporary = (λ i. refl, λ i. refl) }
+  layer (Core-F.Bind at holder.NoTemporary e) = record { value = e.1.value; statement = λ m. refl; next = λ m. refl; blank = refl; filling = refl; declares = refl; label = refl; temporary = (λ i. refl, λ i. refl) }
+  layer (Core-F.Bind at (holder.LocalTemporary j t) e) = record {
+    value = refl;
+    statement = λ m. refl;
+    next = λ m. refl;
+    blank = refl;
+    filling = refl;
+    declares = refl;
+    label = refl;
+    temporary = (
+      λ i. ap (λ b. nat_lt i j && b) (sym (where-false at (is_reference (type_of tables t)) (test_of e).value _ e.1.value)),
+      λ i. refl,
+      refl,
+    );
+  }
+  layer (Core-F.Bind at (holder.StaticTemporary name) e) = record { value = refl; statement = λ m. refl; next = λ m. refl; blank = refl; filling = refl; declares = refl; label = refl; temporary = (λ i. refl, λ i. refl) }
+  layer (Core-F.Zeros at) = record { value = refl; statement = λ m. refl; next = λ m. refl; blank = refl; filling = refl; declares = refl; label = refl; temporary = (λ i. refl, λ i. refl) }
+  layer (Core-F.Blank at) = record { value = refl; statement = λ m. refl; next = λ m. refl; blank = refl; filling = refl; declares = refl; label = refl; temporary = (λ i. refl, λ i. refl) }
+  layer (Core-F.Full at e) = record { value = refl; statement = λ m. start-is e; next = λ m. refl; blank = refl; filling = refl; declares = refl; label = refl; temporary = (λ i. refl, λ i. refl) }
+  layer (Core-F.Block at es) = record { value = refl; statement = λ m. in_order m es; next = λ m. refl; blank = refl; filling = refl; declares = refl; label = refl; temporary = (λ i. refl, λ i. refl) }
+  layer (Core-F.Sequence at es) = record { value = refl; statement = λ m. in_order m es; next = λ m. nexts m es; blank = refl; filling = refl; declares = refl; label = refl; temporary = (λ i. refl, λ i. refl) }
+  layer (Core-F.Declare at i t e) = record { value = refl; statement = λ m. where-true at (nat_le m i) _ _ (local-is at i e); next = λ m. behind-is i e; blank = refl; filling = refl; declares = refl; label = refl; temporary = (λ i. refl, λ i. refl) }
+  layer (Core-F.Once at n e) = record { value = refl; statement = λ m. refl; next = λ m. refl; blank = refl; filling = refl; declares = refl; label = refl; temporary = (λ i. refl, λ i. refl) }
+  layer (Core-F.If at c a None) = record { value = refl; statement = λ m. and-is _ _ _ _ c.1.value (and-is _ _ _ _ (inner-is at m a) (inner_or-is at m None)); next = λ m. refl; blank = refl; filling = refl; declares = refl; label = refl; temporary = (λ i. refl, λ i. refl) }
+  layer (Core-F.If at c a (Some b)) = record { value = refl; statement = λ m. and-is _ _ _ _ c.1.value (and-is _ _ _ _ (inner-is at m a) (inner_or-is at m (Some b))); next = λ m. refl; blank = refl; filling = refl; declares = refl; label = refl; temporary = (λ i. refl, λ i. refl) }
+  layer (Core-F.Loop at f None None s) = record { value = refl; statement = in_loop None None s; next = λ m. refl; blank = refl; filling = refl; declares = refl; label = refl; temporary = (λ i. refl, λ i. refl) }
+  layer (Core-F.Loop at f None (Some e) s) = record { value = refl; statement = in_loop None (Some e) s; next = λ m. refl; blank = refl; filling = refl; declares = refl; label = refl; temporary = (λ i. refl, λ i. refl) }
+  layer (Core-F.Loop at f (Some c) None s) = record { value = refl; statement = in_loop (Some c) None s; next = λ m. refl; blank = refl; filling = refl; declares = refl; label = refl; temporary = (λ i. refl, λ i. refl) }
+  layer (Core-F.Loop at f (Some c) (Some e) s) = record { value = refl; statement = in_loop (Some c) (Some e) s; next = λ m. refl; blank = refl; filling = refl; declares = refl; label = refl; temporary = (λ i. refl, λ i. refl) }
+  layer (Core-F.Switch at e es) = record { value = refl; statement = λ m. and-is _ _ _ _ e.1.value (in_cases m es); next = λ m. refl; blank = refl; filling = refl; declares = refl; label = refl; temporary = (λ i. refl, λ i. refl) }
+  layer (Core-F.Case at z) = record { value = refl; statement = λ m. refl; next = λ m. refl; blank = refl; filling = refl; declares = refl; label = refl; temporary = (λ i. refl, λ i. refl) }
+  layer (Core-F.Default at) = record { value = refl; statement = λ m. refl; next = λ m. refl; blank = refl; filling = refl; declares = refl; label = refl; temporary = (λ i. refl, λ i. refl) }
+  layer (Core-F.Break at) = record { value = refl; statement = λ m. refl; next = λ m. refl; blank = refl; filling = refl; declares = refl; label = refl; temporary = (λ i. refl, λ i. refl) }
+  layer (Core-F.Continue at) = record { value = refl; statement = λ m. refl; next = λ m. refl; blank = refl; filling = refl; declares = refl; label = refl; temporary = (λ i. refl, λ i. refl) }
+  layer (Core-F.Return at None) = record { value = refl; statement = λ m. refl; next = λ m. refl; blank = refl; filling = refl; declares = refl; label = refl; temporary = (λ i. refl, λ i. refl) }
+  layer (Core-F.Return at (Some e)) = record { value = refl; statement = λ m. e.1.value; next = λ m. refl; blank = refl; filling = refl; declares = refl; label = refl; temporary = (λ i. refl, λ i. refl) }
+  layer (Core-F.Parts at ps s) = record { value = refl; statement = λ m. refl; next = λ m. refl; blank = refl; filling = refl; declares = refl; label = refl; temporary = (λ i. refl, λ i. refl) }
 
   rolled : (x : Core-F Node PartStart) → IsLayer x → IsTested (roll-Core x)
   rolled x p =

@@ -1,6 +1,6 @@
 -- Full expressions of a body, and initialisers of locals.
 use Rattle.std.proofs.Common.{◌≡◌, ℕ, ◌+◌, Bool, true, false, ◌||◌, List, [], ◌∷◌, length, refl, ap, sym, subst, ◌∙◌}
-use Rattle.std.specs.Prelude.{Option, None, if◌then◌else◌}
+use Rattle.std.specs.Prelude.{Option, Some, None, if◌then◌else◌}
 use Rattle.cf_classes.specs.declared.class.MemberRef.{MemberRef}
 use Rattle.cf_core.specs.Types.{Name}
 use Rattle.cf_core.specs.Classes.{Class}
@@ -23,10 +23,13 @@ use Rattle.cf_sequence.proofs.Fulls.{whole-is, nothing-is}
 use Rattle.cf_sequence_expr.specs.Writes.{used}
 use Rattle.cf_sequence_expr.specs.Pieces.{Piece, truth}
 use Rattle.cf_sequence_stmt.specs.declared.body.Body.{Body}
-use Rattle.cf_sequence_stmt.specs.Bodies.{Initial, does_nothing, fills, gives, is_blank, behind_flags, full, given, tested, started, declared}
+use Rattle.cf_sequence_stmt.specs.declared.body.Open.{Open}
+use Rattle.cf_sequence_stmt.specs.Bodies.{Initial, does_nothing, fills, gives, is_blank, behind_flags, full, given, tested, started, held_too, declared}
 use Rattle.cf_sequence_written.proofs.Puts.{Puts, puts-none, still-set, still-act, still-used, puts-as, puts-at, puts-still, still-puts}
 use Rattle.cf_sequence_written.proofs.Values.{Writes, puts-truth}
 use Rattle.cf_sequence_written.proofs.Evaluated.{gives-value}
+use Rattle.cf_sequence_written.proofs.Opens.{ends}
+use Rattle.cf_sequence_written.proofs.Held.{held_list}
 use Rattle.cf_sequence_written.proofs.Bodies.{Goes, goes-on, goes-opened}
 
 pub whole-start : (e : Core) → is_start e ≡ true → (n : Register) (k : ℕ) (code : Full → Register → Plains → Plains) (rest : Register → Plains)
@@ -34,12 +37,22 @@ pub whole-start : (e : Core) → is_start e ≡ true → (n : Register) (k : ℕ
 whole-start core.blank ok n k code rest = refl
 whole-start e ok n k code rest = whole-is e ok n k code rest
 
+-- no temporary stands around it
+abbrev pub Around : Core → Type 0
+Around e =
+    (n : Register) (k : ℕ) (code : Full → Register → Plains → Plains) (rest : Register → Plains)
+    → whole e n k code rest ≡ code (record { first = k; base = n }) (n + width e) (rest (n + width e))
+
+pub gives-builds : (e : Core) → is_start e ≡ true → is_nothing e ≡ false → builds e ≡ false
+gives-builds e ok there = gives-value e (subst (λ b. b || is_value e ≡ true) there ok)
+
 module _ (tables : Tables) (signature : MemberRef → Name) where
   -- an expression that stands by itself, or an initialiser
   pub record Whole (p : Piece) (e : Core) : Type 0 where
     pub writes : (classes : List Class) → Writes tables signature classes p e
     pub count : length (p.locals []) ≡ width e
-    pub start : is_start e ≡ true
+    pub around : Around e
+    pub put : is_nothing e ≡ false → builds e ≡ false
 
   abbrev pub first_at : ℕ → Register → Full
   first_at k n = record { first = k; base = n }
@@ -61,7 +74,7 @@ module _ (tables : Tables) (signature : MemberRef → Name) where
   unfolding full
   goes-full {p} {e} f b w =
       goes-on tables signature b (puts-as tables signature (puts-value f.classes 0 None w)
-      (λ k rest. sym (whole-start e w.start 0 k (λ x n rest. value f.classes x e None n k rest) (λ n. rest))) refl)
+      (λ k rest. sym (w.around 0 k (λ x n rest. value f.classes x e None n k rest) (λ n. rest))) refl)
 
   -- a value that is used
   pub goes-given : {p : Piece} {e : Core} (classes : List Class) (b : Body) → Whole p e
@@ -81,9 +94,9 @@ module _ (tables : Tables) (signature : MemberRef → Name) where
       (subst (λ r. Puts tables signature (truth p r) (λ k rest. value classes (first_at k 0) e None (0 + width e) k (more (sets (0 + width e) (plain.truth (0 + width e))) rest)) (width e)) (behind w 0)
       (puts-at tables signature (λ i. puts-truth tables signature classes (first_at i 0) (0 + width e) (w.writes classes))))
 
-  pub condition-is : (classes : List Class) (e : Core) → is_start e ≡ true → (k : ℕ) (rest : Register → Plains)
+  pub condition-is : (classes : List Class) (e : Core) → Around e → (k : ℕ) (rest : Register → Plains)
       → value classes (first_at k 0) e None (0 + width e) k (more (sets (0 + width e) (plain.truth (0 + width e))) (rest (0 + width e))) ≡ condition classes e k rest
-  condition-is classes e ok k rest = sym (whole-start e ok 0 k (λ x n rest. value classes x e None n k (more (sets n (plain.truth n)) rest)) rest)
+  condition-is classes e around k rest = sym (around 0 k (λ x n rest. value classes x e None n k (more (sets n (plain.truth n)) rest)) rest)
 
   -- Initialisers.
 
@@ -116,10 +129,7 @@ module _ (tables : Tables) (signature : MemberRef → Name) where
       (λ k rest.
       ap (λ r. value classes (first_at k 1) e (destination 0 (type_of tables t)) (1 + width e) k (more (acts (plain.first 0 r)) rest)) (sym (behind w 1))
       ∙ ap (λ c. value classes (first_at k 1) e (destination 0 (type_of tables t)) (1 + width e) k (if c then rest else more (acts (plain.first 0 (1 + width e))) rest)) (sym gives_value)
-      ∙ sym (whole-start e w.start 1 k (λ x m rest. value classes x e (destination 0 (type_of tables t)) m k rest) (λ m. if builds e then rest else more (acts (plain.first 0 m)) rest))) refl
-
-  gives-builds : (e : Core) → is_start e ≡ true → is_nothing e ≡ false → builds e ≡ false
-  gives-builds e ok there = gives-value e (subst (λ b. b || is_value e ≡ true) there ok)
+      ∙ sym (w.around 1 k (λ x m rest. value classes x e (destination 0 (type_of tables t)) m k rest) (λ m. if builds e then rest else more (acts (plain.first 0 m)) rest))) refl
 
   puts-nothing : (p : Piece) (e : Core) (classes : List Class) (t : ℕ) → is_nothing e ≡ true
       → Puts tables signature (started does_nothing p) (λ k rest. definition.started classes (type_of tables t) e 0 k rest) (width e)
@@ -139,11 +149,15 @@ module _ (tables : Tables) (signature : MemberRef → Name) where
   puts-started {p} {e} classes t does_nothing w = puts-nothing p e classes t w.begins
   puts-started {p} {e} classes t (fills a) w = puts-filled p e classes t a w.begins.0 w.begins.1
   puts-started {p} {e} classes t gives w =
-      let whole = w.whole w.begins.1 in puts-value-there classes t (gives-builds e whole.start w.begins.0) whole
+      let whole = w.whole w.begins.1 in puts-value-there classes t (whole.put w.begins.0) whole
 
-  pub goes-declared : {p : Piece} {e : Core} (f : Inside) (b : Body) (i t : ℕ) (initial : Initial) → Initiates initial p e
-      → Goes tables signature (λ k rest. statement f (core.declare i (type_of tables t) e) k rest) (width e) (record { number = i; type = type_of tables t } ∷ []) b (declared i t initial p b)
-  unfolding declared
-  goes-declared f b i t initial w =
+  pub goes-declared : {p : Piece} {e : Core} (f : Inside) (b : Body) (i t : ℕ) (initial : Initial) (held : Option Open) → Initiates initial p e
+      → Goes tables signature (λ k rest. statement f (core.declare i (type_of tables t) e) k rest) (width e) (record { number = i; type = type_of tables t } ∷ ends tables (held_list held)) b
+      (declared i t initial held p b)
+  unfolding declared held_too
+  goes-declared f b i t initial None w =
       goes-opened tables signature i t
       (goes-on tables signature b (still-puts tables signature (still-set tables signature 0 (action.Declare i t)) (puts-started f.classes t initial w)))
+  goes-declared f b i t initial (Some x) w =
+      goes-opened tables signature i t (goes-opened tables signature x.number x.ty
+      (goes-on tables signature b (still-puts tables signature (still-set tables signature 0 (action.Declare i t)) (puts-started f.classes t initial w))))

@@ -1,19 +1,14 @@
-use Rattle.std.proofs.Common.{◌∙◌, ap, sym, true, false, reverse}
-use Rattle.cf_core.specs.Calls.{run_library}
-use Rattle.cf_core_objects.specs.Store.{state_of}
-use Rattle.cf_core_run.specs.Going.{on_value, finish, world_of}
-use Rattle.cf_core_run.proofs.Laws.{value-as}
-use Rattle.std.proofs.Common.{bytes_eq}
-use Rattle.cf_core_run.specs.Going.{library_on}
-use Rattle.cf_core_run.proofs.CallLaws.{library-goes}
+use Rattle.std.proofs.Common.{◌∙◌, List, ℕ, ap, option_map, rules}
+use Rattle.cf_core.specs.Calls as calls
+use Rattle.cf_core_objects.specs.Store.{state_of, value_of}
+use Rattle.cf_core_run.specs.Going.{from_value, library_on}
+use Rattle.cf_core_run.proofs.Laws.{comes-by}
+use Rattle.cf_core_run.proofs.CallLaws.{library-ends}
 use Rattle.cf_core_run.proofs.state.Machine.call_library.Goals as goal
 
-pub returns-then-eq : goal.returns-then-eq
-returns-then-eq c = λ p. record {
-  same = λ T o. ap (λ r. finish T p o (on_value T p (reverse c.args.self.now.stack.items) r))
-      (library-goes T p c.args.name.now c.args.made.now true (state_of T c.args.self.now.entered c.args.self.now.objects) (world_of c.args.self.now.ticks o) (ap (bytes_eq c.args.name.now) (sym c.as_slice.ensures) ∙ sym c.eq.ensures ∙ c.if-eq.true));
-}
-
-pub returns-else-eq : goal.returns-else-eq
-returns-else-eq c = λ p. value-as p c.args.self.now (λ T. run_library c.args.name.now c.args.made.now) (λ T. library_on T p c.args.name.now c.args.made.now) c.call_on.result c.call_on.new.self (c.call_on.ensures p)
-    (λ T s w. library-goes T p c.args.name.now c.args.made.now false s w (ap (bytes_eq c.args.name.now) (sym c.as_slice.ensures) ∙ sym c.eq.ensures ∙ c.if-eq.false))
+pub returns : goal.returns
+returns c = λ p. comes-by p (λ T o. from_value T p c.args.self.now (calls.call_library c.args.name.now c.args.made.items) o)
+    (λ T o. from_value T p (record c.args.self.now { stack = c.push.new.self }) (library_on T p c.args.name.now (option_map value_of c.first_argument-first.result)) o) c.run_library.result c.run_library.new.self
+    (λ T o. library-ends T p c.args.self.now c.push.new.self c.args.name.now c.args.made.items _ c.first_argument-first.result o c.in_ok-push.ensures.items (search rules)
+    (c.first_argument-first.ensures T ∙ ap (λ (l : List ℕ). calls.argument l (state_of T c.args.self.now.entered c.args.self.now.objects)) c.as_slice.ensures.value))
+    (c.run_library.ensures p)

@@ -1,6 +1,5 @@
 use Rattle.cf_core.specs.Store.{Code}
 use Rattle.std.proofs.Common.{◌∙◌, List, ℕ, None, ap, sym}
-use Rattle.cf_core.specs.Calls.{name_function, run_library, root}
 use Rattle.cf_run_tree.specs.Tree.{program_of}
 use Rattle.cf_core_run.specs.Going.{called}
 use Rattle.cf_core_run.proofs.Laws.{value-as}
@@ -10,10 +9,10 @@ use Rattle.cf_core_run.proofs.CallLaws.{called-library, called-function}
 use Rattle.cf_core_run.proofs.state.Machine.call_named.Goals as goal
 
 pub returns-then-is_library : goal.returns-then-is_library
-returns-then-is_library c = value-as c.args.program.now c.args.self.now (λ T. called T c.args.program.now c.args.self.now.fuel (Code c.args.name.now) c.args.made.items) (λ T. run_library c.args.name.now c.as_slice.result.now) c.call_library.result c.call_library.new.self (c.call_library.ensures c.args.program.now)
-    (λ T s w. called-library T c.args.program.now c.args.self.now.fuel c.args.name.now c.args.made.items s w (sym c.is_library.ensures ∙ c.if-is_library.true) ∙ ap (λ (l : List ℕ). run_library c.args.name.now l s w) (sym c.as_slice.ensures.value))
+returns-then-is_library c = value-as c.args.program.now c.args.self.now (λ T. called T c.args.program.now c.args.self.now.fuel (Code c.args.name.now) c.args.made.items) (λ T. calls.call_library c.args.name.now c.args.made.items) c.call_library.result c.call_library.new.self (c.call_library.ensures c.args.program.now)
+    (λ T s w. called-library T c.args.program.now c.args.self.now.fuel c.args.name.now c.args.made.items s w (sym c.is_library.ensures ∙ c.if-is_library.true))
 
-pub returns : goal.returns
-returns c = value-as c.args.program.now c.args.self.now (λ T. called T c.args.program.now c.args.self.now.fuel (Code c.args.name.now) c.args.made.items)
+pub returns-else-is_library : goal.returns-else-is_library
+returns-else-is_library c = value-as c.args.program.now c.args.self.now (λ T. called T c.args.program.now c.args.self.now.fuel (Code c.args.name.now) c.args.made.items)
     (λ T. calls.enter_found (again T c.args.program.now c.args.self.now.fuel) (calls.function_named (program_of T c.args.program.now) c.args.name.now) c.args.made.items None None) c.call_function.result c.call_function.new.self c.call_function.ensures
     (λ T s w. called-function T c.args.program.now c.args.self.now.fuel c.args.name.now c.args.made.items s w (sym c.is_library.ensures ∙ c.if-is_library.false))

@@ -57,3 +57,7 @@ returns-in-Element c = λ p. value-as p c.args.self.now (λ T. go_value T p c.ar
 pub returns-in-Constant : goal.returns-in-Constant
 returns-in-Constant c = λ p. value-as p c.args.self.now (λ T. go_value T p c.args.self.now.fuel c.args.mark (value_of c.args.v)) (λ T. go_value T p c.args.self.now.fuel (vm.Constant c.in-Constant.number c.in-Constant.rest) (value_of c.args.v)) c.constant.result c.constant.new.self (c.constant.ensures p)
     (λ T s w. ap (λ (x : ValueMark). go_value T p c.args.self.now.fuel x (value_of c.args.v) s w) c.in-Constant.is)
+
+pub returns-in-Library : goal.returns-in-Library
+returns-in-Library c = λ p. value-as p c.args.self.now (λ T. go_value T p c.args.self.now.fuel c.args.mark (value_of c.args.v)) (λ T. go_value T p c.args.self.now.fuel (vm.Library c.in-Library.made) (value_of c.args.v)) c.end_library.result c.end_library.new.self (c.end_library.ensures p)
+    (λ T s w. ap (λ (x : ValueMark). go_value T p c.args.self.now.fuel x (value_of c.args.v) s w) c.in-Library.is)

@@ -1,0 +1,5 @@
+pub mod Lists
+pub mod Places
+pub mod Tests
+pub mod Blocks
+pub mod LowerFrames

@@ -1,0 +1,15 @@
+pub mod Arguments
+pub mod Closing
+pub mod Entry
+pub mod Source
+pub mod Written
+pub mod Following
+pub mod Behind
+pub mod Both
+pub mod Named
+pub mod Dropped
+pub mod Results
+pub mod Given
+pub mod Storing
+pub mod Kept
+pub mod LowerPoints

@@ -1,0 +1,4 @@
+pub mod Invoking
+pub mod LowerPoints
+pub mod LowerReturns
+pub mod LowerActions

@@ -1,0 +1,9 @@
+pub mod Quiet
+pub mod Stays
+pub mod Standing
+pub mod Before
+pub mod Led
+pub mod Alike
+pub mod Small
+pub mod LowerActions
+pub mod LowerLeaves

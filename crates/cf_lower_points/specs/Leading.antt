@@ -1,0 +1,29 @@
+-- The point behind a statement that is no control, by what is open before it.
+use Rattle.std.specs.Prelude.{Bool, true, false, ◌&&◌, List, [], ◌∷◌, Some, None}
+use Rattle.cf_plain.specs.Plain.{Action, zeros, bytes, Plain, act, set, give}
+use Rattle.cf_plain_kept.specs.Kept as plain
+use Rattle.cf_lower.specs.Kept.{Keeping, Locals, after}
+use Rattle.cf_lower_kept.specs.Opened.{Opened, object_kept, begun_well, action_opens, opened_by, set_in}
+use Rattle.cf_lower_bounds.specs.Points.{Standing, never, these, Point}
+
+-- an object that is filled by itself has just been declared
+abbrev pub fills_well : plain.Keeping → Action → List Opened → Bool
+fills_well g (zeros r) xs = begun_well (object_kept (g r)) r xs
+fills_well g (bytes r b) xs = begun_well (object_kept (g r)) r xs
+fills_well g a xs = true
+
+-- whether the statement may stand where these are open, and registers hold this
+abbrev pub leads_on : plain.Keeping → Plain → List Opened → Bool
+leads_on g (act a) xs = action_opens g a xs && fills_well g a xs
+leads_on g (set r a) xs = action_opens g a xs
+leads_on g (give r) [] = true
+leads_on g s xs = false
+
+abbrev pub standing_behind : plain.Keeping → Plain → List Opened → Standing
+standing_behind g (act a) xs = these (opened_by g None a xs)
+standing_behind g (set r a) xs = these (opened_by g (Some r) a (set_in r xs))
+standing_behind g s xs = never
+
+-- the point behind a leaf, where registers hold this before it
+abbrev pub point_behind : Locals → plain.Keeping → Keeping → Plain → List Opened → Point
+point_behind locals g h s xs = record { kept = after locals s h; standing = standing_behind g s xs }

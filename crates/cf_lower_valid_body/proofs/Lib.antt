@@ -1,0 +1,9 @@
+pub mod Lists
+pub mod Numbers
+pub mod Typed
+pub mod Types
+pub mod Keeping
+pub mod Values
+pub mod Stores
+pub mod Labels
+pub mod Bodies

@@ -1,0 +1,200 @@
+-- A local reference and the temporary that it binds (8.4.3, 12.2): both are locals of the scope at hand, and the temporary's object is there behind the
+-- reference's.
+use Rattle.std.proofs.Common.{◌≡◌, ℕ, suc, ◌+◌, ◌≤◌, ◌<◌, Bool, true, false, not, ◌&&◌, nat_lt, nat_le, ◌==◌, List, [], ◌∷◌, ◌++◌, refl, sym, ◌∙◌, ap, subst, arith, if◌then◌else◌}
+use Rattle.std.specs.Prelude.{Some}
+use Rattle.std.proofs.lemmas.Bool.Decides.{nat_tests}
+use Rattle.cf_base.proofs.Tests.{both}
+use Rattle.cf_base.specs.World.{World, Ran, and_then}
+use Rattle.cf_core.specs.Types.{SourceType, Name, is_class}
+use Rattle.cf_core.specs.Core as core
+use Rattle.cf_core.specs.Core.{Core, Function, local_temporary}
+use Rattle.cf_core.specs.Places.{is_reference}
+use Rattle.cf_core.specs.Store.{Value, At, new_object, automatic}
+use Rattle.cf_core.specs.Run.{State, Frame, Did, Act, ◌>>=◌, ◌>>◌, gives, undefined, valid, some_or, when, declared_object, frame_changed, lists_local, lists_in_scope, with_frame, not_alive}
+use Rattle.cf_core.specs.Access.{read_place, bound_to, followed}
+use Rattle.cf_core.specs.Objects.{settle, settled as core_settled}
+use Rattle.cf_core.specs.Calls as calling
+use Rattle.cf_core.specs.Calls.{Program, root, function_named, full_expression}
+use Rattle.cf_core.specs.Expressions as meaning
+use Rattle.cf_plain.specs.Plain.{Register, Plains, act, set, more}
+use Rattle.cf_plain.specs.Plain as plain
+use Rattle.cf_plain.specs.Acts.{Registers}
+use Rattle.cf_plain.specs.Running as running
+use Rattle.cf_plain.specs.Running.{Flow, keep}
+use Rattle.cf_sequence.specs.Follows.{Follows}
+use Rattle.cf_sequence.specs.Built.{is_value, is_held, is_chain, behind_declared}
+use Rattle.cf_sequence.specs.Made.{width, held_by}
+use Rattle.cf_sequence.specs.Expressions.{Full, destination, settled, value}
+use Rattle.cf_sequence.specs.Statements.{started}
+use Rattle.cf_sequence.proofs.Following.{on, pull, pull-two}
+use Rattle.cf_sequence.proofs.Calling.{Bodies, never}
+use Rattle.cf_sequence.proofs.Kept.{Kept, Ready, keep-same, keep-other, listed-kept, listed-there}
+use Rattle.cf_sequence.proofs.PlainSteps.{runs_on, set-steps, declare-steps, room-for}
+use Rattle.cf_sequence.proofs.Operands.{H}
+use Rattle.cf_sequence.proofs.Parts.{first-steps, value-gives}
+use Rattle.cf_sequence.proofs.Evaluating.{follow-value}
+use Rattle.cf_sequence.proofs.Fulls.{closing, closed-steps, held_at, held-code}
+use Rattle.cf_sequence.proofs.Moving.{Held, held-kept, Moved, Beyond}
+use Rattle.cf_sequence.proofs.Standing.{Open, Stands, low-bound, settled_full, Turns}
+use Rattle.cf_sequence.proofs.Scopes.{Fallen}
+use Rattle.cf_sequence.proofs.Passing.{declared-state, low-number}
+
+-- a local is there, with its object
+pub declared-ready : (i k : ℕ) (o : ℕ) (e f : Frame) → Ready k e f → Ready k (lists_local i o e) (lists_local i o f)
+declared-ready i k o e f r = record {
+  alike = record { function = r.alike.function; this = r.alike.this; result = r.alike.result; depth = r.alike.depth };
+  count = r.count;
+  wide = r.wide;
+  locals = λ j lt. ap (λ z. if j == i then Some o else z) (r.locals j lt);
+}
+
+lower : (i j : ℕ) → nat_lt i j ≡ true → i < j
+lower i j lt = grind (arith, nat_tests)
+
+not-so : (b : Bool) → not b ≡ true → b ≡ false
+not-so true e = sym e
+not-so false e = refl
+
+-- the place of a local that has just been declared, which is no reference
+here-steps : (again : running.Again) (H : Program) {A B : Type 0} (S : A → State → B → State → Type 0) (j : ℕ) (u : SourceType) (n : Register) (rest : Plains) (g : Registers) (K : Flow → Act B)
+    (x : Ran (Did A)) (s : State) (f : Frame) (w : World) → j < f.count → is_reference u ≡ false
+    → Follows S x (runs_on again H rest (keep g n (At (root s.next))) K (with_frame (lists_local j s.next f) (declared-state j u s)) w)
+    → Follows S x (runs_on again H (more (set n (plain.local j)) rest) g K (with_frame (lists_local j s.next f) (declared-state j u s)) w)
+here-steps again H S j u n rest g K x s f w lt no_reference next =
+    let q : ℕ = s.next in
+    let t : State = with_frame (lists_local j q f) (declared-state j u s) in
+    let G : Value → Act _ = λ v. λ t w. runs_on again H rest (keep g n v) K t w in
+    let same : (q == q) ≡ true = grind (arith, nat_tests) in
+    set-steps again H n (plain.local j) rest g K x t w
+    (subst (λ b. Follows S x (and_then (((valid b >> (some_or (t.frame.locals j) (undefined not_alive) >>= (λ o. gives (root o)))) >>= followed H.classes) t w) (on G))) (sym (room-for j f.count lt))
+    (subst (λ o. Follows S x (and_then (((some_or o (undefined not_alive) >>= (λ o. gives (root o))) >>= followed H.classes) t w) (on G))) (sym (listed-there j q f))
+    (subst (λ b. Follows S x (and_then (when (is_reference (if b then new_object u automatic else s.object q).type) (read_place H.classes (root q) >>= bound_to) (gives (At (root q))) t w) (on G))) (sym same)
+    (subst (λ b. Follows S x (and_then (when b (read_place H.classes (root q) >>= bound_to) (gives (At (root q))) t w) (on G))) (sym no_reference) next))))
+
+-- the frame behind the temporary's initialiser
+abbrev both_listed : ℕ → ℕ → ℕ → ℕ → Frame → Frame
+both_listed i o j q e = lists_in_scope q (lists_local j q (lists_local i o e))
+
+module _ (again : calling.Again) (again' : running.Again) (P : Program) (bodies : Bodies again again' P)
+    (chains : (name : Name) (f : Function) → function_named P name ≡ Some f → is_chain f.type ≡ true)
+    (classless : P.classes ≡ []) (turns : Turns again again' P) (R C : SourceType) (plain-result : is_class R ≡ false)
+    (A B : Type 0) (S : A → State → B → State → Type 0) where
+  -- both are there, and fall through
+  held-falls : (i j k o q : ℕ) (T u : SourceType) (m : ℕ) (op : Open) (D : Beyond) (rest : Plains) (s : State) (f : Frame) (c : calling.Flow → Act A) (K : Flow → Act B)
+      → Stands op D m k s f → m ≤ i → i < j → j < s.frame.count
+      → (Fallen again again' P bodies chains classless turns R C plain-result A B S) (suc j) (record { number = i; type = T } ∷ record { number = j; type = u } ∷ op.here) m c K rest s f
+      → (t : State) (g : Frame) (h : Registers) (w : World) → t.frame ≡ both_listed i o j q s.frame → Kept k (lists_local j q (lists_local i o f)) g
+      → Follows S (c calling.Falls (with_frame (lists_in_scope o t.frame) t) w) (runs_on again' (H again again' P) rest h K (with_frame g t) w)
+  held-falls i j k o q T u m op D rest s f c K st le lt there falls t g h w same kept =
+      let f1 : Frame = lists_local i o f in
+      let c1 = st.ready.count in
+      let e : Frame = both_listed i o j q s.frame in
+      let below : (x : ℕ) → x < m → g.locals x ≡ f.locals x =
+      λ x less. kept.below x (omega arith) ∙ (listed-kept j q f1).below x (omega arith) ∙ (listed-kept i o f).below x (omega arith) in
+      let v : Moved m s f (with_frame (lists_in_scope o t.frame) t) g = record {
+        core = ap (λ (x : Frame). lists_in_scope o x) same ∙ ap (λ (x : Frame). record s.frame { locals = x.locals; scope = o ∷ x.scope }) (sym same);
+        plain = kept.frame;
+        below = below;
+        locals = λ x less.
+            kept.below x (omega arith) ∙ ap (λ z. if x == j then Some q else (if x == i then Some o else z)) (st.ready.locals x less)
+            ∙ ap (λ (y : Frame). y.locals x) (sym same);
+      } in
+      falls (with_frame (lists_in_scope o t.frame) t) g h w v
+      (subst (λ (y : Frame). Held g.locals (suc j) (record { number = i; type = T } ∷ record { number = j; type = u } ∷ op.here) (o ∷ y.scope)) (sym same) (
+        kept.below i (omega arith) ∙ (listed-kept j q f1).below i lt ∙ listed-there i o f,
+        (omega arith),
+        (kept.below j (omega arith) ∙ listed-there j q f1, (omega arith), held-kept f.locals g.locals m (suc j) op.here s.frame.scope st.here (omega arith) below),
+      ))
+      (subst (λ (y : Frame). suc j ≤ y.count) (sym same) there)
+
+  -- the temporary's object is there
+  held-started : (i j : ℕ) (T u : SourceType) (e : Core) → is_value e ≡ true → is_reference u ≡ false → (m : ℕ) → m ≤ i → i < j → (op : Open) (D : Beyond) (k : ℕ) (rest : Plains) (h : Registers) (s : State) (f : Frame) (w : World)
+      (c : calling.Flow → Act A) (K : Flow → Act B) → h 0 ≡ Some (At (root s.next))
+      → Stands op D m k s f → k + width e ≤ f.count
+      → (Fallen again again' P bodies chains classless turns R C plain-result A B S) (suc j) (record { number = i; type = T } ∷ record { number = j; type = u } ∷ op.here) m c K rest s f
+      → (b : Bool) → nat_lt j s.frame.count ≡ b
+      → Follows S
+      (and_then ((valid b >> (declared_object u >>= (λ q. frame_changed (lists_local j q) >> gives q))) (with_frame (record (lists_local i s.next s.frame) { temporaries = [] }) (declared-state i T s)) w)
+      (on (λ q. (core_settled P.classes (root q) (meaning.value again P e (Some (root q))) >> (frame_changed (lists_in_scope q) >> gives (At (root q)))) >>=
+      (λ v. closing again P s.frame.temporaries v >>= (λ v. settle P.classes (root s.next) v >>= (λ x. frame_changed (lists_in_scope s.next) >>= (λ x. c calling.Falls)))))))
+      (runs_on again' (H again again' P) (started P.classes T (core.bind (local_temporary j u) e) 0 k rest) h K (with_frame (lists_local i s.next f) (declared-state i T s)) w)
+  held-started i j T u e ok no_reference m le lt op D k rest h s f w c K at st room falls false there = record { by = tt }
+  held-started i j T u e ok no_reference m le lt op D k rest h s f w c K at st room falls true there =
+      let o : ℕ = s.next in
+      let s1 : State = declared-state i T s in
+      let e0 : Frame = record s1.frame { temporaries = [] } in
+      let s0 : State = with_frame e0 s1 in
+      let q : ℕ = s1.next in
+      let s2 : State = declared-state j u s0 in
+      let f1 : Frame = lists_local i o f in
+      let f2 : Frame = lists_local j q f1 in
+      let n : Register = held_at e 0 in
+      let object : Register = suc n in
+      let first : Register = suc object in
+      let h1 : Registers = keep h object (At (root q)) in
+      let h2 : Registers = keep h1 n (At (root q)) in
+      let listed : Frame = both_listed i o j q s.frame in
+      let last : Plains = more (act (plain.first 0 n)) rest in
+      let binds : Value → Act A = λ v. settle P.classes (root o) v >>= (λ x. frame_changed (lists_in_scope o) >>= (λ x. c calling.Falls)) in
+      let closes : Value → Act A = λ v. closing again P s.frame.temporaries v >>= binds in
+      let ends : Act Value = frame_changed (lists_in_scope q) >> gives (At (root q)) in
+      let full : Full = record { first = k; base = 1 } in
+      let code : Plains = value P.classes full e (destination object u) first k (settled e object first last) in
+      let ready : Ready k e0 f1 = record {
+        alike = record { function = st.ready.alike.function; this = st.ready.alike.this; result = st.ready.alike.result; depth = st.ready.alike.depth };
+        count = st.ready.count;
+        wide = st.ready.wide;
+        locals = λ x less. ap (λ z. if x == i then Some o else z) (st.ready.locals x less);
+      } in
+      let c1 = st.ready.count in
+      let c2 = st.ready.wide in
+      let number : suc j ≤ s.frame.count = low-number j s.frame.count there in
+      let core_side = and_then ((core_settled P.classes (root q) (meaning.value again P e (Some (root q))) >> ends) s2 w) (on closes) in
+      subst (λ code. Follows S core_side (runs_on again' (H again again' P) code h K (with_frame f1 s1) w)) (sym (held-code P.classes T j u e ok 0 k rest))
+      (declare-steps again' (H again again' P) j u object (more (set n (plain.local j)) code) h K _ s1 f1 w (omega arith)
+      (here-steps again' (H again again' P) S j u n code h1 K core_side s0 f1 w (omega arith) no_reference
+      (pull-two (meaning.value again P e (Some (root q)) s2 w) (settle P.classes (root q)) (λ x. ends) closes _
+      (follow-value again again' P bodies chains A B S e ok (Some (root q)) (destination object u) full first k (settled e object first last) h2 s2 f2 w
+      (λ v. (settle P.classes (root q) v >> ends) >>= closes) K (declared-ready j k q e0 f1 ready) room (λ v t h3 f3 w3 done.
+      pull (settle P.classes (root q) v t w3) (λ x. ends) closes _
+      (subst (λ b. Follows S (and_then (settle P.classes (root q) v t w3) (on (λ x. ends >>= closes))) (runs_on again' (H again again' P) (if b then last else more (act (plain.first object first)) last) h3 K (with_frame f3 t) w3))
+      (sym (value-gives again again' P bodies chains A B S e ok))
+      (first-steps again again' P bodies chains A B S object first (root q) v h3 last (λ x. ends >>= closes) K t f3 w3
+      (done.below object (omega arith) ∙ keep-other n object h1 (At (root q)) (λ z. omega arith) ∙ keep-same object h (At (root q))) done.value (λ t3 same.
+      closed-steps again again' P bodies chains A B S listed (with_frame (lists_in_scope q t3.frame) t3) w3 (At (root q)) binds _ (ap (λ (x : Frame). lists_in_scope q x) (same ∙ done.frame))
+      (first-steps again again' P bodies chains A B S 0 n (root o) (At (root q)) h3 rest (λ x. frame_changed (lists_in_scope o) >>= (λ x. c calling.Falls)) K (with_frame listed t3) f3 w3
+      (done.below 0 (omega arith) ∙ keep-other n 0 h1 (At (root q)) (λ z. omega arith) ∙ keep-other object 0 h (At (root q)) (λ z. omega arith) ∙ at)
+      (done.below n (omega arith) ∙ keep-same n h1 (At (root q))) (λ t4 same4.
+      held-falls i j k o q T u m op D rest s f c K st le lt number falls t4 f3 h3 w3 same4 done.kept))))))))))
+
+  pub held-declaration : (i : ℕ) (T : SourceType) (e : Core) (m : ℕ) → nat_le m i ≡ true → is_held i e ≡ true → (op : Open) (D : Beyond) (k : ℕ) (rest : Plains) (g : Registers) (s : State) (f : Frame) (w : World)
+      (c : calling.Flow → Act A) (K : Flow → Act B)
+      → Stands op D m k s f → k + width e ≤ f.count
+      → (Fallen again again' P bodies chains classless turns R C plain-result A B S) (behind_declared i e) ((record { number = i; type = T } ∷ held_by e) ++ op.here) m c K rest s f
+      → (b : Bool) → nat_lt i s.frame.count ≡ b
+      → Follows S (and_then ((valid b >> (declared_object T >>= (λ o. frame_changed (lists_local i o) >> gives o))) s w)
+      (on (λ o. (settled_full again P (root o) e >> frame_changed (lists_in_scope o)) >>= (λ u. c calling.Falls))))
+      (runs_on again' (H again again' P) (more (set 0 (plain.declare i T)) (started P.classes T e 0 k rest)) g K (with_frame f s) w)
+  held-declaration i T (core.bind (local_temporary j u) e) m le ok op D k rest g s f w c K st room falls false there = record { by = tt }
+  held-declaration i T (core.bind (local_temporary j u) e) m le ok op D k rest g s f w c K st room falls true there =
+      let parts = both (nat_lt i j) (not (is_reference u) && is_value e) ok in
+      let value_parts = both (not (is_reference u)) (is_value e) parts.1 in
+      let held : Core = core.bind (local_temporary j u) e in
+      let o : ℕ = s.next in
+      let s1 : State = declared-state i T s in
+      let s0 : State = with_frame (record s1.frame { temporaries = [] }) s1 in
+      let number : suc i ≤ s.frame.count = low-number i s.frame.count there in
+      let c1 = st.ready.count in
+      let c2 = st.ready.wide in
+      let falling_on : Unit {0} → Act A = λ x. c calling.Falls in
+      let listing : Unit {0} → Act (Unit {0}) = λ x. frame_changed (lists_in_scope o) in
+      let binds : Value → Act A = λ v. settle P.classes (root o) v >>= (λ x. frame_changed (lists_in_scope o) >>= falling_on) in
+      let keeps : ℕ → Act Value = λ q. core_settled P.classes (root q) (meaning.value again P e (Some (root q))) >> (frame_changed (lists_in_scope q) >> gives (At (root q))) in
+      let made = (valid (nat_lt j s.frame.count) >> (declared_object u >>= (λ q. frame_changed (lists_local j q) >> gives q))) s0 w in
+      declare-steps again' (H again again' P) i T 0 (started P.classes T held 0 k rest) g K _ s f w (omega arith)
+      (pull (settled_full again P (root o) held s1 w) listing falling_on _
+      (pull (full_expression again P (meaning.value again P held (Some (root o))) s1 w) (settle P.classes (root o)) (λ x. frame_changed (lists_in_scope o) >>= falling_on) _
+      (pull (and_then made (on keeps)) (closing again P s.frame.temporaries) binds _
+      (pull made keeps (λ v. closing again P s.frame.temporaries v >>= binds) _
+      (held-started i j T u e value_parts.1 (not-so (is_reference u) value_parts.0) m (low-bound m i le) (lower i j parts.0) op D k rest (keep g 0 (At (root o))) s f w c K (keep-same 0 g (At (root o))) st room falls (nat_lt j s.frame.count) refl)))))
+  held-declaration i T e m le ok op D k rest g s f w c K st room falls b there = never ok
