@@ -9,7 +9,7 @@ use Rattle.cf_types.specs.Table.{Table}
 use Rattle.cf_elab.specs.Operand.{Value, Sort, integral, sort_of}
 use Rattle.cf_elab.specs.Choice.{operand_kind, operator_kind}
 use Rattle.cf_elab_env.specs.Holds.{Known, IsType, FitsIn, fits_sort}
-use Rattle.cf_elab_numbers.specs.Numbers.{NumberOf, TakesRight}
+use Rattle.cf_elab_fit.specs.NumbersNumbers.{NumberOf, TakesRight}
 
 fits_in : (types : Table) (t : ℕ) (k : Kind) (n : Option ℤ) → sort_of types t ≡ integral k → NumberOf k n → FitsIn types t n
 fits_in types t k None e f = tt

@@ -1,4 +1,4 @@
--- The rows of operators on integers, each under a name of its own that does not unfold. `Rattle.cf_elab_arith.proofs.Steps` says what each is.
+-- The rows of operators on integers, each under a name of its own that does not unfold. `Rattle.cf_elab_arith.proofs.StepLaws` says what each is.
 use Rattle.std.specs.Prelude.{ℕ, ℤ, Option}
 use Rattle.cf_base.specs.declared.kind.Kind.{Kind}
 use Rattle.cf_base.specs.declared.arith.Arith.{Arith}

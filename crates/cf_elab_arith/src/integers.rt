@@ -3,16 +3,17 @@ ghost use Rattle.cf_elab.specs.Answer.{Made};
 ghost use Rattle.cf_elab_arith.specs.Shut as shut;
 ghost use Rattle.cf_elab_env.specs.Answered.{Agrees};
 ghost use Rattle.cf_elab_env.specs.Holds.{Known, Grows};
-ghost use Rattle.cf_elab_numbers.specs.Numbers.{NumberOf};
+ghost use Rattle.cf_elab_fit.specs.NumbersNumbers.{NumberOf};
 
 use cf_base::{Arith, Boxed, Kind, Memory};
 use cf_core::{Core, UnaryOperator};
 use cf_elab_env::{Env, Stop, Value};
-use cf_elab_fit::to_kind;
-use cf_elab_numbers::{complement, negative, operand_kind, operated, operator_kind, result_kind};
+use cf_elab_fit::{
+    complement, negative, operand_kind, operated, operator_kind, result_kind, to_kind,
+};
 
 /// A computed value of an integer type, with its number where it is known (5.19).
-#[tactic(auto, using(crate::proofs::Steps::integer_laws))]
+#[tactic(auto, using(crate::proofs::StepLaws::integer_laws))]
 pub fn integer(
     env: &mut Env,
     at: u32,
@@ -31,7 +32,7 @@ pub fn integer(
 }
 
 /// An operator on two values, by the promoted types of both (4.5, 5.6 to 5.13).
-#[tactic(auto, using(crate::proofs::Steps::on_kinds_laws))]
+#[tactic(auto, using(crate::proofs::StepLaws::on_kinds_laws))]
 pub fn on_kinds(
     env: &mut Env,
     at: u32,
@@ -63,7 +64,7 @@ pub fn on_kinds(
 }
 
 /// `-` of a value of this promoted type (5.3).
-#[tactic(auto, using(crate::proofs::Steps::negated_laws))]
+#[tactic(auto, using(crate::proofs::StepLaws::negated_laws))]
 pub fn negated(env: &mut Env, at: u32, kind: Kind, x: Value) -> Result<Value, Stop>
     requires { Known env.old.types x }
     ensures made { Agrees (shut.negated at kind x env.old) result env.new }
@@ -83,7 +84,7 @@ pub fn negated(env: &mut Env, at: u32, kind: Kind, x: Value) -> Result<Value, St
 }
 
 /// `~` of a value of this promoted type (5.3).
-#[tactic(auto, using(crate::proofs::Steps::complemented_laws))]
+#[tactic(auto, using(crate::proofs::StepLaws::complemented_laws))]
 pub fn complemented(env: &mut Env, at: u32, kind: Kind, x: Value) -> Result<Value, Stop>
     requires { Known env.old.types x }
     ensures made { Agrees (shut.complemented at kind x env.old) result env.new }

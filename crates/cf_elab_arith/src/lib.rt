@@ -8,6 +8,7 @@ mod logical;
 mod refusals;
 mod sorts;
 
+pub use cf_elab_fit::{convert, plain, steps, to_kind, truth};
 pub use integers::{complemented, integer, negated, on_kinds};
 pub use logical::{conjunction, disjunction, negation};
 pub use refusals::broken;

@@ -7,11 +7,10 @@ use crate::integers::integer;
 use cf_base::{Kind, Rule};
 use cf_core::Core;
 use cf_elab_env::{Env, Stop, Value};
-use cf_elab_fit::truth;
-use cf_elab_numbers::{both_true, inverted, one_true};
+use cf_elab_fit::{both_true, inverted, one_true, truth};
 
 /// `!` of a value of an arithmetic or pointer type; else K18 (5.3).
-#[tactic(auto, using(crate::proofs::Steps::negation_laws))]
+#[tactic(auto, using(crate::proofs::StepLaws::negation_laws))]
 pub fn negation(env: &mut Env, at: u32, x: Value) -> Result<Value, Stop>
     requires { Known env.old.types x }
     ensures made { Agrees (shut.negation at x env.old) result env.new }
@@ -29,7 +28,7 @@ pub fn negation(env: &mut Env, at: u32, x: Value) -> Result<Value, Stop>
 }
 
 /// `&&`: a side that is no condition is K13 (5.14).
-#[tactic(auto, using(crate::proofs::Steps::conjunction_laws))]
+#[tactic(auto, using(crate::proofs::StepLaws::conjunction_laws))]
 pub fn conjunction(env: &mut Env, at: u32, x: Value, y: Value) -> Result<Value, Stop>
     requires x_known { Known env.old.types x }
     requires y_known { Known env.old.types y }
@@ -50,7 +49,7 @@ pub fn conjunction(env: &mut Env, at: u32, x: Value, y: Value) -> Result<Value, 
 }
 
 /// `||`: a side that is no condition is K13 (5.15).
-#[tactic(auto, using(crate::proofs::Steps::disjunction_laws))]
+#[tactic(auto, using(crate::proofs::StepLaws::disjunction_laws))]
 pub fn disjunction(env: &mut Env, at: u32, x: Value, y: Value) -> Result<Value, Stop>
     requires x_known { Known env.old.types x }
     requires y_known { Known env.old.types y }

@@ -11,7 +11,7 @@ use Rattle.cf_elab.specs.Env.{Env}
 use Rattle.cf_elab.specs.Operand.{Value, place_of}
 use Rattle.cf_elab_env.proofs.Growth.{grown_laws}
 use Rattle.cf_elab_fit.specs.Shut as fit
-use Rattle.cf_elab_unary.specs.Shut as unary
+use Rattle.cf_elab_binary.specs.UnaryShut as unary
 use Rattle.cf_elab_assign.specs.Shut as shut
 
 module _ (at : ℕ) (v x : Value) (l : Kind) (env : Env) where

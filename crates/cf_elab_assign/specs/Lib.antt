@@ -1,1 +1,3 @@
 pub mod Shut
+pub mod BinaryShut
+pub mod UnaryShut

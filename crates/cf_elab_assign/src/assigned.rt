@@ -7,9 +7,9 @@ use crate::combined::combined;
 use crate::operators::updating;
 use cf_base::{Arith, Boxed};
 use cf_core::Core;
+use cf_elab_binary::check_modifiable;
 use cf_elab_env::{Env, Stop, Value};
 use cf_elab_fit::{fit, plain};
-use cf_elab_unary::check_modifiable;
 use cf_syntax::AssignOp;
 
 /// An assignment to a place that is no class object: K12 where it may not be changed, and then K13 or K25 where `=` does not convert the value to

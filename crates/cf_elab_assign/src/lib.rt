@@ -9,3 +9,4 @@ mod operators;
 mod updated;
 
 pub use assigned::assignment;
+pub use cf_elab_binary::{increment, operation, prefixed, subscript};

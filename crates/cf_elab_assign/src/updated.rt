@@ -7,14 +7,14 @@ ghost use Rattle.cf_elab_env.specs.Holds.{Known, Grows, IsType};
 
 use cf_base::{Arith, Boxed, Kind, Memory};
 use cf_core::{Change, Core};
+use cf_elab_binary::check_complete;
 use cf_elab_env::{Env, Stop, Value};
 use cf_elab_fit::to_kind;
 use cf_elab_numbers::{operand_kind, operator_kind};
-use cf_elab_unary::check_complete;
 use cf_types::{TyId, promote};
 
 /// A place that is changed by a value.
-#[tactic(auto, using(cf_elab_unary::proofs::PointerLaws::unnumbered))]
+#[tactic(auto, using(cf_elab_binary::proofs::UnaryPointerLaws::unnumbered))]
 fn updated(env: &Env, at: u32, place: Value, change: Change, value: Value) -> Result<Value, Memory>
     requires { IsType env.now.types place.type }
     ensures made { IfOk result (λ v. v ≡ operand.place_of at (node.Update at place.node change value.node) place.type false) }

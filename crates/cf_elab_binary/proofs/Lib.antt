@@ -6,3 +6,4 @@ pub mod PairLaws
 pub mod SortLaws
 pub mod StepsGrown
 pub mod VoidLaws
+pub mod UnaryPointerLaws

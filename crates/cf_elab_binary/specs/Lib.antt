@@ -1,2 +1,3 @@
 pub mod Asked
 pub mod Shut
+pub mod UnaryShut

@@ -13,3 +13,4 @@ mod sorts;
 mod void_pointers;
 
 pub use binary::operation;
+pub use cf_elab_unary::{check_complete, check_modifiable, increment, prefixed, subscript};

@@ -16,8 +16,8 @@ use Rattle.cf_elab.specs.Built.{Place, first, first_of, maybe, maybe_expression,
 use Rattle.cf_elab_built.specs.Parts.{specifier, function, declaration}
 use Rattle.cf_elab_built.specs.Parts.{statement as place}
 use Rattle.cf_elab_declaration.specs.Shut as declarations
-use Rattle.cf_elab_expr.specs.Shut as expression_built
-use Rattle.cf_elab_expr.proofs.BuiltForms.{left, right}
+use Rattle.cf_elab_declaration.specs.ExprShut as expression_built
+use Rattle.cf_elab_declaration.proofs.ExprBuiltForms.{left, right}
 use Rattle.cf_elab_body.specs.Shut.{IsBuilt, AreBuilt, MaybeBuilt, HasBuilt}
 
 abbrev of_member : Member → Place

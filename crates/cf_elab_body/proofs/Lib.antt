@@ -2,3 +2,12 @@ pub mod BuiltForms
 pub mod InTurn
 pub mod MaybeLaws
 pub mod Parts
+pub mod ExprBuiltForms
+pub mod DeclarationDeclaratorRows
+pub mod DeclarationNamesBuilt
+pub mod DeclarationWorded
+pub mod DeclareFunctionLaws
+pub mod DeclareNameLaws
+pub mod DefineBlockObjects
+pub mod CallSignatureLaws
+pub mod StatementOnward

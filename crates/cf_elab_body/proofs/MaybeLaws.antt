@@ -7,7 +7,7 @@ use Rattle.cf_elab.specs.Env.{Env}
 use Rattle.cf_elab.specs.Operand.{Value}
 use Rattle.cf_elab_env.specs.Holds.{Grows, IsType, Known}
 use Rattle.cf_elab_env.proofs.Growth.{known_grown, grown_laws}
-use Rattle.cf_elab_expr.specs.Shut as expression
+use Rattle.cf_elab_declaration.specs.ExprShut as expression
 use Rattle.cf_elab_statement.specs.Parts.{KnownIf, TypedIf}
 use Rattle.cf_elab_body.specs.Shut as shut
 use Rattle.cf_elab_body.proofs.BuiltForms.{given_built}

@@ -25,7 +25,7 @@ use Rattle.cf_elab_declaration.specs.Shut as declarations
 use Rattle.cf_elab_env.specs.Answered.{Stops}
 use Rattle.cf_elab_env.specs.Shut as scope
 use Rattle.cf_elab_env.specs.declared.stop.Stop.{Stop}
-use Rattle.cf_elab_expr.specs.Shut as expression
+use Rattle.cf_elab_declaration.specs.ExprShut as expression
 use Rattle.cf_elab_statement.specs.Shut as step
 use Rattle.cf_elab_statement.proofs.Onward.{onward-assoc, onward-same}
 use Rattle.cf_elab_statement.proofs.Rows as rows

@@ -1,1 +1,5 @@
 pub mod Shut
+pub mod DeclarationShut
+pub mod ExprShut
+pub mod DeclareShut
+pub mod CallSignatures

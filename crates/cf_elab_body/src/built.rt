@@ -1,7 +1,7 @@
 //! The parts of a statement that is built are built. These functions do nothing: their contracts tell the caller.
 
 ghost use Rattle.cf_elab_body.specs.Shut as shut;
-ghost use Rattle.cf_elab_expr.specs.Shut as expression;
+ghost use Rattle.cf_elab_declaration.specs.ExprShut as expression;
 
 use cf_base::Boxed;
 use cf_syntax::Expr;

@@ -10,5 +10,10 @@ mod loops;
 mod simple;
 mod values;
 
+pub use cf_elab_declaration::{
+    check_no_definition, declaration, declare_function, declared_name, declares_function, shape_of,
+    words,
+};
+pub use cf_elab_statement::block;
 pub use forms::statement;
 pub use lists::statements;

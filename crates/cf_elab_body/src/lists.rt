@@ -7,8 +7,8 @@ ghost use Rattle.cf_elab_body.specs.Shut as shut;
 
 use crate::forms::statement;
 use cf_base::{Boxed, Items};
+use cf_elab_declaration::evaluated;
 use cf_elab_env::{Env, Stop, Value};
-use cf_elab_expr::evaluated;
 use cf_elab_made::Made;
 use cf_elab_statement as steps;
 use cf_syntax::Expr;

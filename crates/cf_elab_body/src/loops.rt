@@ -3,7 +3,7 @@
 ghost use Rattle.std.specs.Prelude.{OnOk, IfOk};
 ghost use Rattle.cf_elab_env.specs.Answered.{Agrees};
 ghost use Rattle.cf_elab_env.specs.Holds.{Grows, Known};
-ghost use Rattle.cf_elab_expr.specs.Shut as expression;
+ghost use Rattle.cf_elab_declaration.specs.ExprShut as expression;
 ghost use Rattle.cf_elab_statement.specs.Parts.{KnownIf};
 ghost use Rattle.cf_elab_body.specs.Shut as shut;
 
@@ -11,8 +11,8 @@ use crate::forms::statement;
 use crate::values::maybe_value;
 use cf_base::Boxed;
 use cf_core::LoopForm;
+use cf_elab_declaration::evaluated;
 use cf_elab_env::{Env, Stop, Value};
-use cf_elab_expr::evaluated;
 use cf_elab_made::Made;
 use cf_elab_statement::{begin_loop, end_loop, for_statement, loop_statement};
 use cf_syntax::Expr;

@@ -7,9 +7,8 @@ ghost use Rattle.cf_elab_body.specs.Shut as shut;
 
 use crate::values::maybe_value;
 use cf_base::Boxed;
-use cf_elab_declaration::declaration as declared;
+use cf_elab_declaration::{declaration as declared, evaluated};
 use cf_elab_env::{Env, Stop};
-use cf_elab_expr::evaluated;
 use cf_elab_made::Made;
 use cf_elab_statement as steps;
 use cf_syntax::Expr;

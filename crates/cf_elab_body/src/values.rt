@@ -7,8 +7,8 @@ ghost use Rattle.cf_elab_statement.specs.Parts.{KnownIf};
 ghost use Rattle.cf_elab_body.specs.Shut as shut;
 
 use cf_base::Boxed;
+use cf_elab_declaration::evaluated;
 use cf_elab_env::{Env, Stop, Value};
-use cf_elab_expr::evaluated;
 use cf_syntax::Expr;
 
 /// The value of an expression that may be left out.

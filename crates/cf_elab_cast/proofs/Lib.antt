@@ -5,3 +5,4 @@ pub mod EnumNames
 pub mod FormLaws
 pub mod Functions
 pub mod MadeLaws
+pub mod ChoiceClassFree

@@ -2,3 +2,4 @@ pub mod Forms
 pub mod Given
 pub mod Same
 pub mod Shut
+pub mod ChoiceShut

@@ -11,7 +11,7 @@ use Rattle.cf_elab.specs.Cast.{takes_null}
 use Rattle.cf_elab_arith.specs.Sorts.{kind_at}
 use Rattle.cf_elab_env.specs.Seen.{sort_seen}
 use Rattle.cf_elab_env.specs.declared.sort.Sort.{Sort as FoundSort}
-use Rattle.cf_elab_fit.proofs.TruthLaws.{no_class_sort}
+use Rattle.cf_elab_arith.proofs.FitTruthLaws.{no_class_sort}
 use Rattle.cf_elab_choice.specs.Asked.{common, common_kind, void_at, pointer_at, steps_between}
 
 pub common_is : (types : Table) (t u x y : ℕ) (a b r : Option Kind) → x ≡ t → y ≡ u → a ≡ kind_at types x → b ≡ kind_at types y → r ≡ common a b → r ≡ common_kind types t u

@@ -13,7 +13,7 @@ use Rattle.cf_elab.specs.Operand.{Value, Sort, sort_of, arithmetic, is_void, int
 use Rattle.cf_elab_arith.specs.Sorts.{kind_at}
 use Rattle.cf_elab_env.specs.Shut as made
 use Rattle.cf_elab_env.proofs.Growth.{grown_laws}
-use Rattle.cf_elab_fit.specs.Shut as fit
+use Rattle.cf_elab_arith.specs.FitShut as fit
 use Rattle.cf_elab_choice.specs.Asked.{common, common_kind, are_void, void_at, is_one_pointer, pointer_at, is_one_place, steps_between}
 use Rattle.cf_elab_choice.specs.Shut as shut
 use Rattle.cf_elab_choice.proofs.AskedLaws.{between_steps}

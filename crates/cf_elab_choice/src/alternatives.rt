@@ -10,8 +10,8 @@ use crate::asked::{are_void, chosen, common_kind, is_one_pointer, steps_between}
 use cf_base::{Boxed, Broken, Items, Kind, Memory, Rule};
 use cf_convert::ConvStep;
 use cf_core::Core;
+use cf_elab_arith::{convert, to_kind};
 use cf_elab_env::{Env, Stop, Value};
-use cf_elab_fit::{convert, to_kind};
 use cf_types::TyId;
 
 /// What a condition chooses of two values, as a value of this type.

@@ -10,9 +10,8 @@ ghost use Rattle.cf_elab_env.specs.Seen.{sort_seen};
 
 use cf_base::{Items, Kind, Memory};
 use cf_convert::ConvStep;
-use cf_elab_arith::kind_at;
+use cf_elab_arith::{kind_at, steps};
 use cf_elab_env::{Env, Sort, Value};
-use cf_elab_fit::steps;
 use cf_types::usual;
 
 /// The type that two values are converted to, where both are arithmetic (4.5).

@@ -8,8 +8,8 @@ use crate::alternatives::alternatives;
 use crate::asked::{chosen, is_one_place, no_class};
 use cf_base::{Boxed, Memory, Rule};
 use cf_core::Core;
+use cf_elab_arith::{plain, truth};
 use cf_elab_env::{Env, Stop, Value};
-use cf_elab_fit::{plain, truth};
 
 /// `c ? a : b`: Truth of the condition, K13; then two places of one type are a place of it, and else the two are values of one type, K18 (5.16).
 #[tactic(auto, using(crate::proofs::Steps::conditional_laws))]

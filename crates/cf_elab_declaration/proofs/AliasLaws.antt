@@ -15,7 +15,7 @@ use Rattle.cf_elab.specs.Declaration.{Declares, declares}
 use Rattle.cf_elab.specs.Env.{Name}
 use Rattle.cf_elab.specs.Trees as tree
 use Rattle.cf_elab.specs.Trees.{SpecifierRow}
-use Rattle.cf_elab_expr.specs.Shut as expression
+use Rattle.cf_elab_enums.specs.ExprShut as expression
 use Rattle.cf_elab_declaration.specs.Shut as shut
 use Rattle.cf_elab_declaration.proofs.SpecifierRows.{made_of}
 

@@ -21,9 +21,9 @@ use Rattle.cf_elab.specs.Built as built
 use Rattle.cf_elab.specs.Built.{Place, first, first_of, member_step, specifier_step, statement_step, class_step, function_step, declaration_step}
 use Rattle.cf_elab_built.specs.Parts as place
 use Rattle.cf_elab_enums.specs.Forms as enumerators
-use Rattle.cf_elab_expr.specs.Shut as expression
-use Rattle.cf_elab_expr.proofs.BuiltForms.{left, right}
-use Rattle.cf_elab_written.specs.Shut as written
+use Rattle.cf_elab_enums.specs.ExprShut as expression
+use Rattle.cf_elab_enums.proofs.ExprBuiltForms.{left, right}
+use Rattle.cf_elab_declarator.specs.WrittenShut as written
 use Rattle.cf_elab_declaration.specs.Shut.{IsBuilt, SpecifierIsBuilt, SpecifiersAreBuilt, DeclaratorIsBuilt, DeclaratorsAreBuilt}
 
 abbrev of_member : Member → Place

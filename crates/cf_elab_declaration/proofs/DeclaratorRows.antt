@@ -13,14 +13,14 @@ use Rattle.cf_elab.specs.Names.{is_file_scope}
 use Rattle.cf_elab.specs.Objects.{Reached}
 use Rattle.cf_elab.specs.Specifiers.{Gathered}
 use Rattle.cf_elab_declarator.specs.Shut as named
-use Rattle.cf_elab_declare.specs.Shut as declare
+use Rattle.cf_elab_declarator.specs.DeclareShut as declare
 use Rattle.cf_elab_env.specs.Answered.{Stops}
 use Rattle.cf_elab_env.specs.Holds.{Grows, IsType}
 use Rattle.cf_elab_env.specs.declared.stop.Stop.{Stop}
 use Rattle.cf_elab_env.specs.declared.stop.Stop.TheVariants as stop
 use Rattle.cf_elab_env.proofs.Growth.{type_grown, grown_laws}
-use Rattle.cf_elab_expr.specs.Shut as expression
-use Rattle.cf_elab_written.specs.Given.{given}
+use Rattle.cf_elab_enums.specs.ExprShut as expression
+use Rattle.cf_elab_declarator.specs.WrittenGiven.{given}
 use Rattle.cf_elab_declaration.specs.Shut as shut
 use Rattle.cf_elab_declaration.proofs.NamesBuilt.{name_plain, no_scopes}
 

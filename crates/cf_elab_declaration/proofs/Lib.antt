@@ -6,3 +6,8 @@ pub mod NamesBuilt
 pub mod Several
 pub mod SpecifierRows
 pub mod Worded
+pub mod ExprBuiltForms
+pub mod DeclareFunctionLaws
+pub mod DeclareNameLaws
+pub mod DefineBlockObjects
+pub mod CallSignatureLaws

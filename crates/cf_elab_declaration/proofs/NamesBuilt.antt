@@ -14,10 +14,10 @@ use Rattle.cf_elab.specs.Declarator.{Declared, declared_step, parameter_step, ty
 use Rattle.cf_elab.specs.Expression.{elaborated, declared, expression_step}
 use Rattle.cf_elab.specs.Operand.{Part}
 use Rattle.cf_elab.specs.Shape.{Parameter}
-use Rattle.cf_elab_expr.specs.Shut as shut
-use Rattle.cf_elab_expr.specs.Shut.{parameter_place, type_place}
-use Rattle.cf_elab_expr.proofs.BuiltForms.{left, right}
-use Rattle.cf_elab_expr.proofs.Parts.{parameter, type_of}
+use Rattle.cf_elab_enums.specs.ExprShut as shut
+use Rattle.cf_elab_enums.specs.ExprShut.{parameter_place, type_place}
+use Rattle.cf_elab_enums.proofs.ExprBuiltForms.{left, right}
+use Rattle.cf_elab_enums.proofs.ExprParts.{parameter, type_of}
 
 abbrev Layer : Type 0
 Layer = DeclTree-F DeclTree Expr Param TypeId

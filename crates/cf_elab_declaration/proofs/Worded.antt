@@ -18,7 +18,7 @@ use Rattle.cf_elab.specs.Statement.{Made}
 use Rattle.cf_elab.specs.Trees as tree
 use Rattle.cf_elab.specs.Trees.{MemberRow, SpecifierRow, Specified, Worded, ClassRow, FunctionRow, DeclarationRow, only, in_turn, member_step, specifier_step, statement_step, class_step, definition_step, declaration_step}
 use Rattle.cf_elab_built.specs.Parts as place
-use Rattle.cf_elab_expr.proofs.BuiltForms.{left, right}
+use Rattle.cf_elab_enums.proofs.ExprBuiltForms.{left, right}
 use Rattle.cf_elab_declaration.specs.Shut as shut
 use Rattle.cf_elab_declaration.proofs.BuiltParts.{place_in, no_class_in}
 use Rattle.cf_elab_declaration.proofs.SpecifierRows.{row_of}

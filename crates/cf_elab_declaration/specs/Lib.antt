@@ -1,1 +1,4 @@
 pub mod Shut
+pub mod ExprShut
+pub mod DeclareShut
+pub mod CallSignatures

@@ -6,7 +6,7 @@ ghost use Rattle.cf_elab.specs.Trees as tree;
 ghost use Rattle.cf_elab_declaration.specs.Shut as shut;
 
 use cf_base::Bytes;
-use cf_elab_expr::declared_name;
+use cf_elab_enums::declared_name;
 use cf_syntax::{Last, Name, Storage, TypeSpecifier};
 use cf_unit::{InitDeclarator, Specifier};
 

@@ -2,8 +2,8 @@
 
 ghost use Rattle.cf_unit.specs.declared.declaration.Declaration.{out-Declaration};
 ghost use Rattle.cf_elab_declaration.specs.Shut as shut;
-ghost use Rattle.cf_elab_expr.specs.Shut as expression;
-ghost use Rattle.cf_elab_written.specs.Shut as written;
+ghost use Rattle.cf_elab_enums.specs.ExprShut as expression;
+ghost use Rattle.cf_elab_declarator.specs.WrittenShut as written;
 
 use cf_unit::{Declaration, InitDeclarator};
 

@@ -2,16 +2,15 @@
 
 ghost use Rattle.std.specs.Prelude.{◌≡◌, ◌++◌, IfSome, OnOk};
 ghost use Rattle.cf_elab_declaration.specs.Shut as shut;
-ghost use Rattle.cf_elab_define.specs.Reached.{maybe_reached};
+ghost use Rattle.cf_elab_declarator.specs.DefineReached.{maybe_reached};
 ghost use Rattle.cf_elab_env.specs.Answered.{Agrees, AgreesAs};
 ghost use Rattle.cf_elab_env.specs.Holds.{Grows, IsType};
 
 use crate::built;
 use cf_base::{Broken, Items, Memory, Rule};
-use cf_elab_declarator::named_declarator;
-use cf_elab_declare::check_conflict;
+use cf_elab_declarator::{check_conflict, named_declarator};
+use cf_elab_enums::{declared_name, shape_of};
 use cf_elab_env::{Env, Stop};
-use cf_elab_expr::{declared_name, shape_of};
 use cf_elab_made::Reached;
 use cf_elab_specifiers::Gathered;
 use cf_unit::InitDeclarator;

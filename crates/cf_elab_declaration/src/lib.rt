@@ -10,5 +10,7 @@ mod declarators;
 mod declaring;
 mod specifiers;
 
+pub use cf_elab_declarator::{check_no_definition, declare_function, declares_function};
+pub use cf_elab_enums::{declared_name, evaluated, shape_of};
 pub use declaring::declaration;
 pub use specifiers::words;

@@ -13,7 +13,7 @@ use Rattle.cf_elab.specs.Objects.{Reached}
 use Rattle.cf_elab.specs.Specifiers.{Gathered}
 use Rattle.cf_elab_declarator.specs.Shut as shut
 use Rattle.cf_elab_declare.proofs.NameLaws.{is_identifier}
-use Rattle.cf_elab_define.specs.Shut as define
+use Rattle.cf_elab_declare.specs.DefineShut as define
 use Rattle.cf_elab_env.proofs.Growth.{grown_laws}
 use Rattle.cf_elab_lists.specs.Seen.{tree_seen}
 use Rattle.cf_elab_lists.specs.declared.tree.Tree.{Tree}

@@ -1,1 +1,5 @@
 pub mod Shut
+pub mod DeclareShut
+pub mod WrittenShut
+pub mod WrittenGiven
+pub mod DefineReached

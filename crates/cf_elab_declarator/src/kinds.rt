@@ -2,7 +2,7 @@ ghost use Rattle.std.specs.Prelude.{◌≡◌, None, OnOk};
 ghost use Rattle.cf_elab.specs.Built.{of_name};
 ghost use Rattle.cf_elab.specs.Operand as operand;
 ghost use Rattle.cf_elab_declarator.specs.Shut as shut;
-ghost use Rattle.cf_elab_define.specs.Reached.{maybe_reached};
+ghost use Rattle.cf_elab_declare.specs.DefineReached.{maybe_reached};
 ghost use Rattle.cf_elab_env.specs.Answered.{Agrees, AgreesAs};
 ghost use Rattle.cf_elab_env.specs.Holds.{Grows, IsFunctionSort, IsType};
 ghost use Rattle.cf_elab_env.specs.Seen.{sort_seen};

@@ -8,4 +8,7 @@ mod kinds;
 mod named;
 mod objects;
 
+pub use cf_elab_declare::{
+    check_conflict, check_no_definition, declare_function, declares_function,
+};
 pub use named::named_declarator;

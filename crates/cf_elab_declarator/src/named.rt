@@ -1,7 +1,7 @@
 ghost use Rattle.std.specs.Prelude.{◌≡◌, None, IfSome, OnOk};
 ghost use Rattle.cf_elab.specs.Built.{of_name};
 ghost use Rattle.cf_elab_declarator.specs.Shut as shut;
-ghost use Rattle.cf_elab_define.specs.Reached.{maybe_reached};
+ghost use Rattle.cf_elab_declare.specs.DefineReached.{maybe_reached};
 ghost use Rattle.cf_elab_env.specs.Answered.{AgreesAs};
 ghost use Rattle.cf_elab_env.specs.Holds.{Grows, IsType};
 ghost use Rattle.cf_elab_shape.specs.Holds.{IsShape};

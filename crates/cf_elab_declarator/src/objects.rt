@@ -2,15 +2,14 @@ ghost use Rattle.std.specs.Prelude.{◌≡◌, ◌&&◌, ◌||◌, not, None, On
 ghost use Rattle.cf_elab.specs.Built.{of_name};
 ghost use Rattle.cf_elab.specs.Specifiers.{is_extern};
 ghost use Rattle.cf_elab_declarator.specs.Shut as shut;
-ghost use Rattle.cf_elab_define.specs.Reached.{maybe_reached};
+ghost use Rattle.cf_elab_declare.specs.DefineReached.{maybe_reached};
 ghost use Rattle.cf_elab_env.specs.Answered.{AgreesAs};
 ghost use Rattle.cf_elab_env.specs.Holds.{Grows, IsType};
 ghost use Rattle.cf_elab_objects.specs.Seen.{says_seen};
 ghost use Rattle.cf_elab_written.specs.Shut as written;
 
 use cf_base::{Broken, Rule};
-use cf_elab_declare::{begin, check_object, finish, identifier, object_says};
-use cf_elab_define::array_given;
+use cf_elab_declare::{array_given, begin, check_object, finish, identifier, object_says};
 use cf_elab_env::{Env, Stop};
 use cf_elab_limits::check_type;
 use cf_elab_made::Reached;

@@ -6,3 +6,4 @@ pub mod HeadLaws
 pub mod NameLaws
 pub mod ObjectLaws
 pub mod Rows
+pub mod DefineBlockObjects

@@ -1,3 +1,5 @@
 pub mod Begun
 pub mod Headed
 pub mod Shut
+pub mod DefineReached
+pub mod DefineShut

@@ -14,6 +14,7 @@ mod objects;
 mod saying;
 
 pub use begun::Begun;
+pub use cf_elab_define::array_given;
 pub use checks::{check_conflict, check_no_definition, declares_function};
 pub use functions::{declare_function, function_declared};
 pub use heads::{Headed, head};

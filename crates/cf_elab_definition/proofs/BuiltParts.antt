@@ -7,9 +7,9 @@ use Rattle.cf_elab.specs.Built as built
 use Rattle.cf_elab.specs.Built.{Place, first, first_of, of_member_init, member_step, specifier_step, statement_step, class_step, function_step, declaration_step}
 use Rattle.cf_elab_body.specs.Shut as body_of
 use Rattle.cf_elab_built.specs.Parts as place
-use Rattle.cf_elab_declaration.specs.Shut as declaration
-use Rattle.cf_elab_expr.specs.Shut as expression
-use Rattle.cf_elab_expr.proofs.BuiltForms.{left, right}
+use Rattle.cf_elab_body.specs.DeclarationShut as declaration
+use Rattle.cf_elab_body.specs.ExprShut as expression
+use Rattle.cf_elab_body.proofs.ExprBuiltForms.{left, right}
 use Rattle.cf_elab_definition.specs.Shut.{IsBuilt}
 
 module _ (f : FunctionDef) (h : IsBuilt f) where

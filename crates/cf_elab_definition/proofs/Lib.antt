@@ -8,3 +8,4 @@ pub mod NamedLaws
 pub mod ParameterLaws
 pub mod Rows
 pub mod TreeRows
+pub mod ExprBuiltForms

@@ -16,9 +16,9 @@ use Rattle.cf_elab.specs.Operand.{sort_of}
 use Rattle.cf_elab.specs.Shape.{Parameter, Shape, Shaped, function_of, nowhere, typed, bounds_constant}
 use Rattle.cf_elab.specs.Specifiers.{Gathered, base_type}
 use Rattle.cf_elab.specs.Trees as tree
-use Rattle.cf_elab_declare.specs.Shut as declare
-use Rattle.cf_elab_declare.proofs.FunctionLaws.{function_grown, types_grown}
-use Rattle.cf_elab_declare.proofs.NameLaws.{is_identifier, unqualified_is}
+use Rattle.cf_elab_body.specs.DeclareShut as declare
+use Rattle.cf_elab_body.proofs.DeclareFunctionLaws.{function_grown, types_grown}
+use Rattle.cf_elab_body.proofs.DeclareNameLaws.{is_identifier, unqualified_is}
 use Rattle.cf_elab_env.specs.Holds.{IsFunctionSort}
 use Rattle.cf_elab_env.specs.Shut as making
 use Rattle.cf_elab_env.proofs.Growth.{grown_laws}
@@ -30,7 +30,7 @@ use Rattle.cf_elab_shape.proofs.ObjectLaws.{type_of_shaped_is}
 use Rattle.cf_elab_shape.proofs.ParameterLaws.{objects_grown}
 use Rattle.cf_elab_shape.proofs.TypedLaws.{shape_grown}
 use Rattle.cf_elab_specifiers.specs.Shut as specifying
-use Rattle.cf_elab_statement.proofs.Onward.{onward-assoc, onward-same}
+use Rattle.cf_elab_body.proofs.StatementOnward.{onward-assoc, onward-same}
 use Rattle.cf_elab_definition.specs.Shut as shut
 use Rattle.cf_elab_definition.proofs.FunctionShapes.{makes_function, objects_of}
 

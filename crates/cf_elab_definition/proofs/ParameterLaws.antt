@@ -9,7 +9,7 @@ use Rattle.cf_elab.specs.Answer.{Made as Done, Refused, onward}
 use Rattle.cf_elab.specs.Env.{Env, Object, Name, local_home}
 use Rattle.cf_elab.specs.Objects.{block_object}
 use Rattle.cf_elab.specs.Shape.{Parameter}
-use Rattle.cf_elab_define.proofs.BlockObjects.{block_known}
+use Rattle.cf_elab_body.proofs.DefineBlockObjects.{block_known}
 use Rattle.cf_elab_env.specs.Holds.{IsType}
 use Rattle.cf_elab_objects.specs.Shut as object
 use Rattle.cf_elab_definition.specs.Shut as shut

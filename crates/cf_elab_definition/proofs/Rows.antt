@@ -16,7 +16,7 @@ use Rattle.cf_elab.specs.Shape.{Parameter}
 use Rattle.cf_elab.specs.Statement.{nodes_of}
 use Rattle.cf_elab.specs.Trees as tree
 use Rattle.cf_elab_body.specs.Shut as body
-use Rattle.cf_elab_call.specs.Signatures.{result_at}
+use Rattle.cf_elab_body.specs.CallSignatures.{result_at}
 use Rattle.cf_elab_env.specs.Shut as scope
 use Rattle.cf_elab_definition.specs.Shut as shut
 

@@ -16,14 +16,14 @@ use Rattle.cf_elab.specs.Specifiers.{Word, Gathered, gathered}
 use Rattle.cf_elab.specs.Statement.{Made}
 use Rattle.cf_elab.specs.Trees as tree
 use Rattle.cf_elab.specs.Trees.{MemberRow, SpecifierRow, ClassRow, FunctionRow, DeclarationRow, init_of, member_step, specifier_step, statement_step, class_step, definition_step, declaration_step}
-use Rattle.cf_elab_declaration.specs.Shut as declaration
-use Rattle.cf_elab_declaration.proofs.DeclaratorRows.{type_grown_if, stops_onward}
-use Rattle.cf_elab_declaration.proofs.NamesBuilt.{name_plain, no_scopes}
-use Rattle.cf_elab_declaration.proofs.Worded.{words_then}
+use Rattle.cf_elab_body.specs.DeclarationShut as declaration
+use Rattle.cf_elab_body.proofs.DeclarationDeclaratorRows.{type_grown_if, stops_onward}
+use Rattle.cf_elab_body.proofs.DeclarationNamesBuilt.{name_plain, no_scopes}
+use Rattle.cf_elab_body.proofs.DeclarationWorded.{words_then}
 use Rattle.cf_elab_env.specs.Answered.{Stops}
 use Rattle.cf_elab_env.specs.declared.stop.Stop.{Stop}
 use Rattle.cf_elab_env.proofs.Growth.{grown_laws}
-use Rattle.cf_elab_expr.specs.Shut as expression
+use Rattle.cf_elab_body.specs.ExprShut as expression
 use Rattle.cf_elab_limits.specs.Shut as limits
 use Rattle.cf_elab_definition.specs.Shut as shut
 use Rattle.cf_elab_definition.proofs.BuiltParts.{no_initialisers}

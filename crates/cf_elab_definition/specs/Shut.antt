@@ -22,7 +22,7 @@ use Rattle.cf_elab.specs.Shape.{Parameter, Shape, function_of, nowhere, typed, b
 use Rattle.cf_elab.specs.Specifiers.{Gathered, base_type}
 use Rattle.cf_elab.specs.Trees as tree
 use Rattle.cf_elab_built.specs.Parts as place
-use Rattle.cf_elab_declaration.specs.Shut.{specifier}
+use Rattle.cf_elab_body.specs.DeclarationShut.{specifier}
 
 -- the hand of a function
 abbrev pub hand_of : FunctionEntry → ℕ → List Parameter → Hand

@@ -14,10 +14,9 @@ use crate::hands::{hand_of, objects_at, result_of};
 use crate::parameters::declare_parameters;
 use cf_base::{Boxed, Memory};
 use cf_core::Core;
-use cf_elab_body::statements;
+use cf_elab_body::{block, statements};
 use cf_elab_env::{Env, FunctionEntry, Hand, Stop};
 use cf_elab_shape::Parameter;
-use cf_elab_statement::block;
 use cf_types::TyId;
 use cf_unit::Stmt;
 

@@ -2,9 +2,9 @@
 
 ghost use Rattle.cf_unit.specs.declared.class.FunctionDef.{out-FunctionDef};
 ghost use Rattle.cf_elab_body.specs.Shut as body_of;
-ghost use Rattle.cf_elab_declaration.specs.Shut as declaration;
+ghost use Rattle.cf_elab_body.specs.DeclarationShut as declaration;
 ghost use Rattle.cf_elab_definition.specs.Shut as shut;
-ghost use Rattle.cf_elab_expr.specs.Shut as expression;
+ghost use Rattle.cf_elab_body.specs.ExprShut as expression;
 
 use cf_unit::FunctionDef;
 

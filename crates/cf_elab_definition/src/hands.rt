@@ -5,7 +5,7 @@ ghost use Rattle.cf_elab.specs.Env.{main_body, plain_body};
 ghost use Rattle.cf_elab.specs.Names.{is_main};
 ghost use Rattle.cf_elab_env.specs.Holds.{IsType};
 ghost use Rattle.cf_elab_env.specs.Seen.{kind_seen};
-ghost use Rattle.cf_elab_call.specs.Signatures as signatures;
+ghost use Rattle.cf_elab_body.specs.CallSignatures as signatures;
 ghost use Rattle.cf_elab_definition.specs.Shut as shut;
 
 use crate::parameters::own_types;

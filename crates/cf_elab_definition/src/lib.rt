@@ -15,4 +15,5 @@ mod named;
 mod parameters;
 mod trees;
 
+pub use cf_elab_body::declaration;
 pub use trees::definition;

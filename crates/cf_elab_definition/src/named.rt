@@ -14,7 +14,7 @@ ghost use Rattle.cf_elab_definition.specs.Shut as shut;
 use crate::bodies::define_function;
 use crate::checks::check_conflict;
 use cf_base::{Broken, Rule};
-use cf_elab_declare::{check_no_definition, declare_function, declares_function};
+use cf_elab_body::{check_no_definition, declare_function, declares_function};
 use cf_elab_env::{Env, Stop};
 use cf_elab_shape::{Position, Shape, check_bounds, typed};
 use cf_elab_specifiers::{Gathered, base_type};

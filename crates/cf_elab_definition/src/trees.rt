@@ -2,18 +2,17 @@
 
 ghost use Rattle.std.specs.Prelude.{◌≡◌, IfSome, OnOk};
 ghost use Rattle.cf_elab_body.specs.Shut as body_of;
-ghost use Rattle.cf_elab_declaration.specs.Shut as declaration;
+ghost use Rattle.cf_elab_body.specs.DeclarationShut as declaration;
 ghost use Rattle.cf_elab_definition.specs.Shut as shut;
 ghost use Rattle.cf_elab_env.specs.Answered.{Agrees};
 ghost use Rattle.cf_elab_env.specs.Holds.{Grows, IsType};
-ghost use Rattle.cf_elab_expr.specs.Shut as expression;
+ghost use Rattle.cf_elab_body.specs.ExprShut as expression;
 
 use crate::built;
 use crate::named::define_named;
 use cf_base::{Broken, Rule};
-use cf_elab_declaration::words;
+use cf_elab_body::{declared_name, shape_of, words};
 use cf_elab_env::{Env, Stop};
-use cf_elab_expr::{declared_name, shape_of};
 use cf_elab_limits::check_types;
 use cf_elab_specifiers::Gathered;
 use cf_syntax::DeclTree;

@@ -1,2 +1,4 @@
 pub mod Forms
 pub mod Shut
+pub mod ExprShut
+pub mod CallSignatures

@@ -9,4 +9,5 @@ mod counting;
 mod defining;
 mod making;
 
+pub use cf_elab_expr::{declared_name, evaluated, shape_of};
 pub use defining::enumeration;

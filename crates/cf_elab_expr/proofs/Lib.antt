@@ -7,3 +7,4 @@ pub mod Numbers
 pub mod Parts
 pub mod Several
 pub mod Trees
+pub mod CallSignatureLaws

@@ -30,11 +30,11 @@ use Rattle.cf_elab.specs.Shape.{Parameter}
 use Rattle.cf_elab.specs.Specifiers.{gathered, basic_word, conflicts, fits_basics, with_basic, no_basics, nothing_gathered}
 use Rattle.cf_elab.specs.Unary.{size_constant}
 use Rattle.cf_elab.specs.Operand.{Value, Operand, Part, value, value_of, sort_of, Sort, is_class, class_sort}
-use Rattle.cf_elab_choice.specs.Shut as choice
+use Rattle.cf_elab_cast.specs.ChoiceShut as choice
 use Rattle.cf_elab_env.specs.Holds.{IsEnv, IsType}
 use Rattle.cf_elab_call.specs.Shut as call_row
 use Rattle.cf_elab_cast.specs.Shut as cast_row
-use Rattle.cf_elab_choice.proofs.ClassFree.{no_class}
+use Rattle.cf_elab_cast.proofs.ChoiceClassFree.{no_class}
 use Rattle.cf_elab_specifiers.specs.Shut as specifier
 use Rattle.cf_elab_type_names.specs.Shut as type_name
 use Rattle.cf_elab_operand.specs.Shut as operand_row

@@ -1,2 +1,3 @@
 pub mod Shut
 pub mod Steps
+pub mod NumbersNumbers

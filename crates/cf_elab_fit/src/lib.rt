@@ -9,6 +9,10 @@ mod fitting;
 mod reading;
 mod step;
 
+pub use cf_elab_numbers::{
+    both_true, complement, inverted, negative, one_true, operand_kind, operated, operator_kind,
+    result_kind,
+};
 pub use condition::truth;
 pub use conversion::{convert, steps};
 pub use fitting::{fit, to_kind};

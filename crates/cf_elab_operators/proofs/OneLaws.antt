@@ -12,7 +12,7 @@ use Rattle.cf_elab.specs.Unary as plain
 use Rattle.cf_elab_env.specs.Holds.{IsEnv, IsType, Known, Grows}
 use Rattle.cf_elab_env.specs.Shut as made
 use Rattle.cf_elab_env.proofs.Growth.{grown_laws, type_grown}
-use Rattle.cf_elab_unary.specs.Shut as unary
+use Rattle.cf_elab_assign.specs.UnaryShut as unary
 use Rattle.cf_elab_operators.specs.Shut as shut
 use Rattle.cf_elab_operators.proofs.NoObject.{scalar_is, alone, together}
 

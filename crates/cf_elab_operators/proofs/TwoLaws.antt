@@ -12,9 +12,9 @@ use Rattle.cf_elab.specs.Env.{Env}
 use Rattle.cf_elab.specs.Operand.{Value}
 use Rattle.cf_elab.specs.Unary.{subscript}
 use Rattle.cf_elab_assign.specs.Shut as assigned
-use Rattle.cf_elab_binary.specs.Shut as binary
+use Rattle.cf_elab_assign.specs.BinaryShut as binary
 use Rattle.cf_elab_env.specs.Holds.{IsEnv, IsType, Known}
-use Rattle.cf_elab_unary.specs.Shut as unary
+use Rattle.cf_elab_assign.specs.UnaryShut as unary
 use Rattle.cf_elab_operators.specs.Shut as shut
 use Rattle.cf_elab_operators.proofs.NoObject.{no_class_of, scalar_is, together}
 

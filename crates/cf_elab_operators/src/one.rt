@@ -3,8 +3,8 @@ ghost use Rattle.cf_elab_env.specs.Answered.{Agrees};
 ghost use Rattle.cf_elab_env.specs.Holds.{Known, Grows};
 ghost use Rattle.cf_elab_operators.specs.Shut as shut;
 
+use cf_elab_assign::{increment, prefixed};
 use cf_elab_env::{Env, Stop, Value};
-use cf_elab_unary::{increment, prefixed};
 use cf_syntax::{PrefixOp, StepOp};
 
 /// A unary operator before its operand: K12 where `&` takes no lvalue, and K18 where another operator does not take the type (5.3).

@@ -3,10 +3,8 @@ ghost use Rattle.cf_elab_env.specs.Answered.{Agrees};
 ghost use Rattle.cf_elab_env.specs.Holds.{Known, Grows};
 ghost use Rattle.cf_elab_operators.specs.Shut as shut;
 
-use cf_elab_assign::assignment;
-use cf_elab_binary::operation;
+use cf_elab_assign::{assignment, operation, subscript};
 use cf_elab_env::{Env, Stop, Value};
-use cf_elab_unary::subscript;
 use cf_syntax::{AssignOp, BinaryOp};
 
 /// A binary operator. A side of `&&` and `||` that is no condition is K13; operands that the operator does not take are K18, and a pointer whose

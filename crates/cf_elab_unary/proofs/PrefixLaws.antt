@@ -9,7 +9,7 @@ use Rattle.cf_elab.specs.Env.{Env}
 use Rattle.cf_elab.specs.Operand.{Value, Sort, object_pointer, void_pointer, function_pointer, sort_of, arithmetic}
 use Rattle.cf_elab.specs.Unary as unary
 use Rattle.cf_elab_env.proofs.Growth.{grown_laws}
-use Rattle.cf_elab_fit.specs.Shut as fit
+use Rattle.cf_elab_arith.specs.FitShut as fit
 use Rattle.cf_elab_arith.specs.Shut as arith
 use Rattle.cf_elab_arith.specs.Sorts.{kind_at, pointer_at, is_pointer}
 use Rattle.cf_elab_unary.specs.Shut as shut

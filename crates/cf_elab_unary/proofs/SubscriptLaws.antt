@@ -7,7 +7,7 @@ use Rattle.cf_elab.specs.Env.{Env}
 use Rattle.cf_elab.specs.Operand.{Value, Sort, object_pointer, sort_of, arithmetic, place_of}
 use Rattle.cf_elab.specs.Unary as unary
 use Rattle.cf_elab_env.proofs.Growth.{grown_laws}
-use Rattle.cf_elab_fit.specs.Shut as fit
+use Rattle.cf_elab_arith.specs.FitShut as fit
 use Rattle.cf_elab_arith.specs.Sorts.{object_at, object_of, kind_at}
 use Rattle.cf_elab_unary.specs.Fixed.{stays_fixed}
 use Rattle.cf_elab_unary.specs.Shut as shut

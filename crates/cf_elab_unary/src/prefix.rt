@@ -4,9 +4,8 @@ ghost use Rattle.cf_elab_env.specs.Holds.{Known, Grows};
 ghost use Rattle.cf_elab_unary.specs.Shut as shut;
 
 use crate::places::{address_of, dereferenced};
-use cf_elab_arith::{broken, is_pointer, kind_at, negation};
+use cf_elab_arith::{broken, is_pointer, kind_at, negation, plain, to_kind};
 use cf_elab_env::{Env, Stop, Value};
-use cf_elab_fit::{plain, to_kind};
 use cf_syntax::PrefixOp;
 
 /// A unary operator before an operand that is no class object: K12 where `&` takes no lvalue, and K18 where another operator does not take the

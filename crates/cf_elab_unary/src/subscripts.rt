@@ -7,9 +7,8 @@ ghost use Rattle.cf_elab_unary.specs.Shut as shut;
 use crate::pointers::{check_complete, stays_fixed};
 use cf_base::{Boxed, Kind};
 use cf_core::Core;
-use cf_elab_arith::{broken, kind_at, object_at};
+use cf_elab_arith::{broken, kind_at, object_at, plain, to_kind};
 use cf_elab_env::{Env, Stop, Value};
-use cf_elab_fit::{plain, to_kind};
 use cf_types::TyId;
 
 /// `x[y]`: of a pointer to an object and an integer, in either order, else K18; the object is complete, else K30 (5.2.1).

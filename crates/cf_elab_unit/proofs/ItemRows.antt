@@ -9,12 +9,12 @@ use Rattle.cf_elab.specs.Answer.{Answer, Made, onward}
 use Rattle.cf_elab.specs.Built as built
 use Rattle.cf_elab.specs.Built.{first_of}
 use Rattle.cf_elab.specs.Env.{Env}
-use Rattle.cf_elab_declaration.specs.Shut as declaration
+use Rattle.cf_elab_definition.specs.DeclarationShut as declaration
 use Rattle.cf_elab_definition.specs.Shut as definition
 use Rattle.cf_elab_env.specs.Answered.{Stops}
 use Rattle.cf_elab_env.specs.declared.stop.Stop.{Stop}
 use Rattle.cf_elab_env.specs.declared.stop.Stop.TheVariants as stop
-use Rattle.cf_elab_expr.proofs.BuiltForms.{left, right}
+use Rattle.cf_elab_definition.proofs.ExprBuiltForms.{left, right}
 use Rattle.cf_elab_file.specs.Shut as row
 use Rattle.cf_elab_unit.specs.Shut as shut
 

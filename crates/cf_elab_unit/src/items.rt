@@ -3,8 +3,7 @@
 ghost use Rattle.cf_elab_env.specs.Answered.{Agrees};
 ghost use Rattle.cf_elab_unit.specs.Shut as shut;
 
-use cf_elab_declaration::declaration;
-use cf_elab_definition::definition;
+use cf_elab_definition::{declaration, definition};
 use cf_elab_env::{Env, Stop};
 use cf_elab_file::check_all_defined;
 use cf_unit::Item;

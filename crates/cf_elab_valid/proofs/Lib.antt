@@ -43,3 +43,4 @@ pub mod Trees
 pub mod Unary
 pub mod Values
 pub mod Ways
+pub mod FitNoUser

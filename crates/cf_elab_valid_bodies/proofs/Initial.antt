@@ -31,7 +31,7 @@ use Rattle.cf_elab_valid_objects.proofs.Conversions.{evaluated-quiet}
 use Rattle.cf_elab_valid_objects.proofs.Expressions as quiet
 use Rattle.cf_elab_valid_objects.proofs.Initialisers.{leaves-quiet, leaves-none, leaves-onward}
 use Rattle.cf_elab_valid_objects.proofs.Plans.{tree-later, list-later}
-use Rattle.cf_elab_valid_statics.specs.Fixed.{AreParts}
+use Rattle.cf_elab_valid_declarations.specs.ValidStaticsFixed.{AreParts}
 use Rattle.cf_elab_valid_bodies.specs.Laws.{ConstantsAreApart}
 use Rattle.cf_elab_valid_bodies.specs.Trees as well
 use Rattle.cf_elab_valid_bodies.specs.Trees.{init_fits, initialiser_fits}

@@ -15,7 +15,7 @@ use Rattle.cf_elab_valid.specs.Statements.{is_outermost, Inner, IsStatement}
 use Rattle.cf_elab_valid_statements.specs.Entries.{IsEntry}
 use Rattle.cf_elab_valid_objects.specs.Declared.{AllReached, AreComplete}
 use Rattle.cf_elab_valid_objects.specs.Starts.{NoVoidElements}
-use Rattle.cf_elab_valid_statics.specs.Fixed.{FixedIn}
+use Rattle.cf_elab_valid_declarations.specs.ValidStaticsFixed.{FixedIn}
 use Rattle.cf_elab_valid_bodies.specs.Trees.{statement_told, declaration_fits, initialiser_fits}
 
 -- the place of the first form that is not built

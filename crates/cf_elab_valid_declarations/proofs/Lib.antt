@@ -5,3 +5,4 @@ pub mod Functions
 pub mod Places
 pub mod Rows
 pub mod Words
+pub mod ValidStaticsNames

@@ -28,10 +28,10 @@ use Rattle.cf_elab_valid.proofs.Named.{first-none}
 use Rattle.cf_elab_valid.proofs.Options.{never_none}
 use Rattle.cf_elab_valid.proofs.Ways.{made-fine, onward-fine, When}
 use Rattle.cf_elab_valid_statics.proofs.Names.{Any}
-use Rattle.cf_elab_valid_declarations.proofs.Entering.{named-fine, still-alone}
-use Rattle.cf_elab_valid_declarations.proofs.Functions.{IsFun, entries-fine}
-use Rattle.cf_elab_valid_bodies.specs.Laws.{IsEnd, ConstantsAreApart}
-use Rattle.cf_elab_valid_bodies.proofs.Bodies.{declaration-tree-law}
+use Rattle.cf_elab_valid_functions.proofs.ValidDeclarationsEntering.{named-fine, still-alone}
+use Rattle.cf_elab_valid_functions.proofs.ValidDeclarationsFunctions.{IsFun, entries-fine}
+use Rattle.cf_elab_valid_functions.specs.ValidBodiesLaws.{IsEnd, ConstantsAreApart}
+use Rattle.cf_elab_valid_functions.proofs.ValidBodiesBodies.{declaration-tree-law}
 use Rattle.cf_elab_valid_functions.specs.Laws.{IsFileEnd}
 use Rattle.cf_elab_valid_functions.proofs.Definitions.{function-law}
 use Rattle.cf_elab_valid_functions.proofs.Shaped.{made-function}

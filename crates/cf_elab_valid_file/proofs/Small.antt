@@ -45,8 +45,8 @@ use Rattle.cf_elab_valid.proofs.Named.{first-none}
 use Rattle.cf_elab_valid.proofs.Options.{never_none}
 use Rattle.cf_elab_valid.proofs.Ways.{begins-get, begins-through, When}
 use Rattle.cf_elab_valid_statics.proofs.Names.{Any}
-use Rattle.cf_elab_valid_bodies.specs.Laws.{ConstantsAreApart}
-use Rattle.cf_elab_valid_bodies.proofs.Bodies.{specifier}
+use Rattle.cf_elab_valid_functions.specs.ValidBodiesLaws.{ConstantsAreApart}
+use Rattle.cf_elab_valid_functions.proofs.ValidBodiesBodies.{specifier}
 use Rattle.cf_elab_valid_functions.specs.Laws.{IsFileEnd}
 use Rattle.cf_elab_valid_file.specs.Laws.{item_fits}
 use Rattle.cf_elab_valid_file.proofs.Items.{beginning-fine, item-fine, outermost-later}

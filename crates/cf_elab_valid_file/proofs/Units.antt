@@ -39,7 +39,7 @@ use Rattle.cf_elab_valid.proofs.Calls.{taken_parameters, taken_result, taken_fun
 use Rattle.cf_elab_valid.proofs.Ways.{begins-same}
 use Rattle.cf_elab_valid_objects.proofs.Locals.{complete-no-void}
 use Rattle.cf_elab_valid_statics.proofs.Names.{Any}
-use Rattle.cf_elab_valid_bodies.specs.Laws.{ConstantsAreApart}
+use Rattle.cf_elab_valid_functions.specs.ValidBodiesLaws.{ConstantsAreApart}
 use Rattle.cf_elab_valid_functions.specs.Laws.{IsFileEnd}
 use Rattle.cf_elab_valid_functions.proofs.Ends.{nowhere, nowhere-end}
 use Rattle.cf_elab_valid_file.specs.Ends.{is_finished}

@@ -18,8 +18,8 @@ use Rattle.cf_elab.specs.File.{first_env, item_row, in_turn, core_unit}
 use Rattle.cf_elab.specs.Scan.{defined_names}
 use Rattle.cf_elab_valid.specs.Constants.{all_of}
 use Rattle.cf_elab_valid.specs.Sorts.{NoneToReference}
-use Rattle.cf_elab_valid_bodies.specs.Laws.{ConstantsAreApart}
-use Rattle.cf_elab_valid_bodies.specs.Trees.{declaration_fits, function_fits}
+use Rattle.cf_elab_valid_functions.specs.ValidBodiesLaws.{ConstantsAreApart}
+use Rattle.cf_elab_valid_functions.specs.ValidBodiesTrees.{declaration_fits, function_fits}
 
 -- ---- trees as texts have them
 

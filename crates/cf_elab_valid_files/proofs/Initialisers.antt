@@ -25,9 +25,9 @@ use Rattle.cf_elab_valid.proofs.Named.{first-none}
 use Rattle.cf_elab_valid.proofs.Ways.{made-fine, onward-fine, within-before, When}
 use Rattle.cf_elab_valid_objects.specs.Starts.{NoVoidElements}
 use Rattle.cf_elab_valid_statics.specs.Fixed.{ApartIn, FixedIn}
-use Rattle.cf_elab_valid_bodies.specs.Laws.{ConstantsAreApart}
-use Rattle.cf_elab_valid_bodies.specs.Trees as well
-use Rattle.cf_elab_valid_bodies.specs.Trees.{init_fits, initialiser_fits}
+use Rattle.cf_elab_valid_file.specs.ValidBodiesLaws.{ConstantsAreApart}
+use Rattle.cf_elab_valid_file.specs.ValidBodiesTrees as well
+use Rattle.cf_elab_valid_file.specs.ValidBodiesTrees.{init_fits, initialiser_fits}
 use Rattle.cf_elab_apart.specs.Apart.{TreeApart, TreesApart, ListApart, WrittenApart, MaybeApart, StartApart}
 use Rattle.cf_elab_apart.proofs.Expressions.{expression-apart}
 use Rattle.cf_elab_apart.proofs.Fit.{Both}

@@ -1,6 +1,6 @@
 //! The laws: functions that do nothing, and whose contracts are the laws.
 
-ghost use Rattle.cf_elab_valid_bodies.specs.Laws.{ConstantsAreApart};
+ghost use Rattle.cf_elab_valid_file.specs.ValidBodiesLaws.{ConstantsAreApart};
 ghost use Rattle.cf_elab_valid_files.specs.Laws.{ElaboratedFilesAreValid, FinishedFilesAreValid};
 
 /// A constant initialiser of a static object of a function names no local (6.7, 8.4).

@@ -19,7 +19,7 @@ use Rattle.cf_elab_valid.proofs.Shapes.{ParametersThere}
 use Rattle.cf_elab_valid.proofs.Statements.{inner-later}
 use Rattle.cf_elab_valid.proofs.Ways.{made-fine, onward-fine, When}
 use Rattle.cf_elab_valid_bodies.specs.Laws.{IsEnd}
-use Rattle.cf_elab_valid_statics.proofs.Names.{Any}
+use Rattle.cf_elab_valid_bodies.proofs.ValidStaticsNames.{Any}
 use Rattle.cf_elab_valid_functions.proofs.Parameters.{AreHomes, parameters-fine}
 
 -- a body that fits, where `break` and `continue` stand as told

@@ -42,12 +42,12 @@ use Rattle.cf_elab_valid.proofs.Named.{IsThere, WordsFit, NamedFits, gathered_na
 use Rattle.cf_elab_valid.proofs.Options.{some_is}
 use Rattle.cf_elab_valid.proofs.Shapes.{NoDefaults, ParametersThere, IsPlainShape, ShapeThere, shape-later, ShapedThere, typed-fine, bounds_still, IsShape, none_still}
 use Rattle.cf_elab_valid.proofs.Ways.{as-then, begins-longer, fine-before, made-fine, onward-fine, steps-through, within-before, When}
-use Rattle.cf_elab_valid_statics.proofs.Names.{Any}
-use Rattle.cf_elab_valid_declarations.proofs.Declarators.{name-built, no-scopes, function-plain, function-params}
-use Rattle.cf_elab_valid_declarations.proofs.Entering.{still-alone}
-use Rattle.cf_elab_valid_declarations.proofs.Functions.{IsFun, fun-later, declared-fine}
-use Rattle.cf_elab_valid_declarations.proofs.Rows.{named-fits-later}
-use Rattle.cf_elab_valid_declarations.proofs.Words.{AreSpecifiers, words-then, within-still}
+use Rattle.cf_elab_valid_bodies.proofs.ValidStaticsNames.{Any}
+use Rattle.cf_elab_valid_bodies.proofs.ValidDeclarationsDeclarators.{name-built, no-scopes, function-plain, function-params}
+use Rattle.cf_elab_valid_bodies.proofs.ValidDeclarationsEntering.{still-alone}
+use Rattle.cf_elab_valid_bodies.proofs.ValidDeclarationsFunctions.{IsFun, fun-later, declared-fine}
+use Rattle.cf_elab_valid_bodies.proofs.ValidDeclarationsRows.{named-fits-later}
+use Rattle.cf_elab_valid_bodies.proofs.ValidDeclarationsWords.{AreSpecifiers, words-then, within-still}
 use Rattle.cf_elab_valid_bodies.specs.Laws.{statement_place, IsEnd, ConstantsAreApart}
 use Rattle.cf_elab_valid_bodies.specs.Trees as well
 use Rattle.cf_elab_valid_bodies.specs.Trees.{Told, is_whole, statement_told, specifier_fits, function_fits}

@@ -37,7 +37,7 @@ use Rattle.cf_elab_valid.proofs.Values.{has_type-is}
 use Rattle.cf_elab_valid.proofs.Ways.{begins-get, begins-last, begins-same, begins-through, same-hand, within-before, When}
 use Rattle.cf_elab_valid_objects.specs.Declared.{AreComplete}
 use Rattle.cf_elab_valid_statements.proofs.Scoped.{entered, left}
-use Rattle.cf_elab_valid_statics.proofs.Names.{Any}
+use Rattle.cf_elab_valid_bodies.proofs.ValidStaticsNames.{Any}
 use Rattle.cf_elab_valid_bodies.specs.Laws.{IsEnd}
 use Rattle.cf_elab_valid_functions.specs.Laws.{IsFileEnd}
 use Rattle.cf_elab_valid_functions.proofs.Bodies.{BodyFits, body-fine}

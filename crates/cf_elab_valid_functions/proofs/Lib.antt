@@ -4,3 +4,6 @@ pub mod Ends
 pub mod Hands
 pub mod Parameters
 pub mod Shaped
+pub mod ValidBodiesBodies
+pub mod ValidDeclarationsEntering
+pub mod ValidDeclarationsFunctions

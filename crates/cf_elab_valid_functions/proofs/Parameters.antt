@@ -16,8 +16,8 @@ use Rattle.cf_elab_valid.proofs.Shapes.{ParametersThere, parameters-later}
 use Rattle.cf_elab_valid.proofs.Ways.{made-fine, onward-fine, within-before, When}
 use Rattle.cf_elab_valid_objects.specs.Declared.{AreComplete}
 use Rattle.cf_elab_valid_objects.proofs.Locals.{complete-no-void}
-use Rattle.cf_elab_valid_statics.proofs.Names.{Any}
-use Rattle.cf_elab_valid_declarations.proofs.Entering.{named-fine}
+use Rattle.cf_elab_valid_bodies.proofs.ValidStaticsNames.{Any}
+use Rattle.cf_elab_valid_bodies.proofs.ValidDeclarationsEntering.{named-fine}
 
 -- the frame has their types from this number on
 abbrev pub AreHomes : Scene → ℕ → List Parameter → Type 0

@@ -15,7 +15,7 @@ use Rattle.cf_elab_valid.proofs.Named.{IsThere}
 use Rattle.cf_elab_valid.proofs.Options.{none_some}
 use Rattle.cf_elab_valid.proofs.Shapes.{FunThere, intern_fun-fine, there-fine, function_type-fine, IsPlainShape, ShapeThere, shape-later, Any, parameter_types-fine}
 use Rattle.cf_elab_valid.proofs.Ways.{fine-as, made-fine, onward-fine, steps-through, within-before, When}
-use Rattle.cf_elab_valid_declarations.proofs.Functions.{IsFun}
+use Rattle.cf_elab_valid_bodies.proofs.ValidDeclarationsFunctions.{IsFun}
 
 -- a whole type, which is a function's
 abbrev pub FunShaped : Shaped → Env → Type 0

@@ -20,7 +20,7 @@ use Rattle.cf_elab.specs.Made.{of_kind, pointer_to}
 use Rattle.cf_elab.specs.Operand.{Value, Operand, value, functions, methods, field_name, bound_method, Sort, array_sort, function_sort, class_sort, sort_of, plain, plain_sort, decayed as decayed_row, value_of, val, defs, is_testable, one_function, Part, evaluated}
 use Rattle.cf_elab.specs.UserFit as user
 use Rattle.cf_elab_env.specs.Holds.{without_class}
-use Rattle.cf_elab_fit.proofs.NoUser.{no_user_function}
+use Rattle.cf_elab_valid.proofs.FitNoUser.{no_user_function}
 use Rattle.cf_elab_valid.specs.Scene.{Classless, IsShown}
 use Rattle.cf_elab_valid.proofs.FitRows.{classless-type, no_defs, all_checked}
 use Rattle.cf_elab_valid.proofs.Unary.{classless-number}

@@ -9,7 +9,7 @@ use Rattle.cc_whole.specs.Plain as c_tree
 use Rattle.cf_lower.specs.Statements.{flag_set}
 use Rattle.cc_whole_mean.specs.Flow as c
 use Rattle.cc_whole_mean.specs.Flow.{in_memory}
-use Rattle.cf_lower_control.specs.Loops.{IsReturn}
+use Rattle.cf_lower_turns.specs.ControlLoops.{IsReturn}
 use Rattle.cf_lower_steps.specs.Flows.{Simulates, Leaves}
 use Rattle.cf_lower_turns.specs.Around.{Around, function, turns, stepped, step, cases, depth_of, left_to, gone_on_to, leaving_of, going_on_of}
 use Rattle.cf_lower_turns.specs.Ways.{EndsBy, flagged}

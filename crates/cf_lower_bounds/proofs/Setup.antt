@@ -17,7 +17,7 @@ use Rattle.cc_whole_mean.proofs.Growth.{GrowsAgain}
 use Rattle.cf_lower.specs.Kept.{Keeping, after}
 use Rattle.cf_lower.specs.Expressions.{zero as nought}
 use Rattle.cf_lower.specs.Statements.{Inside, block, flag_set, if_flag, stated_all, lowered, all_lowered}
-use Rattle.cf_lower_control.specs.Loops.{IsReturn}
+use Rattle.cf_lower_turns.specs.ControlLoops.{IsReturn}
 use Rattle.cf_lower_steps.specs.Flows.{Simulates, Ways}
 use Rattle.cf_lower_steps.specs.Lowering.{runs}
 use Rattle.cf_lower_turns.specs.Around.{Around, turns, stepped, step, depth_of, inside_at}

@@ -10,7 +10,7 @@ use Rattle.cc_whole_mean.specs.Flow as c
 use Rattle.cc_whole_mean.specs.Mean as mean
 use Rattle.cc_whole_mean.proofs.Growth.{grows-runs, grows-helps}
 use Rattle.cf_lower.specs.Statements.{all_lowered}
-use Rattle.cf_lower_control.specs.Loops.{IsReturn}
+use Rattle.cf_lower_turns.specs.ControlLoops.{IsReturn}
 use Rattle.cf_lower_steps.specs.Flows.{Simulates}
 use Rattle.cf_lower_turns.specs.Around.{Around, turns, stepped, step, depth_of, inside_at}
 use Rattle.cf_lower_turns.specs.Scene.{Scene, again_at, c_again_at, helps_at, list_at}

@@ -11,7 +11,7 @@ use Rattle.cf_plain.specs.Acts.{Registers}
 use Rattle.cf_plain_frames.specs.Since.{is_among}
 use Rattle.cf_lower.specs.Kept.{Locals, type_of_local, is_argument}
 use Rattle.cf_lower_kept.specs.Opened.{Opened, is_local, has_its_value}
-use Rattle.cf_lower_bounds.specs.Points.{IsOpen, AllOpen}
+use Rattle.cf_lower_points.specs.BoundsPoints.{IsOpen, AllOpen}
 use Rattle.cf_lower_arguments.specs.Passing.{is_passed, are_passed, ArgumentThere, ArgumentsThere}
 
 same-local : (i j : ℕ) → i == j ≡ true → i ≡ j

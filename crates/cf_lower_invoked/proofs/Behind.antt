@@ -21,7 +21,7 @@ use Rattle.cf_lower_turns.specs.Scene.{Scene, fixed_in}
 use Rattle.cf_lower_calls.specs.Arguments.{entered_all}
 use Rattle.cf_lower_returns.specs.Called.{CameBack}
 use Rattle.cf_lower_returns.proofs.Caller.{here-again}
-use Rattle.cf_lower_bounds.specs.Points.{IsOpen, AllOpen, Open, InFrame, local_count}
+use Rattle.cf_lower_points.specs.BoundsPoints.{IsOpen, AllOpen, Open, InFrame, local_count}
 use Rattle.cf_lower_invoked.specs.Invoking.{programs_of, Invokes, InvokedBefore}
 use Rattle.cf_lower_invoked.proofs.Arguments.{one-of, object-among, passed-below}
 use Rattle.cf_lower_invoked.proofs.Closing.{OthersOpen, all-closed, was-closed}

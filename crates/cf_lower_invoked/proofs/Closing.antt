@@ -7,8 +7,8 @@ use Rattle.cf_core.specs.Run.{State}
 use Rattle.cf_plain.specs.Acts.{Registers}
 use Rattle.cf_plain_frames.specs.Since.{is_among}
 use Rattle.cf_lower_kept.specs.Opened.{Opened, is_open, closed, closed_all}
-use Rattle.cf_lower_bounds.specs.Points.{IsOpen, AllOpen}
-use Rattle.cf_lower_bounds.proofs.Lists.{none-of, open-closed}
+use Rattle.cf_lower_points.specs.BoundsPoints.{IsOpen, AllOpen}
+use Rattle.cf_lower_points.proofs.BoundsLists.{none-of, open-closed}
 
 module _ (count : ℕ) (g : Registers) (u : State) where
   -- those that are none of these stand

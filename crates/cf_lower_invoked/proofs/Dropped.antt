@@ -28,8 +28,8 @@ use Rattle.cf_lower_turns.specs.Scene.{Scene, fixed_in, again_at, c_again_at, he
 use Rattle.cf_lower_turns.proofs.Following.{sim-here}
 use Rattle.cf_lower_calls.specs.Arguments.{entered_all}
 use Rattle.cf_lower_returns.specs.Called.{Pair, CameBack, FunctionsAlike}
-use Rattle.cf_lower_bounds.specs.Points.{Point, point_at, local_count, At}
-use Rattle.cf_lower_bounds.specs.Bounds.{EndsAt, LeafRunsTo}
+use Rattle.cf_lower_points.specs.BoundsPoints.{Point, point_at, local_count, At}
+use Rattle.cf_lower_points.specs.BoundsBounds.{EndsAt, LeafRunsTo}
 use Rattle.cf_lower_invoked.specs.Invoking.{programs_of, Invokes, InvokedBefore, all_valued, point_called}
 use Rattle.cf_lower_invoked.proofs.Arguments.{all-there}
 use Rattle.cf_lower_invoked.proofs.Behind.{behind, open-behind, frame-behind, here-behind}

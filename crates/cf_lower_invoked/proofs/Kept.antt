@@ -34,8 +34,8 @@ use Rattle.cf_lower_turns.proofs.Following.{sim-here}
 use Rattle.cf_lower_points.proofs.LowerActions.{here-silent}
 use Rattle.cf_lower_calls.specs.Arguments.{entered_all}
 use Rattle.cf_lower_returns.specs.Called.{Pair, CameBack, FunctionsAlike}
-use Rattle.cf_lower_bounds.specs.Points.{Open, Point, point_at, local_count, At}
-use Rattle.cf_lower_bounds.specs.Bounds.{EndsAt, LeafRunsTo}
+use Rattle.cf_lower_points.specs.BoundsPoints.{Open, Point, point_at, local_count, At}
+use Rattle.cf_lower_points.specs.BoundsBounds.{EndsAt, LeafRunsTo}
 use Rattle.cf_lower_points.proofs.Standing.{open-set}
 use Rattle.cf_lower_invoked.specs.Invoking.{programs_of, Invokes, InvokedBefore, HasLocal, KeepsResult, all_valued, point_kept}
 use Rattle.cf_lower_invoked.proofs.Arguments.{all-there}

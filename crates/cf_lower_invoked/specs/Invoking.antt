@@ -14,7 +14,7 @@ use Rattle.cf_lower.specs.Kept.{Keeping, Locals, type_of_local, keep, of_type}
 use Rattle.cf_lower.specs.Written.{c_type}
 use Rattle.cf_lower_relate.specs.Map.{is_hidden}
 use Rattle.cf_lower_kept.specs.Opened.{Opened, has_its_value, closed_all, set_in}
-use Rattle.cf_lower_bounds.specs.Points.{these, Point}
+use Rattle.cf_lower_points.specs.BoundsPoints.{these, Point}
 use Rattle.cf_lower_turns.specs.Scene.{Scene}
 use Rattle.cf_lower_arguments.specs.Passing.{are_passed, Shaped, ArgumentsThere}
 use Rattle.cf_lower_returns.specs.Called.{Programs}

@@ -14,8 +14,8 @@ ghost use Rattle.cf_lower_kept.specs.Opened.{Opened};
 ghost use Rattle.cf_lower_turns.specs.Around.{Around};
 ghost use Rattle.cf_lower_turns.specs.Scene.{Scene};
 ghost use Rattle.cf_lower_returns.specs.Called.{Pair, FunctionsAlike};
-ghost use Rattle.cf_lower_bounds.specs.Points.{Point, point_at};
-ghost use Rattle.cf_lower_bounds.specs.Bounds.{LeafRunsTo};
+ghost use Rattle.cf_lower_points.specs.BoundsPoints.{Point, point_at};
+ghost use Rattle.cf_lower_points.specs.BoundsBounds.{LeafRunsTo};
 ghost use Rattle.cf_lower_invoked.specs.Invoking.{programs_of, Invokes, KeepsResult, all_valued, point_called, point_kept};
 
 /// The law that a call whose result is not kept leads in both from a point to the next, where its arguments have their values, at a bound of ticks up to which functions

@@ -7,3 +7,4 @@ pub mod Alike
 pub mod Small
 pub mod LowerActions
 pub mod LowerLeaves
+pub mod BoundsLists

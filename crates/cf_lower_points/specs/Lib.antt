@@ -1,2 +1,4 @@
 pub mod Leading
 pub mod LowerActions
+pub mod BoundsPoints
+pub mod BoundsBounds

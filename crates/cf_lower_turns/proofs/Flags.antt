@@ -16,18 +16,18 @@ use Rattle.cc_whole_memory.specs.Blocks as blocks
 use Rattle.cc_whole_memory.specs.Blocks.{Block, Memory, put_block, inside, reached, on_ok, value_or_act, write, with_cells}
 use Rattle.cc_whole_mean.specs.Scope.{Scope}
 use Rattle.cc_whole_mean.specs.Values.{named_value, variable_target, assigned, assigned_to}
-use Rattle.cf_lower.specs.Kept.{Keeping}
-use Rattle.cf_lower.specs.Written.{flag_name, int_constant}
+use Rattle.cf_lower_control.specs.LowerKept.{Keeping}
+use Rattle.cf_lower_control.specs.LowerWritten.{flag_name, int_constant}
 use Rattle.cf_lower_relate.specs.Map.{Fixed, Map}
 use Rattle.cf_lower_relate.proofs.Cells.{load-same}
 use Rattle.cf_lower_relate.proofs.Objects.{rel-other, block-same, block-other}
 use Rattle.cf_lower_relate.proofs.Values.{grows-same}
-use Rattle.cf_lower_steps.specs.Own.{Own, Lives}
-use Rattle.cf_lower_steps.specs.Flows.{Between}
-use Rattle.cf_lower_steps.specs.Lowering.{Below}
-use Rattle.cf_lower_steps.proofs.Between.{between-elsewhere}
-use Rattle.cf_lower_steps.proofs.Locals.{locals-elsewhere}
-use Rattle.cf_lower_steps.proofs.Statements.{different}
+use Rattle.cf_lower_control.specs.StepsOwn.{Own, Lives}
+use Rattle.cf_lower_control.specs.StepsFlows.{Between}
+use Rattle.cf_lower_control.specs.StepsLowering.{Below}
+use Rattle.cf_lower_control.proofs.StepsBetween.{between-elsewhere}
+use Rattle.cf_lower_control.proofs.StepsLocals.{locals-elsewhere}
+use Rattle.cf_lower_control.proofs.StepsStatements.{different}
 use Rattle.cf_lower_turns.specs.Flags.{Flags, InFlags, Shows}
 use Rattle.cf_lower_turns.specs.Here.{HasRoom, Outer}
 use Rattle.cf_lower_turns.specs.Texts.{Texts, TextsLaid, InTexts}

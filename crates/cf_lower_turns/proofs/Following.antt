@@ -9,7 +9,7 @@ use Rattle.cf_core.specs.Run.{State, Did, Gives, Exits, Malformed, Act, onward}
 use Rattle.cc_whole_mean.specs.Flow as c
 use Rattle.cc_whole_mean.specs.Flow.{falling, turning, switching}
 use Rattle.cf_lower_control.specs.Loops.{IsReturn}
-use Rattle.cf_lower_steps.specs.Flows.{Simulates, Leaves}
+use Rattle.cf_lower_control.specs.StepsFlows.{Simulates, Leaves}
 
 -- Where both have gone on they go on as before; where `exit` was called the C does nothing more.
 pub sim-next : {A B : Type 0} (Q : A → State → c.Flow → Type 0) (S : B → State → c.Flow → Type 0) (x : Ran (Did A)) (y : Ran c.Flow) (f : A → Act B)

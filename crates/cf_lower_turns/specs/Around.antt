@@ -2,7 +2,7 @@
 use Rattle.std.specs.Prelude.{ℕ, suc, List, [], ◌∷◌, Option, Some, None}
 use Rattle.cc_whole.specs.Plain as c
 use Rattle.cc_whole.specs.Plain.{Statement}
-use Rattle.cf_lower.specs.Statements.{Inside, flag_set}
+use Rattle.cf_lower_control.specs.LowerStatements.{Inside, flag_set}
 
 pub data Around (Point : Type 0) : Type 0 where
   function : Around Point

@@ -12,9 +12,9 @@ use Rattle.cc_whole_mean.specs.declared.named.Named.TheVariants as meant
 use Rattle.cc_whole_mean.specs.declared.named.Shape.TheVariants.{Single as single}
 use Rattle.cc_whole_mean.specs.Scope.{Scope}
 use Rattle.cc_whole_mean.specs.Values.{value_of, assigned}
-use Rattle.cf_lower.specs.Written.{flag_name, int_constant}
+use Rattle.cf_lower_control.specs.LowerWritten.{flag_name, int_constant}
 use Rattle.cf_lower_relate.specs.Map.{Map, is_ended}
-use Rattle.cf_lower_steps.specs.Own.{Own, Lives}
+use Rattle.cf_lower_control.specs.StepsOwn.{Own, Lives}
 
 -- so many, each in its block; and the block of the C local of each type that a result has
 pub record Flags : Type 0 where

@@ -14,12 +14,12 @@ use Rattle.cc_whole_mean.specs.Types.{scalar_of}
 use Rattle.cc_whole_mean.specs.Scope.{Scope}
 use Rattle.cc_whole_mean.specs.Flow as c
 use Rattle.cf_lower_relate.specs.Map.{Fixed, Map, Grows, is_ended, is_hidden}
-use Rattle.cf_lower.specs.Kept.{Keeping, is_argument, type_of_local}
-use Rattle.cf_lower.specs.Written.{result_name}
+use Rattle.cf_lower_control.specs.LowerKept.{Keeping, is_argument, type_of_local}
+use Rattle.cf_lower_control.specs.LowerWritten.{result_name}
 use Rattle.cf_lower_control.specs.Loops.{Weaker}
-use Rattle.cf_lower_steps.specs.Own.{Own}
-use Rattle.cf_lower_steps.specs.Flows.{Between}
-use Rattle.cf_lower_steps.specs.Lowering.{Below}
+use Rattle.cf_lower_control.specs.StepsOwn.{Own}
+use Rattle.cf_lower_control.specs.StepsFlows.{Between}
+use Rattle.cf_lower_control.specs.StepsLowering.{Below}
 use Rattle.cf_lower_turns.specs.Flags.{Flags, InFlags, Shows}
 use Rattle.cf_lower_turns.specs.Texts.{Texts, NoText, Free, TextsLaid, InTexts}
 

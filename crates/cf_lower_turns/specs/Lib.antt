@@ -4,3 +4,4 @@ pub mod Here
 pub mod Scene
 pub mod Ways
 pub mod Texts
+pub mod ControlLoops

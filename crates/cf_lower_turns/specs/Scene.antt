@@ -18,11 +18,11 @@ use Rattle.cc_whole_mean.specs.Mean as mean
 use Rattle.cf_lower_relate.specs.Map.{Fixed, Map, Grows, Is}
 use Rattle.cf_lower_relate.specs.Scalars.{c_scalar}
 use Rattle.cf_lower_relate.specs.Relation.{Rel}
-use Rattle.cf_lower.specs.Kept.{Keeping, after}
-use Rattle.cf_lower.specs.Statements.{Inside, lowered}
-use Rattle.cf_lower_steps.specs.Own.{InLocals}
-use Rattle.cf_lower_steps.specs.Flows.{Simulates}
-use Rattle.cf_lower_steps.specs.Lowering.{fixed_of, runs}
+use Rattle.cf_lower_control.specs.LowerKept.{Keeping, after}
+use Rattle.cf_lower_control.specs.LowerStatements.{Inside, lowered}
+use Rattle.cf_lower_control.specs.StepsOwn.{InLocals}
+use Rattle.cf_lower_control.specs.StepsFlows.{Simulates}
+use Rattle.cf_lower_control.specs.StepsLowering.{fixed_of, runs}
 use Rattle.cf_lower_turns.specs.Around.{Around, depth_of, inside_at}
 use Rattle.cf_lower_turns.specs.Here.{Body, Outer, Homes, Here}
 use Rattle.cf_lower_turns.specs.Texts.{InTexts}

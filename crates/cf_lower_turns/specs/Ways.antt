@@ -6,7 +6,7 @@ use Rattle.cf_plain.specs.Acts.{Registers}
 use Rattle.cf_plain.specs.Running.{Falls, Breaks, Continues, Returns}
 use Rattle.cc_whole_mean.specs.Scope.{Scope}
 use Rattle.cc_whole_mean.specs.Flow as c
-use Rattle.cf_lower_steps.specs.Flows.{Ways}
+use Rattle.cf_lower_control.specs.StepsFlows.{Ways}
 use Rattle.cf_lower_turns.specs.Around.{Around, function, turns, stepped, step, cases, depth_of, gone_on_to}
 use Rattle.cf_lower_turns.specs.Flags.{Shows}
 

@@ -3,7 +3,7 @@ use Rattle.std.proofs.lemmas.Result.{err_from_is_err_and}
 use Rattle.cf_elab.specs.Built.{of_name}
 use Rattle.cf_elab_declaration.proofs.DeclaratorRows.{named_is, shape_stops}
 use Rattle.cf_elab_declaration.proofs.NamesBuilt.{name_plain}
-use Rattle.cf_elab_expr.specs.Shut as expression
+use Rattle.cf_elab_enums.specs.ExprShut as expression
 use Rattle.cf_elab_declaration.proofs.declarators.declarator.Goals as goal
 
 pub returns-in_err-shape-clause-made : goal.returns-in_err-shape-clause-made

@@ -1,7 +1,7 @@
 use Rattle.std.proofs.Common.{rules, ◌≤◌, ◌∙◌, ap, sym, List, drop, ◌+◌, length}
 use Rattle.std.proofs.lemmas.Result.{err_from_is_err_and}
 use Rattle.cf_elab.specs.Objects.{Reached}
-use Rattle.cf_elab_define.specs.Reached.{maybe_reached}
+use Rattle.cf_elab_declarator.specs.DefineReached.{maybe_reached}
 use Rattle.cf_elab_env.proofs.Growth.{grows_through, grows-refl}
 use Rattle.cf_elab_env.proofs.InOrder.{behind, none_yet}
 use Rattle.cf_elab_declaration.specs.Shut as shut

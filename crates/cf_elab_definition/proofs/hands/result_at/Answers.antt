@@ -1,6 +1,6 @@
 use Rattle.std.proofs.Common.{refl}
 use Rattle.cf_types.specs.declared.ty.Fun.{Fun}
-use Rattle.cf_elab_call.proofs.SignatureLaws.{function_result, function_result_known, no_result, first_known}
+use Rattle.cf_elab_body.proofs.CallSignatureLaws.{function_result, function_result_known, no_result, first_known}
 use Rattle.cf_elab_definition.proofs.hands.result_at.Goals as goal
 
 pub returns-in-Function : goal.returns-in-Function

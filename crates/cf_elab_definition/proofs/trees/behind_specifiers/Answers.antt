@@ -1,8 +1,8 @@
 use Rattle.std.proofs.Common.{rules, ◌≡◌, None, Some}
 use Rattle.std.proofs.lemmas.Result.{err_from_is_err_and}
 use Rattle.cf_elab.specs.Built.{of_name}
-use Rattle.cf_elab_declaration.proofs.NamesBuilt.{name_plain}
-use Rattle.cf_elab_expr.specs.Shut as expression
+use Rattle.cf_elab_body.proofs.DeclarationNamesBuilt.{name_plain}
+use Rattle.cf_elab_body.specs.ExprShut as expression
 use Rattle.cf_elab_definition.proofs.TreeRows.{name_is, shape_stops}
 use Rattle.cf_elab_definition.proofs.trees.behind_specifiers.Goals as goal
 

@@ -16,7 +16,7 @@ use Rattle.cf_elab.specs.Choice.{operand_kind, operator_kind}
 use Rattle.cf_elab_env.specs.Shut as made
 use Rattle.cf_elab_env.proofs.Growth.{grown_laws}
 use Rattle.cf_elab_fit.specs.Shut as fit
-use Rattle.cf_elab_numbers.specs.Numbers as numbers
+use Rattle.cf_elab_fit.specs.NumbersNumbers as numbers
 use Rattle.cf_elab_arith.specs.Shut as shut
 use Rattle.cf_elab_arith.proofs.Known.{integer_known, right_taken}
 

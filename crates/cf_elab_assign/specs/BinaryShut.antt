@@ -1,0 +1,2 @@
+-- What the crates above take of `cf_elab_binary`.
+unfoldable pub use Rattle.cf_elab_binary.specs.Shut.{operation}

@@ -1,0 +1,2 @@
+-- What the crates above take of `cf_elab_declaration`.
+unfoldable pub use Rattle.cf_elab_declaration.specs.Shut.{IsBuilt, SpecifiersAreBuilt, declaration, specifier, words}
