@@ -1,9 +1,13 @@
 -- Constants with `!`, `&&`, `||` and `?:`: the static object has its value before `main`, in the C too.
 use Rattle.std.proofs.Common.{◌≡◌, List, [], ◌∷◌, ◌++◌, refl}
-use Rattle.std.specs.Prelude.{pos, Option, Some, None, codes}
+use Rattle.std.specs.Prelude.{pos, negsuc, Option, Some, None, codes}
 use Rattle.std.specs.Fmt.{digits}
 use Rattle.cf_base.specs.Event.{Ended}
 use Rattle.cf_plain.specs.Plain.{Plain, PlainFile, nothing, act, set, branch, give, number, read, first, static_object, truth, logical_not}
+use Rattle.cf_base.specs.declared.arith.Arith.TheVariants as op
+use Rattle.cc_whole.specs.declared.types.CConstant.TheVariants as constants
+use Rattle.cc_whole.specs.Plain.{address, binary, constant as a_constant}
+use Rattle.cf_lower.specs.Constants.{at, written}
 use Rattle.cf_lower.proofs.Rows.{statements, int, main_of, file, constant, with_constants, source, target}
 
 -- int x=..;int main(){return x;}
@@ -59,3 +63,13 @@ chosen-agrees = refl
 chosen-is-five : (target (with_constants chosen) 1).end ≡ Ended (pos 5)
 unfolding digits
 chosen-is-five = refl
+
+-- int x[2];int*p=&x[1073741824];  no int counts its bytes, and the C is valid all the same
+far-place : written [] (at (codes "x") 4294967296 int) ≡ binary op.Add (address (codes "x")) (a_constant (constants.Signed (pos 0)))
+unfolding digits
+far-place = refl
+
+-- int x[2];int*p=&x[536870912];
+far-place-is-negative : written [] (at (codes "x") 2147483648 int) ≡ binary op.Add (address (codes "x")) (a_constant (constants.Signed (negsuc 2147483647)))
+unfolding digits
+far-place-is-negative = refl

@@ -13,10 +13,10 @@ use Rattle.cf_lower_layout.specs.Sorts.{Sort, number, address, code, sort_of}
 use Rattle.cf_plain.specs.Plain as plain
 use Rattle.cf_plain.specs.Plain.{Register, Action, Plain, Plains, act, set, branch, nothing, more}
 use Rattle.cc_whole.specs.declared.types.CConstant.TheVariants as constants
-use Rattle.cc_whole.specs.Plain.{Expression, Statement, named, constant, load, address as address_of}
+use Rattle.cc_whole.specs.Plain.{Expression, Statement, named, constant, load, address as address_of, binary}
 use Rattle.cf_lower.specs.Written.{if_scalar, literal_name}
 use Rattle.cf_lower.specs.Expressions.{zero as nought}
-use Rattle.cf_lower.specs.Statements.{put, put_bytes, behind}
+use Rattle.cf_lower.specs.Statements.{put, put_bytes}
 
 -- what a register holds: a number, null, so many bytes behind the start of an object a place of this type, a function
 pub data Known : Type 0 where
@@ -62,6 +62,10 @@ further n t at_byte bytes (negsuc k) = at n (at_byte - (k + 1) * bytes) t
 abbrev pub decayed : Known → Known
 decayed (at n o t) = at n o (element (plain t))
 decayed x = x
+
+-- so many bytes behind the start of an object; the number as an int has it, since a place beyond what an int counts is none of the object's (5.7)
+abbrev pub at_byte : Name → ℕ → Expression
+at_byte n o = binary arith.Add (address_of n) (constant (constants.Signed (converted Int (pos o))))
 
 module _ (classes : List Class) where
   abbrev pub moved : Known → ℤ → Known
@@ -118,16 +122,16 @@ module _ (classes : List Class) where
   -- a known value, for a store
   abbrev pub written : Known → Expression
   written (a_number z) = constant (constants.Signed (converted Int z))
-  written (at n o t) = behind (address_of n) o
+  written (at n o t) = at_byte n o
   written (a_function name) = load (named name)
   written x = nought
 
   abbrev pub stored : Known → Known → List Statement
-  stored (at n o t) v = if_scalar (sort_of t) [] (λ s. put s (behind (address_of n) o) (written v) ∷ [])
+  stored (at n o t) v = if_scalar (sort_of t) [] (λ s. put s (at_byte n o) (written v) ∷ [])
   stored x v = []
 
   abbrev pub stored_bytes : Known → List ℕ → List Statement
-  stored_bytes (at n o t) bytes = put_bytes (behind (address_of n) o) 0 bytes
+  stored_bytes (at n o t) bytes = put_bytes (at_byte n o) 0 bytes
   stored_bytes x bytes = []
 
   -- Static storage is 0 before, so zeros need no store.
