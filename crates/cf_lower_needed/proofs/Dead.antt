@@ -19,35 +19,35 @@ module _ (z : Scene) (n : ℕ) (fits : Keeping → Plain → Bool) where
   L = z.inside.locals
 
   -- the bodies of loops and switches, at such a point
-  loop-outs : (around : Around Point) (b c : Bool) (p : Point) (m : ℕ) → Outs z around b c m → Outs z (turns p around) true true m
+  pub loop-outs : (around : Around Point) (b c : Bool) (p : Point) (m : ℕ) → Outs z around b c m → Outs z (turns p around) true true m
   loop-outs around b c p m outs = record { flags = outs.flags; may_leave = λ e. refl; may_go_on = λ e. refl }
 
-  stepped-outs : (around : Around Point) (b c : Bool) (p : Point) (m k : ℕ) → Outs z around b c (max (suc m) k) → Outs z (stepped p around) true true m
+  pub stepped-outs : (around : Around Point) (b c : Bool) (p : Point) (m k : ℕ) → Outs z around b c (max (suc m) k) → Outs z (stepped p around) true true m
   stepped-outs around b c p m k outs = record {
     flags = flags-more (depth_of around) m z.body.flags.bound (flags-left (depth_of around) (suc m) k z.body.flags.bound outs.flags);
     may_leave = λ e. refl;
     may_go_on = λ e. refl;
   }
 
-  step-outs : (around : Around Point) (b c : Bool) (p : Point) (m k : ℕ) → Outs z around b c (max (suc m) k) → Outs z (step p around) true false k
+  pub step-outs : (around : Around Point) (b c : Bool) (p : Point) (m k : ℕ) → Outs z around b c (max (suc m) k) → Outs z (step p around) true false k
   step-outs around b c p m k outs = record {
     flags = flags-right (depth_of around) (suc m) k z.body.flags.bound outs.flags;
     may_leave = λ e. refl;
     may_go_on = λ e. absurd (let i = e in cc);
   }
 
-  cases-outs : (around : Around Point) (b c : Bool) (p : Point) (m : ℕ) → Outs z around b c (suc m) → Outs z (cases p around) true c m
+  pub cases-outs : (around : Around Point) (b c : Bool) (p : Point) (m : ℕ) → Outs z around b c (suc m) → Outs z (cases p around) true c m
   cases-outs around b c p m outs = record {
     flags = flags-more (depth_of around) m z.body.flags.bound outs.flags;
     may_leave = λ e. refl;
     may_go_on = outs.may_go_on;
   }
 
-  first-outs : (around : Around Point) (b c : Bool) (s : Plain) (ss : Plains) → Outs z around b c (all_nesting (more s ss)) → Outs z around b c (nesting s)
+  pub first-outs : (around : Around Point) (b c : Bool) (s : Plain) (ss : Plains) → Outs z around b c (all_nesting (more s ss)) → Outs z around b c (nesting s)
   first-outs around b c s ss outs =
       outs-with z around b c (all_nesting (more s ss)) (nesting s) outs (flags-left (depth_of around) (nesting s) (all_nesting ss) z.body.flags.bound outs.flags)
 
-  rest-outs : (around : Around Point) (b c : Bool) (s : Plain) (ss : Plains) → Outs z around b c (all_nesting (more s ss)) → Outs z around b c (all_nesting ss)
+  pub rest-outs : (around : Around Point) (b c : Bool) (s : Plain) (ss : Plains) → Outs z around b c (all_nesting (more s ss)) → Outs z around b c (all_nesting ss)
   rest-outs around b c s ss outs =
       outs-with z around b c (all_nesting (more s ss)) (all_nesting ss) outs (flags-right (depth_of around) (nesting s) (all_nesting ss) z.body.flags.bound outs.flags)
 

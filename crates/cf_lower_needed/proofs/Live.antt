@@ -31,8 +31,8 @@ module _ (z : Scene) (n : ℕ) (fits : Keeping → Plain → Bool) (leads : Leav
   abbrev T : List SourceType
   T = L.types
 
-  abbrev V : SourceType
-  V = z.inside.result
+  abbrev Rt : SourceType
+  Rt = z.inside.result
 
   -- ---- what stands around the body of a loop, and of a switch
 
@@ -54,11 +54,11 @@ module _ (z : Scene) (n : ℕ) (fits : Keeping → Plain → Bool) (leads : Leav
   }
 
   module _ (around : Around Point) (h : Keeping) (w : Ways) (b c : Bool) (xs : List Opened) (ss ts : Plains) where
-    abbrev k : Keeping
-    k = after L (loop ss ts) h
+    abbrev turn_kept : Keeping
+    turn_kept = after L (loop ss ts) h
 
-    abbrev m : Point
-    m = point_at k (map settled xs)
+    abbrev turn_point : Point
+    turn_point = point_at turn_kept (map settled xs)
 
     in-body : (r : Register) → all_set L r ss ≡ true → sets L r (loop ss ts) ≡ true
     in-body r e = or-left (all_set L r ss) (all_set L r ts) e
@@ -67,20 +67,20 @@ module _ (z : Scene) (n : ℕ) (fits : Keeping → Plain → Bool) (leads : Leav
     in-end r e = or-right (all_set L r ss) (all_set L r ts) e
 
     -- the body of a loop, by what stands around it and where its `continue` leads
-    body-context : (inner : Around Point) → Outs z inner true true (all_nesting ss) → left_to inner ≡ Some m → gone_on_to inner ≡ Some m
+    body-context : (inner : Around Point) → Outs z inner true true (all_nesting ss) → left_to inner ≡ Some turn_point → gone_on_to inner ≡ Some turn_point
         → Context z around h w b c (λ r. sets L r (loop ss ts)) (nesting (loop ss ts))
-        → Context z inner k (in_turns (map settled xs)) true true (λ r. all_set L r ss) (all_nesting ss)
+        → Context z inner turn_kept (in_turns (map settled xs)) true true (λ r. all_set L r ss) (all_nesting ss)
     body-context inner outs left gone x =
         let there = turn-reaches h xs ss ts x.joins (λ r. all_set L r ss) in-body in
         record {
           joins = all-join L (more (loop ss ts) nothing) h x.joins;
           outs = outs;
-          left = subst (λ p. LeadsTo z (Some (map settled xs)) p k (λ r. all_set L r ss)) (sym left) there;
-          gone = subst (λ p. LeadsTo z (Some (map settled xs)) p k (λ r. all_set L r ss)) (sym gone) there;
+          left = subst (λ p. LeadsTo z (Some (map settled xs)) p turn_kept (λ r. all_set L r ss)) (sym left) there;
+          gone = subst (λ p. LeadsTo z (Some (map settled xs)) p turn_kept (λ r. all_set L r ss)) (sym gone) there;
         }
 
-    step-context : Outs z (step m around) true false (all_nesting ts) → Context z around h w b c (λ r. sets L r (loop ss ts)) (nesting (loop ss ts))
-        → Context z (step m around) k (in_step (map settled xs)) true false (λ r. all_set L r ts) (all_nesting ts)
+    step-context : Outs z (step turn_point around) true false (all_nesting ts) → Context z around h w b c (λ r. sets L r (loop ss ts)) (nesting (loop ss ts))
+        → Context z (step turn_point around) turn_kept (in_step (map settled xs)) true false (λ r. all_set L r ts) (all_nesting ts)
     step-context outs x = record {
       joins = all-join L (more (loop ss ts) nothing) h x.joins;
       outs = outs;
@@ -89,55 +89,56 @@ module _ (z : Scene) (n : ℕ) (fits : Keeping → Plain → Bool) (leads : Leav
     }
 
     -- what a turn has set is told of no more behind it
-    body-less : AllJoin h → all_in_place L fits true true ss k ≡ true → TellsLess (after_all L ss k) k
+    body-less : AllJoin h → all_in_place L fits true true ss turn_kept ≡ true → TellsLess (after_all L ss turn_kept) turn_kept
     body-less joins e =
-        turn-tells L ss k (all-join L (more (loop ss ts) nothing) h joins) (all-build-none L fits ss true true k e) (λ r i. loop-gone L h ss ts r (in-body r i))
+        turn-tells L ss turn_kept (all-join L (more (loop ss ts) nothing) h joins) (all-build-none L fits ss true true turn_kept e) (λ r i. loop-gone L h ss ts r (in-body r i))
 
-    step-less : AllJoin h → all_in_place L fits true false ts k ≡ true → TellsLess (after_all L ts k) k
+    step-less : AllJoin h → all_in_place L fits true false ts turn_kept ≡ true → TellsLess (after_all L ts turn_kept) turn_kept
     step-less joins e =
-        turn-tells L ts k (all-join L (more (loop ss ts) nothing) h joins) (all-build-none L fits ts true false k e) (λ r i. loop-gone L h ss ts r (in-end r i))
+        turn-tells L ts turn_kept (all-join L (more (loop ss ts) nothing) h joins) (all-build-none L fits ts true false turn_kept e) (λ r i. loop-gone L h ss ts r (in-end r i))
 
   module _ (around : Around Point) (h : Keeping) (w : Ways) (b c : Bool) (xs : List Opened) (r : Register) (ss : Plains)
       (x : Context z around h w b c (λ q. sets L q (switch r ss)) (nesting (switch r ss))) where
-    abbrev sk : Keeping
-    sk = untouched L h ss
+    abbrev label_kept : Keeping
+    label_kept = untouched L h ss
 
-    abbrev sm : Point
-    sm = point_at sk (map settled xs)
+    abbrev label_point : Point
+    label_point = point_at label_kept (map settled xs)
 
-    switch-context : Context z (cases sm around) sk (ways_in z n around (map settled xs) w.continues) true c (λ q. all_set L q ss) (all_nesting ss)
+    switch-context : Context z (cases label_point around) label_kept (ways_in z n around (map settled xs) w.continues) true c (λ q. all_set L q ss) (all_nesting ss)
     switch-context = record {
       joins = all-join L (more (switch r ss) nothing) h x.joins;
-      outs = cases-outs z n fits around b c sm (all_nesting ss) x.outs;
+      outs = cases-outs z n fits around b c label_point (all_nesting ss) x.outs;
       left = record {
-        kept = sk;
+        kept = label_kept;
         base = xs;
         opened = refl;
         is = refl;
         tells = record { joins = all-join L (more (switch r ss) nothing) h x.joins; less = λ q. inr refl; gone = λ q e. untouched-gone L h ss q e };
       };
-      gone = leads-on-from z w.continues (gone_on_to around) h sk (λ q. sets L q (switch r ss)) (λ q. all_set L q ss)
+      gone = leads-on-from z w.continues (gone_on_to around) h label_kept (λ q. sets L q (switch r ss)) (λ q. all_set L q ss)
           (λ i t. tells-within L i h (switch r ss) refl t) x.gone;
     }
 
-    switch-tells : Tells L sk sk (λ q. all_set L q ss)
+    switch-tells : Tells L label_kept label_kept (λ q. all_set L q ss)
     switch-tells = record { joins = all-join L (more (switch r ss) nothing) h x.joins; less = λ q. inr refl; gone = λ q e. untouched-gone L h ss q e }
 
-  -- the switch itself: what is inside has what it needs
+  -- ---- by induction
+
   mutual
-    one-needed : (s : Plain) (around : Around Point) (g : plain.Keeping) (h : Keeping) (w : Ways) (xs : List Opened) (b c : Bool) → AllTold L g h → ready T V s g ≡ true
-        → in_place L fits b c s h ≡ true → Context z around h w b c (λ r. sets L r s) (nesting s) → is_right (opens T V s g w xs) ≡ true
-        → StatementNeeds z n s around (point_at h xs) (point_of (after L s h) (opens T V s g w xs))
+    one-needed : (s : Plain) (around : Around Point) (g : plain.Keeping) (h : Keeping) (w : Ways) (xs : List Opened) (b c : Bool) → AllTold L g h → ready T Rt s g ≡ true
+        → in_place L fits b c s h ≡ true → Context z around h w b c (λ r. sets L r s) (nesting s) → is_right (opens T Rt s g w xs) ≡ true
+        → StatementNeeds z n s around (point_at h xs) (point_of (after L s h) (opens T Rt s g w xs))
     one-needed (act a) around g h w xs b c told re e x right = leads around g h w xs told (act a) e right
     one-needed (set r a) around g h w xs b c told re e x right = leads around g h w xs told (set r a) e right
     one-needed (give r) around g h w xs b c told re e x right = leads around g h w xs told (give r) e right
     one-needed (branch r ss ts) around g h w xs b c told re e x right =
         let one = both (is_number (h r)) (all_in_place L fits b c ss h && all_in_place L fits b c ts h) e in
         let two = both (all_in_place L fits b c ss h) (all_in_place L fits b c ts h) one.1 in
-        let rs = both (all_ready T V ss g) (all_ready T V ts g) re in
-        let i = all_open T V ss g w xs in
-        let j = all_open T V ts g w xs in
-        let q = point_of (after L (branch r ss ts) h) (opens T V (branch r ss ts) g w xs) in
+        let rs = both (all_ready T Rt ss g) (all_ready T Rt ts g) re in
+        let i = all_open T Rt ss g w xs in
+        let j = all_open T Rt ts g w xs in
+        let q = point_of (after L (branch r ss ts) h) (opens T Rt (branch r ss ts) g w xs) in
         let m = max (all_nesting ss) (all_nesting ts) in
         (
           number-there (h r) one.0,
@@ -157,9 +158,9 @@ module _ (z : Scene) (n : ℕ) (fits : Keeping → Plain → Bool) (leads : Leav
         let k = after L (loop ss nothing) h in
         let m = point_at k ys in
         let two = both (all_in_place L fits true true ss k) (all_in_place L fits true false nothing k) e in
-        let rs = both (all_ready T V ss plain.nothing_set) (all_ready T V nothing plain.nothing_set) re in
-        let i = all_open T V ss plain.nothing_set (in_turns ys) ys in
-        let j = all_open T V nothing plain.nothing_set (in_step ys) ys in
+        let rs = both (all_ready T Rt ss plain.nothing_set) (all_ready T Rt nothing plain.nothing_set) re in
+        let i = all_open T Rt ss plain.nothing_set (in_turns ys) ys in
+        let j = all_open T Rt nothing plain.nothing_set (in_step ys) ys in
         let tested = only-if (comes_to ys i && comes_to ys j) (falls ys) right in
         let comes = both (comes_to ys i) (comes_to ys j) tested in
         subst (λ t. StatementNeeds z n (loop ss nothing) around (point_at h xs) (point_of k (only_if t (falls ys)))) (sym tested)
@@ -174,9 +175,9 @@ module _ (z : Scene) (n : ℕ) (fits : Keeping → Plain → Bool) (leads : Leav
         let k = after L (loop ss (more t ts)) h in
         let m = point_at k ys in
         let two = both (all_in_place L fits true true ss k) (all_in_place L fits true false (more t ts) k) e in
-        let rs = both (all_ready T V ss plain.nothing_set) (all_ready T V (more t ts) plain.nothing_set) re in
-        let i = all_open T V ss plain.nothing_set (in_turns ys) ys in
-        let j = all_open T V (more t ts) plain.nothing_set (in_step ys) ys in
+        let rs = both (all_ready T Rt ss plain.nothing_set) (all_ready T Rt (more t ts) plain.nothing_set) re in
+        let i = all_open T Rt ss plain.nothing_set (in_turns ys) ys in
+        let j = all_open T Rt (more t ts) plain.nothing_set (in_step ys) ys in
         let tested = only-if (comes_to ys i && comes_to ys j) (falls ys) right in
         let comes = both (comes_to ys i) (comes_to ys j) tested in
         subst (λ d. StatementNeeds z n (loop ss (more t ts)) around (point_at h xs) (point_of k (only_if d (falls ys)))) (sym tested)
@@ -202,7 +203,7 @@ module _ (z : Scene) (n : ℕ) (fits : Keeping → Plain → Bool) (leads : Leav
         let k = untouched L h ss in
         let m = point_at k ys in
         let two = both (switches (h r) ss) (items_in_place L fits c ss k k) e in
-        let tested = only-if (comes_to ys (all_open T V ss plain.nothing_set (ways_in z n around ys w.continues) ys)) (falls ys) right in
+        let tested = only-if (comes_to ys (all_open T Rt ss plain.nothing_set (ways_in z n around ys w.continues) ys)) (falls ys) right in
         let inside = switch-context around h w b c xs r ss x in
         let into = to-settled z h k xs (untouched-less L h ss) in
         subst (λ t. StatementNeeds z n (switch r ss) around (point_at h xs) (point_of k (only_if t (falls ys)))) (sym tested)
@@ -231,32 +232,32 @@ module _ (z : Scene) (n : ℕ) (fits : Keeping → Plain → Bool) (leads : Leav
     one-needed s around g h w xs b c told re e x right = absurd (let k = e in cc)
 
     pub list-needed : (ss : Plains) (around : Around Point) (g : plain.Keeping) (h : Keeping) (w : Ways) (xs : List Opened) (b c : Bool) → AllTold L g h
-        → all_ready T V ss g ≡ true → all_in_place L fits b c ss h ≡ true → Context z around h w b c (λ r. all_set L r ss) (all_nesting ss)
-        → is_right (all_open T V ss g w xs) ≡ true → (q : Point) → LiesWithin z (point_of (after_all L ss h) (all_open T V ss g w xs)) q
+        → all_ready T Rt ss g ≡ true → all_in_place L fits b c ss h ≡ true → Context z around h w b c (λ r. all_set L r ss) (all_nesting ss)
+        → is_right (all_open T Rt ss g w xs) ≡ true → (q : Point) → LiesWithin z (point_of (after_all L ss h) (all_open T Rt ss g w xs)) q
         → NeededTo z n ss around (point_at h xs) q
     list-needed nothing around g h w xs b c told re e x right q within = within
     list-needed (more s ss) around g h w xs b c told re e x right q within =
         let one = both (declares_none s ss) (in_place L fits b c s h && all_in_place L fits b c ss (after L s h)) e in
         let two = both (in_place L fits b c s h) (all_in_place L fits b c ss (after L s h)) one.1 in
-        let rs = ready-next T V s ss g re in
-        let next = keeping_or (plain.after T V s g) in
-        let open = next-open T V s ss g w xs one.0 in
-        let fine = then-right T V (opens T V s g w xs) ss next w (subst (λ o. is_right o ≡ true) open right) in
-        through z n around s h xs (opens T V s g w xs) (λ p. NeededTo z n ss around p q)
+        let rs = ready-next T Rt s ss g re in
+        let next = keeping_or (plain.after T Rt s g) in
+        let opened = next-open T Rt s ss g w xs one.0 in
+        let fine = then-right T Rt (opens T Rt s g w xs) ss next w (subst (λ o. is_right o ≡ true) opened right) in
+        through z n around s h xs (opens T Rt s g w xs) (λ p. NeededTo z n ss around p q)
         (one-needed s around g h w xs b c told rs.0 two.0 (context-first z around h w b c s ss x) fine) fine
         (λ k. dead-list z n fits ss around (after L s h) b c two.1 (rest-outs z n fits around b c s ss x.outs) q)
         (λ ys k.
-        let same = open ∙ ap (λ o. then_open T V o ss next w) k in
-        list-needed ss around next (after L s h) w ys b c (told-next L V s g h told rs.0) rs.1 two.1
+        let same = opened ∙ ap (λ o. then_open T Rt o ss next w) k in
+        list-needed ss around next (after L s h) w ys b c (told-next L Rt s g h told rs.0) rs.1 two.1
         (context-behind z around h w b c s ss (one-builds-none L fits s b c h two.0) x) (subst (λ o. is_right o ≡ true) same right) q
         (subst (λ o. LiesWithin z (point_of (after_all L ss (after L s h)) o) q) same within))
 
     -- the labels and statements of a switch, where control comes to what is open
     items-needed : (ss : Plains) (around : Around Point) (k : Keeping) (base : List Opened) (o : Option (List Opened)) (g : plain.Keeping) (h : Keeping) (xs : List Opened)
-        (c : Bool) → AllTold L g h → all_ready T V ss g ≡ true → items_in_place L fits c ss k h ≡ true
+        (c : Bool) → AllTold L g h → all_ready T Rt ss g ≡ true → items_in_place L fits c ss k h ≡ true
         → Context z around h (ways_in z n around (map settled base) o) true c (λ r. all_set L r ss) (all_nesting ss)
         → Context z around k (ways_in z n around (map settled base) o) true c (λ r. all_set L r ss) (all_nesting ss) → Tells L k h (λ r. all_set L r ss)
-        → comes_to (map settled base) (all_open T V ss g (ways_in z n around (map settled base) o) xs) ≡ true
+        → comes_to (map settled base) (all_open T Rt ss g (ways_in z n around (map settled base) o) xs) ≡ true
         → ItemsNeed z n ss around (at_labels z n around k (map settled base)) (point_at h xs) (point_at k (map settled base))
     items-needed nothing around k base o g h xs c told re e x at tells comes = comes-within z base h k (falls xs) comes tells.less
     items-needed (more (case_label y) ss) around k base o g h xs c told re e x at tells comes =
@@ -275,26 +276,26 @@ module _ (z : Scene) (n : ℕ) (fits : Keeping → Plain → Bool) (leads : Leav
         let w = ways_in z n around (map settled base) o in
         let one = both (declares_none s ss) (in_place L fits true c s h && items_in_place L fits c ss k (after L s h)) e in
         let two = both (in_place L fits true c s h) (items_in_place L fits c ss k (after L s h)) one.1 in
-        let rs = ready-next T V s ss g re in
-        let next = keeping_or (plain.after T V s g) in
-        let open = next-open T V s ss g w xs one.0 in
-        let all = comes-right (map settled base) (all_open T V (more s ss) g w xs) comes in
-        let fine = then-right T V (opens T V s g w xs) ss next w (subst (λ i. is_right i ≡ true) open all) in
+        let rs = ready-next T Rt s ss g re in
+        let next = keeping_or (plain.after T Rt s g) in
+        let opened = next-open T Rt s ss g w xs one.0 in
+        let all = comes-right (map settled base) (all_open T Rt (more s ss) g w xs) comes in
+        let fine = then-right T Rt (opens T Rt s g w xs) ss next w (subst (λ i. is_right i ≡ true) opened all) in
         let none = one-builds-none L fits s true c h two.0 in
         let less = context-fewer z around k w true c (λ r. all_set L r (more s ss)) (λ r. all_set L r ss) (all_nesting (more s ss)) (all_nesting ss) at
             (λ r i. or-right (sets L r s) (all_set L r ss) i) (flags-right (depth_of around) (nesting s) (all_nesting ss) z.body.flags.bound at.outs.flags) in
-        through z n around s h xs (opens T V s g w xs) (λ p. ItemsNeed z n ss around (at_labels z n around k (map settled base)) p (point_at k (map settled base)))
+        through z n around s h xs (opens T Rt s g w xs) (λ p. ItemsNeed z n ss around (at_labels z n around k (map settled base)) p (point_at k (map settled base)))
         (one-needed s around g h w xs true c told rs.0 two.0 (context-first z around h w true c s ss x) fine) fine
         (λ i. items-dead ss around k base o next (after L s h) c rs.1 two.1 less (tells-behind L k h s ss none tells)
-        (subst (λ a. comes_to (map settled base) a ≡ true) (open ∙ ap (λ a. then_open T V a ss next w) i) comes))
-        (λ ys i. items-needed ss around k base o next (after L s h) ys c (told-next L V s g h told rs.0) rs.1 two.1 (context-behind z around h w true c s ss none x) less
-        (tells-behind L k h s ss none tells) (subst (λ a. comes_to (map settled base) a ≡ true) (open ∙ ap (λ a. then_open T V a ss next w) i) comes))
+        (subst (λ a. comes_to (map settled base) a ≡ true) (opened ∙ ap (λ a. then_open T Rt a ss next w) i) comes))
+        (λ ys i. items-needed ss around k base o next (after L s h) ys c (told-next L Rt s g h told rs.0) rs.1 two.1 (context-behind z around h w true c s ss none x) less
+        (tells-behind L k h s ss none tells) (subst (λ a. comes_to (map settled base) a ≡ true) (opened ∙ ap (λ a. then_open T Rt a ss next w) i) comes))
 
     -- and where it does not come, up to the next label
     items-dead : (ss : Plains) (around : Around Point) (k : Keeping) (base : List Opened) (o : Option (List Opened)) (g : plain.Keeping) (h : Keeping) (c : Bool)
-        → all_ready T V ss g ≡ true → items_in_place L fits c ss k h ≡ true
+        → all_ready T Rt ss g ≡ true → items_in_place L fits c ss k h ≡ true
         → Context z around k (ways_in z n around (map settled base) o) true c (λ r. all_set L r ss) (all_nesting ss) → Tells L k h (λ r. all_set L r ss)
-        → comes_to (map settled base) (from_label T V ss (ways_in z n around (map settled base) o)) ≡ true
+        → comes_to (map settled base) (from_label T Rt ss (ways_in z n around (map settled base) o)) ≡ true
         → ItemsNeed z n ss around (at_labels z n around k (map settled base)) (point_never h) (point_at k (map settled base))
     items-dead nothing around k base o g h c re e at tells comes = from-never z h (point_at k (map settled base))
     items-dead (more (case_label y) ss) around k base o g h c re e at tells comes =
@@ -313,14 +314,14 @@ module _ (z : Scene) (n : ℕ) (fits : Keeping → Plain → Bool) (leads : Leav
         let w = ways_in z n around (map settled base) o in
         let one = both (declares_none s ss) (in_place L fits true c s h && items_in_place L fits c ss k (after L s h)) e in
         let two = both (in_place L fits true c s h) (items_in_place L fits c ss k (after L s h)) one.1 in
-        let rs = ready-next T V s ss g re in
+        let rs = ready-next T Rt s ss g re in
         let less = context-fewer z around k w true c (λ r. all_set L r (more s ss)) (λ r. all_set L r ss) (all_nesting (more s ss)) (all_nesting ss) at
             (λ r i. or-right (sets L r s) (all_set L r ss) i) (flags-right (depth_of around) (nesting s) (all_nesting ss) z.body.flags.bound at.outs.flags) in
         record {
           point = point_never (after L s h);
           kept_there = refl;
           first = dead-one z n fits s around h true c two.0 (first-outs z n fits around true c s ss at.outs);
-          second = items-dead ss around k base o (keeping_or (plain.after T V s g)) (after L s h) c rs.1 two.1 less
+          second = items-dead ss around k base o (keeping_or (plain.after T Rt s g)) (after L s h) c rs.1 two.1 less
               (tells-behind L k h s ss (one-builds-none L fits s true c h two.0) tells) comes;
         }
 
@@ -329,8 +330,8 @@ module _ (z : Scene) (n : ℕ) (fits : Keeping → Plain → Bool) (leads : Leav
   nothing-joins : AllJoin nothing_kept
   nothing-joins r = refl
 
-  pub function-needed : (ss : Plains) (xs : List Opened) → all_nesting ss ≤ z.body.flags.bound → all_ready T V ss plain.nothing_set ≡ true
-      → all_in_place L fits false false ss nothing_kept ≡ true → comes_to [] (all_open T V ss plain.nothing_set no_ways xs) ≡ true
+  pub function-needed : (ss : Plains) (xs : List Opened) → all_nesting ss ≤ z.body.flags.bound → all_ready T Rt ss plain.nothing_set ≡ true
+      → all_in_place L fits false false ss nothing_kept ≡ true → comes_to [] (all_open T Rt ss plain.nothing_set no_ways xs) ≡ true
       → NeededTo z n ss function (point_at nothing_kept xs) (point_at (after_all L ss nothing_kept) [])
   function-needed ss xs flags re e comes =
       list-needed ss function plain.nothing_set nothing_kept no_ways xs false false (λ r. tt) re e
@@ -340,5 +341,5 @@ module _ (z : Scene) (n : ℕ) (fits : Keeping → Plain → Bool) (leads : Leav
         left = tt;
         gone = tt;
       })
-      (comes-right [] (all_open T V ss plain.nothing_set no_ways xs) comes) (point_at (after_all L ss nothing_kept) [])
-      (comes-within z [] (after_all L ss nothing_kept) (after_all L ss nothing_kept) (all_open T V ss plain.nothing_set no_ways xs) comes (λ r. inr refl))
+      (comes-right [] (all_open T Rt ss plain.nothing_set no_ways xs) comes) (point_at (after_all L ss nothing_kept) [])
+      (comes-within z [] (after_all L ss nothing_kept) (after_all L ss nothing_kept) (all_open T Rt ss plain.nothing_set no_ways xs) comes (λ r. inr refl))

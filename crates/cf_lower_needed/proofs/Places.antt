@@ -61,9 +61,12 @@ only-if false a e = e
 module _ (locals : List SourceType) (result : SourceType) where
   -- behind a statement
   abbrev pub then_open : Where → Plains → plain.Keeping → Ways → Where
-  then_open wrong ss g w = wrong
-  then_open away ss g w = from_label locals result ss w
-  then_open (falls ys) ss g w = all_open locals result ss g w ys
+  then_open o ss g w =
+      elim o [
+        | wrong ↦ wrong
+        | away ↦ from_label locals result ss w
+        | falls ys ↦ all_open locals result ss g w ys
+      ]
 
   pub then-right : (o : Where) (ss : Plains) (g : plain.Keeping) (w : Ways) → is_right (then_open o ss g w) ≡ true → is_right o ≡ true
   then-right wrong ss g w e = e
@@ -103,5 +106,5 @@ pub told-next : (locals : Locals) (result : SourceType) (s : Plain) (g : plain.K
 told-next locals result s g h told e = by (plain.after locals.types result s g) (statement-told locals result s g h told e)
   where
     by : (o : Option plain.Keeping) → AllToldIf locals o (after locals s h) → AllTold locals (keeping_or o) (after locals s h)
-    by None k r = tt
+    by None k = λ r. tt
     by (Some k) i = i

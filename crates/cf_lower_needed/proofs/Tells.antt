@@ -19,11 +19,11 @@ less-if : (b : Bool) (x y : Kept) → (b ≡ true → y ≡ unknown) → LessAt 
 less-if true x y f l = inl (f refl)
 less-if false x y f l = l
 
-or-left : (a b : Bool) → a ≡ true → a || b ≡ true
+pub or-left : (a b : Bool) → a ≡ true → a || b ≡ true
 or-left true b e = refl
 or-left false b e = absurd (let k = e in cc)
 
-or-right : (a b : Bool) → b ≡ true → a || b ≡ true
+pub or-right : (a b : Bool) → b ≡ true → a || b ≡ true
 or-right true b e = refl
 or-right false b e = e
 
