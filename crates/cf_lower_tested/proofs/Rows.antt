@@ -1,4 +1,4 @@
--- A function with a loop, its step, a switch, `break` and `continue` passes the tests in any program; and so does one that calls another, where that one is found.
+-- A function with a loop, its step, a switch, `break` and `continue` passes the tests in any program; and so do those that call others, where these are found.
 use Rattle.std.proofs.Common.{◌≡◌, ℕ, true, false, List, [], ◌∷◌, codes, refl}
 use Rattle.std.specs.Prelude.{pos, Some, None}
 use Rattle.cf_base.specs.declared.kind.Kind.TheVariants.{Int}
@@ -53,3 +53,7 @@ tested B = record { ready = refl; opened = refl; place = λ E first cs depth. re
 
 calls-tested : Tested example.B example.f
 calls-tested = record { ready = refl; opened = refl; place = λ E first cs depth. refl }
+
+-- through a pointer too
+pointed-tested : Tested example.B example.k
+pointed-tested = record { ready = refl; opened = refl; place = λ E first cs depth. refl }
