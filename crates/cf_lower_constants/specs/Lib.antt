@@ -1,3 +1,0 @@
-pub mod Knowing
-pub mod Sites
-pub mod Stored
