@@ -9,8 +9,6 @@ mod expression;
 mod laws;
 mod lines;
 mod statement;
-#[cfg(test)]
-mod tests;
 mod unit;
 
 pub use laws::printed_text_is_its_text;

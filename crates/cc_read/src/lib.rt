@@ -13,8 +13,6 @@ mod laws;
 mod reader;
 mod shrunk;
 mod statement;
-#[cfg(test)]
-mod tests;
 mod unit;
 mod value;
 

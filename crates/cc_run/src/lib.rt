@@ -15,8 +15,6 @@ mod names;
 mod state;
 mod statements;
 mod step;
-#[cfg(test)]
-mod tests;
 mod types;
 
 pub use machine::Machine;

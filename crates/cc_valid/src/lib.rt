@@ -16,5 +16,3 @@ mod words;
 
 pub use items::is_valid;
 
-#[cfg(test)]
-mod tests;

@@ -11,5 +11,3 @@ mod sums;
 
 pub use limit::{StartLimit, may_start};
 
-#[cfg(test)]
-mod tests;

@@ -9,5 +9,3 @@ mod statements;
 
 pub use program::{ValidProgram, is_valid_program};
 
-#[cfg(test)]
-mod tests;

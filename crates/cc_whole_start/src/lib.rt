@@ -16,5 +16,3 @@ pub use limit::passes_static;
 pub use names::FileNames;
 pub use state::Start;
 
-#[cfg(test)]
-mod tests;

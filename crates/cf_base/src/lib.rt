@@ -43,5 +43,3 @@ pub use rule::{Broken, Rule};
 pub use sink::Sink;
 pub use source::Source;
 
-#[cfg(test)]
-mod outside_tests;

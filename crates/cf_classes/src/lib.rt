@@ -17,5 +17,3 @@ pub use label::Label;
 pub use laws::{names_are_decoded, names_tell_entities_apart};
 pub use path::{Path, Step};
 
-#[cfg(test)]
-mod tests;

@@ -8,5 +8,3 @@ mod types;
 pub use conv::{Conv, ConvStep, Val};
 pub use implicit::standard;
 
-#[cfg(test)]
-mod tests;

@@ -12,8 +12,6 @@ mod file;
 mod names;
 mod specifiers;
 mod statements;
-#[cfg(test)]
-mod tests;
 
 pub use fault::LoadFault;
 pub use file::load;

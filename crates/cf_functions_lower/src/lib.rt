@@ -23,5 +23,3 @@ mod values;
 
 pub use unit::translate;
 
-#[cfg(test)]
-mod tests;

@@ -18,5 +18,3 @@ mod uses;
 pub use fault::NameFault;
 pub use program::check;
 
-#[cfg(test)]
-mod tests;

@@ -28,5 +28,3 @@ pub use laws::{longest_tokens, one_answer};
 pub use lexer::tokens;
 pub use token::{Token, Word};
 
-#[cfg(test)]
-mod tests;

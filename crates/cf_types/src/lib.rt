@@ -16,5 +16,3 @@ pub use integers::{convert_int, promote, usual};
 pub use ty::{Fun, Ty};
 pub use types::Types;
 
-#[cfg(test)]
-mod tests;
