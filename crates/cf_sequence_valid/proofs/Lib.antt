@@ -6,3 +6,4 @@ pub mod Serves
 pub mod Stands
 pub mod Statements
 pub mod Values
+mod Temporaries

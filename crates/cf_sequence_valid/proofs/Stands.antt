@@ -7,7 +7,7 @@ use Rattle.cf_base.proofs.Tests.{all_of, both}
 use Rattle.cf_core.specs.Types.{SourceType, without_const}
 use Rattle.cf_core.specs.Core.{Core}
 use Rattle.cf_plain.specs.Valid.{is_of, are_arguments}
-use Rattle.cf_sequence.specs.Made.{Local, added, makes, numbered, numbers}
+use Rattle.cf_sequence.specs.Made.{Local, Temporary, added, makes, numbered, numbers}
 use Rattle.cf_sequence.proofs.SameTypes.{type-same}
 
 module _ (locals : List SourceType) where
@@ -48,6 +48,10 @@ module _ (locals : List SourceType) where
 
   abbrev pub are_there : List Local → Bool
   are_there xs = list_all is_there xs
+
+  -- temporaries that are
+  abbrev pub all_there : List Temporary → Bool
+  all_there ts = list_all (λ (t : Temporary). is_there t.local) ts
 
   pub numbered-there : (k : ℕ) (ts : List SourceType) → Stand k ts → are_there (numbered k ts) ≡ true
   numbered-there k [] st = refl
