@@ -58,7 +58,7 @@ pub record Cleared (x : Full) (ts : List Temporary) (g h : Registers) : Type 0 w
   pub zeros : (r : ℕ) → g r ≡ Some no_flag → h r ≡ Some no_flag
   pub below : (r : ℕ) → r < x.base → h r ≡ g r
 
-module _ (again : running.Again) (H : Program) {A B : Type 0} {S : A → State → B → State → Type 0} (x : Full) (rest : Plains) (K : Flow → Act B) (y : Ran (Did A)) (s : State) (w : World) where
+module _ (again : running.Again) (H : Program) (A B : Type 0) (S : A → State → B → State → Type 0) (x : Full) (rest : Plains) (K : Flow → Act B) (y : Ran (Did A)) (s : State) (w : World) where
   abbrev Clears : List Temporary → Registers → Type 0
   Clears ts g = ((h : Registers) → Cleared x ts g h → Follows S y (runs_on again H rest h K s w)) → Follows S y (runs_on again H (flags x ts rest) g K s w)
 
@@ -176,7 +176,7 @@ module _ (again : calling.Again) (again' : running.Again) (P : Program) (bodies 
       let ts : List Temporary = temporaries false e k in
       let last : Plains = ended x (reverse ts) (rest m) in
       pull (meaning.value again P e into s0 w) (closing again P s.frame.temporaries) c _
-      (flags-steps again' (H again again' P) x (value P.classes x e into' m k last) K _ (with_frame f s0) w ts g (λ h cleared.
+      (flags-steps again' (H again again' P) A B S x (value P.classes x e into' m k last) K _ (with_frame f s0) w ts g (λ h cleared.
       follow-value again again' P bodies chains A B S e ok false into into' x m k last h s0 f w (λ v. closing again P s.frame.temporaries v >>= c) K
       (begins-whole e ok n k g h s.frame f [] ready room cleared) (λ v t h1 f1 w1 done.
       closing-steps x ts done.grown.made s.frame t h1 f1 w1 v c (rest m) K done.grown.frame done.grown.listed (λ u same.
@@ -198,7 +198,7 @@ module _ (again : calling.Again) (again' : running.Again) (P : Program) (bodies 
       let last : Plains = ended x (reverse ts) (rest n) in
       pull (and_then (meaning.value again P e None s0 w) (on truth_of)) (closing again P s.frame.temporaries) c _
       (pull (meaning.value again P e None s0 w) truth_of (λ b. closing again P s.frame.temporaries b >>= c) _
-      (flags-steps again' (H again again' P) x (value P.classes x e None n k (more (set n (plain.truth n)) last)) K _ (with_frame f s0) w ts g (λ h cleared.
+      (flags-steps again' (H again again' P) A B S x (value P.classes x e None n k (more (set n (plain.truth n)) last)) K _ (with_frame f s0) w ts g (λ h cleared.
       let begins = begins-whole e ok 0 k g h s.frame f [] ready room cleared in
       follow-value again again' P bodies chains A B S e ok false None None x n k (more (set n (plain.truth n)) last) h s0 f w
       (λ v. truth_of v >>= (λ b. closing again P s.frame.temporaries b >>= c)) K begins (λ v t h1 f1 w1 done.
@@ -224,7 +224,7 @@ module _ (again : calling.Again) (again' : running.Again) (P : Program) (bodies 
       let last : Plains = ended x (reverse ts) (rest n) in
       pull (and_then (meaning.value again P e None s0 w) (on used)) (closing again P s.frame.temporaries) c _
       (pull (meaning.value again P e None s0 w) used (λ v. closing again P s.frame.temporaries v >>= c) _
-      (flags-steps again' (H again again' P) x (value P.classes x e None n k (use_of n last)) K _ (with_frame f s0) w ts g (λ h cleared.
+      (flags-steps again' (H again again' P) A B S x (value P.classes x e None n k (use_of n last)) K _ (with_frame f s0) w ts g (λ h cleared.
       follow-value again again' P bodies chains A B S e ok false None None x n k (use_of n last) h s0 f w
       (λ v. used v >>= (λ v. closing again P s.frame.temporaries v >>= c)) K (begins-whole e ok 0 k g h s.frame f [] ready room cleared) (λ v t h1 f1 w1 done.
       use-steps again' (H again again' P) n v h1 done.value (λ v. closing again P s.frame.temporaries v >>= c) last K t (with_frame f1 t) w1 (λ usable.

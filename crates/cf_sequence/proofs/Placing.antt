@@ -83,7 +83,7 @@ mutual
       ((omega arith), (omega arith), (λ e. e), tt)
   placing e ok b k = never ok
 
-  placing-values : (es : Cores) → are_values es ≡ true → (b : Bool) (k : ℕ) → Placed b k (k + length (added (nodes_all es))) (temporaries_all b es k)
+  pub placing-values : (es : Cores) → are_values es ≡ true → (b : Bool) (k : ℕ) → Placed b k (k + length (added (nodes_all es))) (temporaries_all b es k)
   placing-values none ok b k = tt
   placing-values (core.more e none) ok b k = placed-two b (nodes e) [] k (temporaries b e k) [] (placing e ok b k) tt
   placing-values (core.more e (core.more f es)) ok b k =

@@ -155,7 +155,7 @@ module _ (again : calling.Again) (again' : running.Again) (P : Program) (bodies 
       let c1 = st.ready.count in
       let c2 = st.ready.wide in
       let number : suc j ≤ s.frame.count = low-number j s.frame.count there in
-      flags-steps again' (H again again' P) x (more (set object (plain.declare j u)) named) K _ (with_frame f1 s1) w ts h (λ h0 cleared.
+      flags-steps again' (H again again' P) A B S x (more (set object (plain.declare j u)) named) K _ (with_frame f1 s1) w ts h (λ h0 cleared.
       let h1 : Registers = keep h0 object place in
       let h2 : Registers = keep h1 n place in
       declare-steps again' (H again again' P) j u object named h0 K _ s1 f1 w (omega arith)
@@ -174,7 +174,7 @@ module _ (again : calling.Again) (again' : running.Again) (P : Program) (bodies 
       first-steps again again' P bodies chains A B S 0 n (root o) place h3 rest (λ x. frame_changed (lists_in_scope o) >>= (λ x. c calling.Falls)) K t4 f3 w3
       (done.grown.below 0 (omega arith) (inl (omega arith)) ∙ keep-other n 0 h1 place (λ z. omega arith) ∙ keep-other object 0 h0 place (λ z. omega arith) ∙ cleared.below 0 (omega arith) ∙ at)
       (done.grown.below n (omega arith) (inr (omega arith)) ∙ keep-same n h1 place) (λ t5 same5.
-      held-falls i j k o q T u m op D rest s f c K st le lt number falls t5 f3 h3 w3 (same5 ∙ same4) done.kept)))))))))
+      held-falls i j k o q T u m op D rest s f c K st le lt number falls t5 f3 h3 w3 (same5 ∙ same4) done.kept))))))))))
 
   pub held-declaration : (i : ℕ) (T : SourceType) (e : Core) (m : ℕ) → nat_le m i ≡ true → is_held i e ≡ true → (op : Open) (D : Beyond) (k : ℕ) (rest : Plains) (g : Registers) (s : State) (f : Frame) (w : World)
       (c : calling.Flow → Act A) (K : Flow → Act B)

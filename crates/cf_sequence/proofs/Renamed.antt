@@ -231,9 +231,8 @@ module _ (r : Name → Name) where
     same-temporaries-values (core.more e none) ok b k = ap (λ ts. ts ++ []) (same-temporaries e ok b k)
     same-temporaries-values (core.more e (core.more f es)) ok b k =
         let p = both (is_value e) (are_values (core.more f es)) ok in
-        let others : Cores = core.more f es in
-        ap (λ w. temporaries b (renamed r e) k ++ temporaries_all b (renamed_all r others) (k + w)) (same-width e)
-        ∙ ap (λ ts. ts ++ temporaries_all b (renamed_all r others) (k + width e)) (same-temporaries e p.0 b k) ∙ ap (λ us. temporaries b e k ++ us) (same-temporaries-values others p.1 b (k + width e))
+        ap (λ w. temporaries b (renamed r e) k ++ temporaries_all b (renamed_all r (core.more f es)) (k + w)) (same-width e)
+        ∙ ap (λ ts. ts ++ temporaries_all b (renamed_all r (core.more f es)) (k + width e)) (same-temporaries e p.0 b k) ∙ ap (λ us. temporaries b e k ++ us) (same-temporaries-values (core.more f es) p.1 b (k + width e))
 
     same-temporaries-arguments : (es : Cores) → are_arguments es ≡ true → (b : Bool) (k : ℕ) → temporaries_all b (renamed_all r es) k ≡ temporaries_all b es k
     same-temporaries-arguments none ok b k = refl

@@ -1,5 +1,5 @@
 -- Where locals stand among those of a function.
-use Rattle.std.proofs.Common.{◌≡◌, ℕ, suc, zero, ◌+◌, Bool, true, List, [], ◌∷◌, ◌++◌, length, length-append, refl, ap, ◌∙◌, subst, arith}
+use Rattle.std.proofs.Common.{◌≡◌, ℕ, suc, zero, ◌+◌, Bool, true, List, [], ◌∷◌, ◌++◌, length, length-append, append-nil, append_assoc, refl, ap, ◌∙◌, subst, arith}
 use Rattle.std.specs.Prelude.{Some, slice_get}
 use Rattle.std.specs.List.{list_all}
 use Rattle.std.proofs.lemmas.List.Concat.{flat_map-append}
@@ -38,6 +38,11 @@ module _ (locals : List SourceType) where
       let two : length (added (xs ++ ys)) ≡ length (added xs) + length (added ys) = ap length (flat_map-append makes xs ys) ∙ length-append (added xs) (added ys) in
       let e : k + length (added (xs ++ ys)) ≡ k + length (added xs) + length (added ys) = omega (arith, two) in
       subst (λ n. Stand n (added zs)) e (stand-right k (xs ++ ys) zs st)
+
+  -- behind the objects of parameters
+  pub stand-parameters : (k : ℕ) (ps ts : List SourceType) → Stand k (ps ++ ts) → Stand (k + length ps + 0) ts
+  stand-parameters k ps ts st =
+      let e : k + length ps ≡ k + length ps + 0 = omega arith in subst (λ i. Stand i ts) e (stand-second k ps ts st)
 
   pub of-itself : (k : ℕ) (t : SourceType) → slice_get locals k ≡ Some t → is_of (slice_get locals k) t ≡ true
   of-itself k t e = ap (λ o. is_of o t) e ∙ type-same (without_const t)
@@ -84,6 +89,12 @@ stand-behind before (t ∷ ts) after = (at before (ts ++ after), moved (stand-be
 
     moved : Stand ((before ++ t ∷ []) ++ (ts ++ after)) (length (before ++ t ∷ [])) ts → Stand (before ++ t ∷ (ts ++ after)) (suc (length before)) ts
     moved st = subst (λ n. Stand (before ++ t ∷ (ts ++ after)) n ts) (longer before) (subst (λ l. Stand l (length (before ++ t ∷ [])) ts) (together before (ts ++ after)) st)
+
+-- the added locals of a function stand behind its parameters and its own
+pub stand-added : (ps ls more : List SourceType) → Stand (ps ++ (ls ++ more)) (length ps + length ls) more
+stand-added ps ls more =
+    subst (λ n. Stand (ps ++ (ls ++ more)) n more) (length-append ps ls)
+    (subst (λ l. Stand l (length (ps ++ ls)) more) (ap (λ l. (ps ++ ls) ++ l) (append-nil more) ∙ append_assoc ps ls more) (stand-behind (ps ++ ls) more []))
 
 -- a local is still there where more come behind
 pub still-there : (xs ys : List SourceType) (i : ℕ) (t : SourceType) → slice_get xs i ≡ Some t → slice_get (xs ++ ys) i ≡ Some t

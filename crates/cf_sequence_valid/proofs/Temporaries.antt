@@ -1,5 +1,5 @@
 -- The temporaries of an expression stand among the locals of its function, with their types.
-use Rattle.std.proofs.Common.{◌≡◌, ℕ, suc, ◌+◌, Bool, true, false, not, ◌&&◌, List, [], ◌∷◌, ◌++◌, length, reverse, refl, ap, ◌∙◌, subst, arith}
+use Rattle.std.proofs.Common.{◌≡◌, ℕ, suc, ◌+◌, Bool, true, false, not, ◌&&◌, List, [], ◌∷◌, ◌++◌, length, reverse, refl, ap, ◌∙◌}
 use Rattle.std.proofs.lemmas.List.{reverse-append}
 use Rattle.std.proofs.lemmas.List.Folds.{list_all-append}
 use Rattle.cf_base.proofs.Tests.{both, all_of}
@@ -11,7 +11,7 @@ use Rattle.cf_core.specs.Places.{is_reference}
 use Rattle.cf_sequence.specs.Built.{is_value, are_values, are_arguments, is_chain}
 use Rattle.cf_sequence.specs.Made.{Temporary, temporaries, temporaries_all, added, width}
 use Rattle.cf_sequence.proofs.Calling.{never}
-use Rattle.cf_sequence_valid.proofs.Stands.{Stand, stand-second, stand-left, stand-right, stand-third, of-itself, is_there, all_there}
+use Rattle.cf_sequence_valid.proofs.Stands.{Stand, stand-left, stand-right, stand-third, stand-parameters, of-itself, is_there, all_there}
 
 module _ (locals : List SourceType) where
   there-both : (ts us : List Temporary) → all_there locals ts ≡ true → all_there locals us ≡ true → all_there locals (ts ++ us) ≡ true
@@ -30,12 +30,6 @@ module _ (locals : List SourceType) where
       → all_there locals (temporaries b a k ++ temporaries c e (k + width a)) ≡ true
   there-two-parts b c a e k p q st =
       there-both (temporaries b a k) (temporaries c e (k + width a)) (p k (stand-left locals k (nodes a) (nodes e) st)) (q (k + width a) (stand-right locals k (nodes a) (nodes e) st))
-
-  -- the locals behind those of parameters
-  behind-parameters : (k : ℕ) (t : SourceType) (es : List Core) → Stand locals k (parameters t ++ added es) → Stand locals (k + length (parameters t) + 0) (added es)
-  behind-parameters k t es st =
-      let e : k + length (parameters t) ≡ k + length (parameters t) + 0 = omega arith in
-      subst (λ i. Stand locals i (added es)) e (stand-second locals k (parameters t) (added es) st)
 
   mutual
     pub temporaries-there : (e : Core) → is_value e ≡ true → (b : Bool) (k : ℕ) → Stand locals k (added (nodes e)) → all_there locals (temporaries b e k) ≡ true
@@ -81,11 +75,11 @@ module _ (locals : List SourceType) where
     temporaries-there (core.comma es) ok b k st = values-there es ok b k st
     temporaries-there (core.call name t absent args) ok b k st =
         arguments-there args (both (is_chain t) (are_arguments args) (both (not (is_class (result t))) (is_chain t && are_arguments args) ok).1).1 b (k + length (parameters t) + 0)
-        (behind-parameters k t (nodes_all args) st)
+        (stand-parameters locals k (parameters t) (added (nodes_all args)) st)
     temporaries-there (core.pointer_call absent e t args) ok b k st =
         let p = both (is_value e) (are_arguments args) (both (is_chain t) (is_value e && are_arguments args) (both (not (is_class (result t))) (is_chain t && (is_value e && are_arguments args)) ok).1).1 in
         let l : ℕ = k + length (parameters t) + 0 in
-        let behind : Stand locals l (added (nodes e ++ nodes_all args)) = behind-parameters k t (nodes e ++ nodes_all args) st in
+        let behind : Stand locals l (added (nodes e ++ nodes_all args)) = stand-parameters locals k (parameters t) (added (nodes e ++ nodes_all args)) st in
         there-both (temporaries b e l) (temporaries_all b args (l + width e)) (temporaries-there e p.0 b l (stand-left locals l (nodes e) (nodes_all args) behind))
         (arguments-there args p.1 b (l + width e) (stand-right locals l (nodes e) (nodes_all args) behind))
     temporaries-there e ok b k st = never ok
@@ -95,9 +89,8 @@ module _ (locals : List SourceType) where
     values-there (core.more e none) ok b k st = there-both (temporaries b e k) [] (temporaries-there e ok b k (stand-left locals k (nodes e) [] st)) refl
     values-there (core.more e (core.more f es)) ok b k st =
         let p = both (is_value e) (are_values (core.more f es)) ok in
-        let others : Cores = core.more f es in
-        there-both (temporaries b e k) (temporaries_all b others (k + width e)) (temporaries-there e p.0 b k (stand-left locals k (nodes e) (nodes_all others) st))
-        (values-there others p.1 b (k + width e) (stand-right locals k (nodes e) (nodes_all others) st))
+        there-both (temporaries b e k) (temporaries_all b (core.more f es) (k + width e)) (temporaries-there e p.0 b k (stand-left locals k (nodes e) (nodes_all (core.more f es)) st))
+        (values-there (core.more f es) p.1 b (k + width e) (stand-right locals k (nodes e) (nodes_all (core.more f es)) st))
 
     arguments-there : (es : Cores) → are_arguments es ≡ true → (b : Bool) (k : ℕ) → Stand locals k (added (nodes_all es)) → all_there locals (temporaries_all b es k) ≡ true
     arguments-there none ok b k st = refl
