@@ -1,4 +1,4 @@
--- The cores that are built so far: functions over numbers and pointers, with locals, references and the temporaries that they bind, literals,
+-- The cores that are built so far: functions over numbers and pointers, with locals, references, temporaries, literals,
 -- calls and all statements, and static objects with constant initialisers; no class and no list.
 use Rattle.std.specs.Prelude.{ℕ, suc, Bool, true, false, ◌&&◌, ◌||◌, not, nat_le, nat_lt, nat_eq, List, [], ◌∷◌, length, bytes_eq, codes}
 use Rattle.std.specs.List.{list_all, starts_with}
