@@ -1,6 +1,6 @@
 -- What is written for a temporary of a full expression is the definition's.
-use Rattle.std.proofs.Common.{◌≡◌, ℕ, suc, ◌+◌, Bool, false, List, [], ◌∷◌, ◌++◌, refl, ap, sym, ◌∙◌, arith}
-use Rattle.std.specs.Prelude.{pos, Option, None, if◌then◌else◌}
+use Rattle.std.proofs.Common.{◌≡◌, ℕ, suc, ◌+◌, Bool, false, List, refl, ap, sym, ◌∙◌, arith}
+use Rattle.std.specs.Prelude.{pos, Option, if◌then◌else◌}
 use Rattle.cf_classes.specs.declared.class.MemberRef.{MemberRef}
 use Rattle.cf_core.specs.declared.node.Core.TheOpen.{Core-F}
 use Rattle.cf_core.specs.Types.{Name}
@@ -11,7 +11,7 @@ use Rattle.cf_core.specs.FromTypes.{Tables, type_of}
 use Rattle.cf_plain.specs.declared.action.Action.TheVariants as action
 use Rattle.cf_plain.specs.Plain.{Plains, more, set as sets, act as acts}
 use Rattle.cf_plain.specs.Plain as plain
-use Rattle.cf_sequence.specs.Made.{width, temporaries}
+use Rattle.cf_sequence.specs.Made.{width}
 use Rattle.cf_sequence.specs.Expressions.{Full, Destination, destination, value, builds}
 use Rattle.cf_sequence.specs.Expressions as definition
 use Rattle.cf_sequence_expr.specs.Writes.{flag, set, act, passed}

@@ -1,6 +1,6 @@
 -- What is written for a built statement is the definition's.
 use Rattle.std.proofs.Common.{◌≡◌, ℕ, true, not, ◌&&◌, ◌||◌, List, [], ◌∷◌, map, length, Option, Some, None, refl, ap, sym, subst, ◌∙◌}
-use Rattle.std.specs.Prelude.{false, nat_le, nat_lt}
+use Rattle.std.specs.Prelude.{false, nat_le}
 use Rattle.cf_base.proofs.Tests.{both}
 use Rattle.cf_classes.specs.declared.class.MemberRef.{MemberRef}
 use Rattle.cf_core.specs.declared.node.Core.{Core as Node, roll-Core, ind-Core}

@@ -27,7 +27,7 @@ use Rattle.cf_sequence_expr.specs.declared.writing.Full.{Full as CodeFull}
 use Rattle.cf_sequence_expr.specs.declared.writing.Writing.{Writing}
 use Rattle.cf_sequence_expr.specs.Writes.{set}
 use Rattle.cf_sequence_expr.specs.Pieces.{Piece, piece_step, left, two, truth, all_values, updated, stepped, stepped_behind, find_two, find_right, find_all}
-use Rattle.cf_sequence_written.proofs.Finding.{Finds, finds-none, finds-wide, finds-then}
+use Rattle.cf_sequence_written.proofs.Finding.{Finds, finds-none, finds-as, finds-wide, finds-then}
 use Rattle.cf_sequence_written.proofs.Puts.{Puts, Still, still-set, still-act, still-used, still-then, puts-none, puts-as, puts-wide, puts-still, puts-then, puts-within}
 
 pub nodes-count : (ms ns : List Core) → length (added ms) + length (added ns) ≡ length (added (ms ++ ns))
@@ -169,7 +169,9 @@ module _ (tables : Tables) (signature : MemberRef → Name) (classes : List Clas
     puts = λ x into n.
         puts-wide tables signature (puts-then tables signature (puts-truth x n u) (puts-within tables signature n (v.puts x None n) (w.puts x None n)))
         (omega (arith, nodes-count (nodes c) (nodes a), nodes-count (nodes c ++ nodes a) (nodes b)));
-    finds = λ d. finds-wide tables (finds-then tables (u.finds d) (finds-then tables (v.finds true) (w.finds true)))
+    finds = λ d. finds-as tables (finds-then tables (finds-then tables (u.finds d) (v.finds true)) (w.finds true))
+        (λ k. let behind : k + (width c + width a) ≡ k + width c + width a = omega arith in
+        ap (λ i. temporaries d c k ++ temporaries true a (k + width c) ++ temporaries true b i) behind)
         (omega (arith, nodes-count (nodes c) (nodes a), nodes-count (nodes c ++ nodes a) (nodes b)));
   }
 

@@ -11,7 +11,7 @@ use Rattle.cf_core.specs.Joined.{is_nothing}
 use Rattle.cf_plain.specs.declared.action.Action.{Action}
 use Rattle.cf_plain.specs.declared.action.Action.TheVariants as action
 use Rattle.cf_plain.specs.View.{action_of}
-use Rattle.cf_plain.specs.Plain.{Register, Plains, more, set as sets, act as acts}
+use Rattle.cf_plain.specs.Plain.{Plains, more, set as sets, act as acts}
 use Rattle.cf_plain.specs.Plain as plain
 use Rattle.cf_sequence.specs.Built.{is_start, is_value, is_filling}
 use Rattle.cf_sequence.specs.Made.{width}
