@@ -60,8 +60,7 @@ module _ (z : Scene) (n : ℕ) (fits : Keeping → Plain → Bool) where
         let one = both (is_number (h r)) (all_in_place L fits b c ss h && all_in_place L fits b c ts h) e in
         let two = both (all_in_place L fits b c ss h) (all_in_place L fits b c ts h) one.1 in
         let q = point_never (after L (branch r ss ts) h) in
-        let m = max (all_nesting ss) (all_nesting ts) in
-        (
+        let m = max (all_nesting ss) (all_nesting ts) in (
           number-there (h r) one.0,
           (
             dead-list ss around h b c two.0
@@ -78,8 +77,7 @@ module _ (z : Scene) (n : ℕ) (fits : Keeping → Plain → Bool) where
     dead-one (loop ss (more t ts)) around h b c e outs =
         let k = after L (loop ss (more t ts)) h in
         let m = point_never k in
-        let two = both (all_in_place L fits true true ss k) (all_in_place L fits true false (more t ts) k) e in
-        (
+        let two = both (all_in_place L fits true true ss k) (all_in_place L fits true false (more t ts) k) e in (
           from-never z h m,
           (
             flags-one (depth_of around) (all_nesting ss) z.body.flags.bound
@@ -93,8 +91,7 @@ module _ (z : Scene) (n : ℕ) (fits : Keeping → Plain → Bool) where
     dead-one (switch r ss) around h b c e outs =
         let k = untouched L h ss in
         let m = point_never k in
-        let two = both (switches (h r) ss) (items_in_place L fits c ss k k) e in
-        (
+        let two = both (switches (h r) ss) (items_in_place L fits c ss k k) e in (
           switches-there (h r) ss two.0,
           (
             flags-one (depth_of around) (all_nesting ss) z.body.flags.bound outs.flags,

@@ -139,8 +139,7 @@ module _ (z : Scene) (n : ℕ) (fits : Keeping → Plain → Bool) (leads : Leav
         let i = all_open T Rt ss g w xs in
         let j = all_open T Rt ts g w xs in
         let q = point_of (after L (branch r ss ts) h) (opens T Rt (branch r ss ts) g w xs) in
-        let m = max (all_nesting ss) (all_nesting ts) in
-        (
+        let m = max (all_nesting ss) (all_nesting ts) in (
           number-there (h r) one.0,
           (
             list-needed ss around g h w xs b c told rs.0 two.0
@@ -163,8 +162,7 @@ module _ (z : Scene) (n : ℕ) (fits : Keeping → Plain → Bool) (leads : Leav
         let j = all_open T Rt nothing plain.nothing_set (in_step ys) ys in
         let tested = only-if (comes_to ys i && comes_to ys j) (falls ys) right in
         let comes = both (comes_to ys i) (comes_to ys j) tested in
-        subst (λ t. StatementNeeds z n (loop ss nothing) around (point_at h xs) (point_of k (only_if t (falls ys)))) (sym tested)
-        (
+        subst (λ t. StatementNeeds z n (loop ss nothing) around (point_at h xs) (point_of k (only_if t (falls ys)))) (sym tested) (
           to-settled z h k xs (loop-less L h ss nothing),
           list-needed ss (turns m around) plain.nothing_set k (in_turns ys) ys true true (λ r. tt) rs.0 two.0
               (body-context around h w b c xs ss nothing (turns m around) (loop-outs z n fits around b c m (all_nesting ss) x.outs) refl refl x)
@@ -180,8 +178,7 @@ module _ (z : Scene) (n : ℕ) (fits : Keeping → Plain → Bool) (leads : Leav
         let j = all_open T Rt (more t ts) plain.nothing_set (in_step ys) ys in
         let tested = only-if (comes_to ys i && comes_to ys j) (falls ys) right in
         let comes = both (comes_to ys i) (comes_to ys j) tested in
-        subst (λ d. StatementNeeds z n (loop ss (more t ts)) around (point_at h xs) (point_of k (only_if d (falls ys)))) (sym tested)
-        (
+        subst (λ d. StatementNeeds z n (loop ss (more t ts)) around (point_at h xs) (point_of k (only_if d (falls ys)))) (sym tested) (
           to-settled z h k xs (loop-less L h ss (more t ts)),
           (
             flags-one (depth_of around) (all_nesting ss) z.body.flags.bound
@@ -206,8 +203,7 @@ module _ (z : Scene) (n : ℕ) (fits : Keeping → Plain → Bool) (leads : Leav
         let tested = only-if (comes_to ys (all_open T Rt ss plain.nothing_set (ways_in z n around ys w.continues) ys)) (falls ys) right in
         let inside = switch-context around h w b c xs r ss x in
         let into = to-settled z h k xs (untouched-less L h ss) in
-        subst (λ t. StatementNeeds z n (switch r ss) around (point_at h xs) (point_of k (only_if t (falls ys)))) (sym tested)
-        (
+        subst (λ t. StatementNeeds z n (switch r ss) around (point_at h xs) (point_of k (only_if t (falls ys)))) (sym tested) (
           switches-there (h r) ss two.0,
           (
             flags-one (depth_of around) (all_nesting ss) z.body.flags.bound x.outs.flags,
@@ -283,7 +279,7 @@ module _ (z : Scene) (n : ℕ) (fits : Keeping → Plain → Bool) (leads : Leav
         let fine = then-right T Rt (opens T Rt s g w xs) ss next w (subst (λ i. is_right i ≡ true) opened all) in
         let none = one-builds-none L fits s true c h two.0 in
         let less = context-fewer z around k w true c (λ r. all_set L r (more s ss)) (λ r. all_set L r ss) (all_nesting (more s ss)) (all_nesting ss) at
-            (λ r i. or-right (sets L r s) (all_set L r ss) i) (flags-right (depth_of around) (nesting s) (all_nesting ss) z.body.flags.bound at.outs.flags) in
+        (λ r i. or-right (sets L r s) (all_set L r ss) i) (flags-right (depth_of around) (nesting s) (all_nesting ss) z.body.flags.bound at.outs.flags) in
         through z n around s h xs (opens T Rt s g w xs) (λ p. ItemsNeed z n ss around (at_labels z n around k (map settled base)) p (point_at k (map settled base)))
         (one-needed s around g h w xs true c told rs.0 two.0 (context-first z around h w true c s ss x) fine) fine
         (λ i. items-dead ss around k base o next (after L s h) c rs.1 two.1 less (tells-behind L k h s ss none tells)
@@ -299,14 +295,12 @@ module _ (z : Scene) (n : ℕ) (fits : Keeping → Plain → Bool) (leads : Leav
         → ItemsNeed z n ss around (at_labels z n around k (map settled base)) (point_never h) (point_at k (map settled base))
     items-dead nothing around k base o g h c re e at tells comes = from-never z h (point_at k (map settled base))
     items-dead (more (case_label y) ss) around k base o g h c re e at tells comes =
-        let rest = context-behind z around k (ways_in z n around (map settled base) o) true c (case_label y) ss refl at in
-        (
+        let rest = context-behind z around k (ways_in z n around (map settled base) o) true c (case_label y) ss refl at in (
           from-never z h (point_at k (map settled base)),
           items-needed ss around k base o plain.nothing_set k (map settled base) c (λ r. tt) re e rest rest (tells-at L k h (λ r. all_set L r ss) tells) comes,
         )
     items-dead (more default_label ss) around k base o g h c re e at tells comes =
-        let rest = context-behind z around k (ways_in z n around (map settled base) o) true c default_label ss refl at in
-        (
+        let rest = context-behind z around k (ways_in z n around (map settled base) o) true c default_label ss refl at in (
           from-never z h (point_at k (map settled base)),
           items-needed ss around k base o plain.nothing_set k (map settled base) c (λ r. tt) re e rest rest (tells-at L k h (λ r. all_set L r ss) tells) comes,
         )
@@ -316,7 +310,7 @@ module _ (z : Scene) (n : ℕ) (fits : Keeping → Plain → Bool) (leads : Leav
         let two = both (in_place L fits true c s h) (items_in_place L fits c ss k (after L s h)) one.1 in
         let rs = ready-next T Rt s ss g re in
         let less = context-fewer z around k w true c (λ r. all_set L r (more s ss)) (λ r. all_set L r ss) (all_nesting (more s ss)) (all_nesting ss) at
-            (λ r i. or-right (sets L r s) (all_set L r ss) i) (flags-right (depth_of around) (nesting s) (all_nesting ss) z.body.flags.bound at.outs.flags) in
+        (λ r i. or-right (sets L r s) (all_set L r ss) i) (flags-right (depth_of around) (nesting s) (all_nesting ss) z.body.flags.bound at.outs.flags) in
         record {
           point = point_never (after L s h);
           kept_there = refl;

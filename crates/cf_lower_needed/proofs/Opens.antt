@@ -30,8 +30,7 @@ module _ (count : ℕ) (g : Registers) (s : State) where
   all-settled : (xs : List Opened) → AllOpen count xs g s → AllOpen count (map settled xs) g s
   all-settled [] h = tt
   all-settled (x ∷ xs) h =
-      let one = h.0 in
-      (
+      let one = h.0 in (
         record {
           below = one.below;
           object = one.object;
@@ -96,8 +95,7 @@ module _ (count : ℕ) (g : Registers) (s : State) where
   all-left (x ∷ xs) [] e h = absurd (let k = e in cc)
   all-left (x ∷ xs) (y ∷ ys) e h =
       let two = both (x.local == y.local) (same_locals xs ys) e in
-      let one = h.0 in
-      (
+      let one = h.0 in (
         record {
           below = one.below;
           object = one.object;
@@ -116,8 +114,7 @@ module _ (count : ℕ) (g : Registers) (s : State) where
   all-right (x ∷ xs) (y ∷ ys) e h =
       let two = both (x.local == y.local) (same_locals xs ys) e in
       let same : x.local ≡ y.local = same-number x.local y.local two.0 in
-      let one = h.0 in
-      (
+      let one = h.0 in (
         record {
           below = subst (λ i. i < count) (sym same) one.below;
           object = one.object;

@@ -121,8 +121,7 @@ module _ (z : Scene) where
         → Invokes z f is × KeepsResult z f t r
     function-fits f passed well same =
         let two = both (types_passed z.body.own.locals is (parameters f.type)) (same_but_const (result_type f.type) (result_type t))
-        (given-that (same_but_const f.type t) (types_passed z.body.own.locals is (parameters f.type) && same_but_const (result_type f.type) (result_type t)) well same) in
-        (
+        (given-that (same_but_const f.type t) (types_passed z.body.own.locals is (parameters f.type) && same_but_const (result_type f.type) (result_type t)) well same) in (
           record { passed = passed; typed = have-types z.body.own.locals is (parameters f.type) two.0; shaped = fit.shaped; statics = statics },
           record {
             bound = below r z.body.own.bound bound;
