@@ -15,4 +15,3 @@ mod statements;
 mod words;
 
 pub use items::is_valid;
-

@@ -10,4 +10,3 @@ mod sizes;
 mod sums;
 
 pub use limit::{StartLimit, may_start};
-

@@ -8,4 +8,3 @@ mod program;
 mod statements;
 
 pub use program::{ValidProgram, is_valid_program};
-

@@ -42,4 +42,3 @@ pub use memory::{Failed, Memory};
 pub use rule::{Broken, Rule};
 pub use sink::Sink;
 pub use source::Source;
-

@@ -16,4 +16,3 @@ pub use classes::Classes;
 pub use label::Label;
 pub use laws::{names_are_decoded, names_tell_entities_apart};
 pub use path::{Path, Step};
-

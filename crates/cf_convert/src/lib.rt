@@ -7,4 +7,3 @@ mod types;
 
 pub use conv::{Conv, ConvStep, Val};
 pub use implicit::standard;
-

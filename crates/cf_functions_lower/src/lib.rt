@@ -22,4 +22,3 @@ mod unit;
 mod values;
 
 pub use unit::translate;
-

@@ -17,4 +17,3 @@ mod uses;
 
 pub use fault::NameFault;
 pub use program::check;
-

@@ -27,4 +27,3 @@ pub use fault::LexFault;
 pub use laws::{longest_tokens, one_answer};
 pub use lexer::tokens;
 pub use token::{Token, Word};
-

@@ -15,4 +15,3 @@ pub use ids::{ClassId, FunId, TyId};
 pub use integers::{convert_int, promote, usual};
 pub use ty::{Fun, Ty};
 pub use types::Types;
-
