@@ -24,17 +24,17 @@ use Rattle.cf_lower_kept.specs.Opened.{Opened, has_its_value}
 use Rattle.cf_lower_kept.proofs.Types.{type-self}
 use Rattle.cf_lower_turns.specs.Around.{Around}
 use Rattle.cf_lower_turns.specs.Scene.{Scene}
-use Rattle.cf_lower_arguments.specs.Passing.{are_passed}
-use Rattle.cf_lower_returns.specs.Called.{FunctionsAlike}
+use Rattle.cf_lower_entered.specs.ArgumentsPassing.{are_passed}
+use Rattle.cf_lower_entered.specs.ReturnsCalled.{FunctionsAlike}
 use Rattle.cf_lower_bounds.specs.Points.{Point, point_at}
 use Rattle.cf_lower_bounds.specs.Bounds.{LeafRunsTo}
-use Rattle.cf_lower_library.specs.LowerActions.{Fits}
-use Rattle.cf_lower_invoked.specs.Invoking.{programs_of, HaveLocalTypes, StartStatic, Invokes, HasLocal, KeepsResult, all_valued, point_kept}
-use Rattle.cf_lower_library.specs.Library.{KeepsInt, Passes}
-use Rattle.cf_lower_library.specs.Pointed.{ReachesFunction, ReachesLibrary}
-use Rattle.cf_lower_library.proofs.LowerInvoked.{call-kept-leads}
-use Rattle.cf_lower_library.proofs.Calls.{putchar-leads, exit-leads}
-use Rattle.cf_lower_library.proofs.Pointed.{pointer-leads}
+use Rattle.cf_lower_entered.specs.LibraryLowerActions.{Fits}
+use Rattle.cf_lower_entered.specs.InvokedInvoking.{programs_of, HaveLocalTypes, StartStatic, Invokes, HasLocal, KeepsResult, all_valued, point_kept}
+use Rattle.cf_lower_entered.specs.LibraryLibrary.{KeepsInt, Passes}
+use Rattle.cf_lower_entered.specs.LibraryPointed.{ReachesFunction, ReachesLibrary}
+use Rattle.cf_lower_entered.proofs.LibraryLowerInvoked.{call-kept-leads}
+use Rattle.cf_lower_entered.proofs.LibraryCalls.{putchar-leads, exit-leads}
+use Rattle.cf_lower_entered.proofs.LibraryPointed.{pointer-leads}
 use Rattle.cf_lower_tested.specs.Fits.{types_passed, is_an_int, is_no_sort, is_code_for, same_signature, has_local, called_well, one_passed, library_fits, put_fits, exit_fits, reached_well}
 use Rattle.cf_lower_tested.specs.Tested.{Joined, TypesAgree}
 

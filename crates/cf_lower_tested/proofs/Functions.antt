@@ -22,9 +22,9 @@ use Rattle.cf_lower.specs.Written.{if_scalar, c_type, local_name}
 use Rattle.cf_lower_kept.specs.Opened.{parameters_open}
 use Rattle.cf_lower_relate.specs.Map.{Map}
 use Rattle.cf_lower_turns.specs.Scene.{Scene}
-use Rattle.cf_lower_library.specs.LowerActions.{Fits}
-use Rattle.cf_lower_returns.specs.Called.{Programs, Entry, FunctionsAlike}
-use Rattle.cf_lower_invoked.specs.Invoking.{StartStatic}
+use Rattle.cf_lower_entered.specs.LibraryLowerActions.{Fits}
+use Rattle.cf_lower_entered.specs.ReturnsCalled.{Programs, Entry, FunctionsAlike}
+use Rattle.cf_lower_entered.specs.InvokedInvoking.{StartStatic}
 use Rattle.cf_lower_entered.specs.Lowered.{Fitting, IsLowered, entered_scene, HasNeeds, AllLowered, AllHaveNeeds}
 use Rattle.cf_lower_entered.proofs.Fitting.{scene-fits, programs-alike}
 use Rattle.cf_lower_needed.proofs.Live.{function-needed}

@@ -7,7 +7,7 @@ use Rattle.cf_core.specs.Types.{SourceType, integer, takes, gives}
 use Rattle.cf_core.specs.Core.{plain_function}
 use Rattle.cf_plain.specs.Plain as plain
 use Rattle.cf_plain.specs.Plain.{Plains, act, set, branch, loop, switch, case_label, default_label, leave, continue, give, nothing, more, PlainFunction}
-use Rattle.cf_lower_returns.specs.Called.{Programs}
+use Rattle.cf_lower_entered.specs.ReturnsCalled.{Programs}
 use Rattle.cf_lower_entered.proofs.Example as example
 use Rattle.cf_lower_tested.specs.Tested.{Tested}
 

@@ -2,8 +2,8 @@
 //! As definitions and laws; nothing here runs.
 #![tactic(auto)]
 
-ghost use Rattle.std.specs.Prelude.ℕ;
-ghost use Rattle.cf_lower_returns.specs.Called.{Programs, FunctionsAlike};
+ghost use Rattle.std.specs.Prelude.{ℕ};
+ghost use Rattle.cf_lower_entered.specs.ReturnsCalled.{Programs, FunctionsAlike};
 ghost use Rattle.cf_lower_entered.specs.Lowered.{Fitting, AllLowered, AllHaveNeeds};
 ghost use Rattle.cf_lower_tested.specs.Tested.{Joined, AllTested};
 
