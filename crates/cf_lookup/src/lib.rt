@@ -4,6 +4,3 @@
 mod scopes;
 
 pub use scopes::{EntityId, Scopes};
-
-#[cfg(test)]
-mod tests;

@@ -5,8 +5,6 @@
 
 mod fault;
 mod laws;
-#[cfg(test)]
-mod tests;
 mod unit;
 
 pub use fault::SequenceFault;

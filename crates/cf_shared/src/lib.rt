@@ -9,6 +9,3 @@ pub mod tree;
 
 pub use shared::Shared;
 pub use shared_vec::SharedVec;
-
-#[cfg(test)]
-mod tests;
