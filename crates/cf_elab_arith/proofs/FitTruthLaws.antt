@@ -1,2 +1,2 @@
 -- What the crates above take of `cf_elab_fit`.
-unfoldable pub use Rattle.cf_elab_fit.proofs.TruthLaws.{no_class_sort}
+pub use Rattle.cf_elab_fit.proofs.TruthLaws.{no_class_sort}

@@ -1,2 +1,2 @@
 -- What the crates above take of `cf_elab_unary`.
-unfoldable pub use Rattle.cf_elab_unary.proofs.PointerLaws.{unnumbered}
+pub use Rattle.cf_elab_unary.proofs.PointerLaws.{unnumbered}

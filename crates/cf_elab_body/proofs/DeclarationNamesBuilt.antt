@@ -1,2 +1,2 @@
 -- What the crates above take of `cf_elab_declaration`.
-unfoldable pub use Rattle.cf_elab_declaration.proofs.NamesBuilt.{name_plain, no_scopes}
+pub use Rattle.cf_elab_declaration.proofs.NamesBuilt.{name_plain, no_scopes}

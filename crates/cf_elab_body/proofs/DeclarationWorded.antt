@@ -1,2 +1,2 @@
 -- What the crates above take of `cf_elab_declaration`.
-unfoldable pub use Rattle.cf_elab_declaration.proofs.Worded.{words_then}
+pub use Rattle.cf_elab_declaration.proofs.Worded.{words_then}

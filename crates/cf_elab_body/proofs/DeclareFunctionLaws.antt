@@ -1,2 +1,2 @@
 -- What the crates above take of `cf_elab_declare`.
-unfoldable pub use Rattle.cf_elab_declaration.proofs.DeclareFunctionLaws.{function_grown, types_grown}
+pub use Rattle.cf_elab_declaration.proofs.DeclareFunctionLaws.{function_grown, types_grown}

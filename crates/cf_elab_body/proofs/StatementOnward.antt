@@ -1,2 +1,2 @@
 -- What the crates above take of `cf_elab_statement`.
-unfoldable pub use Rattle.cf_elab_statement.proofs.Onward.{onward-assoc, onward-same}
+pub use Rattle.cf_elab_statement.proofs.Onward.{onward-assoc, onward-same}

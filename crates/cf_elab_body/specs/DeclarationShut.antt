@@ -1,2 +1,3 @@
 -- What the crates above take of `cf_elab_declaration`.
-unfoldable pub use Rattle.cf_elab_declaration.specs.Shut.{IsBuilt, SpecifiersAreBuilt, declaration, specifier, words}
+unfoldable pub use Rattle.cf_elab_declaration.specs.Shut.{IsBuilt, SpecifiersAreBuilt, declaration, words}
+pub use Rattle.cf_elab_declaration.specs.Shut.{specifier}

@@ -1,2 +1,2 @@
 -- What the crates above take of `cf_elab_declare`.
-unfoldable pub use Rattle.cf_elab_declarator.proofs.DeclareNameLaws.{is_identifier, unqualified_is}
+pub use Rattle.cf_elab_declarator.proofs.DeclareNameLaws.{is_identifier, unqualified_is}

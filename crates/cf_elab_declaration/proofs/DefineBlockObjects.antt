@@ -1,2 +1,2 @@
 -- What the crates above take of `cf_elab_define`.
-unfoldable pub use Rattle.cf_elab_declarator.proofs.DefineBlockObjects.{block_known}
+pub use Rattle.cf_elab_declarator.proofs.DefineBlockObjects.{block_known}

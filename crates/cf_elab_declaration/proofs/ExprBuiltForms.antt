@@ -1,2 +1,2 @@
 -- What the crates above take of `cf_elab_expr`.
-unfoldable pub use Rattle.cf_elab_enums.proofs.ExprBuiltForms.{left, right}
+pub use Rattle.cf_elab_enums.proofs.ExprBuiltForms.{left, right}

@@ -1,2 +1,2 @@
 -- What the crates above take of `cf_elab_written`.
-unfoldable pub use Rattle.cf_elab_written.specs.Given.{given}
+pub use Rattle.cf_elab_written.specs.Given.{given}

@@ -1,2 +1,2 @@
 -- What the crates above take of `cf_elab_call`.
-unfoldable pub use Rattle.cf_elab_expr.proofs.CallSignatureLaws.{first_known, function_result, function_result_known, no_result}
+pub use Rattle.cf_elab_expr.proofs.CallSignatureLaws.{first_known, function_result, function_result_known, no_result}

@@ -1,2 +1,3 @@
 -- What the crates above take of `cf_elab_expr`.
-unfoldable pub use Rattle.cf_elab_expr.specs.Shut.{IsBuilt, TreeIsBuilt, name_of, parameter_place, shape_of, type_place, valued}
+unfoldable pub use Rattle.cf_elab_expr.specs.Shut.{IsBuilt, TreeIsBuilt, name_of, shape_of, valued}
+pub use Rattle.cf_elab_expr.specs.Shut.{parameter_place, type_place}

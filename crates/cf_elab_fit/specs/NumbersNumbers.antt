@@ -1,2 +1,2 @@
 -- What the crates above take of `cf_elab_numbers`.
-unfoldable pub use Rattle.cf_elab_numbers.specs.Numbers.{NumberOf, TakesRight, both_true, complement, negative, one_true, operated}
+pub use Rattle.cf_elab_numbers.specs.Numbers.{NumberOf, TakesRight, both_true, complement, negative, one_true, operated}

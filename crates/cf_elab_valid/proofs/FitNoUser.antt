@@ -1,2 +1,2 @@
 -- What the crates above take of `cf_elab_fit`.
-unfoldable pub use Rattle.cf_elab_fit.proofs.NoUser.{no_user_function}
+pub use Rattle.cf_elab_fit.proofs.NoUser.{no_user_function}

@@ -1,2 +1,2 @@
 -- What the crates above take of `cf_elab_valid_declarations`.
-unfoldable pub use Rattle.cf_elab_valid_declarations.proofs.Functions.{IsFun, declared-fine, entries-fine, fun-later}
+pub use Rattle.cf_elab_valid_declarations.proofs.Functions.{IsFun, declared-fine, entries-fine, fun-later}

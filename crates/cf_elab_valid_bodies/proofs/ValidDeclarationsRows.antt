@@ -1,2 +1,2 @@
 -- What the crates above take of `cf_elab_valid_declarations`.
-unfoldable pub use Rattle.cf_elab_valid_declarations.proofs.Rows.{named-fits-later}
+pub use Rattle.cf_elab_valid_declarations.proofs.Rows.{named-fits-later}

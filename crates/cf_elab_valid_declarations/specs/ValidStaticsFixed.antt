@@ -1,2 +1,2 @@
 -- What the crates above take of `cf_elab_valid_statics`.
-unfoldable pub use Rattle.cf_elab_valid_statics.specs.Fixed.{AreParts, FixedIn}
+pub use Rattle.cf_elab_valid_statics.specs.Fixed.{AreParts, FixedIn}

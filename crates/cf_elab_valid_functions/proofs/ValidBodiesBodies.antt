@@ -1,2 +1,2 @@
 -- What the crates above take of `cf_elab_valid_bodies`.
-unfoldable pub use Rattle.cf_elab_valid_bodies.proofs.Bodies.{declaration-tree-law, specifier}
+pub use Rattle.cf_elab_valid_bodies.proofs.Bodies.{declaration-tree-law, specifier}

@@ -1,2 +1,2 @@
 -- What the crates above take of `cf_elab_valid_declarations`.
-unfoldable pub use Rattle.cf_elab_valid_bodies.proofs.ValidDeclarationsEntering.{named-fine, still-alone}
+pub use Rattle.cf_elab_valid_bodies.proofs.ValidDeclarationsEntering.{named-fine, still-alone}

@@ -1,2 +1,2 @@
 -- What the crates above take of `cf_elab_valid_bodies`.
-unfoldable pub use Rattle.cf_elab_valid_bodies.specs.Laws.{ConstantsAreApart, IsEnd}
+pub use Rattle.cf_elab_valid_bodies.specs.Laws.{ConstantsAreApart, IsEnd}

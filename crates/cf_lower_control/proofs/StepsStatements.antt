@@ -1,2 +1,2 @@
 -- What the crates above take of `cf_lower_steps`.
-unfoldable pub use Rattle.cf_lower_steps.proofs.Statements.{different}
+pub use Rattle.cf_lower_steps.proofs.Statements.{different}

@@ -1,2 +1,2 @@
 -- What the crates above take of `cf_lower`.
-unfoldable pub use Rattle.cf_lower.specs.Kept.{Keeping, after, is_argument, type_of_local}
+pub use Rattle.cf_lower.specs.Kept.{Keeping, after, is_argument, type_of_local}

@@ -1,2 +1,2 @@
 -- What the crates above take of `cf_lower`.
-unfoldable pub use Rattle.cf_lower.specs.Statements.{Inside, flag_set, lowered}
+pub use Rattle.cf_lower.specs.Statements.{Inside, flag_set, lowered}

@@ -1,2 +1,2 @@
 -- What the crates above take of `cf_lower`.
-unfoldable pub use Rattle.cf_lower.specs.Written.{flag_name, int_constant, result_name}
+pub use Rattle.cf_lower.specs.Written.{flag_name, int_constant, result_name}

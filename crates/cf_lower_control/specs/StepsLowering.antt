@@ -1,2 +1,2 @@
 -- What the crates above take of `cf_lower_steps`.
-unfoldable pub use Rattle.cf_lower_steps.specs.Lowering.{Below, fixed_of, runs}
+pub use Rattle.cf_lower_steps.specs.Lowering.{Below, fixed_of, runs}

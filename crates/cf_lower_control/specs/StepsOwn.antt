@@ -1,2 +1,2 @@
 -- What the crates above take of `cf_lower_steps`.
-unfoldable pub use Rattle.cf_lower_steps.specs.Own.{InLocals, Lives, Own}
+pub use Rattle.cf_lower_steps.specs.Own.{InLocals, Lives, Own}

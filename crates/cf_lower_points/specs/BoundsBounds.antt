@@ -1,2 +1,2 @@
 -- What the crates above take of `cf_lower_bounds`.
-unfoldable pub use Rattle.cf_lower_bounds.specs.Bounds.{EndsAt, LeafRunsTo}
+pub use Rattle.cf_lower_bounds.specs.Bounds.{EndsAt, LeafRunsTo}

@@ -1,2 +1,2 @@
 -- What the crates above take of `cf_lower_control`.
-unfoldable pub use Rattle.cf_lower_control.specs.Loops.{IsReturn}
+pub use Rattle.cf_lower_control.specs.Loops.{IsReturn}
