@@ -8,7 +8,7 @@ use Rattle.cc_whole.specs.Known.{function, object, Named, lookup, is_in, is_libr
 use Rattle.cc_whole.specs.Statements.{has_size, checked_body}
 use Rattle.cc_whole.specs.Valid.{own_type, has_type, checked_name, checked_parameters, checked_prototype, inside, may_be_shared, holds_start, checked_start, checked_variable, named_by, is_definition, defined_after, checked_item, checked_items, first_fault}
 use Rattle.cc_whole_sections.specs.Sections.{In, Every, item_name, OneType, Stands, IsFunction, Declares, Uses, DefinedOnce, Sections}
-use Rattle.cc_whole_sections.proofs.Names.{Within, names-agree, stands-on, stands, behind, within-behind, names-there}
+use Rattle.cc_whole_sections.proofs.Names.{Within, names-agree, stands-on, stands, behind, within-more, within-behind, names-there}
 
 pub both-fine : (c d : Checks) → c ≡ fine → d ≡ fine → (c before d) ≡ fine
 both-fine c d e f = ap (λ z. z before d) e ∙ f
@@ -22,20 +22,20 @@ defined_behind [] defined = defined
 defined_behind (i ∷ rest) defined = defined_behind rest (defined_after i defined)
 
 -- what is said of the name of an item, where these items are known
-module _ (known : List Item) (one : OneType known) (names : List Named) (within : Within known names) (defined : List (List ℕ)) where
+module _ (known : List Named) (one : OneType known) (names : List Named) (within : Within known names) (defined : List (List ℕ)) where
   not-both : (a b : Bool) → (a ≡ true → b ≡ false) → not (a && b) ≡ true
   not-both true b h = ap not (h refl)
   not-both false b h = refl
 
-  name-fine : (i : Item) (d : Bool) (place : ℕ) → In i known → (d ≡ true → is_in defined (item_name i) ≡ false) → (d ≡ true → is_library (item_name i) ≡ false)
+  name-fine : (i : Item) (d : Bool) (place : ℕ) → In (named_by i) known → (d ≡ true → is_in defined (item_name i) ≡ false) → (d ≡ true → is_library (item_name i) ≡ false)
       → checked_name names defined d (item_name i) (named_by i).meant place ≡ fine
   name-fine i d place h new foreign =
       let y = item_name i in
       let m = (named_by i).meant in
       let second = holds (has_type (own_type y) m && not (d && is_library y)) 10 place in
-      ap (λ b. holds (b && not (d && is_in defined y)) 2 place before second) (names-agree known one names within i h)
+      ap (λ b. holds (b && not (d && is_in defined y)) 2 place before second) (names-agree known one names within (named_by i) h)
       ∙ ap (λ b. holds b 2 place before second) (not-both d (is_in defined y) new)
-      ∙ ap (λ b. holds (b && not (d && is_library y)) 10 place) (one.own i h)
+      ∙ ap (λ b. holds (b && not (d && is_library y)) 10 place) (one.own (named_by i) h)
       ∙ ap (λ b. holds b 10 place) (not-both d (is_library y) foreign)
 
   prototype-fine : (i : Item) (p : CPrototype) (d : Bool) → checked_name names defined d p.name (function p) (marks_before_name p) ≡ fine
@@ -50,7 +50,7 @@ module _ (known : List Item) (one : OneType known) (names : List Named) (within 
   apart-fine : (a b : Bool) → (a && b) ≡ false → may_be_shared a b ≡ fine
   apart-fine a b e = ap (λ x. holds (not x) 12 0) e
 
-  declared-fine : (i : Item) → In i known → (is_definition i ≡ true → is_in defined (item_name i) ≡ false) → Declares i → checked_item i names defined ≡ fine
+  declared-fine : (i : Item) → In (named_by i) known → (is_definition i ≡ true → is_in defined (item_name i) ≡ false) → Declares i → checked_item i names defined ≡ fine
   declared-fine (declares p) h new d =
       prototype-fine (declares p) p false (name-fine (declares p) false (marks_before_name p) h never never) d
   declared-fine (declares_variable t name) h new d =
@@ -71,7 +71,7 @@ module _ (known : List Item) (one : OneType known) (names : List Named) (within 
       (ap (λ b. holds b 11 (marks_before v.ty + 1)) d.size))
       (moved-fine (variable_marks v.ty) start (d.start (named_by (defines_variable v) ∷ names)))))
 
-  function-fine : (wanted : List Item) (f : Function) → In (defines f) known → is_in defined f.prototype.name ≡ false
+  function-fine : (wanted : List Named) (f : Function) → In (named_by (defines f)) known → is_in defined f.prototype.name ≡ false
       → Every (Stands (named_by (defines f) ∷ names)) wanted → IsFunction wanted f → checked_item (defines f) names defined ≡ fine
   function-fine wanted f h new there d =
       let body = checked_body f.body (inside f.prototype (named_by (defines f) ∷ names)) in
@@ -83,7 +83,7 @@ module _ (known : List Item) (one : OneType known) (names : List Named) (within 
       (name-fine (defines f) true (marks_before_name f.prototype) h (λ e. new) (λ e. d.no_library)) d.parameters)
       (moved-fine (prototype_marks f.prototype) body (d.body (named_by (defines f) ∷ names) there)))
 
-  user-fine : (wanted : List Item) (i : Item) → In i known → (is_definition i ≡ true → is_in defined (item_name i) ≡ false)
+  user-fine : (wanted : List Named) (i : Item) → In (named_by i) known → (is_definition i ≡ true → is_in defined (item_name i) ≡ false)
       → Every (Stands (named_by i ∷ names)) wanted → Uses wanted i → checked_item i names defined ≡ fine
   user-fine wanted (declares p) h new there d = absurd d
   user-fine wanted (declares_variable t name) h new there d = absurd d
@@ -92,8 +92,8 @@ module _ (known : List Item) (one : OneType known) (names : List Named) (within 
 
 -- ---- sections
 
-module _ (known : List Item) (one : OneType known) where
-  pub declares-fine : (xs ys : List Item) (names : List Named) (defined : List (List ℕ)) → Within known names → Every (λ i. In i known) xs → Every Declares xs
+module _ (known : List Named) (one : OneType known) where
+  pub declares-fine : (xs ys : List Item) (names : List Named) (defined : List (List ℕ)) → Within known names → Every (λ i. In (named_by i) known) xs → Every Declares xs
       → DefinedOnce (xs ++ ys) defined → (DefinedOnce ys (defined_behind xs defined) → checked_items ys (behind xs names) (defined_behind xs defined) ≡ fine)
       → checked_items (xs ++ ys) names defined ≡ fine
   declares-fine [] ys names defined w h d once rest = rest once
@@ -101,27 +101,27 @@ module _ (known : List Item) (one : OneType known) where
       both-fine (checked_item i names defined) (moved (item_marks i) (checked_items (xs ++ ys) (named_by i ∷ names) (defined_after i defined)))
       (declared-fine known one names w defined i (h i (inl refl)) once.0 (d i (inl refl)))
       (moved-fine (item_marks i) (checked_items (xs ++ ys) (named_by i ∷ names) (defined_after i defined))
-      (declares-fine xs ys (named_by i ∷ names) (defined_after i defined) (record { item = i; there = h i (inl refl); is = refl }, w)
+      (declares-fine xs ys (named_by i ∷ names) (defined_after i defined) (within-more known (named_by i) names (h i (inl refl)) w)
       (λ x k. h x (inr k)) (λ x k. d x (inr k)) once.1 rest))
 
-  pub uses-fine : (wanted : List Item) → Every (λ i. In i known) wanted → (xs : List Item) (names : List Named) (defined : List (List ℕ)) → Within known names
-      → Every (Stands names) wanted → Every (λ i. In i known) xs → Every (Uses wanted) xs → DefinedOnce xs defined → checked_items xs names defined ≡ fine
+  pub uses-fine : (wanted : List Named) → Every (λ x. In x known) wanted → (xs : List Item) (names : List Named) (defined : List (List ℕ)) → Within known names
+      → Every (Stands names) wanted → Every (λ i. In (named_by i) known) xs → Every (Uses wanted) xs → DefinedOnce xs defined → checked_items xs names defined ≡ fine
   uses-fine wanted k [] names defined w there h d once = refl
   uses-fine wanted k (i ∷ xs) names defined w there h d once =
-      let on : Every (Stands (named_by i ∷ names)) wanted = λ j l. stands-on known one names i j (h i (inl refl)) (k j l) (there j l) in
+      let on : Every (Stands (named_by i ∷ names)) wanted = λ j l. stands-on known one names (named_by i) j (h i (inl refl)) (k j l) (there j l) in
       both-fine (checked_item i names defined) (moved (item_marks i) (checked_items xs (named_by i ∷ names) (defined_after i defined)))
       (user-fine known one names w defined wanted i (h i (inl refl)) once.0 on (d i (inl refl)))
       (moved-fine (item_marks i) (checked_items xs (named_by i ∷ names) (defined_after i defined))
-      (uses-fine wanted k xs (named_by i ∷ names) (defined_after i defined) (record { item = i; there = h i (inl refl); is = refl }, w) on
+      (uses-fine wanted k xs (named_by i ∷ names) (defined_after i defined) (within-more known (named_by i) names (h i (inl refl)) w) on
       (λ x l. h x (inr l)) (λ x l. d x (inr l)) once.1))
 
-pub sections-fine : (known wanted first second : List Item) → Sections known wanted first second → first_fault (first ++ second) ≡ fine
+pub sections-fine : (known wanted : List Named) (first second : List Item) → Sections known wanted first second → first_fault (first ++ second) ≡ fine
 sections-fine known wanted first second s =
-    declares-fine known s.one_type first second [] [] tt s.first_known s.declares s.once
+    declares-fine known s.one_type first second [] [] (λ x h. absurd h) s.first_known s.declares s.once
     (λ once. uses-fine known s.one_type wanted s.wanted_known second (behind first []) (defined_behind first []) behind-first
-    (λ j l. stands known s.one_type (behind first []) behind-first j (s.wanted_known j l) (lookup (behind first []) (item_name j)) refl
-    (names-there first [] (item_name j) (s.wanted_first j l)))
+    (λ j l. stands known s.one_type (behind first []) behind-first j (s.wanted_known j l) (lookup (behind first []) j.name) refl
+    (names-there first [] j.name (s.wanted_first j l)))
     s.second_known s.uses once)
   where
     behind-first : Within known (behind first [])
-    behind-first = within-behind known first [] s.first_known tt
+    behind-first = within-behind known first [] s.first_known (λ x h. absurd h)

@@ -1,5 +1,5 @@
 -- What names mean behind items.
-use Rattle.std.proofs.Common.{◌≡◌, ℕ, Bool, true, false, ◌||◌, cond, List, [], ◌∷◌, ◌++◌, Option, Some, None, option_map, refl, ap, sym, subst, ◌∙◌, inl, inr}
+use Rattle.std.proofs.Common.{◌≡◌, ℕ, Bool, true, false, ◌||◌, cond, List, [], ◌∷◌, ◌++◌, Option, Some, None, option_map, refl, ap, subst, ◌∙◌, inl, inr}
 use Rattle.std.specs.Prelude.{bytes_eq, find}
 use Rattle.cc_whole.specs.Plain.{Item}
 use Rattle.cc_whole.specs.Known.{Meant, Named, lookup, is_in}
@@ -19,63 +19,56 @@ in-right x (y ∷ xs) ys h = inr (in-right x xs ys h)
 
 -- ---- names behind items
 
--- each name is that of an item
-pub record Comes (known : List Item) (n : Named) : Type 0 where
-  pub item : Item
-  pub there : In item known
-  pub is : named_by item ≡ n
-
-abbrev pub Within : List Item → List Named → Type 0
-Within known [] = Unit {0}
-Within known (n ∷ names) = Comes known n × Within known names
+abbrev pub Within : List Named → List Named → Type 0
+Within known names = Every (λ n. In n known) names
 
 abbrev meaning : Option Named → Option Meant
 meaning o = option_map (λ (x : Named). x.meant) o
 
-module _ (known : List Item) (one : OneType known) where
-  entry-agrees : (n : Named) → Comes known n → (j : Item) → In j known → bytes_eq n.name (item_name j) ≡ true → agrees (Some n.meant) (named_by j).meant ≡ true
-  entry-agrees n c j h e =
-      subst (λ (x : Named). agrees (Some x.meant) (named_by j).meant ≡ true) c.is
-      (one.agree c.item j c.there h (subst (λ (x : Named). bytes_eq x.name (item_name j) ≡ true) (sym c.is) e))
-
-  pub names-agree : (names : List Named) → Within known names → (j : Item) → In j known → agrees (lookup names (item_name j)) (named_by j).meant ≡ true
-  names-agree [] w j h = refl
-  names-agree (n ∷ names) w j h = go (names-agree names w.1 j h) (bytes_eq n.name (item_name j)) refl
+module _ (known : List Named) (one : OneType known) where
+  pub names-agree : (names : List Named) → Within known names → (x : Named) → In x known → agrees (lookup names x.name) x.meant ≡ true
+  names-agree [] w x h = refl
+  names-agree (n ∷ names) w x h = go (names-agree names (λ y k. w y (inr k)) x h) (bytes_eq n.name x.name) refl
     where
-      go : agrees (lookup names (item_name j)) (named_by j).meant ≡ true → (b : Bool) → bytes_eq n.name (item_name j) ≡ b
-          → agrees (meaning (cond b (Some n) (find (λ (x : Named). bytes_eq x.name (item_name j)) names))) (named_by j).meant ≡ true
-      go again true e = entry-agrees n w.0 j h e
+      go : agrees (lookup names x.name) x.meant ≡ true → (b : Bool) → bytes_eq n.name x.name ≡ b
+          → agrees (meaning (cond b (Some n) (find (λ (z : Named). bytes_eq z.name x.name) names))) x.meant ≡ true
+      go again true e = one.agree n x (w n (inl refl)) h e
       go again false e = again
 
-  -- a further item leaves known what was known
-  pub stands-on : (names : List Named) (i j : Item) → In i known → In j known → Stands names j → Stands (named_by i ∷ names) j
-  stands-on names i j h k s = go (bytes_eq (item_name i) (item_name j)) refl
+  -- a further name leaves known what was known
+  pub stands-on : (names : List Named) (n x : Named) → In n known → In x known → Stands names x → Stands (n ∷ names) x
+  stands-on names n x h k s = go (bytes_eq n.name x.name) refl
     where
-      go : (b : Bool) → bytes_eq (item_name i) (item_name j) ≡ b → Stands (named_by i ∷ names) j
+      go : (b : Bool) → bytes_eq n.name x.name ≡ b → Stands (n ∷ names) x
       go true e = record {
-        meant = (named_by i).meant;
-        means = ap (λ b. meaning (cond b (Some (named_by i)) (find (λ (x : Named). bytes_eq x.name (item_name j)) names))) e;
-        agrees_with = one.agree i j h k e;
+        meant = n.meant;
+        means = ap (λ b. meaning (cond b (Some n) (find (λ (z : Named). bytes_eq z.name x.name) names))) e;
+        agrees_with = one.agree n x h k e;
       }
       go false e = record {
         meant = s.meant;
-        means = ap (λ b. meaning (cond b (Some (named_by i)) (find (λ (x : Named). bytes_eq x.name (item_name j)) names))) e ∙ s.means;
+        means = ap (λ b. meaning (cond b (Some n) (find (λ (z : Named). bytes_eq z.name x.name) names))) e ∙ s.means;
         agrees_with = s.agrees_with;
       }
 
-  pub stands : (names : List Named) → Within known names → (j : Item) → In j known → (o : Option Meant) → lookup names (item_name j) ≡ o → (o ≡ None → ⊥) → Stands names j
-  stands names w j h None e some = absurd (some refl)
-  stands names w j h (Some m) e some = record { meant = m; means = e; agrees_with = subst (λ o. agrees o (named_by j).meant ≡ true) e (names-agree names w j h) }
+  pub stands : (names : List Named) → Within known names → (x : Named) → In x known → (o : Option Meant) → lookup names x.name ≡ o → (o ≡ None → ⊥) → Stands names x
+  stands names w x h None e some = absurd (some refl)
+  stands names w x h (Some m) e some = record { meant = m; means = e; agrees_with = subst (λ o. agrees o x.meant ≡ true) e (names-agree names w x h) }
 
 -- what is known behind items
 abbrev pub behind : List Item → List Named → List Named
 behind [] names = names
 behind (i ∷ rest) names = behind rest (named_by i ∷ names)
 
-pub within-behind : (known xs : List Item) (names : List Named) → Every (λ i. In i known) xs → Within known names → Within known (behind xs names)
+pub within-more : (known : List Named) (n : Named) (names : List Named) → In n known → Within known names → Within known (n ∷ names)
+within-more known n names h w x (inl e) = subst (λ y. In y known) e h
+within-more known n names h w x (inr k) = w x k
+
+pub within-behind : (known : List Named) (xs : List Item) (names : List Named) → Every (λ i. In (named_by i) known) xs → Within known names
+    → Within known (behind xs names)
 within-behind known [] names h w = w
 within-behind known (i ∷ xs) names h w =
-    within-behind known xs (named_by i ∷ names) (λ x k. h x (inr k)) (record { item = i; there = h i (inl refl); is = refl }, w)
+    within-behind known xs (named_by i ∷ names) (λ x k. h x (inr k)) (within-more known (named_by i) names (h i (inl refl)) w)
 
 -- a name that is there stays
 named-on : (n : Named) (names : List Named) (y : List ℕ) → (lookup names y ≡ None → ⊥) → lookup (n ∷ names) y ≡ None → ⊥

@@ -24,21 +24,21 @@ item_names items = map item_name items
 
 -- ---- one type for each name
 
-pub record OneType (known : List Item) : Type 0 where
-  pub agree : (i j : Item) → In i known → In j known → bytes_eq (item_name i) (item_name j) ≡ true → agrees (Some (named_by i).meant) (named_by j).meant ≡ true
+pub record OneType (known : List Named) : Type 0 where
+  pub agree : (x y : Named) → In x known → In y known → bytes_eq x.name y.name ≡ true → agrees (Some x.meant) y.meant ≡ true
   -- a name that has a type of its own has this
-  pub own : (i : Item) → In i known → has_type (own_type (item_name i)) (named_by i).meant ≡ true
+  pub own : (x : Named) → In x known → has_type (own_type x.name) x.meant ≡ true
 
--- the name of an item is known, with its type
-pub record Stands (names : List Named) (i : Item) : Type 0 where
+-- the name is known, with this type
+pub record Stands (names : List Named) (x : Named) : Type 0 where
   pub meant : Meant
-  pub means : lookup names (item_name i) ≡ Some meant
-  pub agrees_with : agrees (Some meant) (named_by i).meant ≡ true
+  pub means : lookup names x.name ≡ Some meant
+  pub agrees_with : agrees (Some meant) x.meant ≡ true
 
 -- ---- what is asked of each item by itself
 
--- of a body, where the names of these items are known
-pub record IsFunction (wanted : List Item) (f : Function) : Type 0 where
+-- of a body, where these names are known
+pub record IsFunction (wanted : List Named) (f : Function) : Type 0 where
   pub shared : (f.is_shared && f.prototype.is_static) ≡ false
   pub parameters : checked_parameters f.prototype.parameters [] ≡ fine
   pub no_library : is_library f.prototype.name ≡ false
@@ -58,7 +58,7 @@ Declares (defines f) = ⊥
 Declares (defines_variable v) = IsVariable v
 
 -- of what uses them
-abbrev pub Uses : List Item → Item → Type 0
+abbrev pub Uses : List Named → Item → Type 0
 Uses wanted (defines f) = IsFunction wanted f
 Uses wanted i = ⊥
 
@@ -69,12 +69,12 @@ abbrev pub DefinedOnce : List Item → List (List ℕ) → Type 0
 DefinedOnce [] defined = Unit {0}
 DefinedOnce (i ∷ rest) defined = (is_definition i ≡ true → is_in defined (item_name i) ≡ false) × DefinedOnce rest (defined_after i defined)
 
-pub record Sections (known wanted first second : List Item) : Type 0 where
+pub record Sections (known wanted : List Named) (first second : List Item) : Type 0 where
   pub one_type : OneType known
-  pub first_known : Every (λ i. In i known) first
-  pub second_known : Every (λ i. In i known) second
-  pub wanted_known : Every (λ i. In i known) wanted
-  pub wanted_first : Every (λ i. is_in (item_names first) (item_name i) ≡ true) wanted
+  pub first_known : Every (λ i. In (named_by i) known) first
+  pub second_known : Every (λ i. In (named_by i) known) second
+  pub wanted_known : Every (λ x. In x known) wanted
+  pub wanted_first : Every (λ (x : Named). is_in (item_names first) x.name ≡ true) wanted
   pub declares : Every Declares first
   pub uses : Every (Uses wanted) second
   pub once : DefinedOnce (first ++ second) []
