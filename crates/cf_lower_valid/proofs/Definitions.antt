@@ -1,0 +1,257 @@
+-- The definitions of a lowered file have names of their own.
+use Rattle.std.proofs.Common.{◌≡◌, ℕ, Bool, true, false, not, ◌&&◌, ◌||◌, List, [], ◌∷◌, ◌++◌, map, refl, ap, sym, subst, ◌∙◌, inl, inr, append_assoc}
+use Rattle.std.specs.Prelude.{bytes_eq, codes}
+use Rattle.std.specs.List.{list_any, flat_map}
+use Rattle.std.proofs.lemmas.Bool.{true≢false}
+use Rattle.cf_base.proofs.Tests.{both, same_bytes, bytes_same, bytes_differ}
+use Rattle.cf_core.specs.Types.{Name}
+use Rattle.cf_core.specs.Valid.{all_differ}
+use Rattle.cf_plain.specs.Plain.{Action, PlainFunction, PlainStatic}
+use Rattle.cf_plain.specs.Plain as plain
+use Rattle.cf_plain.specs.Named.{all_actions}
+use Rattle.cc_whole.specs.declared.unit.CVariable.{CVariable}
+use Rattle.cc_whole.specs.Plain.{Statement, Item, declares, declares_variable, defines, defines_variable}
+use Rattle.cc_whole.specs.Known.{is_in, is_helper}
+use Rattle.cc_whole.specs.Valid.{is_definition, defined_after}
+use Rattle.cf_lower.specs.Functions.{owner_of, literal_at, lowered_static, literals, start_literals, lowered_function, constants_function}
+use Rattle.cf_lower_program.specs.Names.{is_own_name}
+use Rattle.cf_lower_program.specs.Lowerable.{Lowerable}
+use Rattle.cc_whole_sections.specs.Sections.{In, Every, item_name, DefinedOnce}
+use Rattle.cc_whole_sections.proofs.Names.{in-left, in-right}
+use Rattle.cf_lower_valid.proofs.Differ.{append-in}
+use Rattle.cf_lower_valid.proofs.Inner.{every-mapped, every-append}
+use Rattle.cf_lower_valid.proofs.Spans.{none-any}
+use Rattle.cf_lower_valid.proofs.Tests.{file_of, names-told, valid-told}
+use Rattle.cf_lower_valid.proofs.Naming.{Foreign, any-none, function-foreign, object-foreign, literal-own}
+
+-- ---- things with names that differ
+
+module _ {A : Type 0} (n : A → Name) where
+  abbrev pub Differ : List A → Type 0
+  Differ [] = Unit {0}
+  Differ (x ∷ xs) = Every (λ y. bytes_eq (n x) (n y) ≡ false) xs × Differ xs
+
+  pub differ-append : (xs ys : List A) → Differ xs → Differ ys → Every (λ x. Every (λ y. bytes_eq (n x) (n y) ≡ false) ys) xs → Differ (xs ++ ys)
+  differ-append [] ys d e h = e
+  differ-append (x ∷ xs) ys d e h = (
+    λ z k. append-in z xs ys (bytes_eq (n x) (n z) ≡ false) k (λ l. d.0 z l) (λ l. h x (inl refl) z l),
+    differ-append xs ys d.1 e (λ w k. h w (inr k)),
+  )
+
+  pub differ-named : (xs : List A) → all_differ (map n xs) ≡ true → Differ xs
+  differ-named [] e = tt
+  differ-named (x ∷ xs) e =
+      let two = both (not (list_any (bytes_eq (n x)) (map n xs))) (all_differ (map n xs)) e in
+      (λ y h. none-any (bytes_eq (n x)) (map n xs) (no (list_any (bytes_eq (n x)) (map n xs)) two.0) (n y) (mapped y xs h), differ-named xs two.1)
+    where
+      no : (b : Bool) → not b ≡ true → b ≡ false
+      no true h = absurd (cc)
+      no false h = refl
+
+      mapped : (y : A) (ys : List A) → In y ys → In (n y) (map n ys)
+      mapped y [] h = h
+      mapped y (z ∷ zs) (inl h) = inl (ap n h)
+      mapped y (z ∷ zs) (inr h) = inr (mapped y zs h)
+
+pub differ-mapped : {A B : Type 0} (n : B → Name) (g : A → B) (xs : List A) → Differ (λ x. n (g x)) xs → Differ n (map g xs)
+differ-mapped n g [] d = tt
+differ-mapped n g (x ∷ xs) d = (every-mapped (λ y. bytes_eq (n (g x)) (n y) ≡ false) g xs d.0, differ-mapped n g xs d.1)
+
+-- two lists of names that differ all together
+record Apart (as bs : List Name) : Type 0 where
+  first : all_differ as ≡ true
+  second : all_differ bs ≡ true
+  cross : Every (λ a. Every (λ b. bytes_eq a b ≡ false) bs) as
+
+differ-parts : (as bs : List Name) → all_differ (as ++ bs) ≡ true → Apart as bs
+differ-parts [] bs e = record { first = refl; second = e; cross = λ a h. absurd h }
+differ-parts (a ∷ as) bs e =
+    let two = both (not (list_any (bytes_eq a) (as ++ bs))) (all_differ (as ++ bs)) e in
+    let rest = differ-parts as bs two.1 in
+    let none : Every (λ b. bytes_eq a b ≡ false) (as ++ bs) = none-any (bytes_eq a) (as ++ bs) (no (list_any (bytes_eq a) (as ++ bs)) two.0) in
+    record {
+      first = ap (λ c. not c && all_differ as) (any-none (bytes_eq a) as (λ b h. none b (in-left b as bs h))) ∙ rest.first;
+      second = rest.second;
+      cross = λ c h. elim h [ inl k ↦ λ b l. subst (λ x. bytes_eq x b ≡ false) k (none b (in-right b as bs l)) | inr k ↦ rest.cross c k ];
+    }
+  where
+    no : (b : Bool) → not b ≡ true → b ≡ false
+    no true h = absurd (cc)
+    no false h = refl
+
+either-way : (a b : Name) → bytes_eq a b ≡ false → bytes_eq b a ≡ false
+either-way a b e = bytes_differ b a (λ k. true≢false (sym (bytes_same a b (sym k)) ∙ e))
+
+-- what a test tells apart
+told-apart : (test : Name → Bool) (a b : Name) → test a ≡ true → test b ≡ false → bytes_eq a b ≡ false
+told-apart test a b e h = bytes_differ a b (λ k. true≢false (sym e ∙ ap test k ∙ h))
+
+-- ---- items that define once
+
+once-more : (b c : Bool) → b ≡ false → c ≡ false → (b || c) ≡ false
+once-more b c e h = ap (λ x. x || c) e ∙ h
+
+one-more : (i : Item) (is : List Item) (defined : List Name) → Every (λ k. bytes_eq (item_name i) (item_name k) ≡ false) is
+    → Every (λ k. is_in defined (item_name k) ≡ false) is → Every (λ k. is_in (item_name i ∷ defined) (item_name k) ≡ false) is
+one-more i is defined d h k m = once-more (bytes_eq (item_name i) (item_name k)) (is_in defined (item_name k)) (d k m) (h k m)
+
+pub once : (is : List Item) (defined : List Name) → Differ item_name is → Every (λ i. is_in defined (item_name i) ≡ false) is → DefinedOnce is defined
+once [] defined d h = tt
+once (declares p ∷ is) defined d h = (λ e. h (declares p) (inl refl), once is defined d.1 (λ j k. h j (inr k)))
+once (declares_variable t name ∷ is) defined d h = (λ e. h (declares_variable t name) (inl refl), once is defined d.1 (λ j k. h j (inr k)))
+once (defines f ∷ is) defined d h =
+    (λ e. h (defines f) (inl refl), once is (item_name (defines f) ∷ defined) d.1 (one-more (defines f) is defined d.0 (λ j k. h j (inr k))))
+once (defines_variable v ∷ is) defined d h =
+    (λ e. h (defines_variable v) (inl refl), once is (item_name (defines_variable v) ∷ defined) d.1 (one-more (defines_variable v) is defined d.0 (λ j k. h j (inr k))))
+
+pub once-none : (is js : List Item) (defined : List Name) → Every (λ i. is_definition i ≡ false) is → DefinedOnce js defined → DefinedOnce (is ++ js) defined
+once-none [] js defined h d = d
+once-none (declares p ∷ is) js defined h d = (λ e. absurd (true≢false (sym e)), once-none is js defined (λ i k. h i (inr k)) d)
+once-none (declares_variable t name ∷ is) js defined h d = (λ e. absurd (true≢false (sym e)), once-none is js defined (λ i k. h i (inr k)) d)
+once-none (defines f ∷ is) js defined h d = absurd (true≢false (h (defines f) (inl refl)))
+once-none (defines_variable v ∷ is) js defined h d = absurd (true≢false (h (defines_variable v) (inl refl)))
+
+-- ---- literals
+
+pub record From {A B : Type 0} (f : A → List B) (xs : List A) (y : B) : Type 0 where
+  pub one : A
+  pub there : In one xs
+  pub gives : In y (f one)
+
+pub from-flat : {A B : Type 0} (f : A → List B) (xs : List A) (y : B) → In y (flat_map f xs) → From f xs y
+from-flat f [] y h = absurd h
+from-flat f (x ∷ xs) y h =
+    append-in y (f x) (flat_map f xs) (From f (x ∷ xs) y) h (λ k. record { one = x; there = inl refl; gives = k })
+    (λ k. let rest = from-flat f xs y k in record { one = rest.one; there = inr rest.there; gives = rest.gives })
+
+abbrev IsLiteral : CVariable → Type 0
+IsLiteral v = is_own_name (codes "__s") v.name ≡ true
+
+literal-named : (f : Name) (s l : Bool) (a : Action) → Every IsLiteral (literal_at f s l a)
+literal-named f s l (plain.text j b) v (inl e) = subst IsLiteral e (literal-own f j)
+literal-named f s l (plain.text j b) v (inr k) = absurd k
+literal-named f s l a v h = absurd h
+
+literals-named : (f : Name) (s l : Bool) (as : List Action) → Every IsLiteral (flat_map (literal_at f s l) as)
+literals-named f s l as v h = let x = from-flat (literal_at f s l) as v h in literal-named f s l x.one v x.gives
+
+-- ---- the definitions of a file
+
+module _ (fs : List PlainFunction) (xs : List PlainStatic) (low : Lowerable (file_of fs xs)) (ss : List Statement) where
+  abbrev texts : List CVariable
+  texts = flat_map literals fs ++ flat_map start_literals xs
+
+  abbrev objects : List CVariable
+  objects = map (lowered_static []) xs
+
+  abbrev functions : List Item
+  functions = map (λ (f : PlainFunction). defines (lowered_function [] f)) fs
+
+  abbrev variable_name : CVariable → Name
+  variable_name v = v.name
+
+  texts-named : Every IsLiteral texts
+  texts-named =
+      every-append IsLiteral (flat_map literals fs) (flat_map start_literals xs)
+      (λ v h. let f = from-flat literals fs v h in literals-named f.one.name f.one.is_shared f.one.is_local (all_actions f.one.body) v f.gives)
+      (λ v h. let x = from-flat start_literals xs v h in literals-named (owner_of x.one) x.one.is_shared (x.one.is_local || not x.one.is_shared) (all_actions x.one.start) v x.gives)
+
+  function-names : Every (λ (f : PlainFunction). Foreign f.name) fs
+  function-names f h = function-foreign f.name ((names-told fs xs low).functions f h)
+
+  static-names : Every (λ (x : PlainStatic). Foreign x.name) xs
+  static-names x h = object-foreign x.name ((names-told fs xs low).statics x h)
+
+  parts : Apart (map (λ (f : PlainFunction). f.name) fs) (map (λ (x : PlainStatic). x.name) xs)
+  parts = differ-parts (map (λ (f : PlainFunction). f.name) fs) (map (λ (x : PlainStatic). x.name) xs) (valid-told fs xs low).differ_all
+
+  -- ---- each with those behind it
+
+  helper-named : Every (λ i. is_helper (item_name i) ≡ true) (constants_function ss)
+  helper-named = go ss
+    where
+      go : (ss : List Statement) → Every (λ i. is_helper (item_name i) ≡ true) (constants_function ss)
+      go [] i h = absurd h
+      go (s ∷ ss) i (inl e) = subst (λ i. is_helper (item_name i) ≡ true) e refl
+      go (s ∷ ss) i (inr k) = absurd k
+
+  helper-once : Differ item_name (constants_function ss)
+  helper-once = go ss
+    where
+      go : (ss : List Statement) → Differ item_name (constants_function ss)
+      go [] = tt
+      go (s ∷ ss) = (λ i h. absurd h, tt)
+
+  foreign-helper : (y : Name) → Foreign y → Every (λ i. bytes_eq y (item_name i) ≡ false) (constants_function ss)
+  foreign-helper y f i h = either-way (item_name i) y (told-apart is_helper (item_name i) y (helper-named i h) f.no_helper)
+
+  -- a literal's name is none of a helper
+  literal-helper : (y : Name) → is_own_name (codes "__s") y ≡ true → Every (λ i. bytes_eq y (item_name i) ≡ false) (constants_function ss)
+  literal-helper y e = go ss
+    where
+      go : (ss : List Statement) → Every (λ i. bytes_eq y (item_name i) ≡ false) (constants_function ss)
+      go [] i h = absurd h
+      go (s ∷ ss) i (inl k) = subst (λ i. bytes_eq y (item_name i) ≡ false) k (told-apart (is_own_name (codes "__s")) y (codes "__hci") e refl)
+      go (s ∷ ss) i (inr k) = absurd k
+
+  functions-differ : Differ item_name functions
+  functions-differ =
+      differ-mapped item_name (λ (f : PlainFunction). defines (lowered_function [] f)) fs (differ-named (λ (f : PlainFunction). f.name) fs parts.first)
+
+  functions-on : Differ item_name (functions ++ constants_function ss)
+  functions-on =
+      differ-append item_name functions (constants_function ss) functions-differ helper-once
+      (every-mapped (λ i. Every (λ j. bytes_eq (item_name i) (item_name j) ≡ false) (constants_function ss)) (λ (f : PlainFunction). defines (lowered_function [] f)) fs
+      (λ f h. foreign-helper f.name (function-names f h)))
+
+  -- a literal and what stands behind it
+  text-apart : (v : CVariable) → In v texts → Every (λ j. bytes_eq v.name (item_name j) ≡ false) (functions ++ constants_function ss)
+  text-apart v h =
+      every-append (λ j. bytes_eq v.name (item_name j) ≡ false) functions (constants_function ss)
+      (every-mapped (λ j. bytes_eq v.name (item_name j) ≡ false) (λ (f : PlainFunction). defines (lowered_function [] f)) fs
+      (λ f k. told-apart (is_own_name (codes "__s")) v.name f.name (texts-named v h) (function-names f k).no_literal))
+      (literal-helper v.name (texts-named v h))
+
+  texts-on : Differ item_name (map defines_variable texts ++ (functions ++ constants_function ss))
+  texts-on =
+      differ-append item_name (map defines_variable texts) (functions ++ constants_function ss)
+      (differ-mapped item_name defines_variable texts (differ-named variable_name texts low.literals)) functions-on
+      (every-mapped (λ i. Every (λ j. bytes_eq (item_name i) (item_name j) ≡ false) (functions ++ constants_function ss)) defines_variable texts text-apart)
+
+  in-mapped : {A B : Type 0} (g : A → B) (x : A) (ys : List A) → In x ys → In (g x) (map g ys)
+  in-mapped g x [] h = h
+  in-mapped g x (y ∷ ys) (inl e) = inl (ap g e)
+  in-mapped g x (y ∷ ys) (inr h) = inr (in-mapped g x ys h)
+
+  static-apart : (x : PlainStatic) → In x xs → Every (λ j. bytes_eq x.name (item_name j) ≡ false) (map defines_variable texts ++ (functions ++ constants_function ss))
+  static-apart x h =
+      every-append (λ j. bytes_eq x.name (item_name j) ≡ false) (map defines_variable texts) (functions ++ constants_function ss)
+      (every-mapped (λ j. bytes_eq x.name (item_name j) ≡ false) defines_variable texts
+      (λ v k. either-way v.name x.name (told-apart (is_own_name (codes "__s")) v.name x.name (texts-named v k) (static-names x h).no_literal)))
+      (every-append (λ j. bytes_eq x.name (item_name j) ≡ false) functions (constants_function ss)
+      (every-mapped (λ j. bytes_eq x.name (item_name j) ≡ false) (λ (f : PlainFunction). defines (lowered_function [] f)) fs
+      (λ f k. either-way f.name x.name (parts.cross f.name (in-mapped (λ (f : PlainFunction). f.name) f fs k) x.name (in-mapped (λ (x : PlainStatic). x.name) x xs h))))
+      (foreign-helper x.name (static-names x h)))
+
+  map-append : (vs ws : List CVariable) → map defines_variable (vs ++ ws) ≡ map defines_variable vs ++ map defines_variable ws
+  map-append [] ws = refl
+  map-append (v ∷ vs) ws = ap (λ is. defines_variable v ∷ is) (map-append vs ws)
+
+  apart-all : Differ item_name (map defines_variable objects ++ (map defines_variable texts ++ (functions ++ constants_function ss)))
+  apart-all =
+      differ-append item_name (map defines_variable objects) (map defines_variable texts ++ (functions ++ constants_function ss))
+      (differ-mapped item_name defines_variable objects
+      (differ-mapped variable_name (lowered_static []) xs (differ-named (λ (x : PlainStatic). x.name) xs parts.second))) texts-on
+      (every-mapped (λ i. Every (λ j. bytes_eq (item_name i) (item_name j) ≡ false) (map defines_variable texts ++ (functions ++ constants_function ss))) defines_variable objects
+      (every-mapped (λ (v : CVariable). Every (λ j. bytes_eq v.name (item_name j) ≡ false) (map defines_variable texts ++ (functions ++ constants_function ss))) (lowered_static []) xs
+      static-apart))
+
+  -- variables, functions and the helper
+  pub definitions-once : DefinedOnce (map defines_variable (objects ++ texts) ++ (functions ++ constants_function ss)) []
+  definitions-once =
+      once (map defines_variable (objects ++ texts) ++ (functions ++ constants_function ss)) []
+      (subst (Differ item_name)
+      (sym (append_assoc (map defines_variable objects) (map defines_variable texts) (functions ++ constants_function ss))
+      ∙ ap (λ is. is ++ (functions ++ constants_function ss)) (sym (map-append objects texts)))
+      apart-all)
+      (λ i h. refl)

@@ -1,0 +1,137 @@
+-- The items of a lowered file have a text.
+use Rattle.std.proofs.Common.{◌≡◌, ℕ, ◌+◌, ◌^◌, ◌≤◌, Bool, true, false, ◌&&◌, List, [], ◌∷◌, ◌++◌, length, slice_get, map, refl, ap, sym, subst, ◌∙◌, inl, inr, arith}
+use Rattle.std.specs.Prelude.{Option, Some, None, decimal}
+use Rattle.std.specs.List.{list_all, flat_map}
+use Rattle.std.specs.Fmt.{digits}
+use Rattle.cf_base.proofs.Tests.{all_of}
+use Rattle.cf_core.specs.Types.{Name, parameters, result as result_type}
+use Rattle.cf_plain.specs.Plain.{Register, Plain, Plains, act, branch, nothing, more, PlainFunction, PlainStatic, PlainFile}
+use Rattle.cf_plain.specs.Plain as plain
+use Rattle.cf_plain.specs.Named.{all_actions}
+use Rattle.cc_whole_tokens.specs.Token.{is_word_byte, is_name}
+use Rattle.cc_whole.specs.declared.statement.CLocal.{CLocal}
+use Rattle.cc_whole.specs.Plain.{Statement, Item, declares, defines, in_order}
+use Rattle.cc_whole.specs.Spellable.{good_locals, spellable_statements, spellable_body, spellable_prototype, spellable_item, spellable_items}
+use Rattle.cf_lower_layout.specs.Sorts.{Sort, sort_of}
+use Rattle.cf_lower.specs.Kept.{nothing_kept}
+use Rattle.cf_lower.specs.Written.{if_scalar}
+use Rattle.cf_lower.specs.Statements.{put, all_lowered, no_value}
+use Rattle.cf_lower.specs.Constants.{Known, at, at_byte, written, stored, stored_bytes, constant_done, nothing_known, holds_truth, known_after, constant_stores, constant_code}
+use Rattle.cf_lower.specs.Functions.{all_bound, all_nesting, inside, prototype, lowered_function, owner_of, library, constants_function, own_prototypes, own_variables, named_in, defined_elsewhere, lowered_file}
+use Rattle.cf_lower_program.specs.Lowerable.{Lowerable}
+use Rattle.cc_whole_sections.specs.Sections.{In, Every}
+use Rattle.cc_whole_sections.proofs.Names.{in-left, in-right}
+use Rattle.cf_lower_valid.proofs.Digits.{numbered-name}
+use Rattle.cf_lower_valid.proofs.Inner.{mapped-in, every-mapped, every-append}
+use Rattle.cf_lower_valid.proofs.Spans.{locals_after}
+use Rattle.cf_lower_valid.proofs.Own.{letters}
+use Rattle.cf_lower_valid.proofs.Scopes.{local-names}
+use Rattle.cf_lower_valid.proofs.Spelled.{AllSpelled, spelled-append, spelled-in-order, bytes-spelled, all-spelled, no-value-spelled}
+use Rattle.cf_lower_valid.proofs.Tests.{file_of, all-in, in-all, tested, names-told, function-told}
+use Rattle.cf_lower_valid.proofs.Starts.{stores}
+use Rattle.cf_lower_valid.proofs.Files.{elsewhere-from}
+
+-- ---- constant initialisers
+
+module _ (f : Name) where
+  stored-spelled : (x y : Known) → AllSpelled (stored [] x y)
+  stored-spelled (at n o t) y = go (sort_of t)
+    where
+      go : (s : Option Sort) → AllSpelled (if_scalar s [] (λ s. put s (at_byte n o) (written [] y) ∷ []))
+      go None = tt
+      go (Some s) = (refl, tt)
+  stored-spelled x y = tt
+
+  filled-spelled : (x : Known) (b : List ℕ) → AllSpelled (stored_bytes [] x b)
+  filled-spelled (at n o t) b = bytes-spelled (at_byte n o) 0 b
+  filled-spelled x b = tt
+
+  done-spelled : (g : Register → Known) (a : plain.Action) → AllSpelled (constant_done [] g a)
+  done-spelled g (plain.first r q) = stored-spelled (g r) (g q)
+  done-spelled g (plain.bytes r b) = filled-spelled (g r) b
+  done-spelled g a = tt
+
+  taken : (o : Option Bool) (a b : List Statement) → AllSpelled a → AllSpelled b → AllSpelled (elim o [ None ↦ [] | Some c ↦ elim c [ true ↦ a | false ↦ b ] ])
+  taken None a b h g = tt
+  taken (Some true) a b h g = h
+  taken (Some false) a b h g = g
+
+  mutual
+    start-spelled : (s : Plain) (g : Register → Known) → AllSpelled (constant_stores [] s f g)
+    start-spelled (act a) g = done-spelled g a
+    start-spelled (branch r ss ts) g = taken (holds_truth (g r)) (constant_code [] ss f g) (constant_code [] ts f g) (starts-spelled ss g) (starts-spelled ts g)
+    start-spelled s g = tt
+
+    starts-spelled : (ss : Plains) (g : Register → Known) → AllSpelled (constant_code [] ss f g)
+    starts-spelled nothing g = tt
+    starts-spelled (more s ss) g =
+        spelled-append (constant_stores [] s f g) (constant_code [] ss f (known_after [] s f g)) (start-spelled s g) (starts-spelled ss (known_after [] s f g))
+
+flat-spelled : {A : Type 0} (g : A → List Statement) (xs : List A) → ((x : A) → AllSpelled (g x)) → AllSpelled (flat_map g xs)
+flat-spelled g [] h = tt
+flat-spelled g (x ∷ xs) h = spelled-append (g x) (flat_map g xs) (h x) (flat-spelled g xs h)
+
+helper-spelled : (ss : List Statement) → AllSpelled ss → Every (λ i. spellable_item i ≡ true) (constants_function ss)
+helper-spelled [] h i k = absurd k
+helper-spelled (s ∷ ss) h i (inl e) = subst (λ i. spellable_item i ≡ true) e (spelled-in-order (s ∷ ss) h)
+helper-spelled (s ∷ ss) h i (inr k) = absurd k
+
+library-spelled : list_all spellable_item library ≡ true
+unfolding digits
+library-spelled = refl
+
+-- ---- files
+
+letter-byte : Every (λ c. is_word_byte c ≡ true) letters
+letter-byte c (inl e) = subst (λ c. is_word_byte c ≡ true) e refl
+letter-byte c (inr (inl e)) = subst (λ c. is_word_byte c ≡ true) e refl
+letter-byte c (inr (inr (inl e))) = subst (λ c. is_word_byte c ≡ true) e refl
+letter-byte c (inr (inr (inr (inl e)))) = subst (λ c. is_word_byte c ≡ true) e refl
+letter-byte c (inr (inr (inr (inr (inl e))))) = subst (λ c. is_word_byte c ≡ true) e refl
+letter-byte c (inr (inr (inr (inr (inr (inl e)))))) = subst (λ c. is_word_byte c ≡ true) e refl
+letter-byte c (inr (inr (inr (inr (inr (inr h)))))) = absurd h
+
+module _ (fs : List PlainFunction) (xs : List PlainStatic) (low : Lowerable (file_of fs xs)) where
+  abbrev file : PlainFile
+  file = file_of fs xs
+
+  abbrev Spelled : Item → Type 0
+  Spelled i = spellable_item i ≡ true
+
+  tested-spelled : Every Spelled (tested fs xs low)
+  tested-spelled = (names-told fs xs low).spelled
+
+  locals-named : (f : PlainFunction) → In f fs → good_locals (locals_after (length (parameters f.type)) f.locals (all_bound f.body) (all_nesting f.body) (all_actions f.body)) ≡ true
+  locals-named f h =
+      let t = function-told fs xs low f h in
+      in-all (λ (x : CLocal). is_name x.name) (locals_after (length (parameters f.type)) f.locals (all_bound f.body) (all_nesting f.body) (all_actions f.body))
+      (λ x k.
+      let e = local-names (parameters f.type) f.locals (all_bound f.body) (all_nesting f.body) (all_actions f.body) t.few t.registers t.flags x k in
+      ap is_name e.is ∙ numbered-name e.letter e.number (letter-byte e.letter e.is_letter))
+
+  function-spelled : (f : PlainFunction) → In f fs → Spelled (defines (lowered_function [] f))
+  function-spelled f h =
+      let code = all_lowered f.body (inside [] f) nothing_kept ++ no_value (result_type f.type) in
+      all_of (spellable_prototype (prototype f)) (spellable_body (lowered_function [] f).body)
+      (tested-spelled (declares (prototype f))
+      (in-left (declares (prototype f)) (own_prototypes file) (own_variables file ++ named_in file) (mapped-in (λ (f : PlainFunction). declares (prototype f)) f fs h)))
+      (all_of (good_locals (locals_after (length (parameters f.type)) f.locals (all_bound f.body) (all_nesting f.body) (all_actions f.body))) (spellable_statements (in_order code))
+      (locals-named f h)
+      (spelled-in-order code (spelled-append (all_lowered f.body (inside [] f) nothing_kept) (no_value (result_type f.type))
+      (all-spelled f.body (inside [] f) nothing_kept tt tt) (no-value-spelled (result_type f.type)))))
+
+  pub file-spelled : spellable_items (lowered_file file) ≡ true
+  file-spelled =
+      let own = own_prototypes file in
+      let other = defined_elsewhere file in
+      let vars = own_variables file in
+      let functions : List Item = map (λ (f : PlainFunction). defines (lowered_function [] f)) fs in
+      let helper = constants_function (stores fs xs low) in
+      in-all spellable_item (lowered_file file)
+      (every-append Spelled library (own ++ other ++ vars ++ functions ++ helper) (all-in spellable_item library library-spelled)
+      (every-append Spelled own (other ++ vars ++ functions ++ helper) (λ i h. tested-spelled i (in-left i own (vars ++ named_in file) h))
+      (every-append Spelled other (vars ++ functions ++ helper)
+      (λ i h. tested-spelled i (in-right i own (vars ++ named_in file) (in-right i vars (named_in file) (elsewhere-from fs xs low i h))))
+      (every-append Spelled vars (functions ++ helper) (λ i h. tested-spelled i (in-right i own (vars ++ named_in file) (in-left i vars (named_in file) h)))
+      (every-append Spelled functions helper (every-mapped Spelled (λ (f : PlainFunction). defines (lowered_function [] f)) fs function-spelled)
+      (helper-spelled (stores fs xs low) (flat-spelled _ _ (λ x. starts-spelled (owner_of x) x.start nothing_known))))))))
