@@ -18,6 +18,8 @@ use Rattle.cf_plain.specs.Plain.{Register, Action, Plain, Plains, act, set, bran
 use Rattle.cf_plain.specs.Named.{actions, all_actions}
 use Rattle.cc_whole.specs.declared.types.CType.TheVariants as ty
 use Rattle.cc_whole.specs.declared.types.CConstant.TheVariants as constants
+use Rattle.cc_whole.specs.declared.types.CVariableType.{CVariableType}
+use Rattle.cc_whole.specs.declared.unit.CPrototype.{CPrototype}
 use Rattle.cc_whole.specs.Plain.{Expression, Statement, named, load, constant, address as address_of}
 use Rattle.cc_whole.specs.Known.{Named}
 use Rattle.cc_whole.specs.Known as c
@@ -48,8 +50,8 @@ pub record StartsWith (names : List Named) (f : Name) (a : Action) : Type 0 wher
 module _ (k : c.Known) where
   -- what is known names an object or a function
   abbrev Well : Known → Type 0
-  Well (at n o t) = (type : _) × (c.lookup k.names n ≡ Some (c.object type))
-  Well (a_function name) = (p : _) × (c.lookup k.names name ≡ Some (c.function p)) × (c.is_main name ≡ false)
+  Well (at n o t) = (type : CVariableType) × (c.lookup k.names n ≡ Some (c.object type))
+  Well (a_function name) = (p : CPrototype) × (c.lookup k.names name ≡ Some (c.function p)) × (c.is_main name ≡ false)
   Well x = Unit {0}
 
   abbrev AllWell : (Register → Known) → Type 0
@@ -146,7 +148,7 @@ module _ (k : c.Known) where
 
   -- ---- stores
 
-  at-has : (n : Name) (o : ℕ) (type : _) → c.lookup k.names n ≡ Some (c.object type) → Has k.names (at_byte n o) ty.Pointer
+  at-has : (n : Name) (o : ℕ) (type : CVariableType) → c.lookup k.names n ≡ Some (c.object type) → Has k.names (at_byte n o) ty.Pointer
   at-has n o type e =
       binary-has k.names op.Add (address_of n) (constant (constants.Signed (converted Int (pos o)))) ty.Pointer ty.Int ty.Pointer (address-has k.names n type e)
       (constant-has k.names (constants.Signed (converted Int (pos o))) (int-fits (pos o))) refl refl

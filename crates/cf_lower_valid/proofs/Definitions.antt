@@ -246,12 +246,19 @@ module _ (fs : List PlainFunction) (xs : List PlainStatic) (low : Lowerable (fil
       (every-mapped (λ (v : CVariable). Every (λ j. bytes_eq v.name (item_name j) ≡ false) (map defines_variable texts ++ (functions ++ constants_function ss))) (lowered_static []) xs
       static-apart))
 
+  abbrev of_functions : List CVariable
+  of_functions = flat_map literals fs
+
+  abbrev of_statics : List CVariable
+  of_statics = flat_map start_literals xs
+
   -- variables, functions and the helper
-  pub definitions-once : DefinedOnce (map defines_variable (objects ++ texts) ++ (functions ++ constants_function ss)) []
+  pub definitions-once : DefinedOnce (map defines_variable (objects ++ of_functions ++ of_statics) ++ (functions ++ constants_function ss)) []
   definitions-once =
-      once (map defines_variable (objects ++ texts) ++ (functions ++ constants_function ss)) []
+      once (map defines_variable (objects ++ of_functions ++ of_statics) ++ (functions ++ constants_function ss)) []
       (subst (Differ item_name)
       (sym (append_assoc (map defines_variable objects) (map defines_variable texts) (functions ++ constants_function ss))
-      ∙ ap (λ is. is ++ (functions ++ constants_function ss)) (sym (map-append objects texts)))
+      ∙ ap (λ is. is ++ (functions ++ constants_function ss))
+      (sym (map-append objects texts) ∙ ap (λ vs. map defines_variable vs) (sym (append_assoc objects of_functions of_statics))))
       apart-all)
       (λ i h. refl)

@@ -1,5 +1,5 @@
 -- The items of a lowered file have a text, and no fault.
-use Rattle.std.proofs.Common.{◌≡◌, ℕ, ◌+◌, ◌^◌, ◌≤◌, ◌<◌, nat_lt, nat_le, Bool, true, false, not, ◌&&◌, ◌||◌, List, [], ◌∷◌, ◌++◌, length, map, refl, ap, sym, subst, ◌∙◌, inl, inr, ◌⊎◌, arith, append_assoc}
+use Rattle.std.proofs.Common.{◌≡◌, ℕ, suc, ◌+◌, ◌^◌, ◌≤◌, ◌<◌, nat_lt, nat_le, Bool, true, false, not, ◌&&◌, ◌||◌, List, [], ◌∷◌, ◌++◌, length, map, refl, ap, sym, subst, ◌∙◌, inl, inr, ◌⊎◌, arith, append_assoc}
 use Rattle.std.specs.Prelude.{bytes_eq, codes, decimal, Option, Some}
 use Rattle.std.specs.List.{list_all, list_any, flat_map}
 use Rattle.std.specs.Fmt.{digits}
@@ -51,13 +51,15 @@ use Rattle.cf_lower_valid.proofs.Definitions.{once-none, From, from-flat, defini
 -- ---- variables
 
 but-last-short : (b : List ℕ) → length (but_last b) ≤ length b
-but-last-short [] = omega arith
-but-last-short (x ∷ []) = omega arith
-but-last-short (x ∷ y ∷ b) = let l : length (but_last (y ∷ b)) ≤ length (y ∷ b) = but-last-short (y ∷ b) in omega (arith, l)
+but-last-short [] = let l : 0 ≤ 0 = omega arith in l
+but-last-short (x ∷ []) = let l : 0 ≤ 1 = omega arith in l
+but-last-short (x ∷ y ∷ b) = let l : length (but_last (y ∷ b)) ≤ length (y ∷ b) = but-last-short (y ∷ b) in
+    let more : suc (length (but_last (y ∷ b))) ≤ suc (length (y ∷ b)) = omega (arith, l) in
+    more
 
 text-some : (b : List ℕ) → is_text b ≡ true → 0 < length b
 text-some [] e = absurd (cc)
-text-some (x ∷ b) e = omega arith
+text-some (x ∷ b) e = let l : 0 < suc (length b) = omega arith in l
 
 pub literal-right : (f : Name) (s l : Bool) (a : Action) → (s && l) ≡ false → text_fits a ≡ true → Every IsVariable (literal_at f s l a)
 literal-right f s l (plain.text j b) apart fit v (inl e) =
@@ -105,18 +107,17 @@ module _ (fs : List PlainFunction) (xs : List PlainStatic) (low : Lowerable (fil
 
   variables-right : Every IsVariable variables
   variables-right =
-      every-append IsVariable (map (lowered_static []) xs) (flat_map literals fs ++ flat_map start_literals xs)
-      (every-mapped IsVariable (lowered_static []) xs static-right)
-      (every-append IsVariable (flat_map literals fs) (flat_map start_literals xs)
+      every-append IsVariable (map (lowered_static []) xs ++ flat_map literals fs) (flat_map start_literals xs)
+      (every-append IsVariable (map (lowered_static []) xs) (flat_map literals fs) (every-mapped IsVariable (lowered_static []) xs static-right)
       (λ v h.
       let f = from-flat literals fs v h in
       literals-right f.one.name f.one.is_shared f.one.is_local (all_actions f.one.body) (function-told fs xs low f.one f.there).shared
-      (λ a k. action-text fs xs low a (action-of-function fs xs low f.one a f.there k)) v f.gives)
+      (λ a k. action-text fs xs low a (action-of-function fs xs low f.one a f.there k)) v f.gives))
       (λ v h.
       let x = from-flat start_literals xs v h in
       literals-right (owner_of x.one) x.one.is_shared (x.one.is_local || not x.one.is_shared) (all_actions x.one.start)
       (start-apart x.one.is_shared x.one.is_local (static-told fs xs low x.one x.there).shared)
-      (λ a k. action-text fs xs low a (action-of-static fs xs low x.one a x.there k)) v x.gives))
+      (λ a k. action-text fs xs low a (action-of-static fs xs low x.one a x.there k)) v x.gives)
 
   -- ---- what is declared
 
@@ -196,15 +197,26 @@ module _ (fs : List PlainFunction) (xs : List PlainStatic) (low : Lowerable (fil
   vars = own_variables file
 
   named-tested : (i : Item) → In i (named_in file) → In i (tested fs xs low)
-  named-tested i h = in-right i own (vars ++ named_in file) (in-right i vars (named_in file) h)
+  named-tested i h = in-right i (own ++ vars) (named_in file) h
+
+  own-tested : (i : Item) → In i own → In i (tested fs xs low)
+  own-tested i h = in-left i (own ++ vars) (named_in file) (in-left i own vars h)
+
+  vars-tested : (i : Item) → In i vars → In i (tested fs xs low)
+  vars-tested i h = in-left i (own ++ vars) (named_in file) (in-right i own vars h)
+
+  -- what is so of each part of the first section
+  every-first : (P : Item → Type 0) → Every P library → Every P own → Every P other → Every P vars → Every P first
+  every-first P a b c d =
+      every-append P (library ++ own ++ other) vars (every-append P (library ++ own) other (every-append P library own a b) c) d
 
   first-known : Every (λ i. In (named_by i) (known fs xs low)) first
   first-known =
-      every-append (λ i. In (named_by i) (known fs xs low)) library (own ++ other ++ vars)
+      every-first (λ i. In (named_by i) (known fs xs low))
       (λ i h. own-known fs xs low i (in-left i library (declares constants_prototype ∷ []) h))
-      (every-append (λ i. In (named_by i) (known fs xs low)) own (other ++ vars) (λ i h. tested-known fs xs low i (in-left i own (vars ++ named_in file) h))
-      (every-append (λ i. In (named_by i) (known fs xs low)) other vars (λ i h. tested-known fs xs low i (named-tested i (elsewhere-from i h)))
-      (λ i h. tested-known fs xs low i (in-right i own (vars ++ named_in file) (in-left i vars (named_in file) h)))))
+      (λ i h. tested-known fs xs low i (own-tested i h))
+      (λ i h. tested-known fs xs low i (named-tested i (elsewhere-from i h)))
+      (λ i h. tested-known fs xs low i (vars-tested i h))
 
   helper-known : (ss : List Statement) → Every (λ i. In (named_by i) (known fs xs low)) (constants_function ss)
   helper-known [] i h = absurd h
@@ -218,15 +230,13 @@ module _ (fs : List PlainFunction) (xs : List PlainStatic) (low : Lowerable (fil
       every-append (λ i. In (named_by i) (known fs xs low)) functions (constants_function (stores fs xs low))
       (every-mapped (λ i. In (named_by i) (known fs xs low)) (λ (f : PlainFunction). defines (lowered_function [] f)) fs
       (λ f h. tested-known fs xs low (declares (prototype f))
-      (in-left (declares (prototype f)) own (vars ++ named_in file) (mapped-in (λ (f : PlainFunction). declares (prototype f)) f fs h))))
+      (own-tested (declares (prototype f)) (mapped-in (λ (f : PlainFunction). declares (prototype f)) f fs h))))
       (helper-known (stores fs xs low))
 
   first-declares : Every Declares first
   first-declares =
-      every-append Declares library (own ++ other ++ vars) library-right
-      (every-append Declares own (other ++ vars) own-right
-      (every-append Declares other vars (λ i h. every-named Declares declared-right i (elsewhere-from i h))
-      (every-mapped Declares defines_variable variables variables-right)))
+      every-first Declares library-right own-right (λ i h. every-named Declares declared-right i (elsewhere-from i h))
+      (every-mapped Declares defines_variable variables variables-right)
 
   second-uses : Every (Uses (wanted fs xs low)) second
   second-uses =
@@ -252,19 +262,20 @@ module _ (fs : List PlainFunction) (xs : List PlainStatic) (low : Lowerable (fil
       let i = mapped-from name_of is n.one n.there in
       subst (λ z. is_in (item_names first) z ≡ true) (named-name i.one ∙ i.is ∙ same_bytes n.one y n.passes) (name-there first i.one (h i.one i.there))
 
+  library-first : Every (λ i. In i first) library
+  library-first i h = in-left i (library ++ own ++ other) vars (in-left i (library ++ own) other (in-left i library own h))
+
   own-first : Every (λ i. In i first) own
-  own-first i h = in-right i library (own ++ other ++ vars) (in-left i own (other ++ vars) h)
+  own-first i h = in-left i (library ++ own ++ other) vars (in-left i (library ++ own) other (in-right i library own h))
 
   other-first : Every (λ i. In i first) other
-  other-first i h = in-right i library (own ++ other ++ vars) (in-right i own (other ++ vars) (in-left i other vars h))
+  other-first i h = in-left i (library ++ own ++ other) vars (in-right i (library ++ own) other h)
 
   vars-first : Every (λ i. In i first) vars
-  vars-first i h = in-right i library (own ++ other ++ vars) (in-right i own (other ++ vars) (in-right i other vars h))
+  vars-first i h = in-right i (library ++ own ++ other) vars h
 
   taken-first : Every (λ i. In i first) (library ++ own ++ vars)
-  taken-first =
-      every-append (λ i. In i first) library (own ++ vars) (λ i h. in-left i library (own ++ other ++ vars) h)
-      (every-append (λ i. In i first) own vars own-first vars-first)
+  taken-first = every-append (λ i. In i first) (library ++ own) vars (every-append (λ i. In i first) library own library-first own-first) vars-first
 
   named-first : (i : Item) → In i (named_in file) → is_in (item_names first) (item_name i) ≡ true
   named-first i h =
@@ -277,21 +288,32 @@ module _ (fs : List PlainFunction) (xs : List PlainStatic) (low : Lowerable (fil
 
   tested-first : Every (λ i. is_in (item_names first) (item_name i) ≡ true) (tested fs xs low)
   tested-first =
-      every-append (λ i. is_in (item_names first) (item_name i) ≡ true) own (vars ++ named_in file) (λ i h. name-there first i (own-first i h))
-      (every-append (λ i. is_in (item_names first) (item_name i) ≡ true) vars (named_in file) (λ i h. name-there first i (vars-first i h)) named-first)
+      every-append (λ i. is_in (item_names first) (item_name i) ≡ true) (own ++ vars) (named_in file)
+      (every-append (λ i. is_in (item_names first) (item_name i) ≡ true) own vars (λ i h. name-there first i (own-first i h)) (λ i h. name-there first i (vars-first i h)))
+      named-first
 
   -- ---- one section behind the other
 
   in-one : lowered_file file ≡ first ++ second
-  in-one =
-      sym (append_assoc library (own ++ other ++ vars) second
-      ∙ ap (λ is. library ++ is) (append_assoc own (other ++ vars) second ∙ ap (λ is. own ++ is) (append_assoc other vars second)))
+  in-one = append_assoc first functions (constants_function (stores fs xs low))
 
   no-definition : Every (λ i. is_definition i ≡ false) library
   no-definition i (inl e) = subst (λ i. is_definition i ≡ false) e refl
   no-definition i (inr (inl e)) = subst (λ i. is_definition i ≡ false) e refl
   no-definition i (inr (inr (inl e))) = subst (λ i. is_definition i ≡ false) e refl
   no-definition i (inr (inr (inr h))) = absurd h
+
+  none-defined : Every (λ i. is_definition i ≡ false) (library ++ own ++ other)
+  none-defined =
+      every-append (λ i. is_definition i ≡ false) (library ++ own) other
+      (every-append (λ i. is_definition i ≡ false) library own no-definition
+      (every-mapped (λ i. is_definition i ≡ false) (λ (f : PlainFunction). declares (prototype f)) fs (λ f h. refl)))
+      (λ i h. every-named (λ i. is_definition i ≡ false) declares-only i (elsewhere-from i h))
+
+  first-once : DefinedOnce (first ++ second) []
+  first-once =
+      subst (λ is. DefinedOnce is []) (sym (append_assoc (library ++ own ++ other) vars second))
+      (once-none (library ++ own ++ other) (vars ++ second) [] none-defined (definitions-once fs xs low (stores fs xs low)))
 
   sections : Sections (known fs xs low) (wanted fs xs low) first second
   sections = record {
@@ -302,11 +324,7 @@ module _ (fs : List PlainFunction) (xs : List PlainStatic) (low : Lowerable (fil
     wanted_first = every-mapped (λ (x : Named). is_in (item_names first) x.name ≡ true) named_by (tested fs xs low) tested-first;
     declares = first-declares;
     uses = second-uses;
-    once = subst (λ is. DefinedOnce is []) in-one
-        (once-none library (own ++ other ++ vars ++ second) [] no-definition
-        (once-none own (other ++ vars ++ second) [] (every-mapped (λ i. is_definition i ≡ false) (λ (f : PlainFunction). declares (prototype f)) fs (λ f h. refl))
-        (once-none other (vars ++ second) [] (λ i h. every-named (λ i. is_definition i ≡ false) declares-only i (elsewhere-from i h))
-        (definitions-once fs xs low (stores fs xs low)))));
+    once = first-once;
   }
 
   pub no-fault : first_fault (lowered_file file) ≡ fine

@@ -14,7 +14,7 @@ use Rattle.cc_whole.specs.declared.unit.CParameter.{CParameter}
 use Rattle.cc_whole.specs.Plain.{Body, in_order}
 use Rattle.cc_whole.specs.Landmarks.{locals_marks}
 use Rattle.cc_whole.specs.Fault.{Checks, fine, moved, ◌before◌}
-use Rattle.cc_whole.specs.Known.{Named, Known, is_helper}
+use Rattle.cc_whole.specs.Known.{Named, Known, lookup, is_helper}
 use Rattle.cc_whole.specs.Statements.{checked_locals, checked_statements, checked_body, with_locals}
 use Rattle.cc_whole.specs.Valid as c
 use Rattle.cf_lower.specs.Written.{result_of}
@@ -104,7 +104,7 @@ module _ (fs : List PlainFunction) (xs : List PlainStatic) (low : Lowerable (fil
     abbrev names : List Named
     names = names_inside locals passed old
 
-    same : (y : Name) → is_outer y ≡ false → _
+    same : (y : Name) → is_outer y ≡ false → lookup names y ≡ lookup old y
     same y e = outer-name ps f.locals n d actions old told.few told.registers told.flags scalars y e
 
     names-it : (a : Action) → In a actions → Names names f.name a

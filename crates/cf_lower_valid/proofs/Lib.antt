@@ -4,3 +4,16 @@ pub mod Inner
 pub mod Spans
 pub mod Own
 pub mod Spelled
+pub mod Agreeing
+pub mod Sizes
+pub mod Constants
+pub mod Scopes
+pub mod Tests
+pub mod Known
+pub mod Naming
+pub mod Functions
+pub mod Starts
+pub mod Definitions
+pub mod Files
+pub mod Texts
+pub mod Units

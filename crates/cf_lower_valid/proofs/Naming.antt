@@ -1,5 +1,5 @@
 -- What actions name is known: the literals of their function, and what the file declares.
-use Rattle.std.proofs.Common.{◌≡◌, ℕ, suc, Bool, true, false, not, ◌&&◌, ◌||◌, List, [], ◌∷◌, ◌++◌, map, refl, ap, sym, subst, ◌∙◌, inl, inr, ◌⊎◌}
+use Rattle.std.proofs.Common.{◌≡◌, ℕ, suc, Bool, true, false, not, ◌&&◌, ◌||◌, List, [], ◌∷◌, ◌++◌, length, map, refl, ap, sym, subst, ◌∙◌, inl, inr, ◌⊎◌}
 use Rattle.std.specs.Prelude.{Option, Some, None, bytes_eq, codes, decimal}
 use Rattle.std.specs.List.{list_any, flat_map}
 use Rattle.std.proofs.lemmas.Bool.{or_cases}
@@ -14,16 +14,18 @@ use Rattle.cc_whole.specs.declared.types.CType.{CType}
 use Rattle.cc_whole.specs.declared.types.CType.TheVariants as ty
 use Rattle.cc_whole.specs.declared.types.CVariableType.{CVariableType}
 use Rattle.cc_whole.specs.declared.types.CSignature.{CSignature}
+use Rattle.cc_whole.specs.declared.types.CVariableType.TheVariants as variable
+use Rattle.cc_whole.specs.declared.unit.CInitialiser.TheVariants as initialiser
 use Rattle.cc_whole.specs.declared.unit.CPrototype.{CPrototype}
 use Rattle.cc_whole.specs.declared.unit.CVariable.{CVariable}
 use Rattle.cc_whole.specs.Types.{parameter_types, signature_of, value_type}
 use Rattle.cc_whole.specs.Known.{Meant, Named, function, object, lookup, is_main, is_helper, is_library}
 use Rattle.cc_whole.specs.Plain.{Item, declares, declares_variable, defines_variable}
 use Rattle.cc_whole.specs.Valid.{named_by}
-use Rattle.cf_lower.specs.Written.{if_scalar, c_type, variable_type, literal_name}
+use Rattle.cf_lower.specs.Written.{if_scalar, c_type, int_constant, variable_type, literal_name}
 use Rattle.cf_lower.specs.Written as written
 use Rattle.cf_lower.specs.Statements.{c_types, signature}
-use Rattle.cf_lower.specs.Functions.{lowered_parameters, prototype_of, owner_of, literal_at, declared_at, lowered_static, literals, start_literals, own_prototypes, own_variables, named_in}
+use Rattle.cf_lower.specs.Functions.{lowered_parameters, prototype_of, owner_of, but_last, literal_at, declared_at, lowered_static, literals, start_literals, own_prototypes, own_variables, named_in}
 use Rattle.cf_lower_program.specs.Names.{own_fronts, is_own_name, begins_with_digit, is_foreign, is_function_name, is_object_name, may_be_function, may_be_object, is_well_named}
 use Rattle.cf_lower_program.specs.Lowerable.{Lowerable}
 use Rattle.cf_lower_valid_body.specs.Scope.{NamesObject, NamesFunction}
@@ -78,26 +80,27 @@ literal-outer f j = refl
 pub literal-own : (f : Name) (j : ℕ) → is_own_name (codes "__s") (literal_name f j) ≡ true
 literal-own f j =
     let b = decimal-begins j in
-    ap (λ ds. begins_with_digit (ds ++ (codes "__" ++ f))) b.is ∙ (let h = b.is_digit in h)
+    ap (λ ds. begins_with_digit (ds ++ codes "__" ++ f)) b.is ∙ (let h = b.is_digit in h)
 
 record MayBeCalled (y : Name) : Type 0 where
   outer : is_outer y ≡ false
   no_main : is_main y ≡ false
 
+by-three : (P : Type 0) (a b c : Bool) → (a || b || c) ≡ true → (a ≡ true → P) → (b ≡ true → P) → (c ≡ true → P) → P
+by-three P true b c e f g h = f refl
+by-three P false true c e f g h = g refl
+by-three P false false true e f g h = h refl
+by-three P false false false e f g h = absurd (cc)
+
 library-called : (y : Name) → source.is_library y ≡ true → MayBeCalled y
 library-called y e =
-    go (or_cases (bytes_eq y (codes "putchar") || bytes_eq y (codes "getchar")) (bytes_eq y (codes "exit")) e)
+    by-three (MayBeCalled y) (bytes_eq y (codes "putchar")) (bytes_eq y (codes "getchar")) (bytes_eq y (codes "exit")) e
+    (λ h. is-it (codes "putchar") h (record { outer = refl; no_main = refl }))
+    (λ h. is-it (codes "getchar") h (record { outer = refl; no_main = refl }))
+    (λ h. is-it (codes "exit") h (record { outer = refl; no_main = refl }))
   where
     is-it : (z : Name) → bytes_eq y z ≡ true → MayBeCalled z → MayBeCalled y
     is-it z h m = subst MayBeCalled (sym (same_bytes y z h)) m
-
-    two : (bytes_eq y (codes "putchar") ≡ true) ⊎ (bytes_eq y (codes "getchar") ≡ true) → MayBeCalled y
-    two (inl h) = is-it (codes "putchar") h (record { outer = refl; no_main = refl })
-    two (inr h) = is-it (codes "getchar") h (record { outer = refl; no_main = refl })
-
-    go : ((bytes_eq y (codes "putchar") || bytes_eq y (codes "getchar")) ≡ true) ⊎ (bytes_eq y (codes "exit") ≡ true) → MayBeCalled y
-    go (inl h) = two (or_cases (bytes_eq y (codes "putchar")) (bytes_eq y (codes "getchar")) h)
-    go (inr h) = is-it (codes "exit") h (record { outer = refl; no_main = refl })
 
 may-be-called : (y : Name) → (source.is_library y || may_be_function y) ≡ true → MayBeCalled y
 may-be-called y e = go (or_cases (source.is_library y) (may_be_function y) e)
@@ -126,6 +129,16 @@ same-signature b name t = ap (with_types (written.result_of (result_type t))) (s
 
 -- ---- what the file declares
 
+-- a literal of a function
+abbrev literal_variable : Name → Bool → Bool → ℕ → List ℕ → CVariable
+literal_variable f s l j b = record {
+  is_shared = s;
+  is_static = l;
+  ty = variable.Chars (int_constant (length b));
+  name = literal_name f j;
+  initialiser = Some (initialiser.Text (but_last b));
+}
+
 module _ (fs : List PlainFunction) (xs : List PlainStatic) (low : Lowerable (file_of fs xs)) where
   abbrev file : PlainFile
   file = file_of fs xs
@@ -146,8 +159,8 @@ module _ (fs : List PlainFunction) (xs : List PlainStatic) (low : Lowerable (fil
 
   variable-tested : (v : CVariable) → In v variables → In (defines_variable v) (tested fs xs low)
   variable-tested v h =
-      in-right (defines_variable v) (own_prototypes file) (own_variables file ++ named_in file)
-      (in-left (defines_variable v) (own_variables file) (named_in file) (mapped-in defines_variable v variables h))
+      in-left (defines_variable v) (own_prototypes file ++ own_variables file) (named_in file)
+      (in-right (defines_variable v) (own_prototypes file) (own_variables file) (mapped-in defines_variable v variables h))
 
   pub declared-in-function : (f : PlainFunction) (a : Action) → In f fs → In a (all_actions f.body) → Declared f.name f.is_shared f.is_local a
   declared-in-function f a h m = record {
@@ -156,8 +169,8 @@ module _ (fs : List PlainFunction) (xs : List PlainStatic) (low : Lowerable (fil
           (in-flat (λ (f : PlainFunction). flat_map (declared_at []) (all_actions f.body)) f i fs h (in-flat (declared_at []) a i (all_actions f.body) m k));
     texts = λ v k.
       variable-tested v
-          (in-right v (map (lowered_static []) xs) (flat_map literals fs ++ flat_map start_literals xs)
-          (in-left v (flat_map literals fs) (flat_map start_literals xs)
+          (in-left v (map (lowered_static []) xs ++ flat_map literals fs) (flat_map start_literals xs)
+          (in-right v (map (lowered_static []) xs) (flat_map literals fs)
           (in-flat literals f v fs h (in-flat (literal_at f.name f.is_shared f.is_local) a v (all_actions f.body) m k))));
   }
 
@@ -168,13 +181,12 @@ module _ (fs : List PlainFunction) (xs : List PlainStatic) (low : Lowerable (fil
           (in-flat (λ (x : PlainStatic). flat_map (declared_at []) (all_actions x.start)) x i xs h (in-flat (declared_at []) a i (all_actions x.start) m k));
     texts = λ v k.
       variable-tested v
-          (in-right v (map (lowered_static []) xs) (flat_map literals fs ++ flat_map start_literals xs)
-          (in-right v (flat_map literals fs) (flat_map start_literals xs)
-          (in-flat start_literals x v xs h (in-flat (literal_at (owner_of x) x.is_shared (x.is_local || not x.is_shared)) a v (all_actions x.start) m k))));
+          (in-right v (map (lowered_static []) xs ++ flat_map literals fs) (flat_map start_literals xs)
+          (in-flat start_literals x v xs h (in-flat (literal_at (owner_of x) x.is_shared (x.is_local || not x.is_shared)) a v (all_actions x.start) m k)));
   }
 
   named-tested : (i : Item) → In i (named_in file) → In i (tested fs xs low)
-  named-tested i h = in-right i (own_prototypes file) (own_variables file ++ named_in file) (in-right i (own_variables file) (named_in file) h)
+  named-tested i h = in-right i (own_prototypes file ++ own_variables file) (named_in file) h
 
   -- ---- names in front of which those of a function may stand
 
@@ -204,7 +216,8 @@ module _ (fs : List PlainFunction) (xs : List PlainStatic) (low : Lowerable (fil
 
     pub names-what : (owner : Name) (s l : Bool) (a : Action) → Declared owner s l a → Naming names owner a
     names-what owner s l (plain.text j b) d =
-        object-named (literal_name owner j) _ (literal-outer owner j) (stands-tested (defines_variable _) (d.texts _ (inl refl)))
+        let v = literal_variable owner s l j b in
+        object-named (literal_name owner j) (variable.Chars (int_constant (length b))) (literal-outer owner j) (stands-tested (defines_variable v) (d.texts v (inl refl)))
     names-what owner s l (plain.static_object name t) d =
         let i : Item = declares_variable (variable_type [] t) name in
         object-named name (variable_type [] t) (object-foreign name ((names-told fs xs low).named i (d.names i (inl refl)))).outer

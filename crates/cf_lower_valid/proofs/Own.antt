@@ -23,7 +23,7 @@ use Rattle.cc_whole_sections.specs.Sections.{In, Every}
 use Rattle.cc_whole_sections.proofs.Names.{in-left, in-right}
 use Rattle.cf_lower_valid.proofs.Digits.{number-read}
 use Rattle.cf_lower_valid.proofs.Inner.{named_local, named_parameter, every-mapped, every-append, mapped-in}
-use Rattle.cf_lower_valid.proofs.Spans.{type-number-small, locals_after}
+use Rattle.cf_lower_valid.proofs.Spans.{three, type-number-small, locals_after}
 
 -- ---- what a name tells
 
@@ -113,13 +113,13 @@ module _ (types : List SourceType) where
 
   pub parameter-entries : (i : ℕ) (ts : List SourceType) → StandFrom i ts → i + length ts ≤ 2 ^ 64 → Every Parameter (lowered_parameters i ts)
   parameter-entries i [] at le p h = absurd h
-  parameter-entries i (t ∷ ts) at le =
+  parameter-entries i (t ∷ ts) at le q k =
       let l : i + suc (length ts) ≤ 2 ^ 64 = le in
-      go (sort_of t) refl (parameter-entries (suc i) ts (rest-stands i t ts at) (omega (arith, l))) (omega (arith, l)) (head-stands i t ts at)
+      go (sort_of t) refl (parameter-entries (suc i) ts (rest-stands i t ts at) (omega (arith, l))) (omega (arith, l)) (head-stands i t ts at) q k
     where
       go : (o : Option Sort) → sort_of t ≡ o → Every Parameter (lowered_parameters (suc i) ts) → i < 2 ^ 64 → slice_get types i ≡ Some t
           → Every Parameter (if_scalar o (lowered_parameters (suc i) ts) (λ s. record { ty = c_type s; name = local_name i } ∷ lowered_parameters (suc i) ts))
-      go None e rest lt is = rest
+      go None e rest lt is p h = rest p h
       go (Some s) e rest lt is p (inl k) =
           subst Parameter k (entry 108 i (object (variable.Scalar (c_type s))) lt (inl refl)
           (ap (option_map a_local) is ∙ ap (λ (m : Meant). Some m) (scalar-local t s e)))
@@ -161,10 +161,10 @@ module _ (types : List SourceType) where
   pub local-entries : (k : ℕ) (ls : List SourceType) (n d : ℕ) (actions : List Action) → StandFrom k ls → k + length ls ≤ 2 ^ 64 → n ≤ 2 ^ 64 → d ≤ 2 ^ 64
       → Every Local (locals_after k ls n d actions)
   local-entries k ls n d actions at few fewer fewest =
-      every-append Local (own_locals [] k ls) (registers n ++ flags d ++ results actions) (own-entries k ls at few)
-      (every-append Local (registers n) (flags d ++ results actions) (register-entries n fewer)
-      (every-append Local (flags d) (results actions) (flag-entries d fewest)
-      (every-mapped Local (λ (t : CType). scalar t (result_name t)) (each_once (flat_map result_at actions)) (λ t h. result-entry t))))
+      every-append Local (own_locals [] k ls ++ registers n ++ flags d) (results actions)
+      (every-append Local (own_locals [] k ls ++ registers n) (flags d)
+      (every-append Local (own_locals [] k ls) (registers n) (own-entries k ls at few) (register-entries n fewer)) (flag-entries d fewest))
+      (every-mapped Local (λ (t : CType). scalar t (result_name t)) (each_once (flat_map result_at actions)) (λ t h. result-entry t))
 
 -- ---- they stand there
 
@@ -197,9 +197,6 @@ in-parameters i (u ∷ ts) (suc k) t s e is =
         → In (own_parameter s (i + suc k)) (if_scalar o (lowered_parameters (suc i) ts) (λ s. own_parameter s i ∷ lowered_parameters (suc i) ts))
     go None h = h
     go (Some z) h = inr h
-
-abbrev three : ℕ → List CLocal
-three r = scalar ty.Int (register_name (number Int) r) ∷ scalar ty.Pointer (register_name (address void) r) ∷ scalar ty.FunctionPointer (register_name (code void) r) ∷ []
 
 in-three : (s : Sort) (r : ℕ) → In (scalar (register_type s) (register_name s r)) (three r)
 in-three (number k) r = inl refl
@@ -265,27 +262,28 @@ in-flat f x y (z ∷ xs) (inl e) k = in-left y (f z) (flat_map f xs) (subst (λ 
 in-flat f x y (z ∷ xs) (inr h) k = in-right y (f z) (flat_map f xs) (in-flat f x y xs h k)
 
 module _ (k : ℕ) (ls : List SourceType) (n d : ℕ) (actions : List Action) where
+  -- in front of flags and results
+  before-flags : (x : CLocal) → In x (own_locals [] k ls ++ registers n) → In x (locals_after k ls n d actions)
+  before-flags x h =
+      in-left x (own_locals [] k ls ++ registers n ++ flags d) (results actions) (in-left x (own_locals [] k ls ++ registers n) (flags d) h)
+
   pub in-locals : (i : ℕ) (t : SourceType) → slice_get ls i ≡ Some t → In (own_local t (k + i)) (locals_after k ls n d actions)
-  in-locals i t e = in-left (own_local t (k + i)) (own_locals [] k ls) (registers n ++ flags d ++ results actions) (in-own k ls i t e)
+  in-locals i t e = before-flags (own_local t (k + i)) (in-left (own_local t (k + i)) (own_locals [] k ls) (registers n) (in-own k ls i t e))
 
   pub in-held : (s : Sort) (r : ℕ) → r < n → In (scalar (register_type s) (register_name s r)) (locals_after k ls n d actions)
   in-held s r lt =
       let x = scalar (register_type s) (register_name s r) in
-      in-right x (own_locals [] k ls) (registers n ++ flags d ++ results actions) (in-left x (registers n) (flags d ++ results actions) (in-registers s r n lt))
+      before-flags x (in-right x (own_locals [] k ls) (registers n) (in-registers s r n lt))
 
   pub in-flagged : (i : ℕ) → i < d → In (scalar ty.Int (flag_name i)) (locals_after k ls n d actions)
   in-flagged i lt =
       let x = scalar ty.Int (flag_name i) in
-      in-right x (own_locals [] k ls) (registers n ++ flags d ++ results actions)
-      (in-right x (registers n) (flags d ++ results actions) (in-left x (flags d) (results actions) (in-flags i d lt)))
+      in-left x (own_locals [] k ls ++ registers n ++ flags d) (results actions) (in-right x (own_locals [] k ls ++ registers n) (flags d) (in-flags i d lt))
 
   pub in-given : (a : Action) (t : CType) → In a actions → In t (result_at a) → In (scalar t (result_name t)) (locals_after k ls n d actions)
   in-given a t h g =
-      let x = scalar t (result_name t) in
-      in-right x (own_locals [] k ls) (registers n ++ flags d ++ results actions)
-      (in-right x (registers n) (flags d ++ results actions)
-      (in-right x (flags d) (results actions)
-      (mapped-in (λ (t : CType). scalar t (result_name t)) t (each_once (flat_map result_at actions)) (in-once t (flat_map result_at actions) (in-flat result_at a t actions h g)))))
+      in-right (scalar t (result_name t)) (own_locals [] k ls ++ registers n ++ flags d) (results actions)
+      (mapped-in (λ (t : CType). scalar t (result_name t)) t (each_once (flat_map result_at actions)) (in-once t (flat_map result_at actions) (in-flat result_at a t actions h g)))
 
 pub in-passed : (ts : List SourceType) (i : ℕ) (t : SourceType) (s : Sort) → slice_get ts i ≡ Some t → sort_of t ≡ Some s
     → In (own_parameter s i) (lowered_parameters 0 ts)

@@ -79,7 +79,7 @@ data Stands {A : Type 0} (xs ys : List A) (i : ℕ) (x : A) : Type 0 where
   second : (k : ℕ) → length xs + k ≡ i → slice_get ys k ≡ Some x → Stands xs ys i x
 
 slice-parts : {A : Type 0} (xs ys : List A) (i : ℕ) (x : A) → slice_get (xs ++ ys) i ≡ Some x → Stands xs ys i x
-slice-parts [] ys i x e = second i (omega arith) e
+slice-parts [] ys i x e = second i (let n : 0 + i ≡ i = omega arith in n) e
 slice-parts (a ∷ xs) ys zero x e = first e
 slice-parts (a ∷ xs) ys (suc i) x e = go (slice-parts xs ys i x e)
   where

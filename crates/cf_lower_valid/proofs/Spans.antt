@@ -55,13 +55,16 @@ parameters-span i (t ∷ ts) le =
 
 -- ---- registers and flags
 
+-- the C locals of a register
+abbrev pub three : ℕ → List CLocal
+three r = scalar ty.Int (register_name (number Int) r) ∷ scalar ty.Pointer (register_name (address void) r) ∷ scalar ty.FunctionPointer (register_name (code void) r) ∷ []
+
 pub registers-span : (n : ℕ) → n ≤ 2 ^ 64 → Span room (local_names (registers n)) (room + 3 * n)
 registers-span zero le = omega arith
 registers-span (suc r) le =
     let l : suc r ≤ 2 ^ 64 = le in
-    let three : Names = register_name (number Int) r ∷ register_name (address void) r ∷ register_name (code void) r ∷ [] in
-    subst (λ ys. Span room ys (room + 3 * suc r)) (sym (names-append (registers r) _))
-    (span-append room (room + 3 * r) (room + 3 * suc r) (local_names (registers r)) three (registers-span r (omega (arith, l)))
+    subst (λ ys. Span room ys (room + 3 * suc r)) (sym (names-append (registers r) (three r)))
+    (span-append room (room + 3 * r) (room + 3 * suc r) (local_names (registers r)) (local_names (three r)) (registers-span r (omega (arith, l)))
     (span-step (room + 3 * r) (room + 3 * suc r) (room + 3 * r) (register_name (number Int) r) (register_name (address void) r ∷ register_name (code void) r ∷ [])
     (ranked 105 r (omega (arith, l))) (omega arith)
     (span-step (suc (room + 3 * r)) (room + 3 * suc r) (room + (3 * r + 1)) (register_name (address void) r) (register_name (code void) r ∷ [])
@@ -73,7 +76,7 @@ pub flags-span : (d : ℕ) → d ≤ 2 ^ 64 → Span (4 * room) (local_names (fl
 flags-span zero le = omega arith
 flags-span (suc d) le =
     let l : suc d ≤ 2 ^ 64 = le in
-    subst (λ ys. Span (4 * room) ys (4 * room + suc d)) (sym (names-append (flags d) _))
+    subst (λ ys. Span (4 * room) ys (4 * room + suc d)) (sym (names-append (flags d) (scalar ty.Int (flag_name d) ∷ [])))
     (span-append (4 * room) (4 * room + d) (4 * room + suc d) (local_names (flags d)) (flag_name d ∷ []) (flags-span d (omega (arith, l)))
     (span-step (4 * room + d) (4 * room + suc d) (4 * room + d) (flag_name d) [] (ranked 119 d (omega (arith, l))) (omega arith) (omega arith)))
 
@@ -164,43 +167,49 @@ module _ (k : ℕ) (ls : List SourceType) (n d : ℕ) (actions : List Action) (f
   flagged-between : Every (Between (4 * room) (4 * room + d)) flagged
   flagged-between = span-between (4 * room) (4 * room + d) flagged (flags-span d fewest)
 
-  flags-on : Distinct (flagged ++ given)
-  flags-on =
-      distinct-append flagged given (span-distinct (4 * room) (4 * room + d) flagged (flags-span d fewest)) (once-distinct (flat_map result_at actions))
-      (cross (5 * room) flagged given (λ y h. let b = (flagged-between y h).high in omega (arith, b, fewest)) (results-high (each_once (flat_map result_at actions))))
+  held-low : Every (Low (4 * room)) (own ++ held)
+  held-low =
+      every-append (Low (4 * room)) own held (λ y h. let b = (own-between y h).high in omega (arith, b, few))
+      (λ y h. let b = (held-between y h).high in omega (arith, b, fewer))
 
-  flags-high : Every (High (4 * room)) (flagged ++ given)
-  flags-high =
-      every-append (High (4 * room)) flagged given (λ y h. (flagged-between y h).low)
-      (λ y h. let b : 5 * room ≤ rank y = results-high (each_once (flat_map result_at actions)) y h in omega (arith, b))
+  held-on : Distinct (own ++ held)
+  held-on =
+      distinct-append own held (span-distinct k (k + length ls) own (own-span k ls few)) (span-distinct room (room + 3 * n) held (registers-span n fewer))
+      (cross room own held (λ y h. let b = (own-between y h).high in omega (arith, b, few)) (λ y h. (held-between y h).low))
 
-  registers-on : Distinct (held ++ (flagged ++ given))
-  registers-on =
-      distinct-append held (flagged ++ given) (span-distinct room (room + 3 * n) held (registers-span n fewer)) flags-on
-      (cross (4 * room) held (flagged ++ given) (λ y h. let b = (held-between y h).high in omega (arith, b, fewer)) flags-high)
+  flagged-low : Every (Low (5 * room)) (own ++ held ++ flagged)
+  flagged-low =
+      every-append (Low (5 * room)) (own ++ held) flagged (λ y h. let b : rank y < 4 * room = held-low y h in omega (arith, b))
+      (λ y h. let b = (flagged-between y h).high in omega (arith, b, fewest))
 
-  registers-high : Every (High room) (held ++ (flagged ++ given))
-  registers-high =
-      every-append (High room) held (flagged ++ given) (λ y h. (held-between y h).low)
-      (λ y h. let b : 4 * room ≤ rank y = flags-high y h in omega (arith, b))
+  flagged-on : Distinct (own ++ held ++ flagged)
+  flagged-on =
+      distinct-append (own ++ held) flagged held-on (span-distinct (4 * room) (4 * room + d) flagged (flags-span d fewest))
+      (cross (4 * room) (own ++ held) flagged held-low (λ y h. (flagged-between y h).low))
 
-  all-names : local_names (locals_after k ls n d actions) ≡ own ++ (held ++ (flagged ++ given))
+  given-high : Every (High (5 * room)) given
+  given-high = results-high (each_once (flat_map result_at actions))
+
+  all-names : local_names (locals_after k ls n d actions) ≡ own ++ held ++ flagged ++ given
   all-names =
-      names-append (own_locals [] k ls) (registers n ++ flags d ++ results actions)
-      ∙ ap (λ ys. own ++ ys) (names-append (registers n) (flags d ++ results actions) ∙ ap (λ ys. held ++ ys) (names-append (flags d) (results actions)))
+      names-append (own_locals [] k ls ++ registers n ++ flags d) (results actions)
+      ∙ ap (λ ys. ys ++ given) (names-append (own_locals [] k ls ++ registers n) (flags d) ∙ ap (λ ys. ys ++ flagged) (names-append (own_locals [] k ls) (registers n)))
 
   pub locals-distinct : Distinct (local_names (locals_after k ls n d actions))
   locals-distinct =
       subst Distinct (sym all-names)
-      (distinct-append own (held ++ (flagged ++ given)) (span-distinct k (k + length ls) own (own-span k ls few)) registers-on
-      (cross room own (held ++ (flagged ++ given)) (λ y h. let b = (own-between y h).high in omega (arith, b, few)) registers-high))
+      (distinct-append (own ++ held ++ flagged) given flagged-on (once-distinct (flat_map result_at actions))
+      (cross (5 * room) (own ++ held ++ flagged) given flagged-low given-high))
 
   -- they stand behind the parameters
   pub locals-high : Every (High k) (local_names (locals_after k ls n d actions))
   locals-high =
       subst (Every (High k)) (sym all-names)
-      (every-append (High k) own (held ++ (flagged ++ given)) (λ y h. (own-between y h).low)
-      (λ y h. let b : room ≤ rank y = registers-high y h in omega (arith, b, few)))
+      (every-append (High k) (own ++ held ++ flagged) given
+      (every-append (High k) (own ++ held) flagged
+      (every-append (High k) own held (λ y h. (own-between y h).low) (λ y h. let b = (held-between y h).low in omega (arith, b, few)))
+      (λ y h. let b = (flagged-between y h).low in omega (arith, b, few)))
+      (λ y h. let b : 5 * room ≤ rank y = given-high y h in omega (arith, b, few)))
 
 pub parameters-distinct : (ts : List SourceType) → length ts ≤ 2 ^ 64 → Distinct (parameter_names (lowered_parameters 0 ts))
 parameters-distinct ts le = span-distinct 0 (0 + length ts) (parameter_names (lowered_parameters 0 ts)) (parameters-span 0 ts (omega (arith, le)))

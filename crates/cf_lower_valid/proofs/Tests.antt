@@ -164,8 +164,7 @@ module _ (fs : List PlainFunction) (xs : List PlainStatic) (low : Lowerable (fil
       all_of (list_all is_lowered (types_at a) && is_well_typed a) (text_fits a)
       (all_of (list_all is_lowered (types_at a)) (is_well_typed a)
       (in-all is_lowered (types_at a) (λ t k. types-told.lowered t
-      (in-right t types_of_functions (types_of_statics ++ types_of_actions)
-      (in-right t types_of_statics types_of_actions (in-flat types_at a t (file_actions file) h k)))))
+      (in-right t (types_of_functions ++ types_of_statics) types_of_actions (in-flat types_at a t (file_actions file) h k))))
       (action-typed a h))
       (action-text a h)
 
@@ -228,11 +227,13 @@ module _ (fs : List PlainFunction) (xs : List PlainStatic) (low : Lowerable (fil
         laid = laid.1;
         complete = fit.2;
         lowered = types-told.lowered f.type
-            (in-left f.type types_of_functions (types_of_statics ++ types_of_actions)
-            (in-flat (λ (f : PlainFunction). f.type ∷ f.locals) f f.type fs h (inl refl)));
+            (in-left f.type (types_of_functions ++ types_of_statics) types_of_actions
+            (in-left f.type types_of_functions types_of_statics
+            (in-flat (λ (f : PlainFunction). f.type ∷ f.locals) f f.type fs h (inl refl))));
         locals_lowered = in-all is_lowered f.locals (λ t k. types-told.lowered t
-            (in-left t types_of_functions (types_of_statics ++ types_of_actions)
-            (in-flat (λ (f : PlainFunction). f.type ∷ f.locals) f t fs h (inr k))));
+            (in-left t (types_of_functions ++ types_of_statics) types_of_actions
+            (in-left t types_of_functions types_of_statics
+            (in-flat (λ (f : PlainFunction). f.type ∷ f.locals) f t fs h (inr k)))));
         registers = small (all_bound f.body) (2 ^ 64) counts.0;
         flags = small (all_nesting f.body) (2 ^ 64) counts.1;
         few = subst (λ n. n ≤ 2 ^ 64) (length-append ps f.locals) few;

@@ -1,6 +1,6 @@
 -- The items of a lowered file have a text.
 use Rattle.std.proofs.Common.{◌≡◌, ℕ, ◌+◌, ◌^◌, ◌≤◌, Bool, true, false, ◌&&◌, List, [], ◌∷◌, ◌++◌, length, slice_get, map, refl, ap, sym, subst, ◌∙◌, inl, inr, arith}
-use Rattle.std.specs.Prelude.{Option, Some, None, decimal}
+use Rattle.std.specs.Prelude.{Option, Some, None, decimal, filter}
 use Rattle.std.specs.List.{list_all, flat_map}
 use Rattle.std.specs.Fmt.{digits}
 use Rattle.cf_base.proofs.Tests.{all_of}
@@ -28,7 +28,7 @@ use Rattle.cf_lower_valid.proofs.Own.{letters}
 use Rattle.cf_lower_valid.proofs.Scopes.{local-names}
 use Rattle.cf_lower_valid.proofs.Spelled.{AllSpelled, spelled-append, spelled-in-order, bytes-spelled, all-spelled, no-value-spelled}
 use Rattle.cf_lower_valid.proofs.Tests.{file_of, all-in, in-all, tested, names-told, function-told}
-use Rattle.cf_lower_valid.proofs.Starts.{stores}
+use Rattle.cf_lower_valid.proofs.Starts.{start_code, stores}
 use Rattle.cf_lower_valid.proofs.Files.{elsewhere-from}
 
 -- ---- constant initialisers
@@ -114,7 +114,8 @@ module _ (fs : List PlainFunction) (xs : List PlainStatic) (low : Lowerable (fil
       let code = all_lowered f.body (inside [] f) nothing_kept ++ no_value (result_type f.type) in
       all_of (spellable_prototype (prototype f)) (spellable_body (lowered_function [] f).body)
       (tested-spelled (declares (prototype f))
-      (in-left (declares (prototype f)) (own_prototypes file) (own_variables file ++ named_in file) (mapped-in (λ (f : PlainFunction). declares (prototype f)) f fs h)))
+      (in-left (declares (prototype f)) (own_prototypes file ++ own_variables file) (named_in file)
+      (in-left (declares (prototype f)) (own_prototypes file) (own_variables file) (mapped-in (λ (f : PlainFunction). declares (prototype f)) f fs h))))
       (all_of (good_locals (locals_after (length (parameters f.type)) f.locals (all_bound f.body) (all_nesting f.body) (all_actions f.body))) (spellable_statements (in_order code))
       (locals-named f h)
       (spelled-in-order code (spelled-append (all_lowered f.body (inside [] f) nothing_kept) (no_value (result_type f.type))
@@ -128,10 +129,13 @@ module _ (fs : List PlainFunction) (xs : List PlainStatic) (low : Lowerable (fil
       let functions : List Item = map (λ (f : PlainFunction). defines (lowered_function [] f)) fs in
       let helper = constants_function (stores fs xs low) in
       in-all spellable_item (lowered_file file)
-      (every-append Spelled library (own ++ other ++ vars ++ functions ++ helper) (all-in spellable_item library library-spelled)
-      (every-append Spelled own (other ++ vars ++ functions ++ helper) (λ i h. tested-spelled i (in-left i own (vars ++ named_in file) h))
-      (every-append Spelled other (vars ++ functions ++ helper)
-      (λ i h. tested-spelled i (in-right i own (vars ++ named_in file) (in-right i vars (named_in file) (elsewhere-from fs xs low i h))))
-      (every-append Spelled vars (functions ++ helper) (λ i h. tested-spelled i (in-right i own (vars ++ named_in file) (in-left i vars (named_in file) h)))
-      (every-append Spelled functions helper (every-mapped Spelled (λ (f : PlainFunction). defines (lowered_function [] f)) fs function-spelled)
-      (helper-spelled (stores fs xs low) (flat-spelled _ _ (λ x. starts-spelled (owner_of x) x.start nothing_known))))))))
+      (every-append Spelled (library ++ own ++ other ++ vars ++ functions) helper
+      (every-append Spelled (library ++ own ++ other ++ vars) functions
+      (every-append Spelled (library ++ own ++ other) vars
+      (every-append Spelled (library ++ own) other
+      (every-append Spelled library own (all-in spellable_item library library-spelled) (λ i h. tested-spelled i (in-left i (own ++ vars) (named_in file) (in-left i own vars h))))
+      (λ i h. tested-spelled i (in-right i (own ++ vars) (named_in file) (elsewhere-from fs xs low i h))))
+      (λ i h. tested-spelled i (in-left i (own ++ vars) (named_in file) (in-right i own vars h))))
+      (every-mapped Spelled (λ (f : PlainFunction). defines (lowered_function [] f)) fs function-spelled))
+      (helper-spelled (stores fs xs low)
+      (flat-spelled (start_code fs xs low) (filter (λ (x : PlainStatic). x.is_constant) xs) (λ x. starts-spelled (owner_of x) x.start nothing_known))))
