@@ -191,7 +191,7 @@ module _ (k : c.Known) where
     taken A P (Some false) n a b s t e h i = i e
 
     abbrev Asked : List Action → Type 0
-    Asked as = Every (StartsWith k.names f) as
+    Asked actions = Every (StartsWith k.names f) actions
 
     left-asked : (xs ys : List Action) → Asked (xs ++ ys) → Asked xs
     left-asked xs ys h a m = h a (in-left a xs ys m)

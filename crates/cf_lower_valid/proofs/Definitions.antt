@@ -19,9 +19,9 @@ use Rattle.cf_lower_program.specs.Lowerable.{Lowerable}
 use Rattle.cc_whole_sections.specs.Sections.{In, Every, item_name, DefinedOnce}
 use Rattle.cc_whole_sections.proofs.Names.{in-left, in-right}
 use Rattle.cf_lower_valid.proofs.Differ.{append-in}
-use Rattle.cf_lower_valid.proofs.Inner.{every-mapped, every-append}
+use Rattle.cf_lower_valid.proofs.Inner.{mapped-in, every-mapped, every-append}
 use Rattle.cf_lower_valid.proofs.Spans.{none-any}
-use Rattle.cf_lower_valid.proofs.Tests.{file_of, names-told, valid-told}
+use Rattle.cf_lower_valid.proofs.Tests.{file_of, no-not, names-told, valid-told}
 use Rattle.cf_lower_valid.proofs.Naming.{Foreign, any-none, function-foreign, object-foreign, literal-own}
 
 -- ---- things with names that differ
@@ -42,42 +42,34 @@ module _ {A : Type 0} (n : A → Name) where
   differ-named [] e = tt
   differ-named (x ∷ xs) e =
       let two = both (not (list_any (bytes_eq (n x)) (map n xs))) (all_differ (map n xs)) e in
-      (λ y h. none-any (bytes_eq (n x)) (map n xs) (no (list_any (bytes_eq (n x)) (map n xs)) two.0) (n y) (mapped y xs h), differ-named xs two.1)
-    where
-      no : (b : Bool) → not b ≡ true → b ≡ false
-      no true h = absurd (cc)
-      no false h = refl
-
-      mapped : (y : A) (ys : List A) → In y ys → In (n y) (map n ys)
-      mapped y [] h = h
-      mapped y (z ∷ zs) (inl h) = inl (ap n h)
-      mapped y (z ∷ zs) (inr h) = inr (mapped y zs h)
+      (λ y h. none-any (bytes_eq (n x)) (map n xs) (no-not (list_any (bytes_eq (n x)) (map n xs)) two.0) (n y) (mapped-in n y xs h), differ-named xs two.1)
 
 pub differ-mapped : {A B : Type 0} (n : B → Name) (g : A → B) (xs : List A) → Differ (λ x. n (g x)) xs → Differ n (map g xs)
 differ-mapped n g [] d = tt
 differ-mapped n g (x ∷ xs) d = (every-mapped (λ y. bytes_eq (n (g x)) (n y) ≡ false) g xs d.0, differ-mapped n g xs d.1)
 
 -- two lists of names that differ all together
-record Apart (as bs : List Name) : Type 0 where
-  first : all_differ as ≡ true
-  second : all_differ bs ≡ true
-  cross : Every (λ a. Every (λ b. bytes_eq a b ≡ false) bs) as
+record Apart (these those : List Name) : Type 0 where
+  first : all_differ these ≡ true
+  second : all_differ those ≡ true
+  cross : Every (λ a. Every (λ b. bytes_eq a b ≡ false) those) these
 
-differ-parts : (as bs : List Name) → all_differ (as ++ bs) ≡ true → Apart as bs
-differ-parts [] bs e = record { first = refl; second = e; cross = λ a h. absurd h }
-differ-parts (a ∷ as) bs e =
-    let two = both (not (list_any (bytes_eq a) (as ++ bs))) (all_differ (as ++ bs)) e in
-    let rest = differ-parts as bs two.1 in
-    let none : Every (λ b. bytes_eq a b ≡ false) (as ++ bs) = none-any (bytes_eq a) (as ++ bs) (no (list_any (bytes_eq a) (as ++ bs)) two.0) in
+cross-more : (a : Name) (these those : List Name) → Every (λ b. bytes_eq a b ≡ false) those → Every (λ c. Every (λ b. bytes_eq c b ≡ false) those) these
+    → Every (λ c. Every (λ b. bytes_eq c b ≡ false) those) (a ∷ these)
+cross-more a these those h g c (inl k) b l = subst (λ x. bytes_eq x b ≡ false) k (h b l)
+cross-more a these those h g c (inr k) b l = g c k b l
+
+differ-parts : (these those : List Name) → all_differ (these ++ those) ≡ true → Apart these those
+differ-parts [] those e = record { first = refl; second = e; cross = λ a h. absurd h }
+differ-parts (a ∷ these) those e =
+    let two = both (not (list_any (bytes_eq a) (these ++ those))) (all_differ (these ++ those)) e in
+    let rest = differ-parts these those two.1 in
+    let none = none-any (bytes_eq a) (these ++ those) (no-not (list_any (bytes_eq a) (these ++ those)) two.0) in
     record {
-      first = ap (λ c. not c && all_differ as) (any-none (bytes_eq a) as (λ b h. none b (in-left b as bs h))) ∙ rest.first;
+      first = ap (λ c. not c && all_differ these) (any-none (bytes_eq a) these (λ b h. none b (in-left b these those h))) ∙ rest.first;
       second = rest.second;
-      cross = λ c h. elim h [ inl k ↦ λ b l. subst (λ x. bytes_eq x b ≡ false) k (none b (in-right b as bs l)) | inr k ↦ rest.cross c k ];
+      cross = cross-more a these those (λ b h. none b (in-right b these those h)) rest.cross;
     }
-  where
-    no : (b : Bool) → not b ≡ true → b ≡ false
-    no true h = absurd (cc)
-    no false h = refl
 
 either-way : (a b : Name) → bytes_eq a b ≡ false → bytes_eq b a ≡ false
 either-way a b e = bytes_differ b a (λ k. true≢false (sym (bytes_same a b (sym k)) ∙ e))
@@ -132,8 +124,8 @@ literal-named f s l (plain.text j b) v (inl e) = subst IsLiteral e (literal-own 
 literal-named f s l (plain.text j b) v (inr k) = absurd k
 literal-named f s l a v h = absurd h
 
-literals-named : (f : Name) (s l : Bool) (as : List Action) → Every IsLiteral (flat_map (literal_at f s l) as)
-literals-named f s l as v h = let x = from-flat (literal_at f s l) as v h in literal-named f s l x.one v x.gives
+literals-named : (f : Name) (s l : Bool) (actions : List Action) → Every IsLiteral (flat_map (literal_at f s l) actions)
+literals-named f s l actions v h = let x = from-flat (literal_at f s l) actions v h in literal-named f s l x.one v x.gives
 
 -- ---- the definitions of a file
 
@@ -218,11 +210,6 @@ module _ (fs : List PlainFunction) (xs : List PlainStatic) (low : Lowerable (fil
       (differ-mapped item_name defines_variable texts (differ-named variable_name texts low.literals)) functions-on
       (every-mapped (λ i. Every (λ j. bytes_eq (item_name i) (item_name j) ≡ false) (functions ++ constants_function ss)) defines_variable texts text-apart)
 
-  in-mapped : {A B : Type 0} (g : A → B) (x : A) (ys : List A) → In x ys → In (g x) (map g ys)
-  in-mapped g x [] h = h
-  in-mapped g x (y ∷ ys) (inl e) = inl (ap g e)
-  in-mapped g x (y ∷ ys) (inr h) = inr (in-mapped g x ys h)
-
   static-apart : (x : PlainStatic) → In x xs → Every (λ j. bytes_eq x.name (item_name j) ≡ false) (map defines_variable texts ++ (functions ++ constants_function ss))
   static-apart x h =
       every-append (λ j. bytes_eq x.name (item_name j) ≡ false) (map defines_variable texts) (functions ++ constants_function ss)
@@ -230,7 +217,7 @@ module _ (fs : List PlainFunction) (xs : List PlainStatic) (low : Lowerable (fil
       (λ v k. either-way v.name x.name (told-apart (is_own_name (codes "__s")) v.name x.name (texts-named v k) (static-names x h).no_literal)))
       (every-append (λ j. bytes_eq x.name (item_name j) ≡ false) functions (constants_function ss)
       (every-mapped (λ j. bytes_eq x.name (item_name j) ≡ false) (λ (f : PlainFunction). defines (lowered_function [] f)) fs
-      (λ f k. either-way f.name x.name (parts.cross f.name (in-mapped (λ (f : PlainFunction). f.name) f fs k) x.name (in-mapped (λ (x : PlainStatic). x.name) x xs h))))
+      (λ f k. either-way f.name x.name (parts.cross f.name (mapped-in (λ (f : PlainFunction). f.name) f fs k) x.name (mapped-in (λ (x : PlainStatic). x.name) x xs h))))
       (foreign-helper x.name (static-names x h)))
 
   map-append : (vs ws : List CVariable) → map defines_variable (vs ++ ws) ≡ map defines_variable vs ++ map defines_variable ws

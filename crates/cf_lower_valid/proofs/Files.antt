@@ -75,9 +75,10 @@ literal-right f s l (plain.text j b) apart fit v (inl e) =
 literal-right f s l (plain.text j b) apart fit v (inr k) = absurd k
 literal-right f s l a apart fit v h = absurd h
 
-literals-right : (f : Name) (s l : Bool) (as : List Action) → (s && l) ≡ false → Every (λ a. text_fits a ≡ true) as → Every IsVariable (flat_map (literal_at f s l) as)
-literals-right f s l as apart fit v h =
-    let x = from-flat (literal_at f s l) as v h in literal-right f s l x.one apart (fit x.one x.there) v x.gives
+literals-right : (f : Name) (s l : Bool) (actions : List Action) → (s && l) ≡ false → Every (λ a. text_fits a ≡ true) actions
+    → Every IsVariable (flat_map (literal_at f s l) actions)
+literals-right f s l actions apart fit v h =
+    let x = from-flat (literal_at f s l) actions v h in literal-right f s l x.one apart (fit x.one x.there) v x.gives
 
 -- what is local to no other file, where it is not shared
 start-apart : (s l : Bool) → (s && l) ≡ false → (s && (l || not s)) ≡ false

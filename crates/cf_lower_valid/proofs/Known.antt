@@ -85,21 +85,18 @@ pub other-there : (names : Names) (is : List Item) (i : Item) → In i is → (i
 other-there names [] i h = absurd h
 other-there names (j ∷ rest) i h = go (λ k. other-there names rest i k) (λ k. other-there (name_of j ∷ names) rest i k) (is_in names (name_of j)) refl h
   where
-    y : Name
-    y = name_of i
-
-    go : (In i rest → (is_in names y || is_in (map name_of (other_names names rest)) y) ≡ true)
-        → (In i rest → (is_in (name_of j ∷ names) y || is_in (map name_of (other_names (name_of j ∷ names) rest)) y) ≡ true) → (b : Bool)
+    go : (In i rest → (is_in names (name_of i) || is_in (map name_of (other_names names rest)) (name_of i)) ≡ true)
+        → (In i rest → (is_in (name_of j ∷ names) (name_of i) || is_in (map name_of (other_names (name_of j ∷ names) rest)) (name_of i)) ≡ true) → (b : Bool)
         → is_in names (name_of j) ≡ b → In i (j ∷ rest)
-        → (is_in names y || is_in (map name_of (cond b (other_names names rest) (j ∷ other_names (name_of j ∷ names) rest))) y) ≡ true
+        → (is_in names (name_of i) || is_in (map name_of (cond b (other_names names rest) (j ∷ other_names (name_of j ∷ names) rest))) (name_of i)) ≡ true
     go again on true e (inl k) =
-        ap (λ c. c || is_in (map name_of (other_names names rest)) y) (subst (λ (x : Item). is_in names (name_of x) ≡ true) k e)
+        ap (λ c. c || is_in (map name_of (other_names names rest)) (name_of i)) (subst (λ (x : Item). is_in names (name_of x) ≡ true) k e)
     go again on true e (inr k) = again k
     go again on false e (inl k) =
         subst (λ (x : Item). (is_in names (name_of x) || (bytes_eq (name_of j) (name_of x) || is_in (map name_of (other_names (name_of j ∷ names) rest)) (name_of x))) ≡ true)
         k (first-there names j (is_in (map name_of (other_names (name_of j ∷ names) rest)) (name_of j)))
     go again on false e (inr k) =
-        later (bytes_eq (name_of j) y) (is_in names y) (is_in (map name_of (other_names (name_of j ∷ names) rest)) y) (on k)
+        later (bytes_eq (name_of j) (name_of i)) (is_in names (name_of i)) (is_in (map name_of (other_names (name_of j ∷ names) rest)) (name_of i)) (on k)
 
 -- ---- one type for each name
 
