@@ -1,5 +1,5 @@
--- Declarations that agree stand for the same.
-use Rattle.std.proofs.Common.{◌≡◌, Bool, true, false, ◌&&◌, List, [], ◌∷◌, Option, Some, None, refl, ap, sym, subst, ◌∙◌, rules}
+-- Declarations that agree stand for the same; a function's declaration has its type.
+use Rattle.std.proofs.Common.{◌≡◌, ℕ, suc, Bool, true, false, ◌&&◌, List, [], ◌∷◌, Option, Some, None, refl, ap, sym, subst, ◌∙◌, rules}
 use Rattle.std.specs.Prelude.{is_some}
 use denote.Enum.Bare.{same_true}
 use Rattle.cf_base.proofs.Tests.{both}
@@ -9,9 +9,14 @@ use Rattle.cc_whole.specs.declared.types.CSignature.{CSignature}
 use Rattle.cc_whole.specs.declared.types.CVariableType.{CVariableType}
 use Rattle.cc_whole.specs.declared.types.CVariableType.TheVariants as variable
 use Rattle.cc_whole.specs.declared.unit.CPrototype.{CPrototype}
-use Rattle.cc_whole.specs.Types.{same_type, same_types, same_result, same_signature, same_variable, signature_of, value_type}
+use Rattle.cc_whole.specs.Types.{same_type, same_types, same_result, same_signature, same_variable, parameter_types, signature_of, value_type}
 use Rattle.cc_whole.specs.Known.{Meant, function, object}
 use Rattle.cc_whole.specs.Valid.{agrees, has_type}
+use Rattle.cf_core.specs.Types.{Name, SourceType, parameters, result as result_type}
+use Rattle.cf_lower_layout.specs.Sorts.{Sort, sort_of}
+use Rattle.cf_lower.specs.Written.{if_scalar, c_type, result_of, local_name}
+use Rattle.cf_lower.specs.Statements.{c_types, signature}
+use Rattle.cf_lower.specs.Functions.{lowered_parameters, prototype_of}
 
 one-type : (s t : CType) → same_type s t ≡ true → s ≡ t
 unfolding same_type
@@ -83,3 +88,21 @@ own-agrees (Some x) (function p) (function q) s e h =
     subst (λ (y : CSignature). same_signature y (signature_of q) ≡ true) (one-signature x (signature_of p) e) h
 own-agrees (Some x) (function p) (object t) s e h = absurd (cc)
 own-agrees (Some x) (object t) n s e h = absurd (cc)
+
+-- ---- types of functions
+
+same-parameters : (i : ℕ) (ts : List SourceType) → parameter_types (lowered_parameters i ts) ≡ c_types ts
+same-parameters i [] = refl
+same-parameters i (t ∷ ts) = go (sort_of t) (same-parameters (suc i) ts)
+  where
+    go : (o : Option Sort) → parameter_types (lowered_parameters (suc i) ts) ≡ c_types ts
+        → parameter_types (if_scalar o (lowered_parameters (suc i) ts) (λ s. record { ty = c_type s; name = local_name i } ∷ lowered_parameters (suc i) ts))
+        ≡ if_scalar o (c_types ts) (λ s. c_type s ∷ c_types ts)
+    go None e = e
+    go (Some s) e = ap (λ (l : List CType). c_type s ∷ l) e
+
+abbrev with_types : Option CType → List CType → CSignature
+with_types r ts = record { result = r; parameters = ts }
+
+pub same-signature : (b : Bool) (name : Name) (t : SourceType) → signature_of (prototype_of b name t) ≡ signature t
+same-signature b name t = ap (with_types (result_of (result_type t))) (same-parameters 0 (parameters t))

@@ -42,11 +42,13 @@ use Rattle.cf_lower_valid.proofs.Own.{letters, Entry, local-entries, any-in}
 use Rattle.cf_lower_valid.proofs.Spelled.{AllSpelled, spelled-append, spelled-in-order, all-spelled, no-value-spelled}
 use Rattle.cf_lower_valid.proofs.Sizes.{count-size, laid-variable}
 use Rattle.cf_lower_valid.proofs.Tests.{file_of, in-all, all-in, small, three-parts, callable-few, tested, names-told, function-told, static-told, action-of-function, action-of-static, action-typed, action-text}
-use Rattle.cf_lower_valid.proofs.Known.{named-name, own_items, constants_prototype, mapped-from, other-from, other-there, known, one-type, own-known, tested-known, wanted}
+use Rattle.cf_lower_valid.proofs.Known.{own_items, constants_prototype, known, one-type, own-known, tested-known, wanted}
 use Rattle.cf_lower_valid.proofs.Naming.{function-foreign, object-foreign}
 use Rattle.cf_lower_valid.proofs.Functions.{parameters-differ, function-right}
 use Rattle.cf_lower_valid.proofs.Starts.{stores, helper-right}
-use Rattle.cf_lower_valid.proofs.Definitions.{once-none, From, from-flat, definitions-once}
+use Rattle.cf_lower_valid.proofs.Definitions.{definitions-once}
+use Rattle.cf_lower_valid.proofs.Once.{once-none, From, from-flat}
+use Rattle.cf_lower_valid.proofs.Others.{named-name, mapped-from, other-from, other-there}
 
 -- ---- variables
 

@@ -5,6 +5,9 @@ pub mod Spans
 pub mod Own
 pub mod Spelled
 pub mod Agreeing
+pub mod Once
+pub mod Others
+pub mod SpelledStarts
 pub mod Sizes
 pub mod Constants
 pub mod Scopes

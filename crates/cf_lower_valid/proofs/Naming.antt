@@ -36,8 +36,9 @@ use Rattle.cf_lower_valid.proofs.Inner.{mapped-in}
 use Rattle.cf_lower_valid.proofs.Spans.{none-any}
 use Rattle.cf_lower_valid.proofs.Own.{in-flat}
 use Rattle.cf_lower_valid.proofs.Scopes.{local_fronts, is_outer}
-use Rattle.cf_lower_valid.proofs.Tests.{file_of, five-parts, no-not, tested, names-told}
-use Rattle.cf_lower_valid.proofs.Agreeing.{is-object, is-function}
+use Rattle.cf_lower_valid.proofs.Tests.{file_of, five-parts, tested, names-told}
+use Rattle.cf_lower_valid.proofs.Once.{any-none, no-not}
+use Rattle.cf_lower_valid.proofs.Agreeing.{is-object, is-function, same-signature}
 use Rattle.cf_lower_valid.proofs.Known.{wanted}
 use Rattle.cf_lower_valid.proofs.Constants.{Naming}
 
@@ -50,10 +51,6 @@ pub record Foreign (y : Name) : Type 0 where
   pub no_helper : is_helper y ≡ false
   pub no_library : is_library y ≡ false
   pub no_main : is_main y ≡ false
-
-pub any-none : {A : Type 0} (test : A → Bool) (xs : List A) → Every (λ x. test x ≡ false) xs → list_any test xs ≡ false
-any-none test [] h = refl
-any-none test (x ∷ xs) h = ap (λ b. b || list_any test xs) (h x (inl refl)) ∙ any-none test xs (λ y k. h y (inr k))
 
 foreign : (y : Name) → is_foreign y ≡ true → Foreign y
 foreign y e =
@@ -108,24 +105,6 @@ may-be-called y e = go (or_cases (source.is_library y) (may_be_function y) e)
     go : (source.is_library y ≡ true) ⊎ (may_be_function y ≡ true) → MayBeCalled y
     go (inl h) = library-called y h
     go (inr h) = let f = function-foreign y h in record { outer = f.outer; no_main = f.no_main }
-
--- ---- types of functions
-
-same-parameters : (i : ℕ) (ts : List SourceType) → parameter_types (lowered_parameters i ts) ≡ c_types ts
-same-parameters i [] = refl
-same-parameters i (t ∷ ts) = go (sort_of t) (same-parameters (suc i) ts)
-  where
-    go : (o : Option Sort) → parameter_types (lowered_parameters (suc i) ts) ≡ c_types ts
-        → parameter_types (if_scalar o (lowered_parameters (suc i) ts) (λ s. record { ty = c_type s; name = written.local_name i } ∷ lowered_parameters (suc i) ts))
-        ≡ if_scalar o (c_types ts) (λ s. c_type s ∷ c_types ts)
-    go None e = e
-    go (Some s) e = ap (λ (l : List CType). c_type s ∷ l) e
-
-abbrev with_types : Option CType → List CType → CSignature
-with_types r ts = record { result = r; parameters = ts }
-
-pub same-signature : (b : Bool) (name : Name) (t : SourceType) → signature_of (prototype_of b name t) ≡ signature t
-same-signature b name t = ap (with_types (written.result_of (result_type t))) (same-parameters 0 (parameters t))
 
 -- ---- what the file declares
 

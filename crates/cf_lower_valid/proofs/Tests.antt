@@ -29,6 +29,7 @@ use Rattle.cf_lower_valid_body.specs.Scope.{is_lowered_action}
 use Rattle.cc_whole_sections.specs.Sections.{In, Every}
 use Rattle.cc_whole_sections.proofs.Names.{in-left, in-right}
 use Rattle.cf_lower_valid.proofs.Own.{in-flat}
+use Rattle.cf_lower_valid.proofs.Once.{no-not}
 
 -- ---- tests of lists
 
@@ -53,10 +54,6 @@ five-parts a b c d e h =
     let y = both (a && b && c) d x.0 in
     let z = three-parts a b c y.0 in
     (z.0, z.1, z.2, y.1, x.1)
-
-pub no-not : (b : Bool) → not b ≡ true → b ≡ false
-no-not true e = absurd (cc)
-no-not false e = refl
 
 pub small : (n m : ℕ) → nat_le n m ≡ true → n ≤ m
 small n m e = grind (arith, nat_tests, e)
