@@ -5,3 +5,7 @@ pub mod Alike
 pub mod Fitting
 pub mod Example
 pub mod ExampleNeeds
+pub mod LibraryLowerInvoked
+pub mod LibraryCalls
+pub mod LibraryPointed
+pub mod LibraryLowerPoints

@@ -1,10 +1,10 @@
 -- Which parameters and locals of a plain function have an object where control is, and of which the first value is still to come: a local is declared where it has
--- none, gets its first value in the register that it was declared in, is an argument once it has one, and is gone where the function ends. A switch of which a
+-- none, gets its first value, or is filled, in the register that it was declared in, is an argument once it has one, and is gone where the function ends. A switch of which a
 -- label passes a local stands behind a switch by the same register, which declares the local.
 use Rattle.std.specs.Prelude.{ℕ, suc, Bool, true, false, ◌&&◌, not, ◌==◌, if◌then◌else◌, List, [], ◌∷◌, ◌++◌, map, filter, ℤ, int_le, Option, Some, None}
 use Rattle.std.specs.List.{list_all, list_any}
 use Rattle.cf_core.specs.Types.{SourceType, parameters, result as result_type}
-use Rattle.cf_plain.specs.Plain.{Register, Action, declare, first, finish, call, Plain, Plains, act, set, branch, loop, switch, case_label, default_label, leave, continue, give, parts, nothing, more, PlainFunction, PlainFile}
+use Rattle.cf_plain.specs.Plain.{Register, Action, declare, first, zeros, bytes, finish, call, pointer_call, Plain, Plains, act, set, branch, loop, switch, case_label, default_label, leave, continue, give, parts, nothing, more, PlainFunction, PlainFile}
 use Rattle.cf_plain.specs.Running.{has_case}
 use Rattle.cf_plain.specs.Valid.{has_default}
 use Rattle.cf_plain_kept.specs.Kept.{Kept, an_object, Keeping, nothing_set, after}
@@ -71,8 +71,11 @@ valued_in (Some i) xs = map (valued i) xs
 abbrev pub action_opens : Keeping → Action → List Opened → Bool
 action_opens g (declare i t) xs = not (is_open i xs)
 action_opens g (first r q) xs = begun_well (object_kept (g r)) r xs
+action_opens g (zeros r) xs = begun_well (object_kept (g r)) r xs
+action_opens g (bytes r b) xs = begun_well (object_kept (g r)) r xs
 action_opens g (finish t i) xs = is_open i xs
 action_opens g (call name t object is into) xs = differ is && list_all (has_its_value xs) is
+action_opens g (pointer_call object r t is into) xs = differ is && list_all (has_its_value xs) is
 action_opens g a xs = true
 
 -- behind an action, whose value goes to this register, if to any
@@ -81,6 +84,7 @@ opened_by g r (declare i t) xs = record { local = i; begun = r; has_value = fals
 opened_by g r (first p q) xs = valued_in (object_kept (g p)) xs
 opened_by g r (finish t i) xs = closed i xs
 opened_by g r (call name t object is into) xs = closed_all is xs
+opened_by g r (pointer_call object q t is into) xs = closed_all is xs
 opened_by g r a xs = xs
 
 -- ---- statements

@@ -40,7 +40,7 @@ module _ (z : Scene) (fits : Fits z) (around : Around Point) (h : Keeping) (xs :
   leads =
       leads-on z fits around nothing_set h xs (λ r. tt) (act (plain.finish (integer Int) i))
       (ap (λ b. b && true) (let k : nat_lt i (length z.body.own.locals.types) ≡ true = grind (arith, nat_tests, lt) in k))
-      (ap (λ b. b && true) open_there) 0 0 (omega arith) g s u w at
+      open_there 0 0 (omega arith) g s u w at
 
   abbrev finishing : Option ℕ → Ran (Did Flow)
   finishing x = (some_or x malformed >>= (λ o. destroy (calls (again_at z 0)) z.program (integer Int) (root o) >> doing (object_changed o gone)) >> gives (Falls g)) s w

@@ -3,3 +3,4 @@ pub mod Pointed
 pub mod LowerPoints
 pub mod LowerActions
 pub mod LowerInvoked
+pub mod ArgumentsPassing

@@ -89,8 +89,8 @@ module _ (z : Scene) (gk : told.Keeping) (h : Keeping) (tells : AllTold z.inside
   before (set r a) l e = tt
   before (act (plain.text j bytes)) l e = frame.function
   before (act (plain.declare i t)) l e = λ o k.
-      open_here.over i o (declared-below z i t l) (not-true (is_open i xs) (both (not (is_open i xs)) true e).0) k
-  before (act (plain.first p q)) l e = first-there p (both (begun_well (object_kept (gk p)) p xs) true e).0
+      open_here.over i o (declared-below z i t l) (not-true (is_open i xs) e) k
+  before (act (plain.first p q)) l e = first-there p e
   before (act (plain.zeros r)) l e = is-there r e
   before (act (plain.bytes r b)) l e = is-there r e
   before (act a) l e = tt

@@ -22,12 +22,12 @@ use Rattle.cf_plain_frames.specs.Since.{HasValue, Always}
 use Rattle.cf_plain_frames.proofs.Values.{keeps-used_in}
 use Rattle.cf_plain_kept.specs.Kept as told
 use Rattle.cf_lower.specs.Kept.{Keeping}
-use Rattle.cf_lower_kept.specs.Opened.{Opened, is_open, closed, object_kept, begun_well, action_opens, opened_by, valued_in, set_in}
+use Rattle.cf_lower_kept.specs.Opened.{Opened, is_open, closed, object_kept, action_opens, opened_by, valued_in, set_in}
 use Rattle.cf_lower_turns.specs.Scene.{Scene}
 use Rattle.cf_lower_actions.specs.Leaf.{may_set, may_do, is_leaf}
 use Rattle.cf_lower_actions.specs.Leaf as leaf
 use Rattle.cf_lower_bounds.specs.Points.{Standing, never, these, Open, StandsAs, InFrame, local_count}
-use Rattle.cf_lower_points.specs.Leading.{fills_well, leads_on, standing_behind}
+use Rattle.cf_lower_points.specs.Leading.{leads_on, standing_behind}
 use Rattle.cf_lower_points.proofs.Before.{begun-as, not-true, declared-below}
 use Rattle.cf_lower_bounds.proofs.Lists.{is_open-set}
 use Rattle.cf_lower_points.proofs.Quiet.{is_quiet, quiet-opens}
@@ -223,12 +223,11 @@ module _ (z : Scene) (again : Again) (gk : told.Keeping) (h : Keeping) (xs : Lis
   number-below : (i n : ℕ) → nat_lt i n ≡ true → i < n
   number-below i n e = grind (arith, nat_tests, e)
 
-  act-led : (a : Action) → may_do z h a ≡ true → action_opens gk a xs && fills_well gk a xs ≡ true → LedBy (act a)
+  act-led : (a : Action) → may_do z h a ≡ true → action_opens gk a xs ≡ true → LedBy (act a)
   act-led (plain.declare i t) l e =
-      declare-act i t (declared-below z i t l) (not-true (is_open i xs) (both (not (is_open i xs)) true e).0) (nat_lt i s.frame.count)
+      declare-act i t (declared-below z i t l) (not-true (is_open i xs) e) (nat_lt i s.frame.count)
   act-led (plain.first p q) l e =
-      let test = (both (begun_well (object_kept (gk p)) p xs) true e).0 in
-      let x = begun-as (gk p) p xs test in
+      let x = begun-as (gk p) p xs e in
       let m = begun-member (local_count z) g s x.local p xs x.test open_here.each in
       first-act p q x.local m.one.object x.type x.is m.one.there m.place (bounded x.local m.one.object m.one.below m.one.there) (built_none q p l)
   act-led (plain.finish t i) l e =

@@ -1,7 +1,7 @@
 -- The actions that make and end no object of a local, and give none its first value.
 use Rattle.std.proofs.Common.{◌≡◌, Bool, true, false, ◌&&◌, ◌||◌, List, refl}
 use Rattle.std.specs.Prelude.{Option}
-use Rattle.cf_plain.specs.Plain.{Register, Action, number, text, local, static_object, function, read, dereference, decay, index, convert, from_void, operate, unary, truth, logical_not, pointer_operate, changed, store, declare, first, zeros, bytes, finish, call}
+use Rattle.cf_plain.specs.Plain.{Register, Action, number, text, local, static_object, function, read, dereference, decay, index, convert, from_void, operate, unary, truth, logical_not, pointer_operate, changed, store, declare, first, zeros, bytes, finish, call, pointer_call}
 use Rattle.cf_plain_kept.specs.Kept as plain
 use Rattle.cf_lower_kept.specs.Opened.{Opened, opened_by}
 
@@ -33,4 +33,5 @@ quiet-opens g r (declare i t) xs h = absurd (let k = h in cc)
 quiet-opens g r (first p q) xs h = absurd (let k = h in cc)
 quiet-opens g r (finish t i) xs h = absurd (let k = h in cc)
 quiet-opens g r (call name t object is into) xs h = absurd (let k = h in cc)
+quiet-opens g r (pointer_call object q t is into) xs h = absurd (let k = h in cc)
 quiet-opens g r a xs h = refl

@@ -1,20 +1,14 @@
 -- The point behind a statement that is no control, by what is open before it.
-use Rattle.std.specs.Prelude.{Bool, true, false, ◌&&◌, List, [], ◌∷◌, Some, None}
-use Rattle.cf_plain.specs.Plain.{Action, zeros, bytes, Plain, act, set, give}
+use Rattle.std.specs.Prelude.{Bool, true, false, List, [], ◌∷◌, Some, None}
+use Rattle.cf_plain.specs.Plain.{Plain, act, set, give}
 use Rattle.cf_plain_kept.specs.Kept as plain
 use Rattle.cf_lower.specs.Kept.{Keeping, Locals, after}
-use Rattle.cf_lower_kept.specs.Opened.{Opened, object_kept, begun_well, action_opens, opened_by, set_in}
+use Rattle.cf_lower_kept.specs.Opened.{Opened, action_opens, opened_by, set_in}
 use Rattle.cf_lower_bounds.specs.Points.{Standing, never, these, Point}
-
--- an object that is filled by itself has just been declared
-abbrev pub fills_well : plain.Keeping → Action → List Opened → Bool
-fills_well g (zeros r) xs = begun_well (object_kept (g r)) r xs
-fills_well g (bytes r b) xs = begun_well (object_kept (g r)) r xs
-fills_well g a xs = true
 
 -- whether the statement may stand where these are open, and registers hold this
 abbrev pub leads_on : plain.Keeping → Plain → List Opened → Bool
-leads_on g (act a) xs = action_opens g a xs && fills_well g a xs
+leads_on g (act a) xs = action_opens g a xs
 leads_on g (set r a) xs = action_opens g a xs
 leads_on g (give r) [] = true
 leads_on g s xs = false

@@ -1,6 +1,6 @@
 -- The laws on whole programs: the units of lowered files are valid, they are linked where the plain files are joined, and what is linked of them does what the plain
 -- files mean. They are not proved yet.
-use Rattle.std.specs.Prelude.{◌≡◌, ℕ, true, List, [], ◌∷◌, Option, Some, None, Ok}
+use Rattle.std.specs.Prelude.{◌≡◌, ℕ, ◌<◌, true, List, [], ◌∷◌, Option, Some, None, Ok, All}
 use Rattle.cf_base.specs.World.{Outcome}
 use Rattle.cf_base.specs.Agree.{Agree}
 use Rattle.cf_plain.specs.Plain.{PlainFile}
@@ -45,10 +45,14 @@ abbrev pub AgreesWith : Option Outcome → Outcome → Type 0
 AgreesWith None c = Unit {0}
 AgreesWith (Some s) c = Agree s c
 
+-- bytes: of a number past int the source keeps all, and a C local the lowest 32 bits
+abbrev pub IsInput : List ℕ → Type 0
+IsInput input = All (λ b. b < 256) input
+
 -- for every input, heap limit, depth limit and bound of ticks
 abbrev pub ProgramAgrees : List PlainFile → CProgram → Type 0
 ProgramAgrees files program =
-    (input : List ℕ) (heap depth n : ℕ) → AgreesWith (files_mean files input heap depth n) (c_mean program input heap depth n)
+    (input : List ℕ) → IsInput input → (heap depth n : ℕ) → AgreesWith (files_mean files input heap depth n) (c_mean program input heap depth n)
 
 -- of all files that are lowered, and for whatever is linked of their units
 abbrev pub LoweringAgrees : Type 0

@@ -1,2 +1,5 @@
-pub mod Types
+pub mod EnumNames
+pub mod Functions
+pub mod LiteralTypes
 pub mod Told
+pub mod Types

@@ -1,15 +1,17 @@
 -- What forms tell of types is so.
-use Rattle.std.proofs.Common.{◌≡◌, ℕ, ◌+◌, ◌<◌, Bool, true, false, ◌&&◌, ◌==◌, if◌then◌else◌, refl, sym, ◌∙◌, subst, arith}
-use Rattle.cf_core.specs.Types.{type_eq}
-use Rattle.cf_core.specs.FromTypes.{Tables}
+use Rattle.std.proofs.Common.{◌≡◌, ℕ, ◌<◌, Bool, true, false, ◌&&◌, ◌==◌, if◌then◌else◌, List, [], ◌∷◌, length, map, get_or, Option, Some, None, slice_get, refl, sym, ap, ◌∙◌, subst, true≢false, arith}
+use Rattle.std.proofs.lemmas.Option.{slice_get-get_or}
+use Rattle.cf_types.specs.declared.ty.Fun.{Fun}
+use Rattle.cf_core.specs.Types.{SourceType, takes, gives, type_eq, without_const}
+use Rattle.cf_core.specs.FromTypes.{Tables, type_of, fun_type, taking}
 use Rattle.cf_lower_types.specs.declared.form.Form.{Form}
 use Rattle.cf_lower_types.specs.declared.form.Form.TheVariants as form
-use Rattle.cf_lower_types.specs.Bare.{bare, form_type, Named}
+use Rattle.cf_lower_types.specs.Bare.{bare, form_type, fun_at, Named}
 use Rattle.cf_lower_same.specs.declared.alike.Alike.{Alike}
 use Rattle.cf_lower_same.specs.declared.alike.Alike.TheVariants as told
-use Rattle.cf_lower_same.specs.Alike.{alike, Tells, Below}
+use Rattle.cf_lower_same.specs.Alike.{same_enums, same, same_params, same_funs, same_functions, alike, Tells, Below}
 
-and_true : (c : Bool) → c ≡ c && true
+and_true : (b : Bool) → b && true ≡ b
 and_true true = refl
 and_true false = refl
 
@@ -17,144 +19,106 @@ and_false : (c : Bool) → false ≡ c && false
 and_false true = refl
 and_false false = refl
 
+and_assoc : (a b c : Bool) → (a && b) && c ≡ a && (b && c)
+and_assoc true b c = refl
+and_assoc false b c = refl
+
+-- a function is no other type
+abbrev pub is_function : SourceType → Bool
+is_function (takes p t) = true
+is_function (gives t c) = true
+is_function other = false
+
 module _ (tables : Tables) where
-  abbrev Told : Form → Form → Type 0
-  Told a b = Tells tables (alike a b) (type_eq (form_type tables a) (form_type tables b))
+  -- ---- functions
 
-  told_of : (a b : Form) → Told a b
-  told_of form.Void form.Void = refl
-  told_of form.Void (form.Integer k) = refl
-  told_of form.Void (form.Enumeration e) = tt
-  told_of form.Void (form.Class c) = tt
-  told_of form.Void (form.Pointer t) = refl
-  told_of form.Void (form.Reference t) = refl
-  told_of form.Void (form.Array t n) = refl
-  told_of form.Void (form.Function f) = tt
-  told_of form.Void (form.DataMember c t) = tt
-  told_of form.Void (form.FunctionMember c f) = tt
-  told_of (form.Integer k) form.Void = refl
-  told_of (form.Integer k) (form.Integer l) = refl
-  told_of (form.Integer k) (form.Enumeration e) = tt
-  told_of (form.Integer k) (form.Class c) = tt
-  told_of (form.Integer k) (form.Pointer t) = refl
-  told_of (form.Integer k) (form.Reference t) = refl
-  told_of (form.Integer k) (form.Array t n) = refl
-  told_of (form.Integer k) (form.Function f) = tt
-  told_of (form.Integer k) (form.DataMember c t) = tt
-  told_of (form.Integer k) (form.FunctionMember c f) = tt
-  told_of (form.Pointer t) form.Void = refl
-  told_of (form.Pointer t) (form.Integer l) = refl
-  told_of (form.Pointer t) (form.Enumeration e) = tt
-  told_of (form.Pointer t) (form.Class c) = tt
-  told_of (form.Pointer t) (form.Pointer u) = refl
-  told_of (form.Pointer t) (form.Reference u) = refl
-  told_of (form.Pointer t) (form.Array u n) = refl
-  told_of (form.Pointer t) (form.Function f) = tt
-  told_of (form.Pointer t) (form.DataMember c u) = tt
-  told_of (form.Pointer t) (form.FunctionMember c f) = tt
-  told_of (form.Reference t) form.Void = refl
-  told_of (form.Reference t) (form.Integer l) = refl
-  told_of (form.Reference t) (form.Enumeration e) = tt
-  told_of (form.Reference t) (form.Class c) = tt
-  told_of (form.Reference t) (form.Pointer u) = refl
-  told_of (form.Reference t) (form.Reference u) = refl
-  told_of (form.Reference t) (form.Array u n) = refl
-  told_of (form.Reference t) (form.Function f) = tt
-  told_of (form.Reference t) (form.DataMember c u) = tt
-  told_of (form.Reference t) (form.FunctionMember c f) = tt
-  told_of (form.Array t n) form.Void = refl
-  told_of (form.Array t n) (form.Integer l) = refl
-  told_of (form.Array t n) (form.Enumeration e) = tt
-  told_of (form.Array t n) (form.Class c) = tt
-  told_of (form.Array t n) (form.Pointer u) = refl
-  told_of (form.Array t n) (form.Reference u) = refl
-  told_of (form.Array t n) (form.Array u m) = by (n == m)
+  abbrev signature : List ℕ → ℕ → Bool → SourceType
+  signature ps r c = without_const (taking (map (type_of tables) ps) (gives (type_of tables r) c))
+
+  abbrev fun_tree : Option Fun → SourceType
+  fun_tree o = without_const (fun_type (type_of tables) o)
+
+  same_signatures : (ps qs : List ℕ) (r s : ℕ) (c d : Bool) → same_params tables ps qs && same tables r s ≡ type_eq (signature ps r c) (signature qs s d)
+  same_signatures [] [] r s c d = sym (and_true (same tables r s))
+  same_signatures [] (q ∷ qs) r s c d = refl
+  same_signatures (p ∷ ps) [] r s c d = refl
+  same_signatures (p ∷ ps) (q ∷ qs) r s c d =
+      and_assoc (same tables p q) (same_params tables ps qs) (same tables r s) ∙ ap (λ b. same tables p q && b) (same_signatures ps qs r s c d)
+
+  some_fun : (f : ℕ) → f < length tables.types.funs → (fun : Fun) × (slice_get tables.types.funs f ≡ Some fun)
+  some_fun f h =
+      let x : Fun = record { result = 0; params = []; is_const = false } in
+      (get_or tables.types.funs f x, slice_get-get_or tables.types.funs f x h)
+
+  functions_decided : (f g : ℕ) → f < length tables.types.funs → g < length tables.types.funs → same_functions tables f g ≡ type_eq (form_type tables (form.Function f)) (form_type tables (form.Function g))
+  functions_decided f g h k =
+      let x = some_fun f h in
+      let y = some_fun g k in
+      ap (λ o. same_funs tables o (slice_get tables.types.funs g)) x.1 ∙ ap (same_funs tables (Some x.0)) y.1
+      ∙ same_signatures x.0.params y.0.params x.0.result y.0.result x.0.is_const y.0.is_const
+      ∙ sym (ap (λ o. type_eq (fun_tree o) (fun_tree (slice_get tables.types.funs g))) x.1 ∙ ap (λ o. type_eq (fun_tree (Some x.0)) (fun_tree o)) y.1)
+
+  signature_right : (s : SourceType) → is_function s ≡ false → (ps : List ℕ) (r : ℕ) (c : Bool) → type_eq s (signature ps r c) ≡ false
+  signature_right (takes p t) h ps r c = absurd (true≢false h)
+  signature_right (gives t d) h ps r c = absurd (true≢false h)
+  signature_right s h [] r c = refl
+  signature_right s h (p ∷ ps) r c = refl
+
+  signature_left : (s : SourceType) → is_function s ≡ false → (ps : List ℕ) (r : ℕ) (c : Bool) → type_eq (signature ps r c) s ≡ false
+  signature_left (takes p t) h ps r c = absurd (true≢false h)
+  signature_left (gives t d) h ps r c = absurd (true≢false h)
+  signature_left s h [] r c = refl
+  signature_left s h (p ∷ ps) r c = refl
+
+  pub no_function_left : (s : SourceType) (f : ℕ) → is_function s ≡ false → f < length tables.types.funs → false ≡ type_eq s (form_type tables (form.Function f))
+  no_function_left s f h k =
+      let x = some_fun f k in
+      sym (ap (λ o. type_eq s (fun_tree o)) x.1 ∙ signature_right s h x.0.params x.0.result x.0.is_const)
+
+  pub no_function_right : (f : ℕ) (s : SourceType) → is_function s ≡ false → f < length tables.types.funs → false ≡ type_eq (form_type tables (form.Function f)) s
+  no_function_right f s h k =
+      let x = some_fun f k in
+      sym (ap (λ o. type_eq (fun_tree o) s) x.1 ∙ signature_left s h x.0.params x.0.result x.0.is_const)
+
+  -- ---- what is told, by the forms
+
+  arrays_decided : (b : Bool) (t u : ℕ) → Tells tables (if b then told.Types t u else told.Known false) (same tables t u && b)
+  arrays_decided true t u = sym (and_true (same tables t u))
+  arrays_decided false t u = and_false (same tables t u)
+
+  decided : (n m : ℕ) (a b : Form) → Named tables n a → Named tables m b → Tells tables (alike a b) (type_eq (form_type tables a) (form_type tables b))
+  unfolding same_enums
+  decided n m (form.Class c) (form.Class d) p q = tt
+  decided n m (form.DataMember c t) (form.DataMember d u) p q = tt
+  decided n m (form.FunctionMember c f) (form.FunctionMember d g) p q = tt
+  decided n m (form.Array t i) (form.Array u j) p q = arrays_decided (i == j) t u
+  decided n m (form.Function f) (form.Function g) p q = functions_decided f g p.within q.within
+  decided n m a (form.Function g) p q = no_function_left (form_type tables a) g refl q.within
+  decided n m (form.Function f) b p q = no_function_right f (form_type tables b) refl p.within
+  decided n m a b p q = refl
+
+  below : (n m : ℕ) (a b : Form) → Named tables n a → Named tables m b → Below tables n m (alike a b)
+  below n m (form.Enumeration e) (form.Enumeration f) p q = (p, q)
+  below n m (form.Pointer t) (form.Pointer u) p q = (p, q)
+  below n m (form.Reference t) (form.Reference u) p q = (p, q)
+  below n m (form.Array t i) (form.Array u j) p q = by (i == j)
     where
-      by : (b : Bool) → Tells tables (if b then told.Types t u else told.Known false) (type_eq (bare tables t) (bare tables u) && b)
-      by true = and_true (type_eq (bare tables t) (bare tables u))
-      by false = and_false (type_eq (bare tables t) (bare tables u))
-  told_of (form.Array t n) (form.Function f) = tt
-  told_of (form.Array t n) (form.DataMember c u) = tt
-  told_of (form.Array t n) (form.FunctionMember c f) = tt
-  told_of (form.Enumeration e) b = tt
-  told_of (form.Class c) b = tt
-  told_of (form.Function f) b = tt
-  told_of (form.DataMember c u) b = tt
-  told_of (form.FunctionMember c f) b = tt
-
-  pub tells : (t u : ℕ) (a b : Form) → bare tables t ≡ form_type tables a → bare tables u ≡ form_type tables b → Tells tables (alike a b) (type_eq (bare tables t) (bare tables u))
-  tells t u a b p q =
-      subst (λ x. Tells tables (alike a b) (type_eq x (bare tables u))) (sym p)
-      (subst (λ y. Tells tables (alike a b) (type_eq (form_type tables a) y)) (sym q) (told_of a b))
-
-  pub below : (t u : ℕ) (a b : Form) → Named tables t a → Named tables u b → Below t u (alike a b)
-  below t u (form.Pointer v) (form.Pointer w) first second = (first, second)
-  below t u (form.Reference v) (form.Reference w) first second = (first, second)
-  below t u (form.Array v n) (form.Array w m) first second = by (n == m)
-    where
-      by : (b : Bool) → Below t u (if b then told.Types v w else told.Known false)
-      by true = (first, second)
+      by : (b : Bool) → Below tables n m (if b then told.Types t u else told.Known false)
+      by true = (p, q)
       by false = tt
-  below t u form.Void form.Void first second = tt
-  below t u form.Void (form.Integer l) first second = tt
-  below t u form.Void (form.Enumeration e) first second = tt
-  below t u form.Void (form.Class c) first second = tt
-  below t u form.Void (form.Pointer w) first second = tt
-  below t u form.Void (form.Reference w) first second = tt
-  below t u form.Void (form.Array w m) first second = tt
-  below t u form.Void (form.Function f) first second = tt
-  below t u form.Void (form.DataMember c w) first second = tt
-  below t u form.Void (form.FunctionMember c f) first second = tt
-  below t u (form.Integer k) form.Void first second = tt
-  below t u (form.Integer k) (form.Integer l) first second = tt
-  below t u (form.Integer k) (form.Enumeration e) first second = tt
-  below t u (form.Integer k) (form.Class c) first second = tt
-  below t u (form.Integer k) (form.Pointer w) first second = tt
-  below t u (form.Integer k) (form.Reference w) first second = tt
-  below t u (form.Integer k) (form.Array w m) first second = tt
-  below t u (form.Integer k) (form.Function f) first second = tt
-  below t u (form.Integer k) (form.DataMember c w) first second = tt
-  below t u (form.Integer k) (form.FunctionMember c f) first second = tt
-  below t u (form.Pointer v) form.Void first second = tt
-  below t u (form.Pointer v) (form.Integer l) first second = tt
-  below t u (form.Pointer v) (form.Enumeration e) first second = tt
-  below t u (form.Pointer v) (form.Class c) first second = tt
-  below t u (form.Pointer v) (form.Reference w) first second = tt
-  below t u (form.Pointer v) (form.Array w m) first second = tt
-  below t u (form.Pointer v) (form.Function f) first second = tt
-  below t u (form.Pointer v) (form.DataMember c w) first second = tt
-  below t u (form.Pointer v) (form.FunctionMember c f) first second = tt
-  below t u (form.Reference v) form.Void first second = tt
-  below t u (form.Reference v) (form.Integer l) first second = tt
-  below t u (form.Reference v) (form.Enumeration e) first second = tt
-  below t u (form.Reference v) (form.Class c) first second = tt
-  below t u (form.Reference v) (form.Pointer w) first second = tt
-  below t u (form.Reference v) (form.Array w m) first second = tt
-  below t u (form.Reference v) (form.Function f) first second = tt
-  below t u (form.Reference v) (form.DataMember c w) first second = tt
-  below t u (form.Reference v) (form.FunctionMember c f) first second = tt
-  below t u (form.Array v n) form.Void first second = tt
-  below t u (form.Array v n) (form.Integer l) first second = tt
-  below t u (form.Array v n) (form.Enumeration e) first second = tt
-  below t u (form.Array v n) (form.Class c) first second = tt
-  below t u (form.Array v n) (form.Pointer w) first second = tt
-  below t u (form.Array v n) (form.Reference w) first second = tt
-  below t u (form.Array v n) (form.Function f) first second = tt
-  below t u (form.Array v n) (form.DataMember c w) first second = tt
-  below t u (form.Array v n) (form.FunctionMember c f) first second = tt
-  below t u a b first second = tt
+  below n m (form.Function f) (form.Function g) p q = (p, q)
+  below n m (form.Function f) b p q = tt
+  below n m a (form.Function g) p q = tt
+  below n m a b p q = tt
 
-  -- by what is told
-  module _ (t u : ℕ) (a b : Form) (x : Alike) (is : x ≡ alike a b) (first : bare tables t ≡ form_type tables a) (second : bare tables u ≡ form_type tables b) where
-    pub told_known : (c : Bool) → x ≡ told.Known c → c ≡ type_eq (bare tables t) (bare tables u)
-    told_known c e = subst (λ y. Tells tables y (type_eq (bare tables t) (bare tables u))) (sym is ∙ e) (tells t u a b first second)
+  -- ---- of two types
 
-    pub told_types : (v w : ℕ) → x ≡ told.Types v w → type_eq (bare tables v) (bare tables w) ≡ type_eq (bare tables t) (bare tables u)
-    told_types v w e = subst (λ y. Tells tables y (type_eq (bare tables t) (bare tables u))) (sym is ∙ e) (tells t u a b first second)
+  module _ (t u : ℕ) (a b : Form) (x : Alike) (is : x ≡ alike a b) (first_named : Named tables t a) (second_named : Named tables u b) where
+    pub compared_tells : bare tables t ≡ form_type tables a → bare tables u ≡ form_type tables b → Tells tables x (type_eq (bare tables t) (bare tables u))
+    compared_tells p q =
+        subst (λ y. Tells tables y (type_eq (bare tables t) (bare tables u))) (sym is)
+        (subst (λ w. Tells tables (alike a b) (type_eq w (bare tables u))) (sym p)
+        (subst (λ w. Tells tables (alike a b) (type_eq (form_type tables a) w)) (sym q) (decided t u a b first_named second_named)))
 
-    pub told_below : (v w : ℕ) → Named tables t a → Named tables u b → x ≡ told.Types v w → v + w < t + u
-    told_below v w named_first named_second e =
-        let r : Below t u (told.Types v w) = subst (Below t u) (sym is ∙ e) (below t u a b named_first named_second) in
-        let p = r.0 in
-        let q = r.1 in
-        omega (arith, p, q)
+    pub compared_below : Below tables t u x
+    compared_below = subst (Below tables t u) (sym is) (below t u a b first_named second_named)

@@ -1,54 +1,55 @@
 //! When two types are the same, by their forms.
 
-ghost use Rattle.std.specs.Prelude.{◌≡◌, ◌==◌};
-ghost use Rattle.cf_core.specs.Types.{kind_number};
+ghost use Rattle.std.specs.Prelude.{◌≡◌, ◌==◌, ℕ};
+ghost use Rattle.cf_core.specs.Types.{kind_number, type_eq};
+ghost use Rattle.cf_lower_types.specs.Bare.{bare};
 ghost use Rattle.cf_lower_types.specs.declared.form.Form.TheVariants as form;
 ghost use Rattle.cf_lower_same.specs.Alike as spec;
 
 use cf_base::Kind;
-use cf_lower_types::Form;
-use cf_types::TyId;
+use cf_lower_types::{Form, Tables, form_of};
+use cf_types::{FunId, TyId};
 
 /// Two types are the same if this is so.
 #[derive(Clone, Copy, Debug, PartialEq, Eq)]
 pub enum Alike {
     Known(bool),
+    /// The enumerations of these numbers have one name.
+    Enumerations(u32, u32),
     /// These types are the same.
     Types(TyId, TyId),
-    /// That is not told.
+    /// These types of functions are the same.
+    Functions(FunId, FunId),
+    /// That is not told: both are of classes.
     Untold,
 }
 
+/// When two types are the same, const being left out at all levels. What is to be compared stands before them.
+#[tactic(auto, using(crate::proofs::Told::compared_tells, crate::proofs::Told::compared_below))]
+pub fn compared(tables: &Tables<'_>, id: TyId, other: TyId) -> Alike
+    ensures tells { spec.Tells tables.now result (type_eq (bare tables.now id) (bare tables.now other)) }
+    ensures below { spec.Below tables.now id other result }
+{
+    let first = form_of(tables, id);
+    let second = form_of(tables, other);
+    when_alike(&first, &second)
+}
+
 /// When two types of these forms are the same.
-pub fn when_alike(a: &Form, b: &Form) -> Alike
+fn when_alike(a: &Form, b: &Form) -> Alike
     ensures { result ≡ spec.alike a.now b.now }
 {
     match a {
         Form::Void => void(b),
         Form::Integer(kind) => integer(*kind, b),
+        Form::Enumeration(number) => enumeration(*number, b),
         Form::Pointer(target) => pointer(*target, b),
         Form::Reference(target) => reference(*target, b),
         Form::Array(element, count) => array(*element, *count, b),
-        Form::Enumeration(_)
-        | Form::Class(_)
-        | Form::Function(_)
-        | Form::DataMember(_, _)
-        | Form::FunctionMember(_, _) => Alike::Untold,
-    }
-}
-
-/// Where the second form is another than the first.
-fn other(b: &Form) -> Alike
-    ensures { result ≡ spec.other b.now }
-{
-    match b {
-        Form::Void | Form::Integer(_) | Form::Pointer(_) | Form::Reference(_) | Form::Array(_, _) =>
-            Alike::Known(false),
-        Form::Enumeration(_)
-        | Form::Class(_)
-        | Form::Function(_)
-        | Form::DataMember(_, _)
-        | Form::FunctionMember(_, _) => Alike::Untold,
+        Form::Function(function) => between_functions(*function, b),
+        Form::Class(_) => class(b),
+        Form::DataMember(_, _) => data_member(b),
+        Form::FunctionMember(_, _) => function_member(b),
     }
 }
 
@@ -57,7 +58,7 @@ fn void(b: &Form) -> Alike
 {
     match b {
         Form::Void => Alike::Known(true),
-        _ => other(b),
+        _ => Alike::Known(false),
     }
 }
 
@@ -66,14 +67,24 @@ fn integer(kind: Kind, b: &Form) -> Alike
 {
     match b {
         Form::Integer(with) => Alike::Known(same_kinds(kind, *with)),
-        _ => other(b),
+        _ => Alike::Known(false),
     }
 }
 
-fn same_kinds(kind: Kind, with: Kind) -> bool
+/// Whether two integers are of one kind.
+pub fn same_kinds(kind: Kind, with: Kind) -> bool
     ensures { result ≡ (kind_number kind == kind_number with) }
 {
     kind == with
+}
+
+fn enumeration(number: u32, b: &Form) -> Alike
+    ensures { result ≡ spec.alike (form.Enumeration number) b.now }
+{
+    match b {
+        Form::Enumeration(with) => Alike::Enumerations(number, *with),
+        _ => Alike::Known(false),
+    }
 }
 
 fn pointer(target: TyId, b: &Form) -> Alike
@@ -81,7 +92,7 @@ fn pointer(target: TyId, b: &Form) -> Alike
 {
     match b {
         Form::Pointer(to) => Alike::Types(target, *to),
-        _ => other(b),
+        _ => Alike::Known(false),
     }
 }
 
@@ -90,7 +101,7 @@ fn reference(target: TyId, b: &Form) -> Alike
 {
     match b {
         Form::Reference(to) => Alike::Types(target, *to),
-        _ => other(b),
+        _ => Alike::Known(false),
     }
 }
 
@@ -105,6 +116,43 @@ fn array(element: TyId, count: u32, b: &Form) -> Alike
                 Alike::Known(false)
             }
         }
-        _ => other(b),
+        _ => Alike::Known(false),
+    }
+}
+
+fn between_functions(function: FunId, b: &Form) -> Alike
+    ensures { result ≡ spec.alike (form.Function function) b.now }
+{
+    match b {
+        Form::Function(with) => Alike::Functions(function, *with),
+        _ => Alike::Known(false),
+    }
+}
+
+/// Where the first is a class.
+fn class(b: &Form) -> Alike
+    ensures { (c : ℕ) → result ≡ spec.alike (form.Class c) b.now }
+{
+    match b {
+        Form::Class(_) => Alike::Untold,
+        _ => Alike::Known(false),
+    }
+}
+
+fn data_member(b: &Form) -> Alike
+    ensures { (c t : ℕ) → result ≡ spec.alike (form.DataMember c t) b.now }
+{
+    match b {
+        Form::DataMember(_, _) => Alike::Untold,
+        _ => Alike::Known(false),
+    }
+}
+
+fn function_member(b: &Form) -> Alike
+    ensures { (c f : ℕ) → result ≡ spec.alike (form.FunctionMember c f) b.now }
+{
+    match b {
+        Form::FunctionMember(_, _) => Alike::Untold,
+        _ => Alike::Known(false),
     }
 }

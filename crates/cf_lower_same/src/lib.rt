@@ -1,9 +1,13 @@
 //! Whether two types are the same, as lowering asks where two ways meet.
 //!
-//! Types of functions, of classes and of enumerations are not compared yet: where two have different numbers, that is answered as if memory had ended.
+//! `alike` has when two are, by their forms, `enumerations` whether two enumerations have one name, `same` types of a file, and `literals` those that
+//! literals have. Types of classes are not compared yet: where two have different numbers, that is answered as if memory had ended.
 #![tactic(auto)]
 
 mod alike;
+mod enumerations;
+mod literals;
 mod same;
 
-pub use same::{same_bare, same_exactly, same_places};
+pub use literals::same_places;
+pub use same::{same_bare, same_exactly};

@@ -6,10 +6,12 @@ use Rattle.cf_types.specs.declared.ty.Ty.{Ty}
 use Rattle.cf_types.specs.declared.ty.Ty.TheVariants as ty
 use Rattle.cf_types.specs.declared.ty.Fun.{Fun}
 use Rattle.cf_types.specs.Table.{Table, Names, parts_of_fun}
+use Rattle.cf_classes.specs.Fit.{enum_of_type}
 use Rattle.cf_classes.specs.TypeTree.{of_types}
 use Rattle.cf_classes.proofs.Trees.{of_type-at}
 use Rattle.cf_core.specs.Types.{SourceType, void, gives, pointer, reference, array, data_member, function_member, const}
 use Rattle.cf_core.specs.FromTypes.{Tables, type_of, type_step, taking, fun_type, class_code}
+use Rattle.cf_lower_types.specs.Bare.{HasEnum}
 use Rattle.cf_lower_types.specs.Ordered.{AreOrdered}
 
 -- ---- numbers that the table does not have
@@ -64,6 +66,10 @@ found tables t v h names = let r = of_type-at void (type_step tables) tables.typ
 pub no_names : (tables : Tables) (t : ℕ) → Names tables.types.funs t (length tables.types.funs) ty.Void
 no_names tables t = record { parts_known = λ k d lt. absurd (omega arith); fun_known = λ k d lt. absurd (omega arith) }
 
+has_enum : (tables : Tables) (v : Ty) → All (λ e. e < length tables.classes.enums) (enum_of_type v) → HasEnum tables v
+has_enum tables (ty.Enum e) all = all 0 e (omega arith)
+has_enum tables v all = tt
+
 -- ---- in ordered tables
 
 module _ (tables : Tables) (types : Table) (same : types ≡ tables.types) (t : ℕ) where
@@ -74,6 +80,9 @@ module _ (tables : Tables) (types : Table) (same : types ≡ tables.types) (t : 
 
   pub names_in : (v : Ty) → AreOrdered tables → slice_get types.types t ≡ Some v → Names tables.types.funs t (length tables.types.funs) v
   names_in v ordered h = ordered.names t v (sym (ap (λ (x : Table). slice_get x.types t) same) ∙ h)
+
+  pub enum_in : (v : Ty) → AreOrdered tables → slice_get types.types t ≡ Some v → HasEnum tables v
+  enum_in v ordered h = has_enum tables v (ordered.fit.enums_given t v (sym (ap (λ (x : Table). slice_get x.types t) same) ∙ h))
 
   pub missing_in : (n : ℕ) → n ≡ length types.types → (t < n → ⊥) → type_of tables t ≡ void
   missing_in n len past =

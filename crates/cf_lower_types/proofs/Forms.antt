@@ -7,7 +7,7 @@ use Rattle.cf_core.specs.Types.{without_const}
 use Rattle.cf_core.specs.FromTypes.{Tables, type_of, type_step}
 use Rattle.cf_lower_types.specs.declared.form.Form.{Form}
 use Rattle.cf_lower_types.specs.declared.form.Form.TheVariants as form
-use Rattle.cf_lower_types.specs.Bare.{bare, form_type, Named, NamesFun}
+use Rattle.cf_lower_types.specs.Bare.{bare, form_type, HasEnum, Named, NamesFun}
 use Rattle.cf_lower_types.specs.Forms.{under_const, form_in, elements_in}
 
 same : {A : Type 0} (a b : A) → Some a ≡ Some b → a ≡ b
@@ -45,18 +45,18 @@ module _ (tables : Tables) (t : ℕ) where
   pub bare_form : (v : Ty) → type_of tables t ≡ type_step tables (type_of tables) v → under_const v ≡ None → bare tables t ≡ form_type tables (form_in v)
   bare_form v e k = ap without_const e ∙ form_step v k
 
-  pub form_named : (v : Ty) → Names tables.types.funs t (length tables.types.funs) v → NamesBelow t v → Named tables t (form_in v)
-  form_named ty.Void names below = tt
-  form_named (ty.Int k) names below = tt
-  form_named (ty.Enum n) names below = tt
-  form_named (ty.Class c) names below = tt
-  form_named (ty.Ptr u) names below = below
-  form_named (ty.Ref u) names below = below
-  form_named (ty.Array u n) names below = below
-  form_named (ty.Fun f) names below = record { within = names.fun_known 0 f (omega arith); parts = names.parts_known }
-  form_named (ty.MemData c u) names below = below
-  form_named (ty.MemFun c f) names below = record { within = names.fun_known 0 f (omega arith); parts = names.parts_known }
-  form_named (ty.Const u) names below = tt
+  pub form_named : (v : Ty) → Names tables.types.funs t (length tables.types.funs) v → NamesBelow t v → HasEnum tables v → Named tables t (form_in v)
+  form_named ty.Void names below given = tt
+  form_named (ty.Int k) names below given = tt
+  form_named (ty.Enum n) names below given = given
+  form_named (ty.Class c) names below given = tt
+  form_named (ty.Ptr u) names below given = below
+  form_named (ty.Ref u) names below given = below
+  form_named (ty.Array u n) names below given = below
+  form_named (ty.Fun f) names below given = record { within = names.fun_known 0 f (omega arith); parts = names.parts_known }
+  form_named (ty.MemData c u) names below given = below
+  form_named (ty.MemFun c f) names below given = record { within = names.fun_known 0 f (omega arith); parts = names.parts_known }
+  form_named (ty.Const u) names below given = tt
 
 -- what stands before one number stands before a later one
 fun_later : (tables : Tables) (t u f : ℕ) → t < u → NamesFun tables t f → NamesFun tables u f
@@ -66,7 +66,7 @@ fun_later tables t u f lt names =
 pub later : (tables : Tables) (t u : ℕ) (x : Form) → t < u → Named tables t x → Named tables u x
 later tables t u form.Void lt named = tt
 later tables t u (form.Integer k) lt named = tt
-later tables t u (form.Enumeration e) lt named = tt
+later tables t u (form.Enumeration e) lt named = named
 later tables t u (form.Class c) lt named = tt
 later tables t u (form.Pointer v) lt named = omega (arith, lt, named)
 later tables t u (form.Reference v) lt named = omega (arith, lt, named)

@@ -2,6 +2,8 @@
 use Rattle.std.specs.Prelude.{◌≡◌, ℕ, ◌<◌, Bool, true, false, List, [], length, map, All, Option, Some, None, slice_get}
 use Rattle.cf_base.specs.declared.kind.Kind.TheVariants.{Char}
 use Rattle.cf_types.specs.declared.ty.Fun.{Fun}
+use Rattle.cf_types.specs.declared.ty.Ty.{Ty}
+use Rattle.cf_types.specs.declared.ty.Ty.TheVariants as ty
 use Rattle.cf_types.specs.Table.{parts_of_fun}
 use Rattle.cf_classes.specs.LinkName.{scope_code, enum_names}
 use Rattle.cf_core.specs.Types.{SourceType, void, integer, enumeration, class, pointer, reference, array, data_member, function_member, gives, without_const, parameters, result}
@@ -42,6 +44,11 @@ form_type tables (form.Function f) = without_const (fun_at tables f)
 form_type tables (form.DataMember c t) = data_member (class_code tables.classes c) (bare tables t)
 form_type tables (form.FunctionMember c f) = function_member (class_code tables.classes c) (without_const (fun_at tables f))
 
+-- the enumeration that a type names itself was given by the classes
+abbrev pub HasEnum : Tables → Ty → Type 0
+HasEnum tables (ty.Enum e) = e < length tables.classes.enums
+HasEnum tables v = Unit {0}
+
 -- the function type is there, and its parts stand before a number
 pub record NamesFun (tables : Tables) (n f : ℕ) : Type 0 where
   pub within : f < length tables.types.funs
@@ -51,7 +58,7 @@ pub record NamesFun (tables : Tables) (n f : ℕ) : Type 0 where
 abbrev pub Named : Tables → ℕ → Form → Type 0
 Named tables n form.Void = Unit {0}
 Named tables n (form.Integer k) = Unit {0}
-Named tables n (form.Enumeration e) = Unit {0}
+Named tables n (form.Enumeration e) = e < length tables.classes.enums
 Named tables n (form.Class c) = Unit {0}
 Named tables n (form.Pointer t) = t < n
 Named tables n (form.Reference t) = t < n

@@ -4,6 +4,7 @@ ghost use Rattle.std.specs.Prelude.{◌≡◌, ◌<◌, [], length, Some, slice_
 ghost use Rattle.cf_types.specs.Table.{Names, NamesBelow};
 ghost use Rattle.cf_classes.specs.Fit.{Fit};
 ghost use Rattle.cf_core.specs.FromTypes.{type_of, type_step};
+ghost use Rattle.cf_lower_types.specs.Bare.{HasEnum};
 ghost use Rattle.cf_lower_types.specs.Ordered.{IsOrdered};
 
 use cf_classes::Classes;
@@ -58,11 +59,12 @@ impl<'a> Tables<'a> {
     }
 
     /// The type of this number, as the table has it; `void` where the table has none.
-    #[tactic(auto, using(crate::proofs::Entries::found_in, crate::proofs::Entries::names_in, crate::proofs::Entries::missing_in, crate::proofs::Entries::no_names))]
+    #[tactic(auto, using(crate::proofs::Entries::found_in, crate::proofs::Entries::names_in, crate::proofs::Entries::missing_in, crate::proofs::Entries::no_names, crate::proofs::Entries::enum_in))]
     pub(crate) fn entry(&self, id: TyId) -> Ty
         ensures value { type_of self.now id ≡ type_step self.now (type_of self.now) result }
         ensures named { Names self.now.types.funs id (length self.now.types.funs) result }
         ensures earlier { NamesBelow id result }
+        ensures given { HasEnum self.now result }
     {
         let types = self.types();
         if (id.number() as usize) < types.count() {
@@ -73,7 +75,7 @@ impl<'a> Tables<'a> {
     }
 
     /// The function type of this number.
-    pub(crate) fn fun(&self, id: FunId) -> &Fun
+    pub fn fun(&self, id: FunId) -> &Fun
         requires { id < length self.now.types.funs }
         ensures { slice_get self.now.types.funs id ≡ Some result.now }
     {
