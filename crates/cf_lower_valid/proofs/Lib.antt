@@ -8,3 +8,15 @@ pub mod Agreeing
 pub mod Once
 pub mod Others
 pub mod SpelledStarts
+pub mod Sizes
+pub mod Constants
+pub mod Scopes
+pub mod Tests
+pub mod Known
+pub mod Naming
+pub mod Functions
+pub mod Starts
+pub mod Definitions
+pub mod Files
+pub mod Texts
+pub mod Units
