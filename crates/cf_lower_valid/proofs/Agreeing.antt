@@ -1,5 +1,5 @@
 -- Declarations that agree stand for the same; a function's declaration has its type.
-use Rattle.std.proofs.Common.{◌≡◌, ℕ, suc, Bool, true, false, ◌&&◌, List, [], ◌∷◌, Option, Some, None, refl, ap, sym, subst, ◌∙◌, rules}
+use Rattle.std.proofs.Common.{◌≡◌, ℕ, suc, Bool, true, List, [], ◌∷◌, Option, Some, None, refl, ap, subst, ◌∙◌, rules}
 use Rattle.std.specs.Prelude.{is_some}
 use denote.Enum.Bare.{same_true}
 use Rattle.cf_base.proofs.Tests.{both}

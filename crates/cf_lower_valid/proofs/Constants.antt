@@ -1,5 +1,5 @@
 -- What constant initialisers store is typed by what is known before the run.
-use Rattle.std.proofs.Common.{◌≡◌, ℕ, ◌+◌, ◌^◌, ◌≤◌, ◌==◌, nat_le, nat_eq, Bool, true, false, ◌&&◌, if◌then◌else◌, List, [], ◌∷◌, ◌++◌, length, refl, ap, sym, subst, ◌∙◌, inl, inr, arith}
+use Rattle.std.proofs.Common.{◌≡◌, ℕ, ◌+◌, ◌^◌, ◌≤◌, nat_le, nat_eq, Bool, true, false, ◌&&◌, if◌then◌else◌, List, [], ◌∷◌, ◌++◌, length, refl, inl, arith}
 use Rattle.std.specs.Prelude.{ℤ, pos, negsuc, neg_ℤ, Option, Some, None, Result, Ok, Err}
 use Rattle.std.proofs.lemmas.Bool.Decides.{nat_tests}
 use Rattle.cf_base.specs.declared.kind.Kind.{Kind}
@@ -11,7 +11,7 @@ use Rattle.cf_base.proofs.Tests.{both}
 use Rattle.cf_core.specs.declared.operators.PointerOperator.{PointerOperator}
 use Rattle.cf_core.specs.declared.operators.PointerOperator.TheVariants as pointer
 use Rattle.cf_core.specs.declared.operators.UnaryOperator.TheVariants as sign
-use Rattle.cf_core.specs.Types.{Name, SourceType}
+use Rattle.cf_core.specs.Types.{Name}
 use Rattle.cf_lower_layout.specs.Sorts.{Sort, number, address, code, sort_of}
 use Rattle.cf_plain.specs.Plain as plain
 use Rattle.cf_plain.specs.Plain.{Register, Action, Plain, Plains, act, set, branch, nothing, more}
@@ -20,7 +20,7 @@ use Rattle.cc_whole.specs.declared.types.CType.TheVariants as ty
 use Rattle.cc_whole.specs.declared.types.CConstant.TheVariants as constants
 use Rattle.cc_whole.specs.declared.types.CVariableType.{CVariableType}
 use Rattle.cc_whole.specs.declared.unit.CPrototype.{CPrototype}
-use Rattle.cc_whole.specs.Plain.{Expression, Statement, named, load, constant, address as address_of}
+use Rattle.cc_whole.specs.Plain.{Statement, named, load, constant, address as address_of}
 use Rattle.cc_whole.specs.Known.{Named}
 use Rattle.cc_whole.specs.Known as c
 use Rattle.cc_whole.specs.Types.{value_type}
@@ -33,7 +33,7 @@ use Rattle.cf_lower_valid_body.specs.Scope.{NamesObject, NamesFunction}
 use Rattle.cf_lower_valid_body.proofs.Numbers.{int-fits}
 use Rattle.cf_lower_valid_body.proofs.Typed.{Has, constant-has, function-has, address-has, binary-has, stored-cast, zero-stored}
 use Rattle.cf_lower_valid_body.proofs.Stores.{AllChecked, all-append, put-checked, bytes-checked}
-use Rattle.cc_whole_sections.specs.Sections.{In, Every}
+use Rattle.cc_whole_sections.specs.Sections.{Every}
 use Rattle.cc_whole_sections.proofs.Names.{in-left, in-right}
 
 -- what an action of an initialiser names, whose literals are those of this function

@@ -1,28 +1,21 @@
 -- The definitions of a lowered file have names of their own.
-use Rattle.std.proofs.Common.{◌≡◌, ℕ, Bool, true, false, not, ◌&&◌, ◌||◌, List, [], ◌∷◌, ◌++◌, map, refl, ap, sym, subst, ◌∙◌, inl, inr, append_assoc}
+use Rattle.std.proofs.Common.{◌≡◌, Bool, true, false, not, ◌||◌, List, [], ◌∷◌, ◌++◌, map, refl, ap, sym, subst, ◌∙◌, inl, inr, append_assoc}
 use Rattle.std.specs.Prelude.{bytes_eq, codes}
-use Rattle.std.specs.List.{list_any, flat_map}
-use Rattle.std.proofs.lemmas.Bool.{true≢false}
-use Rattle.cf_base.proofs.Tests.{both, same_bytes, bytes_same, bytes_differ}
+use Rattle.std.specs.List.{flat_map}
 use Rattle.cf_core.specs.Types.{Name}
-use Rattle.cf_core.specs.Valid.{all_differ}
 use Rattle.cf_plain.specs.Plain.{Action, PlainFunction, PlainStatic}
 use Rattle.cf_plain.specs.Plain as plain
 use Rattle.cf_plain.specs.Named.{all_actions}
 use Rattle.cc_whole.specs.declared.unit.CVariable.{CVariable}
-use Rattle.cc_whole.specs.Plain.{Statement, Item, declares, declares_variable, defines, defines_variable}
-use Rattle.cc_whole.specs.Known.{is_in, is_helper}
-use Rattle.cc_whole.specs.Valid.{is_definition, defined_after}
+use Rattle.cc_whole.specs.Plain.{Statement, Item, defines, defines_variable}
+use Rattle.cc_whole.specs.Known.{is_helper}
 use Rattle.cf_lower.specs.Functions.{owner_of, literal_at, lowered_static, literals, start_literals, lowered_function, constants_function}
 use Rattle.cf_lower_program.specs.Names.{is_own_name}
 use Rattle.cf_lower_program.specs.Lowerable.{Lowerable}
 use Rattle.cc_whole_sections.specs.Sections.{In, Every, item_name, DefinedOnce}
-use Rattle.cc_whole_sections.proofs.Names.{in-left, in-right}
-use Rattle.cf_lower_valid.proofs.Differ.{append-in}
 use Rattle.cf_lower_valid.proofs.Inner.{mapped-in, every-mapped, every-append}
-use Rattle.cf_lower_valid.proofs.Spans.{none-any}
 use Rattle.cf_lower_valid.proofs.Tests.{file_of, names-told, valid-told}
-use Rattle.cf_lower_valid.proofs.Once.{Differ, differ-append, differ-named, differ-mapped, Apart, differ-parts, either-way, told-apart, once, From, from-flat}
+use Rattle.cf_lower_valid.proofs.Once.{Differ, differ-append, differ-named, differ-mapped, Apart, differ-parts, either-way, told-apart, once, from-flat}
 use Rattle.cf_lower_valid.proofs.Naming.{Foreign, function-foreign, object-foreign, literal-own}
 
 -- ---- literals

@@ -1,7 +1,7 @@
 -- Lists of names that differ, since their ranks grow.
-use Rattle.std.proofs.Common.{◌≡◌, ℕ, suc, ◌+◌, ◌≤◌, ◌<◌, Bool, true, false, not, ◌||◌, List, [], ◌∷◌, ◌++◌, map, refl, ap, sym, subst, ◌∙◌, inl, inr, arith}
+use Rattle.std.proofs.Common.{◌≡◌, ℕ, suc, ◌+◌, ◌≤◌, ◌<◌, Bool, true, false, not, ◌||◌, List, [], ◌∷◌, ◌++◌, refl, ap, subst, ◌∙◌, inl, inr, arith}
 use Rattle.std.specs.Prelude.{bytes_eq}
-use Rattle.cf_base.proofs.Tests.{same_bytes, bytes_differ}
+use Rattle.cf_base.proofs.Tests.{bytes_differ}
 use Rattle.cc_whole.specs.declared.statement.CLocal.{CLocal}
 use Rattle.cc_whole.specs.declared.unit.CParameter.{CParameter}
 use Rattle.cc_whole.specs.Types.{local_type}
@@ -95,8 +95,8 @@ pub span-distinct : (n m : ℕ) (ys : Names) → Span n ys m → Distinct ys
 span-distinct n m [] h = tt
 span-distinct n m (y ∷ ys) h = (
   λ z k.
-    let low : suc (rank y) ≤ rank z = (span-between (suc (rank y)) m ys h.1 z k).low in
-    ranks-differ y z (λ e. omega (arith, low, e)),
+      let low : suc (rank y) ≤ rank z = (span-between (suc (rank y)) m ys h.1 z k).low in
+      ranks-differ y z (λ e. omega (arith, low, e)),
   span-distinct (suc (rank y)) m ys h.1,
 )
 

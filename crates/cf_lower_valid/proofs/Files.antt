@@ -1,53 +1,40 @@
 -- The items of a lowered file have a text, and no fault.
-use Rattle.std.proofs.Common.{◌≡◌, ℕ, suc, ◌+◌, ◌^◌, ◌≤◌, ◌<◌, nat_lt, nat_le, Bool, true, false, not, ◌&&◌, ◌||◌, List, [], ◌∷◌, ◌++◌, length, map, refl, ap, sym, subst, ◌∙◌, inl, inr, ◌⊎◌, arith, append_assoc}
-use Rattle.std.specs.Prelude.{bytes_eq, codes, decimal, Option, Some}
-use Rattle.std.specs.List.{list_all, list_any, flat_map}
-use Rattle.std.specs.Fmt.{digits}
+use Rattle.std.proofs.Common.{◌≡◌, ℕ, suc, ◌^◌, ◌≤◌, ◌<◌, nat_lt, nat_le, Bool, true, false, not, ◌&&◌, ◌||◌, List, [], ◌∷◌, ◌++◌, length, map, refl, ap, sym, subst, ◌∙◌, inl, inr, ◌⊎◌, arith, append_assoc}
+use Rattle.std.specs.Prelude.{bytes_eq}
+use Rattle.std.specs.List.{flat_map}
 use Rattle.std.proofs.lemmas.Bool.{or_cases, le-ltb}
 use Rattle.cf_base.proofs.Tests.{both, all_of, same_bytes, bytes_same}
-use Rattle.cf_core.specs.Types.{Name, SourceType, parameters, result as result_type}
+use Rattle.cf_core.specs.Types.{Name, SourceType, parameters}
 use Rattle.cf_plain.specs.Plain as plain
 use Rattle.cf_plain.specs.Plain.{Action, PlainFunction, PlainStatic, PlainFile}
 use Rattle.cf_plain.specs.Named.{all_actions}
-use Rattle.cc_whole_tokens.specs.Token.{is_word_byte, is_name}
-use Rattle.cc_whole.specs.declared.types.CVariableType.TheVariants as variable
-use Rattle.cc_whole.specs.declared.statement.CLocal.{CLocal}
-use Rattle.cc_whole.specs.declared.unit.CParameter.{CParameter}
 use Rattle.cc_whole.specs.declared.unit.CVariable.{CVariable}
-use Rattle.cc_whole.specs.declared.unit.CUnit.{CUnit}
-use Rattle.cc_whole.specs.Plain.{Statement, Item, declares, declares_variable, defines, defines_variable, name_of, in_order, items_of}
+use Rattle.cc_whole.specs.Plain.{Statement, Item, declares, defines, defines_variable, name_of}
 use Rattle.cc_whole.specs.Numbers.{is_size}
 use Rattle.cc_whole.specs.Known.{Named, is_in}
 use Rattle.cc_whole.specs.Fault.{fine}
-use Rattle.cc_whole.specs.Spellable.{good_locals, spellable_statements, spellable_body, spellable_prototype, spellable_item, spellable_items, spellable_version}
 use Rattle.cc_whole.specs.Valid.{named_by, is_definition, checked_parameters, first_fault}
-use Rattle.cc_whole.specs.ValidUnit.{keeps, valid_items, valid_unit}
-use Rattle.cf_lower.specs.Kept.{nothing_kept}
-use Rattle.cf_lower.specs.Written.{int_constant, literal_name}
-use Rattle.cf_lower.specs.Statements.{all_lowered, no_value}
-use Rattle.cf_lower.specs.Functions.{all_bound, all_nesting, inside, prototype, lowered_parameters, lowered_function, but_last, literal_at, literals, lowered_static, owner_of, start_literals, library, constants_function, own_prototypes, own_variables, declared_at, named_in, defined_elsewhere, lowered_file}
+use Rattle.cf_lower.specs.Written.{int_constant}
+use Rattle.cf_lower.specs.Functions.{prototype, lowered_parameters, lowered_function, but_last, literal_at, literals, lowered_static, owner_of, start_literals, library, constants_function, own_prototypes, own_variables, declared_at, named_in, defined_elsewhere, lowered_file}
 use Rattle.cf_lower_program.specs.Types.{is_laid, is_callable, is_well_typed}
 use Rattle.cf_lower_kept.specs.Ready.{is_code}
 use Rattle.cf_lower_program.specs.Starts.{is_text, text_fits}
-use Rattle.cf_lower_program.specs.Lowerable.{is_none, Lowerable}
-use Rattle.cf_lower_program.specs.Agrees.{IsLowered}
+use Rattle.cf_lower_program.specs.Lowerable.{Lowerable}
 use Rattle.cc_whole_sections.specs.Sections.{In, Every, item_name, item_names, IsVariable, Declares, Uses, DefinedOnce, Sections}
 use Rattle.cc_whole_sections.proofs.Names.{in-left, in-right}
 use Rattle.cc_whole_sections.proofs.Items.{sections-fine}
-use Rattle.cf_lower_valid.proofs.Digits.{numbered-name}
-use Rattle.cf_lower_valid.proofs.Differ.{append-in, parameters-fine}
+use Rattle.cf_lower_valid.proofs.Differ.{parameters-fine}
 use Rattle.cf_lower_valid.proofs.Inner.{mapped-in, every-mapped, every-append}
-use Rattle.cf_lower_valid.proofs.Spans.{locals_after, parameters-distinct}
-use Rattle.cf_lower_valid.proofs.Own.{letters, Entry, local-entries, any-in}
-use Rattle.cf_lower_valid.proofs.Spelled.{AllSpelled, spelled-append, spelled-in-order, all-spelled, no-value-spelled}
+use Rattle.cf_lower_valid.proofs.Spans.{parameters-distinct}
+use Rattle.cf_lower_valid.proofs.Own.{any-in}
 use Rattle.cf_lower_valid.proofs.Sizes.{count-size, laid-variable}
-use Rattle.cf_lower_valid.proofs.Tests.{file_of, in-all, all-in, small, three-parts, callable-few, tested, names-told, function-told, static-told, action-of-function, action-of-static, action-typed, action-text}
-use Rattle.cf_lower_valid.proofs.Known.{own_items, constants_prototype, known, one-type, own-known, tested-known, wanted}
-use Rattle.cf_lower_valid.proofs.Naming.{function-foreign, object-foreign}
+use Rattle.cf_lower_valid.proofs.Tests.{file_of, small, callable-few, tested, function-told, static-told, action-of-function, action-of-static, action-typed, action-text}
+use Rattle.cf_lower_valid.proofs.Known.{constants_prototype, known, one-type, own-known, tested-known, wanted}
+use Rattle.cf_lower_valid.proofs.Naming.{object-foreign}
 use Rattle.cf_lower_valid.proofs.Functions.{parameters-differ, function-right}
 use Rattle.cf_lower_valid.proofs.Starts.{stores, helper-right}
 use Rattle.cf_lower_valid.proofs.Definitions.{definitions-once}
-use Rattle.cf_lower_valid.proofs.Once.{once-none, From, from-flat}
+use Rattle.cf_lower_valid.proofs.Once.{once-none, from-flat}
 use Rattle.cf_lower_valid.proofs.Others.{named-name, mapped-from, other-from, other-there}
 
 -- ---- variables

@@ -1,9 +1,9 @@
 -- The C of a function of a lowered file is right where the names of the file are known.
-use Rattle.std.proofs.Common.{◌≡◌, ℕ, ◌+◌, ◌^◌, ◌≤◌, Bool, true, false, not, ◌&&◌, List, [], ◌∷◌, ◌++◌, length, refl, ap, sym, subst, ◌∙◌, inl, inr, arith}
-use Rattle.std.specs.Prelude.{Option, Some, None, is_some}
+use Rattle.std.proofs.Common.{◌≡◌, ℕ, Bool, true, false, not, List, [], ◌∷◌, ◌++◌, length, refl, ap, ◌∙◌, inl, inr}
+use Rattle.std.specs.Prelude.{is_some}
 use Rattle.std.specs.List.{list_all}
 use Rattle.cf_base.proofs.Tests.{both, all_of}
-use Rattle.cf_core.specs.Types.{Name, SourceType, void, integer, enumeration, class, pointer, reference, array, takes, gives, data_member, function_member, const, parameters, result as result_type}
+use Rattle.cf_core.specs.Types.{Name, SourceType, takes, gives, const, parameters, result as result_type}
 use Rattle.cf_core.specs.Valid.{is_complete}
 use Rattle.cf_lower_layout.specs.Sorts.{sort_of}
 use Rattle.cf_plain.specs.Plain as plain
@@ -11,29 +11,29 @@ use Rattle.cf_plain.specs.Plain.{Action, PlainFunction, PlainStatic, PlainFile}
 use Rattle.cf_plain.specs.Named.{all_actions}
 use Rattle.cc_whole.specs.declared.statement.CLocal.{CLocal}
 use Rattle.cc_whole.specs.declared.unit.CParameter.{CParameter}
-use Rattle.cc_whole.specs.Plain.{Body, in_order}
+use Rattle.cc_whole.specs.Plain.{in_order}
 use Rattle.cc_whole.specs.Landmarks.{locals_marks}
 use Rattle.cc_whole.specs.Fault.{Checks, fine, moved, ◌before◌}
 use Rattle.cc_whole.specs.Known.{Named, Known, lookup, is_helper}
-use Rattle.cc_whole.specs.Statements.{checked_locals, checked_statements, checked_body, with_locals}
+use Rattle.cc_whole.specs.Statements.{checked_statements, checked_body}
 use Rattle.cc_whole.specs.Valid as c
 use Rattle.cf_lower.specs.Written.{result_of}
 use Rattle.cf_lower.specs.Functions.{all_bound, all_nesting, lowered_parameters, prototype, lowered_function}
 use Rattle.cf_lower_kept.specs.Ready.{is_code}
-use Rattle.cf_lower_program.specs.Types.{is_laid, is_lowered, file_actions}
+use Rattle.cf_lower_program.specs.Types.{is_laid, is_lowered}
 use Rattle.cf_lower_program.specs.Lowerable.{Lowerable}
-use Rattle.cf_lower_valid_body.specs.Scope.{Each, Names, Fits, Stands, statements_of, is_local_type, BodyIsValid}
+use Rattle.cf_lower_valid_body.specs.Scope.{Each, Names, Fits, Stands, statements_of, is_local_type}
 use Rattle.cf_lower_valid_body.proofs.Bodies.{body-valid}
 use Rattle.cc_whole_sections.specs.Sections.{In, Every, IsFunction}
 use Rattle.cc_whole_sections.specs.Sections as sections
 use Rattle.cf_lower_valid.proofs.Differ.{parameters-fine, locals-fine}
-use Rattle.cf_lower_valid.proofs.Inner.{names_inside, every-append}
+use Rattle.cf_lower_valid.proofs.Inner.{names_inside}
 use Rattle.cf_lower_valid.proofs.Spans.{locals_after, locals-distinct, parameters-distinct}
 use Rattle.cf_lower_valid.proofs.Scopes.{is_outer, own-names, takes-result, outer-name}
 use Rattle.cf_lower_valid.proofs.Sizes.{locals-sized}
-use Rattle.cf_lower_valid.proofs.Tests.{file_of, all-in, in-all, callable-few, callable-scalars, FunctionTold, function-told, action-of-function, action-lowered}
+use Rattle.cf_lower_valid.proofs.Tests.{file_of, callable-few, callable-scalars, FunctionTold, function-told, action-of-function, action-lowered}
 use Rattle.cf_lower_valid.proofs.Known.{wanted}
-use Rattle.cf_lower_valid.proofs.Naming.{Foreign, function-foreign, Declared, declared-in-function, called-function, names-what}
+use Rattle.cf_lower_valid.proofs.Naming.{Foreign, function-foreign, declared-in-function, called-function, names-what}
 
 -- ---- types of parameters and locals
 

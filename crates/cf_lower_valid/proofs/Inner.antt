@@ -1,5 +1,5 @@
 -- What names mean under the parameters and locals of a function.
-use Rattle.std.proofs.Common.{◌≡◌, ℕ, Bool, true, false, cond, List, [], ◌∷◌, ◌++◌, Option, Some, None, option_map, map, refl, ap, sym, subst, ◌∙◌, inl, inr}
+use Rattle.std.proofs.Common.{◌≡◌, ℕ, Bool, true, false, cond, List, [], ◌∷◌, ◌++◌, Option, Some, option_map, map, refl, ap, sym, subst, ◌∙◌, inl, inr}
 use Rattle.std.specs.Prelude.{bytes_eq, find}
 use Rattle.std.proofs.lemmas.Bool.{true≢false}
 use Rattle.cf_base.proofs.Tests.{same_bytes, bytes_same}
@@ -9,7 +9,6 @@ use Rattle.cc_whole.specs.declared.unit.CParameter.{CParameter}
 use Rattle.cc_whole.specs.Types.{local_type}
 use Rattle.cc_whole.specs.Known.{Meant, object, Named, lookup, locals_named, parameters_named}
 use Rattle.cc_whole_sections.specs.Sections.{In, Every}
-use Rattle.cc_whole_sections.proofs.Names.{in-left, in-right}
 use Rattle.cf_lower_valid.proofs.Differ.{append-in}
 
 abbrev Meaning : Type 0

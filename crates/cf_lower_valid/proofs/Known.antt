@@ -1,20 +1,20 @@
 -- What a lowered file makes known: one name has one type.
-use Rattle.std.proofs.Common.{◌≡◌, ℕ, Bool, true, false, not, ◌&&◌, ◌||◌, cond, List, [], ◌∷◌, ◌++◌, map, refl, ap, sym, subst, ◌∙◌, inl, inr}
-use Rattle.std.specs.Prelude.{Option, Some, None, is_some, bytes_eq, codes}
-use Rattle.std.specs.List.{list_all, list_any}
+use Rattle.std.proofs.Common.{◌≡◌, Bool, true, false, not, ◌||◌, List, [], ◌∷◌, ◌++◌, map, refl, ap, sym, subst, ◌∙◌}
+use Rattle.std.specs.Prelude.{Some, None, is_some, bytes_eq, codes}
+use Rattle.std.specs.List.{list_all}
 use Rattle.std.proofs.lemmas.Bool.{true≢false}
 use Rattle.cf_base.proofs.Tests.{same_bytes, bytes_same}
 use Rattle.cf_core.specs.Types.{Name}
-use Rattle.cf_plain.specs.Plain.{PlainFunction, PlainStatic, PlainFile}
+use Rattle.cf_plain.specs.Plain.{PlainFunction, PlainStatic}
 use Rattle.cc_whole.specs.declared.unit.CPrototype.{CPrototype}
-use Rattle.cc_whole.specs.Plain.{Item, declares, declares_variable, defines, defines_variable, name_of}
-use Rattle.cc_whole.specs.Known.{Named, is_in}
+use Rattle.cc_whole.specs.Plain.{Item, declares, name_of}
+use Rattle.cc_whole.specs.Known.{Named}
 use Rattle.cc_whole.specs.Types.{same_type}
 use Rattle.cc_whole.specs.Valid.{agrees, own_type, has_type, named_by}
-use Rattle.cf_lower.specs.Functions.{library, own_prototypes, own_variables, named_in, other_names, defined_elsewhere}
-use Rattle.cf_lower_program.specs.Names.{has_own_type, same_types}
+use Rattle.cf_lower.specs.Functions.{library}
+use Rattle.cf_lower_program.specs.Names.{has_own_type}
 use Rattle.cf_lower_program.specs.Lowerable.{Lowerable}
-use Rattle.cc_whole_sections.specs.Sections.{In, Every, item_name, item_names, OneType}
+use Rattle.cc_whole_sections.specs.Sections.{In, OneType}
 use Rattle.cc_whole_sections.proofs.Names.{in-left, in-right}
 use Rattle.cf_lower_valid.proofs.Differ.{append-in}
 use Rattle.cf_lower_valid.proofs.Inner.{mapped-in}
@@ -83,17 +83,17 @@ module _ (fs : List PlainFunction) (xs : List PlainStatic) (low : Lowerable (fil
   pub one-type : OneType known
   one-type = record {
     agree = λ x y h k e.
-      let i = mapped-from named_by known_items x h in
-      let j = mapped-from named_by known_items y k in
-      subst (λ (z : Named). agrees (Some z.meant) y.meant ≡ true) i.is
-      (subst (λ (z : Named). agrees (Some (named_by i.one).meant) z.meant ≡ true) j.is
-      (items-agree i.one j.one i.there j.there
-      (bytes_same (name_of i.one) (name_of j.one)
-      (sym (named-name i.one) ∙ ap (λ (z : Named). z.name) i.is ∙ same_bytes x.name y.name e ∙ sym (ap (λ (z : Named). z.name) j.is) ∙ named-name j.one))));
+        let i = mapped-from named_by known_items x h in
+        let j = mapped-from named_by known_items y k in
+        subst (λ (z : Named). agrees (Some z.meant) y.meant ≡ true) i.is
+        (subst (λ (z : Named). agrees (Some (named_by i.one).meant) z.meant ≡ true) j.is
+        (items-agree i.one j.one i.there j.there
+        (bytes_same (name_of i.one) (name_of j.one)
+        (sym (named-name i.one) ∙ ap (λ (z : Named). z.name) i.is ∙ same_bytes x.name y.name e ∙ sym (ap (λ (z : Named). z.name) j.is) ∙ named-name j.one))));
     own = λ x h.
-      let i = mapped-from named_by known_items x h in
-      subst (λ (z : Named). has_type (own_type z.name) z.meant ≡ true) i.is
-      (subst (λ (y : Name). has_type (own_type y) (named_by i.one).meant ≡ true) (sym (named-name i.one)) (item-own i.one i.there));
+        let i = mapped-from named_by known_items x h in
+        subst (λ (z : Named). has_type (own_type z.name) z.meant ≡ true) i.is
+        (subst (λ (y : Name). has_type (own_type y) (named_by i.one).meant ≡ true) (sym (named-name i.one)) (item-own i.one i.there));
   }
 
   -- ---- what is known

@@ -1,32 +1,25 @@
 -- What actions name is known: the literals of their function, and what the file declares.
-use Rattle.std.proofs.Common.{◌≡◌, ℕ, suc, Bool, true, false, not, ◌&&◌, ◌||◌, List, [], ◌∷◌, ◌++◌, length, map, refl, ap, sym, subst, ◌∙◌, inl, inr, ◌⊎◌}
-use Rattle.std.specs.Prelude.{Option, Some, None, bytes_eq, codes, decimal}
+use Rattle.std.proofs.Common.{◌≡◌, ℕ, Bool, true, false, not, ◌||◌, List, [], ◌∷◌, ◌++◌, length, map, refl, ap, sym, subst, ◌∙◌, inl, inr, ◌⊎◌}
+use Rattle.std.specs.Prelude.{Some, bytes_eq, codes}
 use Rattle.std.specs.List.{list_any, flat_map}
 use Rattle.std.proofs.lemmas.Bool.{or_cases}
 use Rattle.cf_base.proofs.Tests.{both, same_bytes}
-use Rattle.cf_core.specs.Types.{Name, SourceType, parameters, result as result_type}
+use Rattle.cf_core.specs.Types.{Name, SourceType}
 use Rattle.cf_core.specs.Calls as source
-use Rattle.cf_lower_layout.specs.Sorts.{Sort, sort_of}
 use Rattle.cf_plain.specs.Plain as plain
 use Rattle.cf_plain.specs.Plain.{Action, PlainFunction, PlainStatic, PlainFile}
 use Rattle.cf_plain.specs.Named.{all_actions}
-use Rattle.cc_whole.specs.declared.types.CType.{CType}
-use Rattle.cc_whole.specs.declared.types.CType.TheVariants as ty
 use Rattle.cc_whole.specs.declared.types.CVariableType.{CVariableType}
-use Rattle.cc_whole.specs.declared.types.CSignature.{CSignature}
 use Rattle.cc_whole.specs.declared.types.CVariableType.TheVariants as variable
 use Rattle.cc_whole.specs.declared.unit.CInitialiser.TheVariants as initialiser
-use Rattle.cc_whole.specs.declared.unit.CPrototype.{CPrototype}
 use Rattle.cc_whole.specs.declared.unit.CVariable.{CVariable}
-use Rattle.cc_whole.specs.Types.{parameter_types, signature_of, value_type}
+use Rattle.cc_whole.specs.Types.{value_type}
 use Rattle.cc_whole.specs.Known.{Meant, Named, function, object, lookup, is_main, is_helper, is_library}
 use Rattle.cc_whole.specs.Plain.{Item, declares, declares_variable, defines_variable}
 use Rattle.cc_whole.specs.Valid.{named_by}
-use Rattle.cf_lower.specs.Written.{if_scalar, c_type, int_constant, variable_type, literal_name}
-use Rattle.cf_lower.specs.Written as written
-use Rattle.cf_lower.specs.Statements.{c_types, signature}
-use Rattle.cf_lower.specs.Functions.{lowered_parameters, prototype_of, owner_of, but_last, literal_at, declared_at, lowered_static, literals, start_literals, own_prototypes, own_variables, named_in}
-use Rattle.cf_lower_program.specs.Names.{own_fronts, is_own_name, begins_with_digit, is_foreign, is_function_name, is_object_name, may_be_function, may_be_object, is_well_named}
+use Rattle.cf_lower.specs.Written.{int_constant, variable_type, literal_name}
+use Rattle.cf_lower.specs.Functions.{prototype_of, owner_of, but_last, literal_at, declared_at, lowered_static, literals, start_literals, own_prototypes, own_variables, named_in}
+use Rattle.cf_lower_program.specs.Names.{own_fronts, is_own_name, begins_with_digit, is_foreign, is_function_name, is_object_name, may_be_function, may_be_object}
 use Rattle.cf_lower_program.specs.Lowerable.{Lowerable}
 use Rattle.cf_lower_valid_body.specs.Scope.{NamesObject, NamesFunction}
 use Rattle.cc_whole_sections.specs.Sections.{In, Every, Stands}
@@ -144,24 +137,24 @@ module _ (fs : List PlainFunction) (xs : List PlainStatic) (low : Lowerable (fil
   pub declared-in-function : (f : PlainFunction) (a : Action) → In f fs → In a (all_actions f.body) → Declared f.name f.is_shared f.is_local a
   declared-in-function f a h m = record {
     names = λ i k.
-      in-left i of_functions of_statics
-          (in-flat (λ (f : PlainFunction). flat_map (declared_at []) (all_actions f.body)) f i fs h (in-flat (declared_at []) a i (all_actions f.body) m k));
+        in-left i of_functions of_statics
+        (in-flat (λ (f : PlainFunction). flat_map (declared_at []) (all_actions f.body)) f i fs h (in-flat (declared_at []) a i (all_actions f.body) m k));
     texts = λ v k.
-      variable-tested v
-          (in-left v (map (lowered_static []) xs ++ flat_map literals fs) (flat_map start_literals xs)
-          (in-right v (map (lowered_static []) xs) (flat_map literals fs)
-          (in-flat literals f v fs h (in-flat (literal_at f.name f.is_shared f.is_local) a v (all_actions f.body) m k))));
+        variable-tested v
+        (in-left v (map (lowered_static []) xs ++ flat_map literals fs) (flat_map start_literals xs)
+        (in-right v (map (lowered_static []) xs) (flat_map literals fs)
+        (in-flat literals f v fs h (in-flat (literal_at f.name f.is_shared f.is_local) a v (all_actions f.body) m k))));
   }
 
   pub declared-in-static : (x : PlainStatic) (a : Action) → In x xs → In a (all_actions x.start) → Declared (owner_of x) x.is_shared (x.is_local || not x.is_shared) a
   declared-in-static x a h m = record {
     names = λ i k.
-      in-right i of_functions of_statics
-          (in-flat (λ (x : PlainStatic). flat_map (declared_at []) (all_actions x.start)) x i xs h (in-flat (declared_at []) a i (all_actions x.start) m k));
+        in-right i of_functions of_statics
+        (in-flat (λ (x : PlainStatic). flat_map (declared_at []) (all_actions x.start)) x i xs h (in-flat (declared_at []) a i (all_actions x.start) m k));
     texts = λ v k.
-      variable-tested v
-          (in-right v (map (lowered_static []) xs ++ flat_map literals fs) (flat_map start_literals xs)
-          (in-flat start_literals x v xs h (in-flat (literal_at (owner_of x) x.is_shared (x.is_local || not x.is_shared)) a v (all_actions x.start) m k)));
+        variable-tested v
+        (in-right v (map (lowered_static []) xs ++ flat_map literals fs) (flat_map start_literals xs)
+        (in-flat start_literals x v xs h (in-flat (literal_at (owner_of x) x.is_shared (x.is_local || not x.is_shared)) a v (all_actions x.start) m k)));
   }
 
   named-tested : (i : Item) → In i (named_in file) → In i (tested fs xs low)

@@ -1,28 +1,24 @@
 -- What names mean at the statements of a lowered function: its own, and those of the file behind.
-use Rattle.std.proofs.Common.{◌≡◌, ℕ, zero, suc, ◌+◌, ◌^◌, ◌≤◌, ◌<◌, ◌==◌, nat_le, Bool, true, false, ◌&&◌, List, [], ◌∷◌, ◌++◌, length, slice_get, map, refl, ap, sym, subst, ◌∙◌, inl, inr, arith}
+use Rattle.std.proofs.Common.{◌≡◌, ℕ, zero, suc, ◌+◌, ◌^◌, ◌≤◌, ◌==◌, Bool, true, false, List, [], ◌∷◌, ◌++◌, length, slice_get, map, refl, ap, sym, subst, ◌∙◌, inl, arith}
 use Rattle.std.specs.Prelude.{Option, Some, None, is_some, decimal, bytes_eq}
 use Rattle.std.specs.List.{list_all, list_any}
 use Rattle.std.proofs.lemmas.Bool.{and_from, and_parts, true≢false, eq-eqb}
-use Rattle.std.proofs.lemmas.Bool.Decides.{nat_tests}
 use Rattle.cf_base.proofs.Tests.{same_bytes}
 use Rattle.cf_core.specs.Types.{Name, SourceType, result as result_type}
 use Rattle.cf_lower_layout.specs.Sorts.{Sort, sort_of}
 use Rattle.cf_plain.specs.Plain.{Action}
-use Rattle.cc_whole.specs.declared.types.CType.{CType}
 use Rattle.cc_whole.specs.declared.types.CType.TheVariants as ty
 use Rattle.cc_whole.specs.declared.types.CVariableType.TheVariants as variable
 use Rattle.cc_whole.specs.declared.statement.CLocal.{CLocal}
 use Rattle.cc_whole.specs.declared.unit.CParameter.{CParameter}
 use Rattle.cc_whole.specs.Types.{local_type}
 use Rattle.cc_whole.specs.Known.{Meant, object, Named, lookup}
-use Rattle.cc_whole.specs.Uses.{local_names, parameter_names}
 use Rattle.cf_lower.specs.Written.{if_scalar, c_type, register_type, local_name, register_name, flag_name, result_name}
-use Rattle.cf_lower.specs.Written as written
 use Rattle.cf_lower.specs.Functions.{scalar, result_at, lowered_parameters}
 use Rattle.cf_lower_program.specs.Names.{begins_with_digit, is_own_name}
 use Rattle.cf_lower_valid_body.specs.Scope.{Own, TakesResult}
 use Rattle.cc_whole_sections.specs.Sections.{In, Every}
-use Rattle.cf_lower_valid.proofs.Digits.{Begins, decimal-begins}
+use Rattle.cf_lower_valid.proofs.Digits.{decimal-begins}
 use Rattle.cf_lower_valid.proofs.Inner.{names_inside, local-means, parameter-means, outer-means, mapped-in}
 use Rattle.cf_lower_valid.proofs.Spans.{none-any, locals_after, parameters-apart}
 use Rattle.cf_lower_valid.proofs.Own.{means, letters, Entry, a_local, scalar-local, parameter-entries, local-entries, own_local, own_parameter, in-locals, in-held, in-flagged, in-given, in-passed}

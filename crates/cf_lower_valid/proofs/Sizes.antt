@@ -1,5 +1,5 @@
 -- Objects of types that are laid out have from 1 to 2^22 bytes, so their C has a size.
-use Rattle.std.proofs.Common.{◌≡◌, ℕ, zero, suc, ◌+◌, ◌*◌, ◌/◌, ◌%◌, ◌^◌, ◌≤◌, ◌<◌, nat_lt, nat_le, Bool, true, false, ◌&&◌, List, [], ◌∷◌, ◌++◌, length, map, refl, ap, sym, subst, ◌∙◌, inl, inr, arith}
+use Rattle.std.proofs.Common.{◌≡◌, ℕ, zero, suc, ◌+◌, ◌/◌, ◌%◌, ◌^◌, ◌≤◌, ◌<◌, nat_lt, nat_le, true, ◌&&◌, List, [], ◌∷◌, ◌++◌, refl, subst, inl, inr, arith}
 use Rattle.std.specs.Prelude.{Option, Some, None}
 use Rattle.std.specs.List.{list_all, flat_map}
 use Rattle.std.proofs.Math.Nat.{div-add-mod, mod-lt}
@@ -15,7 +15,6 @@ use Rattle.cc_whole.specs.declared.types.CType.{CType}
 use Rattle.cc_whole.specs.declared.types.CType.TheVariants as ty
 use Rattle.cc_whole.specs.declared.types.CLocalType.TheVariants as local
 use Rattle.cc_whole.specs.declared.types.CVariableType.TheVariants as variable
-use Rattle.cc_whole.specs.declared.statement.CLocal.{CLocal}
 use Rattle.cc_whole.specs.Numbers.{is_size}
 use Rattle.cc_whole.specs.Types.{local_type}
 use Rattle.cc_whole.specs.Statements.{has_size}
@@ -24,7 +23,7 @@ use Rattle.cf_lower.specs.Written as written
 use Rattle.cf_lower.specs.Functions.{scalar, own_locals, registers, flags, result_at, each_once, results}
 use Rattle.cf_lower_program.specs.Types.{is_laid}
 use Rattle.cf_lower_valid_body.proofs.Types.{laid-small}
-use Rattle.cc_whole_sections.specs.Sections.{In, Every}
+use Rattle.cc_whole_sections.specs.Sections.{Every}
 use Rattle.cf_lower_valid.proofs.Differ.{Sized}
 use Rattle.cf_lower_valid.proofs.Inner.{every-mapped, every-append}
 use Rattle.cf_lower_valid.proofs.Spans.{three, locals_after}

@@ -1,6 +1,6 @@
 -- The names of a function's C locals and parameters differ: their ranks grow, but for results, each of which has a type of its own.
 use Rattle.std.proofs.Common.{◌≡◌, ℕ, zero, suc, ◌+◌, ◌*◌, ◌^◌, ◌≤◌, ◌<◌, ◌==◌, Bool, true, false, if◌then◌else◌, List, [], ◌∷◌, ◌++◌, length, map, refl, ap, sym, subst, ◌∙◌, inl, inr, arith}
-use Rattle.std.specs.Prelude.{Option, Some, None, bytes_eq, decimal}
+use Rattle.std.specs.Prelude.{Option, Some, None, bytes_eq}
 use Rattle.std.specs.List.{list_any, flat_map}
 use Rattle.std.proofs.lemmas.Bool.{or_parts, true≢false, eq-eqb}
 use Rattle.cf_base.specs.declared.kind.Kind.TheVariants.{Int}
@@ -10,12 +10,11 @@ use Rattle.cf_plain.specs.Plain.{Action}
 use Rattle.cc_whole.specs.declared.types.CType.{CType}
 use Rattle.cc_whole.specs.declared.types.CType.TheVariants as ty
 use Rattle.cc_whole.specs.declared.statement.CLocal.{CLocal}
-use Rattle.cc_whole.specs.declared.unit.CParameter.{CParameter}
 use Rattle.cc_whole.specs.Uses.{local_names, parameter_names}
 use Rattle.cf_lower.specs.Written.{if_scalar, c_type, local_name, register_name, flag_name, result_name, type_number}
 use Rattle.cf_lower.specs.Functions.{scalar, own_locals, registers, flags, result_at, each_once, results, lowered_parameters}
-use Rattle.cc_whole_sections.specs.Sections.{In, Every}
-use Rattle.cf_lower_valid.proofs.Digits.{room, rank, rank_of, ranked}
+use Rattle.cc_whole_sections.specs.Sections.{Every}
+use Rattle.cf_lower_valid.proofs.Digits.{room, rank, ranked}
 use Rattle.cf_lower_valid.proofs.Differ.{Names, Distinct, distinct-append, ranks-differ, Span, span-from, span-append, Between, span-between, span-distinct}
 use Rattle.cf_lower_valid.proofs.Inner.{every-mapped, every-append}
 

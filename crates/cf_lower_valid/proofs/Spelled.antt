@@ -1,5 +1,5 @@
 -- The C of plain statements has a text: no body inside has locals.
-use Rattle.std.proofs.Common.{◌≡◌, ℕ, zero, suc, ◌+◌, ◌*◌, Bool, true, ◌&&◌, List, [], ◌∷◌, ◌++◌, refl}
+use Rattle.std.proofs.Common.{◌≡◌, ℕ, zero, suc, ◌+◌, ◌*◌, true, ◌&&◌, List, [], ◌∷◌, ◌++◌, refl}
 use Rattle.std.specs.Prelude.{Option, Some, None}
 use Rattle.cf_base.proofs.Tests.{all_of}
 use Rattle.cf_core.specs.Types.{SourceType, array, const, result as result_type}
@@ -11,11 +11,11 @@ use Rattle.cf_plain.specs.Plain.{Register, Action, Plain, Plains, act, set, bran
 use Rattle.cc_whole.specs.Plain as c
 use Rattle.cc_whole.specs.Plain.{Expression, Statement, SwitchItems, Callee, in_order}
 use Rattle.cc_whole.specs.Spellable.{spellable, spellable_statements, spellable_switch}
-use Rattle.cf_lower.specs.Kept.{Kept, holds, argument, Keeping, local_kept, Locals, kept_by, after, untouched}
+use Rattle.cf_lower.specs.Kept.{Kept, holds, argument, Keeping, local_kept, kept_by, after, untouched}
 use Rattle.cf_lower.specs.Written.{if_scalar, c_type, result_name}
 use Rattle.cf_lower.specs.Expressions.{zero as nought, address_in, value_in}
 use Rattle.cf_lower.specs.Expressions as value
-use Rattle.cf_lower.specs.Statements.{Inside, put, stored, stored_in, first_in, behind, for_each, zeros, zeros_in, put_bytes, bytes_in, called, done, put_in, kept, no_value, given, flag_set, if_flag, set_register, passed, through, block, in_stepped, in_loop, in_switch, stated_all, lowered, all_lowered, items}
+use Rattle.cf_lower.specs.Statements.{Inside, put, stored_in, first_in, behind, for_each, zeros, zeros_in, put_bytes, called, done, put_in, kept, no_value, given, flag_set, if_flag, set_register, passed, through, in_stepped, in_loop, in_switch, stated_all, lowered, all_lowered, items}
 
 abbrev pub AllSpelled : List Statement → Type 0
 AllSpelled [] = Unit {0}
@@ -121,14 +121,16 @@ mutual
       let h = untouched x.locals (untouched x.locals g ss) ts in
       let inner = all_lowered ss (in_stepped x) h in
       let steps = all_lowered ts (in_loop x) h in
-      let turn : List Statement = flag_set x.depth 0 ∷ c.select nought (c.otherwise (stated_all inner c.closed)) ∷ if_flag x.depth (c.leave ∷ []) ∷ steps in
-      (spelled-in-order turn (
-        refl,
-        (
-          stated-spelled inner c.closed (all-spelled ss (in_stepped x) h (refl, (refl, tt)) (refl, tt)) refl,
-          (refl, all-spelled ts (in_loop x) h (refl, tt) (refl, tt)),
+      let turn : List Statement = flag_set x.depth 0 ∷ c.select nought (c.otherwise (stated_all inner c.closed)) ∷ if_flag x.depth (c.leave ∷ []) ∷ steps in (
+        spelled-in-order turn (
+          refl,
+          (
+            stated-spelled inner c.closed (all-spelled ss (in_stepped x) h (refl, (refl, tt)) (refl, tt)) refl,
+            (refl, all-spelled ts (in_loop x) h (refl, tt) (refl, tt)),
+          ),
         ),
-      ), tt)
+        tt,
+      )
   statement-spelled (switch r ss) x g l o = (
     refl,
     (

@@ -1,5 +1,5 @@
 -- What constant initialisers store has a text.
-use Rattle.std.proofs.Common.{◌≡◌, ℕ, Bool, true, false, List, [], ◌∷◌, ◌++◌, refl, subst, inl, inr}
+use Rattle.std.proofs.Common.{◌≡◌, ℕ, Bool, true, false, List, [], ◌∷◌, refl, subst, inl, inr}
 use Rattle.std.specs.Prelude.{Option, Some, None}
 use Rattle.std.specs.List.{flat_map}
 use Rattle.cf_core.specs.Types.{Name}
@@ -12,7 +12,7 @@ use Rattle.cf_lower.specs.Written.{if_scalar}
 use Rattle.cf_lower.specs.Statements.{put}
 use Rattle.cf_lower.specs.Constants.{Known, at, at_byte, written, stored, stored_bytes, constant_done, holds_truth, known_after, constant_stores, constant_code}
 use Rattle.cf_lower.specs.Functions.{constants_function}
-use Rattle.cc_whole_sections.specs.Sections.{In, Every}
+use Rattle.cc_whole_sections.specs.Sections.{Every}
 use Rattle.cf_lower_valid.proofs.Spelled.{AllSpelled, spelled-append, spelled-in-order, bytes-spelled}
 
 module _ (f : Name) where

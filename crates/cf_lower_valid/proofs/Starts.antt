@@ -1,15 +1,12 @@
 -- What constant initialisers store is valid, in the helper that is called before `main`.
-use Rattle.std.proofs.Common.{◌≡◌, ℕ, Bool, true, false, ◌||◌, not, List, [], ◌∷◌, ◌++◌, cond, refl, ap, sym, subst, ◌∙◌, inl, inr}
-use Rattle.std.specs.Prelude.{Option, None, filter, codes}
+use Rattle.std.proofs.Common.{Bool, true, false, ◌||◌, not, List, [], ◌∷◌, cond, refl, ap, subst, inl, inr}
+use Rattle.std.specs.Prelude.{None, filter}
 use Rattle.std.specs.List.{flat_map}
-use Rattle.cf_plain.specs.Plain.{Action, PlainFunction, PlainStatic}
-use Rattle.cf_plain.specs.Named.{all_actions}
-use Rattle.cc_whole.specs.Plain.{Statement, Item, defines, body, in_order}
-use Rattle.cc_whole.specs.Spellable.{spellable_item}
-use Rattle.cc_whole.specs.Fault.{fine, moved}
+use Rattle.cf_plain.specs.Plain.{PlainFunction, PlainStatic}
+use Rattle.cc_whole.specs.Plain.{Statement, body, in_order}
+use Rattle.cc_whole.specs.Fault.{moved}
 use Rattle.cc_whole.specs.Known.{Named, Known}
-use Rattle.cc_whole.specs.Valid.{named_by}
-use Rattle.cf_lower.specs.Constants.{Known as Held, at, nothing_known, constant_code}
+use Rattle.cf_lower.specs.Constants.{nothing_known, constant_code}
 use Rattle.cf_lower.specs.Functions.{owner_of, constants_function}
 use Rattle.cf_lower_program.specs.Lowerable.{Lowerable}
 use Rattle.cf_lower_valid_body.proofs.Stores.{AllChecked, all-append, in-order}
@@ -17,7 +14,7 @@ use Rattle.cc_whole_sections.specs.Sections.{In, Every, Stands, IsFunction, Uses
 use Rattle.cf_lower_valid.proofs.Tests.{file_of, static-told, action-of-static, action-text}
 use Rattle.cf_lower_valid.proofs.Known.{constants_prototype, wanted}
 use Rattle.cf_lower_valid.proofs.Naming.{declared-in-static, names-what}
-use Rattle.cf_lower_valid.proofs.Constants.{StartsWith, start-checked}
+use Rattle.cf_lower_valid.proofs.Constants.{start-checked}
 
 module _ (fs : List PlainFunction) (xs : List PlainStatic) (low : Lowerable (file_of fs xs)) where
   abbrev pub start_code : PlainStatic → List Statement

@@ -1,10 +1,10 @@
 -- What the tests of a lowered file say of each of its functions, static objects, actions and names.
-use Rattle.std.proofs.Common.{◌≡◌, ℕ, ◌+◌, ◌^◌, ◌≤◌, nat_le, Bool, true, false, not, ◌&&◌, ◌||◌, List, [], ◌∷◌, ◌++◌, length, map, refl, ap, sym, subst, ◌∙◌, inl, inr, arith, length-append}
-use Rattle.std.specs.Prelude.{Option, Some, None, is_some}
+use Rattle.std.proofs.Common.{◌≡◌, ℕ, ◌+◌, ◌^◌, ◌≤◌, nat_le, Bool, true, false, not, ◌&&◌, ◌||◌, List, [], ◌∷◌, ◌++◌, length, map, refl, subst, inl, inr, arith, length-append}
+use Rattle.std.specs.Prelude.{is_some}
 use Rattle.std.specs.List.{list_all, flat_map}
 use Rattle.std.proofs.lemmas.Bool.Decides.{nat_tests}
 use Rattle.cf_base.proofs.Tests.{both, all_of}
-use Rattle.cf_core.specs.Types.{Name, SourceType, is_void, parameters, result as result_type}
+use Rattle.cf_core.specs.Types.{SourceType, is_void, parameters, result as result_type}
 use Rattle.cf_core.specs.Core.{Role, plain_function}
 use Rattle.cf_core.specs.Classes.{Class}
 use Rattle.cf_core.specs.Typing.{is_function}
@@ -20,7 +20,7 @@ use Rattle.cf_lower.specs.Constants.{nothing_known}
 use Rattle.cf_lower.specs.Functions.{all_bound, all_nesting, owner_of, own_prototypes, own_variables, named_in}
 use Rattle.cf_lower_kept.specs.Ready.{function_ready}
 use Rattle.cf_lower_program.specs.Types.{is_laid, is_lowered, is_callable, file_actions, types_at, types_in, is_well_typed}
-use Rattle.cf_lower_program.specs.Names.{may_be_function, may_be_object, is_well_named, has_own_type, same_types, is_foreign, is_function_name, is_object_name}
+use Rattle.cf_lower_program.specs.Names.{may_be_function, may_be_object, is_well_named, has_own_type, same_types}
 use Rattle.cf_lower_program.specs.Starts.{starts_known, owner_there, text_fits}
 use Rattle.cf_lower_program.specs.Labels.{all_labels_fit}
 use Rattle.cf_lower_program.specs.Counts.{function_counts}

@@ -1,22 +1,19 @@
 -- The items of a lowered file have a text.
-use Rattle.std.proofs.Common.{◌≡◌, ℕ, ◌+◌, ◌^◌, ◌≤◌, Bool, true, false, ◌&&◌, List, [], ◌∷◌, ◌++◌, length, slice_get, map, refl, ap, sym, subst, ◌∙◌, inl, inr, arith}
-use Rattle.std.specs.Prelude.{Option, Some, None, decimal, filter}
-use Rattle.std.specs.List.{list_all, flat_map}
+use Rattle.std.proofs.Common.{◌≡◌, true, List, [], ◌++◌, length, map, refl, ap, subst, ◌∙◌, inl, inr}
+use Rattle.std.specs.Prelude.{filter}
+use Rattle.std.specs.List.{list_all}
 use Rattle.std.specs.Fmt.{digits}
 use Rattle.cf_base.proofs.Tests.{all_of}
-use Rattle.cf_core.specs.Types.{Name, parameters, result as result_type}
-use Rattle.cf_plain.specs.Plain.{Register, Plain, Plains, act, branch, nothing, more, PlainFunction, PlainStatic, PlainFile}
-use Rattle.cf_plain.specs.Plain as plain
+use Rattle.cf_core.specs.Types.{parameters, result as result_type}
+use Rattle.cf_plain.specs.Plain.{PlainFunction, PlainStatic, PlainFile}
 use Rattle.cf_plain.specs.Named.{all_actions}
 use Rattle.cc_whole_tokens.specs.Token.{is_word_byte, is_name}
 use Rattle.cc_whole.specs.declared.statement.CLocal.{CLocal}
-use Rattle.cc_whole.specs.Plain.{Statement, Item, declares, defines, in_order}
+use Rattle.cc_whole.specs.Plain.{Item, declares, defines, in_order}
 use Rattle.cc_whole.specs.Spellable.{good_locals, spellable_statements, spellable_body, spellable_prototype, spellable_item, spellable_items}
-use Rattle.cf_lower_layout.specs.Sorts.{Sort, sort_of}
 use Rattle.cf_lower.specs.Kept.{nothing_kept}
-use Rattle.cf_lower.specs.Written.{if_scalar}
-use Rattle.cf_lower.specs.Statements.{put, all_lowered, no_value}
-use Rattle.cf_lower.specs.Constants.{Known, at, at_byte, written, stored, stored_bytes, constant_done, nothing_known, holds_truth, known_after, constant_stores, constant_code}
+use Rattle.cf_lower.specs.Statements.{all_lowered, no_value}
+use Rattle.cf_lower.specs.Constants.{nothing_known}
 use Rattle.cf_lower.specs.Functions.{all_bound, all_nesting, inside, prototype, lowered_function, owner_of, library, constants_function, own_prototypes, own_variables, named_in, defined_elsewhere, lowered_file}
 use Rattle.cf_lower_program.specs.Lowerable.{Lowerable}
 use Rattle.cc_whole_sections.specs.Sections.{In, Every}
@@ -26,7 +23,7 @@ use Rattle.cf_lower_valid.proofs.Inner.{mapped-in, every-mapped, every-append}
 use Rattle.cf_lower_valid.proofs.Spans.{locals_after}
 use Rattle.cf_lower_valid.proofs.Own.{letters}
 use Rattle.cf_lower_valid.proofs.Scopes.{local-names}
-use Rattle.cf_lower_valid.proofs.Spelled.{AllSpelled, spelled-append, spelled-in-order, all-spelled, no-value-spelled}
+use Rattle.cf_lower_valid.proofs.Spelled.{spelled-append, spelled-in-order, all-spelled, no-value-spelled}
 use Rattle.cf_lower_valid.proofs.SpelledStarts.{starts-spelled, flat-spelled, helper-spelled}
 use Rattle.cf_lower_valid.proofs.Tests.{file_of, all-in, in-all, tested, names-told, function-told}
 use Rattle.cf_lower_valid.proofs.Starts.{start_code, stores}

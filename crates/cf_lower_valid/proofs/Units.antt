@@ -1,5 +1,5 @@
 -- The unit of a lowered file is valid.
-use Rattle.std.proofs.Common.{◌≡◌, Bool, true, ◌&&◌, List, [], ◌∷◌, refl, ap, sym, subst, ◌∙◌}
+use Rattle.std.proofs.Common.{◌≡◌, true, List, [], ◌∷◌, refl, ap, subst, ◌∙◌}
 use Rattle.cf_base.proofs.Tests.{all_of}
 use Rattle.cf_core.specs.Classes.{Class}
 use Rattle.cf_plain.specs.Plain.{PlainFunction, PlainStatic, PlainFile}
