@@ -1,5 +1,5 @@
 -- The laws on whole programs: the units of lowered files are valid, they are linked where the plain files are joined, and what is linked of them does what the plain
--- files mean. They are not proved yet.
+-- files mean. The first is proved by `cf_lower_valid`; the others are not proved yet.
 use Rattle.std.specs.Prelude.{◌≡◌, ℕ, ◌<◌, true, List, [], ◌∷◌, Option, Some, None, Ok, All}
 use Rattle.cf_base.specs.World.{Outcome}
 use Rattle.cf_base.specs.Agree.{Agree}
