@@ -9,6 +9,8 @@ mod expression;
 mod laws;
 mod lines;
 mod statement;
+#[cfg(test)]
+mod tests;
 mod unit;
 
 pub use laws::printed_text_is_its_text;

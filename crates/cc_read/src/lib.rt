@@ -13,6 +13,8 @@ mod laws;
 mod reader;
 mod shrunk;
 mod statement;
+#[cfg(test)]
+mod tests;
 mod unit;
 mod value;
 

@@ -15,6 +15,8 @@ mod names;
 mod state;
 mod statements;
 mod step;
+#[cfg(test)]
+mod tests;
 mod types;
 
 pub use machine::Machine;

@@ -15,3 +15,6 @@ mod statements;
 mod words;
 
 pub use items::is_valid;
+
+#[cfg(test)]
+mod tests;

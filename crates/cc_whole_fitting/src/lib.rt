@@ -7,6 +7,8 @@
 mod before;
 mod laws;
 mod numbers;
+#[cfg(test)]
+mod tests;
 
 pub use laws::numbers_fit_as_their_items;
 pub use numbers::numbers_fit;

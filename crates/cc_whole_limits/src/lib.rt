@@ -10,3 +10,6 @@ mod sizes;
 mod sums;
 
 pub use limit::{StartLimit, may_start};
+
+#[cfg(test)]
+mod tests;

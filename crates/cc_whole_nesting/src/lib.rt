@@ -8,6 +8,8 @@ mod kind;
 mod level;
 mod levels;
 mod nesting;
+#[cfg(test)]
+mod tests;
 
 pub use levels::NESTING_LIMIT;
 pub use nesting::is_too_deep;

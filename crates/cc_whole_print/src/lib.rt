@@ -8,6 +8,8 @@ mod expression;
 mod initialiser;
 mod lines;
 mod statement;
+#[cfg(test)]
+mod tests;
 mod types;
 mod unit;
 

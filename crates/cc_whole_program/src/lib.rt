@@ -8,3 +8,6 @@ mod program;
 mod statements;
 
 pub use program::{ValidProgram, is_valid_program};
+
+#[cfg(test)]
+mod tests;

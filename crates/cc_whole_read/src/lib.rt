@@ -9,6 +9,8 @@ mod landmarks;
 mod laws;
 mod places;
 mod reader;
+#[cfg(test)]
+mod tests;
 
 pub use error::ReadErr;
 pub use laws::{text_has_one_unit, text_of_a_valid_unit_is_read, text_stops_at_one_place};

@@ -15,3 +15,6 @@ pub use laws::variables_take_what_the_limit_counts;
 pub use limit::passes_static;
 pub use names::FileNames;
 pub use state::Start;
+
+#[cfg(test)]
+mod tests;

@@ -42,3 +42,6 @@ pub use memory::{Failed, Memory};
 pub use rule::{Broken, Rule};
 pub use sink::Sink;
 pub use source::Source;
+
+#[cfg(test)]
+mod outside_tests;

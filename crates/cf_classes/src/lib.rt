@@ -16,3 +16,6 @@ pub use classes::Classes;
 pub use label::Label;
 pub use laws::{names_are_decoded, names_tell_entities_apart};
 pub use path::{Path, Step};
+
+#[cfg(test)]
+mod tests;

@@ -7,3 +7,6 @@ mod types;
 
 pub use conv::{Conv, ConvStep, Val};
 pub use implicit::standard;
+
+#[cfg(test)]
+mod tests;

@@ -7,6 +7,8 @@
 mod node;
 mod operators;
 mod place;
+#[cfg(test)]
+mod tests;
 mod unit;
 
 pub use node::{BuiltPart, Change, Core, Holder, PartStart, Target};

@@ -6,6 +6,8 @@
 mod costs;
 mod functions;
 mod sizes;
+#[cfg(test)]
+mod tests;
 mod walk;
 
 pub use functions::{frame, frames};

@@ -12,6 +12,8 @@ mod file;
 mod names;
 mod specifiers;
 mod statements;
+#[cfg(test)]
+mod tests;
 
 pub use fault::LoadFault;
 pub use file::load;

@@ -22,3 +22,6 @@ mod unit;
 mod values;
 
 pub use unit::translate;
+
+#[cfg(test)]
+mod tests;

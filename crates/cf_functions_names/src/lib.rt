@@ -17,3 +17,6 @@ mod uses;
 
 pub use fault::NameFault;
 pub use program::check;
+
+#[cfg(test)]
+mod tests;

@@ -8,6 +8,8 @@
 mod fault;
 mod laws;
 mod reader;
+#[cfg(test)]
+mod tests;
 
 pub use fault::Fault;
 pub use laws::file_has_one_answer;

@@ -4,3 +4,6 @@
 mod scopes;
 
 pub use scopes::{EntityId, Scopes};
+
+#[cfg(test)]
+mod tests;

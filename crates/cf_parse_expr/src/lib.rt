@@ -33,3 +33,6 @@ pub use level::Level;
 pub use place::{declarator, expr, params, type_id};
 pub use scopes::Scopes;
 pub use stop::Stop;
+
+#[cfg(test)]
+mod tests;

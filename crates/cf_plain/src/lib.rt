@@ -6,6 +6,8 @@
 
 mod action;
 mod statement;
+#[cfg(test)]
+mod tests;
 mod unit;
 
 pub use action::Action;

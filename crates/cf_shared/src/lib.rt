@@ -9,3 +9,6 @@ pub mod tree;
 
 pub use shared::Shared;
 pub use shared_vec::SharedVec;
+
+#[cfg(test)]
+mod tests;

@@ -27,3 +27,6 @@ pub use fault::LexFault;
 pub use laws::{longest_tokens, one_answer};
 pub use lexer::tokens;
 pub use token::{Token, Word};
+
+#[cfg(test)]
+mod tests;

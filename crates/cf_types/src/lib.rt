@@ -15,3 +15,6 @@ pub use ids::{ClassId, FunId, TyId};
 pub use integers::{convert_int, promote, usual};
 pub use ty::{Fun, Ty};
 pub use types::Types;
+
+#[cfg(test)]
+mod tests;

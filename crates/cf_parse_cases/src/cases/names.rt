@@ -1,0 +1,31 @@
+//! Files with what the grammar makes of them, worked out by hand. `$` stands where K6 is expected, and is no part of the text.
+
+/// Names that are types, and where they are hidden (3.2).
+pub const NAMES: [&str; 26] = [
+    "typedef int T;void f(int T){$T x;}",
+    "typedef int T;void f(int T){T=1;}",
+    "typedef int T;void f(int T,T x){}",
+    "typedef int T;int main(){T T=1;{$T x;}}",
+    "typedef int T;int main(){int T=T();}",
+    "typedef int T;int main(){$int T=(T)1;}",
+    "typedef int T;int main(){int U=(T)1;}",
+    "typedef int P;int main(){enum{P};$P x;}",
+    "typedef int T;int main(){for(int T=0;;);$T x;}",
+    "typedef int T;int main(){if(1)int T;$T x;}",
+    "typedef int T;int main(){{int T;}T x;}",
+    "typedef int T;int main(){switch(1){int T;}T x;}",
+    "int main(){switch(1){typedef int T;}$T x;}",
+    "int main(){typedef int T;T x;}$T y;",
+    "typedef int T;int T;$T x;",
+    "typedef int T;typedef int T;T x;",
+    "typedef int T,*P,F(int);T x;P y;F z;",
+    "int f(){$T x;}typedef int T;",
+    "typedef int T;int f(T T,int);",
+    "enum E{A,B=A,C};E e=C;",
+    "typedef enum{P}E;E e=P;",
+    "typedef int T;struct A{int T;};T x;",
+    "typedef int T;struct A{int T;};$A::T x;",
+    "struct A{typedef int T;};struct B:A{};B::T x;struct C:B{T y;};",
+    "struct A{typedef int T;};struct B:A{int T;};$B::T x;",
+    "struct B;struct A:B{$B::T x;};",
+];
