@@ -16,7 +16,7 @@ use Rattle.cf_core.specs.declared.unit.CoreFn.{CoreFn}
 use Rattle.cf_core.specs.declared.unit.CoreStatic.{CoreStatic}
 use Rattle.cf_elab.specs.Statement.{expression_row, return_row, switch_row, case_row}
 use Rattle.cf_elab.specs.File.{First, Core, Broken, Limit}
-use Rattle.cf_elab.proofs.Words.{number, named, call, joined, applied, set, basic_at, int_at, called, pointing, referring, taking, holding, parameter, plain, with_value, declared_item, local, main, function, elaborates, enumeration, type_name}
+use Rattle.cf_elab.proofs.Words.{number, named, call, joined, applied, set, basic_at, int_at, called, unnamed, pointing, referring, taking, holding, parameter, type_in, cast, plain, with_value, declared_item, local, main, function, elaborates, enumeration, type_name}
 
 abbrev pub bodies : First → List Node
 bodies (Core u) = map (λ (f : CoreFn). f.body) u.functions
@@ -90,3 +90,27 @@ switch_over_an_enumeration :
     (node.Case 43 (pos 5) ∷ node.Return 50 (Some (node.Number 57 (pos 1))) ∷ node.Case 59 (pos 6) ∷ node.Return 66 (Some (node.Number 73 (pos 2))) ∷ [])
     ∷ node.Return 76 (Some (node.Number 83 (pos 3))) ∷ []) ∷ []
 switch_over_an_enumeration = refl
+
+-- ---- where values stand
+
+-- int x;int f(){return (int&)x;}: what is read stands at the cast
+place_of_a_cast :
+    bodies (elaborates (declared_item 0 (int_at 0 ∷ []) (plain 4 (called 4 (codes "x")) ∷ [])
+    ∷ function (int_at 6 ∷ []) 10 (taking 11 [] (called 10 (codes "f"))) 13
+    (return_row 14 (Some (cast 21 (type_in 22 (specifier.Basic 22 basic.Int ∷ []) (referring 25 unnamed)) (named 27 (codes "x")))) ∷ []) ∷ []))
+    ≡ node.Block 13 (node.Return 14 (Some (node.Read 21 (node.Static 27 (codes "x") 0))) ∷ []) ∷ []
+place_of_a_cast = refl
+
+-- int f(char c){return +c;}
+place_of_a_plus :
+    bodies (elaborates (function (int_at 0 ∷ []) 4 (taking 5 (parameter 6 (specifier.Basic 6 basic.Char ∷ []) (called 11 (codes "c")) ∷ []) (called 4 (codes "f"))) 13
+    (return_row 14 (Some (applied 21 op.Plus (named 22 (codes "c")))) ∷ []) ∷ []))
+    ≡ node.Block 13 (node.Return 14 (Some (node.Convert 21 0 (node.Read 22 (node.Local 22 0)))) ∷ []) ∷ []
+place_of_a_plus = refl
+
+-- void*f(int*p){return +p;}: the types behind the functions' are int* (5) and void* (6)
+place_of_a_plus_of_a_pointer :
+    bodies (elaborates (function (basic_at 0 basic.Void ∷ []) 4 (pointing 4 (taking 6 (parameter 7 (specifier.Basic 7 basic.Int ∷ []) (pointing 10 (called 11 (codes "p"))) ∷ []) (called 5 (codes "f")))) 13
+    (return_row 14 (Some (applied 21 op.Plus (named 22 (codes "p")))) ∷ []) ∷ []))
+    ≡ node.Block 13 (node.Return 14 (Some (node.Convert 21 6 (node.Read 22 (node.Local 22 0)))) ∷ []) ∷ []
+place_of_a_plus_of_a_pointer = refl

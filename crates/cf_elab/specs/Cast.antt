@@ -102,7 +102,7 @@ cast_value at t s v = plain v >>= (λ x. cast_plain at t s (record x { at = at }
 abbrev pub to_nothing : Env → ℕ → ℕ → Value → Value
 to_nothing env at t v = computed at (node.Convert at t (unused env v)) t
 
--- an lvalue as one of the type that a reference refers to
+-- an lvalue as one of the type that a reference refers to; it stands at the cast
 abbrev pub as_place : ℕ → ℕ → Value → Elab Value
 as_place at u v = do
   need v.is_lvalue 17 at
@@ -111,7 +111,7 @@ as_place at u v = do
 
 abbrev pub cast_sort : ℕ → ℕ → Value → Sort → Elab Value
 cast_sort at t v void_sort = known >>= (λ env. gives (to_nothing env at t v))
-cast_sort at t v (reference_sort u) = as_place at u v
+cast_sort at t v (reference_sort u) = as_place at u (record v { at = at })
 cast_sort at t v s = cast_value at t s v
 
 -- a cast to a type that is no class, of a value that is none

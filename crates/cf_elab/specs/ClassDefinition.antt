@@ -32,8 +32,8 @@ use Rattle.cf_elab.specs.Complete.{complete, within, most_name, type_within}
 use Rattle.cf_elab.specs.Names.{declared_here, entity_of, is_file_scope}
 use Rattle.cf_elab.specs.ClassScope.{asked_by, in_class, class_changed, open_class, add_member, has_name, member_named, plain_member, declare_alias, declare_class}
 use Rattle.cf_elab.specs.Paths.{class_at_path}
-use Rattle.cf_elab.specs.Specifiers.{Gathered, is_static, is_extern, automatic_at, storage_at}
-use Rattle.cf_elab.specs.Declaration.{earlier, same_alias}
+use Rattle.cf_elab.specs.Specifiers.{Gathered, is_static, is_extern, automatic_at, storage_at, earlier}
+use Rattle.cf_elab.specs.Declaration.{same_alias}
 
 -- ---- bases (10)
 

@@ -1,5 +1,5 @@
 -- Declarations of a file or a block (3, 6.7, 7, 8).
-use Rattle.std.specs.Prelude.{ℕ, Bool, true, false, not, ◌==◌, ◌&&◌, ◌||◌, nat_le, if◌then◌else◌, List, [], ◌∷◌, ◌++◌, map, codes, Option, None, Some, slice_get, is_some, bytes_eq}
+use Rattle.std.specs.Prelude.{ℕ, Bool, true, false, not, ◌==◌, ◌&&◌, ◌||◌, if◌then◌else◌, List, [], ◌∷◌, ◌++◌, map, codes, Option, None, Some, slice_get, is_some, bytes_eq}
 use Rattle.std.specs.Option.{option_map, option_map_or}
 use Rattle.cf_syntax.specs.declared.name.Last.{Last}
 use Rattle.cf_syntax.specs.declared.name.Last.TheVariants as last
@@ -25,7 +25,7 @@ use Rattle.cf_elab.specs.Made.{int, array_of, same_ty}
 use Rattle.cf_elab.specs.Operand.{Part, sort_of, is_function, is_void, defs}
 use Rattle.cf_elab.specs.Names.{declared_here, declare, is_file_scope, key}
 use Rattle.cf_elab.specs.Complete.{complete, type_within}
-use Rattle.cf_elab.specs.Specifiers.{Gathered, base_type, is_typedef, is_static, is_extern, automatic_at, storage_at}
+use Rattle.cf_elab.specs.Specifiers.{Gathered, base_type, is_typedef, is_static, is_extern, automatic_at, storage_at, earlier}
 use Rattle.cf_elab.specs.Shape.{Parameter, Shape, is_inner, function_of, Position, Shaped, whole, unbounded, typed, bounds_constant, nowhere}
 use Rattle.cf_elab.specs.Expression.{elaborated, declared}
 use Rattle.cf_elab.specs.Declarator.{Declared, only_whole}
@@ -75,11 +75,6 @@ abbrev pub declares : InitDeclarator → Declares
 declares d = record { at = d.at; declared = declared d.declarator; initial = option_map initial_of d.initialiser }
 
 -- ---- specifiers that conflict (7.1): the first place at fault in the text
-
-abbrev pub earlier : Option ℕ → Option ℕ → Option ℕ
-earlier None b = b
-earlier (Some a) None = Some a
-earlier (Some a) (Some b) = if nat_le a b then Some a else Some b
 
 abbrev pub declares_function : Env → ℕ → Shape → Bool
 declares_function env base s = is_some (function_of s) || (is_inner s && is_function (sort_of env.types base))

@@ -10,12 +10,13 @@ use Rattle.cf_syntax.specs.declared.specifier.TypeSpecifier.TheVariants as speci
 use Rattle.cf_syntax.specs.declared.declarator.DeclTree.TheOpen.{DeclTree-F}
 use Rattle.cf_syntax.specs.declared.declarator.Param.{Param-F}
 use Rattle.cf_syntax.specs.declared.declarator.TypeId.{TypeId-F}
+use Rattle.cf_convert.specs.Constness as constness
 use Rattle.cf_elab.specs.Env.{Env}
 use Rattle.cf_elab.specs.Answer.{Elab, ◌>>=◌, ◌>>◌, gives, need, none_at, known, each, maybe, hand_changed}
 use Rattle.cf_elab.specs.Made.{pointer_to}
 use Rattle.cf_elab.specs.Operand.{Part, evaluated, Sort, array_sort, enumeral, class_sort, sort_of, is_void, is_function}
 use Rattle.cf_elab.specs.Paths.{type_at_path, keyed_type, class_at_path}
-use Rattle.cf_elab.specs.Specifiers.{Word, stored_as, const_word, basic_word, type_word, gathered, base_type, parameter_conflict, type_conflict}
+use Rattle.cf_elab.specs.Specifiers.{Word, stored_as, const_word, basic_word, type_word, gathered, base_type, is_stored, parameter_conflict, type_conflict}
 use Rattle.cf_elab.specs.Shape.{Given, Parameter, Shape, inner, pointing, referring, to_member, taking, holding, nowhere, Shaped, whole, unbounded, typed, bounds_constant}
 
 -- ---- specifiers
@@ -62,9 +63,10 @@ pointed (pointer.ToMember at path is_const) s = do
   c ← class_at_path path
   gives (to_member at c is_const s)
 
--- `(void)` has no parameters (8.2.5)
+-- `(void)` has no parameters (8.2.5): the type alone, without const, a storage word, a name and a default argument
 abbrev pub is_nothing : Env → Parameter → Bool
-is_nothing env p = is_void (sort_of env.types p.type) && not (is_some p.name) && not (is_some p.default)
+is_nothing env p =
+    is_void (sort_of env.types p.type) && not (constness.is_const env.types p.type) && not p.is_stored && not (is_some p.name) && not (is_some p.default)
 
 abbrev pub named_at : Parameter → ℕ
 named_at p = elim p.name [ None ↦ p.at | Some n ↦ n.last_at ]
@@ -134,7 +136,7 @@ parameter_step p = do
   bounds_constant s
   u ← as_object t
   d ← maybe (λ (x : ℕ × Part). given_value x.0 x.1) p.default
-  gives (record { at = p.at; name = p.declarator.name; type = u; default = d })
+  gives (record { at = p.at; name = p.declarator.name; type = u; default = d; is_stored = is_stored (gathered ws) })
 
 -- ---- types in brackets
 

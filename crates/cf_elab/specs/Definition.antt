@@ -25,13 +25,13 @@ use Rattle.cf_elab.specs.Made.{int, void}
 use Rattle.cf_elab.specs.Operand.{defs}
 use Rattle.cf_elab.specs.Names.{scoped, is_main, key}
 use Rattle.cf_elab.specs.Paths.{class_of_names}
-use Rattle.cf_elab.specs.Specifiers.{Gathered, base_type, is_typedef, is_static, storage_at}
+use Rattle.cf_elab.specs.Specifiers.{Gathered, base_type, is_typedef, is_static, storage_at, earlier}
 use Rattle.cf_elab.specs.Shape.{Parameter, Shape, inner, function_of, Position, nowhere, Shaped, whole, unbounded, typed, bounds_constant}
 use Rattle.cf_elab.specs.Declarator.{type_from}
 use Rattle.cf_elab.specs.Expression.{pointed_shape}
 use Rattle.cf_elab.specs.Objects.{declare_in_block, block_object}
 use Rattle.cf_elab.specs.Functions.{declare_function}
-use Rattle.cf_elab.specs.Declaration.{need_plain_name, conflict, declares_function, earlier, unqualified, no_definition, function_says}
+use Rattle.cf_elab.specs.Declaration.{need_plain_name, conflict, declares_function, unqualified, no_definition, function_says}
 use Rattle.cf_elab.specs.Methods.{conversion_name, has_type, MethodKind, ordinary, constructs, destroys, converts, operates, Says, method_kind, declare_method, params_now, is_const_type, same_bool, label_name}
 use Rattle.cf_elab.specs.ClassDefinition.{method_conflict}
 use Rattle.cf_elab.specs.Bodies.{WrittenInit, body_kind, role_of, body_by_what}

@@ -20,7 +20,7 @@ use Rattle.cf_elab.specs.Answer.{Answer, Made, Refused, Passed, Elab, ◌>>=◌,
 use Rattle.cf_elab.specs.Made.{int, void, function_type}
 use Rattle.cf_elab.specs.Names.{declare, entity_named}
 use Rattle.cf_elab.specs.Functions.{is_library}
-use Rattle.cf_elab.specs.Declaration.{earlier}
+use Rattle.cf_elab.specs.Specifiers.{earlier}
 use Rattle.cf_elab.specs.Expression.{declared}
 use Rattle.cf_elab.specs.Trees.{declaration, definition}
 use Rattle.cf_elab.specs.Scan.{defined_names}

@@ -14,12 +14,13 @@ pub record Given : Type 0 where
   pub value : Value
   pub literals : ℕ
 
--- a parameter: its place, its name if it has one, its own type, and its default argument
+-- a parameter: its place, its name if it has one, its own type, its default argument, and whether `auto` or `register` stands before it
 pub record Parameter : Type 0 where
   pub at : ℕ
   pub name : Option WrittenName
   pub type : ℕ
   pub default : Option Given
+  pub is_stored : Bool
 
 -- A declarator whose bounds and parameters are elaborated, from the outside; `inner` is the name or nothing. An operator has its place.
 pub data Shape : Type 0 where

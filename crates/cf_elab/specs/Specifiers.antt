@@ -1,5 +1,5 @@
 -- Specifiers, and the type that they name (7.1).
-use Rattle.std.specs.Prelude.{ℕ, Bool, true, false, not, ◌||◌, if◌then◌else◌, List, [], ◌∷◌, Option, None, Some, is_some}
+use Rattle.std.specs.Prelude.{ℕ, Bool, true, false, not, ◌||◌, nat_le, if◌then◌else◌, List, [], ◌∷◌, Option, None, Some, is_some}
 use Rattle.std.specs.Option.{option_or}
 use Rattle.cf_base.specs.declared.kind.Kind.{Kind}
 use Rattle.cf_base.specs.declared.kind.Kind.TheVariants as kind
@@ -163,10 +163,23 @@ automatic_at g = elim g.storage [ None ↦ None | Some s ↦ automatic_word s.0 
 abbrev pub storage_at : Gathered → Option ℕ
 storage_at g = elim g.storage [ None ↦ None | Some s ↦ Some s.0 ]
 
--- a parameter takes auto and register alone, and a type in brackets no such word
+-- whether `auto` or `register` is among them
+abbrev pub is_stored : Gathered → Bool
+is_stored g = is_some (automatic_at g)
+
+-- the first place in the text, where there is one
+abbrev pub earlier : Option ℕ → Option ℕ → Option ℕ
+earlier None b = b
+earlier (Some a) None = Some a
+earlier (Some a) (Some b) = if nat_le a b then Some a else Some b
+
+-- the first place of `inline`, `virtual` and `friend`
+abbrev pub function_word_at : Gathered → Option ℕ
+function_word_at g = earlier g.inline_at (earlier g.virtual_at g.friend_at)
+
+-- a parameter takes auto and register alone, and a type in brackets no such word: the first place at fault in the text
 abbrev pub parameter_conflict : Gathered → Option ℕ
-parameter_conflict g =
-    option_or g.conflict (option_or (if is_some (automatic_at g) then None else storage_at g) (option_or g.inline_at (option_or g.virtual_at g.friend_at)))
+parameter_conflict g = earlier g.conflict (earlier (if is_stored g then None else storage_at g) (function_word_at g))
 
 abbrev pub type_conflict : Gathered → Option ℕ
-type_conflict g = option_or g.conflict (option_or (storage_at g) (option_or g.inline_at (option_or g.virtual_at g.friend_at)))
+type_conflict g = earlier g.conflict (earlier (storage_at g) (function_word_at g))

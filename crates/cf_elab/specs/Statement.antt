@@ -1,5 +1,5 @@
 -- Statements, and the definitions that hold them (6).
-use Rattle.std.specs.Prelude.{ℕ, if◌then◌else◌, Bool, true, false, not, ◌&&◌, ◌||◌, List, [], ◌∷◌, map, ℤ, pos, int_le, Option, None, Some, is_some}
+use Rattle.std.specs.Prelude.{ℕ, Bool, true, false, not, ◌&&◌, ◌||◌, List, [], ◌∷◌, map, ℤ, pos, int_le, Option, None, Some, is_some}
 use Rattle.std.specs.List.{list_any}
 use Rattle.std.specs.Option.{option_map, option_map_or}
 use Rattle.cf_base.specs.declared.kind.Kind.{Kind}
@@ -13,7 +13,7 @@ use Rattle.cf_elab.specs.MethodNode.{unused}
 use Rattle.cf_elab.specs.UserFit.{initial}
 use Rattle.cf_elab.specs.ClassOperand.{truth, scalar}
 use Rattle.cf_elab.specs.Answer.{Elab, ◌>>=◌, ◌>>◌, gives, done, breaks, need, known, hand_changed, maybe, all}
-use Rattle.cf_elab.specs.Operand.{Value, Part, evaluated, plain, sort_of, arithmetic, is_class, is_void}
+use Rattle.cf_elab.specs.Operand.{Value, Part, evaluated, plain, sort_of, arithmetic, is_void}
 use Rattle.cf_elab.specs.Fit.{to_kind}
 use Rattle.cf_elab.specs.Initial.{no_keeper}
 use Rattle.cf_elab.specs.Names.{scoped}

@@ -97,27 +97,27 @@ is_typedef_word (specifier.Storage at s) = typedef_storage s
     typedef_storage other = false
 is_typedef_word other = false
 
--- `class B` of an unknown B in a declaration enters a new class in the innermost scope (9.1), which has nothing else of the name, K8
-abbrev pub new_class_word : Path → Name → Elab Word
-new_class_word path name = do
+-- `class B` of an unknown B in a declaration enters a new class in the innermost scope (9.1), which has nothing else of the name, K8; the word stands at its key
+abbrev pub new_class_word : ℕ → Path → Name → Elab Word
+new_class_word at path name = do
   env ← known
   need (not (has_name env name)) 8 path.at
   c ← new_class name
   t ← intern (ty.Class c)
   declare_class name path.at c t
-  gives (type_word path.at t)
+  gives (type_word at t)
 
-abbrev pub word_unless_found : TypeSpecifier → Path → Name → Found → Elab Word
-word_unless_found s path name (entity None) = new_class_word path name
-word_unless_found s path name found = word_of s
+abbrev pub word_unless_found : TypeSpecifier → ℕ → Path → Name → Found → Elab Word
+word_unless_found s at path name (entity None) = new_class_word at path name
+word_unless_found s at path name found = word_of s
 
-abbrev pub class_word : TypeSpecifier → Path → List Name → Elab Word
-class_word s path (name ∷ []) = if path.from_file then word_of s else (known >>= (λ env. word_unless_found s path name (type_behind_key env false name)))
-class_word s path names = word_of s
+abbrev pub class_word : TypeSpecifier → ℕ → Path → List Name → Elab Word
+class_word s at path (name ∷ []) = if path.from_file then word_of s else (known >>= (λ env. word_unless_found s at path name (type_behind_key env false name)))
+class_word s at path names = word_of s
 
 abbrev pub word_in_declaration : TypeSpecifier → Elab Word
-word_in_declaration (specifier.Elaborated at key.Class path) = class_word (specifier.Elaborated at key.Class path) path path.names
-word_in_declaration (specifier.Elaborated at key.Struct path) = class_word (specifier.Elaborated at key.Struct path) path path.names
+word_in_declaration (specifier.Elaborated at key.Class path) = class_word (specifier.Elaborated at key.Class path) at path path.names
+word_in_declaration (specifier.Elaborated at key.Struct path) = class_word (specifier.Elaborated at key.Struct path) at path path.names
 word_in_declaration s = word_of s
 
 abbrev pub plain_row : TypeSpecifier → SpecifierRow

@@ -79,7 +79,7 @@ address_of at v = do
   t ← pointer_to v.type
   gives (record (computed at (node.Address at v.node) t) { is_fixed = v.is_fixed })
 
--- + takes a pointer too, which stays what it is
+-- + takes a pointer too, which stays what it is but stands at the operator
 abbrev pub promoted_or_pointer : ℕ → Value → Sort → Option Kind → Elab Value
 promoted_or_pointer at x s (Some k) = to_kind k x
 promoted_or_pointer at x (object_pointer t) None = gives x
@@ -101,7 +101,7 @@ on_plain v go = do
 abbrev pub prefixed : ℕ → PrefixOp → Value → Elab Value
 prefixed at prefix.Dereference v = on_plain v (dereferenced at)
 prefixed at prefix.AddressOf v = address_of at v
-prefixed at prefix.Plus v = on_plain v (λ x s. promoted_or_pointer at x s (arithmetic s))
+prefixed at prefix.Plus v = on_plain v (λ x s. promoted_or_pointer at (record x { at = at }) s (arithmetic s))
 prefixed at prefix.Minus v = on_plain v (λ x s. of_integer at negated x (arithmetic s))
 prefixed at prefix.Complement v = on_plain v (λ x s. of_integer at complemented x (arithmetic s))
 prefixed at prefix.Not v = negation at v

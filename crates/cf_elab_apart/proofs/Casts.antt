@@ -24,7 +24,7 @@ use Rattle.cf_elab_valid.proofs.Ways.{fine-as, inside-later, within-before, When
 use Rattle.cf_elab_apart.specs.Apart.{Apart}
 use Rattle.cf_elab_apart.proofs.Alike.{alike-Number, alike-Convert}
 use Rattle.cf_elab_apart.proofs.Answers.{Tells, tells-fine, tells-behind, tells-still}
-use Rattle.cf_elab_apart.proofs.Fit.{Both, PlainBoth, plain-both, fit-both}
+use Rattle.cf_elab_apart.proofs.Fit.{Both, placed-both, PlainBoth, plain-both, fit-both}
 use Rattle.cf_elab_apart.proofs.Settled.{some-mapped, bare-apart, alike-apart, fixed-apart}
 
 -- each of several values
@@ -76,16 +76,10 @@ module _ (s : Scene) (scene : IsScene s) where
   null-apart t x = alike-apart s (null_of t x) (alike-Convert s x.at t (node.Number x.at (pos 0)) (alike-Number s x.at (pos 0)))
 
   -- it stands at the cast
-  placed-both : (x : Value) (at : ℕ) (e : Env) → Both s x e → Both s (record x { at = at }) e
-  placed-both x at e b = (
-    record { inside = b.0.inside; numbers = b.0.numbers; allowed = b.0.allowed; meets = b.0.meets; number = b.0.number },
-    record { fixed = λ q. b.1.fixed q; number = λ l z. b.1.number l z },
-  )
-
   value-tells : (at t : ℕ) (v : Value) (e : Env) → Classless e → When s e (Holds s e) → When s e (Inside e t) → When s e (Both s v e) → (k : Sort) → When s e (sort_of e.types t ≡ k) → Tells s (Apart s) (row.cast_value at t k v e)
   value-tells at t v e c h i b k to =
       tells-behind s (PlainBoth s (decayed_tree s v.type (sort_of e.types v.type))) (Apart s) e (plain v e) _ (plain-both s scene e v c h b)
-      (λ x e1 g d held p. by (record x { at = at }) e1 d held (λ w. inside-later e e1 t g (i (within-before e e1 s g w))) (λ w. placed-both x at e1 ((p w).0.fits, (p w).1)) (is_zero x.number && takes_null k)
+      (λ x e1 g d held p. by (record x { at = at }) e1 d held (λ w. inside-later e e1 t g (i (within-before e e1 s g w))) (λ w. placed-both s x at e1 ((p w).0.fits, (p w).1)) (is_zero x.number && takes_null k)
       (λ w. let early = within-before e e1 s g w in
       sym (early-sort s.tables scene.table e1.types w.types t (inside-later e e1 t g (i early))) ∙ early-sort s.tables scene.table e.types early.types t (i early) ∙ to early))
     where
@@ -101,7 +95,7 @@ module _ (s : Scene) (scene : IsScene s) where
 
   sort-tells : (at t : ℕ) (v : Value) (e : Env) → Classless e → When s e (Holds s e) → When s e (Inside e t) → When s e (Both s v e) → (k : Sort) → When s e (sort_of e.types t ≡ k) → Tells s (Apart s) (row.cast_sort at t v k e)
   sort-tells at t v e c h i b void_sort to = λ w. bare-apart s (row.to_nothing e at t v) refl refl
-  sort-tells at t v e c h i b (reference_sort u) to = place-tells at u v e c (λ w. (b w).1)
+  sort-tells at t v e c h i b (reference_sort u) to = place-tells at u (record v { at = at }) e c (λ w. (placed-both s v at e (b w)).1)
   sort-tells at t v e c h i b (integral k) to = value-tells at t v e c h i b (integral k) to
   sort-tells at t v e c h i b (enumeral n) to = value-tells at t v e c h i b (enumeral n) to
   sort-tells at t v e c h i b (object_pointer u) to = value-tells at t v e c h i b (object_pointer u) to

@@ -26,7 +26,7 @@ use Rattle.cf_elab_valid.proofs.Early.{early-sort-is}
 use Rattle.cf_elab_valid.proofs.FitRows.{classless-type, no_defs, all_checked, steps_at, converted-fine, fit-fine}
 use Rattle.cf_elab_valid.proofs.Numbers.{no-number}
 use Rattle.cf_elab_valid.proofs.Plain.{decayed_tree, plain-fine}
-use Rattle.cf_elab_valid.proofs.Unary.{classless-sort}
+use Rattle.cf_elab_valid.proofs.Unary.{placed-fits, classless-sort}
 use Rattle.cf_elab_valid.proofs.Ways.{fits-later, within-before, When}
 use Rattle.cf_elab_apart.specs.Apart.{Apart}
 use Rattle.cf_elab_apart.proofs.Answers.{Known, known-then, known-as, known-any, still-known, fine-both, known-fine}
@@ -35,6 +35,10 @@ use Rattle.cf_elab_apart.proofs.Settled.{Settled, read-settled, decayed-settled,
 -- a value that fits and is apart
 abbrev pub Both : Scene → Value → Env → Type 0
 Both s v e = Fits s e v × Apart s v
+
+-- at another place of the text
+pub placed-both : (s : Scene) (v : Value) (at : ℕ) (e : Env) → Both s v e → Both s (record v { at = at }) e
+placed-both s v at e b = (placed-fits s v at e b.0, record { fixed = λ q. b.1.fixed q; number = λ l z. b.1.number l z })
 
 pub both-when : (s : Scene) (a b : Env) (v : Value) → Steps a b → When s a (Both s v a) → When s b (Both s v b)
 both-when s a b v g k = λ w. let h = k (within-before a b s g w) in (fits-later s a b v g h.0, h.1)

@@ -31,7 +31,7 @@ use Rattle.cf_elab_apart.specs.Apart.{Alike, Apart}
 use Rattle.cf_elab_apart.proofs.Alike.{alike-Address, alike-Dereference, alike-Index}
 use Rattle.cf_elab_apart.proofs.Answers.{Tells, tells-fine, tells-behind, tells-still}
 use Rattle.cf_elab_apart.proofs.Bare.{step-bare, bare-tells}
-use Rattle.cf_elab_apart.proofs.Fit.{Both, both-when, PlainBoth, plain-both}
+use Rattle.cf_elab_apart.proofs.Fit.{Both, placed-both, both-when, PlainBoth, plain-both}
 use Rattle.cf_elab_apart.proofs.Operators.{Aparts, to_kind-both, negated-apart, complemented-apart, negation-apart}
 use Rattle.cf_elab_apart.proofs.Settled.{fixed-apart}
 
@@ -81,7 +81,8 @@ module _ (s : Scene) (scene : IsScene s) where
   prefixed-tells at prefix.Dereference v e c h b = on_plain-tells v (row.dereferenced at) e c h b (λ x e1 d held p. dereferenced-tells at x e1 p (sort_of e1.types x.type))
   prefixed-tells at prefix.AddressOf v e c h b = address_of-tells at v e c h b
   prefixed-tells at prefix.Plus v e c h b =
-      on_plain-tells v (λ x k. row.promoted_or_pointer at x k (arithmetic k)) e c h b (λ x e1 d held p. promoted-tells at x e1 d held p (sort_of e1.types x.type) (arithmetic (sort_of e1.types x.type)))
+      on_plain-tells v (λ x k. row.promoted_or_pointer at (record x { at = at }) k (arithmetic k)) e c h b
+      (λ x e1 d held p. promoted-tells at (record x { at = at }) e1 d held (λ w. placed-both s x at e1 (p w)) (sort_of e1.types x.type) (arithmetic (sort_of e1.types x.type)))
   prefixed-tells at prefix.Minus v e c h b =
       on_plain-tells v (λ x k. row.of_integer at negated x (arithmetic k)) e c h b (λ x e1 d held p. of_integer-tells at negated x e1 (arithmetic (sort_of e1.types x.type)) (λ k. negated-apart s scene at k x e1 d held p))
   prefixed-tells at prefix.Complement v e c h b =

@@ -4,6 +4,7 @@ mod BinaryRows
 mod CallRows
 mod CastRows
 mod ChoiceRows
+mod DeclarationRows
 mod MemberRows
 mod NameRows
 mod SizeRows

@@ -1,4 +1,4 @@
-//! Files with what the definitions of elaboration make of their expressions: accepted, or the first broken rule with its place.
+//! Files with what the definitions of elaboration make of their expressions and declarations: accepted, or the first broken rule with its place.
 //!
 //! Each answer is worked out by hand from the rows of the constructs. `proofs/` has a row for each file: its tree, and that the definitions
 //! give this answer.
@@ -10,6 +10,7 @@ mod binaries;
 mod calls;
 mod casts;
 mod choices;
+mod declarations;
 mod members;
 mod names;
 mod sizes;
@@ -25,6 +26,7 @@ pub use binaries::BINARIES;
 pub use calls::CALLS;
 pub use casts::CASTS;
 pub use choices::CHOICES;
+pub use declarations::DECLARATIONS;
 pub use members::MEMBERS;
 pub use names::NAMES;
 pub use sizes::SIZES;

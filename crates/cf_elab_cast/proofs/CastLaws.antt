@@ -11,7 +11,7 @@ use Rattle.cf_elab.specs.Fit.{null_of}
 use Rattle.cf_elab.specs.Operand.{Value, Sort, sort_of, is_zero, void_sort, reference_sort}
 use Rattle.cf_elab_env.specs.Holds.{IsEnv, IsType, Known, Grows}
 use Rattle.cf_elab_env.proofs.Bare.{sort_bare}
-use Rattle.cf_elab_env.proofs.Growth.{grown_laws}
+use Rattle.cf_elab_env.proofs.Growth.{grown_laws, known_at}
 use Rattle.cf_elab_fit.specs.Shut as fit
 use Rattle.cf_elab_cast.specs.declared.form.Target.{Target}
 use Rattle.cf_elab_cast.specs.declared.form.Target.TheVariants as to
@@ -49,9 +49,6 @@ module _ (at t : ℕ) (v x : Value) (env next : Env) where
       ∙ ap (λ s. behind at t s (record x { at = at }) next) (sym (g.sorts t typed))
       ∙ plain_cast at t (record x { at = at }) next e.no_class_type (sort_of next.types t) (sort_of next.types x.type)
 
-pub known_at : (types : Table) (x : Value) (at : ℕ) → Known types x → Known types (record x { at = at })
-known_at types x at k = record { typed = k.typed; number = k.number }
-
 pub plain_is : (at t : ℕ) (x : Value) (env : Env) → shut.cast_plain at t x env ≡ shut.cast_by at t (form_at env.types t x.type x.number) x env
 unfolding shut.cast_plain
 plain_is at t x env = refl
@@ -61,7 +58,7 @@ plain_is at t x env = refl
 module _ (at t : ℕ) (v : Value) (env : Env) where
   by_target : (s : Sort) → Target → Answer Value
   by_target s to.Void = shut.to_nothing at t v env
-  by_target s (to.Place u) = shut.as_place at u v env
+  by_target s (to.Place u) = shut.as_place at u (record v { at = at }) env
   by_target s to.Value = row.cast_value at t s v env
 
   target_is : (s : Sort) → row.cast_sort at t v s env ≡ by_target s (target_of s)
@@ -78,7 +75,7 @@ module _ (at t : ℕ) (v : Value) (env : Env) where
   unfolding by_target
   cast_void is = bare_is to.Void is
 
-  pub cast_reference : (u : ℕ) → target_at env.types t ≡ to.Place u → shut.cast_bare at t v env ≡ shut.as_place at u v env
+  pub cast_reference : (u : ℕ) → target_at env.types t ≡ to.Place u → shut.cast_bare at t v env ≡ shut.as_place at u (record v { at = at }) env
   unfolding by_target
   cast_reference u is = bare_is (to.Place u) is
 
@@ -126,6 +123,6 @@ pub ruleset value_laws = (value_is, known_at, grown_laws)
 
 pub ruleset plain_laws = (plain_is, form_allowed)
 
-pub ruleset bare_laws = (cast_void, cast_reference, cast_other, grown_laws)
+pub ruleset bare_laws = (cast_void, cast_reference, cast_other, known_at, grown_laws)
 
 pub ruleset cast_laws = (cast_is, operator_is, grown_laws)

@@ -43,7 +43,7 @@ fn cast_bare(env: &mut Env, at: u32, ty: TyId, value: Value) -> Result<Value, St
             Ok(nothing)
         }
         Target::Place(referred) => {
-            let place = as_place(env, at, referred, value)?;
+            let place = as_place(env, at, referred, value.with_at(at))?;
             Ok(place)
         }
         Target::Value => {
@@ -53,7 +53,7 @@ fn cast_bare(env: &mut Env, at: u32, ty: TyId, value: Value) -> Result<Value, St
     }
 }
 
-/// An lvalue as one of the type that a reference refers to; else K17.
+/// An lvalue, which stands at the cast, as one of the type that a reference refers to; else K17.
 #[tactic(auto, using(crate::proofs::CastLaws::place_laws))]
 fn as_place(env: &Env, at: u32, ty: TyId, value: Value) -> Result<Value, Stop>
     requires known { Known env.now.types value }

@@ -134,6 +134,10 @@ fits_grown a b t (Some z) g h fits = let P : Sort → Type 0 = λ s. IsTrue (fit
 pub known_grown : (a b : Table) (v : Value) → Grows a b → Known a v → Known b v
 known_grown a b v g k = record { typed = type_grown a b v.type g k.typed; number = fits_grown a b v.type v.number g k.typed k.number }
 
+-- at another place of the text
+pub known_at : (types : Table) (v : Value) (at : ℕ) → Known types v → Known types (record v { at = at })
+known_at types v at k = record { typed = k.typed; number = k.number }
+
 pub ruleset grown_laws = (type_grown, known_grown, grows_through, grows-refl)
 
 -- ---- names

@@ -17,7 +17,7 @@ use Rattle.cf_elab.specs.Expression.{elaborated, declared, expression_step}
 use Rattle.cf_elab.specs.Operand.{Part}
 use Rattle.cf_elab.specs.Shape as shape
 use Rattle.cf_elab.specs.Shape.{Parameter, Shape, typed, bounds_constant}
-use Rattle.cf_elab.specs.Specifiers.{Word, gathered, base_type, parameter_conflict}
+use Rattle.cf_elab.specs.Specifiers.{Word, gathered, base_type, is_stored, parameter_conflict}
 use Rattle.cf_elab_env.specs.Answered.{Stops}
 use Rattle.cf_elab_env.specs.declared.stop.Stop.{Stop}
 use Rattle.cf_elab_env.specs.declared.stop.Stop.TheVariants.{Broken as RuleBroken, Passed as LimitPassed, Memory}
@@ -230,9 +230,9 @@ abbrev layer : ℕ → List TypeSpecifier → DeclTree → Option (ℕ × Expr) 
 layer at ss d g = record { at = at; specifiers = ss; declarator = d; default = g }
 
 module _ (at : ℕ) (d : DeclTree) where
-  -- a parameter without a default argument, of this type
-  abbrev with_type : ℕ → Parameter
-  with_type t = record { at = at; name = (declared d).name; type = t; default = None }
+  -- a parameter without a default argument, of this type and with these specifiers
+  abbrev with_type : List Word → ℕ → Parameter
+  with_type ws t = record { at = at; name = (declared d).name; type = t; default = None; is_stored = is_stored (gathered ws) }
 
   -- its type, and then the parameter; and the same where the type is one step
   abbrev typed_then : List Word → Shape → Elab Parameter
@@ -242,16 +242,16 @@ module _ (at : ℕ) (d : DeclTree) where
     t ← typed type_row.of_parameter s base
     bounds_constant s
     u ← as_object t
-    gives (with_type u)
+    gives (with_type ws u)
 
   abbrev typed_behind : List Word → Shape → Elab Parameter
-  typed_behind ws s env = onward (type_row.parameter_behind ws s env) (λ t env. Made (with_type t) env)
+  typed_behind ws s env = onward (type_row.parameter_behind ws s env) (λ t env. Made (with_type ws t) env)
 
   same_type : (ws : List Word) (s : Shape) (env : Env) → typed_then ws s env ≡ typed_behind ws s env
   unfolding type_row.parameter_behind
   same_type ws s env =
       sym
-      (behind_all (base_type (gathered ws)) (typed type_row.of_parameter s) (bounds_constant s) as_object (λ u env. Made (with_type u) env) (none_at (parameter_conflict (gathered ws)) 24 env))
+      (behind_all (base_type (gathered ws)) (typed type_row.of_parameter s) (bounds_constant s) as_object (λ u env. Made (with_type ws u) env) (none_at (parameter_conflict (gathered ws)) 24 env))
 
   layer_is : (ss : List TypeSpecifier) (g : Option (ℕ × Expr)) (env : Env) → g ≡ None
       → parameter_step (map-Param DeclTree Expr Param TypeId Declared Part (Elab Parameter) (Elab ℕ) declared elaborated parameter type_of (layer at ss d g)) env
@@ -261,7 +261,7 @@ module _ (at : ℕ) (d : DeclTree) where
 
 pub parameter_is : (p : Param) (env : Env) → shut.ParameterIsBuilt p
     → shut.parameter p env ≡ shut.parameter_by (out-Param p).at (out-Param p).specifiers (out-Param p).declarator env
-unfolding shut.parameter shut.parameter_by
+unfolding shut.parameter shut.parameter_by type_row.is_stored
 parameter_is p env h =
     let x : Param-F DeclTree Expr Param TypeId = out-Param p in
     ap (λ (run : Elab Parameter). run env) (fold_out-Param Declared Part (Elab Parameter) (Elab ℕ) declared_step expression_step parameter_step type_id_step p)
@@ -273,6 +273,6 @@ parameter_is p env h =
 pub parameter_by_is : (at : ℕ) (ss : List TypeSpecifier) (d : DeclTree) (env : Env)
     → shut.parameter_by at ss d env
     ≡ onward (type_name.words_of ss env) (λ ws env. onward (shut.shape_of d env) (λ s env.
-    onward (type_row.parameter_behind ws s env) (λ t env. Made (record { at = at; name = shut.name_of d; type = t; default = None }) env)))
+    onward (type_row.parameter_behind ws s env) (λ t env. Made (record { at = at; name = shut.name_of d; type = t; default = None; is_stored = type_row.is_stored ws }) env)))
 unfolding shut.parameter_by shut.shape_of shut.name_of type_name.words_of
 parameter_by_is at ss d env = refl

@@ -20,6 +20,7 @@ use Rattle.cf_elab.specs.Members.{class_number}
 use Rattle.cf_elab.specs.Operand.{Value, Operand, Part, evaluated, value_of, sort_of}
 use Rattle.cf_elab.specs.Shape as shape
 use Rattle.cf_elab.specs.Shape.{Parameter, Shape}
+use Rattle.cf_elab_type_id.specs.Shut as type_row
 use Rattle.cf_elab_type_id.specs.Shut.{parameter_behind}
 
 -- what an expression is, and its one value
@@ -110,7 +111,7 @@ parameter_by at ss d = do
   ws ← declarator.words_of ss
   s ← (declared d).shape
   t ← parameter_behind ws s
-  gives (record { at = at; name = (declared d).name; type = t; default = None })
+  gives (record { at = at; name = (declared d).name; type = t; default = None; is_stored = type_row.is_stored ws })
 
 -- one that is an object
 unfoldable pub object_parameter : Param → Elab Parameter

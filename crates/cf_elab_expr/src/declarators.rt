@@ -14,7 +14,7 @@ use crate::names::copied_name;
 use cf_base::{Boxed, Items};
 use cf_elab_env::{Env, Stop, Value};
 use cf_elab_shape::{Parameter, Shape, check_parameter, only_parameter, pointed};
-use cf_elab_type_id::parameter_behind;
+use cf_elab_type_id::{is_stored, parameter_behind};
 use cf_elab_type_names::words_of;
 use cf_syntax::{DeclTree, Expr, Param, TypeSpecifier};
 
@@ -203,5 +203,11 @@ fn parameter_by(
     let shape = shape_of(d, env)?;
     let ty = parameter_behind(env, words.as_slice(), &shape)?;
     let name = copied_name(d, env.alloc())?;
-    Ok(Parameter { at, name, ty })
+    let is_stored = is_stored(words.as_slice());
+    Ok(Parameter {
+        at,
+        name,
+        ty,
+        is_stored,
+    })
 }

@@ -1,9 +1,10 @@
 -- The function of a name and parameters, among the functions of the name.
-use Rattle.std.proofs.Common.{◌≡◌, ℕ, zero, suc, ◌+◌, ◌<◌, ◌≤◌, Bool, true, false, ◌&&◌, cond, if◌then◌else◌, List, [], ◌∷◌, length, map, filter, drop, get_or, slice_get, Option, None, Some, refl, sym, ap, ◌∙◌, arith}
+use Rattle.std.proofs.Common.{◌≡◌, ℕ, zero, suc, ◌+◌, ◌==◌, ◌<◌, ◌≤◌, Bool, true, false, not, ◌&&◌, ◌||◌, cond, if◌then◌else◌, List, [], ◌∷◌, length, map, filter, drop, get_or, slice_get, Option, None, Some, refl, sym, ap, ◌∙◌, arith}
 use Rattle.std.proofs.lemmas.Cmp.{nat_list_eq_equiv}
 use Rattle.std.proofs.lemmas.List.{at_drop_more, at_drop_all}
 use Rattle.std.specs.Prelude.{bytes_eq, nat_eq}
 use Rattle.std.specs.Cmp.Lexicographic.{pointwise}
+use Rattle.std.specs.List.{list_any}
 use Rattle.cf_types.specs.Table.{Table}
 use Rattle.cf_classes.specs.TypeTree.{params_of}
 use Rattle.cf_elab.specs.Arguments.{fun_at}
@@ -73,6 +74,33 @@ entry_is env d o ns ms name h held is called =
   where
     zero_more : (i : ℕ) → 0 + i ≡ i
     zero_more i = omega arith
+
+-- ---- whether there is one
+
+abbrev is_named : Name → List FunctionEntry → Bool
+is_named name fs = list_any (λ (f : FunctionEntry). bytes_eq f.name name) fs
+
+abbrev of_name : Name → List (Name × ℕ) → List (Name × ℕ)
+of_name name ns = filter (λ (x : Name × ℕ). pointwise nat_eq name x.0) ns
+
+abbrev has_some : List (Name × ℕ) → Bool
+has_some ns = not (length (map (λ (x : Name × ℕ). x.1) ns) == 0)
+
+-- some number is that of a function of the name
+any_from : (name : Name) (n : ℕ) (fs : List FunctionEntry) → has_some (of_name name (numbered n fs)) ≡ is_named name fs
+any_from name n [] = refl
+any_from name n (f ∷ fs) = by (pointwise nat_eq name f.name) ∙ ap (λ (b : Bool). b || is_named name fs) (nat_list_eq_equiv.symm name f.name)
+  where
+    by : (b : Bool) → has_some (cond b ((f.name, n) ∷ of_name name (numbered (n + 1) fs)) (of_name name (numbered (n + 1) fs))) ≡ (b || is_named name fs)
+    by true = refl
+    by false = any_from name (n + 1) fs
+
+pub named_is : (b : Bool) (called name : Name) (ns ms : List ℕ) (fs : List FunctionEntry) → b ≡ not (length ns == 0) → ns ≡ ms → ms ≡ numbers_named name fs → name ≡ called
+    → b ≡ list_any (λ (f : FunctionEntry). bytes_eq f.name called) fs
+named_is b called name ns ms fs h held is same =
+    h ∙ ap (λ (ns : List ℕ). not (length ns == 0)) (held ∙ is ∙ ap (λ (n : Name). numbers_named n fs) same) ∙ any_from called 0 fs
+
+pub ruleset named_laws = (named_is)
 
 pub ruleset same_laws = (same_is)
 

@@ -1,4 +1,4 @@
-ghost use Rattle.std.specs.Prelude.{◌≡◌, ◌==◌, ◌&&◌, not, length, bytes_eq};
+ghost use Rattle.std.specs.Prelude.{◌≡◌, ◌==◌, ◌&&◌, not, length, bytes_eq, IfOk};
 ghost use Rattle.std.specs.List.{list_any};
 ghost use Rattle.cf_elab.specs.Env.{FunctionEntry};
 ghost use Rattle.cf_elab_env.specs.Answered.{Agrees};
@@ -8,6 +8,7 @@ ghost use Rattle.cf_elab_functions.specs.Shut as shut;
 
 use crate::function_types::fun_at;
 use crate::says::{Called, Says};
+use cf_base::Memory;
 use cf_elab_arith::broken;
 use cf_elab_env::{Env, Stop};
 use cf_types::{Fun, TyId};
@@ -55,20 +56,29 @@ fn is_main(fun: &Fun, int: TyId, is_internal: bool) -> bool
 pub(crate) fn check_single(env: &Env, says: &Says) -> Result<(), Stop>
     ensures { Agrees (shut.need_single (says_seen says.now) env.now) result env.now }
 {
-    if env.extent().overloads || !is_named(env, says) {
-        Ok(())
-    } else {
+    if env.extent().overloads {
+        return Ok(());
+    }
+    if is_named(env, says)? {
         Err(Stop::Broken(broken(48, says.at)))
+    } else {
+        Ok(())
     }
 }
 
-/// Whether a function of its name is declared.
-fn is_named(env: &Env, says: &Says) -> bool
-    ensures { result ≡ list_any (λ (f : FunctionEntry). bytes_eq f.name says.now.name) env.now.entries }
+/// Whether a function of its name is declared: the table of their names has a number for it.
+#[tactic(auto, using(crate::proofs::EntryLaws::named_laws))]
+fn is_named(env: &Env, says: &Says) -> Result<bool, Memory>
+    ensures { IfOk result (λ named. named ≡ list_any (λ (f : FunctionEntry). bytes_eq f.name says.now.name) env.now.entries) }
 {
-    env.entries()
-        .iter()
-        .any(|entry| entry.name.as_slice() == says.name.as_slice())
+    let numbers = env.entries_named(says.name.as_slice())?;
+    Ok(has_some(numbers.as_slice()))
+}
+
+fn has_some(numbers: &[u32]) -> bool
+    ensures { result ≡ not (length numbers.now == 0) }
+{
+    !numbers.is_empty()
 }
 
 /// While definitions in other files are not built, the file itself defines what it declares; else K48. What its initialiser breaks comes first.

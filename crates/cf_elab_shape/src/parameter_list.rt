@@ -36,12 +36,15 @@ fn alone(alloc: Global, parameter: Parameter) -> Result<Items<Parameter>, Memory
     Ok(list)
 }
 
-/// Whether it is `void` and has no name. None has a default argument.
+/// Whether it is `void` alone: without const, a storage word and a name. None has a default argument.
 fn is_nothing(env: &Env, parameter: &Parameter) -> bool
     requires { IsType env.now.types parameter.now.type }
     ensures { result ≡ declarator.is_nothing env.now parameter.now }
 {
-    is_void(env.sort_of(parameter.ty)) && parameter.name.is_none()
+    is_void(env.sort_of(parameter.ty))
+        && !env.is_const(parameter.ty)
+        && !parameter.is_stored
+        && parameter.name.is_none()
 }
 
 /// Its type is not void; else K26 at its name, or where it has none at its first token (8.2.5).

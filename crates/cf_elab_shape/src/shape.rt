@@ -17,6 +17,8 @@ pub struct Parameter {
     pub name: Option<Name>,
     /// Its own type.
     pub ty: TyId,
+    /// Whether `auto` or `register` stands before it.
+    pub is_stored: bool,
 }
 
 impl Model for Parameter {
@@ -29,7 +31,7 @@ impl Model for Parameter {
 
     ghost coded = { Prim.hlevel (codes, core.the_row.coded) };
 
-    ghost view = { λ p. record { at = p.at; name = p.name; type = p.ty; default = None } };
+    ghost view = { λ p. record { at = p.at; name = p.name; type = p.ty; default = None; is_stored = p.is_stored } };
 }
 
 /// A declarator whose bounds and parameters are elaborated, from the outside. An operator has its byte place.

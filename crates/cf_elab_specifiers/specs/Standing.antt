@@ -7,7 +7,3 @@ use Rattle.cf_elab.specs.Specifiers.{Gathered, conflicts}
 -- one of the words of which there is one at most
 abbrev pub with_class : ℕ → Storage → Gathered → Gathered
 with_class at s g = conflicts (is_some g.storage) at (record g { storage = option_or g.storage (Some (at, s)) })
-
--- the place of `inline`, or else of `virtual`, or else of `friend`
-abbrev pub function_word_at : Gathered → Option ℕ
-function_word_at g = option_or g.inline_at (option_or g.virtual_at g.friend_at)

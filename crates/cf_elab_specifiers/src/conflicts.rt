@@ -1,11 +1,12 @@
 ghost use Rattle.std.specs.Prelude.{◌≡◌};
 ghost use Rattle.cf_elab.specs.Declaration as declaration;
+ghost use Rattle.cf_elab.specs.Specifiers as spec;
 
 use crate::gathered::Gathered;
 
 /// The first of two byte places, where there is one.
 pub fn earlier(left: Option<u32>, right: Option<u32>) -> Option<u32>
-    ensures { result ≡ declaration.earlier left right }
+    ensures { result ≡ spec.earlier left right }
 {
     match (left, right) {
         (Some(a), Some(b)) => Some(if a <= b { a } else { b }),

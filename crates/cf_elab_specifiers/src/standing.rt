@@ -1,7 +1,7 @@
 ghost use Rattle.std.specs.Prelude.{◌≡◌};
 ghost use Rattle.cf_elab.specs.Specifiers as spec;
-ghost use Rattle.cf_elab_specifiers.specs.Standing as standing;
 
+use crate::conflicts::earlier;
 use crate::gathered::Gathered;
 use cf_syntax::Storage;
 
@@ -46,31 +46,39 @@ impl Gathered {
         }
     }
 
-    /// The byte place of what may not stand at a parameter, which takes `auto` and `register` alone (7.1.1).
+    /// Whether `auto` or `register` is among them.
+    pub fn is_stored(&self) -> bool
+        ensures { result ≡ spec.is_stored self.now }
+    {
+        self.automatic_at().is_some()
+    }
+
+    /// The first byte place in the text of what may not stand at a parameter, which takes `auto` and `register` alone (7.1.1).
     pub fn parameter_conflict(&self) -> Option<u32>
         ensures { result ≡ spec.parameter_conflict self.now }
     {
-        let stored = if self.automatic_at().is_some() {
+        let stored = if self.is_stored() {
             None
         } else {
             self.storage_at()
         };
-        self.conflict.or(stored).or(self.function_word_at())
+        earlier(self.conflict, earlier(stored, self.function_word_at()))
     }
 
-    /// The byte place of what may not stand at a type in brackets, which takes no word that names no type (8.1).
+    /// The first byte place in the text of what may not stand at a type in brackets, which takes no word that names no type (8.1).
     pub fn type_conflict(&self) -> Option<u32>
         ensures { result ≡ spec.type_conflict self.now }
     {
-        self.conflict
-            .or(self.storage_at())
-            .or(self.function_word_at())
+        earlier(
+            self.conflict,
+            earlier(self.storage_at(), self.function_word_at()),
+        )
     }
 
-    /// The byte place of `inline`, or else of `virtual`, or else of `friend`.
+    /// The first byte place of `inline`, `virtual` and `friend`.
     fn function_word_at(&self) -> Option<u32>
-        ensures { result ≡ standing.function_word_at self.now }
+        ensures { result ≡ spec.function_word_at self.now }
     {
-        self.inline_at.or(self.virtual_at).or(self.friend_at)
+        earlier(self.inline_at, earlier(self.virtual_at, self.friend_at))
     }
 }

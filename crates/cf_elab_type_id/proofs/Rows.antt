@@ -4,6 +4,7 @@ use Rattle.cf_elab.specs.Answer.{Made, Refused, onward}
 use Rattle.cf_elab.specs.Declarator as declarator
 use Rattle.cf_elab.specs.Env.{Env}
 use Rattle.cf_elab.specs.Shape.{Shape, Shaped, whole, unbounded, nowhere}
+use Rattle.cf_elab.specs.Specifiers as specifiers
 use Rattle.cf_elab.specs.Specifiers.{Word, gathered, parameter_conflict, type_conflict}
 use Rattle.cf_elab_shape.specs.Seen.{type_of}
 use Rattle.cf_elab_shape.specs.Shut as shape
@@ -22,6 +23,10 @@ fine env = refl
 pub one_type : (t : Shaped) (env : Env) → declarator.only_whole t env ≡ Made (type_of t) env
 one_type (whole t) env = refl
 one_type (unbounded t) env = refl
+
+pub stored_is : (ws : List Word) → shut.is_stored ws ≡ specifiers.is_stored (gathered ws)
+unfolding shut.is_stored
+stored_is ws = refl
 
 module _ (ws : List Word) (s : Shape) (env : Env) where
   pub type_is : shut.type_behind ws s env

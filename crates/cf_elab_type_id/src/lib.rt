@@ -5,4 +5,4 @@
 
 mod types;
 
-pub use types::{parameter_behind, type_behind};
+pub use types::{is_stored, parameter_behind, type_behind};

@@ -56,6 +56,14 @@ pub fn parameter_behind(env: &mut Env, words: &[Word], shape: &Shape) -> Result<
     Ok(ty)
 }
 
+/// Whether `auto` or `register` is among the specifiers of a parameter (7.1.1).
+#[tactic(auto, using(crate::proofs::Rows::stored_is))]
+pub fn is_stored(words: &[Word]) -> bool
+    ensures { result ≡ shut.is_stored (map word_seen words.now) }
+{
+    Gathered::of_words(words).is_stored()
+}
+
 /// No specifier conflicts with another, else K24 at its place (7.1).
 #[tactic(auto, using(crate::proofs::Rows::conflicting, crate::proofs::Rows::fine))]
 fn check_conflict(env: &Env, conflict: Option<u32>) -> Result<(), Stop>

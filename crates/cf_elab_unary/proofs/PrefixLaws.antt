@@ -8,7 +8,7 @@ use Rattle.cf_elab.specs.Arithmetic as integer
 use Rattle.cf_elab.specs.Env.{Env}
 use Rattle.cf_elab.specs.Operand.{Value, Sort, object_pointer, void_pointer, function_pointer, sort_of, arithmetic}
 use Rattle.cf_elab.specs.Unary as unary
-use Rattle.cf_elab_env.proofs.Growth.{grown_laws}
+use Rattle.cf_elab_env.proofs.Growth.{grown_laws, known_at}
 use Rattle.cf_elab_arith.specs.FitShut as fit
 use Rattle.cf_elab_arith.specs.Shut as arith
 use Rattle.cf_elab_arith.specs.Sorts.{kind_at, pointer_at, is_pointer}
@@ -64,7 +64,7 @@ module _ (at : ℕ) (o : PrefixOp) (v : Value) (env : Env) where
   unfolding shut.prefixed shut.address_of
   address is = ap (λ o. unary.prefixed at o v env) is
 
-  pub plus : o ≡ prefix.Plus → shut.prefixed at o v env ≡ onward (fit.plain v env) (shut.promoted_or_pointer at)
+  pub plus : o ≡ prefix.Plus → shut.prefixed at o v env ≡ onward (fit.plain v env) (λ x. shut.promoted_or_pointer at (record x { at = at }))
   unfolding shut.prefixed fit.plain shut.promoted_or_pointer
   plus is = ap (λ o. unary.prefixed at o v env) is
 
@@ -86,4 +86,4 @@ pub ruleset negated_laws = (negated, not_negated, grown_laws)
 
 pub ruleset complemented_laws = (complemented, not_complemented, grown_laws)
 
-pub ruleset prefixed_laws = (dereference, address, plus, minus, complement, negation, grown_laws)
+pub ruleset prefixed_laws = (dereference, address, plus, minus, complement, negation, known_at, grown_laws)

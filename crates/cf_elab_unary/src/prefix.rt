@@ -29,7 +29,7 @@ pub fn prefixed(env: &mut Env, at: u32, op: PrefixOp, operand: Value) -> Result<
         }
         PrefixOp::Plus => {
             let value = plain(env, operand)?;
-            let promoted = promoted_or_pointer(env, at, value)?;
+            let promoted = promoted_or_pointer(env, at, value.with_at(at))?;
             Ok(promoted)
         }
         PrefixOp::Minus => {
@@ -49,7 +49,7 @@ pub fn prefixed(env: &mut Env, at: u32, op: PrefixOp, operand: Value) -> Result<
     }
 }
 
-/// `+` of a plain value: the promoted integer, or the pointer as it is; else K18.
+/// `+` of a plain value at the operator: the promoted integer, or the pointer as it is; else K18.
 #[tactic(auto, using(crate::proofs::PrefixLaws::promoted_laws))]
 fn promoted_or_pointer(env: &mut Env, at: u32, value: Value) -> Result<Value, Stop>
     requires { Known env.old.types value }

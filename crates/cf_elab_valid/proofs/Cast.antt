@@ -42,7 +42,7 @@ use Rattle.cf_elab_valid.proofs.Numbers.{enumerator-holds}
 use Rattle.cf_elab_valid.proofs.Plain.{decayed_tree, plain-fine}
 use Rattle.cf_elab_valid.proofs.Sorts.{void-told}
 use Rattle.cf_elab_valid.proofs.Trees.{tree-normal}
-use Rattle.cf_elab_valid.proofs.Unary.{bare_sort, plain-own, sorted, points-to, classless-number, unused-node}
+use Rattle.cf_elab_valid.proofs.Unary.{placed-fits, placed-plain, bare_sort, plain-own, sorted, points-to, classless-number, unused-node}
 use Rattle.cf_elab_valid.proofs.Values.{plain-value, value-plain, has_type-is}
 use Rattle.cf_elab_valid.proofs.Ways.{fine-as, made-fine, onward-fine, inside-later, within-before, When}
 
@@ -188,18 +188,11 @@ module _ (s : Scene) (scene : IsScene s) where
       pointer_there k is h = absurd (true≢false (sym h))
 
   -- it stands at the cast
-  placed-plain : (u : SourceType) (x : Value) (at : ℕ) (e : Env) → IsPlain s u x e → IsPlain s u (record x { at = at }) e
-  placed-plain u x at e p = record {
-    fits = record { inside = p.fits.inside; numbers = p.fits.numbers; allowed = p.fits.allowed; meets = p.fits.meets; number = p.fits.number };
-    no_place = p.no_place;
-    same = p.same;
-  }
-
   value-fine : (at t : ℕ) (v : Value) (e : Env) → Classless e → When s e (Holds s e) → When s e (Inside e t) → When s e (Fits s e v) → (k : Sort) → When s e (sort_of e.types t ≡ k) → Fine s (IsOperand s) e (row.cast_value at t k v e)
   value-fine at t v e c h i f k to =
       onward-fine s (IsPlain s (decayed_tree s v.type (sort_of e.types v.type))) (IsOperand s) e (plain_row v e) _ (plain-fine s scene e v c h f)
       (λ x e1 g d held p. by (record x { at = at }) e1 d held (λ w. inside-later e e1 t g (i (within-before e e1 s g w)))
-      (λ w. placed-plain (tree s x.type) x at e1 (plain-own s scene (decayed_tree s v.type (sort_of e.types v.type)) x e1 (p w))) (is_zero x.number) (takes_null k) refl
+      (λ w. placed-plain s (tree s x.type) x at e1 (plain-own s scene (decayed_tree s v.type (sort_of e.types v.type)) x e1 (p w))) (is_zero x.number) (takes_null k) refl
       (λ w. let early = within-before e e1 s g w in
       sym (early-sort s.tables scene.table e1.types w.types t (inside-later e e1 t g (i early))) ∙ early-sort s.tables scene.table e.types early.types t (i early) ∙ to early))
     where
@@ -254,7 +247,7 @@ module _ (s : Scene) (scene : IsScene s) where
 
   sort-fine : (at t : ℕ) (v : Value) (e : Env) → Classless e → When s e (Holds s e) → When s e (Inside e t) → When s e (Fits s e v) → (k : Sort) → When s e (sort_of e.types t ≡ k) → Fine s (IsOperand s) e (row.cast_sort at t v k e)
   sort-fine at t v e c h i f void_sort to = nothing-fine at t v e c h i f (λ w. type_sort e w t (i w) void_sort (to w))
-  sort-fine at t v e c h i f (reference_sort u) to = place-fine at u v e c h (λ w. type_part e w t (i w) (reference_sort u) (to w)) f
+  sort-fine at t v e c h i f (reference_sort u) to = place-fine at u (record v { at = at }) e c h (λ w. type_part e w t (i w) (reference_sort u) (to w)) (λ w. placed-fits s v at e (f w))
   sort-fine at t v e c h i f (integral k) to = value-fine at t v e c h i f (integral k) to
   sort-fine at t v e c h i f (enumeral n) to = value-fine at t v e c h i f (enumeral n) to
   sort-fine at t v e c h i f (object_pointer u) to = value-fine at t v e c h i f (object_pointer u) to

@@ -16,7 +16,7 @@ use Rattle.cf_elab.specs.Env.{Env, object}
 use Rattle.cf_elab.specs.Made.{entered_fun, place_in, same_fun, intern, intern_fun, pointer_to, reference_to, array_of, const_if, parameter_step, function_type}
 use Rattle.cf_elab.specs.Operand.{Value, Part, evaluated, Sort, integral, enumeral, object_pointer, void_pointer, function_pointer, data_pointer, method_pointer, class_sort, array_sort, function_sort, void_sort, reference_sort, sort_of, is_array, is_function, is_void, is_reference}
 use Rattle.cf_elab.specs.Shape.{Parameter, Shape, inner, pointing, referring, to_member, taking, holding, is_inner, Position, nowhere, Shaped, whole, unbounded, fine_bound, count_of, parameter_type, typed, bounds_constant}
-use Rattle.cf_elab.specs.Specifiers.{Gathered, gathered, base_type, parameter_conflict, type_conflict}
+use Rattle.cf_elab.specs.Specifiers.{Gathered, gathered, base_type, is_stored, parameter_conflict, type_conflict}
 use Rattle.cf_elab_env.proofs.Growth.{here}
 use Rattle.cf_elab_env.proofs.Sorts.{below_at}
 use Rattle.cf_elab_valid.specs.Answers.{Fine, FineAs, IsPart}
@@ -349,26 +349,29 @@ module _ (s : Scene) (scene : IsScene s) where
 
   module _ (specifiers : List TypeSpecifier) (d : Elab Shape) (words_built : built.of_specifiers specifiers ≡ None) (k : IsShape s scene d) where
     -- the words and the declarator first
-    described : {B : Type 0} (T : B → Type 0) (R : B → Env → Type 0) (conflict : Gathered → Option ℕ) (position : Position) (go : Shape → Shaped → Env → Answer B) (e : Env) → Classless e → When s e (Holds s e)
-        → ((x : Shape) (t : Shaped) (e1 : Env) → Classless e1 → When s e1 (Holds s e1) → When s e1 (ShapedThere s scene t e1) → FineAs s T R e1 (go x t e1))
+    described : {B : Type 0} (T : B → Type 0) (R : B → Env → Type 0) (conflict : Gathered → Option ℕ) (position : Position) (go : Gathered → Shape → Shaped → Env → Answer B) (e : Env) → Classless e → When s e (Holds s e)
+        → ((g : Gathered) (x : Shape) (t : Shaped) (e1 : Env) → Classless e1 → When s e1 (Holds s e1) → When s e1 (ShapedThere s scene t e1) → FineAs s T R e1 (go g x t e1))
         → FineAs s T R e (onward (words_of specifiers e) (λ ws f. onward (d f) (λ x g. onward (none_at (conflict (gathered ws)) 24 g)
-        (λ _ j. onward (base_type (gathered ws) j) (λ base l. onward (typed position x base l) (λ t m. onward (bounds_constant x m) (λ _. go x t)))))))
+        (λ _ j. onward (base_type (gathered ws) j) (λ base l. onward (typed position x base l) (λ t m. onward (bounds_constant x m) (λ _. go (gathered ws) x t)))))))
     described T R conflict position go e c h next =
         as-behind s WordsFit T R e (words_of specifiers e) _ (words-fine s specifiers e words_built c h)
         (λ ws e1 g1 c1 h1 fw. as-onward s IsPlainShape ShapeThere T R e1 (d e1) _ (k.fine e1 c1 h1)
         (λ x e2 plain g2 c2 h2 f. still-as s T R e2 (none_at (conflict (gathered ws)) 24 e2)
-        (λ j. onward (base_type (gathered ws) j) (λ base l. onward (typed position x base l) (λ t m. onward (bounds_constant x m) (λ _. go x t)))) (none_still (conflict (gathered ws)) 24 e2)
-        (typed_then s scene T R position x (gathered ws) (go x) e2 plain c2 h2 f (λ w. gathered_named ws e2 (words-later e1 e2 ws g2 (fw (within-before e1 e2 s g2 w)))) (λ t e3 c3 h3 it. next x t e3 c3 h3 it))))
+        (λ j. onward (base_type (gathered ws) j) (λ base l. onward (typed position x base l) (λ t m. onward (bounds_constant x m) (λ _. go (gathered ws) x t)))) (none_still (conflict (gathered ws)) 24 e2)
+        (typed_then s scene T R position x (gathered ws) (go (gathered ws) x) e2 plain c2 h2 f (λ w. gathered_named ws e2 (words-later e1 e2 ws g2 (fw (within-before e1 e2 s g2 w)))) (λ t e3 c3 h3 it. next (gathered ws) x t e3 c3 h3 it))))
 
     pub parameter-fine : (at : ℕ) (name : Option WrittenName) → IsParameter s (λ e. onward (words_of specifiers e) (λ ws f. onward (d f) (λ x g. onward (none_at (parameter_conflict (gathered ws)) 24 g)
         (λ _ j. onward (base_type (gathered ws) j) (λ base l. onward (typed (record { unbounded = true; const_function = false }) x base l) (λ t m. onward (bounds_constant x m)
-        (λ _ n. onward (as_object t n) (λ u o. Made (record { at = at; name = name; type = u; default = None }) o))))))))
+        (λ _ n. onward (as_object t n) (λ u o. Made (record { at = at; name = name; type = u; default = None; is_stored = is_stored (gathered ws) }) o))))))))
     parameter-fine at name = record {
       fine = λ e c h. described (λ q. q.default ≡ None) (λ q f. Inside f q.type) parameter_conflict (record { unbounded = true; const_function = false })
-          (λ x t n. onward (as_object t n) (λ u o. Made (record { at = at; name = name; type = u; default = None }) o)) e c h
-          (λ x t e1 c1 h1 it. as-behind s IsThere (λ q. q.default ≡ None) (λ q f. Inside f q.type) e1 (as_object t e1) (λ u o. Made (record { at = at; name = name; type = u; default = None }) o) (as_object-fine t e1 c1 h1 it)
-          (λ u e2 g c2 h2 iu. as-made s (λ q. q.default ≡ None) (λ q f. Inside f q.type) e2 (record { at = at; name = name; type = u; default = None }) refl c2 h2 iu));
+          (λ k x t n. onward (as_object t n) (λ u o. Made (parameter_of k u) o)) e c h
+          (λ k x t e1 c1 h1 it. as-behind s IsThere (λ q. q.default ≡ None) (λ q f. Inside f q.type) e1 (as_object t e1) (λ u o. Made (parameter_of k u) o) (as_object-fine t e1 c1 h1 it)
+          (λ u e2 g c2 h2 iu. as-made s (λ q. q.default ≡ None) (λ q f. Inside f q.type) e2 (parameter_of k u) refl c2 h2 iu));
     }
+      where
+        parameter_of : Gathered → ℕ → Parameter
+        parameter_of k u = record { at = at; name = name; type = u; default = None; is_stored = is_stored k }
 
     only-fine : (t : Shaped) (e : Env) → Classless e → When s e (Holds s e) → When s e (ShapedThere s scene t e) → FineAs s (λ _. Unit {0}) IsThere e (only_whole t e)
     only-fine (whole t) e c h i = as-made s (λ _. Unit {0}) IsThere e t tt c h i
@@ -376,5 +379,5 @@ module _ (s : Scene) (scene : IsScene s) where
 
     pub type-fine : IsTypeId s (type_from specifiers d)
     type-fine = record {
-      fine = λ e c h. as-fine s IsThere e (type_from specifiers d e) (described (λ _. Unit {0}) IsThere type_conflict nowhere (λ x t. only_whole t) e c h (λ x t e1 c1 h1 it. only-fine t e1 c1 h1 it));
+      fine = λ e c h. as-fine s IsThere e (type_from specifiers d e) (described (λ _. Unit {0}) IsThere type_conflict nowhere (λ k x t. only_whole t) e c h (λ k x t e1 c1 h1 it. only-fine t e1 c1 h1 it));
     }

@@ -64,6 +64,14 @@ one_fits kind.UInt = refl
 one_fits kind.Long = refl
 one_fits kind.ULong = refl
 
+-- ---- a value at another place of the text
+
+pub placed-fits : (s : Scene) (x : Value) (at : ℕ) (e : Env) → Fits s e x → Fits s e (record x { at = at })
+placed-fits s x at e f = record { inside = f.inside; numbers = f.numbers; allowed = f.allowed; meets = f.meets; number = f.number }
+
+pub placed-plain : (s : Scene) (u : SourceType) (x : Value) (at : ℕ) (e : Env) → IsPlain s u x e → IsPlain s u (record x { at = at }) e
+placed-plain s u x at e p = record { fits = placed-fits s x at e p.fits; no_place = p.no_place; same = p.same }
+
 module _ (s : Scene) (scene : IsScene s) where
   -- ---- what is known of a plain value by its sort
 
@@ -129,7 +137,7 @@ module _ (s : Scene) (scene : IsScene s) where
           (λ w. let early = f (within-before e e1 s g w) in
           plain-operand s (pointer (tree s v.type)) (value_of t) e1 (pointed t e1 w (subst (λ b. Meets b (typed s v.node) (tree s v.type)) l early.meets) early.numbers (is w))))
 
-  -- + of a pointer is the pointer
+  -- + of a pointer is the pointer, at the operator
   promoted-fine : (at : ℕ) (x : Value) (e : Env) → Classless e → When s e (Holds s e) → When s e (IsPlain s (tree s x.type) x e)
       → (k : Sort) (o : Option Kind) → Fine s (IsOperand s) e (row.promoted_or_pointer at x k o e)
   promoted-fine at x e c h p k (Some l) = fine-as s (IsPlain s (integer l)) (IsOperand s) e (to_kind l x e) (λ v f q. plain-operand s (integer l) v f q) (to_kind-fine s scene l x e c h (λ w. (p w).fits))
@@ -149,7 +157,8 @@ module _ (s : Scene) (scene : IsScene s) where
       on_plain-fine (IsOperand s) v (row.dereferenced at) e c h f (λ x e1 g d held p. dereferenced-fine at x e1 d held p (sort_of e1.types x.type) refl)
   prefixed-fine at prefix.AddressOf v e c h f = address_of-fine at v e c h f
   prefixed-fine at prefix.Plus v e c h f =
-      on_plain-fine (IsOperand s) v (λ x k. row.promoted_or_pointer at x k (arithmetic k)) e c h f (λ x e1 g d held p. promoted-fine at x e1 d held p (sort_of e1.types x.type) (arithmetic (sort_of e1.types x.type)))
+      on_plain-fine (IsOperand s) v (λ x k. row.promoted_or_pointer at (record x { at = at }) k (arithmetic k)) e c h f
+      (λ x e1 g d held p. promoted-fine at (record x { at = at }) e1 d held (λ w. placed-plain s (tree s x.type) x at e1 (p w)) (sort_of e1.types x.type) (arithmetic (sort_of e1.types x.type)))
   prefixed-fine at prefix.Minus v e c h f =
       on_plain-fine (IsOperand s) v (λ x k. row.of_integer at negated x (arithmetic k)) e c h f
       (λ x e1 g d held p. of_integer-fine at negated x e1 (arithmetic (sort_of e1.types x.type)) (λ k. negated-fine s scene at k x e1 d held (λ w. (p w).fits)))

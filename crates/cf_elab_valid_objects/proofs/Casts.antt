@@ -53,7 +53,7 @@ place-quiet at u v e c = need-quiet e v.is_lvalue 17 at _ (classes-quiet at u v 
 
 sort-quiet : (at t : ℕ) (v : Value) (k : Sort) (e : Env) → Classless e → QuietIn e (row.cast_sort at t v k e)
 sort-quiet at t v void_sort e c = quiet-none e c
-sort-quiet at t v (reference_sort u) e c = place-quiet at u v e c
+sort-quiet at t v (reference_sort u) e c = place-quiet at u (record v { at = at }) e c
 sort-quiet at t v (integral k) e c = value-quiet at t (integral k) v e c
 sort-quiet at t v (enumeral n) e c = value-quiet at t (enumeral n) v e c
 sort-quiet at t v (object_pointer u) e c = value-quiet at t (object_pointer u) v e c

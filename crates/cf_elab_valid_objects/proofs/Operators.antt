@@ -118,7 +118,8 @@ promoted-quiet at x k None e c = tt
 prefixed-quiet : (at : ℕ) (o : PrefixOp) (v : Value) (e : Env) → Classless e → QuietIn e (unary_row.prefixed at o v e)
 prefixed-quiet at prefix.Dereference v e c = on_plain-quiet v (unary_row.dereferenced at) e (λ x k f cf. dereferenced-quiet at x k f cf) c
 prefixed-quiet at prefix.AddressOf v e c = need-quiet e v.is_lvalue 12 at _ (pointer_to-quiet v.type e c)
-prefixed-quiet at prefix.Plus v e c = on_plain-quiet v (λ x k. unary_row.promoted_or_pointer at x k (arithmetic k)) e (λ x k f cf. promoted-quiet at x k (arithmetic k) f cf) c
+prefixed-quiet at prefix.Plus v e c =
+    on_plain-quiet v (λ x k. unary_row.promoted_or_pointer at (record x { at = at }) k (arithmetic k)) e (λ x k f cf. promoted-quiet at (record x { at = at }) k (arithmetic k) f cf) c
 prefixed-quiet at prefix.Minus v e c = on_plain-quiet v (λ x k. unary_row.of_integer at arith_row.negated x (arithmetic k)) e (λ x k f cf. of_integer-quiet at arith_row.negated (λ l y g cg. negated-quiet at l y g cg) x (arithmetic k) f cf) c
 prefixed-quiet at prefix.Complement v e c =
     on_plain-quiet v (λ x k. unary_row.of_integer at arith_row.complemented x (arithmetic k)) e (λ x k f cf. of_integer-quiet at arith_row.complemented (λ l y g cg. complemented-quiet at l y g cg) x (arithmetic k) f cf) c

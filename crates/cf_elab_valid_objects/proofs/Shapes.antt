@@ -14,7 +14,7 @@ use Rattle.cf_elab.specs.Env.{Env}
 use Rattle.cf_elab.specs.Made.{pointer_to, reference_to, array_of, const_if, parameter_step, function_type}
 use Rattle.cf_elab.specs.Operand.{Part, evaluated, Sort, integral, enumeral, object_pointer, void_pointer, function_pointer, data_pointer, method_pointer, class_sort, array_sort, function_sort, void_sort, reference_sort, sort_of, is_array, is_function, is_void, is_reference}
 use Rattle.cf_elab.specs.Shape.{Parameter, Shape, inner, pointing, referring, to_member, taking, holding, is_inner, Position, nowhere, Shaped, whole, unbounded, fine_bound, count_of, parameter_type, typed, bounds_constant}
-use Rattle.cf_elab.specs.Specifiers.{Gathered, gathered, base_type, parameter_conflict, type_conflict}
+use Rattle.cf_elab.specs.Specifiers.{Gathered, gathered, base_type, is_stored, parameter_conflict, type_conflict}
 use Rattle.cf_elab_valid.specs.Scene.{Classless}
 use Rattle.cf_elab_valid.proofs.FitRows.{Still, needed, still-onward}
 use Rattle.cf_elab_valid.proofs.Options.{never_none}
@@ -191,25 +191,25 @@ as_object-quiet (whole t) e c = by (sort_of e.types t)
 
 module _ (specifiers : List TypeSpecifier) (d : Elab Shape) (words_built : built.of_specifiers specifiers ≡ None) (k : IsQuietShape d) where
   -- the words and the declarator first
-  described : {B : Type 0} (conflict : Gathered → Option ℕ) (position : Position) (go : Shape → Shaped → Env → Answer B) (e : Env) → Classless e
-      → ((x : Shape) (t : Shaped) (f : Env) → Classless f → QuietIn f (go x t f))
+  described : {B : Type 0} (conflict : Gathered → Option ℕ) (position : Position) (go : Gathered → Shape → Shaped → Env → Answer B) (e : Env) → Classless e
+      → ((k : Gathered) (x : Shape) (t : Shaped) (f : Env) → Classless f → QuietIn f (go k x t f))
       → QuietIn e (onward (words_of specifiers e) (λ ws f. onward (d f) (λ x g. onward (none_at (conflict (gathered ws)) 24 g)
-      (λ _ j. onward (base_type (gathered ws) j) (λ base l. onward (typed position x base l) (λ t m. onward (bounds_constant x m) (λ _. go x t)))))))
+      (λ _ j. onward (base_type (gathered ws) j) (λ base l. onward (typed position x base l) (λ t m. onward (bounds_constant x m) (λ _. go (gathered ws) x t)))))))
   described conflict position go e c next =
       quiet-onward e (words_of specifiers e) _ c (words-quiet specifiers e words_built c)
       (λ ws f cf. shape-then f (d f) _ cf (k.fine f cf)
-      (λ x g plain cg. still-quiet g (none_at (conflict (gathered ws)) 24 g) (λ j. onward (base_type (gathered ws) j) (λ base l. onward (typed position x base l) (λ t m. onward (bounds_constant x m) (λ _. go x t)))) (none_still (conflict (gathered ws)) 24 g)
+      (λ x g plain cg. still-quiet g (none_at (conflict (gathered ws)) 24 g) (λ j. onward (base_type (gathered ws) j) (λ base l. onward (typed position x base l) (λ t m. onward (bounds_constant x m) (λ _. go (gathered ws) x t)))) (none_still (conflict (gathered ws)) 24 g)
       (quiet-onward g (base_type (gathered ws) g) _ cg (base-quiet (gathered ws) g cg)
       (λ base h ch. quiet-onward h (typed position x base h) _ ch (typed-quiet position x base h plain ch)
-      (λ t i ci. still-quiet i (bounds_constant x i) (go x t) (bounds-still x i) (next x t i ci))))))
+      (λ t i ci. still-quiet i (bounds_constant x i) (go (gathered ws) x t) (bounds-still x i) (next (gathered ws) x t i ci))))))
 
   pub parameter-quiet : (at : ℕ) (name : Option WrittenName) → IsQuiet (λ e. onward (words_of specifiers e) (λ ws f. onward (d f) (λ x g. onward (none_at (parameter_conflict (gathered ws)) 24 g)
       (λ _ j. onward (base_type (gathered ws) j) (λ base l. onward (typed (record { unbounded = true; const_function = false }) x base l) (λ t m. onward (bounds_constant x m)
-      (λ _ n. onward (as_object t n) (λ u o. let q : Parameter = record { at = at; name = name; type = u; default = None } in Made q o))))))))
+      (λ _ n. onward (as_object t n) (λ u o. let q : Parameter = record { at = at; name = name; type = u; default = None; is_stored = is_stored (gathered ws) } in Made q o))))))))
   parameter-quiet at name = record {
     fine = λ e c. described parameter_conflict (record { unbounded = true; const_function = false })
-        (λ x t n. onward (as_object t n) (λ u o. let q : Parameter = record { at = at; name = name; type = u; default = None } in Made q o)) e c
-        (λ x t f cf. quiet-onward f (as_object t f) _ cf (as_object-quiet t f cf) (λ u g cg. quiet-none g cg));
+        (λ k x t n. onward (as_object t n) (λ u o. let q : Parameter = record { at = at; name = name; type = u; default = None; is_stored = is_stored k } in Made q o)) e c
+        (λ k x t f cf. quiet-onward f (as_object t f) _ cf (as_object-quiet t f cf) (λ u g cg. quiet-none g cg));
   }
 
   only-quiet : (t : Shaped) (e : Env) → Classless e → QuietIn e (only_whole t e)
@@ -217,4 +217,4 @@ module _ (specifiers : List TypeSpecifier) (d : Elab Shape) (words_built : built
   only-quiet (unbounded t) e c = quiet-none e c
 
   pub type-quiet : IsQuiet (type_from specifiers d)
-  type-quiet = record { fine = λ e c. described type_conflict nowhere (λ x t. only_whole t) e c (λ x t f cf. only-quiet t f cf) }
+  type-quiet = record { fine = λ e c. described type_conflict nowhere (λ k x t. only_whole t) e c (λ k x t f cf. only-quiet t f cf) }
