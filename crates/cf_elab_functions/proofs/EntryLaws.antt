@@ -80,27 +80,28 @@ entry_is env d o ns ms name h held is called =
 abbrev is_named : Name → List FunctionEntry → Bool
 is_named name fs = list_any (λ (f : FunctionEntry). bytes_eq f.name name) fs
 
-abbrev of_name : Name → List (Name × ℕ) → List (Name × ℕ)
-of_name name ns = filter (λ (x : Name × ℕ). pointwise nat_eq name x.0) ns
-
 abbrev has_some : List (Name × ℕ) → Bool
 has_some ns = not (length (map (λ (x : Name × ℕ). x.1) ns) == 0)
 
+some_more : (n : ℕ) → not (suc n == 0) ≡ true
+some_more n = grind arith
+
+-- the first where it is of the name, or else one behind it
+one_more : (x : Name × ℕ) (xs : List (Name × ℕ)) (b rest : Bool) → has_some xs ≡ rest → has_some (cond b (x ∷ xs) xs) ≡ (b || rest)
+one_more x xs true rest is = some_more (length (map (λ (x : Name × ℕ). x.1) xs))
+one_more x xs false rest is = is
+
 -- some number is that of a function of the name
-any_from : (name : Name) (n : ℕ) (fs : List FunctionEntry) → has_some (of_name name (numbered n fs)) ≡ is_named name fs
+any_from : (name : Name) (n : ℕ) (fs : List FunctionEntry) → has_some (filter (λ (x : Name × ℕ). pointwise nat_eq name x.0) (numbered n fs)) ≡ is_named name fs
 any_from name n [] = refl
-any_from name n (f ∷ fs) = by (pointwise nat_eq name f.name) ∙ ap (λ (b : Bool). b || is_named name fs) (nat_list_eq_equiv.symm name f.name)
-  where
-    by : (b : Bool) → has_some (cond b ((f.name, n) ∷ of_name name (numbered (n + 1) fs)) (of_name name (numbered (n + 1) fs))) ≡ (b || is_named name fs)
-    by true = refl
-    by false = any_from name (n + 1) fs
+any_from name n (f ∷ fs) =
+    one_more (f.name, n) (filter (λ (x : Name × ℕ). pointwise nat_eq name x.0) (numbered (n + 1) fs)) (pointwise nat_eq name f.name) (is_named name fs) (any_from name (n + 1) fs)
+    ∙ ap (λ (b : Bool). b || is_named name fs) (nat_list_eq_equiv.symm name f.name)
 
 pub named_is : (b : Bool) (called name : Name) (ns ms : List ℕ) (fs : List FunctionEntry) → b ≡ not (length ns == 0) → ns ≡ ms → ms ≡ numbers_named name fs → name ≡ called
     → b ≡ list_any (λ (f : FunctionEntry). bytes_eq f.name called) fs
 named_is b called name ns ms fs h held is same =
     h ∙ ap (λ (ns : List ℕ). not (length ns == 0)) (held ∙ is ∙ ap (λ (n : Name). numbers_named n fs) same) ∙ any_from called 0 fs
-
-pub ruleset named_laws = (named_is)
 
 pub ruleset same_laws = (same_is)
 

@@ -67,7 +67,6 @@ pub(crate) fn check_single(env: &Env, says: &Says) -> Result<(), Stop>
 }
 
 /// Whether a function of its name is declared: the table of their names has a number for it.
-#[tactic(auto, using(crate::proofs::EntryLaws::named_laws))]
 fn is_named(env: &Env, says: &Says) -> Result<bool, Memory>
     ensures { IfOk result (λ named. named ≡ list_any (λ (f : FunctionEntry). bytes_eq f.name says.now.name) env.now.entries) }
 {
