@@ -58,7 +58,7 @@ pub fn shape_of(d: &DeclTree, env: &mut Env) -> Result<Shape, Stop>
 
 /// A function, behind what stands inside its declarator: none of its parameters is void, and `(void)` are none (8.2.5).
 #[cycle(expressions)]
-#[tactic(auto, using(crate::proofs::Trees::taking_is, crate::proofs::Known::taken_shape, cf_elab_shape::proofs::shapes::SeenLaws::seen_taking, cf_elab_shape::proofs::shapes::TypedLaws::shape_grown, cf_elab_env::proofs::Growth::grown_laws))]
+#[tactic(auto, using(crate::proofs::Trees::taking_is, crate::proofs::Known::taken_shape, cf_elab_shape::proofs::ShapesLaws::SeenLaws::seen_taking, cf_elab_shape::proofs::ShapesLaws::TypedLaws::shape_grown, cf_elab_env::proofs::Growth::grown_laws))]
 fn taking(
     all: &[Param],
     at: u32,
@@ -84,7 +84,7 @@ fn taking(
 
 /// An array, behind what stands inside its declarator (8.2.4).
 #[cycle(expressions)]
-#[tactic(auto, using(crate::proofs::Trees::holding_is, crate::proofs::Known::held_shape, cf_elab_shape::proofs::shapes::SeenLaws::seen_holding, cf_elab_shape::proofs::shapes::TypedLaws::shape_grown, cf_elab_env::proofs::Growth::grown_laws))]
+#[tactic(auto, using(crate::proofs::Trees::holding_is, crate::proofs::Known::held_shape, cf_elab_shape::proofs::ShapesLaws::SeenLaws::seen_holding, cf_elab_shape::proofs::ShapesLaws::TypedLaws::shape_grown, cf_elab_env::proofs::Growth::grown_laws))]
 fn holding(
     written: &Option<Boxed<Expr>>,
     at: u32,
@@ -143,7 +143,7 @@ fn parameters(all: &[Param], env: &mut Env) -> Result<Items<Parameter>, Stop>
 
 /// Parameters that are objects, in order.
 #[cycle(expressions)]
-#[tactic(auto, using(cf_elab_shape::proofs::shapes::ParameterLaws::objects_grown, cf_elab_env::proofs::Growth::grown_laws))]
+#[tactic(auto, using(cf_elab_shape::proofs::ShapesLaws::ParameterLaws::objects_grown, cf_elab_env::proofs::Growth::grown_laws))]
 fn object_parameters(all: &[Param], env: &mut Env) -> Result<Items<Parameter>, Stop>
     requires { shut.ParametersAreBuilt all.now }
     ensures made { Agrees (shut.object_parameters all.now env.old) result env.new }

@@ -14,7 +14,7 @@ use cf_elab_numbers::{operand_kind, operator_kind};
 use cf_types::{TyId, promote};
 
 /// A place that is changed by a value.
-#[tactic(auto, using(crate::proofs::binary::UnaryPointerLaws::unnumbered))]
+#[tactic(auto, using(crate::proofs::BinaryLaws::UnaryPointerLaws::unnumbered))]
 fn updated(env: &Env, at: u32, place: Value, change: Change, value: Value) -> Result<Value, Memory>
     requires { IsType env.now.types place.type }
     ensures made { IfOk result (λ v. v ≡ operand.place_of at (node.Update at place.node change value.node) place.type false) }

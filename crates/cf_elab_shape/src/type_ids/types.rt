@@ -14,7 +14,7 @@ use cf_elab_specifiers::{Gathered, Word, base_type};
 use cf_types::TyId;
 
 /// A type in brackets, by its specifiers and its declarator: K24 at the first specifier that conflicts, K26, and K19 at a bound that is no constant (8.1).
-#[tactic(auto, using(crate::proofs::TypeIdsLaws::Rows::type_is, crate::proofs::TypeIdsLaws::Rows::one_type, cf_elab_env::proofs::Growth::grown_laws, crate::proofs::shapes::TypedLaws::shape_grown))]
+#[tactic(auto, using(crate::proofs::TypeIdsLaws::Rows::type_is, crate::proofs::TypeIdsLaws::Rows::one_type, cf_elab_env::proofs::Growth::grown_laws, crate::proofs::ShapesLaws::TypedLaws::shape_grown))]
 pub fn type_behind(env: &mut Env, words: &[Word], shape: &Shape) -> Result<TyId, Stop>
     requires words_known { All (λ w. IsWord env.old.types w) words.now }
     requires shape_known { IsShape env.old.types (shape_seen shape.now) }
@@ -35,7 +35,7 @@ pub fn type_behind(env: &mut Env, words: &[Word], shape: &Shape) -> Result<TyId,
 }
 
 /// The type of a parameter, by its specifiers and its declarator, in the same order; an array is a pointer to its elements (8.2.5).
-#[tactic(auto, using(crate::proofs::TypeIdsLaws::Rows::parameter_is, cf_elab_env::proofs::Growth::grown_laws, crate::proofs::shapes::TypedLaws::shape_grown))]
+#[tactic(auto, using(crate::proofs::TypeIdsLaws::Rows::parameter_is, cf_elab_env::proofs::Growth::grown_laws, crate::proofs::ShapesLaws::TypedLaws::shape_grown))]
 pub fn parameter_behind(env: &mut Env, words: &[Word], shape: &Shape) -> Result<TyId, Stop>
     requires words_known { All (λ w. IsWord env.old.types w) words.now }
     requires shape_known { IsShape env.old.types (shape_seen shape.now) }
