@@ -1,5 +1,9 @@
 pub mod Actions
+pub mod Arguments
+pub mod Binding
+pub mod Branches
 pub mod Calling
+pub mod Changes
 mod ClassRows
 mod ControlRows
 mod OrderRows
@@ -19,6 +23,7 @@ pub mod Joining
 pub mod Kept
 pub mod Moving
 pub mod Passing
+pub mod Placing
 pub mod PlainSteps
 pub mod Pointers
 pub mod References
@@ -34,5 +39,6 @@ pub mod RenamedCode
 pub mod OwnNames
 pub mod Steps
 pub mod Switching
+pub mod Temporaries
 pub mod Whole
 mod ScalarRows
