@@ -12,6 +12,6 @@ mod writing;
 
 pub use function_types::parameters;
 pub use locals::{add_locals, width};
-pub use temporaries::{Temporary, temporaries};
+pub use temporaries::{Temporary, temporaries_of};
 pub use values::value;
 pub use writing::{Full, Writing, behind, beyond, copied};

@@ -52,7 +52,7 @@ impl Found {
 }
 
 /// The temporaries of a full expression whose locals are numbered from the first, in the order in which they are there.
-pub fn temporaries(
+pub fn temporaries_of(
     alloc: Global,
     unit: &CoreUnit,
     e: &Core,

@@ -13,7 +13,7 @@ use crate::body::{Body, Open};
 use cf_base::{Items, Memory};
 use cf_core::{Core, CoreStatic, CoreUnit, Holder};
 use cf_plain::{Action, Plain};
-use cf_sequence_expr::{Full, Temporary, Writing, beyond, copied, temporaries, value, width};
+use cf_sequence_expr::{Full, Temporary, Writing, beyond, copied, temporaries_of, value, width};
 use cf_types::TyId;
 
 /// A full expression whose value is in a register, and its temporaries.
@@ -92,7 +92,7 @@ fn enter(unit: &CoreUnit, e: &Core, base: u32, w: &mut Writing) -> Result<Entere
         base,
     };
     let register = beyond(base, width(w.alloc, unit, e)?)?;
-    let made = temporaries(w.alloc, unit, e, w.next)?;
+    let made = temporaries_of(w.alloc, unit, e, w.next)?;
     clear(full, made.as_slice(), w)?;
     value(unit, e, full, register, w)?;
     Ok(Entered {
