@@ -6,7 +6,7 @@ use Rattle.cf_base.specs.declared.kind.Kind.TheVariants.{Int}
 use Rattle.cf_base.specs.declared.arith.Arith.TheVariants as op
 use Rattle.cf_base.specs.Event.{Ended, Undefined}
 use Rattle.cf_core.specs.declared.operators.LoopForm.TheVariants as form
-use Rattle.cf_core.specs.Types.{SourceType, pointer, reference, const}
+use Rattle.cf_core.specs.Types.{pointer, reference, const}
 use Rattle.cf_core.specs.Core.{Core, Function, absent, given, branch, operate, address, read, dereference, local, logical_and, logical_or, conditional, comma, declare, store, step, arithmetic, full, loop, temporary}
 use Rattle.cf_core.specs.Calls.{Program}
 use Rattle.cf_core.proofs.Sample.{int, function_of, listed, in_block, main_of, program, returns, num, add, put_digit, value_of, set, called, referred}
