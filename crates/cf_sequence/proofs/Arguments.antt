@@ -1,13 +1,13 @@
 -- Arguments and calls: the object of each parameter is there, and its argument's value comes into it; the temporaries of arguments stay behind.
-use Rattle.std.proofs.Common.{◌≡◌, inr, ℕ, suc, ◌+◌, ◌≤◌, ◌<◌, Bool, true, false, not, ◌&&◌, List, [], ◌∷◌, ◌++◌, length, length-append, refl, sym, ◌∙◌, ap, subst, arith, if◌then◌else◌}
-use Rattle.std.specs.Prelude.{Option, Some, None}
+use Rattle.std.proofs.Common.{◌≡◌, inr, ℕ, suc, ◌+◌, ◌≤◌, ◌<◌, Bool, true, not, List, [], ◌∷◌, ◌++◌, length, length-append, refl, sym, ◌∙◌, ap, subst, arith, if◌then◌else◌}
+use Rattle.std.specs.Prelude.{Some, None}
 use Rattle.cf_base.specs.World.{World, and_then}
 use Rattle.cf_core.specs.Types.{SourceType, Name, parameters, result, is_class}
 use Rattle.cf_core.specs.Core as core
 use Rattle.cf_core.specs.Core.{Core, Cores, Function, absent}
 use Rattle.cf_core.specs.Nodes.{nodes, nodes_all}
 use Rattle.cf_core.specs.Store.{Value, At, Code, new_object, automatic}
-use Rattle.cf_core.specs.Run.{State, Frame, Act, ◌>>=◌, ◌>>◌, gives, upd, with_frame, lists_local}
+use Rattle.cf_core.specs.Run.{State, Frame, Act, ◌>>=◌, gives, upd, with_frame, lists_local}
 use Rattle.cf_core.specs.Access.{used}
 use Rattle.cf_core.specs.Objects.{settle, result_place, run_pointer}
 use Rattle.cf_core.specs.Calls as calling
@@ -23,10 +23,10 @@ use Rattle.cf_sequence.specs.Built.{is_value, are_arguments, is_chain}
 use Rattle.cf_sequence.specs.Made.{Temporary, temporaries, temporaries_all, added, width, numbers}
 use Rattle.cf_sequence.specs.Expressions.{Full, destination, value, arguments, settled, used as use_of, result_register}
 use Rattle.cf_sequence.proofs.Following.{on, pull, push}
-use Rattle.cf_sequence.proofs.Calling.{Alike, Bodies}
+use Rattle.cf_sequence.proofs.Calling.{Bodies}
 use Rattle.cf_sequence.proofs.Actions.{name-steps}
 use Rattle.cf_sequence.proofs.Kept.{Kept, kept-then, kept-less, kept-all, kept-alike, Objects, added-two, keep-same, keep-other, listed-kept, listed-there, listed-aside}
-use Rattle.cf_sequence.proofs.Temporaries.{placed-wider, Begins, begins-first, begins-second, begins-same, begins-declared, Grown, grown-none, grown-then, grown-after, grown-state, grown-behind, grown-wider, alike-grown, after-set}
+use Rattle.cf_sequence.proofs.Temporaries.{Begins, begins-first, begins-second, begins-same, begins-declared, Grown, grown-none, grown-then, grown-after, grown-state, grown-behind, grown-wider, alike-grown, after-set}
 use Rattle.cf_sequence.proofs.Placing.{placing, placing-arguments}
 use Rattle.cf_sequence.proofs.PlainSteps.{runs_on, act-steps, use-steps, declare-steps}
 use Rattle.cf_sequence.proofs.Operands.{H, Follow}

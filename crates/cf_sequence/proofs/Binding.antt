@@ -1,7 +1,7 @@
 -- A value that a reference binds: a temporary of the full expression holds it (8.4.3, 12.2).
-use Rattle.std.proofs.Common.{◌≡◌, inr, ℕ, suc, ◌+◌, Bool, true, false, List, ◌∷◌, [], ◌++◌, refl, sym, ◌∙◌, ap, subst, arith, if◌then◌else◌}
-use Rattle.std.specs.Prelude.{pos, Option, Some, None}
-use Rattle.cf_base.specs.World.{World, and_then}
+use Rattle.std.proofs.Common.{◌≡◌, inr, ℕ, suc, ◌+◌, Bool, true, false, List, sym, ◌∙◌, ap, subst, arith, if◌then◌else◌}
+use Rattle.std.specs.Prelude.{pos, Some}
+use Rattle.cf_base.specs.World.{and_then}
 use Rattle.cf_core.specs.Types.{SourceType, Name}
 use Rattle.cf_core.specs.Core as core
 use Rattle.cf_core.specs.Core.{Core, Function}
@@ -24,7 +24,7 @@ use Rattle.cf_sequence.specs.Expressions.{flag, destination, value, settled}
 use Rattle.cf_sequence.proofs.Following.{on, pull, pull-two}
 use Rattle.cf_sequence.proofs.Calling.{Bodies}
 use Rattle.cf_sequence.proofs.Kept.{kept-then, keep-same, keep-other, listed-kept, listed-there}
-use Rattle.cf_sequence.proofs.Temporaries.{placed-wider, Begins, begins-same, begins-temporary, Grown, grown-temporary, grown-wider}
+use Rattle.cf_sequence.proofs.Temporaries.{placed-wider, begins-same, begins-temporary, grown-temporary, grown-wider}
 use Rattle.cf_sequence.proofs.Placing.{placing}
 use Rattle.cf_sequence.proofs.PlainSteps.{runs_on, set-steps, declare-steps, here-steps, new-type}
 use Rattle.cf_sequence.proofs.Operands.{H, Follow}

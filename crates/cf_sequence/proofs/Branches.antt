@@ -1,7 +1,6 @@
 -- `&&`, `||` and `?:`: the plain statements of their operands in branches.
-use Rattle.std.proofs.Common.{◌≡◌, ℕ, ◌+◌, ◌≤◌, Bool, true, false, List, ◌++◌, length, arith}
-use Rattle.std.specs.Prelude.{Option, Some, None}
-use Rattle.cf_base.specs.World.{World, and_then}
+use Rattle.std.proofs.Common.{◌≡◌, ℕ, ◌+◌, Bool, true, false, List, ◌++◌, length, arith}
+use Rattle.std.specs.Prelude.{Some, None}
 use Rattle.cf_core.specs.Types.{Name}
 use Rattle.cf_core.specs.Core as core
 use Rattle.cf_core.specs.Core.{Core, Function}
@@ -18,11 +17,10 @@ use Rattle.cf_plain.specs.Plain as plain
 use Rattle.cf_plain.specs.Acts.{Registers}
 use Rattle.cf_plain.specs.Running as running
 use Rattle.cf_plain.specs.Running.{Flow, keep}
-use Rattle.cf_sequence.specs.Follows.{Follows}
 use Rattle.cf_sequence.specs.Built.{is_value, is_chain}
 use Rattle.cf_sequence.specs.Made.{Temporary, temporaries, added, width}
 use Rattle.cf_sequence.specs.Expressions.{Full, value}
-use Rattle.cf_sequence.proofs.Following.{on, pull}
+use Rattle.cf_sequence.proofs.Following.{pull}
 use Rattle.cf_sequence.proofs.Calling.{Bodies}
 use Rattle.cf_sequence.proofs.Kept.{added-two, keep-same}
 use Rattle.cf_sequence.proofs.Temporaries.{placed-branch, Begins, begins-first}

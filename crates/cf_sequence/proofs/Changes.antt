@@ -1,7 +1,7 @@
 -- Assignments, `++` and `--`: the plain statements of what they change.
-use Rattle.std.proofs.Common.{◌≡◌, ℕ, suc, ◌+◌, ◌≤◌, Bool, true, false, List, ◌++◌, length, refl, sym, ◌∙◌, ap, subst, arith}
+use Rattle.std.proofs.Common.{◌≡◌, ℕ, suc, ◌+◌, ◌≤◌, Bool, true, false, List, ◌++◌, length, refl, ◌∙◌, ap, subst, arith}
 use Rattle.std.specs.Prelude.{pos, Option, Some, None}
-use Rattle.cf_base.specs.World.{World, and_then}
+use Rattle.cf_base.specs.World.{and_then}
 use Rattle.cf_core.specs.Types.{Name}
 use Rattle.cf_core.specs.Core as core
 use Rattle.cf_core.specs.Core.{Core, Function, Change}
@@ -22,7 +22,7 @@ use Rattle.cf_plain.specs.Running.{Flow, keep}
 use Rattle.cf_sequence.specs.Follows.{Follows}
 use Rattle.cf_sequence.specs.Built.{is_value, is_chain}
 use Rattle.cf_sequence.specs.Made.{Temporary, temporaries, added, width}
-use Rattle.cf_sequence.specs.Expressions.{Full, value}
+use Rattle.cf_sequence.specs.Expressions.{Full}
 use Rattle.cf_sequence.proofs.Following.{on, pull, looks-steps}
 use Rattle.cf_sequence.proofs.Steps.{looks-read_place}
 use Rattle.cf_sequence.proofs.Calling.{Bodies}

@@ -1,5 +1,5 @@
 -- The plain statements of an expression do what the expression does.
-use Rattle.std.proofs.Common.{◌≡◌, ℕ, suc, ◌+◌, ◌≤◌, Bool, true, false, not, ◌&&◌, List, [], ◌++◌, length, append-nil, refl, sym, ◌∙◌, ap, subst, arith}
+use Rattle.std.proofs.Common.{◌≡◌, ℕ, ◌+◌, ◌≤◌, Bool, true, false, not, ◌&&◌, List, [], ◌++◌, length, append-nil, refl, sym, subst, arith}
 use Rattle.std.specs.Prelude.{ℤ, Some, None}
 use Rattle.cf_base.proofs.Tests.{both}
 use Rattle.cf_base.specs.World.{World, and_then}
@@ -11,7 +11,7 @@ use Rattle.cf_core.specs.Core.{Core, Cores, Function, no_temporary, none, absent
 use Rattle.cf_core.specs.Nodes.{nodes, nodes_all}
 use Rattle.cf_core.specs.Places.{Place, is_reference}
 use Rattle.cf_core.specs.Store.{Value, Number, At, Code}
-use Rattle.cf_core.specs.Run.{State, Frame, Act, ◌>>=◌, ◌>>◌, gives, malformed, some_or, with_frame}
+use Rattle.cf_core.specs.Run.{State, Frame, Act, ◌>>=◌, gives, malformed, some_or, with_frame}
 use Rattle.cf_core.specs.Access.{used, place_of, read_place, followed}
 use Rattle.cf_core.specs.Pointers.{truth_value, from_void_value, pointer_op}
 use Rattle.cf_core.specs.Scalars.{truth_of, converted_value, operated, signed, indexed, decayed, pointed_to}

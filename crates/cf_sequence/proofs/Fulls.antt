@@ -1,5 +1,5 @@
 -- Full expressions: the flags of their temporaries in branches are cleared before, and their temporaries end behind, on both sides in the same order.
-use Rattle.std.proofs.Common.{◌≡◌, inl, ℕ, suc, ◌+◌, ◌≤◌, ◌<◌, Bool, true, false, List, [], ◌∷◌, ◌++◌, append-nil, refl, sym, ◌∙◌, ap, subst, arith, reverse}
+use Rattle.std.proofs.Common.{◌≡◌, inl, ℕ, suc, ◌+◌, ◌≤◌, ◌<◌, Bool, true, false, List, [], ◌∷◌, append-nil, refl, sym, ◌∙◌, ap, subst, arith, reverse}
 use Rattle.std.specs.Prelude.{pos, Option, Some, None}
 use Rattle.cf_base.specs.World.{World, Ran, Went, and_then}
 use Rattle.cf_core.specs.Types.{Name}
@@ -28,7 +28,7 @@ use Rattle.cf_sequence.specs.Statements.{condition}
 use Rattle.cf_sequence.proofs.Following.{on, pull}
 use Rattle.cf_sequence.proofs.Calling.{Bodies, never}
 use Rattle.cf_sequence.proofs.Kept.{Kept, Ready, Valued, keep-same, keep-other, keep-again}
-use Rattle.cf_sequence.proofs.Temporaries.{objects, objects-reverse, Placed, Unset, Listed, listed-reverse, listing, Begins, Grown, grown-set}
+use Rattle.cf_sequence.proofs.Temporaries.{objects, objects-reverse, Unset, Listed, listed-reverse, listing, Begins, Grown, grown-set}
 use Rattle.cf_sequence.proofs.Placing.{placing}
 use Rattle.cf_sequence.proofs.Moving.{all_gone, gone-same, ends-all, finished-steps}
 use Rattle.cf_sequence.proofs.PlainSteps.{Usable, runs_on, set-steps, use-steps, truth-steps, branch-steps}

@@ -7,6 +7,7 @@ pub mod Changes
 mod ClassRows
 mod ControlRows
 mod OrderRows
+mod TemporaryRows
 pub mod Doing
 pub mod Loops
 pub mod Scopes

@@ -1,7 +1,7 @@
 -- Where the temporaries of an expression are: their locals are among those that sequencing adds for it.
-use Rattle.std.proofs.Common.{◌≡◌, ℕ, suc, ◌+◌, ◌≤◌, Bool, true, false, not, ◌&&◌, List, [], ◌∷◌, ◌++◌, length, length-append, refl, sym, ap, arith}
+use Rattle.std.proofs.Common.{◌≡◌, ℕ, suc, ◌+◌, Bool, true, not, ◌&&◌, List, [], ◌∷◌, ◌++◌, length, length-append, arith}
 use Rattle.cf_base.proofs.Tests.{both}
-use Rattle.cf_core.specs.Types.{SourceType, parameters, result, is_class}
+use Rattle.cf_core.specs.Types.{parameters, result, is_class}
 use Rattle.cf_core.specs.Core as core
 use Rattle.cf_core.specs.Core.{Core, Cores, no_temporary, none, absent}
 use Rattle.cf_core.specs.Nodes.{nodes, nodes_all}

@@ -4,14 +4,13 @@ use Rattle.std.proofs.Common.{◌≡◌, inl, inr, ℕ, suc, ◌+◌, ◌-◌, �
 use Rattle.std.specs.Prelude.{Some}
 use Rattle.std.proofs.lemmas.Bool.Decides.{nat_tests}
 use Rattle.cf_base.proofs.Tests.{both}
-use Rattle.cf_base.specs.World.{World, Ran, and_then}
+use Rattle.cf_base.specs.World.{World, and_then}
 use Rattle.cf_core.specs.Types.{SourceType, Name, is_class}
 use Rattle.cf_core.specs.Core as core
 use Rattle.cf_core.specs.Core.{Core, Function, local_temporary}
 use Rattle.cf_core.specs.Places.{is_reference}
-use Rattle.cf_core.specs.Store.{Value, At, new_object, automatic}
-use Rattle.cf_core.specs.Run.{State, Frame, Did, Act, ◌>>=◌, ◌>>◌, gives, undefined, valid, some_or, when, declared_object, frame_changed, lists_local, lists_in_scope, with_frame, not_alive}
-use Rattle.cf_core.specs.Access.{read_place, bound_to, followed}
+use Rattle.cf_core.specs.Store.{Value, At}
+use Rattle.cf_core.specs.Run.{State, Frame, Act, ◌>>=◌, ◌>>◌, gives, valid, declared_object, frame_changed, lists_local, lists_in_scope, with_frame}
 use Rattle.cf_core.specs.Objects.{settle, settled as core_settled}
 use Rattle.cf_core.specs.Calls as calling
 use Rattle.cf_core.specs.Calls.{Program, root, function_named, full_expression}

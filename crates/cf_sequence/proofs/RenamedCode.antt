@@ -21,7 +21,7 @@ use Rattle.cf_sequence.proofs.Calling.{never}
 use Rattle.cf_sequence.proofs.Filling.{fill, started-is}
 use Rattle.cf_sequence.proofs.Fulls.{nothing-is, held_at}
 use Rattle.cf_sequence.proofs.Labels.{or-else, passing-past}
-use Rattle.cf_sequence.proofs.Renamed.{same-width, same-temporaries, same-width-maybe, same-builds, same-value, same-filling, same-declared, same-declared-all, same-has-label, same-statement}
+use Rattle.cf_sequence.proofs.Renamed.{same-width, same-temporaries, same-width-maybe, same-builds, same-filling, same-declared, same-declared-all, same-has-label, same-statement}
 
 module _ (r : Name → Name) where
   abbrev again : Core → Core

@@ -1,6 +1,6 @@
 -- The temporaries of a full expression while it is evaluated (12.2). A part of it begins where the flags of those in branches hold 0, and each that is made
 -- comes into the core's frame, with its local's object and 1 in its flag.
-use Rattle.std.proofs.Common.{◌≡◌, ◌⊎◌, inl, inr, ℕ, suc, ◌+◌, ◌-◌, ◌≤◌, ◌<◌, Bool, true, false, List, [], ◌∷◌, ◌++◌, reverse, refl, sym, ◌∙◌, ap, subst, arith, append-nil, append_assoc}
+use Rattle.std.proofs.Common.{◌≡◌, ◌⊎◌, inl, inr, ℕ, suc, ◌≤◌, ◌<◌, Bool, true, List, [], ◌∷◌, ◌++◌, reverse, refl, sym, ◌∙◌, ap, subst, arith, append-nil, append_assoc}
 use Rattle.std.specs.Prelude.{pos, Option, Some, None}
 use Rattle.std.proofs.lemmas.List.{reverse-append}
 use Rattle.cf_core.specs.Types.{SourceType}
@@ -12,7 +12,7 @@ use Rattle.cf_plain.specs.Running.{keep}
 use Rattle.cf_sequence.specs.Made.{Temporary}
 use Rattle.cf_sequence.specs.Expressions.{Full, flag}
 use Rattle.cf_sequence.proofs.Calling.{Alike}
-use Rattle.cf_sequence.proofs.Kept.{Kept, kept-all, kept-then, kept-less, kept-count, keep-same, keep-other, Ready, ready-more, ready-kept, listed-kept, listed-there}
+use Rattle.cf_sequence.proofs.Kept.{Kept, kept-all, kept-count, keep-same, keep-other, Ready, ready-more, ready-kept, listed-kept}
 
 -- ---- which are there
 
