@@ -1,5 +1,5 @@
 -- How the temporaries of a full expression are found, node by node, in the order in which they are there (12.2).
-use Rattle.std.specs.Prelude.{ℕ, ◌+◌, Bool, List, [], ◌∷◌, ◌++◌}
+use Rattle.std.specs.Prelude.{ℕ, ◌+◌, Bool, [], ◌∷◌, ◌++◌}
 use Rattle.cf_sequence_expr.specs.declared.temporaries.Found.{Found}
 
 -- so many locals are passed

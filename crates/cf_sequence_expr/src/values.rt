@@ -1,5 +1,3 @@
-//! The values of expressions.
-
 ghost use Rattle.std.specs.Prelude.{◌≡◌, ◌+◌, ◌<◌, map, length, true, IfOk, OnOk};
 ghost use Rattle.cf_core.specs.FromUnit.{tables_of};
 ghost use Rattle.cf_core.specs.Numbers.{are_known, all_of};
@@ -244,8 +242,12 @@ pub fn value(unit: &CoreUnit, e: &Core, full: Full, n: u32, w: &mut Writing) -> 
             operand,
             ..
         } => match holder {
-            Holder::NoTemporary | Holder::StaticTemporary(_) => value(unit, operand.get(), full, n, w),
-            Holder::LocalTemporary { local, ty } => held(unit, operand.get(), *local, *ty, full, n, w),
+            Holder::NoTemporary | Holder::StaticTemporary(_) => {
+                value(unit, operand.get(), full, n, w)
+            }
+            Holder::LocalTemporary { local, ty } => {
+                held(unit, operand.get(), *local, *ty, full, n, w)
+            }
         },
         _ => Ok(()),
     }

@@ -29,7 +29,9 @@ impl Full {
     pub fn flag(self, local: u32) -> Result<u32, Memory>
         ensures { IfOk result (λ register. register ≡ spec.flag self local) }
     {
-        self.base.checked_add(local.saturating_sub(self.first)).ok_or(Memory)
+        self.base
+            .checked_add(local.saturating_sub(self.first))
+            .ok_or(Memory)
     }
 }
 
