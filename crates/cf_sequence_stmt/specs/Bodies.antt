@@ -1,5 +1,5 @@
 -- How what is written of a function's body goes on: its statements, and the locals of the scopes that are open.
-use Rattle.std.specs.Prelude.{ℕ, suc, ◌+◌, Bool, true, false, if◌then◌else◌, List, [], ◌∷◌, ◌++◌, length, pos, take, drop, Option, Some, None}
+use Rattle.std.specs.Prelude.{ℕ, ◌+◌, Bool, true, false, if◌then◌else◌, List, [], ◌∷◌, ◌++◌, length, pos, take, drop, Option, Some, None}
 use Rattle.cf_plain.specs.declared.action.Action.{Action}
 use Rattle.cf_plain.specs.declared.action.Action.TheVariants as action
 use Rattle.cf_plain.specs.declared.statement.Plain.{Plain}

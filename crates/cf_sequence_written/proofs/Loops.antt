@@ -16,7 +16,7 @@ use Rattle.cf_plain.specs.Plain.{Plains, nothing, more, branch, leave}
 use Rattle.cf_plain.specs.Plain as plain
 use Rattle.cf_plain.specs.View.{plain_of, plains_of}
 use Rattle.cf_sequence.specs.Built.{are_cases}
-use Rattle.cf_sequence.specs.Made.{Local, added, width, width_maybe, declared, declared_all}
+use Rattle.cf_sequence.specs.Made.{added, width, width_maybe, declared, declared_all}
 use Rattle.cf_sequence.specs.Expressions.{finished}
 use Rattle.cf_sequence.specs.Statements.{Inside, statement, statements, in_loop, in_switch, passed}
 use Rattle.cf_sequence.specs.Statements as definition
