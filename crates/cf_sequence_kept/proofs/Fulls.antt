@@ -1,5 +1,5 @@
 -- Full expressions: the flags of temporaries hold integers from the flags before up to the ends behind, and nothing else changes by these.
-use Rattle.std.proofs.Common.{◌≡◌, inl, ℕ, suc, ◌+◌, ◌-◌, ◌≤◌, ◌<◌, Bool, true, false, if◌then◌else◌, List, [], ◌∷◌, ◌++◌, length, reverse, refl, sym, ap, ◌∙◌, subst, arith}
+use Rattle.std.proofs.Common.{◌≡◌, inl, ℕ, ◌+◌, ◌-◌, ◌≤◌, ◌<◌, Bool, true, false, if◌then◌else◌, List, [], ◌∷◌, ◌++◌, reverse, refl, sym, ap, ◌∙◌, subst, arith}
 use Rattle.std.specs.Prelude.{pos, Option, Some, None}
 use Rattle.std.proofs.lemmas.List.{reverse-append}
 use Rattle.cf_base.specs.Integers.{fits}
@@ -21,7 +21,7 @@ use Rattle.cf_sequence.proofs.Placing.{placing}
 use Rattle.cf_sequence.proofs.Temporaries.{Placed}
 use Rattle.cf_sequence_kept.proofs.Related.{Relates}
 use Rattle.cf_sequence_kept.proofs.Spans.{in-both-same, Span, Stays, Room}
-use Rattle.cf_sequence_kept.proofs.Values.{keep-at, keep-below, runs, set-runs, act-runs, Keeps}
+use Rattle.cf_sequence_kept.proofs.Values.{keep-at, keep-below, runs, set-runs, act-runs}
 use Rattle.cf_sequence_kept.proofs.Whole.{keeps-value}
 use Rattle.cf_sequence_valid.proofs.Serves.{Serves}
 use Rattle.cf_sequence_valid.proofs.Stands.{Stand}

@@ -140,12 +140,12 @@ module _ (locals : List SourceType) (R : SourceType) (span : Span) where
 
         by : (o : Option SourceType) → (typing scope e).place ≡ o → Serves (stepped scope true c o)
             → Keeps locals R span (stepped scope true c o) n g (λ rest. F (more (set n (plain.read (suc n))) (more (set (suc (suc n)) (plain.number (pos 1))) (more (set (suc (suc n)) (plain.changed c n (suc (suc n)))) (more (act (plain.store (suc n) (suc (suc n)))) rest)))))
-        by None e s = nothing-serves s
-        by (Some t) e s =
+        by None at s = nothing-serves s
+        by (Some t) at s =
             let ok = allowed-is (changes c (Some t) (of_number (pos 1))) (of_value (unqualified t)) s in
             let p = ve x None (suc n) k g (room-above locals span x n k (suc n) (omega arith) (added (nodes e)) room) in
             let one : Kept = an_integer (λ j. fits j (pos 1)) in
-            let d = pointed-to t p.kept (p.related.place t e) in
+            let d = pointed-to t p.kept (p.related.place t at) in
             let ch = change-gives (of_number (pos 1)) one (of-number (pos 1)) c t d.to d.same ok in
             let one_up : n < suc n = omega arith in
             let two_up : suc n < suc (suc n) = omega arith in
