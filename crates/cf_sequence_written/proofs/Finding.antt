@@ -45,10 +45,10 @@ module _ (tables : Tables) where
   }
 
   -- a temporary behind those of its own initialiser
-  pub finds-temporary : {p : Piece} {g : ℕ → List Temporary} {m : ℕ} (t : ℕ) (b : Bool) → Finds (p.finds b) g m
+  pub finds-temporary : (p : Piece) {g : ℕ → List Temporary} {m : ℕ} (t : ℕ) (b : Bool) → Finds (p.finds b) g m
       → Finds (λ x. listed x.next t b (p.finds b (skipped 1 x))) (λ k. g (suc k) ++ record { local = record { number = k; type = type_of tables t }; in_branch = b } ∷ []) (suc m)
   unfolding listed
-  finds-temporary {p} {g} {m} t b w =
+  finds-temporary p {g} {m} t b w =
       let both : Finds (λ x. p.finds b (skipped 1 x)) (λ k. g (k + 1)) (1 + m) = finds-then (finds-skipped 1) w in
       record {
         made = λ x.
@@ -61,5 +61,5 @@ module _ (tables : Tables) where
       }
 
   -- those of a full expression
-  pub found-are : {p : Piece} {g : Bool → ℕ → List Temporary} {m : ℕ} → ((b : Bool) → Finds (p.finds b) (g b) m) → (k : ℕ) → all_of (found_in p k) ≡ g false k
-  found-are w k = Finds.made (w false) (record { next = k; made = [] })
+  pub found-are : (p : Piece) {g : Bool → ℕ → List Temporary} {m : ℕ} → ((b : Bool) → Finds (p.finds b) (g b) m) → (k : ℕ) → all_of (found_in p k) ≡ g false k
+  found-are p w k = Finds.made (w false) (record { next = k; made = [] })

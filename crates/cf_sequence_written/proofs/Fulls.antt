@@ -35,8 +35,9 @@ ended-more x [] us rest = refl
 ended-more x (t ∷ ts) us rest = by t.in_branch (ended-more x ts us rest)
   where
     by : (b : Bool) → ended x (ts ++ us) rest ≡ ended x ts (ended x us rest)
-        → (elim b [ true ↦ more (branch (definition.flag x t.local.number) (finished (t.local ∷ []) nothing) nothing) (ended x (ts ++ us) rest) | false ↦ finished (t.local ∷ []) (ended x (ts ++ us) rest) ])
-        ≡ (elim b [ true ↦ more (branch (definition.flag x t.local.number) (finished (t.local ∷ []) nothing) nothing) (ended x ts (ended x us rest)) | false ↦ finished (t.local ∷ []) (ended x ts (ended x us rest)) ])
+        → ◌≡◌ {A = Plains}
+        (elim b [ true ↦ more (branch (definition.flag x t.local.number) (finished (t.local ∷ []) nothing) nothing) (ended x (ts ++ us) rest) | false ↦ finished (t.local ∷ []) (ended x (ts ++ us) rest) ])
+        (elim b [ true ↦ more (branch (definition.flag x t.local.number) (finished (t.local ∷ []) nothing) nothing) (ended x ts (ended x us rest)) | false ↦ finished (t.local ∷ []) (ended x ts (ended x us rest)) ])
     by true p = ap (more (branch (definition.flag x t.local.number) (finished (t.local ∷ []) nothing) nothing)) p
     by false p = ap (more (acts (plain.finish t.local.type t.local.number))) p
 
@@ -107,7 +108,7 @@ module _ (tables : Tables) (signature : MemberRef → Name) where
       let valued = subst (λ r. Puts tables signature (p.value (full_of x) r) (λ k rest. value classes x e into m k rest) (width e)) (sym same) (Writes.puts w x into m) in
       puts-as tables signature
       (puts-still tables signature (puts-still tables signature (still-puts tables signature (still-cleared x (found_in p i)) valued) still) (still-over x (found_in p i)))
-      (λ k rest. ap (λ us. flags x us (value classes x e into m k (g m (ended x (reverse us) rest)))) (found-are tables (Writes.finds w) i)) refl
+      (λ k rest. ap (λ us. flags x us (value classes x e into m k (g m (ended x (reverse us) rest)))) (found-are tables p (Writes.finds w) i)) refl
 
   pub puts-whole : {p : Piece} {e : Core} {f : Writing → Writing} (classes : List Class) (n : ℕ) (into : Option Destination) (g : Register → Plains → Plains)
       → Writes tables signature classes p e → Still tables signature f (g (n + width e)) → behind_flags n p ≡ n + width e

@@ -44,8 +44,8 @@ module _ (tables : Tables) (signature : MemberRef → Name) (classes : List Clas
       (still-set tables signature (flag (full_of x) i) (action.Number (pos 1))))
       (λ k rest.
       let code : ℕ → ℕ → Bool → Plains = λ m f b. more (sets (suc n) (plain.declare i T)) (more (sets n (plain.local i))
-          (value classes x e (destination (suc n) T) (suc (suc n)) m
-          (if b then more (sets f (plain.number (pos 1))) rest else more (acts (plain.first (suc n) (suc (suc n)))) (more (sets f (plain.number (pos 1))) rest)))) in
+      (value classes x e (destination (suc n) T) (suc (suc n)) m
+      (if b then more (sets f (plain.number (pos 1))) rest else more (acts (plain.first (suc n) (suc (suc n)))) (more (sets f (plain.number (pos 1))) rest)))) in
       let next : k + 1 ≡ suc k = omega arith in
       ap (λ m. code m (flag (full_of x) i) false) next ∙ ap (λ f. code (suc k) f false) (flag-is x i) ∙ ap (λ b. code (suc k) (definition.flag x i) b) (sym gives))
       (omega arith)
@@ -60,4 +60,4 @@ module _ (tables : Tables) (signature : MemberRef → Name) (classes : List Clas
 
   pub writes-Temporary : {p : Piece} {e : Core} (at t : ℕ) → Writes tables signature classes p e → builds e ≡ false
       → Writes tables signature classes (piece_step tables.types (Core-F.Temporary at t p)) (core.temporary (type_of tables t) e)
-  writes-Temporary at t w gives = record { puts = λ x into n. puts-temporary x t into n w gives; finds = λ b. finds-temporary tables t b (w.finds b) }
+  writes-Temporary {p} at t w gives = record { puts = λ x into n. puts-temporary x t into n w gives; finds = λ b. finds-temporary tables p t b (w.finds b) }

@@ -101,7 +101,7 @@ module _ (tables : Tables) (signature : MemberRef → Name) where
   puts-value-there {p} {e} classes t gives_value w =
       let T = type_of tables t in
       let put : ℕ → ℕ → Bool → Plains → Plains = λ k r c rest.
-          whole e 1 k (λ x m rest. value classes x e (destination 0 T) m k rest) (λ m. if c then rest else more (acts (plain.first 0 r)) rest) in
+      whole e 1 k (λ x m rest. value classes x e (destination 0 T) m k rest) (λ m. if c then rest else more (acts (plain.first 0 r)) rest) in
       puts-as tables signature
       (puts-still tables signature (puts-all tables signature classes 1 (destination 0 T) (w.writes classes) (behind w 1)) (still-act tables signature (action.First 0 (behind_flags 1 p))))
       (λ k rest. ap (λ r. put k r false rest) (behind w 1) ∙ ap (λ c. put k (1 + width e) c rest) (sym gives_value)) refl
