@@ -1,5 +1,5 @@
 -- The plain statements of a statement do what the statement does.
-use Rattle.std.proofs.Common.{◌≡◌, ℕ, suc, ◌+◌, ◌≤◌, Bool, true, false, not, ◌&&◌, ◌||◌, nat_lt, nat_le, ◌==◌, List, [], ◌∷◌, ◌++◌, length, refl, sym, ◌∙◌, ap, subst, arith, append_assoc, if◌then◌else◌}
+use Rattle.std.proofs.Common.{◌≡◌, ℕ, suc, ◌+◌, ◌≤◌, Bool, true, false, not, ◌&&◌, ◌||◌, nat_lt, nat_le, List, [], ◌∷◌, ◌++◌, length, refl, sym, ◌∙◌, ap, subst, arith, append_assoc, if◌then◌else◌}
 use Rattle.std.specs.Prelude.{Some, None}
 use Rattle.cf_base.proofs.Tests.{both}
 use Rattle.cf_base.specs.World.{World, Ran, and_then}
@@ -93,7 +93,7 @@ module _ (again : calling.Again) (again' : running.Again) (P : Program) (bodies 
       (declared-falls i k o T m op D rest s f c K st le lt (held_by e) (ap held_by (nothing-is e blank)) falls s1 f1 h1 w refl (kept-all k f1)))
       (λ is.
       pull-two (full_expression again P (meaning.value again P e (Some (root o))) s1 w) (settle P.classes (root o)) (λ u. frame_changed (lists_in_scope o)) (λ u. c calling.Falls) _
-      (full-steps again again' P bodies chains A B S e is (Some (root o)) (destination 0 T) 1 k (λ n. settled e 0 n rest) h1 s1 f1 w
+      (full-steps again again' P bodies chains classless A B S e is (Some (root o)) (destination 0 T) 1 k (λ n. settled e 0 n rest) h1 s1 f1 w
       (λ v. (settle P.classes (root o) v >> frame_changed (lists_in_scope o)) >>= (λ u. c calling.Falls)) K (declared-ready i k o s.frame f st.ready) room (λ v t h f2 w2 done.
       pull (settle P.classes (root o) v t w2) (λ u. frame_changed (lists_in_scope o)) (λ u. c calling.Falls) _
       (subst (λ b. Follows S (and_then (settle P.classes (root o) v t w2) (on (λ u. frame_changed (lists_in_scope o) >>= (λ u. c calling.Falls))))
@@ -139,7 +139,7 @@ module _ (again : calling.Again) (again' : running.Again) (P : Program) (bodies 
       (runs_on again' (H again again' P) (if b then in_place else by_value) g K (with_frame f s) w)) (sym plain-result)
       (subst (λ r. Follows S (and_then ((result_act again P e r >>= (λ v. gives (calling.Returns v))) s w) (on c)) (runs_on again' (H again again' P) by_value g K (with_frame f s) w)) (sym st.result)
       (pull (full_expression again P (meaning.value again P e None >>= used) s w) (λ v. gives (calling.Returns v)) c _
-      (used-steps again again' P bodies chains A B S e ok k (λ n. finished (o.here ++ o.returns) (more (give (Some n)) rest)) g s f w (λ v. c (calling.Returns v)) K st.ready room
+      (used-steps again again' P bodies chains classless A B S e ok k (λ n. finished (o.here ++ o.returns) (more (give (Some n)) rest)) g s f w (λ v. c (calling.Returns v)) K st.ready room
       (λ v t h f1 w1 usable at same kept.
       let later = (stands-on again again' P bodies chains classless turns R C plain-result A B S) o D m k k s f t f1 st same kept (omega arith) (let wide = st.ready.wide in omega arith) in
       finished-steps again' (H again again' P) classless A B S (o.here ++ o.returns) (t.frame.scope ++ D.returns) m (more (give (Some (0 + width e))) rest) h K _ t f1 w1
@@ -158,7 +158,7 @@ module _ (again : calling.Again) (again' : running.Again) (P : Program) (bodies 
         ((fall-on again again' P bodies chains classless turns R C plain-result A B S) o D m k c K rest s f st falls s f g w refl (kept-all k f)))
         (λ is.
         pull (full_expression again P (meaning.value again P e None) s w) (λ u. gives calling.Falls) c _
-        (full-steps again again' P bodies chains A B S e is None None 0 k (λ n. rest) g s f w (λ v. c calling.Falls) K st.ready room (λ v t h f1 w1 done.
+        (full-steps again again' P bodies chains classless A B S e is None None 0 k (λ n. rest) g s f w (λ v. c calling.Falls) K st.ready room (λ v t h f1 w1 done.
         (fall-on again again' P bodies chains classless turns R C plain-result A B S) o D m k c K rest s f st falls t f1 h w1 done.frame done.kept)))
     follow-statement (core.block es) m ok o D k rest g s f w c K st room ways falls =
         let D1 : Beyond = record { breaks = s.frame.scope ++ D.breaks; continues = s.frame.scope ++ D.continues; returns = s.frame.scope ++ D.returns } in
@@ -199,7 +199,7 @@ module _ (again : calling.Again) (again' : running.Again) (P : Program) (bodies 
         let yes-code : Plains = statement (inside_of P R C o) a (k + width q) nothing in
         let no-code : Plains = statement_or (inside_of P R C o) b (k + width q + width a) nothing in
         pull (full_expression again P (meaning.value again P q None >>= truth_of) s w) (λ t. when t (does.does again P a) (does.does_maybe again P b)) c _
-        (condition-steps again again' P bodies chains A B S q parts.0 k (λ n. more (branch n yes-code no-code) rest) g s f w
+        (condition-steps again again' P bodies chains classless A B S q parts.0 k (λ n. more (branch n yes-code no-code) rest) g s f w
         (λ t. when t (does.does again P a) (does.does_maybe again P b) >>= c) K st.ready (first-room k f.count (nodes q) (nodes a) two-room) (λ t u h f1 w1 at same kept.
         let later = (stands-on again again' P bodies chains classless turns R C plain-result A B S) o D m k (k + width q) s f u f1 st same kept (omega arith) (first-room k f.count (nodes q) (nodes a) two-room) in
         let last = (stands-on again again' P bodies chains classless turns R C plain-result A B S) o D m k (k + width q + width a) s f u f1 st same kept (omega arith) (second-room k f.count (nodes q) (nodes a) two-room) in

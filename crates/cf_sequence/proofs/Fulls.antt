@@ -1,14 +1,12 @@
--- Full expressions: their temporaries, and the plain statements of one that makes none.
-use Rattle.std.proofs.Common.{◌≡◌, ℕ, suc, ◌+◌, ◌≤◌, Bool, true, false, not, ◌&&◌, List, [], ◌++◌, length, refl, sym, ◌∙◌, ap, subst, reverse}
-use Rattle.std.specs.Prelude.{Option, Some, None}
-use Rattle.cf_base.proofs.Tests.{both}
+-- Full expressions: the flags of their temporaries in branches are cleared before, and their temporaries end behind, on both sides in the same order.
+use Rattle.std.proofs.Common.{◌≡◌, inl, ℕ, suc, ◌+◌, ◌≤◌, ◌<◌, Bool, true, false, List, [], ◌∷◌, append-nil, refl, sym, ◌∙◌, ap, subst, arith, reverse}
+use Rattle.std.specs.Prelude.{pos, Option, Some, None}
 use Rattle.cf_base.specs.World.{World, Ran, Went, and_then}
-use Rattle.cf_core.specs.Types.{Name, SourceType, parameters, result, is_class}
-use Rattle.cf_core.specs.Classes.{Class}
+use Rattle.cf_core.specs.Types.{Name}
 use Rattle.cf_core.specs.Core as core
-use Rattle.cf_core.specs.Core.{Core, Cores, Function, no_temporary, local_temporary, none, absent}
+use Rattle.cf_core.specs.Core.{Core, Function, local_temporary}
 use Rattle.cf_core.specs.Places.{Place}
-use Rattle.cf_core.specs.Store.{Value}
+use Rattle.cf_core.specs.Store.{Value, Number}
 use Rattle.cf_core.specs.Run.{State, Frame, Did, Gives, Act, ◌>>=◌, ◌>>◌, gives, state, for_all, frame_changed, with_frame}
 use Rattle.cf_core.specs.Joined.{is_nothing}
 use Rattle.cf_core.specs.Pointers.{truth_value}
@@ -17,111 +15,29 @@ use Rattle.cf_core.specs.Access.{used}
 use Rattle.cf_core.specs.Calls as calling
 use Rattle.cf_core.specs.Calls.{Program, function_named, end_object, full_expression}
 use Rattle.cf_core.specs.Expressions as meaning
-use Rattle.cf_plain.specs.Plain.{Register, Plains, act, set, more}
+use Rattle.cf_plain.specs.Plain.{Register, Plains, act, set, branch, nothing, more}
 use Rattle.cf_plain.specs.Plain as plain
 use Rattle.cf_plain.specs.Acts.{Registers}
 use Rattle.cf_plain.specs.Running as running
-use Rattle.cf_plain.specs.Running.{Flow, keep}
+use Rattle.cf_plain.specs.Running.{Flow, keep, falling, all}
 use Rattle.cf_sequence.specs.Follows.{Follows}
-use Rattle.cf_sequence.specs.Built.{is_value, are_values, are_arguments, is_chain}
-use Rattle.cf_sequence.specs.Made.{Temporary, temporaries, temporaries_all, width, held_by}
-use Rattle.cf_sequence.specs.Expressions.{Full, Destination, destination, value, whole, flags, ended, settled, used as use_of}
-use Rattle.cf_sequence.specs.Statements.{condition, started}
+use Rattle.cf_sequence.specs.Built.{is_value, is_chain}
+use Rattle.cf_sequence.specs.Made.{Temporary, temporaries, width, held_by}
+use Rattle.cf_sequence.specs.Expressions.{Full, flag, Destination, value, whole, flags, ended, finished, used as use_of}
+use Rattle.cf_sequence.specs.Statements.{condition}
 use Rattle.cf_sequence.proofs.Following.{on, pull}
 use Rattle.cf_sequence.proofs.Calling.{Bodies, never}
-use Rattle.cf_sequence.proofs.Kept.{Kept, Ready, After, keep-same}
-use Rattle.cf_sequence.proofs.PlainSteps.{Usable, runs_on, use-steps, truth-steps}
+use Rattle.cf_sequence.proofs.Kept.{Kept, Ready, Valued, keep-same, keep-other, keep-again}
+use Rattle.cf_sequence.proofs.Temporaries.{objects, objects-reverse, Unset, Listed, listed-reverse, listing, Begins, Grown, grown-set}
+use Rattle.cf_sequence.proofs.Placing.{placing}
+use Rattle.cf_sequence.proofs.Moving.{all_gone, gone-same, ends-all, finished-steps}
+use Rattle.cf_sequence.proofs.PlainSteps.{Usable, runs_on, set-steps, use-steps, truth-steps, branch-steps}
 use Rattle.cf_sequence.proofs.Operands.{H}
 use Rattle.cf_sequence.proofs.Evaluating.{follow-value}
-
-empty-two : (xs ys : List Temporary) → xs ≡ [] → ys ≡ [] → xs ++ ys ≡ []
-empty-two xs ys e f = ap (λ z. z ++ ys) e ∙ f
-
-mutual
-  pub no-temporaries : (e : Core) → is_value e ≡ true → (b : Bool) (k : ℕ) → temporaries b e k ≡ []
-  no-temporaries (core.read e) ok b k = no-temporaries e ok b k
-  no-temporaries (core.convert t e) ok b k = no-temporaries e ok b k
-  no-temporaries (core.address e) ok b k = no-temporaries e ok b k
-  no-temporaries (core.dereference e) ok b k = no-temporaries e ok b k
-  no-temporaries (core.decay e) ok b k = no-temporaries e ok b k
-  no-temporaries (core.from_void t e) ok b k = no-temporaries e ok b k
-  no-temporaries (core.index e f) ok b k =
-      let parts = both (is_value e) (is_value f) ok in empty-two _ _ (no-temporaries e parts.0 b k) (no-temporaries f parts.1 b (k + width e))
-  no-temporaries (core.pointer_operate op e f) ok b k =
-      let parts = both (is_value e) (is_value f) ok in empty-two _ _ (no-temporaries e parts.0 b k) (no-temporaries f parts.1 b (k + width e))
-  no-temporaries (core.text j bytes) ok b k = refl
-  no-temporaries (core.static_object name t) ok b k = refl
-  no-temporaries (core.function name t) ok b k = refl
-  no-temporaries (core.unary op t e) ok b k = no-temporaries e ok b k
-  no-temporaries (core.logical_not e) ok b k = no-temporaries e ok b k
-  no-temporaries (core.operate op t e f) ok b k =
-      let parts = both (is_value e) (is_value f) ok in empty-two _ _ (no-temporaries e parts.0 b k) (no-temporaries f parts.1 b (k + width e))
-  no-temporaries (core.logical_and e f) ok b k =
-      let parts = both (is_value e) (is_value f) ok in empty-two _ _ (no-temporaries e parts.0 b k) (no-temporaries f parts.1 true (k + width e))
-  no-temporaries (core.logical_or e f) ok b k =
-      let parts = both (is_value e) (is_value f) ok in empty-two _ _ (no-temporaries e parts.0 b k) (no-temporaries f parts.1 true (k + width e))
-  no-temporaries (core.store e f) ok b k =
-      let parts = both (is_value e) (is_value f) ok in empty-two _ _ (no-temporaries e parts.0 b k) (no-temporaries f parts.1 b (k + width e))
-  no-temporaries (core.conditional c e f) ok b k =
-      let parts = both (is_value c) (is_value e && is_value f) ok in
-      let arms = both (is_value e) (is_value f) parts.1 in
-      empty-two _ _ (empty-two _ _ (no-temporaries c parts.0 b k) (no-temporaries e arms.0 true (k + width c))) (no-temporaries f arms.1 true (k + width c + width e))
-  no-temporaries (core.comma es) ok b k = no-temporaries-all es ok b k
-  no-temporaries (core.update e c f) ok b k =
-      let parts = both (is_value e) (is_value f) ok in
-      empty-two _ _ (no-temporaries e parts.0 b k) (no-temporaries f parts.1 b (k + width e))
-  no-temporaries (core.step p c e) ok b k = no-temporaries e ok b k
-  no-temporaries (core.bind no_temporary e) ok b k = no-temporaries e ok b k
-  no-temporaries (core.call name t absent args) ok b k =
-      no-temporaries-in args (both (is_chain t) (are_arguments args) (both (not (is_class (result t))) (is_chain t && are_arguments args) ok).1).1 b (k + length (parameters t) + 0)
-  no-temporaries (core.pointer_call absent e t args) ok b k =
-      let parts = both (is_value e) (are_arguments args) (both (is_chain t) (is_value e && are_arguments args) (both (not (is_class (result t))) (is_chain t && (is_value e && are_arguments args)) ok).1).1 in
-      let l : ℕ = k + length (parameters t) + 0 in
-      empty-two _ _ (no-temporaries e parts.0 b l) (no-temporaries-in args parts.1 b (l + width e))
-  no-temporaries (core.number z) ok b k = refl
-  no-temporaries (core.local i) ok b k = refl
-  no-temporaries e ok b k = never ok
-
-  no-temporaries-all : (es : Cores) → are_values es ≡ true → (b : Bool) (k : ℕ) → temporaries_all b es k ≡ []
-  no-temporaries-all none ok b k = refl
-  no-temporaries-all (core.more e none) ok b k = empty-two _ _ (no-temporaries e ok b k) refl
-  no-temporaries-all (core.more e (core.more f es)) ok b k =
-      let parts = both (is_value e) (are_values (core.more f es)) ok in
-      empty-two _ _ (no-temporaries e parts.0 b k) (no-temporaries-all (core.more f es) parts.1 b (k + width e))
-
-  no-temporaries-in : (es : Cores) → are_arguments es ≡ true → (b : Bool) (k : ℕ) → temporaries_all b es k ≡ []
-  no-temporaries-in none ok b k = refl
-  no-temporaries-in (core.more e es) ok b k =
-      let parts = both (is_value e) (are_arguments es) ok in empty-two _ _ (no-temporaries e parts.0 b k) (no-temporaries-in es parts.1 b (k + width e))
-
--- so nothing stands around it
-whole-empty : (e : Core) (n : Register) (k : ℕ) (code : Full → Register → Plains → Plains) (rest : Register → Plains) → temporaries false e k ≡ []
-    → whole e n k code rest ≡ code (record { first = k; base = n }) (n + width e) (rest (n + width e))
-whole-empty e n k code rest none_made =
-    let x : Full = record { first = k; base = n } in
-    ap (λ made. flags x made (code x (n + width e) (ended x (reverse made) (rest (n + width e))))) none_made
-
-pub whole-is : (e : Core) → is_value e ≡ true → (n : Register) (k : ℕ) (code : Full → Register → Plains → Plains) (rest : Register → Plains)
-    → whole e n k code rest ≡ code (record { first = k; base = n }) (n + width e) (rest (n + width e))
-whole-is e ok n k code rest = whole-empty e n k code rest (no-temporaries e ok false k)
-
--- nor around the temporary of a local reference
-whole-held : (j : ℕ) (t : SourceType) (e : Core) → is_value e ≡ true → (n : Register) (k : ℕ) (code : Full → Register → Plains → Plains) (rest : Register → Plains)
-    → whole (core.bind (local_temporary j t) e) n k code rest ≡ code (record { first = k; base = n }) (n + width e) (rest (n + width e))
-whole-held j t e ok n k code rest = whole-empty (core.bind (local_temporary j t) e) n k code rest (no-temporaries e ok false k)
 
 -- the register of the temporary's place, which is that of the reference's initialiser
 abbrev pub held_at : Core → Register → Register
 held_at e n = suc n + width e
-
--- its plain statements: the temporary's object is there, its value is put there, and the reference binds it
-pub held-code : (cs : List Class) (t : SourceType) (j : ℕ) (u : SourceType) (e : Core) → is_value e ≡ true → (n : Register) (k : ℕ) (rest : Plains)
-    → started cs t (core.bind (local_temporary j u) e) n k rest
-    ≡ more (set (suc (held_at e n)) (plain.declare j u)) (more (set (held_at e n) (plain.local j))
-    (value cs (record { first = k; base = suc n }) e (destination (suc (held_at e n)) u) (suc (suc (held_at e n))) k
-    (settled e (suc (held_at e n)) (suc (suc (held_at e n))) (more (act (plain.first n (held_at e n))) rest))))
-held-code cs t j u e ok n k rest =
-    whole-held j u e ok (suc n) k (λ x m rest. value cs x (core.bind (local_temporary j u) e) (destination n t) m k rest) (λ m. more (act (plain.first n m)) rest)
 
 pub nothing-is : (e : Core) → is_nothing e ≡ true → e ≡ core.blank
 nothing-is core.blank ok = refl
@@ -131,41 +47,140 @@ pub held-none : (e : Core) → is_value e ≡ true → held_by e ≡ []
 held-none (core.bind (local_temporary i t) e) ok = never ok
 held-none e ok = refl
 
--- what comes at the end of a full expression: nothing, where it has made no temporary
+-- ---- before it
+
+abbrev no_flag : Value
+no_flag = Number (pos 0)
+
+-- The flags of temporaries hold 0, and the registers below them are as they were.
+pub record Cleared (x : Full) (ts : List Temporary) (g h : Registers) : Type 0 where
+  pub unset : Unset x h ts
+  pub zeros : (r : ℕ) → g r ≡ Some no_flag → h r ≡ Some no_flag
+  pub below : (r : ℕ) → r < x.base → h r ≡ g r
+
+module _ (again : running.Again) (H : Program) (A B : Type 0) (S : A → State → B → State → Type 0) (x : Full) (rest : Plains) (K : Flow → Act B) (y : Ran (Did A)) (s : State) (w : World) where
+  abbrev Clears : List Temporary → Registers → Type 0
+  Clears ts g = ((h : Registers) → Cleared x ts g h → Follows S y (runs_on again H rest h K s w)) → Follows S y (runs_on again H (flags x ts rest) g K s w)
+
+  clear-one : (t : Temporary) (ts : List Temporary) → ((g : Registers) → Clears ts g) → (b : Bool) → t.in_branch ≡ b → (g : Registers)
+      → ((h : Registers) → Cleared x (t ∷ ts) g h → Follows S y (runs_on again H rest h K s w))
+      → Follows S y (runs_on again H (elim b [ true ↦ more (set (flag x t.local.number) (plain.number (pos 0))) (flags x ts rest) | false ↦ flags x ts rest ]) g K s w)
+  clear-one t ts clears true is g next =
+      let r : Register = flag x t.local.number in
+      set-steps again H r (plain.number (pos 0)) (flags x ts rest) g K y s w
+      (clears (keep g r no_flag) (λ h c. next h (record {
+        unset = ((λ e. c.zeros r (keep-same r g no_flag)), c.unset);
+        zeros = λ q e. c.zeros q (keep-again r q g no_flag e);
+        below = λ q lt. c.below q lt ∙ keep-other r q g no_flag (λ same. omega arith);
+      })))
+  clear-one t ts clears false is g next = clears g (λ h c. next h (record { unset = ((λ e. never (sym is ∙ e)), c.unset); zeros = c.zeros; below = c.below }))
+
+  pub flags-steps : (ts : List Temporary) (g : Registers) → Clears ts g
+  flags-steps [] g next = next g (record { unset = tt; zeros = λ r e. e; below = λ r lt. refl })
+  flags-steps (t ∷ ts) g next = clear-one t ts (flags-steps ts) t.in_branch refl g next
+
+-- ---- behind it
+
+module _ (again : running.Again) (H : Program) (classless : H.classes ≡ []) (A B : Type 0) (S : A → State → B → State → Type 0) (x : Full) (rest : Plains) (h : Registers) (K : Flow → Act B) (y : Ran (Did A))
+    (f : Frame) (w : World) where
+  abbrev Ends : List Temporary → List (Option ℕ) → Type 0
+  Ends ts made = (s : State) → Listed x h f.locals ts made → Follows S y (runs_on again H rest h K (with_frame f (all_gone (objects made) s)) w) → Follows S y (runs_on again H (ended x ts rest) h K (with_frame f s) w)
+
+  abbrev one_ended : Temporary → List Temporary → Bool → Plains
+  one_ended t ts b = elim b [
+    | true ↦ more (branch (flag x t.local.number) (finished (t.local ∷ []) nothing) nothing) (ended x ts rest)
+    | false ↦ finished (t.local ∷ []) (ended x ts rest)
+  ]
+
+  end-one : (t : Temporary) (ts : List Temporary) (o : ℕ) (s : State) → f.locals t.local.number ≡ Some o → h (flag x t.local.number) ≡ Some (truth_value true)
+      → Follows S y (runs_on again H (ended x ts rest) h K (with_frame f (all_gone (o ∷ []) s)) w) → (b : Bool) → Follows S y (runs_on again H (one_ended t ts b) h K (with_frame f s) w)
+  end-one t ts o s at flagged next true =
+      let K1 : Flow → Act B = λ flow. falling (λ g. all again H (ended x ts rest) g) flow >>= K in
+      branch-steps again H true (flag x t.local.number) (finished (t.local ∷ []) nothing) nothing (ended x ts rest) h K y (with_frame f s) w flagged
+      (finished-steps again H classless A B S (t.local ∷ []) (o ∷ []) (suc t.local.number) nothing h K1 y s f w (at, (omega arith), tt) next)
+  end-one t ts o s at flagged next false =
+      finished-steps again H classless A B S (t.local ∷ []) (o ∷ []) (suc t.local.number) (ended x ts rest) h K y s f w (at, (omega arith), tt) next
+
+  pub ended-steps : (ts : List Temporary) (made : List (Option ℕ)) → Ends ts made
+  ended-steps [] [] s listed next = next
+  ended-steps [] (m ∷ made) s listed next = absurd listed
+  ended-steps (t ∷ ts) [] s listed next = absurd listed
+  ended-steps (t ∷ ts) (None ∷ made) s listed next =
+      subst (λ b. Follows S y (runs_on again H (one_ended t ts b) h K (with_frame f s) w)) (sym listed.0)
+      (branch-steps again H false (flag x t.local.number) (finished (t.local ∷ []) nothing) nothing (ended x ts rest) h K y (with_frame f s) w listed.1 (ended-steps ts made s listed.2 next))
+  ended-steps (t ∷ ts) (Some o ∷ made) s listed next =
+      end-one t ts o s listed.0 listed.1 (ended-steps ts made (all_gone (o ∷ []) s) listed.2 next) t.in_branch
+
+-- what comes at the end of a full expression
 abbrev pub closing : {V : Type 0} → calling.Again → Program → List ℕ → V → Act V
 closing again P os v = state >>= (λ t. for_all t.frame.temporaries (end_object again P) >> (frame_changed (λ f. record f { temporaries = os }) >> gives v))
 
+-- of one that has made no temporary
 pub closed : {V : Type 0} (again : calling.Again) (P : Program) (e : Frame) (t : State) (w : World) (v : V) → t.frame ≡ record e { temporaries = [] }
     → closing again P e.temporaries v t w ≡ Went (Gives v (with_frame e t)) w
 closed again P e t w v same =
     subst (λ (f : Frame). closing again P e.temporaries v (with_frame f t) w ≡ Went (Gives v (with_frame e t)) w) (sym same) refl
 
+-- of any one, where no class has a destructor
+all-closed : {V : Type 0} (again : calling.Again) (P : Program) → P.classes ≡ [] → (made : List (Option ℕ)) (e : Frame) (t : State) (w : World) (v : V) → t.frame ≡ listing made (record e { temporaries = [] })
+    → closing again P e.temporaries v t w ≡ Went (Gives v (with_frame e (all_gone (reverse (objects made)) t))) w
+all-closed again P classless made e t w v same =
+    let os : List ℕ = reverse (objects made) in
+    let last : Act _ = frame_changed (λ f. record f { temporaries = e.temporaries }) >> gives v in
+    ap (λ ps. and_then (for_all ps (end_object again P) t w) (on (λ u. last))) (ap (λ (f : Frame). f.temporaries) same ∙ append-nil os)
+    ∙ ap (λ r. and_then r (on (λ u. last))) (ends-all again P classless os t w)
+    ∙ ap (λ (f : Frame). Went (Gives v (with_frame f (all_gone os t))) w) (ap (λ (f : Frame). record f { temporaries = e.temporaries }) (gone-same os t ∙ same))
+
 module _ (again : calling.Again) (again' : running.Again) (P : Program) (bodies : Bodies again again' P)
     (chains : (name : Name) (f : Function) → function_named P name ≡ Some f → is_chain f.type ≡ true)
-    (A B : Type 0) (S : A → State → B → State → Type 0) where
-  pub closed-steps : {V : Type 0} (e : Frame) (t : State) (w : World) (v : V) (c : V → Act A) (y : Ran (Did B)) → t.frame ≡ record e { temporaries = [] }
-      → Follows S (c v (with_frame e t) w) y → Follows S (and_then (closing again P e.temporaries v t w) (on c)) y
-  closed-steps e t w v c y same h = subst (λ r. Follows S (and_then r (on c)) y) (sym (closed again P e t w v same)) h
+    (classless : P.classes ≡ []) (A B : Type 0) (S : A → State → B → State → Type 0) where
+  -- the temporaries of a full expression end on both sides
+  pub closing-steps : {V : Type 0} (x : Full) (ts : List Temporary) (made : List (Option ℕ)) (e : Frame) (t : State) (h : Registers) (f : Frame) (w : World) (v : V) (c : V → Act A) (rest : Plains) (K : Flow → Act B)
+      → t.frame ≡ listing made (record e { temporaries = [] }) → Listed x h f.locals ts made
+      → ((u : State) → u.frame ≡ e → Follows S (c v u w) (runs_on again' (H again again' P) rest h K (with_frame f u) w))
+      → Follows S (and_then (closing again P e.temporaries v t w) (on c)) (runs_on again' (H again again' P) (ended x (reverse ts) rest) h K (with_frame f t) w)
+  closing-steps x ts made e t h f w v c rest K same listed next =
+      let os : List ℕ = reverse (objects made) in
+      let u : State = with_frame e (all_gone os t) in
+      let y = c v u w in
+      subst (λ r. Follows S (and_then r (on c)) (runs_on again' (H again again' P) (ended x (reverse ts) rest) h K (with_frame f t) w)) (sym (all-closed again P classless made e t w v same))
+      (ended-steps again' (H again again' P) classless A B S x rest h K y f w (reverse ts) (reverse made) t (listed-reverse x h f.locals ts made listed)
+      (subst (λ ps. Follows S y (runs_on again' (H again again' P) rest h K (with_frame f (all_gone ps t)) w)) (sym (objects-reverse made)) (next u refl)))
+
+  -- behind the flags its parts begin
+  pub begins-whole : (e : Core) → is_value e ≡ true → (n k : ℕ) (g h : Registers) (y f : Frame) (t : List ℕ)
+      → Ready k y f → k + width e ≤ f.count → Cleared (record { first = k; base = n }) (temporaries false e k) g h
+      → Begins false (record { first = k; base = n }) (temporaries false e k) (n + width e) k (k + width e) h (record y { temporaries = t }) f
+  begins-whole e ok n k g h y f t ready room cleared = record {
+    ready = record { alike = record { function = ready.alike.function; this = ready.alike.this; result = ready.alike.result; depth = ready.alike.depth }; count = ready.count; wide = ready.wide; locals = ready.locals };
+    room = room;
+    low = omega arith;
+    wide = omega arith;
+    high = omega arith;
+    placed = placing e ok false k;
+    unset = cleared.unset;
+  }
 
   -- the value of a full expression
   pub full-steps : (e : Core) → is_value e ≡ true → (into : Option Place) (into' : Option Destination) (n k : ℕ) (rest : Register → Plains) (g : Registers) (s : State) (f : Frame) (w : World)
       (c : Value → Act A) (K : Flow → Act B)
       → Ready k s.frame f → k + width e ≤ f.count
-      → ((v : Value) (t : State) (h : Registers) (f1 : Frame) (w : World) → After (n + width e) k g s.frame f v t h f1
+      → ((v : Value) (t : State) (h : Registers) (f1 : Frame) (w : World) → Valued n (n + width e) k g s.frame f v t h f1
       → Follows S (c v t w) (runs_on again' (H again again' P) (rest (n + width e)) h K (with_frame f1 t) w))
       → Follows S (and_then (full_expression again P (meaning.value again P e into) s w) (on c))
       (runs_on again' (H again again' P) (whole e n k (λ x m rest. value P.classes x e into' m k rest) rest) g K (with_frame f s) w)
   full-steps e ok into into' n k rest g s f w c K ready room next =
       let s0 : State = with_frame (record s.frame { temporaries = [] }) s in
-      subst (λ code. Follows S (and_then (full_expression again P (meaning.value again P e into) s w) (on c)) (runs_on again' (H again again' P) code g K (with_frame f s) w))
-      (sym (whole-is e ok n k (λ x m rest. value P.classes x e into' m k rest) rest))
-      (pull (meaning.value again P e into s0 w) (closing again P s.frame.temporaries) c _
-      (follow-value again again' P bodies chains A B S e ok into into' (record { first = k; base = n }) (n + width e) k (rest (n + width e)) g s0 f w
-      (λ v. closing again P s.frame.temporaries v >>= c) K
-      (record { alike = record { function = ready.alike.function; this = ready.alike.this; result = ready.alike.result; depth = ready.alike.depth }; count = ready.count; wide = ready.wide; locals = ready.locals })
-      room (λ v t h f1 w1 done.
-      closed-steps s.frame t w1 v c _ done.frame
-      (next v (with_frame s.frame t) h f1 w1 (record { value = done.value; below = done.below; frame = refl; kept = done.kept })))))
+      let x : Full = record { first = k; base = n } in
+      let m : ℕ = n + width e in
+      let ts : List Temporary = temporaries false e k in
+      let last : Plains = ended x (reverse ts) (rest m) in
+      pull (meaning.value again P e into s0 w) (closing again P s.frame.temporaries) c _
+      (flags-steps again' (H again again' P) A B S x (value P.classes x e into' m k last) K _ (with_frame f s0) w ts g (λ h cleared.
+      follow-value again again' P bodies chains A B S e ok false into into' x m k last h s0 f w (λ v. closing again P s.frame.temporaries v >>= c) K
+      (begins-whole e ok n k g h s.frame f [] ready room cleared) (λ v t h1 f1 w1 done.
+      closing-steps x ts done.grown.made s.frame t h1 f1 w1 v c (rest m) K done.grown.frame done.grown.listed (λ u same.
+      next v u h1 f1 w1 (record { value = done.value; below = λ j lt. done.grown.below j (omega arith) (inl (omega arith)) ∙ cleared.below j lt; frame = same; kept = done.kept })))))
 
   -- a condition: the register holds 1 or 0
   pub condition-steps : (e : Core) → is_value e ≡ true → (k : ℕ) (rest : Register → Plains) (g : Registers) (s : State) (f : Frame) (w : World)
@@ -177,18 +192,21 @@ module _ (again : calling.Again) (again' : running.Again) (P : Program) (bodies 
       (runs_on again' (H again again' P) (condition P.classes e k rest) g K (with_frame f s) w)
   condition-steps e ok k rest g s f w c K ready room next =
       let s0 : State = with_frame (record s.frame { temporaries = [] }) s in
+      let x : Full = record { first = k; base = 0 } in
       let n : ℕ = 0 + width e in
-      subst (λ code. Follows S (and_then (full_expression again P (meaning.value again P e None >>= truth_of) s w) (on c)) (runs_on again' (H again again' P) code g K (with_frame f s) w))
-      (sym (whole-is e ok 0 k (λ x n rest. value P.classes x e None n k (more (set n (plain.truth n)) rest)) rest))
-      (pull (and_then (meaning.value again P e None s0 w) (on truth_of)) (closing again P s.frame.temporaries) c _
+      let ts : List Temporary = temporaries false e k in
+      let last : Plains = ended x (reverse ts) (rest n) in
+      pull (and_then (meaning.value again P e None s0 w) (on truth_of)) (closing again P s.frame.temporaries) c _
       (pull (meaning.value again P e None s0 w) truth_of (λ b. closing again P s.frame.temporaries b >>= c) _
-      (follow-value again again' P bodies chains A B S e ok None None (record { first = k; base = 0 }) n k (more (set n (plain.truth n)) (rest n)) g s0 f w
-      (λ v. truth_of v >>= (λ b. closing again P s.frame.temporaries b >>= c)) K
-      (record { alike = record { function = ready.alike.function; this = ready.alike.this; result = ready.alike.result; depth = ready.alike.depth }; count = ready.count; wide = ready.wide; locals = ready.locals })
-      room (λ v t h f1 w1 done.
-      truth-steps again' (H again again' P) n v h done.value (λ b. closing again P s.frame.temporaries b >>= c) (rest n) K t (with_frame f1 t) w1 (λ b.
-      closed-steps s.frame t w1 b c _ done.frame
-      (next b (with_frame s.frame t) (keep h n (truth_value b)) f1 w1 (keep-same n h (truth_value b)) refl done.kept))))))
+      (flags-steps again' (H again again' P) A B S x (value P.classes x e None n k (more (set n (plain.truth n)) last)) K _ (with_frame f s0) w ts g (λ h cleared.
+      let begins = begins-whole e ok 0 k g h s.frame f [] ready room cleared in
+      follow-value again again' P bodies chains A B S e ok false None None x n k (more (set n (plain.truth n)) last) h s0 f w
+      (λ v. truth_of v >>= (λ b. closing again P s.frame.temporaries b >>= c)) K begins (λ v t h1 f1 w1 done.
+      truth-steps again' (H again again' P) n v h1 done.value (λ b. closing again P s.frame.temporaries b >>= c) last K t (with_frame f1 t) w1 (λ b.
+      let grown : Grown x ts n k (k + width e) h s0.frame t (keep h1 n (truth_value b)) f1.locals =
+      grown-set false x ts n k (k + width e) n h s0.frame f t h1 f1.locals (truth_value b) begins (omega arith) done.grown in
+      closing-steps x ts grown.made s.frame t (keep h1 n (truth_value b)) f1 w1 b c (rest n) K grown.frame grown.listed (λ u same.
+      next b u (keep h1 n (truth_value b)) f1 w1 (keep-same n h1 (truth_value b)) same done.kept))))))
 
   -- a value that is used
   pub used-steps : (e : Core) → is_value e ≡ true → (k : ℕ) (rest : Register → Plains) (g : Registers) (s : State) (f : Frame) (w : World)
@@ -200,14 +218,15 @@ module _ (again : calling.Again) (again' : running.Again) (P : Program) (bodies 
       (runs_on again' (H again again' P) (whole e 0 k (λ x n rest. value P.classes x e None n k (use_of n rest)) rest) g K (with_frame f s) w)
   used-steps e ok k rest g s f w c K ready room next =
       let s0 : State = with_frame (record s.frame { temporaries = [] }) s in
+      let x : Full = record { first = k; base = 0 } in
       let n : ℕ = 0 + width e in
-      subst (λ code. Follows S (and_then (full_expression again P (meaning.value again P e None >>= used) s w) (on c)) (runs_on again' (H again again' P) code g K (with_frame f s) w))
-      (sym (whole-is e ok 0 k (λ x n rest. value P.classes x e None n k (use_of n rest)) rest))
-      (pull (and_then (meaning.value again P e None s0 w) (on used)) (closing again P s.frame.temporaries) c _
+      let ts : List Temporary = temporaries false e k in
+      let last : Plains = ended x (reverse ts) (rest n) in
+      pull (and_then (meaning.value again P e None s0 w) (on used)) (closing again P s.frame.temporaries) c _
       (pull (meaning.value again P e None s0 w) used (λ v. closing again P s.frame.temporaries v >>= c) _
-      (follow-value again again' P bodies chains A B S e ok None None (record { first = k; base = 0 }) n k (use_of n (rest n)) g s0 f w
-      (λ v. used v >>= (λ v. closing again P s.frame.temporaries v >>= c)) K
-      (record { alike = record { function = ready.alike.function; this = ready.alike.this; result = ready.alike.result; depth = ready.alike.depth }; count = ready.count; wide = ready.wide; locals = ready.locals })
-      room (λ v t h f1 w1 done.
-      use-steps again' (H again again' P) n v h done.value (λ v. closing again P s.frame.temporaries v >>= c) (rest n) K t (with_frame f1 t) w1 (λ usable.
-      closed-steps s.frame t w1 v c _ done.frame (next v (with_frame s.frame t) h f1 w1 usable done.value refl done.kept))))))
+      (flags-steps again' (H again again' P) A B S x (value P.classes x e None n k (use_of n last)) K _ (with_frame f s0) w ts g (λ h cleared.
+      follow-value again again' P bodies chains A B S e ok false None None x n k (use_of n last) h s0 f w
+      (λ v. used v >>= (λ v. closing again P s.frame.temporaries v >>= c)) K (begins-whole e ok 0 k g h s.frame f [] ready room cleared) (λ v t h1 f1 w1 done.
+      use-steps again' (H again again' P) n v h1 done.value (λ v. closing again P s.frame.temporaries v >>= c) last K t (with_frame f1 t) w1 (λ usable.
+      closing-steps x ts done.grown.made s.frame t h1 f1 w1 v c (rest n) K done.grown.frame done.grown.listed (λ u same.
+      next v u h1 f1 w1 usable done.value same done.kept))))))

@@ -23,6 +23,13 @@ keep-other zero (suc r) g v ne = refl
 keep-other (suc n) zero g v ne = refl
 keep-other (suc n) (suc r) g v ne = keep-other n r (λ q. g (suc q)) v (λ e. ne (ap suc e))
 
+-- a register that holds the value still does
+pub keep-again : (n r : ℕ) (g : Registers) (v : Value) → g r ≡ Some v → keep g n v r ≡ Some v
+keep-again zero zero g v e = refl
+keep-again zero (suc r) g v e = e
+keep-again (suc n) zero g v e = e
+keep-again (suc n) (suc r) g v e = keep-again n r (λ q. g (suc q)) v e
+
 -- ---- locals
 
 -- a frame of the plain program after a part of the code that adds no local below k
@@ -56,6 +63,9 @@ kept-alike k e f g p a = record {
 other-number : (i j : ℕ) → j < i → (j == i) ≡ false
 other-number i j lt = grind (arith, nat_tests)
 
+greater-number : (i j : ℕ) → i < j → (j == i) ≡ false
+greater-number i j lt = grind (arith, nat_tests)
+
 same-number : (i : ℕ) → (i == i) ≡ true
 same-number i = grind (arith, nat_tests)
 
@@ -64,6 +74,9 @@ listed-kept i o f = record {
   frame = refl;
   below = λ j lt. ap (λ b. if b then Some o else f.locals j) (other-number i j lt);
 }
+
+pub listed-aside : (i o j : ℕ) (f : Frame) → i < j → (lists_local i o f).locals j ≡ f.locals j
+listed-aside i o j f lt = ap (λ b. if b then Some o else f.locals j) (greater-number i j lt)
 
 pub listed-there : (i o : ℕ) (f : Frame) → (lists_local i o f).locals i ≡ Some o
 listed-there i o f = ap (λ b. if b then Some o else f.locals i) (same-number i)
@@ -98,34 +111,10 @@ Objects locals (i ∷ is) (o ∷ os) = (locals i ≡ Some o) × Objects locals i
 pub added-two : (xs ys : List Core) → length (added (xs ++ ys)) ≡ length (added xs) + length (added ys)
 added-two xs ys = ap length (flat_map-append makes xs ys) ∙ length-append (added xs) (added ys)
 
--- ---- an expression's value is there
+-- ---- the value of a full expression is there
 
-pub record After (n k : ℕ) (g : Registers) (e f : Frame) (v : Value) (s : State) (h : Registers) (f' : Frame) : Type 0 where
-  pub value : h n ≡ Some v
-  pub below : (r : ℕ) → r < n → h r ≡ g r
+pub record Valued (n r k : ℕ) (g : Registers) (e f : Frame) (v : Value) (s : State) (h : Registers) (f' : Frame) : Type 0 where
+  pub value : h r ≡ Some v
+  pub below : (j : ℕ) → j < n → h j ≡ g j
   pub frame : s.frame ≡ e
   pub kept : Kept k f f'
-
--- the value comes into the register
-pub after-set : (n k : ℕ) (g h : Registers) (e f f' : Frame) (v : Value) (s : State)
-    → ((r : ℕ) → r < n → h r ≡ g r) → s.frame ≡ e → Kept k f f' → After n k g e f v s (keep h n v) f'
-after-set n k g h e f f' v s below frame kept = record {
-  value = keep-same n h v;
-  below = λ r lt. keep-other n r h v (λ same. omega arith) ∙ below r lt;
-  frame = frame;
-  kept = kept;
-}
-
-pub after-again : (n k : ℕ) (g h : Registers) (e f f' : Frame) (u v : Value) (s t : State)
-    → After n k g e f u s h f' → t.frame ≡ s.frame → After n k g e f v t (keep h n v) f'
-after-again n k g h e f f' u v s t a same = after-set n k g h e f f' v t a.below (same ∙ a.frame) a.kept
-
--- behind another part of the code
-pub after-then : (n k m : ℕ) (g h i : Registers) (e f f' f'' : Frame) (v : Value) (s t : State)
-    → k ≤ m → ((r : ℕ) → r < n → h r ≡ g r) → s.frame ≡ e → Kept k f f' → After n m h s.frame f' v t i f'' → After n k g e f v t i f''
-after-then n k m g h i e f f' f'' v s t le below frame kept a = record {
-  value = a.value;
-  below = λ r lt. a.below r lt ∙ below r lt;
-  frame = a.frame ∙ frame;
-  kept = kept-then k m f f' f'' le kept a.kept;
-}

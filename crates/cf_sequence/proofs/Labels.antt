@@ -19,15 +19,15 @@ use Rattle.cf_plain.specs.Acts.{Registers}
 use Rattle.cf_plain.specs.Running as running
 use Rattle.cf_plain.specs.Running.{Flow, Falls, Breaks, Continues, Returns, falling, all}
 use Rattle.cf_sequence.specs.Built.{is_value, is_start, is_filling, is_initial, is_held, declares_here, is_statement, is_inner_or, are_statements, are_cases, next_local}
-use Rattle.cf_sequence.specs.Made.{Local, width, declared, declared_all}
-use Rattle.cf_sequence.specs.Expressions.{Full, destination, finished, settled, whole, value, used as use_of}
+use Rattle.cf_sequence.specs.Made.{Local, Temporary, temporaries, width, declared, declared_all}
+use Rattle.cf_sequence.specs.Expressions.{Full, destination, finished, flags, ended, settled, whole, value, used as use_of}
 use Rattle.cf_sequence.specs.Statements.{Inside, in_switch, statement, statement_or, statements, started, made, passing, passes_local, passed}
 use Rattle.cf_sequence.proofs.Calling.{never}
 use Rattle.cf_sequence.proofs.Operands.{H}
 use Rattle.cf_sequence.proofs.Filling.{fill, started-is}
-use Rattle.cf_sequence.proofs.Fulls.{whole-is, nothing-is, held_at, held-code}
+use Rattle.cf_sequence.proofs.Fulls.{nothing-is, held_at}
 use Rattle.cf_sequence.proofs.Standing.{Open, inside_of, opened}
-use Rattle.cf_sequence.proofs.Silent.{Silent, silent-none, silent-set, silent-act, silent-then, silent-used, silent-switch, silent-settled, silent-finished, silent-leave, silent-continue, silent-give, silent-value}
+use Rattle.cf_sequence.proofs.Silent.{Silent, silent-none, silent-set, silent-act, silent-branch, silent-then, silent-used, silent-switch, silent-settled, silent-finished, silent-leave, silent-continue, silent-give, silent-value, silent-flags, silent-ended, silent-whole}
 
 -- what a switch looks for
 pub data Aim : Type 0 where
@@ -198,42 +198,40 @@ module _ (again : running.Again) (H : Program) (P : Program) (R C : SourceType) 
   -- initialisers
   silent-started : (t : SourceType) (e : Core) (k : ℕ) → is_initial e ≡ true → Silent again H (started P.classes t e 0 k)
   silent-started t e k ok =
-      let code : Full → Register → Plains → Plains = λ x n rest. value P.classes x e (destination 0 t) n k rest in
       let F : Plains → Plains = started P.classes t e 0 k in
       or-else (is_filling e) (is_start e) ok
       (λ fills. silent-by again H F (λ rest. more (act (fill e 0)) rest) (started-is P.classes t e fills 0 k) (silent-act again H (fill e 0)))
       (λ starts. or-else (is_nothing e) (is_value e) starts
       (λ blank. silent-by again H F (λ rest. rest)
       (λ rest. ap (λ e. started P.classes t e 0 k rest) (nothing-is e blank)) (silent-none again H))
-      (λ is. silent-by again H F (λ rest. value P.classes (record { first = k; base = 1 }) e (destination 0 t) (1 + width e) k (settled e 0 (1 + width e) rest))
-      (λ rest. whole-is e is 1 k code (λ m. settled e 0 m rest))
-      (silent-then again H (value P.classes (record { first = k; base = 1 }) e (destination 0 t) (1 + width e) k) (settled e 0 (1 + width e))
-      (silent-value again H P e is (record { first = k; base = 1 }) (destination 0 t) (1 + width e) k) (silent-settled again H e 0 (1 + width e)))))
+      (λ is. silent-whole again H P e is 1 k (destination 0 t) (λ m rest. rest) (λ m rest. settled e 0 m rest) (λ m. silent-none again H) (λ m. silent-settled again H e 0 m)))
 
   silent-held : (i : ℕ) (t : SourceType) (e : Core) (k : ℕ) → is_held i e ≡ true → Silent again H (started P.classes t e 0 k)
   silent-held i t (core.bind (local_temporary j u) e) k ok =
       let is : is_value e ≡ true = (both (not (is_reference u)) (is_value e) (both (nat_lt i j) (not (is_reference u) && is_value e) ok).1).1 in
       let n : Register = held_at e 0 in
-      let code : Plains → Plains = value P.classes (record { first = k; base = 1 }) e (destination (suc n) u) (suc (suc n)) k in
-      let last : Plains → Plains = λ rest. more (act (plain.first 0 n)) rest in
+      let x : Full = record { first = k; base = 1 } in
+      let ts : List Temporary = temporaries false e k in
+      let code : Plains → Plains = value P.classes x e (destination (suc n) u) (suc (suc n)) k in
+      let bound : Plains → Plains = λ rest. more (act (plain.first 0 n)) rest in
+      let last : Plains → Plains = λ rest. ended x (reverse ts) (bound rest) in
       let inner : Plains → Plains = λ rest. code (settled e (suc n) (suc (suc n)) (last rest)) in
       let named : Plains → Plains = λ rest. more (set n (plain.local j)) (inner rest) in
-      silent-by again H (started P.classes t (core.bind (local_temporary j u) e) 0 k) (λ rest. more (set (suc n) (plain.declare j u)) (named rest)) (held-code P.classes t j u e is 0 k)
+      silent-then again H (flags x ts) (λ rest. more (set (suc n) (plain.declare j u)) (named rest)) (silent-flags again H x ts)
       (silent-then again H (λ rest. more (set (suc n) (plain.declare j u)) rest) named (silent-set again H (suc n) (plain.declare j u))
       (silent-then again H (λ rest. more (set n (plain.local j)) rest) inner (silent-set again H n (plain.local j))
-      (silent-then again H code (λ rest. settled e (suc n) (suc (suc n)) (last rest)) (silent-value again H P e is (record { first = k; base = 1 }) (destination (suc n) u) (suc (suc n)) k)
-      (silent-then again H (settled e (suc n) (suc (suc n))) last (silent-settled again H e (suc n) (suc (suc n))) (silent-act again H (plain.first 0 n))))))
+      (silent-then again H code (λ rest. settled e (suc n) (suc (suc n)) (last rest)) (silent-value again H P e is x (destination (suc n) u) (suc (suc n)) k)
+      (silent-then again H (settled e (suc n) (suc (suc n))) last (silent-settled again H e (suc n) (suc (suc n)))
+      (silent-then again H (ended x (reverse ts)) bound (silent-ended again H x (reverse ts)) (silent-act again H (plain.first 0 n)))))))
   silent-held i t e k ok = never ok
 
   mutual
     pub silent-statement : (s : Core) (m : ℕ) → is_statement m s ≡ true → (o : Open) (k : ℕ) → Silent again H (statement (inside_of P R C o) s k)
     silent-statement (core.full e) m ok o k =
-        let code : Full → Register → Plains → Plains = λ x n rest. value P.classes x e None n k rest in
         or-else (is_nothing e) (is_value e) ok
         (λ blank. silent-by again H (statement (inside_of P R C o) (core.full e) k) (λ rest. rest)
         (λ rest. ap (λ e. whole e 0 k (λ x n rest. value P.classes x e None n k rest) (λ n. rest)) (nothing-is e blank)) (silent-none again H))
-        (λ is. silent-by again H (statement (inside_of P R C o) (core.full e) k) (value P.classes (record { first = k; base = 0 }) e None (0 + width e) k)
-        (λ rest. whole-is e is 0 k code (λ n. rest)) (silent-value again H P e is (record { first = k; base = 0 }) None (0 + width e) k))
+        (λ is. silent-whole again H P e is 0 k None (λ m rest. rest) (λ m rest. rest) (λ m. silent-none again H) (λ m. silent-none again H))
     silent-statement (core.block es) m ok o k =
         silent-then again H (statements (inside_of P R C (opened o)) es k) (finished (declared_all es)) (silent-statements es m ok (opened o) k) (silent-finished again H (declared_all es))
     silent-statement (core.sequence es) m ok o k = silent-statements es m ok o k
@@ -242,29 +240,18 @@ module _ (again : running.Again) (H : Program) (P : Program) (R C : SourceType) 
         (or-else (is_initial e) (is_held i e) (both (nat_le m i) (is_initial e || is_held i e) ok).1 (silent-started t e k) (silent-held i t e k))
     silent-statement (core.branch q a b) m ok o k =
         let is = (both (is_value q) ((not (declares_here a) && is_statement m a) && is_inner_or m b) ok).0 in
-        let code : Full → Register → Plains → Plains = λ x n rest. value P.classes x q None n k (more (set n (plain.truth n)) rest) in
-        let branched : Register → Plains → Plains = λ n rest. more (plain.branch n (statement (inside_of P R C o) a (k + width q) nothing) (statement_or (inside_of P R C o) b (k + width q + width a) nothing)) rest in
-        silent-by again H (statement (inside_of P R C o) (core.branch q a b) k)
-        (λ rest. value P.classes (record { first = k; base = 0 }) q None (0 + width q) k (more (set (0 + width q) (plain.truth (0 + width q))) (branched (0 + width q) rest)))
-        (λ rest. whole-is q is 0 k code (λ n. branched n rest))
-        (silent-then again H (value P.classes (record { first = k; base = 0 }) q None (0 + width q) k) (λ rest. more (set (0 + width q) (plain.truth (0 + width q))) (branched (0 + width q) rest))
-        (silent-value again H P q is (record { first = k; base = 0 }) None (0 + width q) k) (record { labels = λ z rest. refl; at_case = λ z rest g. refl; at_default = λ rest g. refl }))
+        let yes : Plains = statement (inside_of P R C o) a (k + width q) nothing in
+        let other : Plains = statement_or (inside_of P R C o) b (k + width q + width a) nothing in
+        silent-whole again H P q is 0 k None (λ m rest. more (set m (plain.truth m)) rest) (λ m rest. more (plain.branch m yes other) rest)
+        (λ m. silent-set again H m (plain.truth m)) (λ m. silent-branch again H m yes other)
     silent-statement (core.loop form.While q e s) m ok o k = record { labels = λ z rest. refl; at_case = λ z rest g. refl; at_default = λ rest g. refl }
     silent-statement (core.loop form.For q e s) m ok o k = record { labels = λ z rest. refl; at_case = λ z rest g. refl; at_default = λ rest g. refl }
     silent-statement (core.loop form.Do q e s) m ok o k = record { labels = λ z rest. refl; at_case = λ z rest g. refl; at_default = λ rest g. refl }
     silent-statement (core.switch e es) m ok o k =
         let is = (both (is_value e) (are_cases m es) ok).0 in
-        let code : Full → Register → Plains → Plains = λ x n rest. value P.classes x e None n k (use_of n rest) in
         let body : Plains = statements (in_switch (inside_of P R C o)) es (k + width e) (finished (declared_all es) nothing) in
-        let n : ℕ = 0 + width e in
-        let last : Plains → Plains = λ rest. more (plain.switch n body) rest in
-        silent-by again H (statement (inside_of P R C o) (core.switch e es) k)
-        (λ rest. value P.classes (record { first = k; base = 0 }) e None n k (use_of n (passed n es (last rest))))
-        (λ rest. whole-is e is 0 k code (λ n. passed n es (more (plain.switch n body) rest)))
-        (silent-then again H (value P.classes (record { first = k; base = 0 }) e None n k) (λ rest. use_of n (passed n es (last rest)))
-        (silent-value again H P e is (record { first = k; base = 0 }) None n k)
-        (silent-then again H (use_of n) (λ rest. passed n es (last rest)) (silent-used again H n)
-        (silent-then again H (passed n es) last (silent-passed n es) (silent-switch again H n body))))
+        silent-whole again H P e is 0 k None (λ n rest. use_of n rest) (λ n rest. passed n es (more (plain.switch n body) rest)) (λ n. silent-used again H n)
+        (λ n. silent-then again H (passed n es) (λ rest. more (plain.switch n body) rest) (silent-passed n es) (silent-switch again H n body))
     silent-statement core.leave m ok o k =
         silent-then again H (finished (o.here ++ o.breaks)) (λ rest. more leave rest) (silent-finished again H (o.here ++ o.breaks)) (silent-leave again H)
     silent-statement core.continue m ok o k =
@@ -272,17 +259,13 @@ module _ (again : running.Again) (H : Program) (P : Program) (R C : SourceType) 
     silent-statement (core.give absent) m ok o k =
         silent-then again H (finished (o.here ++ o.returns)) (λ rest. more (give None) rest) (silent-finished again H (o.here ++ o.returns)) (silent-give again H None)
     silent-statement (core.give (given e)) m ok o k =
-        let n : ℕ = 0 + width e in
+        let gone : Plains → Plains = finished (o.here ++ o.returns) in
         let code : Full → Register → Plains → Plains = λ x n rest. value P.classes x e None n k (use_of n rest) in
-        let by_value : Plains → Plains = λ rest. whole e 0 k code (λ n. finished (o.here ++ o.returns) (more (give (Some n)) rest)) in
-        let in_place : Plains → Plains = λ rest. more (set 0 plain.result) (started P.classes R e 0 k (finished (o.here ++ o.returns) (more (give None) rest))) in
-        silent-by again H (statement (inside_of P R C o) (core.give (given e)) k)
-        (λ rest. value P.classes (record { first = k; base = 0 }) e None n k (use_of n (finished (o.here ++ o.returns) (more (give (Some n)) rest))))
-        (λ rest. ap (λ b. if b then in_place rest else by_value rest) plain-result ∙ whole-is e ok 0 k code (λ n. finished (o.here ++ o.returns) (more (give (Some n)) rest)))
-        (silent-then again H (value P.classes (record { first = k; base = 0 }) e None n k) (λ rest. use_of n (finished (o.here ++ o.returns) (more (give (Some n)) rest)))
-        (silent-value again H P e ok (record { first = k; base = 0 }) None n k)
-        (silent-then again H (use_of n) (λ rest. finished (o.here ++ o.returns) (more (give (Some n)) rest)) (silent-used again H n)
-        (silent-then again H (finished (o.here ++ o.returns)) (λ rest. more (give (Some n)) rest) (silent-finished again H (o.here ++ o.returns)) (silent-give again H (Some n)))))
+        let by_value : Plains → Plains = λ rest. whole e 0 k code (λ n. gone (more (give (Some n)) rest)) in
+        let in_place : Plains → Plains = λ rest. more (set 0 plain.result) (started P.classes R e 0 k (gone (more (give None) rest))) in
+        silent-by again H (statement (inside_of P R C o) (core.give (given e)) k) by_value (λ rest. ap (λ b. if b then in_place rest else by_value rest) plain-result)
+        (silent-whole again H P e ok 0 k None (λ n rest. use_of n rest) (λ n rest. gone (more (give (Some n)) rest)) (λ n. silent-used again H n)
+        (λ n. silent-then again H gone (λ rest. more (give (Some n)) rest) (silent-finished again H (o.here ++ o.returns)) (silent-give again H (Some n))))
     silent-statement s m ok o k = never ok
 
     pub silent-statements : (es : Cores) (m : ℕ) → are_statements m es ≡ true → (o : Open) (k : ℕ) → Silent again H (statements (inside_of P R C o) es k)

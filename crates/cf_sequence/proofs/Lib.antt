@@ -1,8 +1,13 @@
 pub mod Actions
+pub mod Arguments
+pub mod Binding
+pub mod Branches
 pub mod Calling
+pub mod Changes
 mod ClassRows
 mod ControlRows
 mod OrderRows
+mod TemporaryRows
 pub mod Doing
 pub mod Loops
 pub mod Scopes
@@ -19,6 +24,7 @@ pub mod Joining
 pub mod Kept
 pub mod Moving
 pub mod Passing
+pub mod Placing
 pub mod PlainSteps
 pub mod Pointers
 pub mod References
@@ -34,5 +40,6 @@ pub mod RenamedCode
 pub mod OwnNames
 pub mod Steps
 pub mod Switching
+pub mod Temporaries
 pub mod Whole
 mod ScalarRows

@@ -122,7 +122,7 @@ module _ (again : calling.Again) (again' : running.Again) (P : Program) (bodies 
       → Follows S (and_then (does.holds again P q s w) (on c)) (runs_on again' (H again again' P) (held P.classes q k rest) g K (with_frame f s) w)
   hold-steps absent ok k rest g s f w c K ready room holds fails = holds s g f w refl (kept-all k f)
   hold-steps (given e) ok k rest g s f w c K ready room holds fails =
-      condition-steps again again' P bodies chains A B S e ok k (λ n. more (branch n nothing (more leave nothing)) rest) g s f w c K ready room (λ b t h f1 w1 at same kept.
+      condition-steps again again' P bodies chains classless A B S e ok k (λ n. more (branch n nothing (more leave nothing)) rest) g s f w c K ready room (λ b t h f1 w1 at same kept.
       branch-steps again' (H again again' P) b (0 + width e) nothing (more leave nothing) rest h K _ (with_frame f1 t) w1 at
       (held-arm b rest h t f1 w1 c K (holds t h f1 w1 same kept) (fails t h f1 w1 same kept)))
 
@@ -209,7 +209,7 @@ module _ (again : calling.Again) (again' : running.Again) (P : Program) (bodies 
       (and_then ((all again' (H again again' P) code h2 >>= turning AG) (with_frame g2 u) w2) (on ((behind again again' P bodies chains classless turns R C plain-result A B S) rest K)))) (sym is-step)
       (pull (full_expression again P (meaning.value again P e None) u w2) (λ x. again (turn (core.loop how q (given e) body))) c _
       (push (all again' (H again again' P) (stepped P.classes (given e) (k + width_maybe q)) h2 (with_frame g2 u) w2) (turning AG) ((behind again again' P bodies chains classless turns R C plain-result A B S) rest K) _
-      (full-steps again again' P bodies chains A B S e good None None 0 (k + width_maybe q) (λ n. nothing) h2 u g2 w2 (λ x. again (turn (core.loop how q (given e) body)) >>= c)
+      (full-steps again again' P bodies chains classless A B S e good None None 0 (k + width_maybe q) (λ n. nothing) h2 u g2 w2 (λ x. again (turn (core.loop how q (given e) body)) >>= c)
       (λ flow. turning AG flow >>= (behind again again' P bodies chains classless turns R C plain-result A B S) rest K) ready (omega arith) (λ x t h f1 w1 done.
       further how q (given e) body m ok o D k rest s f c K st room ways falls t f1 h w1
       (moved-then m m s f u g2 t f1 (omega arith) v (moved-kept m (k + width_maybe q) u g2 t f1 (let l = st.low in let c1 = st.ready.count in omega arith) ready done.frame done.kept))

@@ -1,5 +1,5 @@
 -- Operands: an expression's parts in registers, the left one used first, and the room for their locals.
-use Rattle.std.proofs.Common.{◌≡◌, ℕ, suc, ◌+◌, ◌≤◌, ◌<◌, true, List, ◌++◌, length, refl, sym, ◌∙◌, subst, arith}
+use Rattle.std.proofs.Common.{◌≡◌, inr, ℕ, suc, ◌+◌, ◌≤◌, Bool, true, List, ◌++◌, length, refl, sym, ◌∙◌, subst, arith}
 use Rattle.std.specs.Prelude.{Option, Some, None}
 use Rattle.cf_base.specs.World.{World, Ran, and_then}
 use Rattle.cf_core.specs.Types.{Name}
@@ -18,13 +18,15 @@ use Rattle.cf_plain.specs.Acts.{Registers}
 use Rattle.cf_plain.specs.Running as running
 use Rattle.cf_plain.specs.Running.{Flow, Falls, calls, keep, falling, all}
 use Rattle.cf_sequence.specs.Follows.{Follows}
-use Rattle.cf_sequence.specs.Built.{is_chain}
-use Rattle.cf_sequence.specs.Made.{added, width}
+use Rattle.cf_sequence.specs.Built.{is_value, is_chain}
+use Rattle.cf_sequence.specs.Made.{Temporary, temporaries, added, width}
 use Rattle.cf_sequence.specs.Expressions.{Full, Destination, value, used as use_of}
 use Rattle.cf_sequence.proofs.Following.{on, pull, push, pure-steps, Looks, looks-steps}
 use Rattle.cf_sequence.proofs.Steps.{pure-used}
 use Rattle.cf_sequence.proofs.Calling.{Bodies, plain_program}
-use Rattle.cf_sequence.proofs.Kept.{Kept, kept-then, kept-count, Ready, ready-kept, ready-more, added-two, After, after-set, after-again}
+use Rattle.cf_sequence.proofs.Kept.{Kept, kept-then, added-two}
+use Rattle.cf_sequence.proofs.Temporaries.{Begins, begins-first, begins-second, Grown, grown-then, After, after-set}
+use Rattle.cf_sequence.proofs.Placing.{placing}
 use Rattle.cf_sequence.proofs.PlainSteps.{Usable, runs_on, plain_acts, set-steps, use-steps}
 
 pub first-room : (k c : ℕ) (xs ys : List Core) → k + length (added (xs ++ ys)) ≤ c → k + length (added xs) ≤ c
@@ -41,56 +43,62 @@ module _ (again : calling.Again) (again' : running.Again) (P : Program) (bodies 
     (chains : (name : Name) (f : Function) → function_named P name ≡ Some f → is_chain f.type ≡ true)
     (A B : Type 0) (S : A → State → B → State → Type 0) where
   -- what comes behind an expression whose value is in register n
-  abbrev pub Next : (c : Value → Act A) (K : Flow → Act B) (n k : ℕ) (rest : Plains) (g : Registers) (e f : Frame) → Type 0
-  Next c K n k rest g e f =
-      (v : Value) (s : State) (h : Registers) (f' : Frame) (w : World) → After n k g e f v s h f'
+  abbrev pub Next : (c : Value → Act A) (K : Flow → Act B) (x : Full) (ts : List Temporary) (n k m : ℕ) (rest : Plains) (g : Registers) (e f : Frame) → Type 0
+  Next c K x ts n k m rest g e f =
+      (v : Value) (s : State) (h : Registers) (f' : Frame) (w : World) → After x ts n k m g e f v s h f'
       → Follows S (c v s w) (runs_on again' (H again again' P) rest h K (with_frame f' s) w)
 
-  -- the plain statements of an expression follow it
-  abbrev pub Follow : Core → Type 0
-  Follow e =
+  -- the plain statements of an expression follow it, in a branch or not
+  abbrev pub Follow : Bool → Core → Type 0
+  Follow b e =
       (into : Option Place) (into' : Option Destination) (x : Full) (n k : ℕ) (rest : Plains) (g : Registers) (s : State) (f : Frame) (w : World)
       (c : Value → Act A) (K : Flow → Act B)
-      → Ready k s.frame f → k + width e ≤ f.count → Next c K n k rest g s.frame f
+      → Begins b x (temporaries b e k) n k (k + width e) g s.frame f → Next c K x (temporaries b e k) n k (k + width e) rest g s.frame f
       → Follows S (and_then (meaning.value again P e into s w) (on c)) (runs_on again' (H again again' P) (value P.classes x e into' n k rest) g K (with_frame f s) w)
 
   -- an operand and then one act on its value
-  pub one-operand : (e : Core) → Follow e → (q : Value → Act Value) → ((v : Value) → Looks (q v)) → (a : Register → plain.Action)
+  pub one-operand : (b : Bool) (e : Core) → Follow b e → (q : Value → Act Value) → ((v : Value) → Looks (q v)) → (a : Register → plain.Action)
       → ((h : Registers) (n : Register) (v : Value) → h n ≡ Some v → (G : Value → Act B) (y : Ran (Did A)) (t : State) (w : World)
       → Follows S y (and_then (q v t w) (on G)) → Follows S y (and_then (plain_acts again' (H again again' P) h (a n) t w) (on G)))
       → (x : Full) (n k : ℕ) (rest : Plains) (g : Registers) (s : State) (f : Frame) (w : World) (c : Value → Act A) (K : Flow → Act B)
-      → Ready k s.frame f → k + width e ≤ f.count → Next c K n k rest g s.frame f
+      → Begins b x (temporaries b e k) n k (k + width e) g s.frame f → Next c K x (temporaries b e k) n k (k + width e) rest g s.frame f
       → Follows S (and_then (meaning.value again P e None s w) (on (λ v. q v >>= c)))
       (runs_on again' (H again again' P) (value P.classes x e None n k (more (set n (a n)) rest)) g K (with_frame f s) w)
-  one-operand e follow q looks a acts x n k rest g s f w c K ready room next =
-      follow None None x n k (more (set n (a n)) rest) g s f w (λ v. q v >>= c) K ready room (λ v s1 h f1 w1 done.
+  one-operand b e follow q looks a acts x n k rest g s f w c K begins next =
+      follow None None x n k (more (set n (a n)) rest) g s f w (λ v. q v >>= c) K begins (λ v s1 h f1 w1 done.
       set-steps again' (H again again' P) n (a n) rest h K _ (with_frame f1 s1) w1
       (acts h n v done.value _ _ (with_frame f1 s1) w1
       (looks-steps (q v) (looks v) c (λ u. λ t w. runs_on again' (H again again' P) rest (keep h n u) K t w) s1 f1 w1
-      (λ u. next u s1 (keep h n u) f1 w1 (after-again n k g h s.frame f f1 v u s1 s1 done refl)))))
+      (λ u. next u s1 (keep h n u) f1 w1 (after-set b x (temporaries b e k) n k (k + width e) g s.frame f s1 s1 h f1 u begins done.grown done.kept refl)))))
 
   -- two operands, the left one used first, and then what is done with both
-  pub two-operands : (a b : Core) → Follow a → Follow b → (D : Value → Act A) (C : Value → Value → Act A)
-      → ((u : Value) (s : State) (w : World) (y : Ran (Did B)) → Follows S (and_then (meaning.value again P b None s w) (on (C u))) y → Follows S (D u s w) y)
+  pub two-operands : (b : Bool) (a c : Core) → is_value a ≡ true → is_value c ≡ true → Follow b a → Follow b c → (D : Value → Act A) (C : Value → Value → Act A)
+      → ((u : Value) (s : State) (w : World) (y : Ran (Did B)) → Follows S (and_then (meaning.value again P c None s w) (on (C u))) y → Follows S (D u s w) y)
       → (x : Full) (n k : ℕ) (rest : Plains) (g : Registers) (s : State) (f : Frame) (w : World) (K : Flow → Act B)
-      → Ready k s.frame f → k + length (added (nodes a ++ nodes b)) ≤ f.count
+      → Begins b x (temporaries b a k ++ temporaries b c (k + width a)) n k (k + length (added (nodes a ++ nodes c))) g s.frame f
       → ((u v : Value) (s2 : State) (h : Registers) (f2 : Frame) (w2 : World) → Usable u → h n ≡ Some u → h (suc n) ≡ Some v
-      → ((r : ℕ) → r < n → h r ≡ g r) → s2.frame ≡ s.frame → Kept k f f2 → Follows S (C u v s2 w2) (runs_on again' (H again again' P) rest h K (with_frame f2 s2) w2))
+      → Grown x (temporaries b a k ++ temporaries b c (k + width a)) n k (k + length (added (nodes a ++ nodes c))) g s.frame s2 h f2.locals → Kept k f f2
+      → Follows S (C u v s2 w2) (runs_on again' (H again again' P) rest h K (with_frame f2 s2) w2))
       → Follows S (and_then (meaning.value again P a None s w) (on (λ u. used u >>= D)))
-      (runs_on again' (H again again' P) (value P.classes x a None n k (use_of n (value P.classes x b None (suc n) (k + width a) rest))) g K (with_frame f s) w)
-  two-operands a b follow-a follow-b D C split x n k rest g s f w K ready room next =
-      follow-a None None x n k _ g s f w (λ u. used u >>= D) K ready (first-room k f.count (nodes a) (nodes b) room)
+      (runs_on again' (H again again' P) (value P.classes x a None n k (use_of n (value P.classes x c None (suc n) (k + width a) rest))) g K (with_frame f s) w)
+  two-operands b a c ok-a ok-c follow-a follow-c D C split x n k rest g s f w K begins next =
+      let l : ℕ = k + width a in
+      let m : ℕ = k + length (added (nodes a ++ nodes c)) in
+      let ts : List Temporary = temporaries b a k in
+      let us : List Temporary = temporaries b c l in
+      let many = added-two (nodes a) (nodes c) in
+      let high = begins.high in
+      follow-a None None x n k _ g s f w (λ u. used u >>= D) K
+      (begins-first b x ts us n k m g s.frame f begins b n k l (omega arith) (omega arith) (omega arith) (omega arith) (placing a ok-a b k))
       (λ u s1 h1 f1 w1 done.
-      use-steps again' (H again again' P) n u h1 done.value D (value P.classes x b None (suc n) (k + width a) rest) K s1 (with_frame f1 s1) w1 (λ usable.
-      let same : f1.count ≡ f.count = kept-count k f f1 done.kept in
-      let left-room : (k + width a) + width b ≤ f.count = second-room k f.count (nodes a) (nodes b) room in
-      let ready1 : Ready (k + width a) s1.frame f1 =
-      subst (λ e. Ready (k + width a) e f1) (sym done.frame)
-      (ready-more k (k + width a) s.frame f1 (omega arith) (omega arith) (ready-kept k s.frame f f1 ready done.kept)) in
-      split u s1 w1 _ (follow-b None None x (suc n) (k + width a) rest h1 s1 f1 w1 (C u) K ready1 (omega arith) (λ v s2 h2 f2 w2 done2.
-      next u v s2 h2 f2 w2 usable (done2.below n (omega arith) ∙ done.value) done2.value
-      (λ r lt. done2.below r (omega arith) ∙ done.below r lt) (done2.frame ∙ done.frame)
-      (kept-then k (k + width a) f f1 f2 (omega arith) done.kept done2.kept)))))
+      use-steps again' (H again again' P) n u h1 done.value D (value P.classes x c None (suc n) l rest) K s1 (with_frame f1 s1) w1 (λ usable.
+      split u s1 w1 _ (follow-c None None x (suc n) l rest h1 s1 f1 w1 (C u) K
+      (begins-second b x ts us n k m g s.frame f begins b (suc n) l l (l + width c) s1 h1 f1 done.grown done.kept (omega arith) (omega arith) (omega arith) (omega arith) (omega arith) (placing c ok-c b l))
+      (λ v s2 h2 f2 w2 done2.
+      next u v s2 h2 f2 w2 usable (done2.grown.below n (omega arith) (inr (omega arith)) ∙ done.value) done2.value
+      (grown-then b x ts us n k m g s.frame f begins b (suc n) l l (l + width c) s1 s2 h1 h2 f1.locals f2.locals done.grown done2.grown (omega arith) (omega arith) (omega arith) (omega arith) (omega arith)
+      (placing a ok-a b k) (λ j from less. done2.kept.below j less))
+      (kept-then k l f f1 f2 (omega arith) done.kept done2.kept)))))
 
   -- ---- what is done with the value of one operand
 
@@ -113,23 +121,27 @@ module _ (again : calling.Again) (again' : running.Again) (P : Program) (bodies 
       (push (used v t w) (F u) G y h)))
 
   -- an act on two used operands
-  pub two-used : (a b : Core) → Follow a → Follow b → (F : Value → Value → Act Value) → ((u v : Value) → Looks (F u v)) → (action : Register → Register → plain.Action)
+  pub two-used : (b : Bool) (a e : Core) → is_value a ≡ true → is_value e ≡ true → Follow b a → Follow b e → (F : Value → Value → Act Value) → ((u v : Value) → Looks (F u v))
+      → (action : Register → Register → plain.Action)
       → ((h : Registers) (n m : Register) → plain_acts again' (H again again' P) h (action n m) ≡ ((some_or (h n) malformed >>= used) >>= (λ a. (some_or (h m) malformed >>= used) >>= F a)))
       → (x : Full) (n k : ℕ) (rest : Plains) (g : Registers) (s : State) (f : Frame) (w : World) (c : Value → Act A) (K : Flow → Act B)
-      → Ready k s.frame f → k + length (added (nodes a ++ nodes b)) ≤ f.count → Next c K n k rest g s.frame f
-      → Follows S (and_then ((((meaning.value again P a None >>= used) >>= (λ u. (meaning.value again P b None >>= used) >>= F u))) s w) (on c))
-      (runs_on again' (H again again' P) (value P.classes x a None n k (use_of n (value P.classes x b None (suc n) (k + width a) (more (set n (action n (suc n))) rest)))) g K (with_frame f s) w)
-  two-used a b follow-a follow-b F looks action is x n k rest g s f w c K ready room next =
-      pull _ (λ u. (meaning.value again P b None >>= used) >>= F u) c _
-      (pull (meaning.value again P a None s w) used (λ u. ((meaning.value again P b None >>= used) >>= F u) >>= c) _
-      (two-operands a b follow-a follow-b (λ u. ((meaning.value again P b None >>= used) >>= F u) >>= c) (λ u v. used v >>= (λ v. F u v >>= c))
-      (λ u s w y h. pull _ (F u) c y (pull (meaning.value again P b None s w) used (λ v. F u v >>= c) y h))
-      x n k _ g s f w K ready room
-      (λ u v s2 h f2 w2 usable at-n at-m below frame kept.
+      → Begins b x (temporaries b a k ++ temporaries b e (k + width a)) n k (k + length (added (nodes a ++ nodes e))) g s.frame f
+      → Next c K x (temporaries b a k ++ temporaries b e (k + width a)) n k (k + length (added (nodes a ++ nodes e))) rest g s.frame f
+      → Follows S (and_then ((((meaning.value again P a None >>= used) >>= (λ u. (meaning.value again P e None >>= used) >>= F u))) s w) (on c))
+      (runs_on again' (H again again' P) (value P.classes x a None n k (use_of n (value P.classes x e None (suc n) (k + width a) (more (set n (action n (suc n))) rest)))) g K (with_frame f s) w)
+  two-used b a e ok-a ok-e follow-a follow-e F looks action is x n k rest g s f w c K begins next =
+      let ts : List Temporary = temporaries b a k ++ temporaries b e (k + width a) in
+      let m : ℕ = k + length (added (nodes a ++ nodes e)) in
+      pull _ (λ u. (meaning.value again P e None >>= used) >>= F u) c _
+      (pull (meaning.value again P a None s w) used (λ u. ((meaning.value again P e None >>= used) >>= F u) >>= c) _
+      (two-operands b a e ok-a ok-e follow-a follow-e (λ u. ((meaning.value again P e None >>= used) >>= F u) >>= c) (λ u v. used v >>= (λ v. F u v >>= c))
+      (λ u s w y h. pull _ (F u) c y (pull (meaning.value again P e None s w) used (λ v. F u v >>= c) y h))
+      x n k _ g s f w K begins
+      (λ u v s2 h f2 w2 usable at-n at-m grown kept.
       set-steps again' (H again again' P) n (action n (suc n)) rest h K _ (with_frame f2 s2) w2
       (subst (λ (a : Act Value). Follows S (and_then (used v s2 w2) (on (λ v. F u v >>= c))) (and_then (a (with_frame f2 s2) w2) (on (λ v. λ t w. runs_on again' (H again again' P) rest (keep h n v) K t w))))
       (sym (is h n (suc n)))
       (used-two F (h n) (h (suc n)) u v at-n at-m usable _ _ (with_frame f2 s2) w2
       (pure-steps (used v) (pure-used v) (λ v. F u v >>= c) (λ v. F u v >>= (λ v. λ t w. runs_on again' (H again again' P) rest (keep h n v) K t w)) s2 (with_frame f2 s2) w2 (λ v.
       looks-steps (F u v) (looks u v) c (λ v. λ t w. runs_on again' (H again again' P) rest (keep h n v) K t w) s2 f2 w2 (λ z.
-      next z s2 (keep h n z) f2 w2 (after-set n k g h s.frame f f2 z s2 below frame kept)))))))))
+      next z s2 (keep h n z) f2 w2 (after-set b x ts n k m g s.frame f s2 s2 h f2 z begins grown kept refl)))))))))

@@ -1,5 +1,5 @@
 -- `&&`, `||` and `?:` by branches, changes in place, first values, and calls behind their arguments.
-use Rattle.std.proofs.Common.{◌≡◌, ℕ, ◌+◌, ◌≤◌, ◌<◌, Bool, true, false, not, ◌&&◌, List, refl, sym, ◌∙◌, ap, subst, arith, if◌then◌else◌}
+use Rattle.std.proofs.Common.{◌≡◌, ℕ, ◌+◌, ◌≤◌, Bool, true, false, not, ◌&&◌, List, ◌++◌, refl, sym, ◌∙◌, ap, subst, arith, if◌then◌else◌}
 use Rattle.std.specs.Prelude.{pos, Option, Some, None}
 use Rattle.cf_base.proofs.Tests.{both}
 use Rattle.cf_base.specs.World.{World, and_then}
@@ -23,13 +23,15 @@ use Rattle.cf_plain.specs.Running as running
 use Rattle.cf_plain.specs.Running.{Flow, Falls, calls, keep, falling, all}
 use Rattle.cf_sequence.specs.Follows.{Follows}
 use Rattle.cf_sequence.specs.Built.{is_value, are_arguments, is_chain}
-use Rattle.cf_sequence.specs.Made.{width, numbers}
+use Rattle.cf_sequence.specs.Made.{Temporary, temporaries, width, numbers}
 use Rattle.cf_sequence.specs.Expressions.{Full, Destination, value, builds, result_register}
 use Rattle.cf_sequence.proofs.Following.{on, pull, push, looks-steps}
 use Rattle.cf_sequence.proofs.Steps.{looks-read_place, settle-steps}
 use Rattle.cf_sequence.proofs.Calling.{Alike, Bodies, never}
 use Rattle.cf_sequence.proofs.Actions.{placed-by, change-steps, objects-there, Callee, named-again, run-steps, pointer-steps}
-use Rattle.cf_sequence.proofs.Kept.{Kept, kept-then, kept-count, Ready, ready-kept, ready-more, Objects, after-set, keep-same, keep-other}
+use Rattle.cf_sequence.proofs.Kept.{Kept, kept-then, Objects, keep-same, keep-other}
+use Rattle.cf_sequence.proofs.Temporaries.{Placed, placed-append, placed-wider, placed-branch, Begins, begins-first, begins-second, Grown, grown-then, grown-left, grown-set, after-set}
+use Rattle.cf_sequence.proofs.Placing.{placing}
 use Rattle.cf_sequence.proofs.PlainSteps.{Usable, pick, runs_on, set-steps, act-steps, at-one, at-two, truth-steps}
 use Rattle.cf_sequence.proofs.Operands.{H, Next, Follow}
 
@@ -45,66 +47,106 @@ module _ (again : calling.Again) (again' : running.Again) (P : Program) (bodies 
   abbrev pub test_of : Core → Act Value
   test_of e = (meaning.value again P e None >>= truth_of) >>= (λ y. gives (truth_value y))
 
-  pub tested : (b : Core) → (Follow again again' P bodies chains A B S) b → (x : Full) (n k m : ℕ) (rest : Plains) (g h : Registers) (s : State) (e f f1 : Frame) (w : World) (c : Value → Act A) (K : Flow → Act B)
-      → ((r : ℕ) → r < n → h r ≡ g r) → s.frame ≡ e → Kept k f f1 → k ≤ m → Ready m s.frame f1 → m + width b ≤ f1.count → (Next again again' P bodies chains A B S) c K n k rest g e f
-      → Follows S (and_then (test_of b s w) (on c))
-      (runs_on again' (H again again' P) (value P.classes x b None n m (more (set n (plain.truth n)) nothing)) h (behind rest K) (with_frame f1 s) w)
-  tested b follow x n k m rest g h s e f f1 w c K below frame kept le ready room next =
-      pull _ (λ y. gives (truth_value y)) c _ (pull (meaning.value again P b None s w) truth_of (λ y. gives (truth_value y) >>= c) _
-      (follow None None x n m (more (set n (plain.truth n)) nothing) h s f1 w (λ u. truth_of u >>= (λ y. gives (truth_value y) >>= c)) (behind rest K) ready room
+  -- the right operand of `&&` or `||`
+  tested : (b : Bool) (a : Core) → is_value a ≡ true → (Follow again again' P bodies chains A B S) true a → (x : Full) (ts : List Temporary) (n k l m : ℕ) (rest : Plains) (g h : Registers) (s : State) (e f f1 : Frame) (w : World)
+      (c : Value → Act A) (K : Flow → Act B)
+      → Begins b x (ts ++ temporaries true a l) n k m g e f → Grown x ts n k l g e s h f1.locals → Kept k f f1 → Placed b k l ts → k ≤ l → l + width a ≤ m
+      → (Next again again' P bodies chains A B S) c K x (ts ++ temporaries true a l) n k m rest g e f
+      → Follows S (and_then (test_of a s w) (on c))
+      (runs_on again' (H again again' P) (value P.classes x a None n l (more (set n (plain.truth n)) nothing)) h (behind rest K) (with_frame f1 s) w)
+  tested b a ok follow x ts n k l m rest g h s e f f1 w c K begins grown kept placed le room next =
+      let us : List Temporary = temporaries true a l in
+      pull _ (λ y. gives (truth_value y)) c _ (pull (meaning.value again P a None s w) truth_of (λ y. gives (truth_value y) >>= c) _
+      (follow None None x n l (more (set n (plain.truth n)) nothing) h s f1 w (λ u. truth_of u >>= (λ y. gives (truth_value y) >>= c)) (behind rest K)
+      (begins-second b x ts us n k m g e f begins true n l l (l + width a) s h f1 grown kept (omega arith) le (omega arith) (omega arith) room (placing a ok true l))
       (λ u s2 h2 f2 w2 done.
       truth-steps again' (H again again' P) n u h2 done.value (λ y. gives (truth_value y) >>= c) nothing (behind rest K) s2 (with_frame f2 s2) w2 (λ y.
       next (truth_value y) s2 (keep h2 n (truth_value y)) f2 w2
-      (after-set n k g h2 e f f2 (truth_value y) s2 (λ r lt. done.below r lt ∙ below r lt) (done.frame ∙ frame) (kept-then k m f f1 f2 le kept done.kept))))))
+      (after-set b x (ts ++ us) n k m g e f s2 s2 h2 f2 (truth_value y) begins
+      (grown-then b x ts us n k m g e f begins b n l l (l + width a) s s2 h h2 f1.locals f2.locals grown done.grown (omega arith) le (omega arith) (omega arith) room placed (λ j from less. done.kept.below j less))
+      (kept-then k l f f1 f2 le kept done.kept) refl)))))
 
-  pub and-right : (t : Bool) (b : Core) → (Follow again again' P bodies chains A B S) b → (x : Full) (n k m : ℕ) (rest : Plains) (g h : Registers) (s : State) (e f f1 : Frame) (w : World) (c : Value → Act A) (K : Flow → Act B)
-      → ((r : ℕ) → r < n → h r ≡ g r) → s.frame ≡ e → Kept k f f1 → k ≤ m → Ready m s.frame f1 → m + width b ≤ f1.count → (Next again again' P bodies chains A B S) c K n k rest g e f
-      → Follows S (and_then (when t (test_of b) (gives (truth_value false)) s w) (on c))
-      (runs_on again' (H again again' P) (pick t (value P.classes x b None n m (more (set n (plain.truth n)) nothing)) nothing) (keep h n (truth_value t)) (behind rest K) (with_frame f1 s) w)
-  and-right true b follow x n k m rest g h s e f f1 w c K below frame kept le ready room next =
-      tested b follow x n k m rest g (keep h n (truth_value true)) s e f f1 w c K (λ r lt. keep-other n r h _ (λ same. omega arith) ∙ below r lt) frame kept le ready room next
-  and-right false b follow x n k m rest g h s e f f1 w c K below frame kept le ready room next =
-      next (truth_value false) s (keep h n (truth_value false)) f1 w (after-set n k g h e f f1 (truth_value false) s below frame kept)
+  -- the truth of what was evaluated first comes into the register
+  first-set : (b : Bool) (x : Full) (ts us : List Temporary) (n k l m : ℕ) (g : Registers) (e f : Frame) (s : State) (h : Registers) (locals : ℕ → Option ℕ) (v : Value)
+      → Begins b x (ts ++ us) n k m g e f → Placed b k l ts → k ≤ l → l ≤ m → Grown x ts n k l g e s h locals → Grown x ts n k l g e s (keep h n v) locals
+  first-set b x ts us n k l m g e f s h locals v begins placed le room grown =
+      grown-set b x ts n k l n g e f s h locals v (begins-first b x ts us n k m g e f begins b n k l (omega arith) (omega arith) le room placed) (omega arith) grown
 
-  pub or-right : (t : Bool) (b : Core) → (Follow again again' P bodies chains A B S) b → (x : Full) (n k m : ℕ) (rest : Plains) (g h : Registers) (s : State) (e f f1 : Frame) (w : World) (c : Value → Act A) (K : Flow → Act B)
-      → ((r : ℕ) → r < n → h r ≡ g r) → s.frame ≡ e → Kept k f f1 → k ≤ m → Ready m s.frame f1 → m + width b ≤ f1.count → (Next again again' P bodies chains A B S) c K n k rest g e f
-      → Follows S (and_then (when t (gives (truth_value true)) (test_of b) s w) (on c))
-      (runs_on again' (H again again' P) (pick t nothing (value P.classes x b None n m (more (set n (plain.truth n)) nothing))) (keep h n (truth_value t)) (behind rest K) (with_frame f1 s) w)
-  or-right false b follow x n k m rest g h s e f f1 w c K below frame kept le ready room next =
-      tested b follow x n k m rest g (keep h n (truth_value false)) s e f f1 w c K (λ r lt. keep-other n r h _ (λ same. omega arith) ∙ below r lt) frame kept le ready room next
-  or-right true b follow x n k m rest g h s e f f1 w c K below frame kept le ready room next =
-      next (truth_value true) s (keep h n (truth_value true)) f1 w (after-set n k g h e f f1 (truth_value true) s below frame kept)
+  pub and-right : (t b : Bool) (a : Core) → is_value a ≡ true → (Follow again again' P bodies chains A B S) true a → (x : Full) (ts : List Temporary) (n k l m : ℕ) (rest : Plains) (g h : Registers) (s : State) (e f f1 : Frame) (w : World)
+      (c : Value → Act A) (K : Flow → Act B)
+      → Begins b x (ts ++ temporaries true a l) n k m g e f → Grown x ts n k l g e s h f1.locals → Kept k f f1 → Placed b k l ts → k ≤ l → l + width a ≤ m
+      → (Next again again' P bodies chains A B S) c K x (ts ++ temporaries true a l) n k m rest g e f
+      → Follows S (and_then (when t (test_of a) (gives (truth_value false)) s w) (on c))
+      (runs_on again' (H again again' P) (pick t (value P.classes x a None n l (more (set n (plain.truth n)) nothing)) nothing) (keep h n (truth_value t)) (behind rest K) (with_frame f1 s) w)
+  and-right true b a ok follow x ts n k l m rest g h s e f f1 w c K begins grown kept placed le room next =
+      tested b a ok follow x ts n k l m rest g (keep h n (truth_value true)) s e f f1 w c K begins
+      (first-set b x ts (temporaries true a l) n k l m g e f s h f1.locals (truth_value true) begins placed le (omega arith) grown) kept placed le room next
+  and-right false b a ok follow x ts n k l m rest g h s e f f1 w c K begins grown kept placed le room next =
+      next (truth_value false) s (keep h n (truth_value false)) f1 w
+      (after-set b x (ts ++ temporaries true a l) n k m g e f s s h f1 (truth_value false) begins
+      (grown-left b x ts (temporaries true a l) n k m g e f begins l l (l + width a) s h f1.locals grown le (omega arith) (omega arith) room (placing a ok true l)) kept refl)
 
-  pub one-of : (t : Bool) (a b : Core) → (Follow again again' P bodies chains A B S) a → (Follow again again' P bodies chains A B S) b → (x : Full) (n k m : ℕ) (rest : Plains) (g h : Registers) (s : State) (e f f1 : Frame) (w : World) (c : Value → Act A) (K : Flow → Act B)
-      → ((r : ℕ) → r < n → h r ≡ g r) → s.frame ≡ e → Kept k f f1 → k ≤ m → Ready m s.frame f1 → m + width a ≤ f1.count → (m + width a) + width b ≤ f1.count → (Next again again' P bodies chains A B S) c K n k rest g e f
-      → Follows S (and_then (when t (meaning.value again P a None) (meaning.value again P b None) s w) (on c))
-      (runs_on again' (H again again' P) (pick t (value P.classes x a None n m nothing) (value P.classes x b None n (m + width a) nothing)) (keep h n (truth_value t)) (behind rest K) (with_frame f1 s) w)
-  one-of true a b follow-a follow-b x n k m rest g h s e f f1 w c K below frame kept le ready room-a room-b next =
-      follow-a None None x n m nothing (keep h n (truth_value true)) s f1 w c (behind rest K) ready room-a (λ v s2 h2 f2 w2 done.
+  pub or-right : (t b : Bool) (a : Core) → is_value a ≡ true → (Follow again again' P bodies chains A B S) true a → (x : Full) (ts : List Temporary) (n k l m : ℕ) (rest : Plains) (g h : Registers) (s : State) (e f f1 : Frame) (w : World)
+      (c : Value → Act A) (K : Flow → Act B)
+      → Begins b x (ts ++ temporaries true a l) n k m g e f → Grown x ts n k l g e s h f1.locals → Kept k f f1 → Placed b k l ts → k ≤ l → l + width a ≤ m
+      → (Next again again' P bodies chains A B S) c K x (ts ++ temporaries true a l) n k m rest g e f
+      → Follows S (and_then (when t (gives (truth_value true)) (test_of a) s w) (on c))
+      (runs_on again' (H again again' P) (pick t nothing (value P.classes x a None n l (more (set n (plain.truth n)) nothing))) (keep h n (truth_value t)) (behind rest K) (with_frame f1 s) w)
+  or-right false b a ok follow x ts n k l m rest g h s e f f1 w c K begins grown kept placed le room next =
+      tested b a ok follow x ts n k l m rest g (keep h n (truth_value false)) s e f f1 w c K begins
+      (first-set b x ts (temporaries true a l) n k l m g e f s h f1.locals (truth_value false) begins placed le (omega arith) grown) kept placed le room next
+  or-right true b a ok follow x ts n k l m rest g h s e f f1 w c K begins grown kept placed le room next =
+      next (truth_value true) s (keep h n (truth_value true)) f1 w
+      (after-set b x (ts ++ temporaries true a l) n k m g e f s s h f1 (truth_value true) begins
+      (grown-left b x ts (temporaries true a l) n k m g e f begins l l (l + width a) s h f1.locals grown le (omega arith) (omega arith) room (placing a ok true l)) kept refl)
+
+  -- one of two arms
+  pub one-of : (t b : Bool) (a e' : Core) → is_value a ≡ true → is_value e' ≡ true → (Follow again again' P bodies chains A B S) true a → (Follow again again' P bodies chains A B S) true e'
+      → (x : Full) (ts : List Temporary) (n k l m : ℕ) (rest : Plains) (g h : Registers) (s : State) (e f f1 : Frame) (w : World) (c : Value → Act A) (K : Flow → Act B)
+      → Begins b x ((ts ++ temporaries true a l) ++ temporaries true e' (l + width a)) n k m g e f → Grown x ts n k l g e s h f1.locals → Kept k f f1 → Placed b k l ts → k ≤ l
+      → (l + width a) + width e' ≤ m
+      → (Next again again' P bodies chains A B S) c K x ((ts ++ temporaries true a l) ++ temporaries true e' (l + width a)) n k m rest g e f
+      → Follows S (and_then (when t (meaning.value again P a None) (meaning.value again P e' None) s w) (on c))
+      (runs_on again' (H again again' P) (pick t (value P.classes x a None n l nothing) (value P.classes x e' None n (l + width a) nothing)) (keep h n (truth_value t)) (behind rest K) (with_frame f1 s) w)
+  one-of true b a e' ok-a ok-e follow-a follow-e x ts n k l m rest g h s e f f1 w c K begins grown kept placed le room next =
+      let p : ℕ = l + width a in
+      let us : List Temporary = temporaries true a l in
+      let vs : List Temporary = temporaries true e' p in
+      let both_placed : Placed b k p (ts ++ us) =
+      placed-append b k p ts us (placed-wider b k k l p ts (omega arith) (omega arith) placed) (placed-wider b k l p p us le (omega arith) (placed-branch b l p us (placing a ok-a true l))) in
+      let first : Begins b x (ts ++ us) n k p g e f = begins-first b x (ts ++ us) vs n k m g e f begins b n k p (omega arith) (omega arith) (omega arith) (omega arith) both_placed in
+      let here : Grown x ts n k l g e s (keep h n (truth_value true)) f1.locals = first-set b x ts us n k l p g e f s h f1.locals (truth_value true) first placed le (omega arith) grown in
+      follow-a None None x n l nothing (keep h n (truth_value true)) s f1 w c (behind rest K)
+      (begins-second b x ts us n k p g e f first true n l l p s (keep h n (truth_value true)) f1 here kept (omega arith) le (omega arith) (omega arith) (omega arith) (placing a ok-a true l))
+      (λ v s2 h2 f2 w2 done.
       next v s2 h2 f2 w2 (record {
         value = done.value;
-        below = λ r lt. done.below r lt ∙ keep-other n r h _ (λ same. omega arith) ∙ below r lt;
-        frame = done.frame ∙ frame;
-        kept = kept-then k m f f1 f2 le kept done.kept;
+        grown = grown-left b x (ts ++ us) vs n k m g e f begins p p (p + width e') s2 h2 f2.locals
+            (grown-then b x ts us n k p g e f first b n l l p s s2 (keep h n (truth_value true)) h2 f1.locals f2.locals here done.grown (omega arith) le (omega arith) (omega arith) (omega arith) placed
+            (λ j from less. done.kept.below j less))
+            (omega arith) (omega arith) (omega arith) room (placing e' ok-e true p);
+        kept = kept-then k l f f1 f2 le kept done.kept;
       }))
-  one-of false a b follow-a follow-b x n k m rest g h s e f f1 w c K below frame kept le ready room-a room-b next =
-      follow-b None None x n (m + width a) nothing (keep h n (truth_value false)) s f1 w c (behind rest K)
-      (ready-more m (m + width a) s.frame f1 (omega arith) room-a ready) room-b (λ v s2 h2 f2 w2 done.
+  one-of false b a e' ok-a ok-e follow-a follow-e x ts n k l m rest g h s e f f1 w c K begins grown kept placed le room next =
+      let p : ℕ = l + width a in
+      let us : List Temporary = temporaries true a l in
+      let vs : List Temporary = temporaries true e' p in
+      let both_placed : Placed b k p (ts ++ us) =
+      placed-append b k p ts us (placed-wider b k k l p ts (omega arith) (omega arith) placed) (placed-wider b k l p p us le (omega arith) (placed-branch b l p us (placing a ok-a true l))) in
+      let first : Begins b x (ts ++ us) n k p g e f = begins-first b x (ts ++ us) vs n k m g e f begins b n k p (omega arith) (omega arith) (omega arith) (omega arith) both_placed in
+      let here : Grown x (ts ++ us) n k p g e s (keep h n (truth_value false)) f1.locals =
+      grown-left b x ts us n k p g e f first l l p s (keep h n (truth_value false)) f1.locals
+      (first-set b x ts us n k l p g e f s h f1.locals (truth_value false) first placed le (omega arith) grown) le (omega arith) (omega arith) (omega arith) (placing a ok-a true l) in
+      follow-e None None x n p nothing (keep h n (truth_value false)) s f1 w c (behind rest K)
+      (begins-second b x (ts ++ us) vs n k m g e f begins true n p p (p + width e') s (keep h n (truth_value false)) f1 here kept (omega arith) (omega arith) (omega arith) (omega arith) room
+      (placing e' ok-e true p))
+      (λ v s2 h2 f2 w2 done.
       next v s2 h2 f2 w2 (record {
         value = done.value;
-        below = λ r lt. done.below r lt ∙ keep-other n r h _ (λ same. omega arith) ∙ below r lt;
-        frame = done.frame ∙ frame;
-        kept = kept-then k (m + width a) f f1 f2 (omega arith) kept done.kept;
+        grown = grown-then b x (ts ++ us) vs n k m g e f begins b n p p (p + width e') s s2 (keep h n (truth_value false)) h2 f1.locals f2.locals here done.grown (omega arith) (omega arith) (omega arith) (omega arith) room
+            both_placed (λ j from less. done.kept.below j less);
+        kept = kept-then k p f f1 f2 (omega arith) kept done.kept;
       }))
-
-  -- behind the first operand: where the locals of the next one begin
-  pub ready-next : (k m : ℕ) (e f f1 : Frame) (s1 : State) → Ready k e f → s1.frame ≡ e → Kept k f f1 → k ≤ m → m ≤ f.count → Ready m s1.frame f1
-  ready-next k m e f f1 s1 ready frame kept le room =
-      let same : f1.count ≡ f.count = kept-count k f f1 kept in
-      subst (λ e. Ready m e f1) (sym frame) (ready-more k m e f1 le (omega arith) (ready-kept k e f f1 ready kept))
-
-  pub moved-room : (k c : ℕ) (f f1 : Frame) → Kept k f f1 → c ≤ f.count → c ≤ f1.count
-  moved-room k c f f1 kept room = let same : f1.count ≡ f.count = kept-count k f f1 kept in omega arith
 
   -- ---- changes in place
 

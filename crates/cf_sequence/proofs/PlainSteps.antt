@@ -1,13 +1,13 @@
 -- The steps of plain statements beside those of the core: acts, registers, uses and branches.
-use Rattle.std.proofs.Common.{◌≡◌, ℕ, zero, suc, ◌<◌, Bool, true, false, nat_lt, refl, sym, subst, arith}
+use Rattle.std.proofs.Common.{◌≡◌, ℕ, zero, suc, ◌<◌, Bool, true, false, ◌==◌, nat_lt, refl, sym, ◌∙◌, ap, subst, arith, if◌then◌else◌}
 use Rattle.std.specs.Prelude.{pos, Option, Some}
 use Rattle.std.proofs.lemmas.Bool.Decides.{nat_tests}
 use Rattle.cf_base.specs.World.{World, Ran, and_then}
 use Rattle.cf_core.specs.Types.{SourceType}
-use Rattle.cf_core.specs.Places.{Place}
+use Rattle.cf_core.specs.Places.{Place, is_reference}
 use Rattle.cf_core.specs.Store.{Value, Nothing, Missing, Built, Number, At, new_object, automatic}
 use Rattle.cf_core.specs.Run.{State, Frame, Did, Act, ◌>>=◌, ◌>>◌, gives, malformed, undefined, valid, some_or, upd, when as core_when, declared_object, frame_changed, with_frame, lists_local, not_alive}
-use Rattle.cf_core.specs.Access.{used, place_of}
+use Rattle.cf_core.specs.Access.{used, place_of, read_place, bound_to, followed}
 use Rattle.cf_core.specs.Pointers.{truth_value}
 use Rattle.cf_core.specs.Scalars.{truth_of}
 use Rattle.cf_core.specs.Objects.{local_place}
@@ -155,3 +155,21 @@ module _ (again : running.Again) (H : Program) {A B : Type 0} {S : A → State �
       (at-one (λ o. (some_or o malformed >>= truth_of) >>= (λ b. gives (truth_value b))) (h n) v e _ _ t w
       (push (truth_of v t w) (λ b. gives (truth_value b)) (λ v. λ t w. runs_on again H rest (keep h n v) K t w) _
       (pure-steps (truth_of v) (pure-truth_of v) C (λ b. λ t w. runs_on again H rest (keep h n (truth_value b)) K t w) s t w next)))
+
+  -- a local whose object is there, which is no reference
+  pub here-steps : (j o : ℕ) (n : Register) (rest : Plains) (g : Registers) (K : Flow → Act B) (x : Ran (Did A)) (t : State) (f : Frame) (w : World)
+      → j < f.count → f.locals j ≡ Some o → is_reference (t.object o).type ≡ false
+      → Follows S x (runs_on again H rest (keep g n (At (root o))) K (with_frame f t) w)
+      → Follows S x (runs_on again H (more (set n (plain.local j)) rest) g K (with_frame f t) w)
+  here-steps j o n rest g K x t f w lt there no_reference next =
+      let G : Value → Act _ = λ v. λ t w. runs_on again H rest (keep g n v) K t w in
+      set-steps n (plain.local j) rest g K x (with_frame f t) w
+      (subst (λ b. Follows S x (and_then (((valid b >> (some_or (f.locals j) (undefined not_alive) >>= (λ o. gives (root o)))) >>= followed H.classes) (with_frame f t) w) (on G))) (sym (room-for j f.count lt))
+      (subst (λ o. Follows S x (and_then (((some_or o (undefined not_alive) >>= (λ o. gives (root o))) >>= followed H.classes) (with_frame f t) w) (on G))) (sym there)
+      (subst (λ b. Follows S x (and_then (core_when b (read_place H.classes (root o) >>= bound_to) (gives (At (root o))) (with_frame f t) w) (on G))) (sym no_reference) next)))
+
+-- the type of an object that has just been made
+pub new-type : (u : SourceType) (o : ℕ) (s : State) → is_reference u ≡ false → is_reference (upd o (new_object u automatic) s.object o).type ≡ false
+new-type u o s no_reference =
+    let same : (o == o) ≡ true = grind (arith, nat_tests) in
+    ap (λ b. is_reference (if b then new_object u automatic else s.object o).type) same ∙ no_reference

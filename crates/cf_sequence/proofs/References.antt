@@ -1,17 +1,16 @@
 -- A local reference and the temporary that it binds (8.4.3, 12.2): both are locals of the scope at hand, and the temporary's object is there behind the
 -- reference's.
-use Rattle.std.proofs.Common.{◌≡◌, ℕ, suc, ◌+◌, ◌≤◌, ◌<◌, Bool, true, false, not, ◌&&◌, nat_lt, nat_le, ◌==◌, List, [], ◌∷◌, ◌++◌, refl, sym, ◌∙◌, ap, subst, arith, if◌then◌else◌}
+use Rattle.std.proofs.Common.{◌≡◌, inl, inr, ℕ, suc, ◌+◌, ◌-◌, ◌≤◌, ◌<◌, Bool, true, false, not, ◌&&◌, nat_lt, nat_le, ◌==◌, List, [], ◌∷◌, ◌++◌, reverse, refl, sym, ◌∙◌, ap, subst, arith, if◌then◌else◌}
 use Rattle.std.specs.Prelude.{Some}
 use Rattle.std.proofs.lemmas.Bool.Decides.{nat_tests}
 use Rattle.cf_base.proofs.Tests.{both}
-use Rattle.cf_base.specs.World.{World, Ran, and_then}
+use Rattle.cf_base.specs.World.{World, and_then}
 use Rattle.cf_core.specs.Types.{SourceType, Name, is_class}
 use Rattle.cf_core.specs.Core as core
 use Rattle.cf_core.specs.Core.{Core, Function, local_temporary}
 use Rattle.cf_core.specs.Places.{is_reference}
-use Rattle.cf_core.specs.Store.{Value, At, new_object, automatic}
-use Rattle.cf_core.specs.Run.{State, Frame, Did, Act, ◌>>=◌, ◌>>◌, gives, undefined, valid, some_or, when, declared_object, frame_changed, lists_local, lists_in_scope, with_frame, not_alive}
-use Rattle.cf_core.specs.Access.{read_place, bound_to, followed}
+use Rattle.cf_core.specs.Store.{Value, At}
+use Rattle.cf_core.specs.Run.{State, Frame, Act, ◌>>=◌, ◌>>◌, gives, valid, declared_object, frame_changed, lists_local, lists_in_scope, with_frame}
 use Rattle.cf_core.specs.Objects.{settle, settled as core_settled}
 use Rattle.cf_core.specs.Calls as calling
 use Rattle.cf_core.specs.Calls.{Program, root, function_named, full_expression}
@@ -23,17 +22,19 @@ use Rattle.cf_plain.specs.Running as running
 use Rattle.cf_plain.specs.Running.{Flow, keep}
 use Rattle.cf_sequence.specs.Follows.{Follows}
 use Rattle.cf_sequence.specs.Built.{is_value, is_held, is_chain, behind_declared}
-use Rattle.cf_sequence.specs.Made.{width, held_by}
-use Rattle.cf_sequence.specs.Expressions.{Full, destination, settled, value}
+use Rattle.cf_sequence.specs.Made.{Temporary, temporaries, width, held_by}
+use Rattle.cf_sequence.specs.Expressions.{Full, destination, ended, settled, value}
 use Rattle.cf_sequence.specs.Statements.{started}
 use Rattle.cf_sequence.proofs.Following.{on, pull, pull-two}
 use Rattle.cf_sequence.proofs.Calling.{Bodies, never}
 use Rattle.cf_sequence.proofs.Kept.{Kept, Ready, keep-same, keep-other, listed-kept, listed-there}
-use Rattle.cf_sequence.proofs.PlainSteps.{runs_on, set-steps, declare-steps, room-for}
+use Rattle.cf_sequence.proofs.PlainSteps.{runs_on, declare-steps, here-steps, new-type}
 use Rattle.cf_sequence.proofs.Operands.{H}
 use Rattle.cf_sequence.proofs.Parts.{first-steps, value-gives}
 use Rattle.cf_sequence.proofs.Evaluating.{follow-value}
-use Rattle.cf_sequence.proofs.Fulls.{closing, closed-steps, held_at, held-code}
+use Rattle.cf_sequence.proofs.Fulls.{Cleared, flags-steps, closing, closing-steps, held_at}
+use Rattle.cf_sequence.proofs.Placing.{placing}
+use Rattle.cf_sequence.proofs.Temporaries.{unset-kept, Begins}
 use Rattle.cf_sequence.proofs.Moving.{Held, held-kept, Moved, Beyond}
 use Rattle.cf_sequence.proofs.Standing.{Open, Stands, low-bound, settled_full, Turns}
 use Rattle.cf_sequence.proofs.Scopes.{Fallen}
@@ -55,25 +56,27 @@ not-so : (b : Bool) → not b ≡ true → b ≡ false
 not-so true e = sym e
 not-so false e = refl
 
--- the place of a local that has just been declared, which is no reference
-here-steps : (again : running.Again) (H : Program) {A B : Type 0} (S : A → State → B → State → Type 0) (j : ℕ) (u : SourceType) (n : Register) (rest : Plains) (g : Registers) (K : Flow → Act B)
-    (x : Ran (Did A)) (s : State) (f : Frame) (w : World) → j < f.count → is_reference u ≡ false
-    → Follows S x (runs_on again H rest (keep g n (At (root s.next))) K (with_frame (lists_local j s.next f) (declared-state j u s)) w)
-    → Follows S x (runs_on again H (more (set n (plain.local j)) rest) g K (with_frame (lists_local j s.next f) (declared-state j u s)) w)
-here-steps again H S j u n rest g K x s f w lt no_reference next =
-    let q : ℕ = s.next in
-    let t : State = with_frame (lists_local j q f) (declared-state j u s) in
-    let G : Value → Act _ = λ v. λ t w. runs_on again H rest (keep g n v) K t w in
-    let same : (q == q) ≡ true = grind (arith, nat_tests) in
-    set-steps again H n (plain.local j) rest g K x t w
-    (subst (λ b. Follows S x (and_then (((valid b >> (some_or (t.frame.locals j) (undefined not_alive) >>= (λ o. gives (root o)))) >>= followed H.classes) t w) (on G))) (sym (room-for j f.count lt))
-    (subst (λ o. Follows S x (and_then (((some_or o (undefined not_alive) >>= (λ o. gives (root o))) >>= followed H.classes) t w) (on G))) (sym (listed-there j q f))
-    (subst (λ b. Follows S x (and_then (when (is_reference (if b then new_object u automatic else s.object q).type) (read_place H.classes (root q) >>= bound_to) (gives (At (root q))) t w) (on G))) (sym same)
-    (subst (λ b. Follows S x (and_then (when b (read_place H.classes (root q) >>= bound_to) (gives (At (root q))) t w) (on G))) (sym no_reference) next))))
-
 -- the frame behind the temporary's initialiser
 abbrev both_listed : ℕ → ℕ → ℕ → ℕ → Frame → Frame
 both_listed i o j q e = lists_in_scope q (lists_local j q (lists_local i o e))
+
+-- behind the flags, and its own object, its initialiser begins
+begins-held : (e : Core) → is_value e ≡ true → (k j q : ℕ) (v : Value) (g h : Registers) (e0 e1 f : Frame) → Ready k e1 (lists_local j q f) → k + width e ≤ f.count
+    → Cleared (record { first = k; base = 1 }) (temporaries false e k) g h
+    → Begins false (record { first = k; base = 1 }) (temporaries false e k) (suc (suc (held_at e 0))) k (k + width e) (keep (keep h (suc (held_at e 0)) v) (held_at e 0) v) e1 (lists_local j q f)
+begins-held e ok k j q v g h e0 e1 f ready room cleared =
+    let n : Register = held_at e 0 in
+    let placed = placing e ok false k in
+    record {
+      ready = ready;
+      room = room;
+      low = omega arith;
+      wide = omega arith;
+      high = omega arith;
+      placed = placed;
+      unset = unset-kept (record { first = k; base = 1 }) false k (k + width e) h (keep (keep h (suc n) v) n v) (temporaries false e k) placed
+          (λ i from less. keep-other n (1 + (i - k)) (keep h (suc n) v) v (λ same. omega arith) ∙ keep-other (suc n) (1 + (i - k)) h v (λ same. omega arith)) cleared.unset;
+    }
 
 module _ (again : calling.Again) (again' : running.Again) (P : Program) (bodies : Bodies again again' P)
     (chains : (name : Name) (f : Function) → function_named P name ≡ Some f → is_chain f.type ≡ true)
@@ -131,15 +134,17 @@ module _ (again : calling.Again) (again' : running.Again) (P : Program) (bodies 
       let n : Register = held_at e 0 in
       let object : Register = suc n in
       let first : Register = suc object in
-      let h1 : Registers = keep h object (At (root q)) in
-      let h2 : Registers = keep h1 n (At (root q)) in
+      let x : Full = record { first = k; base = 1 } in
+      let ts : List Temporary = temporaries false e k in
+      let place : Value = At (root q) in
       let listed : Frame = both_listed i o j q s.frame in
-      let last : Plains = more (act (plain.first 0 n)) rest in
+      let bound : Plains = more (act (plain.first 0 n)) rest in
+      let last : Plains = ended x (reverse ts) bound in
       let binds : Value → Act A = λ v. settle P.classes (root o) v >>= (λ x. frame_changed (lists_in_scope o) >>= (λ x. c calling.Falls)) in
       let closes : Value → Act A = λ v. closing again P s.frame.temporaries v >>= binds in
-      let ends : Act Value = frame_changed (lists_in_scope q) >> gives (At (root q)) in
-      let full : Full = record { first = k; base = 1 } in
-      let code : Plains = value P.classes full e (destination object u) first k (settled e object first last) in
+      let ends : Act Value = frame_changed (lists_in_scope q) >> gives place in
+      let code : Plains = value P.classes x e (destination object u) first k (settled e object first last) in
+      let named : Plains = more (set n (plain.local j)) code in
       let ready : Ready k e0 f1 = record {
         alike = record { function = st.ready.alike.function; this = st.ready.alike.this; result = st.ready.alike.result; depth = st.ready.alike.depth };
         count = st.ready.count;
@@ -149,23 +154,26 @@ module _ (again : calling.Again) (again' : running.Again) (P : Program) (bodies 
       let c1 = st.ready.count in
       let c2 = st.ready.wide in
       let number : suc j ≤ s.frame.count = low-number j s.frame.count there in
-      let core_side = and_then ((core_settled P.classes (root q) (meaning.value again P e (Some (root q))) >> ends) s2 w) (on closes) in
-      subst (λ code. Follows S core_side (runs_on again' (H again again' P) code h K (with_frame f1 s1) w)) (sym (held-code P.classes T j u e ok 0 k rest))
-      (declare-steps again' (H again again' P) j u object (more (set n (plain.local j)) code) h K _ s1 f1 w (omega arith)
-      (here-steps again' (H again again' P) S j u n code h1 K core_side s0 f1 w (omega arith) no_reference
+      flags-steps again' (H again again' P) A B S x (more (set object (plain.declare j u)) named) K _ (with_frame f1 s1) w ts h (λ h0 cleared.
+      let h1 : Registers = keep h0 object place in
+      let h2 : Registers = keep h1 n place in
+      declare-steps again' (H again again' P) j u object named h0 K _ s1 f1 w (omega arith)
+      (here-steps again' (H again again' P) j q n code h1 K _ s2 f2 w (omega arith) (listed-there j q f1) (new-type u q s1 no_reference)
       (pull-two (meaning.value again P e (Some (root q)) s2 w) (settle P.classes (root q)) (λ x. ends) closes _
-      (follow-value again again' P bodies chains A B S e ok (Some (root q)) (destination object u) full first k (settled e object first last) h2 s2 f2 w
-      (λ v. (settle P.classes (root q) v >> ends) >>= closes) K (declared-ready j k q e0 f1 ready) room (λ v t h3 f3 w3 done.
+      (follow-value again again' P bodies chains A B S e ok false (Some (root q)) (destination object u) x first k (settled e object first last) h2 s2 f2 w
+      (λ v. (settle P.classes (root q) v >> ends) >>= closes) K
+      (begins-held e ok k j q place h h0 e0 s2.frame f1 (declared-ready j k q e0 f1 ready) room cleared) (λ v t h3 f3 w3 done.
       pull (settle P.classes (root q) v t w3) (λ x. ends) closes _
       (subst (λ b. Follows S (and_then (settle P.classes (root q) v t w3) (on (λ x. ends >>= closes))) (runs_on again' (H again again' P) (if b then last else more (act (plain.first object first)) last) h3 K (with_frame f3 t) w3))
       (sym (value-gives again again' P bodies chains A B S e ok))
       (first-steps again again' P bodies chains A B S object first (root q) v h3 last (λ x. ends >>= closes) K t f3 w3
-      (done.below object (omega arith) ∙ keep-other n object h1 (At (root q)) (λ z. omega arith) ∙ keep-same object h (At (root q))) done.value (λ t3 same.
-      closed-steps again again' P bodies chains A B S listed (with_frame (lists_in_scope q t3.frame) t3) w3 (At (root q)) binds _ (ap (λ (x : Frame). lists_in_scope q x) (same ∙ done.frame))
-      (first-steps again again' P bodies chains A B S 0 n (root o) (At (root q)) h3 rest (λ x. frame_changed (lists_in_scope o) >>= (λ x. c calling.Falls)) K (with_frame listed t3) f3 w3
-      (done.below 0 (omega arith) ∙ keep-other n 0 h1 (At (root q)) (λ z. omega arith) ∙ keep-other object 0 h (At (root q)) (λ z. omega arith) ∙ at)
-      (done.below n (omega arith) ∙ keep-same n h1 (At (root q))) (λ t4 same4.
-      held-falls i j k o q T u m op D rest s f c K st le lt number falls t4 f3 h3 w3 same4 done.kept))))))))))
+      (done.grown.below object (omega arith) (inr (omega arith)) ∙ keep-other n object h1 place (λ z. omega arith) ∙ keep-same object h0 place) done.value (λ t3 same.
+      closing-steps again again' P bodies chains classless A B S x ts done.grown.made listed (with_frame (lists_in_scope q t3.frame) t3) h3 f3 w3 place binds bound K
+      (ap (λ (x : Frame). lists_in_scope q x) (same ∙ done.grown.frame)) done.grown.listed (λ t4 same4.
+      first-steps again again' P bodies chains A B S 0 n (root o) place h3 rest (λ x. frame_changed (lists_in_scope o) >>= (λ x. c calling.Falls)) K t4 f3 w3
+      (done.grown.below 0 (omega arith) (inl (omega arith)) ∙ keep-other n 0 h1 place (λ z. omega arith) ∙ keep-other object 0 h0 place (λ z. omega arith) ∙ cleared.below 0 (omega arith) ∙ at)
+      (done.grown.below n (omega arith) (inr (omega arith)) ∙ keep-same n h1 place) (λ t5 same5.
+      held-falls i j k o q T u m op D rest s f c K st le lt number falls t5 f3 h3 w3 (same5 ∙ same4) done.kept))))))))))
 
   pub held-declaration : (i : ℕ) (T : SourceType) (e : Core) (m : ℕ) → nat_le m i ≡ true → is_held i e ≡ true → (op : Open) (D : Beyond) (k : ℕ) (rest : Plains) (g : Registers) (s : State) (f : Frame) (w : World)
       (c : calling.Flow → Act A) (K : Flow → Act B)

@@ -1,5 +1,6 @@
 -- Cores whose names are replaced: what they are built of, and the locals that they add and declare, stay.
-use Rattle.std.proofs.Common.{◌≡◌, ℕ, Bool, not, ◌&&◌, ◌||◌, nat_le, nat_lt, List, ◌∷◌, ◌++◌, length, refl, sym, ◌∙◌, ap}
+use Rattle.std.proofs.Common.{◌≡◌, ℕ, suc, ◌+◌, Bool, true, not, ◌&&◌, ◌||◌, nat_le, nat_lt, List, [], ◌∷◌, ◌++◌, length, refl, sym, ◌∙◌, ap}
+use Rattle.cf_base.proofs.Tests.{both}
 use Rattle.std.proofs.lemmas.Grind.{flat_map-append}
 use Rattle.cf_core.specs.Types.{Name, parameters, result, is_class}
 use Rattle.cf_core.specs.Core as core
@@ -9,8 +10,9 @@ use Rattle.cf_core.specs.Nodes.{nodes, nodes_all, nodes_maybe, nodes_parts}
 use Rattle.cf_core.specs.Joined.{renamed, renamed_all, renamed_maybe, renamed_parts, is_nothing}
 use Rattle.cf_core.specs.Valid.{is_label, has_label}
 use Rattle.cf_sequence.specs.Built.{is_chain, is_value, are_values, are_arguments, is_condition, is_start, is_filling, is_initial, is_held, behind_declared, next_local, next_locals, declares_here, is_statement, is_inner_or, are_cases, are_statements, is_constant_value, is_constant_initial, is_constant_start}
-use Rattle.cf_sequence.specs.Made.{Local, added, makes, width, width_maybe, declared, declared_all, held_by}
+use Rattle.cf_sequence.specs.Made.{Local, temporaries, temporaries_all, added, makes, width, width_maybe, declared, declared_all, held_by}
 use Rattle.cf_sequence.specs.Expressions.{builds}
+use Rattle.cf_sequence.proofs.Calling.{never}
 
 -- ---- tests of parts
 
@@ -139,6 +141,7 @@ module _ (r : Name → Name) where
     same-value (core.logical_not e) = same-value e
     same-value (core.step is_postfix change e) = same-value e
     same-value (core.bind no_temporary e) = same-value e
+    same-value (core.temporary t e) = ap (λ b. not (is_reference t) && b) (same-value e)
     same-value (core.index a b) = two-same (is_value (renamed r a)) (is_value (renamed r b)) (is_value a) (is_value b) (same-value a) (same-value b)
     same-value (core.pointer_operate op a b) = two-same (is_value (renamed r a)) (is_value (renamed r b)) (is_value a) (is_value b) (same-value a) (same-value b)
     same-value (core.operate op k a b) = two-same (is_value (renamed r a)) (is_value (renamed r b)) (is_value a) (is_value b) (same-value a) (same-value b)
@@ -165,6 +168,78 @@ module _ (r : Name → Name) where
     pub same-arguments : (es : Cores) → are_arguments (renamed_all r es) ≡ are_arguments es
     same-arguments none = refl
     same-arguments (core.more e es) = two-same (is_value (renamed r e)) (are_arguments (renamed_all r es)) (is_value e) (are_arguments es) (same-value e) (same-arguments es)
+
+  -- those of two parts
+  two-temporaries : (b c : Bool) (a e : Core) (k : ℕ) → temporaries b (renamed r a) k ≡ temporaries b a k → ((l : ℕ) → temporaries c (renamed r e) l ≡ temporaries c e l)
+      → temporaries b (renamed r a) k ++ temporaries c (renamed r e) (k + width (renamed r a)) ≡ temporaries b a k ++ temporaries c e (k + width a)
+  two-temporaries b c a e k p q =
+      ap (λ w. temporaries b (renamed r a) k ++ temporaries c (renamed r e) (k + w)) (same-width a)
+      ∙ ap (λ ts. ts ++ temporaries c (renamed r e) (k + width a)) p ∙ ap (λ us. temporaries b a k ++ us) (q (k + width a))
+
+  mutual
+    pub same-temporaries : (e : Core) → is_value e ≡ true → (b : Bool) (k : ℕ) → temporaries b (renamed r e) k ≡ temporaries b e k
+    same-temporaries (core.read e) ok b k = same-temporaries e ok b k
+    same-temporaries (core.address e) ok b k = same-temporaries e ok b k
+    same-temporaries (core.dereference e) ok b k = same-temporaries e ok b k
+    same-temporaries (core.decay e) ok b k = same-temporaries e ok b k
+    same-temporaries (core.from_void t e) ok b k = same-temporaries e ok b k
+    same-temporaries (core.convert t e) ok b k = same-temporaries e ok b k
+    same-temporaries (core.unary op t e) ok b k = same-temporaries e ok b k
+    same-temporaries (core.logical_not e) ok b k = same-temporaries e ok b k
+    same-temporaries (core.step is_postfix change e) ok b k = same-temporaries e ok b k
+    same-temporaries (core.bind no_temporary e) ok b k = same-temporaries e ok b k
+    same-temporaries (core.number z) ok b k = refl
+    same-temporaries (core.local i) ok b k = refl
+    same-temporaries (core.text j bytes) ok b k = refl
+    same-temporaries (core.static_object name t) ok b k = refl
+    same-temporaries (core.function name t) ok b k = refl
+    same-temporaries (core.temporary t e) ok b k =
+        ap (λ ts. ts ++ record { local = record { number = k; type = t }; in_branch = b } ∷ []) (same-temporaries e (both (not (is_reference t)) (is_value e) ok).1 b (suc k))
+    same-temporaries (core.index a e) ok b k =
+        let p = both (is_value a) (is_value e) ok in two-temporaries b b a e k (same-temporaries a p.0 b k) (same-temporaries e p.1 b)
+    same-temporaries (core.pointer_operate op a e) ok b k =
+        let p = both (is_value a) (is_value e) ok in two-temporaries b b a e k (same-temporaries a p.0 b k) (same-temporaries e p.1 b)
+    same-temporaries (core.operate op t a e) ok b k =
+        let p = both (is_value a) (is_value e) ok in two-temporaries b b a e k (same-temporaries a p.0 b k) (same-temporaries e p.1 b)
+    same-temporaries (core.store a e) ok b k =
+        let p = both (is_value a) (is_value e) ok in two-temporaries b b a e k (same-temporaries a p.0 b k) (same-temporaries e p.1 b)
+    same-temporaries (core.update a change e) ok b k =
+        let p = both (is_value a) (is_value e) ok in two-temporaries b b a e k (same-temporaries a p.0 b k) (same-temporaries e p.1 b)
+    same-temporaries (core.logical_and a e) ok b k =
+        let p = both (is_value a) (is_value e) ok in two-temporaries b true a e k (same-temporaries a p.0 b k) (same-temporaries e p.1 true)
+    same-temporaries (core.logical_or a e) ok b k =
+        let p = both (is_value a) (is_value e) ok in two-temporaries b true a e k (same-temporaries a p.0 b k) (same-temporaries e p.1 true)
+    same-temporaries (core.conditional c a e) ok b k =
+        let p = both (is_value c) (is_value a && is_value e) ok in
+        let q = both (is_value a) (is_value e) p.1 in
+        ap (λ ts. ts ++ temporaries true (renamed r e) (k + width (renamed r c) + width (renamed r a))) (two-temporaries b true c a k (same-temporaries c p.0 b k) (same-temporaries a q.0 true))
+        ∙ ap (λ us. (temporaries b c k ++ temporaries true a (k + width c)) ++ us)
+        (ap (λ w. temporaries true (renamed r e) (k + w + width (renamed r a))) (same-width c) ∙ ap (λ w. temporaries true (renamed r e) (k + width c + w)) (same-width a)
+        ∙ same-temporaries e q.1 true (k + width c + width a))
+    same-temporaries (core.comma es) ok b k = same-temporaries-values es ok b k
+    same-temporaries (core.call name t absent args) ok b k =
+        same-temporaries-arguments args (both (is_chain t) (are_arguments args) (both (not (is_class (result t))) (is_chain t && are_arguments args) ok).1).1 b (k + length (parameters t) + 0)
+    same-temporaries (core.pointer_call absent e t args) ok b k =
+        let p = both (is_value e) (are_arguments args) (both (is_chain t) (is_value e && are_arguments args) (both (not (is_class (result t))) (is_chain t && (is_value e && are_arguments args)) ok).1).1 in
+        let l : ℕ = k + length (parameters t) + 0 in
+        ap (λ w. temporaries b (renamed r e) l ++ temporaries_all b (renamed_all r args) (l + w)) (same-width e)
+        ∙ ap (λ ts. ts ++ temporaries_all b (renamed_all r args) (l + width e)) (same-temporaries e p.0 b l) ∙ ap (λ us. temporaries b e l ++ us) (same-temporaries-arguments args p.1 b (l + width e))
+    same-temporaries e ok b k = never ok
+
+    same-temporaries-values : (es : Cores) → are_values es ≡ true → (b : Bool) (k : ℕ) → temporaries_all b (renamed_all r es) k ≡ temporaries_all b es k
+    same-temporaries-values none ok b k = refl
+    same-temporaries-values (core.more e none) ok b k = ap (λ ts. ts ++ []) (same-temporaries e ok b k)
+    same-temporaries-values (core.more e (core.more f es)) ok b k =
+        let p = both (is_value e) (are_values (core.more f es)) ok in
+        ap (λ w. temporaries b (renamed r e) k ++ temporaries_all b (renamed_all r (core.more f es)) (k + w)) (same-width e)
+        ∙ ap (λ ts. ts ++ temporaries_all b (renamed_all r (core.more f es)) (k + width e)) (same-temporaries e p.0 b k) ∙ ap (λ us. temporaries b e k ++ us) (same-temporaries-values (core.more f es) p.1 b (k + width e))
+
+    same-temporaries-arguments : (es : Cores) → are_arguments es ≡ true → (b : Bool) (k : ℕ) → temporaries_all b (renamed_all r es) k ≡ temporaries_all b es k
+    same-temporaries-arguments none ok b k = refl
+    same-temporaries-arguments (core.more e es) ok b k =
+        let p = both (is_value e) (are_arguments es) ok in
+        ap (λ w. temporaries b (renamed r e) k ++ temporaries_all b (renamed_all r es) (k + w)) (same-width e)
+        ∙ ap (λ ts. ts ++ temporaries_all b (renamed_all r es) (k + width e)) (same-temporaries e p.0 b k) ∙ ap (λ us. temporaries b e k ++ us) (same-temporaries-arguments es p.1 b (k + width e))
 
   pub same-nothing : (e : Core) → is_nothing (renamed r e) ≡ is_nothing e
   same-nothing core.blank = refl

@@ -14,14 +14,14 @@ use Rattle.cf_plain.specs.Plain.{Register, Plains, act, set, branch, loop, switc
 use Rattle.cf_plain.specs.Plain as plain
 use Rattle.cf_plain.specs.Joined as joined
 use Rattle.cf_sequence.specs.Built.{is_value, are_values, are_arguments, is_chain, is_condition, is_start, is_filling, is_initial, is_held, declares_here, is_statement, is_inner_or, are_cases, are_statements, next_local}
-use Rattle.cf_sequence.specs.Made.{Local, numbers, width, width_maybe, declared, declared_all}
-use Rattle.cf_sequence.specs.Expressions.{Full, Destination, destination, value, values, arguments, settled, builds, result_register, whole, finished, used}
+use Rattle.cf_sequence.specs.Made.{Local, Temporary, temporaries, numbers, width, width_maybe, declared, declared_all}
+use Rattle.cf_sequence.specs.Expressions.{Full, flag, flags, ended, Destination, destination, value, values, arguments, settled, builds, result_register, whole, finished, used}
 use Rattle.cf_sequence.specs.Statements.{Inside, opened, in_loop, in_switch, declares, condition, held, stepped, started, returned, looping, made, passing, passes_local, passed, statement, statement_or, statements}
 use Rattle.cf_sequence.proofs.Calling.{never}
 use Rattle.cf_sequence.proofs.Filling.{fill, started-is}
-use Rattle.cf_sequence.proofs.Fulls.{whole-is, nothing-is, held_at, held-code}
+use Rattle.cf_sequence.proofs.Fulls.{nothing-is, held_at}
 use Rattle.cf_sequence.proofs.Labels.{or-else, passing-past}
-use Rattle.cf_sequence.proofs.Renamed.{same-width, same-width-maybe, same-builds, same-value, same-filling, same-declared, same-declared-all, same-has-label, same-statement}
+use Rattle.cf_sequence.proofs.Renamed.{same-width, same-temporaries, same-width-maybe, same-builds, same-filling, same-declared, same-declared-all, same-has-label, same-statement}
 
 module _ (r : Name → Name) where
   abbrev again : Core → Core
@@ -33,6 +33,27 @@ module _ (r : Name → Name) where
   pub over-finished : (xs : List Local) (rest : Plains) → over (finished xs rest) ≡ finished xs (over rest)
   over-finished [] rest = refl
   over-finished (x ∷ xs) rest = ap (more (act (plain.finish x.type x.number))) (over-finished xs rest)
+
+  -- the flags of temporaries, and their ends
+  over-flags : (x : Full) (ts : List Temporary) (rest : Plains) → over (flags x ts rest) ≡ flags x ts (over rest)
+  over-flags x [] rest = refl
+  over-flags x (t ∷ ts) rest = by t.in_branch (over-flags x ts rest)
+    where
+      by : (b : Bool) → over (flags x ts rest) ≡ flags x ts (over rest)
+          → over (elim b [ true ↦ more (set (flag x t.local.number) (plain.number (pos 0))) (flags x ts rest) | false ↦ flags x ts rest ])
+          ≡ (elim b [ true ↦ more (set (flag x t.local.number) (plain.number (pos 0))) (flags x ts (over rest)) | false ↦ flags x ts (over rest) ])
+      by true p = ap (more (set (flag x t.local.number) (plain.number (pos 0)))) p
+      by false p = p
+
+  over-ended : (x : Full) (ts : List Temporary) (rest : Plains) → over (ended x ts rest) ≡ ended x ts (over rest)
+  over-ended x [] rest = refl
+  over-ended x (t ∷ ts) rest = by t.in_branch (over-ended x ts rest)
+    where
+      by : (b : Bool) → over (ended x ts rest) ≡ ended x ts (over rest)
+          → over (elim b [ true ↦ more (branch (flag x t.local.number) (finished (t.local ∷ []) nothing) nothing) (ended x ts rest) | false ↦ finished (t.local ∷ []) (ended x ts rest) ])
+          ≡ (elim b [ true ↦ more (branch (flag x t.local.number) (finished (t.local ∷ []) nothing) nothing) (ended x ts (over rest)) | false ↦ finished (t.local ∷ []) (ended x ts (over rest)) ])
+      by true p = ap (more (branch (flag x t.local.number) (finished (t.local ∷ []) nothing) nothing)) p
+      by false p = ap (more (act (plain.finish t.local.type t.local.number))) p
 
   -- ---- expressions
 
@@ -112,6 +133,12 @@ module _ (r : Name → Name) where
       over-value (core.step true change e) ok x into n k rest =
           over-value e ok x None (suc n) k
           (more (set n (plain.read (suc n))) (more (set (suc (suc n)) (plain.number (pos 1))) (more (set (suc (suc n)) (plain.changed change n (suc (suc n)))) (more (act (plain.store (suc n) (suc (suc n)))) rest))))
+      over-value (core.temporary t e) ok x into n k rest =
+          let is : is_value e ≡ true = (both (not (is_reference t)) (is_value e) ok).1 in
+          let marked : Plains → Plains = λ rest. more (set (flag x k) (plain.number (pos 1))) rest in
+          ap (λ ss. more (set (suc n) (plain.declare k t)) (more (set n (plain.local k)) ss))
+          (over-value e is x (destination (suc n) t) (suc (suc n)) (suc k) (settled e (suc n) (suc (suc n)) (marked rest))
+          ∙ ap (value cs x (again e) (destination (suc n) t) (suc (suc n)) (suc k)) (over-settled e (suc n) (suc (suc n)) (marked rest)))
       over-value (core.bind no_temporary e) ok x into n k rest = over-value e ok x None n k rest
       over-value (core.call name t absent args) ok x into n k rest =
           let p = both (not (is_class (result t))) (is_chain t && are_arguments args) ok in
@@ -157,11 +184,14 @@ module _ (r : Name → Name) where
     over-whole e ok n k into go rest later goes same =
         let x : Full = record { first = k; base = n } in
         let m : Register = n + width e in
-        ap over (whole-is e ok n k (λ x m ss. value cs x e into m k (go m ss)) rest)
-        ∙ over-value e ok x into m k (go m (rest m))
-        ∙ ap (value cs x (again e) into m k) (goes m (rest m) ∙ ap (go m) (same m))
-        ∙ ap (λ w. value cs x (again e) into (n + w) k (go (n + w) (later (n + w)))) (sym (same-width r e))
-        ∙ sym (whole-is (again e) (same-value r e ∙ ok) n k (λ x m ss. value cs x (again e) into m k (go m ss)) later)
+        let ts : List Temporary = temporaries false e k in
+        let behind : List Temporary → Plains = λ ts. ended x (reverse ts) (later m) in
+        over-flags x ts (value cs x e into m k (go m (ended x (reverse ts) (rest m))))
+        ∙ ap (flags x ts)
+        (over-value e ok x into m k (go m (ended x (reverse ts) (rest m)))
+        ∙ ap (value cs x (again e) into m k) (goes m (ended x (reverse ts) (rest m)) ∙ ap (go m) (over-ended x (reverse ts) (rest m) ∙ ap (ended x (reverse ts)) (same m))))
+        ∙ ap (λ us. flags x us (value cs x (again e) into m k (go m (behind us)))) (sym (same-temporaries r e ok false k))
+        ∙ ap (λ w. flags x (temporaries false (again e) k) (value cs x (again e) into (n + w) k (go (n + w) (ended x (reverse (temporaries false (again e) k)) (later (n + w)))))) (sym (same-width r e))
 
     over-fill : (e : Core) → is_filling e ≡ true → (n : Register) (rest : Plains) → over (more (act (fill e n)) rest) ≡ more (act (fill (again e) n)) (over rest)
     over-fill core.zeros ok n rest = refl
@@ -185,17 +215,19 @@ module _ (r : Name → Name) where
     over-kept i t (core.bind (local_temporary j u) e) ok n k rest =
         let is : is_value e ≡ true = (both (not (is_reference u)) (is_value e) (both (nat_lt i j) (not (is_reference u) && is_value e) ok).1).1 in
         let x : Full = record { first = k; base = suc n } in
-        let from : Core → Register → Plains → Plains = λ e m rest.
-        more (set (suc m) (plain.declare j u)) (more (set m (plain.local j))
-        (value cs x e (destination (suc m) u) (suc (suc m)) k (settled e (suc m) (suc (suc m)) (more (act (plain.first n m)) rest)))) in
+        let ts : List Temporary = temporaries false e k in
+        let from : Core → List Temporary → Register → Plains → Plains = λ e ts m rest.
+        flags x ts (more (set (suc m) (plain.declare j u)) (more (set m (plain.local j))
+        (value cs x e (destination (suc m) u) (suc (suc m)) k (settled e (suc m) (suc (suc m)) (ended x (reverse ts) (more (act (plain.first n m)) rest)))))) in
         let m : Register = held_at e n in
-        let last : Plains = more (act (plain.first n m)) rest in
-        ap over (held-code cs t j u e is n k rest)
-        ∙ ap (λ ss. more (set (suc m) (plain.declare j u)) (more (set m (plain.local j)) ss))
+        let bound : Plains = more (act (plain.first n m)) rest in
+        let last : Plains = ended x (reverse ts) bound in
+        over-flags x ts (more (set (suc m) (plain.declare j u)) (more (set m (plain.local j)) (value cs x e (destination (suc m) u) (suc (suc m)) k (settled e (suc m) (suc (suc m)) last))))
+        ∙ ap (λ ss. flags x ts (more (set (suc m) (plain.declare j u)) (more (set m (plain.local j)) ss)))
         (over-value e is x (destination (suc m) u) (suc (suc m)) k (settled e (suc m) (suc (suc m)) last)
-        ∙ ap (value cs x (again e) (destination (suc m) u) (suc (suc m)) k) (over-settled e (suc m) (suc (suc m)) last))
-        ∙ ap (λ w. from (again e) (suc n + w) (over rest)) (sym (same-width r e))
-        ∙ sym (held-code cs t j u (again e) (same-value r e ∙ is) n k (over rest))
+        ∙ ap (value cs x (again e) (destination (suc m) u) (suc (suc m)) k) (over-settled e (suc m) (suc (suc m)) last ∙ ap (settled (again e) (suc m) (suc (suc m))) (over-ended x (reverse ts) bound)))
+        ∙ ap (λ us. from (again e) us m (over rest)) (sym (same-temporaries r e is false k))
+        ∙ ap (λ w. from (again e) (temporaries false (again e) k) (suc n + w) (over rest)) (sym (same-width r e))
     over-kept i t e ok n k rest = never ok
 
     over-condition : (q : Core) → is_value q ≡ true → (k : ℕ) (rest later : Register → Plains) → ((m : Register) → over (rest m) ≡ later m) → over (condition cs q k rest) ≡ condition cs (again q) k later

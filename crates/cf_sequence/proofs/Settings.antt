@@ -189,7 +189,7 @@ module _ (again : calling.Again) (again' : running.Again) (P : Program) (bodies 
         gave-as (λ (u : Unit {0}) (q : State). TypesKept t q) (λ (u : Unit {0}) (q : State). all_plain P q ys ≡ true) (settle P.classes (root o) v t w) (settle-types P.classes (root o) v t w)
         (λ u q typed. all-kept P s q (let a = st.next in let b = typed.next in omega arith) (λ i lt. typed.types i ∙ ap (λ (z : Object). z.type) (st.objects i lt)) ys free)))
         (pull (full_expression again P (meaning.value again P e (Some (root o))) s w) (settle P.classes (root o)) C1 _
-        (full-steps again again' P bodies chains A B S e built (Some (root o)) (destination 0 T) 1 0 (λ n. settled e 0 n behind) h1 s f w (λ v. settle P.classes (root o) v >>= C1) K1 ready room (λ v t h f2 w2 after.
+        (full-steps again again' P bodies chains classless A B S e built (Some (root o)) (destination 0 T) 1 0 (λ n. settled e 0 n behind) h1 s f w (λ v. settle P.classes (root o) v >>= C1) K1 ready room (λ v t h f2 w2 after.
         subst (λ b. Follows S (and_then (settle P.classes (root o) v t w2) (on C1))
         (runs_on again' Hp (if b then behind else more (act (plain.first 0 (1 + width e))) behind) h K1 (with_frame f2 t) w2)) (sym (value-gives again again' P bodies chains A B S e built))
         (first-steps again again' P bodies chains A B S 0 (1 + width e) (root o) v h behind C1 K1 t f2 w2

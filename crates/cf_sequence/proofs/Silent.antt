@@ -1,18 +1,19 @@
 -- Plain statements without a label of their own: a switch passes over them to the labels behind.
-use Rattle.std.proofs.Common.{◌≡◌, ℕ, suc, ◌+◌, length, if◌then◌else◌, Bool, true, false, not, ◌&&◌, List, [], ◌∷◌, refl, ◌∙◌}
+use Rattle.std.proofs.Common.{◌≡◌, ℕ, suc, ◌+◌, length, if◌then◌else◌, Bool, true, false, not, ◌&&◌, List, [], ◌∷◌, reverse, refl, ◌∙◌}
 use Rattle.std.specs.Prelude.{ℤ, pos, Option, None}
 use Rattle.cf_base.proofs.Tests.{both}
 use Rattle.cf_core.specs.Types.{SourceType, parameters, result, is_class}
 use Rattle.cf_core.specs.Core as core
 use Rattle.cf_core.specs.Core.{Core, Cores, MaybeCore, no_temporary, none, absent, given}
+use Rattle.cf_core.specs.Places.{is_reference}
 use Rattle.cf_core.specs.Calls.{Program}
 use Rattle.cf_plain.specs.Plain.{Register, Action, Plain, Plains, act, set, branch, loop, leave, continue, give, nothing, more}
 use Rattle.cf_plain.specs.Plain as plain
 use Rattle.cf_plain.specs.Acts.{Registers}
 use Rattle.cf_plain.specs.Running.{Again, has_case, from_case, from_default}
 use Rattle.cf_sequence.specs.Built.{is_value, are_values, are_arguments, is_chain}
-use Rattle.cf_sequence.specs.Made.{Local, width, numbers}
-use Rattle.cf_sequence.specs.Expressions.{Full, Destination, destination, value, values, arguments, settled, builds, finished, result_register, used as use_of}
+use Rattle.cf_sequence.specs.Made.{Local, Temporary, temporaries, width, numbers}
+use Rattle.cf_sequence.specs.Expressions.{Full, flag, Destination, destination, value, values, arguments, settled, builds, finished, flags, ended, whole, result_register, used as use_of}
 use Rattle.cf_sequence.proofs.Calling.{never}
 
 module _ (again : Again) (H : Program) where
@@ -76,6 +77,27 @@ module _ (again : Again) (H : Program) where
       by-test true = silent-none
       by-test false = silent-act (plain.first p n)
 
+  -- the flags of temporaries, and their ends
+  pub silent-flags : (x : Full) (ts : List Temporary) → Silent (flags x ts)
+  silent-flags x [] = silent-none
+  silent-flags x (t ∷ ts) = by-test t.in_branch (silent-flags x ts)
+    where
+      by-test : (b : Bool) → Silent (flags x ts) → Silent (λ rest. elim b [ true ↦ more (set (flag x t.local.number) (plain.number (pos 0))) (flags x ts rest) | false ↦ flags x ts rest ])
+      by-test true p = silent-then (λ rest. more (set (flag x t.local.number) (plain.number (pos 0))) rest) (flags x ts) (silent-set (flag x t.local.number) (plain.number (pos 0))) p
+      by-test false p = p
+
+  pub silent-ended : (x : Full) (ts : List Temporary) → Silent (ended x ts)
+  silent-ended x [] = silent-none
+  silent-ended x (t ∷ ts) = by-test t.in_branch (silent-ended x ts)
+    where
+      by-test : (b : Bool) → Silent (ended x ts) → Silent (λ rest. elim b [
+        | true ↦ more (branch (flag x t.local.number) (finished (t.local ∷ []) nothing) nothing) (ended x ts rest)
+        | false ↦ finished (t.local ∷ []) (ended x ts rest)
+      ])
+      by-test true p =
+          silent-then (λ rest. more (branch (flag x t.local.number) (finished (t.local ∷ []) nothing) nothing) rest) (ended x ts) (silent-branch (flag x t.local.number) (finished (t.local ∷ []) nothing) nothing) p
+      by-test false p = silent-then (finished (t.local ∷ [])) (ended x ts) (silent-finished (t.local ∷ [])) p
+
   module _ (P : Program) where
     mutual
       pub silent-value : (e : Core) → is_value e ≡ true → (x : Full) (into : Option Destination) (n : Register) (k : ℕ) → Silent (value P.classes x e into n k)
@@ -125,6 +147,15 @@ module _ (again : Again) (H : Program) where
           silent-then (value P.classes x q None n k)
           (λ rest. more (set n (plain.truth n)) (more (branch n (value P.classes x a None n (k + width q) nothing) (value P.classes x b None n (k + width q + width a) nothing)) rest))
           (silent-value q parts.0 x None n k) (record { labels = λ z rest. refl; at_case = λ z rest g. refl; at_default = λ rest g. refl })
+      silent-value (core.temporary t e) ok x into n k =
+          let is : is_value e ≡ true = (both (not (is_reference t)) (is_value e) ok).1 in
+          let code : Plains → Plains = value P.classes x e (destination (suc n) t) (suc (suc n)) (suc k) in
+          let last : Plains → Plains = λ rest. more (set (flag x k) (plain.number (pos 1))) rest in
+          let inner : Plains → Plains = λ rest. code (settled e (suc n) (suc (suc n)) (last rest)) in
+          silent-then (λ rest. more (set (suc n) (plain.declare k t)) rest) (λ rest. more (set n (plain.local k)) (inner rest)) (silent-set (suc n) (plain.declare k t))
+          (silent-then (λ rest. more (set n (plain.local k)) rest) inner (silent-set n (plain.local k))
+          (silent-then code (λ rest. settled e (suc n) (suc (suc n)) (last rest)) (silent-value e is x (destination (suc n) t) (suc (suc n)) (suc k))
+          (silent-then (settled e (suc n) (suc (suc n))) last (silent-settled e (suc n) (suc (suc n))) (silent-set (flag x k) (plain.number (pos 1))))))
       silent-value (core.bind no_temporary e) ok x into n k = silent-value e ok x None n k
       silent-value (core.comma es) ok x into n k = silent-values es ok x n k
       silent-value (core.store a b) ok x into n k =
@@ -176,3 +207,15 @@ module _ (again : Again) (H : Program) where
           silent-then (λ rest. more (set n (plain.declare i t)) rest) (λ rest. value P.classes x e (destination n t) (suc n) k (settled e n (suc n) (others rest))) (silent-set n (plain.declare i t))
           (silent-then (value P.classes x e (destination n t) (suc n) k) (λ rest. settled e n (suc n) (others rest)) (silent-value e parts.0 x (destination n t) (suc n) k)
           (silent-then (settled e n (suc n)) others (silent-settled e n (suc n)) (silent-arguments ts es parts.1 x n (suc i) (k + width e))))
+
+    -- a full expression, and what follows with its register
+    pub silent-whole : (e : Core) → is_value e ≡ true → (n : Register) (k : ℕ) (into : Option Destination) (go last : Register → Plains → Plains) → ((m : Register) → Silent (go m)) → ((m : Register) → Silent (last m))
+        → Silent (λ rest. whole e n k (λ x m ss. value P.classes x e into m k (go m ss)) (λ m. last m rest))
+    silent-whole e ok n k into go last p q =
+        let x : Full = record { first = k; base = n } in
+        let m : Register = n + width e in
+        let ts : List Temporary = temporaries false e k in
+        let ends : Plains → Plains = λ rest. ended x (reverse ts) (last m rest) in
+        silent-then (flags x ts) (λ rest. value P.classes x e into m k (go m (ends rest))) (silent-flags x ts)
+        (silent-then (value P.classes x e into m k) (λ rest. go m (ends rest)) (silent-value e ok x into m k)
+        (silent-then (go m) ends (p m) (silent-then (ended x (reverse ts)) (last m) (silent-ended x (reverse ts)) (q m))))

@@ -454,7 +454,7 @@ module _ (again : calling.Again) (again' : running.Again) (P : Program) (bodies 
     by-value ss behind_it looks g w =
         pull (and_then (full_expression again P (meaning.value again P e None >>= used) s w) (on number_of)) chosen c _
         (pull (full_expression again P (meaning.value again P e None >>= used) s w) number_of (λ z. chosen z >>= c) _
-        (used-steps again again' P bodies chains A B S e is k (λ x. more (plain.switch (0 + width e) ss) behind_it) g s f w (λ v. number_of v >>= (λ z. chosen z >>= c)) K st.ready first
+        (used-steps again again' P bodies chains classless A B S e is k (λ x. more (plain.switch (0 + width e) ss) behind_it) g s f w (λ v. number_of v >>= (λ z. chosen z >>= c)) K st.ready first
         (λ v t h f1 w1 usable at same kept.
         let left : ℤ → Act Flow = λ z. look ss h z >>= running.leaving in
         push (running.does again' (H again again' P) (plain.switch (0 + width e) ss) h (with_frame f1 t) w1) (falling (λ h. all again' (H again again' P) behind_it h)) K _

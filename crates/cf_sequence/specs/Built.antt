@@ -1,5 +1,5 @@
--- The cores that are built so far: functions over numbers and pointers, with locals, references to objects and local references' temporaries, literals,
--- calls and all statements, and static objects with constant initialisers; no class, no temporary of an expression and no list.
+-- The cores that are built so far: functions over numbers and pointers, with locals, references, temporaries, literals,
+-- calls and all statements, and static objects with constant initialisers; no class and no list.
 use Rattle.std.specs.Prelude.{ℕ, suc, Bool, true, false, ◌&&◌, ◌||◌, not, nat_le, nat_lt, nat_eq, List, [], ◌∷◌, length, bytes_eq, codes}
 use Rattle.std.specs.List.{list_all, starts_with}
 use Rattle.cf_core.specs.Types.{Name, SourceType, takes, gives, result, is_class, parameters}
@@ -42,6 +42,7 @@ abbrev mutual
   is_value (core.store a b) = is_value a && is_value b
   is_value (core.update a c b) = is_value a && is_value b
   is_value (core.step is_postfix c e) = is_value e
+  is_value (core.temporary t e) = not (is_reference t) && is_value e
   is_value (core.bind no_temporary e) = is_value e
   is_value (core.call name t absent args) = not (is_class (result t)) && (is_chain t && are_arguments args)
   is_value (core.pointer_call absent e t args) = not (is_class (result t)) && (is_chain t && (is_value e && are_arguments args))

@@ -156,6 +156,10 @@ module _ (tables : Tables) where
   abbrev pub is_called : ℕ → Bool
   is_called t = not (is_class (result (type_of tables t))) && is_function_type (type_of tables t)
 
+  -- the value of a temporary of this type, which is no reference
+  abbrev pub kept : ℕ → ℕ → Option ℕ → Option ℕ
+  kept at t e = if is_reference (type_of tables t) then Some at else e
+
   abbrev pub value_step : Core-F Test Test → Option ℕ
   value_step (Core-F.Number at z) = None
   value_step (Core-F.Text at j bytes) = None
@@ -180,14 +184,11 @@ module _ (tables : Tables) where
   value_step (Core-F.Store at a b) = option_or a.value b.value
   value_step (Core-F.Update at a c b) = option_or a.value b.value
   value_step (Core-F.Increment at is_postfix c e) = e.value
+  value_step (Core-F.Temporary at t e) = kept at t e.value
   value_step (Core-F.Call at f t object es) = called at (is_called t) object es
   value_step (Core-F.PointerCall at object e t es) = called at (is_called t) object (e ∷ es)
   value_step (Core-F.Bind at h e) = bound at h e.value
   value_step x = Some (place_in x)
-
-  -- the value of a temporary of this type, which is no reference
-  abbrev pub kept : ℕ → ℕ → Option ℕ → Option ℕ
-  kept at t e = if is_reference (type_of tables t) then Some at else e
 
   abbrev pub held_as : ℕ → Holder → Option ℕ → Option Temporary
   held_as at (holder.LocalTemporary j t) e = Some (record { number = j; value = kept at t e })

@@ -4,7 +4,7 @@ ghost use Rattle.cf_core.specs.Numbers.{are_known, all_of};
 ghost use Rattle.cf_sequence_built.specs.Unbuilt as spec;
 ghost use Rattle.cf_sequence_built.specs.Unbuilt.{test};
 
-use crate::types::is_called;
+use crate::types::{is_called, is_reference};
 use cf_core::{Core, CoreUnit, Holder};
 
 /// The place of the first construct of an expression that is not built.
@@ -94,6 +94,13 @@ pub fn value(unit: &CoreUnit, e: &Core) -> Option<u32>
                 value(unit, pointer.get()).or(each_value(unit, arguments.as_slice()))
             } else {
                 Some(*at)
+            }
+        }
+        Core::Temporary { at, ty, start } => {
+            if is_reference(unit, *ty) {
+                Some(*at)
+            } else {
+                value(unit, start.get())
             }
         }
         Core::Bind {

@@ -5,6 +5,7 @@ use Rattle.cf_types.specs.Table.{Table}
 use Rattle.cf_core.specs.declared.node.Core.{Core}
 use Rattle.cf_core.specs.FromTypes.{Tables}
 use Rattle.cf_core.specs.Numbers.{are_known, all_of}
+use Rattle.cf_sequence_expr.specs.declared.writing.Full.{Full}
 use Rattle.cf_sequence_expr.specs.declared.writing.Writing.{Writing}
 use Rattle.cf_sequence_expr.specs.Pieces.{piece, argument, arguments}
 
@@ -19,11 +20,11 @@ next_known tables all i x within is known =
     (both (are_known tables x) (all_of tables (map (are_known tables) (drop (i + 1) all)))
     (subst (λ l. all_of tables (map (are_known tables) l) ≡ true) (drop_item all i x within is) known)).1
 
-pub next_argument : (types : Table) (ts : List ℕ) (all : List Core) (i index : ℕ) (x : Core) (ty : Option ℕ) (n k : ℕ) (w v whole : Writing)
-    → i < length all → x ≡ get_or all i x → ty ≡ slice_get ts index → v ≡ argument ty (piece types x) n (k + index) w
-    → arguments ts index (map (piece types) (drop i all)) n k w ≡ whole → arguments ts (index + 1) (map (piece types) (drop (i + 1) all)) n k v ≡ whole
-next_argument types ts all i index x ty n k w v whole within is typed written q =
+pub next_argument : (types : Table) (ts : List ℕ) (all : List Core) (i index : ℕ) (x : Core) (ty : Option ℕ) (full : Full) (n k : ℕ) (w v whole : Writing)
+    → i < length all → x ≡ get_or all i x → ty ≡ slice_get ts index → v ≡ argument ty (piece types x) full n (k + index) w
+    → arguments ts index (map (piece types) (drop i all)) full n k w ≡ whole → arguments ts (index + 1) (map (piece types) (drop (i + 1) all)) full n k v ≡ whole
+next_argument types ts all i index x ty full n k w v whole within is typed written q =
     let next : index + 1 ≡ suc index = omega arith in
-    ap (λ j. arguments ts j (map (piece types) (drop (i + 1) all)) n k v) next
-    ∙ ap (λ u. arguments ts (suc index) (map (piece types) (drop (i + 1) all)) n k u) (written ∙ ap (λ o. argument o (piece types x) n (k + index) w) typed)
-    ∙ sym (ap (λ l. arguments ts index (map (piece types) l) n k w) (drop_item all i x within is)) ∙ q
+    ap (λ j. arguments ts j (map (piece types) (drop (i + 1) all)) full n k v) next
+    ∙ ap (λ u. arguments ts (suc index) (map (piece types) (drop (i + 1) all)) full n k u) (written ∙ ap (λ o. argument o (piece types x) full n (k + index) w) typed)
+    ∙ sym (ap (λ l. arguments ts index (map (piece types) l) full n k w) (drop_item all i x within is)) ∙ q

@@ -1,3 +1,4 @@
 pub mod Parameters
 pub mod Pieces
 pub mod Writes
+pub mod Finds

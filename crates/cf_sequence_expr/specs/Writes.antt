@@ -1,10 +1,15 @@
 -- How what is written of a function goes on, statement by statement.
-use Rattle.std.specs.Prelude.{ℕ, ◌+◌, List, [], ◌∷◌, ◌++◌}
+use Rattle.std.specs.Prelude.{ℕ, ◌+◌, ◌-◌, List, [], ◌∷◌, ◌++◌}
 use Rattle.cf_plain.specs.declared.action.Action.{Action}
 use Rattle.cf_plain.specs.declared.action.Action.TheVariants as action
 use Rattle.cf_plain.specs.declared.statement.Plain.{Plain}
 use Rattle.cf_plain.specs.declared.statement.Plain.TheVariants as plain
+use Rattle.cf_sequence_expr.specs.declared.writing.Full.{Full}
 use Rattle.cf_sequence_expr.specs.declared.writing.Writing.{Writing}
+
+-- the register of a local's flag, which tells whether the temporary is there (12.2)
+unfoldable pub flag : Full → ℕ → ℕ
+flag x local = x.base + (local - x.first)
 
 -- a statement behind those so far
 unfoldable pub put : Plain → Writing → Writing

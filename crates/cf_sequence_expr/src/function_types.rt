@@ -1,6 +1,6 @@
 //! The parameters of functions.
 
-ghost use Rattle.std.specs.Prelude.{◌≡◌, ◌<◌, length, IfOk};
+ghost use Rattle.std.specs.Prelude.{◌≡◌, ◌<◌, length, slice_get, IfOk};
 ghost use Rattle.cf_sequence_expr.specs.Parameters.{parameters_at, counted};
 
 use crate::writing::behind;
@@ -31,4 +31,11 @@ pub fn numbers(alloc: Global, first: u32, count: usize) -> Result<Items<u32>, Me
         number = behind(number)?;
     }
     Ok(made)
+}
+
+/// The type of the parameter of this number, if there is one.
+pub fn type_at(types: &[TyId], index: usize) -> Option<TyId>
+    ensures { result ≡ slice_get types.now index }
+{
+    types.get(index).copied()
 }

@@ -6,10 +6,12 @@
 mod changes;
 mod function_types;
 mod locals;
+mod temporaries;
 mod values;
 mod writing;
 
 pub use function_types::parameters;
 pub use locals::{add_locals, width};
+pub use temporaries::{Temporary, temporaries_of};
 pub use values::value;
-pub use writing::{Writing, behind, beyond, copied};
+pub use writing::{Full, Writing, behind, beyond, copied};

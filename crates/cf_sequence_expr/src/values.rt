@@ -1,6 +1,4 @@
-//! The values of expressions.
-
-ghost use Rattle.std.specs.Prelude.{◌≡◌, ◌+◌, ◌<◌, map, length, slice_get, true, IfOk, OnOk};
+ghost use Rattle.std.specs.Prelude.{◌≡◌, ◌+◌, ◌<◌, map, length, true, IfOk, OnOk};
 ghost use Rattle.cf_core.specs.FromUnit.{tables_of};
 ghost use Rattle.cf_core.specs.Numbers.{are_known, all_of};
 ghost use Rattle.cf_sequence_expr.specs.Parameters.{parameters_at};
@@ -8,9 +6,9 @@ ghost use Rattle.cf_sequence_expr.specs.Pieces.{piece};
 ghost use Rattle.cf_sequence_expr.specs.Pieces as spec;
 
 use crate::changes::{stepped, stepped_behind, updated};
-use crate::function_types::{numbers, parameters};
+use crate::function_types::{numbers, parameters, type_at};
 use crate::locals::width;
-use crate::writing::{Writing, behind, beyond, copied};
+use crate::writing::{Full, Writing, behind, beyond, copied};
 use cf_base::{Memory, Name};
 use cf_core::{Core, CoreUnit, Holder};
 use cf_plain::Action;
@@ -18,9 +16,9 @@ use cf_types::TyId;
 
 /// Writes the value of an expression into a register. What is not built yet writes nothing.
 #[cycle(values)]
-pub fn value(unit: &CoreUnit, e: &Core, n: u32, w: &mut Writing) -> Result<(), Memory>
+pub fn value(unit: &CoreUnit, e: &Core, full: Full, n: u32, w: &mut Writing) -> Result<(), Memory>
     requires { are_known (tables_of unit.now) e.now ≡ true }
-    ensures { OnOk result (w.new ≡ (piece unit.now.types e.now).value n w.old) }
+    ensures { OnOk result (w.new ≡ (piece unit.now.types e.now).value full n w.old) }
 {
     match e {
         Core::Number { value, .. } => w.set(n, Action::Number { value: *value }),
@@ -44,24 +42,24 @@ pub fn value(unit: &CoreUnit, e: &Core, n: u32, w: &mut Writing) -> Result<(), M
             w.set(n, Action::Function { name, ty: *ty })
         }
         Core::Read { place, .. } => {
-            value(unit, place.get(), n, w)?;
+            value(unit, place.get(), full, n, w)?;
             w.set(n, Action::Read { place: n })
         }
         Core::Address { place, .. } => {
-            value(unit, place.get(), n, w)?;
+            value(unit, place.get(), full, n, w)?;
             w.used(n)
         }
         Core::Dereference { pointer, .. } => {
-            value(unit, pointer.get(), n, w)?;
+            value(unit, pointer.get(), full, n, w)?;
             w.set(n, Action::Dereference { pointer: n })
         }
         Core::Decay { array, .. } => {
-            value(unit, array.get(), n, w)?;
+            value(unit, array.get(), full, n, w)?;
             w.set(n, Action::Decay { array: n })
         }
         Core::Index { left, right, .. } => {
-            let second = first(unit, left.get(), n, w)?;
-            value(unit, right.get(), second, w)?;
+            let second = first(unit, left.get(), full, n, w)?;
+            value(unit, right.get(), full, second, w)?;
             w.set(
                 n,
                 Action::Index {
@@ -71,7 +69,7 @@ pub fn value(unit: &CoreUnit, e: &Core, n: u32, w: &mut Writing) -> Result<(), M
             )
         }
         Core::Convert { ty, operand, .. } => {
-            value(unit, operand.get(), n, w)?;
+            value(unit, operand.get(), full, n, w)?;
             w.set(
                 n,
                 Action::Convert {
@@ -81,7 +79,7 @@ pub fn value(unit: &CoreUnit, e: &Core, n: u32, w: &mut Writing) -> Result<(), M
             )
         }
         Core::FromVoid { ty, operand, .. } => {
-            value(unit, operand.get(), n, w)?;
+            value(unit, operand.get(), full, n, w)?;
             w.set(
                 n,
                 Action::FromVoid {
@@ -97,8 +95,8 @@ pub fn value(unit: &CoreUnit, e: &Core, n: u32, w: &mut Writing) -> Result<(), M
             right,
             ..
         } => {
-            let second = first(unit, left.get(), n, w)?;
-            value(unit, right.get(), second, w)?;
+            let second = first(unit, left.get(), full, n, w)?;
+            value(unit, right.get(), full, second, w)?;
             w.set(
                 n,
                 Action::Operate {
@@ -115,7 +113,7 @@ pub fn value(unit: &CoreUnit, e: &Core, n: u32, w: &mut Writing) -> Result<(), M
             operand,
             ..
         } => {
-            value(unit, operand.get(), n, w)?;
+            value(unit, operand.get(), full, n, w)?;
             w.set(
                 n,
                 Action::Unary {
@@ -126,21 +124,21 @@ pub fn value(unit: &CoreUnit, e: &Core, n: u32, w: &mut Writing) -> Result<(), M
             )
         }
         Core::Not { operand, .. } => {
-            value(unit, operand.get(), n, w)?;
+            value(unit, operand.get(), full, n, w)?;
             w.set(n, Action::Not { operand: n })
         }
         Core::And { left, right, .. } => {
-            truth(unit, left.get(), n, w)?;
+            truth(unit, left.get(), full, n, w)?;
             let before = w.begin();
-            truth(unit, right.get(), n, w)?;
+            truth(unit, right.get(), full, n, w)?;
             let yes = w.begin();
             w.branch(n, before, yes)
         }
         Core::Or { left, right, .. } => {
-            truth(unit, left.get(), n, w)?;
+            truth(unit, left.get(), full, n, w)?;
             let before = w.begin();
             let yes = w.begin();
-            truth(unit, right.get(), n, w)?;
+            truth(unit, right.get(), full, n, w)?;
             w.branch(n, before, yes)
         }
         Core::PointerOperate {
@@ -149,8 +147,8 @@ pub fn value(unit: &CoreUnit, e: &Core, n: u32, w: &mut Writing) -> Result<(), M
             right,
             ..
         } => {
-            let second = first(unit, left.get(), n, w)?;
-            value(unit, right.get(), second, w)?;
+            let second = first(unit, left.get(), full, n, w)?;
+            value(unit, right.get(), full, second, w)?;
             w.set(
                 n,
                 Action::PointerOperate {
@@ -166,21 +164,21 @@ pub fn value(unit: &CoreUnit, e: &Core, n: u32, w: &mut Writing) -> Result<(), M
             no,
             ..
         } => {
-            truth(unit, condition.get(), n, w)?;
+            truth(unit, condition.get(), full, n, w)?;
             let before = w.begin();
-            value(unit, yes.get(), n, w)?;
+            value(unit, yes.get(), full, n, w)?;
             let chosen = w.begin();
-            value(unit, no.get(), n, w)?;
+            value(unit, no.get(), full, n, w)?;
             w.branch(n, before, chosen)
         }
-        Core::Comma { operands, .. } => all_values(unit, operands.as_slice(), n, w),
+        Core::Comma { operands, .. } => all_values(unit, operands.as_slice(), full, n, w),
         Core::Store {
             place,
             value: stored,
             ..
         } => {
-            let second = first(unit, place.get(), n, w)?;
-            value(unit, stored.get(), second, w)?;
+            let second = first(unit, place.get(), full, n, w)?;
+            value(unit, stored.get(), full, second, w)?;
             w.act(Action::Store {
                 place: n,
                 value: second,
@@ -192,8 +190,8 @@ pub fn value(unit: &CoreUnit, e: &Core, n: u32, w: &mut Writing) -> Result<(), M
             value: by,
             ..
         } => {
-            let second = first(unit, place.get(), n, w)?;
-            value(unit, by.get(), second, w)?;
+            let second = first(unit, place.get(), full, n, w)?;
+            value(unit, by.get(), full, second, w)?;
             updated(*change, n, w)
         }
         Core::Increment {
@@ -202,7 +200,7 @@ pub fn value(unit: &CoreUnit, e: &Core, n: u32, w: &mut Writing) -> Result<(), M
             place,
             ..
         } => {
-            value(unit, place.get(), n, w)?;
+            value(unit, place.get(), full, n, w)?;
             stepped(*change, n, w)
         }
         Core::Increment {
@@ -212,7 +210,7 @@ pub fn value(unit: &CoreUnit, e: &Core, n: u32, w: &mut Writing) -> Result<(), M
             ..
         } => {
             let second = behind(n)?;
-            value(unit, place.get(), second, w)?;
+            value(unit, place.get(), full, second, w)?;
             stepped_behind(*change, n, w)
         }
         Core::Call {
@@ -222,7 +220,7 @@ pub fn value(unit: &CoreUnit, e: &Core, n: u32, w: &mut Writing) -> Result<(), M
             arguments,
             ..
         } => match object {
-            None => called(unit, arguments.as_slice(), function, *ty, n, w),
+            None => called(unit, arguments.as_slice(), function, *ty, full, n, w),
             Some(_) => Ok(()),
         },
         Core::PointerCall {
@@ -233,68 +231,38 @@ pub fn value(unit: &CoreUnit, e: &Core, n: u32, w: &mut Writing) -> Result<(), M
             ..
         } => match object {
             None => {
-                let local = callee(unit, pointer.get(), *ty, n, w)?;
-                pointed(unit, arguments.as_slice(), *ty, n, local, w)
+                let local = callee(unit, pointer.get(), *ty, full, n, w)?;
+                pointed(unit, arguments.as_slice(), *ty, full, n, local, w)
             }
             Some(_) => Ok(()),
         },
+        Core::Temporary { ty, start, .. } => temporary(unit, start.get(), *ty, full, n, w),
         Core::Bind {
             holder,
             operand,
             ..
         } => match holder {
-            Holder::NoTemporary | Holder::StaticTemporary(_) => value(unit, operand.get(), n, w),
-            Holder::LocalTemporary { local, ty } => held(unit, operand.get(), *local, *ty, n, w),
+            Holder::NoTemporary | Holder::StaticTemporary(_) => {
+                value(unit, operand.get(), full, n, w)
+            }
+            Holder::LocalTemporary { local, ty } => {
+                held(unit, operand.get(), *local, *ty, full, n, w)
+            }
         },
-        Core::This { .. }
-        | Core::Member { .. }
-        | Core::Up { .. }
-        | Core::Down { .. }
-        | Core::ToMember { .. }
-        | Core::DataPointer { .. }
-        | Core::FunctionPointer { .. }
-        | Core::Through { .. }
-        | Core::Assign { .. }
-        | Core::Temporary { .. }
-        | Core::VirtualCall { .. }
-        | Core::New { .. }
-        | Core::NewArray { .. }
-        | Core::Delete { .. }
-        | Core::DeleteArray { .. }
-        | Core::Build { .. }
-        | Core::Copy { .. }
-        | Core::Each { .. }
-        | Core::List { .. }
-        | Core::Characters { .. }
-        | Core::Zeros { .. }
-        | Core::Blank { .. }
-        | Core::Full { .. }
-        | Core::Block { .. }
-        | Core::Sequence { .. }
-        | Core::Declare { .. }
-        | Core::Once { .. }
-        | Core::If { .. }
-        | Core::Loop { .. }
-        | Core::Switch { .. }
-        | Core::Case { .. }
-        | Core::Default { .. }
-        | Core::Break { .. }
-        | Core::Continue { .. }
-        | Core::Return { .. }
-        | Core::Parts { .. } => Ok(()),
+        _ => Ok(()),
     }
 }
 
 /// Writes a first operand into this register, and gives the next one.
 #[cycle(values)]
 #[tactic(auto, unfolding(crate::specs::Pieces::left))]
-fn first(unit: &CoreUnit, e: &Core, n: u32, w: &mut Writing) -> Result<u32, Memory>
+fn first(unit: &CoreUnit, e: &Core, full: Full, n: u32, w: &mut Writing) -> Result<u32, Memory>
     requires { are_known (tables_of unit.now) e.now ≡ true }
-    ensures written { OnOk result (w.new ≡ spec.left (piece unit.now.types e.now) n w.old) }
+    ensures written { OnOk result (w.new ≡ spec.left (piece unit.now.types e.now) full n w.old) }
     ensures next { IfOk result (λ second. second ≡ n + 1) }
 {
     let second = behind(n)?;
-    value(unit, e, n, w)?;
+    value(unit, e, full, n, w)?;
     w.used(n)?;
     Ok(second)
 }
@@ -302,11 +270,11 @@ fn first(unit: &CoreUnit, e: &Core, n: u32, w: &mut Writing) -> Result<u32, Memo
 /// Writes 1 into this register where a value counts as true, else 0.
 #[cycle(values)]
 #[tactic(auto, unfolding(crate::specs::Pieces::truth))]
-fn truth(unit: &CoreUnit, e: &Core, n: u32, w: &mut Writing) -> Result<(), Memory>
+fn truth(unit: &CoreUnit, e: &Core, full: Full, n: u32, w: &mut Writing) -> Result<(), Memory>
     requires { are_known (tables_of unit.now) e.now ≡ true }
-    ensures { OnOk result (w.new ≡ spec.truth (piece unit.now.types e.now) n w.old) }
+    ensures { OnOk result (w.new ≡ spec.truth (piece unit.now.types e.now) full n w.old) }
 {
-    value(unit, e, n, w)?;
+    value(unit, e, full, n, w)?;
     w.set(n, Action::Truth { operand: n })
 }
 
@@ -318,31 +286,67 @@ fn held(
     e: &Core,
     local: u32,
     ty: TyId,
+    full: Full,
     n: u32,
     w: &mut Writing,
 ) -> Result<(), Memory>
     requires { are_known (tables_of unit.now) e.now ≡ true }
-    ensures { OnOk result (w.new ≡ spec.held local ty (piece unit.now.types e.now) n w.old) }
+    ensures { OnOk result (w.new ≡ spec.held local ty (piece unit.now.types e.now) full n w.old) }
 {
     let object = behind(n)?;
     let first = behind(object)?;
     w.set(object, Action::Declare { local, ty })?;
     w.set(n, Action::Local { number: local })?;
-    value(unit, e, first, w)?;
+    value(unit, e, full, first, w)?;
     w.act(Action::First {
         place: object,
         value: first,
     })
 }
 
+/// Writes a temporary of the full expression, and its place into this register; its flag tells that it is there (12.2).
+#[cycle(values)]
+#[tactic(auto, unfolding(crate::specs::Pieces::temporary))]
+fn temporary(
+    unit: &CoreUnit,
+    e: &Core,
+    ty: TyId,
+    full: Full,
+    n: u32,
+    w: &mut Writing,
+) -> Result<(), Memory>
+    requires { are_known (tables_of unit.now) e.now ≡ true }
+    ensures { OnOk result (w.new ≡ spec.temporary ty (piece unit.now.types e.now) full n w.old) }
+{
+    let local = w.next;
+    let object = behind(n)?;
+    let first = behind(object)?;
+    let flag = full.flag(local)?;
+    w.pass(1)?;
+    w.set(object, Action::Declare { local, ty })?;
+    w.set(n, Action::Local { number: local })?;
+    value(unit, e, full, first, w)?;
+    w.act(Action::First {
+        place: object,
+        value: first,
+    })?;
+    w.set(flag, Action::Number { value: 1 })
+}
+
 /// Writes values in order, each into the same register (5.18).
 #[cycle(values)]
-fn all_values(unit: &CoreUnit, all: &[Core], n: u32, w: &mut Writing) -> Result<(), Memory>
+fn all_values(
+    unit: &CoreUnit,
+    all: &[Core],
+    full: Full,
+    n: u32,
+    w: &mut Writing,
+) -> Result<(), Memory>
     requires { all_of (tables_of unit.now) (map (are_known (tables_of unit.now)) all.now) ≡ true }
-    ensures { OnOk result (w.new ≡ spec.all_values (map (piece unit.now.types) all.now) n w.old) }
+    ensures { OnOk result (w.new ≡ spec.all_values (map (piece unit.now.types) all.now) full n w.old) }
 {
     for e in all {
-        value(unit, e, n, w)?;
+        value(unit, e, full, n, w)?;
     }
     Ok(())
 }
@@ -355,19 +359,20 @@ fn called(
     given: &[Core],
     function: &Name,
     ty: TyId,
+    full: Full,
     n: u32,
     w: &mut Writing,
 ) -> Result<(), Memory>
     requires known { all_of (tables_of unit.now) (map (are_known (tables_of unit.now)) given.now) ≡ true }
     requires typed { ty < length unit.now.types.types }
-    ensures { OnOk result (w.new ≡ spec.called function.now ty (parameters_at unit.now.types ty) (map (piece unit.now.types) given.now) n w.old) }
+    ensures { OnOk result (w.new ≡ spec.called function.now ty (parameters_at unit.now.types ty) (map (piece unit.now.types) given.now) full n w.old) }
 {
     let first = w.next;
     let types = parameters(unit, ty);
     let name = copied(w.alloc, function)?;
     w.act(Action::Function { name, ty })?;
     w.pass(types.len())?;
-    arguments(unit, given, types, n, first, w)?;
+    arguments(unit, given, types, full, n, first, w)?;
     let arguments = numbers(w.alloc, first, types.len())?;
     let function = copied(w.alloc, function)?;
     w.set(
@@ -385,15 +390,22 @@ fn called(
 /// Writes the value of a pointer to a function of this type, which is called, and gives the local that is its first parameter (5.2.2).
 #[cycle(values)]
 #[tactic(auto, unfolding(crate::specs::Pieces::callee))]
-fn callee(unit: &CoreUnit, pointer: &Core, ty: TyId, n: u32, w: &mut Writing) -> Result<u32, Memory>
+fn callee(
+    unit: &CoreUnit,
+    pointer: &Core,
+    ty: TyId,
+    full: Full,
+    n: u32,
+    w: &mut Writing,
+) -> Result<u32, Memory>
     requires known { are_known (tables_of unit.now) pointer.now ≡ true }
     requires typed { ty < length unit.now.types.types }
-    ensures written { OnOk result (w.new ≡ spec.callee (parameters_at unit.now.types ty) (piece unit.now.types pointer.now) n w.old) }
+    ensures written { OnOk result (w.new ≡ spec.callee (parameters_at unit.now.types ty) (piece unit.now.types pointer.now) full n w.old) }
     ensures local { IfOk result (λ k. k ≡ w.old.next) }
 {
     let first = w.next;
     w.pass(parameters(unit, ty).len())?;
-    value(unit, pointer, n, w)?;
+    value(unit, pointer, full, n, w)?;
     w.used(n)?;
     Ok(first)
 }
@@ -405,17 +417,18 @@ fn pointed(
     unit: &CoreUnit,
     given: &[Core],
     ty: TyId,
+    full: Full,
     n: u32,
     first: u32,
     w: &mut Writing,
 ) -> Result<(), Memory>
     requires known { all_of (tables_of unit.now) (map (are_known (tables_of unit.now)) given.now) ≡ true }
     requires typed { ty < length unit.now.types.types }
-    ensures { OnOk result (w.new ≡ spec.pointed ty (parameters_at unit.now.types ty) (map (piece unit.now.types) given.now) n first w.old) }
+    ensures { OnOk result (w.new ≡ spec.pointed ty (parameters_at unit.now.types ty) (map (piece unit.now.types) given.now) full n first w.old) }
 {
     let types = parameters(unit, ty);
     let second = behind(n)?;
-    arguments(unit, given, types, second, first, w)?;
+    arguments(unit, given, types, full, second, first, w)?;
     let arguments = numbers(w.alloc, first, types.len())?;
     w.set(
         n,
@@ -429,29 +442,23 @@ fn pointed(
     )
 }
 
-/// The type of the parameter of this number, if there is one.
-fn type_at(types: &[TyId], index: usize) -> Option<TyId>
-    ensures { result ≡ slice_get types.now index }
-{
-    types.get(index).copied()
-}
-
 /// Writes arguments, for parameters of these types, whose objects are the locals from the first on.
 #[cycle(values)]
 fn arguments(
     unit: &CoreUnit,
     all: &[Core],
     types: &[TyId],
+    full: Full,
     n: u32,
     first: u32,
     w: &mut Writing,
 ) -> Result<(), Memory>
     requires { all_of (tables_of unit.now) (map (are_known (tables_of unit.now)) all.now) ≡ true }
-    ensures { OnOk result (w.new ≡ spec.arguments types.now 0 (map (piece unit.now.types) all.now) n first w.old) }
+    ensures { OnOk result (w.new ≡ spec.arguments types.now 0 (map (piece unit.now.types) all.now) full n first w.old) }
 {
     let mut index: usize = 0;
     for e in all {
-        argument(unit, e, type_at(types, index), n, first, index, w)?;
+        argument(unit, e, type_at(types, index), full, n, first, index, w)?;
         index += 1;
     }
     Ok(())
@@ -464,13 +471,14 @@ fn argument(
     unit: &CoreUnit,
     e: &Core,
     ty: Option<TyId>,
+    full: Full,
     n: u32,
     first: u32,
     index: usize,
     w: &mut Writing,
 ) -> Result<(), Memory>
     requires { are_known (tables_of unit.now) e.now ≡ true }
-    ensures { OnOk result (w.new ≡ spec.argument ty (piece unit.now.types e.now) n (first + index) w.old) }
+    ensures { OnOk result (w.new ≡ spec.argument ty (piece unit.now.types e.now) full n (first + index) w.old) }
 {
     match ty {
         None => {
@@ -481,7 +489,7 @@ fn argument(
             let local = beyond(first, index)?;
             let second = behind(n)?;
             w.set(n, Action::Declare { local, ty })?;
-            value(unit, e, second, w)?;
+            value(unit, e, full, second, w)?;
             w.act(Action::First {
                 place: n,
                 value: second,

@@ -16,6 +16,25 @@ pub struct Writing {
     pub next: u32,
 }
 
+/// A full expression: the number of its first local, and the register of that local's flag.
+#[derive(Clone, Copy, Debug, PartialEq, Eq)]
+pub struct Full {
+    pub first: u32,
+    pub base: u32,
+}
+
+impl Full {
+    /// The register of a local's flag, which tells whether the temporary is there (12.2).
+    #[tactic(auto, unfolding(crate::specs::Writes::flag))]
+    pub fn flag(self, local: u32) -> Result<u32, Memory>
+        ensures { IfOk result (λ register. register ≡ spec.flag self local) }
+    {
+        self.base
+            .checked_add(local.saturating_sub(self.first))
+            .ok_or(Memory)
+    }
+}
+
 /// The register or local behind this one. At the greatest number there is none, which is answered as want of memory.
 pub fn behind(number: u32) -> Result<u32, Memory>
     ensures { IfOk result (λ after. after ≡ number + 1) }

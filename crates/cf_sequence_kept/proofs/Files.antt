@@ -20,7 +20,7 @@ use Rattle.cf_sequence.proofs.Calling.{never}
 use Rattle.cf_sequence.proofs.OwnNames.{is_own}
 use Rattle.cf_sequence_kept.proofs.Values.{runs}
 use Rattle.cf_sequence_kept.proofs.Statements.{runs-statement, runs-finished}
-use Rattle.cf_sequence_valid.proofs.Stands.{still-there}
+use Rattle.cf_sequence_valid.proofs.Stands.{Stand, stand-added, still-there}
 use Rattle.cf_sequence_valid.proofs.Values as locals_of
 
 negated : (b : Bool) → not b ≡ true → b ≡ false
@@ -48,9 +48,10 @@ module _ (file : CoreFile) where
       let keeps : locals_of.Kept (Body.scope (body_of file f)) locals =
       record { kept = λ i t e. subst (λ l. slice_get l i ≡ Some t) (together (parameters f.type) f.locals more) (still-there own more i t e) } in
       let scalar = negated (is_class (result f.type)) forms.0 in
+      let stand : Stand locals (length (parameters f.type) + length f.locals) (added (nodes f.body)) = stand-added (parameters f.type) f.locals more in
       let flowed : Plains = finished (reverse (numbered 0 (parameters f.type))) nothing in
       let p = runs-statement (body_of file f) locals keeps f.body (length (parameters f.type)) false false forms.1 (plain-statement (body_of file f) f.role f.body plain_role fitting.1)
-      (inside file.classes file.statics f) scalar (length (parameters f.type) + length f.locals) nothing_set in
+      (inside file.classes file.statics f) scalar (length (parameters f.type) + length f.locals) nothing_set stand in
       let q = runs-finished (body_of file f) locals keeps (declared f.body) p.now in
       let r = runs-finished (body_of file f) locals keeps (reverse (numbered 0 (parameters f.type))) q.now in
       ap is_some

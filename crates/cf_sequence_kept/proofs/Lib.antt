@@ -1,7 +1,9 @@
 pub mod Expressions
 pub mod Files
+pub mod Fulls
 pub mod Operands
 pub mod Related
+pub mod Spans
 pub mod Statements
 pub mod Steps
 pub mod Suits

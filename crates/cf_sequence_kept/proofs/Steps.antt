@@ -6,21 +6,23 @@ use Rattle.cf_core.specs.Types.{SourceType, plain as unqualified}
 use Rattle.cf_core.specs.Classes.{Class}
 use Rattle.cf_core.specs.Core as core
 use Rattle.cf_core.specs.Core.{Core, Change}
+use Rattle.cf_core.specs.Nodes.{nodes}
 use Rattle.cf_core.specs.Typing.{Scope, of_value, of_number, of_place, changes}
 use Rattle.cf_core.specs.Typed.{typing, changed_in_place, stepped}
 use Rattle.cf_plain.specs.Plain.{Register, Plains, act, set, more}
 use Rattle.cf_plain.specs.Plain as plain
 use Rattle.cf_plain_kept.specs.Kept as kept
 use Rattle.cf_plain_kept.specs.Kept.{Kept, no_value, an_integer, a_place, Keeping, keep, value_of, suits, tested, given, read_kept, changed_kept, a_truth}
-use Rattle.cf_sequence.specs.Made.{width}
+use Rattle.cf_sequence.specs.Made.{added, width}
 use Rattle.cf_sequence.specs.Expressions.{Full, Destination, value, used}
 use Rattle.cf_sequence_kept.proofs.Suits.{scalar-kept, Pointed, pointed-to, plain-suits, values-suit}
+use Rattle.cf_sequence_kept.proofs.Spans.{Span, stays, stays-then, Room, room-left, room-right, room-above}
 use Rattle.cf_sequence_kept.proofs.Related.{of-value, of-number, of-place, of-allowed}
 use Rattle.cf_sequence_kept.proofs.Operands.{change-tested, change-gives}
 use Rattle.cf_sequence_kept.proofs.Values.{keep-at, keep-below, keep-above, runs, set-runs, act-runs, Keeps, pair}
 use Rattle.cf_sequence_valid.proofs.Serves.{Serves, nothing-serves, allowed-is}
 
-module _ (locals : List SourceType) (R : SourceType) where
+module _ (locals : List SourceType) (R : SourceType) (span : Span) where
   -- a new value to a place of its type
   stored-runs : (g : Keeping) (i j : Register) (h k : Kept) (t : SourceType) (d : Pointed t h) → g i ≡ Some h → g j ≡ Some k → suits d.to k ≡ true
       → (rest : Plains) → runs locals R (more (act (plain.store i j)) rest) g ≡ runs locals R rest g
@@ -30,10 +32,10 @@ module _ (locals : List SourceType) (R : SourceType) where
 
   module _ (classes : List Class) (scope : Scope) where
     abbrev Value : Core → Type 0
-    Value e = (x : Full) (into : Option Destination) (n k : ℕ) (g : Keeping) → Keeps locals R (typing scope e) n g (value classes x e into n k)
+    Value e = (x : Full) (into : Option Destination) (n k : ℕ) (g : Keeping) → Room locals span x n k (added (nodes e)) → Keeps locals R span (typing scope e) n g (value classes x e into n k)
 
     pub update-keeps : (a b : Core) (c : Change) → Value a → Value b → Serves (typing scope (core.update a c b)) → Value (core.update a c b)
-    update-keeps a b c va vb s x into n k g = by (typing scope a).place refl s
+    update-keeps a b c va vb s x into n k g room = by (typing scope a).place refl s
       where
         F : Plains → Plains
         F = value classes x a None n k
@@ -45,14 +47,14 @@ module _ (locals : List SourceType) (R : SourceType) where
         last rest = used (suc n) (more (set (suc (suc n)) (plain.read n)) (more (set (suc n) (plain.changed c (suc (suc n)) (suc n))) (more (act (plain.store n (suc n))) rest)))
 
         by : (o : Option SourceType) → (typing scope a).place ≡ o → Serves (changed_in_place scope o (changes c o (typing scope b)))
-            → Keeps locals R (changed_in_place scope o (changes c o (typing scope b))) n g (λ rest. F (used n (G (used (suc n) (more (set (suc (suc n)) (plain.read n)) (more (set (suc n) (plain.changed c (suc (suc n)) (suc n))) (more (act (plain.store n (suc n))) rest)))))))
+            → Keeps locals R span (changed_in_place scope o (changes c o (typing scope b))) n g (λ rest. F (used n (G (used (suc n) (more (set (suc (suc n)) (plain.read n)) (more (set (suc n) (plain.changed c (suc (suc n)) (suc n))) (more (act (plain.store n (suc n))) rest)))))))
         by None e s = nothing-serves s
         by (Some t) e s =
             let ok = allowed-is (changes c (Some t) (typing scope b)) (of_place t) s in
-            let p = va x None n k g in
-            let q = vb x None (suc n) (k + width a) p.now in
+            let p = va x None n k g (room-left locals span x n k (nodes a) (nodes b) room) in
+            let q = vb x None (suc n) (k + width a) p.now (room-right locals span x n k (suc n) (omega arith) (nodes a) (nodes b) room) in
             let d = pointed-to t p.kept (p.related.place t e) in
-            let w = pair locals R F G p (ap (λ h. tested (Some h)) d.is) q in
+            let w = pair locals R span F G p (ap (λ h. tested (Some h)) d.is) q room.top in
             let ch = change-gives (typing scope b) q.kept q.related c t d.to d.same ok in
             let one_up : n < suc n = omega arith in
             let two_up : suc n < suc (suc n) = omega arith in
@@ -69,7 +71,7 @@ module _ (locals : List SourceType) (R : SourceType) where
               below = λ r lt.
                   let near : r < suc n = omega (arith, lt) in
                   let far : r < suc (suc n) = omega (arith, lt) in
-                  keep-below first (suc n) r ch.kept near ∙ keep-below w.now (suc (suc n)) r (value_of d.to) far ∙ w.below r lt;
+                  stays-then (w.below r lt) (stays (keep-below first (suc n) r ch.kept near ∙ keep-below w.now (suc (suc n)) r (value_of d.to) far));
               goes = λ rest.
                   let more_store : Plains = more (act (plain.store n (suc n))) rest in
                   let more_change : Plains = more (set (suc n) (plain.changed c (suc (suc n)) (suc n))) more_store in
@@ -85,17 +87,17 @@ module _ (locals : List SourceType) (R : SourceType) where
 
     -- `++x` and `--x`
     pub prefix-keeps : (e : Core) (c : Change) → Value e → Serves (typing scope (core.step false c e)) → Value (core.step false c e)
-    prefix-keeps e c ve s x into n k g = by (typing scope e).place refl s
+    prefix-keeps e c ve s x into n k g room = by (typing scope e).place refl s
       where
         F : Plains → Plains
         F = value classes x e None n k
 
         by : (o : Option SourceType) → (typing scope e).place ≡ o → Serves (stepped scope false c o)
-            → Keeps locals R (stepped scope false c o) n g (λ rest. F (more (set (suc n) (plain.read n)) (more (set (suc (suc n)) (plain.number (pos 1))) (more (set (suc n) (plain.changed c (suc n) (suc (suc n)))) (more (act (plain.store n (suc n))) rest)))))
+            → Keeps locals R span (stepped scope false c o) n g (λ rest. F (more (set (suc n) (plain.read n)) (more (set (suc (suc n)) (plain.number (pos 1))) (more (set (suc n) (plain.changed c (suc n) (suc (suc n)))) (more (act (plain.store n (suc n))) rest)))))
         by None e s = nothing-serves s
         by (Some t) e s =
             let ok = allowed-is (changes c (Some t) (of_number (pos 1))) (of_place t) s in
-            let p = ve x None n k g in
+            let p = ve x None n k g room in
             let one : Kept = an_integer (λ j. fits j (pos 1)) in
             let d = pointed-to t p.kept (p.related.place t e) in
             let ch = change-gives (of_number (pos 1)) one (of-number (pos 1)) c t d.to d.same ok in
@@ -115,7 +117,7 @@ module _ (locals : List SourceType) (R : SourceType) where
               below = λ r lt.
                   let near : r < suc n = omega (arith, lt) in
                   let far : r < suc (suc n) = omega (arith, lt) in
-                  keep-below second (suc n) r ch.kept near ∙ keep-below first (suc (suc n)) r one far ∙ keep-below p.now (suc n) r (value_of d.to) near ∙ p.below r lt;
+                  stays-then (p.below r lt) (stays (keep-below second (suc n) r ch.kept near ∙ keep-below first (suc (suc n)) r one far ∙ keep-below p.now (suc n) r (value_of d.to) near));
               goes = λ rest.
                   let more_store : Plains = more (act (plain.store n (suc n))) rest in
                   let more_change : Plains = more (set (suc n) (plain.changed c (suc n) (suc (suc n)))) more_store in
@@ -131,19 +133,19 @@ module _ (locals : List SourceType) (R : SourceType) where
 
     -- `x++` and `x--`
     pub postfix-keeps : (e : Core) (c : Change) → Value e → Serves (typing scope (core.step true c e)) → Value (core.step true c e)
-    postfix-keeps e c ve s x into n k g = by (typing scope e).place refl s
+    postfix-keeps e c ve s x into n k g room = by (typing scope e).place refl s
       where
         F : Plains → Plains
         F = value classes x e None (suc n) k
 
         by : (o : Option SourceType) → (typing scope e).place ≡ o → Serves (stepped scope true c o)
-            → Keeps locals R (stepped scope true c o) n g (λ rest. F (more (set n (plain.read (suc n))) (more (set (suc (suc n)) (plain.number (pos 1))) (more (set (suc (suc n)) (plain.changed c n (suc (suc n)))) (more (act (plain.store (suc n) (suc (suc n)))) rest)))))
-        by None e s = nothing-serves s
-        by (Some t) e s =
+            → Keeps locals R span (stepped scope true c o) n g (λ rest. F (more (set n (plain.read (suc n))) (more (set (suc (suc n)) (plain.number (pos 1))) (more (set (suc (suc n)) (plain.changed c n (suc (suc n)))) (more (act (plain.store (suc n) (suc (suc n)))) rest)))))
+        by None at s = nothing-serves s
+        by (Some t) at s =
             let ok = allowed-is (changes c (Some t) (of_number (pos 1))) (of_value (unqualified t)) s in
-            let p = ve x None (suc n) k g in
+            let p = ve x None (suc n) k g (room-above locals span x n k (suc n) (omega arith) (added (nodes e)) room) in
             let one : Kept = an_integer (λ j. fits j (pos 1)) in
-            let d = pointed-to t p.kept (p.related.place t e) in
+            let d = pointed-to t p.kept (p.related.place t at) in
             let ch = change-gives (of_number (pos 1)) one (of-number (pos 1)) c t d.to d.same ok in
             let one_up : n < suc n = omega arith in
             let two_up : suc n < suc (suc n) = omega arith in
@@ -163,7 +165,7 @@ module _ (locals : List SourceType) (R : SourceType) where
               below = λ r lt.
                   let near : r < suc n = omega (arith, lt) in
                   let far : r < suc (suc n) = omega (arith, lt) in
-                  keep-below second (suc (suc n)) r ch.kept far ∙ keep-below first (suc (suc n)) r one far ∙ keep-below p.now n r (value_of d.to) lt ∙ p.below r near;
+                  stays-then (p.below r near) (stays (keep-below second (suc (suc n)) r ch.kept far ∙ keep-below first (suc (suc n)) r one far ∙ keep-below p.now n r (value_of d.to) lt));
               goes = λ rest.
                   let more_store : Plains = more (act (plain.store (suc n) (suc (suc n)))) rest in
                   let more_change : Plains = more (set (suc (suc n)) (plain.changed c n (suc (suc n)))) more_store in

@@ -1,7 +1,8 @@
 -- Expressions: each register is set before it is used, and holds what is taken; the value's register holds what the expression is.
-use Rattle.std.proofs.Common.{◌≡◌, ℕ, suc, ◌<◌, true, false, if◌then◌else◌, List, refl, ap, ◌∙◌, arith}
+use Rattle.std.proofs.Common.{◌≡◌, inl, inr, ℕ, suc, ◌≤◌, ◌<◌, Bool, true, false, if◌then◌else◌, List, refl, ap, ◌∙◌, arith}
 use Rattle.std.specs.Prelude.{Option, Some, None, slice_get, ◌==◌}
 use Rattle.std.proofs.lemmas.Bool.Decides.{nat_tests}
+use Rattle.cf_base.specs.declared.kind.Kind.{Kind}
 use Rattle.cf_core.specs.Types.{SourceType, pointer, array, takes, gives, const, plain as unqualified, is_void}
 use Rattle.cf_core.specs.Classes.{Class}
 use Rattle.cf_core.specs.Places.{is_scalar}
@@ -9,10 +10,11 @@ use Rattle.cf_core.specs.Typing.{Scope, Typing, allowed, of_value, of_name, of_p
 use Rattle.cf_core.specs.Typed.{read_type, pointed_place, address_type, decayed_type, void_pointer}
 use Rattle.cf_plain.specs.Plain.{Register, Action, Plains, act, set, branch, nothing, more}
 use Rattle.cf_plain.specs.Plain as plain
-use Rattle.cf_plain_kept.specs.Kept.{Kept, a_place, Keeping, keep, a_truth, value_of, named, read_kept, pointed_kept, decayed_kept, from_void_kept, tested, given, kept_by, after_all}
+use Rattle.cf_plain_kept.specs.Kept.{Kept, an_integer, a_place, Keeping, keep, integer_in, a_truth, value_of, named, read_kept, pointed_kept, decayed_kept, from_void_kept, tested, given, kept_by, after_all}
 use Rattle.cf_sequence.specs.Expressions.{used}
 use Rattle.cf_sequence.proofs.SameTypes.{same-itself}
 use Rattle.cf_sequence_kept.proofs.Suits.{same-turned, values-suit, scalar-kept, scalar-same, void-same, plain-suits, Pointed, pointed-to, Decays, array-decays, function-decays}
+use Rattle.cf_sequence_kept.proofs.Spans.{Span, Outside, Stays, stays, stays-then}
 use Rattle.cf_sequence_kept.proofs.Related.{Relates, of-value, of-place, of-name, of-allowed}
 use Rattle.cf_sequence_valid.proofs.Serves.{Serves, nothing-serves, allowed-is}
 use Rattle.cf_sequence_valid.proofs.Values as locals_of
@@ -25,8 +27,26 @@ keep-at g n x = let e : (n == n) ≡ true = grind (arith, nat_tests) in ap (λ b
 pub keep-below : (g : Keeping) (n r : ℕ) (x : Kept) → r < n → keep g n x r ≡ g r
 keep-below g n r x lt = let e : (r == n) ≡ false = grind (arith, nat_tests) in ap (λ b. if b then Some x else g r) e
 
+pub keep-apart : (g : Keeping) (n r : ℕ) (x : Kept) → (r ≡ n → ⊥) → keep g n x r ≡ g r
+keep-apart g n r x ne = let e : (r == n) ≡ false = grind (arith, nat_tests, ne) in ap (λ b. if b then Some x else g r) e
+
 pub keep-above : (g : Keeping) (n r : ℕ) (x : Kept) → n < r → keep g n x r ≡ g r
 keep-above g n r x lt = let e : (r == n) ≡ false = grind (arith, nat_tests) in ap (λ b. if b then Some x else g r) e
+
+flag-apart : (span : Span) (mark r : ℕ) → span.low ≤ mark → mark < span.top → Outside span r → (r == mark) ≡ false
+flag-apart span mark r low top (inl lt) = let less : r < mark = omega (arith, lt, low) in grind (arith, nat_tests)
+flag-apart span mark r low top (inr ge) = let greater : mark < r = omega (arith, ge, top) in grind (arith, nat_tests)
+
+-- a flag is set: no other register changes, and an integer stands there
+pub flag-stays : (span : Span) (g : Keeping) (mark r : ℕ) (f : Kind → Bool) → span.low ≤ mark → mark < span.top → Stays span r (g r) (keep g mark (an_integer f) r)
+flag-stays span g mark r f low top = record {
+  same = λ z. ap (λ c. if c then Some (an_integer f) else g r) (flag-apart span mark r low top z);
+  integer = held (r == mark);
+}
+  where
+    held : (b : Bool) → integer_in (g r) ≡ true → integer_in (if b then Some (an_integer f) else g r) ≡ true
+    held true i = refl
+    held false i = i
 
 module _ (locals : List SourceType) (R : SourceType) where
   abbrev pub runs : Plains → Keeping → Option Keeping
@@ -40,14 +60,15 @@ module _ (locals : List SourceType) (R : SourceType) where
   act-runs g a k rest e =
       ap (λ (o : Option Kept). elim (elim o as (λ _. Option Keeping) [ None ↦ None | Some x ↦ Some g ]) as (λ _. Option Keeping) [ None ↦ None | Some h ↦ runs rest h ]) e
 
-  -- the value is in register n, and the registers below it are as before
+module _ (locals : List SourceType) (R : SourceType) (span : Span) where
+  -- the value is in register n, and the registers below it stay but for flags
   pub record Keeps (x : Typing) (n : ℕ) (g : Keeping) (code : Plains → Plains) : Type 0 where
     pub kept : Kept
     pub now : Keeping
     pub related : Relates x kept
     pub at : now n ≡ Some kept
-    pub below : (r : ℕ) → r < n → now r ≡ g r
-    pub goes : (rest : Plains) → runs (code rest) g ≡ runs rest now
+    pub below : (r : ℕ) → r < n → Stays span r (g r) (now r)
+    pub goes : (rest : Plains) → runs locals R (code rest) g ≡ runs locals R rest now
 
   pub leaf : (x : Typing) (n : ℕ) (g : Keeping) (a : Action) (k : Kept) → kept_by locals R g a ≡ Some k → Relates x k → Keeps x n g (λ rest. more (set n a) rest)
   leaf x n g a k e r = record {
@@ -55,8 +76,8 @@ module _ (locals : List SourceType) (R : SourceType) where
     now = keep g n k;
     related = r;
     at = keep-at g n k;
-    below = λ q lt. keep-below g n q k lt;
-    goes = λ rest. set-runs g n a k rest e;
+    below = λ q lt. stays (keep-below g n q k lt);
+    goes = λ rest. set-runs locals R g n a k rest e;
   }
 
   -- one operand, and an action on it
@@ -67,14 +88,14 @@ module _ (locals : List SourceType) (R : SourceType) where
     now = keep p.now n k;
     related = r;
     at = keep-at p.now n k;
-    below = λ q lt. keep-below p.now n q k lt ∙ p.below q lt;
-    goes = λ rest. p.goes (more (set n a) rest) ∙ set-runs p.now n a k rest e;
+    below = λ q lt. stays-then (p.below q lt) (stays (keep-below p.now n q k lt));
+    goes = λ rest. p.goes (more (set n a) rest) ∙ set-runs locals R p.now n a k rest e;
   }
 
   -- it is used where it stands
   pub use-runs : {x : Typing} {n : ℕ} {g : Keeping} (code : Plains → Plains) (p : Keeps x n g code) → tested (Some p.kept) ≡ Some a_truth
-      → (rest : Plains) → runs (code (used n rest)) g ≡ runs rest p.now
-  use-runs {x} {n} code p t rest = p.goes (used n rest) ∙ act-runs p.now (plain.truth n) a_truth rest (ap tested p.at ∙ t)
+      → (rest : Plains) → runs locals R (code (used n rest)) g ≡ runs locals R rest p.now
+  use-runs {x} {n} code p t rest = p.goes (used n rest) ∙ act-runs locals R p.now (plain.truth n) a_truth rest (ap tested p.at ∙ t)
 
   pub used-as : {x : Typing} (y : Typing) {n : ℕ} {g : Keeping} (code : Plains → Plains) (p : Keeps x n g code) → tested (Some p.kept) ≡ Some a_truth → Relates y p.kept
       → Keeps y n g (λ rest. code (used n rest))
@@ -85,17 +106,17 @@ module _ (locals : List SourceType) (R : SourceType) where
     pub now : Keeping
     pub left : now n ≡ Some a
     pub right : now (suc n) ≡ Some b
-    pub below : (r : ℕ) → r < n → now r ≡ g r
-    pub goes : (rest : Plains) → runs (code rest) g ≡ runs rest now
+    pub below : (r : ℕ) → r < n → Stays span r (g r) (now r)
+    pub goes : (rest : Plains) → runs locals R (code rest) g ≡ runs locals R rest now
 
-  pub pair : {x y : Typing} {n : ℕ} {g : Keeping} (F G : Plains → Plains) (p : Keeps x n g F) → tested (Some p.kept) ≡ Some a_truth → (q : Keeps y (suc n) p.now G)
+  pub pair : {x y : Typing} {n : ℕ} {g : Keeping} (F G : Plains → Plains) (p : Keeps x n g F) → tested (Some p.kept) ≡ Some a_truth → (q : Keeps y (suc n) p.now G) → span.top ≤ n
       → Pair n g p.kept q.kept (λ rest. F (used n (G rest)))
-  pair {x} {y} {n} F G p t q =
+  pair {x} {y} {n} F G p t q top =
       record {
         now = q.now;
-        left = (let lt : n < suc n = omega arith in q.below n lt) ∙ p.at;
+        left = (let lt : n < suc n = omega arith in Stays.same (q.below n lt) (inr top)) ∙ p.at;
         right = q.at;
-        below = λ r lt. (let less : r < suc n = omega (arith, lt) in q.below r less) ∙ p.below r lt;
+        below = λ r lt. stays-then (p.below r lt) (let less : r < suc n = omega (arith, lt) in q.below r less);
         goes = λ rest. use-runs F p t (G rest) ∙ q.goes rest;
       }
 
@@ -106,8 +127,8 @@ module _ (locals : List SourceType) (R : SourceType) where
     now = keep p.now n k;
     related = r;
     at = keep-at p.now n k;
-    below = λ q lt. keep-below p.now n q k lt ∙ p.below q lt;
-    goes = λ rest. p.goes (more (set n x) rest) ∙ set-runs p.now n x k rest e;
+    below = λ q lt. stays-then (p.below q lt) (stays (keep-below p.now n q k lt));
+    goes = λ rest. p.goes (more (set n x) rest) ∙ set-runs locals R p.now n x k rest e;
   }
 
   -- an action on both

@@ -1,12 +1,14 @@
 -- How what is written of a function's body goes on: its statements, and the locals of the scopes that are open.
-use Rattle.std.specs.Prelude.{ℕ, suc, ◌+◌, Bool, true, false, if◌then◌else◌, List, [], ◌∷◌, ◌++◌, length, take, drop, Option, Some, None}
+use Rattle.std.specs.Prelude.{ℕ, ◌+◌, Bool, true, false, if◌then◌else◌, List, [], ◌∷◌, ◌++◌, length, pos, take, drop, Option, Some, None}
 use Rattle.cf_plain.specs.declared.action.Action.{Action}
 use Rattle.cf_plain.specs.declared.action.Action.TheVariants as action
 use Rattle.cf_plain.specs.declared.statement.Plain.{Plain}
 use Rattle.cf_plain.specs.declared.statement.Plain.TheVariants as plain
+use Rattle.cf_sequence_expr.specs.declared.temporaries.Temporary.{Temporary}
+use Rattle.cf_sequence_expr.specs.declared.writing.Full.{Full}
 use Rattle.cf_sequence_expr.specs.declared.writing.Writing.{Writing}
-use Rattle.cf_sequence_expr.specs.Writes.{put, set, act, used, emptied, branched}
-use Rattle.cf_sequence_expr.specs.Pieces.{Piece, truth}
+use Rattle.cf_sequence_expr.specs.Writes.{flag, put, set, act, used, emptied, branched}
+use Rattle.cf_sequence_expr.specs.Pieces.{Piece, found_in}
 use Rattle.cf_sequence_stmt.specs.declared.body.Body.{Body}
 use Rattle.cf_sequence_stmt.specs.declared.body.Open.{Open}
 
@@ -49,17 +51,49 @@ closed_to mark b = let c = left_to mark b in record c { scope = take mark c.scop
 
 -- Expressions.
 
+-- The flag of a temporary in a branch holds 0 before its full expression (12.2).
+unfoldable pub cleared_one : Full → Temporary → Writing → Writing
+cleared_one x t w = if t.in_branch then set (flag x t.local) (action.Number (pos 0)) w else w
+
+abbrev pub cleared : Full → List Temporary → Writing → Writing
+cleared x [] w = w
+cleared x (t ∷ ts) w = cleared x ts (cleared_one x t w)
+
+-- a temporary ends behind it, one in a branch where its flag is not 0
+unfoldable pub over_one : Full → Temporary → Writing → Writing
+over_one x t w =
+    if t.in_branch
+    then put (plain.If (flag x t.local) (plain.Act (action.Finish t.ty t.local) ∷ []) []) w
+    else act (action.Finish t.ty t.local) w
+
+-- the newest first
+abbrev pub over : Full → List Temporary → Writing → Writing
+over x [] w = w
+over x (t ∷ ts) w = over_one x t (over x ts w)
+
+-- the full expression whose locals come behind those so far, with its flags from this register on
+abbrev pub full_at : ℕ → Writing → Full
+full_at n w = record { first = w.next; base = n }
+
+-- its value comes into the register behind the flags
+unfoldable pub entered : ℕ → Piece → Writing → Writing
+entered n p w = let x = full_at n w in p.value x (behind_flags n p) (cleared x (found_in p w.next) w)
+
+-- its temporaries end; it began where this was written
+unfoldable pub left_behind : ℕ → Piece → Writing → Writing → Writing
+left_behind n p before w = over (full_at n before) (found_in p before.next) w
+
 -- an expression by itself (6.2)
 unfoldable pub full : Piece → Body → Body
-full p b = on (p.value (behind_flags 0 p)) b
+full p b = on (λ w. left_behind 0 p w (entered 0 p w)) b
 
 -- the value of an expression that is used
 unfoldable pub given : Piece → Body → Body
-given p b = on (λ w. used (behind_flags 0 p) (p.value (behind_flags 0 p) w)) b
+given p b = on (λ w. left_behind 0 p w (used (behind_flags 0 p) (entered 0 p w))) b
 
 -- a condition, as 1 or 0
 unfoldable pub tested : Piece → Body → Body
-tested p b = on (truth p (behind_flags 0 p)) b
+tested p b = on (λ w. left_behind 0 p w (set (behind_flags 0 p) (action.Truth (behind_flags 0 p)) (entered 0 p w))) b
 
 -- What an initialiser does with the object whose place is in register 0 (8.4).
 pub data Initial : Type 0 where
@@ -76,7 +110,7 @@ is_blank gives = false
 unfoldable pub started : Initial → Piece → Writing → Writing
 started does_nothing p w = w
 started (fills a) p w = act a w
-started gives p w = act (action.First 0 (behind_flags 1 p)) (p.value (behind_flags 1 p) w)
+started gives p w = act (action.First 0 (behind_flags 1 p)) (left_behind 1 p w (entered 1 p w))
 
 -- a local with its initialiser, behind the temporary that it binds (6.7, 8.4.3)
 unfoldable pub declared : ℕ → ℕ → Initial → Option Open → Piece → Body → Body

@@ -1,5 +1,5 @@
 -- What is written for statements, node by node.
-use Rattle.std.specs.Prelude.{ℕ, suc, Bool, true, false, ◌&&◌, ◌||◌, nat_lt, if◌then◌else◌, List, [], ◌∷◌, ◌++◌, length, Option, Some, None, is_some}
+use Rattle.std.specs.Prelude.{ℕ, Bool, false, ◌&&◌, ◌||◌, nat_lt, if◌then◌else◌, List, [], ◌∷◌, ◌++◌, length, Option, Some, None, is_some}
 use Rattle.cf_types.specs.Table.{Table}
 use Rattle.cf_core.specs.declared.operators.LoopForm.{LoopForm}
 use Rattle.cf_core.specs.declared.operators.LoopForm.TheVariants as form

@@ -158,6 +158,7 @@ module _ (classes : List Class) where
       expression-starts (core.store a b) ok = stored-starts (typing scope a).place (typing scope b)
       expression-starts (core.update a c b) ok = changed-starts (typing scope a).place (changes c (typing scope a).place (typing scope b))
       expression-starts (core.step is_postfix c e) ok = stepped-starts is_postfix c (typing scope e).place
+      expression-starts (core.temporary t e) ok = allowed-starts ((typing scope e).start t) (of_place t) (place-starts t)
       expression-starts (core.bind no_temporary e) ok = record { starts = bound-complete (typing scope e) }
       expression-starts (core.call name t absent args) ok =
           let plain-result = (both (not (is_class (result t))) (is_chain t && are_arguments args) ok).0 in

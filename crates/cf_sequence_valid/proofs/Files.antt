@@ -1,5 +1,5 @@
 -- Files: what sequencing makes of a valid file of built functions is valid.
-use Rattle.std.proofs.Common.{◌≡◌, ◌+◌, Bool, true, false, ◌&&◌, ◌||◌, not, if◌then◌else◌, List, [], ◌∷◌, ◌++◌, map, length, length-append, append-nil, reverse, refl, sym, ap, ◌∙◌, subst}
+use Rattle.std.proofs.Common.{◌≡◌, ◌+◌, Bool, true, false, ◌&&◌, ◌||◌, not, if◌then◌else◌, List, [], ◌∷◌, ◌++◌, map, length, reverse, refl, sym, ap, ◌∙◌, subst}
 use Rattle.std.specs.Prelude.{Some, None, slice_get, bytes_eq, codes, is_some}
 use Rattle.std.specs.List.{list_all, flat_map}
 use Rattle.std.proofs.lemmas.List.Concat.{flat_map-append}
@@ -28,7 +28,7 @@ use Rattle.cf_sequence.proofs.Constants.{constant-initial, constant-start, somet
 use Rattle.cf_sequence.proofs.OwnNames.{is_own}
 use Rattle.cf_sequence_valid.proofs.Serves.{as_start, either-true}
 use Rattle.cf_sequence_valid.proofs.Fine.{Fine, fine-finished}
-use Rattle.cf_sequence_valid.proofs.Stands.{Stand, stand-behind, still-there, are_there, is_there, there-two, numbered-there}
+use Rattle.cf_sequence_valid.proofs.Stands.{stand-added, Stand, stand-behind, still-there, are_there, is_there, there-two, numbered-there}
 use Rattle.cf_sequence_valid.proofs.Values.{Kept}
 use Rattle.cf_sequence_valid.proofs.Statements.{Works, works, fine-started}
 
@@ -107,12 +107,7 @@ module _ (file : CoreFile) where
         Fine.fit
         (body-works.code (inside file.classes file.statics f)
         (record { plain_result = negated (is_class (result f.type)) forms.0; here = refl; breaks = refl; continues = refl; returns = parameters-there })
-        (length (parameters f.type) + length f.locals) added-stand) (finished (declared f.body) (flowed_off f)) ends-fit
-      where
-        added-stand : Stand locals (length (parameters f.type) + length f.locals) more
-        added-stand =
-            subst (λ n. Stand locals n more) (length-append (parameters f.type) f.locals)
-            (subst (λ l. Stand l (length own) more) (ap (λ l. own ++ l) (append-nil more) ∙ same-locals) (stand-behind own more []))
+        (length (parameters f.type) + length f.locals) (stand-added (parameters f.type) f.locals more)) (finished (declared f.body) (flowed_off f)) ends-fit
 
     pub added-complete : completes more ≡ true
     added-complete = body-works.complete

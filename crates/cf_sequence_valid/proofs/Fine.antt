@@ -1,6 +1,6 @@
 -- Code before other plain statements that is valid and has no label of its own.
 use Rattle.std.proofs.Common.{◌≡◌, Bool, true, false, ◌&&◌, ◌||◌, if◌then◌else◌, List, [], ◌∷◌, refl, ap, subst, ◌∙◌}
-use Rattle.std.specs.Prelude.{ℤ, Option}
+use Rattle.std.specs.Prelude.{ℤ, pos, Option}
 use Rattle.cf_base.proofs.Tests.{both, all_of}
 use Rattle.cf_core.specs.Types.{SourceType}
 use Rattle.cf_core.specs.Core.{Core}
@@ -8,9 +8,9 @@ use Rattle.cf_plain.specs.Plain.{Register, Action, Plain, Plains, act, set, bran
 use Rattle.cf_plain.specs.Plain as plain
 use Rattle.cf_plain.specs.Running.{has_case}
 use Rattle.cf_plain.specs.Valid.{action_fits, is_label, has_default, labels_differ, fits, all_fit, labelled_fit}
-use Rattle.cf_sequence.specs.Made.{Local}
-use Rattle.cf_sequence.specs.Expressions.{finished, settled, builds, used}
-use Rattle.cf_sequence_valid.proofs.Stands.{is_there, are_there}
+use Rattle.cf_sequence.specs.Made.{Local, Temporary}
+use Rattle.cf_sequence.specs.Expressions.{Full, flag, flags, ended, finished, settled, builds, used}
+use Rattle.cf_sequence_valid.proofs.Stands.{is_there, are_there, all_there}
 
 module _ (locals : List SourceType) where
   -- what stands behind it stays valid, and has the same labels
@@ -143,3 +143,27 @@ module _ (locals : List SourceType) where
     pub fine-operands : (F G last : Plains → Plains) (n : Register) → Fine b c F → Fine b c G → Fine b c last → Fine b c (λ rest. F (used n (G (last rest))))
     fine-operands F G last n p q r =
         fine-then F (λ rest. used n (G (last rest))) p (fine-then (used n) (λ rest. G (last rest)) (fine-used n) (fine-then G last q r))
+
+    -- the flags of temporaries, and their ends
+    pub fine-flags : (x : Full) (ts : List Temporary) → Fine b c (flags x ts)
+    fine-flags x [] = fine-none
+    fine-flags x (t ∷ ts) = by t.in_branch (fine-flags x ts)
+      where
+        by : (l : Bool) → Fine b c (flags x ts) → Fine b c (λ rest. elim l [ true ↦ more (set (flag x t.local.number) (plain.number (pos 0))) (flags x ts rest) | false ↦ flags x ts rest ])
+        by true p = fine-then (λ rest. more (set (flag x t.local.number) (plain.number (pos 0))) rest) (flags x ts) (fine-set (flag x t.local.number) (plain.number (pos 0)) refl) p
+        by false p = p
+
+    pub fine-ended : (x : Full) (ts : List Temporary) → all_there locals ts ≡ true → Fine b c (ended x ts)
+    fine-ended x [] ok = fine-none
+    fine-ended x (t ∷ ts) ok =
+        let parts = both (is_there locals t.local) (all_there locals ts) ok in
+        by t.in_branch (fine-finished (t.local ∷ []) (all_of (is_there locals t.local) true parts.0 refl)) (fine-ended x ts parts.1)
+      where
+        by : (l : Bool) → Fine b c (finished (t.local ∷ [])) → Fine b c (ended x ts) → Fine b c (λ rest. elim l [
+          | true ↦ more (branch (flag x t.local.number) (finished (t.local ∷ []) nothing) nothing) (ended x ts rest)
+          | false ↦ finished (t.local ∷ []) (ended x ts rest)
+        ])
+        by true p q =
+            fine-then (λ rest. more (branch (flag x t.local.number) (finished (t.local ∷ []) nothing) nothing) rest) (ended x ts)
+            (fine-branch (flag x t.local.number) (finished (t.local ∷ []) nothing) nothing (Fine.fit p nothing refl) refl) q
+        by false p q = fine-then (finished (t.local ∷ [])) (ended x ts) p q

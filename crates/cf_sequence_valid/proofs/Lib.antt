@@ -5,4 +5,5 @@ pub mod Passing
 pub mod Serves
 pub mod Stands
 pub mod Statements
+pub mod Temporaries
 pub mod Values

@@ -1,5 +1,5 @@
 -- Where locals stand among those of a function.
-use Rattle.std.proofs.Common.{◌≡◌, ℕ, suc, zero, ◌+◌, Bool, true, List, [], ◌∷◌, ◌++◌, length, length-append, refl, ap, ◌∙◌, subst, arith}
+use Rattle.std.proofs.Common.{◌≡◌, ℕ, suc, zero, ◌+◌, Bool, true, List, [], ◌∷◌, ◌++◌, length, length-append, append-nil, append_assoc, refl, ap, ◌∙◌, subst, arith}
 use Rattle.std.specs.Prelude.{Some, slice_get}
 use Rattle.std.specs.List.{list_all}
 use Rattle.std.proofs.lemmas.List.Concat.{flat_map-append}
@@ -7,7 +7,7 @@ use Rattle.cf_base.proofs.Tests.{all_of, both}
 use Rattle.cf_core.specs.Types.{SourceType, without_const}
 use Rattle.cf_core.specs.Core.{Core}
 use Rattle.cf_plain.specs.Valid.{is_of, are_arguments}
-use Rattle.cf_sequence.specs.Made.{Local, added, makes, numbered, numbers}
+use Rattle.cf_sequence.specs.Made.{Local, Temporary, added, makes, numbered, numbers}
 use Rattle.cf_sequence.proofs.SameTypes.{type-same}
 
 module _ (locals : List SourceType) where
@@ -39,6 +39,11 @@ module _ (locals : List SourceType) where
       let e : k + length (added (xs ++ ys)) ≡ k + length (added xs) + length (added ys) = omega (arith, two) in
       subst (λ n. Stand n (added zs)) e (stand-right k (xs ++ ys) zs st)
 
+  -- behind the objects of parameters
+  pub stand-parameters : (k : ℕ) (ps ts : List SourceType) → Stand k (ps ++ ts) → Stand (k + length ps + 0) ts
+  stand-parameters k ps ts st =
+      let e : k + length ps ≡ k + length ps + 0 = omega arith in subst (λ i. Stand i ts) e (stand-second k ps ts st)
+
   pub of-itself : (k : ℕ) (t : SourceType) → slice_get locals k ≡ Some t → is_of (slice_get locals k) t ≡ true
   of-itself k t e = ap (λ o. is_of o t) e ∙ type-same (without_const t)
 
@@ -48,6 +53,10 @@ module _ (locals : List SourceType) where
 
   abbrev pub are_there : List Local → Bool
   are_there xs = list_all is_there xs
+
+  -- temporaries that are
+  abbrev pub all_there : List Temporary → Bool
+  all_there ts = list_all (λ (t : Temporary). is_there t.local) ts
 
   pub numbered-there : (k : ℕ) (ts : List SourceType) → Stand k ts → are_there (numbered k ts) ≡ true
   numbered-there k [] st = refl
@@ -80,6 +89,12 @@ stand-behind before (t ∷ ts) after = (at before (ts ++ after), moved (stand-be
 
     moved : Stand ((before ++ t ∷ []) ++ (ts ++ after)) (length (before ++ t ∷ [])) ts → Stand (before ++ t ∷ (ts ++ after)) (suc (length before)) ts
     moved st = subst (λ n. Stand (before ++ t ∷ (ts ++ after)) n ts) (longer before) (subst (λ l. Stand l (length (before ++ t ∷ [])) ts) (together before (ts ++ after)) st)
+
+-- the added locals of a function stand behind its parameters and its own
+pub stand-added : (ps ls more : List SourceType) → Stand (ps ++ (ls ++ more)) (length ps + length ls) more
+stand-added ps ls more =
+    subst (λ n. Stand (ps ++ (ls ++ more)) n more) (length-append ps ls)
+    (subst (λ l. Stand l (length (ps ++ ls)) more) (ap (λ l. (ps ++ ls) ++ l) (append-nil more) ∙ append_assoc ps ls more) (stand-behind (ps ++ ls) more []))
 
 -- a local is still there where more come behind
 pub still-there : (xs ys : List SourceType) (i : ℕ) (t : SourceType) → slice_get xs i ≡ Some t → slice_get (xs ++ ys) i ≡ Some t

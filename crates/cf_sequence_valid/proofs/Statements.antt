@@ -1,5 +1,5 @@
 -- Statements: the plain statements of a valid one are valid, and the locals that it adds have complete types.
-use Rattle.std.proofs.Common.{◌≡◌, ℕ, ◌+◌, Bool, true, false, ◌&&◌, ◌||◌, not, nat_le, nat_lt, if◌then◌else◌, List, [], ◌∷◌, ◌++◌, length, refl, sym, ap, ◌∙◌, subst, suc}
+use Rattle.std.proofs.Common.{◌≡◌, ℕ, ◌+◌, Bool, true, false, ◌&&◌, ◌||◌, not, nat_le, nat_lt, if◌then◌else◌, List, [], ◌++◌, length, reverse, refl, sym, ap, ◌∙◌, subst, suc}
 use Rattle.std.specs.Prelude.{ℤ, int_le, Option, Some, None, slice_get}
 use Rattle.std.specs.List.{list_all}
 use Rattle.std.proofs.lemmas.Option.{slice_get_within}
@@ -25,16 +25,17 @@ use Rattle.cf_plain.specs.Running.{has_case}
 use Rattle.cf_plain.specs.Valid as checks
 use Rattle.cf_plain.specs.Valid.{is_of}
 use Rattle.cf_sequence.specs.Built.{is_value, is_condition, is_start, is_filling, is_initial, is_held, declares_here, is_statement, is_inner_or, are_cases, are_statements, next_local}
-use Rattle.cf_sequence.specs.Made.{Local, added, width, width_maybe, declared, declared_all, held_by}
-use Rattle.cf_sequence.specs.Expressions.{Full, Destination, destination, value, whole, settled, finished, used}
+use Rattle.cf_sequence.specs.Made.{Local, Temporary, temporaries, added, width, width_maybe, declared, declared_all, held_by}
+use Rattle.cf_sequence.specs.Expressions.{Full, Destination, destination, value, whole, flags, ended, settled, finished, used}
 use Rattle.cf_sequence.specs.Statements.{Inside, declares, opened, in_loop, in_switch, held, stepped, started, passed, looping, statement, statement_or, statements}
 use Rattle.cf_sequence.proofs.Calling.{never}
 use Rattle.cf_sequence.proofs.Filling.{fill, filling-adds, filling-holds, started-is}
-use Rattle.cf_sequence.proofs.Fulls.{whole-is, nothing-is, held-none, held_at, held-code}
-use Rattle.cf_sequence_valid.proofs.Fine.{Fine, fine-none, fine-then, fine-by, fine-act, fine-set, fine-branch, fine-loop, fine-switch, fine-leave, fine-continue, fine-give, fine-used, fine-finished, fine-settled}
+use Rattle.cf_sequence.proofs.Fulls.{nothing-is, held-none, held_at}
+use Rattle.cf_sequence_valid.proofs.Fine.{Fine, fine-none, fine-then, fine-by, fine-act, fine-set, fine-branch, fine-loop, fine-switch, fine-leave, fine-continue, fine-give, fine-used, fine-finished, fine-settled, fine-flags, fine-ended}
 use Rattle.cf_sequence_valid.proofs.Passing.{fine-passed}
 use Rattle.cf_sequence_valid.proofs.Serves.{Serves, as_start, bound-parts, either-true, integers-serve, conditions-serve, expressions-serve}
 use Rattle.cf_sequence_valid.proofs.Stands.{Stand, stand-left, stand-right, stand-third, are_there, there-two}
+use Rattle.cf_sequence_valid.proofs.Temporaries.{ends-there}
 use Rattle.cf_sequence_valid.proofs.Values.{Kept, Good, good-value, complete-two}
 
 -- what stands in a function with these locals
@@ -103,10 +104,11 @@ module _ (body : Body) (locals : List SourceType) (keeps : Kept body.scope local
   fine-whole {b} {c} f e is s n k st go rest p q into =
       let x : Full = record { first = k; base = n } in
       let m : ℕ = n + width e in
-      fine-by locals (λ last. whole e n k (λ x m rest. value f.classes x e into m k (go m rest)) (λ m. rest m last)) (λ last. value f.classes x e into m k (go m (rest m last)))
-      (λ last. whole-is e is n k (λ x m rest. value f.classes x e into m k (go m rest)) (λ m. rest m last))
-      (fine-then locals (value f.classes x e into m k) (λ last. go m (rest m last)) (Good.code (expression-good f e is s) b c x into m k st)
-      (fine-then locals (go m) (rest m) (p m) (q m)))
+      let ts : List Temporary = temporaries false e k in
+      let ends : Plains → Plains = λ last. ended x (reverse ts) (rest m last) in
+      fine-then locals (flags x ts) (λ last. value f.classes x e into m k (go m (ends last))) (fine-flags locals x ts)
+      (fine-then locals (value f.classes x e into m k) (λ last. go m (ends last)) (Good.code (expression-good f e is s) b c x into m k st)
+      (fine-then locals (go m) ends (p m) (fine-then locals (ended x (reverse ts)) (rest m) (fine-ended locals x (reverse ts) (ends-there locals e is k st)) (q m))))
 
   -- an initialiser of a place
   fine-fill : {b c : Bool} (e : Core) → is_filling e ≡ true → (n : Register) → Fine locals b c (λ rest. more (act (fill e n)) rest)
@@ -238,15 +240,18 @@ module _ (body : Body) (locals : List SourceType) (keeps : Kept body.scope local
         there = all_of (is_of (slice_get locals j) u) true (local-there j u parts.0) refl;
         code = λ b c f k st.
             let x : Full = record { first = k; base = 1 } in
-            let last : Plains → Plains = λ rest. more (act (plain.first 0 n)) rest in
+            let ts : List Temporary = temporaries false e k in
+            let bound : Plains → Plains = λ rest. more (act (plain.first 0 n)) rest in
+            let last : Plains → Plains = λ rest. ended x (reverse ts) (bound rest) in
             let inner : Plains → Plains = λ rest. value f.classes x e (destination (suc n) u) (suc (suc n)) k (settled e (suc n) (suc (suc n)) (last rest)) in
-            fine-by locals (started f.classes t (core.bind (local_temporary j u) e) 0 k)
-            (λ rest. more (set (suc n) (plain.declare j u)) (more (set n (plain.local j)) (inner rest))) (held-code f.classes t j u e is 0 k)
-            (fine-then locals (λ rest. more (set (suc n) (plain.declare j u)) rest) (λ rest. more (set n (plain.local j)) (inner rest)) (fine-set locals (suc n) (plain.declare j u) (local-there j u parts.0))
+            let named : Plains → Plains = λ rest. more (set n (plain.local j)) (inner rest) in
+            fine-then locals (flags x ts) (λ rest. more (set (suc n) (plain.declare j u)) (named rest)) (fine-flags locals x ts)
+            (fine-then locals (λ rest. more (set (suc n) (plain.declare j u)) rest) named (fine-set locals (suc n) (plain.declare j u) (local-there j u parts.0))
             (fine-then locals (λ rest. more (set n (plain.local j)) rest) inner (fine-set locals n (plain.local j) (number-there j u parts.0))
             (fine-then locals (value f.classes x e (destination (suc n) u) (suc (suc n)) k) (λ rest. settled e (suc n) (suc (suc n)) (last rest))
             (Good.code (expression-good f e is (as_start u parts.1)) b c x (destination (suc n) u) (suc (suc n)) k st)
-            (fine-then locals (settled e (suc n) (suc (suc n))) last (fine-settled locals e (suc n) (suc (suc n))) (fine-act locals (plain.first 0 n) refl)))));
+            (fine-then locals (settled e (suc n) (suc (suc n))) last (fine-settled locals e (suc n) (suc (suc n)))
+            (fine-then locals (ended x (reverse ts)) bound (fine-ended locals x (reverse ts) (ends-there locals e is k st)) (fine-act locals (plain.first 0 n) refl))))));
       }
   starts-held i t e ok fit = never ok
 

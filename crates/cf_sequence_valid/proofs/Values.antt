@@ -12,6 +12,7 @@ use Rattle.cf_core.specs.Classes.{Class}
 use Rattle.cf_core.specs.Core as core
 use Rattle.cf_core.specs.Core.{Core, Cores, no_temporary, none, absent}
 use Rattle.cf_core.specs.Nodes.{nodes, nodes_all}
+use Rattle.cf_core.specs.Places.{is_reference}
 use Rattle.cf_core.specs.Typing.{Scope, is_function, same_type, of_name, is_condition, is_expression, pointed, is_right_operand, either, converts}
 use Rattle.cf_core.specs.Typed.{typing, typings, last_typing, typing_maybe, fit, on_object, read_type, pointed_place, address_type, decayed_type, stepped, void_pointer}
 use Rattle.cf_core.specs.Valid.{is_complete}
@@ -20,7 +21,7 @@ use Rattle.cf_plain.specs.Plain as plain
 use Rattle.cf_plain.specs.Valid.{action_fits}
 use Rattle.cf_sequence.specs.Built.{is_value, are_values, are_arguments, is_chain}
 use Rattle.cf_sequence.specs.Made.{added, makes, width, numbers}
-use Rattle.cf_sequence.specs.Expressions.{Full, Destination, destination, value, values, arguments, settled, result_register, used}
+use Rattle.cf_sequence.specs.Expressions.{Full, flag, Destination, destination, value, values, arguments, settled, result_register, used}
 use Rattle.cf_sequence.proofs.Calling.{never}
 use Rattle.cf_sequence_valid.proofs.Complete.{expression-starts}
 use Rattle.cf_sequence_valid.proofs.Complete as complete
@@ -237,6 +238,21 @@ module _ (classes : List Class) (scope : Scope) (locals : List SourceType) (keep
               fine-then locals (value classes x e None (suc n) k)
               (λ rest. more (set n (plain.read (suc n))) (more (set (suc (suc n)) (plain.number (pos 1))) (more (set (suc (suc n)) (plain.changed change n (suc (suc n)))) (more (act (plain.store (suc n) (suc (suc n)))) rest))))
               (good.code b c x None (suc n) k st) (record { fit = λ rest ok. ok; labelled = λ rest e ok. ok; cases = λ z rest. refl; default = λ rest. refl; differ = λ rest. refl });
+        }
+    good-value (core.temporary t e) ok s =
+        let is : is_value e ≡ true = (both (not (is_reference t)) (is_value e) ok).1 in
+        let starts : (typing scope e).start t ≡ true = allowed-is ((typing scope e).start t) _ s in
+        let good = good-value e is (as_start t starts) in
+        record {
+          complete = all_of (is_complete scope.classes t) (are_complete (added (nodes e))) (complete.Starts.starts (expression-starts scope.classes scope e is) t starts) good.complete;
+          code = λ b c x into n k st.
+              let first : Plains → Plains = value classes x e (destination (suc n) t) (suc (suc n)) (suc k) in
+              let last : Plains → Plains = λ rest. more (set (flag x k) (plain.number (pos 1))) rest in
+              let inner : Plains → Plains = λ rest. first (settled e (suc n) (suc (suc n)) (last rest)) in
+              fine-then locals (λ rest. more (set (suc n) (plain.declare k t)) rest) (λ rest. more (set n (plain.local k)) (inner rest)) (fine-set locals (suc n) (plain.declare k t) (of-itself locals k t st.0))
+              (fine-then locals (λ rest. more (set n (plain.local k)) rest) inner (fine-set locals n (plain.local k) (lt-ltb k (length locals) (slice_get_within locals k t st.0)))
+              (fine-then locals first (λ rest. settled e (suc n) (suc (suc n)) (last rest)) (good.code b c x (destination (suc n) t) (suc (suc n)) (suc k) st.1)
+              (fine-then locals (settled e (suc n) (suc (suc n))) last (fine-settled locals e (suc n) (suc (suc n))) (fine-set locals (flag x k) (plain.number (pos 1)) refl))));
         }
     good-value (core.bind no_temporary e) ok s =
         let good = good-value e ok (bind-serves scope (typing scope e) s) in record { complete = good.complete; code = λ b c x into n k st. good.code b c x None n k st }

@@ -11,6 +11,7 @@ use Rattle.cf_core.specs.Types.{Name, parameters, result, is_class}
 use Rattle.cf_core.specs.Classes.{Class}
 use Rattle.cf_core.specs.Core as core
 use Rattle.cf_core.specs.Core.{Core, Cores, absent, given}
+use Rattle.cf_core.specs.Places.{is_reference}
 use Rattle.cf_core.specs.FromTypes.{Tables, type_of}
 use Rattle.cf_core.specs.View.{Started, core_step, started_step, core_of, listed}
 use Rattle.cf_sequence.specs.Built.{is_value, is_start, are_values, are_arguments, is_chain}
@@ -21,6 +22,7 @@ use Rattle.cf_sequence_expr.specs.Pieces as pieces
 use Rattle.cf_sequence_expr.specs.Pieces.{Piece, piece, part_piece, piece_step}
 use Rattle.cf_sequence_written.proofs.Adding.{added-count}
 use Rattle.cf_sequence_written.proofs.Values.{Writes, WritesAll, writes-Number, writes-Text, writes-Local, writes-Static, writes-Function, writes-Read, writes-Address, writes-Dereference, writes-Decay, writes-Convert, writes-FromVoid, writes-Unary, writes-Not, writes-Index, writes-Operate, writes-PointerOperate, writes-Store, writes-And, writes-Or, writes-Conditional, writes-none, writes-more, writes-Comma, writes-Update, writes-Increment, writes-Blank}
+use Rattle.cf_sequence_written.proofs.Made.{writes-Temporary}
 use Rattle.cf_sequence_written.proofs.Calls.{WritesArguments, arguments-none, arguments-more, writes-Call, writes-PointerCall}
 
 pub is-false : (b : Bool) → not b ≡ true → b ≡ false
@@ -129,7 +131,9 @@ module _ (tables : Tables) (signature : MemberRef → Name) (classes : List Clas
   layer (Core-F.Store at a b) ok = let parts = both (is_value (of a)) (is_value (of b)) ok in writes-Store tables signature classes at (of_value a parts.0) (of_value b parts.1)
   layer (Core-F.Update at a c b) ok = let parts = both (is_value (of a)) (is_value (of b)) ok in writes-Update tables signature classes at c (of_value a parts.0) (of_value b parts.1)
   layer (Core-F.Increment at is_postfix c e) ok = writes-Increment tables signature classes at is_postfix c (of_value e ok)
-  layer (Core-F.Bind at holder.NoTemporary e) ok = record { puts = λ x into n. Writes.puts (of_value e ok) x None n }
+  layer (Core-F.Bind at holder.NoTemporary e) ok = record { puts = λ x into n. Writes.puts (of_value e ok) x None n; finds = λ b. Writes.finds (of_value e ok) b }
+  layer (Core-F.Temporary at t e) ok =
+      let is = (both (not (is_reference (type_of tables t))) (is_value (of e)) ok).1 in writes-Temporary tables signature classes at t (of_value e is) (gives-value (of e) is)
   layer (Core-F.Call at name t None es) ok =
       let parts = both (not (is_class (result (type_of tables t)))) (is_chain (type_of tables t) && are_arguments (cores_of es)) ok in
       writes-Call tables signature classes at name t (params t) (is-false (is_class (result (type_of tables t))) parts.0)

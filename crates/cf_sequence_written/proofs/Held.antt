@@ -30,7 +30,7 @@ use Rattle.cf_sequence_stmt.specs.Steps.{Step, step, step_step, held_step}
 use Rattle.cf_sequence_stmt.specs.Steps as steps
 use Rattle.cf_sequence_written.proofs.Opens.{ends}
 use Rattle.cf_sequence_written.proofs.Puts.{Puts, still-set, still-act, puts-as, puts-still, still-puts}
-use Rattle.cf_sequence_written.proofs.Values.{Writes}
+use Rattle.cf_sequence_written.proofs.Values.{Writes, full_of}
 use Rattle.cf_sequence_written.proofs.Evaluated.{written-start, value-start, gives-value}
 
 abbrev pub held_list : Option Open → List Open
@@ -132,7 +132,7 @@ module _ (tables : Tables) where
 module _ (tables : Tables) (signature : MemberRef → Name) (classes : List Class)
     (params : (t : ℕ) → map (type_of tables) (parameters_at tables.types t) ≡ parameters (type_of tables t)) where
   puts-held : {p : Piece} {e : Core} (x : Full) (i t n : ℕ) → Writes tables signature classes p e → builds e ≡ false
-      → Puts tables signature (held i t p n)
+      → Puts tables signature (held i t p (full_of x) n)
       (λ k rest. more (sets (suc n) (plain.declare i (type_of tables t))) (more (sets n (plain.local i))
       (value classes x e (destination (suc n) (type_of tables t)) (suc (suc n)) k (settled e (suc n) (suc (suc n)) rest)))) (width e)
   unfolding held
@@ -160,7 +160,8 @@ module _ (tables : Tables) (signature : MemberRef → Name) (classes : List Clas
   written-layer (Core-F.Bind at (holder.LocalTemporary j t) e) i ok =
       let c = core_of tables signature e in
       let is = (both (not (is_reference (type_of tables t))) (is_value c) (both (nat_lt i j) (not (is_reference (type_of tables t)) && is_value c) ok).1).1 in
-      record { puts = λ x into n. puts-held x j t n (written-start tables signature classes params e (value-start c is)) (gives-value c is) }
+      let w = written-start tables signature classes params e (value-start c is) in
+      record { puts = λ x into n. puts-held x j t n w (gives-value c is); finds = λ b. Writes.finds w b }
   written-layer (Core-F.Bind at holder.NoTemporary e) i ok = never ok
   written-layer (Core-F.Bind at (holder.StaticTemporary name) e) i ok = never ok
   written-layer x i ok = never ok

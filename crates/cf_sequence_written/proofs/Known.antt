@@ -21,11 +21,15 @@ use Rattle.cf_plain.specs.declared.statement.Plain.TheFolds.{fold-roll-Plain}
 use Rattle.cf_plain.specs.declared.statement.Plain.TheVariants as code
 use Rattle.cf_plain.specs.declared.statement.Plain.TheVariants.{rolls-Act, rolls-Set, rolls-If}
 use Rattle.cf_plain.specs.Numbers.{action_known, known_step, known_part, are_known}
+use Rattle.cf_sequence_expr.specs.declared.temporaries.Found.{Found}
+use Rattle.cf_sequence_expr.specs.declared.temporaries.Temporary.{Temporary}
+use Rattle.cf_sequence_expr.specs.declared.writing.Full.{Full}
 use Rattle.cf_sequence_expr.specs.declared.writing.Writing.{Writing}
-use Rattle.cf_sequence_expr.specs.Writes.{put, set, act, used, emptied, branched, within, passed}
+use Rattle.cf_sequence_expr.specs.Finds.{skipped, listed}
+use Rattle.cf_sequence_expr.specs.Writes.{flag, put, set, act, used, emptied, branched, within, passed}
 use Rattle.cf_sequence_expr.specs.Parameters.{parameters_at, counted}
 use Rattle.cf_sequence_expr.specs.Pieces as pieces
-use Rattle.cf_sequence_expr.specs.Pieces.{Piece, left, two, truth, all_values, updated, stepped, stepped_behind, argument, arguments, called, callee, pointed, held}
+use Rattle.cf_sequence_expr.specs.Pieces.{Piece, left, two, truth, all_values, updated, stepped, stepped_behind, argument, arguments, called, callee, pointed, held, temporary, find_all, find_temporary}
 
 pub and-true : (a b : Bool) → a ≡ true → b ≡ true → a && b ≡ true
 and-true a b p q = ap (λ c. c && b) p ∙ q
@@ -34,7 +38,7 @@ module _ (tables : Tables) where
   abbrev pub is_known : Plain → Bool
   is_known = fold-Plain Bool Bool (known_step tables) (known_part tables)
 
-  known-Act : (a : Action) → is_known (code.Act a) ≡ action_known tables a
+  pub known-Act : (a : Action) → is_known (code.Act a) ≡ action_known tables a
   known-Act a = ap is_known (sym (rolls-Act a)) ∙ fold-roll-Plain Bool Bool (known_step tables) (known_part tables) (Plain-F.Act a)
 
   known-Set : (n : ℕ) (a : Action) → is_known (code.Set n a) ≡ action_known tables a
@@ -98,22 +102,50 @@ module _ (tables : Tables) where
         branched-known n w.code (Writing.code first) (g (emptied first)) ok (p.keeps (emptied w) (emptied-known w)) (q.keeps (emptied first) (emptied-known first));
   }
 
+  -- Temporaries.
+
+  abbrev pub are_typed : List Temporary → Bool
+  are_typed ts = list_all (λ (t : Temporary). has_type tables t.ty) ts
+
+  -- the types of what is found are there
+  pub record Typed (f : Found → Found) : Type 0 where
+    pub typed : (x : Found) → are_typed x.made ≡ true → are_typed (Found.made (f x)) ≡ true
+
+  pub typed-none : Typed (λ x. x)
+  typed-none = record { typed = λ x ok. ok }
+
+  pub typed-then : {f g : Found → Found} → Typed f → Typed g → Typed (λ x. g (f x))
+  typed-then {f} p q = record { typed = λ x ok. q.typed (f x) (p.typed x ok) }
+
+  pub typed-skipped : (count : ℕ) → Typed (skipped count)
+  unfolding skipped
+  typed-skipped count = record { typed = λ x ok. ok }
+
+  typed-listed : (i t : ℕ) (b : Bool) → has_type tables t ≡ true → Typed (listed i t b)
+  unfolding listed
+  typed-listed i t b there = record {
+    typed = λ x ok.
+        list_all-append (λ (t : Temporary). has_type tables t.ty) x.made (record { local = i; ty = t; in_branch = b } ∷ [])
+        ∙ and-true (are_typed x.made) _ ok (and-true (has_type tables t) true there refl);
+  }
+
   -- Expressions.
 
   pub record KnownPiece (p : Piece) : Type 0 where
-    pub value : (n : ℕ) → Keeps (p.value n)
+    pub value : (x : Full) (n : ℕ) → Keeps (p.value x n)
     pub locals : (l : List ℕ) → list_all (has_type tables) l ≡ true → list_all (has_type tables) (p.locals l) ≡ true
+    pub finds : (b : Bool) → Typed (p.finds b)
 
-  keeps-left : {p : Piece} (n : ℕ) → KnownPiece p → Keeps (left p n)
+  keeps-left : {p : Piece} (x : Full) (n : ℕ) → KnownPiece p → Keeps (left p x n)
   unfolding left
-  keeps-left n p = record { keeps = Keeps.keeps (keeps-then (p.value n) (keeps-used n)) }
+  keeps-left x n p = record { keeps = Keeps.keeps (keeps-then (p.value x n) (keeps-used n)) }
 
-  pub keeps-two : {p q : Piece} (n : ℕ) → KnownPiece p → KnownPiece q → Keeps (two p q n)
-  keeps-two n p q = keeps-then (keeps-left n p) (q.value (suc n))
+  pub keeps-two : {p q : Piece} (x : Full) (n : ℕ) → KnownPiece p → KnownPiece q → Keeps (two p q x n)
+  keeps-two x n p q = keeps-then (keeps-left x n p) (q.value x (suc n))
 
-  pub keeps-truth : {p : Piece} (n : ℕ) → KnownPiece p → Keeps (truth p n)
+  pub keeps-truth : {p : Piece} (x : Full) (n : ℕ) → KnownPiece p → Keeps (truth p x n)
   unfolding truth
-  keeps-truth n p = record { keeps = Keeps.keeps (keeps-then (p.value n) (keeps-set n (action.Truth n) refl)) }
+  keeps-truth x n p = record { keeps = Keeps.keeps (keeps-then (p.value x n) (keeps-set n (action.Truth n) refl)) }
 
   pub keeps-updated : (c : Change) (n : ℕ) → Keeps (updated c n)
   unfolding updated
@@ -143,55 +175,73 @@ module _ (tables : Tables) where
   known-at (u ∷ ts) zero t e ok = let same : u ≡ t = cc in ap (has_type tables) (sym same) ∙ (both (has_type tables u) (list_all (has_type tables) ts) ok).0
   known-at (u ∷ ts) (suc j) t e ok = known-at ts j t e (both (has_type tables u) (list_all (has_type tables) ts) ok).1
 
-  keeps-argument : {p : Piece} (o : Option ℕ) (n i : ℕ) → ((t : ℕ) → o ≡ Some t → has_type tables t ≡ true) → KnownPiece p → Keeps (argument o p n i)
+  keeps-argument : {p : Piece} (o : Option ℕ) (x : Full) (n i : ℕ) → ((t : ℕ) → o ≡ Some t → has_type tables t ≡ true) → KnownPiece p → Keeps (argument o p x n i)
   unfolding argument
-  keeps-argument {p} None n i known one = record { keeps = Keeps.keeps (keeps-passed (length (p.locals []))) }
-  keeps-argument {p} (Some t) n i known one = record {
-    keeps = Keeps.keeps (keeps-then (keeps-then (keeps-set n (action.Declare i t) (known t refl)) (one.value (suc n))) (keeps-act (action.First n (suc n)) refl));
+  keeps-argument {p} None x n i known one = record { keeps = Keeps.keeps (keeps-passed (length (p.locals []))) }
+  keeps-argument {p} (Some t) x n i known one = record {
+    keeps = Keeps.keeps (keeps-then (keeps-then (keeps-set n (action.Declare i t) (known t refl)) (one.value x (suc n))) (keeps-act (action.First n (suc n)) refl));
   }
 
   -- a reference's temporary
-  pub keeps-held : {p : Piece} (i t n : ℕ) → has_type tables t ≡ true → KnownPiece p → Keeps (held i t p n)
+  pub keeps-held : {p : Piece} (i t : ℕ) (x : Full) (n : ℕ) → has_type tables t ≡ true → KnownPiece p → Keeps (held i t p x n)
   unfolding held
-  keeps-held {p} i t n there one = record {
+  keeps-held {p} i t x n there one = record {
     keeps = Keeps.keeps
-        (keeps-then (keeps-then (keeps-then (keeps-set (suc n) (action.Declare i t) there) (keeps-set n (action.Local i) refl)) (one.value (suc (suc n))))
+        (keeps-then (keeps-then (keeps-then (keeps-set (suc n) (action.Declare i t) there) (keeps-set n (action.Local i) refl)) (one.value x (suc (suc n))))
         (keeps-act (action.First (suc n) (suc (suc n))) refl));
   }
 
+  -- that of a full expression
+  pub keeps-temporary : {p : Piece} (t : ℕ) (x : Full) (n : ℕ) → has_type tables t ≡ true → KnownPiece p → Keeps (temporary t p x n)
+  unfolding temporary
+  keeps-temporary {p} t x n there one = record {
+    keeps = λ w ok.
+        let before = keeps-then (keeps-then (keeps-passed 1) (keeps-set (suc n) (action.Declare w.next t) there)) (keeps-set n (action.Local w.next) refl) in
+        let behind = keeps-then (keeps-act (action.First (suc n) (suc (suc n))) refl) (keeps-set (flag x w.next) (action.Number (pos 1)) refl) in
+        Keeps.keeps behind _ (Keeps.keeps (one.value x (suc (suc n))) _ (before.keeps w ok));
+  }
+
+  pub typed-temporary : {p : Piece} (t : ℕ) (b : Bool) → has_type tables t ≡ true → KnownPiece p → Typed (find_temporary t p b)
+  typed-temporary t b there one = record {
+    typed = λ x ok. Typed.typed (typed-listed x.next t b there) _ (Typed.typed (typed-then (typed-skipped 1) (one.finds b)) x ok);
+  }
+
   pub record KnownAll (ps : List Piece) : Type 0 where
-    pub values : (n : ℕ) → Keeps (all_values ps n)
-    pub arguments : (ts : List ℕ) → list_all (has_type tables) ts ≡ true → (j n k : ℕ) → Keeps (arguments ts j ps n k)
+    pub values : (x : Full) (n : ℕ) → Keeps (all_values ps x n)
+    pub arguments : (ts : List ℕ) → list_all (has_type tables) ts ≡ true → (j : ℕ) (x : Full) (n k : ℕ) → Keeps (arguments ts j ps x n k)
     pub locals : (l : List ℕ) → list_all (has_type tables) l ≡ true → list_all (has_type tables) (pieces.in_all ps l) ≡ true
+    pub finds : (b : Bool) → Typed (find_all ps b)
 
   pub known-none : KnownAll []
-  known-none = record { values = λ n. keeps-none; arguments = λ ts ok j n k. keeps-none; locals = λ l ok. ok }
+  known-none = record { values = λ x n. keeps-none; arguments = λ ts ok j x n k. keeps-none; locals = λ l ok. ok; finds = λ b. typed-none }
 
   pub known-more : {p : Piece} {ps : List Piece} → KnownPiece p → KnownAll ps → KnownAll (p ∷ ps)
   known-more {p} {ps} one all = record {
-    values = λ n. keeps-then (one.value n) (all.values n);
-    arguments = λ ts ok j n k.
-        keeps-then (keeps-argument (slice_get ts j) n (k + j) (λ t e. known-at ts j t e ok) one) (all.arguments ts ok (suc j) n k);
+    values = λ x n. keeps-then (one.value x n) (all.values x n);
+    arguments = λ ts ok j x n k.
+        keeps-then (keeps-argument (slice_get ts j) x n (k + j) (λ t e. known-at ts j t e ok) one) (all.arguments ts ok (suc j) x n k);
     locals = λ l ok. all.locals (p.locals l) (one.locals l ok);
+    finds = λ b. typed-then (one.finds b) (all.finds b);
   }
 
-  pub keeps-called : {ps : List Piece} (name : List ℕ) (t : ℕ) (ts : List ℕ) (n : ℕ) → has_type tables t ≡ true → list_all (has_type tables) ts ≡ true → KnownAll ps → Keeps (called name t ts ps n)
+  pub keeps-called : {ps : List Piece} (name : List ℕ) (t : ℕ) (ts : List ℕ) (x : Full) (n : ℕ) → has_type tables t ≡ true → list_all (has_type tables) ts ≡ true → KnownAll ps
+      → Keeps (called name t ts ps x n)
   unfolding called
-  keeps-called {ps} name t ts n there types all = record {
+  keeps-called {ps} name t ts x n there types all = record {
     keeps = λ w ok.
         let before = keeps-then (keeps-act (action.Function name t) there) (keeps-passed (length ts)) in
         Keeps.keeps (keeps-set n (action.Call name t None (counted w.next (length ts)) None) there) _
-        (Keeps.keeps (all.arguments ts types 0 n w.next) _ (before.keeps w ok));
+        (Keeps.keeps (all.arguments ts types 0 x n w.next) _ (before.keeps w ok));
   }
 
-  pub keeps-pointed : {p : Piece} {ps : List Piece} (t : ℕ) (ts : List ℕ) (n : ℕ) → has_type tables t ≡ true → list_all (has_type tables) ts ≡ true → KnownPiece p → KnownAll ps
-      → Keeps (λ w. pointed t ts ps n w.next (callee ts p n w))
+  pub keeps-pointed : {p : Piece} {ps : List Piece} (t : ℕ) (ts : List ℕ) (x : Full) (n : ℕ) → has_type tables t ≡ true → list_all (has_type tables) ts ≡ true → KnownPiece p → KnownAll ps
+      → Keeps (λ w. pointed t ts ps x n w.next (callee ts p x n w))
   unfolding callee pointed
-  keeps-pointed {p} {ps} t ts n there types one all = record {
+  keeps-pointed {p} {ps} t ts x n there types one all = record {
     keeps = λ w ok.
-        let before = keeps-then (keeps-then (keeps-passed (length ts)) (one.value n)) (keeps-used n) in
+        let before = keeps-then (keeps-then (keeps-passed (length ts)) (one.value x n)) (keeps-used n) in
         Keeps.keeps (keeps-set n (action.PointerCall None n t (counted w.next (length ts)) None) there) _
-        (Keeps.keeps (all.arguments ts types 0 (suc n) w.next) _ (before.keeps w ok));
+        (Keeps.keeps (all.arguments ts types 0 x (suc n) w.next) _ (before.keeps w ok));
   }
 
   module _ (names : (i : ℕ) (v : Ty) → slice_get tables.types.types i ≡ Some v → Names tables.types.funs i (length tables.types.funs) v) where

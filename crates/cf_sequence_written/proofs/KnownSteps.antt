@@ -1,5 +1,6 @@
 -- The numbers of types in what is written for the kinds of statements are there in the tables.
 use Rattle.std.proofs.Common.{◌≡◌, ℕ, zero, suc, Bool, true, false, ◌&&◌, List, [], ◌∷◌, map, length, take, drop, Option, Some, None, if◌then◌else◌, refl, ap, sym, subst, ◌∙◌}
+use Rattle.std.specs.Prelude.{pos}
 use Rattle.std.specs.List.{list_all}
 use Rattle.std.proofs.lemmas.List.Folds.{list_all-append}
 use Rattle.cf_base.proofs.Tests.{both}
@@ -19,16 +20,19 @@ use Rattle.cf_plain.specs.declared.statement.Plain.TheVariants as code
 use Rattle.cf_plain.specs.declared.statement.Plain.TheVariants.{rolls-Loop, rolls-Switch, rolls-Break, rolls-Return}
 use Rattle.cf_plain.specs.Numbers as plain
 use Rattle.cf_plain.specs.Numbers.{are_known}
+use Rattle.cf_sequence_expr.specs.declared.temporaries.Temporary.{Temporary}
+use Rattle.cf_sequence_expr.specs.declared.writing.Full.{Full}
 use Rattle.cf_sequence_expr.specs.declared.writing.Writing.{Writing}
-use Rattle.cf_sequence_expr.specs.Pieces.{Piece}
+use Rattle.cf_sequence_expr.specs.Writes.{flag, put, set, act}
+use Rattle.cf_sequence_expr.specs.Pieces.{Piece, found_in}
 use Rattle.cf_sequence_stmt.specs.declared.body.Body.{Body}
 use Rattle.cf_sequence_stmt.specs.declared.body.Open.{Open}
 use Rattle.cf_sequence_stmt.specs.declared.body.Ways.{Ways}
-use Rattle.cf_sequence_stmt.specs.Bodies.{Initial, does_nothing, fills, gives, on, behind_flags, opened, ended, left_to, closed_to, full, given, tested, started, held_too, declared, stated, begun, chosen, turned, switched, with_code, there, passed_at}
+use Rattle.cf_sequence_stmt.specs.Bodies.{Initial, does_nothing, fills, gives, on, behind_flags, cleared_one, cleared, over_one, over, full_at, entered, left_behind, opened, ended, left_to, closed_to, full, given, tested, started, held_too, declared, stated, begun, chosen, turned, switched, with_code, there, passed_at}
 use Rattle.cf_sequence_stmt.specs.Steps as steps
 use Rattle.cf_sequence_stmt.specs.Steps.{Step, step, step_step, initial_step, in_order, or_nothing, inside_loop, inside_switch, held, stepped, turn, repeated, loop, labelled, passing, passes, selected, selection, choice, returned}
 use Rattle.cf_sequence_written.proofs.Held.{KnownHeld}
-use Rattle.cf_sequence_written.proofs.Known.{is_known, KnownPiece, Keeps, keeps-none, keeps-then, keeps-put, keeps-set, keeps-act, keeps-used, keeps-truth, known-last, known-If, all-mapped, emptied-known, branched-known, and-true}
+use Rattle.cf_sequence_written.proofs.Known.{is_known, known-Act, are_typed, Typed, KnownPiece, Keeps, keeps-none, keeps-then, keeps-put, keeps-set, keeps-act, keeps-used, known-last, known-If, all-mapped, emptied-known, branched-known, and-true}
 
 module _ (tables : Tables) where
   abbrev pub have_types : List Open → Bool
@@ -107,17 +111,63 @@ module _ (tables : Tables) where
   unfolding switched
   known-switched n before b one ok = record { code = known-last tables before (code.Switch n (Writing.code b.writing)) one (switch-known n (Writing.code b.writing) ok.code); scope = ok.scope }
 
+  -- Full expressions: the temporaries that are found are of types that are there.
+
+  found-typed : (p : Piece) → KnownPiece tables p → (k : ℕ) → are_typed tables (found_in p k) ≡ true
+  found-typed p q k = Typed.typed (q.finds false) (record { next = k; made = [] }) refl
+
+  keeps-cleared_one : (x : Full) (t : Temporary) → Keeps tables (cleared_one x t)
+  unfolding cleared_one
+  keeps-cleared_one x t = by t.in_branch
+    where
+      by : (b : Bool) → Keeps tables (λ w. if b then set (flag x t.local) (action.Number (pos 0)) w else w)
+      by true = keeps-set tables (flag x t.local) (action.Number (pos 0)) refl
+      by false = keeps-none tables
+
+  keeps-cleared : (x : Full) (ts : List Temporary) → Keeps tables (cleared x ts)
+  keeps-cleared x [] = keeps-none tables
+  keeps-cleared x (t ∷ ts) = keeps-then tables (keeps-cleared_one x t) (keeps-cleared x ts)
+
+  finish-known : (n i t : ℕ) → has_type tables t ≡ true → is_known tables (code.If n (code.Act (action.Finish t i) ∷ []) []) ≡ true
+  finish-known n i t there =
+      known-If tables n (code.Act (action.Finish t i) ∷ []) []
+      ∙ and-true (list_all (λ (b : Bool). b) (map (is_known tables) (code.Act (action.Finish t i) ∷ []))) true
+      (and-true (is_known tables (code.Act (action.Finish t i))) true (known-Act tables (action.Finish t i) ∙ there) refl) refl
+
+  keeps-over_one : (x : Full) (t : Temporary) → has_type tables t.ty ≡ true → Keeps tables (over_one x t)
+  unfolding over_one
+  keeps-over_one x t there = by t.in_branch
+    where
+      by : (b : Bool) → Keeps tables (λ w. if b then put (code.If (flag x t.local) (code.Act (action.Finish t.ty t.local) ∷ []) []) w else act (action.Finish t.ty t.local) w)
+      by true = keeps-put tables (code.If (flag x t.local) (code.Act (action.Finish t.ty t.local) ∷ []) []) (finish-known (flag x t.local) t.local t.ty there)
+      by false = keeps-act tables (action.Finish t.ty t.local) there
+
+  keeps-over : (x : Full) (ts : List Temporary) → are_typed tables ts ≡ true → Keeps tables (over x ts)
+  keeps-over x [] ok = keeps-none tables
+  keeps-over x (t ∷ ts) ok =
+      let parts = both (has_type tables t.ty) (are_typed tables ts) ok in keeps-then tables (keeps-over x ts parts.1) (keeps-over_one x t parts.0)
+
+  -- with whatever stands between the value and the ends
+  keeps-around : {f : Writing → Writing} (n : ℕ) (p : Piece) → KnownPiece tables p → Keeps tables f → Keeps tables (λ w. left_behind n p w (f (entered n p w)))
+  unfolding entered left_behind
+  keeps-around n p q between = record {
+    keeps = λ w ok.
+        let x = full_at n w in
+        Keeps.keeps (keeps-over x (found_in p w.next) (found-typed p q w.next)) _
+        (between.keeps _ (Keeps.keeps (q.value x (behind_flags n p)) _ (Keeps.keeps (keeps-cleared x (found_in p w.next)) w ok)));
+  }
+
   pub known-full : (p : Piece) (b : Body) → KnownPiece tables p → KnownBody b → KnownBody (full p b)
   unfolding full
-  known-full p b q ok = known-on b (q.value (behind_flags 0 p)) ok
+  known-full p b q ok = known-on b (keeps-around 0 p q (keeps-none tables)) ok
 
   known-given : (p : Piece) (b : Body) → KnownPiece tables p → KnownBody b → KnownBody (given p b)
   unfolding given
-  known-given p b q ok = known-on b (keeps-then tables (q.value (behind_flags 0 p)) (keeps-used tables (behind_flags 0 p))) ok
+  known-given p b q ok = known-on b (keeps-around 0 p q (keeps-used tables (behind_flags 0 p))) ok
 
   known-tested : (p : Piece) (b : Body) → KnownPiece tables p → KnownBody b → KnownBody (tested p b)
   unfolding tested
-  known-tested p b q ok = known-on b (keeps-truth tables (behind_flags 0 p) q) ok
+  known-tested p b q ok = known-on b (keeps-around 0 p q (keeps-set tables (behind_flags 0 p) (action.Truth (behind_flags 0 p)) refl)) ok
 
   -- Initialisers.
 
@@ -140,7 +190,9 @@ module _ (tables : Tables) where
   unfolding started
   keeps-started does_nothing p known q = record { keeps = λ w ok. ok }
   keeps-started (fills a) p known q = record { keeps = Keeps.keeps (keeps-act tables a known) }
-  keeps-started gives p known q = record { keeps = Keeps.keeps (keeps-then tables (q.value (behind_flags 1 p)) (keeps-act tables (action.First 0 (behind_flags 1 p)) refl)) }
+  keeps-started gives p known q = record {
+    keeps = Keeps.keeps (keeps-then tables (keeps-around 1 p q (keeps-none tables)) (keeps-act tables (action.First 0 (behind_flags 1 p)) refl));
+  }
 
   known-held_too : (o : Option Open) (b : Body) → KnownHeld tables o → KnownBody b → KnownBody (held_too o b)
   unfolding held_too

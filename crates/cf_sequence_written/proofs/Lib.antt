@@ -2,10 +2,13 @@ pub mod Views
 pub mod Followed
 pub mod Puts
 pub mod Adding
+pub mod Finding
 pub mod Values
+pub mod Made
 pub mod Calls
 pub mod Evaluated
 pub mod Held
+pub mod Fulls
 pub mod Opens
 pub mod Bodies
 pub mod Standing

@@ -16,8 +16,8 @@ use Rattle.cf_plain.specs.Plain.{Plains, nothing, more, branch, leave}
 use Rattle.cf_plain.specs.Plain as plain
 use Rattle.cf_plain.specs.View.{plain_of, plains_of}
 use Rattle.cf_sequence.specs.Built.{are_cases}
-use Rattle.cf_sequence.specs.Made.{Local, added, width, width_maybe, declared, declared_all}
-use Rattle.cf_sequence.specs.Expressions.{finished, value, used as use_of}
+use Rattle.cf_sequence.specs.Made.{added, width, width_maybe, declared, declared_all}
+use Rattle.cf_sequence.specs.Expressions.{finished}
 use Rattle.cf_sequence.specs.Statements.{Inside, statement, statements, in_loop, in_switch, passed}
 use Rattle.cf_sequence.specs.Statements as definition
 use Rattle.cf_sequence_expr.specs.declared.writing.Writing.{Writing}
@@ -31,7 +31,7 @@ use Rattle.cf_sequence_written.proofs.Followed.{followed, followed-end}
 use Rattle.cf_sequence_written.proofs.Values.{nodes-count}
 use Rattle.cf_sequence_written.proofs.Bodies.{Goes, goes-none, goes-as, goes-rest, goes-stated, goes-closed, goes-alone, code-begun, next-begun, scope-begun, same-scope, code-turned, next-turned, scope-turned, code-switched, next-switched, scope-switched, code-with_code, next-with_code, scope-with_code}
 use Rattle.cf_sequence_written.proofs.Standing.{Stands, stands-in_loop, stands-in_switch}
-use Rattle.cf_sequence_written.proofs.Wholes.{Whole, register, goes-full, goes-given, goes-tested, condition-is}
+use Rattle.cf_sequence_written.proofs.Wholes.{Whole, register, goes-full, goes-given, goes-tested}
 use Rattle.cf_sequence_written.proofs.Statements.{Acts, ActsAll, IsStated, stated-cases}
 use Rattle.cf_sequence_written.proofs.Passed.{PassesAll, goes-selected}
 
@@ -55,7 +55,7 @@ module _ (tables : Tables) (signature : MemberRef → Name) where
       ∙ ap (λ s. branch (0 + width e) nothing (more s nothing)) (of-Break tables signature) in
       goes-as tables signature
       (goes-rest tables signature (goes-tested tables signature classes b w) (goes-stated tables signature (code.If r [] (code.Break ∷ [])) _ (tested s.piece b) out))
-      (λ rest. condition-is tables signature classes e (Whole.around w) (Writing.next b.writing) (λ n. more (branch n nothing (more leave nothing)) rest)) refl
+      (λ rest. refl) refl
 
   -- what the step does, before a rest
   abbrev step_before : Inside → MaybeCore → ℕ → Plains → Plains
@@ -196,10 +196,7 @@ module _ (tables : Tables) (signature : MemberRef → Name) where
             ∙ ap (λ ts. followed tables signature (Writing.code v.writing) (more (plain.switch r ts) rest))
             (goes-alone tables signature v within ∙ ap (λ i. statements (in_switch f) es i (finished (declared_all es) nothing)) (Goes.next front))
             ∙ ap (λ q. followed tables signature (Writing.code v.writing) (more (plain.switch q inner) rest)) (register tables signature w)
-            ∙ Goes.code front (more (plain.switch n inner) rest)
-            ∙ ap (followed tables signature (Writing.code b.writing))
-            (sym (Whole.around w 0 k (λ x n rest. value f.classes x e None n k (use_of n rest))
-            (λ n. passed n es (more (plain.switch n inner) rest))));
+            ∙ Goes.code front (more (plain.switch n inner) rest);
         next =
             let one = Goes.next front in
             let two = Goes.next within in

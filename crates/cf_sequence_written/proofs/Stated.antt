@@ -1,6 +1,6 @@
 -- What is written for a built statement is the definition's.
 use Rattle.std.proofs.Common.{◌≡◌, ℕ, true, not, ◌&&◌, ◌||◌, List, [], ◌∷◌, map, length, Option, Some, None, refl, ap, sym, subst, ◌∙◌}
-use Rattle.std.specs.Prelude.{false, nat_le, nat_lt}
+use Rattle.std.specs.Prelude.{false, nat_le}
 use Rattle.cf_base.proofs.Tests.{both}
 use Rattle.cf_classes.specs.declared.class.MemberRef.{MemberRef}
 use Rattle.cf_core.specs.declared.node.Core.{Core as Node, roll-Core, ind-Core}
@@ -11,7 +11,6 @@ use Rattle.cf_core.specs.declared.operators.LoopForm.{LoopForm}
 use Rattle.cf_core.specs.Types.{Name, parameters}
 use Rattle.cf_core.specs.Core as core
 use Rattle.cf_core.specs.Core.{Core, Cores, MaybeCore, local_temporary, absent, given}
-use Rattle.cf_core.specs.Places.{is_reference}
 use Rattle.cf_core.specs.FromTypes.{Tables, type_of}
 use Rattle.cf_core.specs.View.{Started, core_step, started_step, core_of, listed}
 use Rattle.cf_plain.specs.declared.statement.Plain.TheVariants as code
@@ -19,7 +18,6 @@ use Rattle.cf_plain.specs.Plain as plain
 use Rattle.cf_sequence.specs.Built.{is_value, is_start, is_initial, is_held, is_statement, is_inner_or, are_cases, declares_here}
 use Rattle.cf_sequence.specs.Expressions.{builds}
 use Rattle.cf_sequence.proofs.Calling.{never}
-use Rattle.cf_sequence.proofs.Fulls.{whole-is}
 use Rattle.cf_sequence.proofs.Labels.{or-else}
 use Rattle.cf_sequence_expr.specs.Parameters.{parameters_at}
 use Rattle.cf_sequence_expr.specs.Pieces.{Piece}
@@ -31,16 +29,11 @@ use Rattle.cf_sequence_written.proofs.Adding.{added-count}
 use Rattle.cf_sequence_written.proofs.Values.{Writes}
 use Rattle.cf_sequence_written.proofs.Evaluated.{written-start, value-start}
 use Rattle.cf_sequence_written.proofs.Bodies.{goes-stated, goes-declares}
-use Rattle.cf_sequence_written.proofs.Wholes.{Whole, Around, whole-start, gives-builds, Begins, Initiates, goes-full, goes-declared}
+use Rattle.cf_sequence_written.proofs.Wholes.{Whole, gives-builds, Begins, Initiates, goes-full, goes-declared}
 use Rattle.cf_sequence_written.proofs.Statements.{Acts, ActsAll, stated-statement, stated-all, acts-none, acts-more, acts-absent, acts-given, goes-block, goes-choice, goes-leave, goes-continue, goes-give, goes-given_back}
 use Rattle.cf_sequence_written.proofs.Held.{held-is, written-held}
 use Rattle.cf_sequence_written.proofs.Passed.{passed-nodes}
 use Rattle.cf_sequence_written.proofs.Loops.{Part, no_part, one_part, goes-loop, goes-switch}
-
-held-around : (i : ℕ) (e : Core) → is_held i e ≡ true → Around e
-held-around i (core.bind (local_temporary j t) e) ok n k code rest =
-    whole-is e (both (not (is_reference t)) (is_value e) (both (nat_lt i j) (not (is_reference t) && is_value e) ok).1).1 n k code rest
-held-around i e ok n k code rest = never ok
 
 held-builds : (i : ℕ) (e : Core) → is_held i e ≡ true → builds e ≡ false
 held-builds i (core.bind (local_temporary j t) e) ok = refl
@@ -96,7 +89,6 @@ module _ (tables : Tables) (signature : MemberRef → Name) (params : (t : ℕ) 
     writes = λ classes.
         subst (λ p. Writes tables signature classes p (of_node n)) (sym (same_piece tables.types n)) (written-start tables signature classes params n ok);
     count = ap (λ (p : Piece). length (p.locals [])) (same_piece tables.types n) ∙ added-count tables signature params n;
-    around = whole-start (of_node n) ok;
     put = gives-builds (of_node n) ok;
   }
 
@@ -113,7 +105,6 @@ module _ (tables : Tables) (signature : MemberRef → Name) (params : (t : ℕ) 
     writes = λ classes.
         subst (λ p. Writes tables signature classes p (of_node n)) (sym (same_piece tables.types n)) (written-held tables signature classes params n i ok);
     count = ap (λ (p : Piece). length (p.locals [])) (same_piece tables.types n) ∙ added-count tables signature params n;
-    around = held-around i (of_node n) ok;
     put = λ there. held-builds i (of_node n) ok;
   }
 

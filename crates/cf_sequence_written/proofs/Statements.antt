@@ -30,7 +30,7 @@ use Rattle.cf_sequence_written.proofs.Values.{nodes-count}
 use Rattle.cf_sequence_written.proofs.Opens.{no-opens}
 use Rattle.cf_sequence_written.proofs.Bodies.{Goes, goes-none, goes-as, goes-then, goes-rest, goes-declares, goes-stated, goes-left-as, goes-closed, goes-alone, next-begun, scope-begun, same-scope}
 use Rattle.cf_sequence_written.proofs.Standing.{Stands, stands-more, stands-opened}
-use Rattle.cf_sequence_written.proofs.Wholes.{Whole, first_at, register, goes-given, goes-tested, condition-is}
+use Rattle.cf_sequence_written.proofs.Wholes.{Whole, register, goes-given, goes-tested}
 
 or-right : (a b : Bool) → b ≡ true → a || b ≡ true
 or-right true b ok = refl
@@ -149,8 +149,7 @@ module _ (tables : Tables) (signature : MemberRef → Name) where
       subst (Stands tables f ways) (sym (scope-begun tables signature (t.act ways (begun (tested s.piece b))) ∙ same-scope tables signature first)) at-one in
       let second = other.acts m ok-other f ways (begun (t.act ways (begun (tested s.piece b)))) at-two in
       goes-as tables signature (goes-chosen (behind_flags 0 s.piece) (0 + width c) (register tables signature w) test first second)
-      (λ rest. condition-is tables signature f.classes c (Whole.around w) (Writing.next b.writing)
-      (λ n. more (branch n (statement f a (Writing.next b.writing + width c) nothing) (statement_or f d (Writing.next b.writing + width c + width a) nothing)) rest))
+      (λ rest. refl)
       (ap (λ z. z + length (added (nodes_maybe d))) (nodes-count (nodes c) (nodes a)) ∙ nodes-count (nodes c ++ nodes a) (nodes_maybe d))
 
   -- Ways out (6.6).
@@ -187,8 +186,7 @@ module _ (tables : Tables) (signature : MemberRef → Name) where
       (λ rest.
       let k = Writing.next b.writing in
       let done : Option ℕ → Plains = λ r. finished (f.here ++ f.returns) (more (give r) rest) in
-      ap (λ r. value f.classes (first_at tables signature k 0) e None (0 + width e) k (use_of (0 + width e) (done (Some r)))) (register tables signature w)
-      ∙ sym (Whole.around w 0 k (λ x n rest. value f.classes x e None n k (use_of n rest)) (λ n. done (Some n)))
+      ap (λ r. whole e 0 k (λ x n rest. value f.classes x e None n k (use_of n rest)) (λ n. done (Some r))) (register tables signature w)
       ∙ scalar f e k rest at.scalar)
       refl
     where

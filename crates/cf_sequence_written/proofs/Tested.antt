@@ -239,7 +239,7 @@ module _ (tables : Tables) (signature : MemberRef → Name) where
   layer (Core-F.Update at a c b) = record { value = two a b; statement = λ m. refl; next = λ m. refl; blank = refl; filling = refl; declares = refl; label = refl; temporary = (λ i. refl, λ i. refl) }
   layer (Core-F.Increment at is_postfix c e) = record { value = e.1.value; statement = λ m. refl; next = λ m. refl; blank = refl; filling = refl; declares = refl; label = refl; temporary = (λ i. refl, λ i. refl) }
   layer (Core-F.Assign at t a b es) = record { value = refl; statement = λ m. refl; next = λ m. refl; blank = refl; filling = refl; declares = refl; label = refl; temporary = (λ i. refl, λ i. refl) }
-  layer (Core-F.Temporary at t e) = record { value = refl; statement = λ m. refl; next = λ m. refl; blank = refl; filling = refl; declares = refl; label = refl; temporary = (λ i. refl, λ i. refl) }
+  layer (Core-F.Temporary at t e) = record { value = where-false at (is_reference (type_of tables t)) (test_of e).value _ e.1.value; statement = λ m. refl; next = λ m. refl; blank = refl; filling = refl; declares = refl; label = refl; temporary = (λ i. refl, λ i. refl) }
   layer (Core-F.Call at f t None es) = record { value = in_call at t es; statement = λ m. refl; next = λ m. refl; blank = refl; filling = refl; declares = refl; label = refl; temporary = (λ i. refl, λ i. refl) }
   layer (Core-F.Call at f t (Some object) es) = record { value = refl; statement = λ m. refl; next = λ m. refl; blank = refl; filling = refl; declares = refl; label = refl; temporary = (λ i. refl, λ i. refl) }
   layer (Core-F.VirtualCall at m t e es) = record { value = refl; statement = λ m. refl; next = λ m. refl; blank = refl; filling = refl; declares = refl; label = refl; temporary = (λ i. refl, λ i. refl) }

@@ -11,37 +11,27 @@ use Rattle.cf_core.specs.Joined.{is_nothing}
 use Rattle.cf_plain.specs.declared.action.Action.{Action}
 use Rattle.cf_plain.specs.declared.action.Action.TheVariants as action
 use Rattle.cf_plain.specs.View.{action_of}
-use Rattle.cf_plain.specs.Plain.{Register, Plains, more, set as sets, act as acts}
+use Rattle.cf_plain.specs.Plain.{Plains, more, set as sets, act as acts}
 use Rattle.cf_plain.specs.Plain as plain
 use Rattle.cf_sequence.specs.Built.{is_start, is_value, is_filling}
 use Rattle.cf_sequence.specs.Made.{width}
-use Rattle.cf_sequence.specs.Expressions.{Full, Destination, destination, value, whole, builds, used as use_of}
+use Rattle.cf_sequence.specs.Expressions.{destination, value, whole, builds, used as use_of}
 use Rattle.cf_sequence.specs.Statements.{Inside, statement, condition}
 use Rattle.cf_sequence.specs.Statements as definition
 use Rattle.cf_sequence.proofs.Filling.{fill, filling-adds, started-is}
-use Rattle.cf_sequence.proofs.Fulls.{whole-is, nothing-is}
-use Rattle.cf_sequence_expr.specs.Writes.{used}
-use Rattle.cf_sequence_expr.specs.Pieces.{Piece, truth}
+use Rattle.cf_sequence.proofs.Fulls.{nothing-is}
+use Rattle.cf_sequence_expr.specs.Writes.{used, set}
+use Rattle.cf_sequence_expr.specs.Pieces.{Piece}
 use Rattle.cf_sequence_stmt.specs.declared.body.Body.{Body}
 use Rattle.cf_sequence_stmt.specs.declared.body.Open.{Open}
 use Rattle.cf_sequence_stmt.specs.Bodies.{Initial, does_nothing, fills, gives, is_blank, behind_flags, full, given, tested, started, held_too, declared}
-use Rattle.cf_sequence_written.proofs.Puts.{Puts, puts-none, still-set, still-act, still-used, puts-as, puts-at, puts-still, still-puts}
-use Rattle.cf_sequence_written.proofs.Values.{Writes, puts-truth}
+use Rattle.cf_sequence_written.proofs.Puts.{Puts, Still, puts-none, still-set, still-act, still-used, puts-as, puts-still, still-puts}
+use Rattle.cf_sequence_written.proofs.Values.{Writes}
 use Rattle.cf_sequence_written.proofs.Evaluated.{gives-value}
+use Rattle.cf_sequence_written.proofs.Fulls.{puts-whole, puts-all}
 use Rattle.cf_sequence_written.proofs.Opens.{ends}
 use Rattle.cf_sequence_written.proofs.Held.{held_list}
 use Rattle.cf_sequence_written.proofs.Bodies.{Goes, goes-on, goes-opened}
-
-pub whole-start : (e : Core) → is_start e ≡ true → (n : Register) (k : ℕ) (code : Full → Register → Plains → Plains) (rest : Register → Plains)
-    → whole e n k code rest ≡ code (record { first = k; base = n }) (n + width e) (rest (n + width e))
-whole-start core.blank ok n k code rest = refl
-whole-start e ok n k code rest = whole-is e ok n k code rest
-
--- no temporary stands around it
-abbrev pub Around : Core → Type 0
-Around e =
-    (n : Register) (k : ℕ) (code : Full → Register → Plains → Plains) (rest : Register → Plains)
-    → whole e n k code rest ≡ code (record { first = k; base = n }) (n + width e) (rest (n + width e))
 
 pub gives-builds : (e : Core) → is_start e ≡ true → is_nothing e ≡ false → builds e ≡ false
 gives-builds e ok there = gives-value e (subst (λ b. b || is_value e ≡ true) there ok)
@@ -51,52 +41,37 @@ module _ (tables : Tables) (signature : MemberRef → Name) where
   pub record Whole (p : Piece) (e : Core) : Type 0 where
     pub writes : (classes : List Class) → Writes tables signature classes p e
     pub count : length (p.locals []) ≡ width e
-    pub around : Around e
     pub put : is_nothing e ≡ false → builds e ≡ false
 
-  abbrev pub first_at : ℕ → Register → Full
-  first_at k n = record { first = k; base = n }
-
-  behind : {p : Piece} {e : Core} → Whole p e → (n : ℕ) → n + width e ≡ behind_flags n p
-  behind w n = ap (λ m. n + m) (sym w.count)
+  behind : {p : Piece} {e : Core} → Whole p e → (n : ℕ) → behind_flags n p ≡ n + width e
+  behind w n = ap (λ m. n + m) w.count
 
   pub register : {p : Piece} {e : Core} → Whole p e → behind_flags 0 p ≡ 0 + width e
-  register w = sym (behind w 0)
-
-  puts-value : {p : Piece} {e : Core} (classes : List Class) (n : ℕ) (into : Option Destination) → Whole p e
-      → Puts tables signature (p.value (behind_flags n p)) (λ k rest. value classes (first_at k n) e into (n + width e) k rest) (width e)
-  puts-value {p} {e} classes n into w =
-      subst (λ r. Puts tables signature (p.value r) (λ k rest. value classes (first_at k n) e into (n + width e) k rest) (width e)) (behind w n)
-      (puts-at tables signature (λ i. Writes.puts (w.writes classes) (first_at i n) into (n + width e)))
+  register w = behind w 0
 
   pub goes-full : {p : Piece} {e : Core} (f : Inside) (b : Body) → Whole p e
       → Goes tables signature (λ k rest. statement f (core.full e) k rest) (width e) [] b (full p b)
   unfolding full
-  goes-full {p} {e} f b w =
-      goes-on tables signature b (puts-as tables signature (puts-value f.classes 0 None w)
-      (λ k rest. sym (w.around 0 k (λ x n rest. value f.classes x e None n k rest) (λ n. rest))) refl)
+  goes-full {p} {e} f b w = goes-on tables signature b (puts-all tables signature f.classes 0 None (w.writes f.classes) (behind w 0))
 
   -- a value that is used
   pub goes-given : {p : Piece} {e : Core} (classes : List Class) (b : Body) → Whole p e
-      → Goes tables signature (λ k rest. value classes (first_at k 0) e None (0 + width e) k (use_of (0 + width e) rest)) (width e) [] b (given p b)
+      → Goes tables signature (λ k rest. whole e 0 k (λ x n rest. value classes x e None n k (use_of n rest)) (λ n. rest)) (width e) [] b (given p b)
   unfolding given
   goes-given {p} {e} classes b w =
       goes-on tables signature b
-      (subst (λ r. Puts tables signature (λ w. used r (p.value r w)) (λ k rest. value classes (first_at k 0) e None (0 + width e) k (use_of (0 + width e) rest)) (width e)) (behind w 0)
-      (puts-at tables signature (λ i. puts-still tables signature (Writes.puts (w.writes classes) (first_at i 0) None (0 + width e)) (still-used tables signature (0 + width e)))))
+      (puts-whole tables signature classes 0 None use_of (w.writes classes)
+      (subst (λ r. Still tables signature (used (behind_flags 0 p)) (use_of r)) (behind w 0) (still-used tables signature (behind_flags 0 p))) (behind w 0))
 
   -- a condition
   pub goes-tested : {p : Piece} {e : Core} (classes : List Class) (b : Body) → Whole p e
-      → Goes tables signature (λ k rest. value classes (first_at k 0) e None (0 + width e) k (more (sets (0 + width e) (plain.truth (0 + width e))) rest)) (width e) [] b (tested p b)
+      → Goes tables signature (λ k rest. condition classes e k (λ n. rest)) (width e) [] b (tested p b)
   unfolding tested
   goes-tested {p} {e} classes b w =
+      let r = behind_flags 0 p in
       goes-on tables signature b
-      (subst (λ r. Puts tables signature (truth p r) (λ k rest. value classes (first_at k 0) e None (0 + width e) k (more (sets (0 + width e) (plain.truth (0 + width e))) rest)) (width e)) (behind w 0)
-      (puts-at tables signature (λ i. puts-truth tables signature classes (first_at i 0) (0 + width e) (w.writes classes))))
-
-  pub condition-is : (classes : List Class) (e : Core) → Around e → (k : ℕ) (rest : Register → Plains)
-      → value classes (first_at k 0) e None (0 + width e) k (more (sets (0 + width e) (plain.truth (0 + width e))) (rest (0 + width e))) ≡ condition classes e k rest
-  condition-is classes e around k rest = sym (around 0 k (λ x n rest. value classes x e None n k (more (sets n (plain.truth n)) rest)) rest)
+      (puts-whole tables signature classes 0 None (λ n rest. more (sets n (plain.truth n)) rest) (w.writes classes)
+      (subst (λ n. Still tables signature (set r (action.Truth r)) (λ rest. more (sets n (plain.truth n)) rest)) (behind w 0) (still-set tables signature r (action.Truth r))) (behind w 0))
 
   -- Initialisers.
 
@@ -124,12 +99,12 @@ module _ (tables : Tables) (signature : MemberRef → Name) where
       → Puts tables signature (started gives p) (λ k rest. definition.started classes (type_of tables t) e 0 k rest) (width e)
   unfolding started
   puts-value-there {p} {e} classes t gives_value w =
+      let T = type_of tables t in
+      let put : ℕ → ℕ → Bool → Plains → Plains = λ k r c rest.
+      whole e 1 k (λ x m rest. value classes x e (destination 0 T) m k rest) (λ m. if c then rest else more (acts (plain.first 0 r)) rest) in
       puts-as tables signature
-      (puts-still tables signature (puts-value classes 1 (destination 0 (type_of tables t)) w) (still-act tables signature (action.First 0 (behind_flags 1 p))))
-      (λ k rest.
-      ap (λ r. value classes (first_at k 1) e (destination 0 (type_of tables t)) (1 + width e) k (more (acts (plain.first 0 r)) rest)) (sym (behind w 1))
-      ∙ ap (λ c. value classes (first_at k 1) e (destination 0 (type_of tables t)) (1 + width e) k (if c then rest else more (acts (plain.first 0 (1 + width e))) rest)) (sym gives_value)
-      ∙ sym (w.around 1 k (λ x m rest. value classes x e (destination 0 (type_of tables t)) m k rest) (λ m. if builds e then rest else more (acts (plain.first 0 m)) rest))) refl
+      (puts-still tables signature (puts-all tables signature classes 1 (destination 0 T) (w.writes classes) (behind w 1)) (still-act tables signature (action.First 0 (behind_flags 1 p))))
+      (λ k rest. ap (λ r. put k r false rest) (behind w 1) ∙ ap (λ c. put k (1 + width e) c rest) (sym gives_value)) refl
 
   puts-nothing : (p : Piece) (e : Core) (classes : List Class) (t : ℕ) → is_nothing e ≡ true
       → Puts tables signature (started does_nothing p) (λ k rest. definition.started classes (type_of tables t) e 0 k rest) (width e)
