@@ -1,0 +1,130 @@
+-- What all registers hold, register by register.
+use Rattle.std.proofs.Common.{◌≡◌, ℕ, zero, suc, ◌+◌, ◌<◌, ◌≤◌, ◌==◌, ◌||◌, nat_lt, Bool, true, false, if◌then◌else◌, List, [], ◌∷◌, length, refl, sym, ap, ◌∙◌, arith}
+use Rattle.std.specs.Prelude.{slice_set}
+use Rattle.std.proofs.lemmas.Bool.Decides.{nat_tests}
+use Rattle.std.proofs.lemmas.List.{length-set}
+use Rattle.cf_core.specs.FromTypes.{Tables}
+use Rattle.cf_plain.specs.Plain.{Register}
+use Rattle.cf_lower.specs.Kept.{Kept, unknown, integer_of, holds, argument, Keeping, keep, common, both_kept}
+use Rattle.cf_lower_held.specs.declared.held.Held.{Held}
+use Rattle.cf_lower_held.specs.declared.held.Held.TheVariants as held
+use Rattle.cf_lower_held.specs.declared.registers.Registers.{Registers}
+use Rattle.cf_lower_held.specs.Holds.{held_at, keeping, kept_in, without}
+use Rattle.cf_lower_held.proofs.Lists.{at_set}
+
+module _ (tables : Tables) where
+  abbrev pub of_list : List Held → Keeping
+  of_list xs r = kept_in tables (held_at xs r)
+
+  -- one register holds something else
+  chosen : (b : Bool) (x y : Held) → kept_in tables (if b then x else y) ≡ (if b then kept_in tables x else kept_in tables y)
+  chosen true x y = refl
+  chosen false x y = refl
+
+  pub kept_one : (xs ys zs : List Held) (i r : ℕ) (x : Held) → ((q : ℕ) → held_at ys q ≡ held_at xs q) → i < length ys → i ≡ r → zs ≡ slice_set ys i x
+      → of_list zs ≡ keep (of_list xs) r (kept_in tables x)
+  kept_one xs ys zs i r x same lt at set = λ j q. point q j
+    where
+      point : (q : ℕ) → of_list zs q ≡ keep (of_list xs) r (kept_in tables x) q
+      point q =
+          ap (λ l. kept_in tables (held_at l q)) set ∙ ap (kept_in tables) (at_set ys i x q lt) ∙ chosen (q == i) x (held_at ys q)
+          ∙ ap (λ h. if q == i then kept_in tables x else kept_in tables h) (same q)
+          ∙ ap (λ k. if q == k then kept_in tables x else kept_in tables (held_at xs q)) at
+
+  -- and nothing
+  pub cleared : (xs ys : List Held) (i r : ℕ) → i < length xs → i ≡ r → ys ≡ slice_set xs i held.Nothing → of_list ys ≡ without (λ q. r == q) (of_list xs)
+  cleared xs ys i r lt at set = λ j q. point q j
+    where
+      turned : (a b : ℕ) → (a == b) ≡ (b == a)
+      turned a b = grind (arith, nat_tests)
+
+      point : (q : ℕ) → of_list ys q ≡ without (λ q. r == q) (of_list xs) q
+      point q =
+          ap (λ l. kept_in tables (held_at l q)) set ∙ ap (kept_in tables) (at_set xs i held.Nothing q lt) ∙ chosen (q == i) held.Nothing (held_at xs q)
+          ∙ ap (λ b. if b then unknown else kept_in tables (held_at xs q)) (turned q i ∙ ap (λ k. k == q) at)
+
+  -- a register behind the last holds nothing
+  pub behind : (xs : List Held) (q : ℕ) → length xs ≤ q → held_at xs q ≡ held.Nothing
+  behind [] q le = refl
+  behind (x ∷ xs) zero le = absurd (omega arith)
+  behind (x ∷ xs) (suc q) le = behind xs q (omega arith)
+
+  pub cleared_behind : (xs : List Held) (r : ℕ) → length xs ≤ r → of_list xs ≡ without (λ q. r == q) (of_list xs)
+  cleared_behind xs r le = λ j q. by q (r == q) refl j
+    where
+      by : (q : ℕ) (b : Bool) → (r == q) ≡ b → of_list xs q ≡ (if b then unknown else of_list xs q)
+      by q true e = let same : r ≡ q = grind (arith, nat_tests) in ap (kept_in tables) (behind xs q (omega (arith, same)))
+      by q false e = refl
+
+-- ---- one set of registers after another
+
+pub without_both : (f h : Register → Bool) (g : Keeping) → without f (without h g) ≡ without (λ r. h r || f r) g
+without_both f h g = λ j r. by (h r) (f r) (g r) j
+  where
+    by : (a b : Bool) (x : Kept) → (if b then unknown else (if a then unknown else x)) ≡ (if a || b then unknown else x)
+    by true true x = refl
+    by true false x = refl
+    by false true x = refl
+    by false false x = refl
+
+-- ---- registers that hold what they hold here and there
+
+module _ (tables : Tables) (first second : List Held) where
+  abbrev pub Met : Bool → ℕ → Kept
+  Met b p = if b then both_kept (kept_in tables (held_at first p)) (kept_in tables (held_at second p)) else kept_in tables (held_at first p)
+
+  -- those below a number do, the others hold what they held
+  abbrev pub IsMet : ℕ → List Held → Type 0
+  IsMet i xs = (q : ℕ) → kept_in tables (held_at xs q) ≡ Met (nat_lt q i) q
+
+  pub met_more : (i : ℕ) (xs zs : List Held) (x y z : Held) → IsMet i xs → i < length xs → y ≡ held_at xs i → z ≡ held_at second i
+      → kept_in tables x ≡ both_kept (kept_in tables y) (kept_in tables z) → zs ≡ slice_set xs i x → IsMet (i + 1) zs
+  met_more i xs zs x y z met lt at there both set q =
+      ap (λ l. kept_in tables (held_at l q)) set ∙ ap (kept_in tables) (at_set xs i x q lt) ∙ by (q == i) refl
+    where
+      here : kept_in tables y ≡ kept_in tables (held_at first i)
+      here = ap (kept_in tables) at ∙ met i ∙ ap (λ b. Met b i) (let f : nat_lt i i ≡ false = grind (arith, nat_tests) in f)
+
+      by : (b : Bool) → (q == i) ≡ b → kept_in tables (if b then x else held_at xs q) ≡ Met (nat_lt q (i + 1)) q
+      by true e =
+          let p : q ≡ i = grind (arith, nat_tests) in
+          let below : nat_lt i (i + 1) ≡ true = grind (arith, nat_tests) in
+          both ∙ ap (λ k. both_kept k (kept_in tables z)) here ∙ ap (λ h. both_kept (kept_in tables (held_at first i)) (kept_in tables h)) there
+          ∙ sym (ap (λ b. Met b i) below) ∙ ap (λ n. Met (nat_lt n (i + 1)) n) (sym p)
+      by false e =
+          let same : nat_lt q i ≡ nat_lt q (i + 1) = grind (arith, nat_tests) in
+          met q ∙ ap (λ b. Met b q) same
+
+  nothing_met : (k : Kept) → both_kept unknown k ≡ unknown
+  nothing_met unknown = refl
+  nothing_met (integer_of f) = refl
+  nothing_met (holds s) = refl
+  nothing_met (argument i t) = refl
+
+  pub met_all : (n : ℕ) (xs : List Held) → n ≡ length first → IsMet n xs → of_list tables xs ≡ common (of_list tables first) (of_list tables second)
+  met_all n xs len met = λ j q. (met q ∙ by q (nat_lt q n) refl) j
+    where
+      by : (q : ℕ) (b : Bool) → nat_lt q n ≡ b
+          → (if b then both_kept (kept_in tables (held_at first q)) (kept_in tables (held_at second q)) else kept_in tables (held_at first q))
+          ≡ both_kept (kept_in tables (held_at first q)) (kept_in tables (held_at second q))
+      by q true e = refl
+      by q false e =
+          let past : n ≤ q = grind (arith, nat_tests) in
+          let none = ap (kept_in tables) (behind tables first q (omega (arith, past, len))) in
+          none ∙ sym (ap (λ k. both_kept k (kept_in tables (held_at second q))) none ∙ nothing_met (kept_in tables (held_at second q)))
+
+pub met_long : (n i : ℕ) (xs zs : List Held) (x : Held) → length xs ≡ n → zs ≡ slice_set xs i x → length zs ≡ n
+met_long n i xs zs x long set = ap length set ∙ length-set xs i x ∙ long
+
+-- ---- of the registers themselves
+
+module _ (tables : Tables) (old new : Registers) where
+  pub clear_one : (i r : ℕ) → i < length old.held.items → i ≡ r → new.held.items ≡ slice_set old.held.items i held.Nothing
+      → keeping tables new ≡ without (λ q. r == q) (keeping tables old)
+  clear_one i r lt at set = cleared tables old.held.items new.held.items i r lt at set
+
+pub clear_none : (tables : Tables) (old : Registers) (i n r : ℕ) → n ≡ length old.held.items → n ≤ i → i ≡ r → keeping tables old ≡ without (λ q. r == q) (keeping tables old)
+clear_none tables old i n r len le at = cleared_behind tables old.held.items r (omega (arith, len, le, at))
+
+pub same_items : (tables : Tables) (old new : Registers) → new.held.items ≡ old.held.items → keeping tables new ≡ keeping tables old
+same_items tables old new e = ap (of_list tables) e

@@ -1,0 +1,10 @@
+pub mod After
+pub mod Constants
+pub mod Erased
+pub mod Forgotten
+pub mod Given
+pub mod Keepings
+pub mod Lists
+pub mod Locals
+pub mod Meetings
+pub mod Views
