@@ -14,7 +14,7 @@ use Rattle.cf_plain.specs.Plain.{Plains, case_label, default_label, nothing, mor
 use Rattle.cf_plain.specs.Running.{has_case}
 use Rattle.cf_lower_relate.proofs.Bits.{convert-int}
 use Rattle.cf_lower_relate.proofs.Words.{convert-same}
-use Rattle.cf_lower_bounds.specs.Needs.{labels_fit}
+use Rattle.cf_lower_place.specs.InPlace.{labels_fit}
 
 -- ---- numbers
 
@@ -24,7 +24,7 @@ number-same (pos m) (negsuc n) e = absurd (cc)
 number-same (negsuc m) (pos n) e = absurd (cc)
 number-same (negsuc m) (negsuc n) e = ap negsuc (let h = both (nat_le n m) (nat_le m n) e in let a = h.0 in let b = h.1 in let q : m ≡ n = grind (arith, nat_tests, a, b) in q)
 
-number-itself : (z : ℤ) → int_le z z && int_le z z ≡ true
+pub number-itself : (z : ℤ) → int_le z z && int_le z z ≡ true
 number-itself (pos n) = let h : nat_le n n ≡ true = grind (arith, nat_tests) in ap (λ b. b && nat_le n n) h ∙ h
 number-itself (negsuc n) = let h : nat_le n n ≡ true = grind (arith, nat_tests) in ap (λ b. b && nat_le n n) h ∙ h
 

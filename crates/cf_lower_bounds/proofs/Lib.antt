@@ -1,3 +1,4 @@
+pub mod Inputs
 pub mod Labels
 pub mod Laws
 pub mod Leaving

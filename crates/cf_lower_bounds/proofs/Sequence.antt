@@ -31,7 +31,9 @@ use Rattle.cf_lower_steps.proofs.Branches.{block-runs, falls-on}
 use Rattle.cf_lower_steps.proofs.Statements.{runs-join}
 use Rattle.cf_lower_turns.specs.Around.{Around, depth_of, inside_at}
 use Rattle.cf_lower_bounds.specs.Needs.{IsNumber}
-use Rattle.cf_lower_turns.proofs.Following.{sim-next, sim-here, sim-as, leaves-pass}
+use Rattle.cf_lower_turns.proofs.Following.{sim-here, sim-as, leaves-pass}
+use Rattle.cf_lower_place.specs.Input.{IsInput}
+use Rattle.cf_lower_bounds.proofs.Inputs.{Takes, takes-does_all, sim-on}
 use Rattle.cf_lower_bounds.proofs.Laws.{HasNumber}
 use Rattle.cf_lower_bounds.proofs.Leaving.{ways-leave}
 use Rattle.cf_lower_bounds.proofs.Setup.{Setup, Runners, ends, list, lowered_at, all_at, SameFrom}
@@ -54,23 +56,26 @@ module _ (z : Setup) (m : Runners) (around : Around z.Point) where
   -- where the first falls the next follows
   module _ (p e : z.Point) (f : Registers → Act Flow) (go : c.State → World → Ran c.Flow) (follow : SameFrom z m p around e f go)
       (grows : (t : c.State) (w : World) → Adds w.trace (go t w)) where
-    next-falls : (flow : Flow) (s : State) (x : c.Flow) (w : World) → ends z around p flow s x → Simulates (ends z around e) ((plain.falling f flow) s w) (falling go x w)
-    next-falls (Falls g) s x w h = sim-as (ends z around e) (f g s w) (go h.after w) (falling go x w) (ap (λ y. falling go y w) h.is) (follow g s h.after w h.related)
-    next-falls (Breaks g) s x w h =
+    next-falls : (flow : Flow) (s : State) (x : c.Flow) (w : World) → IsInput w.input → ends z around p flow s x → Simulates (ends z around e) ((plain.falling f flow) s w) (falling go x w)
+    next-falls (Falls g) s x w i h = sim-as (ends z around e) (f g s w) (go h.after w) (falling go x w) (ap (λ y. falling go y w) h.is) (follow g s h.after w h.related i)
+    next-falls (Breaks g) s x w i h =
         sim-here (ends z around e) (Breaks g) s w (falling go x w) x (leaves-pass go x w (ways-leave z m around (Breaks g) s x h)) h
-    next-falls (Continues g) s x w h =
+    next-falls (Continues g) s x w i h =
         sim-here (ends z around e) (Continues g) s w (falling go x w) x (leaves-pass go x w (ways-leave z m around (Continues g) s x h)) h
-    next-falls (Returns v) s x w h =
+    next-falls (Returns v) s x w i h =
         sim-here (ends z around e) (Returns v) s w (falling go x w) x (leaves-pass go x w (ways-leave z m around (Returns v) s x h)) h
 
-    pub falls-next : (x : Ran (Did Flow)) (y : Ran c.Flow) → Simulates (ends z around p) x y
+    pub falls-next : (input : List ℕ) (x : Ran (Did Flow)) (y : Ran c.Flow) → Takes input y → IsInput input → Simulates (ends z around p) x y
         → Simulates (ends z around e) (and_then x (λ did w. onward did (plain.falling f) w)) (and_then y (falling go))
-    falls-next x y h =
-        sim-next (ends z around p) (ends z around e) x y (plain.falling f) (falling go) h (λ flow s x w k. next-falls flow s x w k) (λ n t w. refl)
+    falls-next input x y takes i h =
+        sim-on (ends z around p) (ends z around e) input x y (plain.falling f) (falling go) takes i h (λ flow s x w i k. next-falls flow s x w i k) (λ n t w. refl)
         (λ x w. grows-falling go grows x w)
 
   list-grows : (ss : List Statement) (t : c.State) (w : World) → Adds w.trace (list z m ss t w)
   list-grows ss t w = grows-does_all m.c_again m.helps m.grown m.helped m.c_program m.helper (in_order ss) z.scope m.depth t w
+
+  list-takes : (ss : List Statement) (t : c.State) (w : World) → Takes w.input (list z m ss t w)
+  list-takes ss t w = takes-does_all m.c_again m.helps m.left m.left_helps m.c_program m.helper (in_order ss) z.scope m.depth t w
 
   -- a statement and those behind it, which stand at this point
   pub then-all : (s : Plain) (ss : Plains) (p h e : z.Point) → z.kept h ≡ after z.inside.locals s (z.kept p)
@@ -78,13 +83,14 @@ module _ (z : Setup) (m : Runners) (around : Around z.Point) where
       → SameFrom z m h around e (all m.again m.program ss) (λ t w. list z m (all_at z ss around h) t w)
       → SameFrom z m p around e (λ g. does m.again m.program s g >>= plain.falling (λ h. all m.again m.program ss h))
       (λ t w. list z m (lowered_at z s around p ++ all_lowered ss (inside_at z.inside around) (after z.inside.locals s (z.kept p))) t w)
-  then-all s ss p h e kept first follow g st t w r =
+  then-all s ss p h e kept first follow g st t w r i =
       let behind : List Statement = all_lowered ss (inside_at z.inside around) (after z.inside.locals s (z.kept p)) in
       sim-as (ends z around e) _ _ _
       (runs-join m.c_again m.helps m.c_program m.helper z.scope m.depth (lowered_at z s around p) behind t w)
       (falls-next h e (all m.again m.program ss) (λ t w. list z m behind t w)
       (subst (λ k. SameFrom z m h around e (all m.again m.program ss) (λ t w. list z m (all_lowered ss (inside_at z.inside around) k) t w)) kept follow)
-      (λ t w. list-grows behind t w) (does m.again m.program s g st w) (list z m (lowered_at z s around p) t w) (first g st t w r))
+      (λ t w. list-grows behind t w) w.input (does m.again m.program s g st w) (list z m (lowered_at z s around p) t w) (list-takes (lowered_at z s around p) t w) i
+      (first g st t w r i))
 
   -- the same in a switch, at whose labels registers hold this
   pub then-items : (s : Plain) (ss : Plains) (k : Keeping) (p h e : z.Point) → z.kept h ≡ after z.inside.locals s (z.kept p)
@@ -94,7 +100,7 @@ module _ (z : Setup) (m : Runners) (around : Around z.Point) where
       → SameFrom z m p around e (λ g. does m.again m.program s g >>= plain.falling (λ h. all m.again m.program ss h))
       (λ t w. mean.does_items m.c_again m.helps m.c_program m.helper
       (stated_all (lowered_at z s around p) (items ss (inside_at z.inside around) k (after z.inside.locals s (z.kept p)))) z.scope m.depth t w)
-  then-items s ss k p h e kept first follow g st t w r =
+  then-items s ss k p h e kept first follow g st t w r i =
       let behind : SwitchItems = items ss (inside_at z.inside around) k (after z.inside.locals s (z.kept p)) in
       sim-as (ends z around e) _ _ _
       (items-run m.c_again m.helps m.c_program m.grown m.helped m.helper z.scope m.depth (lowered_at z s around p) behind t w)
@@ -102,14 +108,14 @@ module _ (z : Setup) (m : Runners) (around : Around z.Point) where
       (subst (λ i. SameFrom z m h around e (all m.again m.program ss)
       (λ t w. mean.does_items m.c_again m.helps m.c_program m.helper (items ss (inside_at z.inside around) k i) z.scope m.depth t w)) kept follow)
       (λ t w. grows-does_items m.c_again m.helps m.grown m.helped m.c_program m.helper behind z.scope m.depth t w)
-      (does m.again m.program s g st w) (list z m (lowered_at z s around p) t w) (first g st t w r))
+      w.input (does m.again m.program s g st w) (list z m (lowered_at z s around p) t w) (list-takes (lowered_at z s around p) t w) i (first g st t w r i))
 
   -- ---- branches
 
   module _ (r : Register) (ss ts : Plains) (p e : z.Point) (number : IsNumber (z.kept p r))
       (first : SameFrom z m p around e (all m.again m.program ss) (λ t w. list z m (all_at z ss around p) t w))
       (second : SameFrom z m p around e (all m.again m.program ts) (λ t w. list z m (all_at z ts around p) t w))
-      (g : Registers) (s : State) (t : c.State) (w : World) (at : z.R p d g s t) where
+      (g : Registers) (s : State) (t : c.State) (w : World) (at : z.R p d g s t) (input : IsInput w.input) where
     abbrev xs : List Statement
     xs = all_at z ss around p
 
@@ -143,8 +149,8 @@ module _ (z : Setup) (m : Runners) (around : Around z.Point) where
         (chosen n h) (by_test (nonzero n)))
       where
         by_test : (q : Bool) → Simulates (ends z around e) (when q (all m.again m.program ss g) (all m.again m.program ts g) s w) (if q then list z m xs t w else list z m ys t w)
-        by_test true = first g s t w at
-        by_test false = second g s t w at
+        by_test true = first g s t w at input
+        by_test false = second g s t w at input
 
     pub branches : Q (does m.again m.program (branch r ss ts) g s w)
     branches = by_value (g r) refl

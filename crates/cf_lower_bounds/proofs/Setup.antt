@@ -24,6 +24,8 @@ use Rattle.cf_lower_turns.specs.Around.{Around, turns, stepped, step, depth_of, 
 use Rattle.cf_lower_turns.specs.Ways.{Relation, Giving}
 use Rattle.cf_lower_turns.specs.Ways as ways
 use Rattle.cf_lower_bounds.specs.Needs as needs
+use Rattle.cf_lower_place.specs.Input.{IsInput}
+use Rattle.cf_lower_bounds.proofs.Inputs.{TakesAgain}
 use Rattle.cf_lower_bounds.proofs.Laws.{Laws}
 
 pub record Setup : Type 1 where
@@ -48,6 +50,8 @@ pub record Runners : Type 0 where
   pub depth : ℕ
   pub grown : GrowsAgain c_again
   pub helped : GrowsAgain helps
+  pub left : TakesAgain c_again
+  pub left_helps : TakesAgain helps
 
 module _ (z : Setup) where
   abbrev pub ways_of : Around z.Point → Ways
@@ -111,10 +115,11 @@ module _ (z : Setup) where
     abbrev pub list : List Statement → c.State → World → Ran c.Flow
     list ss t w = runs m.c_again m.helps m.c_program m.helper z.scope m.depth ss t w
 
-    -- from one point on, with so many flags at 0, both do the same
+    -- from one point on, with so many flags at 0 and an input of bytes, both do the same
     abbrev pub SameFrom : z.Point → Around z.Point → z.Point → (Registers → Act Flow) → (c.State → World → Ran c.Flow) → Type 0
     SameFrom p around q f go =
-        (g : Registers) (s : State) (t : c.State) (w : World) → z.R p (depth_of around) g s t → Simulates (ends around q) (f g s w) (go t w)
+        (g : Registers) (s : State) (t : c.State) (w : World) → z.R p (depth_of around) g s t → IsInput w.input
+        → Simulates (ends around q) (f g s w) (go t w)
 
     -- the turns of loops that have a tick less
     abbrev pub TurnsAgain : Type 0

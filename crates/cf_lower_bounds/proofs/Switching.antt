@@ -30,7 +30,9 @@ use Rattle.cf_lower_turns.specs.Around.{Around, cases, depth_of, gone_on_to, goi
 use Rattle.cf_lower_turns.specs.Flags.{Shows}
 use Rattle.cf_lower_turns.specs.Ways.{flagged}
 use Rattle.cf_lower_bounds.specs.Needs.{Switches, label_of}
-use Rattle.cf_lower_turns.proofs.Following.{sim-next, sim-here, sim-as, return-falls, return-switches}
+use Rattle.cf_lower_turns.proofs.Following.{sim-here, sim-as, return-falls, return-switches}
+use Rattle.cf_lower_place.specs.Input.{IsInput}
+use Rattle.cf_lower_bounds.proofs.Inputs.{takes-does_from, sim-on}
 use Rattle.cf_lower_bounds.proofs.Labels.{has-label}
 use Rattle.cf_lower_bounds.proofs.Laws.{HasNumber}
 use Rattle.cf_lower_bounds.proofs.Leaving.{continue-does}
@@ -104,7 +106,7 @@ module _ (z : Setup) (m : Runners) (around : Around z.Point) (r : Register) (ss 
     abbrev whole : List Statement
     whole = flag_set d 0 ∷ c_tree.select (integer_in r) its ∷ if_flag d going ∷ []
 
-    module _ (g : Registers) (s : State) (t : c.State) (w : World) (n : ℤ) (at : z.R (labels (label_of n ss)) (suc d) g s t)
+    module _ (g : Registers) (s : State) (t : c.State) (w : World) (input : IsInput w.input) (n : ℤ) (at : z.R (labels (label_of n ss)) (suc d) g s t)
         (number : HasNumber on.kinds n (value_of (integer_in r) z.scope t.memory)) where
       abbrev bits : ℕ
       bits = bits_of 32 (convert Int n)
@@ -121,8 +123,8 @@ module _ (z : Setup) (m : Runners) (around : Around z.Point) (r : Register) (ss 
         where
           by_test : (b : Bool) → has_case n ss ≡ b → z.R (labels (if b then Some n else None)) (suc d) g s t → Simulates (ends z (cases h around) h) (when b (from_case m.again m.program n ss g) (from_default m.again m.program ss g) s w)
               (jump (if b then Some bits else None) t w)
-          by_test true e i = at_case n fitting e g s t w i
-          by_test false e i = at_default g s t w i
+          by_test true e i = at_case n fitting e g s t w i input
+          by_test false e i = at_default g s t w i input
 
       switched : Simulates (ends z around h) ((when (has_case n ss) (from_case m.again m.program n ss g) (from_default m.again m.program ss g) >>= plain.leaving) s w)
           (list z m (c_tree.select (integer_in r) its ∷ if_flag d going ∷ []) t w)
@@ -131,13 +133,15 @@ module _ (z : Setup) (m : Runners) (around : Around z.Point) (r : Register) (ss 
           (ap (λ a. and_then (tried (on_ok a (λ v. numbered v (λ k y. Ok y))) w (λ y. and_then (jump (wanted (bits_of 32 y) its) t w) (λ x w. Went (switching x) w))) (falling rest))
           number.is
           ∙ then-then (jump (wanted bits its) t w) (λ x w. Went (switching x) w) (falling rest))
-          (sim-next (ends z (cases h around) h) (ends z around h) (when (has_case n ss) (from_case m.again m.program n ss g) (from_default m.again m.program ss g) s w)
-          (jump (wanted bits its) t w) plain.leaving onwards chosen (λ flow s x w e. behind flow s x w e) (λ y t w. refl)
+          (sim-on (ends z (cases h around) h) (ends z around h) w.input
+          (when (has_case n ss) (from_case m.again m.program n ss g) (from_default m.again m.program ss g) s w) (jump (wanted bits its) t w) plain.leaving onwards
+          (takes-does_from m.c_again m.helps m.left m.left_helps m.c_program m.helper (wanted bits its) its z.scope m.depth t w) input chosen
+          (λ flow s x w i e. behind flow s x w e) (λ y t w. refl)
           (λ x w. grows-falling rest grows-rest (switching x) w))
 
     pub switches : SameFrom z m p around h (does m.again m.program (switch r ss))
         (λ t w. list z m whole t w)
-    switches g s t w k = by_value (g r) refl
+    switches g s t w k input = by_value (g r) refl
       where
         of_number : (n : ℤ) → g r ≡ Some (source.Number n)
             → Simulates (ends z around h) ((when (has_case n ss) (from_case m.again m.program n ss g) (from_default m.again m.program ss g) >>= plain.leaving) s w) (list z m whole t w)
@@ -148,7 +152,7 @@ module _ (z : Setup) (m : Runners) (around : Around z.Point) (r : Register) (ss 
             sim-as (ends z around h) _ (list z m (c_tree.select (integer_in r) its ∷ if_flag d going ∷ []) after w) (list z m whole t w)
             (flag-then m.c_again m.helps m.c_program m.grown m.helped m.helper z.scope m.depth d 0 (λ y. z.R p d g s (in_memory t y)) t w
             (c_tree.select (integer_in r) its ∷ if_flag d going ∷ []) done)
-            (switched g s after w n (enters (suc d) g s after n e at) (z.laws.number p (suc d) g s after at r on.kinds n on.is e))
+            (switched g s after w input n (enters (suc d) g s after n e at) (z.laws.number p (suc d) g s after at r on.kinds n on.is e))
 
         by_value : (y : Option source.Value) → g r ≡ y
             → Simulates (ends z around h)

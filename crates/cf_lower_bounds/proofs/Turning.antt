@@ -20,7 +20,9 @@ use Rattle.cf_lower_steps.specs.Flows.{Simulates}
 use Rattle.cf_lower_steps.proofs.Branches.{block-runs}
 use Rattle.cf_lower_turns.specs.Around.{Around, turns, stepped, step, depth_of}
 use Rattle.cf_lower_turns.specs.Flags.{Shows, FlagSet}
-use Rattle.cf_lower_turns.proofs.Following.{sim-next, sim-here, sim-as, return-falls, return-turns, return-switches}
+use Rattle.cf_lower_turns.proofs.Following.{sim-here, sim-as, return-falls, return-turns, return-switches}
+use Rattle.cf_lower_place.specs.Input.{IsInput}
+use Rattle.cf_lower_bounds.proofs.Inputs.{takes-does_all, sim-on}
 use Rattle.cf_lower_bounds.proofs.Setup.{Setup, Runners, ends, list, all_at, stepped_turn, SameFrom}
 use Rattle.cf_lower_bounds.proofs.Written.{then-then, all-in-switch, flag-then, flag-passed, flag-taken}
 
@@ -39,13 +41,13 @@ module _ (z : Setup) (m : Runners) (around : Around z.Point) (h : z.Point) (ss t
   grows : (t : c.State) (w : World) → Adds w.trace (go t w)
   grows t w = m.grown m.helper (c_tree.loop (block body)) z.scope m.depth t w
 
-  again-falls : (g : Registers) (s : State) (t : c.State) (w : World) (flow : c.Flow) → flow ≡ c.Falls t → z.R h d g s t
+  again-falls : (g : Registers) (s : State) (t : c.State) (w : World) → IsInput w.input → (flow : c.Flow) → flow ≡ c.Falls t → z.R h d g s t
       → Simulates (ends z around h) (further g s w) (turning go flow w)
-  again-falls g s t w flow e r = sim-as (ends z around h) (further g s w) (go t w) (turning go flow w) (ap (λ x. turning go x w) e) (turns_again g s t w r)
+  again-falls g s t w i flow e r = sim-as (ends z around h) (further g s w) (go t w) (turning go flow w) (ap (λ x. turning go x w) e) (turns_again g s t w r i)
 
-  again-goes : (g : Registers) (s : State) (t : c.State) (w : World) (flow : c.Flow) → flow ≡ c.Continues t → z.R h d g s t
+  again-goes : (g : Registers) (s : State) (t : c.State) (w : World) → IsInput w.input → (flow : c.Flow) → flow ≡ c.Continues t → z.R h d g s t
       → Simulates (ends z around h) (further g s w) (turning go flow w)
-  again-goes g s t w flow e r = sim-as (ends z around h) (further g s w) (go t w) (turning go flow w) (ap (λ x. turning go x w) e) (turns_again g s t w r)
+  again-goes g s t w i flow e r = sim-as (ends z around h) (further g s w) (go t w) (turning go flow w) (ap (λ x. turning go x w) e) (turns_again g s t w r i)
 
   -- `break`: the loop is left
   left : (g : Registers) (s : State) (t : c.State) (w : World) (flow : c.Flow) → flow ≡ c.Breaks t → z.R h d g s t
@@ -59,23 +61,23 @@ module _ (z : Setup) (m : Runners) (around : Around z.Point) (h : z.Point) (ss t
   source_turn g s w = and_then (all m.again m.program ss g s w) (λ did w. onward did (plain.turning (λ k. all m.again m.program ts k >>= plain.turning further)) w)
 
   module _ (g : Registers) (s : State) (t : c.State)
-      (each : (w : World) → Simulates (ends z around h) (source_turn g s w) (and_then (list z m body t w) (turning go))) where
-    after-tick : (w : World) → Simulates (ends z around h) (source_turn g s w)
+      (each : (w : World) → IsInput w.input → Simulates (ends z around h) (source_turn g s w) (and_then (list z m body t w) (turning go))) where
+    after-tick : (w : World) → IsInput w.input → Simulates (ends z around h) (source_turn g s w)
         (and_then (mean.does_body m.c_again m.helps m.c_program m.helper (block body) z.scope m.depth t w) (turning go))
-    after-tick w =
+    after-tick w i =
         sim-as (ends z around h) (source_turn g s w) (and_then (list z m body t w) (turning go))
         (and_then (mean.does_body m.c_again m.helps m.c_program m.helper (block body) z.scope m.depth t w) (turning go))
-        (ap (λ y. and_then y (turning go)) (block-runs m.c_again m.helps m.c_program m.grown m.helped m.helper z.scope m.depth body t w)) (each w)
+        (ap (λ y. and_then y (turning go)) (block-runs m.c_again m.helps m.c_program m.grown m.helped m.helper z.scope m.depth body t w)) (each w i)
 
-    by-ticks : (n : ℕ) (w : World) → Simulates (ends z around h)
+    by-ticks : (n : ℕ) (w : World) → IsInput w.input → Simulates (ends z around h)
         (and_then (spend_of n w (λ w. let told : Did (Unit {0}) = Gives tt s in Went told w)) (λ did w. onward did (λ u s w. source_turn g s w) w))
         (spend_of n w (λ w. and_then (mean.does_body m.c_again m.helps m.c_program m.helper (block body) z.scope m.depth t w) (turning go)))
-    by-ticks zero w = record { by = refl }
-    by-ticks (suc n) w = after-tick (record w { ticks = n })
+    by-ticks zero w i = record { by = refl }
+    by-ticks (suc n) w i = after-tick (record w { ticks = n }) i
 
-    ticked : (w : World) → Simulates (ends z around h) (does m.again m.program (loop ss ts) g s w)
+    ticked : (w : World) → IsInput w.input → Simulates (ends z around h) (does m.again m.program (loop ss ts) g s w)
         (mean.does m.c_again m.helps m.c_program m.helper (c_tree.loop (block body)) z.scope m.depth t w)
-    ticked w = by-ticks w.ticks w
+    ticked w i = by-ticks w.ticks w i
 
 -- ---- a loop without a step
 
@@ -91,23 +93,24 @@ module _ (z : Setup) (m : Runners) (around : Around z.Point) (h : z.Point) (ss :
   abbrev turned_source : Flow → Act Flow
   turned_source flow = plain.turning (λ k. all m.again m.program nothing k >>= plain.turning (further z m around h ss nothing the_body again)) flow
 
-  turned : (flow : Flow) (s : State) (x : c.Flow) (w : World) → ends z (turns h around) h flow s x
+  turned : (flow : Flow) (s : State) (x : c.Flow) (w : World) → IsInput w.input → ends z (turns h around) h flow s x
       → Simulates (ends z around h) (turned_source flow s w) (turning next_turn x w)
-  turned (Falls g) s x w e =
-      again-falls z m around h ss nothing the_body again g s e.after w x e.is e.related
-  turned (Continues g) s x w e = again-goes z m around h ss nothing the_body again g s e.after w x e.is e.related
-  turned (Breaks g) s x w e = left z m around h ss nothing the_body again g s e.after w x e.is e.related
-  turned (Returns v) s x w e =
+  turned (Falls g) s x w i e =
+      again-falls z m around h ss nothing the_body again g s e.after w i x e.is e.related
+  turned (Continues g) s x w i e = again-goes z m around h ss nothing the_body again g s e.after w i x e.is e.related
+  turned (Breaks g) s x w i e = left z m around h ss nothing the_body again g s e.after w x e.is e.related
+  turned (Returns v) s x w i e =
       sim-here (ends z around h) (Returns v) s w (turning next_turn x w) x (return-turns next_turn x w (z.returns v s x e)) e
 
-  pub plain-loop : (g : Registers) (s : State) (t : c.State) (w : World) → z.R h (depth_of around) g s t
+  pub plain-loop : (g : Registers) (s : State) (t : c.State) (w : World) → z.R h (depth_of around) g s t → IsInput w.input
       → Simulates (ends z around h) (does m.again m.program (loop ss nothing) g s w)
       (mean.does m.c_again m.helps m.c_program m.helper (c_tree.loop (block the_body)) z.scope m.depth t w)
-  plain-loop g s t w r =
+  plain-loop g s t w r i =
       ticked z m around h ss nothing the_body again g s t
-      (λ w. sim-next (ends z (turns h around) h) (ends z around h) (all m.again m.program ss g s w) (list z m the_body t w)
-      turned_source (turning next_turn) (runs_body g s t w r) (λ flow s x w e. turned flow s x w e) (λ y t w. refl)
-      (λ x w. grows-turning next_turn (grows z m around h ss nothing the_body again) x w)) w
+      (λ w i. sim-on (ends z (turns h around) h) (ends z around h) w.input (all m.again m.program ss g s w) (list z m the_body t w)
+      turned_source (turning next_turn) (takes-does_all m.c_again m.helps m.left m.left_helps m.c_program m.helper (in_order the_body) z.scope m.depth t w) i
+      (runs_body g s t w r i) (λ flow s x w i e. turned flow s x w i e) (λ y t w. refl)
+      (λ x w. grows-turning next_turn (grows z m around h ss nothing the_body again) x w)) w i
 
 -- ---- a loop with a step
 
@@ -142,24 +145,25 @@ module _ (z : Setup) (m : Runners) (around : Around z.Point) (h : z.Point) (ss t
   source_step k = all m.again m.program ts k >>= plain.turning source_next
 
   -- after the step
-  step-turned : (flow : Flow) (s : State) (x : c.Flow) (w : World) → ends z (step h around) h flow s x
+  step-turned : (flow : Flow) (s : State) (x : c.Flow) (w : World) → IsInput w.input → ends z (step h around) h flow s x
       → Simulates (ends z around h) ((plain.turning source_next flow) s w) (turning turn_after x w)
-  step-turned (Falls g) s x w y =
-      again-falls z m around h ss ts a_turn again g s y.after w x y.is y.related
-  step-turned (Continues g) s x w y = absurd y
-  step-turned (Breaks g) s x w y = left z m around h ss ts a_turn again g s y.after w x y.is y.related
-  step-turned (Returns v) s x w y = sim-here (ends z around h) (Returns v) s w (turning turn_after x w) x (return-turns turn_after x w (z.returns v s x y)) y
+  step-turned (Falls g) s x w i y =
+      again-falls z m around h ss ts a_turn again g s y.after w i x y.is y.related
+  step-turned (Continues g) s x w i y = absurd y
+  step-turned (Breaks g) s x w i y = left z m around h ss ts a_turn again g s y.after w x y.is y.related
+  step-turned (Returns v) s x w i y = sim-here (ends z around h) (Returns v) s w (turning turn_after x w) x (return-turns turn_after x w (z.returns v s x y)) y
 
   -- the step, and then the next turn
-  steps : (g : Registers) (s : State) (t : c.State) (w : World) → z.R h (suc e) g s t
+  steps : (g : Registers) (s : State) (t : c.State) (w : World) → z.R h (suc e) g s t → IsInput w.input
       → Simulates (ends z around h) (source_step g s w) (and_then (rest t w) (turning turn_after))
-  steps g s t w r =
+  steps g s t w r i =
       sim-as (ends z around h) (source_step g s w) (and_then (list z m the_step t w) (turning turn_after)) (and_then (rest t w) (turning turn_after))
       (ap (λ y. and_then y (turning turn_after))
       (flag-passed m.c_again m.helps m.c_program m.grown m.helped m.helper z.scope m.depth e (c_tree.leave ∷ []) the_step t w (z.laws.unset h e g s t r)))
-      (sim-next (ends z (step h around) h) (ends z around h) (all m.again m.program ts g s w) (list z m the_step t w)
-      (plain.turning source_next) (turning turn_after) (runs_step g s t w (z.laws.fewer h e g s t r))
-      (λ flow s x w y. step-turned flow s x w y) (λ y t w. refl) (λ x w. grows-turning turn_after (grows z m around h ss ts a_turn again) x w))
+      (sim-on (ends z (step h around) h) (ends z around h) w.input (all m.again m.program ts g s w) (list z m the_step t w)
+      (plain.turning source_next) (turning turn_after) (takes-does_all m.c_again m.helps m.left m.left_helps m.c_program m.helper (in_order the_step) z.scope m.depth t w) i
+      (runs_step g s t w (z.laws.fewer h e g s t r) i)
+      (λ flow s x w i y. step-turned flow s x w i y) (λ y t w. refl) (λ x w. grows-turning turn_after (grows z m around h ss ts a_turn again) x w))
 
   -- `break` in the body: the flag is set, and the C leaves the loop
   breaks : (g : Registers) (s : State) (t : c.State) (w : World) → z.R h e g s t → Shows z.scope e 1 t.memory
@@ -174,18 +178,18 @@ module _ (z : Setup) (m : Runners) (around : Around z.Point) (h : z.Point) (ss t
   abbrev onwards : c.Flow → World → Ran c.Flow
   onwards x w = and_then (falling rest (switching x) w) (turning turn_after)
 
-  turned-step : (flow : Flow) (s : State) (x : c.Flow) (w : World) → ends z (stepped h around) h flow s x
+  turned-step : (flow : Flow) (s : State) (x : c.Flow) (w : World) → IsInput w.input → ends z (stepped h around) h flow s x
       → Simulates (ends z around h) ((plain.turning source_step flow) s w) (onwards x w)
-  turned-step (Falls g) s x w y =
-      sim-as (ends z around h) (source_step g s w) (and_then (rest y.after w) (turning turn_after)) (onwards x w) (ap (λ i. onwards i w) y.is)
-      (steps g s y.after w y.related)
-  turned-step (Continues g) s x w y =
-      sim-as (ends z around h) (source_step g s w) (and_then (rest y.after w) (turning turn_after)) (onwards x w) (ap (λ i. onwards i w) y.is)
-      (steps g s y.after w y.related)
-  turned-step (Breaks g) s x w y =
+  turned-step (Falls g) s x w i y =
+      sim-as (ends z around h) (source_step g s w) (and_then (rest y.after w) (turning turn_after)) (onwards x w) (ap (λ q. onwards q w) y.is)
+      (steps g s y.after w y.related i)
+  turned-step (Continues g) s x w i y =
+      sim-as (ends z around h) (source_step g s w) (and_then (rest y.after w) (turning turn_after)) (onwards x w) (ap (λ q. onwards q w) y.is)
+      (steps g s y.after w y.related i)
+  turned-step (Breaks g) s x w i y =
       sim-as (ends z around h) (Went (Gives (Falls g) s) w) (and_then (rest y.after w) (turning turn_after)) (onwards x w) (ap (λ i. onwards i w) y.is)
       (breaks g s y.after w y.related.0 y.related.1)
-  turned-step (Returns v) s x w y =
+  turned-step (Returns v) s x w i y =
       let is = z.returns v s x y in
       sim-here (ends z around h) (Returns v) s w (onwards x w) x
       (ap (λ i. and_then (falling rest i w) (turning turn_after)) (return-switches x is) ∙ ap (λ i. and_then i (turning turn_after)) (return-falls rest x w is)
@@ -206,17 +210,18 @@ module _ (z : Setup) (m : Runners) (around : Around z.Point) (h : z.Point) (ss t
       ∙ then-then (list z m inner after w) (λ x w. Went (switching x) w) (falling rest))
       ∙ then-then (list z m inner after w) (λ x w. falling rest (switching x) w) (turning turn_after)
 
-  pub step-loop : (g : Registers) (s : State) (t : c.State) (w : World) → z.R h e g s t
+  pub step-loop : (g : Registers) (s : State) (t : c.State) (w : World) → z.R h e g s t → IsInput w.input
       → Simulates (ends z around h) (does m.again m.program (loop ss ts) g s w)
       (mean.does m.c_again m.helps m.c_program m.helper (c_tree.loop (block a_turn)) z.scope m.depth t w)
-  step-loop g s t w r =
+  step-loop g s t w r i =
       let done = z.laws.set h e 0 g s t room refl r in
       ticked z m around h ss ts a_turn again g s t
-      (λ w. sim-as (ends z around h) (source_turn z m around h ss ts a_turn again g s w) (and_then (list z m inner (in_memory t done.after) w) onwards)
+      (λ w i. sim-as (ends z around h) (source_turn z m around h ss ts a_turn again g s w) (and_then (list z m inner (in_memory t done.after) w) onwards)
       (and_then (list z m a_turn t w) (turning turn_after)) (turn-runs g s t w done)
-      (sim-next (ends z (stepped h around) h) (ends z around h) (all m.again m.program ss g s w)
+      (sim-on (ends z (stepped h around) h) (ends z around h) w.input (all m.again m.program ss g s w)
       (list z m inner (in_memory t done.after) w) (plain.turning source_step) onwards
-      (runs_body g s (in_memory t done.after) w (z.laws.more h e g s (in_memory t done.after) room done.shows done.related))
-      (λ flow s x w y. turned-step flow s x w y) (λ y t w. refl)
+      (takes-does_all m.c_again m.helps m.left m.left_helps m.c_program m.helper (in_order inner) z.scope m.depth (in_memory t done.after) w) i
+      (runs_body g s (in_memory t done.after) w (z.laws.more h e g s (in_memory t done.after) room done.shows done.related) i)
+      (λ flow s x w i y. turned-step flow s x w i y) (λ y t w. refl)
       (λ x w. adds-then w.trace (falling rest (switching x) w) (turning turn_after) (grows-falling rest grows-rest (switching x) w)
-      (λ x w. grows-turning turn_after (grows z m around h ss ts a_turn again) x w)))) w
+      (λ x w. grows-turning turn_after (grows z m around h ss ts a_turn again) x w)))) w i

@@ -14,6 +14,8 @@ use Rattle.cf_lower_turns.specs.ControlLoops.{IsReturn}
 use Rattle.cf_lower_steps.specs.Flows.{Simulates}
 use Rattle.cf_lower_turns.specs.Around.{Around, turns, stepped, step, depth_of, inside_at}
 use Rattle.cf_lower_turns.specs.Scene.{Scene, again_at, c_again_at, helps_at, list_at}
+use Rattle.cf_lower_place.specs.Input.{IsInput}
+use Rattle.cf_lower_bounds.proofs.Inputs.{takes-helps, takes-runs}
 use Rattle.cf_lower_bounds.specs.Points.{Point, At, Returned}
 use Rattle.cf_lower_bounds.specs.Bounds.{SameAt, LeafRunsTo, NeededTo}
 use Rattle.cf_lower_bounds.proofs.Setup.{Setup, Runners, LoopNeeds, TurnsAgain, LeavesRun, loop_of, ends}
@@ -50,13 +52,15 @@ module _ (z : Scene) (n : ℕ) where
     depth = z.depth;
     grown = grows-runs z.c_program k;
     helped = grows-helps z.c_program (mean.runs z.c_program k) (grows-runs z.c_program k) z.helper;
+    left = takes-runs z.c_program k;
+    left_helps = takes-helps z.c_program (mean.runs z.c_program k) (takes-runs z.c_program k) z.helper;
   }
 
   leaves-run : (k : ℕ) → k ≤ n → LeavesRun setup (runners k)
   leaves-run k le around p s q leaf = leaf k le
 
   turn-of : (k : ℕ) → k ≤ n → TurnsAgain setup (runners k) → (ss ts : Plains) (around : Around Point) (h : Point) → LoopNeeds setup ss ts around h
-      → (g : Registers) (s : State) (t : c.State) (w : World) → At z h (depth_of around) g s t
+      → (g : Registers) (s : State) (t : c.State) (w : World) → At z h (depth_of around) g s t → IsInput w.input
       → Simulates (ends setup around h) (does (again_at z k) z.program (loop ss ts) g s w)
       (mean.does (c_again_at z k) (helps_at z k) z.c_program z.helper (loop_of setup ss ts around h) z.body.scope z.depth t w)
   turn-of k le again ss nothing around h needs =
@@ -68,10 +72,10 @@ module _ (z : Scene) (n : ℕ) where
       (list-same setup (runners k) again (leaves-run k le) (more t1 ts) (step h around) h h needs.1.1)
 
   turns-again : (k : ℕ) → k ≤ n → TurnsAgain setup (runners k)
-  turns-again zero le ss ts around h needs g s t w r = record { by = refl }
-  turns-again (suc k) le ss ts around h needs g s t w r =
+  turns-again zero le ss ts around h needs g s t w r i = record { by = refl }
+  turns-again (suc k) le ss ts around h needs g s t w r i =
       let less : k ≤ n = omega (arith, le) in
-      turn-of k less (turns-again k less) ss ts around h needs g s t w r
+      turn-of k less (turns-again k less) ss ts around h needs g s t w r i
 
   pub statements-to : (ss : Plains) (around : Around Point) (p q : Point) → NeededTo z n ss around p q
       → SameAt z p around q (all (again_at z n) z.program ss) (λ t w. list_at z n (all_lowered ss (inside_at z.inside around) p.kept) t w)

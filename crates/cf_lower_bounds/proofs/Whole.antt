@@ -20,7 +20,8 @@ use Rattle.cf_lower.specs.Statements.{block, flag_set, if_flag, stated_all, item
 use Rattle.cf_lower_steps.specs.Flows.{Simulates}
 use Rattle.cf_lower_steps.proofs.Branches.{falls-on}
 use Rattle.cf_lower_turns.specs.Around.{Around, turns, stepped, step, cases, depth_of, going_on_of, inside_at}
-use Rattle.cf_lower_bounds.specs.Needs.{labels_fit}
+use Rattle.cf_lower_place.specs.Input.{IsInput}
+use Rattle.cf_lower_place.specs.InPlace.{labels_fit}
 use Rattle.cf_lower_turns.proofs.Following.{sim-here, sim-as}
 use Rattle.cf_lower_bounds.proofs.Labels.{number-same, same-label}
 use Rattle.cf_lower_bounds.proofs.Leaving.{leave-does, continue-does}
@@ -37,12 +38,12 @@ either-of false b e h = e
 module _ (z : Setup) (m : Runners) (turns_again : TurnsAgain z m) (leaves_run : LeavesRun z m) where
   -- one statement alone, from a point within which it is
   one-within : (p h : z.Point) (around : Around z.Point) (f : Registers → Act Flow) (one : Statement) → Within z p h
-      → ((g : Registers) (s : State) (t : c.State) (w : World) → z.R h (depth_of around) g s t
+      → ((g : Registers) (s : State) (t : c.State) (w : World) → z.R h (depth_of around) g s t → IsInput w.input
       → Simulates (ends z around h) (f g s w) (mean.does m.c_again m.helps m.c_program m.helper one z.scope m.depth t w))
       → SameFrom z m p around h f (λ t w. list z m (one ∷ []) t w)
-  one-within p h around f one within same g s t w r =
+  one-within p h around f one within same g s t w r i =
       sim-as (ends z around h) (f g s w) (mean.does m.c_again m.helps m.c_program m.helper one z.scope m.depth t w) (list z m (one ∷ []) t w)
-      (falls-on (mean.does m.c_again m.helps m.c_program m.helper one z.scope m.depth t w)) (same g s t w (within (depth_of around) g s t r))
+      (falls-on (mean.does m.c_again m.helps m.c_program m.helper one z.scope m.depth t w)) (same g s t w (within (depth_of around) g s t r) i)
 
   -- the contents of a switch, where registers hold this at its labels and this in front of them: all of them, and from a label on
   abbrev contents : Plains → Around z.Point → Keeping → Keeping → c.State → World → Ran c.Flow
@@ -69,15 +70,15 @@ module _ (z : Setup) (m : Runners) (turns_again : TurnsAgain z m) (leaves_run : 
       → (int_le y n && int_le n y ≡ false → SameFrom z m p around h (from_case m.again m.program n ss) (jump (Some (bits_of 32 (convert Int n))) ss around k k))
       → SameFrom z m p around h (λ g. when (int_le y n && int_le n y) (all m.again m.program ss g) (from_case m.again m.program n ss g))
       (λ t w. if bits_of 32 (convert Int y) == bits_of 32 (convert Int n) then contents ss around k k t w else jump (Some (bits_of 32 (convert Int n))) ss around k k t w)
-  at-label ss around k p h y n e here later = λ g s t w r.
+  at-label ss around k p h y n e here later = λ g s t w r input.
       sim-as (ends z around h) _ _ _
-      (ap (λ b. if b then contents ss around k k t w else jump (Some (bits_of 32 (convert Int n))) ss around k k t w) e) (by_test g s t w r (int_le y n && int_le n y) refl)
+      (ap (λ b. if b then contents ss around k k t w else jump (Some (bits_of 32 (convert Int n))) ss around k k t w) e) (by_test g s t w r input (int_le y n && int_le n y) refl)
     where
-      by_test : (g : Registers) (s : State) (t : c.State) (w : World) → z.R p (depth_of around) g s t → (b : Bool) → int_le y n && int_le n y ≡ b
+      by_test : (g : Registers) (s : State) (t : c.State) (w : World) → z.R p (depth_of around) g s t → IsInput w.input → (b : Bool) → int_le y n && int_le n y ≡ b
           → Simulates (ends z around h) (when b (all m.again m.program ss g) (from_case m.again m.program n ss g) s w)
           (if b then contents ss around k k t w else jump (Some (bits_of 32 (convert Int n))) ss around k k t w)
-      by_test g s t w r true i = here i g s t w r
-      by_test g s t w r false i = later i g s t w r
+      by_test g s t w r input true i = here i g s t w r input
+      by_test g s t w r input false i = later i g s t w r input
 
   -- registers hold behind a label what they hold at each
   at-kept : (ss : Plains) (around : Around z.Point) (p h : z.Point) (k : Keeping) → z.kept p ≡ k → SameFrom z m p around h (all m.again m.program ss) (contents ss around k (z.kept p))
@@ -89,8 +90,8 @@ module _ (z : Setup) (m : Runners) (turns_again : TurnsAgain z m) (leaves_run : 
         → SameFrom z m p around q (does m.again m.program s) (λ t w. list z m (lowered_at z s around p) t w)
     statement-same (act a) around p q kept needs = leaves_run around p (act a) q needs
     statement-same (set r a) around p q kept needs = leaves_run around p (set r a) q needs
-    statement-same (branch r ss ts) around p q kept needs = λ g s t w k.
-        branches z m around r ss ts p q needs.0 (list-same ss around p q needs.1.0) (list-same ts around p q needs.1.1) g s t w k
+    statement-same (branch r ss ts) around p q kept needs = λ g s t w k i.
+        branches z m around r ss ts p q needs.0 (list-same ss around p q needs.1.0) (list-same ts around p q needs.1.1) g s t w k i
     statement-same (loop ss nothing) around p q kept needs =
         subst (λ k. SameFrom z m p around q (does m.again m.program (loop ss nothing))
         (λ t w. list z m (c_tree.loop (block (all_lowered ss (inside_at z.inside (turns q around)) k)) ∷ []) t w)) kept
@@ -120,14 +121,14 @@ module _ (z : Setup) (m : Runners) (turns_again : TurnsAgain z m) (leaves_run : 
         (default-same ss (cases q around) q into.labels into.kept_at into.front into.items into.passed)))
     statement-same (case_label y) around p q kept needs = absurd needs
     statement-same default_label around p q kept needs = absurd needs
-    statement-same leave around p q kept needs = λ g s t w k. leave-does z m around p q needs g s t w k
-    statement-same continue around p q kept needs = λ g s t w k. continue-does z m around p q needs g s t w k
+    statement-same leave around p q kept needs = λ g s t w k i. leave-does z m around p q needs g s t w k
+    statement-same continue around p q kept needs = λ g s t w k i. continue-does z m around p q needs g s t w k
     statement-same (give r) around p q kept needs = leaves_run around p (give r) q needs
     statement-same (parts ps) around p q kept needs = absurd needs
 
     pub list-same : (ss : Plains) (around : Around z.Point) (p q : z.Point) → AllNeed z ss around p q
         → SameFrom z m p around q (all m.again m.program ss) (λ t w. list z m (all_at z ss around p) t w)
-    list-same nothing around p q needs = λ g s t w k.
+    list-same nothing around p q needs = λ g s t w k i.
         sim-here (ends z around q) (Falls g) s w (Went (c.Falls t) w) (c.Falls t) refl
         (record { after = t; is = refl; related = needs (depth_of around) g s t k })
     list-same (more s ss) around p q needs =
@@ -137,13 +138,13 @@ module _ (z : Setup) (m : Runners) (turns_again : TurnsAgain z m) (leaves_run : 
     -- what stands behind a label
     items-same : (ss : Plains) (around : Around z.Point) (h : z.Point) (labels : Option ℤ → z.Point) → ((l : Option ℤ) → z.kept (labels l) ≡ z.kept h) → (q : z.Point)
         → ItemsNeed z ss around labels q h → SameFrom z m q around h (all m.again m.program ss) (contents ss around (z.kept h) (z.kept q))
-    items-same nothing around h labels kept_at q needs = λ g s t w k.
+    items-same nothing around h labels kept_at q needs = λ g s t w k i.
         sim-here (ends z around h) (Falls g) s w (Went (c.Falls t) w) (c.Falls t) refl
         (record { after = t; is = refl; related = needs (depth_of around) g s t k })
-    items-same (more (case_label y) ss) around h labels kept_at q needs = λ g s t w k.
-        at-kept ss around (labels (Some y)) h (z.kept h) (kept_at (Some y)) (items-same ss around h labels kept_at (labels (Some y)) needs.1) g s t w (needs.0 (depth_of around) g s t k)
-    items-same (more default_label ss) around h labels kept_at q needs = λ g s t w k.
-        at-kept ss around (labels None) h (z.kept h) (kept_at None) (items-same ss around h labels kept_at (labels None) needs.1) g s t w (needs.0 (depth_of around) g s t k)
+    items-same (more (case_label y) ss) around h labels kept_at q needs = λ g s t w k i.
+        at-kept ss around (labels (Some y)) h (z.kept h) (kept_at (Some y)) (items-same ss around h labels kept_at (labels (Some y)) needs.1) g s t w (needs.0 (depth_of around) g s t k) i
+    items-same (more default_label ss) around h labels kept_at q needs = λ g s t w k i.
+        at-kept ss around (labels None) h (z.kept h) (kept_at None) (items-same ss around h labels kept_at (labels None) needs.1) g s t w (needs.0 (depth_of around) g s t k) i
     items-same (more s ss) around h labels kept_at q needs =
         then-items z m around s ss (z.kept h) q needs.point h needs.kept_there (statement-same s around q needs.point needs.kept_there needs.first)
         (items-same ss around h labels kept_at needs.point needs.second)
@@ -163,14 +164,14 @@ module _ (z : Setup) (m : Runners) (turns_again : TurnsAgain z m) (leaves_run : 
     case-same (more default_label ss) around h labels kept_at q k n fit one_kind there needs =
         subst (λ i. SameFrom z m (labels (Some n)) around h (from_case m.again m.program n ss) (jump (Some (bits_of 32 (convert Int n))) ss around (z.kept h) i)) (kept_at None)
         (case-same ss around h labels kept_at (labels None) k n fit one_kind there needs.1)
-    case-same (more s ss) around h labels kept_at q k n fit one_kind there needs = λ g st t w r.
+    case-same (more s ss) around h labels kept_at q k n fit one_kind there needs = λ g st t w r i.
         sim-as (ends z around h) _ _ _ (from-statement (Some (bits_of 32 (convert Int n))) s ss around (z.kept h) q needs.point needs.kept_there t w)
-        (case-same ss around h labels kept_at needs.point k n fit one_kind there needs.second g st t w r)
+        (case-same ss around h labels kept_at needs.point k n fit one_kind there needs.second g st t w r i)
 
     default-same : (ss : Plains) (around : Around z.Point) (h : z.Point) (labels : Option ℤ → z.Point) → ((l : Option ℤ) → z.kept (labels l) ≡ z.kept h) → (q : z.Point)
         → ItemsNeed z ss around labels q h → Passed z ss (labels None) h
         → SameFrom z m (labels None) around h (from_default m.again m.program ss) (jump None ss around (z.kept h) (z.kept q))
-    default-same nothing around h labels kept_at q needs passed = λ g s t w r.
+    default-same nothing around h labels kept_at q needs passed = λ g s t w r i.
         sim-here (ends z around h) (Falls g) s w (Went (c.Falls t) w) (c.Falls t) refl
         (record { after = t; is = refl; related = passed (depth_of around) g s t r })
     default-same (more (case_label y) ss) around h labels kept_at q needs passed =
@@ -178,6 +179,6 @@ module _ (z : Setup) (m : Runners) (turns_again : TurnsAgain z m) (leaves_run : 
         (default-same ss around h labels kept_at (labels (Some y)) needs.1 passed)
     default-same (more default_label ss) around h labels kept_at q needs passed =
         at-kept ss around (labels None) h (z.kept h) (kept_at None) (items-same ss around h labels kept_at (labels None) needs.1)
-    default-same (more s ss) around h labels kept_at q needs passed = λ g st t w r.
+    default-same (more s ss) around h labels kept_at q needs passed = λ g st t w r i.
         sim-as (ends z around h) _ _ _ (from-statement None s ss around (z.kept h) q needs.point needs.kept_there t w)
-        (default-same ss around h labels kept_at needs.point needs.second passed g st t w r)
+        (default-same ss around h labels kept_at needs.point needs.second passed g st t w r i)

@@ -14,6 +14,7 @@ use Rattle.cf_lower_turns.specs.Around.{Around, depth_of, inside_at}
 use Rattle.cf_lower_turns.specs.Here.{Narrows}
 use Rattle.cf_lower_turns.specs.Ways.{ends}
 use Rattle.cf_lower_turns.specs.Scene.{Scene, fixed_in, again_at, list_at}
+use Rattle.cf_lower_place.specs.Input.{IsInput}
 use Rattle.cf_lower_bounds.specs.Needs as needs
 use Rattle.cf_lower_bounds.specs.Points.{StandsAs, Point, local_count, At, Returned}
 
@@ -22,10 +23,11 @@ module _ (z : Scene) where
   abbrev pub EndsAt : Around Point → Point → Ways
   EndsAt around q = ends Point z.body.scope (At z) (Returned z) around q
 
-  -- from the first point both do the same, and come to the second or leave
+  -- from the first point both do the same with an input of bytes, and come to the second or leave
   abbrev pub SameAt : Point → Around Point → Point → (Registers → Act Flow) → (c.State → World → Ran c.Flow) → Type 0
   SameAt p around q f go =
-      (g : Registers) (s : State) (t : c.State) (w : World) → At z p (depth_of around) g s t → Simulates (EndsAt around q) (f g s w) (go t w)
+      (g : Registers) (s : State) (t : c.State) (w : World) → At z p (depth_of around) g s t → IsInput w.input
+      → Simulates (EndsAt around q) (f g s w) (go t w)
 
   -- what is so at the first is so at the second
   abbrev pub LiesWithin : Point → Point → Type 0

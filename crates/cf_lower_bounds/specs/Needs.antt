@@ -1,7 +1,6 @@
 -- What the statements of a function need for the C to do the same: of each the points from which and to which it leads.
-use Rattle.std.specs.Prelude.{◌≡◌, ℕ, ◌<◌, Bool, true, ◌&&◌, if◌then◌else◌, ℤ, Option, Some, None}
+use Rattle.std.specs.Prelude.{◌≡◌, ℕ, ◌<◌, Bool, true, if◌then◌else◌, ℤ, Option, Some, None}
 use Rattle.cf_base.specs.declared.kind.Kind.{Kind}
-use Rattle.cf_base.specs.Integers.{fits}
 use Rattle.cf_core.specs.Store as source
 use Rattle.cf_core.specs.Run.{State}
 use Rattle.cf_plain.specs.Plain.{Register, Plain, Plains, act, set, branch, loop, switch, case_label, default_label, leave, continue, give, parts, nothing, more}
@@ -11,17 +10,12 @@ use Rattle.cc_whole_mean.specs.Flow as c
 use Rattle.cf_lower.specs.Kept.{Kept, integer_of, Keeping}
 use Rattle.cf_lower_turns.specs.Around.{Around, turns, stepped, step, cases, depth_of, left_to, gone_on_to}
 use Rattle.cf_lower_turns.specs.Ways.{Relation}
+use Rattle.cf_lower_place.specs.InPlace.{labels_fit}
 
 -- the register holds a number
 pub record IsNumber (x : Kept) : Type 0 where
   pub kinds : Kind → Bool
   pub is : x ≡ integer_of kinds
-
--- whether each label is of this kind (6.4.2)
-abbrev pub labels_fit : Kind → Plains → Bool
-labels_fit k nothing = true
-labels_fit k (more (case_label z) rest) = fits k z && labels_fit k rest
-labels_fit k (more s rest) = labels_fit k rest
 
 -- the register holds a number of a kind that each label is of
 pub record Switches (x : Kept) (ss : Plains) : Type 0 where

@@ -1,5 +1,5 @@
 -- Between two statements of a function: what registers hold, which of its parameters and locals have an object that stands, and what is so of both programs.
-use Rattle.std.specs.Prelude.{◌≡◌, ℕ, ◌<◌, true, false, List, [], ◌∷◌, length, ℤ, Some}
+use Rattle.std.specs.Prelude.{◌≡◌, ℕ, ◌<◌, true, false, List, [], ◌∷◌, length, ℤ, Option, Some, None}
 use Rattle.cf_core.specs.Types.{Name}
 use Rattle.cf_core.specs.Store as source
 use Rattle.cf_core.specs.Run.{State}
@@ -19,7 +19,7 @@ use Rattle.cf_lower_turns.specs.Scene.{Scene, GivesBack, fixed_in}
 pub data Standing : Type 0 where
   never : Standing  -- control does not come here
   these : List Opened → Standing
-  by_number : Register → (ℤ → List Opened) → Standing  -- by the number in a register, where a switch follows of which labels pass locals (6.7)
+  by_number : Register → (ℤ → Option (List Opened)) → Standing  -- by the number that a register holds, where a switch follows of which labels pass locals (6.7)
 
 -- the object of one of so many parameters and locals stands; the register that it was declared in has its place until the first value, and once it has one it
 -- holds a value
@@ -40,10 +40,21 @@ pub record Open (count : ℕ) (xs : List Opened) (g : Registers) (s : State) : T
   pub each : AllOpen count xs g s
   pub over : (i o : ℕ) → i < count → is_open i xs ≡ false → s.frame.locals i ≡ Some o → (s.object o).is_gone ≡ true
 
+-- these stand, if control comes here
+abbrev pub OpenIf : ℕ → Option (List Opened) → Registers → State → Type 0
+OpenIf count None g s = ⊥
+OpenIf count (Some xs) g s = Open count xs g s
+
+-- the register holds a number, and what goes by it stands
+pub record OpenBy (count : ℕ) (r : Register) (xs : ℤ → Option (List Opened)) (g : Registers) (s : State) : Type 0 where
+  pub number : ℤ
+  pub holds : g r ≡ Some (source.Number number)
+  pub stands : OpenIf count (xs number) g s
+
 abbrev pub StandsAs : ℕ → Standing → Registers → State → Type 0
 StandsAs count never g s = ⊥
 StandsAs count (these xs) g s = Open count xs g s
-StandsAs count (by_number r xs) g s = (n : ℤ) → g r ≡ Some (source.Number n) → Open count (xs n) g s
+StandsAs count (by_number r xs) g s = OpenBy count r xs g s
 
 -- ---- points
 
@@ -57,6 +68,9 @@ point_at h xs = record { kept = h; standing = these xs }
 
 abbrev pub point_never : Keeping → Point
 point_never h = record { kept = h; standing = never }
+
+abbrev pub point_by : Keeping → Register → (ℤ → Option (List Opened)) → Point
+point_by h r xs = record { kept = h; standing = by_number r xs }
 
 -- a static object stands, and is no local's
 pub record StaticStands (s : State) (o : ℕ) : Type 0 where

@@ -1,11 +1,11 @@
 -- What stands around statements: where `break` and `continue` lead to by what is open, how many flags are left, and what goes with them into the parts of a statement.
-use Rattle.std.proofs.Common.{◌≡◌, ℕ, suc, ◌+◌, ◌≤◌, ◌<◌, max, Bool, true, false, ◌||◌, List, refl, sym, subst, arith, inr}
+use Rattle.std.proofs.Common.{◌≡◌, ℕ, suc, ◌+◌, ◌≤◌, ◌<◌, max, Bool, true, List, sym, subst, arith}
 use Rattle.std.specs.Prelude.{map, ℤ, Option, Some, None, is_some}
 use Rattle.cf_plain.specs.Plain.{Register, Plain, Plains, default_label, nothing, more}
 use Rattle.cf_lower.specs.Kept.{unknown, Keeping, sets, all_set, after}
 use Rattle.cf_lower.specs.Functions.{nesting, all_nesting}
 use Rattle.cf_lower_kept.specs.Opened.{Opened, settled, same_locals, is_at, Ways}
-use Rattle.cf_lower_kept.specs.Told.{AllJoin, TellsLess, builds_none}
+use Rattle.cf_lower_kept.specs.Told.{AllJoin, builds_none}
 use Rattle.cf_lower_kept.proofs.Turns.{all-join}
 use Rattle.cf_lower_turns.specs.Around.{Around, depth_of, left_to, gone_on_to}
 use Rattle.cf_lower_turns.specs.Scene.{Scene}
@@ -13,7 +13,7 @@ use Rattle.cf_lower_bounds.specs.Needs as needs
 use Rattle.cf_lower_bounds.specs.Points.{Point, point_at, point_never, At}
 use Rattle.cf_lower_bounds.specs.Bounds.{LiesWithin, LeafRunsTo}
 use Rattle.cf_lower.specs.Kept as lower
-use Rattle.cf_lower_needed.proofs.Tells.{or-left, or-right, Tells, tells-fewer, tells-behind}
+use Rattle.cf_lower_needed.proofs.Tells.{or-left, Tells, tells-fewer, tells-behind}
 use Rattle.cf_lower_needed.proofs.Points.{from-never, to-same}
 
 -- ---- what statements need, at the points of a function

@@ -1,18 +1,18 @@
 -- Where control does not come statements need little: branches and switches go by numbers, and `break` and `continue` lead somewhere.
-use Rattle.std.proofs.Common.{◌≡◌, ℕ, suc, ◌+◌, ◌≤◌, max, Bool, true, false, ◌&&◌, refl}
-use Rattle.std.specs.Prelude.{ℤ, Option, Some}
+use Rattle.std.proofs.Common.{◌≡◌, ℕ, suc, max, Bool, true, false, ◌&&◌, [], refl}
 use Rattle.cf_base.proofs.Tests.{both}
-use Rattle.cf_plain.specs.Plain.{Plain, Plains, act, set, branch, loop, switch, case_label, default_label, leave, continue, give, parts, nothing, more}
+use Rattle.cf_plain.specs.Valid.{labels_differ}
+use Rattle.cf_plain.specs.Plain.{Plain, Plains, act, set, branch, loop, switch, case_label, default_label, leave, continue, give, nothing, more}
 use Rattle.cf_lower.specs.Kept.{Keeping, Locals, untouched, after}
 use Rattle.cf_lower.specs.Functions.{nesting, all_nesting}
 use Rattle.cf_lower_turns.specs.Around.{Around, turns, stepped, step, cases, depth_of, left_to, gone_on_to}
 use Rattle.cf_lower_turns.specs.Scene.{Scene}
 use Rattle.cf_lower_bounds.specs.Points.{Point, point_never}
 use Rattle.cf_lower_bounds.specs.Bounds.{NeededTo}
-use Rattle.cf_lower_needed.specs.InPlace.{is_number, switches, declares_none, in_place, all_in_place, items_in_place}
+use Rattle.cf_lower_place.specs.InPlace.{is_number, switches, in_place, all_in_place, items_in_place}
 use Rattle.cf_lower_needed.proofs.Points.{from-never}
 use Rattle.cf_lower_needed.proofs.Places.{number-there, switches-there}
-use Rattle.cf_lower_needed.proofs.Around.{StatementNeeds, ItemsNeed, Through, passed-itself, never-out, flags-left, flags-right, flags-more, flags-one, Outs, outs-with}
+use Rattle.cf_lower_needed.proofs.Around.{StatementNeeds, ItemsNeed, passed-itself, never-out, flags-left, flags-right, flags-more, flags-one, Outs, outs-with}
 
 module _ (z : Scene) (n : ℕ) (fits : Keeping → Plain → Bool) where
   abbrev L : Locals
@@ -91,8 +91,9 @@ module _ (z : Scene) (n : ℕ) (fits : Keeping → Plain → Bool) where
     dead-one (switch r ss) around h b c e outs =
         let k = untouched L h ss in
         let m = point_never k in
-        let two = both (switches (h r) ss) (items_in_place L fits c ss k k) e in (
-          switches-there (h r) ss two.0,
+        let one = both (switches (h r) ss) (labels_differ [] ss && items_in_place L fits c ss k k) e in
+        let two = both (labels_differ [] ss) (items_in_place L fits c ss k k) one.1 in (
+          switches-there (h r) ss one.0,
           (
             flags-one (depth_of around) (all_nesting ss) z.body.flags.bound outs.flags,
             record {
@@ -115,8 +116,7 @@ module _ (z : Scene) (n : ℕ) (fits : Keeping → Plain → Bool) where
         → NeededTo z n ss around (point_never h) q
     dead-list nothing around h b c e outs q = from-never z h q
     dead-list (more s ss) around h b c e outs q =
-        let one = both (declares_none s ss) (in_place L fits b c s h && all_in_place L fits b c ss (after L s h)) e in
-        let two = both (in_place L fits b c s h) (all_in_place L fits b c ss (after L s h)) one.1 in
+        let two = both (in_place L fits b c s h) (all_in_place L fits b c ss (after L s h)) e in
         record {
           point = point_never (after L s h);
           kept_there = refl;
@@ -132,8 +132,7 @@ module _ (z : Scene) (n : ℕ) (fits : Keeping → Plain → Bool) where
     dead-items (more default_label ss) around k h c e outs q =
         (from-never z h (point_never k), dead-items ss around k k c e (rest-outs around true c default_label ss outs) q)
     dead-items (more s ss) around k h c e outs q =
-        let one = both (declares_none s ss) (in_place L fits true c s h && items_in_place L fits c ss k (after L s h)) e in
-        let two = both (in_place L fits true c s h) (items_in_place L fits c ss k (after L s h)) one.1 in
+        let two = both (in_place L fits true c s h) (items_in_place L fits c ss k (after L s h)) e in
         record {
           point = point_never (after L s h);
           kept_there = refl;

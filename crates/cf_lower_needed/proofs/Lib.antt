@@ -5,4 +5,6 @@ pub mod Places
 pub mod Around
 pub mod Dead
 pub mod Steps
+pub mod Labels
+pub mod Declared
 pub mod Live

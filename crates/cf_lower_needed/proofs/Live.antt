@@ -1,13 +1,14 @@
 -- Statements have what they need where control comes to them, by induction on their tree: from what is open before them to what is open behind.
-use Rattle.std.proofs.Common.{◌≡◌, ℕ, suc, ◌≤◌, max, Bool, true, false, ◌&&◌, List, [], refl, sym, ◌∙◌, ap, subst, arith, inr}
-use Rattle.std.specs.Prelude.{map, ℤ, Option, Some, None}
+use Rattle.std.proofs.Common.{◌≡◌, ℕ, suc, ◌≤◌, ◌<◌, max, Bool, true, false, ◌&&◌, ◌==◌, List, [], refl, sym, ◌∙◌, ap, subst, arith, inr}
+use Rattle.std.specs.Prelude.{map, ℤ, Option, Some, None, is_some}
 use Rattle.cf_base.proofs.Tests.{both}
 use Rattle.cf_core.specs.Types.{SourceType}
-use Rattle.cf_plain.specs.Plain.{Register, Plain, Plains, act, set, branch, loop, switch, case_label, default_label, leave, continue, give, parts, nothing, more}
+use Rattle.cf_plain.specs.Plain.{Register, Plain, Plains, act, set, branch, loop, switch, case_label, default_label, leave, continue, give, nothing, more}
+use Rattle.cf_plain.specs.Valid.{labels_differ}
 use Rattle.cf_plain_kept.specs.Kept as plain
-use Rattle.cf_lower.specs.Kept.{unknown, Keeping, Locals, nothing_kept, sets, all_set, untouched, after, after_all}
+use Rattle.cf_lower.specs.Kept.{Keeping, Locals, nothing_kept, sets, all_set, untouched, after, after_all}
 use Rattle.cf_lower.specs.Functions.{nesting, all_nesting}
-use Rattle.cf_lower_kept.specs.Opened.{Opened, Where, falls, away, wrong, Ways, no_label, only_if, is_at, settled, same_locals, comes_to, keeping_or, opens, all_open, from_label}
+use Rattle.cf_lower_kept.specs.Opened.{Opened, falls, away, Ways, no_label, only_if, is_at, settled, comes_to, keeping_or, declared_at, stands_before, opens, all_open, from_label}
 use Rattle.cf_lower_kept.specs.Ready.{ready, all_ready}
 use Rattle.cf_lower_kept.specs.Told.{AllTold, AllJoin, TellsLess}
 use Rattle.cf_lower_kept.proofs.Turns.{all-join, turn-tells}
@@ -15,14 +16,16 @@ use Rattle.cf_lower_turns.specs.Around.{Around, function, turns, stepped, step, 
 use Rattle.cf_lower_turns.specs.Scene.{Scene}
 use Rattle.cf_lower_bounds.specs.Points.{Point, point_at, point_never}
 use Rattle.cf_lower_bounds.specs.Bounds.{LiesWithin, NeededTo}
-use Rattle.cf_lower_needed.specs.InPlace.{is_number, switches, declares_none, in_place, all_in_place, items_in_place}
+use Rattle.cf_lower_place.specs.InPlace.{is_number, switches, in_place, all_in_place, items_in_place}
 use Rattle.cf_lower_needed.specs.Leading.{point_of, is_right, no_ways, LeavesLead}
-use Rattle.cf_lower_needed.proofs.Tells.{or-left, or-right, Tells, tells-fewer, tells-behind, tells-within, tells-at, untouched-less, untouched-gone, loop-less, loop-gone}
+use Rattle.cf_lower_needed.proofs.Tells.{or-left, or-right, Tells, tells-behind, tells-within, tells-at, untouched-less, untouched-gone, loop-less, loop-gone}
 use Rattle.cf_lower_needed.proofs.Points.{right-left, right-right, comes-right, from-never, to-settled, comes-within, within-left, within-right}
-use Rattle.cf_lower_needed.proofs.Places.{number-there, switches-there, one-builds-none, all-build-none, only-if, then_open, then-right, next-open, ready-next, told-next}
-use Rattle.cf_lower_needed.proofs.Around.{StatementNeeds, ItemsNeed, passed-itself, flags-left, flags-right, flags-one, Outs, Reaches, LeadsTo, leads-on-from, leads-out, Context, context-fewer, context-first, context-behind}
+use Rattle.cf_lower_needed.proofs.Places.{number-there, switches-there, one-builds-none, all-build-none, stands_alone, ways_behind, only-if, then_open, then-right, next-open, next-both, ready-next, told-next}
+use Rattle.cf_lower_needed.proofs.Around.{StatementNeeds, ItemsNeed, Through, passed-itself, flags-left, flags-right, flags-one, Outs, Reaches, LeadsTo, leads-on-from, leads-out, Context, context-fewer, context-first, context-behind}
 use Rattle.cf_lower_needed.proofs.Dead.{loop-outs, stepped-outs, step-outs, cases-outs, first-outs, rest-outs, dead-one, dead-list}
-use Rattle.cf_lower_needed.proofs.Steps.{through, ways_in, at_labels, label-step}
+use Rattle.cf_lower_needed.proofs.Steps.{LabelsAt, labels-all, ways_in, through, label-step, label-dead}
+use Rattle.cf_lower_needed.proofs.Labels.{has_label, choose, alone-or, labels-open}
+use Rattle.cf_lower_needed.proofs.Declared.{points_behind, points-there, both-through}
 
 module _ (z : Scene) (n : ℕ) (fits : Keeping → Plain → Bool) (leads : LeavesLead z n fits) where
   abbrev L : Locals
@@ -105,8 +108,9 @@ module _ (z : Scene) (n : ℕ) (fits : Keeping → Plain → Bool) (leads : Leav
     abbrev label_point : Point
     label_point = point_at label_kept (map settled xs)
 
-    switch-context : Context z (cases label_point around) label_kept (ways_in z n around (map settled xs) w.continues) true c (λ q. all_set L q ss) (all_nesting ss)
-    switch-context = record {
+    switch-context : (labels : Option ℤ → Option (List Opened))
+        → Context z (cases label_point around) label_kept (ways_in (map settled xs) w.continues labels) true c (λ q. all_set L q ss) (all_nesting ss)
+    switch-context labels = record {
       joins = all-join L (more (switch r ss) nothing) h x.joins;
       outs = cases-outs z n fits around b c label_point (all_nesting ss) x.outs;
       left = record {
@@ -122,6 +126,139 @@ module _ (z : Scene) (n : ℕ) (fits : Keeping → Plain → Bool) (leads : Leav
 
     switch-tells : Tells L label_kept label_kept (λ q. all_set L q ss)
     switch-tells = record { joins = all-join L (more (switch r ss) nothing) h x.joins; less = λ q. inr refl; gone = λ q e. untouched-gone L h ss q e }
+
+  -- ---- a statement and what is behind it
+
+  -- the labels of a switch, behind a statement
+  context-rest : (around : Around Point) (k : Keeping) (w : Ways) (c : Bool) (s : Plain) (ss : Plains)
+      → Context z around k w true c (λ r. all_set L r (more s ss)) (all_nesting (more s ss)) → Context z around k w true c (λ r. all_set L r ss) (all_nesting ss)
+  context-rest around k w c s ss at =
+      context-fewer z around k w true c (λ r. all_set L r (more s ss)) (λ r. all_set L r ss) (all_nesting (more s ss)) (all_nesting ss) at
+      (λ r i. or-right (sets L r s) (all_set L r ss) i) (flags-right (depth_of around) (nesting s) (all_nesting ss) z.body.flags.bound at.outs.flags)
+
+  module _ (s : Plain) (ss : Plains) (around : Around Point) where
+    list-step : (g : plain.Keeping) (h : Keeping) (w : Ways) (xs : List Opened) (b c : Bool) → AllTold L g h → all_ready T Rt (more s ss) g ≡ true
+        → all_in_place L fits b c (more s ss) h ≡ true → Context z around h w b c (λ r. all_set L r (more s ss)) (all_nesting (more s ss))
+        → is_right (all_open T Rt (more s ss) g w xs) ≡ true → (q : Point) → LiesWithin z (point_of (after_all L (more s ss) h) (all_open T Rt (more s ss) g w xs)) q
+        → stands_alone s ss ≡ true
+        → (ready T Rt s g ≡ true → in_place L fits b c s h ≡ true → Context z around h w b c (λ r. sets L r s) (nesting s) → is_right (opens T Rt s g w xs) ≡ true
+        → StatementNeeds z n s around (point_at h xs) (point_of (after L s h) (opens T Rt s g w xs)))
+        → ((next : plain.Keeping) (i : Keeping) (ys : List Opened) → AllTold L next i → all_ready T Rt ss next ≡ true → all_in_place L fits b c ss i ≡ true
+        → Context z around i w b c (λ r. all_set L r ss) (all_nesting ss) → is_right (all_open T Rt ss next w ys) ≡ true
+        → LiesWithin z (point_of (after_all L ss i) (all_open T Rt ss next w ys)) q → NeededTo z n ss around (point_at i ys) q)
+        → NeededTo z n (more s ss) around (point_at h xs) q
+    list-step g h w xs b c told re e x right q within alone one rest =
+        let two = both (in_place L fits b c s h) (all_in_place L fits b c ss (after L s h)) e in
+        let rs = ready-next T Rt s ss g re in
+        let next = keeping_or (plain.after T Rt s g) in
+        let opened = next-open T Rt s ss g w xs alone in
+        let fine = then-right T Rt (opens T Rt s g w xs) ss next w (subst (λ o. is_right o ≡ true) opened right) in
+        through z n around s h xs (opens T Rt s g w xs) (λ p. NeededTo z n ss around p q) (one rs.0 two.0 (context-first z around h w b c s ss x) fine) fine
+        (λ k. dead-list z n fits ss around (after L s h) b c two.1 (rest-outs z n fits around b c s ss x.outs) q)
+        (λ ys k.
+        let same = opened ∙ ap (λ o. then_open T Rt o ss next w) k in
+        rest next (after L s h) ys (told-next L Rt s g h told rs.0) rs.1 two.1 (context-behind z around h w b c s ss (one-builds-none L fits s b c h two.0) x)
+        (subst (λ o. is_right o ≡ true) same right) (subst (λ o. LiesWithin z (point_of (after_all L ss (after L s h)) o) q) same within))
+
+    item-step : (k : Keeping) (base : List Opened) (w : Ways) (points : Option ℤ → Point) (g : plain.Keeping) (h : Keeping) (xs : List Opened) (c : Bool)
+        → LabelsAt k w.labels points → AllTold L g h → all_ready T Rt (more s ss) g ≡ true
+        → in_place L fits true c s h && items_in_place L fits c ss k (after L s h) ≡ true
+        → Context z around h w true c (λ r. all_set L r (more s ss)) (all_nesting (more s ss))
+        → Context z around k w true c (λ r. all_set L r (more s ss)) (all_nesting (more s ss)) → Tells L k h (λ r. all_set L r (more s ss))
+        → comes_to (map settled base) (all_open T Rt (more s ss) g w xs) ≡ true → stands_alone s ss ≡ true
+        → (ready T Rt s g ≡ true → in_place L fits true c s h ≡ true → Context z around h w true c (λ r. sets L r s) (nesting s) → is_right (opens T Rt s g w xs) ≡ true
+        → StatementNeeds z n s around (point_at h xs) (point_of (after L s h) (opens T Rt s g w xs)))
+        → ((next : plain.Keeping) (i : Keeping) → all_ready T Rt ss next ≡ true → items_in_place L fits c ss k i ≡ true
+        → Context z around k w true c (λ r. all_set L r ss) (all_nesting ss) → Tells L k i (λ r. all_set L r ss)
+        → comes_to (map settled base) (from_label T Rt ss w) ≡ true → ItemsNeed z n ss around points (point_never i) (point_at k (map settled base)))
+        → ((next : plain.Keeping) (i : Keeping) (ys : List Opened) → AllTold L next i → all_ready T Rt ss next ≡ true → items_in_place L fits c ss k i ≡ true
+        → Context z around i w true c (λ r. all_set L r ss) (all_nesting ss) → Context z around k w true c (λ r. all_set L r ss) (all_nesting ss)
+        → Tells L k i (λ r. all_set L r ss) → comes_to (map settled base) (all_open T Rt ss next w ys) ≡ true
+        → ItemsNeed z n ss around points (point_at i ys) (point_at k (map settled base)))
+        → Through z n (after L s h) (λ p. StatementNeeds z n s around (point_at h xs) p) (λ p. ItemsNeed z n ss around points p (point_at k (map settled base)))
+    item-step k base w points g h xs c labels told re e x at tells comes alone one dead live =
+        let two = both (in_place L fits true c s h) (items_in_place L fits c ss k (after L s h)) e in
+        let rs = ready-next T Rt s ss g re in
+        let next = keeping_or (plain.after T Rt s g) in
+        let opened = next-open T Rt s ss g w xs alone in
+        let all = comes-right (map settled base) (all_open T Rt (more s ss) g w xs) comes in
+        let fine = then-right T Rt (opens T Rt s g w xs) ss next w (subst (λ i. is_right i ≡ true) opened all) in
+        let none = one-builds-none L fits s true c h two.0 in
+        let less = context-rest around k w c s ss at in
+        let behind = tells-behind L k h s ss none tells in
+        through z n around s h xs (opens T Rt s g w xs) (λ p. ItemsNeed z n ss around points p (point_at k (map settled base)))
+        (one rs.0 two.0 (context-first z around h w true c s ss x) fine) fine
+        (λ i. dead next (after L s h) rs.1 two.1 less behind
+        (subst (λ a. comes_to (map settled base) a ≡ true) (opened ∙ ap (λ a. then_open T Rt a ss next w) i) comes))
+        (λ ys i. live next (after L s h) ys (told-next L Rt s g h told rs.0) rs.1 two.1 (context-behind z around h w true c s ss none x) less behind
+        (subst (λ a. comes_to (map settled base) a ≡ true) (opened ∙ ap (λ a. then_open T Rt a ss next w) i) comes))
+
+  -- ---- a switch, and the one that it declares for
+
+  abbrev between : Keeping → Register → Plains → Keeping
+  between h p ss = after L (switch p ss) h
+
+  abbrev behind_both : Keeping → Register → Register → Plains → Plains → Keeping
+  behind_both h p r ss ts = after L (switch r ts) (between h p ss)
+
+  abbrev told_behind : plain.Keeping → Register → Register → Plains → Plains → plain.Keeping
+  told_behind g p r ss ts = keeping_or (plain.after T Rt (switch r ts) (keeping_or (plain.after T Rt (switch p ss) g)))
+
+  module _ (around : Around Point) (g : plain.Keeping) (h : Keeping) (w : Ways) (xs : List Opened) (b c : Bool) (p r : Register) (ss ts rest : Plains) where
+    record BothFacts : Type 0 where
+      pub some : (l : Option ℤ) → has_label l ts ≡ true → is_some (declared_at ss (map settled xs) l) ≡ true
+      pub first_on : switches (h p) ss ≡ true
+      pub differ : labels_differ [] ss ≡ true
+      pub place : items_in_place L fits c ss (between h p ss) (between h p ss) ≡ true
+      pub second_on : switches (between h p ss r) ts ≡ true
+      pub room : depth_of around < z.body.flags.bound
+      pub inner_ready : all_ready T Rt ts plain.nothing_set ≡ true
+      pub inner_place : items_in_place L fits c ts (behind_both h p r ss ts) (behind_both h p r ss ts) ≡ true
+      pub inside : Context z (cases (point_at (behind_both h p r ss ts) (map settled xs)) around) (behind_both h p r ss ts) (ways_behind w ss (map settled xs)) true c
+          (λ q. all_set L q ts) (all_nesting ts)
+      pub tells : Tells L (behind_both h p r ss ts) (behind_both h p r ss ts) (λ q. all_set L q ts)
+      pub comes : comes_to (map settled xs) (all_open T Rt ts plain.nothing_set (ways_behind w ss (map settled xs)) (map settled xs)) ≡ true
+      pub told : AllTold L (told_behind g p r ss ts) (behind_both h p r ss ts)
+      pub ready : all_ready T Rt rest (told_behind g p r ss ts) ≡ true
+      pub opened : all_open T Rt (more (switch p ss) (more (switch r ts) rest)) g w xs ≡ all_open T Rt rest (told_behind g p r ss ts) w (map settled xs)
+      pub context : Context z around (behind_both h p r ss ts) w b c (λ q. all_set L q rest) (all_nesting rest)
+
+    both-facts : AllTold L g h → all_ready T Rt (more (switch p ss) (more (switch r ts) rest)) g ≡ true → in_place L fits b c (switch p ss) h ≡ true
+        → in_place L fits b c (switch r ts) (between h p ss) ≡ true
+        → Context z around h w b c (λ q. all_set L q (more (switch p ss) (more (switch r ts) rest))) (all_nesting (more (switch p ss) (more (switch r ts) rest)))
+        → (p == r) && stands_before ss ts ≡ true → is_right (all_open T Rt (more (switch p ss) (more (switch r ts) rest)) g w xs) ≡ true → BothFacts
+    both-facts told re e f x stand right =
+        let k1 = between h p ss in
+        let k2 = behind_both h p r ss ts in
+        let g1 = keeping_or (plain.after T Rt (switch p ss) g) in
+        let ways = ways_behind w ss (map settled xs) in
+        let one = both (switches (h p) ss) (labels_differ [] ss && items_in_place L fits c ss k1 k1) e in
+        let first = both (labels_differ [] ss) (items_in_place L fits c ss k1 k1) one.1 in
+        let two = both (switches (k1 r) ts) (labels_differ [] ts && items_in_place L fits c ts k2 k2) f in
+        let second = both (labels_differ [] ts) (items_in_place L fits c ts k2 k2) two.1 in
+        let rs = ready-next T Rt (switch p ss) (more (switch r ts) rest) g re in
+        let us = ready-next T Rt (switch r ts) rest g1 rs.1 in
+        let there = next-both T Rt p r ss ts rest g w xs stand right in
+        let x0 = context-first z around h w b c (switch p ss) (more (switch r ts) rest) x in
+        let x1 = context-behind z around h w b c (switch p ss) (more (switch r ts) rest) refl x in
+        let x2 = context-first z around k1 w b c (switch r ts) rest x1 in
+        record {
+          some = λ l has. labels-open T Rt ways l ts plain.nothing_set (map settled xs) (comes-right (map settled xs) (all_open T Rt ts plain.nothing_set ways (map settled xs)) there.0) has;
+          first_on = one.0;
+          differ = first.0;
+          place = first.1;
+          second_on = two.0;
+          room = flags-one (depth_of around) (all_nesting ss) z.body.flags.bound x0.outs.flags;
+          inner_ready = us.0;
+          inner_place = second.1;
+          inside = switch-context around k1 w b c xs r ts x2 (declared_at ss (map settled xs));
+          tells = switch-tells around k1 w b c xs r ts x2;
+          comes = there.0;
+          told = told-next L Rt (switch r ts) g1 k1 (told-next L Rt (switch p ss) g h told rs.0) us.0;
+          ready = us.1;
+          opened = there.1;
+          context = context-behind z around k1 w b c (switch r ts) rest refl x1;
+        }
 
   -- ---- by induction
 
@@ -199,12 +336,14 @@ module _ (z : Scene) (n : ℕ) (fits : Keeping → Plain → Bool) (leads : Leav
         let ys = map settled xs in
         let k = untouched L h ss in
         let m = point_at k ys in
-        let two = both (switches (h r) ss) (items_in_place L fits c ss k k) e in
-        let tested = only-if (comes_to ys (all_open T Rt ss plain.nothing_set (ways_in z n around ys w.continues) ys)) (falls ys) right in
-        let inside = switch-context around h w b c xs r ss x in
+        let one = both (switches (h r) ss) (labels_differ [] ss && items_in_place L fits c ss k k) e in
+        let two = both (labels_differ [] ss) (items_in_place L fits c ss k k) one.1 in
+        let inner = ways_in ys w.continues (λ l. Some ys) in
+        let tested = only-if (comes_to ys (all_open T Rt ss plain.nothing_set inner ys)) (falls ys) right in
+        let inside = switch-context around h w b c xs r ss x (λ l. Some ys) in
         let into = to-settled z h k xs (untouched-less L h ss) in
         subst (λ t. StatementNeeds z n (switch r ss) around (point_at h xs) (point_of k (only_if t (falls ys)))) (sym tested) (
-          switches-there (h r) ss two.0,
+          switches-there (h r) ss one.0,
           (
             flags-one (depth_of around) (all_nesting ss) z.body.flags.bound x.outs.flags,
             record {
@@ -214,7 +353,7 @@ module _ (z : Scene) (n : ℕ) (fits : Keeping → Plain → Bool) (leads : Leav
               passed = passed-itself z n ss m;
               front = m;
               kept_front = refl;
-              items = items-needed ss (cases m around) k xs w.continues plain.nothing_set k ys c (λ q. tt) re two.1 inside inside
+              items = items-needed ss (cases m around) k xs inner (λ l. m) plain.nothing_set k ys c (labels-all k xs) (λ q. tt) re two.1 inside inside
                   (switch-tells around h w b c xs r ss x) tested;
             },
           ),
@@ -232,90 +371,95 @@ module _ (z : Scene) (n : ℕ) (fits : Keeping → Plain → Bool) (leads : Leav
         → is_right (all_open T Rt ss g w xs) ≡ true → (q : Point) → LiesWithin z (point_of (after_all L ss h) (all_open T Rt ss g w xs)) q
         → NeededTo z n ss around (point_at h xs) q
     list-needed nothing around g h w xs b c told re e x right q within = within
+    list-needed (more (switch p ss) (more (switch r ts) rest)) around g h w xs b c told re e x right q within =
+        choose ((p == r) && stands_before ss ts)
+        (λ k.
+        let i = behind_both h p r ss ts in
+        let one = both (in_place L fits b c (switch p ss) h) (all_in_place L fits b c (more (switch r ts) rest) (between h p ss)) e in
+        let two = both (in_place L fits b c (switch r ts) (between h p ss)) (all_in_place L fits b c rest i) one.1 in
+        let y = both-facts around g h w xs b c p r ss ts rest told re one.0 two.0 x k right in
+        both-through z n fits leads around h xs p r ss ts c k y.some y.first_on y.differ y.place y.second_on y.room (λ o. NeededTo z n rest around o q)
+        (items-needed ts (cases (point_at i (map settled xs)) around) i xs (ways_behind w ss (map settled xs)) (points_behind z n fits leads around h xs p r ss ts c k y.some)
+        plain.nothing_set i (map settled xs) c (points-there z n fits leads around h xs p r ss ts c k y.some) (λ o. tt) y.inner_ready y.inner_place y.inside y.inside y.tells y.comes)
+        (list-needed rest around (told_behind g p r ss ts) i w (map settled xs) b c y.told y.ready two.1 y.context (subst (λ o. is_right o ≡ true) y.opened right) q
+        (subst (λ o. LiesWithin z (point_of (after_all L rest i) o) q) y.opened within)))
+        (λ k.
+        list-step (switch p ss) (more (switch r ts) rest) around g h w xs b c told re e x right q within (alone-or p r ss ts rest k)
+        (λ y place context fine. one-needed (switch p ss) around g h w xs b c told y place context fine)
+        (λ next i ys told ready place context fine there. list-needed (more (switch r ts) rest) around next i w ys b c told ready place context fine q there))
     list-needed (more s ss) around g h w xs b c told re e x right q within =
-        let one = both (declares_none s ss) (in_place L fits b c s h && all_in_place L fits b c ss (after L s h)) e in
-        let two = both (in_place L fits b c s h) (all_in_place L fits b c ss (after L s h)) one.1 in
-        let rs = ready-next T Rt s ss g re in
-        let next = keeping_or (plain.after T Rt s g) in
-        let opened = next-open T Rt s ss g w xs one.0 in
-        let fine = then-right T Rt (opens T Rt s g w xs) ss next w (subst (λ o. is_right o ≡ true) opened right) in
-        through z n around s h xs (opens T Rt s g w xs) (λ p. NeededTo z n ss around p q)
-        (one-needed s around g h w xs b c told rs.0 two.0 (context-first z around h w b c s ss x) fine) fine
-        (λ k. dead-list z n fits ss around (after L s h) b c two.1 (rest-outs z n fits around b c s ss x.outs) q)
-        (λ ys k.
-        let same = opened ∙ ap (λ o. then_open T Rt o ss next w) k in
-        list-needed ss around next (after L s h) w ys b c (told-next L Rt s g h told rs.0) rs.1 two.1
-        (context-behind z around h w b c s ss (one-builds-none L fits s b c h two.0) x) (subst (λ o. is_right o ≡ true) same right) q
-        (subst (λ o. LiesWithin z (point_of (after_all L ss (after L s h)) o) q) same within))
+        list-step s ss around g h w xs b c told re e x right q within refl (λ y place context fine. one-needed s around g h w xs b c told y place context fine)
+        (λ next i ys told ready place context fine there. list-needed ss around next i w ys b c told ready place context fine q there)
 
     -- the labels and statements of a switch, where control comes to what is open
-    items-needed : (ss : Plains) (around : Around Point) (k : Keeping) (base : List Opened) (o : Option (List Opened)) (g : plain.Keeping) (h : Keeping) (xs : List Opened)
-        (c : Bool) → AllTold L g h → all_ready T Rt ss g ≡ true → items_in_place L fits c ss k h ≡ true
-        → Context z around h (ways_in z n around (map settled base) o) true c (λ r. all_set L r ss) (all_nesting ss)
-        → Context z around k (ways_in z n around (map settled base) o) true c (λ r. all_set L r ss) (all_nesting ss) → Tells L k h (λ r. all_set L r ss)
-        → comes_to (map settled base) (all_open T Rt ss g (ways_in z n around (map settled base) o) xs) ≡ true
-        → ItemsNeed z n ss around (at_labels z n around k (map settled base)) (point_at h xs) (point_at k (map settled base))
-    items-needed nothing around k base o g h xs c told re e x at tells comes = comes-within z base h k (falls xs) comes tells.less
-    items-needed (more (case_label y) ss) around k base o g h xs c told re e x at tells comes =
-        let w = ways_in z n around (map settled base) o in
+    items-needed : (ss : Plains) (around : Around Point) (k : Keeping) (base : List Opened) (w : Ways) (points : Option ℤ → Point) (g : plain.Keeping) (h : Keeping)
+        (xs : List Opened) (c : Bool) → LabelsAt k w.labels points → AllTold L g h → all_ready T Rt ss g ≡ true → items_in_place L fits c ss k h ≡ true
+        → Context z around h w true c (λ r. all_set L r ss) (all_nesting ss) → Context z around k w true c (λ r. all_set L r ss) (all_nesting ss)
+        → Tells L k h (λ r. all_set L r ss) → comes_to (map settled base) (all_open T Rt ss g w xs) ≡ true
+        → ItemsNeed z n ss around points (point_at h xs) (point_at k (map settled base))
+    items-needed nothing around k base w points g h xs c labels told re e x at tells comes = comes-within z base h k (falls xs) comes tells.less
+    items-needed (more (case_label y) ss) around k base w points g h xs c labels told re e x at tells comes =
         let rest = context-behind z around k w true c (case_label y) ss refl at in
-        label-step z n around ss k h base xs o tells.less (same_locals (map settled base) xs) refl comes
-        (λ i. items-needed ss around k base o plain.nothing_set k (map settled xs) c (λ r. tt) re e rest rest
-        (tells-at L k h (λ r. all_set L r ss) tells) i)
-    items-needed (more default_label ss) around k base o g h xs c told re e x at tells comes =
-        let w = ways_in z n around (map settled base) o in
+        label-step z n around ss k h (map settled base) w points labels (Some y) (point_at k (map settled base))
+        (λ zs there i. items-needed ss around k base w points plain.nothing_set k zs c labels (λ r. tt) re e rest rest (tells-at L k h (λ r. all_set L r ss) tells) i)
+        xs tells.less (w.labels (Some y)) refl comes
+    items-needed (more default_label ss) around k base w points g h xs c labels told re e x at tells comes =
         let rest = context-behind z around k w true c default_label ss refl at in
-        label-step z n around ss k h base xs o tells.less (same_locals (map settled base) xs) refl comes
-        (λ i. items-needed ss around k base o plain.nothing_set k (map settled xs) c (λ r. tt) re e rest rest
-        (tells-at L k h (λ r. all_set L r ss) tells) i)
-    items-needed (more s ss) around k base o g h xs c told re e x at tells comes =
-        let w = ways_in z n around (map settled base) o in
-        let one = both (declares_none s ss) (in_place L fits true c s h && items_in_place L fits c ss k (after L s h)) e in
-        let two = both (in_place L fits true c s h) (items_in_place L fits c ss k (after L s h)) one.1 in
-        let rs = ready-next T Rt s ss g re in
-        let next = keeping_or (plain.after T Rt s g) in
-        let opened = next-open T Rt s ss g w xs one.0 in
-        let all = comes-right (map settled base) (all_open T Rt (more s ss) g w xs) comes in
-        let fine = then-right T Rt (opens T Rt s g w xs) ss next w (subst (λ i. is_right i ≡ true) opened all) in
-        let none = one-builds-none L fits s true c h two.0 in
-        let less = context-fewer z around k w true c (λ r. all_set L r (more s ss)) (λ r. all_set L r ss) (all_nesting (more s ss)) (all_nesting ss) at
-        (λ r i. or-right (sets L r s) (all_set L r ss) i) (flags-right (depth_of around) (nesting s) (all_nesting ss) z.body.flags.bound at.outs.flags) in
-        through z n around s h xs (opens T Rt s g w xs) (λ p. ItemsNeed z n ss around (at_labels z n around k (map settled base)) p (point_at k (map settled base)))
-        (one-needed s around g h w xs true c told rs.0 two.0 (context-first z around h w true c s ss x) fine) fine
-        (λ i. items-dead ss around k base o next (after L s h) c rs.1 two.1 less (tells-behind L k h s ss none tells)
-        (subst (λ a. comes_to (map settled base) a ≡ true) (opened ∙ ap (λ a. then_open T Rt a ss next w) i) comes))
-        (λ ys i. items-needed ss around k base o next (after L s h) ys c (told-next L Rt s g h told rs.0) rs.1 two.1 (context-behind z around h w true c s ss none x) less
-        (tells-behind L k h s ss none tells) (subst (λ a. comes_to (map settled base) a ≡ true) (opened ∙ ap (λ a. then_open T Rt a ss next w) i) comes))
+        label-step z n around ss k h (map settled base) w points labels None (point_at k (map settled base))
+        (λ zs there i. items-needed ss around k base w points plain.nothing_set k zs c labels (λ r. tt) re e rest rest (tells-at L k h (λ r. all_set L r ss) tells) i)
+        xs tells.less (w.labels None) refl comes
+    items-needed (more (switch p ss) (more (switch r ts) rest)) around k base w points g h xs c labels told re e x at tells comes =
+        choose ((p == r) && stands_before ss ts)
+        (λ s.
+        let i = behind_both h p r ss ts in
+        let right = comes-right (map settled base) (all_open T Rt (more (switch p ss) (more (switch r ts) rest)) g w xs) comes in
+        let one = both (in_place L fits true c (switch p ss) h) (items_in_place L fits c (more (switch r ts) rest) k (between h p ss)) e in
+        let two = both (in_place L fits true c (switch r ts) (between h p ss)) (items_in_place L fits c rest k i) one.1 in
+        let y = both-facts around g h w xs true c p r ss ts rest told re one.0 two.0 x s right in
+        both-through z n fits leads around h xs p r ss ts c s y.some y.first_on y.differ y.place y.second_on y.room
+        (λ o. ItemsNeed z n rest around points o (point_at k (map settled base)))
+        (items-needed ts (cases (point_at i (map settled xs)) around) i xs (ways_behind w ss (map settled xs)) (points_behind z n fits leads around h xs p r ss ts c s y.some)
+        plain.nothing_set i (map settled xs) c (points-there z n fits leads around h xs p r ss ts c s y.some) (λ o. tt) y.inner_ready y.inner_place y.inside y.inside y.tells y.comes)
+        (items-needed rest around k base w points (told_behind g p r ss ts) i (map settled xs) c labels y.told y.ready two.1 y.context
+        (context-rest around k w c (switch r ts) rest (context-rest around k w c (switch p ss) (more (switch r ts) rest) at))
+        (tells-behind L k (between h p ss) (switch r ts) rest refl (tells-behind L k h (switch p ss) (more (switch r ts) rest) refl tells))
+        (subst (λ o. comes_to (map settled base) o ≡ true) y.opened comes)))
+        (λ s. item-step (switch p ss) (more (switch r ts) rest) around k base w points g h xs c labels told re e x at tells comes (alone-or p r ss ts rest s)
+        (λ y place context fine. one-needed (switch p ss) around g h w xs true c told y place context fine)
+        (λ next i ready place fine less dead. items-dead (more (switch r ts) rest) around k base w points next i c labels ready place fine less dead)
+        (λ next i ys told ready place context fine less live.
+        items-needed (more (switch r ts) rest) around k base w points next i ys c labels told ready place context fine less live))
+    items-needed (more s ss) around k base w points g h xs c labels told re e x at tells comes =
+        item-step s ss around k base w points g h xs c labels told re e x at tells comes refl
+        (λ y place context fine. one-needed s around g h w xs true c told y place context fine)
+        (λ next i ready place fine less dead. items-dead ss around k base w points next i c labels ready place fine less dead)
+        (λ next i ys told ready place context fine less live. items-needed ss around k base w points next i ys c labels told ready place context fine less live)
 
     -- and where it does not come, up to the next label
-    items-dead : (ss : Plains) (around : Around Point) (k : Keeping) (base : List Opened) (o : Option (List Opened)) (g : plain.Keeping) (h : Keeping) (c : Bool)
-        → all_ready T Rt ss g ≡ true → items_in_place L fits c ss k h ≡ true
-        → Context z around k (ways_in z n around (map settled base) o) true c (λ r. all_set L r ss) (all_nesting ss) → Tells L k h (λ r. all_set L r ss)
-        → comes_to (map settled base) (from_label T Rt ss (ways_in z n around (map settled base) o)) ≡ true
-        → ItemsNeed z n ss around (at_labels z n around k (map settled base)) (point_never h) (point_at k (map settled base))
-    items-dead nothing around k base o g h c re e at tells comes = from-never z h (point_at k (map settled base))
-    items-dead (more (case_label y) ss) around k base o g h c re e at tells comes =
-        let rest = context-behind z around k (ways_in z n around (map settled base) o) true c (case_label y) ss refl at in (
-          from-never z h (point_at k (map settled base)),
-          items-needed ss around k base o plain.nothing_set k (map settled base) c (λ r. tt) re e rest rest (tells-at L k h (λ r. all_set L r ss) tells) comes,
-        )
-    items-dead (more default_label ss) around k base o g h c re e at tells comes =
-        let rest = context-behind z around k (ways_in z n around (map settled base) o) true c default_label ss refl at in (
-          from-never z h (point_at k (map settled base)),
-          items-needed ss around k base o plain.nothing_set k (map settled base) c (λ r. tt) re e rest rest (tells-at L k h (λ r. all_set L r ss) tells) comes,
-        )
-    items-dead (more s ss) around k base o g h c re e at tells comes =
-        let w = ways_in z n around (map settled base) o in
-        let one = both (declares_none s ss) (in_place L fits true c s h && items_in_place L fits c ss k (after L s h)) e in
-        let two = both (in_place L fits true c s h) (items_in_place L fits c ss k (after L s h)) one.1 in
+    items-dead : (ss : Plains) (around : Around Point) (k : Keeping) (base : List Opened) (w : Ways) (points : Option ℤ → Point) (g : plain.Keeping) (h : Keeping) (c : Bool)
+        → LabelsAt k w.labels points → all_ready T Rt ss g ≡ true → items_in_place L fits c ss k h ≡ true
+        → Context z around k w true c (λ r. all_set L r ss) (all_nesting ss) → Tells L k h (λ r. all_set L r ss)
+        → comes_to (map settled base) (from_label T Rt ss w) ≡ true
+        → ItemsNeed z n ss around points (point_never h) (point_at k (map settled base))
+    items-dead nothing around k base w points g h c labels re e at tells comes = from-never z h (point_at k (map settled base))
+    items-dead (more (case_label y) ss) around k base w points g h c labels re e at tells comes =
+        let rest = context-behind z around k w true c (case_label y) ss refl at in
+        label-dead z n around ss k h (map settled base) w points labels (Some y) (point_at k (map settled base))
+        (λ zs there i. items-needed ss around k base w points plain.nothing_set k zs c labels (λ r. tt) re e rest rest (tells-at L k h (λ r. all_set L r ss) tells) i)
+        (w.labels (Some y)) refl comes
+    items-dead (more default_label ss) around k base w points g h c labels re e at tells comes =
+        let rest = context-behind z around k w true c default_label ss refl at in
+        label-dead z n around ss k h (map settled base) w points labels None (point_at k (map settled base))
+        (λ zs there i. items-needed ss around k base w points plain.nothing_set k zs c labels (λ r. tt) re e rest rest (tells-at L k h (λ r. all_set L r ss) tells) i)
+        (w.labels None) refl comes
+    items-dead (more s ss) around k base w points g h c labels re e at tells comes =
+        let two = both (in_place L fits true c s h) (items_in_place L fits c ss k (after L s h)) e in
         let rs = ready-next T Rt s ss g re in
-        let less = context-fewer z around k w true c (λ r. all_set L r (more s ss)) (λ r. all_set L r ss) (all_nesting (more s ss)) (all_nesting ss) at
-        (λ r i. or-right (sets L r s) (all_set L r ss) i) (flags-right (depth_of around) (nesting s) (all_nesting ss) z.body.flags.bound at.outs.flags) in
         record {
           point = point_never (after L s h);
           kept_there = refl;
           first = dead-one z n fits s around h true c two.0 (first-outs z n fits around true c s ss at.outs);
-          second = items-dead ss around k base o (keeping_or (plain.after T Rt s g)) (after L s h) c rs.1 two.1 less
+          second = items-dead ss around k base w points (keeping_or (plain.after T Rt s g)) (after L s h) c labels rs.1 two.1 (context-rest around k w c s ss at)
               (tells-behind L k h s ss (one-builds-none L fits s true c h two.0) tells) comes;
         }
 

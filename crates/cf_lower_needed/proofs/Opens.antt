@@ -1,5 +1,5 @@
 -- Lists of the locals that are open: what is still so of them at the turns of loops and behind labels, and where two ways join.
-use Rattle.std.proofs.Common.{◌≡◌, ℕ, ◌<◌, Bool, true, false, ◌&&◌, ◌||◌, ◌==◌, if◌then◌else◌, List, [], ◌∷◌, refl, sym, ◌∙◌, ap, subst}
+use Rattle.std.proofs.Common.{◌≡◌, ℕ, ◌<◌, Bool, true, false, ◌||◌, ◌==◌, if◌then◌else◌, List, [], ◌∷◌, refl, sym, ◌∙◌, ap, subst}
 use Rattle.std.specs.Prelude.{map, Option, Some, None}
 use Rattle.cf_base.proofs.Tests.{both}
 use Rattle.cf_core.specs.Run.{State}
@@ -7,7 +7,7 @@ use Rattle.cf_plain.specs.Plain.{Register}
 use Rattle.cf_plain.specs.Acts.{Registers}
 use Rattle.cf_lower_kept.specs.Opened.{Opened, is_open, settled, same_locals, same_begun, both_opened}
 use Rattle.cf_lower_kept.proofs.Types.{same-number}
-use Rattle.cf_lower_bounds.specs.Points.{IsOpen, AllOpen, Open}
+use Rattle.cf_lower_bounds.specs.Points.{AllOpen, Open}
 
 -- ---- what is settled
 

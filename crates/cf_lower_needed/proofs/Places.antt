@@ -1,18 +1,18 @@
 -- What the tests of statements say: registers that hold numbers, statements that build no parts, and how what is open goes on from one statement to the next.
-use Rattle.std.proofs.Common.{◌≡◌, Bool, true, false, ◌&&◌, ◌||◌, not, ◌==◌, if◌then◌else◌, List, refl, sym, ap, inl, inr}
+use Rattle.std.proofs.Common.{◌≡◌, Bool, true, false, ◌&&◌, ◌||◌, not, ◌==◌, if◌then◌else◌, List, refl, ap, inl, inr}
 use Rattle.std.specs.Prelude.{map, Option, Some, None, ◌⊎◌}
 use Rattle.cf_base.specs.declared.kind.Kind.TheVariants.{Int, UInt}
 use Rattle.cf_base.proofs.Tests.{both, all_of}
 use Rattle.cf_core.specs.Types.{SourceType}
-use Rattle.cf_plain.specs.Plain.{Plain, Plains, act, set, branch, loop, switch, case_label, default_label, leave, continue, give, parts, nothing, more}
+use Rattle.cf_plain.specs.Plain.{Register, Plain, Plains, branch, switch, parts, nothing, more}
 use Rattle.cf_plain_kept.specs.Kept as plain
 use Rattle.cf_lower.specs.Kept.{Kept, integer_of, Keeping, Locals, after}
 use Rattle.cf_lower_kept.specs.Opened.{Opened, Where, falls, away, wrong, Ways, only_if, settled, comes_to, keeping_or, declared_at, stands_before, opens, all_open, from_label}
 use Rattle.cf_lower_kept.specs.Ready.{ready, all_ready}
 use Rattle.cf_lower_kept.specs.Told.{AllTold, AllToldIf, builds_none, none_builds}
 use Rattle.cf_lower_kept.proofs.Statements.{statement-told}
-use Rattle.cf_lower_bounds.specs.Needs.{IsNumber, Switches, labels_fit}
-use Rattle.cf_lower_needed.specs.InPlace.{is_number, switches, declares_none, in_place, all_in_place}
+use Rattle.cf_lower_bounds.specs.Needs.{IsNumber, Switches}
+use Rattle.cf_lower_place.specs.InPlace.{labels_fit, is_number, switches, in_place, all_in_place}
 use Rattle.cf_lower_needed.specs.Leading.{is_right}
 
 -- ---- numbers
@@ -21,7 +21,7 @@ pub number-there : (x : Kept) → is_number x ≡ true → IsNumber x
 number-there (integer_of f) e = record { kinds = f; is = refl }
 number-there x e = absurd (let k = e in cc)
 
-either : (a b : Bool) → a || b ≡ true → (a ≡ true) ⊎ (b ≡ true)
+pub either : (a b : Bool) → a || b ≡ true → (a ≡ true) ⊎ (b ≡ true)
 either true b e = inl refl
 either false b e = inr e
 
@@ -48,11 +48,19 @@ module _ (locals : Locals) (fits : Keeping → Plain → Bool) where
     pub all-build-none : (ss : Plains) (b c : Bool) (h : Keeping) → all_in_place locals fits b c ss h ≡ true → none_builds ss ≡ true
     all-build-none nothing b c h e = refl
     all-build-none (more s ss) b c h e =
-        let one = both (declares_none s ss) (in_place locals fits b c s h && all_in_place locals fits b c ss (after locals s h)) e in
-        let two = both (in_place locals fits b c s h) (all_in_place locals fits b c ss (after locals s h)) one.1 in
+        let two = both (in_place locals fits b c s h) (all_in_place locals fits b c ss (after locals s h)) e in
         all_of (builds_none s) (none_builds ss) (one-builds-none s b c h two.0) (all-build-none ss b c (after locals s h) two.1)
 
 -- ---- from one statement to the next
+
+-- whether no switch stands before a switch by the same register, and declares what labels of it pass (6.7)
+abbrev pub stands_alone : Plain → Plains → Bool
+stands_alone (switch q ss) (more (switch r ts) rest) = not ((q == r) && stands_before ss ts)
+stands_alone s rest = true
+
+-- in a switch behind one that declares what is open at its labels
+abbrev pub ways_behind : Ways → Plains → List Opened → Ways
+ways_behind w ss ys = record { breaks = Some ys; continues = w.continues; labels = declared_at ss ys }
 
 pub only-if : (t : Bool) (a : Where) → is_right (only_if t a) ≡ true → t ≡ true
 only-if true a e = refl
@@ -77,7 +85,7 @@ module _ (locals : List SourceType) (result : SourceType) where
   not-true true e = absurd (let k = e in cc)
   not-true false e = refl
 
-  pub next-open : (s : Plain) (ss : Plains) (g : plain.Keeping) (w : Ways) (xs : List Opened) → declares_none s ss ≡ true
+  pub next-open : (s : Plain) (ss : Plains) (g : plain.Keeping) (w : Ways) (xs : List Opened) → stands_alone s ss ≡ true
       → all_open locals result (more s ss) g w xs ≡ then_open (opens locals result s g w xs) ss (keeping_or (plain.after locals result s g)) w
   next-open (switch q ss) (more (switch r ts) rest) g w xs e =
       let ys = map settled xs in
@@ -90,6 +98,24 @@ module _ (locals : List SourceType) (result : SourceType) where
       else then_open (opens locals result (switch q ss) g w xs) (more (switch r ts) rest) first w)
       (not-true ((q == r) && stands_before ss ts) e)
   next-open s ss g w xs e = refl
+
+  both-open : (b t : Bool) (a o : Where) → b ≡ true → is_right (if b then (if t then a else wrong) else o) ≡ true
+      → (t ≡ true) × ((if b then (if t then a else wrong) else o) ≡ a)
+  both-open true true a o e right = (refl, refl)
+  both-open true false a o e right = absurd (let k = right in cc)
+  both-open false t a o e right = absurd (let k = e in cc)
+
+  -- behind a switch and the one that it declares for
+  pub next-both : (q r : Register) (ss ts rest : Plains) (g : plain.Keeping) (w : Ways) (xs : List Opened) → (q == r) && stands_before ss ts ≡ true
+      → is_right (all_open locals result (more (switch q ss) (more (switch r ts) rest)) g w xs) ≡ true
+      → (comes_to (map settled xs) (all_open locals result ts plain.nothing_set (ways_behind w ss (map settled xs)) (map settled xs)) ≡ true)
+      × (all_open locals result (more (switch q ss) (more (switch r ts) rest)) g w xs
+      ≡ all_open locals result rest (keeping_or (plain.after locals result (switch r ts) (keeping_or (plain.after locals result (switch q ss) g)))) w (map settled xs))
+  next-both q r ss ts rest g w xs e right =
+      both-open ((q == r) && stands_before ss ts)
+      (comes_to (map settled xs) (all_open locals result ts plain.nothing_set (ways_behind w ss (map settled xs)) (map settled xs)))
+      (all_open locals result rest (keeping_or (plain.after locals result (switch r ts) (keeping_or (plain.after locals result (switch q ss) g)))) w (map settled xs))
+      (then_open (opens locals result (switch q ss) g w xs) (more (switch r ts) rest) (keeping_or (plain.after locals result (switch q ss) g)) w) e right
 
   pub ready-next : (s : Plain) (ss : Plains) (g : plain.Keeping) → all_ready locals result (more s ss) g ≡ true
       → (ready locals result s g ≡ true) × (all_ready locals result ss (keeping_or (plain.after locals result s g)) ≡ true)

@@ -1,6 +1,6 @@
 -- Which points lie within others: where control does not come, at turns and labels, and where two ways join.
-use Rattle.std.proofs.Common.{◌≡◌, Bool, true, false, ◌&&◌, ◌==◌, if◌then◌else◌, List, [], ◌∷◌, refl, ap}
-use Rattle.std.specs.Prelude.{map, Some, None}
+use Rattle.std.proofs.Common.{◌≡◌, Bool, true, false, ◌&&◌, ◌==◌, if◌then◌else◌, List, refl}
+use Rattle.std.specs.Prelude.{map, Some}
 use Rattle.cf_core.specs.Types.{type_eq}
 use Rattle.cf_lower_layout.specs.Sorts.{Sort, number, address, code}
 use Rattle.cf_base.specs.declared.kind.Kind.TheVariants.{Int}

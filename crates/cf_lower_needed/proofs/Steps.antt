@@ -1,10 +1,10 @@
 -- One statement of several where control comes: it falls to what is open behind it, or control does not come behind it. And labels.
-use Rattle.std.proofs.Common.{◌≡◌, ℕ, Bool, true, false, List, refl, sym, subst}
+use Rattle.std.proofs.Common.{◌≡◌, ℕ, Bool, true, false, List, [], ◌∷◌, refl, sym, ◌∙◌, ap, subst}
 use Rattle.std.specs.Prelude.{map, ℤ, Option, Some, None}
 use Rattle.cf_plain.specs.Plain.{Plain, Plains}
 use Rattle.cf_plain_kept.specs.Kept as plain
 use Rattle.cf_lower.specs.Kept.{Keeping, after}
-use Rattle.cf_lower_kept.specs.Opened.{Opened, Where, falls, away, wrong, Ways, only_if, settled, same_locals, comes_to, opens, all_open}
+use Rattle.cf_lower_kept.specs.Opened.{Opened, Where, falls, away, wrong, Ways, only_if, is_at, settled, same_locals, comes_to, all_open}
 use Rattle.cf_lower_kept.specs.Told.{TellsLess}
 use Rattle.cf_lower_turns.specs.Around.{Around}
 use Rattle.cf_lower_turns.specs.Scene.{Scene}
@@ -12,9 +12,34 @@ use Rattle.cf_lower_bounds.specs.Points.{Point, point_at, point_never}
 use Rattle.cf_lower_bounds.specs.Bounds.{LiesWithin}
 use Rattle.cf_lower_needed.specs.Leading.{point_of, is_right}
 use Rattle.cf_lower_needed.proofs.Opens.{same-settled}
-use Rattle.cf_lower_needed.proofs.Points.{to-same}
+use Rattle.cf_lower_needed.proofs.Points.{from-never, to-same}
 use Rattle.cf_lower_needed.proofs.Places.{then_open}
 use Rattle.cf_lower_needed.proofs.Around.{StatementNeeds, ItemsNeed, Through}
+
+-- ---- points of labels
+
+-- the labels of a switch have points at which just what is told is open
+pub record LabelsAt (k : Keeping) (labels : Option ℤ → Option (List Opened)) (points : Option ℤ → Point) : Type 0 where
+  pub settled_there : (l : Option ℤ) (zs : List Opened) → labels l ≡ Some zs → map settled zs ≡ zs
+  pub is : (l : Option ℤ) (zs : List Opened) → labels l ≡ Some zs → points l ≡ point_at k zs
+
+pub some-list : {xs ys : List Opened} → Some xs ≡ Some ys → xs ≡ ys
+some-list e = cc
+
+pub settled-twice : (xs : List Opened) → map settled (map settled xs) ≡ map settled xs
+settled-twice [] = refl
+settled-twice (x ∷ xs) = ap (λ us. settled x ∷ us) (settled-twice xs)
+
+-- where the same is open at all
+pub labels-all : (k : Keeping) (xs : List Opened) → LabelsAt k (λ l. Some (map settled xs)) (λ l. point_at k (map settled xs))
+labels-all k xs = record {
+  settled_there = λ l zs e. subst (λ us. map settled us ≡ us) (some-list e) (settled-twice xs);
+  is = λ l zs e. ap (λ us. point_at k us) (some-list e);
+}
+
+-- in a switch
+abbrev pub ways_in : List Opened → Option (List Opened) → (Option ℤ → Option (List Opened)) → Ways
+ways_in ys continues labels = record { breaks = Some ys; continues = continues; labels = labels }
 
 module _ (z : Scene) (n : ℕ) (around : Around Point) where
   -- what the statement needs, and what is behind it
@@ -29,24 +54,36 @@ module _ (z : Scene) (n : ℕ) (around : Around Point) where
 
   -- ---- labels
 
-  -- the ways of a switch at whose labels these are open
-  abbrev pub ways_in : List Opened → Option (List Opened) → Ways
-  ways_in ys o = record { breaks = Some ys; continues = o; labels = λ l. Some ys }
+  module _ (ss : Plains) (k h : Keeping) (ys : List Opened) (w : Ways) (points : Option ℤ → Point) (at : LabelsAt k w.labels points) (l : Option ℤ) (q : Point)
+      (go : (zs : List Opened) → w.labels l ≡ Some zs
+      → comes_to ys (all_open z.inside.locals.types z.inside.result ss plain.nothing_set w zs) ≡ true → ItemsNeed z n ss around points (point_at k zs) q) where
+    -- from where control comes to a label
+    pub label-step : (xs : List Opened) → TellsLess h k → (o : Option (List Opened)) → w.labels l ≡ o
+        → comes_to ys (then_open z.inside.locals.types z.inside.result (only_if (is_at o xs) (falls (map settled xs))) ss plain.nothing_set w) ≡ true
+        → LiesWithin z (point_at h xs) (points l) × ItemsNeed z n ss around points (points l) q
+    label-step xs less None there e = absurd (let i = e in cc)
+    label-step xs less (Some zs) there e = by (same_locals zs xs) refl e
+      where
+        by : (t : Bool) → same_locals zs xs ≡ t
+            → comes_to ys (then_open z.inside.locals.types z.inside.result (only_if t (falls (map settled xs))) ss plain.nothing_set w) ≡ true
+            → LiesWithin z (point_at h xs) (points l) × ItemsNeed z n ss around points (points l) q
+        by false same i = absurd (let j = i in cc)
+        by true same i =
+            let itself = at.settled_there l zs there in
+            let same_settled = ap (λ us. same_locals us xs) itself ∙ same in
+            let opened = same-settled zs xs same_settled ∙ itself in
+            let is = at.is l zs there in (
+              subst (λ p. LiesWithin z (point_at h xs) p) (sym is)
+                  (subst (λ us. LiesWithin z (point_at h xs) (point_at k us)) itself (to-same z h k zs xs same_settled less)),
+              subst (λ p. ItemsNeed z n ss around points p q) (sym is)
+                  (go zs there
+                  (subst (λ us. comes_to ys (all_open z.inside.locals.types z.inside.result ss plain.nothing_set w us) ≡ true) opened i)),
+            )
 
-  abbrev pub at_labels : Keeping → List Opened → Option ℤ → Point
-  at_labels k ys l = point_at k ys
-
-  pub label-step : (ss : Plains) (k h : Keeping) (base xs : List Opened) (o : Option (List Opened)) → TellsLess h k → (t : Bool)
-      → same_locals (map settled base) xs ≡ t
-      → comes_to (map settled base)
-      (then_open z.inside.locals.types z.inside.result (only_if t (falls (map settled xs))) ss plain.nothing_set (ways_in (map settled base) o)) ≡ true
-      → (comes_to (map settled base)
-      (all_open z.inside.locals.types z.inside.result ss plain.nothing_set (ways_in (map settled base) o) (map settled xs)) ≡ true
-      → ItemsNeed z n ss around (at_labels k (map settled base)) (point_at k (map settled xs)) (point_at k (map settled base)))
-      → LiesWithin z (point_at h xs) (point_at k (map settled base))
-      × ItemsNeed z n ss around (at_labels k (map settled base)) (point_at k (map settled base)) (point_at k (map settled base))
-  label-step ss k h base xs o less true same e go = (
-    to-same z h k base xs same less,
-    subst (λ ys. ItemsNeed z n ss around (at_labels k (map settled base)) (point_at k ys) (point_at k (map settled base))) (same-settled base xs same) (go e),
-  )
-  label-step ss k h base xs o less false same e go = absurd (let i = e in cc)
+    -- and from where it does not come
+    pub label-dead : (o : Option (List Opened)) → w.labels l ≡ o
+        → comes_to ys (elim o [ None ↦ wrong | Some zs ↦ all_open z.inside.locals.types z.inside.result ss plain.nothing_set w zs ]) ≡ true
+        → LiesWithin z (point_never h) (points l) × ItemsNeed z n ss around points (points l) q
+    label-dead None there e = absurd (let i = e in cc)
+    label-dead (Some zs) there e =
+        (from-never z h (points l), subst (λ p. ItemsNeed z n ss around points p q) (sym (at.is l zs there)) (go zs there e))

@@ -1,9 +1,9 @@
 -- On the way through statements registers hold what a point around tells of them, where it tells nothing of those that are set.
-use Rattle.std.proofs.Common.{◌≡◌, ℕ, Bool, true, false, ◌&&◌, ◌||◌, ◌==◌, if◌then◌else◌, refl, sym, ◌∙◌, ap, arith, inl, inr}
+use Rattle.std.proofs.Common.{◌≡◌, Bool, true, false, ◌||◌, ◌==◌, if◌then◌else◌, refl, ◌∙◌, ap, arith, inl, inr}
 use Rattle.std.specs.Prelude.{◌⊎◌}
 use Rattle.std.proofs.lemmas.Bool.Decides.{nat_tests}
 use Rattle.cf_base.proofs.Tests.{both}
-use Rattle.cf_plain.specs.Plain.{Register, Plain, Plains, act, set, branch, loop, switch, parts, nothing, more}
+use Rattle.cf_plain.specs.Plain.{Register, Plain, Plains, set, branch, loop, switch, parts, nothing, more}
 use Rattle.cf_lower.specs.Kept.{Kept, unknown, Keeping, Locals, both_kept, kept_by, sets, all_set, untouched, after, after_all}
 use Rattle.cf_lower_kept.specs.Told.{Joins, AllJoin, TellsLess, builds_none, none_builds}
 

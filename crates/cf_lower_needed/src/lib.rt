@@ -13,7 +13,7 @@ ghost use Rattle.cf_lower_turns.specs.Around.{function};
 ghost use Rattle.cf_lower_turns.specs.Scene.{Scene};
 ghost use Rattle.cf_lower_bounds.specs.Points.{point_at};
 ghost use Rattle.cf_lower_bounds.specs.Bounds.{NeededTo};
-ghost use Rattle.cf_lower_needed.specs.InPlace.{all_in_place};
+ghost use Rattle.cf_lower_place.specs.InPlace.{all_in_place};
 ghost use Rattle.cf_lower_needed.specs.Leading.{no_ways, LeavesLead};
 
 /// The law that the statements of a function have what they need, from where these parameters are open to where nothing is, where they pass the tests of what is open and of

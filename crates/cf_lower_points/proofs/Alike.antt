@@ -3,7 +3,7 @@ use Rattle.std.proofs.Common.{◌≡◌, ℕ, suc, ◌<◌, ◌≤◌, true, fal
 use Rattle.std.specs.Prelude.{Option, Some, Result}
 use Rattle.cf_base.proofs.Tests.{both}
 use Rattle.cf_base.specs.Event.{Ended, Ticks, Depth, Undefined}
-use Rattle.cf_base.specs.World.{Ran, Went, Stops}
+use Rattle.cf_base.specs.World.{World, Ran, Went, Stops}
 use Rattle.cf_core.specs.Types.{Name}
 use Rattle.cf_core.specs.Store as source
 use Rattle.cf_core.specs.Run.{State, Did, Gives, Exits, Malformed}
@@ -35,7 +35,7 @@ use Rattle.cf_lower_actions.specs.Fits.{Fits}
 use Rattle.cf_lower_actions.specs.Leaf.{may_hold, is_leaf}
 use Rattle.cf_lower_actions.specs.Leaf as leaf
 use Rattle.cf_lower_actions.proofs.Leaves.{leaf-alike}
-use Rattle.cf_lower_bounds.specs.Points.{Point, point_at, local_count}
+use Rattle.cf_lower_bounds.specs.Points.{Point, point_at, local_count, At}
 use Rattle.cf_lower_bounds.specs.Bounds.{EndsAt, LeafRunsTo}
 use Rattle.cf_lower_points.specs.Leading.{leads_on, standing_behind, point_behind}
 use Rattle.cf_lower_points.proofs.Before.{before}
@@ -153,8 +153,11 @@ module _ (z : Scene) (fits : Fits z) (around : Around Point) (gk : told.Keeping)
   next (Continues g) s x e b = absurd b
   next (Returns v) s x e b = record { back = e; frame = b.0; over = b.1 }
 
-  pub leads-on : (n : ℕ) → LeafRunsTo z n around (point_at h xs) st (point_behind z.inside.locals gk h st xs)
-  leads-on n k le g s t w at =
+  -- with whatever input
+  pub leads-always : (k : ℕ) (g : Registers) (s : State) (t : c.State) (w : World) → At z (point_at h xs) (depth_of around) g s t
+      → Simulates (EndsAt z around (point_behind z.inside.locals gk h st xs)) (does (again_at z k) z.program st g s w)
+      (list_at z k (lowered st (inside_at z.inside around) h) t w)
+  leads-always k g s t w at =
       let here : Here (fixed_in z) z.body h (depth_of (kepts around)) g s t =
       subst (λ d. Here (fixed_in z) z.body h d g s t) (sym (depth-same around)) at.here in
       sim-as (EndsAt z around (point_behind z.inside.locals gk h st xs)) (does (again_at z k) z.program st g s w)
@@ -167,3 +170,6 @@ module _ (z : Scene) (fits : Fits z) (around : Around Point) (gk : told.Keeping)
       (led z (again_at z k) gk h g s w at.frame (bounded z fits h (depth_of around) g s t at.here) (statics-below z fits h (depth_of around) g s t at.here)
       (alone z fits h (depth_of around) g s t at.here) (built-none z fits h (depth_of around) g s t at.here) st xs at.standing is may)
       next)
+
+  pub leads-on : (n : ℕ) → LeafRunsTo z n around (point_at h xs) st (point_behind z.inside.locals gk h st xs)
+  leads-on n k le g s t w at input = leads-always k g s t w at

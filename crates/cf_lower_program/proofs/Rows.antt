@@ -10,8 +10,7 @@ use Rattle.cc_whole.specs.Types.{same_type}
 use Rattle.cc_whole.specs.ValidUnit.{valid_items}
 use Rattle.cf_lower.specs.Functions.{lowered_file}
 use Rattle.cf_lower_program.specs.Types.{types_lowered}
-use Rattle.cf_lower_program.specs.Actions.{actions_lowered}
-use Rattle.cf_lower_program.specs.Operands.{operands_lowered}
+use Rattle.cf_lower_place.specs.Named.{functions_in_place}
 use Rattle.cf_lower_program.specs.Names.{names_lowered, names_used, may_be_object, may_be_function}
 use Rattle.cf_lower_program.specs.Starts.{statics_known, texts_fit}
 use Rattle.cf_lower_program.specs.Counts.{shared_apart}
@@ -83,7 +82,6 @@ whole-is-lowered = record {
   roles = refl;
   types = refl;
   actions = refl;
-  operands = refl;
   names = refl;
   used = refl;
   statics = refl;
@@ -95,6 +93,7 @@ whole-is-lowered = record {
   kept = refl;
   ready = refl;
   opened = refl;
+  places = refl;
 }
 
 -- struct A;int f(int A::*p){..}
@@ -152,12 +151,12 @@ unfolding digits
 open-literal-refused = refl
 
 -- a store whose value is kept
-kept-store-refused : actions_lowered (file (main_of (int ∷ []) (set 0 (declare 0 int) ∷ set 1 (number (pos 1)) ∷ set 2 (store 0 1) ∷ returns_seven) ∷ []) []) ≡ false
+kept-store-refused : functions_in_place (file (main_of (int ∷ []) (set 0 (declare 0 int) ∷ set 1 (number (pos 1)) ∷ set 2 (store 0 1) ∷ returns_seven) ∷ []) []) ≡ false
 unfolding digits
 kept-store-refused = refl
 
 -- a pointer to a function that becomes one to void
-code-as-void-refused : operands_lowered (file (main_of [] (set 0 (function (codes "f__Fi") f_type) ∷ set 0 (convert (pointer void) 0) ∷ returns_seven) ∷ []) []) ≡ false
+code-as-void-refused : functions_in_place (file (main_of [] (set 0 (function (codes "f__Fi") f_type) ∷ set 0 (convert (pointer void) 0) ∷ returns_seven) ∷ []) []) ≡ false
 unfolding digits
 code-as-void-refused = refl
 

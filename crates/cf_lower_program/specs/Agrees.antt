@@ -1,6 +1,6 @@
 -- The laws on whole programs: the units of lowered files are valid, they are linked where the plain files are joined, and what is linked of them does what the plain
 -- files mean. The first is proved by `cf_lower_valid`; the others are not proved yet.
-use Rattle.std.specs.Prelude.{◌≡◌, ℕ, ◌<◌, true, List, [], ◌∷◌, Option, Some, None, Ok, All}
+use Rattle.std.specs.Prelude.{◌≡◌, ℕ, true, List, [], ◌∷◌, Option, Some, None, Ok}
 use Rattle.cf_base.specs.World.{Outcome}
 use Rattle.cf_base.specs.Agree.{Agree}
 use Rattle.cf_plain.specs.Plain.{PlainFile}
@@ -12,6 +12,7 @@ use Rattle.cc_whole.specs.ValidUnit.{valid_unit}
 use Rattle.cc_whole_link.specs.Link.{Links}
 use Rattle.cc_whole_mean.specs.Start.{c_mean}
 use Rattle.cf_lower.specs.Functions.{lowered_file}
+use Rattle.cf_lower_place.specs.Input.{IsInput}
 use Rattle.cf_lower_program.specs.Links.{LinksAsJoined}
 use Rattle.cf_lower_program.specs.Lowerable.{Lowerable}
 
@@ -44,10 +45,6 @@ LinkingIsJoining = (files : List PlainFile) (units : List CUnit) → AreLowered 
 abbrev pub AgreesWith : Option Outcome → Outcome → Type 0
 AgreesWith None c = Unit {0}
 AgreesWith (Some s) c = Agree s c
-
--- bytes: of a number past int the source keeps all, and a C local the lowest 32 bits
-abbrev pub IsInput : List ℕ → Type 0
-IsInput input = All (λ b. b < 256) input
 
 -- for every input, heap limit, depth limit and bound of ticks
 abbrev pub ProgramAgrees : List PlainFile → CProgram → Type 0

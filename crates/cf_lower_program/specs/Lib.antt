@@ -1,7 +1,6 @@
 pub mod Types
 pub mod Names
 pub mod Actions
-pub mod Operands
 pub mod Starts
 pub mod Labels
 pub mod Counts

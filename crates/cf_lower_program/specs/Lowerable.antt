@@ -7,9 +7,9 @@ use Rattle.cf_plain.specs.Valid.{valid_file}
 use Rattle.cf_plain_kept.specs.Kept.{functions_kept}
 use Rattle.cf_lower_kept.specs.Ready.{functions_ready}
 use Rattle.cf_lower_kept.specs.Opened.{functions_open}
+use Rattle.cf_lower_place.specs.Named.{functions_in_place}
 use Rattle.cf_lower_program.specs.Types.{types_lowered}
 use Rattle.cf_lower_program.specs.Actions.{actions_lowered}
-use Rattle.cf_lower_program.specs.Operands.{operands_lowered}
 use Rattle.cf_lower_program.specs.Names.{names_lowered, literals_differ, names_used}
 use Rattle.cf_lower_program.specs.Starts.{statics_known, texts_fit}
 use Rattle.cf_lower_program.specs.Labels.{switches_fit}
@@ -29,7 +29,6 @@ pub record Lowerable (file : PlainFile) : Type 0 where
   pub roles : list_all (λ (f : PlainFunction). is_plain f.role) file.functions ≡ true
   pub types : types_lowered file ≡ true
   pub actions : actions_lowered file ≡ true
-  pub operands : operands_lowered file ≡ true
   pub names : names_lowered file ≡ true
   pub used : names_used file ≡ true
   pub statics : statics_known file ≡ true
@@ -41,3 +40,4 @@ pub record Lowerable (file : PlainFile) : Type 0 where
   pub kept : functions_kept file ≡ true
   pub ready : functions_ready file ≡ true
   pub opened : functions_open file ≡ true
+  pub places : functions_in_place file ≡ true

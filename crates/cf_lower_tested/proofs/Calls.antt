@@ -15,8 +15,7 @@ use Rattle.cf_plain.specs.Plain as plain
 use Rattle.cf_plain.specs.Plain.{Register, set}
 use Rattle.cf_plain_frames.specs.Simple.{functions_simple}
 use Rattle.cc_whole.specs.declared.types.CType.{CType}
-use Rattle.cc_whole.specs.declared.types.CType.TheVariants as ty
-use Rattle.cc_whole_mean.specs.Callee.{putchar, exit, own, built_in, callee_numbered, has_type}
+use Rattle.cc_whole_mean.specs.Callee.{putchar, getchar, exit, built_in, callee_numbered, has_type}
 use Rattle.cf_lower.specs.Kept.{Kept, holds, Keeping, Locals, type_of_local}
 use Rattle.cf_lower.specs.Statements.{signature}
 use Rattle.cf_lower.specs.Written.{c_type}
@@ -31,11 +30,12 @@ use Rattle.cf_lower_bounds.specs.Bounds.{LeafRunsTo}
 use Rattle.cf_lower_calls.specs.Invoked.LowerActions.{Fits}
 use Rattle.cf_lower_calls.specs.Invoked.Invoking.{programs_of, HaveLocalTypes, StartStatic, Invokes, HasLocal, KeepsResult, all_valued, point_kept}
 use Rattle.cf_lower_calls.specs.Library.Library.{KeepsInt, Passes}
-use Rattle.cf_lower_calls.specs.Library.Pointed.{ReachesFunction, ReachesLibrary}
+use Rattle.cf_lower_calls.specs.Library.Pointed.{ReachesFunction, ReachesLibrary, ReachesNext}
 use Rattle.cf_lower_calls.proofs.InvokedLaws.Kept.{call-kept-leads}
-use Rattle.cf_lower_calls.proofs.LibraryLaws.Calls.{putchar-leads, exit-leads}
+use Rattle.cf_lower_calls.proofs.LibraryLaws.Calls.{putchar-leads, exit-leads, getchar-leads}
 use Rattle.cf_lower_calls.proofs.LibraryLaws.Pointed.{pointer-leads}
-use Rattle.cf_lower_tested.specs.Fits.{types_passed, is_an_int, is_no_sort, is_code_for, same_signature, has_local, called_well, one_passed, library_fits, put_fits, exit_fits, reached_well}
+use Rattle.cf_lower_place.specs.Calls.{types_passed, is_an_int, is_no_sort, is_code_for, same_signature, has_local, one_passed, none_passed, library_fits, put_fits, exit_fits, get_fits}
+use Rattle.cf_lower_tested.specs.Fits.{called_well, reached_well, has_result}
 use Rattle.cf_lower_tested.specs.Tested.{Joined, TypesAgree}
 
 below : (i n : ℕ) → nat_lt i n ≡ true → i < n
@@ -71,7 +71,7 @@ found-named (g ∷ gs) name f e = by (λ k. found-named gs name f k) (bytes_eq g
     by rest false i k = rest k
 
 -- and passes what all pass
-found-passes : (test : Function → Bool) (fs : List Function) (name : Name) (f : Function) → find (λ (g : Function). bytes_eq g.name name) fs ≡ Some f → list_all test fs ≡ true
+pub found-passes : (test : Function → Bool) (fs : List Function) (name : Name) (f : Function) → find (λ (g : Function). bytes_eq g.name name) fs ≡ Some f → list_all test fs ≡ true
     → test f ≡ true
 found-passes test [] name f e all = absurd (let k = e in cc)
 found-passes test (g ∷ gs) name f e all =
@@ -83,17 +83,23 @@ found-passes test (g ∷ gs) name f e all =
     by one rest true k = ap test (sym (some-function k)) ∙ one
     by one rest false k = rest k
 
-given-that : (b x : Bool) → not b || x ≡ true → b ≡ true → x ≡ true
+pub given-that : (b x : Bool) → not b || x ≡ true → b ≡ true → x ≡ true
 given-that true x e k = e
 given-that false x e k = absurd (let i = k in cc)
-
-true-not-false : (b : Bool) → b ≡ true → not b ≡ true → ⊥
-true-not-false true e k = absurd (let i = k in cc)
-true-not-false false e k = absurd (let i = e in cc)
 
 code-is : (t : SourceType) (x : Kept) → is_code_for t x ≡ true → x ≡ holds (code (without_const t))
 code-is t (holds (code u)) e = ap (λ (v : SourceType). holds (code v)) (same-type u (without_const t) e)
 code-is t x e = absurd (let k = e in cc)
+
+the-other : (a b c : Bool) → a || b || c ≡ true → a ≡ false → c ≡ false → b ≡ true
+the-other a true c e p q = refl
+the-other true false c e p q = absurd (let k = p in cc)
+the-other false false true e p q = absurd (let k = q in cc)
+the-other false false false e p q = absurd (let k = e in cc)
+
+none-there : (z : Scene) (is : List ℕ) → none_passed z.body.own.locals is ≡ true → is ≡ []
+none-there z [] e = refl
+none-there z (i ∷ is) e = absurd (let k = e in cc)
 
 module _ (z : Scene) where
   local-there : (t : CType) → is_some (z.body.flags.result t) ≡ true → HasLocal z t
@@ -103,10 +109,10 @@ module _ (z : Scene) where
       by None k i = absurd (let y = i in cc)
       by (Some block) k i = record { block = block; is = k }
 
-  result-local : (s : Option Sort) → has_local z s ≡ true → (u : Sort) → s ≡ Some u → HasLocal z (c_type u)
-  result-local s e u is = local-there (c_type u) (subst (λ (o : Option Sort). has_local z o ≡ true) is e)
+  result-local : (s : Option Sort) → has_local (has_result z) s ≡ true → (u : Sort) → s ≡ Some u → HasLocal z (c_type u)
+  result-local s e u is = local-there (c_type u) (subst (λ (o : Option Sort). has_local (has_result z) o ≡ true) is e)
 
-  one-there : (is : List ℕ) (xs : List Opened) → Fits z → one_passed z is ≡ true → all_valued is xs ≡ true
+  one-there : (is : List ℕ) (xs : List Opened) → Fits z → one_passed z.body.own.locals is ≡ true → all_valued is xs ≡ true
       → (i : ℕ) × (is ≡ i ∷ []) × Passes z i xs
   one-there [] xs fit e valued = absurd (let k = e in cc)
   one-there (i ∷ []) xs fit e valued =
@@ -116,7 +122,7 @@ module _ (z : Scene) where
   module _ (fit : Fits z) (none : z.program.classes ≡ []) (simple : functions_simple z.functions ≡ true) (joined : Joined (programs_of z)) (typed : TypesAgree (programs_of z))
       (statics : (name : Name) (o : ℕ) → static_number z.program name ≡ Some o → StartStatic z name o) (n : ℕ)
       (alike : (k : ℕ) → k ≤ n → FunctionsAlike (programs_of z) k) (around : Around Point) (h : Keeping) (xs : List Opened) (r : Register) (t : SourceType) (is : List ℕ)
-      (bound : nat_lt r z.body.own.bound ≡ true) (local : has_local z (sort_of (result_type t)) ≡ true) (valued : all_valued is xs ≡ true) where
+      (bound : nat_lt r z.body.own.bound ≡ true) (local : has_local (has_result z) (sort_of (result_type t)) ≡ true) (valued : all_valued is xs ≡ true) where
     function-fits : (f : Function) → are_passed z.body.own.locals is ≡ true → called_well z (Some f) t is ≡ true → same_but_const f.type t ≡ true
         → Invokes z f is × KeepsResult z f t r
     function-fits f passed well same =
@@ -137,8 +143,8 @@ module _ (z : Scene) where
 
     -- ---- through a pointer
 
-    module _ (q : Register) (code_there : is_code_for t (h q) ≡ true) (no_get : not (same_but_const (z.signature (codes "getchar")) t) ≡ true) (put : put_fits z t is ≡ true)
-        (ends : exit_fits z t is ≡ true) (passed : are_passed z.body.own.locals is ≡ true) (all_well : list_all (reached_well z t is) z.program.functions ≡ true) where
+    module _ (q : Register) (code_there : is_code_for t (h q) ≡ true) (get : get_fits z.body.own.locals (z.signature (codes "getchar")) t is ≡ true) (put : put_fits z.body.own.locals (z.signature (codes "putchar")) t is ≡ true)
+        (ends : exit_fits z.body.own.locals (z.signature (codes "exit")) t is ≡ true) (passed : are_passed z.body.own.locals is ≡ true) (all_well : list_all (reached_well z t is) z.program.functions ≡ true) where
       same-type-of : (name : Name) → without_const (z.signature name) ≡ without_const t → same_but_const (z.signature name) t ≡ true
       same-type-of name e = ap (λ (u : SourceType). type_eq u (without_const t)) e ∙ type-self (without_const t)
 
@@ -165,25 +171,31 @@ module _ (z : Scene) where
       put-there : without_const (z.signature (codes "putchar")) ≡ without_const t → ReachesLibrary z t is xs (codes "putchar") putchar × KeepsInt z t r
       put-there type =
           let all = given-that (same_but_const (z.signature (codes "putchar")) t)
-          (is_an_int (sort_of (result_type t)) && (one_passed z is && has_type (signature t).result (signature t).parameters (built_in putchar))) put
+          (is_an_int (sort_of (result_type t)) && (one_passed z.body.own.locals is && has_type (signature t).result (signature t).parameters (built_in putchar))) put
           (same-type-of (codes "putchar") type) in
-          let two = both (is_an_int (sort_of (result_type t))) (one_passed z is && has_type (signature t).result (signature t).parameters (built_in putchar)) all in
-          let three = both (one_passed z is) (has_type (signature t).result (signature t).parameters (built_in putchar)) two.1 in
+          let two = both (is_an_int (sort_of (result_type t))) (one_passed z.body.own.locals is && has_type (signature t).result (signature t).parameters (built_in putchar)) all in
+          let three = both (one_passed z.body.own.locals is) (has_type (signature t).result (signature t).parameters (built_in putchar)) two.1 in
           let one = one-there is xs fit three.0 valued in
           (record { numbered = joined.put; typed = three.1; local = one.0; only = one.1; passes = one.2 }, keeps-int two.0)
 
       ends-there : without_const (z.signature (codes "exit")) ≡ without_const t → ReachesLibrary z t is xs (codes "exit") exit × (sort_of (result_type t) ≡ None)
       ends-there type =
           let all = given-that (same_but_const (z.signature (codes "exit")) t)
-          (is_no_sort (sort_of (result_type t)) && (one_passed z is && has_type (signature t).result (signature t).parameters (built_in exit))) ends
+          (is_no_sort (sort_of (result_type t)) && (one_passed z.body.own.locals is && has_type (signature t).result (signature t).parameters (built_in exit))) ends
           (same-type-of (codes "exit") type) in
-          let two = both (is_no_sort (sort_of (result_type t))) (one_passed z is && has_type (signature t).result (signature t).parameters (built_in exit)) all in
-          let three = both (one_passed z is) (has_type (signature t).result (signature t).parameters (built_in exit)) two.1 in
+          let two = both (is_no_sort (sort_of (result_type t))) (one_passed z.body.own.locals is && has_type (signature t).result (signature t).parameters (built_in exit)) all in
+          let three = both (one_passed z.body.own.locals is) (has_type (signature t).result (signature t).parameters (built_in exit)) two.1 in
           let one = one-there is xs fit three.0 valued in
           (record { numbered = joined.ends; typed = three.1; local = one.0; only = one.1; passes = one.2 }, no-sort (sort_of (result_type t)) two.0)
 
-      get-nowhere : without_const (z.signature (codes "getchar")) ≡ without_const t → ⊥
-      get-nowhere type = true-not-false (same_but_const (z.signature (codes "getchar")) t) (same-type-of (codes "getchar") type) no_get
+      get-there : without_const (z.signature (codes "getchar")) ≡ without_const t → ReachesNext z t is × KeepsInt z t r
+      get-there type =
+          let all = given-that (same_but_const (z.signature (codes "getchar")) t)
+          (is_an_int (sort_of (result_type t)) && (none_passed z.body.own.locals is && has_type (signature t).result (signature t).parameters (built_in getchar))) get
+          (same-type-of (codes "getchar") type) in
+          let two = both (is_an_int (sort_of (result_type t))) (none_passed z.body.own.locals is && has_type (signature t).result (signature t).parameters (built_in getchar)) all in
+          let three = both (none_passed z.body.own.locals is) (has_type (signature t).result (signature t).parameters (built_in getchar)) two.1 in
+          (record { numbered = joined.gets; typed = three.1; none = none-there z is three.0 }, keeps-int two.0)
 
       pub pointed-leads : z.helper ≡ false → LeafRunsTo z n around (point_at h xs) (set r (plain.pointer_call None q t is None)) (point_kept h r t is xs)
       pointed-leads helper =
@@ -194,7 +206,7 @@ module _ (z : Scene) where
             functions = reaches;
             putchar_there = put-there;
             exit_there = ends-there;
-            no_getchar = get-nowhere;
+            getchar_there = get-there;
           }) valued
 
     -- ---- by a name
@@ -219,34 +231,42 @@ module _ (z : Scene) where
             subst Leads same
             (function-leads f (ap (function_named z.program) same ∙ found) (ap is_library same ∙ fresh) passed k)
 
-    put-leads : (name : Name) → bytes_eq name (codes "putchar") ≡ true → is_an_int (sort_of (result_type t)) && one_passed z is ≡ true → Leads name
+    put-leads : (name : Name) → bytes_eq name (codes "putchar") ≡ true → is_an_int (sort_of (result_type t)) && one_passed z.body.own.locals is ≡ true → Leads name
     put-leads name named e =
-        let two = both (is_an_int (sort_of (result_type t))) (one_passed z is) e in
+        let two = both (is_an_int (sort_of (result_type t))) (one_passed z.body.own.locals is) e in
         let one = one-there is xs fit two.1 valued in
         subst Leads (sym (same_bytes name (codes "putchar") named))
         (subst (λ (l : List ℕ). LeafRunsTo z n around (point_at h xs) (set r (plain.call (codes "putchar") t None l None)) (point_kept h r t l xs)) (sym one.1)
         (putchar-leads z fit n around h xs t r (keeps-int two.0) one.0 one.2))
 
-    ends-leads : (name : Name) → bytes_eq name (codes "exit") ≡ true → is_no_sort (sort_of (result_type t)) && one_passed z is ≡ true → Leads name
+    ends-leads : (name : Name) → bytes_eq name (codes "exit") ≡ true → is_no_sort (sort_of (result_type t)) && one_passed z.body.own.locals is ≡ true → Leads name
     ends-leads name named e =
-        let two = both (is_no_sort (sort_of (result_type t))) (one_passed z is) e in
+        let two = both (is_no_sort (sort_of (result_type t))) (one_passed z.body.own.locals is) e in
         let one = one-there is xs fit two.1 valued in
         subst Leads (sym (same_bytes name (codes "exit") named))
         (subst (λ (l : List ℕ). LeafRunsTo z n around (point_at h xs) (set r (plain.call (codes "exit") t None l None)) (point_kept h r t l xs)) (sym one.1)
         (exit-leads z n around h xs t r (no-sort (sort_of (result_type t)) two.0) one.0 one.2 (point_kept h r t (one.0 ∷ []) xs)))
 
-    library-leads : (name : Name) (b e : Bool) → bytes_eq name (codes "putchar") ≡ b → bytes_eq name (codes "exit") ≡ e → library_fits z b e t is ≡ true → Leads name
-    library-leads name true e p q k = put-leads name p k
-    library-leads name false true p q k = ends-leads name q k
-    library-leads name false false p q k = absurd (let i = k in cc)
+    get-leads : (name : Name) → bytes_eq name (codes "getchar") ≡ true → is_an_int (sort_of (result_type t)) && none_passed z.body.own.locals is ≡ true → Leads name
+    get-leads name named e =
+        let two = both (is_an_int (sort_of (result_type t))) (none_passed z.body.own.locals is) e in
+        subst Leads (sym (same_bytes name (codes "getchar") named))
+        (subst (λ (l : List ℕ). LeafRunsTo z n around (point_at h xs) (set r (plain.call (codes "getchar") t None l None)) (point_kept h r t l xs))
+        (sym (none-there z is two.1)) (getchar-leads z n around h xs t r (keeps-int two.0)))
 
-    pub call-leads : (name : Name) → (if is_library name then library_fits z (bytes_eq name (codes "putchar")) (bytes_eq name (codes "exit")) t is
+    library-leads : (name : Name) → is_library name ≡ true → (b e : Bool) → bytes_eq name (codes "putchar") ≡ b → bytes_eq name (codes "exit") ≡ e
+        → library_fits z.body.own.locals b e t is ≡ true → Leads name
+    library-leads name lib true e p q k = put-leads name p k
+    library-leads name lib false true p q k = ends-leads name q k
+    library-leads name lib false false p q k = get-leads name (the-other (bytes_eq name (codes "putchar")) (bytes_eq name (codes "getchar")) (bytes_eq name (codes "exit")) lib p q) k
+
+    pub call-leads : (name : Name) → (if is_library name then library_fits z.body.own.locals (bytes_eq name (codes "putchar")) (bytes_eq name (codes "exit")) t is
         else are_passed z.body.own.locals is && called_well z (function_named z.program name) t is) ≡ true → Leads name
     call-leads name e = by (is_library name) refl e
       where
-        by : (b : Bool) → is_library name ≡ b → (if b then library_fits z (bytes_eq name (codes "putchar")) (bytes_eq name (codes "exit")) t is
+        by : (b : Bool) → is_library name ≡ b → (if b then library_fits z.body.own.locals (bytes_eq name (codes "putchar")) (bytes_eq name (codes "exit")) t is
             else are_passed z.body.own.locals is && called_well z (function_named z.program name) t is) ≡ true → Leads name
-        by true i k = library-leads name (bytes_eq name (codes "putchar")) (bytes_eq name (codes "exit")) refl refl k
+        by true i k = library-leads name i (bytes_eq name (codes "putchar")) (bytes_eq name (codes "exit")) refl refl k
         by false i k =
             let two = both (are_passed z.body.own.locals is) (called_well z (function_named z.program name) t is) k in
             named-leads name i two.0 two.1

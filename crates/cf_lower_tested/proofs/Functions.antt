@@ -1,5 +1,5 @@
 -- Functions that pass the tests have what they need wherever they are entered.
-use Rattle.std.proofs.Common.{◌≡◌, ℕ, suc, ◌≤◌, true, false, ◌&&◌, List, [], ◌∷◌, refl, sym, ◌∙◌, ap, subst, arith}
+use Rattle.std.proofs.Common.{◌≡◌, ℕ, suc, ◌≤◌, true, ◌&&◌, List, [], ◌∷◌, refl, sym, ◌∙◌, ap, subst, arith}
 use Rattle.std.specs.Prelude.{map, Option, Some, None}
 use Rattle.cf_core.specs.Classes.{Class}
 use Rattle.cf_core.specs.Types.{Name, SourceType, parameters}
@@ -28,7 +28,8 @@ use Rattle.cf_lower_calls.specs.Invoked.Invoking.{StartStatic}
 use Rattle.cf_lower_calls.specs.Entered.Lowered.{Fitting, IsLowered, entered_scene, HasNeeds, AllLowered, AllHaveNeeds}
 use Rattle.cf_lower_calls.proofs.EnteredLaws.Fitting.{scene-fits, programs-alike}
 use Rattle.cf_lower_needed.proofs.Live.{function-needed}
-use Rattle.cf_lower_tested.specs.Fits.{same_signature, fits}
+use Rattle.cf_lower_place.specs.Calls.{same_signature}
+use Rattle.cf_lower_tested.specs.Fits.{fits}
 use Rattle.cf_lower_tested.specs.Tested.{Joined, TypesAgree, Tested, AllTested}
 use Rattle.cf_lower_tested.proofs.Leaves.{leaves-lead}
 

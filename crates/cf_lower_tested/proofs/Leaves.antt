@@ -1,9 +1,9 @@
 -- Statements that fit lead on.
-use Rattle.std.proofs.Common.{◌≡◌, ℕ, ◌≤◌, nat_lt, Bool, true, false, ◌&&◌, not, if◌then◌else◌, List, [], ◌∷◌, codes, bytes_eq, refl, sym, ap, subst}
+use Rattle.std.proofs.Common.{◌≡◌, ℕ, ◌≤◌, nat_lt, true, false, ◌&&◌, if◌then◌else◌, List, [], ◌∷◌, codes, bytes_eq, refl, sym, subst}
 use Rattle.std.specs.Prelude.{Option, Some, None}
 use Rattle.std.specs.List.{list_all}
 use Rattle.cf_base.proofs.Tests.{both}
-use Rattle.cf_core.specs.Types.{Name, SourceType, same_but_const, result as result_type}
+use Rattle.cf_core.specs.Types.{Name, SourceType, result as result_type}
 use Rattle.cf_core.specs.Calls.{function_named, is_library}
 use Rattle.cf_core.specs.Objects.{static_number}
 use Rattle.cf_lower_layout.specs.Sorts.{sort_of}
@@ -12,7 +12,7 @@ use Rattle.cf_plain.specs.Plain.{Register, Action, Plain, act, set, give}
 use Rattle.cf_plain_frames.specs.Simple.{functions_simple}
 use Rattle.cf_plain_kept.specs.Kept as told
 use Rattle.cf_lower.specs.Kept.{Keeping, after}
-use Rattle.cf_lower_kept.specs.Opened.{Opened, Where, falls, away, wrong, Ways, only_if, differ, has_its_value, action_opens, opened_by, set_in, opens}
+use Rattle.cf_lower_kept.specs.Opened.{Opened, Where, falls, Ways, only_if, differ, has_its_value, action_opens, opened_by, set_in, opens}
 use Rattle.cf_lower_kept.specs.Told.{AllTold}
 use Rattle.cf_lower_turns.specs.Around.{Around}
 use Rattle.cf_lower_turns.specs.Scene.{Scene}
@@ -26,7 +26,9 @@ use Rattle.cf_lower_calls.specs.Invoked.Invoking.{programs_of, StartStatic}
 use Rattle.cf_lower_calls.proofs.InvokedLaws.LowerPoints.{leads-on}
 use Rattle.cf_lower_needed.specs.Leading.{point_of, is_right, LeavesLead}
 use Rattle.cf_lower_needed.proofs.Places.{only-if}
-use Rattle.cf_lower_tested.specs.Fits.{has_local, is_code_for, called_well, library_fits, call_fits, put_fits, exit_fits, reached_well, pointer_fits, fits}
+use Rattle.cf_lower_actions.specs.Leaf.{view_of}
+use Rattle.cf_lower_place.specs.Calls.{has_local, is_code_for, library_fits, call_fits, put_fits, exit_fits, get_fits, pointer_fits}
+use Rattle.cf_lower_tested.specs.Fits.{called_well, has_result, reached_well, reach_of, fits}
 use Rattle.cf_lower_tested.specs.Tested.{Joined, TypesAgree}
 use Rattle.cf_lower_tested.proofs.Calls.{call-leads, pointed-leads}
 
@@ -58,21 +60,21 @@ module _ (z : Scene) (fit : Fits z) (none : z.program.classes ≡ []) (simple : 
     give-leads r [] same e right = leads-on z fit around g h [] tells (give r) e refl n
     give-leads r (y ∷ ys) same e right = absurd (let k = right in cc)
 
-    called-leads : (r : Register) (name : Name) (t : SourceType) (is : List ℕ) → call_fits z r name t is ≡ true
+    called-leads : (r : Register) (name : Name) (t : SourceType) (is : List ℕ) → call_fits (view_of z) (reach_of z) r name t is ≡ true
         → is_right (opens z.inside.locals.types z.inside.result (set r (plain.call name t None is None)) g w xs) ≡ true
         → Leads (set r (plain.call name t None is None)) (opens z.inside.locals.types z.inside.result (set r (plain.call name t None is None)) g w xs)
     called-leads r name t is e right =
         let a = plain.call name t None is None in
         let tested = only-if (action_opens g a xs) (falls (opened_by g (Some r) a (set_in r xs))) right in
         let args = both (differ is) (list_all (has_its_value xs) is) tested in
-        let rest = (if is_library name then library_fits z (bytes_eq name (codes "putchar")) (bytes_eq name (codes "exit")) t is
+        let rest = (if is_library name then library_fits z.body.own.locals (bytes_eq name (codes "putchar")) (bytes_eq name (codes "exit")) t is
         else are_passed z.body.own.locals is && called_well z (function_named z.program name) t is) in
-        let one = both (nat_lt r z.body.own.bound) (has_local z (sort_of (result_type t)) && rest) e in
-        let two = both (has_local z (sort_of (result_type t))) rest one.1 in
+        let one = both (nat_lt r z.body.own.bound) (has_local (has_result z) (sort_of (result_type t)) && rest) e in
+        let two = both (has_local (has_result z) (sort_of (result_type t))) rest one.1 in
         subst (λ b. Leads (set r a) (only_if b (falls (opened_by g (Some r) a (set_in r xs))))) (sym tested)
         (call-leads z fit none simple joined typed statics n alike around h xs r t is one.0 two.0 args.1 name two.1)
 
-    pointed-to-leads : (r q : Register) (t : SourceType) (is : List ℕ) → pointer_fits z h r q t is ≡ true
+    pointed-to-leads : (r q : Register) (t : SourceType) (is : List ℕ) → pointer_fits (view_of z) (reach_of z) h r q t is ≡ true
         → is_right (opens z.inside.locals.types z.inside.result (set r (plain.pointer_call None q t is None)) g w xs) ≡ true
         → Leads (set r (plain.pointer_call None q t is None)) (opens z.inside.locals.types z.inside.result (set r (plain.pointer_call None q t is None)) g w xs)
     pointed-to-leads r q t is e right =
@@ -81,14 +83,16 @@ module _ (z : Scene) (fit : Fits z) (none : z.program.classes ≡ []) (simple : 
         let args = both (differ is) (list_all (has_its_value xs) is) tested in
         let well = list_all (reached_well z t is) z.program.functions in
         let passes = are_passed z.body.own.locals is in
-        let no_get = not (same_but_const (z.signature (codes "getchar")) t) in
+        let put = put_fits z.body.own.locals (z.signature (codes "putchar")) t is in
+        let ends = exit_fits z.body.own.locals (z.signature (codes "exit")) t is in
+        let get = get_fits z.body.own.locals (z.signature (codes "getchar")) t is in
         let one = both (nat_lt r z.body.own.bound)
-        (has_local z (sort_of (result_type t)) && (is_code_for t (h q) && (no_get && (put_fits z t is && (exit_fits z t is && (passes && well)))))) e in
-        let two = both (has_local z (sort_of (result_type t))) (is_code_for t (h q) && (no_get && (put_fits z t is && (exit_fits z t is && (passes && well))))) one.1 in
-        let three = both (is_code_for t (h q)) (no_get && (put_fits z t is && (exit_fits z t is && (passes && well)))) two.1 in
-        let four = both no_get (put_fits z t is && (exit_fits z t is && (passes && well))) three.1 in
-        let five = both (put_fits z t is) (exit_fits z t is && (passes && well)) four.1 in
-        let six = both (exit_fits z t is) (passes && well) five.1 in
+        (has_local (has_result z) (sort_of (result_type t)) && (is_code_for t (h q) && (get && (put && (ends && (passes && well)))))) e in
+        let two = both (has_local (has_result z) (sort_of (result_type t))) (is_code_for t (h q) && (get && (put && (ends && (passes && well))))) one.1 in
+        let three = both (is_code_for t (h q)) (get && (put && (ends && (passes && well)))) two.1 in
+        let four = both get (put && (ends && (passes && well))) three.1 in
+        let five = both put (ends && (passes && well)) four.1 in
+        let six = both ends (passes && well) five.1 in
         let seven = both passes well six.1 in
         subst (λ b. Leads (set r a) (only_if b (falls (opened_by g (Some r) a (set_in r xs))))) (sym tested)
         (pointed-leads z fit none simple joined typed statics n alike around h xs r t is one.0 two.0 args.1 q three.0 four.0 five.0 six.0 seven.0 seven.1 helper)

@@ -1,5 +1,5 @@
 -- A function with a loop, its step, a switch, `break` and `continue` passes the tests in any program; and so do those that call others, where these are found.
-use Rattle.std.proofs.Common.{◌≡◌, ℕ, true, false, List, [], ◌∷◌, codes, refl}
+use Rattle.std.proofs.Common.{◌≡◌, ℕ, false, [], ◌∷◌, codes, refl}
 use Rattle.std.specs.Prelude.{pos, Some, None}
 use Rattle.cf_base.specs.declared.kind.Kind.TheVariants.{Int}
 use Rattle.cf_base.specs.declared.arith.Arith.TheVariants as op
@@ -9,7 +9,10 @@ use Rattle.cf_plain.specs.Plain as plain
 use Rattle.cf_plain.specs.Plain.{Plains, act, set, branch, loop, switch, case_label, default_label, leave, continue, give, nothing, more, PlainFunction}
 use Rattle.cf_lower_calls.specs.Returns.Called.{Programs}
 use Rattle.cf_lower_calls.proofs.EnteredLaws.Example as example
+use Rattle.cf_lower_place.specs.Named.{library_type}
 use Rattle.cf_lower_tested.specs.Tested.{Tested}
+use Rattle.cf_lower_tested.specs.Named.{passes, NamesTyped, NamesThere}
+use Rattle.cf_lower_tested.proofs.Joined.{of-library}
 
 abbrev int : SourceType
 int = integer Int
@@ -57,3 +60,53 @@ calls-tested = record { ready = refl; opened = refl; place = λ E first cs depth
 -- through a pointer too
 pointed-tested : Tested example.B example.k
 pointed-tested = record { ready = refl; opened = refl; place = λ E first cs depth. refl }
+
+-- int h(int x){switch(x){int y; case 1: break; default: ;} return 0;}: what labels pass a switch before declares
+abbrev declares : Plains → Plains
+declares rest = more (act (plain.declare 1 int)) rest
+
+abbrev ends : Plains → Plains
+ends rest = more (act (plain.finish int 1)) rest
+
+abbrev passing : Plains
+passing = more (case_label (pos 1)) (declares (more leave (more default_label (declares (more leave nothing)))))
+
+abbrev passed : Plains
+passed = declares (more (case_label (pos 1)) (ends (more leave (more default_label (ends nothing)))))
+
+abbrev h : PlainFunction
+h = record f {
+  name = codes "h__Fi";
+  body = value_of 0 0 (more (switch 0 passing) (more (switch 0 passed) (more (set 0 (plain.number (pos 0))) (more (act (plain.finish int 0)) (more (give (Some 0)) nothing)))));
+}
+
+passing-tested : (B : Programs) → Tested B h
+passing-tested B = record { ready = refl; opened = refl; place = λ E first cs depth. refl }
+
+-- int r(){return getchar();}
+abbrev r : PlainFunction
+r = record f {
+  name = codes "r__Fv";
+  type = gives int false;
+  locals = [];
+  body = more (set 0 (plain.call (codes "getchar") (gives int false) None [] None)) (more (give (Some 0)) nothing);
+}
+
+reading-tested : (B : Programs) → Tested B r
+reading-tested B = record { ready = refl; opened = refl; place = λ E first cs depth. refl }
+
+-- ---- by name
+
+-- in the program of three functions names stand for what their types say
+names-typed : NamesTyped example.B
+names-typed = record { library = λ name e. of-library (λ n. example.B.signature n ≡ library_type n) name e refl refl refl; functions = refl }
+
+calls-there : NamesThere example.B example.f
+calls-there = record { passed = refl; there = (tt, (tt, (tt, (refl, tt)))) }
+
+pointed-there : NamesThere example.B example.k
+pointed-there = record { passed = refl; there = (tt, (tt, (tt, (refl, (tt, (tt, (tt, (tt, (tt, (tt, (tt, tt))))))))))) }
+
+-- a function whose call has another number of arguments than its type
+few-refused : passes (record example.f { body = more (set 0 (plain.call example.g_name example.of_int None [] None)) nothing }) ≡ false
+few-refused = refl

@@ -8,7 +8,7 @@ use Rattle.cf_plain.specs.Running.{plain_named, header}
 use Rattle.cc_whole.specs.Plain as c_tree
 use Rattle.cc_whole_memory.specs.declared.value.Value.{Value}
 use Rattle.cc_whole_memory.specs.Blocks.{Memory}
-use Rattle.cc_whole_mean.specs.Callee.{putchar, exit, own, built_in, callee_numbered, has_type}
+use Rattle.cc_whole_mean.specs.Callee.{putchar, getchar, exit, own, built_in, callee_numbered, has_type}
 use Rattle.cf_lower.specs.Kept.{nothing_kept}
 use Rattle.cf_lower.specs.Functions.{locals_of}
 use Rattle.cf_lower.specs.Statements.{signature}
@@ -17,8 +17,9 @@ use Rattle.cf_lower_kept.specs.Ready.{function_ready}
 use Rattle.cf_lower_relate.specs.Map.{Map}
 use Rattle.cf_lower_calls.specs.Returns.Called.{Programs, Pair}
 use Rattle.cf_lower_calls.specs.Entered.Lowered.{entered_scene}
-use Rattle.cf_lower_needed.specs.InPlace.{all_in_place}
-use Rattle.cf_lower_tested.specs.Fits.{same_signature, fits}
+use Rattle.cf_lower_place.specs.InPlace.{all_in_place}
+use Rattle.cf_lower_place.specs.Calls.{same_signature}
+use Rattle.cf_lower_tested.specs.Fits.{fits}
 
 module _ (B : Programs) where
   -- the C of a function of the source, and its number
@@ -27,9 +28,10 @@ module _ (B : Programs) where
     pub pair : Pair B f callee
     pub numbered : callee_numbered B.c_program.functions (B.function f.name) ≡ Ok (own callee)
 
-  -- each function of the source has its C, and each plain function is one of them; and two of the library's
+  -- each function of the source has its C, and each plain function is one of them; and those of the library
   pub record Joined : Type 0 where
     pub put : callee_numbered B.c_program.functions (B.function (codes "putchar")) ≡ Ok (built_in putchar)
+    pub gets : callee_numbered B.c_program.functions (B.function (codes "getchar")) ≡ Ok (built_in getchar)
     pub ends : callee_numbered B.c_program.functions (B.function (codes "exit")) ≡ Ok (built_in exit)
     pub functions : (f : Function) → function_named B.program f.name ≡ Some f → is_library f.name ≡ false → HasPair f
     pub plain : (f : PlainFunction) → plain_named B.functions f.name ≡ Some f → HasPair (header f)

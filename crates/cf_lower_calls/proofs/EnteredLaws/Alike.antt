@@ -8,9 +8,9 @@ use Rattle.cf_core.specs.Run.{State, Did, Gives, Exits, Malformed, onward, gives
 use Rattle.cf_core.specs.Calls.{frame_of, local_count as core_count}
 use Rattle.cf_lower_layout.specs.Sorts.{sort_of}
 use Rattle.cf_plain.specs.Plain.{PlainFunction, give}
-use Rattle.cf_plain.specs.Acts.{no_registers}
+use Rattle.cf_plain.specs.Acts.{Registers, no_registers}
 use Rattle.cf_plain.specs.Running as plain
-use Rattle.cf_plain.specs.Running.{Flow, entered, all, plain_named, header}
+use Rattle.cf_plain.specs.Running.{Flow, entered, does, all, plain_named, header}
 use Rattle.cf_plain_frames.specs.Simple.{functions_simple}
 use Rattle.cf_plain_frames.specs.Since.{Since, Always}
 use Rattle.cf_plain_frames.proofs.Statements.{function-stays}
@@ -27,13 +27,14 @@ use Rattle.cc_whole_mean.specs.Mean as mean
 use Rattle.cc_whole_mean.specs.Scope.{bind_parameters}
 use Rattle.cf_lower.specs.Kept.{nothing_kept}
 use Rattle.cf_lower.specs.Functions.{inside}
-use Rattle.cf_lower.specs.Statements.{all_lowered, no_value}
+use Rattle.cf_lower.specs.Statements.{all_lowered, lowered, no_value}
 use Rattle.cf_lower_kept.specs.Opened.{parameters_open}
 use Rattle.cf_lower_relate.specs.Map.{Map, Stage, hidden, shown, ended, is_ended, is_shown}
 use Rattle.cf_lower_relate.specs.Relation.{Rel}
 use Rattle.cf_lower_steps.specs.Flows.{Simulates}
 use Rattle.cf_lower_steps.proofs.Statements.{runs-join}
-use Rattle.cf_lower_turns.specs.Around.{function}
+use Rattle.cf_lower_place.specs.Input.{IsInput}
+use Rattle.cf_lower_turns.specs.Around.{function, inside_at}
 use Rattle.cf_lower_turns.specs.Here.{Here}
 use Rattle.cf_lower_turns.specs.Scene.{Scene, again_at, c_again_at, helps_at, list_at}
 use Rattle.cf_lower_turns.proofs.Following.{sim-as, sim-of}
@@ -41,11 +42,11 @@ use Rattle.cf_lower_calls.specs.Returns.Called.{Programs, fixed, Entry, ComesBac
 use Rattle.cf_lower_calls.proofs.FramesLaws.Begin.{here-first, among-number, there-at}
 use Rattle.cf_lower_calls.proofs.InvokedLaws.Entry.{typed-count, entered-at}
 use Rattle.cf_lower_bounds.specs.Points.{Point, point_at, IsOpen, InFrame, local_count, At}
-use Rattle.cf_lower_bounds.specs.Bounds.{LeafRunsTo}
+use Rattle.cf_lower_bounds.specs.Bounds.{EndsAt}
 use Rattle.cf_lower_bounds.proofs.Turns.{statements-to}
 use Rattle.cf_lower_bounds.proofs.Written.{then-then}
 use Rattle.cf_lower_calls.specs.Invoked.LowerPoints.{point_behind}
-use Rattle.cf_lower_calls.proofs.InvokedLaws.LowerPoints.{leads-on}
+use Rattle.cf_lower_calls.proofs.InvokedLaws.LowerPoints.{leads-always}
 use Rattle.cf_lower_calls.specs.Entered.Bodies.{scene_of, scope_in, BodyFits, AllFit}
 use Rattle.cf_lower_calls.proofs.EnteredLaws.Ended.{function-ended}
 use Rattle.cf_lower_calls.proofs.EnteredLaws.Parameters.{entered_one, all-parameters, open-parameter, below-length}
@@ -168,8 +169,10 @@ module _ (B : Programs) (none : B.program.classes ≡ []) (simple : functions_si
   q = point_at x.last []
 
   -- where it flows off its end it gives what nothing can use
-  given : LeafRunsTo z n function q (give None) (point_behind z.inside.locals nothing_set x.last (give None) [])
-  given = leads-on z x.fits function nothing_set x.last [] (λ r. tt) (give None) refl refl n
+  given : (g : Registers) (s : State) (t : c.State) (w : World) → At z q 0 g s t
+      → Simulates (EndsAt z function (point_behind z.inside.locals nothing_set x.last (give None) [])) (does (again_at z n) z.program (give None) g s w)
+      (list_at z n (lowered (give None) (inside_at {Point = Point} z.inside function) x.last) t w)
+  given g s t w at = leads-always z x.fits function nothing_set x.last [] (λ r. tt) (give None) refl refl n g s t w at
 
   abbrev source-run : World → Ran (Did Flow)
   source-run w = all (again_at z n) z.program f.body no_registers s1 w
@@ -198,18 +201,18 @@ module _ (B : Programs) (none : B.program.classes ≡ []) (simple : functions_si
       (subst (λ r. Always (Since s1 os) r) (body-runs B.program B.functions n f found role scalar os s1 w)
       (function-stays B.program none B.functions simple (suc n) (header f) os s1 w (λ i. refl)))
 
-  pub function-same : (w : World)
+  pub function-same : (w : World) → IsInput w.input
       → Simulates (ComesBack (fixed B) B.texts E first s os (sort_of (result_type f.type))) (plain.runs B.program B.functions (suc n) (entered (header f) os) s1 w) (c-run w)
-  function-same w =
+  function-same w input =
       sim-of _ _ _ _ (body-runs B.program B.functions n f found role scalar os s1 w)
       (sim-as _ _ _ _ (c-runs w)
       (function-ended z n q (point_behind z.inside.locals nothing_set x.last (give None) []) given s os (Since s1 os) (λ u since o lt no. since.kept o lt no) (length locals) t1.memory.next
       (let k = arguments-next cs first in omega (arith, k)) entry.texts_laid (source-run w) (list_at z n xs t2 w)
-      (statements-to z n f.body function (point_at nothing_kept (parameters_open 0 (parameters f.type))) q x.needs no_registers s1 t2 w at-first) (always w)))
+      (statements-to z n f.body function (point_at nothing_kept (parameters_open 0 (parameters f.type))) q x.needs no_registers s1 t2 w at-first input) (always w)))
 
 module _ (B : Programs) (none : B.program.classes ≡ []) (simple : functions_simple B.functions ≡ true) where
   pub alike-next : (n : ℕ) → AllFit B n → FunctionsAlike B (suc n)
-  alike-next n fit f g pair E s t w os cs depth entry =
+  alike-next n fit f g pair E s t w os cs depth entry input =
       let x = fit f g pair in
       subst (λ (k : Function). Entry B k E s t.memory os cs
       → Simulates (ComesBack (fixed B) B.texts E t.memory s os (sort_of (result_type k.type)))
@@ -217,11 +220,11 @@ module _ (B : Programs) (none : B.program.classes ≡ []) (simple : functions_si
       (mean.runs B.c_program (suc n) false (block g.body) (bind_parameters g.prototype.parameters t.memory.next B.c_program.names) depth
       (in_memory t (born_arguments cs t.memory)) w)) (sym x.is)
       (λ again. function-same B none simple n x.plain g (sym (ap (λ (k : Function). plain_named B.functions k.name) x.is) ∙ x.found) x.role x.scalar x.locals x.made E s t os cs depth
-      again (x.entered E s t.memory os cs depth entry) w) entry
+      again (x.entered E s t.memory os cs depth entry) w input) entry
 
   -- no tick is left
   alike-first : FunctionsAlike B 0
-  alike-first f g pair E s t w os cs depth entry = record { by = refl }
+  alike-first f g pair E s t w os cs depth entry input = record { by = refl }
 
   module _ (fits : (n : ℕ) → ((k : ℕ) → k ≤ n → FunctionsAlike B k) → AllFit B n) where
     up-to : (n k : ℕ) → k ≤ n → FunctionsAlike B k

@@ -8,24 +8,25 @@ use Rattle.cf_base.proofs.Agreement.{begins-refl, adds-went, adds-then}
 use Rattle.cf_core.specs.Store as source
 use Rattle.cf_core.specs.Run.{State, Did, Gives, Exits, Malformed, Act, onward, gives}
 use Rattle.cf_plain.specs.Plain.{give}
-use Rattle.cf_plain.specs.Running.{Flow, Falls, Breaks, Continues, Returns}
+use Rattle.cf_plain.specs.Acts.{Registers}
+use Rattle.cf_plain.specs.Running.{Flow, Falls, Breaks, Continues, Returns, does}
 use Rattle.cf_plain_frames.specs.Since.{Always}
 use Rattle.cc_whole.specs.Plain.{in_order}
 use Rattle.cc_whole_mean.specs.Flow as c
 use Rattle.cc_whole_mean.specs.Flow.{falling, ending, ending_state}
 use Rattle.cc_whole_mean.proofs.Growth.{grows-falling, grows-runs, grows-helps, grows-does_all}
-use Rattle.cf_lower.specs.Statements.{no_value}
+use Rattle.cf_lower.specs.Statements.{no_value, lowered}
 use Rattle.cf_lower_steps.specs.Flows.{Simulates, ExitsAs}
-use Rattle.cf_lower_turns.specs.Around.{function}
+use Rattle.cf_lower_turns.specs.Around.{function, inside_at}
 use Rattle.cf_lower_turns.specs.Texts.{TextsLaid}
-use Rattle.cf_lower_turns.specs.Scene.{Scene, fixed_in, c_again_at, helps_at, list_at}
+use Rattle.cf_lower_turns.specs.Scene.{Scene, fixed_in, again_at, c_again_at, helps_at, list_at}
 use Rattle.cf_lower_turns.proofs.Following.{sim-here, return-falls}
 use Rattle.cf_lower_control.specs.Loops.{IsReturn}
 use Rattle.cf_lower_calls.specs.Returns.Called.{CameBack, ComesBack}
 use Rattle.cf_lower_calls.specs.Frames.Frame.{OthersStay}
 use Rattle.cf_lower_calls.proofs.FramesLaws.End.{comes-back}
-use Rattle.cf_lower_bounds.specs.Points.{Point, Returned}
-use Rattle.cf_lower_bounds.specs.Bounds.{EndsAt, LeafRunsTo}
+use Rattle.cf_lower_bounds.specs.Points.{Point, At, Returned}
+use Rattle.cf_lower_bounds.specs.Bounds.{EndsAt}
 
 -- where both have gone on they go on as before; where `exit` was called the C's blocks end
 pub sim-through : {A B : Type 0} (Q : A → State → c.Flow → Type 0) (S : B → State → c.Flow → Type 0) (x : Ran (Did A)) (y : Ran c.Flow) (f : A → Act B)
@@ -56,7 +57,10 @@ sim-also Q T (Stops (Ended status) trace) y h k = record { by = h.by }
 sim-also Q T (Stops Ticks trace) y h k = record { by = h.by }
 sim-also Q T (Stops Depth trace) y h k = record { by = h.by }
 
-module _ (z : Scene) (n : ℕ) (q r : Point) (given : LeafRunsTo z n function q (give None) r) (before : State) (os : List ℕ) (T : State → Type 0)
+module _ (z : Scene) (n : ℕ) (q r : Point)
+    (given : (g : Registers) (s : State) (t : c.State) (w : World) → At z q 0 g s t
+    → Simulates (EndsAt z function r) (does (again_at z n) z.program (give None) g s w) (list_at z n (lowered (give None) (inside_at {Point = Point} z.inside function) q.kept) t w))
+    (before : State) (os : List ℕ) (T : State → Type 0)
     (stay : (s : State) → T s → OthersStay os before s) (k b : ℕ) (le : z.body.first.next ≤ b) (laid : TextsLaid (fixed_in z) z.body.texts z.body.first.next) where
   abbrev S : Flow → State → c.Flow → Type 0
   S = ComesBack (fixed_in z) z.body.texts z.body.start z.body.first before os z.result
@@ -78,8 +82,7 @@ module _ (z : Scene) (n : ℕ) (q r : Point) (given : LeafRunsTo z n function q 
   ended : (flow : Flow) (s : State) (x : c.Flow) (w : World) → EndsAt z function q flow s x × T s → Simulates S (Went (Gives flow s) w) (go x w)
   ended (Falls g) s x w h =
       let e = h.0 in
-      let itself : n ≤ n = omega arith in
-      let back = (given n itself g s e.after w e.related).by in
+      let back = (given g s e.after w e.related).by in
       sim-here S (Falls g) s w (go x w) (ending k b back.value) (ap (λ y. go y w) e.is ∙ ap (λ y. and_then y finish) back.run)
       (came source.Nothing s back.value back.related h.1)
   ended (Breaks g) s x w h = absurd h.0

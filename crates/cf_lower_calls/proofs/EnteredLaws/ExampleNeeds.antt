@@ -335,7 +335,7 @@ module _ (n : ℕ) (alike : (i : ℕ) → i ≤ n → FunctionsAlike B i) (E : M
         int-kept,
       );
       exit_there = λ e. absurd (let y : takes int (gives void false) ≡ of_int = e in cc);
-      no_getchar = λ e. absurd (let y : gives int false ≡ of_int = e in cc);
+      getchar_there = λ e. absurd (let y : gives int false ≡ of_int = e in cc);
     }
 
     k-needs : HasNeeds B n k E first cs depth

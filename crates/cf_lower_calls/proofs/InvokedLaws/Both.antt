@@ -33,6 +33,7 @@ use Rattle.cf_lower.specs.Kept.{Keeping}
 use Rattle.cf_lower.specs.Statements.{passed}
 use Rattle.cf_lower_relate.specs.Map.{Map}
 use Rattle.cf_lower_steps.specs.Flows.{Simulates, ExitsAs}
+use Rattle.cf_lower_place.specs.Input.{IsInput}
 use Rattle.cf_lower_turns.specs.Here.{Here}
 use Rattle.cf_lower_turns.specs.Scene.{Scene, fixed_in, again_at, c_again_at, helps_at, list_at}
 use Rattle.cf_lower_turns.proofs.Following.{sim-as, sim-of}
@@ -114,8 +115,8 @@ module _ (z : Scene) (none : z.program.classes ≡ []) (simple : functions_simpl
     module _ (next : (i : ℕ) (v : source.Value) (x : State) (flow : c.Flow) (w : World)
         → CameBack (fixed_in z) z.body.texts E u.memory s os (sort_of (result_type f.type)) v x flow → Since (entered_state i) os x
         → Simulates S (k (given_value (result_type f.type) v) (with_frame s.frame x) w) (c-next flow w)) where
-      inner : (i : ℕ) (w : World) → Simulates S (source-all (source-inner i w)) (and_then (c-inner i w) go-on)
-      inner i w =
+      inner : (i : ℕ) (w : World) → IsInput w.input → Simulates S (source-all (source-inner i w)) (and_then (c-inner i w) go-on)
+      inner i w input =
           sim-as S (source-all (source-inner i w)) _ (and_then (c-inner i w) go-on)
           (then-follows (mean.runs z.c_program n false (block e.body) (bind_parameters e.prototype.parameters u.memory.next z.c_program.names) i
           (in_memory u (born_arguments vs u.memory)) (show (Enter f.name) w)) (λ flow w. Went (called_back (ending (length vs) u.memory.next flow)) w) go-on)
@@ -124,19 +125,19 @@ module _ (z : Scene) (none : z.program.classes ≡ []) (simple : functions_simpl
           (mean.runs z.c_program n false (block e.body) (bind_parameters e.prototype.parameters u.memory.next z.c_program.names) i
           (in_memory u (born_arguments vs u.memory)) (show (Enter f.name) w))
           (function-stays z.program none z.functions simple n f os (entered_state i) (show (Enter f.name) w) (λ j. refl))
-          (alike f e pair E s u (show (Enter f.name) w) os vs i (entry z d h f is needs g s u here os before)))
+          (alike f e pair E s u (show (Enter f.name) w) os vs i (entry z d h f is needs g s u here os before) input))
 
-      both-entered : Simulates S (source-all (enter core_again f os None None s w)) (and_then c-entered go-on)
-      both-entered =
+      both-entered : IsInput w.input → Simulates S (source-all (enter core_again f os None None s w)) (and_then c-entered go-on)
+      both-entered input =
           sim-of S _ (source-all (enter core_again f os None None s w)) _
           (ap (λ i. source-all (spend w (λ w. deeper i w (λ i. source-inner i w)))) before.depth)
-          (sim-entered S source-inner c-inner (λ did w. onward did k w) go-on inner w.ticks z.depth w)
+          (sim-entered S source-inner c-inner (λ did w. onward did k w) go-on inner w.ticks z.depth w input)
 
       -- with the C's call, and the statements behind it
-      pub both-called : (place : Option c_tree.Place) (callee : c_tree.Callee)
+      pub both-called : IsInput w.input → (place : Option c_tree.Place) (callee : c_tree.Callee)
           → mean.does (c_again_at z n) (helps_at z n) z.c_program z.helper (c_tree.call place callee (passed is)) z.body.scope z.depth u w
           ≡ and_then c-entered (λ r w. go_back at r w)
           → Simulates S (source-all (enter core_again f os None None s w)) (list_at z n (c_tree.call place callee (passed is) ∷ rest) u w)
-      both-called place callee is-call =
+      both-called input place callee is-call =
           sim-as S (source-all (enter core_again f os None None s w)) _ (list_at z n (c_tree.call place callee (passed is) ∷ rest) u w)
-          (ap (λ r. and_then r (falling rest-run)) is-call ∙ then-follows c-entered (λ r w. go_back at r w) (falling rest-run)) both-entered
+          (ap (λ r. and_then r (falling rest-run)) is-call ∙ then-follows c-entered (λ r w. go_back at r w) (falling rest-run)) (both-entered input)

@@ -23,6 +23,7 @@ use Rattle.cf_lower.specs.Statements.{passed}
 use Rattle.cf_lower_kept.specs.Opened.{Opened}
 use Rattle.cf_lower_relate.specs.Map.{Map}
 use Rattle.cf_lower_steps.specs.Flows.{Simulates}
+use Rattle.cf_lower_place.specs.Input.{IsInput}
 use Rattle.cf_lower_turns.specs.Around.{Around, depth_of}
 use Rattle.cf_lower_turns.specs.Scene.{Scene, fixed_in, again_at, c_again_at, helps_at, list_at}
 use Rattle.cf_lower_turns.proofs.Following.{sim-here}
@@ -75,26 +76,26 @@ module _ (z : Scene) (none : z.program.classes ≡ []) (simple : functions_simpl
           };
         })
 
-    both-run : Simulates S (and_then (enter (calls (again_at z n)) f os None None s w) (λ did w. onward did k w))
+    both-run : IsInput w.input → Simulates S (and_then (enter (calls (again_at z n)) f os None None s w) (λ did w. onward did k w))
         (list_at z n (c_tree.call None (by_name f.name) (passed is) ∷ []) u w)
-    both-run =
-        both-called z none simple n alike d h f e pair is needs g s u w at.here os before S None [] k next None (by_name f.name)
+    both-run input =
+        both-called z none simple n alike d h f e pair is needs g s u w at.here os before S None [] k next input None (by_name f.name)
         (call-runs (c_again_at z n) (helps_at z n) z.c_program z.helper z.body.scope z.depth u w e f.name (passed is)
         (vs z none simple n alike d h f e pair is needs g s u w at.here os before) (values z d h f is needs g s u at.here os before).are pair.c_found pair.name
         pair.no_main pair.no_helper (as-many z none simple n alike d h f e pair is needs g s u w at.here os before) None None refl)
 
-  call-dropped : (same_but_const f.type t ≡ true → Invokes z f is)
+  call-dropped : (same_but_const f.type t ≡ true → Invokes z f is) → IsInput w.input
       → Simulates S (and_then (acts (calls (again_at z n)) z.program g (plain.call f.name t None is None) s w) (λ did w. onward did k w))
       (list_at z n (c_tree.call None (by_name f.name) (passed is) ∷ []) u w)
-  call-dropped needs =
+  call-dropped needs input =
       call-by-name z n f e pair t g s u w is os before.there S k (c_tree.call None (by_name f.name) (passed is) ∷ [])
-      (λ same. as-declared z none simple n alike d h f e pair is (needs same) g s u w at.here os before) (λ same. both-run (needs same))
+      (λ same. as-declared z none simple n alike d h f e pair is (needs same) g s u w at.here os before) (λ same. both-run (needs same) input)
 
 pub call-leads : (z : Scene) → z.program.classes ≡ [] → functions_simple z.functions ≡ true → (n : ℕ) → ((k : ℕ) → k ≤ n → FunctionsAlike (programs_of z) k)
     → (around : Around Point) (h : Keeping) (xs : List Opened) (f : Function) (e : c_tree.Function) → Pair (programs_of z) f e → (is : List ℕ) (t : SourceType)
     → (same_but_const f.type t ≡ true → Invokes z f is) → all_valued is xs ≡ true
     → LeafRunsTo z n around (point_at h xs) (act (plain.call f.name t None is None)) (point_called h is xs)
-call-leads z none simple n alike around h xs f e pair is t needs valued k le g s u w at =
+call-leads z none simple n alike around h xs f e pair is t needs valued k le g s u w at input =
     let args = all-there (local_count z) g s is xs valued at.standing.each in
     call-dropped z none simple k (alike k le) around h xs f e pair is t g s u w at args.objects
-    (record { there = args.there; depth = at.frame.depth; statics = λ name o q. (at.frame.statics name o q).stands }) needs
+    (record { there = args.there; depth = at.frame.depth; statics = λ name o q. (at.frame.statics name o q).stands }) needs input

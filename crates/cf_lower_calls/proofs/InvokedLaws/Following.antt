@@ -16,6 +16,7 @@ use Rattle.cc_whole_mean.specs.Flow as c
 use Rattle.cf_lower_relate.specs.Map.{Fixed, Map}
 use Rattle.cf_lower_steps.specs.Flows.{Simulates, ExitsAs}
 use Rattle.cf_plain_frames.specs.Since.{Always}
+use Rattle.cf_lower_place.specs.Input.{IsInput}
 use Rattle.cf_lower_turns.specs.Texts.{Texts}
 use Rattle.cf_lower_calls.specs.Returns.Called.{CameBack, ComesBack}
 
@@ -26,11 +27,11 @@ then-follows (Stops end trace) f g = refl
 
 -- a tick and a level of depth are spent in both
 pub sim-entered : {A B : Type 0} (S : Flow → State → c.Flow → Type 0) (x : ℕ → World → Ran (Did A)) (y : ℕ → World → Ran B) (k : Did A → World → Ran (Did Flow))
-    (l : B → World → Ran c.Flow) → ((d : ℕ) (w : World) → Simulates S (and_then (x d w) k) (and_then (y d w) l)) → (n d : ℕ) (w : World)
+    (l : B → World → Ran c.Flow) → ((d : ℕ) (w : World) → IsInput w.input → Simulates S (and_then (x d w) k) (and_then (y d w) l)) → (n d : ℕ) (w : World) → IsInput w.input
     → Simulates S (and_then (spend_of n w (λ w. deeper d w (λ d. x d w))) k) (and_then (spend_of n w (λ w. deeper d w (λ d. y d w))) l)
-sim-entered S x y k l same zero d w = record { by = refl }
-sim-entered S x y k l same (suc n) zero w = record { by = refl }
-sim-entered S x y k l same (suc n) (suc d) w = same d (record w { ticks = n })
+sim-entered S x y k l same zero d w i = record { by = refl }
+sim-entered S x y k l same (suc n) zero w i = record { by = refl }
+sim-entered S x y k l same (suc n) (suc d) w i = same d (record w { ticks = n }) i
 
 module _ (K : Fixed) (texts : Texts) (E : Map) (first : Memory) (s : State) (os : List ℕ) (result : Option Sort) (t : SourceType) (S : Flow → State → c.Flow → Type 0)
     (k : source.Value → Act Flow) (go : c.Flow → World → Ran c.Flow)

@@ -27,6 +27,7 @@ use Rattle.cf_lower.specs.Statements.{passed}
 use Rattle.cf_lower_kept.specs.Opened.{Opened, closed_all, set_in}
 use Rattle.cf_lower_relate.specs.Map.{Map}
 use Rattle.cf_lower_steps.specs.Flows.{Simulates}
+use Rattle.cf_lower_place.specs.Input.{IsInput}
 use Rattle.cf_lower_turns.specs.Around.{Around, depth_of}
 use Rattle.cf_lower_turns.specs.Here.{Here}
 use Rattle.cf_lower_turns.specs.Scene.{HasBack, GivenBack, Scene, fixed_in, again_at, c_again_at, helps_at, list_at}
@@ -121,8 +122,8 @@ module _ (z : Scene) (none : z.program.classes ≡ []) (simple : functions_simpl
                 (here-silent (fixed_in z) z.body h d g (with_frame s.frame x) (ending_state count u.memory.next back.after) (here-now i v x flow back since) (of_sort None) refl r y);
           })
 
-      both-void : Simulates S (and_then (enter (calls (again_at z n)) f os None None s w) (λ did w. onward did k w)) (list_at z n (statements callee None) u w)
-      both-void = both-called z none simple n alike d h f e pair is needs g s u w at.here os before S None [] k next-void None callee (enters None None refl)
+      both-void : IsInput w.input → Simulates S (and_then (enter (calls (again_at z n)) f os None None s w) (λ did w. onward did k w)) (list_at z n (statements callee None) u w)
+      both-void input = both-called z none simple n alike d h f e pair is needs g s u w at.here os before S None [] k next-void input None callee (enters None None refl)
 
     -- ---- a scalar is kept
 
@@ -150,39 +151,39 @@ module _ (z : Scene) (none : z.program.classes ≡ []) (simple : functions_simpl
           (ap (λ q. scalar-next q w) (back.is ∙ ap (λ o. c.Returns o back.after) given.is) ∙ done.run)
           (record { after = done.after; is = refl; related = at-kept i v x flow back since (Some a) scalar y done.after done.here })
 
-      both-scalar : Simulates S (and_then (enter (calls (again_at z n)) f os None None s w) (λ did w. onward did k w)) (list_at z n (statements callee (Some a)) u w)
-      both-scalar =
-          both-called z none simple n alike d h f e pair is needs g s u w at.here os before S target (to_register a r) k next-scalar (Some (named (result_name (c_type a)))) callee
+      both-scalar : IsInput w.input → Simulates S (and_then (enter (calls (again_at z n)) f os None None s w) (λ did w. onward did k w)) (list_at z n (statements callee (Some a)) u w)
+      both-scalar input =
+          both-called z none simple n alike d h f e pair is needs g s u w at.here os before S target (to_register a r) k next-scalar input (Some (named (result_name (c_type a)))) callee
           (enters (Some (named (result_name (c_type a)))) target (result-targeted (fixed_in z) z.body h d g s u at.here (c_type a) local.block local.is))
 
-    pub both-kept : (o : Option Sort) → sort_of (result_type t) ≡ o
+    pub both-kept : (o : Option Sort) → sort_of (result_type t) ≡ o → IsInput w.input
         → Simulates S (and_then (enter (calls (again_at z n)) f os None None s w) (λ did w. onward did k w)) (list_at z n (statements callee o) u w)
-    both-kept None e0 = both-void e0
-    both-kept (Some a) e0 = both-scalar a e0
+    both-kept None e0 input = both-void e0 input
+    both-kept (Some a) e0 input = both-scalar a e0 input
 
   -- ---- by its name
 
   module _ (fit : same_but_const f.type t ≡ true → Invokes z f is × KeepsResult z f t r) where
-    by-sort : (o : Option Sort) → sort_of (result_type t) ≡ o
+    by-sort : (o : Option Sort) → sort_of (result_type t) ≡ o → IsInput w.input
         → Simulates S (and_then (acts (calls (again_at z n)) z.program g (plain.call f.name t None is None) s w) (λ did w. onward did k w))
         (list_at z n (statements (by_name f.name) o) u w)
-    by-sort o e0 =
+    by-sort o e0 input =
         call-by-name z n f e pair t g s u w is os before.there S k (statements (by_name f.name) o)
         (λ same. as-declared z none simple n alike d h f e pair is (fit same).0 g s u w at.here os before)
         (λ same. both-kept (fit same).0 (fit same).1 (by_name f.name)
         (λ place target aimed. call-runs (c_again_at z n) (helps_at z n) z.c_program z.helper z.body.scope z.depth u w e f.name (passed is)
         (vs z none simple n alike d h f e pair is (fit same).0 g s u w at.here os before) (values z d h f is (fit same).0 g s u at.here os before).are pair.c_found pair.name
-        pair.no_main pair.no_helper (as-many z none simple n alike d h f e pair is (fit same).0 g s u w at.here os before) place target aimed) o e0)
+        pair.no_main pair.no_helper (as-many z none simple n alike d h f e pair is (fit same).0 g s u w at.here os before) place target aimed) o e0 input)
 
-    call-kept : Simulates S (and_then (acts (calls (again_at z n)) z.program g (plain.call f.name t None is None) s w) (λ did w. onward did k w))
+    call-kept : IsInput w.input → Simulates S (and_then (acts (calls (again_at z n)) z.program g (plain.call f.name t None is None) s w) (λ did w. onward did k w))
         (list_at z n (statements (by_name f.name) (sort_of (result_type t))) u w)
-    call-kept = by-sort (sort_of (result_type t)) refl
+    call-kept input = by-sort (sort_of (result_type t)) refl input
 
 pub call-kept-leads : (z : Scene) → z.program.classes ≡ [] → functions_simple z.functions ≡ true → (n : ℕ) → ((k : ℕ) → k ≤ n → FunctionsAlike (programs_of z) k)
     → (around : Around Point) (h : Keeping) (xs : List Opened) (f : Function) (e : c_tree.Function) → Pair (programs_of z) f e → (is : List ℕ) (t : SourceType) (r : Register)
     → (same_but_const f.type t ≡ true → Invokes z f is × KeepsResult z f t r) → all_valued is xs ≡ true
     → LeafRunsTo z n around (point_at h xs) (set r (plain.call f.name t None is None)) (point_kept h r t is xs)
-call-kept-leads z none simple n alike around h xs f e pair is t r fit valued k le g s u w at =
+call-kept-leads z none simple n alike around h xs f e pair is t r fit valued k le g s u w at input =
     let args = all-there (local_count z) g s is xs valued at.standing.each in
     call-kept z none simple k (alike k le) around h xs f e pair is t r g s u w at args.objects
-    (record { there = args.there; depth = at.frame.depth; statics = λ name o q. (at.frame.statics name o q).stands }) fit
+    (record { there = args.there; depth = at.frame.depth; statics = λ name o q. (at.frame.statics name o q).stands }) fit input

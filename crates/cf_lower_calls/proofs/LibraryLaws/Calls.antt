@@ -1,5 +1,5 @@
 -- The calls, one by one: what each does in the source, and in the C.
-use Rattle.std.proofs.Common.{◌≡◌, ℕ, ◌<◌, ◌≤◌, Bool, true, false, ◌&&◌, ◌||◌, ◌==◌, List, [], ◌∷◌, codes, refl, sym, ◌∙◌, ap, subst, arith}
+use Rattle.std.proofs.Common.{◌≡◌, ℕ, suc, ◌<◌, ◌≤◌, Bool, true, false, ◌&&◌, ◌||◌, ◌==◌, List, [], ◌∷◌, length, codes, refl, sym, ◌∙◌, ap, subst, arith}
 use Rattle.std.specs.Prelude.{ℤ, pos, negsuc, Option, Some, None, Ok, Result}
 use Rattle.std.proofs.lemmas.Bool.Decides.{nat_tests}
 use Rattle.cf_base.specs.declared.kind.Kind.TheVariants.{Int}
@@ -35,8 +35,9 @@ use Rattle.cf_lower.specs.Written.{if_scalar, c_type, result_name}
 use Rattle.cf_lower.specs.Statements.{passed, lowered}
 use Rattle.cf_lower_kept.specs.Opened.{Opened, is_local, is_open, closed, set_in, has_its_value}
 use Rattle.cf_lower_relate.specs.Map.{Is}
-use Rattle.cf_lower_relate.proofs.Counts.{fits-negsuc}
+use Rattle.cf_lower_relate.proofs.Counts.{fits-negsuc, fits-pos}
 use Rattle.cf_lower_steps.specs.Flows.{Simulates}
+use Rattle.cf_lower_place.specs.Input.{IsInput}
 use Rattle.cf_lower_turns.specs.Around.{Around, depth_of, inside_at}
 use Rattle.cf_lower_turns.specs.Here.{Here}
 use Rattle.cf_lower_turns.specs.Scene.{SameBack, Scene, fixed_in, again_at, c_again_at, helps_at, list_at}
@@ -266,14 +267,18 @@ module _ (z : Scene) (n : ℕ) (around : Around Point) (h : Keeping) (xs : List 
 
 pub putchar-leads : (z : Scene) → Fits z → (n : ℕ) (around : Around Point) (h : Keeping) (xs : List Opened) (t : SourceType) (r : Register) → KeepsInt z t r → (i : ℕ) → Passes z i xs
     → LeafRunsTo z n around (point_at h xs) (set r (plain.call (codes "putchar") t None (i ∷ []) None)) (point_kept h r t (i ∷ []) xs)
-putchar-leads z fit n around h xs t r keeps i passes k le g s u w at = putchar-kept z k around h xs t r g s u w at keeps fit i passes
+putchar-leads z fit n around h xs t r keeps i passes k le g s u w at input = putchar-kept z k around h xs t r g s u w at keeps fit i passes
 
 pub exit-leads : (z : Scene) (n : ℕ) (around : Around Point) (h : Keeping) (xs : List Opened) (t : SourceType) (r : Register) → sort_of (result_type t) ≡ None → (i : ℕ) → Passes z i xs
     → (q : Point) → LeafRunsTo z n around (point_at h xs) (set r (plain.call (codes "exit") t None (i ∷ []) None)) q
-exit-leads z n around h xs t r void i passes q k le g s u w at = exit-kept z k around h xs t r g s u w at void i passes q
+exit-leads z n around h xs t r void i passes q k le g s u w at input = exit-kept z k around h xs t r g s u w at void i passes q
 
-pub getchar-leads : (z : Scene) (n : ℕ) (around : Around Point) (h : Keeping) (xs : List Opened) (t : SourceType) (r : Register) → KeepsInt z t r → (g : Registers) (s : State) (u : c.State)
-    (w : World) → NextFits w → At z (point_at h xs) (depth_of around) g s u
-    → Simulates (EndsAt z around (point_kept h r t [] xs)) (does (again_at z n) z.program (set r (plain.call (codes "getchar") t None [] None)) g s w)
-    (list_at z n (lowered (set r (plain.call (codes "getchar") t None [] None)) (inside_at z.inside around) h) u w)
-getchar-leads z n around h xs t r keeps g s u w fit at = getchar-kept z n around h xs t r g s u w at keeps fit
+-- each byte is one of int
+pub next-fits : (w : World) → IsInput w.input → NextFits w
+next-fits w input b rest e =
+    let below : b < 256 = subst IsInput e input 0 b (let k : 0 < suc (length rest) = omega arith in k) in
+    fits-pos b (omega (arith, below))
+
+pub getchar-leads : (z : Scene) (n : ℕ) (around : Around Point) (h : Keeping) (xs : List Opened) (t : SourceType) (r : Register) → KeepsInt z t r
+    → LeafRunsTo z n around (point_at h xs) (set r (plain.call (codes "getchar") t None [] None)) (point_kept h r t [] xs)
+getchar-leads z n around h xs t r keeps k le g s u w at input = getchar-kept z k around h xs t r g s u w at keeps (next-fits w input)

@@ -22,7 +22,7 @@ use Rattle.cf_lower_turns.proofs.Following.{sim-of}
 use Rattle.cf_lower_calls.specs.Invoked.LowerActions.{Fits}
 use Rattle.cf_lower_bounds.specs.Points.{Point, point_at, local_count, At}
 use Rattle.cf_lower_bounds.specs.Bounds.{EndsAt}
-use Rattle.cf_lower_calls.proofs.InvokedLaws.LowerPoints.{leads-on}
+use Rattle.cf_lower_calls.proofs.InvokedLaws.LowerPoints.{leads-always}
 
 -- what a run that falls in both comes to
 falls-same : {x y : c.State} → c.Falls x ≡ c.Falls y → x ≡ y
@@ -38,9 +38,9 @@ module _ (z : Scene) (fits : Fits z) (around : Around Point) (h : Keeping) (xs :
 
   leads : Simulates S (does (again_at z 0) z.program (act (plain.finish (integer Int) i)) g s w) (Went (c.Falls u) w)
   leads =
-      leads-on z fits around nothing_set h xs (λ r. tt) (act (plain.finish (integer Int) i))
+      leads-always z fits around nothing_set h xs (λ r. tt) (act (plain.finish (integer Int) i))
       (ap (λ b. b && true) (let k : nat_lt i (length z.body.own.locals.types) ≡ true = grind (arith, nat_tests, lt) in k))
-      open_there 0 0 (omega arith) g s u w at
+      open_there 0 g s u w at
 
   abbrev finishing : Option ℕ → Ran (Did Flow)
   finishing x = (some_or x malformed >>= (λ o. destroy (calls (again_at z 0)) z.program (integer Int) (root o) >> doing (object_changed o gone)) >> gives (Falls g)) s w

@@ -26,7 +26,7 @@ use Rattle.cc_whole_memory.specs.declared.value.Value.{Value}
 use Rattle.cc_whole_memory.specs.declared.value.Value.TheVariants as value
 use Rattle.cc_whole_memory.specs.Blocks.{on_ok}
 use Rattle.cc_whole_mean.specs.declared.named.Target.{Target}
-use Rattle.cc_whole_mean.specs.Callee.{Callee, own, built_in, putchar, exit, wrong_type, callee_numbered, has_type}
+use Rattle.cc_whole_mean.specs.Callee.{Callee, own, built_in, putchar, getchar, exit, wrong_type, callee_numbered, has_type}
 use Rattle.cc_whole_mean.specs.Flow as c
 use Rattle.cc_whole_mean.specs.Flow.{tried}
 use Rattle.cc_whole_mean.specs.Mean.{Chosen, pointer, pointed_function, if_type, callee_of, called, go_back, targeted}
@@ -39,6 +39,7 @@ use Rattle.cf_lower_kept.specs.Opened.{Opened}
 use Rattle.cf_lower_steps.specs.Lowering.{is_function}
 use Rattle.cf_lower_steps.specs.Steps.{HasValue, KeptAs}
 use Rattle.cf_lower_steps.specs.Flows.{Simulates}
+use Rattle.cf_lower_place.specs.Input.{IsInput}
 use Rattle.cf_lower_turns.specs.Around.{Around, depth_of}
 use Rattle.cf_lower_turns.specs.Scene.{Scene, fixed_in, again_at, c_again_at, helps_at, list_at}
 use Rattle.cf_lower_turns.proofs.Following.{sim-of}
@@ -56,7 +57,7 @@ use Rattle.cf_lower_calls.proofs.InvokedLaws.Source.{objects-are, as-long}
 use Rattle.cf_lower_calls.proofs.InvokedLaws.Written.{function-entered}
 use Rattle.cf_lower_calls.specs.Library.Pointed.{ReachesFunction, ReachesLibrary, PointerFits}
 use Rattle.cf_lower_calls.proofs.LibraryLaws.Passing.{one-argument}
-use Rattle.cf_lower_calls.proofs.LibraryLaws.Calls.{Reaches, library-run, lowered_by, c-run, putchar-both, exit-both}
+use Rattle.cf_lower_calls.proofs.LibraryLaws.Calls.{Reaches, library-run, lowered_by, c-run, getchar-both, putchar-both, exit-both, next-fits}
 
 some-object : {i j : ℕ} → Some i ≡ Some j → i ≡ j
 some-object e = cc
@@ -67,9 +68,14 @@ one-object s i o [] x e = absurd x
 one-object s i o (p ∷ []) x e = ap (λ (k : ℕ). k ∷ []) (some-object (sym x.0.local ∙ e))
 one-object s i o (p ∷ k ∷ ks) x e = absurd x.1
 
+no-objects : (s : State) (os : List ℕ) → ArgumentsThere s [] os → os ≡ []
+no-objects s [] x = refl
+no-objects s (o ∷ os) x = absurd x
+
 module _ (z : Scene) (none : z.program.classes ≡ []) (simple : functions_simple z.functions ≡ true) (fits : Fits z) (n : ℕ) (alike : FunctionsAlike (programs_of z) n)
     (around : Around Point) (h : Keeping) (xs : List Opened) (q : Register) (t : SourceType) (is : List ℕ) (r : Register) (there : PointerFits z h q t is xs r) (g : Registers)
-    (s : State) (u : c.State) (w : World) (at : At z (point_at h xs) (depth_of around) g s u) (os : List ℕ) (before : InvokedBefore z is os s) where
+    (s : State) (u : c.State) (w : World) (at : At z (point_at h xs) (depth_of around) g s u) (os : List ℕ) (before : InvokedBefore z is os s)
+    (input : IsInput w.input) where
   abbrev d : ℕ
   d = depth_of around
 
@@ -145,7 +151,7 @@ module _ (z : Scene) (none : z.program.classes ≡ []) (simple : functions_simpl
         (function-entered (c_again_at z n) (helps_at z n) z.c_program z.helper z.body.scope z.depth u w x.callee f.name (passed is)
         (vs z none simple n alike d h f x.callee x.pair is x.invokes g s u w at.here os before) (values z d h f is x.invokes g s u at.here os before).are x.pair.c_found x.pair.name
         x.pair.no_main x.pair.no_helper (as-many z none simple n alike d h f x.callee x.pair is x.invokes g s u w at.here os before)))
-        (sort_of (result_type t)) refl)
+        (sort_of (result_type t)) refl input)
 
     -- a function of the library
     abbrev On : Name → Callee → List ℕ → Type 0
@@ -165,6 +171,18 @@ module _ (z : Scene) (none : z.program.classes ≡ []) (simple : functions_simpl
         (sym (one-object s l.local (one-argument z d h xs l.local l.passes g s u at).object ps args (one-argument z d h xs l.local l.passes g s u at).there.local))
         (putchar-both z n around h xs t r g s u w at x.1 fits l.local l.passes (through q t) reach))
         os before.there (reaches-pointed (built_in putchar) (ap (λ (a : Name). callee_numbered z.c_program.functions (z.function a)) e ∙ l.numbered) l.typed))
+
+    by-getchar : name ≡ codes "getchar" → Simulates S (library-run z n around h xs t r g s u w at name os) c-list
+    by-getchar e =
+        let x = there.getchar_there (ap (λ (a : Name). without_const (z.signature a)) (sym e) ∙ is-typed) in
+        let l = x.0 in
+        subst (λ (a : Name). Simulates S (library-run z n around h xs t r g s u w at a os) c-list) (sym e)
+        (subst (On (codes "getchar") (built_in getchar)) (sym l.none)
+        (λ ps args reach.
+        subst (λ (qs : List ℕ). Simulates (EndsAt z around (point_kept h r t [] xs)) (library-run z n around h xs t r g s u w at (codes "getchar") qs)
+        (c-run z n around h xs t r g s u w at (through q t) [])) (sym (no-objects s ps args))
+        (getchar-both z n around h xs t r g s u w at x.1 (through q t) (next-fits w input) reach))
+        os before.there (reaches-pointed (built_in getchar) (ap (λ (a : Name). callee_numbered z.c_program.functions (z.function a)) e ∙ l.numbered) l.typed))
 
     by-exit : name ≡ codes "exit" → Simulates S (library-run z n around h xs t r g s u w at name os) c-list
     by-exit e =
@@ -188,7 +206,7 @@ module _ (z : Scene) (none : z.program.classes ≡ []) (simple : functions_simpl
         → Simulates S (kept_run (by-name (a || b || c) (function_named z.program name) s w)) c-list
     by-tests true b c e1 e2 e3 = by-putchar (same_bytes name (codes "putchar") e1)
     by-tests false true c e1 e2 e3 =
-        absurd (there.no_getchar (ap (λ (a : Name). without_const (z.signature a)) (sym (same_bytes name (codes "getchar") e2)) ∙ is-typed))
+        by-getchar (same_bytes name (codes "getchar") e2)
     by-tests false false true e1 e2 e3 = by-exit (same_bytes name (codes "exit") e3)
     by-tests false false false e1 e2 e3 =
         let fresh : is_library name ≡ false =
@@ -233,7 +251,7 @@ module _ (z : Scene) (none : z.program.classes ≡ []) (simple : functions_simpl
 pub pointer-leads : (z : Scene) → z.program.classes ≡ [] → functions_simple z.functions ≡ true → Fits z → (n : ℕ) → ((k : ℕ) → k ≤ n → FunctionsAlike (programs_of z) k)
     → (around : Around Point) (h : Keeping) (xs : List Opened) (q : Register) (t : SourceType) (is : List ℕ) (r : Register) → PointerFits z h q t is xs r → all_valued is xs ≡ true
     → LeafRunsTo z n around (point_at h xs) (set r (plain.pointer_call None q t is None)) (point_kept h r t is xs)
-pointer-leads z none simple fits n alike around h xs q t is r there valued k le g s u w at =
+pointer-leads z none simple fits n alike around h xs q t is r there valued k le g s u w at input =
     let args = all-there (local_count z) g s is xs valued at.standing.each in
     pointer-called z none simple fits k (alike k le) around h xs q t is r there g s u w at args.objects
-    (record { there = args.there; depth = at.frame.depth; statics = λ name o q. (at.frame.statics name o q).stands })
+    (record { there = args.there; depth = at.frame.depth; statics = λ name o q. (at.frame.statics name o q).stands }) input

@@ -1,6 +1,5 @@
 -- What a call needs of its arguments where it stands: each is the object of a local that is a parameter's, which stands and has a value.
-use Rattle.std.specs.Prelude.{◌≡◌, ℕ, ◌<◌, nat_lt, Bool, true, false, ◌&&◌, not, List, [], ◌∷◌, Some, is_some, length}
-use Rattle.cf_core.specs.Places.{is_scalar}
+use Rattle.std.specs.Prelude.{◌≡◌, ℕ, ◌<◌, true, false, List, [], ◌∷◌, Some, length}
 use Rattle.cf_core.specs.Store as source
 use Rattle.cf_core.specs.Run.{State}
 use Rattle.cf_lower_layout.specs.Sorts.{Sort, sort_of}
@@ -9,20 +8,11 @@ use Rattle.cc_whole_mean.specs.declared.named.Named.TheVariants as meant
 use Rattle.cc_whole_mean.specs.declared.named.Shape.TheVariants.{Single as single}
 use Rattle.cc_whole_mean.specs.Scope.{Scope}
 use Rattle.cc_whole_mean.specs.Types.{scalar_of}
-use Rattle.cf_lower.specs.Kept.{Locals, type_of_local, is_argument}
+use Rattle.cf_lower.specs.Kept.{type_of_local}
 use Rattle.cf_lower.specs.Written.{c_type, local_name}
 use Rattle.cf_lower_relate.specs.Map.{Map, is_hidden}
 use Rattle.cf_lower_steps.specs.Own.{Own}
-
--- a local that is the object of a parameter of calls, and a scalar
-abbrev pub is_passed : Locals → ℕ → Bool
-is_passed locals i =
-    nat_lt i (length locals.types) && ((is_argument locals i && is_scalar (type_of_local locals i)) && is_some (sort_of (type_of_local locals i)))
-
--- such locals, each once
-abbrev pub are_passed : Locals → List ℕ → Bool
-are_passed locals [] = true
-are_passed locals (i ∷ is) = is_passed locals i && (not (is_among i is) && are_passed locals is)
+pub use Rattle.cf_lower_place.specs.Calls.{is_passed, are_passed}
 
 -- a scalar's C local is one
 abbrev pub Shaped : Own → Scope → Type 0

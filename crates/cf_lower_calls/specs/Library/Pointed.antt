@@ -6,7 +6,7 @@ use Rattle.cf_core.specs.Calls.{function_named, is_library}
 use Rattle.cf_lower_layout.specs.Sorts.{code, sort_of}
 use Rattle.cf_plain.specs.Plain.{Register}
 use Rattle.cc_whole.specs.Plain as c_tree
-use Rattle.cc_whole_mean.specs.Callee.{Library, putchar, exit, own, built_in, callee_numbered, has_type}
+use Rattle.cc_whole_mean.specs.Callee.{Library, putchar, getchar, exit, own, built_in, callee_numbered, has_type}
 use Rattle.cf_lower.specs.Kept.{holds, Keeping}
 use Rattle.cf_lower.specs.Statements.{signature}
 use Rattle.cf_lower_kept.specs.Opened.{Opened}
@@ -34,7 +34,13 @@ pub record ReachesLibrary (z : Scene) (t : SourceType) (is : List ℕ) (xs : Lis
   pub only : is ≡ local ∷ []
   pub passes : Passes z local xs
 
--- of all that the pointer in a register may lead to, by its type; `getchar` is none (docs/open-points.md)
+-- `getchar`, on none
+pub record ReachesNext (z : Scene) (t : SourceType) (is : List ℕ) : Type 0 where
+  pub numbered : callee_numbered z.c_program.functions (z.function (codes "getchar")) ≡ Ok (built_in getchar)
+  pub typed : has_type (signature t).result (signature t).parameters (built_in getchar) ≡ true
+  pub none : is ≡ []
+
+-- of all that the pointer in a register may lead to, by its type
 pub record PointerFits (z : Scene) (h : Keeping) (q : Register) (t : SourceType) (is : List ℕ) (xs : List Opened) (r : Register) : Type 0 where
   pub helper : z.helper ≡ false
   pub kept : h q ≡ holds (code (without_const t))
@@ -42,4 +48,4 @@ pub record PointerFits (z : Scene) (h : Keeping) (q : Register) (t : SourceType)
       → ReachesFunction z t is r name f
   pub putchar_there : without_const (z.signature (codes "putchar")) ≡ without_const t → ReachesLibrary z t is xs (codes "putchar") putchar × KeepsInt z t r
   pub exit_there : without_const (z.signature (codes "exit")) ≡ without_const t → ReachesLibrary z t is xs (codes "exit") exit × (sort_of (result_type t) ≡ None)
-  pub no_getchar : without_const (z.signature (codes "getchar")) ≡ without_const t → ⊥
+  pub getchar_there : without_const (z.signature (codes "getchar")) ≡ without_const t → ReachesNext z t is × KeepsInt z t r

@@ -28,6 +28,7 @@ use Rattle.cf_lower_relate.specs.Map.{Fixed, Map, Grows, is_ended, is_shown, is_
 use Rattle.cf_lower_relate.specs.Relation.{Rel}
 use Rattle.cf_lower_steps.specs.Flows.{Simulates}
 use Rattle.cf_lower_steps.specs.Lowering.{fixed_of}
+use Rattle.cf_lower_place.specs.Input.{IsInput}
 use Rattle.cf_lower_turns.specs.Here.{Still, Outer}
 use Rattle.cf_lower_turns.specs.Texts.{Texts, TextsLaid, InTexts}
 use Rattle.cf_lower_turns.specs.Scene.{GivenBack}
@@ -117,11 +118,11 @@ module _ (B : Programs) where
     pub apart : (name : Name) (o : ℕ) → static_number B.program name ≡ Some o → is_among o os ≡ false
     pub valued : (o : ℕ) → is_among o os ≡ true → HasValue (s.object o)
 
-  -- at a bound of ticks, functions that are entered with the same do the same, and come back
+  -- at a bound of ticks, functions that are entered with the same do the same with an input of bytes, and come back
   abbrev pub FunctionsAlike : ℕ → Type 0
   FunctionsAlike n =
       (f : Function) (g : c_tree.Function) → Pair f g → (E : Map) (s : State) (t : c.State) (w : World) (os : List ℕ) (cs : List Value) (depth : ℕ)
-      → Entry f E s t.memory os cs
+      → Entry f E s t.memory os cs → IsInput w.input
       → Simulates (ComesBack fixed B.texts E t.memory s os (sort_of (result_type f.type)))
       (plain.runs B.program B.functions n (entered f os) (with_frame (frame_of f.name (local_count f) os None None depth) s) w)
       (mean.runs B.c_program n false (block g.body) (bind_parameters g.prototype.parameters t.memory.next B.c_program.names) depth

@@ -5,5 +5,5 @@ pub returns : goal.returns
 returns c = record {
   putchar = λ z fits n around h xs t r keeps i passes. putchar-leads z fits n around h xs t r keeps i passes;
   exit = λ z n around h xs t r void i passes q. exit-leads z n around h xs t r void i passes q;
-  getchar = λ z n around h xs t r keeps g s u w fit at. getchar-leads z n around h xs t r keeps g s u w fit at;
+  getchar = λ z n around h xs t r keeps. getchar-leads z n around h xs t r keeps;
 }
