@@ -1,0 +1,9 @@
+pub mod Forms
+pub mod Heads
+pub mod Lists
+pub mod Locals
+pub mod Loops
+pub mod ObjectTypes
+pub mod Results
+pub mod Turns
+pub mod Whole

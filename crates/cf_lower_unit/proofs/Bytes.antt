@@ -1,0 +1,11 @@
+-- A text without its last byte.
+use Rattle.std.proofs.Common.{◌≡◌, ℕ, List, [], ◌∷◌, ◌++◌, refl, sym, ap, ◌∙◌}
+use Rattle.cf_lower.specs.Functions.{but_last}
+
+pub before_last : (bs : List ℕ) (b : ℕ) → but_last (bs ++ b ∷ []) ≡ bs
+before_last [] b = refl
+before_last (c ∷ []) b = refl
+before_last (c ∷ d ∷ bs) b = ap (λ l. c ∷ l) (before_last (d ∷ bs) b)
+
+pub without_last : (all bs : List ℕ) (b : ℕ) → all ≡ bs ++ b ∷ [] → bs ≡ but_last all
+without_last all bs b e = sym (ap but_last e ∙ before_last bs b)
