@@ -15,6 +15,10 @@ pub mod Silent
 pub mod Standing
 pub mod Evaluating
 pub mod Labels
+pub mod Lasting
+pub mod LastingCode
+pub mod Lists
+pub mod Elements
 pub mod Operands
 pub mod Parts
 pub mod Following
@@ -37,6 +41,8 @@ pub mod SameStatics
 pub mod JoinedObjects
 pub mod Renamed
 pub mod RenamedCode
+pub mod RenamedLists
+pub mod RenamedStatements
 pub mod OwnNames
 pub mod Steps
 pub mod Switching

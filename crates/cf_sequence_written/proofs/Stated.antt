@@ -18,7 +18,7 @@ use Rattle.cf_plain.specs.Plain as plain
 use Rattle.cf_sequence.specs.Built.{is_value, is_start, is_initial, is_held, is_statement, is_inner_or, are_cases, declares_here}
 use Rattle.cf_sequence.specs.Expressions.{builds}
 use Rattle.cf_sequence.proofs.Calling.{never}
-use Rattle.cf_sequence.proofs.Labels.{or-else}
+use Rattle.cf_sequence.proofs.Calling.{or-else}
 use Rattle.cf_sequence_expr.specs.Parameters.{parameters_at}
 use Rattle.cf_sequence_expr.specs.Pieces.{Piece}
 use Rattle.cf_sequence_stmt.specs.Steps.{Step, step, step_step}
