@@ -4,7 +4,7 @@ use Rattle.std.specs.Prelude.{Option, Some, None, find, bytes_eq, is_some}
 use Rattle.std.proofs.lemmas.Bool.Decides.{nat_tests}
 use Rattle.std.proofs.lemmas.Grind.{flat_map-append}
 use Rattle.cf_base.proofs.Tests.{both, all_of}
-use Rattle.cf_base.specs.World.{World, Ran, Went, Stops, and_then}
+use Rattle.cf_base.specs.World.{World}
 use Rattle.cf_core.specs.Types.{Name, SourceType}
 use Rattle.cf_core.specs.Classes.{Class}
 use Rattle.cf_core.specs.Core as core
@@ -13,7 +13,7 @@ use Rattle.cf_core.specs.Joined.{is_nothing}
 use Rattle.cf_core.specs.Nodes.{nodes}
 use Rattle.cf_core.specs.Places.{Place, is_reference}
 use Rattle.cf_core.specs.Store.{Value, Number, At, Code}
-use Rattle.cf_core.specs.Run.{State, Did, Gives, Exits, Malformed, Literal, Act, ◌>>=◌, ◌>>◌, gives, done, some_or, when, born, changed, with_frame, cast_from_void}
+use Rattle.cf_core.specs.Run.{State, Literal, Act, ◌>>=◌, ◌>>◌, gives, some_or, when, born, changed, with_frame}
 use Rattle.cf_core.specs.Access.{used, followed}
 use Rattle.cf_core.specs.Pointers.{truth_value, pointer_op}
 use Rattle.cf_core.specs.Scalars.{truth_of, converted_value, operated, signed, indexed, decayed, pointed_to}
@@ -26,7 +26,7 @@ use Rattle.cf_sequence.specs.Built.{is_value, is_start, is_initial, is_filling, 
 use Rattle.cf_sequence.specs.Made.{added, makes, width}
 use Rattle.cf_sequence.specs.Statements.{type_of_static, initialised, statement}
 use Rattle.cf_sequence.specs.Sequenced.{outside, sequenced_start}
-use Rattle.cf_sequence.proofs.Following.{on, Gave, gave-then, gave-as, Pure, pure-gives, pure-malformed, pure-need, pure-when, Answer, answers, fails, wrong, of_answer, Looks, looks-pure}
+use Rattle.cf_sequence.proofs.Following.{Gave, gave-then, gave-as, Pure, pure-gives, Answer, answers, fails, wrong, of_answer, Looks, looks-pure}
 use Rattle.cf_sequence.proofs.Steps.{pure-used, pure-truth_of, pure-converted_value, pure-operated, pure-signed, looks-followed}
 use Rattle.cf_sequence.proofs.Pointers.{pure-pointed_to, looks-indexed, looks-decayed, looks-pointer_op}
 use Rattle.cf_sequence.proofs.StaticObjects.{named_object, pure-named}

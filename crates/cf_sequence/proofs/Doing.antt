@@ -1,5 +1,5 @@
 -- The plain statements of a statement do what the statement does.
-use Rattle.std.proofs.Common.{◌≡◌, ℕ, suc, ◌+◌, ◌≤◌, Bool, true, false, not, ◌&&◌, ◌||◌, nat_lt, nat_le, List, [], ◌∷◌, ◌++◌, length, refl, sym, ◌∙◌, ap, subst, arith, append_assoc, if◌then◌else◌}
+use Rattle.std.proofs.Common.{◌≡◌, ℕ, suc, ◌+◌, ◌≤◌, Bool, true, false, not, ◌&&◌, ◌||◌, nat_lt, nat_le, ◌==◌, List, [], ◌∷◌, ◌++◌, length, refl, sym, ◌∙◌, ap, subst, arith, append_assoc, if◌then◌else◌}
 use Rattle.std.specs.Prelude.{Some, None}
 use Rattle.cf_base.proofs.Tests.{both}
 use Rattle.cf_base.specs.World.{World, Ran, and_then}
@@ -14,7 +14,7 @@ use Rattle.cf_core.specs.Run.{State, Frame, Did, Act, ◌>>=◌, ◌>>◌, gives
 use Rattle.cf_core.specs.Joined.{is_nothing}
 use Rattle.cf_core.specs.Access.{used}
 use Rattle.cf_core.specs.Scalars.{truth_of}
-use Rattle.cf_core.specs.Objects.{settle, new_local}
+use Rattle.cf_core.specs.Objects.{new_local}
 use Rattle.cf_core.specs.Calls as calling
 use Rattle.cf_core.specs.Calls.{Program, root, turn, function_named, end_object, in_scope, full_expression}
 use Rattle.cf_core.specs.Expressions as meaning
@@ -25,20 +25,19 @@ use Rattle.cf_plain.specs.Acts.{Registers}
 use Rattle.cf_plain.specs.Running as running
 use Rattle.cf_plain.specs.Running.{Flow, Falls, Breaks, Continues, Returns, keep, falling, turning, all}
 use Rattle.cf_sequence.specs.Follows.{Follows}
-use Rattle.cf_sequence.specs.Built.{is_value, is_start, is_initial, is_list, is_element, is_held, is_chain, next_local, next_locals, declares_here, is_statement, is_inner_or, are_cases, are_statements}
+use Rattle.cf_sequence.specs.Built.{is_value, is_initial, is_list, is_element, is_held, is_chain, next_local, next_locals, declares_here, is_statement, is_inner_or, are_cases, are_statements}
 use Rattle.cf_sequence.specs.Made.{Local, added, width, width_maybe, declared, declared_all, held_by}
-use Rattle.cf_sequence.specs.Expressions.{destination, finished, settled, whole, value, used as use_of}
+use Rattle.cf_sequence.specs.Expressions.{finished, whole, value, used as use_of}
 use Rattle.cf_sequence.specs.Statements.{statement, statement_or, statements, started, returned}
-use Rattle.cf_sequence.proofs.Following.{on, pull, pull-two}
+use Rattle.cf_sequence.proofs.Following.{on, pull}
 use Rattle.cf_sequence.proofs.Calling.{Bodies, never}
 use Rattle.cf_sequence.proofs.Kept.{Kept, Ready, kept-all, added-two, keep-same, listed-there}
 use Rattle.cf_sequence.proofs.PlainSteps.{Usable, pick, runs_on, branch-steps, declare-steps}
 use Rattle.cf_sequence.proofs.Operands.{H, first-room, second-room}
 use Rattle.cf_sequence.proofs.Lists.{Intact, initial-steps}
 use Rattle.cf_sequence.proofs.Elements.{nested-steps}
-use Rattle.cf_sequence.proofs.Parts.{first-steps, value-gives}
 use Rattle.cf_sequence.proofs.Moving.{all_gone, Held, held-kept, held-append, finished-steps, Moved, moved-count, moved-then, with_scope, Beyond}
-use Rattle.cf_sequence.proofs.Fulls.{nothing-is, held-none, full-steps, condition-steps, used-steps}
+use Rattle.cf_sequence.proofs.Fulls.{nothing-is, full-steps, condition-steps, used-steps}
 use Rattle.cf_sequence.proofs.Standing.{Open, inside_of, opened, Stands, stands-later, moved-all, settled_full, result_act, behind-element, next-more, low-bound, Turns}
 use Rattle.cf_sequence.proofs.Scopes.{Ways, ways-later, Fallen, fall-on, closing_scope, moved-out, block-ways, close-steps, Does, by-or, behind, arm-steps, stands-on}
 use Rattle.cf_sequence.proofs.Passing.{declared-state, declared-moved, low-number}
@@ -78,7 +77,7 @@ module _ (again : calling.Again) (again' : running.Again) (P : Program) (bodies 
   local-steps T e ok o k rest h s f w c K at ready room stands next =
       (by-or again again' P bodies chains classless turns R C plain-result A B S) (is_initial e) (is_list T e) ok
       (λ initial. initial-steps again again' P bodies chains classless A B S T e initial 0 k (root o) rest h s f w c K at ready room (λ t h1 g w1 same kept below. next t h1 g w1 same kept))
-      (λ is. nested-steps again again' P bodies chains classless turns.rests A B S T T e is 0 k (root o) rest h s f w c K at ready room stands (record { type = refl; inside = refl })
+      (λ is. nested-steps again again' P bodies chains classless turns.rests A B S T e is T 0 k (root o) rest h s f w c K at ready room stands (record { type = refl; inside = refl })
       (λ t h1 g w1 same kept below stands1. next t h1 g w1 same kept))
 
   -- an object that is there now

@@ -1,5 +1,5 @@
 -- The labels of a switch, in a core and in its plain statements: what has no label of its own is passed over.
-use Rattle.std.proofs.Common.{◌≡◌, ℕ, suc, ◌+◌, Bool, true, false, not, ◌&&◌, ◌||◌, nat_le, nat_lt, if◌then◌else◌, List, [], ◌∷◌, ◌++◌, reverse, refl, sym, ◌∙◌, ap, subst}
+use Rattle.std.proofs.Common.{◌≡◌, ℕ, suc, ◌+◌, Bool, true, false, not, ◌&&◌, ◌||◌, nat_le, nat_lt, if◌then◌else◌, List, [], ◌∷◌, ◌++◌, reverse, refl, sym, ap, subst}
 use Rattle.std.specs.Prelude.{ℤ, int_le, Some, None}
 use Rattle.cf_base.proofs.Tests.{both}
 use Rattle.cf_core.specs.declared.operators.LoopForm.TheVariants as form
@@ -18,13 +18,12 @@ use Rattle.cf_plain.specs.Plain as plain
 use Rattle.cf_plain.specs.Acts.{Registers}
 use Rattle.cf_plain.specs.Running as running
 use Rattle.cf_plain.specs.Running.{Flow, Falls, Breaks, Continues, Returns, falling, all}
-use Rattle.cf_sequence.specs.Built.{is_value, is_start, is_element, is_held, declares_here, is_statement, is_inner_or, are_statements, are_cases, next_local}
+use Rattle.cf_sequence.specs.Built.{is_value, is_element, is_held, declares_here, is_statement, is_inner_or, are_statements, are_cases, next_local}
 use Rattle.cf_sequence.specs.Made.{Local, Temporary, temporaries, width, declared, declared_all}
 use Rattle.cf_sequence.specs.Expressions.{Full, destination, finished, flags, ended, settled, whole, value, used as use_of}
 use Rattle.cf_sequence.specs.Statements.{Inside, in_switch, statement, statement_or, statements, started, made, passing, passes_local, passed}
 use Rattle.cf_sequence.proofs.Calling.{never, or-else}
 use Rattle.cf_sequence.proofs.Operands.{H}
-use Rattle.cf_sequence.proofs.Filling.{fill, started-is}
 use Rattle.cf_sequence.proofs.Fulls.{nothing-is, held_at}
 use Rattle.cf_sequence.proofs.Standing.{Open, inside_of, opened}
 use Rattle.cf_sequence.proofs.Lists.{silent-element}

@@ -1,5 +1,5 @@
 -- What lasts of the objects of before while expressions are evaluated and statements run: their types, how far they are built, and that they have not ended (6.6, 12.2).
-use Rattle.std.proofs.Common.{◌≡◌, ℕ, zero, suc, ◌≤◌, ◌<◌, Bool, true, false, ◌&&◌, ◌==◌, if◌then◌else◌, List, [], ◌∷◌, ◌++◌, reverse, append-nil, refl, sym, ◌∙◌, ap, subst, arith}
+use Rattle.std.proofs.Common.{◌≡◌, ℕ, zero, suc, ◌≤◌, ◌<◌, Bool, true, false, not, nat_lt, ◌&&◌, ◌==◌, if◌then◌else◌, List, [], ◌∷◌, ◌++◌, reverse, append-nil, refl, sym, ◌∙◌, ap, subst, arith}
 use Rattle.std.specs.Prelude.{pos, Option, Some, None, find, bytes_eq, codes}
 use Rattle.std.proofs.lemmas.Bool.Decides.{nat_tests}
 use Rattle.std.proofs.lemmas.List.{reverse-append}
@@ -10,17 +10,17 @@ use Rattle.cf_base.specs.Integers.{convert as converted}
 use Rattle.cf_core.specs.Types.{Name, SourceType, result}
 use Rattle.cf_core.specs.Classes.{Class}
 use Rattle.cf_core.specs.Core.{item, Function}
-use Rattle.cf_core.specs.Places.{Route, Place, inner, type_at, is_scalar}
+use Rattle.cf_core.specs.Places.{Place, inner, type_at, is_scalar}
 use Rattle.cf_core.specs.Store.{Value, Built, Number, Object, new_object, automatic, zero_of, hold, hold_all, is_constant_place}
-use Rattle.cf_core.specs.Run.{State, Frame, Gives, Literal, Act, ◌>>=◌, ◌>>◌, gives, malformed, state, changed, done, tick, need, valid, some_or, when, for_all, upd, with_object, object_changed, born, declared_object, gone, with_frame, frame_changed, lists_local, lists_in_scope, lists_temporary, write_to_const}
+use Rattle.cf_core.specs.Run.{State, Gives, Literal, Act, ◌>>=◌, ◌>>◌, gives, malformed, state, changed, tick, need, valid, some_or, when, for_all, upd, with_object, object_changed, born, declared_object, gone, with_frame, frame_changed, lists_local, lists_in_scope, lists_temporary, write_to_const}
 use Rattle.cf_core.specs.Access.{place_type, used, names_scalar, use_place, write_place, first_value, fill_zeros}
 use Rattle.cf_core.specs.Objects.{literal_of, found_literal, literal_object, new_local, settle, write_bytes}
 use Rattle.cf_core.specs.Calls as calling
 use Rattle.cf_core.specs.Calls.{Program, body, is_library, run_library, call_library, run_named, function_named, enter, enter_found, frame_of, local_count, argument, put, get, byte_value, leave_with, returned, end_object, full_expression, in_scope}
-use Rattle.cf_sequence.proofs.Following.{on, Gave, gave-then, Pure, pure-gives, pure-malformed, pure-need, pure-valid, Answer, answers, fails, wrong, of_answer, Looks, looks-pure}
+use Rattle.cf_sequence.proofs.Following.{Gave, gave-then, Pure, pure-gives, pure-malformed, pure-need, pure-valid, Answer, answers, fails, wrong, of_answer, Looks, looks-pure}
 use Rattle.cf_sequence.proofs.Steps.{pure-used, looks-names_scalar, looks-use_place}
 use Rattle.cf_sequence.proofs.Fulls.{closing}
-use Rattle.cf_sequence.proofs.Moving.{all_gone, gone-same, ends-all}
+use Rattle.cf_sequence.proofs.Moving.{all_gone, ends-all}
 
 -- ---- acts that keep what is so
 
@@ -279,9 +279,9 @@ module _ (m : ℕ) (before : ℕ → Object) where
 
   -- ---- scopes
 
-  pub keeps-scope : {A : Type 0} (again : calling.Again) (P : Program) → P.classes ≡ [] → (act : Act calling.Flow) → Keeps (Lasting m before []) act
+  pub keeps-scope : (again : calling.Again) (P : Program) → P.classes ≡ [] → (act : Act calling.Flow) → Keeps (Lasting m before []) act
       → (base : List ℕ) → Keeps (Lasting m before base) (in_scope again P act)
-  keeps-scope {A} again P classless act p base = record {
+  keeps-scope again P classless act p base = record {
     by = λ s w q.
         let s0 : State = with_frame (record s.frame { scope = [] }) s in
         gave-then (λ (a : calling.Flow) (t : State). Lasting m before [] t) (λ (a : calling.Flow) (t : State). Lasting m before base t) (act s0 w)

@@ -1,18 +1,16 @@
 -- Built expressions and statements leave what lasts of the objects of before.
-use Rattle.std.proofs.Common.{◌≡◌, ℕ, zero, suc, ◌≤◌, ◌-◌, Bool, true, false, not, ◌&&◌, ◌||◌, if◌then◌else◌, List, [], ◌∷◌, reverse, refl, sym, ap, subst}
+use Rattle.std.proofs.Common.{◌≡◌, ℕ, zero, suc, ◌≤◌, ◌-◌, Bool, true, false, not, ◌&&◌, ◌||◌, if◌then◌else◌, List, [], ◌∷◌, reverse, sym, subst}
 use Rattle.std.specs.Prelude.{ℤ, pos, int_le, nat_le, nat_lt, Option, Some, None, length}
 use Rattle.cf_base.proofs.Tests.{both}
-use Rattle.cf_base.specs.World.{World}
 use Rattle.cf_core.specs.declared.operators.LoopForm.{LoopForm}
-use Rattle.cf_core.specs.declared.operators.LoopForm.TheVariants as form
 use Rattle.cf_core.specs.Types.{Name, SourceType, parameters, result, is_class, is_array, plain, element}
 use Rattle.cf_core.specs.Classes.{Class}
 use Rattle.cf_core.specs.Core as core
 use Rattle.cf_core.specs.Core.{Core, Cores, MaybeCore, Change, arithmetic, moved, Role, plain_function, Function, no_temporary, local_temporary, none, absent, given}
 use Rattle.cf_core.specs.Joined.{is_nothing}
 use Rattle.cf_core.specs.Places.{Place, inner, is_reference}
-use Rattle.cf_core.specs.Store.{Value, Built, Number, At, Code, Object}
-use Rattle.cf_core.specs.Run.{State, Act, ◌>>=◌, ◌>>◌, gives, malformed, state, tick, done, some_or, valid, when, for_each, for_all, declared_object, frame_changed, lists_in_scope, lists_temporary}
+use Rattle.cf_core.specs.Store.{Value, Built, Number, At, Code, Object, in_construction, alive, set_life}
+use Rattle.cf_core.specs.Run.{State, Act, ◌>>=◌, ◌>>◌, gives, state, tick, done, some_or, valid, when, for_each, for_all, declared_object, frame_changed, lists_in_scope, lists_temporary}
 use Rattle.cf_core.specs.Access.{place_type, used, place_of, number_of, read_place, write_place, followed, fill_zeros}
 use Rattle.cf_core.specs.Pointers.{truth_value, pointer_op, from_void_value}
 use Rattle.cf_core.specs.Scalars.{truth_of, converted_value, operated, signed, changed_value, indexed, decayed, pointed_to}
@@ -25,13 +23,12 @@ use Rattle.cf_core.specs.Statements as does
 use Rattle.cf_core.specs.Statements.{has_case, has_default, passes, passes_all, falling, turning, leaving, tests_first}
 use Rattle.cf_core.specs.Valid.{is_label}
 use Rattle.cf_sequence.specs.Built.{is_value, are_values, are_arguments, is_chain, is_condition, is_start, is_filling, is_initial, is_list, is_element, are_elements, is_held, next_local, declares_here, is_statement, is_inner_or, are_cases, are_statements}
-use Rattle.cf_sequence.proofs.Following.{Looks, looks-pure, looks-then, pure-gives, pure-malformed, pure-valid}
+use Rattle.cf_sequence.proofs.Following.{Looks, looks-pure, pure-valid}
 use Rattle.cf_sequence.proofs.Steps.{pure-used, pure-place_of, pure-number_of, pure-truth_of, pure-converted_value, pure-operated, pure-signed, pure-changed, looks-read_place, looks-followed}
 use Rattle.cf_sequence.proofs.Pointers.{pure-pointed_to, looks-indexed, looks-decayed, looks-moved_by, looks-from_void, looks-pointer_op}
 use Rattle.cf_sequence.proofs.StaticObjects.{named_object, pure-named}
 use Rattle.cf_sequence.proofs.Calling.{never, or-else, pure-function}
 use Rattle.cf_sequence.proofs.Lasting.{Keeps, Makes, keeps-gives, keeps-malformed, keeps-then, keeps-next, makes-then, makes-gives, makes-all, makes-behind, keeps-at, keeps-when, keeps-some, keeps-looks, keeps-pure, keeps-tick, Newer, Lasting, keeps-newer, makes-declared, keeps-temporary, keeps-scoped, makes-new, keeps-write, keeps-zeros, keeps-bytes, keeps-settle, keeps-literal, keeps-ends, keeps-full, keeps-scope, keeps-named, newer-reverse}
-use Rattle.cf_base.specs.World.{Went}
 
 -- The functions of a program, and further turns of its loops, leave what lasts.
 pub record Rests (again : calling.Again) (P : Program) : Type 0 where
@@ -91,10 +88,7 @@ module _ (again : calling.Again) (P : Program) (classless : P.classes ≡ []) (r
 
     pointed-keeps : (v : Value) (args : List ℕ) (into : Option Place) → Newer m args → Keeps Q (run_pointer again P None v args into)
     pointed-keeps (Code f) args into new = named-keeps f args None into new
-    pointed-keeps v args into new = record { by = λ s w q. by v s w q }
-      where
-        by : (v : Value) (s : State) (w : World) → Q s → _
-        by v s w q = tt
+    pointed-keeps v args into new = record { by = λ s w q. tt }
 
     mutual
       pub value-keeps : (e : Core) → is_value e ≡ true → Found e
@@ -253,33 +247,42 @@ module _ (again : calling.Again) (P : Program) (classless : P.classes ≡ []) (r
   item-keeps base tick_first e q k =
       keeps-next (L base) (one_tick tick_first) _ (keeps-when (L base) tick_first tick done (keeps-tick (L base)) (keeps-gives (L base) tt)) (settled-keeps base e q k)
 
+  -- a list, by what its elements and what it leaves out keep
+  list-of : (base : List ℕ) (es : Cores) (rest : Core) (p : Place) → m ≤ p.object → ((v : SourceType) → Keeps (L base) (meaning.elements again P es 0 p v))
+      → ((q : Place) → m ≤ q.object → Keeps (L base) (meaning.value again P rest (Some q))) → Keeps (L base) (meaning.value again P (core.list es rest) (Some p))
+  list-of base es rest p le each left =
+      keeps-at (L base) _ (λ s.
+      let v : SourceType = place_type P.classes s p in
+      keeps-next (L base) (valid ((is_array v || is_class v) && nat_le (count es) (element_count P.classes v))) _ (keeps-pure (L base) _ (pure-valid _))
+      (keeps-next (L base) (when (is_class v) (begin_list p) done) _ (keeps-when (L base) (is_class v) (begin_list p) done (keeps-newer m before base p.object (set_life p.route (in_construction [] ([] ∷ []))) le) (keeps-gives (L base) tt))
+      (keeps-next (L base) (meaning.elements again P es 0 p v) _ (each v)
+      (keeps-next (L base) _ _ (each-keeps base (count es) (element_count P.classes v - count es) _ (λ i.
+      item-keeps base (is_array v && costs_tick rest P.classes (element (plain v))) rest (inner (element_part v i) p) (left (inner (element_part v i) p) le)))
+      (keeps-next (L base) (when (is_class v) (end_list p) done) (gives Built)
+      (keeps-when (L base) (is_class v) (end_list p) done (keeps-newer m before base p.object (set_life p.route alive) le) (keeps-gives (L base) tt)) (keeps-gives (L base) Built))))))
+
   mutual
     -- of an object that is as new as the bound
-    pub element-keeps : (base : List ℕ) (t : SourceType) (e : Core) → is_element t e ≡ true → (p : Place) → m ≤ p.object → Keeps (L base) (meaning.value again P e (Some p))
-    element-keeps base t e ok p le = or-else (is_initial e) (is_list t e) ok (λ initial. initial-keeps base e initial p) (λ is. list-keeps base t e is p le)
-
     list-keeps : (base : List ℕ) (t : SourceType) (e : Core) → is_list t e ≡ true → (p : Place) → m ≤ p.object → Keeps (L base) (meaning.value again P e (Some p))
     list-keeps base t (core.list es rest) ok p le =
         let u : SourceType = element (plain t) in
         let parts = both (are_elements u es) (is_element u rest) (both (is_array t) (are_elements u es && is_element u rest) ok).1 in
-        keeps-at (L base) _ (λ s.
-        let v : SourceType = place_type P.classes s p in
-        keeps-next (L base) (valid ((is_array v || is_class v) && nat_le (count es) (element_count P.classes v))) _ (keeps-pure (L base) _ (pure-valid _))
-        (keeps-next (L base) (when (is_class v) (begin_list p) done) _ (keeps-when (L base) (is_class v) (begin_list p) done (keeps-newer m before base p.object _ le) (keeps-gives (L base) tt))
-        (keeps-next (L base) (meaning.elements again P es 0 p v) _ (elements-keep base u es parts.0 0 p v le)
-        (keeps-next (L base) _ _ (each-keeps base (count es) (element_count P.classes v - count es) _ (λ i.
-        item-keeps base (is_array v && costs_tick rest P.classes (element (plain v))) rest (inner (element_part v i) p) (element-keeps base u rest parts.1 (inner (element_part v i) p) le)))
-        (keeps-next (L base) (when (is_class v) (end_list p) done) (gives Built)
-        (keeps-when (L base) (is_class v) (end_list p) done (keeps-newer m before base p.object _ le) (keeps-gives (L base) tt)) (keeps-gives (L base) Built))))))
+        list-of base es rest p le (λ v. elements-keep base u es parts.0 0 p v le)
+        (λ q le. or-else (is_initial rest) (is_list u rest) parts.1 (λ initial. initial-keeps base rest initial q) (λ is. list-keeps base u rest is q le))
     list-keeps base t e ok p le = never ok
 
     elements-keep : (base : List ℕ) (t : SourceType) (es : Cores) → are_elements t es ≡ true → (i : ℕ) (p : Place) (v : SourceType) → m ≤ p.object → Keeps (L base) (meaning.elements again P es i p v)
     elements-keep base t none ok i p v le = keeps-gives (L base) tt
     elements-keep base t (core.more e es) ok i p v le =
         let parts = both (is_element t e) (are_elements t es) ok in
+        let q : Place = inner (element_part v i) p in
         keeps-next (L base) _ (meaning.elements again P es (suc i) p v)
-        (item-keeps base (is_array v && costs_tick e P.classes (element (plain v))) e (inner (element_part v i) p) (element-keeps base t e parts.0 (inner (element_part v i) p) le))
+        (item-keeps base (is_array v && costs_tick e P.classes (element (plain v))) e q
+        (or-else (is_initial e) (is_list t e) parts.0 (λ initial. initial-keeps base e initial q) (λ is. list-keeps base t e is q le)))
         (elements-keep base t es parts.1 (suc i) p v le)
+
+  element-keeps : (base : List ℕ) (t : SourceType) (e : Core) → is_element t e ≡ true → (p : Place) → m ≤ p.object → Keeps (L base) (meaning.value again P e (Some p))
+  element-keeps base t e ok p le = or-else (is_initial e) (is_list t e) ok (λ initial. initial-keeps base e initial p) (λ is. list-keeps base t e is p le)
 
   declared-keeps : (base : List ℕ) (i : ℕ) (t : SourceType) (e : Core) → ((p : Place) → m ≤ p.object → Keeps (L base) (meaning.value again P e (Some p)))
       → Keeps (L base) (does.does again P (core.declare i t e))

@@ -8,6 +8,7 @@ mod ClassRows
 mod ControlRows
 mod OrderRows
 mod TemporaryRows
+mod ListRows
 pub mod Doing
 pub mod Loops
 pub mod Scopes

@@ -1,5 +1,5 @@
 -- Lists as initialisers of arrays: the place of each element, and then its own initialiser (8.4.1).
-use Rattle.std.proofs.Common.{◌≡◌, ℕ, zero, suc, ◌+◌, ◌-◌, ◌≤◌, ◌<◌, Bool, true, false, not, ◌&&◌, ◌||◌, nat_le, nat_lt, if◌then◌else◌, List, [], ◌∷◌, ◌++◌, length, refl, sym, ◌∙◌, ap, subst, arith}
+use Rattle.std.proofs.Common.{◌≡◌, ℕ, zero, suc, ◌+◌, ◌-◌, ◌≤◌, ◌<◌, Bool, true, false, not, ◌&&◌, ◌||◌, nat_le, nat_lt, if◌then◌else◌, List, [], ◌∷◌, length, refl, sym, ◌∙◌, ap, subst, arith}
 use Rattle.std.specs.Prelude.{pos, Option, Some, None}
 use Rattle.std.proofs.lemmas.Bool.Decides.{nat_tests}
 use Rattle.cf_base.proofs.Tests.{both}
@@ -12,12 +12,12 @@ use Rattle.cf_core.specs.Joined.{is_nothing}
 use Rattle.cf_core.specs.Nodes.{nodes, nodes_all}
 use Rattle.cf_core.specs.Places.{Route, Place, inner, bound, type_at, is_inside, class_of}
 use Rattle.cf_core.specs.Classes.{class_named, is_built_in}
-use Rattle.cf_core.specs.Store.{Value, Built, Number, At, Life, unbuilt, alive, Object, is_base_part, is_dead_life, life_in, life_at, first_life, is_dead}
-use Rattle.cf_core.specs.Run.{State, Frame, Did, Gives, Exits, Malformed, Act, ◌>>=◌, ◌>>◌, gives, malformed, done, need, valid, some_or, when, for_each, with_frame, not_alive, outside_array}
+use Rattle.cf_core.specs.Store.{Value, Number, At, Life, unbuilt, alive, Object, is_base_part, is_dead_life, life_in, life_at, first_life, is_dead}
+use Rattle.cf_core.specs.Run.{State, Frame, Did, Gives, Exits, Malformed, Act, ◌>>=◌, ◌>>◌, gives, malformed, need, valid, some_or, with_frame, not_alive, outside_array}
 use Rattle.cf_core.specs.Access.{place_type, used, name_part}
-use Rattle.cf_core.specs.Pointers.{element_of, route_of, bound_of, further, up_to, moved_place}
+use Rattle.cf_core.specs.Pointers.{element_of, route_of, up_to, moved_place}
 use Rattle.cf_core.specs.Scalars.{indexed, decayed}
-use Rattle.cf_core.specs.Objects.{settle, element_part, element_count, begin_list, end_list, count, costs_tick, any_costs, one_tick}
+use Rattle.cf_core.specs.Objects.{settle, element_part, element_count, count, costs_tick, any_costs}
 use Rattle.cf_core.specs.Calls as calling
 use Rattle.cf_core.specs.Calls.{Program, function_named, full_expression}
 use Rattle.cf_core.specs.Expressions as meaning
@@ -29,19 +29,19 @@ use Rattle.cf_plain.specs.Running.{Flow, Falls, keep, falling, all}
 use Rattle.cf_sequence.specs.Follows.{Follows}
 use Rattle.cf_sequence.specs.Built.{is_value, is_start, is_filling, is_initial, is_list, is_element, are_elements, is_chain}
 use Rattle.cf_sequence.specs.Made.{added, width, width_all}
-use Rattle.cf_sequence.specs.Expressions.{Full, Destination, destination, value, elements, repeated, in_turn, part_in, part_type, parts_count, begun, built, settled}
+use Rattle.cf_sequence.specs.Expressions.{Full, Destination, destination, elements, repeated, in_turn, part_in, part_type, parts_count, begun, built, settled}
 use Rattle.cf_sequence.specs.Statements.{started}
 use Rattle.cf_sequence.proofs.Following.{on, Gave, gave-as, pull, push, follows-then}
 use Rattle.cf_sequence.proofs.Calling.{Bodies, never, or-else}
-use Rattle.cf_sequence.proofs.Kept.{Kept, kept-all, kept-then, kept-less, kept-count, Ready, ready-more, ready-kept, added-two, keep-same, keep-other}
-use Rattle.cf_sequence.proofs.PlainSteps.{runs_on, set-steps, act-steps, at-one, at-two}
+use Rattle.cf_sequence.proofs.Kept.{Kept, kept-all, Ready, added-two, keep-same, keep-other}
+use Rattle.cf_sequence.proofs.PlainSteps.{runs_on, set-steps, at-one, at-two}
 use Rattle.cf_sequence.proofs.Operands.{H}
 use Rattle.cf_sequence.proofs.Parts.{first-steps, value-gives}
-use Rattle.cf_sequence.proofs.Silent.{append, all-append, Silent, silent-none, silent-set, silent-act, silent-loop, silent-then, silent-settled, silent-whole, silent-by}
+use Rattle.cf_sequence.proofs.Silent.{all-append, Silent, silent-none, silent-set, silent-act, silent-loop, silent-then, silent-settled, silent-whole, silent-by}
 use Rattle.cf_sequence.proofs.Filling.{fill, started-is, filled-steps}
-use Rattle.cf_sequence.proofs.Fulls.{nothing-is, closing, closed, full-steps}
+use Rattle.cf_sequence.proofs.Fulls.{nothing-is, full-steps}
 use Rattle.cf_sequence.proofs.Standing.{settled_full}
-use Rattle.cf_sequence.proofs.Lasting.{Keeps, Newer, Same, Lasting}
+use Rattle.cf_sequence.proofs.Lasting.{Keeps, Newer, Lasting}
 use Rattle.cf_sequence.proofs.LastingCode.{Rests, initial-keeps, settled-keeps}
 
 -- ---- arrays
@@ -85,21 +85,24 @@ none-costs true b false d p q = ap (λ b. b || false) p
 none-costs false b c d p q = refl
 
 mutual
-  pub element-costs : (t : SourceType) (e : Core) → is_element t e ≡ true → (cs : List Class) (u : SourceType) → costs_tick e cs u ≡ false
-  element-costs t e ok cs u = or-else (is_initial e) (is_list t e) ok (λ initial. initial-costs e initial cs u) (λ is. list-costs t e is cs u)
-
   list-costs : (t : SourceType) (e : Core) → is_list t e ≡ true → (cs : List Class) (u : SourceType) → costs_tick e cs u ≡ false
   list-costs t (core.list es rest) ok cs u =
-      let parts = both (are_elements (element (unqualified t)) es) (is_element (element (unqualified t)) rest) (both (is_array t) (are_elements (element (unqualified t)) es && is_element (element (unqualified t)) rest) ok).1 in
-      none-costs (is_array u) (any_costs es cs (element (unqualified u))) (nat_lt (count es) (bound u)) (costs_tick rest cs (element (unqualified u)))
-      (elements-cost (element (unqualified t)) es parts.0 cs (element (unqualified u))) (element-costs (element (unqualified t)) rest parts.1 cs (element (unqualified u)))
+      let v : SourceType = element (unqualified t) in
+      let w : SourceType = element (unqualified u) in
+      let parts = both (are_elements v es) (is_element v rest) (both (is_array t) (are_elements v es && is_element v rest) ok).1 in
+      none-costs (is_array u) (any_costs es cs w) (nat_lt (count es) (bound u)) (costs_tick rest cs w) (elements-cost v es parts.0 cs w)
+      (or-else (is_initial rest) (is_list v rest) parts.1 (λ initial. initial-costs rest initial cs w) (λ is. list-costs v rest is cs w))
   list-costs t e ok cs u = never ok
 
   elements-cost : (t : SourceType) (es : Cores) → are_elements t es ≡ true → (cs : List Class) (u : SourceType) → any_costs es cs u ≡ false
   elements-cost t none ok cs u = refl
   elements-cost t (core.more e es) ok cs u =
       let parts = both (is_element t e) (are_elements t es) ok in
-      ap (λ b. b || any_costs es cs u) (element-costs t e parts.0 cs u) ∙ elements-cost t es parts.1 cs u
+      ap (λ b. b || any_costs es cs u) (or-else (is_initial e) (is_list t e) parts.0 (λ initial. initial-costs e initial cs u) (λ is. list-costs t e is cs u))
+      ∙ elements-cost t es parts.1 cs u
+
+pub element-costs : (t : SourceType) (e : Core) → is_element t e ≡ true → (cs : List Class) (u : SourceType) → costs_tick e cs u ≡ false
+element-costs t e ok cs u = or-else (is_initial e) (is_list t e) ok (λ initial. initial-costs e initial cs u) (λ is. list-costs t e is cs u)
 
 pub all-width : (es : Cores) → width_all es ≡ length (added (nodes_all es))
 all-width none = refl
@@ -132,14 +135,14 @@ no-end true = refl
 no-end false = refl
 
 living : (cs : List Class) (x : Object) (π : Route) → x.life ≡ (λ ρ. None) → is_dead_life (life_at cs x π) ≡ false
-living cs x π none =
-    ap (λ (f : Route → Option Life). is_dead_life (life_in (f π) (first_life cs (type_at cs x.type π)))) none ∙ no-end (is_built_in (class_named cs (class_of (type_at cs x.type π))))
+living cs x π no_life =
+    ap (λ (f : Route → Option Life). is_dead_life (life_in (f π) (first_life cs (type_at cs x.type π)))) no_life ∙ no-end (is_built_in (class_named cs (class_of (type_at cs x.type π))))
 
 not-dead : (cs : List Class) (x : Object) → x.life ≡ (λ ρ. None) → x.is_gone ≡ false → (π : Route) → is_dead cs x π ≡ false
-not-dead cs x none stands [] = two-false x.is_gone (is_dead_life (life_at cs x [])) stands (living cs x [] none)
-not-dead cs x none stands (s ∷ π) =
+not-dead cs x no_life stands [] = two-false x.is_gone (is_dead_life (life_at cs x [])) stands (living cs x [] no_life)
+not-dead cs x no_life stands (s ∷ π) =
     two-false (not (is_base_part s) && is_dead_life (life_at cs x (s ∷ π))) (is_dead cs x π)
-    (and-false (not (is_base_part s)) (is_dead_life (life_at cs x (s ∷ π))) (living cs x (s ∷ π) none)) (not-dead cs x none stands π)
+    (and-false (not (is_base_part s)) (is_dead_life (life_at cs x (s ∷ π))) (living cs x (s ∷ π) no_life)) (not-dead cs x no_life stands π)
 
 -- the place of an element
 pub element-lies : (cs : List Class) (T t : SourceType) (p : Place) → is_array t ≡ true → Lies cs T t p → (i : ℕ) → nat_lt i (bound t) ≡ true → Lies cs T (element (unqualified t)) (inner (item i) p)
@@ -217,39 +220,46 @@ module _ (again : running.Again) (H : Program) (P : Program) where
   abbrev item_code : Bool → Core → Destination → ℕ → Register → ℕ → Plains → Plains
   item_code tick e d i n k = in_turn tick (λ rest. part_in n d.register d.type i (started P.classes (part_type P.classes d.type i) e n k rest))
 
-  mutual
-    pub silent-element : (u : SourceType) (e : Core) → is_element u e ≡ true → (t : SourceType) (n : Register) (k : ℕ) → Silent again H (started P.classes t e n k)
-    silent-element u e ok t n k = or-else (is_initial e) (is_list u e) ok (λ initial. silent-initial again H P t e initial n k) (λ is. silent-list u e is t n k)
+  silent-item : (e : Core) → ((t : SourceType) (n : Register) (k : ℕ) → Silent again H (started P.classes t e n k)) → (tick : Bool) (d : Destination) (i : ℕ) (n : Register) (k : ℕ)
+      → Silent again H (item_code tick e d i n k)
+  silent-item e p tick d i n k =
+      silent-turn tick (λ rest. part_in n d.register d.type i (started P.classes (part_type P.classes d.type i) e n k rest))
+      (silent-then again H (part_in n d.register d.type i) (started P.classes (part_type P.classes d.type i) e n k) (silent-part n d.register d.type i) (p (part_type P.classes d.type i) n k))
 
+  silent-list-of : (es : Cores) (last : Core) → ((x : Full) (d : Destination) (i : ℕ) (n : Register) (k : ℕ) → Silent again H (elements P.classes x es d i n k))
+      → ((t : SourceType) (n : Register) (k : ℕ) → Silent again H (started P.classes t last n k)) → (t : SourceType) (n : Register) (k : ℕ) → Silent again H (started P.classes t (core.list es last) n k)
+  silent-list-of es last p q t n k =
+      let x : Full = record { first = k; base = suc n } in
+      let d : Destination = record { register = n; type = t } in
+      let m : Register = suc n + width (core.list es last) in
+      let l : ℕ = k + width_all es in
+      let tick : Bool = is_array t && costs_tick last P.classes (part_type P.classes t 0) in
+      let left : Plains → Plains = repeated (count es) (parts_count P.classes t - count es) (λ i. item_code tick last d i m l) in
+      silent-then again H (begun P.classes d) (λ rest. elements P.classes x es d 0 m k (left (built P.classes d rest))) (silent-if (is_class t) (plain.begin_list n))
+      (silent-then again H (elements P.classes x es d 0 m k) (λ rest. left (built P.classes d rest)) (p x d 0 m k)
+      (silent-then again H left (built P.classes d) (silent-repeated (count es) (parts_count P.classes t - count es) (λ i. item_code tick last d i m l) (λ i. silent-item last q tick d i m l))
+      (silent-if (is_class t) (plain.end_list n))))
+
+  mutual
     silent-list : (u : SourceType) (e : Core) → is_list u e ≡ true → (t : SourceType) (n : Register) (k : ℕ) → Silent again H (started P.classes t e n k)
     silent-list u (core.list es last) ok t n k =
         let v : SourceType = element (unqualified u) in
         let parts = both (are_elements v es) (is_element v last) (both (is_array u) (are_elements v es && is_element v last) ok).1 in
-        let x : Full = record { first = k; base = suc n } in
-        let d : Destination = record { register = n; type = t } in
-        let m : Register = suc n + width (core.list es last) in
-        let l : ℕ = k + width_all es in
-        let tick : Bool = is_array t && costs_tick last P.classes (part_type P.classes t 0) in
-        let left : Plains → Plains = repeated (count es) (parts_count P.classes t - count es) (λ i. item_code tick last d i m l) in
-        silent-then again H (begun P.classes d) (λ rest. elements P.classes x es d 0 m k (left (built P.classes d rest))) (silent-if (is_class t) (plain.begin_list n))
-        (silent-then again H (elements P.classes x es d 0 m k) (λ rest. left (built P.classes d rest)) (silent-elements v es parts.0 x d 0 m k)
-        (silent-then again H left (built P.classes d) (silent-repeated (count es) (parts_count P.classes t - count es) (λ i. item_code tick last d i m l) (λ i. silent-item v last parts.1 tick d i m l))
-        (silent-if (is_class t) (plain.end_list n))))
+        silent-list-of es last (λ x d i n k. silent-elements v es parts.0 x d i n k)
+        (λ t n k. or-else (is_initial last) (is_list v last) parts.1 (λ initial. silent-initial again H P t last initial n k) (λ is. silent-list v last is t n k)) t n k
     silent-list u e ok t n k = never ok
-
-    silent-item : (u : SourceType) (e : Core) → is_element u e ≡ true → (tick : Bool) (d : Destination) (i : ℕ) (n : Register) (k : ℕ) → Silent again H (item_code tick e d i n k)
-    silent-item u e ok tick d i n k =
-        silent-turn tick (λ rest. part_in n d.register d.type i (started P.classes (part_type P.classes d.type i) e n k rest))
-        (silent-then again H (part_in n d.register d.type i) (started P.classes (part_type P.classes d.type i) e n k) (silent-part n d.register d.type i)
-        (silent-element u e ok (part_type P.classes d.type i) n k))
 
     silent-elements : (u : SourceType) (es : Cores) → are_elements u es ≡ true → (x : Full) (d : Destination) (i : ℕ) (n : Register) (k : ℕ) → Silent again H (elements P.classes x es d i n k)
     silent-elements u none ok x d i n k = silent-none again H
     silent-elements u (core.more e es) ok x d i n k =
         let parts = both (is_element u e) (are_elements u es) ok in
         let tick : Bool = is_array d.type && costs_tick e P.classes (part_type P.classes d.type i) in
-        silent-then again H (item_code tick e d i n k) (elements P.classes x es d (suc i) n (k + width e)) (silent-item u e parts.0 tick d i n k)
+        silent-then again H (item_code tick e d i n k) (elements P.classes x es d (suc i) n (k + width e))
+        (silent-item e (λ t n k. or-else (is_initial e) (is_list u e) parts.0 (λ initial. silent-initial again H P t e initial n k) (λ is. silent-list u e is t n k)) tick d i n k)
         (silent-elements u es parts.1 x d (suc i) n (k + width e))
+
+  pub silent-element : (u : SourceType) (e : Core) → is_element u e ≡ true → (t : SourceType) (n : Register) (k : ℕ) → Silent again H (started P.classes t e n k)
+  silent-element u e ok t n k = or-else (is_initial e) (is_list u e) ok (λ initial. silent-initial again H P t e initial n k) (λ is. silent-list u e is t n k)
 
 module _ (again : calling.Again) (again' : running.Again) (P : Program) (bodies : Bodies again again' P)
     (chains : (name : Name) (f : Function) → function_named P name ≡ Some f → is_chain f.type ≡ true) (classless : P.classes ≡ [])

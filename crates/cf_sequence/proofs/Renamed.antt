@@ -1,5 +1,5 @@
 -- Cores whose names are replaced: what they are built of, and the locals that they add and declare, stay.
-use Rattle.std.proofs.Common.{◌≡◌, ℕ, suc, ◌+◌, Bool, true, false, not, ◌&&◌, ◌||◌, nat_le, nat_lt, List, [], ◌∷◌, ◌++◌, length, refl, sym, ◌∙◌, ap}
+use Rattle.std.proofs.Common.{◌≡◌, ℕ, suc, ◌+◌, Bool, true, not, ◌&&◌, ◌||◌, nat_le, nat_lt, List, [], ◌∷◌, ◌++◌, length, refl, sym, ◌∙◌, ap}
 use Rattle.cf_base.proofs.Tests.{both}
 use Rattle.std.proofs.lemmas.Grind.{flat_map-append}
 use Rattle.cf_core.specs.Types.{Name, SourceType, parameters, result, is_class, is_array, plain, element}
@@ -11,7 +11,7 @@ use Rattle.cf_core.specs.Nodes.{nodes, nodes_all, nodes_maybe, nodes_parts}
 use Rattle.cf_core.specs.Joined.{renamed, renamed_all, renamed_maybe, renamed_parts, is_nothing}
 use Rattle.cf_core.specs.Valid.{is_label, has_label}
 use Rattle.cf_sequence.specs.Built.{is_chain, is_value, are_values, are_arguments, is_condition, is_start, is_filling, is_initial, is_list, is_element, are_elements, is_held, behind_declared, next_local, next_locals, declares_here, is_statement, is_inner_or, are_cases, are_statements, is_constant_value, is_constant_initial, is_constant_start}
-use Rattle.cf_sequence.specs.Made.{Local, Temporary, temporaries, temporaries_all, added, makes, width, width_maybe, width_all, declared, declared_all, held_by}
+use Rattle.cf_sequence.specs.Made.{Local, temporaries, temporaries_all, added, makes, width, width_maybe, width_all, declared, declared_all, held_by}
 use Rattle.cf_sequence.specs.Expressions.{builds}
 use Rattle.cf_sequence.proofs.Calling.{never}
 
@@ -257,18 +257,22 @@ module _ (r : Name → Name) where
   same-initial e = ap (λ b. b || is_start (renamed r e)) (same-filling e) ∙ ap (λ b. is_filling e || b) (same-start e)
 
   mutual
-    pub same-element : (t : SourceType) (e : Core) → is_element t (renamed r e) ≡ is_element t e
-    same-element t e = ap (λ b. b || is_list t (renamed r e)) (same-initial e) ∙ ap (λ b. is_initial e || b) (same-list t e)
-
     pub same-list : (t : SourceType) (e : Core) → is_list t (renamed r e) ≡ is_list t e
     same-list t (core.list es rest) =
         let u : SourceType = element (plain t) in
-        ap (λ b. is_array t && b) (two-same (are_elements u (renamed_all r es)) (is_element u (renamed r rest)) (are_elements u es) (is_element u rest) (same-elements u es) (same-element u rest))
+        ap (λ b. is_array t && b) (two-same (are_elements u (renamed_all r es)) (is_element u (renamed r rest)) (are_elements u es) (is_element u rest) (same-elements u es)
+        (ap (λ b. b || is_list u (renamed r rest)) (same-initial rest) ∙ ap (λ b. is_initial rest || b) (same-list u rest)))
+    same-list t core.zeros = refl
     same-list t e = refl
 
     pub same-elements : (t : SourceType) (es : Cores) → are_elements t (renamed_all r es) ≡ are_elements t es
     same-elements t none = refl
-    same-elements t (core.more e es) = two-same (is_element t (renamed r e)) (are_elements t (renamed_all r es)) (is_element t e) (are_elements t es) (same-element t e) (same-elements t es)
+    same-elements t (core.more e es) =
+        two-same (is_element t (renamed r e)) (are_elements t (renamed_all r es)) (is_element t e) (are_elements t es)
+        (ap (λ b. b || is_list t (renamed r e)) (same-initial e) ∙ ap (λ b. is_initial e || b) (same-list t e)) (same-elements t es)
+
+  pub same-element : (t : SourceType) (e : Core) → is_element t (renamed r e) ≡ is_element t e
+  same-element t e = ap (λ b. b || is_list t (renamed r e)) (same-initial e) ∙ ap (λ b. is_initial e || b) (same-list t e)
 
   pub same-count : (es : Cores) → count (renamed_all r es) ≡ count es
   same-count none = refl

@@ -1,29 +1,25 @@
 -- The plain statements of a statement whose names are replaced are those of the statement, with the names replaced.
-use Rattle.std.proofs.Common.{◌≡◌, ℕ, zero, suc, ◌+◌, ◌-◌, Bool, true, false, not, ◌&&◌, ◌||◌, nat_le, nat_lt, List, [], ◌∷◌, ◌++◌, length, reverse, refl, sym, ◌∙◌, ap, subst, if◌then◌else◌}
-use Rattle.std.specs.Prelude.{pos, Option, Some, None}
+use Rattle.std.proofs.Common.{◌≡◌, ℕ, ◌+◌, Bool, true, false, not, ◌&&◌, ◌||◌, nat_le, List, [], ◌∷◌, ◌++◌, reverse, refl, sym, ◌∙◌, ap, subst, if◌then◌else◌}
+use Rattle.std.specs.Prelude.{Some, None}
 use Rattle.cf_base.proofs.Tests.{both}
 use Rattle.cf_core.specs.declared.operators.LoopForm.TheVariants as form
-use Rattle.cf_core.specs.Types.{Name, SourceType, parameters, result, is_class, is_array, element, plain as unqualified}
-use Rattle.cf_core.specs.Objects.{count, costs_tick}
+use Rattle.cf_core.specs.Types.{Name, is_class}
 use Rattle.cf_core.specs.Classes.{Class}
 use Rattle.cf_core.specs.Core as core
 use Rattle.cf_core.specs.Core.{Core, Cores, MaybeCore, no_temporary, local_temporary, none, absent, given}
-use Rattle.cf_core.specs.Places.{is_reference}
 use Rattle.cf_core.specs.Joined.{renamed, renamed_all, renamed_maybe, is_nothing}
 use Rattle.cf_core.specs.Valid.{has_label}
 use Rattle.cf_plain.specs.Plain.{Register, Plains, act, set, branch, loop, switch, case_label, default_label, leave, continue, give, nothing, more}
 use Rattle.cf_plain.specs.Plain as plain
 use Rattle.cf_plain.specs.Joined as joined
-use Rattle.cf_sequence.specs.Built.{is_value, are_values, are_arguments, is_chain, is_condition, is_start, is_filling, is_initial, is_list, is_element, are_elements, is_held, declares_here, is_statement, is_inner_or, are_cases, are_statements, next_local}
-use Rattle.cf_sequence.specs.Made.{Local, Temporary, temporaries, numbers, width, width_maybe, width_all, declared, declared_all}
-use Rattle.cf_sequence.specs.Expressions.{Full, flag, flags, ended, Destination, destination, value, values, arguments, settled, builds, result_register, whole, finished, used, elements, repeated, in_turn, part_in, part_type, parts_count, begun, built}
-use Rattle.cf_sequence.specs.Statements.{Inside, opened, in_loop, in_switch, declares, condition, held, stepped, started, returned, looping, made, passing, passes_local, passed, statement, statement_or, statements}
+use Rattle.cf_sequence.specs.Built.{is_value, is_condition, is_element, is_held, declares_here, is_statement, is_inner_or, are_cases, are_statements, next_local}
+use Rattle.cf_sequence.specs.Made.{Local, width, width_maybe, declared, declared_all}
+use Rattle.cf_sequence.specs.Expressions.{value, whole, finished, used}
+use Rattle.cf_sequence.specs.Statements.{Inside, opened, in_loop, in_switch, declares, held, stepped, started, returned, looping, made, passing, passes_local, passed, statement, statement_or, statements}
 use Rattle.cf_sequence.proofs.Calling.{never, or-else}
-use Rattle.cf_sequence.proofs.Filling.{fill, started-is}
-use Rattle.cf_sequence.proofs.Fulls.{nothing-is, held_at}
+use Rattle.cf_sequence.proofs.Fulls.{nothing-is}
 use Rattle.cf_sequence.proofs.Labels.{passing-past}
-use Rattle.cf_sequence.proofs.Lists.{element-costs}
-use Rattle.cf_sequence.proofs.Renamed.{same-width, same-temporaries, same-width-maybe, same-builds, same-value, same-filling, same-element, same-count, same-width-all, same-declared, same-declared-all, same-has-label, same-statement}
+use Rattle.cf_sequence.proofs.Renamed.{same-width, same-width-maybe, same-declared, same-declared-all, same-has-label, same-statement}
 use Rattle.cf_sequence.proofs.RenamedCode.{over-finished, over-whole, over-kept, over-condition, over-held, over-stepped}
 use Rattle.cf_sequence.proofs.RenamedLists.{over-element}
 

@@ -32,16 +32,17 @@ append-append (more s ss) b rest = ap (more s) (append-append ss b rest)
 pub all-append : (again : Again) (H : Program) (a b : Plains) (g : Registers) (s : State) (w : World)
     → all again H (append a b) g s w ≡ and_then (all again H a g s w) (on (falling (λ h. all again H b h)))
 all-append again H nothing b g s w = refl
-all-append again H (more st ss) b g s w = by (does again H st g s w)
+all-append again H (more st ss) b g s w = by (does again H st g s w) (λ h t w. all-append again H ss b h t w)
   where
-    by : (x : Ran (Did Flow)) → and_then x (on (falling (λ h. all again H (append ss b) h))) ≡ and_then (and_then x (on (falling (λ h. all again H ss h)))) (on (falling (λ h. all again H b h)))
-    by (Went (Gives (Falls h) t) w) = all-append again H ss b h t w
-    by (Went (Gives (Breaks h) t) w) = refl
-    by (Went (Gives (Continues h) t) w) = refl
-    by (Went (Gives (Returns v) t) w) = refl
-    by (Went (Exits z t) w) = refl
-    by (Went Malformed w) = refl
-    by (Stops end trace) = refl
+    by : (x : Ran (Did Flow)) → ((h : Registers) (t : State) (w : World) → all again H (append ss b) h t w ≡ and_then (all again H ss h t w) (on (falling (λ h. all again H b h))))
+        → and_then x (on (falling (λ h. all again H (append ss b) h))) ≡ and_then (and_then x (on (falling (λ h. all again H ss h)))) (on (falling (λ h. all again H b h)))
+    by (Went (Gives (Falls h) t) w) later = later h t w
+    by (Went (Gives (Breaks h) t) w) later = refl
+    by (Went (Gives (Continues h) t) w) later = refl
+    by (Went (Gives (Returns v) t) w) later = refl
+    by (Went (Exits z t) w) later = refl
+    by (Went Malformed w) later = refl
+    by (Stops end trace) later = refl
 
 module _ (again : Again) (H : Program) where
   -- code before others that has no label

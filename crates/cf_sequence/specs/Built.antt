@@ -79,15 +79,15 @@ is_initial e = is_filling e || is_start e
 -- The list that is the initialiser of an array: each element has a list of its own, or is begun as a local is, and so is each that is left out (8.4.1).
 abbrev mutual
   pub is_list : SourceType → Core → Bool
-  is_list t (core.list es rest) = is_array t && (are_elements (element (plain t)) es && is_element (element (plain t)) rest)
+  is_list t (core.list es rest) = is_array t && (are_elements (element (plain t)) es && (is_initial rest || is_list (element (plain t)) rest))
   is_list t e = false
-
-  pub is_element : SourceType → Core → Bool
-  is_element t e = is_initial e || is_list t e
 
   pub are_elements : SourceType → Cores → Bool
   are_elements t none = true
-  are_elements t (core.more e es) = is_element t e && are_elements t es
+  are_elements t (core.more e es) = (is_initial e || is_list t e) && are_elements t es
+
+abbrev pub is_element : SourceType → Core → Bool
+is_element t e = is_initial e || is_list t e
 
 -- the temporary of a reference that is the local i: a local behind it holds it, and a value makes it (8.4.3, 12.2)
 abbrev pub is_held : ℕ → Core → Bool
