@@ -23,7 +23,7 @@ use Rattle.cf_plain.specs.Acts.{Registers}
 use Rattle.cf_plain.specs.Running as running
 use Rattle.cf_plain.specs.Running.{Flow}
 use Rattle.cf_sequence.specs.Follows.{Follows}
-use Rattle.cf_sequence.specs.Built.{is_initial, is_list, is_element, are_elements, is_chain}
+use Rattle.cf_sequence.specs.Built.{is_initial, is_list, is_element, are_elements, is_chain, is_filling}
 use Rattle.cf_sequence.specs.Made.{width, width_all}
 use Rattle.cf_sequence.specs.Expressions.{Full, Destination, destination, value, elements, repeated, in_turn, part_in, part_type, parts_count}
 use Rattle.cf_sequence.specs.Statements.{started}
@@ -32,6 +32,7 @@ use Rattle.cf_sequence.proofs.Calling.{Bodies, never, or-else}
 use Rattle.cf_sequence.proofs.Kept.{Kept, kept-all, kept-then, kept-count, Ready, ready-more, ready-kept, added-two}
 use Rattle.cf_sequence.proofs.PlainSteps.{runs_on}
 use Rattle.cf_sequence.proofs.Operands.{H}
+use Rattle.cf_sequence.proofs.Filling.{filling-element}
 use Rattle.cf_sequence.proofs.Fulls.{closing, closed}
 use Rattle.cf_sequence.proofs.Standing.{settled_full}
 use Rattle.cf_sequence.proofs.LastingCode.{Rests}
@@ -259,9 +260,10 @@ module _ (again : calling.Again) (again' : running.Again) (P : Program) (bodies 
     pub nested-steps : (t : SourceType) (e : Core) → is_list t e ≡ true → Nested t e
     nested-steps t (core.list es last) ok =
         let u : SourceType = element (unqualified t) in
-        let kinds = both (is_array t) (are_elements u es && is_element u last) ok in
-        let parts = both (are_elements u es) (is_element u last) kinds.1 in
-        nested-of t es last kinds.0 parts.1 (row-steps t kinds.0 es parts.0) (item-of t last kinds.0 parts.1 (λ is. nested-steps u last is))
+        let kinds = both (is_array t) (are_elements u es && is_filling last) ok in
+        let parts = both (are_elements u es) (is_filling last) kinds.1 in
+        let fills = filling-element u last parts.1 in
+        nested-of t es last kinds.0 fills (row-steps t kinds.0 es parts.0) (item-of t last kinds.0 fills (λ is. nested-steps u last is))
     nested-steps t e ok = never ok
 
     row-steps : (t : SourceType) → is_array t ≡ true → (es : Cores) → are_elements (element (unqualified t)) es ≡ true → Row t es

@@ -1,5 +1,5 @@
 -- Initialisers that fill their object by themselves: zeros, and the characters of a literal.
-use Rattle.std.proofs.Common.{◌≡◌, ℕ, suc, Bool, true, false, ◌&&◌, ◌==◌, if◌then◌else◌, nat_le, List, [], ◌∷◌, ◌++◌, length, refl, sym, ◌∙◌, ap, subst, arith}
+use Rattle.std.proofs.Common.{◌≡◌, ℕ, suc, Bool, true, false, ◌&&◌, ◌||◌, ◌==◌, if◌then◌else◌, nat_le, List, [], ◌∷◌, ◌++◌, length, refl, sym, ◌∙◌, ap, subst, arith}
 use Rattle.std.specs.Prelude.{pos, Some, Option}
 use Rattle.std.proofs.lemmas.Bool.Decides.{nat_tests}
 use Rattle.cf_base.proofs.Tests.{both}
@@ -24,7 +24,7 @@ use Rattle.cf_plain.specs.Acts.{Registers, acts}
 use Rattle.cf_plain.specs.Running as running
 use Rattle.cf_plain.specs.Running.{Flow, calls}
 use Rattle.cf_sequence.specs.Follows.{Follows}
-use Rattle.cf_sequence.specs.Built.{is_filling}
+use Rattle.cf_sequence.specs.Built.{is_start, is_filling, is_initial, is_list, is_element}
 use Rattle.cf_sequence.specs.Made.{added, held_by}
 use Rattle.cf_sequence.specs.Expressions.{builds}
 use Rattle.cf_sequence.specs.Statements.{started}
@@ -45,6 +45,12 @@ pub filling-builds : (e : Core) → is_filling e ≡ true → builds e ≡ true
 filling-builds core.zeros ok = refl
 filling-builds (core.string bytes) ok = refl
 filling-builds e ok = never ok
+
+pub filling-initial : (e : Core) → is_filling e ≡ true → is_initial e ≡ true
+filling-initial e ok = ap (λ b. b || is_start e) ok
+
+pub filling-element : (t : SourceType) (e : Core) → is_filling e ≡ true → is_element t e ≡ true
+filling-element t e ok = ap (λ b. (b || is_start e) || is_list t e) ok
 
 pub filling-adds : (e : Core) → is_filling e ≡ true → added (nodes e) ≡ []
 filling-adds core.zeros ok = refl

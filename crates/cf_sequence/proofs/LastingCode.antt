@@ -266,9 +266,9 @@ module _ (again : calling.Again) (P : Program) (classless : P.classes ≡ []) (r
     list-keeps : (base : List ℕ) (t : SourceType) (e : Core) → is_list t e ≡ true → (p : Place) → m ≤ p.object → Keeps (L base) (meaning.value again P e (Some p))
     list-keeps base t (core.list es rest) ok p le =
         let u : SourceType = element (plain t) in
-        let parts = both (are_elements u es) (is_element u rest) (both (is_array t) (are_elements u es && is_element u rest) ok).1 in
+        let parts = both (are_elements u es) (is_filling rest) (both (is_array t) (are_elements u es && is_filling rest) ok).1 in
         list-of base es rest p le (λ v. elements-keep base u es parts.0 0 p v le)
-        (λ q le. or-else (is_initial rest) (is_list u rest) parts.1 (λ initial. initial-keeps base rest initial q) (λ is. list-keeps base u rest is q le))
+        (λ q le. filling-keeps base rest parts.1 q)
     list-keeps base t e ok p le = never ok
 
     elements-keep : (base : List ℕ) (t : SourceType) (es : Cores) → are_elements t es ≡ true → (i : ℕ) (p : Place) (v : SourceType) → m ≤ p.object → Keeps (L base) (meaning.elements again P es i p v)

@@ -38,7 +38,7 @@ use Rattle.cf_sequence.proofs.PlainSteps.{runs_on, set-steps, at-one, at-two}
 use Rattle.cf_sequence.proofs.Operands.{H}
 use Rattle.cf_sequence.proofs.Parts.{first-steps, value-gives}
 use Rattle.cf_sequence.proofs.Silent.{all-append, Silent, silent-none, silent-set, silent-act, silent-loop, silent-then, silent-settled, silent-whole, silent-by}
-use Rattle.cf_sequence.proofs.Filling.{fill, started-is, filled-steps}
+use Rattle.cf_sequence.proofs.Filling.{filling-initial, fill, started-is, filled-steps}
 use Rattle.cf_sequence.proofs.Fulls.{nothing-is, full-steps}
 use Rattle.cf_sequence.proofs.Standing.{settled_full}
 use Rattle.cf_sequence.proofs.Lasting.{Keeps, Newer, Lasting}
@@ -89,9 +89,9 @@ mutual
   list-costs t (core.list es rest) ok cs u =
       let v : SourceType = element (unqualified t) in
       let w : SourceType = element (unqualified u) in
-      let parts = both (are_elements v es) (is_element v rest) (both (is_array t) (are_elements v es && is_element v rest) ok).1 in
+      let parts = both (are_elements v es) (is_filling rest) (both (is_array t) (are_elements v es && is_filling rest) ok).1 in
       none-costs (is_array u) (any_costs es cs w) (nat_lt (count es) (bound u)) (costs_tick rest cs w) (elements-cost v es parts.0 cs w)
-      (or-else (is_initial rest) (is_list v rest) parts.1 (λ initial. initial-costs rest initial cs w) (λ is. list-costs v rest is cs w))
+      (filling-costs rest parts.1 cs w)
   list-costs t e ok cs u = never ok
 
   elements-cost : (t : SourceType) (es : Cores) → are_elements t es ≡ true → (cs : List Class) (u : SourceType) → any_costs es cs u ≡ false
@@ -244,9 +244,9 @@ module _ (again : running.Again) (H : Program) (P : Program) where
     silent-list : (u : SourceType) (e : Core) → is_list u e ≡ true → (t : SourceType) (n : Register) (k : ℕ) → Silent again H (started P.classes t e n k)
     silent-list u (core.list es last) ok t n k =
         let v : SourceType = element (unqualified u) in
-        let parts = both (are_elements v es) (is_element v last) (both (is_array u) (are_elements v es && is_element v last) ok).1 in
+        let parts = both (are_elements v es) (is_filling last) (both (is_array u) (are_elements v es && is_filling last) ok).1 in
         silent-list-of es last (λ x d i n k. silent-elements v es parts.0 x d i n k)
-        (λ t n k. or-else (is_initial last) (is_list v last) parts.1 (λ initial. silent-initial again H P t last initial n k) (λ is. silent-list v last is t n k)) t n k
+        (λ t n k. silent-initial again H P t last (filling-initial last parts.1) n k) t n k
     silent-list u e ok t n k = never ok
 
     silent-elements : (u : SourceType) (es : Cores) → are_elements u es ≡ true → (x : Full) (d : Destination) (i : ℕ) (n : Register) (k : ℕ) → Silent again H (elements P.classes x es d i n k)

@@ -260,8 +260,7 @@ module _ (r : Name → Name) where
     pub same-list : (t : SourceType) (e : Core) → is_list t (renamed r e) ≡ is_list t e
     same-list t (core.list es rest) =
         let u : SourceType = element (plain t) in
-        ap (λ b. is_array t && b) (two-same (are_elements u (renamed_all r es)) (is_element u (renamed r rest)) (are_elements u es) (is_element u rest) (same-elements u es)
-        (ap (λ b. b || is_list u (renamed r rest)) (same-initial rest) ∙ ap (λ b. is_initial rest || b) (same-list u rest)))
+        ap (λ b. is_array t && b) (two-same (are_elements u (renamed_all r es)) (is_filling (renamed r rest)) (are_elements u es) (is_filling rest) (same-elements u es) (same-filling rest))
     same-list t core.zeros = refl
     same-list t e = refl
 

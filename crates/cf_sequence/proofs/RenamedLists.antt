@@ -11,11 +11,12 @@ use Rattle.cf_core.specs.Joined.{renamed, renamed_all}
 use Rattle.cf_plain.specs.Plain.{Register, Plains, act, set, branch, loop, switch, case_label, default_label, leave, continue, give, nothing, more}
 use Rattle.cf_plain.specs.Plain as plain
 use Rattle.cf_plain.specs.Joined as joined
-use Rattle.cf_sequence.specs.Built.{is_initial, is_list, is_element, are_elements}
+use Rattle.cf_sequence.specs.Built.{is_initial, is_list, is_element, are_elements, is_filling}
 use Rattle.cf_sequence.specs.Made.{width, width_all}
 use Rattle.cf_sequence.specs.Expressions.{Full, Destination, elements, repeated, in_turn, part_in, part_type, parts_count, begun, built}
 use Rattle.cf_sequence.specs.Statements.{started}
 use Rattle.cf_sequence.proofs.Calling.{never, or-else}
+use Rattle.cf_sequence.proofs.Filling.{filling-initial, filling-element}
 use Rattle.cf_sequence.proofs.Lists.{element-costs}
 use Rattle.cf_sequence.proofs.Renamed.{same-width, same-element, same-count, same-width-all}
 use Rattle.cf_sequence.proofs.RenamedCode.{over-started}
@@ -124,9 +125,9 @@ module _ (r : Name → Name) where
       over-list : (u : SourceType) (e : Core) → is_list u e ≡ true → Codes e
       over-list u (core.list es last) ok =
           let v : SourceType = element (unqualified u) in
-          let parts = both (are_elements v es) (is_element v last) (both (is_array u) (are_elements v es && is_element v last) ok).1 in
-          over-list-of v es last parts.1 (over-elements v es parts.0)
-          (or-else (is_initial last) (is_list v last) parts.1 (λ initial. λ t n k rest. over-started r cs t last initial n k rest) (λ is. over-list v last is))
+          let parts = both (are_elements v es) (is_filling last) (both (is_array u) (are_elements v es && is_filling last) ok).1 in
+          over-list-of v es last (filling-element v last parts.1) (over-elements v es parts.0)
+          (λ t n k rest. over-started r cs t last (filling-initial last parts.1) n k rest)
       over-list u e ok = never ok
 
       over-elements : (u : SourceType) (es : Cores) → are_elements u es ≡ true → Rows es

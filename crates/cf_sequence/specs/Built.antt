@@ -76,10 +76,10 @@ is_filling e = false
 abbrev pub is_initial : Core → Bool
 is_initial e = is_filling e || is_start e
 
--- The list that is the initialiser of an array: each element has a list of its own, or is begun as a local is, and so is each that is left out (8.4.1).
+-- The list that is the initialiser of an array: each element has a list of its own, or is begun as a local is; those that are left out are filled (8.4.1).
 abbrev mutual
   pub is_list : SourceType → Core → Bool
-  is_list t (core.list es rest) = is_array t && (are_elements (element (plain t)) es && (is_initial rest || is_list (element (plain t)) rest))
+  is_list t (core.list es rest) = is_array t && (are_elements (element (plain t)) es && is_filling rest)
   is_list t e = false
 
   pub are_elements : SourceType → Cores → Bool
