@@ -34,6 +34,7 @@ use Rattle.cf_sequence.proofs.Calling.{Bodies, never}
 use Rattle.cf_sequence.proofs.Kept.{Kept, Ready, kept-all, added-two, keep-same, listed-there}
 use Rattle.cf_sequence.proofs.PlainSteps.{Usable, pick, runs_on, branch-steps, declare-steps}
 use Rattle.cf_sequence.proofs.Operands.{H, first-room, second-room}
+use Rattle.cf_sequence.proofs.Filling.{element-holds}
 use Rattle.cf_sequence.proofs.Lists.{Intact, initial-steps}
 use Rattle.cf_sequence.proofs.Elements.{nested-steps}
 use Rattle.cf_sequence.proofs.Moving.{all_gone, Held, held-kept, held-append, finished-steps, Moved, moved-count, moved-then, with_scope, Beyond}
@@ -90,10 +91,6 @@ module _ (again : calling.Again) (again' : running.Again) (P : Program) (bodies 
         life = ap (λ b. (if b then new_object T automatic else s.object s.next).life) same;
         stands = ap (λ b. (if b then new_object T automatic else s.object s.next).is_gone) same;
       }
-
-  element-holds : (T : SourceType) (e : Core) → is_element T e ≡ true → held_by e ≡ []
-  element-holds T (core.bind (local_temporary j u) e) ok = never ok
-  element-holds T e ok = refl
 
   declaration : (i : ℕ) (T : SourceType) (e : Core) (m : ℕ) → nat_le m i ≡ true → is_element T e ≡ true → (op : Open) (D : Beyond) (k : ℕ) (rest : Plains) (g : Registers) (s : State) (f : Frame) (w : World)
       (c : calling.Flow → Act A) (K : Flow → Act B)

@@ -9,7 +9,7 @@ use Rattle.cf_base.specs.World.{World, Went, and_then}
 use Rattle.cf_core.specs.Types.{SourceType, is_array}
 use Rattle.cf_core.specs.Classes.{Class}
 use Rattle.cf_core.specs.Core as core
-use Rattle.cf_core.specs.Core.{Core, item}
+use Rattle.cf_core.specs.Core.{Core, item, local_temporary}
 use Rattle.cf_core.specs.Nodes.{nodes}
 use Rattle.cf_core.specs.Places.{Place, inner, type_at}
 use Rattle.cf_core.specs.Store.{Value, Nothing, Built, Number, At, Object, zero_of, hold, hold_all}
@@ -61,6 +61,11 @@ pub filling-holds : (e : Core) → is_filling e ≡ true → held_by e ≡ []
 filling-holds core.zeros ok = refl
 filling-holds (core.string bytes) ok = refl
 filling-holds e ok = never ok
+
+-- an initialiser that is no reference's binds no temporary
+pub element-holds : (t : SourceType) (e : Core) → is_element t e ≡ true → held_by e ≡ []
+element-holds t (core.bind (local_temporary j u) e) ok = never ok
+element-holds t e ok = refl
 
 -- one act alone
 pub started-is : (cs : List Class) (t : SourceType) (e : Core) → is_filling e ≡ true → (n : Register) (k : ℕ) (rest : Plains)
