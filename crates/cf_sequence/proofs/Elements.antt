@@ -23,7 +23,7 @@ use Rattle.cf_plain.specs.Acts.{Registers}
 use Rattle.cf_plain.specs.Running as running
 use Rattle.cf_plain.specs.Running.{Flow}
 use Rattle.cf_sequence.specs.Follows.{Follows}
-use Rattle.cf_sequence.specs.Built.{is_initial, is_list, is_element, are_elements, is_chain, is_filling}
+use Rattle.cf_sequence.specs.Built.{is_row, is_initial, is_list, is_element, are_elements, is_chain, is_filling}
 use Rattle.cf_sequence.specs.Made.{width, width_all}
 use Rattle.cf_sequence.specs.Expressions.{Full, Destination, destination, value, elements, repeated, in_turn, part_in, part_type, parts_count}
 use Rattle.cf_sequence.specs.Statements.{started}
@@ -36,7 +36,7 @@ use Rattle.cf_sequence.proofs.Filling.{filling-element}
 use Rattle.cf_sequence.proofs.Fulls.{closing, closed}
 use Rattle.cf_sequence.proofs.Standing.{settled_full}
 use Rattle.cf_sequence.proofs.LastingCode.{Rests}
-use Rattle.cf_sequence.proofs.Lists.{array-part, array-count, array-no-class, element-costs, all-width, Intact, Lies, element-lies, Stays, alone-steps, part-steps}
+use Rattle.cf_sequence.proofs.Lists.{row-array, array-part, array-count, array-no-class, element-costs, all-width, Intact, Lies, element-lies, Stays, alone-steps, part-steps}
 
 -- the type and the number of the parts of an array
 array-element : (cs : List Class) (t : SourceType) → is_array t ≡ true → (i : ℕ) → part_type cs t i ≡ element (unqualified t)
@@ -260,10 +260,11 @@ module _ (again : calling.Again) (again' : running.Again) (P : Program) (bodies 
     pub nested-steps : (t : SourceType) (e : Core) → is_list t e ≡ true → Nested t e
     nested-steps t (core.list es last) ok =
         let u : SourceType = element (unqualified t) in
-        let kinds = both (is_array t) (are_elements u es && is_filling last) ok in
+        let kinds = both (is_row t) (are_elements u es && is_filling last) ok in
+        let arr = row-array t kinds.0 in
         let parts = both (are_elements u es) (is_filling last) kinds.1 in
         let fills = filling-element u last parts.1 in
-        nested-of t es last kinds.0 fills (row-steps t kinds.0 es parts.0) (item-of t last kinds.0 fills (λ is. nested-steps u last is))
+        nested-of t es last arr fills (row-steps t arr es parts.0) (item-of t last arr fills (λ is. nested-steps u last is))
     nested-steps t e ok = never ok
 
     row-steps : (t : SourceType) → is_array t ≡ true → (es : Cores) → are_elements (element (unqualified t)) es ≡ true → Row t es

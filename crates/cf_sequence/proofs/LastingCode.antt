@@ -22,7 +22,7 @@ use Rattle.cf_core.specs.Program.{begins, unbuilds, ends, ended_well, run_body, 
 use Rattle.cf_core.specs.Statements as does
 use Rattle.cf_core.specs.Statements.{has_case, has_default, passes, passes_all, falling, turning, leaving, tests_first}
 use Rattle.cf_core.specs.Valid.{is_label}
-use Rattle.cf_sequence.specs.Built.{is_value, are_values, are_arguments, is_chain, is_condition, is_start, is_filling, is_initial, is_list, is_element, are_elements, is_held, next_local, declares_here, is_statement, is_inner_or, are_cases, are_statements}
+use Rattle.cf_sequence.specs.Built.{is_row, is_value, are_values, are_arguments, is_chain, is_condition, is_start, is_filling, is_initial, is_list, is_element, are_elements, is_held, next_local, declares_here, is_statement, is_inner_or, are_cases, are_statements}
 use Rattle.cf_sequence.proofs.Following.{Looks, looks-pure, pure-valid}
 use Rattle.cf_sequence.proofs.Steps.{pure-used, pure-place_of, pure-number_of, pure-truth_of, pure-converted_value, pure-operated, pure-signed, pure-changed, looks-read_place, looks-followed}
 use Rattle.cf_sequence.proofs.Pointers.{pure-pointed_to, looks-indexed, looks-decayed, looks-moved_by, looks-from_void, looks-pointer_op}
@@ -266,7 +266,7 @@ module _ (again : calling.Again) (P : Program) (classless : P.classes ≡ []) (r
     list-keeps : (base : List ℕ) (t : SourceType) (e : Core) → is_list t e ≡ true → (p : Place) → m ≤ p.object → Keeps (L base) (meaning.value again P e (Some p))
     list-keeps base t (core.list es rest) ok p le =
         let u : SourceType = element (plain t) in
-        let parts = both (are_elements u es) (is_filling rest) (both (is_array t) (are_elements u es && is_filling rest) ok).1 in
+        let parts = both (are_elements u es) (is_filling rest) (both (is_row t) (are_elements u es && is_filling rest) ok).1 in
         list-of base es rest p le (λ v. elements-keep base u es parts.0 0 p v le)
         (λ q le. filling-keeps base rest parts.1 q)
     list-keeps base t e ok p le = never ok

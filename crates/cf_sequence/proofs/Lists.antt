@@ -27,7 +27,7 @@ use Rattle.cf_plain.specs.Acts.{Registers}
 use Rattle.cf_plain.specs.Running as running
 use Rattle.cf_plain.specs.Running.{Flow, Falls, keep, falling, all}
 use Rattle.cf_sequence.specs.Follows.{Follows}
-use Rattle.cf_sequence.specs.Built.{is_value, is_start, is_filling, is_initial, is_list, is_element, are_elements, is_chain}
+use Rattle.cf_sequence.specs.Built.{is_row, is_value, is_start, is_filling, is_initial, is_list, is_element, are_elements, is_chain}
 use Rattle.cf_sequence.specs.Made.{added, width, width_all}
 use Rattle.cf_sequence.specs.Expressions.{Full, Destination, destination, elements, repeated, in_turn, part_in, part_type, parts_count, begun, built, settled}
 use Rattle.cf_sequence.specs.Statements.{started}
@@ -45,6 +45,11 @@ use Rattle.cf_sequence.proofs.Lasting.{Keeps, Newer, Lasting}
 use Rattle.cf_sequence.proofs.LastingCode.{Rests, initial-keeps, settled-keeps}
 
 -- ---- arrays
+
+pub row-array : (t : SourceType) → is_row t ≡ true → is_array t ≡ true
+row-array (array t n) ok = refl
+row-array (const (array t n)) ok = refl
+row-array t ok = never ok
 
 pub array-part : (t : SourceType) → is_array t ≡ true → (i : ℕ) → element_part t i ≡ item i
 array-part (array t n) ok i = refl
@@ -89,7 +94,7 @@ mutual
   list-costs t (core.list es rest) ok cs u =
       let v : SourceType = element (unqualified t) in
       let w : SourceType = element (unqualified u) in
-      let parts = both (are_elements v es) (is_filling rest) (both (is_array t) (are_elements v es && is_filling rest) ok).1 in
+      let parts = both (are_elements v es) (is_filling rest) (both (is_row t) (are_elements v es && is_filling rest) ok).1 in
       none-costs (is_array u) (any_costs es cs w) (nat_lt (count es) (bound u)) (costs_tick rest cs w) (elements-cost v es parts.0 cs w)
       (filling-costs rest parts.1 cs w)
   list-costs t e ok cs u = never ok
@@ -244,7 +249,7 @@ module _ (again : running.Again) (H : Program) (P : Program) where
     silent-list : (u : SourceType) (e : Core) → is_list u e ≡ true → (t : SourceType) (n : Register) (k : ℕ) → Silent again H (started P.classes t e n k)
     silent-list u (core.list es last) ok t n k =
         let v : SourceType = element (unqualified u) in
-        let parts = both (are_elements v es) (is_filling last) (both (is_array u) (are_elements v es && is_filling last) ok).1 in
+        let parts = both (are_elements v es) (is_filling last) (both (is_row u) (are_elements v es && is_filling last) ok).1 in
         silent-list-of es last (λ x d i n k. silent-elements v es parts.0 x d i n k)
         (λ t n k. silent-initial again H P t last (filling-initial last parts.1) n k) t n k
     silent-list u e ok t n k = never ok

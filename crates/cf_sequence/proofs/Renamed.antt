@@ -10,7 +10,7 @@ use Rattle.cf_core.specs.Places.{is_reference}
 use Rattle.cf_core.specs.Nodes.{nodes, nodes_all, nodes_maybe, nodes_parts}
 use Rattle.cf_core.specs.Joined.{renamed, renamed_all, renamed_maybe, renamed_parts, is_nothing}
 use Rattle.cf_core.specs.Valid.{is_label, has_label}
-use Rattle.cf_sequence.specs.Built.{is_chain, is_value, are_values, are_arguments, is_condition, is_start, is_filling, is_initial, is_list, is_element, are_elements, is_held, behind_declared, next_local, next_locals, declares_here, is_statement, is_inner_or, are_cases, are_statements, is_constant_value, is_constant_initial, is_constant_start}
+use Rattle.cf_sequence.specs.Built.{is_row, is_chain, is_value, are_values, are_arguments, is_condition, is_start, is_filling, is_initial, is_list, is_element, are_elements, is_held, behind_declared, next_local, next_locals, declares_here, is_statement, is_inner_or, are_cases, are_statements, is_constant_value, is_constant_initial, is_constant_start}
 use Rattle.cf_sequence.specs.Made.{Local, temporaries, temporaries_all, added, makes, width, width_maybe, width_all, declared, declared_all, held_by}
 use Rattle.cf_sequence.specs.Expressions.{builds}
 use Rattle.cf_sequence.proofs.Calling.{never}
@@ -260,7 +260,7 @@ module _ (r : Name → Name) where
     pub same-list : (t : SourceType) (e : Core) → is_list t (renamed r e) ≡ is_list t e
     same-list t (core.list es rest) =
         let u : SourceType = element (plain t) in
-        ap (λ b. is_array t && b) (two-same (are_elements u (renamed_all r es)) (is_filling (renamed r rest)) (are_elements u es) (is_filling rest) (same-elements u es) (same-filling rest))
+        ap (λ b. is_row t && b) (two-same (are_elements u (renamed_all r es)) (is_filling (renamed r rest)) (are_elements u es) (is_filling rest) (same-elements u es) (same-filling rest))
     same-list t core.zeros = refl
     same-list t e = refl
 

@@ -11,7 +11,7 @@ use Rattle.cf_core.specs.Joined.{renamed, renamed_all}
 use Rattle.cf_plain.specs.Plain.{Register, Plains, act, set, branch, loop, switch, case_label, default_label, leave, continue, give, nothing, more}
 use Rattle.cf_plain.specs.Plain as plain
 use Rattle.cf_plain.specs.Joined as joined
-use Rattle.cf_sequence.specs.Built.{is_initial, is_list, is_element, are_elements, is_filling}
+use Rattle.cf_sequence.specs.Built.{is_row, is_initial, is_list, is_element, are_elements, is_filling}
 use Rattle.cf_sequence.specs.Made.{width, width_all}
 use Rattle.cf_sequence.specs.Expressions.{Full, Destination, elements, repeated, in_turn, part_in, part_type, parts_count, begun, built}
 use Rattle.cf_sequence.specs.Statements.{started}
@@ -125,7 +125,7 @@ module _ (r : Name → Name) where
       over-list : (u : SourceType) (e : Core) → is_list u e ≡ true → Codes e
       over-list u (core.list es last) ok =
           let v : SourceType = element (unqualified u) in
-          let parts = both (are_elements v es) (is_filling last) (both (is_array u) (are_elements v es && is_filling last) ok).1 in
+          let parts = both (are_elements v es) (is_filling last) (both (is_row u) (are_elements v es && is_filling last) ok).1 in
           over-list-of v es last (filling-element v last parts.1) (over-elements v es parts.0)
           (λ t n k rest. over-started r cs t last (filling-initial last parts.1) n k rest)
       over-list u e ok = never ok

@@ -2,7 +2,7 @@
 -- calls and all statements, lists that are the initialisers of local arrays, and static objects with constant initialisers; no class.
 use Rattle.std.specs.Prelude.{ℕ, suc, Bool, true, false, ◌&&◌, ◌||◌, not, nat_le, nat_lt, nat_eq, List, [], ◌∷◌, length, bytes_eq, codes}
 use Rattle.std.specs.List.{list_all, starts_with}
-use Rattle.cf_core.specs.Types.{Name, SourceType, takes, gives, result, is_class, is_array, parameters, plain, element}
+use Rattle.cf_core.specs.Types.{Name, SourceType, array, const, takes, gives, result, is_class, parameters, plain, element}
 use Rattle.cf_core.specs.Core as core
 use Rattle.cf_core.specs.Core.{Core, Cores, MaybeCore, no_temporary, local_temporary, none, absent, given, Role, plain_function, Function, Static, CoreFile}
 use Rattle.cf_core.specs.Calls.{Program, Setting}
@@ -76,10 +76,16 @@ is_filling e = false
 abbrev pub is_initial : Core → Bool
 is_initial e = is_filling e || is_start e
 
+-- an array, which may be const
+abbrev pub is_row : SourceType → Bool
+is_row (array t n) = true
+is_row (const (array t n)) = true
+is_row t = false
+
 -- The list that is the initialiser of an array: each element has a list of its own, or is begun as a local is; those that are left out are filled (8.4.1).
 abbrev mutual
   pub is_list : SourceType → Core → Bool
-  is_list t (core.list es rest) = is_array t && (are_elements (element (plain t)) es && is_filling rest)
+  is_list t (core.list es rest) = is_row t && (are_elements (element (plain t)) es && is_filling rest)
   is_list t e = false
 
   pub are_elements : SourceType → Cores → Bool

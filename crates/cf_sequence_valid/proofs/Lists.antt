@@ -35,7 +35,7 @@ use Rattle.cf_core.specs.Typed.{typings, all_start, fields_start, list_starts}
 use Rattle.cf_plain.specs.Valid.{action_fits}
 use Rattle.std.specs.Prelude.{pos, is_some}
 use Rattle.std.proofs.Common.{zero, ◌-◌, ◌∷◌}
-use Rattle.cf_sequence.specs.Built.{is_list, is_element, are_elements}
+use Rattle.cf_sequence.specs.Built.{is_row, is_list, is_element, are_elements}
 use Rattle.cf_sequence.specs.Made.{width_all}
 use Rattle.cf_sequence.specs.Expressions.{elements, repeated, in_turn, part_in, part_type, parts_count, begun, built}
 use Rattle.cf_sequence.proofs.Filling.{element-holds}
@@ -162,7 +162,7 @@ module _ (body : Body) (locals : List SourceType) (keeps : Kept body.scope local
     list-sound : (u : SourceType) (e : Core) → is_list u e ≡ true → Begins e → Sound e
     list-sound u (core.list es last) ok begins =
         let v : SourceType = element (unqualified u) in
-        let parts = both (are_elements v es) (is_filling last) (both (is_array u) (are_elements v es && is_filling last) ok).1 in
+        let parts = both (are_elements v es) (is_filling last) (both (is_row u) (are_elements v es && is_filling last) ok).1 in
         list-of es last (elements-sound v es parts.0 (list-begins begins.type es (typing scope last) begins.starts)) parts.1
     list-sound u e ok begins = never ok
 
