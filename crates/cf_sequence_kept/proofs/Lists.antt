@@ -1,9 +1,9 @@
 -- Lists as initialisers: each register is set before it is used, and holds there what is taken (8.4.1).
-use Rattle.std.proofs.Common.{◌≡◌, ℕ, zero, suc, ◌+◌, ◌-◌, ◌≤◌, ◌<◌, Bool, true, false, ◌&&◌, ◌||◌, nat_le, if◌then◌else◌, List, [], ◌∷◌, ◌++◌, length, reverse, refl, sym, ap, ◌∙◌, subst, arith}
+use Rattle.std.proofs.Common.{◌≡◌, ℕ, zero, suc, ◌+◌, ◌-◌, ◌≤◌, ◌<◌, Bool, true, false, ◌&&◌, ◌||◌, nat_le, if◌then◌else◌, List, length, reverse, refl, sym, ap, ◌∙◌, subst, arith}
 use Rattle.std.specs.Prelude.{pos, Option, Some, slice_get}
 use Rattle.cf_base.specs.Integers.{fits}
 use Rattle.cf_base.proofs.Tests.{both}
-use Rattle.cf_core.specs.Types.{SourceType, array, const, plain as unqualified, element, is_array, is_class}
+use Rattle.cf_core.specs.Types.{SourceType, array, const, plain as unqualified, element, is_array}
 use Rattle.cf_core.specs.Classes.{Class, fields_of, type_in}
 use Rattle.cf_core.specs.Core as core
 use Rattle.cf_core.specs.Core.{Core, Cores, none}
@@ -20,12 +20,12 @@ use Rattle.cf_plain_kept.specs.Kept as kept
 use Rattle.cf_plain_kept.specs.Kept.{Kept, no_value, an_integer, a_place, an_object, Keeping, keep, given, suits, moved_kept, kept_by}
 use Rattle.cf_sequence.specs.Built.{is_value, is_start, is_filling, is_initial, is_row, is_list, is_element, are_elements}
 use Rattle.cf_sequence.specs.Made.{Temporary, temporaries, added, width, width_all}
-use Rattle.cf_sequence.specs.Expressions.{Full, Destination, destination, ended, settled, elements, repeated, in_turn, part_in, part_type, parts_count, begun, built}
+use Rattle.cf_sequence.specs.Expressions.{Full, Destination, destination, ended, settled, elements, repeated, in_turn, part_in, part_type, parts_count}
 use Rattle.cf_sequence.specs.Statements.{Inside, started}
 use Rattle.cf_sequence.proofs.Calling.{never}
 use Rattle.cf_sequence.proofs.Filling.{fill, started-is, filling-adds, filling-element}
 use Rattle.cf_sequence.proofs.Fulls.{nothing-is}
-use Rattle.cf_sequence.proofs.Lists.{row-array, array-no-class, element-costs}
+use Rattle.cf_sequence.proofs.Lists.{array-no-class, element-costs}
 use Rattle.cf_sequence_kept.proofs.Fulls.{Held, held as held-value, ends-run}
 use Rattle.cf_sequence_kept.proofs.Values.{keep-at, keep-below, runs, set-runs, act-runs}
 use Rattle.cf_sequence_kept.proofs.Whole.{settled-put}
