@@ -3,21 +3,19 @@ use Rattle.std.proofs.Common.{◌≡◌, ℕ, [], ◌∷◌, refl}
 use Rattle.std.specs.Prelude.{Some, codes}
 use Rattle.cf_syntax.specs.declared.specifier.BasicType.TheVariants as basic
 use Rattle.cf_base.specs.declared.limit.Bound.TheVariants as bound
-use Rattle.cf_elab.specs.Answer.{Elab}
 use Rattle.cf_elab.specs.File.{First, Limit}
 use Rattle.cf_elab.specs.Statement.{expression_row}
-use Rattle.cf_elab.proofs.Words.{number, named, basic_at, int_at, called, pointing, taking, holding, parameter, basic_word, plain, with_value, declared_item, function, elaborates, refusal}
+use Rattle.cf_elab.proofs.Words.{number, named, basic_at, called, pointing, taking, holding, plain, with_value, declared_item, function, elaborates, refusal}
 
--- void f(char(*p)[n]){x;}
-abbrev with_parameter_of : ℕ → First
-with_parameter_of n =
-    elaborates (function (basic_at 0 basic.Void ∷ []) 5 (taking 6 (parameter 7 (basic_word 7 basic.Char ∷ []) (holding 15 (Some (number 16 n)) (pointing 12 (called 13 (codes "p")))) ∷ []) (called 5 (codes "f"))) 25
-    (expression_row 26 (named 26 (codes "x")) ∷ []) ∷ [])
+-- char(*f())[n]{x;}
+abbrev with_result_of : ℕ → First
+with_result_of n =
+    elaborates (function (basic_at 0 basic.Char ∷ []) 4 (holding 10 (Some (number 11 n)) (pointing 5 (taking 7 [] (called 6 (codes "f"))))) 19 (expression_row 20 (named 20 (codes "x")) ∷ []) ∷ [])
 
-size_before_the_body : with_parameter_of 4194305 ≡ Limit bound.Size 4194304
+size_before_the_body : with_result_of 4194305 ≡ Limit bound.Size 4194304
 size_before_the_body = refl
 
-size_within : refusal (with_parameter_of 4194304) ≡ Some (10, 26)
+size_within : refusal (with_result_of 4194304) ≡ Some (10, 20)
 size_within = refl
 
 -- char(*p)[n],x=y;
