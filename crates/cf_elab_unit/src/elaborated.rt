@@ -6,35 +6,40 @@ use cf_elab_env::Env;
 use cf_types::Types;
 use std::marker::Model;
 
-/// What a file is elaborated to: the parts of its core. Contracts see it as their record.
+/// What a file is elaborated to. Contracts see it as what is known at the end of the file, whose core is `core_unit` of that.
 #[derive(Drop)]
 pub struct Elaborated {
-    /// What is known at the end of the file.
     env: Env,
 }
 
 impl Model for Elaborated {
     ghost use Rattle.std.specs.Coded.{codes};
-    ghost use Rattle.cf_core.specs.FromUnit.{Unit};
     ghost use Rattle.cf_core.specs.contracts.node.Core as core;
-    ghost use Rattle.cf_elab.specs.File.{core_unit};
+    ghost use Rattle.cf_elab.specs.Env.{Env};
 
-    ghost Value = { Unit };
+    ghost Value = { Env };
 
     ghost coded = { Prim.hlevel (codes, core.the_row.coded) };
 
-    ghost view = { λ e. core_unit e.env };
+    ghost view = { λ e. e.env };
 }
 
 impl Elaborated {
     ghost use Rattle.cf_core.specs.FromUnit.{IsValid};
     ghost use Rattle.cf_elab.specs.File.{core_unit};
 
-    /// The core of what is known at the end of a file.
+    /// What is known at the end of a file.
     pub(crate) fn new(env: Env) -> Elaborated
-        ensures { result ≡ core_unit env }
+        ensures { result ≡ env }
     {
         Elaborated { env }
+    }
+
+    /// What is known at the end of the file.
+    pub fn env(&self) -> &Env
+        ensures { result.now ≡ self.now }
+    {
+        &self.env
     }
 
     /// The types that the file makes.
@@ -65,10 +70,17 @@ impl Elaborated {
         self.env.statics()
     }
 
+    /// What is known at the end of the file, to be taken apart.
+    pub fn into_env(self) -> Env
+        ensures { result ≡ self }
+    {
+        self.env
+    }
+
     /// The core itself, where it is valid.
     pub fn into_unit(self) -> CoreUnit
-        requires valid { IsValid self }
-        ensures { result ≡ self }
+        requires valid { IsValid (core_unit self) }
+        ensures { result ≡ core_unit self }
     {
         self.env.into_unit()
     }

@@ -1,9 +1,9 @@
 //! Files (17).
 
-ghost use Rattle.std.specs.Prelude.{◌≡◌};
+ghost use Rattle.std.specs.Prelude.{◌≡◌, IfOk};
 ghost use Rattle.cf_elab.specs.Built as built;
 ghost use Rattle.cf_elab.specs.File as file;
-ghost use Rattle.cf_elab_unit.specs.First.{IsFirst};
+ghost use Rattle.cf_elab_unit.specs.First.{IsFirst, EndsAs};
 ghost use Rattle.cf_elab_unit.specs.Shut as shut;
 
 use crate::elaborated::Elaborated;
@@ -16,10 +16,11 @@ use cf_elab_scan::defined_names;
 use cf_unit::Unit;
 use std::alloc::Global;
 
-/// The core of a file; or its first form that is not built, K48, the first rule that it breaks and where, or a limit that it passes.
+/// What a file is elaborated to, with its core; or its first form that is not built, K48, the first rule that it breaks and where, or a limit that it passes.
 #[tactic(auto, using(crate::proofs::FileRows::file_laws))]
 pub fn elab(alloc: Global, unit: &Unit) -> Result<Elaborated, Stop>
-    ensures { IsFirst (built.first_of_file unit.now) result }
+    ensures first { IsFirst (built.first_of_file unit.now) result }
+    ensures ends { IfOk result (λ end. EndsAs unit.now end) }
 {
     match not_built(unit) {
         Some(at) => Err(Stop::Broken(Broken {
@@ -27,17 +28,18 @@ pub fn elab(alloc: Global, unit: &Unit) -> Result<Elaborated, Stop>
             at,
         })),
         None => {
-            let core = core_of(alloc, unit)?;
-            Ok(core)
+            let end = end_of(alloc, unit)?;
+            Ok(end)
         }
     }
 }
 
 /// The same of a file whose forms are all built.
-#[tactic(auto, using(crate::proofs::FileRows::core_laws))]
-fn core_of(alloc: Global, unit: &Unit) -> Result<Elaborated, Stop>
-    requires { shut.AreBuilt unit.now.items }
-    ensures { IsFirst (file.elaboration built.built_so_far unit.now) result }
+#[tactic(auto, using(crate::proofs::FileRows::end_laws))]
+fn end_of(alloc: Global, unit: &Unit) -> Result<Elaborated, Stop>
+    requires { built.not_built unit.now ≡ None }
+    ensures first { IsFirst (file.elaboration built.built_so_far unit.now) result }
+    ensures ends { IfOk result (λ end. EndsAs unit.now end) }
 {
     let defines = defined_names(alloc, unit)?;
     let mut env = begun(alloc, built_so_far(), defines)?;

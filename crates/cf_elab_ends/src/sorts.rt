@@ -1,0 +1,34 @@
+//! What operators ask of a type, as the look at the end of a file asks it.
+
+ghost use Rattle.std.specs.Prelude.{◌≡◌, ◌&&◌, not};
+ghost use Rattle.cf_elab.specs.Operand as operand;
+ghost use Rattle.cf_elab_env.specs.Seen.{sort_seen};
+ghost use Rattle.cf_elab_valid_file.specs.Ends as ends;
+
+use cf_elab_env::Sort;
+
+pub(crate) fn is_reference(sort: Sort) -> bool
+    ensures { result ≡ operand.is_reference (sort_seen sort) }
+{
+    matches!(sort, Sort::Reference(_))
+}
+
+pub(crate) fn is_void(sort: Sort) -> bool
+    ensures { result ≡ operand.is_void (sort_seen sort) }
+{
+    matches!(sort, Sort::Void)
+}
+
+/// Whether an object can be of it.
+pub(crate) fn is_object(sort: Sort) -> bool
+    ensures { result ≡ ends.is_object (sort_seen sort) }
+{
+    !matches!(sort, Sort::Void | Sort::Function(_))
+}
+
+/// Whether a function can give it (8.2.5).
+pub(crate) fn is_given(sort: Sort) -> bool
+    ensures { result ≡ ends.is_given (sort_seen sort) }
+{
+    !matches!(sort, Sort::Array(_, _) | Sort::Function(_))
+}

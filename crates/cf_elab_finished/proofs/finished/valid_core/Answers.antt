@@ -1,0 +1,8 @@
+use Rattle.cf_elab.specs.Built.{built_so_far}
+use Rattle.cf_elab_finished.proofs.finished.valid_core.Goals as goal
+
+pub into_unit-requires : goal.into_unit-requires
+into_unit-requires c =
+    let u = c.args.unit.now in
+    let ends = c.requires.ends in
+    c.finished_files_are_valid.ensures built_so_far u ends.built c.requires.fits c.args.env ends.made c.holds.ensures.table c.requires.finished

@@ -1,0 +1,16 @@
+-- The core of a file whose end is known.
+use Rattle.std.specs.Prelude.{if◌then◌else◌, Option, None, Some}
+use Rattle.cf_unit.specs.declared.file.Unit.{Unit as FileTree}
+use Rattle.cf_core.specs.FromUnit.{Unit as CoreUnit}
+use Rattle.cf_elab.specs.Env.{Env}
+use Rattle.cf_elab.specs.File.{core_unit}
+use Rattle.cf_elab_ends.specs.Ends.{is_finished}
+use Rattle.cf_elab_fits.specs.Fits.{file_fits}
+
+-- where a look at the end finds it well formed
+abbrev pub finished_end : Env → Option CoreUnit
+finished_end end = if is_finished end then Some (core_unit end) else None
+
+-- and the tree is as those of texts are: then the core is valid
+abbrev pub finished : FileTree → Env → Option CoreUnit
+finished u end = if file_fits u then finished_end end else None
