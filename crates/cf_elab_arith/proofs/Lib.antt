@@ -1,3 +1,3 @@
-pub mod Known
-pub mod StepLaws
-pub mod FitTruthLaws
+pub mod ArithLaws
+pub mod ChoiceLaws
+pub mod UnaryLaws

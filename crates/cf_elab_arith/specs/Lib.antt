@@ -1,3 +1,3 @@
-pub mod Shut
-pub mod Sorts
-pub mod FitShut
+pub mod Arith
+pub mod Choice
+pub mod Unary

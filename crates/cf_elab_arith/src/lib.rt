@@ -1,17 +1,16 @@
-//! Operators on integers and enumerations while a file is elaborated (5.3, 5.6 to 5.15).
-//!
-//! Each function does a row of the definitions of elaboration, and its contract cites the row by its name in `specs/Shut`.
+//! Integer operators, unary operators, steps, subscripts, the conditional and the comma.
 #![tactic(auto)]
 
-mod integers;
-mod logical;
-mod refusals;
-mod sorts;
+mod arith;
+mod choice;
+mod unary;
 
-pub use cf_elab_fit::{convert, plain, steps, to_kind, truth};
-pub use integers::{complemented, integer, negated, on_kinds};
-pub use logical::{conjunction, disjunction, negation};
-pub use refusals::broken;
-pub use sorts::{
-    integral_at, is_complete, is_enum, is_pointer, is_void_pointer, kind_at, object_at, target_at,
+pub use arith::{
+    broken, complemented, conjunction, convert, disjunction, integer, integral_at, is_complete,
+    is_enum, is_pointer, is_void_pointer, kind_at, negated, negation, object_at, on_kinds, plain,
+    steps, target_at, to_kind, truth,
+};
+pub use choice::{conditional, sequence};
+pub use unary::{
+    address_of, check_complete, check_modifiable, increment, prefixed, stays_fixed, subscript,
 };

@@ -1,14 +1,8 @@
-//! What of the language a file's tree has that is not built so far: the place of its first such form.
-//!
-//! `cf_elab/specs/Built` says form by form what is built. Of each part there is one walk, whose contract is one
-//! equation with that definition.
+//! What of a file is not built, and which names it defines: walks over its tree.
 #![tactic(auto)]
 
-mod declarations;
-mod expressions;
-mod files;
-mod names;
-mod place;
-mod statements;
+mod built;
+mod scan;
 
-pub use files::not_built;
+pub use built::not_built;
+pub use scan::{declared_name, defined_names, is_bare, is_function, key};

@@ -17,7 +17,7 @@ use Rattle.cf_elab_env.specs.Holds.{Known, IsType, Grows}
 use Rattle.cf_elab_env.specs.declared.stop.Stop.{Stop}
 use Rattle.cf_elab_env.specs.declared.stop.Stop.TheVariants as stop
 use Rattle.cf_elab_env.proofs.Growth.{type_grown, known_grown, All-into}
-use Rattle.cf_elab_initial.specs.Shut as start
+use Rattle.cf_elab_initial.specs.Initials.Shut as start
 use Rattle.cf_elab_call.specs.Shut as shut
 
 -- ---- what is known is known in a longer table

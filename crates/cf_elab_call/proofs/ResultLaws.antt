@@ -11,8 +11,8 @@ use Rattle.cf_elab.specs.Operand.{Value, computed, place_of, result_step}
 use Rattle.cf_elab_env.specs.Holds.{IsType}
 use Rattle.cf_elab_env.proofs.Growth.{here}
 use Rattle.cf_elab_env.proofs.Sorts.{below_at}
-use Rattle.cf_elab_unary.specs.Shut as unary
-use Rattle.cf_elab_unary.proofs.PointerLaws.{unnumbered}
+use Rattle.cf_elab_arith.specs.Unary.Shut as unary
+use Rattle.cf_elab_arith.proofs.UnaryLaws.PointerLaws.{unnumbered}
 use Rattle.cf_elab_call.specs.Results.{returned, returned_as}
 use Rattle.cf_elab_call.specs.Shut as shut
 

@@ -6,8 +6,8 @@ ghost use Rattle.cf_elab_env.specs.Holds.{Known, IsType};
 
 use cf_base::Boxed;
 use cf_core::Core;
+use cf_elab_arith::check_complete;
 use cf_elab_env::{Env, Stop, Value};
-use cf_elab_unary::check_complete;
 use cf_types::{Ty, TyId};
 
 /// The value of a call that returns this type, which is complete, else K30 (5.2.2).

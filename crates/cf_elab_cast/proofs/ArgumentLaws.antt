@@ -12,7 +12,7 @@ use Rattle.cf_elab.specs.Operand.{Value, Sort, sort_of, computed, constant, inte
 use Rattle.cf_elab_env.specs.Holds.{Known, IsEnv, IsType}
 use Rattle.cf_elab_env.proofs.Bare.{sort_bare}
 use Rattle.cf_elab_env.proofs.Growth.{grown_laws}
-use Rattle.cf_elab_choice.proofs.ClassFree.{unused_node}
+use Rattle.cf_elab_arith.proofs.ChoiceLaws.ClassFree.{unused_node}
 use Rattle.cf_elab_cast.specs.declared.arguments.Given.{Given}
 use Rattle.cf_elab_cast.specs.declared.arguments.Given.TheVariants as given
 use Rattle.cf_elab_cast.specs.Forms.{zero_form, zero_form_at}

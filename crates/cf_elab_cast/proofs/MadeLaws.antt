@@ -9,7 +9,7 @@ use Rattle.cf_elab.specs.Env.{Env}
 use Rattle.cf_elab.specs.Operand.{Value, Sort, sort_of, computed, enumeral}
 use Rattle.cf_elab_env.specs.Holds.{Known, IsEnv, IsType, FitsIn, fits_sort}
 use Rattle.cf_elab_numbers.specs.Numbers.{NumberOf}
-use Rattle.cf_elab_choice.proofs.ClassFree.{unused_node}
+use Rattle.cf_elab_arith.proofs.ChoiceLaws.ClassFree.{unused_node}
 use Rattle.cf_elab_cast.specs.Same.{same}
 use Rattle.cf_elab_cast.specs.Shut as shut
 use Rattle.cf_elab_cast.specs.Forms.{IsEnumeral}

@@ -11,5 +11,5 @@ mod same;
 
 pub use arguments::{from_arguments, zero_value};
 pub use casts::cast;
-pub use cf_elab_choice::{conditional, sequence};
+pub use cf_elab_arith::{conditional, sequence};
 pub use same::same_types;

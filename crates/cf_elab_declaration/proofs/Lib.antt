@@ -1,13 +1,4 @@
-pub mod AliasLaws
-pub mod BuiltParts
-pub mod DeclarationRows
-pub mod DeclaratorRows
-pub mod NamesBuilt
-pub mod Several
-pub mod SpecifierRows
-pub mod Worded
-pub mod ExprBuiltForms
-pub mod DeclareFunctionLaws
-pub mod DeclareNameLaws
-pub mod DefineBlockObjects
-pub mod CallSignatureLaws
+pub mod DeclarationsLaws
+pub mod DeclaratorsLaws
+pub mod EnumsLaws
+pub mod WrittenTreesLaws

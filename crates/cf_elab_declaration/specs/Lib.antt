@@ -1,4 +1,4 @@
-pub mod Shut
-pub mod ExprShut
-pub mod DeclareShut
-pub mod CallSignatures
+pub mod Declarations
+pub mod Declarators
+pub mod Enums
+pub mod WrittenTrees

@@ -1,16 +1,14 @@
-//! Declarations of a file or a block with all that is in them, while a file is elaborated (7, 8).
-//!
-//! `specs/Shut` names the rows of the definitions of elaboration that the contracts cite; forms that are not built are kept out by `IsBuilt` and its
-//! kin.
+//! Enumerations, initialisers, declarators and declarations by their trees.
 #![tactic(auto)]
 
-mod alias;
-mod built;
+mod declarations;
 mod declarators;
-mod declaring;
-mod specifiers;
+mod enums;
+mod written_trees;
 
-pub use cf_elab_declarator::{check_no_definition, declare_function, declares_function};
-pub use cf_elab_enums::{declared_name, evaluated, shape_of};
-pub use declaring::declaration;
-pub use specifiers::words;
+pub use declarations::{declaration, words};
+pub use declarators::{
+    check_conflict, check_no_definition, declare_function, declares_function, named_declarator,
+};
+pub use enums::{declared_name, enumeration, evaluated, shape_of};
+pub use written_trees::{initial_at, outline, parts_of, tree_of, written};

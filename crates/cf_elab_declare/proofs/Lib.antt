@@ -1,9 +1,3 @@
-pub mod BeginLaws
-pub mod CheckLaws
-pub mod FinishLaws
-pub mod FunctionLaws
-pub mod HeadLaws
-pub mod NameLaws
-pub mod ObjectLaws
-pub mod Rows
-pub mod DefineBlockObjects
+pub mod DeclaresLaws
+pub mod DefinesLaws
+pub mod StartsLaws

@@ -1,5 +1,3 @@
-pub mod Begun
-pub mod Headed
-pub mod Shut
-pub mod DefineReached
-pub mod DefineShut
+pub mod Declares
+pub mod Defines
+pub mod Starts

@@ -1,23 +1,19 @@
-//! Declarators of a file or a block behind their parts, while a file is elaborated: what their specifiers and bounds say, and the rows of type names,
-//! functions and objects (7.1, 8.1, 8.2, 8.4).
-//!
-//! The parts of an initialiser are elaborated once the name is known, so an object is a function before them and one behind them. Each contract cites a
-//! row of the definitions of elaboration, or a step of one, by its name in `specs/Shut`, and `proofs/Rows` says that a row is its steps.
+//! Initialisers carried out, objects defined, declarators behind their specifiers and parts.
 #![tactic(auto)]
 
-mod begun;
-mod checks;
-mod functions;
-mod heads;
-mod names;
-mod objects;
-mod saying;
+mod declares;
+mod defines;
+mod starts;
 
-pub use begun::Begun;
-pub use cf_elab_define::array_given;
-pub use checks::{check_conflict, check_no_definition, declares_function};
-pub use functions::{declare_function, function_declared};
-pub use heads::{Headed, head};
-pub use names::identifier;
-pub use objects::{begin, check_object, finish};
-pub use saying::object_says;
+pub use declares::{
+    Begun, Headed, begin, check_conflict, check_no_definition, check_object, declare_function,
+    declares_function, finish, function_declared, head, identifier, object_says,
+};
+pub use defines::{
+    StaticLocal, array_given, begin_local, begin_static_local, file_defined, local_defined,
+    static_defined,
+};
+pub use starts::{
+    Written, check_constant, default_object, initialised, start_by, start_or_none, start_place,
+    started,
+};

@@ -1,2 +1,2 @@
 -- What the crates above take of `cf_elab_valid_file`.
-pub use Rattle.cf_elab_valid_file.specs.Ends.{is_finished}
+pub use Rattle.cf_elab_valid_files.specs.File.Ends.{is_finished}

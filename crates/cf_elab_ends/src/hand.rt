@@ -2,7 +2,7 @@
 
 ghost use Rattle.std.specs.Prelude.{◌≡◌, []};
 ghost use Rattle.cf_elab.specs.Env.{file_level};
-ghost use Rattle.cf_elab_valid_file.specs.Ends as ends;
+ghost use Rattle.cf_elab_valid_files.specs.File.Ends as ends;
 
 use cf_base::Items;
 use cf_elab_env::{Asker, BodyKind, Env, Hand};

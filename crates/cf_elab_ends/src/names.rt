@@ -5,7 +5,7 @@ ghost use Rattle.std.specs.List.{list_all};
 ghost use Rattle.cf_core.specs.FromUnit as core;
 ghost use Rattle.cf_core.specs.Valid as valid;
 ghost use Rattle.cf_elab_ends.specs.Linked.{seen, link_names};
-ghost use Rattle.cf_elab_valid_file.specs.Ends as ends;
+ghost use Rattle.cf_elab_valid_files.specs.File.Ends as ends;
 
 use cf_base::Memory;
 use cf_core::{CoreFn, CoreStatic};

@@ -2,7 +2,7 @@
 
 ghost use Rattle.std.specs.Prelude.{◌≡◌, ◌++◌};
 ghost use Rattle.std.specs.List.{list_all};
-ghost use Rattle.cf_elab_valid_file.specs.Ends as ends;
+ghost use Rattle.cf_elab_valid_files.specs.File.Ends as ends;
 
 use crate::sorts::{is_given, is_object};
 use cf_core::{CoreFn, CoreStatic};

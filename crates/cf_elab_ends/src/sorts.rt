@@ -3,7 +3,7 @@
 ghost use Rattle.std.specs.Prelude.{◌≡◌, ◌&&◌, not};
 ghost use Rattle.cf_elab.specs.Operand as operand;
 ghost use Rattle.cf_elab_env.specs.Seen.{sort_seen};
-ghost use Rattle.cf_elab_valid_file.specs.Ends as ends;
+ghost use Rattle.cf_elab_valid_files.specs.File.Ends as ends;
 
 use cf_elab_env::Sort;
 

@@ -5,7 +5,7 @@ ghost use Rattle.std.specs.List.{list_all};
 ghost use Rattle.cf_convert.specs.Constness as constness;
 ghost use Rattle.cf_elab_env.specs.Holds.{IsType};
 ghost use Rattle.cf_elab_ends.specs.Results.{GivesType};
-ghost use Rattle.cf_elab_valid_file.specs.Ends as ends;
+ghost use Rattle.cf_elab_valid_files.specs.File.Ends as ends;
 
 use crate::sorts::{is_given, is_object, is_reference, is_void};
 use cf_elab_env::Env;

@@ -13,7 +13,7 @@ use Rattle.cf_syntax.specs.declared.specifier.Pointer.TheVariants as pointer
 use Rattle.cf_syntax.specs.declared.specifier.TypeSpecifier.{TypeSpecifier}
 use Rattle.cf_elab.specs.Built as built
 use Rattle.cf_elab.specs.Built.{Place, first, first_of}
-use Rattle.cf_elab_shape.specs.Seen.{is_built as has_shape}
+use Rattle.cf_elab_shape.specs.Shapes.Seen.{is_built as has_shape}
 use Rattle.cf_elab_expr.specs.Shut.{IsBuilt, BoundIsBuilt, TreeIsBuilt, ParameterIsBuilt, ParametersAreBuilt, TypeIsBuilt, parameter_place, type_place}
 use Rattle.cf_elab_expr.proofs.BuiltForms.{left, right}
 

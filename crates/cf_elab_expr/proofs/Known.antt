@@ -8,14 +8,14 @@ use Rattle.cf_elab.specs.Shape as shape
 use Rattle.cf_elab.specs.Shape.{Parameter}
 use Rattle.cf_elab_env.specs.Holds.{Grows}
 use Rattle.cf_elab_env.proofs.Growth.{type_grown, All-into}
-use Rattle.cf_elab_shape.specs.Holds.{IsShape, AreObjects}
-use Rattle.cf_elab_shape.specs.Seen.{shape_seen, pointed_shape}
-use Rattle.cf_elab_shape.specs.declared.shape.Shape.{Shape}
-use Rattle.cf_elab_shape.specs.declared.shape.Shape.TheVariants as form
-use Rattle.cf_elab_shape.proofs.SeenLaws.{seen_inner, seen_taking, seen_holding}
-use Rattle.cf_elab_specifiers.specs.Words.{IsWord}
-use Rattle.cf_elab_specifiers.specs.declared.word.Word.{Word}
-use Rattle.cf_elab_specifiers.specs.declared.word.Word.TheVariants as word
+use Rattle.cf_elab_shape.specs.Shapes.Holds.{IsShape, AreObjects}
+use Rattle.cf_elab_shape.specs.Shapes.Seen.{shape_seen, pointed_shape}
+use Rattle.cf_elab_shape.specs.declared.shapes.shape.Shape.{Shape}
+use Rattle.cf_elab_shape.specs.declared.shapes.shape.Shape.TheVariants as form
+use Rattle.cf_elab_shape.proofs.ShapesLaws.SeenLaws.{seen_inner, seen_taking, seen_holding}
+use Rattle.cf_elab_specifiers.specs.Said.Words.{IsWord}
+use Rattle.cf_elab_specifiers.specs.declared.said.word.Word.{Word}
+use Rattle.cf_elab_specifiers.specs.declared.said.word.Word.TheVariants as word
 
 word_grown : (a b : Table) (w : Word) → Grows a b → IsWord a w → IsWord b w
 word_grown a b (word.Stored at s) g h = tt

@@ -35,10 +35,10 @@ use Rattle.cf_elab_env.specs.Holds.{IsEnv, IsType}
 use Rattle.cf_elab_call.specs.Shut as call_row
 use Rattle.cf_elab_cast.specs.Shut as cast_row
 use Rattle.cf_elab_cast.proofs.ChoiceClassFree.{no_class}
-use Rattle.cf_elab_specifiers.specs.Shut as specifier
-use Rattle.cf_elab_type_names.specs.Shut as type_name
+use Rattle.cf_elab_specifiers.specs.Said.Shut as specifier
+use Rattle.cf_elab_specifiers.specs.Named.Shut as type_name
 use Rattle.cf_elab_operand.specs.Shut as operand_row
-use Rattle.cf_elab_operators.specs.Shut as operator
+use Rattle.cf_elab_operators.specs.Operators.Shut as operator
 use Rattle.cf_elab_expr.specs.Shut as shut
 use Rattle.cf_elab_expr.proofs.BuiltForms.{binary_op, prefix_inside, name_built}
 

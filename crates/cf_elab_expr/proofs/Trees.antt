@@ -21,11 +21,11 @@ use Rattle.cf_elab.specs.Specifiers.{Word, gathered, base_type, is_stored, param
 use Rattle.cf_elab_env.specs.Answered.{Stops}
 use Rattle.cf_elab_env.specs.declared.stop.Stop.{Stop}
 use Rattle.cf_elab_env.specs.declared.stop.Stop.TheVariants.{Broken as RuleBroken, Passed as LimitPassed, Memory}
-use Rattle.cf_elab_shape.specs.Seen.{pointed_shape}
-use Rattle.cf_elab_shape.specs.Shut as shape_row
-use Rattle.cf_elab_shape.proofs.StepLaws.{pointed_is}
-use Rattle.cf_elab_type_id.specs.Shut as type_row
-use Rattle.cf_elab_type_names.specs.Shut as type_name
+use Rattle.cf_elab_shape.specs.Shapes.Seen.{pointed_shape}
+use Rattle.cf_elab_shape.specs.Shapes.Shut as shape_row
+use Rattle.cf_elab_shape.proofs.ShapesLaws.StepLaws.{pointed_is}
+use Rattle.cf_elab_shape.specs.TypeIds.Shut as type_row
+use Rattle.cf_elab_specifiers.specs.Named.Shut as type_name
 use Rattle.cf_elab_expr.specs.Shut as shut
 use Rattle.cf_elab_expr.proofs.BuiltTrees.{pointed_by, no_default}
 use Rattle.cf_elab_expr.proofs.Parts.{parameter, type_of, through}

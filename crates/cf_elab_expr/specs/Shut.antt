@@ -20,8 +20,8 @@ use Rattle.cf_elab.specs.Members.{class_number}
 use Rattle.cf_elab.specs.Operand.{Value, Operand, Part, evaluated, value_of, sort_of}
 use Rattle.cf_elab.specs.Shape as shape
 use Rattle.cf_elab.specs.Shape.{Parameter, Shape}
-use Rattle.cf_elab_type_id.specs.Shut as type_row
-use Rattle.cf_elab_type_id.specs.Shut.{parameter_behind}
+use Rattle.cf_elab_shape.specs.TypeIds.Shut as type_row
+use Rattle.cf_elab_shape.specs.TypeIds.Shut.{parameter_behind}
 
 -- what an expression is, and its one value
 unfoldable pub run : Expr → Elab Operand

@@ -4,7 +4,7 @@ ghost use Rattle.std.specs.Prelude.{◌≡◌, None, true};
 ghost use Rattle.cf_syntax.specs.declared.declarator.Param.{out-Param};
 ghost use Rattle.cf_syntax.specs.declared.declarator.TypeId.{out-TypeId};
 ghost use Rattle.cf_elab.specs.Built.{of_path, of_specifiers};
-ghost use Rattle.cf_elab_shape.specs.Seen.{is_built as has_shape};
+ghost use Rattle.cf_elab_shape.specs.Shapes.Seen.{is_built as has_shape};
 ghost use Rattle.cf_elab_expr.specs.Shut as shut;
 
 use cf_base::{Boxed, Items};

@@ -4,8 +4,8 @@ ghost use Rattle.std.specs.Prelude.{◌≡◌, None, IfOk, OnOk};
 ghost use Rattle.cf_elab.specs.Built.{of_specifiers};
 ghost use Rattle.cf_elab_env.specs.Answered.{Agrees, AgreesAs};
 ghost use Rattle.cf_elab_env.specs.Holds.{Grows, IsType};
-ghost use Rattle.cf_elab_shape.specs.Holds.{AreObjects, IsParameter, IsShape};
-ghost use Rattle.cf_elab_shape.specs.Seen.{shape_seen};
+ghost use Rattle.cf_elab_shape.specs.Shapes.Holds.{AreObjects, IsParameter, IsShape};
+ghost use Rattle.cf_elab_shape.specs.Shapes.Seen.{shape_seen};
 ghost use Rattle.cf_elab_expr.specs.Shut as shut;
 
 use crate::built;
@@ -13,9 +13,10 @@ use crate::expression::evaluated;
 use crate::names::copied_name;
 use cf_base::{Boxed, Items};
 use cf_elab_env::{Env, Stop, Value};
-use cf_elab_shape::{Parameter, Shape, check_parameter, only_parameter, pointed};
-use cf_elab_type_id::{is_stored, parameter_behind};
-use cf_elab_type_names::words_of;
+use cf_elab_shape::{
+    Parameter, Shape, check_parameter, is_stored, only_parameter, parameter_behind, pointed,
+};
+use cf_elab_specifiers::words_of;
 use cf_syntax::{DeclTree, Expr, Param, TypeSpecifier};
 
 /// The operators of a declarator, with their bounds and their parameters elaborated from the inside out (8.2).
@@ -57,7 +58,7 @@ pub fn shape_of(d: &DeclTree, env: &mut Env) -> Result<Shape, Stop>
 
 /// A function, behind what stands inside its declarator: none of its parameters is void, and `(void)` are none (8.2.5).
 #[cycle(expressions)]
-#[tactic(auto, using(crate::proofs::Trees::taking_is, crate::proofs::Known::taken_shape, cf_elab_shape::proofs::SeenLaws::seen_taking, cf_elab_shape::proofs::TypedLaws::shape_grown, cf_elab_env::proofs::Growth::grown_laws))]
+#[tactic(auto, using(crate::proofs::Trees::taking_is, crate::proofs::Known::taken_shape, cf_elab_shape::proofs::shapes::SeenLaws::seen_taking, cf_elab_shape::proofs::shapes::TypedLaws::shape_grown, cf_elab_env::proofs::Growth::grown_laws))]
 fn taking(
     all: &[Param],
     at: u32,
@@ -83,7 +84,7 @@ fn taking(
 
 /// An array, behind what stands inside its declarator (8.2.4).
 #[cycle(expressions)]
-#[tactic(auto, using(crate::proofs::Trees::holding_is, crate::proofs::Known::held_shape, cf_elab_shape::proofs::SeenLaws::seen_holding, cf_elab_shape::proofs::TypedLaws::shape_grown, cf_elab_env::proofs::Growth::grown_laws))]
+#[tactic(auto, using(crate::proofs::Trees::holding_is, crate::proofs::Known::held_shape, cf_elab_shape::proofs::shapes::SeenLaws::seen_holding, cf_elab_shape::proofs::shapes::TypedLaws::shape_grown, cf_elab_env::proofs::Growth::grown_laws))]
 fn holding(
     written: &Option<Boxed<Expr>>,
     at: u32,
@@ -142,7 +143,7 @@ fn parameters(all: &[Param], env: &mut Env) -> Result<Items<Parameter>, Stop>
 
 /// Parameters that are objects, in order.
 #[cycle(expressions)]
-#[tactic(auto, using(cf_elab_shape::proofs::ParameterLaws::objects_grown, cf_elab_env::proofs::Growth::grown_laws))]
+#[tactic(auto, using(cf_elab_shape::proofs::shapes::ParameterLaws::objects_grown, cf_elab_env::proofs::Growth::grown_laws))]
 fn object_parameters(all: &[Param], env: &mut Env) -> Result<Items<Parameter>, Stop>
     requires { shut.ParametersAreBuilt all.now }
     ensures made { Agrees (shut.object_parameters all.now env.old) result env.new }

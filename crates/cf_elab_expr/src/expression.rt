@@ -10,7 +10,7 @@ use crate::types::{basic_type, type_of};
 use crate::{built, forms, lists};
 use cf_elab_env::{Env, Operand, Stop, Value};
 use cf_elab_operand::value_of;
-use cf_elab_type_names::type_at_path;
+use cf_elab_specifiers::type_at_path;
 use cf_syntax::Expr;
 
 /// What an expression is: its parts from left to right, and then what its construct asks of them (5).

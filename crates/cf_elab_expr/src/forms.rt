@@ -7,7 +7,7 @@ ghost use Rattle.cf_elab_env.specs.Holds.{Known, Grows, IsType};
 ghost use Rattle.cf_elab.specs.Answer.{Made};
 ghost use Rattle.cf_elab_operand.specs.Operands.{IsOperand};
 ghost use Rattle.cf_elab_operand.specs.Shut as row;
-ghost use Rattle.cf_elab_operators.specs.Shut as operator;
+ghost use Rattle.cf_elab_operators.specs.Operators.Shut as operator;
 ghost use Rattle.cf_elab_expr.specs.Shut as shut;
 
 use crate::expression::{evaluated, operand};

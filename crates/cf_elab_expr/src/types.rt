@@ -6,16 +6,15 @@ ghost use Rattle.cf_elab.specs.Built.{of_specifiers};
 ghost use Rattle.cf_elab.specs.Specifiers.{gathered, basic_word};
 ghost use Rattle.cf_elab_env.specs.Answered.{Agrees};
 ghost use Rattle.cf_elab_env.specs.Holds.{Grows, IsType};
-ghost use Rattle.cf_elab_specifiers.specs.Shut as row;
+ghost use Rattle.cf_elab_specifiers.specs.Said.Shut as row;
 ghost use Rattle.cf_elab_expr.specs.Shut as shut;
 
 use crate::built;
 use crate::declarators::shape_of;
 use cf_base::Memory;
 use cf_elab_env::{Env, Stop};
-use cf_elab_specifiers::{Gathered, Word, base_type};
-use cf_elab_type_id::type_behind;
-use cf_elab_type_names::words_of;
+use cf_elab_shape::type_behind;
+use cf_elab_specifiers::{Gathered, Word, base_type, words_of};
 use cf_syntax::{BasicType, DeclTree, TypeId, TypeSpecifier};
 use cf_types::TyId;
 

@@ -9,8 +9,8 @@ ghost use Rattle.cf_elab_file.specs.Shut as shut;
 
 use crate::known::is_library;
 use cf_base::{Broken, Rule};
+use cf_elab_built::declared_name;
 use cf_elab_env::{Entity, Env, Stop};
-use cf_elab_scan::declared_name;
 use cf_syntax::{Last, Name};
 use cf_unit::{Declaration, InitDeclarator, Linkage};
 

@@ -5,7 +5,7 @@ ghost use Rattle.cf_elab.specs.File.{core_unit};
 ghost use Rattle.cf_elab_ends.specs.Ends as ends;
 ghost use Rattle.cf_elab_finished.specs.Finished as spec;
 ghost use Rattle.cf_elab_fits.specs.Fits as fits;
-ghost use Rattle.cf_elab_unit.specs.First.{EndsAs};
+ghost use Rattle.cf_elab_unit.specs.Unit.First.{EndsAs};
 
 use cf_base::Memory;
 use cf_core::CoreUnit;

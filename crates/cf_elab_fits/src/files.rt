@@ -1,7 +1,7 @@
 //! Files (17).
 
 ghost use Rattle.std.specs.Prelude.{◌≡◌};
-ghost use Rattle.cf_elab_valid_file.specs.Laws as fits;
+ghost use Rattle.cf_elab_valid_files.specs.File.Laws as fits;
 
 use crate::declarations::declaration;
 use crate::statements::function;

@@ -3,7 +3,7 @@
 ghost use Rattle.std.specs.Prelude.{◌≡◌, map};
 ghost use Rattle.std.specs.Option.{option_map};
 ghost use Rattle.cf_elab_valid.specs.Constants.{all_of};
-ghost use Rattle.cf_elab_valid_bodies.specs.Trees as trees;
+ghost use Rattle.cf_elab_valid_files.specs.Bodies.Trees as trees;
 
 use crate::declarations::{declaration, specifiers};
 use crate::expressions::{declarator, expression};

@@ -7,7 +7,7 @@ use Rattle.cf_classes.specs.LinkName.{Main, Plain}
 use Rattle.cf_elab.specs.Answer.{Made, onward}
 use Rattle.cf_elab.specs.Complete.{within, most_name}
 use Rattle.cf_elab.specs.Env.{Env}
-use Rattle.cf_elab_links.specs.Shut as links
+use Rattle.cf_elab_objects.specs.Links.Shut as links
 use Rattle.cf_elab_functions.specs.declared.says.Called.{Called}
 use Rattle.cf_elab_functions.specs.declared.says.Called.TheVariants as called
 use Rattle.cf_elab_functions.specs.Seen.{called_seen}

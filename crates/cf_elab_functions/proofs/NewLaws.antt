@@ -17,7 +17,7 @@ use Rattle.cf_elab.specs.Functions.{Says, default_fault, earlier_defaults, new_d
 use Rattle.cf_elab.specs.Shape.{Parameter}
 use Rattle.cf_elab_env.specs.Holds.{IsEnv}
 use Rattle.cf_elab_env.proofs.Sorts.{all_complete}
-use Rattle.cf_elab_links.specs.Shut as links
+use Rattle.cf_elab_objects.specs.Links.Shut as links
 use Rattle.cf_elab_functions.specs.Shut as shut
 
 pub no_defaults : (ts : List ℕ) (ds : List (Option Default)) (env : Env) → new_defaults ts [] ds env ≡ Made [] env

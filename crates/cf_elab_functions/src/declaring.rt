@@ -5,7 +5,7 @@ ghost use Rattle.cf_elab_env.specs.Answered.{Agrees};
 ghost use Rattle.cf_elab_env.specs.Holds.{IsType, IsFunctionSort};
 ghost use Rattle.cf_elab_functions.specs.Seen.{says_seen, called_seen};
 ghost use Rattle.cf_elab_functions.specs.Shut as shut;
-ghost use Rattle.cf_elab_links.specs.Shut as links;
+ghost use Rattle.cf_elab_objects.specs.Links.Shut as links;
 
 use crate::again::known_entry;
 use crate::checks::{check_definition, check_main, check_single};
@@ -14,7 +14,7 @@ use crate::entries::entry_of;
 use crate::says::{Called, Says};
 use cf_base::Name;
 use cf_elab_env::{Env, FunctionEntry, Stop};
-use cf_elab_links::{main_link, plain_link};
+use cf_elab_objects::{main_link, plain_link};
 use cf_types::TyId;
 
 /// A declaration of a function: the form of `main` K11, what else has the name K8, another result K8, linkage K9, a second body K8, a second function of

@@ -1,4 +1,2 @@
-pub mod BindingLaws
-pub mod Direct
-pub mod InitialLaws
-pub mod KeepingLaws
+pub mod InitialsLaws
+pub mod ListsLaws

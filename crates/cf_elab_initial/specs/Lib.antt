@@ -1,4 +1,2 @@
-pub mod Direct
-pub mod Keeping
-pub mod References
-pub mod Shut
+pub mod Initials
+pub mod Lists

@@ -1,13 +1,8 @@
-//! How an object or a reference takes a value while a file is elaborated (8.4, 8.4.3).
-//!
-//! Each function does a row of the definitions of elaboration, and its contract cites the row by its name in `specs/Shut`.
+//! How an object takes a value, and what of an initialiser in braces initialises what of it.
 #![tactic(auto)]
 
-mod binding;
 mod initials;
-mod keeping;
-mod start;
+mod lists;
 
-pub use initials::initial;
-pub use keeping::Keeping;
-pub use start::Start;
+pub use initials::{Keeping, Start, initial};
+pub use lists::{Plan, Tree, by_one, count_in, is_char};

@@ -1,5 +1,2 @@
-pub mod AliasLaws
-pub mod BlockLaws
-pub mod LinkLaws
-pub mod NumberLaws
-pub mod States
+pub mod LinksLaws
+pub mod ObjectsLaws

@@ -1,2 +1,2 @@
-pub mod Seen
-pub mod Shut
+pub mod Links
+pub mod Objects

@@ -1,18 +1,13 @@
-//! What declarations of objects and type names ask and change, while a file is elaborated (3.3, 6.7, 7.1, 8.4).
-//!
-//! Each function does a row of the definitions of elaboration, or a step of one, and its contract cites it by its name in `specs/Shut`.
+//! Link names, and what declarations of objects and type names ask and change.
 #![tactic(auto)]
 
-mod aliases;
-mod asked;
-mod blocks;
-mod linkage;
-mod numbers;
-mod says;
+mod links;
+mod objects;
 
-pub use aliases::{aliased, check_no_initialiser, plain_name};
-pub use asked::{needs_initialiser, static_of};
-pub use blocks::{block_object, declare_in_block};
-pub use linkage::declare_linked;
-pub use numbers::{constant_number, number_known};
-pub use says::Says;
+pub use links::{
+    check_link, local_static_name, main_link, plain_link, temporary_name, variable_link,
+};
+pub use objects::{
+    Says, aliased, block_object, check_no_initialiser, constant_number, declare_in_block,
+    declare_linked, needs_initialiser, number_known, plain_name, static_of,
+};

@@ -9,7 +9,7 @@ use Rattle.cf_elab.specs.Answer.{Answer, Made, onward}
 use Rattle.cf_elab.specs.Env.{Env}
 use Rattle.cf_elab.specs.Made.{of_kind, array_of}
 use Rattle.cf_elab.specs.Operand.{Value, value, constant, place_of, sort_of, integral}
-use Rattle.cf_elab_arith.proofs.Known.{integer_known}
+use Rattle.cf_elab_arith.proofs.ArithLaws.Known.{integer_known}
 use Rattle.cf_elab_env.specs.Holds.{Known, IsType, FitsIn}
 use Rattle.cf_elab_env.specs.Shut as made
 use Rattle.cf_elab_env.proofs.Growth.{grown_laws}

@@ -1,3 +1,3 @@
-pub mod NoObject
-pub mod OneLaws
-pub mod TwoLaws
+pub mod AssignLaws
+pub mod BinaryLaws
+pub mod OperatorsLaws

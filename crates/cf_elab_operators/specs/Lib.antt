@@ -1,1 +1,3 @@
-pub mod Shut
+pub mod Assign
+pub mod Binary
+pub mod Operators

@@ -1,11 +1,12 @@
-//! Operators whose operands may be class objects, while a file is elaborated (5, 13.4). So far there are no classes, so each does what it does to
-//! operands that are none; no operator function is looked for.
-//!
-//! Each function does a row of the definitions of elaboration, and its contract cites the row by its name in `specs/Shut`.
+//! Binary operators and assignments, and the operators whose operands may be class objects.
 #![tactic(auto)]
 
-mod one;
-mod two;
+mod assign;
+mod binary;
+mod operators;
 
-pub use one::{prefix_operator, step_operator};
-pub use two::{assign_operator, binary_operator, index_operator};
+pub use assign::assignment;
+pub use binary::{check_complete, check_modifiable, increment, operation, prefixed, subscript};
+pub use operators::{
+    assign_operator, binary_operator, index_operator, prefix_operator, step_operator,
+};

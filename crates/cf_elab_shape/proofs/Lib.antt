@@ -1,8 +1,2 @@
-pub mod BoundLaws
-pub mod FormLaws
-pub mod ObjectLaws
-pub mod ParameterLaws
-pub mod SeenLaws
-pub mod StepLaws
-pub mod TypedLaws
-pub mod VoidLaws
+pub mod ShapesLaws
+pub mod TypeIdsLaws

@@ -1,3 +1,2 @@
-pub mod Holds
-pub mod Seen
-pub mod Shut
+pub mod Shapes
+pub mod TypeIds

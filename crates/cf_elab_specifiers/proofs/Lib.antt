@@ -1,3 +1,2 @@
-pub mod BaseLaws
-pub mod Folding
 pub mod NamedLaws
+pub mod SaidLaws

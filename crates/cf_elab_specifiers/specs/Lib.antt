@@ -1,4 +1,2 @@
-pub mod Seen
-pub mod Shut
-pub mod Standing
-pub mod Words
+pub mod Named
+pub mod Said

@@ -1,17 +1,8 @@
-//! Specifiers of declarations while a file is elaborated: what they say together, and the type that they name (7.1).
-//!
-//! Contracts see `Gathered` and `Basics` as the records of those names that the definitions of elaboration are written with.
+//! Specifiers of declarations: what they say together, and the types that their names stand for.
 #![tactic(auto)]
 
-mod base;
-mod basics;
-mod conflicts;
-mod gathered;
-mod standing;
-mod word;
+mod named;
+mod said;
 
-pub use base::base_type;
-pub use basics::Basics;
-pub use conflicts::{conflict, earlier};
-pub use gathered::Gathered;
-pub use word::Word;
+pub use named::{keyed_type, type_at_path, word_of, words_of};
+pub use said::{Basics, Gathered, Word, base_type, conflict, earlier};

@@ -10,7 +10,7 @@ use Rattle.cf_elab.specs.Statement as row
 use Rattle.cf_elab.specs.Statement.{Made}
 use Rattle.cf_elab.specs.UserFit as user
 use Rattle.cf_elab_env.proofs.Growth.{grown_laws}
-use Rattle.cf_elab_initial.specs.Shut as initial
+use Rattle.cf_elab_initial.specs.Initials.Shut as initial
 use Rattle.cf_elab_statement.specs.Parts.{has_no_result}
 use Rattle.cf_elab_statement.specs.Shut as shut
 use Rattle.cf_elab_statement.specs.declared.jumps.Jumps.{Jumps}

@@ -10,7 +10,7 @@ use Rattle.cf_elab.specs.Statement as row
 use Rattle.cf_elab.specs.Statement.{Made}
 use Rattle.cf_elab_env.specs.Holds.{IsEnv, IsType, Grows}
 use Rattle.cf_elab_env.proofs.Growth.{grown_laws, type_grown}
-use Rattle.cf_elab_choice.proofs.ClassFree.{unused_node}
+use Rattle.cf_elab_arith.proofs.ChoiceLaws.ClassFree.{unused_node}
 use Rattle.cf_elab_fit.specs.Shut as fit
 use Rattle.cf_elab_statement.specs.Parts.{if_made, TypedIf}
 use Rattle.cf_elab_statement.specs.Shut as shut

@@ -7,7 +7,7 @@ use Rattle.cf_elab.specs.Operand.{Value}
 use Rattle.cf_elab.specs.Statement as row
 use Rattle.cf_elab.specs.Statement.{Made}
 use Rattle.cf_elab_env.specs.Holds.{IsEnv, IsType}
-use Rattle.cf_elab_choice.proofs.ClassFree.{unused_node}
+use Rattle.cf_elab_arith.proofs.ChoiceLaws.ClassFree.{unused_node}
 use Rattle.cf_elab_statement.specs.Shut as shut
 
 pub expression_is : (at : ℕ) (v : Value) (m : Made) (env : Env) → IsEnv env → IsType env.types v.type → m ≡ row.made at (node.Full at v.node) → shut.expression at v env ≡ Elaborated m env

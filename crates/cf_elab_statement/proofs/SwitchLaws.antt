@@ -10,13 +10,13 @@ use Rattle.cf_elab.specs.Env.{Env}
 use Rattle.cf_elab.specs.Members.{class_number}
 use Rattle.cf_elab.specs.Fit as standard
 use Rattle.cf_elab.specs.Operand.{Value, Sort, class_sort, is_class, plain, sort_of}
-use Rattle.cf_elab_choice.proofs.ClassFree.{no_class}
+use Rattle.cf_elab_arith.proofs.ChoiceLaws.ClassFree.{no_class}
 use Rattle.cf_elab.specs.Statement as row
 use Rattle.cf_elab.specs.Statement.{Label, no_label, case_label, default_label, Made, same_label, is_label}
 use Rattle.cf_elab_env.specs.Holds.{IsEnv, IsType}
 use Rattle.cf_elab_env.proofs.Growth.{grown_laws}
 use Rattle.cf_elab_fit.specs.Shut as fit
-use Rattle.cf_elab_arith.specs.Sorts.{kind_at}
+use Rattle.cf_elab_arith.specs.Arith.Sorts.{kind_at}
 use Rattle.cf_elab_statement.proofs.Onward.{onward-assoc, onward-same}
 use Rattle.cf_elab_statement.specs.Labels as spec
 use Rattle.cf_elab_statement.specs.Shut as shut

@@ -1,2 +1,3 @@
-pub mod FileRows
-pub mod ItemRows
+pub mod BodyLaws
+pub mod DefinitionsLaws
+pub mod UnitLaws

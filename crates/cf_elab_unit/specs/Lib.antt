@@ -1,2 +1,3 @@
-pub mod First
-pub mod Shut
+pub mod Body
+pub mod Definitions
+pub mod Unit

@@ -1,11 +1,13 @@
-//! Elaboration of a file's tree: its core, or the first rule that it breaks and where (3.4, 17).
-//!
-//! `specs/Shut` names the rows of a file's items; the public contract cites the definition of a file's elaboration itself.
+//! Statements, functions with a body and whole files by their trees: `elab`.
 #![tactic(auto)]
 
-mod elaborated;
-mod files;
-mod items;
+mod body;
+mod definitions;
+mod unit;
 
-pub use elaborated::Elaborated;
-pub use files::elab;
+pub use body::{
+    block, check_no_definition, declaration, declare_function, declared_name, declares_function,
+    shape_of, statement, statements, words,
+};
+pub use definitions::definition;
+pub use unit::{Elaborated, elab};

@@ -1,1 +1,7 @@
-pub mod Initialisers
+pub mod BodiesLaws
+pub mod DeclarationsLaws
+pub mod FileLaws
+pub mod FilesLaws
+pub mod FunctionsLaws
+pub mod StaticsLaws
+pub mod SwitchesLaws

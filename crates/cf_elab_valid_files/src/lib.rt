@@ -1,9 +1,18 @@
-//! Whole files: the core that elaboration makes of one is valid where its end is well formed.
-//!
-//! The law of `cf_elab_valid_file` without its premise on constants: `proofs/Initialisers` has that the parts of an initialiser are apart (`cf_elab_apart`), so that a constant
-//! initialiser names no local.
+//! Laws: the core that elaboration makes of a file is valid.
 #![tactic(auto)]
 
-mod laws;
+mod bodies;
+mod declarations;
+mod file;
+mod files;
+mod functions;
+mod statics;
+mod switches;
 
-pub use laws::{constants_are_apart, elaborated_files_are_valid, finished_files_are_valid};
+pub use bodies::bodies_are_valid;
+pub use declarations::enumerations_are_valid;
+pub use file::files_are_valid;
+pub use files::{constants_are_apart, elaborated_files_are_valid, finished_files_are_valid};
+pub use functions::functions_are_valid;
+pub use statics::statics_are_valid;
+pub use switches::switches_are_valid;

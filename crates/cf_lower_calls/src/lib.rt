@@ -1,24 +1,22 @@
-//! Calls beside their C, begun: the values of arguments, and how their objects come into the blocks of the parameters. As definitions and laws; nothing here runs.
+//! Laws: calls beside their C, from the values of the arguments to the caller behind them, and all functions of both programs by the bound of ticks.
 #![tactic(auto)]
 
-ghost use Rattle.std.specs.Prelude.{ℕ, List};
-ghost use Rattle.cf_core.specs.Run.{State};
-ghost use Rattle.cc_whole_memory.specs.declared.value.Value.{Value};
-ghost use Rattle.cc_whole_memory.specs.Blocks.{Memory};
-ghost use Rattle.cc_whole_mean.specs.Scope.{Scope};
-ghost use Rattle.cf_lower_relate.specs.Map.{Fixed, Map};
-ghost use Rattle.cf_lower_relate.specs.Relation.{Rel};
-ghost use Rattle.cf_lower_calls.specs.Arguments.{Differ, AllPassed, Enters, InTheirLocals, Evaluates};
+mod arguments;
+mod born;
+mod entered;
+mod evaluated;
+mod frames;
+mod invoked;
+mod library;
+mod returns;
 
-/// The law that the C's arguments have the values that the objects of the arguments hold (5.2.2). It does nothing.
-pub fn arguments_are_evaluated()
-    ensures { (K : Fixed) (F : Map) (scope : Scope) (s : State) (m : Memory) → Rel K F s m → (is os : List ℕ) → InTheirLocals K F scope s is os
-        → Evaluates K F scope s m is os }
-{}
-
-/// The law that where the parameters' blocks are born with these values, the objects of the arguments stand in them, and all others where they did (5.2.2). It does
-/// nothing.
-pub fn arguments_enter()
-    ensures { (K : Fixed) (F : Map) (s : State) (m : Memory) → Rel K F s m → (os : List ℕ) (cs : List Value) → Differ os → AllPassed K F s os cs
-        → Enters K F s m os cs }
-{}
+pub use arguments::arguments_stand_in_their_locals;
+pub use born::frames_are_born;
+pub use entered::{
+    functions_are_alike, functions_are_alike_at_the_next_bound, functions_of_programs_are_alike,
+};
+pub use evaluated::{arguments_are_evaluated, arguments_enter};
+pub use frames::{functions_begin, functions_end};
+pub use invoked::{calls_lead_on, calls_that_are_kept_lead_on};
+pub use library::{calls_through_pointers_lead_on, library_calls_lead_on};
+pub use returns::callers_stand_again;

@@ -24,17 +24,17 @@ use Rattle.cf_lower_kept.specs.Opened.{Opened, has_its_value}
 use Rattle.cf_lower_kept.proofs.Types.{type-self}
 use Rattle.cf_lower_turns.specs.Around.{Around}
 use Rattle.cf_lower_turns.specs.Scene.{Scene}
-use Rattle.cf_lower_entered.specs.ArgumentsPassing.{are_passed}
-use Rattle.cf_lower_entered.specs.ReturnsCalled.{FunctionsAlike}
+use Rattle.cf_lower_calls.specs.Arguments.Passing.{are_passed}
+use Rattle.cf_lower_calls.specs.Returns.Called.{FunctionsAlike}
 use Rattle.cf_lower_bounds.specs.Points.{Point, point_at}
 use Rattle.cf_lower_bounds.specs.Bounds.{LeafRunsTo}
-use Rattle.cf_lower_entered.specs.LibraryLowerActions.{Fits}
-use Rattle.cf_lower_entered.specs.InvokedInvoking.{programs_of, HaveLocalTypes, StartStatic, Invokes, HasLocal, KeepsResult, all_valued, point_kept}
-use Rattle.cf_lower_entered.specs.LibraryLibrary.{KeepsInt, Passes}
-use Rattle.cf_lower_entered.specs.LibraryPointed.{ReachesFunction, ReachesLibrary}
-use Rattle.cf_lower_entered.proofs.LibraryLowerInvoked.{call-kept-leads}
-use Rattle.cf_lower_entered.proofs.LibraryCalls.{putchar-leads, exit-leads}
-use Rattle.cf_lower_entered.proofs.LibraryPointed.{pointer-leads}
+use Rattle.cf_lower_calls.specs.Invoked.LowerActions.{Fits}
+use Rattle.cf_lower_calls.specs.Invoked.Invoking.{programs_of, HaveLocalTypes, StartStatic, Invokes, HasLocal, KeepsResult, all_valued, point_kept}
+use Rattle.cf_lower_calls.specs.Library.Library.{KeepsInt, Passes}
+use Rattle.cf_lower_calls.specs.Library.Pointed.{ReachesFunction, ReachesLibrary}
+use Rattle.cf_lower_calls.proofs.InvokedLaws.Kept.{call-kept-leads}
+use Rattle.cf_lower_calls.proofs.LibraryLaws.Calls.{putchar-leads, exit-leads}
+use Rattle.cf_lower_calls.proofs.LibraryLaws.Pointed.{pointer-leads}
 use Rattle.cf_lower_tested.specs.Fits.{types_passed, is_an_int, is_no_sort, is_code_for, same_signature, has_local, called_well, one_passed, library_fits, put_fits, exit_fits, reached_well}
 use Rattle.cf_lower_tested.specs.Tested.{Joined, TypesAgree}
 

@@ -22,11 +22,11 @@ use Rattle.cf_lower.specs.Written.{if_scalar, c_type, local_name}
 use Rattle.cf_lower_kept.specs.Opened.{parameters_open}
 use Rattle.cf_lower_relate.specs.Map.{Map}
 use Rattle.cf_lower_turns.specs.Scene.{Scene}
-use Rattle.cf_lower_entered.specs.LibraryLowerActions.{Fits}
-use Rattle.cf_lower_entered.specs.ReturnsCalled.{Programs, Entry, FunctionsAlike}
-use Rattle.cf_lower_entered.specs.InvokedInvoking.{StartStatic}
-use Rattle.cf_lower_entered.specs.Lowered.{Fitting, IsLowered, entered_scene, HasNeeds, AllLowered, AllHaveNeeds}
-use Rattle.cf_lower_entered.proofs.Fitting.{scene-fits, programs-alike}
+use Rattle.cf_lower_calls.specs.Invoked.LowerActions.{Fits}
+use Rattle.cf_lower_calls.specs.Returns.Called.{Programs, Entry, FunctionsAlike}
+use Rattle.cf_lower_calls.specs.Invoked.Invoking.{StartStatic}
+use Rattle.cf_lower_calls.specs.Entered.Lowered.{Fitting, IsLowered, entered_scene, HasNeeds, AllLowered, AllHaveNeeds}
+use Rattle.cf_lower_calls.proofs.EnteredLaws.Fitting.{scene-fits, programs-alike}
 use Rattle.cf_lower_needed.proofs.Live.{function-needed}
 use Rattle.cf_lower_tested.specs.Fits.{same_signature, fits}
 use Rattle.cf_lower_tested.specs.Tested.{Joined, TypesAgree, Tested, AllTested}

@@ -17,13 +17,13 @@ use Rattle.cf_lower_kept.specs.Told.{AllTold}
 use Rattle.cf_lower_turns.specs.Around.{Around}
 use Rattle.cf_lower_turns.specs.Scene.{Scene}
 use Rattle.cf_lower_actions.specs.Leaf.{is_leaf}
-use Rattle.cf_lower_entered.specs.ArgumentsPassing.{are_passed}
-use Rattle.cf_lower_entered.specs.ReturnsCalled.{FunctionsAlike}
+use Rattle.cf_lower_calls.specs.Arguments.Passing.{are_passed}
+use Rattle.cf_lower_calls.specs.Returns.Called.{FunctionsAlike}
 use Rattle.cf_lower_bounds.specs.Points.{Point, point_at}
 use Rattle.cf_lower_bounds.specs.Bounds.{LeafRunsTo}
-use Rattle.cf_lower_entered.specs.LibraryLowerActions.{Fits}
-use Rattle.cf_lower_entered.specs.InvokedInvoking.{programs_of, StartStatic}
-use Rattle.cf_lower_entered.proofs.LibraryLowerPoints.{leads-on}
+use Rattle.cf_lower_calls.specs.Invoked.LowerActions.{Fits}
+use Rattle.cf_lower_calls.specs.Invoked.Invoking.{programs_of, StartStatic}
+use Rattle.cf_lower_calls.proofs.InvokedLaws.LowerPoints.{leads-on}
 use Rattle.cf_lower_needed.specs.Leading.{point_of, is_right, LeavesLead}
 use Rattle.cf_lower_needed.proofs.Places.{only-if}
 use Rattle.cf_lower_tested.specs.Fits.{has_local, is_code_for, called_well, library_fits, call_fits, put_fits, exit_fits, reached_well, pointer_fits, fits}

@@ -7,8 +7,8 @@ use Rattle.cf_core.specs.Types.{SourceType, integer, takes, gives}
 use Rattle.cf_core.specs.Core.{plain_function}
 use Rattle.cf_plain.specs.Plain as plain
 use Rattle.cf_plain.specs.Plain.{Plains, act, set, branch, loop, switch, case_label, default_label, leave, continue, give, nothing, more, PlainFunction}
-use Rattle.cf_lower_entered.specs.ReturnsCalled.{Programs}
-use Rattle.cf_lower_entered.proofs.Example as example
+use Rattle.cf_lower_calls.specs.Returns.Called.{Programs}
+use Rattle.cf_lower_calls.proofs.EnteredLaws.Example as example
 use Rattle.cf_lower_tested.specs.Tested.{Tested}
 
 abbrev int : SourceType

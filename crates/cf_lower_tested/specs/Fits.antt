@@ -14,7 +14,7 @@ use Rattle.cf_lower.specs.Statements.{signature}
 use Rattle.cf_lower.specs.Written.{c_type}
 use Rattle.cf_lower_turns.specs.Scene.{Scene}
 use Rattle.cf_lower_actions.specs.Leaf.{is_leaf}
-use Rattle.cf_lower_entered.specs.ArgumentsPassing.{are_passed}
+use Rattle.cf_lower_calls.specs.Arguments.Passing.{are_passed}
 
 -- locals of these types, which may differ in const
 abbrev pub types_passed : Locals → List ℕ → List SourceType → Bool

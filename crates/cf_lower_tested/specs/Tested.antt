@@ -15,8 +15,8 @@ use Rattle.cf_lower.specs.Statements.{signature}
 use Rattle.cf_lower_kept.specs.Opened.{function_opens}
 use Rattle.cf_lower_kept.specs.Ready.{function_ready}
 use Rattle.cf_lower_relate.specs.Map.{Map}
-use Rattle.cf_lower_entered.specs.ReturnsCalled.{Programs, Pair}
-use Rattle.cf_lower_entered.specs.Lowered.{entered_scene}
+use Rattle.cf_lower_calls.specs.Returns.Called.{Programs, Pair}
+use Rattle.cf_lower_calls.specs.Entered.Lowered.{entered_scene}
 use Rattle.cf_lower_needed.specs.InPlace.{all_in_place}
 use Rattle.cf_lower_tested.specs.Fits.{same_signature, fits}
 

@@ -3,8 +3,8 @@
 #![tactic(auto)]
 
 ghost use Rattle.std.specs.Prelude.{ℕ};
-ghost use Rattle.cf_lower_entered.specs.ReturnsCalled.{Programs, FunctionsAlike};
-ghost use Rattle.cf_lower_entered.specs.Lowered.{Fitting, AllLowered, AllHaveNeeds};
+ghost use Rattle.cf_lower_calls.specs.Returns.Called.{Programs, FunctionsAlike};
+ghost use Rattle.cf_lower_calls.specs.Entered.Lowered.{Fitting, AllLowered, AllHaveNeeds};
 ghost use Rattle.cf_lower_tested.specs.Tested.{Joined, AllTested};
 
 /// The law that at each bound of ticks, up to which functions do the same, the statements of functions that pass the tests have what they need from where they are entered.

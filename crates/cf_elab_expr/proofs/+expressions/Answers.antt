@@ -14,10 +14,10 @@ use Rattle.cf_elab_env.specs.SeenOperand.{operand_seen}
 use Rattle.cf_elab_env.specs.declared.operand.Operand.{Operand}
 use Rattle.cf_elab_env.proofs.Growth.{grows_through}
 use Rattle.cf_elab_operand.specs.Operands.{IsOperand}
-use Rattle.cf_elab_shape.specs.Seen.{shape_seen}
+use Rattle.cf_elab_shape.specs.Shapes.Seen.{shape_seen}
 use Rattle.cf_elab_expr.specs.Seen.{operands_seen}
-use Rattle.cf_elab_shape.specs.Holds.{IsParameter, AreObjects}
-use Rattle.cf_elab_shape.proofs.ParameterLaws.{objects_grown}
+use Rattle.cf_elab_shape.specs.Shapes.Holds.{IsParameter, AreObjects}
+use Rattle.cf_elab_shape.proofs.ShapesLaws.ParameterLaws.{objects_grown}
 use Rattle.cf_elab_expr.specs.Shut as shut
 use Rattle.cf_elab_expr.proofs.BuiltForms.{one_built}
 use Rattle.cf_elab_operand.proofs.Grown.{operands_grown}

@@ -2,7 +2,7 @@ use Rattle.std.proofs.Common.{◌≡◌, map, drop, All}
 use Rattle.cf_elab_env.specs.Holds.{Grows}
 use Rattle.cf_elab_env.specs.SeenOperand.{operand_seen}
 use Rattle.cf_elab_operand.specs.Operands.{IsOperand}
-use Rattle.cf_elab_shape.specs.Holds.{AreObjects}
+use Rattle.cf_elab_shape.specs.Shapes.Holds.{AreObjects}
 use Rattle.cf_elab_expr.specs.Shut as shut
 use Rattle.cf_elab_env.proofs.InOrder.{behind}
 use Rattle.cf_elab_expr.proofs.+expressions.Given as goal

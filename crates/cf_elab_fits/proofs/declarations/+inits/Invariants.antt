@@ -1,6 +1,6 @@
 use Rattle.std.proofs.Common.{◌≡◌, map, drop}
 use Rattle.cf_elab_valid.specs.Constants.{all_of}
-use Rattle.cf_elab_valid_bodies.specs.Trees.{init_fits}
+use Rattle.cf_elab_valid_files.specs.Bodies.Trees.{init_fits}
 use Rattle.cf_elab_fits.proofs.declarations.+inits.Given as goal
 
 abbrev pub invariant-inits-loop-i : goal.invariant-inits-loop-i

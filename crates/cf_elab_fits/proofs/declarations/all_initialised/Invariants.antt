@@ -1,6 +1,6 @@
 use Rattle.std.proofs.Common.{◌≡◌, map, drop}
 use Rattle.cf_elab_valid.specs.Constants.{all_of}
-use Rattle.cf_elab_valid_bodies.specs.Trees.{init_declarator_fits}
+use Rattle.cf_elab_valid_files.specs.Bodies.Trees.{init_declarator_fits}
 use Rattle.cf_elab_fits.proofs.declarations.all_initialised.Given as goal
 
 abbrev pub invariant-loop-d : goal.invariant-loop-d

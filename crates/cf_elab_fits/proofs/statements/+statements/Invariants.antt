@@ -1,6 +1,6 @@
 use Rattle.std.proofs.Common.{◌≡◌, map, drop}
 use Rattle.cf_elab_valid.specs.Constants.{all_of}
-use Rattle.cf_elab_valid_bodies.specs.Trees.{Told, is_whole, statement_told}
+use Rattle.cf_elab_valid_files.specs.Bodies.Trees.{Told, is_whole, statement_told}
 use Rattle.cf_elab_fits.proofs.statements.+statements.Given as goal
 
 abbrev pub invariant-statements-loop-s : goal.invariant-statements-loop-s

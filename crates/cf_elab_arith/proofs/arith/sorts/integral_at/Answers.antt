@@ -1,0 +1,8 @@
+use Rattle.std.proofs.Common.{ap, ◌∙◌}
+use Rattle.cf_elab.specs.Operand.{sort_of, arithmetic}
+use Rattle.cf_elab_arith.specs.Arith.Sorts.{integral_at, integral_of, object_of, target_of, is_pointer, is_void_pointer, is_enumeral, is_member}
+use Rattle.cf_elab_arith.proofs.arith.sorts.integral_at.Goals as goal
+
+pub returns : goal.returns
+unfolding integral_at
+returns c = c.integral_of.ensures ∙ ap integral_of c.sort_of.ensures.value

@@ -1,3 +1,0 @@
-pub mod Shut
-pub mod BinaryShut
-pub mod UnaryShut

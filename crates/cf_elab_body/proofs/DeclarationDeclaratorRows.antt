@@ -1,2 +1,0 @@
--- What the crates above take of `cf_elab_declaration`.
-pub use Rattle.cf_elab_declaration.proofs.DeclaratorRows.{stops_onward, type_grown_if}

@@ -1,2 +1,0 @@
--- What the crates above take of `cf_elab_declaration`.
-pub use Rattle.cf_elab_declaration.proofs.Worded.{words_then}

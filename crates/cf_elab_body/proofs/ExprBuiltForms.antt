@@ -1,2 +1,0 @@
--- What the crates above take of `cf_elab_expr`.
-pub use Rattle.cf_elab_declaration.proofs.ExprBuiltForms.{left, right}

@@ -1,3 +1,0 @@
--- What the crates above take of `cf_elab_declaration`.
-unfoldable pub use Rattle.cf_elab_declaration.specs.Shut.{IsBuilt, SpecifiersAreBuilt, declaration, words}
-pub use Rattle.cf_elab_declaration.specs.Shut.{specifier}

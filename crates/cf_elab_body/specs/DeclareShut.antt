@@ -1,2 +1,0 @@
--- What the crates above take of `cf_elab_declare`.
-unfoldable pub use Rattle.cf_elab_declaration.specs.DeclareShut.{no_definition}

@@ -1,2 +1,0 @@
--- What the crates above take of `cf_elab_expr`.
-unfoldable pub use Rattle.cf_elab_declaration.specs.ExprShut.{TreeIsBuilt, name_of, shape_of}

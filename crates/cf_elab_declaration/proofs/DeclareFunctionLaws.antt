@@ -1,2 +1,0 @@
--- What the crates above take of `cf_elab_declare`.
-pub use Rattle.cf_elab_declarator.proofs.DeclareFunctionLaws.{function_grown, types_grown}

@@ -1,2 +1,0 @@
--- What the crates above take of `cf_elab_define`.
-pub use Rattle.cf_elab_declarator.proofs.DefineBlockObjects.{block_known}

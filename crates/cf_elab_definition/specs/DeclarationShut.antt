@@ -1,2 +1,0 @@
--- What the crates above take of `cf_elab_declaration`.
-unfoldable pub use Rattle.cf_elab_body.specs.DeclarationShut.{IsBuilt, declaration}

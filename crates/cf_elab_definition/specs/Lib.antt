@@ -1,2 +1,0 @@
-pub mod Shut
-pub mod DeclarationShut

@@ -1,0 +1,4 @@
+pub mod BindingLaws
+pub mod Direct
+pub mod InitialLaws
+pub mod KeepingLaws

@@ -1,0 +1,4 @@
+pub mod Direct
+pub mod Keeping
+pub mod References
+pub mod Shut

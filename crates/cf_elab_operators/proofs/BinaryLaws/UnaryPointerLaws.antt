@@ -1,0 +1,2 @@
+-- What the crates above take of unary operators.
+pub use Rattle.cf_elab_arith.proofs.UnaryLaws.PointerLaws.{unnumbered}

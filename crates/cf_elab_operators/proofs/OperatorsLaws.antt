@@ -1,0 +1,3 @@
+pub mod NoObject
+pub mod OneLaws
+pub mod TwoLaws

@@ -1,0 +1,4 @@
+pub mod Seen
+pub mod Shut
+pub mod Standing
+pub mod Words

@@ -1,5 +1,0 @@
-pub mod KeyLaws
-pub mod NamedLaws
-pub mod PathLaws
-pub mod WordLaws
-pub mod WordsLaws

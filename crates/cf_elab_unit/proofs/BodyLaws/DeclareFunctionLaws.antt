@@ -1,0 +1,2 @@
+-- What the crates above take of `cf_elab_declare`.
+pub use Rattle.cf_elab_declaration.proofs.DeclaratorsLaws.DeclareFunctionLaws.{function_grown, types_grown}

@@ -1,0 +1,2 @@
+-- What the crates above take of `cf_elab_expr`.
+pub use Rattle.cf_elab_declaration.proofs.EnumsLaws.ExprBuiltForms.{left, right}

@@ -1,0 +1,10 @@
+pub mod BodyLaws
+pub mod BuiltParts
+pub mod CheckLaws
+pub mod EntryLaws
+pub mod FunctionShapes
+pub mod HandLaws
+pub mod NamedLaws
+pub mod ParameterLaws
+pub mod Rows
+pub mod TreeRows

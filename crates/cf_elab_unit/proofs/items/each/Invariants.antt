@@ -1,6 +1,0 @@
-use Rattle.std.proofs.Common.{◌≡◌, drop}
-use Rattle.cf_elab_unit.specs.Shut as shut
-use Rattle.cf_elab_unit.proofs.items.each.Given as goal
-
-abbrev pub invariant-loop-i : goal.invariant-loop-i
-invariant-loop-i l = shut.items l.items l.initial.env ≡ shut.items (drop l.i-index l.items) l.env

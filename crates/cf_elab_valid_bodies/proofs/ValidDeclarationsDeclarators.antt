@@ -1,2 +1,0 @@
--- What the crates above take of `cf_elab_valid_declarations`.
-pub use Rattle.cf_elab_valid_declarations.proofs.Declarators.{function-params, function-plain, name-built, no-scopes}

@@ -1,2 +1,0 @@
--- What the crates above take of `cf_elab_valid_declarations`.
-pub use Rattle.cf_elab_valid_declarations.proofs.Functions.{IsFun, declared-fine, entries-fine, fun-later}

@@ -1,2 +1,0 @@
--- What the crates above take of `cf_elab_valid_statics`.
-pub use Rattle.cf_elab_valid_statics.specs.Fixed.{AreParts, FixedIn}

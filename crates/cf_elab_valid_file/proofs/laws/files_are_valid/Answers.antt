@@ -1,5 +1,0 @@
-use Rattle.cf_elab_valid_file.proofs.Units.{file-law}
-use Rattle.cf_elab_valid_file.proofs.laws.files_are_valid.Goals as goal
-
-pub returns : goal.returns
-returns c = λ apart extent u b fits end run finished. file-law apart extent u b fits end run finished

@@ -1,6 +1,0 @@
-use Rattle.cf_elab_valid_file.proofs.Units.{file-law}
-use Rattle.cf_elab_valid_files.proofs.Initialisers.{constants-apart}
-use Rattle.cf_elab_valid_files.proofs.laws.elaborated_files_are_valid.Goals as goal
-
-pub returns : goal.returns
-returns c = λ extent u b fits end run finished. file-law constants-apart extent u b fits end run finished

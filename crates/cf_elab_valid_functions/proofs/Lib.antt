@@ -1,9 +1,0 @@
-pub mod Bodies
-pub mod Definitions
-pub mod Ends
-pub mod Hands
-pub mod Parameters
-pub mod Shaped
-pub mod ValidBodiesBodies
-pub mod ValidDeclarationsEntering
-pub mod ValidDeclarationsFunctions

@@ -1,7 +1,0 @@
-use Rattle.std.proofs.Common.{◌≡◌, map, take}
-use Rattle.cf_elab_lists.specs.Seen.{trees_seen}
-use Rattle.cf_elab_written.specs.Shut as shut
-use Rattle.cf_elab_written.proofs.outlines.expression_outlines.Given as goal
-
-abbrev pub invariant-loop-e : goal.invariant-loop-e
-invariant-loop-e l = trees_seen l.trees ≡ map (shut.expression_outline l.at) (take l.e-index l.all)

@@ -1,5 +1,0 @@
-pub mod Lists
-pub mod Places
-pub mod Tests
-pub mod Blocks
-pub mod LowerFrames

@@ -1,5 +1,0 @@
-use Rattle.cf_lower_born.proofs.Blocks.{frame-born, types-fit}
-use Rattle.cf_lower_born.proofs.frames_are_born.Goals as goal
-
-pub returns : goal.returns
-returns c B f ok E s first os cs entry = (frame-born B f ok E s first os cs entry, types-fit B f ok E s first os cs entry)

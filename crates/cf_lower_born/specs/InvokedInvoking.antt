@@ -1,2 +1,0 @@
--- What the crates above take of `cf_lower_invoked`.
-pub use Rattle.cf_lower_invoked.specs.Invoking.{HasLocal, HaveLocalTypes, Invokes, KeepsResult, StartStatic, all_valued, point_kept, programs_of}

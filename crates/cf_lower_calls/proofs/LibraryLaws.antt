@@ -1,0 +1,4 @@
+pub mod Closing
+pub mod Passing
+pub mod Calls
+pub mod Pointed

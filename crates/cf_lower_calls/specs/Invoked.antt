@@ -1,0 +1,3 @@
+pub mod Invoking
+pub mod LowerPoints
+pub mod LowerActions

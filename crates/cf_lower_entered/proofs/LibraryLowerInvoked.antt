@@ -1,2 +1,0 @@
--- What the crates above take of `cf_lower_library`.
-pub use Rattle.cf_lower_library.proofs.LowerInvoked.{call-kept-leads}

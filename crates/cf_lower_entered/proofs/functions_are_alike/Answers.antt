@@ -1,5 +1,0 @@
-use Rattle.cf_lower_entered.proofs.Alike.{alike-always}
-use Rattle.cf_lower_entered.proofs.functions_are_alike.Goals as goal
-
-pub returns : goal.returns
-returns c B none simple fits n = alike-always B none simple fits n

@@ -1,5 +1,0 @@
-use Rattle.cf_lower_invoked.proofs.Kept.{call-kept-leads}
-use Rattle.cf_lower_invoked.proofs.calls_that_are_kept_lead_on.Goals as goal
-
-pub returns : goal.returns
-returns c z none simple n alike around h xs f e pair is t r fit valued = call-kept-leads z none simple n alike around h xs f e pair is t r fit valued

@@ -1,4 +1,0 @@
-pub mod Invoking
-pub mod LowerPoints
-pub mod LowerReturns
-pub mod LowerActions

@@ -1,2 +1,0 @@
--- What the crates above take of `cf_lower_points`.
-pub use Rattle.cf_lower_invoked.proofs.LowerPoints.{leads-on}

@@ -1,2 +1,0 @@
--- What the crates above take of `cf_lower_actions`.
-pub use Rattle.cf_lower_invoked.specs.LowerActions.{Fits, StaticObject}
