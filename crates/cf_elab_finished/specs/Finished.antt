@@ -4,8 +4,8 @@ use Rattle.cf_unit.specs.declared.file.Unit.{Unit as FileTree}
 use Rattle.cf_core.specs.FromUnit.{Unit as CoreUnit}
 use Rattle.cf_elab.specs.Env.{Env}
 use Rattle.cf_elab.specs.File.{core_unit}
-use Rattle.cf_elab_ends.specs.Ends.{is_finished}
-use Rattle.cf_elab_fits.specs.Fits.{file_fits}
+use Rattle.cf_elab_valid_files.specs.File.Ends.{is_finished}
+use Rattle.cf_elab_valid_files.specs.File.Laws.{file_fits}
 
 -- where a look at the end finds it well formed
 abbrev pub finished_end : Env → Option CoreUnit

@@ -2,10 +2,10 @@
 
 ghost use Rattle.std.specs.Prelude.{◌≡◌, IfOk, true};
 ghost use Rattle.cf_elab.specs.File.{core_unit};
-ghost use Rattle.cf_elab_ends.specs.Ends as ends;
 ghost use Rattle.cf_elab_finished.specs.Finished as spec;
-ghost use Rattle.cf_elab_fits.specs.Fits as fits;
 ghost use Rattle.cf_elab_unit.specs.Unit.First.{EndsAs};
+ghost use Rattle.cf_elab_valid_files.specs.File.Ends as ends;
+ghost use Rattle.cf_elab_valid_files.specs.File.Laws as fits;
 
 use cf_base::Memory;
 use cf_core::CoreUnit;
