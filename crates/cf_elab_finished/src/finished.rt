@@ -10,11 +10,26 @@ ghost use Rattle.cf_elab_valid_files.specs.File.Laws as fits;
 use cf_base::Memory;
 use cf_core::CoreUnit;
 use cf_elab_ends::is_finished;
-use cf_elab_env::Env;
+use cf_elab_env::{Env, Stop};
 use cf_elab_fits::file_fits;
-use cf_elab_unit::Elaborated;
+use cf_elab_unit::{Elaborated, elab};
 use cf_elab_valid_files::finished_files_are_valid;
 use cf_unit::Unit;
+use std::alloc::Global;
+
+/// The core of a file, which is valid; none where the tree is not as those of texts are, or a look at the end does not find it well formed; or what `elab` refuses the
+/// file for.
+pub fn core_of(alloc: Global, unit: &Unit) -> Result<Option<CoreUnit>, Stop>
+    ensures { spec.IsCore unit.now result }
+{
+    match elab(alloc, unit) {
+        Ok(end) => {
+            let core = finished(unit, end)?;
+            Ok(core)
+        }
+        Err(stop) => Err(stop),
+    }
+}
 
 /// The core of a file that ends so, which is valid; none where the tree is not as those of texts are, or a look at the end does not find it well formed.
 pub fn finished(unit: &Unit, end: Elaborated) -> Result<Option<CoreUnit>, Memory>

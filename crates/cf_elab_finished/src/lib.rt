@@ -6,5 +6,4 @@
 
 mod finished;
 
-pub use cf_elab_unit::{Elaborated, elab};
-pub use finished::finished;
+pub use finished::{core_of, finished};
