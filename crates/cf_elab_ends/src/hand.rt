@@ -15,15 +15,24 @@ pub(crate) fn has_no_locals(env: &mut Env) -> bool
     ensures kept { env.new ≡ env.old }
 {
     env.holds();
-    let spare = spare(env.alloc(), env.result());
+    let spare = spare_hand(env.alloc(), env.result());
     let hand = env.replace_hand(spare);
-    let found = hand.locals.as_slice().is_empty();
+    let found = are_none(hand.locals.as_slice());
     let _spare = env.replace_hand(hand);
     found
 }
 
+fn are_none(locals: &[TyId]) -> bool
+    ensures { result ≡ ends.no_locals locals.now }
+{
+    match locals {
+        [] => true,
+        [_, ..] => false,
+    }
+}
+
 /// A function without locals, whose result has this type.
-fn spare(alloc: Global, ty: TyId) -> Hand
+fn spare_hand(alloc: Global, ty: TyId) -> Hand
     ensures kind { result.kind ≡ file_level }
     ensures ty { result.result ≡ ty }
     ensures locals { result.locals ≡ [] }

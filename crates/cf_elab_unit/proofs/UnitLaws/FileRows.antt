@@ -46,6 +46,6 @@ module _ (u : FileTree) where
     stop_is (stop.Passed l) h = by_items ∙ ap answer h
     stop_is stop.Memory h = tt
 
-pub ruleset file_laws = (not_built_is, built_is, all_built)
+pub ruleset file_laws = (not_built_is, built_is)
 
-pub ruleset end_laws = (all_built, core_is, ends_is, stop_is)
+pub ruleset end_laws = (core_is, stop_is)

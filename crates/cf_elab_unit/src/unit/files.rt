@@ -4,7 +4,6 @@ ghost use Rattle.std.specs.Prelude.{◌≡◌, IfOk};
 ghost use Rattle.cf_elab.specs.Built as built;
 ghost use Rattle.cf_elab.specs.File as file;
 ghost use Rattle.cf_elab_unit.specs.Unit.First.{IsFirst, EndsAs};
-ghost use Rattle.cf_elab_unit.specs.Unit.Shut as shut;
 
 use crate::unit::elaborated::Elaborated;
 use crate::unit::items::whole;

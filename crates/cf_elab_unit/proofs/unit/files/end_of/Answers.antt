@@ -1,10 +1,16 @@
-use Rattle.std.proofs.Common.{List, rules, subst}
+use Rattle.std.proofs.Common.{◌∙◌, List, ap, rules, subst, sym}
 use Rattle.std.proofs.lemmas.Result.{err_from_is_err_and}
 use Rattle.cf_unit.specs.declared.file.Item.{Item}
+use Rattle.cf_elab.specs.Env.{Env}
+use Rattle.cf_elab.specs.File.{Core, core_unit}
 use Rattle.cf_elab_env.specs.Answered.{Stops}
+use Rattle.cf_elab_unit.specs.Unit.First.{EndsAs}
 use Rattle.cf_elab_unit.specs.Unit.Shut as shut
-use Rattle.cf_elab_unit.proofs.UnitLaws.FileRows.{core_is, ends_is, stop_is}
+use Rattle.cf_elab_unit.proofs.UnitLaws.FileRows.{all_built, core_is, ends_is, stop_is}
 use Rattle.cf_elab_unit.proofs.unit.files.end_of.Goals as goal
+
+pub whole-requires : goal.whole-requires
+whole-requires c = rw c.as_slice.ensures (all_built c.args.unit.now c.requires)
 
 pub returns-in_err-whole-clause-first : goal.returns-in_err-whole-clause-first
 returns-in_err-whole-clause-first c =
@@ -15,9 +21,10 @@ returns-in_err-whole-clause-first c =
 
 pub returns-clause-first : goal.returns-clause-first
 returns-clause-first c =
-    rw (core_is c.args.unit.now c.built_so_far.result c.in_ok-defines.defines c.in_ok-env.env c.built_so_far.ensures c.in_ok-defines.ensures c.in_ok-env.ensures c.whole.new.env (search rules)) (search rules)
+    core_is c.args.unit.now c.built_so_far.result c.in_ok-defines.defines c.in_ok-env.env c.built_so_far.ensures c.in_ok-defines.ensures c.in_ok-env.ensures c.whole.new.env (search rules)
+    ∙ ap (λ (e : Env). Core (core_unit e)) (sym c.new.ensures)
 
 pub returns-clause-ends : goal.returns-clause-ends
 returns-clause-ends c =
-    rw c.new.ensures
+    subst (EndsAs c.args.unit.now) (sym c.new.ensures)
     (ends_is c.args.unit.now c.built_so_far.result c.in_ok-defines.defines c.in_ok-env.env c.built_so_far.ensures c.in_ok-defines.ensures c.in_ok-env.ensures c.requires c.whole.new.env (search rules))
