@@ -13,12 +13,6 @@ pub(crate) fn is_reference(sort: Sort) -> bool
     matches!(sort, Sort::Reference(_))
 }
 
-pub(crate) fn is_void(sort: Sort) -> bool
-    ensures { result ≡ operand.is_void (sort_seen sort) }
-{
-    matches!(sort, Sort::Void)
-}
-
 /// Whether an object can be of it.
 pub(crate) fn is_object(sort: Sort) -> bool
     ensures { result ≡ ends.is_object (sort_seen sort) }
@@ -31,4 +25,18 @@ pub(crate) fn is_given(sort: Sort) -> bool
     ensures { result ≡ ends.is_given (sort_seen sort) }
 {
     !matches!(sort, Sort::Array(_, _) | Sort::Function(_))
+}
+
+/// Whether a reference can lead to it (8.2.2).
+pub(crate) fn is_referred(sort: Sort) -> bool
+    ensures { result ≡ (not (operand.is_reference (sort_seen sort)) && not (operand.is_void (sort_seen sort))) }
+{
+    !matches!(sort, Sort::Reference(_) | Sort::Void)
+}
+
+/// Whether an array can have it (8.2.4).
+pub(crate) fn is_element(sort: Sort) -> bool
+    ensures { result ≡ (not (operand.is_reference (sort_seen sort)) && ends.is_object (sort_seen sort)) }
+{
+    !matches!(sort, Sort::Reference(_) | Sort::Void | Sort::Function(_))
 }

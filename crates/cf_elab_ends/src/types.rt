@@ -7,7 +7,7 @@ ghost use Rattle.cf_elab_env.specs.Holds.{IsType};
 ghost use Rattle.cf_elab_ends.specs.Results.{GivesType};
 ghost use Rattle.cf_elab_valid_files.specs.File.Ends as ends;
 
-use crate::sorts::{is_given, is_object, is_reference, is_void};
+use crate::sorts::{is_element, is_given, is_reference, is_referred};
 use cf_elab_env::Env;
 use cf_types::{FunId, Ty, TyId};
 
@@ -40,17 +40,11 @@ fn aims(env: &Env, id: TyId) -> bool
     ensures { result ≡ ends.aims_right env.now.types (constness.type_at env.now.types id) }
 {
     env.holds();
-    match env.types().get(id) {
-        Ty::Ptr(to) => !is_reference(env.sort_of(*to)),
-        Ty::Ref(to) => {
-            let sort = env.sort_of(*to);
-            !is_reference(sort) && !is_void(sort)
-        }
-        Ty::Array(element, _) => {
-            let sort = env.sort_of(*element);
-            !is_reference(sort) && is_object(sort)
-        }
-        Ty::Fun(fun) => is_given(env.sort_of(result_of(env, *fun))),
+    match env.type_at(id) {
+        Ty::Ptr(to) => !is_reference(env.sort_of(to)),
+        Ty::Ref(to) => is_referred(env.sort_of(to)),
+        Ty::Array(element, _) => is_element(env.sort_of(element)),
+        Ty::Fun(fun) => is_given(env.sort_of(result_of(env, fun))),
         Ty::Void
         | Ty::Int(_)
         | Ty::Enum(_)
