@@ -12,7 +12,7 @@ use std::test::Fail;
 
 /// What is said of a file that is taken.
 #[derive(Clone, Copy)]
-pub enum Shown {
+enum Shown {
     Nothing,
     /// How many functions and static objects its core has.
     Counts,
@@ -87,26 +87,19 @@ struct Marked {
     mark: usize,
 }
 
-fn add(marked: &mut Marked, part: &str) -> Result<(), Fail> {
-    for byte in part.as_bytes() {
-        if *byte == b'$' {
-            marked.mark = marked.text.len();
-        } else {
-            marked.text.push(*byte)?;
-        }
-    }
-    Ok(())
-}
-
-fn joined(alloc: Global, before: &str, text: &str, behind: &str) -> Result<Marked, Fail> {
-    let mut marked = Marked {
+fn marked(alloc: Global, text: &str) -> Result<Marked, Fail> {
+    let mut row = Marked {
         text: Vec::new(alloc),
         mark: 0,
     };
-    add(&mut marked, before)?;
-    add(&mut marked, text)?;
-    add(&mut marked, behind)?;
-    Ok(marked)
+    for byte in text.as_bytes() {
+        if *byte == b'$' {
+            row.mark = row.text.len();
+        } else {
+            row.text.push(*byte)?;
+        }
+    }
+    Ok(row)
 }
 
 fn wanted(alloc: Global, rule: u8, mark: usize) -> Result<String, Fail> {
@@ -116,18 +109,12 @@ fn wanted(alloc: Global, rule: u8, mark: usize) -> Result<String, Fail> {
     }
 }
 
-/// Each row between two pieces is answered as it says.
-pub fn compare(
-    rt: &impl Abort,
-    alloc: Global,
-    before: &'static str,
-    rows: &[(&'static str, u8)],
-    behind: &'static str,
-) -> Result<(), Fail> {
+/// Each row is answered as it says.
+pub fn compare(rt: &impl Abort, alloc: Global, rows: &[(&'static str, u8)]) -> Result<(), Fail> {
     for (text, rule) in rows {
-        let marked = joined(alloc, before, text, behind)?;
-        let want = wanted(alloc, *rule, marked.mark)?;
-        let got = answer(alloc, marked.text.as_slice(), Shown::Nothing)?;
+        let row = marked(alloc, text)?;
+        let want = wanted(alloc, *rule, row.mark)?;
+        let got = answer(alloc, row.text.as_slice(), Shown::Nothing)?;
         assert_eq!(rt; got.as_str(), want.as_str(), "{text:?}");
     }
     Ok(())
@@ -138,10 +125,9 @@ pub fn compare_whole(
     rt: &impl Abort,
     alloc: Global,
     rows: &[(&'static str, &'static str)],
-    shown: Shown,
 ) -> Result<(), Fail> {
     for (text, want) in rows {
-        let got = answer(alloc, text.as_bytes(), shown)?;
+        let got = answer(alloc, text.as_bytes(), Shown::Counts)?;
         assert_eq!(rt; got.as_str(), *want, "{text:?}");
     }
     Ok(())
