@@ -10,7 +10,7 @@ use Rattle.cf_elab_unit.proofs.BodyLaws.BuiltForms.{one_built}
 use Rattle.cf_elab_env.proofs.InOrder.{behind}
 use Rattle.cf_elab_unit.proofs.BodyLaws.InTurn.{stopped, going, at_end}
 use Rattle.cf_elab_unit.proofs.BodyLaws.Parts.{if_stops}
-use Rattle.cf_elab_unit.proofs.BodyLaws.+statements.Goals as goal
+use Rattle.cf_elab_unit.proofs.body.+statements.Goals as goal
 
 pub lists::statements-statement-requires : goal.lists::statements-statement-requires
 lists::statements-statement-requires t c =
