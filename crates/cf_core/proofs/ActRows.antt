@@ -5,10 +5,10 @@ use Rattle.cf_base.specs.declared.kind.Kind.TheVariants.{Int, Char, UInt}
 use Rattle.cf_base.specs.Event.{Ended, Undefined}
 use Rattle.cf_core.specs.declared.operators.PointerOperator.TheVariants as ptr
 use Rattle.cf_core.specs.declared.operators.UnaryOperator.TheVariants as sign
-use Rattle.cf_core.specs.Types.{SourceType, integer, void, class, pointer, array, const}
+use Rattle.cf_core.specs.Types.{SourceType, integer, void, class, pointer, array, const, function_member}
 use Rattle.cf_core.specs.Classes.{Class}
 use Rattle.cf_core.specs.Subobjects.{base}
-use Rattle.cf_core.specs.Core.{Core, within, none, absent, given, no_parts, part, Function, text, this, local, member, read, address, decay, index, convert, dereference, up, down, from_void, unary, pointer_operate, call, virtual_call, pointer_call, new, new_array, delete, delete_array, blank, full, block, declare, static_object}
+use Rattle.cf_core.specs.Core.{Core, within, none, absent, given, no_parts, part, direct, Function, text, this, local, member, read, address, decay, index, convert, dereference, up, down, from_void, unary, pointer_operate, call, virtual_call, pointer_call, function_pointer, new, new_array, delete, delete_array, each, blank, full, block, declare, static_object}
 use Rattle.cf_core.proofs.Sample.{int, function_type, function_of, listed, in_block, main_of, program, static_of, returns, num, value_of, set, called, built, base_of, plain_class, built_class, virtual_function, nonvirtual_function, pure_function, constructor_of, method_of, Shown, run}
 
 -- the end of a run of these statements as `main`, over these classes and functions
@@ -88,6 +88,35 @@ two_classes = plain_class (codes "1A") [] (int ∷ []) ∷ plain_class (codes "1
 
 no_object_of_the_class : ends_of two_classes [] (declare 0 (class (codes "1A")) blank ∷ full (down (codes "1B") (base 0 ∷ []) (address (local 0))) ∷ []) ≡ act 8
 no_object_of_the_class = refl
+
+-- B*p=new B;delete p; and then &p->x, A*q=p, and (p->*f)() of a member function f that is not virtual
+abbrev deleted_B : List Core → List Core
+deleted_B cs = declare 0 (pointer (class (codes "1B"))) (new (class (codes "1B")) blank) ∷ full (delete (class (codes "1B")) (value_of 0)) ∷ cs
+
+member_of_what_has_ended : ends_of two_classes [] (deleted_B (full (address (member (dereference (value_of 0)) 0)) ∷ [])) ≡ act 5
+member_of_what_has_ended = refl
+
+base_of_what_has_ended : ends_of two_classes [] (deleted_B (full (up (base 0 ∷ []) (value_of 0)) ∷ [])) ≡ act 5
+base_of_what_has_ended = refl
+
+function_on_what_has_ended :
+    ends_of two_classes (method_of (codes "1B") (codes "f__1BFv") void [] ∷ [])
+    (deleted_B (declare 1 (function_member (codes "1B") (function_type [] void)) (function_pointer (direct (codes "f__1BFv")))
+    ∷ full (pointer_call (given (dereference (value_of 0))) (value_of 1) (function_type [] void) none) ∷ [])) ≡ act 5
+function_on_what_has_ended = refl
+
+-- A*p;{B b;p=&b;}(B*)p;
+derived_class_of_what_has_ended :
+    ends_of two_classes [] (declare 0 (pointer (class (codes "1A"))) blank
+    ∷ block (listed (declare 1 (class (codes "1B")) blank ∷ set (local 0) (up (base 0 ∷ []) (address (local 1))) ∷ []))
+    ∷ full (down (codes "1B") (base 0 ∷ []) (value_of 0)) ∷ []) ≡ act 5
+derived_class_of_what_has_ended = refl
+
+-- struct T{T(){delete[]this;}};new T[2];
+array_is_deleted_while_it_is_built :
+    ends_of (built_class (codes "1T") [] [] [] None ∷ []) (constructor_of (codes "1T") (codes "__ct__1TFv") [] no_parts (full (delete_array (class (codes "1T")) this) ∷ []) ∷ [])
+    (full (new_array (class (codes "1T")) (num 2) (each (built (codes "__ct__1TFv") [] []))) ∷ []) ≡ act 5
+array_is_deleted_while_it_is_built = refl
 
 -- B b;A*q=&b;q+1 and q+0: a base part is no array of its own
 step_from_a_base_part : ends_of two_classes [] (declare 0 (class (codes "1B")) blank ∷ full (plus (up (base 0 ∷ []) (address (local 0))) 1) ∷ []) ≡ act 6

@@ -46,18 +46,28 @@ use_place classes p = do
   need (is_inside classes (s.object p.object).type p.route) outside_array
   need (is_usable classes (s.object p.object) p.route) not_alive
 
--- a part of a place is named: it isn't the end of an array
+-- an element of an array, or its first, is named: the array isn't the end of another
 abbrev pub name_part : List Class → Place → Act (Unit {0})
 name_part classes p = do
   s ← state
   need (is_inside classes (s.object p.object).type p.route) outside_array
+
+-- the storage in which a place lies has not ended
+abbrev pub stands : Place → Act (Unit {0})
+stands p = do
+  s ← state
+  need (not (s.object p.object).is_gone) not_alive
+
+-- a member or a base of the object at a place is named: it isn't the end of an array, and its storage has not ended (5.2.4)
+abbrev pub name_subobject : List Class → Place → Act (Unit {0})
+name_subobject classes p = name_part classes p >> stands p
 
 -- a data member of a place of its class
 abbrev pub name_field : List Class → ℕ → Place → Act Place
 name_field classes i p = do
   s ← state
   valid (nat_lt i (length (fields_of classes (class_of (place_type classes s p)))))
-  name_part classes p
+  name_subobject classes p
   gives (inner (field i) p)
 
 -- whether the class of a place has this path

@@ -8,7 +8,7 @@ use Rattle.cf_core.specs.Core.{Part, item, past, field, within}
 use Rattle.cf_core.specs.Places.{Route, Place, inner, whole, path_in, along, type_at, class_of}
 use Rattle.cf_core.specs.Store.{Life, unbuilt, in_construction, alive, in_destruction, dead, life_at, is_dead, set_life, Value, Null, At, Object}
 use Rattle.cf_core.specs.Run.{State, Act, ◌>>=◌, ◌>>◌, gives, malformed, undefined, state, done, need, valid, some_or, object_changed, not_alive, outside_active, pure_call}
-use Rattle.cf_core.specs.Access.{name_part, has_path}
+use Rattle.cf_core.specs.Access.{name_part, name_subobject, has_path}
 
 -- a base or data member, and its type
 pub record BuiltPart : Type 0 where
@@ -133,7 +133,7 @@ dispatch classes p signature = do
 -- A conversion to a base: to a virtual one the place has to lie in the active part, with its construction begun. Null stays null.
 abbrev pub through_virtual : List Class → Place → Path → Act (Unit {0})
 through_virtual classes p [] = done
-through_virtual classes p (base i ∷ path) = name_part classes p
+through_virtual classes p (base i ∷ path) = name_subobject classes p
 through_virtual classes p (virtual c ∷ path) = active_part classes p >> done
 
 abbrev pub up_value : List Class → Path → Value → Act Value

@@ -1,5 +1,6 @@
 -- Entering functions, and destroying and copying objects by the functions of their classes (5.2.2, 12.4, 12.8).
 use Rattle.std.specs.Prelude.{ℕ, ◌+◌, length, if◌then◌else◌, Bool, true, false, ◌&&◌, ◌||◌, not, List, [], ◌∷◌, pos, negsuc, Option, Some, None, find, slice_get, is_some, nat_eq, codes, bytes_eq}
+use Rattle.std.specs.List.{list_all, range_with_len}
 use Rattle.cf_base.specs.Event.{Enter, Out}
 use Rattle.cf_base.specs.World.{Went, spend, deeper, show, next_byte}
 use Rattle.cf_base.specs.Integers.{bits_of}
@@ -324,6 +325,12 @@ abbrev pub is_start : Bool → Route → Bool
 is_start true π = route_eq (whole π) (item 0 ∷ [])
 is_start false π = route_eq (whole π) []
 
+-- whether all objects that stand at a route are alive: of an array each element, since each has a life of its own
+abbrev pub all_settled : List Class → Object → SourceType → Route → Bool
+all_settled classes x (array t n) π = list_all (λ (i : ℕ). all_settled classes x t (item i ∷ π)) (range_with_len 0 n)
+all_settled classes x (const t) π = all_settled classes x t π
+all_settled classes x t π = is_settled (life_at classes x π)
+
 -- An object of the free store is deleted in the form that fits how it was made. Through a base it goes where the destructor there is
 -- virtual: then the destructor of the object's own class runs.
 abbrev pub delete_at : Again → Program → Bool → SourceType → Place → Act Value
@@ -334,7 +341,7 @@ delete_at again P many t p = do
   need (is_start made.0 p.route) not_alive
   need (same made.0 many) wrong_delete
   need (is_whole p || (not many && has_virtual_destructor P.classes t)) delete_through_base
-  need (many || is_settled (life_at P.classes x (whole p.route))) not_alive
+  need (if many then all_settled P.classes x x.type [] else is_settled (life_at P.classes x (whole p.route))) not_alive
   release again P p.object made.1
   where
     same : Bool → Bool → Bool

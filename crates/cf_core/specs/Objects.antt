@@ -9,7 +9,7 @@ use Rattle.cf_core.specs.Places.{Route, Place, inner, along, bound, is_scalar, c
 use Rattle.cf_core.specs.Store.{Value, Built, Number, Null, Code, FunctionMember, Object, new_object, in_construction, alive, set_life, literal, free_store}
 use Rattle.cf_core.specs.Size.{size}
 use Rattle.cf_core.specs.Run.{object_changed, Literal, Act, ◌>>=◌, ◌>>◌, gives, malformed, undefined, state, changed, done, tick, need, some_or, valid, when, born, declared_object, frame_changed, lists_local, take_heap, null_used, not_alive, outside_array, cast_from_void}
-use Rattle.cf_core.specs.Access.{place_type, used, first_value}
+use Rattle.cf_core.specs.Access.{place_type, used, name_subobject, first_value}
 use Rattle.cf_core.specs.Building.{dispatch}
 use Rattle.cf_core.specs.Calls.{Program, Again, root, run_named, has_copy}
 
@@ -156,6 +156,6 @@ run_target again P (dispatched signature) p os into =
 abbrev pub run_pointer : Again → Program → Option Place → Value → List ℕ → Option Place → Act Value
 run_pointer again P p (Code f) os into = run_named again P f os p into
 run_pointer again P (Some p) (FunctionMember path t) os into =
-    run_target again P t (record p { route = along path p.route }) os into
+    name_subobject P.classes p >> run_target again P t (record p { route = along path p.route }) os into
 run_pointer again P p Null os into = undefined null_used
 run_pointer again P p v os into = malformed

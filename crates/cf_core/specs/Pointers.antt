@@ -9,7 +9,7 @@ use Rattle.cf_core.specs.Core.{item, past, field, within, Target, direct, dispat
 use Rattle.cf_core.specs.Places.{Route, Place, route_eq, place_eq, is_beyond, type_at, is_inside, bound, without, class_of}
 use Rattle.cf_core.specs.Store.{Value, Number, Null, At, Code, DataMember, FunctionMember, is_dead}
 use Rattle.cf_core.specs.Run.{State, Act, ◌>>=◌, ◌>>◌, gives, malformed, undefined, state, need, some_or, null_used, not_alive, outside_array, cast_down, cast_from_void, compared}
-use Rattle.cf_core.specs.Access.{place_type}
+use Rattle.cf_core.specs.Access.{place_type, stands}
 
 -- An element of an array: the array, and which element. An object that is none counts as the one element of an array, and `past` as its end;
 -- a base part counts as one without an end.
@@ -188,6 +188,7 @@ from_void_value classes t v = malformed
 abbrev pub down_value : List Class → Name → Path → Value → Act Value
 down_value classes c path Null = gives Null
 down_value classes c path (At p) = do
+  stands p
   s ← state
   π ← some_or (without (reverse path) p.route) (undefined cast_down)
   need (bytes_eq (class_of (type_at classes (s.object p.object).type π)) c) cast_down

@@ -15,7 +15,7 @@ use Rattle.cf_core.specs.Core.{item, Change, arithmetic, moved}
 use Rattle.cf_core.specs.Places.{Place, inner, along}
 use Rattle.cf_core.specs.Store.{Value, Nothing, Missing, Built, Number, Null, At, Code, DataMember, FunctionMember}
 use Rattle.cf_core.specs.Run.{Act, ◌>>=◌, ◌>>◌, gives, malformed, undefined, state, valid, ok_or_act, null_used, no_result}
-use Rattle.cf_core.specs.Access.{used, number_of, place_type, name_part, name_field, has_path}
+use Rattle.cf_core.specs.Access.{used, number_of, place_type, name_part, name_subobject, name_field, has_path}
 use Rattle.cf_core.specs.Pointers.{moved_value}
 
 -- whether a value counts as true: a number that isn't 0, a pointer that isn't null
@@ -112,7 +112,7 @@ through_pointer classes p Null = undefined null_used
 through_pointer classes p (DataMember r i) = do
   s ← state
   valid (has_path classes s p r)
-  name_part classes p
+  name_subobject classes p
   q ← name_field classes i (record p { route = along r p.route })
   gives (At q)
 through_pointer classes p v = malformed

@@ -3,11 +3,19 @@ use Rattle.std.proofs.Common.{◌≡◌, ℕ, ◌+◌, ◌-◌, ◌^◌, min, tr
 use Rattle.cf_base.specs.Rose.{Rose}
 use Rattle.cf_base.specs.Stream.{Stream, AddsFront}
 use Rattle.cf_base.specs.Event.{Event, Enter, In, Out, End as EndOf, in_bytes, out_bytes}
+use Rattle.cf_run_tree.specs.declared.program.Program.{Program}
 use Rattle.cf_core_run.specs.declared.state.Machine.{Machine}
+use Rattle.cf_core_run.specs.Nearer.{Below, steps_left}
+use Rattle.cf_core_drive.specs.declared.types.End.{End}
 use Rattle.cf_core_drive.specs.declared.types.Tally.{Tally}
 use Rattle.cf_core_drive.specs.Run.{Streams, streams, Carried, Whole, InputFailed, OutputFailed, Broken, Meaningless, Ahead, Meaning}
-use Rattle.cf_core_drive.specs.Going.{Going, Counts, PutByte, PutNot, Took, MetEnd, TookNot, Answers}
+use Rattle.cf_core_drive.specs.Going.{Going, Nears, Counts, PutByte, PutNot, Took, MetEnd, TookNot, Answers}
 use Rattle.cf_core_drive.proofs.Bytes.{out_bytes-append, in_bytes-append, same-count, next-count, quiet-bytes, flag, left_in, left-told, left-none, front-of-one}
+
+-- A turn that shows something gets nearer whatever comes of that.
+pub answers-nearer : (p : Program) (old new : Machine) (e : Option End) → Below p old.ticks (steps_left p old) new → Nears p old new (Ok e)
+answers-nearer p old new None h = h
+answers-nearer p old new (Some e) h = tt
 
 module _ (ahead : Ahead) (means : Meaning) where
   -- The first state.

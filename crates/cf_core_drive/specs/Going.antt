@@ -1,5 +1,5 @@
 -- How the run of a whole program goes on.
-use Rattle.std.specs.Prelude.{◌≡◌, ℕ, ◌+◌, ◌-◌, ◌^◌, min, Bool, true, false, List, [], ◌∷◌, ◌++◌, IsTrue, Option, Some, None, Result, Ok, Err}
+use Rattle.std.specs.Prelude.{◌≡◌, ◌<◌, ℕ, ◌+◌, ◌-◌, ◌^◌, min, Bool, true, false, List, [], ◌∷◌, ◌++◌, IsTrue, Option, Some, None, Result, Ok, Err}
 use Rattle.cf_base.specs.declared.memory.Failed.{Failed}
 use Rattle.cf_base.specs.Rose.{Rose}
 use Rattle.cf_base.specs.Stream.{Stream, AddsFront}
@@ -12,6 +12,7 @@ use Rattle.cf_core_run.specs.declared.state.Machine.{Machine}
 use Rattle.cf_core_run.specs.declared.state.RunEnd.{RunEnd}
 use Rattle.cf_core_run.specs.declared.state.RunEnd.TheVariants as run_ending
 use Rattle.cf_core_run.specs.Whole.{Around}
+use Rattle.cf_core_run.specs.Nearer.{Below, steps_left}
 use Rattle.cf_core_drive.specs.declared.types.Driven.{Driven}
 use Rattle.cf_core_drive.specs.declared.types.End.{End}
 use Rattle.cf_core_drive.specs.declared.types.End.TheVariants as end
@@ -49,6 +50,23 @@ abbrev pub Turns : Program → Machine → Machine → Streams → Streams → T
 Turns p before now a b t u result =
     (T : Tables) (around : Around) (means : Meaning) (old : Streams) → Going (ahead_of T p around) means before old a t
     → TurnsTo (ahead_of T p around) means old now b u result
+
+-- the turn gets nearer to the end of the run, where the run goes on
+abbrev pub Nears : Program → Machine → Machine → Result (Option End) Fault → Type 0
+Nears p old new (Ok None) = Below p old.ticks (steps_left p old) new
+Nears p old new (Ok (Some e)) = Unit {0}
+Nears p old new (Err f) = Unit {0}
+
+-- a tick was spent, or the run has ended
+abbrev pub Spends : Machine → Machine → Result (Option End) Fault → Type 0
+Spends old new (Ok None) = new.ticks < old.ticks
+Spends old new (Ok (Some e)) = Unit {0}
+Spends old new (Err f) = Unit {0}
+
+-- turns were done, and no tick was spent
+pub record Turning (p : Program) (first now : Machine) (a b : Streams) (t u : Tally) : Type 0 where
+  pub turns : Turns p first now a b t u (Ok None)
+  pub ticks : now.ticks ≡ first.ticks
 
 -- a whole run from a state
 abbrev pub Goes : Program → Machine → Streams → Streams → Result Driven Fault → Type 0

@@ -1,10 +1,10 @@
 ghost use Rattle.std.specs.Prelude.{ℕ, ◌≡◌};
 ghost use Rattle.cf_core.specs.FromTypes.{Tables};
 ghost use Rattle.cf_core_drive.specs.Run.{Leaves, streams};
-ghost use Rattle.cf_core_drive.specs.Going.{Goes};
+ghost use Rattle.cf_core_drive.specs.Going.{Goes, Turns, Spends};
 
 use crate::turn::turn;
-use crate::types::{Driven, Fault, Tally};
+use crate::types::{Driven, End, Fault, Tally};
 use cf_base::{Sink, Source};
 use cf_core_run::{Limits, Machine, start};
 use cf_run_tree::Program;
@@ -40,8 +40,8 @@ fn go<'a, I: Source, O: Sink>(
         entered: 0,
         at_end: false,
     };
-    for _ in 0..u64::MAX {
-        match turn(&mut machine, program, input, out, &mut tally) {
+    'ticks: loop {
+        match turns(&mut machine, program, input, out, &mut tally) {
             Err(fault) => return Err(fault),
             Ok(None) => {}
             Ok(Some(end)) => {
@@ -52,5 +52,29 @@ fn go<'a, I: Source, O: Sink>(
             }
         }
     }
-    Err(Fault::Memory)
+}
+
+/// Turns are done until a tick is spent or the run ends.
+fn turns<'a, I: Source, O: Sink>(
+    machine: &mut Machine<'a>,
+    program: &'a Program,
+    input: &mut I,
+    out: &mut O,
+    tally: &mut Tally,
+) -> Result<Option<End>, Fault>
+    ensures turns { Turns program.now machine.old machine.new (streams (I.stream input.old) (O.stream out.old)) (streams (I.stream input.new) (O.stream out.new)) tally.old tally.new result }
+    ensures spends { Spends machine.old machine.new result }
+{
+    let ticks = machine.ticks;
+    'steps: loop {
+        match turn(machine, program, input, out, tally) {
+            Err(fault) => return Err(fault),
+            Ok(Some(end)) => return Ok(Some(end)),
+            Ok(None) => {
+                if machine.ticks < ticks {
+                    return Ok(None);
+                }
+            }
+        }
+    }
 }

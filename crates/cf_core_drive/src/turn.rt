@@ -3,7 +3,7 @@ ghost use Rattle.cf_run_tree.specs.declared.program.Program.{Program};
 ghost use Rattle.cf_core_run.specs.declared.mark.Doing.TheVariants as doing;
 ghost use Rattle.cf_core_objects.specs.Store.{value_of};
 ghost use Rattle.cf_core_drive.specs.Run.{streams};
-ghost use Rattle.cf_core_drive.specs.Going.{Answers, Turns, Counts, Puts, run_end, given_byte};
+ghost use Rattle.cf_core_drive.specs.Going.{Answers, Turns, Nears, Counts, Puts, run_end, given_byte};
 
 use crate::types::{End, Fault, Tally};
 use cf_base::{Failed, Sink, Source};
@@ -69,7 +69,8 @@ fn ask<I: Source, O: Sink>(
     tally: &mut Tally,
 ) -> Result<Option<End>, Fault>
     requires { machine.old.doing ≡ doing.Asks }
-    ensures { (p : Program) → Turns p machine.old machine.new (streams (I.stream input.old) (O.stream out.now)) (streams (I.stream input.new) (O.stream out.now)) tally.old tally.new result }
+    ensures turns { (p : Program) → Turns p machine.old machine.new (streams (I.stream input.old) (O.stream out.now)) (streams (I.stream input.new) (O.stream out.now)) tally.old tally.new result }
+    ensures nearer { (p : Program) → Nears p machine.old machine.new result }
 {
     let _ = out;
     match take(input, &mut tally.at_end) {
@@ -89,7 +90,8 @@ fn advance<'a, I: Source, O: Sink>(
     out: &mut O,
     tally: &mut Tally,
 ) -> Result<Option<End>, Fault>
-    ensures { Turns program.now machine.old machine.new (streams (I.stream input.now) (O.stream out.old)) (streams (I.stream input.now) (O.stream out.new)) tally.old tally.new result }
+    ensures turns { Turns program.now machine.old machine.new (streams (I.stream input.now) (O.stream out.old)) (streams (I.stream input.now) (O.stream out.new)) tally.old tally.new result }
+    ensures nearer { (machine.old.doing ≡ doing.Asks → ⊥) → Nears program.now machine.old machine.new result }
 {
     let _ = input;
     match machine.step(program) {
@@ -114,7 +116,8 @@ pub(crate) fn turn<'a, I: Source, O: Sink>(
     out: &mut O,
     tally: &mut Tally,
 ) -> Result<Option<End>, Fault>
-    ensures { Turns program.now machine.old machine.new (streams (I.stream input.old) (O.stream out.old)) (streams (I.stream input.new) (O.stream out.new)) tally.old tally.new result }
+    ensures turns { Turns program.now machine.old machine.new (streams (I.stream input.old) (O.stream out.old)) (streams (I.stream input.new) (O.stream out.new)) tally.old tally.new result }
+    ensures nearer { Nears program.now machine.old machine.new result }
 {
     match &machine.doing {
         Doing::Asks => ask(machine, input, out, tally),

@@ -1,5 +1,5 @@
 -- How a call passes its arguments, how a function is entered, and how it ends.
-use Rattle.std.proofs.Common.{◌≡◌, ◌∙◌, ℕ, zero, suc, ◌+◌, ◌-◌, Bool, true, false, if◌then◌else◌, List, [], ◌∷◌, ◌++◌, length, slice_get, codes, bytes_eq, Option, Some, None, option_map, Bor, refl, ap, sym, subst, map, reverse, find, cond, arith}
+use Rattle.std.proofs.Common.{◌≡◌, ◌∙◌, ℕ, zero, suc, ◌+◌, ◌-◌, Bool, true, false, if◌then◌else◌, List, [], ◌∷◌, ◌++◌, length, slice_get, codes, bytes_eq, Option, Some, None, option_map, Bor, refl, ap, sym, map, reverse, find, cond, arith}
 use Rattle.std.proofs.lemmas.List.{append-nil, reverse-reverse}
 use Rattle.std.proofs.Common.{append_assoc}
 use Rattle.std.specs.Global.{Global}
@@ -12,7 +12,7 @@ use Rattle.cf_core.specs.Core.{Core, Function, more, absent, pointer_call}
 use Rattle.cf_core.specs.Access.{used}
 use Rattle.cf_core.specs.Places.{Place}
 use Rattle.cf_core.specs.Store.{Value, Code, new_object, automatic}
-use Rattle.cf_core.specs.Run.{State, Frame, Did, Gives, Malformed, need, done, cast_from_void, Act, ◌>>=◌, ◌>>◌, gives, malformed, some_or, valid, when, upd, changed, with_frame, for_all, object_changed, gone, state}
+use Rattle.cf_core.specs.Run.{State, Frame, Did, Gives, Malformed, need, done, cast_from_void, Act, ◌>>=◌, ◌>>◌, gives, malformed, some_or, valid, when, upd, changed, with_frame, for_all, object_changed, gone}
 use Rattle.cf_core.specs.Objects.{settle, settled, result_place, run_pointer}
 use Rattle.cf_core.specs.Calls.{Flow, Falls, body, root, enter, returned, local_count, end_object, name_function}
 use Rattle.cf_core.specs.Calls as calls
@@ -27,7 +27,6 @@ use Rattle.cf_run_tree.specs.declared.shape.Form.TheVariants as form
 use Rattle.cf_run_tree.specs.declared.shape.Shape.{Shape}
 use Rattle.cf_run_tree.specs.Tree.{core_of, kept, form_type, shape_type, object_type, signature_type, head_or, function_head, function_of, program_of}
 use Rattle.cf_core_objects.specs.declared.object.Entered.{Entered}
-use Rattle.cf_core_objects.specs.declared.object.Objects.{Objects}
 use Rattle.cf_core_objects.specs.declared.answer.Value.{Value as Given}
 use Rattle.cf_core_run.specs.declared.mark.Calling.{Calling}
 use Rattle.cf_core_run.specs.declared.mark.ValueMark.TheVariants as vm

@@ -4,7 +4,7 @@ use Rattle.std.specs.Prelude.{◌||◌, ◌&&◌, int_le}
 use Rattle.cf_base.specs.World.{World, Went}
 use Rattle.cf_core.specs.FromTypes.{Tables}
 use Rattle.cf_core.specs.Types.{SourceType}
-use Rattle.cf_core.specs.Core.{Core, Cores, more, case_label, default_label, declare, blank}
+use Rattle.cf_core.specs.Core.{Core, Cores, more, case_label, default_label, declare}
 use Rattle.cf_core.specs.Run.{State, Gives, Act, ◌>>◌, done, malformed, when}
 use Rattle.cf_core.specs.Calls.{Flow, Again, Program as Whole}
 use Rattle.cf_core.specs.Statements.{has_case, has_default, passes, passes_all, from_case, from_default, does_all}

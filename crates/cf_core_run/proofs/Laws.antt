@@ -1,7 +1,5 @@
 -- How a run goes on behind one that has given a value, and what the marks make of one that has ended.
 use Rattle.std.proofs.Common.{◌≡◌, ◌∙◌, List, [], ◌∷◌, ◌++◌, ℤ, None, Result, Ok, Err, refl, ap, reverse, length, arith}
-use Rattle.std.specs.Global.{Global}
-use Rattle.std.specs.Prelude.{Vec}
 use Rattle.std.proofs.lemmas.List.{reverse-append}
 use Rattle.cf_base.specs.Event.{Event, End, Undefined}
 use Rattle.cf_base.specs.World.{World, Went, Stops}

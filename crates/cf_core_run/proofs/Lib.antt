@@ -3,6 +3,7 @@ mod Goes
 mod LabelLaws
 mod Laws
 mod ListLaws
+mod NearLaws
 mod Nodes
 mod ShapeLaws
 mod StatementLaws

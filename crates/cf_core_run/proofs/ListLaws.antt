@@ -5,7 +5,7 @@ use Rattle.std.proofs.lemmas.Bool.Decides.{nat_tests}
 use Rattle.cf_base.specs.World.{World, Went}
 use Rattle.cf_core.specs.FromTypes.{Tables}
 use Rattle.cf_core.specs.Types.{SourceType, void, integer, enumeration, class, pointer, reference, array, takes, gives as gives_type, data_member, function_member, const, is_array, is_class, plain, element}
-use Rattle.cf_core.specs.Core.{Core, Cores, more, Part, item, list, string}
+use Rattle.cf_core.specs.Core.{Core, Cores, Part, item, list, string}
 use Rattle.cf_core.specs.View.{listed}
 use Rattle.cf_core.specs.Places.{Place, inner, bound}
 use Rattle.cf_core.specs.Store.{Value, Built}

@@ -1,5 +1,5 @@
 -- What each statement does first, and what is left of it then.
-use Rattle.std.proofs.Common.{◌≡◌, ◌∙◌, ℕ, zero, suc, ◌-◌, Bool, true, false, List, [], ◌∷◌, ◌++◌, Option, Some, None, Result, Ok, Err, Bor, refl, ap, sym, reverse, arith}
+use Rattle.std.proofs.Common.{◌≡◌, ◌∙◌, ℕ, zero, suc, ◌-◌, Bool, true, false, List, [], ◌∷◌, ◌++◌, Option, Some, None, Bor, refl, ap, sym, reverse, arith}
 use Rattle.std.specs.Global.{Global}
 use Rattle.std.specs.Prelude.{Vec}
 use Rattle.cf_base.specs.Event.{Ticks}
@@ -11,7 +11,7 @@ use Rattle.cf_core.specs.Types.{SourceType, void, integer, enumeration, class, p
 use Rattle.cf_core.specs.Core.{Core, declare, item, give, switch}
 use Rattle.cf_core.specs.Places.{Place, inner}
 use Rattle.cf_core.specs.Run.{State, Did, Gives, Act, ◌>>=◌, ◌>>◌, gives, done, tick, for_all, for_each_back, frame_changed, object_changed, gone, lists_in_scope, when}
-use Rattle.cf_core.specs.Access.{used, number_of}
+use Rattle.cf_core.specs.Access.{number_of}
 use Rattle.cf_core.specs.Scalars.{truth_of}
 use Rattle.cf_core.specs.Pointers.{truth_value}
 use Rattle.cf_core.specs.Store.{Value}
@@ -28,7 +28,6 @@ use Rattle.cf_run_tree.specs.declared.node.Node.TheVariants as node
 use Rattle.cf_run_tree.specs.declared.program.Program.{Program}
 use Rattle.cf_run_tree.specs.Tree.{core_of, program_of}
 use Rattle.cf_run_tree.proofs.Views.{core-Full, core-If, core-Switch}
-use Rattle.cf_core_objects.specs.declared.answer.Stop.{Stop}
 use Rattle.cf_core_objects.specs.declared.object.Entered.{Entered}
 use Rattle.cf_core_objects.specs.declared.object.Objects.{Objects}
 use Rattle.cf_core_run.specs.declared.mark.Repeated.{Repeated}
@@ -38,11 +37,10 @@ use Rattle.cf_core_run.specs.declared.mark.Mark.{Mark}
 use Rattle.cf_core_run.specs.declared.mark.Mark.TheVariants as mark
 use Rattle.cf_core_run.specs.declared.mark.Doing.TheVariants as doing
 use Rattle.cf_core_run.specs.declared.state.Machine.{Machine}
-use Rattle.cf_core_objects.specs.Answer.{Told}
 use Rattle.cf_core_objects.specs.Store.{state_of}
 use Rattle.cf_core_objects.specs.Then.{◌▷◌}
 use Rattle.cf_core_run.specs.Going.{on_flow, finish, from_flow, world_of, Outside, GoesOn, EndsAs, OpensScope, valued, performed, performed_all, cores, maybe_core, scoped, again, loop_of, first_turn, body_turn, go_test, go_if, go_declared, selected, full, closed}
-use Rattle.cf_core_objects.proofs.ThenLaws.{then-assoc, then-same, stops-on}
+use Rattle.cf_core_objects.proofs.ThenLaws.{then-assoc}
 use Rattle.cf_core_run.proofs.Laws.{flow-stops}
 use Rattle.cf_core_run.proofs.Goes.{flow-pushed}
 

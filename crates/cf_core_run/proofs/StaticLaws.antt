@@ -1,5 +1,5 @@
 -- How static objects are named, and how they get their constant initialisers.
-use Rattle.std.proofs.Common.{◌≡◌, ◌∙◌, ℕ, zero, suc, ◌+◌, ◌<◌, ◌≤◌, Bool, not, nat_lt, true, false, if◌then◌else◌, List, [], ◌∷◌, length, drop, map, find, position, get_or, Option, Some, None, option_map, refl, ap, sym, subst, arith, bytes_eq, true≢false, drop-cons, add-one, codes}
+use Rattle.std.proofs.Common.{◌≡◌, ◌∙◌, ℕ, zero, suc, ◌+◌, ◌<◌, ◌≤◌, Bool, not, nat_lt, true, false, List, [], ◌∷◌, length, drop, map, find, position, get_or, Option, Some, None, option_map, refl, ap, sym, arith, bytes_eq, drop-cons, add-one, codes}
 use Rattle.std.specs.Prelude.{filter, cond}
 use Rattle.std.proofs.lemmas.Bool.Decides.{nat_tests}
 use Rattle.std.specs.Fmt.{digits}
@@ -10,10 +10,10 @@ use Rattle.cf_core.specs.Types.{Name, SourceType, void, same_but_const}
 use Rattle.cf_core.specs.Core.{Core, Static, static_object}
 use Rattle.cf_core.specs.Places.{Place}
 use Rattle.cf_core.specs.Store.{Value, Code}
-use Rattle.cf_core.specs.Run.{State, Malformed, Act, ◌>>=◌, ◌>>◌, gives, malformed, done, changed, need, some_or, when, for_all, frame_changed, cast_from_void}
+use Rattle.cf_core.specs.Run.{State, Malformed, Act, ◌>>=◌, ◌>>◌, gives, malformed, done, changed, need, some_or, when, for_all, cast_from_void}
 use Rattle.cf_core.specs.Access.{followed}
 use Rattle.cf_core.specs.Objects.{settle, settled, static_number, static_type}
-use Rattle.cf_core.specs.Calls.{Setting, root, has_destructor}
+use Rattle.cf_core.specs.Calls.{root, has_destructor}
 use Rattle.cf_core.specs.Joined.{is_nothing, sets_constant, constant_setting, in_file, owner_or}
 use Rattle.cf_core.specs.Program.{set_constant}
 use Rattle.cf_run_tree.specs.declared.node.Node.{Node, roll-Node}

@@ -1,5 +1,5 @@
 -- How the turns of a run lead to its end.
-use Rattle.std.proofs.Common.{◌≡◌, ◌∙◌, ℕ, List, [], ◌∷◌, ◌++◌, map, Option, Some, None, Result, Ok, Err, Bor, refl, ap, sym, subst, reverse, length, slice_get, codes}
+use Rattle.std.proofs.Common.{◌≡◌, ◌∙◌, ℕ, List, [], ◌∷◌, ◌++◌, map, Option, Some, None, Result, Ok, Err, Bor, refl, ap, sym, subst, reverse, slice_get, codes}
 use Rattle.std.specs.Global.{Global}
 use Rattle.std.specs.Prelude.{Vec}
 use Rattle.cf_core.specs.FromTypes.{Tables}
@@ -68,6 +68,16 @@ asks-err p old new s t stop.Memory h = tt
 
 pub goes-on : (p : Program) (first m new : Machine) (begun s t : Seen) (r : Result (Option End) Stop) → r ≡ Ok None → Goes p first begun m s → Turns p m new s t r → Goes p first begun new t
 goes-on p first m new begun s t r is g h = record { same = λ T a. g.same T a ∙ (subst (λ (r : Result (Option End) Stop). Turns p m new s t r) is h) T a }
+
+pub turns-after : (p : Program) (first m new : Machine) (begun s t : Seen) (r out : Result (Option End) Stop) → r ≡ out → Goes p first begun m s → Turns p m new s t r → Turns p first new begun t out
+turns-after p first m new begun s t r out is g h = at out (subst (λ (r : Result (Option End) Stop). Turns p m new s t r) is h)
+  where
+    at : (out : Result (Option End) Stop) → Turns p m new s t out → Turns p first new begun t out
+    at (Ok None) h = λ T a. g.same T a ∙ h T a
+    at (Ok (Some e)) h = λ T a. g.same T a ∙ h T a
+    at (Err stop.Malformed) h = λ T a. g.same T a ∙ h T a
+    at (Err stop.Memory) h = tt
+    at (Err (stop.Act n)) h = h
 
 module _ (p : Program) (limits : Limits) (input : List ℕ) (first : Machine) (begun : Seen) (starts : Starts p limits first) (rest : begun.rest.now ≡ input) (none : begun.trace.items ≡ []) where
   begins : (T : Tables) (heap : ℕ) → Mean (program_of T p) input heap limits.depth limits.ticks ≡ total T p first (outside begun (record { heap = heap; bound = limits.ticks; depth = limits.depth }))

@@ -1,3 +1,4 @@
 pub mod Going
 pub mod Labels
+pub mod Nearer
 pub mod Whole

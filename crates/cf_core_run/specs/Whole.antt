@@ -66,3 +66,8 @@ Runs p limits input (Err (stop.Act n)) = ⊥
 -- what lay ahead of the first state lies ahead of this one
 pub record Goes (p : Program) (first : Machine) (begun : Seen) (m : Machine) (s : Seen) : Type 0 where
   pub same : (T : Tables) (a : Around) → total T p first (outside begun a) ≡ total T p m (outside s a)
+
+-- the same, and no tick was spent since
+pub record Turning (p : Program) (first : Machine) (begun : Seen) (m : Machine) (s : Seen) : Type 0 where
+  pub goes : Goes p first begun m s
+  pub ticks : m.ticks ≡ first.ticks

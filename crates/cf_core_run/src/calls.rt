@@ -1,8 +1,7 @@
-ghost use Rattle.std.specs.Prelude.{◌≡◌, [], ◌∷◌, map, find, bytes_eq, nat_eq, false, Some, None, Option, option_map, IfOk};
+ghost use Rattle.std.specs.Prelude.{◌≡◌, [], ◌∷◌, map, find, bytes_eq, nat_eq, Some, None, Option, IfOk, ◌≤◌, ◌+◌};
 ghost use Rattle.std.specs.Option.{option_copied};
-ghost use Rattle.cf_base.specs.Integers.{bits_of};
 ghost use Rattle.cf_base.specs.World.{World};
-ghost use Rattle.cf_core.specs.Calls.{name_function, body, root, argument};
+ghost use Rattle.cf_core.specs.Calls.{name_function, body, root};
 ghost use Rattle.cf_core.specs.Calls as calls;
 ghost use Rattle.cf_core.specs.Core as cores;
 ghost use Rattle.cf_core.specs.FromTypes.{Tables};
@@ -17,11 +16,12 @@ ghost use Rattle.cf_core_objects.specs.Then.{◌▷◌};
 ghost use Rattle.cf_core_run.specs.Going.{Comes, from_value, from_flow, valued, passing, called, again, starting, OpensScope};
 ghost use Rattle.cf_core_run.specs.Going as going;
 ghost use Rattle.cf_core_objects.specs.declared.object.Entered.{Entered};
-ghost use Rattle.cf_core_objects.specs.Store.{state_of, value_of};
+ghost use Rattle.cf_core_objects.specs.Store.{value_of};
+ghost use Rattle.cf_core_run.specs.Nearer.{weight, weights, arguments_left, marks_left, onward, one_more};
 
 use crate::mark::{Calling, Doing, FlowMark, Mark, ValueMark};
 use crate::state::{Machine, RunEnd, Step};
-use cf_core_objects::{Entered, Integer, Stop, Value, end_objects, new_object, used, whole_held};
+use cf_core_objects::{Entered, Stop, Value, new_object, used};
 use cf_core_place::Goal;
 use cf_run_tree::{Node, Program, RunFn, Shape, Signature};
 use std::alloc::{AllocError, Global};
@@ -51,17 +51,6 @@ fn as_many(made: usize, params: usize) -> bool
     ensures { result ≡ nat_eq made params }
 {
     made == params
-}
-
-/// The byte that a number is modulo 256.
-fn byte_of(value: i64) -> u8
-    ensures { result ≡ bits_of 8 value }
-{
-    if value < 0 {
-        255 - ((-(value + 1)) % 256) as u8
-    } else {
-        (value % 256) as u8
-    }
 }
 
 /// The type of a function that is named: that of its definition in the program, or else the one that it is declared with.
@@ -107,7 +96,9 @@ impl<'a> Machine<'a> {
         all: &'a [Node],
         program: &'a Program,
     ) -> Result<Step<'a>, Stop>
-        ensures { (into : Option places.Place) → Comes program.now (λ T o. from_value T program.now self.old (valued T program.now self.old.fuel (cores.call name.now (signature_type T (function_head program.now name.now signature.now)) cores.absent (going.cores T program.now all.now)) into) o) result self.new }
+        ensures comes { (into : Option places.Place) → Comes program.now (λ T o. from_value T program.now self.old (valued T program.now self.old.fuel (cores.call name.now (signature_type T (function_head program.now name.now signature.now)) cores.absent (going.cores T program.now all.now)) into) o) result self.new }
+        ensures ticks { self.new.ticks ≡ self.old.ticks }
+        ensures within { (p : Program) → onward p result self.new ≤ 4 + weights all.now + marks_left self.old.stack.items }
     {
         match named(program, name) {
             Err(stop) => Err(stop),
@@ -122,7 +113,9 @@ impl<'a> Machine<'a> {
         signature: &'a Signature,
         program: &'a Program,
     ) -> Result<Step<'a>, Stop>
-        ensures { Comes program.now (λ T o. from_value T program.now self.old (going.naming T program.now name.now (signature_type T (function_head program.now name.now signature.now))) o) result self.new }
+        ensures comes { Comes program.now (λ T o. from_value T program.now self.old (going.naming T program.now name.now (signature_type T (function_head program.now name.now signature.now))) o) result self.new }
+        ensures ticks { self.new.ticks ≡ self.old.ticks }
+        ensures within { (p : Program) → onward p result self.new ≤ 1 + marks_left self.old.stack.items }
     {
         match named(program, name) {
             Err(stop) => Err(stop),
@@ -140,7 +133,9 @@ impl<'a> Machine<'a> {
         all: &'a [Node],
         v: Value<'a>,
     ) -> Result<Step<'a>, Stop>
-        ensures { (p : Program) → Comes p (λ T o. from_value T p self.old (going.go_callee T p self.old.fuel signature.now all.now (value_of v.entry)) o) result self.new }
+        ensures comes { (p : Program) → Comes p (λ T o. from_value T p self.old (going.go_callee T p self.old.fuel signature.now all.now (value_of v.entry)) o) result self.new }
+        ensures ticks { self.new.ticks ≡ self.old.ticks }
+        ensures within { (p : Program) → onward p result self.new ≤ 4 + weights all.now + marks_left self.old.stack.items }
     {
         match used(v) {
             Err(stop) => Err(stop),
@@ -155,7 +150,9 @@ impl<'a> Machine<'a> {
         signature: &'a Signature,
         all: &'a [Node],
     ) -> Result<Step<'a>, Stop>
-        ensures { (p : Program) (into : Option places.Place) → Comes p (λ T o. from_value T p self.old (starting T p self.old.fuel (value_of callee.entry) (signature_type T signature.now) (going.cores T p all.now) into) o) result self.new }
+        ensures comes { (p : Program) (into : Option places.Place) → Comes p (λ T o. from_value T p self.old (starting T p self.old.fuel (value_of callee.entry) (signature_type T signature.now) (going.cores T p all.now) into) o) result self.new }
+        ensures ticks { self.new.ticks ≡ self.old.ticks }
+        ensures within { (p : Program) → onward p result self.new ≤ 4 + weights all.now + marks_left self.old.stack.items }
     {
         self.doing = Doing::Passes(Calling {
             callee,
@@ -168,7 +165,9 @@ impl<'a> Machine<'a> {
 
     /// The next argument of a call, or the call.
     pub fn pass(&mut self, calling: Calling<'a>, program: &'a Program) -> Result<Step<'a>, Stop>
-        ensures { Comes program.now (λ T o. from_value T program.now self.old (passing T program.now self.old.fuel calling.entry) o) result self.new }
+        ensures comes { Comes program.now (λ T o. from_value T program.now self.old (passing T program.now self.old.fuel calling.entry) o) result self.new }
+        ensures ticks { self.new.ticks ≡ self.old.ticks }
+        ensures within { (p : Program) → onward p result self.new ≤ arguments_left calling.entry + marks_left self.old.stack.items }
     {
         match calling.params.split_first() {
             None => self.pass_none(calling, program),
@@ -179,7 +178,9 @@ impl<'a> Machine<'a> {
     /// No parameter is left.
     fn pass_none(&mut self, calling: Calling<'a>, program: &'a Program) -> Result<Step<'a>, Stop>
         requires { calling.params.now ≡ [] }
-        ensures { Comes program.now (λ T o. from_value T program.now self.old (passing T program.now self.old.fuel calling.entry) o) result self.new }
+        ensures comes { Comes program.now (λ T o. from_value T program.now self.old (passing T program.now self.old.fuel calling.entry) o) result self.new }
+        ensures ticks { self.new.ticks ≡ self.old.ticks }
+        ensures within { (p : Program) → onward p result self.new ≤ arguments_left calling.entry + marks_left self.old.stack.items }
     {
         match calling.rest.split_first() {
             None => self.call_with(calling.callee, calling.made, program),
@@ -195,7 +196,9 @@ impl<'a> Machine<'a> {
         params: &'a [Shape],
     ) -> Result<Step<'a>, Stop>
         requires { calling.params.now ≡ shape ∷ params.now }
-        ensures { (p : Program) → Comes p (λ T o. from_value T p self.old (passing T p self.old.fuel calling.entry) o) result self.new }
+        ensures comes { (p : Program) → Comes p (λ T o. from_value T p self.old (passing T p self.old.fuel calling.entry) o) result self.new }
+        ensures ticks { self.new.ticks ≡ self.old.ticks }
+        ensures within { (p : Program) → onward p result self.new ≤ arguments_left calling.entry + marks_left self.old.stack.items }
     {
         match calling.rest.split_first() {
             None => Err(Stop::Malformed),
@@ -218,7 +221,9 @@ impl<'a> Machine<'a> {
         shape: Shape,
         first: &'a Node,
     ) -> Result<Step<'a>, Stop>
-        ensures { (p : Program) → Comes p (λ T o. from_value T p self.old (going.pass_next T p self.old.fuel left.entry shape first.now) o) result self.new }
+        ensures comes { (p : Program) → Comes p (λ T o. from_value T p self.old (going.pass_next T p self.old.fuel left.entry shape first.now) o) result self.new }
+        ensures ticks { self.new.ticks ≡ self.old.ticks }
+        ensures within { (p : Program) → onward p result self.new ≤ 2 + weight first.now + arguments_left left.entry + marks_left self.old.stack.items }
     {
         match new_object(shape, &mut self.objects) {
             Err(stop) => Err(stop),
@@ -233,7 +238,9 @@ impl<'a> Machine<'a> {
         object: usize,
         first: &'a Node,
     ) -> Result<Step<'a>, Stop>
-        ensures { (p : Program) → Comes p (λ T o. from_value T p self.old (λ s w. valued T p self.old.fuel (core_of T p first.now) (Some (root object)) s w ▷ going.go_argument T p self.old.fuel left.entry object) o) result self.new }
+        ensures comes { (p : Program) → Comes p (λ T o. from_value T p self.old (λ s w. valued T p self.old.fuel (core_of T p first.now) (Some (root object)) s w ▷ going.go_argument T p self.old.fuel left.entry object) o) result self.new }
+        ensures ticks { self.new.ticks ≡ self.old.ticks }
+        ensures within { (p : Program) → onward p result self.new ≤ 2 + weight first.now + arguments_left left.entry + marks_left self.old.stack.items }
     {
         self.stack
             .push(Mark::Value(self.fuel, ValueMark::Argument(left, object)))?;
@@ -248,7 +255,9 @@ impl<'a> Machine<'a> {
         made: Vec<usize>,
         program: &'a Program,
     ) -> Result<Step<'a>, Stop>
-        ensures { Comes program.now (λ T o. from_value T program.now self.old (called T program.now self.old.fuel (value_of callee.entry) made.items) o) result self.new }
+        ensures comes { Comes program.now (λ T o. from_value T program.now self.old (called T program.now self.old.fuel (value_of callee.entry) made.items) o) result self.new }
+        ensures ticks { self.new.ticks ≡ self.old.ticks }
+        ensures within { (p : Program) → onward p result self.new ≤ 3 + marks_left self.old.stack.items }
     {
         match callee {
             Value::Code(name) => self.call_named(name, made, program),
@@ -268,7 +277,9 @@ impl<'a> Machine<'a> {
         made: Vec<usize>,
         program: &'a Program,
     ) -> Result<Step<'a>, Stop>
-        ensures { Comes program.now (λ T o. from_value T program.now self.old (called T program.now self.old.fuel (Code name.now) made.items) o) result self.new }
+        ensures comes { Comes program.now (λ T o. from_value T program.now self.old (called T program.now self.old.fuel (Code name.now) made.items) o) result self.new }
+        ensures ticks { self.new.ticks ≡ self.old.ticks }
+        ensures within { (p : Program) → onward p result self.new ≤ 3 + marks_left self.old.stack.items }
     {
         if is_library(name) {
             self.call_library(name, made)
@@ -284,7 +295,9 @@ impl<'a> Machine<'a> {
         made: Vec<usize>,
         program: &'a Program,
     ) -> Result<Step<'a>, Stop>
-        ensures { Comes program.now (λ T o. from_value T program.now self.old (calls.enter_found (again T program.now self.old.fuel) (calls.function_named (program_of T program.now) name.now) made.items None None) o) result self.new }
+        ensures comes { Comes program.now (λ T o. from_value T program.now self.old (calls.enter_found (again T program.now self.old.fuel) (calls.function_named (program_of T program.now) name.now) made.items None None) o) result self.new }
+        ensures ticks { self.new.ticks ≡ self.old.ticks }
+        ensures within { (p : Program) → onward p result self.new ≤ 1 + marks_left self.old.stack.items }
     {
         match function_named(program, name) {
             None => Err(Stop::Malformed),
@@ -294,7 +307,9 @@ impl<'a> Machine<'a> {
 
     /// It is entered on as many objects as it has parameters.
     fn enter_on(&mut self, f: &'a RunFn, made: Vec<usize>) -> Result<Step<'a>, Stop>
-        ensures { (p : Program) → Comes p (λ T o. from_value T p self.old (calls.enter_found (again T p self.old.fuel) (Some (function_of T p f.now)) made.items None None) o) result self.new }
+        ensures comes { (p : Program) → Comes p (λ T o. from_value T p self.old (calls.enter_found (again T p self.old.fuel) (Some (function_of T p f.now)) made.items None None) o) result self.new }
+        ensures ticks { self.new.ticks ≡ self.old.ticks }
+        ensures within { (p : Program) → onward p result self.new ≤ 1 + marks_left self.old.stack.items }
     {
         if as_many(made.len(), f.signature.params.len()) {
             self.doing = Doing::Enter(f, made);
@@ -304,110 +319,10 @@ impl<'a> Machine<'a> {
         }
     }
 
-    /// A function of the library is called: behind it the storage of its parameters ends.
-    fn call_library(&mut self, name: &'a [u8], made: Vec<usize>) -> Result<Step<'a>, Stop>
-        ensures { (p : Program) → Comes p (λ T o. from_value T p self.old (calls.call_library name.now made.items) o) result self.new }
-    {
-        let first = self.first_argument(made.as_slice());
-        let mut made = made;
-        made.reverse();
-        self.stack
-            .push(Mark::Value(self.fuel, ValueMark::Library(made)))?;
-        self.run_library(name, first)
-    }
-
-    /// A function of the library runs, where its first parameter holds this.
-    fn run_library(&mut self, name: &'a [u8], first: Option<Value<'a>>) -> Result<Step<'a>, Stop>
-        ensures { (p : Program) → Comes p (λ T o. from_value T p self.old (going.library_on T p name.now (option_map value_of first.entry)) o) result self.new }
-    {
-        if name == b"getchar".as_slice() {
-            self.doing = Doing::Asks;
-            Ok(Step::On)
-        } else {
-            self.run_on(name, first)
-        }
-    }
-
-    /// `putchar` or `exit` runs.
-    fn run_on(&mut self, name: &'a [u8], first: Option<Value<'a>>) -> Result<Step<'a>, Stop>
-        ensures { (p : Program) → Comes p (λ T o. from_value T p self.old (going.library_by T p false name.now (option_map value_of first.entry)) o) result self.new }
-    {
-        match first {
-            None => Err(Stop::Malformed),
-            Some(v) => self.put_or_exit(name, v),
-        }
-    }
-
-    /// A function of the library has run: the storage of its parameters ends, which stand here in reverse.
-    pub fn end_library(&mut self, made: Vec<usize>, v: Value<'a>) -> Result<Step<'a>, Stop>
-        ensures { (p : Program) → Comes p (λ T o. from_value T p self.old (going.go_library made.items (value_of v.entry)) o) result self.new }
-    {
-        match end_objects(&mut self.objects, made.as_slice()) {
-            Err(stop) => Err(stop),
-            Ok(()) => {
-                self.doing = Doing::Gives(v);
-                Ok(Step::On)
-            }
-        }
-    }
-
-    fn put_or_exit(&mut self, name: &'a [u8], v: Value<'a>) -> Result<Step<'a>, Stop>
-        ensures { (p : Program) → Comes p (λ T o. from_value T p self.old (going.put_or_exit T p name.now (value_of v.entry)) o) result self.new }
-    {
-        if name == b"putchar".as_slice() {
-            self.put(v)
-        } else {
-            self.exit(v)
-        }
-    }
-
-    /// What the first parameter holds.
-    fn first_argument(&self, made: &[usize]) -> Option<Value<'a>>
-        ensures { (T : Tables) → option_map value_of result ≡ argument made.now (state_of T self.now.entered self.now.objects) }
-    {
-        match made.split_first() {
-            None => None,
-            Some((object, _)) => whole_held(&self.objects, *object),
-        }
-    }
-
-    /// A byte is put, and given.
-    fn put(&mut self, v: Value<'a>) -> Result<Step<'a>, Stop>
-        ensures { (p : Program) → Comes p (λ T o. from_value T p self.old (calls.put (value_of v.entry)) o) result self.new }
-    {
-        match v {
-            Value::Number(number) => {
-                let byte = byte_of(number);
-                self.doing = Doing::Gives(Value::Number(i64::from(byte)));
-                Ok(Step::Puts(byte))
-            }
-            Value::Nothing => Err(Stop::Malformed),
-            Value::Missing => Err(Stop::Malformed),
-            Value::Built => Err(Stop::Malformed),
-            Value::Null => Err(Stop::Malformed),
-            Value::At(_) => Err(Stop::Malformed),
-            Value::Code(_) => Err(Stop::Malformed),
-        }
-    }
-
-    /// The run ends with a value as its status.
-    fn exit(&mut self, v: Value<'a>) -> Result<Step<'a>, Stop>
-        ensures { (p : Program) → Comes p (λ T o. from_value T p self.old (calls.leave_with (value_of v.entry)) o) result self.new }
-    {
-        match v {
-            Value::Number(status) => Ok(Step::Ends(RunEnd::Ended(Integer::new(status)))),
-            Value::Nothing => Err(Stop::Malformed),
-            Value::Missing => Err(Stop::Malformed),
-            Value::Built => Err(Stop::Malformed),
-            Value::Null => Err(Stop::Malformed),
-            Value::At(_) => Err(Stop::Malformed),
-            Value::Code(_) => Err(Stop::Malformed),
-        }
-    }
-
     /// A function is entered: a tick and a level of depth are spent, and it shows.
     pub fn enter(&mut self, f: &'a RunFn, made: Vec<usize>) -> Result<Step<'a>, Stop>
-        ensures { (p : Program) → Comes p (λ T o. from_value T p self.old (calls.enter (again T p self.old.fuel) (function_of T p f.now) made.items None None) o) result self.new }
+        ensures comes { (p : Program) → Comes p (λ T o. from_value T p self.old (calls.enter (again T p self.old.fuel) (function_of T p f.now) made.items None None) o) result self.new }
+        ensures spends { one_more result self.new ≤ self.old.ticks }
     {
         if self.ticks == 0 {
             return Ok(Step::Ends(RunEnd::Ticks));
@@ -437,7 +352,9 @@ impl<'a> Machine<'a> {
 
     /// The body of a function begins.
     pub fn begin_body(&mut self, f: &'a RunFn, made: Vec<usize>) -> Result<Step<'a>, Stop>
-        ensures { (p : Program) → Comes p (λ T o. from_flow T p self.old (again T p self.old.fuel (body (function_of T p f.now) made.items)) o) result self.new }
+        ensures comes { (p : Program) → Comes p (λ T o. from_flow T p self.old (again T p self.old.fuel (body (function_of T p f.now) made.items)) o) result self.new }
+        ensures ticks { self.new.ticks ≡ self.old.ticks }
+        ensures within { (p : Program) → onward p result self.new ≤ 3 + weight f.now.body + marks_left self.old.stack.items }
     {
         if self.fuel == 0 {
             return Ok(Step::Ends(RunEnd::Ticks));
@@ -452,7 +369,9 @@ impl<'a> Machine<'a> {
 
     /// A scope is opened.
     pub fn open_scope(&mut self) -> Result<(), AllocError>
-        ensures { IfOk result (λ u. OpensScope self.old self.new) }
+        ensures opens { IfOk result (λ u. OpensScope self.old self.new) }
+        ensures ticks { self.new.ticks ≡ self.old.ticks }
+        ensures within { IfOk result (λ u. marks_left self.new.stack.items ≡ 1 + marks_left self.old.stack.items) }
     {
         let around = replace(&mut self.entered.scope, Vec::new(self.alloc));
         self.stack

@@ -1,4 +1,4 @@
-ghost use Rattle.std.specs.Prelude.{◌≡◌, None, option_map, true, false, Option};
+ghost use Rattle.std.specs.Prelude.{◌≡◌, None, option_map, true, false, Option, ◌≤◌, ◌+◌};
 ghost use Rattle.cf_core.specs.Core as cores;
 ghost use Rattle.cf_core.specs.Places as places;
 ghost use Rattle.cf_core.specs.Run.{gives, when};
@@ -10,6 +10,7 @@ ghost use Rattle.cf_core_run.specs.Going.{Comes, from_value, valued, go_value, g
 ghost use Rattle.cf_core_store.specs.Values.{of_value};
 ghost use Rattle.cf_core.specs.Pointers.{truth_value};
 ghost use Rattle.cf_core_objects.specs.Store.{value_of};
+ghost use Rattle.cf_core_run.specs.Nearer.{weight, weights, arguments_left, behind_value, marks_left, onward};
 
 use crate::mark::{Calling, Doing, Mark, ValueMark};
 use crate::state::{Machine, Step};
@@ -28,7 +29,9 @@ impl<'a> Machine<'a> {
         into: Option<Goal>,
         program: &'a Program,
     ) -> Result<Step<'a>, Stop>
-        ensures { Comes program.now (λ T o. from_value T program.now self.old (valued T program.now self.old.fuel (core_of T program.now e.now) (option_map goal_place into)) o) result self.new }
+        ensures comes { Comes program.now (λ T o. from_value T program.now self.old (valued T program.now self.old.fuel (core_of T program.now e.now) (option_map goal_place into)) o) result self.new }
+        ensures ticks { self.new.ticks ≡ self.old.ticks }
+        ensures within { (p : Program) → onward p result self.new ≤ weight e.now + marks_left self.old.stack.items }
     {
         match e {
             Node::Number(value) => {
@@ -75,7 +78,9 @@ impl<'a> Machine<'a> {
 
     /// A part is evaluated first, and the mark says what follows.
     pub fn down(&mut self, mark: ValueMark<'a>, a: &'a Boxed<Node>) -> Result<Step<'a>, Stop>
-        ensures { (p : Program) → Comes p (λ T o. from_value T p self.old (λ s w. valued T p self.old.fuel (core_of T p a.now) None s w ▷ go_value T p self.old.fuel mark.entry) o) result self.new }
+        ensures comes { (p : Program) → Comes p (λ T o. from_value T p self.old (λ s w. valued T p self.old.fuel (core_of T p a.now) None s w ▷ go_value T p self.old.fuel mark.entry) o) result self.new }
+        ensures ticks { self.new.ticks ≡ self.old.ticks }
+        ensures within { (p : Program) → onward p result self.new ≤ 1 + weight a.now + behind_value mark.entry + marks_left self.old.stack.items }
     {
         self.stack.push(Mark::Value(self.fuel, mark))?;
         self.doing = Doing::Evaluate(a.get(), None);
@@ -84,7 +89,9 @@ impl<'a> Machine<'a> {
 
     /// A part is evaluated, and nothing is left of what it is a part of.
     fn turn_to(&mut self, a: &'a Boxed<Node>) -> Result<Step<'a>, Stop>
-        ensures { (p : Program) → Comes p (λ T o. from_value T p self.old (valued T p self.old.fuel (core_of T p a.now) None) o) result self.new }
+        ensures comes { (p : Program) → Comes p (λ T o. from_value T p self.old (valued T p self.old.fuel (core_of T p a.now) None) o) result self.new }
+        ensures ticks { self.new.ticks ≡ self.old.ticks }
+        ensures within { (p : Program) → onward p result self.new ≤ 1 + weight a.now + marks_left self.old.stack.items }
     {
         self.doing = Doing::Evaluate(a.get(), None);
         Ok(Step::On)
@@ -92,7 +99,9 @@ impl<'a> Machine<'a> {
 
     /// A parameter or local is named.
     fn name_local(&mut self, number: u32) -> Result<Step<'a>, Stop>
-        ensures { (p : Program) → Comes p (λ T o. from_value T p self.old (named number) o) result self.new }
+        ensures comes { (p : Program) → Comes p (λ T o. from_value T p self.old (named number) o) result self.new }
+        ensures ticks { self.new.ticks ≡ self.old.ticks }
+        ensures within { (p : Program) → onward p result self.new ≤ 1 + marks_left self.old.stack.items }
     {
         match local_value(number, &self.entered, &self.objects) {
             Err(stop) => Err(stop),
@@ -105,7 +114,9 @@ impl<'a> Machine<'a> {
 
     /// A string literal is named: it is one object for the whole run.
     fn text(&mut self, number: u32, bytes: &'a [u8]) -> Result<Step<'a>, Stop>
-        ensures { (p : Program) (into : Option places.Place) → Comes p (λ T o. from_value T p self.old (valued T p self.old.fuel (cores.text number bytes.now) into) o) result self.new }
+        ensures comes { (p : Program) (into : Option places.Place) → Comes p (λ T o. from_value T p self.old (valued T p self.old.fuel (cores.text number bytes.now) into) o) result self.new }
+        ensures ticks { self.new.ticks ≡ self.old.ticks }
+        ensures within { (p : Program) → onward p result self.new ≤ 1 + marks_left self.old.stack.items }
     {
         match literal_object(number, bytes, &self.entered, &mut self.objects) {
             Err(stop) => Err(stop),
@@ -121,7 +132,9 @@ impl<'a> Machine<'a> {
 
     /// The expressions of a comma, in order.
     fn comma(&mut self, all: &'a [Node]) -> Result<Step<'a>, Stop>
-        ensures { (p : Program) → Comes p (λ T o. from_value T p self.old (last_of T p self.old.fuel all.now) o) result self.new }
+        ensures comes { (p : Program) → Comes p (λ T o. from_value T p self.old (last_of T p self.old.fuel all.now) o) result self.new }
+        ensures ticks { self.new.ticks ≡ self.old.ticks }
+        ensures within { (p : Program) → onward p result self.new ≤ weights all.now + marks_left self.old.stack.items }
     {
         match all.split_first() {
             None => Err(Stop::Malformed),
@@ -134,7 +147,9 @@ impl<'a> Machine<'a> {
 
     /// An expression is next, and nothing is left of what it is a part of.
     fn evaluate(&mut self, e: &'a Node) -> Result<Step<'a>, Stop>
-        ensures { (p : Program) → Comes p (λ T o. from_value T p self.old (valued T p self.old.fuel (core_of T p e.now) None) o) result self.new }
+        ensures comes { (p : Program) → Comes p (λ T o. from_value T p self.old (valued T p self.old.fuel (core_of T p e.now) None) o) result self.new }
+        ensures ticks { self.new.ticks ≡ self.old.ticks }
+        ensures within { (p : Program) → onward p result self.new ≤ 1 + weight e.now + marks_left self.old.stack.items }
     {
         self.doing = Doing::Evaluate(e, None);
         Ok(Step::On)
@@ -142,7 +157,9 @@ impl<'a> Machine<'a> {
 
     /// An expression comes, and then the others of a comma.
     fn comma_rest(&mut self, first: &'a Node, rest: &'a [Node]) -> Result<Step<'a>, Stop>
-        ensures { (p : Program) → Comes p (λ T o. from_value T p self.old (λ s w. valued T p self.old.fuel (core_of T p first.now) None s w ▷ (λ v. last_of T p self.old.fuel rest.now)) o) result self.new }
+        ensures comes { (p : Program) → Comes p (λ T o. from_value T p self.old (λ s w. valued T p self.old.fuel (core_of T p first.now) None s w ▷ (λ v. last_of T p self.old.fuel rest.now)) o) result self.new }
+        ensures ticks { self.new.ticks ≡ self.old.ticks }
+        ensures within { (p : Program) → onward p result self.new ≤ 1 + weight first.now + weights rest.now + marks_left self.old.stack.items }
     {
         self.stack
             .push(Mark::Value(self.fuel, ValueMark::Comma(rest)))?;
@@ -152,7 +169,9 @@ impl<'a> Machine<'a> {
 
     /// The value of a part is there.
     pub fn take_value(&mut self, mark: ValueMark<'a>, v: Value<'a>) -> Result<Step<'a>, Stop>
-        ensures { (p : Program) → Comes p (λ T o. from_value T p self.old (go_value T p self.old.fuel mark.entry (value_of v.entry)) o) result self.new }
+        ensures comes { (p : Program) → Comes p (λ T o. from_value T p self.old (go_value T p self.old.fuel mark.entry (value_of v.entry)) o) result self.new }
+        ensures ticks { self.new.ticks ≡ self.old.ticks }
+        ensures within { (p : Program) → onward p result self.new ≤ behind_value mark.entry + marks_left self.old.stack.items }
     {
         match mark {
             ValueMark::Apply(op) => self.applied(op, v),
@@ -174,7 +193,9 @@ impl<'a> Machine<'a> {
 
     /// The left operand of `&&` is there.
     fn and(&mut self, b: &'a Boxed<Node>, v: Value<'a>) -> Result<Step<'a>, Stop>
-        ensures { (p : Program) → Comes p (λ T o. from_value T p self.old (go_and T p self.old.fuel b.now (value_of v.entry)) o) result self.new }
+        ensures comes { (p : Program) → Comes p (λ T o. from_value T p self.old (go_and T p self.old.fuel b.now (value_of v.entry)) o) result self.new }
+        ensures ticks { self.new.ticks ≡ self.old.ticks }
+        ensures within { (p : Program) → onward p result self.new ≤ 2 + weight b.now + marks_left self.old.stack.items }
     {
         match truth(v) {
             Err(stop) => Err(stop),
@@ -183,7 +204,9 @@ impl<'a> Machine<'a> {
     }
 
     fn and_on(&mut self, holds: bool, b: &'a Boxed<Node>) -> Result<Step<'a>, Stop>
-        ensures { (p : Program) → Comes p (λ T o. from_value T p self.old (when holds (truth_by T p self.old.fuel b.now) (gives (truth_value false))) o) result self.new }
+        ensures comes { (p : Program) → Comes p (λ T o. from_value T p self.old (when holds (truth_by T p self.old.fuel b.now) (gives (truth_value false))) o) result self.new }
+        ensures ticks { self.new.ticks ≡ self.old.ticks }
+        ensures within { (p : Program) → onward p result self.new ≤ 2 + weight b.now + marks_left self.old.stack.items }
     {
         if holds {
             self.down(ValueMark::Apply(Applied::Truth), b)
@@ -194,7 +217,9 @@ impl<'a> Machine<'a> {
 
     /// The left operand of `||` is there.
     fn or(&mut self, b: &'a Boxed<Node>, v: Value<'a>) -> Result<Step<'a>, Stop>
-        ensures { (p : Program) → Comes p (λ T o. from_value T p self.old (go_or T p self.old.fuel b.now (value_of v.entry)) o) result self.new }
+        ensures comes { (p : Program) → Comes p (λ T o. from_value T p self.old (go_or T p self.old.fuel b.now (value_of v.entry)) o) result self.new }
+        ensures ticks { self.new.ticks ≡ self.old.ticks }
+        ensures within { (p : Program) → onward p result self.new ≤ 2 + weight b.now + marks_left self.old.stack.items }
     {
         match truth(v) {
             Err(stop) => Err(stop),
@@ -203,7 +228,9 @@ impl<'a> Machine<'a> {
     }
 
     fn or_on(&mut self, holds: bool, b: &'a Boxed<Node>) -> Result<Step<'a>, Stop>
-        ensures { (p : Program) → Comes p (λ T o. from_value T p self.old (when holds (gives (truth_value true)) (truth_by T p self.old.fuel b.now)) o) result self.new }
+        ensures comes { (p : Program) → Comes p (λ T o. from_value T p self.old (when holds (gives (truth_value true)) (truth_by T p self.old.fuel b.now)) o) result self.new }
+        ensures ticks { self.new.ticks ≡ self.old.ticks }
+        ensures within { (p : Program) → onward p result self.new ≤ 2 + weight b.now + marks_left self.old.stack.items }
     {
         if holds {
             self.gives_truth(true)
@@ -219,7 +246,9 @@ impl<'a> Machine<'a> {
         b: &'a Boxed<Node>,
         v: Value<'a>,
     ) -> Result<Step<'a>, Stop>
-        ensures { (p : Program) → Comes p (λ T o. from_value T p self.old (go_choice T p self.old.fuel a.now b.now (value_of v.entry)) o) result self.new }
+        ensures comes { (p : Program) → Comes p (λ T o. from_value T p self.old (go_choice T p self.old.fuel a.now b.now (value_of v.entry)) o) result self.new }
+        ensures ticks { self.new.ticks ≡ self.old.ticks }
+        ensures within { (p : Program) → onward p result self.new ≤ 1 + weight a.now + weight b.now + marks_left self.old.stack.items }
     {
         match truth(v) {
             Err(stop) => Err(stop),
@@ -233,7 +262,9 @@ impl<'a> Machine<'a> {
         a: &'a Boxed<Node>,
         b: &'a Boxed<Node>,
     ) -> Result<Step<'a>, Stop>
-        ensures { (p : Program) → Comes p (λ T o. from_value T p self.old (when holds (valued T p self.old.fuel (core_of T p a.now) None) (valued T p self.old.fuel (core_of T p b.now) None)) o) result self.new }
+        ensures comes { (p : Program) → Comes p (λ T o. from_value T p self.old (when holds (valued T p self.old.fuel (core_of T p a.now) None) (valued T p self.old.fuel (core_of T p b.now) None)) o) result self.new }
+        ensures ticks { self.new.ticks ≡ self.old.ticks }
+        ensures within { (p : Program) → onward p result self.new ≤ 1 + weight a.now + weight b.now + marks_left self.old.stack.items }
     {
         if holds {
             self.turn_to(a)
@@ -244,7 +275,9 @@ impl<'a> Machine<'a> {
 
     /// 1 or 0 is given.
     fn gives_truth(&mut self, holds: bool) -> Result<Step<'a>, Stop>
-        ensures { (p : Program) → Comes p (λ T o. from_value T p self.old (gives (truth_value holds)) o) result self.new }
+        ensures comes { (p : Program) → Comes p (λ T o. from_value T p self.old (gives (truth_value holds)) o) result self.new }
+        ensures ticks { self.new.ticks ≡ self.old.ticks }
+        ensures within { (p : Program) → onward p result self.new ≤ 1 + marks_left self.old.stack.items }
     {
         self.doing = Doing::Gives(truth_number(holds));
         Ok(Step::On)
@@ -252,7 +285,9 @@ impl<'a> Machine<'a> {
 
     /// Something is made of a value.
     fn applied(&mut self, op: Applied<'a>, v: Value<'a>) -> Result<Step<'a>, Stop>
-        ensures { (p : Program) → Comes p (λ T o. from_value T p self.old (of_value T op.entry (value_of v.entry)) o) result self.new }
+        ensures comes { (p : Program) → Comes p (λ T o. from_value T p self.old (of_value T op.entry (value_of v.entry)) o) result self.new }
+        ensures ticks { self.new.ticks ≡ self.old.ticks }
+        ensures within { (p : Program) → onward p result self.new ≤ 1 + marks_left self.old.stack.items }
     {
         match apply(&op, v, &mut self.objects) {
             Err(stop) => Err(stop),
@@ -265,7 +300,9 @@ impl<'a> Machine<'a> {
 
     /// The left operand is there.
     fn right(&mut self, op: Binary, b: &'a Boxed<Node>, v: Value<'a>) -> Result<Step<'a>, Stop>
-        ensures { (p : Program) → Comes p (λ T o. from_value T p self.old (go_right T p self.old.fuel op b.now (value_of v.entry)) o) result self.new }
+        ensures comes { (p : Program) → Comes p (λ T o. from_value T p self.old (go_right T p self.old.fuel op b.now (value_of v.entry)) o) result self.new }
+        ensures ticks { self.new.ticks ≡ self.old.ticks }
+        ensures within { (p : Program) → onward p result self.new ≤ 2 + weight b.now + marks_left self.old.stack.items }
     {
         match ready(op, v) {
             Err(stop) => Err(stop),
@@ -280,7 +317,9 @@ impl<'a> Machine<'a> {
         object: usize,
         v: Value<'a>,
     ) -> Result<Step<'a>, Stop>
-        ensures { (p : Program) → Comes p (λ T o. from_value T p self.old (go_argument T p self.old.fuel calling.entry object (value_of v.entry)) o) result self.new }
+        ensures comes { (p : Program) → Comes p (λ T o. from_value T p self.old (go_argument T p self.old.fuel calling.entry object (value_of v.entry)) o) result self.new }
+        ensures ticks { self.new.ticks ≡ self.old.ticks }
+        ensures within { (p : Program) → onward p result self.new ≤ 1 + arguments_left calling.entry + marks_left self.old.stack.items }
     {
         match settle_object(&mut self.objects, object, v) {
             Err(stop) => Err(stop),

@@ -1,4 +1,4 @@
-ghost use Rattle.std.specs.Prelude.{◌≡◌, []};
+ghost use Rattle.std.specs.Prelude.{◌≡◌, [], ◌≤◌, ◌+◌};
 ghost use Rattle.cf_base.specs.World.{World};
 ghost use Rattle.cf_core.specs.Calls.{turn, Falls};
 ghost use Rattle.cf_core.specs.Calls as calls;
@@ -10,6 +10,7 @@ ghost use Rattle.cf_core_objects.specs.Answer.{Told};
 ghost use Rattle.cf_run_tree.specs.declared.program.Program.{Program};
 ghost use Rattle.cf_core_run.specs.Going.{Comes, from_value, from_flow, performed, performed_all, performed_other, cores, turned, body_turn, again, loop_of, go_test, go_if, go_first, go_last, go_flow, go_back, go_declared, go_scope, go_parameters, flow_of};
 ghost use Rattle.cf_core_objects.specs.Store.{value_of};
+ghost use Rattle.cf_core_run.specs.Nearer.{weight, maybe_weight, statements_left, turn_left, behind_test, behind_flow, marks_left, onward};
 
 use crate::mark::{Doing, Flow, FlowMark, Mark, Repeated, TestMark};
 use crate::state::{Machine, RunEnd, Step};
@@ -25,7 +26,9 @@ fn lost(_mark: Mark<'_>) {}
 impl<'a> Machine<'a> {
     /// A value is there: the newest mark says what follows.
     pub fn take(&mut self, v: Value<'a>) -> Result<Step<'a>, Stop>
-        ensures { (p : Program) → Comes p (λ T o. from_value T p self.old (gives (value_of v.entry)) o) result self.new }
+        ensures comes { (p : Program) → Comes p (λ T o. from_value T p self.old (gives (value_of v.entry)) o) result self.new }
+        ensures ticks { self.new.ticks ≡ self.old.ticks }
+        ensures within { (p : Program) → onward p result self.new ≤ marks_left self.old.stack.items }
     {
         match self.stack.pop() {
             None => end_with(v),
@@ -50,7 +53,9 @@ impl<'a> Machine<'a> {
 
     /// The value of a full expression is there.
     fn take_test(&mut self, mark: TestMark<'a>, v: Value<'a>) -> Result<Step<'a>, Stop>
-        ensures { (p : Program) → Comes p (λ T o. from_flow T p self.old (go_test T p self.old.fuel mark.entry (value_of v.entry)) o) result self.new }
+        ensures comes { (p : Program) → Comes p (λ T o. from_flow T p self.old (go_test T p self.old.fuel mark.entry (value_of v.entry)) o) result self.new }
+        ensures ticks { self.new.ticks ≡ self.old.ticks }
+        ensures within { (p : Program) → onward p result self.new ≤ behind_test mark.entry + marks_left self.old.stack.items }
     {
         match mark {
             TestMark::Statement => self.ends(Flow::Falls),
@@ -71,7 +76,9 @@ impl<'a> Machine<'a> {
         no: &'a Option<Boxed<Node>>,
         v: Value<'a>,
     ) -> Result<Step<'a>, Stop>
-        ensures { (p : Program) → Comes p (λ T o. from_flow T p self.old (go_if T p self.old.fuel yes.now no.now (value_of v.entry)) o) result self.new }
+        ensures comes { (p : Program) → Comes p (λ T o. from_flow T p self.old (go_if T p self.old.fuel yes.now no.now (value_of v.entry)) o) result self.new }
+        ensures ticks { self.new.ticks ≡ self.old.ticks }
+        ensures within { (p : Program) → onward p result self.new ≤ 1 + weight yes.now + maybe_weight no.now + marks_left self.old.stack.items }
     {
         match truth(v) {
             Err(stop) => Err(stop),
@@ -85,7 +92,9 @@ impl<'a> Machine<'a> {
         yes: &'a Boxed<Node>,
         no: &'a Option<Boxed<Node>>,
     ) -> Result<Step<'a>, Stop>
-        ensures { (p : Program) → Comes p (λ T o. from_flow T p self.old (when holds (performed T p self.old.fuel (core_of T p yes.now)) (performed_other T p self.old.fuel no.now)) o) result self.new }
+        ensures comes { (p : Program) → Comes p (λ T o. from_flow T p self.old (when holds (performed T p self.old.fuel (core_of T p yes.now)) (performed_other T p self.old.fuel no.now)) o) result self.new }
+        ensures ticks { self.new.ticks ≡ self.old.ticks }
+        ensures within { (p : Program) → onward p result self.new ≤ 1 + weight yes.now + maybe_weight no.now + marks_left self.old.stack.items }
     {
         if holds {
             self.perform_next(yes)
@@ -96,7 +105,9 @@ impl<'a> Machine<'a> {
 
     /// The condition before the body of a loop is there.
     fn tested_first(&mut self, repeated: Repeated<'a>, v: Value<'a>) -> Result<Step<'a>, Stop>
-        ensures { (p : Program) → Comes p (λ T o. from_flow T p self.old (go_first T p self.old.fuel repeated.entry (value_of v.entry)) o) result self.new }
+        ensures comes { (p : Program) → Comes p (λ T o. from_flow T p self.old (go_first T p self.old.fuel repeated.entry (value_of v.entry)) o) result self.new }
+        ensures ticks { self.new.ticks ≡ self.old.ticks }
+        ensures within { (p : Program) → onward p result self.new ≤ 2 + turn_left repeated.entry + weight repeated.entry.body.now + marks_left self.old.stack.items }
     {
         match truth(v) {
             Err(stop) => Err(stop),
@@ -105,7 +116,9 @@ impl<'a> Machine<'a> {
     }
 
     fn first_on(&mut self, holds: bool, repeated: Repeated<'a>) -> Result<Step<'a>, Stop>
-        ensures { (p : Program) → Comes p (λ T o. from_flow T p self.old (when holds (body_turn T p self.old.fuel repeated.entry) (gives Falls)) o) result self.new }
+        ensures comes { (p : Program) → Comes p (λ T o. from_flow T p self.old (when holds (body_turn T p self.old.fuel repeated.entry) (gives Falls)) o) result self.new }
+        ensures ticks { self.new.ticks ≡ self.old.ticks }
+        ensures within { (p : Program) → onward p result self.new ≤ 2 + turn_left repeated.entry + weight repeated.entry.body.now + marks_left self.old.stack.items }
     {
         if holds {
             self.open_body(repeated)
@@ -116,7 +129,9 @@ impl<'a> Machine<'a> {
 
     /// The condition behind the body of a loop is there.
     fn tested_last(&mut self, repeated: Repeated<'a>, v: Value<'a>) -> Result<Step<'a>, Stop>
-        ensures { (p : Program) → Comes p (λ T o. from_flow T p self.old (go_last T p self.old.fuel repeated.entry (value_of v.entry)) o) result self.new }
+        ensures comes { (p : Program) → Comes p (λ T o. from_flow T p self.old (go_last T p self.old.fuel repeated.entry (value_of v.entry)) o) result self.new }
+        ensures ticks { self.new.ticks ≡ self.old.ticks }
+        ensures within { (p : Program) → onward p result self.new ≤ 1 + marks_left self.old.stack.items }
     {
         match truth(v) {
             Err(stop) => Err(stop),
@@ -125,7 +140,9 @@ impl<'a> Machine<'a> {
     }
 
     fn last_on(&mut self, holds: bool, repeated: Repeated<'a>) -> Result<Step<'a>, Stop>
-        ensures { (p : Program) → Comes p (λ T o. from_flow T p self.old (when holds (again T p self.old.fuel (turn (loop_of T p repeated.entry))) (gives Falls)) o) result self.new }
+        ensures comes { (p : Program) → Comes p (λ T o. from_flow T p self.old (when holds (again T p self.old.fuel (turn (loop_of T p repeated.entry))) (gives Falls)) o) result self.new }
+        ensures ticks { self.new.ticks ≡ self.old.ticks }
+        ensures within { (p : Program) → onward p result self.new ≤ 1 + marks_left self.old.stack.items }
     {
         if holds {
             self.repeat_next(repeated)
@@ -136,7 +153,9 @@ impl<'a> Machine<'a> {
 
     /// A statement is next.
     fn perform_next(&mut self, s: &'a Boxed<Node>) -> Result<Step<'a>, Stop>
-        ensures { (p : Program) → Comes p (λ T o. from_flow T p self.old (performed T p self.old.fuel (core_of T p s.now)) o) result self.new }
+        ensures comes { (p : Program) → Comes p (λ T o. from_flow T p self.old (performed T p self.old.fuel (core_of T p s.now)) o) result self.new }
+        ensures ticks { self.new.ticks ≡ self.old.ticks }
+        ensures within { (p : Program) → onward p result self.new ≤ 1 + weight s.now + marks_left self.old.stack.items }
     {
         self.doing = Doing::Perform(s.get());
         Ok(Step::On)
@@ -144,7 +163,9 @@ impl<'a> Machine<'a> {
 
     /// The statement behind `else`, if there is one.
     fn perform_other(&mut self, no: &'a Option<Boxed<Node>>) -> Result<Step<'a>, Stop>
-        ensures { (p : Program) → Comes p (λ T o. from_flow T p self.old (performed_other T p self.old.fuel no.now) o) result self.new }
+        ensures comes { (p : Program) → Comes p (λ T o. from_flow T p self.old (performed_other T p self.old.fuel no.now) o) result self.new }
+        ensures ticks { self.new.ticks ≡ self.old.ticks }
+        ensures within { (p : Program) → onward p result self.new ≤ 1 + maybe_weight no.now + marks_left self.old.stack.items }
     {
         match no {
             None => self.ends(Flow::Falls),
@@ -154,7 +175,9 @@ impl<'a> Machine<'a> {
 
     /// The next turn of a loop is next.
     fn repeat_next(&mut self, repeated: Repeated<'a>) -> Result<Step<'a>, Stop>
-        ensures { (p : Program) → Comes p (λ T o. from_flow T p self.old (again T p self.old.fuel (turn (loop_of T p repeated.entry))) o) result self.new }
+        ensures comes { (p : Program) → Comes p (λ T o. from_flow T p self.old (again T p self.old.fuel (turn (loop_of T p repeated.entry))) o) result self.new }
+        ensures ticks { self.new.ticks ≡ self.old.ticks }
+        ensures within { (p : Program) → onward p result self.new ≤ 1 + marks_left self.old.stack.items }
     {
         self.doing = Doing::Repeat(repeated);
         Ok(Step::On)
@@ -162,7 +185,9 @@ impl<'a> Machine<'a> {
 
     /// A local has its value.
     fn declared(&mut self, object: usize, v: Value<'a>) -> Result<Step<'a>, Stop>
-        ensures { (p : Program) → Comes p (λ T o. from_flow T p self.old (go_declared T p self.old.fuel object (value_of v.entry)) o) result self.new }
+        ensures comes { (p : Program) → Comes p (λ T o. from_flow T p self.old (go_declared T p self.old.fuel object (value_of v.entry)) o) result self.new }
+        ensures ticks { self.new.ticks ≡ self.old.ticks }
+        ensures within { (p : Program) → onward p result self.new ≤ 1 + marks_left self.old.stack.items }
     {
         match settle_object(&mut self.objects, object, v) {
             Err(stop) => Err(stop),
@@ -175,7 +200,9 @@ impl<'a> Machine<'a> {
 
     /// A statement has ended: the newest mark says what follows.
     pub fn leave(&mut self, flow: Flow<'a>) -> Result<Step<'a>, Stop>
-        ensures { (p : Program) → Comes p (λ T o. from_flow T p self.old (gives (flow_of flow.entry)) o) result self.new }
+        ensures comes { (p : Program) → Comes p (λ T o. from_flow T p self.old (gives (flow_of flow.entry)) o) result self.new }
+        ensures ticks { self.new.ticks ≡ self.old.ticks }
+        ensures within { (p : Program) → onward p result self.new ≤ marks_left self.old.stack.items }
     {
         match self.stack.pop() {
             None => Err(Stop::Malformed),
@@ -200,7 +227,9 @@ impl<'a> Machine<'a> {
 
     /// A part of a statement has ended.
     fn leave_part(&mut self, mark: FlowMark<'a>, flow: Flow<'a>) -> Result<Step<'a>, Stop>
-        ensures { (p : Program) → Comes p (λ T o. from_flow T p self.old (go_flow T p self.old.fuel mark.entry (flow_of flow.entry)) o) result self.new }
+        ensures comes { (p : Program) → Comes p (λ T o. from_flow T p self.old (go_flow T p self.old.fuel mark.entry (flow_of flow.entry)) o) result self.new }
+        ensures ticks { self.new.ticks ≡ self.old.ticks }
+        ensures within { (p : Program) → onward p result self.new ≤ behind_flow mark.entry + marks_left self.old.stack.items }
     {
         match mark {
             FlowMark::Rest(rest) => self.go_on(rest, flow),
@@ -213,7 +242,9 @@ impl<'a> Machine<'a> {
 
     /// The statements behind one that has ended.
     fn go_on(&mut self, rest: &'a [Node], flow: Flow<'a>) -> Result<Step<'a>, Stop>
-        ensures { (p : Program) → Comes p (λ T o. from_flow T p self.old (falling (performed_all T p self.old.fuel (cores T p rest.now)) (flow_of flow.entry)) o) result self.new }
+        ensures comes { (p : Program) → Comes p (λ T o. from_flow T p self.old (falling (performed_all T p self.old.fuel (cores T p rest.now)) (flow_of flow.entry)) o) result self.new }
+        ensures ticks { self.new.ticks ≡ self.old.ticks }
+        ensures within { (p : Program) → onward p result self.new ≤ 1 + statements_left rest.now + marks_left self.old.stack.items }
     {
         match flow {
             Flow::Falls => {
@@ -228,7 +259,9 @@ impl<'a> Machine<'a> {
 
     /// The body of a loop has ended.
     fn turned(&mut self, repeated: Repeated<'a>, flow: Flow<'a>) -> Result<Step<'a>, Stop>
-        ensures { (p : Program) → Comes p (λ T o. from_flow T p self.old (turning (turned T p self.old.fuel repeated.entry (tests_first repeated.entry.form)) (flow_of flow.entry)) o) result self.new }
+        ensures comes { (p : Program) → Comes p (λ T o. from_flow T p self.old (turning (turned T p self.old.fuel repeated.entry (tests_first repeated.entry.form)) (flow_of flow.entry)) o) result self.new }
+        ensures ticks { self.new.ticks ≡ self.old.ticks }
+        ensures within { (p : Program) → onward p result self.new ≤ turn_left repeated.entry + marks_left self.old.stack.items }
     {
         match flow {
             Flow::Falls => self.turn_on(repeated),
@@ -240,7 +273,9 @@ impl<'a> Machine<'a> {
 
     /// A switch has ended.
     fn left(&mut self, flow: Flow<'a>) -> Result<Step<'a>, Stop>
-        ensures { (p : Program) → Comes p (λ T o. from_flow T p self.old (leaving (flow_of flow.entry)) o) result self.new }
+        ensures comes { (p : Program) → Comes p (λ T o. from_flow T p self.old (leaving (flow_of flow.entry)) o) result self.new }
+        ensures ticks { self.new.ticks ≡ self.old.ticks }
+        ensures within { (p : Program) → onward p result self.new ≤ 1 + marks_left self.old.stack.items }
     {
         match flow {
             Flow::Breaks => self.ends(Flow::Falls),
@@ -252,7 +287,9 @@ impl<'a> Machine<'a> {
 
     /// The objects of a scope end.
     fn close_scope(&mut self, around: Vec<usize>, flow: Flow<'a>) -> Result<Step<'a>, Stop>
-        ensures { (p : Program) → Comes p (λ T o. from_flow T p self.old (go_scope T p self.old.fuel around.items (flow_of flow.entry)) o) result self.new }
+        ensures comes { (p : Program) → Comes p (λ T o. from_flow T p self.old (go_scope T p self.old.fuel around.items (flow_of flow.entry)) o) result self.new }
+        ensures ticks { self.new.ticks ≡ self.old.ticks }
+        ensures within { (p : Program) → onward p result self.new ≤ 1 + marks_left self.old.stack.items }
     {
         match end_scope(&self.entered, &mut self.objects) {
             Err(stop) => Err(stop),
@@ -265,7 +302,9 @@ impl<'a> Machine<'a> {
 
     /// The parameters of a function end.
     fn end_parameters(&mut self, made: Vec<usize>, flow: Flow<'a>) -> Result<Step<'a>, Stop>
-        ensures { (p : Program) → Comes p (λ T o. from_flow T p self.old (go_parameters T p self.old.fuel made.items (flow_of flow.entry)) o) result self.new }
+        ensures comes { (p : Program) → Comes p (λ T o. from_flow T p self.old (go_parameters T p self.old.fuel made.items (flow_of flow.entry)) o) result self.new }
+        ensures ticks { self.new.ticks ≡ self.old.ticks }
+        ensures within { (p : Program) → onward p result self.new ≤ 1 + marks_left self.old.stack.items }
     {
         match end_objects(&mut self.objects, made.as_slice()) {
             Err(stop) => Err(stop),
@@ -280,7 +319,9 @@ impl<'a> Machine<'a> {
         entered: Entered<'a>,
         flow: Flow<'a>,
     ) -> Result<Step<'a>, Stop>
-        ensures { (p : Program) → Comes p (λ T o. from_value T p self.old (go_back T p self.old.fuel shape entered.entry (flow_of flow.entry)) o) result self.new }
+        ensures comes { (p : Program) → Comes p (λ T o. from_value T p self.old (go_back T p self.old.fuel shape entered.entry (flow_of flow.entry)) o) result self.new }
+        ensures ticks { self.new.ticks ≡ self.old.ticks }
+        ensures within { (p : Program) → onward p result self.new ≤ 1 + marks_left self.old.stack.items }
     {
         self.entered = entered;
         match returned(shape, flow) {
@@ -318,7 +359,8 @@ fn without_value<'a>(shape: Shape) -> Value<'a>
 
 /// The first function has ended with a value, whose number is the status.
 fn end_with<'a>(v: Value<'a>) -> Result<Step<'a>, Stop>
-    ensures { (p : Program) (m : Machine) → m.stack.items ≡ [] → Comes p (λ T o. from_value T p m (gives (value_of v.entry)) o) result m }
+    ensures comes { (p : Program) (m : Machine) → m.stack.items ≡ [] → Comes p (λ T o. from_value T p m (gives (value_of v.entry)) o) result m }
+    ensures stops { (p : Program) (m : Machine) → onward p result m ≡ 0 }
 {
     match v {
         Value::Number(status) => Ok(Step::Ends(RunEnd::Ended(Integer::new(status)))),

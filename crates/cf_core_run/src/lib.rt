@@ -8,6 +8,7 @@
 mod calls;
 mod expressions;
 mod leaving;
+mod library;
 mod lists;
 mod machine;
 mod mark;

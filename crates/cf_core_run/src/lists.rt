@@ -1,4 +1,4 @@
-ghost use Rattle.std.specs.Prelude.{◌≡◌, ◌<◌, ◌^◌, nat_le, [], length, Some, option_map, Option};
+ghost use Rattle.std.specs.Prelude.{◌≡◌, ◌<◌, ◌^◌, nat_le, [], length, Some, option_map, Option, ◌≤◌, ◌+◌, ◌-◌};
 ghost use Rattle.cf_core.specs.Access.{place_type};
 ghost use Rattle.cf_core.specs.Core as cores;
 ghost use Rattle.cf_core.specs.FromTypes.{Tables};
@@ -9,6 +9,7 @@ ghost use Rattle.cf_core_objects.specs.Site.{HasElements};
 ghost use Rattle.cf_core_objects.specs.Store.{state_of, value_of};
 ghost use Rattle.cf_core_objects.specs.Then.{◌▷◌};
 ghost use Rattle.cf_core_run.specs.Going.{Comes, from_value, valued, full, cores as row, listing as listed, listing_with, go_element, putting_bytes, writing, zeroing};
+ghost use Rattle.cf_core_run.specs.Nearer.{weight, weights, whole_array, so_many, elements_left, marks_left, onward};
 
 use crate::mark::{Doing, Listing, Mark, ValueMark};
 use crate::state::{Machine, Step};
@@ -32,7 +33,9 @@ impl<'a> Machine<'a> {
         filler: &'a Boxed<Node>,
         into: Option<Goal>,
     ) -> Result<Step<'a>, Stop>
-        ensures { (p : Program) → Comes p (λ T o. from_value T p self.old (valued T p self.old.fuel (cores.list (row T p all.now) (core_of T p filler.now)) (option_map goal_place into)) o) result self.new }
+        ensures comes { (p : Program) → Comes p (λ T o. from_value T p self.old (valued T p self.old.fuel (cores.list (row T p all.now) (core_of T p filler.now)) (option_map goal_place into)) o) result self.new }
+        ensures ticks { self.new.ticks ≡ self.old.ticks }
+        ensures within { (p : Program) → onward p result self.new ≤ 2 + whole_array (3 + weight filler.now) + weights all.now + marks_left self.old.stack.items }
     {
         match into {
             None => Err(Stop::Malformed),
@@ -47,7 +50,9 @@ impl<'a> Machine<'a> {
         filler: &'a Boxed<Node>,
         goal: Goal,
     ) -> Result<Step<'a>, Stop>
-        ensures { (p : Program) → Comes p (λ T o. from_value T p self.old (valued T p self.old.fuel (cores.list (row T p all.now) (core_of T p filler.now)) (Some (goal_place goal))) o) result self.new }
+        ensures comes { (p : Program) → Comes p (λ T o. from_value T p self.old (valued T p self.old.fuel (cores.list (row T p all.now) (core_of T p filler.now)) (Some (goal_place goal))) o) result self.new }
+        ensures ticks { self.new.ticks ≡ self.old.ticks }
+        ensures within { (p : Program) → onward p result self.new ≤ 2 + whole_array (3 + weight filler.now) + weights all.now + marks_left self.old.stack.items }
     {
         match elements(&self.objects, goal) {
             Err(stop) => Err(stop),
@@ -63,7 +68,9 @@ impl<'a> Machine<'a> {
         array: Array,
     ) -> Result<Step<'a>, Stop>
         requires { (T : Tables) → HasElements (place_type [] (state_of T self.old.entered self.old.objects) (row_place array.row)) array.count }
-        ensures { (p : Program) → Comes p (λ T o. from_value T p self.old (valued T p self.old.fuel (cores.list (row T p all.now) (core_of T p filler.now)) (Some (row_place array.row))) o) result self.new }
+        ensures comes { (p : Program) → Comes p (λ T o. from_value T p self.old (valued T p self.old.fuel (cores.list (row T p all.now) (core_of T p filler.now)) (Some (row_place array.row))) o) result self.new }
+        ensures ticks { self.new.ticks ≡ self.old.ticks }
+        ensures within { (p : Program) → onward p result self.new ≤ 2 + whole_array (3 + weight filler.now) + weights all.now + marks_left self.old.stack.items }
     {
         if fits(all.len(), array.count) {
             self.doing = Doing::Lists(Listing {
@@ -81,7 +88,9 @@ impl<'a> Machine<'a> {
 
     /// The next element of an array, or the end of its list.
     pub fn next_element(&mut self, listing: Listing<'a>) -> Result<Step<'a>, Stop>
-        ensures { (p : Program) → Comes p (λ T o. from_value T p self.old (listed T p self.old.fuel listing.entry) o) result self.new }
+        ensures comes { (p : Program) → Comes p (λ T o. from_value T p self.old (listed T p self.old.fuel listing.entry) o) result self.new }
+        ensures ticks { self.new.ticks ≡ self.old.ticks }
+        ensures within { (p : Program) → onward p result self.new ≤ elements_left listing.entry + marks_left self.old.stack.items }
     {
         if listing.index >= listing.count {
             self.doing = Doing::Gives(Value::Built);
@@ -99,7 +108,9 @@ impl<'a> Machine<'a> {
     /// The next element is initialised so, and then the others.
     fn initialise_element(&mut self, e: &'a Node, others: Listing<'a>) -> Result<Step<'a>, Stop>
         requires { others.index < others.count }
-        ensures { (p : Program) → Comes p (λ T o. from_value T p self.old (listing_with T p self.old.fuel others.entry e.now) o) result self.new }
+        ensures comes { (p : Program) → Comes p (λ T o. from_value T p self.old (listing_with T p self.old.fuel others.entry e.now) o) result self.new }
+        ensures ticks { self.new.ticks ≡ self.old.ticks }
+        ensures within { (p : Program) → onward p result self.new ≤ 4 + weight e.now + so_many (others.entry.count - (others.entry.index + 1)) others.entry + marks_left self.old.stack.items }
     {
         let goal = others.array.element(others.index);
         let others = Listing {
@@ -116,7 +127,9 @@ impl<'a> Machine<'a> {
         goal: Goal,
         others: Listing<'a>,
     ) -> Result<Step<'a>, Stop>
-        ensures { (p : Program) → Comes p (λ T o. from_value T p self.old (λ s w. full T p self.old.fuel (valued T p self.old.fuel (core_of T p e.now) (Some (goal_place goal))) s w ▷ go_element T p self.old.fuel goal others.entry) o) result self.new }
+        ensures comes { (p : Program) → Comes p (λ T o. from_value T p self.old (λ s w. full T p self.old.fuel (valued T p self.old.fuel (core_of T p e.now) (Some (goal_place goal))) s w ▷ go_element T p self.old.fuel goal others.entry) o) result self.new }
+        ensures ticks { self.new.ticks ≡ self.old.ticks }
+        ensures within { (p : Program) → onward p result self.new ≤ 3 + weight e.now + elements_left others.entry + marks_left self.old.stack.items }
     {
         self.open_inner(ValueMark::Element(goal, others))?;
         self.doing = Doing::Evaluate(e, Some(goal));
@@ -130,7 +143,9 @@ impl<'a> Machine<'a> {
         others: Listing<'a>,
         v: Value<'a>,
     ) -> Result<Step<'a>, Stop>
-        ensures { (p : Program) → Comes p (λ T o. from_value T p self.old (go_element T p self.old.fuel goal others.entry (value_of v.entry)) o) result self.new }
+        ensures comes { (p : Program) → Comes p (λ T o. from_value T p self.old (go_element T p self.old.fuel goal others.entry (value_of v.entry)) o) result self.new }
+        ensures ticks { self.new.ticks ≡ self.old.ticks }
+        ensures within { (p : Program) → onward p result self.new ≤ 1 + elements_left others.entry + marks_left self.old.stack.items }
     {
         match settle(&mut self.objects, goal.place(), v) {
             Err(stop) => Err(stop),
@@ -143,7 +158,9 @@ impl<'a> Machine<'a> {
 
     /// A char array is initialised by these bytes (8.4.2).
     pub fn characters(&mut self, bytes: &'a [u8], into: Option<Goal>) -> Result<Step<'a>, Stop>
-        ensures { (p : Program) → Comes p (λ T o. from_value T p self.old (valued T p self.old.fuel (cores.string bytes.now) (option_map goal_place into)) o) result self.new }
+        ensures comes { (p : Program) → Comes p (λ T o. from_value T p self.old (valued T p self.old.fuel (cores.string bytes.now) (option_map goal_place into)) o) result self.new }
+        ensures ticks { self.new.ticks ≡ self.old.ticks }
+        ensures within { (p : Program) → onward p result self.new ≤ 1 + marks_left self.old.stack.items }
     {
         match into {
             None => Err(Stop::Malformed),
@@ -153,7 +170,9 @@ impl<'a> Machine<'a> {
 
     /// The char array that these bytes initialise.
     fn string(&mut self, bytes: &'a [u8], goal: Goal) -> Result<Step<'a>, Stop>
-        ensures { (p : Program) → Comes p (λ T o. from_value T p self.old (valued T p self.old.fuel (cores.string bytes.now) (Some (goal_place goal))) o) result self.new }
+        ensures comes { (p : Program) → Comes p (λ T o. from_value T p self.old (valued T p self.old.fuel (cores.string bytes.now) (Some (goal_place goal))) o) result self.new }
+        ensures ticks { self.new.ticks ≡ self.old.ticks }
+        ensures within { (p : Program) → onward p result self.new ≤ 1 + marks_left self.old.stack.items }
     {
         match elements(&self.objects, goal) {
             Err(stop) => Err(stop),
@@ -164,7 +183,9 @@ impl<'a> Machine<'a> {
     /// The char array has so many elements.
     fn string_of(&mut self, bytes: &'a [u8], array: Array) -> Result<Step<'a>, Stop>
         requires { (T : Tables) → HasElements (place_type [] (state_of T self.old.entered self.old.objects) (row_place array.row)) array.count }
-        ensures { (p : Program) → Comes p (λ T o. from_value T p self.old (valued T p self.old.fuel (cores.string bytes.now) (Some (row_place array.row))) o) result self.new }
+        ensures comes { (p : Program) → Comes p (λ T o. from_value T p self.old (valued T p self.old.fuel (cores.string bytes.now) (Some (row_place array.row))) o) result self.new }
+        ensures ticks { self.new.ticks ≡ self.old.ticks }
+        ensures within { (p : Program) → onward p result self.new ≤ 1 + marks_left self.old.stack.items }
     {
         if fits(bytes.len(), array.count) {
             self.write(bytes, array.row)
@@ -176,7 +197,9 @@ impl<'a> Machine<'a> {
     /// Zeros come into a char array, and then the bytes of a string.
     fn write(&mut self, bytes: &'a [u8], row: Row) -> Result<Step<'a>, Stop>
         requires { length bytes.now < 2 ^ 32 }
-        ensures { (p : Program) → Comes p (λ T o. from_value T p self.old (writing T p (row_place row) bytes.now) o) result self.new }
+        ensures comes { (p : Program) → Comes p (λ T o. from_value T p self.old (writing T p (row_place row) bytes.now) o) result self.new }
+        ensures ticks { self.new.ticks ≡ self.old.ticks }
+        ensures within { (p : Program) → onward p result self.new ≤ 1 + marks_left self.old.stack.items }
     {
         match fill_zeros(&mut self.objects, row.place()) {
             Err(stop) => Err(stop),
@@ -187,7 +210,9 @@ impl<'a> Machine<'a> {
     /// The bytes of a string come into an array of zeros.
     fn put_bytes(&mut self, bytes: &'a [u8], row: Row) -> Result<Step<'a>, Stop>
         requires { length bytes.now < 2 ^ 32 }
-        ensures { (p : Program) → Comes p (λ T o. from_value T p self.old (putting_bytes T p (row_place row) bytes.now) o) result self.new }
+        ensures comes { (p : Program) → Comes p (λ T o. from_value T p self.old (putting_bytes T p (row_place row) bytes.now) o) result self.new }
+        ensures ticks { self.new.ticks ≡ self.old.ticks }
+        ensures within { (p : Program) → onward p result self.new ≤ 1 + marks_left self.old.stack.items }
     {
         match write_bytes(&mut self.objects, row, bytes) {
             Err(stop) => Err(stop),
@@ -200,7 +225,9 @@ impl<'a> Machine<'a> {
 
     /// Every scalar is 0 or null.
     pub fn zeros(&mut self, into: Option<Goal>) -> Result<Step<'a>, Stop>
-        ensures { (p : Program) → Comes p (λ T o. from_value T p self.old (valued T p self.old.fuel cores.zeros (option_map goal_place into)) o) result self.new }
+        ensures comes { (p : Program) → Comes p (λ T o. from_value T p self.old (valued T p self.old.fuel cores.zeros (option_map goal_place into)) o) result self.new }
+        ensures ticks { self.new.ticks ≡ self.old.ticks }
+        ensures within { (p : Program) → onward p result self.new ≤ 1 + marks_left self.old.stack.items }
     {
         match into {
             None => Err(Stop::Malformed),
@@ -210,7 +237,9 @@ impl<'a> Machine<'a> {
 
     /// Every scalar of this goal is 0 or null.
     fn zeros_at(&mut self, goal: Goal) -> Result<Step<'a>, Stop>
-        ensures { (p : Program) → Comes p (λ T o. from_value T p self.old (zeroing T p (goal_place goal)) o) result self.new }
+        ensures comes { (p : Program) → Comes p (λ T o. from_value T p self.old (zeroing T p (goal_place goal)) o) result self.new }
+        ensures ticks { self.new.ticks ≡ self.old.ticks }
+        ensures within { (p : Program) → onward p result self.new ≤ 1 + marks_left self.old.stack.items }
     {
         match fill_zeros(&mut self.objects, goal.place()) {
             Err(stop) => Err(stop),

@@ -2,6 +2,7 @@ ghost use Rattle.std.specs.Prelude.{◌≡◌};
 ghost use Rattle.cf_core_run.specs.Going.{Comes, total, end_of as its_run_end};
 ghost use Rattle.cf_core_run.specs.declared.mark.Doing.TheVariants as doing;
 ghost use Rattle.cf_core_run.specs.Whole.{Starts, Reads, Turns, Runs, end_of as its_end};
+ghost use Rattle.cf_core_run.specs.Nearer.{Nearer, Turned, Spent, steps_left};
 
 use crate::mark::Doing;
 use crate::state::{End, Event, Limits, Machine, Ran, RunEnd, Seen, Step};
@@ -13,7 +14,8 @@ use std::mem::replace;
 impl<'a> Machine<'a> {
     /// One step of the run. While a byte is awaited nothing is done.
     pub fn step(&mut self, program: &'a Program) -> Result<Step<'a>, Stop>
-        ensures { Comes program.now (λ T o. total T program.now self.old o) result self.new }
+        ensures comes { Comes program.now (λ T o. total T program.now self.old o) result self.new }
+        ensures nearer { (self.old.doing ≡ doing.Asks → ⊥) → Nearer program.now self.old.ticks (steps_left program.now self.old) result self.new }
     {
         let doing = replace(&mut self.doing, Doing::Asks);
         match doing {
@@ -84,7 +86,8 @@ fn next_byte<'a>(seen: &mut Seen<'a>) -> Result<Value<'a>, Stop>
 /// A byte that is awaited is read.
 fn ask<'a>(machine: &mut Machine<'a>, seen: &mut Seen<'a>) -> Result<Option<End>, Stop>
     requires { machine.old.doing ≡ doing.Asks }
-    ensures { (p : Program) → Turns p machine.old machine.new seen.old seen.new result }
+    ensures turns { (p : Program) → Turns p machine.old machine.new seen.old seen.new result }
+    ensures nearer { (p : Program) → Turned p machine.old machine.new result }
 {
     match next_byte(seen) {
         Err(stop) => Err(stop),
@@ -101,7 +104,8 @@ fn advance<'a>(
     program: &'a Program,
     seen: &mut Seen<'a>,
 ) -> Result<Option<End>, Stop>
-    ensures { Turns program.now machine.old machine.new seen.old seen.new result }
+    ensures turns { Turns program.now machine.old machine.new seen.old seen.new result }
+    ensures nearer { (machine.old.doing ≡ doing.Asks → ⊥) → Turned program.now machine.old machine.new result }
 {
     match machine.step(program) {
         Err(Stop::Act(act)) => Ok(Some(End::Undefined(act))),
@@ -137,11 +141,35 @@ fn turn<'a>(
     program: &'a Program,
     seen: &mut Seen<'a>,
 ) -> Result<Option<End>, Stop>
-    ensures { Turns program.now machine.old machine.new seen.old seen.new result }
+    ensures turns { Turns program.now machine.old machine.new seen.old seen.new result }
+    ensures nearer { Turned program.now machine.old machine.new result }
 {
     match &machine.doing {
         Doing::Asks => ask(machine, seen),
         _ => advance(machine, program, seen),
+    }
+}
+
+/// Turns are done until a tick is spent or the run ends.
+fn go_on<'a>(
+    machine: &mut Machine<'a>,
+    program: &'a Program,
+    seen: &mut Seen<'a>,
+) -> Result<Option<End>, Stop>
+    ensures turns { Turns program.now machine.old machine.new seen.old seen.new result }
+    ensures spends { Spent machine.old machine.new result }
+{
+    let ticks = machine.ticks;
+    'steps: loop {
+        match turn(machine, program, seen) {
+            Err(stop) => return Err(stop),
+            Ok(Some(end)) => return Ok(Some(end)),
+            Ok(None) => {
+                if machine.ticks < ticks {
+                    return Ok(None);
+                }
+            }
+        }
     }
 }
 
@@ -159,8 +187,8 @@ pub fn run<'a>(
         rest: input,
         trace: Vec::new(alloc),
     };
-    for _ in 0..u64::MAX {
-        match turn(&mut machine, program, &mut seen) {
+    'ticks: loop {
+        match go_on(&mut machine, program, &mut seen) {
             Err(stop) => return Err(stop),
             Ok(None) => {}
             Ok(Some(end)) => {
@@ -171,5 +199,4 @@ pub fn run<'a>(
             }
         }
     }
-    Err(Stop::Memory)
 }

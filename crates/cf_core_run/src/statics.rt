@@ -1,4 +1,4 @@
-ghost use Rattle.std.specs.Prelude.{◌≡◌, [], Option, Some, codes};
+ghost use Rattle.std.specs.Prelude.{◌≡◌, [], Option, Some, codes, ◌≤◌, ◌+◌};
 ghost use Rattle.cf_core.specs.Access.{followed};
 ghost use Rattle.cf_core.specs.Calls.{root};
 ghost use Rattle.cf_core.specs.Core as cores;
@@ -14,6 +14,7 @@ ghost use Rattle.cf_run_tree.specs.declared.program.Program.{Program};
 ghost use Rattle.cf_core_objects.specs.Store.{value_of};
 ghost use Rattle.cf_core_objects.specs.Then.{◌▷◌};
 ghost use Rattle.cf_core_run.specs.Going.{Comes, from_value, valued, full, called, setting, setting_with, reaching, go_constant};
+ghost use Rattle.cf_core_run.specs.Nearer.{weight, statics_left, marks_left, onward};
 
 use crate::mark::{Calling, Doing, ValueMark};
 use crate::state::{Machine, Step};
@@ -66,7 +67,9 @@ fn setter(x: &RunStatic) -> &[u8]
 impl<'a> Machine<'a> {
     /// A static object is named.
     pub fn name_static(&mut self, name: &'a [u8], program: &'a Program) -> Result<Step<'a>, Stop>
-        ensures { (ty : Declared) (into : Option places.Place) → Comes program.now (λ T o. from_value T program.now self.old (valued T program.now self.old.fuel (cores.static_object name.now (object_type T (static_type program.now name.now ty))) into) o) result self.new }
+        ensures comes { (ty : Declared) (into : Option places.Place) → Comes program.now (λ T o. from_value T program.now self.old (valued T program.now self.old.fuel (cores.static_object name.now (object_type T (static_type program.now name.now ty))) into) o) result self.new }
+        ensures ticks { self.new.ticks ≡ self.old.ticks }
+        ensures within { (p : Program) → onward p result self.new ≤ 1 + marks_left self.old.stack.items }
     {
         match static_named(program, name) {
             None => Err(Stop::Malformed),
@@ -76,7 +79,9 @@ impl<'a> Machine<'a> {
 
     /// The static object of this number, or what is bound to it if it is a reference.
     fn follow_static(&mut self, number: usize) -> Result<Step<'a>, Stop>
-        ensures { (p : Program) → Comes p (λ T o. from_value T p self.old (followed [] (root number)) o) result self.new }
+        ensures comes { (p : Program) → Comes p (λ T o. from_value T p self.old (followed [] (root number)) o) result self.new }
+        ensures ticks { self.new.ticks ≡ self.old.ticks }
+        ensures within { (p : Program) → onward p result self.new ≤ 1 + marks_left self.old.stack.items }
     {
         match static_value(number, &self.objects) {
             Err(stop) => Err(stop),
@@ -89,7 +94,9 @@ impl<'a> Machine<'a> {
 
     /// The program begins: its static objects are there, and zeroed (8.4).
     pub fn start_program(&mut self, program: &'a Program) -> Result<Step<'a>, Stop>
-        ensures { Comes program.now (λ T o. from_value T program.now self.old (λ s w. setting T program.now self.old.fuel program.now.statics (first_state (program_of T program.now) self.old.entered.depth) w) o) result self.new }
+        ensures comes { Comes program.now (λ T o. from_value T program.now self.old (λ s w. setting T program.now self.old.fuel program.now.statics (first_state (program_of T program.now) self.old.entered.depth) w) o) result self.new }
+        ensures ticks { self.new.ticks ≡ self.old.ticks }
+        ensures within { (p : Program) → onward p result self.new ≤ 1 + statics_left program.now.statics + marks_left self.old.stack.items }
     {
         let objects = static_objects(self.alloc, program)?;
         self.entered = Entered {
@@ -107,7 +114,9 @@ impl<'a> Machine<'a> {
 
     /// The next static object gets its constant initialiser, or `main` is called.
     pub fn set_next(&mut self, all: &'a [RunStatic], program: &'a Program) -> Result<Step<'a>, Stop>
-        ensures { Comes program.now (λ T o. from_value T program.now self.old (setting T program.now self.old.fuel all.now) o) result self.new }
+        ensures comes { Comes program.now (λ T o. from_value T program.now self.old (setting T program.now self.old.fuel all.now) o) result self.new }
+        ensures ticks { self.new.ticks ≡ self.old.ticks }
+        ensures within { (p : Program) → onward p result self.new ≤ statics_left all.now + marks_left self.old.stack.items }
     {
         match all.split_first() {
             None => self.call_main(),
@@ -124,7 +133,9 @@ impl<'a> Machine<'a> {
 
     /// `main` is called.
     fn call_main(&mut self) -> Result<Step<'a>, Stop>
-        ensures { (p : Program) → Comes p (λ T o. from_value T p self.old (called T p self.old.fuel (Code (codes "__main")) []) o) result self.new }
+        ensures comes { (p : Program) → Comes p (λ T o. from_value T p self.old (called T p self.old.fuel (Code (codes "__main")) []) o) result self.new }
+        ensures ticks { self.new.ticks ≡ self.old.ticks }
+        ensures within { (p : Program) → onward p result self.new ≤ 4 + marks_left self.old.stack.items }
     {
         self.doing = Doing::Passes(Calling {
             callee: Value::Code(b"__main".as_slice()),
@@ -142,7 +153,9 @@ impl<'a> Machine<'a> {
         rest: &'a [RunStatic],
         program: &'a Program,
     ) -> Result<Step<'a>, Stop>
-        ensures { Comes program.now (λ T o. from_value T program.now self.old (setting_with T program.now self.old.fuel x.now rest.now) o) result self.new }
+        ensures comes { Comes program.now (λ T o. from_value T program.now self.old (setting_with T program.now self.old.fuel x.now rest.now) o) result self.new }
+        ensures ticks { self.new.ticks ≡ self.old.ticks }
+        ensures within { (p : Program) → onward p result self.new ≤ 3 + weight x.now.start + statics_left rest.now + marks_left self.old.stack.items }
     {
         match static_named(program, x.name.as_slice()) {
             None => Err(Stop::Malformed),
@@ -160,7 +173,9 @@ impl<'a> Machine<'a> {
         number: usize,
         rest: &'a [RunStatic],
     ) -> Result<Step<'a>, Stop>
-        ensures { (p : Program) → Comes p (λ T o. from_value T p self.old (reaching T p self.old.fuel x.now number rest.now) o) result self.new }
+        ensures comes { (p : Program) → Comes p (λ T o. from_value T p self.old (reaching T p self.old.fuel x.now number rest.now) o) result self.new }
+        ensures ticks { self.new.ticks ≡ self.old.ticks }
+        ensures within { (p : Program) → onward p result self.new ≤ 3 + weight x.now.start + statics_left rest.now + marks_left self.old.stack.items }
     {
         match reach(&mut self.objects, x.name.as_slice()) {
             Err(stop) => Err(stop),
@@ -175,7 +190,9 @@ impl<'a> Machine<'a> {
         number: usize,
         rest: &'a [RunStatic],
     ) -> Result<Step<'a>, Stop>
-        ensures { (p : Program) → Comes p (λ T o. from_value T p self.old (λ s w. full T p self.old.fuel (valued T p self.old.fuel (core_of T p start.now) (Some (root number))) s w ▷ go_constant T p self.old.fuel number rest.now) o) result self.new }
+        ensures comes { (p : Program) → Comes p (λ T o. from_value T p self.old (λ s w. full T p self.old.fuel (valued T p self.old.fuel (core_of T p start.now) (Some (root number))) s w ▷ go_constant T p self.old.fuel number rest.now) o) result self.new }
+        ensures ticks { self.new.ticks ≡ self.old.ticks }
+        ensures within { (p : Program) → onward p result self.new ≤ 3 + weight start.now + statics_left rest.now + marks_left self.old.stack.items }
     {
         self.open_inner(ValueMark::Constant(number, rest))?;
         self.doing = Doing::Evaluate(start, Some(Goal::whole(number)));
@@ -189,7 +206,9 @@ impl<'a> Machine<'a> {
         rest: &'a [RunStatic],
         v: Value<'a>,
     ) -> Result<Step<'a>, Stop>
-        ensures { (p : Program) → Comes p (λ T o. from_value T p self.old (go_constant T p self.old.fuel number rest.now (value_of v.entry)) o) result self.new }
+        ensures comes { (p : Program) → Comes p (λ T o. from_value T p self.old (go_constant T p self.old.fuel number rest.now (value_of v.entry)) o) result self.new }
+        ensures ticks { self.new.ticks ≡ self.old.ticks }
+        ensures within { (p : Program) → onward p result self.new ≤ 1 + statics_left rest.now + marks_left self.old.stack.items }
     {
         match settle_object(&mut self.objects, number, v) {
             Err(stop) => Err(stop),

@@ -1,4 +1,4 @@
-ghost use Rattle.std.specs.Prelude.{◌≡◌};
+ghost use Rattle.std.specs.Prelude.{◌≡◌, ◌≤◌, ◌+◌};
 ghost use Rattle.cf_base.specs.World.{World};
 ghost use Rattle.cf_core.specs.FromTypes.{Tables};
 ghost use Rattle.cf_core.specs.Statements as statements;
@@ -8,6 +8,7 @@ ghost use Rattle.cf_core_objects.specs.Answer.{Told};
 ghost use Rattle.cf_core_objects.specs.Store.{state_of, value_of};
 ghost use Rattle.cf_core_run.specs.Going.{Comes, from_flow, cores, again, go_switch, selected, labelled};
 ghost use Rattle.cf_core_run.specs.Labels.{is_case as its_case, is_default as its_default, row, passes_before, passes_blank, passes_local};
+ghost use Rattle.cf_core_run.specs.Nearer.{statements_left, marks_left, onward};
 
 use crate::mark::{Doing, Flow, FlowMark, Mark};
 use crate::state::{Machine, Step};
@@ -122,7 +123,9 @@ fn pass_blank(
 impl<'a> Machine<'a> {
     /// The value of a switch is there.
     pub fn switch(&mut self, all: &'a [Node], v: Value<'a>) -> Result<Step<'a>, Stop>
-        ensures { (p : Program) → Comes p (λ T o. from_flow T p self.old (go_switch T p self.old.fuel (cores T p all.now) (value_of v.entry)) o) result self.new }
+        ensures comes { (p : Program) → Comes p (λ T o. from_flow T p self.old (go_switch T p self.old.fuel (cores T p all.now) (value_of v.entry)) o) result self.new }
+        ensures ticks { self.new.ticks ≡ self.old.ticks }
+        ensures within { (p : Program) → onward p result self.new ≤ 3 + statements_left all.now + marks_left self.old.stack.items }
     {
         match v {
             Value::Number(number) => self.select(Integer::new(number), all),
@@ -137,7 +140,9 @@ impl<'a> Machine<'a> {
 
     /// The statements behind the label for this number come, in a scope.
     fn select(&mut self, number: Integer, all: &'a [Node]) -> Result<Step<'a>, Stop>
-        ensures { (p : Program) → Comes p (λ T o. from_flow T p self.old (selected T p self.old.fuel (cores T p all.now) number) o) result self.new }
+        ensures comes { (p : Program) → Comes p (λ T o. from_flow T p self.old (selected T p self.old.fuel (cores T p all.now) number) o) result self.new }
+        ensures ticks { self.new.ticks ≡ self.old.ticks }
+        ensures within { (p : Program) → onward p result self.new ≤ 3 + statements_left all.now + marks_left self.old.stack.items }
     {
         self.stack.push(Mark::Flow(self.fuel, FlowMark::Leaving))?;
         self.open_scope()?;
@@ -146,7 +151,9 @@ impl<'a> Machine<'a> {
 
     /// The label for this number is sought, or `default`.
     fn seek(&mut self, number: Integer, all: &'a [Node]) -> Result<Step<'a>, Stop>
-        ensures { (p : Program) → Comes p (λ T o. from_flow T p self.old (labelled T p self.old.fuel number (cores T p all.now)) o) result self.new }
+        ensures comes { (p : Program) → Comes p (λ T o. from_flow T p self.old (labelled T p self.old.fuel number (cores T p all.now)) o) result self.new }
+        ensures ticks { self.new.ticks ≡ self.old.ticks }
+        ensures within { (p : Program) → onward p result self.new ≤ 1 + statements_left all.now + marks_left self.old.stack.items }
     {
         if has_case(number, all) {
             self.doing = Doing::Case(number, all);
@@ -161,7 +168,9 @@ impl<'a> Machine<'a> {
 
     /// The next statement is the label for this number, or is passed.
     pub fn seek_case(&mut self, number: Integer, all: &'a [Node]) -> Result<Step<'a>, Stop>
-        ensures { (p : Program) → Comes p (λ T o. from_flow T p self.old (statements.from_case (again T p self.old.fuel) (program_of T p) number (cores T p all.now)) o) result self.new }
+        ensures comes { (p : Program) → Comes p (λ T o. from_flow T p self.old (statements.from_case (again T p self.old.fuel) (program_of T p) number (cores T p all.now)) o) result self.new }
+        ensures ticks { self.new.ticks ≡ self.old.ticks }
+        ensures within { (p : Program) → onward p result self.new ≤ statements_left all.now + marks_left self.old.stack.items }
     {
         match all.split_first() {
             None => self.ends(Flow::Falls),
@@ -182,7 +191,9 @@ impl<'a> Machine<'a> {
         first: &'a Node,
         rest: &'a [Node],
     ) -> Result<Step<'a>, Stop>
-        ensures { (p : Program) → Comes p (λ T o. from_flow T p self.old (passes_before (core_of T p first.now) (statements.from_case (again T p self.old.fuel) (program_of T p) number (cores T p rest.now))) o) result self.new }
+        ensures comes { (p : Program) → Comes p (λ T o. from_flow T p self.old (passes_before (core_of T p first.now) (statements.from_case (again T p self.old.fuel) (program_of T p) number (cores T p rest.now))) o) result self.new }
+        ensures ticks { self.new.ticks ≡ self.old.ticks }
+        ensures within { (p : Program) → onward p result self.new ≤ 1 + statements_left rest.now + marks_left self.old.stack.items }
     {
         match pass_over(first, &mut self.entered, &mut self.objects) {
             Err(stop) => Err(stop),
@@ -195,7 +206,9 @@ impl<'a> Machine<'a> {
 
     /// The next statement is the label `default`, or is passed.
     pub fn seek_default(&mut self, all: &'a [Node]) -> Result<Step<'a>, Stop>
-        ensures { (p : Program) → Comes p (λ T o. from_flow T p self.old (statements.from_default (again T p self.old.fuel) (program_of T p) (cores T p all.now)) o) result self.new }
+        ensures comes { (p : Program) → Comes p (λ T o. from_flow T p self.old (statements.from_default (again T p self.old.fuel) (program_of T p) (cores T p all.now)) o) result self.new }
+        ensures ticks { self.new.ticks ≡ self.old.ticks }
+        ensures within { (p : Program) → onward p result self.new ≤ statements_left all.now + marks_left self.old.stack.items }
     {
         match all.split_first() {
             None => self.ends(Flow::Falls),
@@ -211,7 +224,9 @@ impl<'a> Machine<'a> {
 
     /// A statement before `default` is passed.
     fn pass_to_default(&mut self, first: &'a Node, rest: &'a [Node]) -> Result<Step<'a>, Stop>
-        ensures { (p : Program) → Comes p (λ T o. from_flow T p self.old (passes_before (core_of T p first.now) (statements.from_default (again T p self.old.fuel) (program_of T p) (cores T p rest.now))) o) result self.new }
+        ensures comes { (p : Program) → Comes p (λ T o. from_flow T p self.old (passes_before (core_of T p first.now) (statements.from_default (again T p self.old.fuel) (program_of T p) (cores T p rest.now))) o) result self.new }
+        ensures ticks { self.new.ticks ≡ self.old.ticks }
+        ensures within { (p : Program) → onward p result self.new ≤ 1 + statements_left rest.now + marks_left self.old.stack.items }
     {
         match pass_over(first, &mut self.entered, &mut self.objects) {
             Err(stop) => Err(stop),

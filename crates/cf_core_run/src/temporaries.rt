@@ -1,4 +1,4 @@
-ghost use Rattle.std.specs.Prelude.{◌≡◌, [], Option, Some, IfOk, reverse};
+ghost use Rattle.std.specs.Prelude.{◌≡◌, [], Option, Some, IfOk, reverse, ◌≤◌, ◌+◌};
 ghost use Rattle.cf_core.specs.Calls.{root};
 ghost use Rattle.cf_core.specs.Core as cores;
 ghost use Rattle.cf_core.specs.Objects as meaning;
@@ -12,6 +12,7 @@ ghost use Rattle.cf_run_tree.specs.declared.program.Program.{Program};
 ghost use Rattle.cf_core_objects.specs.Store.{state_of, value_of};
 ghost use Rattle.cf_core_objects.specs.Then.{◌▷◌};
 ghost use Rattle.cf_core_run.specs.Going.{Comes, OpensWhole, OpensInner, from_value, valued, closed, go_temporary, go_held};
+ghost use Rattle.cf_core_run.specs.Nearer.{weight, behind_value, behind_test, marks_left, onward};
 
 use crate::mark::{Doing, Mark, TestMark, ValueMark};
 use crate::state::{Machine, Step};
@@ -36,7 +37,9 @@ pub fn settle_object<'a>(objects: &mut Objects<'a>, object: usize, v: Value<'a>)
 impl<'a> Machine<'a> {
     /// A full expression begins, without temporaries, and the mark says what its value leads to.
     pub fn open_whole(&mut self, mark: TestMark<'a>) -> Result<(), AllocError>
-        ensures { IfOk result (λ u. OpensWhole self.old self.new mark.entry) }
+        ensures opens { IfOk result (λ u. OpensWhole self.old self.new mark.entry) }
+        ensures ticks { self.new.ticks ≡ self.old.ticks }
+        ensures within { IfOk result (λ u. marks_left self.new.stack.items ≡ behind_test mark.entry + 1 + marks_left self.old.stack.items) }
     {
         self.stack.push(Mark::Test(self.fuel, mark))?;
         let around = replace(&mut self.entered.temporaries, Vec::new(self.alloc));
@@ -47,7 +50,9 @@ impl<'a> Machine<'a> {
 
     /// A full expression begins inside an expression, without temporaries, and the mark says what its value leads to.
     pub fn open_inner(&mut self, mark: ValueMark<'a>) -> Result<(), AllocError>
-        ensures { IfOk result (λ u. OpensInner self.old self.new mark.entry) }
+        ensures opens { IfOk result (λ u. OpensInner self.old self.new mark.entry) }
+        ensures ticks { self.new.ticks ≡ self.old.ticks }
+        ensures within { IfOk result (λ u. marks_left self.new.stack.items ≡ behind_value mark.entry + 1 + marks_left self.old.stack.items) }
     {
         self.stack.push(Mark::Value(self.fuel, mark))?;
         let around = replace(&mut self.entered.temporaries, Vec::new(self.alloc));
@@ -58,7 +63,9 @@ impl<'a> Machine<'a> {
 
     /// A full expression has ended: its temporaries end, and those of the one around it stand again.
     pub fn close_whole(&mut self, around: Vec<usize>, v: Value<'a>) -> Result<Step<'a>, Stop>
-        ensures { (p : Program) → Comes p (λ T o. from_value T p self.old (closed T p self.old.fuel (reverse around.items) (value_of v.entry)) o) result self.new }
+        ensures comes { (p : Program) → Comes p (λ T o. from_value T p self.old (closed T p self.old.fuel (reverse around.items) (value_of v.entry)) o) result self.new }
+        ensures ticks { self.new.ticks ≡ self.old.ticks }
+        ensures within { (p : Program) → onward p result self.new ≤ 1 + marks_left self.old.stack.items }
     {
         match end_temporaries(&self.entered, &mut self.objects) {
             Err(stop) => Err(stop),
@@ -72,7 +79,9 @@ impl<'a> Machine<'a> {
 
     /// A temporary of the full expression is made.
     pub fn temporary(&mut self, shape: Shape, start: &'a Boxed<Node>) -> Result<Step<'a>, Stop>
-        ensures { (p : Program) (into : Option places.Place) → Comes p (λ T o. from_value T p self.old (valued T p self.old.fuel (cores.temporary (shape_type T shape) (core_of T p start.now)) into) o) result self.new }
+        ensures comes { (p : Program) (into : Option places.Place) → Comes p (λ T o. from_value T p self.old (valued T p self.old.fuel (cores.temporary (shape_type T shape) (core_of T p start.now)) into) o) result self.new }
+        ensures ticks { self.new.ticks ≡ self.old.ticks }
+        ensures within { (p : Program) → onward p result self.new ≤ 2 + weight start.now + marks_left self.old.stack.items }
     {
         match new_object(shape, &mut self.objects) {
             Err(stop) => Err(stop),
@@ -82,7 +91,9 @@ impl<'a> Machine<'a> {
 
     /// The initialiser of a temporary with this object.
     fn make(&mut self, object: usize, start: &'a Boxed<Node>) -> Result<Step<'a>, Stop>
-        ensures { (p : Program) → Comes p (λ T o. from_value T p self.old (λ s w. valued T p self.old.fuel (core_of T p start.now) (Some (root object)) s w ▷ go_temporary T p self.old.fuel object) o) result self.new }
+        ensures comes { (p : Program) → Comes p (λ T o. from_value T p self.old (λ s w. valued T p self.old.fuel (core_of T p start.now) (Some (root object)) s w ▷ go_temporary T p self.old.fuel object) o) result self.new }
+        ensures ticks { self.new.ticks ≡ self.old.ticks }
+        ensures within { (p : Program) → onward p result self.new ≤ 2 + weight start.now + marks_left self.old.stack.items }
     {
         self.stack
             .push(Mark::Value(self.fuel, ValueMark::Temporary(object)))?;
@@ -92,7 +103,9 @@ impl<'a> Machine<'a> {
 
     /// The value of a temporary is there.
     pub fn made(&mut self, object: usize, v: Value<'a>) -> Result<Step<'a>, Stop>
-        ensures { (p : Program) → Comes p (λ T o. from_value T p self.old (go_temporary T p self.old.fuel object (value_of v.entry)) o) result self.new }
+        ensures comes { (p : Program) → Comes p (λ T o. from_value T p self.old (go_temporary T p self.old.fuel object (value_of v.entry)) o) result self.new }
+        ensures ticks { self.new.ticks ≡ self.old.ticks }
+        ensures within { (p : Program) → onward p result self.new ≤ 1 + marks_left self.old.stack.items }
     {
         match settle_object(&mut self.objects, object, v) {
             Err(stop) => Err(stop),
@@ -114,7 +127,9 @@ impl<'a> Machine<'a> {
         shape: Shape,
         start: &'a Boxed<Node>,
     ) -> Result<Step<'a>, Stop>
-        ensures { (p : Program) (into : Option places.Place) → Comes p (λ T o. from_value T p self.old (valued T p self.old.fuel (cores.bind (cores.local_temporary number (shape_type T shape)) (core_of T p start.now)) into) o) result self.new }
+        ensures comes { (p : Program) (into : Option places.Place) → Comes p (λ T o. from_value T p self.old (valued T p self.old.fuel (cores.bind (cores.local_temporary number (shape_type T shape)) (core_of T p start.now)) into) o) result self.new }
+        ensures ticks { self.new.ticks ≡ self.old.ticks }
+        ensures within { (p : Program) → onward p result self.new ≤ 2 + weight start.now + marks_left self.old.stack.items }
     {
         match new_scalar(number, shape, &mut self.entered, &mut self.objects) {
             Err(stop) => Err(stop),
@@ -124,7 +139,9 @@ impl<'a> Machine<'a> {
 
     /// The initialiser of such a temporary with this object.
     fn hold_in(&mut self, object: usize, start: &'a Boxed<Node>) -> Result<Step<'a>, Stop>
-        ensures { (p : Program) → Comes p (λ T o. from_value T p self.old (λ s w. valued T p self.old.fuel (core_of T p start.now) (Some (root object)) s w ▷ go_held T p self.old.fuel object) o) result self.new }
+        ensures comes { (p : Program) → Comes p (λ T o. from_value T p self.old (λ s w. valued T p self.old.fuel (core_of T p start.now) (Some (root object)) s w ▷ go_held T p self.old.fuel object) o) result self.new }
+        ensures ticks { self.new.ticks ≡ self.old.ticks }
+        ensures within { (p : Program) → onward p result self.new ≤ 2 + weight start.now + marks_left self.old.stack.items }
     {
         self.stack
             .push(Mark::Value(self.fuel, ValueMark::Held(object)))?;
@@ -134,7 +151,9 @@ impl<'a> Machine<'a> {
 
     /// The value of such a temporary is there.
     pub fn held(&mut self, object: usize, v: Value<'a>) -> Result<Step<'a>, Stop>
-        ensures { (p : Program) → Comes p (λ T o. from_value T p self.old (go_held T p self.old.fuel object (value_of v.entry)) o) result self.new }
+        ensures comes { (p : Program) → Comes p (λ T o. from_value T p self.old (go_held T p self.old.fuel object (value_of v.entry)) o) result self.new }
+        ensures ticks { self.new.ticks ≡ self.old.ticks }
+        ensures within { (p : Program) → onward p result self.new ≤ 1 + marks_left self.old.stack.items }
     {
         match settle_object(&mut self.objects, object, v) {
             Err(stop) => Err(stop),

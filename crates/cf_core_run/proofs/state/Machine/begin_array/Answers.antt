@@ -10,15 +10,15 @@ use Rattle.cf_core_run.proofs.Laws.{comes-by, value-stopped}
 use Rattle.cf_core_run.proofs.ListLaws.{list-stops, counted-row, counted-elements}
 use Rattle.cf_core_run.proofs.state.Machine.begin_array.Goals as goal
 
-pub returns-in-Err : goal.returns-in-Err
-returns-in-Err c = λ p. value-stopped p c.args.self.now (λ T. valued T p c.args.self.now.fuel (list (cores T p c.args.all.now) (core_of T p c.args.filler.now)) (Some (goal_place c.args.goal))) c.in-Err.stop
+pub returns-in-Err-clause-comes : goal.returns-in-Err-clause-comes
+returns-in-Err-clause-comes c = λ p. value-stopped p c.args.self.now (λ T. valued T p c.args.self.now.fuel (list (cores T p c.args.all.now) (core_of T p c.args.filler.now)) (Some (goal_place c.args.goal))) c.in-Err.stop
     (λ T w. list-stops T p c.args.self.now.fuel (goal_place c.args.goal) (state_of T c.args.self.now.entered c.args.self.now.objects) w c.args.all.now c.args.filler.now c.args.goal c.elements.result c.in-Err.stop c.in-Err.is (c.elements.ensures T c.args.self.now.entered))
 
 pub begin_elements-requires : goal.begin_elements-requires
 begin_elements-requires c = λ T. counted-elements (place_type [] (state_of T c.args.self.now.entered c.args.self.now.objects)) c.args.goal c.in-Ok.array c.elements.result c.in-Ok.is (c.elements.ensures T c.args.self.now.entered)
 
-pub returns-in-Ok : goal.returns-in-Ok
-returns-in-Ok c = λ p. comes-by p (λ T o. from_value T p c.args.self.now (valued T p c.args.self.now.fuel (list (cores T p c.args.all.now) (core_of T p c.args.filler.now)) (Some (goal_place c.args.goal))) o) (λ T o. from_value T p c.args.self.now (valued T p c.args.self.now.fuel (list (cores T p c.args.all.now) (core_of T p c.args.filler.now)) (Some (row_place c.in-Ok.array.row))) o)
+pub returns-in-Ok-clause-comes : goal.returns-in-Ok-clause-comes
+returns-in-Ok-clause-comes c = λ p. comes-by p (λ T o. from_value T p c.args.self.now (valued T p c.args.self.now.fuel (list (cores T p c.args.all.now) (core_of T p c.args.filler.now)) (Some (goal_place c.args.goal))) o) (λ T o. from_value T p c.args.self.now (valued T p c.args.self.now.fuel (list (cores T p c.args.all.now) (core_of T p c.args.filler.now)) (Some (row_place c.in-Ok.array.row))) o)
     c.begin_elements.result c.begin_elements.new.self
     (λ T o. ap (λ (q : Place). from_value T p c.args.self.now (valued T p c.args.self.now.fuel (list (cores T p c.args.all.now) (core_of T p c.args.filler.now)) (Some q)) o) (sym (counted-row _ c.args.goal c.in-Ok.array c.elements.result c.in-Ok.is (c.elements.ensures T c.args.self.now.entered))))
-    (c.begin_elements.ensures p)
+    (c.begin_elements.ensures.comes p)

@@ -10,14 +10,14 @@ use Rattle.cf_core_objects.specs.declared.answer.Stop.TheVariants as stop
 use Rattle.cf_core_run.specs.Going.{again}
 use Rattle.cf_core_run.proofs.state.Machine.call_function.Goals as goal
 
-pub returns-in-None : goal.returns-in-None
-returns-in-None c = value-stopped c.args.program.now c.args.self.now (λ T. calls.enter_found (again T c.args.program.now c.args.self.now.fuel) (calls.function_named (program_of T c.args.program.now) c.args.name.now) c.args.made.items None None) stop.Malformed
+pub returns-in-None-clause-comes : goal.returns-in-None-clause-comes
+returns-in-None-clause-comes c = value-stopped c.args.program.now c.args.self.now (λ T. calls.enter_found (again T c.args.program.now c.args.self.now.fuel) (calls.function_named (program_of T c.args.program.now) c.args.name.now) c.args.made.items None None) stop.Malformed
     (λ T w. ap (λ (f : Option Function). calls.enter_found (again T c.args.program.now c.args.self.now.fuel) f c.args.made.items None None (state_of T c.args.self.now.entered c.args.self.now.objects) w) (function-as T c.args.program.now c.args.name.now None (sym c.function_named.ensures ∙ ap option_copied c.in-None.is)))
 
-pub returns-in-Some : goal.returns-in-Some
-returns-in-Some c = value-as c.args.program.now c.args.self.now
+pub returns-in-Some-clause-comes : goal.returns-in-Some-clause-comes
+returns-in-Some-clause-comes c = value-as c.args.program.now c.args.self.now
     (λ T. calls.enter_found (again T c.args.program.now c.args.self.now.fuel) (calls.function_named (program_of T c.args.program.now) c.args.name.now) c.args.made.items None None)
     (λ T. calls.enter_found (again T c.args.program.now c.args.self.now.fuel) (Some (function_of T c.args.program.now c.in-Some.f.now)) c.args.made.items None None)
-    c.enter_on.result c.enter_on.new.self (c.enter_on.ensures c.args.program.now)
+    c.enter_on.result c.enter_on.new.self (c.enter_on.ensures.comes c.args.program.now)
     (λ T s w. ap (λ (f : Option Function). calls.enter_found (again T c.args.program.now c.args.self.now.fuel) f c.args.made.items None None s w)
     (function-as T c.args.program.now c.args.name.now (Some c.in-Some.f.now) (sym c.function_named.ensures ∙ ap option_copied c.in-Some.is)))

@@ -10,10 +10,10 @@ use Rattle.cf_core_run.specs.Going.{listing}
 use Rattle.cf_core_run.proofs.Laws.{value-err, value-ok}
 use Rattle.cf_core_run.proofs.state.Machine.element.Goals as goal
 
-pub returns-in-Err : goal.returns-in-Err
-returns-in-Err c = λ p. value-err p c.args.self.now (λ u. tt) c.settle.result c.in-Err.stop (λ T. settle [] (goal_place c.args.goal) (value_of c.args.v)) (λ T u. listing T p c.args.self.now.fuel c.args.others)
+pub returns-in-Err-clause-comes : goal.returns-in-Err-clause-comes
+returns-in-Err-clause-comes c = λ p. value-err p c.args.self.now (λ u. tt) c.settle.result c.in-Err.stop (λ T. settle [] (goal_place c.args.goal) (value_of c.args.v)) (λ T u. listing T p c.args.self.now.fuel c.args.others)
     (λ T. state_of T c.args.self.now.entered c.settle.new.objects) c.in-Err.is (λ T w. subst (λ (q : Spot). Told (λ u. tt) c.settle.result (state_of T c.args.self.now.entered c.settle.new.objects) w (settle [] (place_of q) (value_of c.args.v) (state_of T c.args.self.now.entered c.args.self.now.objects) w)) c.place.ensures (c.settle.ensures T c.args.self.now.entered w))
 
-pub returns-in-Ok : goal.returns-in-Ok
-returns-in-Ok c = λ p. value-ok p c.args.self.now c.args.self.now.entered c.settle.new.objects (λ u. tt) c.settle.result tt (λ T. settle [] (goal_place c.args.goal) (value_of c.args.v)) (λ T u. listing T p c.args.self.now.fuel c.args.others)
+pub returns-in-Ok-clause-comes : goal.returns-in-Ok-clause-comes
+returns-in-Ok-clause-comes c = λ p. value-ok p c.args.self.now c.args.self.now.entered c.settle.new.objects (λ u. tt) c.settle.result tt (λ T. settle [] (goal_place c.args.goal) (value_of c.args.v)) (λ T u. listing T p c.args.self.now.fuel c.args.others)
     (Ok step.On) (record c.args.self.now { objects = c.settle.new.objects; doing = doing.Lists c.args.others }) c.in-Ok.is (λ T w. subst (λ (q : Spot). Told (λ u. tt) c.settle.result (state_of T c.args.self.now.entered c.settle.new.objects) w (settle [] (place_of q) (value_of c.args.v) (state_of T c.args.self.now.entered c.args.self.now.objects) w)) c.place.ensures (c.settle.ensures T c.args.self.now.entered w)) (record { same = λ T o. refl })

@@ -11,14 +11,14 @@ use Rattle.cf_core_run.specs.Going.{from_value}
 use Rattle.cf_core_run.proofs.CallLaws.{enter-ticks, enter-depth, enter-goes}
 use Rattle.cf_core_run.proofs.state.Machine.enter.Goals as goal
 
-pub returns-then-self-eq0 : goal.returns-then-self-eq0
-returns-then-self-eq0 c = λ p. enter-ticks p c.args.self.now c.args.f.now c.args.made.items c.if-self-eq0.true
+pub returns-then-self-eq0-clause-comes : goal.returns-then-self-eq0-clause-comes
+returns-then-self-eq0-clause-comes c = λ p. enter-ticks p c.args.self.now c.args.f.now c.args.made.items c.if-self-eq0.true
 
-pub returns-then-self-eq0-2 : goal.returns-then-self-eq0-2
-returns-then-self-eq0-2 c = λ p. enter-depth p c.args.self.now c.args.f.now c.args.made.items c.if-self-eq0.false c.if-self-eq0-2.true
+pub returns-then-self-eq0-2-clause-comes : goal.returns-then-self-eq0-2-clause-comes
+returns-then-self-eq0-2-clause-comes c = λ p. enter-depth p c.args.self.now c.args.f.now c.args.made.items c.if-self-eq0.false c.if-self-eq0-2.true
 
-pub returns : goal.returns
-returns c = λ p.
+pub returns-clause-comes : goal.returns-clause-comes
+returns-clause-comes c = λ p.
     let e = c.replace-caller.new.dest in
     let locals : c.in_ok-locals.locals.items ≡ map Some c.args.made.items = search rules in
     let count : e.count ≡ length c.args.f.now.signature.params + length c.args.f.now.locals = ap (λ (x : Entered). x.count) c.replace-caller.ensures.after ∙ search rules in

@@ -1,11 +1,15 @@
+use Rattle.cf_core_run.proofs.NearLaws.{pushed-left}
 use Rattle.cf_core_run.specs.declared.mark.FlowMark.TheVariants as part
-use Rattle.std.proofs.Common.{◌∙◌, ◌++◌, ◌∷◌, [], ℕ, ap}
+use Rattle.std.proofs.Common.{◌∙◌, ◌++◌, ◌∷◌, [], ℕ, ap, arith}
 use Rattle.std.specs.Global.{Global}
 use Rattle.std.specs.Prelude.{Vec}
 use Rattle.cf_core_run.specs.declared.mark.Mark.TheVariants as mark
 use Rattle.cf_core_run.proofs.Goes.{scope-opens}
 use Rattle.cf_core_run.proofs.state.Machine.open_scope.Goals as goal
 
-pub returns : goal.returns
-returns c = scope-opens c.args.self.now c.push.new.self c.replace-around.new.dest
+pub returns-clause-opens : goal.returns-clause-opens
+returns-clause-opens c = scope-opens c.args.self.now c.push.new.self c.replace-around.new.dest
     (c.in_ok-push.ensures.items ∙ ap (λ (v : Vec ℕ Global). c.args.self.now.stack.items ++ mark.Flow c.args.self.now.fuel (part.Scope v) ∷ []) c.replace-around.ensures.value) (ap (λ (v : Vec ℕ Global). v.items) c.replace-around.ensures.after ∙ c.new.ensures.items)
+
+pub returns-clause-within : goal.returns-clause-within
+returns-clause-within c = omega (arith, pushed-left _ _ _ c.in_ok-push.ensures.items)

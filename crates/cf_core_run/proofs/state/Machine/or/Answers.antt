@@ -7,10 +7,10 @@ use Rattle.cf_core_objects.specs.Store.{state_of, value_of}
 use Rattle.cf_core_run.proofs.Laws.{value-err, value-ok}
 use Rattle.cf_core_run.proofs.state.Machine.or.Goals as goal
 
-pub returns-in-Err : goal.returns-in-Err
-returns-in-Err c = λ p. value-err p c.args.self.now (λ b. b) c.truth.result c.in-Err.stop (λ T. truth_of (value_of c.args.v)) (λ T. (λ x. when x (gives (truth_value true)) (truth_by T p c.args.self.now.fuel c.args.b.now)))
+pub returns-in-Err-clause-comes : goal.returns-in-Err-clause-comes
+returns-in-Err-clause-comes c = λ p. value-err p c.args.self.now (λ b. b) c.truth.result c.in-Err.stop (λ T. truth_of (value_of c.args.v)) (λ T. (λ x. when x (gives (truth_value true)) (truth_by T p c.args.self.now.fuel c.args.b.now)))
     (λ T. state_of T c.args.self.now.entered c.args.self.now.objects) c.in-Err.is (λ T w. c.truth.ensures (state_of T c.args.self.now.entered c.args.self.now.objects) w)
 
-pub returns-in-Ok : goal.returns-in-Ok
-returns-in-Ok c = λ p. value-ok p c.args.self.now c.args.self.now.entered c.args.self.now.objects (λ b. b) c.truth.result c.in-Ok.holds (λ T. truth_of (value_of c.args.v)) (λ T. (λ x. when x (gives (truth_value true)) (truth_by T p c.args.self.now.fuel c.args.b.now)))
-    c.or_on.result c.or_on.new.self c.in-Ok.is (λ T w. c.truth.ensures (state_of T c.args.self.now.entered c.args.self.now.objects) w) (c.or_on.ensures p)
+pub returns-in-Ok-clause-comes : goal.returns-in-Ok-clause-comes
+returns-in-Ok-clause-comes c = λ p. value-ok p c.args.self.now c.args.self.now.entered c.args.self.now.objects (λ b. b) c.truth.result c.in-Ok.holds (λ T. truth_of (value_of c.args.v)) (λ T. (λ x. when x (gives (truth_value true)) (truth_by T p c.args.self.now.fuel c.args.b.now)))
+    c.or_on.result c.or_on.new.self c.in-Ok.is (λ T w. c.truth.ensures (state_of T c.args.self.now.entered c.args.self.now.objects) w) (c.or_on.ensures.comes p)

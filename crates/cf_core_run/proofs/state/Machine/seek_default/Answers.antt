@@ -1,4 +1,6 @@
-use Rattle.std.proofs.Common.{◌∙◌, Bool, List, ap, sym, reverse}
+use Rattle.cf_core_run.proofs.NearLaws.{weights-first}
+use Rattle.cf_core_run.specs.Nearer.{weights}
+use Rattle.std.proofs.Common.{◌∙◌, Bool, List, ap, sym, reverse, arith}
 use Rattle.cf_core.specs.Calls.{Falls}
 use Rattle.cf_core.specs.Run.{◌>>◌, gives, when}
 use Rattle.cf_core.specs.Statements.{passes, from_default}
@@ -10,12 +12,12 @@ use Rattle.cf_core_run.proofs.Laws.{nil, flow-as}
 use Rattle.cf_core_run.proofs.LabelLaws.{default-next}
 use Rattle.cf_core_run.proofs.state.Machine.seek_default.Goals as goal
 
-pub returns-in-None : goal.returns-in-None
-returns-in-None c = λ p. flow-as p c.args.self.now (λ T. from_default (again T p c.args.self.now.fuel) (program_of T p) (cores T p c.args.all.now)) (λ T. gives Falls) c.ends.result c.ends.new.self (c.ends.ensures p)
+pub returns-in-None-clause-comes : goal.returns-in-None-clause-comes
+returns-in-None-clause-comes c = λ p. flow-as p c.args.self.now (λ T. from_default (again T p c.args.self.now.fuel) (program_of T p) (cores T p c.args.all.now)) (λ T. gives Falls) c.ends.result c.ends.new.self (c.ends.ensures.comes p)
     (λ T w. ap (λ (l : List Node). from_default (again T p c.args.self.now.fuel) (program_of T p) (cores T p l) (state_of T c.args.self.now.entered c.args.self.now.objects) w) (nil c.args.all.now c.in-None.ensures.cases))
 
-pub returns-then-is_default : goal.returns-then-is_default
-returns-then-is_default c = λ p. record {
+pub returns-then-is_default-clause-comes : goal.returns-then-is_default-clause-comes
+returns-then-is_default-clause-comes c = λ p. record {
   same = λ T o. ap (λ (l : List Node). from_flow T p c.args.self.now (from_default (again T p c.args.self.now.fuel) (program_of T p) (cores T p l)) o) c.in-Some.ensures.cases.0
       ∙ ap (λ r. finish T p o (on_flow T p (reverse c.args.self.now.stack.items) r))
       (default-next (again T p c.args.self.now.fuel) (program_of T p) (core_of T p c.in-Some.first.now) (cores T p c.in-Some.rest.now) (state_of T c.args.self.now.entered c.args.self.now.objects) (world_of c.args.self.now.ticks o)
@@ -23,9 +25,18 @@ returns-then-is_default c = λ p. record {
       (sym (c.is_default.ensures T p) ∙ c.if-is_default.true));
 }
 
-pub returns-else-is_default : goal.returns-else-is_default
-returns-else-is_default c = λ p. flow-as p c.args.self.now (λ T. from_default (again T p c.args.self.now.fuel) (program_of T p) (cores T p c.args.all.now)) (λ T. passes (core_of T p c.in-Some.first.now) >> from_default (again T p c.args.self.now.fuel) (program_of T p) (cores T p c.in-Some.rest.now)) c.pass_to_default.result c.pass_to_default.new.self (c.pass_to_default.ensures p)
+pub returns-else-is_default-clause-comes : goal.returns-else-is_default-clause-comes
+returns-else-is_default-clause-comes c = λ p. flow-as p c.args.self.now (λ T. from_default (again T p c.args.self.now.fuel) (program_of T p) (cores T p c.args.all.now)) (λ T. passes (core_of T p c.in-Some.first.now) >> from_default (again T p c.args.self.now.fuel) (program_of T p) (cores T p c.in-Some.rest.now)) c.pass_to_default.result c.pass_to_default.new.self (c.pass_to_default.ensures.comes p)
     (λ T w. ap (λ (l : List Node). from_default (again T p c.args.self.now.fuel) (program_of T p) (cores T p l) (state_of T c.args.self.now.entered c.args.self.now.objects) w) c.in-Some.ensures.cases.0
     ∙ default-next (again T p c.args.self.now.fuel) (program_of T p) (core_of T p c.in-Some.first.now) (cores T p c.in-Some.rest.now) (state_of T c.args.self.now.entered c.args.self.now.objects) w
     ∙ ap (λ (b : Bool). when b (performed_all T p c.args.self.now.fuel (cores T p c.in-Some.rest.now)) (passes (core_of T p c.in-Some.first.now) >> from_default (again T p c.args.self.now.fuel) (program_of T p) (cores T p c.in-Some.rest.now)) (state_of T c.args.self.now.entered c.args.self.now.objects) w)
     (sym (c.is_default.ensures T p) ∙ c.if-is_default.false))
+
+pub returns-in-None-clause-within : goal.returns-in-None-clause-within
+returns-in-None-clause-within c = λ p. omega (arith, c.ends.ensures.within p)
+
+pub returns-then-is_default-clause-within : goal.returns-then-is_default-clause-within
+returns-then-is_default-clause-within c = λ p. omega (arith, ap weights c.in-Some.ensures.cases.0 ∙ weights-first c.in-Some.first.now c.in-Some.rest.now)
+
+pub returns-else-is_default-clause-within : goal.returns-else-is_default-clause-within
+returns-else-is_default-clause-within c = λ p. omega (arith, c.pass_to_default.ensures.within p, ap weights c.in-Some.ensures.cases.0 ∙ weights-first c.in-Some.first.now c.in-Some.rest.now)

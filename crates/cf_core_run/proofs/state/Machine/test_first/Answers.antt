@@ -14,11 +14,11 @@ use Rattle.cf_core_run.proofs.Laws.{flow-as}
 use Rattle.cf_core_run.proofs.StatementLaws.{truth-whole}
 use Rattle.cf_core_run.proofs.state.Machine.test_first.Goals as goal
 
-pub returns-in-None : goal.returns-in-None
-returns-in-None c = λ p. flow-as p c.args.self.now (λ T. first_turn T p c.args.self.now.fuel c.args.repeated) (λ T. body_turn T p c.args.self.now.fuel c.args.repeated) c.open_body.result c.open_body.new.self (c.open_body.ensures p)
+pub returns-in-None-clause-comes : goal.returns-in-None-clause-comes
+returns-in-None-clause-comes c = λ p. flow-as p c.args.self.now (λ T. first_turn T p c.args.self.now.fuel c.args.repeated) (λ T. body_turn T p c.args.self.now.fuel c.args.repeated) c.open_body.result c.open_body.new.self (c.open_body.ensures.comes p)
     (λ T w. ap (λ (x : Option Node). (holds (again T p c.args.self.now.fuel) (program_of T p) (maybe_core T p x) >>= (λ t. when t (body_turn T p c.args.self.now.fuel c.args.repeated) (gives Falls))) (state_of T c.args.self.now.entered c.args.self.now.objects) w) c.in-None.is)
 
-pub returns-in-Some : goal.returns-in-Some
-returns-in-Some c = λ p. flow-as p c.args.self.now (λ T. first_turn T p c.args.self.now.fuel c.args.repeated) (λ T s w. full T p c.args.self.now.fuel (valued T p c.args.self.now.fuel (core_of T p c.in-Some.e) None >>= of_value T applied.Truth) s w ▷ go_first T p c.args.self.now.fuel c.args.repeated) c.test_by.result c.test_by.new.self (c.test_by.ensures p)
+pub returns-in-Some-clause-comes : goal.returns-in-Some-clause-comes
+returns-in-Some-clause-comes c = λ p. flow-as p c.args.self.now (λ T. first_turn T p c.args.self.now.fuel c.args.repeated) (λ T s w. full T p c.args.self.now.fuel (valued T p c.args.self.now.fuel (core_of T p c.in-Some.e) None >>= of_value T applied.Truth) s w ▷ go_first T p c.args.self.now.fuel c.args.repeated) c.test_by.result c.test_by.new.self (c.test_by.ensures.comes p)
     (λ T w. ap (λ (x : Option Node). (holds (again T p c.args.self.now.fuel) (program_of T p) (maybe_core T p x) >>= (λ t. when t (body_turn T p c.args.self.now.fuel c.args.repeated) (gives Falls))) (state_of T c.args.self.now.entered c.args.self.now.objects) w) c.in-Some.is
     ∙ truth-whole T p c.args.self.now.fuel (valued T p c.args.self.now.fuel (core_of T p c.in-Some.e) None) _ (state_of T c.args.self.now.entered c.args.self.now.objects) w)

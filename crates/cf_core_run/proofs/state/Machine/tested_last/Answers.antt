@@ -6,10 +6,10 @@ use Rattle.cf_core_objects.specs.Store.{state_of, value_of}
 use Rattle.cf_core_run.proofs.Laws.{flow-err, flow-ok}
 use Rattle.cf_core_run.proofs.state.Machine.tested_last.Goals as goal
 
-pub returns-in-Err : goal.returns-in-Err
-returns-in-Err c = λ p. flow-err p c.args.self.now (λ b. b) c.truth.result c.in-Err.stop (λ T. truth_of (value_of c.args.v)) (λ T t. when t (again T p c.args.self.now.fuel (turn (loop_of T p c.args.repeated))) (gives Falls)) (λ T. state_of T c.args.self.now.entered c.args.self.now.objects) c.in-Err.is
+pub returns-in-Err-clause-comes : goal.returns-in-Err-clause-comes
+returns-in-Err-clause-comes c = λ p. flow-err p c.args.self.now (λ b. b) c.truth.result c.in-Err.stop (λ T. truth_of (value_of c.args.v)) (λ T t. when t (again T p c.args.self.now.fuel (turn (loop_of T p c.args.repeated))) (gives Falls)) (λ T. state_of T c.args.self.now.entered c.args.self.now.objects) c.in-Err.is
     (λ T w. c.truth.ensures (state_of T c.args.self.now.entered c.args.self.now.objects) w)
 
-pub returns-in-Ok : goal.returns-in-Ok
-returns-in-Ok c = λ p. flow-ok p c.args.self.now c.args.self.now.entered c.args.self.now.objects (λ b. b) c.truth.result c.in-Ok.holds (λ T. truth_of (value_of c.args.v)) (λ T t. when t (again T p c.args.self.now.fuel (turn (loop_of T p c.args.repeated))) (gives Falls)) c.last_on.result c.last_on.new.self c.in-Ok.is
-    (λ T w. c.truth.ensures (state_of T c.args.self.now.entered c.args.self.now.objects) w) (c.last_on.ensures p)
+pub returns-in-Ok-clause-comes : goal.returns-in-Ok-clause-comes
+returns-in-Ok-clause-comes c = λ p. flow-ok p c.args.self.now c.args.self.now.entered c.args.self.now.objects (λ b. b) c.truth.result c.in-Ok.holds (λ T. truth_of (value_of c.args.v)) (λ T t. when t (again T p c.args.self.now.fuel (turn (loop_of T p c.args.repeated))) (gives Falls)) c.last_on.result c.last_on.new.self c.in-Ok.is
+    (λ T w. c.truth.ensures (state_of T c.args.self.now.entered c.args.self.now.objects) w) (c.last_on.ensures.comes p)

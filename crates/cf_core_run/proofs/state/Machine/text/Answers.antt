@@ -11,10 +11,10 @@ use Rattle.cf_core_run.specs.Going.{whole_place}
 use Rattle.cf_core_run.proofs.Laws.{value-err, value-ok}
 use Rattle.cf_core_run.proofs.state.Machine.text.Goals as goal
 
-pub returns-in-Err : goal.returns-in-Err
-returns-in-Err c = λ p into. value-err p c.args.self.now (λ o. o) c.literal_object.result c.in-Err.stop (λ T. literal_object c.args.number c.args.bytes.now) (λ T o. gives (At (root o)))
+pub returns-in-Err-clause-comes : goal.returns-in-Err-clause-comes
+returns-in-Err-clause-comes c = λ p into. value-err p c.args.self.now (λ o. o) c.literal_object.result c.in-Err.stop (λ T. literal_object c.args.number c.args.bytes.now) (λ T o. gives (At (root o)))
     (λ T. state_of T c.args.self.now.entered c.literal_object.new.objects) c.in-Err.is (λ T w. c.literal_object.ensures T w)
 
-pub returns-in-Ok : goal.returns-in-Ok
-returns-in-Ok c = λ p into. value-ok p c.args.self.now c.args.self.now.entered c.literal_object.new.objects (λ o. o) c.literal_object.result c.in-Ok.object (λ T. literal_object c.args.number c.args.bytes.now) (λ T o. gives (At (root o)))
+pub returns-in-Ok-clause-comes : goal.returns-in-Ok-clause-comes
+returns-in-Ok-clause-comes c = λ p into. value-ok p c.args.self.now c.args.self.now.entered c.literal_object.new.objects (λ o. o) c.literal_object.result c.in-Ok.object (λ T. literal_object c.args.number c.args.bytes.now) (λ T o. gives (At (root o)))
     (Ok step.On) (record c.args.self.now { objects = c.literal_object.new.objects; doing = doing.Gives (given.At (whole_place c.in-Ok.object)) }) c.in-Ok.is (λ T w. c.literal_object.ensures T w) (record { same = λ T o. refl })

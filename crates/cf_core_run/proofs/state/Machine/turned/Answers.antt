@@ -1,4 +1,4 @@
-use Rattle.std.proofs.Common.{◌≡◌, refl, sym, subst}
+use Rattle.std.proofs.Common.{◌≡◌, refl, sym, subst, arith}
 use Rattle.cf_core.specs.Calls.{Falls}
 use Rattle.cf_core.specs.Run.{gives}
 use Rattle.cf_core.specs.Statements.{turning, tests_first}
@@ -8,18 +8,24 @@ use Rattle.cf_core_objects.specs.Store.{state_of}
 use Rattle.cf_core_run.proofs.Laws.{flow-as}
 use Rattle.cf_core_run.proofs.state.Machine.turned.Goals as goal
 
-pub returns-in-Falls : goal.returns-in-Falls
-returns-in-Falls c = λ p. flow-as p c.args.self.now (λ T. turning (turned T p c.args.self.now.fuel c.args.repeated (tests_first c.args.repeated.form)) (flow_of c.args.flow)) (λ T. turned T p c.args.self.now.fuel c.args.repeated (tests_first c.args.repeated.form)) c.turn_on.result c.turn_on.new.self (c.turn_on.ensures p)
+pub returns-in-Falls-clause-comes : goal.returns-in-Falls-clause-comes
+returns-in-Falls-clause-comes c = λ p. flow-as p c.args.self.now (λ T. turning (turned T p c.args.self.now.fuel c.args.repeated (tests_first c.args.repeated.form)) (flow_of c.args.flow)) (λ T. turned T p c.args.self.now.fuel c.args.repeated (tests_first c.args.repeated.form)) c.turn_on.result c.turn_on.new.self (c.turn_on.ensures.comes p)
     (λ T w. let P : Way → Type 0 = λ f. turning (turned T p c.args.self.now.fuel c.args.repeated (tests_first c.args.repeated.form)) (flow_of f) (state_of T c.args.self.now.entered c.args.self.now.objects) w ≡ (turned T p c.args.self.now.fuel c.args.repeated (tests_first c.args.repeated.form)) (state_of T c.args.self.now.entered c.args.self.now.objects) w in subst P (sym c.in-Falls.is) refl)
 
-pub returns-in-Continues : goal.returns-in-Continues
-returns-in-Continues c = λ p. flow-as p c.args.self.now (λ T. turning (turned T p c.args.self.now.fuel c.args.repeated (tests_first c.args.repeated.form)) (flow_of c.args.flow)) (λ T. turned T p c.args.self.now.fuel c.args.repeated (tests_first c.args.repeated.form)) c.turn_on-in-Continues.result c.turn_on-in-Continues.new.self (c.turn_on-in-Continues.ensures p)
+pub returns-in-Continues-clause-comes : goal.returns-in-Continues-clause-comes
+returns-in-Continues-clause-comes c = λ p. flow-as p c.args.self.now (λ T. turning (turned T p c.args.self.now.fuel c.args.repeated (tests_first c.args.repeated.form)) (flow_of c.args.flow)) (λ T. turned T p c.args.self.now.fuel c.args.repeated (tests_first c.args.repeated.form)) c.turn_on-in-Continues.result c.turn_on-in-Continues.new.self (c.turn_on-in-Continues.ensures.comes p)
     (λ T w. let P : Way → Type 0 = λ f. turning (turned T p c.args.self.now.fuel c.args.repeated (tests_first c.args.repeated.form)) (flow_of f) (state_of T c.args.self.now.entered c.args.self.now.objects) w ≡ (turned T p c.args.self.now.fuel c.args.repeated (tests_first c.args.repeated.form)) (state_of T c.args.self.now.entered c.args.self.now.objects) w in subst P (sym c.in-Continues.is) refl)
 
-pub returns-in-Breaks : goal.returns-in-Breaks
-returns-in-Breaks c = λ p. flow-as p c.args.self.now (λ T. turning (turned T p c.args.self.now.fuel c.args.repeated (tests_first c.args.repeated.form)) (flow_of c.args.flow)) (λ T. gives Falls) c.ends.result c.ends.new.self (c.ends.ensures p)
+pub returns-in-Breaks-clause-comes : goal.returns-in-Breaks-clause-comes
+returns-in-Breaks-clause-comes c = λ p. flow-as p c.args.self.now (λ T. turning (turned T p c.args.self.now.fuel c.args.repeated (tests_first c.args.repeated.form)) (flow_of c.args.flow)) (λ T. gives Falls) c.ends.result c.ends.new.self (c.ends.ensures.comes p)
     (λ T w. let P : Way → Type 0 = λ f. turning (turned T p c.args.self.now.fuel c.args.repeated (tests_first c.args.repeated.form)) (flow_of f) (state_of T c.args.self.now.entered c.args.self.now.objects) w ≡ (gives Falls) (state_of T c.args.self.now.entered c.args.self.now.objects) w in subst P (sym c.in-Breaks.is) refl)
 
-pub returns-in-Returns : goal.returns-in-Returns
-returns-in-Returns c = λ p. flow-as p c.args.self.now (λ T. turning (turned T p c.args.self.now.fuel c.args.repeated (tests_first c.args.repeated.form)) (flow_of c.args.flow)) (λ T. gives (flow_of c.args.flow)) c.ends-in-Returns.result c.ends-in-Returns.new.self (c.ends-in-Returns.ensures p)
+pub returns-in-Returns-clause-comes : goal.returns-in-Returns-clause-comes
+returns-in-Returns-clause-comes c = λ p. flow-as p c.args.self.now (λ T. turning (turned T p c.args.self.now.fuel c.args.repeated (tests_first c.args.repeated.form)) (flow_of c.args.flow)) (λ T. gives (flow_of c.args.flow)) c.ends-in-Returns.result c.ends-in-Returns.new.self (c.ends-in-Returns.ensures.comes p)
     (λ T w. let P : Way → Type 0 = λ f. turning (turned T p c.args.self.now.fuel c.args.repeated (tests_first c.args.repeated.form)) (flow_of f) (state_of T c.args.self.now.entered c.args.self.now.objects) w ≡ (gives (flow_of f)) (state_of T c.args.self.now.entered c.args.self.now.objects) w in subst P (sym c.in-Returns.is) refl)
+
+pub returns-in-Breaks-clause-within : goal.returns-in-Breaks-clause-within
+returns-in-Breaks-clause-within c = λ p. omega (arith, c.ends.ensures.within p)
+
+pub returns-in-Returns-clause-within : goal.returns-in-Returns-clause-within
+returns-in-Returns-clause-within c = λ p. omega (arith, c.ends-in-Returns.ensures.within p)
