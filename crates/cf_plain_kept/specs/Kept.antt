@@ -139,8 +139,10 @@ decayed (gives t c) = Some (a_place (gives t c))
 decayed (const t) = decayed t
 decayed t = None
 
+-- of a place, or of an object whose elements are to come
 abbrev pub decayed_kept : Option Kept → Option Kept
 decayed_kept (Some (a_place t)) = decayed t
+decayed_kept (Some (an_object i t)) = decayed t
 decayed_kept x = None
 
 -- a pointer and an integer
@@ -229,9 +231,10 @@ abbrev pub stored : Option Kept → Option Kept → Option Kept
 stored (Some (a_place t)) (Some x) = given (suits t x) no_value
 stored x y = None
 
--- the first value of an object
+-- the first value of an object, or of an element of one
 abbrev pub begun : Option Kept → Option Kept → Option Kept
 begun (Some (an_object i t)) (Some x) = given (suits t x) no_value
+begun (Some (a_place t)) (Some x) = given (suits t x) no_value
 begun x y = None
 
 -- what a call through a pointer to a function of this type gives
@@ -239,9 +242,10 @@ abbrev pub pointed_call : SourceType → Option Kept → Option Kept
 pointed_call t (Some (a_place u)) = given (same_but_const u t) (value_of (result_type t))
 pointed_call t x = None
 
--- an object that is filled by itself: by zeros, or by the characters of a literal
+-- an object, or an element of one, that is filled by itself: by zeros, or by the characters of a literal
 abbrev pub filled : Option Kept → Option Kept
 filled (Some (an_object i t)) = Some no_value
+filled (Some (a_place t)) = Some no_value
 filled x = None
 
 module _ (locals : List SourceType) (result : SourceType) where

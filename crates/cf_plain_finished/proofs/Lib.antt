@@ -1,0 +1,4 @@
+pub mod Acts
+pub mod Values
+pub mod Calls
+pub mod Statements
