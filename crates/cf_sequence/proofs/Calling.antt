@@ -1,5 +1,5 @@
 -- Calls by name: the library's functions, and the functions of a program beside those of the plain program.
-use Rattle.std.proofs.Common.{◌≡◌, ℕ, zero, suc, length, cond, Bool, true, false, List, [], ◌∷◌, ◌++◌, map, refl, sym, ap, subst, arith}
+use Rattle.std.proofs.Common.{◌≡◌, ℕ, zero, suc, length, cond, Bool, true, false, ◌||◌, List, [], ◌∷◌, ◌++◌, map, refl, sym, ap, subst, arith}
 use Rattle.std.specs.Prelude.{Option, Some, None, find, nat_eq, bytes_eq, codes, option_map}
 use Rattle.std.proofs.lemmas.Bool.Decides.{nat_tests}
 use Rattle.cf_base.specs.Event.{Enter}
@@ -8,7 +8,7 @@ use Rattle.cf_core.specs.Types.{SourceType, Name, parameters, result}
 use Rattle.cf_core.specs.Classes.{Class}
 use Rattle.cf_core.specs.Core.{Function, Static}
 use Rattle.cf_core.specs.Store.{Value, Number}
-use Rattle.cf_core.specs.Run.{State, Frame, Did, Gives, Act, ◌>>=◌, ◌>>◌, gives, malformed, changed, some_or, valid, when, for_all, object_changed, with_object, gone, with_frame}
+use Rattle.cf_core.specs.Run.{State, Frame, Did, Gives, Act, ◌>>=◌, ◌>>◌, gives, malformed, changed, some_or, valid, when, for_all, object_changed, with_object, gone, with_frame, done, cast_from_void}
 use Rattle.cf_core.specs.Calls as core
 use Rattle.cf_core.specs.Calls.{Program, body, function_named, is_library, run_library, call_library, run_named, name_function, has_type, enter, enter_found, frame_of, local_count, argument, put, get, byte_value, leave_with, returned, given_value, without_value}
 use Rattle.cf_plain.specs.Running as plain
@@ -17,7 +17,7 @@ use Rattle.cf_plain.specs.Program.{headers}
 use Rattle.cf_plain.specs.Plain.{PlainFunction}
 use Rattle.cf_sequence.specs.Sequenced.{sequenced, sequenced_function}
 use Rattle.cf_sequence.specs.Follows.{Follows}
-use Rattle.cf_sequence.proofs.Following.{on, pull, push, follows-then}
+use Rattle.cf_sequence.proofs.Following.{on, pull, push, follows-then, Pure, pure-gives, pure-malformed, pure-need, pure-when}
 
 -- two frames of one call, which may have other locals
 pub record Alike (f g : Frame) : Type 0 where
@@ -28,6 +28,18 @@ pub record Alike (f g : Frame) : Type 0 where
 
 pub never : {A : Type 0} → false ≡ true → A
 never e = absurd (cc)
+
+pub or-else : {X : Type 0} (a b : Bool) → (a || b) ≡ true → (a ≡ true → X) → (b ≡ true → X) → X
+or-else true b ok f g = f refl
+or-else false b ok f g = g ok
+
+-- a function is named
+pure-has_type : (x : Option Function) (t : SourceType) → Pure (has_type x t)
+pure-has_type None t = pure-malformed
+pure-has_type (Some f) t = pure-need _ cast_from_void
+
+pub pure-function : (P : Program) (name : Name) (t : SourceType) → Pure (name_function P name t)
+pure-function P name t = pure-when (is_library name) done (has_type (function_named P name) t) (pure-gives tt) (pure-has_type (function_named P name) t)
 
 same-number : (i j : ℕ) → nat_eq i j ≡ true → i ≡ j
 same-number i j e = grind (arith, nat_tests)

@@ -4,7 +4,7 @@ use Rattle.std.specs.Prelude.{Option, Some, None, find, bytes_eq, is_some}
 use Rattle.std.proofs.lemmas.Bool.Decides.{nat_tests}
 use Rattle.std.proofs.lemmas.Grind.{flat_map-append}
 use Rattle.cf_base.proofs.Tests.{both, all_of}
-use Rattle.cf_base.specs.World.{World, Ran, Went, Stops, and_then}
+use Rattle.cf_base.specs.World.{World}
 use Rattle.cf_core.specs.Types.{Name, SourceType}
 use Rattle.cf_core.specs.Classes.{Class}
 use Rattle.cf_core.specs.Core as core
@@ -13,7 +13,7 @@ use Rattle.cf_core.specs.Joined.{is_nothing}
 use Rattle.cf_core.specs.Nodes.{nodes}
 use Rattle.cf_core.specs.Places.{Place, is_reference}
 use Rattle.cf_core.specs.Store.{Value, Number, At, Code}
-use Rattle.cf_core.specs.Run.{State, Did, Gives, Exits, Malformed, Literal, Act, ◌>>=◌, ◌>>◌, gives, done, some_or, when, born, changed, with_frame, cast_from_void}
+use Rattle.cf_core.specs.Run.{State, Literal, Act, ◌>>=◌, ◌>>◌, gives, some_or, when, born, changed, with_frame}
 use Rattle.cf_core.specs.Access.{used, followed}
 use Rattle.cf_core.specs.Pointers.{truth_value, pointer_op}
 use Rattle.cf_core.specs.Scalars.{truth_of, converted_value, operated, signed, indexed, decayed, pointed_to}
@@ -26,11 +26,11 @@ use Rattle.cf_sequence.specs.Built.{is_value, is_start, is_initial, is_filling, 
 use Rattle.cf_sequence.specs.Made.{added, makes, width}
 use Rattle.cf_sequence.specs.Statements.{type_of_static, initialised, statement}
 use Rattle.cf_sequence.specs.Sequenced.{outside, sequenced_start}
-use Rattle.cf_sequence.proofs.Following.{on, Pure, pure-gives, pure-malformed, pure-need, pure-when, Answer, answers, fails, wrong, of_answer, Looks, looks-pure}
+use Rattle.cf_sequence.proofs.Following.{Gave, gave-then, gave-as, Pure, pure-gives, Answer, answers, fails, wrong, of_answer, Looks, looks-pure}
 use Rattle.cf_sequence.proofs.Steps.{pure-used, pure-truth_of, pure-converted_value, pure-operated, pure-signed, looks-followed}
 use Rattle.cf_sequence.proofs.Pointers.{pure-pointed_to, looks-indexed, looks-decayed, looks-pointer_op}
 use Rattle.cf_sequence.proofs.StaticObjects.{named_object, pure-named}
-use Rattle.cf_sequence.proofs.Calling.{never}
+use Rattle.cf_sequence.proofs.Calling.{never, pure-function}
 use Rattle.cf_sequence.proofs.Filling.{filling-adds}
 use Rattle.cf_sequence.proofs.Fulls.{closing, closed, nothing-is}
 
@@ -149,27 +149,6 @@ start-adds e ok = by (is_nothing e) refl
     by true nothing_there = ap (λ e. added (nodes e)) (nothing-is e nothing_there)
     by false there = initial-adds e (something-constant e ok there)
 
--- ---- what holds of a value that is given, and of the state then
-
-abbrev pub Gave : {A : Type 0} → (A → State → Type 0) → Ran (Did A) → Type 0
-Gave Q (Went (Gives a t) w) = Q a t
-Gave Q (Went (Exits z t) w) = Unit {0}
-Gave Q (Went Malformed w) = Unit {0}
-Gave Q (Stops end trace) = Unit {0}
-
-pub gave-then : {A B : Type 0} (P : A → State → Type 0) (Q : B → State → Type 0) (x : Ran (Did A)) (go : A → Act B)
-    → Gave P x → ((a : A) (t : State) (w : World) → P a t → Gave Q (go a t w)) → Gave Q (and_then x (on go))
-gave-then P Q (Went (Gives a t) w) go h next = next a t w h
-gave-then P Q (Went (Exits z t) w) go h next = tt
-gave-then P Q (Went Malformed w) go h next = tt
-gave-then P Q (Stops end trace) go h next = tt
-
-pub gave-as : {A : Type 0} (P Q : A → State → Type 0) (x : Ran (Did A)) → Gave P x → ((a : A) (t : State) → P a t → Q a t) → Gave Q x
-gave-as P Q (Went (Gives a t) w) h next = next a t h
-gave-as P Q (Went (Exits z t) w) h next = tt
-gave-as P Q (Went Malformed w) h next = tt
-gave-as P Q (Stops end trace) h next = tt
-
 -- ---- acts that leave the objects as they are
 
 -- The objects that were there are the same; others may have come.
@@ -233,15 +212,9 @@ steady-literal j bytes s w = by-found (found_literal (find (λ (x : Literal). by
     by-found None = record { frame = refl; next = omega arith; objects = λ o lt. ap (λ b. if b then literal_of bytes else s.object o) (other-object o s.next lt) }
     by-found (Some o) = stays-same s
 
-pure-has_type : (x : Option Function) (t : SourceType) → Pure (has_type x t)
-pure-has_type None t = pure-malformed
-pure-has_type (Some f) t = pure-need _ cast_from_void
-
 module _ (again : calling.Again) (P : Program) where
   steady-function : (name : Name) (t : SourceType) → Steady (name_function P name t)
-  steady-function name t =
-      steady-pure (name_function P name t)
-      (pure-when (is_library name) done (has_type (function_named P name) t) (pure-gives tt) (pure-has_type (function_named P name) t))
+  steady-function name t = steady-pure (name_function P name t) (pure-function P name t)
 
   abbrev Found : Core → Type 0
   Found e = (into : Option Place) → Steady (meaning.value again P e into)

@@ -133,12 +133,14 @@ temporaries_of_arguments :
 temporaries_of_arguments = record { core = refl; plain = refl }
 
 -- int a[2][2]={{p(1),2},{3}};char s[4]="ab";return a[0][0]+a[1][0]+a[1][1]+s[1];
-lists_and_literals :
-    Shows (with_main (declare 0 (array (array int 2) 2) (list (listed (list (listed (shown 1 ∷ num 2 ∷ [])) zeros ∷ list (listed (num 3 ∷ [])) zeros ∷ [])) zeros)
+abbrev listed_arrays : Program
+listed_arrays = with_main (declare 0 (array (array int 2) 2) (list (listed (list (listed (shown 1 ∷ num 2 ∷ [])) zeros ∷ list (listed (num 3 ∷ [])) zeros ∷ [])) zeros)
     ∷ declare 1 (array (integer Char) 4) (string (97 ∷ 98 ∷ []))
     ∷ returns (add (add (read (index (decay (index (decay (local 0)) (num 0))) (num 0))) (add (read (index (decay (index (decay (local 0)) (num 1))) (num 0)))
     (read (index (decay (index (decay (local 0)) (num 1))) (num 1)))))
-    (read (index (decay (local 1)) (num 1)))) ∷ [])) [] 9 (record { end = Ended (pos 102); out = codes "1" })
+    (read (index (decay (local 1)) (num 1)))) ∷ [])
+
+lists_and_literals : Shows listed_arrays [] 9 (record { end = Ended (pos 102); out = codes "1" })
 lists_and_literals = record { core = refl; plain = refl }
 
 -- void f(){exit(3);}int main(){f();return 0;}
@@ -170,3 +172,6 @@ label_that_passes_a_local_is_built = refl
 
 temporaries_of_local_references_are_built : list_all is_plainly_built (bound ∷ bound_inside ∷ []) ≡ true
 temporaries_of_local_references_are_built = refl
+
+lists_are_built : is_plainly_built listed_arrays ≡ true
+lists_are_built = refl

@@ -1,19 +1,20 @@
 -- The plain statements of a statement do what the statement does.
-use Rattle.std.proofs.Common.{◌≡◌, ℕ, suc, ◌+◌, ◌≤◌, Bool, true, false, not, ◌&&◌, ◌||◌, nat_lt, nat_le, List, [], ◌∷◌, ◌++◌, length, refl, sym, ◌∙◌, ap, subst, arith, append_assoc, if◌then◌else◌}
+use Rattle.std.proofs.Common.{◌≡◌, ℕ, suc, ◌+◌, ◌≤◌, Bool, true, false, not, ◌&&◌, ◌||◌, nat_lt, nat_le, ◌==◌, List, [], ◌∷◌, ◌++◌, length, refl, sym, ◌∙◌, ap, subst, arith, append_assoc, if◌then◌else◌}
 use Rattle.std.specs.Prelude.{Some, None}
 use Rattle.cf_base.proofs.Tests.{both}
 use Rattle.cf_base.specs.World.{World, Ran, and_then}
 use Rattle.cf_core.specs.declared.operators.LoopForm.TheVariants as form
 use Rattle.cf_core.specs.Types.{SourceType, Name, is_class}
 use Rattle.cf_core.specs.Core as core
-use Rattle.cf_core.specs.Core.{Core, Cores, MaybeCore, Function, none, absent, given}
+use Rattle.cf_core.specs.Core.{Core, Cores, MaybeCore, Function, local_temporary, none, absent, given}
 use Rattle.cf_core.specs.Nodes.{nodes, nodes_all, nodes_maybe}
-use Rattle.cf_core.specs.Store.{Value, Nothing, At}
+use Rattle.cf_core.specs.Store.{Value, Nothing, At, new_object, automatic}
+use Rattle.std.proofs.lemmas.Bool.Decides.{nat_tests}
 use Rattle.cf_core.specs.Run.{State, Frame, Did, Act, ◌>>=◌, ◌>>◌, gives, malformed, some_or, valid, when, declared_object, frame_changed, lists_local, lists_in_scope, with_frame}
 use Rattle.cf_core.specs.Joined.{is_nothing}
 use Rattle.cf_core.specs.Access.{used}
 use Rattle.cf_core.specs.Scalars.{truth_of}
-use Rattle.cf_core.specs.Objects.{settle, new_local}
+use Rattle.cf_core.specs.Objects.{new_local}
 use Rattle.cf_core.specs.Calls as calling
 use Rattle.cf_core.specs.Calls.{Program, root, turn, function_named, end_object, in_scope, full_expression}
 use Rattle.cf_core.specs.Expressions as meaning
@@ -24,20 +25,21 @@ use Rattle.cf_plain.specs.Acts.{Registers}
 use Rattle.cf_plain.specs.Running as running
 use Rattle.cf_plain.specs.Running.{Flow, Falls, Breaks, Continues, Returns, keep, falling, turning, all}
 use Rattle.cf_sequence.specs.Follows.{Follows}
-use Rattle.cf_sequence.specs.Built.{is_value, is_start, is_filling, is_initial, is_held, is_chain, next_local, next_locals, declares_here, is_statement, is_inner_or, are_cases, are_statements}
+use Rattle.cf_sequence.specs.Built.{is_value, is_initial, is_list, is_element, is_held, is_chain, next_local, next_locals, declares_here, is_statement, is_inner_or, are_cases, are_statements}
 use Rattle.cf_sequence.specs.Made.{Local, added, width, width_maybe, declared, declared_all, held_by}
-use Rattle.cf_sequence.specs.Expressions.{destination, finished, settled, whole, value, used as use_of}
+use Rattle.cf_sequence.specs.Expressions.{finished, whole, value, used as use_of}
 use Rattle.cf_sequence.specs.Statements.{statement, statement_or, statements, started, returned}
-use Rattle.cf_sequence.proofs.Following.{on, pull, pull-two}
+use Rattle.cf_sequence.proofs.Following.{on, pull}
 use Rattle.cf_sequence.proofs.Calling.{Bodies, never}
-use Rattle.cf_sequence.proofs.Kept.{Kept, kept-all, added-two, keep-same, listed-there}
+use Rattle.cf_sequence.proofs.Kept.{Kept, Ready, kept-all, added-two, keep-same, listed-there}
 use Rattle.cf_sequence.proofs.PlainSteps.{Usable, pick, runs_on, branch-steps, declare-steps}
 use Rattle.cf_sequence.proofs.Operands.{H, first-room, second-room}
-use Rattle.cf_sequence.proofs.Filling.{filling-holds, filled-steps}
-use Rattle.cf_sequence.proofs.Parts.{first-steps, value-gives}
+use Rattle.cf_sequence.proofs.Filling.{element-holds}
+use Rattle.cf_sequence.proofs.Lists.{Intact, initial-steps}
+use Rattle.cf_sequence.proofs.Elements.{nested-steps}
 use Rattle.cf_sequence.proofs.Moving.{all_gone, Held, held-kept, held-append, finished-steps, Moved, moved-count, moved-then, with_scope, Beyond}
-use Rattle.cf_sequence.proofs.Fulls.{nothing-is, held-none, full-steps, condition-steps, used-steps}
-use Rattle.cf_sequence.proofs.Standing.{Open, inside_of, opened, Stands, stands-later, moved-all, settled_full, result_act, behind-initial, next-more, low-bound, Turns}
+use Rattle.cf_sequence.proofs.Fulls.{nothing-is, full-steps, condition-steps, used-steps}
+use Rattle.cf_sequence.proofs.Standing.{Open, inside_of, opened, Stands, stands-later, moved-all, settled_full, result_act, behind-element, next-more, low-bound, Turns}
 use Rattle.cf_sequence.proofs.Scopes.{Ways, ways-later, Fallen, fall-on, closing_scope, moved-out, block-ways, close-steps, Does, by-or, behind, arm-steps, stands-on}
 use Rattle.cf_sequence.proofs.Passing.{declared-state, declared-moved, low-number}
 use Rattle.cf_sequence.proofs.References.{declared-ready, held-declaration}
@@ -68,7 +70,29 @@ module _ (again : calling.Again) (again' : running.Again) (P : Program) (bodies 
       ))
       (let a = moved-count m s f (with_frame (lists_in_scope o t.frame) t) g v in omega arith)
 
-  declaration : (i : ℕ) (T : SourceType) (e : Core) (m : ℕ) → nat_le m i ≡ true → is_initial e ≡ true → (op : Open) (D : Beyond) (k : ℕ) (rest : Plains) (g : Registers) (s : State) (f : Frame) (w : World)
+  -- an initialiser of the local's object
+  local-steps : (T : SourceType) (e : Core) → is_element T e ≡ true → (o k : ℕ) (rest : Plains) (h : Registers) (s : State) (f : Frame) (w : World) (c : Unit {0} → Act A) (K : Flow → Act B)
+      → h 0 ≡ Some (At (root o)) → Ready k s.frame f → k + width e ≤ f.count → Intact T o s
+      → ((t : State) (h1 : Registers) (g : Frame) (w : World) → t.frame ≡ s.frame → Kept k f g → Follows S (c tt t w) (runs_on again' (H again again' P) rest h1 K (with_frame g t) w))
+      → Follows S (and_then (settled_full again P (root o) e s w) (on c)) (runs_on again' (H again again' P) (started P.classes T e 0 k rest) h K (with_frame f s) w)
+  local-steps T e ok o k rest h s f w c K at ready room stands next =
+      (by-or again again' P bodies chains classless turns R C plain-result A B S) (is_initial e) (is_list T e) ok
+      (λ initial. initial-steps again again' P bodies chains classless A B S T e initial 0 k (root o) rest h s f w c K at ready room (λ t h1 g w1 same kept below. next t h1 g w1 same kept))
+      (λ is. nested-steps again again' P bodies chains classless turns.rests A B S T e is T 0 k (root o) rest h s f w c K at ready room stands (record { type = refl; inside = refl })
+      (λ t h1 g w1 same kept below stands1. next t h1 g w1 same kept))
+
+  -- an object that is there now
+  intact-now : (i : ℕ) (T : SourceType) (s : State) → Intact T s.next (declared-state i T s)
+  intact-now i T s =
+      let same : (s.next == s.next) ≡ true = grind (arith, nat_tests) in
+      record {
+        below = omega arith;
+        type = ap (λ b. (if b then new_object T automatic else s.object s.next).type) same;
+        life = ap (λ b. (if b then new_object T automatic else s.object s.next).life) same;
+        stands = ap (λ b. (if b then new_object T automatic else s.object s.next).is_gone) same;
+      }
+
+  declaration : (i : ℕ) (T : SourceType) (e : Core) (m : ℕ) → nat_le m i ≡ true → is_element T e ≡ true → (op : Open) (D : Beyond) (k : ℕ) (rest : Plains) (g : Registers) (s : State) (f : Frame) (w : World)
       (c : calling.Flow → Act A) (K : Flow → Act B)
       → Stands op D m k s f → k + width e ≤ f.count → (Fallen again again' P bodies chains classless turns R C plain-result A B S) (suc i) ((record { number = i; type = T } ∷ held_by e) ++ op.here) m c K rest s f
       → (b : Bool) → nat_lt i s.frame.count ≡ b
@@ -82,25 +106,9 @@ module _ (again : calling.Again) (again' : running.Again) (P : Program) (bodies 
       let f1 : Frame = lists_local i o f in
       let h1 : Registers = keep g 0 (At (root o)) in
       declare-steps again' (H again again' P) i T 0 (started P.classes T e 0 k rest) g K _ s f w (let a = low-number i s.frame.count lt in let c1 = st.ready.count in let c2 = st.ready.wide in omega arith)
-      ((by-or again again' P bodies chains classless turns R C plain-result A B S) (is_filling e) (is_start e) ok
-      (λ fills.
-      pull (settled_full again P (root o) e s1 w) (λ u. frame_changed (lists_in_scope o)) (λ u. c calling.Falls) _
-      (filled-steps again again' P T e fills 0 k (root o) h1 rest (λ u. frame_changed (lists_in_scope o) >>= (λ u. c calling.Falls)) K s1 f1 w (keep-same 0 g (At (root o))) (λ t same.
-      declared-falls i k o T m op D rest s f c K st le lt (held_by e) (filling-holds e fills) falls t f1 h1 w same (kept-all k f1))))
-      (λ starts. (by-or again again' P bodies chains classless turns R C plain-result A B S) (is_nothing e) (is_value e) starts
-      (λ blank. subst (λ e. Follows S (and_then ((settled_full again P (root o) e >> frame_changed (lists_in_scope o)) s1 w) (on (λ u. c calling.Falls)))
-      (runs_on again' (H again again' P) (started P.classes T e 0 k rest) h1 K (with_frame f1 s1) w)) (sym (nothing-is e blank))
-      (declared-falls i k o T m op D rest s f c K st le lt (held_by e) (ap held_by (nothing-is e blank)) falls s1 f1 h1 w refl (kept-all k f1)))
-      (λ is.
-      pull-two (full_expression again P (meaning.value again P e (Some (root o))) s1 w) (settle P.classes (root o)) (λ u. frame_changed (lists_in_scope o)) (λ u. c calling.Falls) _
-      (full-steps again again' P bodies chains classless A B S e is (Some (root o)) (destination 0 T) 1 k (λ n. settled e 0 n rest) h1 s1 f1 w
-      (λ v. (settle P.classes (root o) v >> frame_changed (lists_in_scope o)) >>= (λ u. c calling.Falls)) K (declared-ready i k o s.frame f st.ready) room (λ v t h f2 w2 done.
-      pull (settle P.classes (root o) v t w2) (λ u. frame_changed (lists_in_scope o)) (λ u. c calling.Falls) _
-      (subst (λ b. Follows S (and_then (settle P.classes (root o) v t w2) (on (λ u. frame_changed (lists_in_scope o) >>= (λ u. c calling.Falls))))
-      (runs_on again' (H again again' P) (if b then rest else more (act (plain.first 0 (1 + width e))) rest) h K (with_frame f2 t) w2)) (sym (value-gives again again' P bodies chains A B S e is))
-      (first-steps again again' P bodies chains A B S 0 (1 + width e) (root o) v h rest (λ u. frame_changed (lists_in_scope o) >>= (λ u. c calling.Falls)) K t f2 w2
-      (done.below 0 (omega arith) ∙ keep-same 0 g (At (root o))) done.value (λ t3 same.
-      declared-falls i k o T m op D rest s f c K st le lt (held_by e) (held-none e is) falls t3 f2 h w2 (same ∙ done.frame) done.kept))))))))
+      (pull (settled_full again P (root o) e s1 w) (λ u. frame_changed (lists_in_scope o)) (λ u. c calling.Falls) _
+      (local-steps T e ok o k rest h1 s1 f1 w (λ u. frame_changed (lists_in_scope o) >>= (λ u. c calling.Falls)) K (keep-same 0 g (At (root o))) (declared-ready i k o s.frame f st.ready) room (intact-now i T s)
+      (λ t h f2 w2 same kept. declared-falls i k o T m op D rest s f c K st le lt (held_by e) (element-holds T e ok) falls t f2 h w2 same kept)))
 
   abbrev DoesMaybe : MaybeCore → Type 0
   DoesMaybe absent = Unit {0}
@@ -180,13 +188,13 @@ module _ (again : calling.Again) (again' : running.Again) (P : Program) (bodies 
         (let a = moved-count m s f (with_scope s.frame.scope (all_gone t.frame.scope t)) g1 ((moved-out again again' P bodies chains classless turns R C plain-result A B S) m s f t g1 v) in let b = st.low in omega arith))))
     follow-statement (core.sequence es) m ok o D k rest g s f w c K st room ways falls = follow-statements es m ok o D k rest g s f w c K st room ways falls
     follow-statement (core.declare i T e) m ok o D k rest g s f w c K st room ways falls =
-        let parts = both (nat_le m i) (is_initial e || is_held i e) ok in
+        let parts = both (nat_le m i) (is_element T e || is_held i e) ok in
         pull (does.declares again P i T e s w) (λ u. gives calling.Falls) c _
         (pull (new_local i T s w) (λ x. settled_full again P (root x) e >> frame_changed (lists_in_scope x)) (λ u. c calling.Falls) _
-        ((by-or again again' P bodies chains classless turns R C plain-result A B S) (is_initial e) (is_held i e) parts.1
+        ((by-or again again' P bodies chains classless turns R C plain-result A B S) (is_element T e) (is_held i e) parts.1
         (λ initial.
         declaration i T e m parts.0 initial o D k rest g s f w c K st room
-        (subst (λ n. (Fallen again again' P bodies chains classless turns R C plain-result A B S) n ((record { number = i; type = T } ∷ held_by e) ++ o.here) m c K rest s f) (behind-initial i e initial) falls)
+        (subst (λ n. (Fallen again again' P bodies chains classless turns R C plain-result A B S) n ((record { number = i; type = T } ∷ held_by e) ++ o.here) m c K rest s f) (behind-element T i e initial) falls)
         (nat_lt i s.frame.count) refl)
         (λ held. held-declaration again again' P bodies chains classless turns R C plain-result A B S i T e m parts.0 held o D k rest g s f w c K st room falls (nat_lt i s.frame.count) refl)))
     follow-statement (core.branch q a b) m ok o D k rest g s f w c K st room ways falls =

@@ -1,5 +1,5 @@
 -- Initialisers that fill their object by themselves: zeros, and the characters of a literal.
-use Rattle.std.proofs.Common.{◌≡◌, ℕ, suc, Bool, true, false, ◌&&◌, ◌==◌, if◌then◌else◌, nat_le, List, [], ◌∷◌, ◌++◌, length, refl, sym, ◌∙◌, ap, subst, arith}
+use Rattle.std.proofs.Common.{◌≡◌, ℕ, suc, Bool, true, false, ◌&&◌, ◌||◌, ◌==◌, if◌then◌else◌, nat_le, List, [], ◌∷◌, ◌++◌, length, refl, sym, ◌∙◌, ap, subst, arith}
 use Rattle.std.specs.Prelude.{pos, Some, Option}
 use Rattle.std.proofs.lemmas.Bool.Decides.{nat_tests}
 use Rattle.cf_base.proofs.Tests.{both}
@@ -9,7 +9,7 @@ use Rattle.cf_base.specs.World.{World, Went, and_then}
 use Rattle.cf_core.specs.Types.{SourceType, is_array}
 use Rattle.cf_core.specs.Classes.{Class}
 use Rattle.cf_core.specs.Core as core
-use Rattle.cf_core.specs.Core.{Core, item}
+use Rattle.cf_core.specs.Core.{Core, item, local_temporary}
 use Rattle.cf_core.specs.Nodes.{nodes}
 use Rattle.cf_core.specs.Places.{Place, inner, type_at}
 use Rattle.cf_core.specs.Store.{Value, Nothing, Built, Number, At, Object, zero_of, hold, hold_all}
@@ -24,7 +24,7 @@ use Rattle.cf_plain.specs.Acts.{Registers, acts}
 use Rattle.cf_plain.specs.Running as running
 use Rattle.cf_plain.specs.Running.{Flow, calls}
 use Rattle.cf_sequence.specs.Follows.{Follows}
-use Rattle.cf_sequence.specs.Built.{is_filling}
+use Rattle.cf_sequence.specs.Built.{is_start, is_filling, is_initial, is_list, is_element}
 use Rattle.cf_sequence.specs.Made.{added, held_by}
 use Rattle.cf_sequence.specs.Expressions.{builds}
 use Rattle.cf_sequence.specs.Statements.{started}
@@ -46,6 +46,12 @@ filling-builds core.zeros ok = refl
 filling-builds (core.string bytes) ok = refl
 filling-builds e ok = never ok
 
+pub filling-initial : (e : Core) → is_filling e ≡ true → is_initial e ≡ true
+filling-initial e ok = ap (λ b. b || is_start e) ok
+
+pub filling-element : (t : SourceType) (e : Core) → is_filling e ≡ true → is_element t e ≡ true
+filling-element t e ok = ap (λ b. (b || is_start e) || is_list t e) ok
+
 pub filling-adds : (e : Core) → is_filling e ≡ true → added (nodes e) ≡ []
 filling-adds core.zeros ok = refl
 filling-adds (core.string bytes) ok = refl
@@ -55,6 +61,11 @@ pub filling-holds : (e : Core) → is_filling e ≡ true → held_by e ≡ []
 filling-holds core.zeros ok = refl
 filling-holds (core.string bytes) ok = refl
 filling-holds e ok = never ok
+
+-- an initialiser that is no reference's binds no temporary
+pub element-holds : (t : SourceType) (e : Core) → is_element t e ≡ true → held_by e ≡ []
+element-holds t (core.bind (local_temporary j u) e) ok = never ok
+element-holds t e ok = refl
 
 -- one act alone
 pub started-is : (cs : List Class) (t : SourceType) (e : Core) → is_filling e ≡ true → (n : Register) (k : ℕ) (rest : Plains)

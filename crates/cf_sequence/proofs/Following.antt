@@ -196,3 +196,24 @@ pub pure-step : {A B C D : Type 0} {S : C → State → D → State → Type 0} 
     → Follows S (and_then ((act >>= F) s w) (on c)) (and_then ((act >>= F) t w) (on g))
 pure-step act p F c g s t w next =
     pull (act s w) F c _ (push (act t w) F g _ (pure-steps act p (λ a. F a >>= c) (λ a. F a >>= g) s t w next))
+
+-- ---- what holds of a value that is given, and of the state then
+
+abbrev pub Gave : {A : Type 0} → (A → State → Type 0) → Ran (Did A) → Type 0
+Gave Q (Went (Gives a t) w) = Q a t
+Gave Q (Went (Exits z t) w) = Unit {0}
+Gave Q (Went Malformed w) = Unit {0}
+Gave Q (Stops end trace) = Unit {0}
+
+pub gave-then : {A B : Type 0} (P : A → State → Type 0) (Q : B → State → Type 0) (x : Ran (Did A)) (go : A → Act B)
+    → Gave P x → ((a : A) (t : State) (w : World) → P a t → Gave Q (go a t w)) → Gave Q (and_then x (on go))
+gave-then P Q (Went (Gives a t) w) go h next = next a t w h
+gave-then P Q (Went (Exits z t) w) go h next = tt
+gave-then P Q (Went Malformed w) go h next = tt
+gave-then P Q (Stops end trace) go h next = tt
+
+pub gave-as : {A : Type 0} (P Q : A → State → Type 0) (x : Ran (Did A)) → Gave P x → ((a : A) (t : State) → P a t → Q a t) → Gave Q x
+gave-as P Q (Went (Gives a t) w) h next = next a t h
+gave-as P Q (Went (Exits z t) w) h next = tt
+gave-as P Q (Went Malformed w) h next = tt
+gave-as P Q (Stops end trace) h next = tt

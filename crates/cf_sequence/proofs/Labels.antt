@@ -1,5 +1,5 @@
 -- The labels of a switch, in a core and in its plain statements: what has no label of its own is passed over.
-use Rattle.std.proofs.Common.{◌≡◌, ℕ, suc, ◌+◌, Bool, true, false, not, ◌&&◌, ◌||◌, nat_le, nat_lt, if◌then◌else◌, List, [], ◌∷◌, ◌++◌, reverse, refl, sym, ◌∙◌, ap, subst}
+use Rattle.std.proofs.Common.{◌≡◌, ℕ, suc, ◌+◌, Bool, true, false, not, ◌&&◌, ◌||◌, nat_le, nat_lt, if◌then◌else◌, List, [], ◌∷◌, ◌++◌, reverse, refl, sym, ap, subst}
 use Rattle.std.specs.Prelude.{ℤ, int_le, Some, None}
 use Rattle.cf_base.proofs.Tests.{both}
 use Rattle.cf_core.specs.declared.operators.LoopForm.TheVariants as form
@@ -18,16 +18,16 @@ use Rattle.cf_plain.specs.Plain as plain
 use Rattle.cf_plain.specs.Acts.{Registers}
 use Rattle.cf_plain.specs.Running as running
 use Rattle.cf_plain.specs.Running.{Flow, Falls, Breaks, Continues, Returns, falling, all}
-use Rattle.cf_sequence.specs.Built.{is_value, is_start, is_filling, is_initial, is_held, declares_here, is_statement, is_inner_or, are_statements, are_cases, next_local}
+use Rattle.cf_sequence.specs.Built.{is_value, is_element, is_held, declares_here, is_statement, is_inner_or, are_statements, are_cases, next_local}
 use Rattle.cf_sequence.specs.Made.{Local, Temporary, temporaries, width, declared, declared_all}
 use Rattle.cf_sequence.specs.Expressions.{Full, destination, finished, flags, ended, settled, whole, value, used as use_of}
 use Rattle.cf_sequence.specs.Statements.{Inside, in_switch, statement, statement_or, statements, started, made, passing, passes_local, passed}
-use Rattle.cf_sequence.proofs.Calling.{never}
+use Rattle.cf_sequence.proofs.Calling.{never, or-else}
 use Rattle.cf_sequence.proofs.Operands.{H}
-use Rattle.cf_sequence.proofs.Filling.{fill, started-is}
 use Rattle.cf_sequence.proofs.Fulls.{nothing-is, held_at}
 use Rattle.cf_sequence.proofs.Standing.{Open, inside_of, opened}
-use Rattle.cf_sequence.proofs.Silent.{Silent, silent-none, silent-set, silent-act, silent-branch, silent-then, silent-used, silent-switch, silent-settled, silent-finished, silent-leave, silent-continue, silent-give, silent-value, silent-flags, silent-ended, silent-whole}
+use Rattle.cf_sequence.proofs.Lists.{silent-element}
+use Rattle.cf_sequence.proofs.Silent.{Silent, silent-by, silent-none, silent-set, silent-act, silent-branch, silent-then, silent-used, silent-switch, silent-settled, silent-finished, silent-leave, silent-continue, silent-give, silent-value, silent-flags, silent-ended, silent-whole}
 
 -- what a switch looks for
 pub data Aim : Type 0 where
@@ -59,10 +59,6 @@ label-of s ok = never ok
 or-right : (a b : Bool) → b ≡ true → (a || b) ≡ true
 or-right true b ok = refl
 or-right false b ok = ok
-
-pub or-else : {X : Type 0} (a b : Bool) → (a || b) ≡ true → (a ≡ true → X) → (b ≡ true → X) → X
-or-else true b ok f g = f refl
-or-else false b ok f g = g ok
 
 pub no-label : (aim : Aim) (m : ℕ) (s : Core) (rest : Cores) → is_statement m s ≡ true → core_has aim (core.more s rest) ≡ core_has aim rest
 no-label (to_case z) m (core.case_label y) rest ok = never ok
@@ -180,13 +176,6 @@ mark-goes again H to_default s (the_default e) rest g = refl
 
 -- ---- no statement but a switch's own has its labels
 
-pub silent-by : (again : running.Again) (H : Program) (F G : Plains → Plains) → ((rest : Plains) → F rest ≡ G rest) → Silent again H G → Silent again H F
-silent-by again H F G same p = record {
-  labels = λ z rest. ap (running.has_case z) (same rest) ∙ p.labels z rest;
-  at_case = λ z rest g. ap (λ ss. running.from_case again H z ss g) (same rest) ∙ p.at_case z rest g;
-  at_default = λ rest g. ap (λ ss. running.from_default again H ss g) (same rest) ∙ p.at_default rest g;
-}
-
 module _ (again : running.Again) (H : Program) (P : Program) (R C : SourceType) (plain-result : is_class R ≡ false) where
   silent-passed : (n : Register) (es : Cores) → Silent again H (passed n es)
   silent-passed n es = by-test (passes_local es)
@@ -195,17 +184,7 @@ module _ (again : running.Again) (H : Program) (P : Program) (R C : SourceType) 
       by-test true = silent-switch again H n (passing [] es)
       by-test false = silent-none again H
 
-  -- initialisers
-  silent-started : (t : SourceType) (e : Core) (k : ℕ) → is_initial e ≡ true → Silent again H (started P.classes t e 0 k)
-  silent-started t e k ok =
-      let F : Plains → Plains = started P.classes t e 0 k in
-      or-else (is_filling e) (is_start e) ok
-      (λ fills. silent-by again H F (λ rest. more (act (fill e 0)) rest) (started-is P.classes t e fills 0 k) (silent-act again H (fill e 0)))
-      (λ starts. or-else (is_nothing e) (is_value e) starts
-      (λ blank. silent-by again H F (λ rest. rest)
-      (λ rest. ap (λ e. started P.classes t e 0 k rest) (nothing-is e blank)) (silent-none again H))
-      (λ is. silent-whole again H P e is 1 k (destination 0 t) (λ m rest. rest) (λ m rest. settled e 0 m rest) (λ m. silent-none again H) (λ m. silent-settled again H e 0 m)))
-
+  -- the initialiser of a local reference
   silent-held : (i : ℕ) (t : SourceType) (e : Core) (k : ℕ) → is_held i e ≡ true → Silent again H (started P.classes t e 0 k)
   silent-held i t (core.bind (local_temporary j u) e) k ok =
       let is : is_value e ≡ true = (both (not (is_reference u)) (is_value e) (both (nat_lt i j) (not (is_reference u) && is_value e) ok).1).1 in
@@ -237,16 +216,16 @@ module _ (again : running.Again) (H : Program) (P : Program) (R C : SourceType) 
     silent-statement (core.sequence es) m ok o k = silent-statements es m ok o k
     silent-statement (core.declare i t e) m ok o k =
         silent-then again H (λ rest. more (set 0 (plain.declare i t)) rest) (started P.classes t e 0 k) (silent-set again H 0 (plain.declare i t))
-        (or-else (is_initial e) (is_held i e) (both (nat_le m i) (is_initial e || is_held i e) ok).1 (silent-started t e k) (silent-held i t e k))
+        (or-else (is_element t e) (is_held i e) (both (nat_le m i) (is_element t e || is_held i e) ok).1 (λ element. silent-element again H P t e element t 0 k) (silent-held i t e k))
     silent-statement (core.branch q a b) m ok o k =
         let is = (both (is_value q) ((not (declares_here a) && is_statement m a) && is_inner_or m b) ok).0 in
         let yes : Plains = statement (inside_of P R C o) a (k + width q) nothing in
         let other : Plains = statement_or (inside_of P R C o) b (k + width q + width a) nothing in
         silent-whole again H P q is 0 k None (λ m rest. more (set m (plain.truth m)) rest) (λ m rest. more (plain.branch m yes other) rest)
         (λ m. silent-set again H m (plain.truth m)) (λ m. silent-branch again H m yes other)
-    silent-statement (core.loop form.While q e s) m ok o k = record { labels = λ z rest. refl; at_case = λ z rest g. refl; at_default = λ rest g. refl }
-    silent-statement (core.loop form.For q e s) m ok o k = record { labels = λ z rest. refl; at_case = λ z rest g. refl; at_default = λ rest g. refl }
-    silent-statement (core.loop form.Do q e s) m ok o k = record { labels = λ z rest. refl; at_case = λ z rest g. refl; at_default = λ rest g. refl }
+    silent-statement (core.loop form.While q e s) m ok o k = record { labels = λ z rest. refl; at_case = λ z rest g. refl; at_default = λ rest g. refl; ahead = λ rest. refl }
+    silent-statement (core.loop form.For q e s) m ok o k = record { labels = λ z rest. refl; at_case = λ z rest g. refl; at_default = λ rest g. refl; ahead = λ rest. refl }
+    silent-statement (core.loop form.Do q e s) m ok o k = record { labels = λ z rest. refl; at_case = λ z rest g. refl; at_default = λ rest g. refl; ahead = λ rest. refl }
     silent-statement (core.switch e es) m ok o k =
         let is = (both (is_value e) (are_cases m es) ok).0 in
         let body : Plains = statements (in_switch (inside_of P R C o)) es (k + width e) (finished (declared_all es) nothing) in

@@ -8,6 +8,7 @@ mod ClassRows
 mod ControlRows
 mod OrderRows
 mod TemporaryRows
+mod ListRows
 pub mod Doing
 pub mod Loops
 pub mod Scopes
@@ -15,6 +16,10 @@ pub mod Silent
 pub mod Standing
 pub mod Evaluating
 pub mod Labels
+pub mod Lasting
+pub mod LastingCode
+pub mod Lists
+pub mod Elements
 pub mod Operands
 pub mod Parts
 pub mod Following
@@ -37,6 +42,8 @@ pub mod SameStatics
 pub mod JoinedObjects
 pub mod Renamed
 pub mod RenamedCode
+pub mod RenamedLists
+pub mod RenamedStatements
 pub mod OwnNames
 pub mod Steps
 pub mod Switching

@@ -94,7 +94,7 @@ module _ (again : calling.Again) (again' : running.Again) (P : Program) (bodies 
         stands-later o D m m k k o.here s f t g st v (omega arith) (let a = moved-count m s f t g v in let low = st.low in omega arith) (omega arith) (let wide = st.ready.wide in omega arith)
         (subst (λ os. Held g.locals m o.here os) (sym same) (held-kept f.locals g.locals m m o.here s.frame.scope st.here (omega arith) v.below)) in
         follows-then (again (turn the_loop) t w) (again' (running.turn SS EE h) (with_frame g t) w) c ((behind again again' P bodies chains classless turns R C plain-result A B S) rest K)
-        (turns R C plain-result how q e body m ok o D k h t g w st1 (omega arith))
+        (turns.follow R C plain-result how q e body m ok o D k h t g w st1 (omega arith))
         (λ x t2 y u w2 r. turned-end t g v same x t2 y u w2 r.plain r.moved r.ends)
 
   abbrev still : State → World → Ran (Did (Unit {0}))

@@ -22,7 +22,8 @@ use Rattle.cf_sequence.proofs.StaticObjects.{type_found}
 use Rattle.cf_sequence.proofs.Constants.{set_as, start-is, constant-start, something-constant, constant-initial}
 use Rattle.cf_sequence.proofs.JoinedObjects.{beside}
 use Rattle.cf_sequence.proofs.Renamed.{same-adds, same-nothing, same-declared, same-statement, same-constant-start}
-use Rattle.cf_sequence.proofs.RenamedCode.{over-finished, over-started, over-statement}
+use Rattle.cf_sequence.proofs.RenamedCode.{over-finished, over-started}
+use Rattle.cf_sequence.proofs.RenamedStatements.{over-statement}
 use Rattle.cf_sequence.proofs.SameStatics.{same-function}
 use Rattle.cf_sequence.proofs.Whole.{built-parts}
 

@@ -20,7 +20,7 @@ use Rattle.cf_plain.specs.Acts.{Registers}
 use Rattle.cf_plain.specs.Running as running
 use Rattle.cf_plain.specs.Running.{Flow, Falls, falling, all}
 use Rattle.cf_sequence.specs.Follows.{Follows}
-use Rattle.cf_sequence.specs.Built.{is_initial, is_held, next_local, next_locals, is_statement, are_statements, are_cases}
+use Rattle.cf_sequence.specs.Built.{is_element, is_held, next_local, next_locals, is_statement, are_statements, are_cases}
 use Rattle.cf_sequence.specs.Made.{Local, declared, declared_all}
 use Rattle.cf_sequence.specs.Statements.{made, passing}
 use Rattle.cf_sequence.proofs.Following.{on, pull}
@@ -214,7 +214,7 @@ module _ (again : calling.Again) (again' : running.Again) (P : Program) (A B : T
         → Follows S (and_then (does.passes e s w) (on (λ u. G))) Y
     pass-one (core.declare i T core.blank) m ok o D k s f w G Y st next =
         pull (new_local i T s w) (λ o. frame_changed (lists_in_scope o)) (λ u. G) Y
-        (pass-local i T m (low-bound m i (both (nat_le m i) (is_initial core.blank || is_held i core.blank) ok).0) o D k s f w G Y st next (nat_lt i s.frame.count) refl)
+        (pass-local i T m (low-bound m i (both (nat_le m i) (is_element T core.blank || is_held i core.blank) ok).0) o D k s f w G Y st next (nat_lt i s.frame.count) refl)
     pass-one (core.declare i T e) m ok o D k s f w G Y st next = record { by = tt }
     pass-one (core.sequence es) m ok o D k s f w G Y st next = pass-all es m ok o D k s f w G Y st next
     pass-one e m ok o D k s f w G Y st next = next s f (passed-none m k o D s f w st)

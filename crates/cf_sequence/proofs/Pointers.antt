@@ -65,7 +65,7 @@ looks-moved_value cs (At p) z = looks-moved_place cs p z
 looks-moved_value cs Null z = looks-pure (undefined _) (pure-undefined _)
 looks-moved_value cs v z = looks-pure malformed pure-malformed
 
-looks-moved_by : (cs : List Class) (v w : Value) → Looks (moved_by cs v w)
+pub looks-moved_by : (cs : List Class) (v w : Value) → Looks (moved_by cs v w)
 looks-moved_by cs v (Number z) = looks-moved_value cs v z
 looks-moved_by cs v w = looks-pure malformed pure-malformed
 

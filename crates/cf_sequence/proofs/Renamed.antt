@@ -2,15 +2,16 @@
 use Rattle.std.proofs.Common.{◌≡◌, ℕ, suc, ◌+◌, Bool, true, not, ◌&&◌, ◌||◌, nat_le, nat_lt, List, [], ◌∷◌, ◌++◌, length, refl, sym, ◌∙◌, ap}
 use Rattle.cf_base.proofs.Tests.{both}
 use Rattle.std.proofs.lemmas.Grind.{flat_map-append}
-use Rattle.cf_core.specs.Types.{Name, parameters, result, is_class}
+use Rattle.cf_core.specs.Types.{Name, SourceType, parameters, result, is_class, plain, element}
+use Rattle.cf_core.specs.Objects.{count}
 use Rattle.cf_core.specs.Core as core
 use Rattle.cf_core.specs.Core.{Core, Cores, MaybeCore, Parts, Holder, no_temporary, local_temporary, static_temporary, none, absent, given, no_parts, part}
 use Rattle.cf_core.specs.Places.{is_reference}
 use Rattle.cf_core.specs.Nodes.{nodes, nodes_all, nodes_maybe, nodes_parts}
 use Rattle.cf_core.specs.Joined.{renamed, renamed_all, renamed_maybe, renamed_parts, is_nothing}
 use Rattle.cf_core.specs.Valid.{is_label, has_label}
-use Rattle.cf_sequence.specs.Built.{is_chain, is_value, are_values, are_arguments, is_condition, is_start, is_filling, is_initial, is_held, behind_declared, next_local, next_locals, declares_here, is_statement, is_inner_or, are_cases, are_statements, is_constant_value, is_constant_initial, is_constant_start}
-use Rattle.cf_sequence.specs.Made.{Local, temporaries, temporaries_all, added, makes, width, width_maybe, declared, declared_all, held_by}
+use Rattle.cf_sequence.specs.Built.{is_row, is_chain, is_value, are_values, are_arguments, is_condition, is_start, is_filling, is_initial, is_list, is_element, are_elements, is_held, behind_declared, next_local, next_locals, declares_here, any_declares, is_statement, is_inner_or, are_cases, are_statements, is_constant_value, is_constant_initial, is_constant_start}
+use Rattle.cf_sequence.specs.Made.{Local, temporaries, temporaries_all, added, makes, width, width_maybe, width_all, declared, declared_all, held_by}
 use Rattle.cf_sequence.specs.Expressions.{builds}
 use Rattle.cf_sequence.proofs.Calling.{never}
 
@@ -255,6 +256,31 @@ module _ (r : Name → Name) where
   pub same-initial : (e : Core) → is_initial (renamed r e) ≡ is_initial e
   same-initial e = ap (λ b. b || is_start (renamed r e)) (same-filling e) ∙ ap (λ b. is_filling e || b) (same-start e)
 
+  mutual
+    pub same-list : (t : SourceType) (e : Core) → is_list t (renamed r e) ≡ is_list t e
+    same-list t (core.list es rest) =
+        let u : SourceType = element (plain t) in
+        ap (λ b. is_row t && b) (two-same (are_elements u (renamed_all r es)) (is_filling (renamed r rest)) (are_elements u es) (is_filling rest) (same-elements u es) (same-filling rest))
+    same-list t core.zeros = refl
+    same-list t e = refl
+
+    pub same-elements : (t : SourceType) (es : Cores) → are_elements t (renamed_all r es) ≡ are_elements t es
+    same-elements t none = refl
+    same-elements t (core.more e es) =
+        two-same (is_element t (renamed r e)) (are_elements t (renamed_all r es)) (is_element t e) (are_elements t es)
+        (ap (λ b. b || is_list t (renamed r e)) (same-initial e) ∙ ap (λ b. is_initial e || b) (same-list t e)) (same-elements t es)
+
+  pub same-element : (t : SourceType) (e : Core) → is_element t (renamed r e) ≡ is_element t e
+  same-element t e = ap (λ b. b || is_list t (renamed r e)) (same-initial e) ∙ ap (λ b. is_initial e || b) (same-list t e)
+
+  pub same-count : (es : Cores) → count (renamed_all r es) ≡ count es
+  same-count none = refl
+  same-count (core.more e es) = ap suc (same-count es)
+
+  pub same-width-all : (es : Cores) → width_all (renamed_all r es) ≡ width_all es
+  same-width-all none = refl
+  same-width-all (core.more e es) = ap (λ n. n + width_all (renamed_all r es)) (same-width e) ∙ ap (λ n. width e + n) (same-width-all es)
+
   pub same-constant : (e : Core) → is_constant_value (renamed r e) ≡ is_constant_value e
   same-constant (core.address e) = same-constant e
   same-constant (core.dereference e) = same-constant e
@@ -322,9 +348,15 @@ module _ (r : Name → Name) where
     same-nexts m none = refl
     same-nexts m (core.more s es) = ap (λ k. next_locals k (renamed_all r es)) (same-next m s) ∙ same-nexts (next_local m s) es
 
-  same-declares : (s : Core) → declares_here (renamed r s) ≡ declares_here s
-  same-declares (core.declare i t e) = refl
-  same-declares s = refl
+  mutual
+    same-declares : (s : Core) → declares_here (renamed r s) ≡ declares_here s
+    same-declares (core.declare i t e) = refl
+    same-declares (core.sequence es) = same-any-declares es
+    same-declares s = refl
+
+    same-any-declares : (es : Cores) → any_declares (renamed_all r es) ≡ any_declares es
+    same-any-declares none = refl
+    same-any-declares (core.more s rest) = ap (λ b. b || any_declares (renamed_all r rest)) (same-declares s) ∙ ap (λ b. declares_here s || b) (same-any-declares rest)
 
   same-label : (s : Core) → is_label (renamed r s) ≡ is_label s
   same-label core.default_label = refl
@@ -342,7 +374,7 @@ module _ (r : Name → Name) where
     same-statement m (core.block es) = same-statements m es
     same-statement m (core.sequence es) = same-statements m es
     same-statement m (core.declare i t e) =
-        ap (λ b. nat_le m i && (b || is_held i (renamed r e))) (same-initial e) ∙ ap (λ b. nat_le m i && (is_initial e || b)) (same-kept i e)
+        ap (λ b. nat_le m i && (b || is_held i (renamed r e))) (same-element t e) ∙ ap (λ b. nat_le m i && (is_element t e || b)) (same-kept i e)
     same-statement m (core.branch c a b) =
         two-same (is_value (renamed r c)) ((not (declares_here (renamed r a)) && is_statement m (renamed r a)) && is_inner_or m (renamed_maybe r b)) (is_value c)
         ((not (declares_here a) && is_statement m a) && is_inner_or m b) (same-value c)

@@ -29,11 +29,11 @@ use Rattle.cf_sequence.specs.Built.{is_chain, is_filling, is_constant_value, is_
 use Rattle.cf_sequence.specs.Made.{width}
 use Rattle.cf_sequence.specs.Expressions.{destination, settled}
 use Rattle.cf_sequence.specs.Statements.{type_of_static, started, initialised}
-use Rattle.cf_sequence.proofs.Following.{on, pull, push}
+use Rattle.cf_sequence.proofs.Following.{on, Gave, gave-then, gave-as, pull, push}
 use Rattle.cf_sequence.proofs.Steps.{pure-used}
 use Rattle.cf_sequence.proofs.SameTypes.{same-itself}
 use Rattle.cf_sequence.proofs.StaticObjects.{object_at, same-named, place_of_number, same-place, static-type-is, is_plain_object, first-plain}
-use Rattle.cf_sequence.proofs.Calling.{Bodies}
+use Rattle.cf_sequence.proofs.Calling.{Bodies, or-else}
 use Rattle.cf_sequence.proofs.Kept.{Ready, ready-kept, keep-same}
 use Rattle.cf_sequence.proofs.PlainSteps.{runs_on, set-steps, act-steps}
 use Rattle.cf_sequence.proofs.Operands.{H}
@@ -42,8 +42,7 @@ use Rattle.cf_sequence.proofs.Parts.{first-steps, value-gives}
 use Rattle.cf_sequence.proofs.Fulls.{full-steps}
 use Rattle.cf_sequence.proofs.Moving.{no-destructor}
 use Rattle.cf_sequence.proofs.Standing.{settled_full}
-use Rattle.cf_sequence.proofs.Labels.{or-else}
-use Rattle.cf_sequence.proofs.Constants.{constant-value, constant-width, Gave, gave-then, gave-as, same-state, Stays, steady-value, steady-full}
+use Rattle.cf_sequence.proofs.Constants.{constant-value, constant-width, same-state, Stays, steady-value, steady-full}
 
 -- ---- types of objects
 

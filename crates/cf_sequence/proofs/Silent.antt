@@ -1,5 +1,5 @@
 -- Plain statements without a label of their own: a switch passes over them to the labels behind.
-use Rattle.std.proofs.Common.{◌≡◌, ℕ, suc, ◌+◌, length, if◌then◌else◌, Bool, true, false, not, ◌&&◌, List, [], ◌∷◌, reverse, refl, ◌∙◌}
+use Rattle.std.proofs.Common.{◌≡◌, ℕ, suc, ◌+◌, length, if◌then◌else◌, Bool, true, false, not, ◌&&◌, List, [], ◌∷◌, reverse, refl, sym, ap, ◌∙◌}
 use Rattle.std.specs.Prelude.{ℤ, pos, Option, None}
 use Rattle.cf_base.proofs.Tests.{both}
 use Rattle.cf_core.specs.Types.{SourceType, parameters, result, is_class}
@@ -10,11 +10,39 @@ use Rattle.cf_core.specs.Calls.{Program}
 use Rattle.cf_plain.specs.Plain.{Register, Action, Plain, Plains, act, set, branch, loop, leave, continue, give, nothing, more}
 use Rattle.cf_plain.specs.Plain as plain
 use Rattle.cf_plain.specs.Acts.{Registers}
-use Rattle.cf_plain.specs.Running.{Again, has_case, from_case, from_default}
+use Rattle.cf_base.specs.World.{World, Ran, Went, Stops, and_then}
+use Rattle.cf_core.specs.Run.{State, Did, Gives, Exits, Malformed}
+use Rattle.cf_plain.specs.Running.{Again, Flow, Falls, Breaks, Continues, Returns, falling, does, all, has_case, from_case, from_default}
+use Rattle.cf_sequence.proofs.Following.{on}
 use Rattle.cf_sequence.specs.Built.{is_value, are_values, are_arguments, is_chain}
 use Rattle.cf_sequence.specs.Made.{Local, Temporary, temporaries, width, numbers}
 use Rattle.cf_sequence.specs.Expressions.{Full, flag, Destination, destination, value, values, arguments, settled, builds, finished, flags, ended, whole, result_register, used as use_of}
 use Rattle.cf_sequence.proofs.Calling.{never}
+
+-- statements before others
+abbrev pub append : Plains → Plains → Plains
+append nothing rest = rest
+append (more s ss) rest = more s (append ss rest)
+
+append-append : (a b rest : Plains) → append a (append b rest) ≡ append (append a b) rest
+append-append nothing b rest = refl
+append-append (more s ss) b rest = ap (more s) (append-append ss b rest)
+
+-- they run first
+pub all-append : (again : Again) (H : Program) (a b : Plains) (g : Registers) (s : State) (w : World)
+    → all again H (append a b) g s w ≡ and_then (all again H a g s w) (on (falling (λ h. all again H b h)))
+all-append again H nothing b g s w = refl
+all-append again H (more st ss) b g s w = by (does again H st g s w) (λ h t w. all-append again H ss b h t w)
+  where
+    by : (x : Ran (Did Flow)) → ((h : Registers) (t : State) (w : World) → all again H (append ss b) h t w ≡ and_then (all again H ss h t w) (on (falling (λ h. all again H b h))))
+        → and_then x (on (falling (λ h. all again H (append ss b) h))) ≡ and_then (and_then x (on (falling (λ h. all again H ss h)))) (on (falling (λ h. all again H b h)))
+    by (Went (Gives (Falls h) t) w) later = later h t w
+    by (Went (Gives (Breaks h) t) w) later = refl
+    by (Went (Gives (Continues h) t) w) later = refl
+    by (Went (Gives (Returns v) t) w) later = refl
+    by (Went (Exits z t) w) later = refl
+    by (Went Malformed w) later = refl
+    by (Stops end trace) later = refl
 
 module _ (again : Again) (H : Program) where
   -- code before others that has no label
@@ -22,39 +50,51 @@ module _ (again : Again) (H : Program) where
     pub labels : (z : ℤ) (rest : Plains) → has_case z (code rest) ≡ has_case z rest
     pub at_case : (z : ℤ) (rest : Plains) (g : Registers) → from_case again H z (code rest) g ≡ from_case again H z rest g
     pub at_default : (rest : Plains) (g : Registers) → from_default again H (code rest) g ≡ from_default again H rest g
+    pub ahead : (rest : Plains) → code rest ≡ append (code nothing) rest
 
   pub silent-none : Silent (λ rest. rest)
-  silent-none = record { labels = λ z rest. refl; at_case = λ z rest g. refl; at_default = λ rest g. refl }
+  silent-none = record { labels = λ z rest. refl; at_case = λ z rest g. refl; at_default = λ rest g. refl; ahead = λ rest. refl }
 
   pub silent-set : (n : Register) (a : Action) → Silent (λ rest. more (set n a) rest)
-  silent-set n a = record { labels = λ z rest. refl; at_case = λ z rest g. refl; at_default = λ rest g. refl }
+  silent-set n a = record { labels = λ z rest. refl; at_case = λ z rest g. refl; at_default = λ rest g. refl; ahead = λ rest. refl }
 
   pub silent-act : (a : Action) → Silent (λ rest. more (act a) rest)
-  silent-act a = record { labels = λ z rest. refl; at_case = λ z rest g. refl; at_default = λ rest g. refl }
+  silent-act a = record { labels = λ z rest. refl; at_case = λ z rest g. refl; at_default = λ rest g. refl; ahead = λ rest. refl }
 
   pub silent-branch : (n : Register) (ss ts : Plains) → Silent (λ rest. more (branch n ss ts) rest)
-  silent-branch n ss ts = record { labels = λ z rest. refl; at_case = λ z rest g. refl; at_default = λ rest g. refl }
+  silent-branch n ss ts = record { labels = λ z rest. refl; at_case = λ z rest g. refl; at_default = λ rest g. refl; ahead = λ rest. refl }
 
   pub silent-loop : (ss ts : Plains) → Silent (λ rest. more (loop ss ts) rest)
-  silent-loop ss ts = record { labels = λ z rest. refl; at_case = λ z rest g. refl; at_default = λ rest g. refl }
+  silent-loop ss ts = record { labels = λ z rest. refl; at_case = λ z rest g. refl; at_default = λ rest g. refl; ahead = λ rest. refl }
 
   pub silent-switch : (n : Register) (ss : Plains) → Silent (λ rest. more (plain.switch n ss) rest)
-  silent-switch n ss = record { labels = λ z rest. refl; at_case = λ z rest g. refl; at_default = λ rest g. refl }
+  silent-switch n ss = record { labels = λ z rest. refl; at_case = λ z rest g. refl; at_default = λ rest g. refl; ahead = λ rest. refl }
 
   pub silent-leave : Silent (λ rest. more leave rest)
-  silent-leave = record { labels = λ z rest. refl; at_case = λ z rest g. refl; at_default = λ rest g. refl }
+  silent-leave = record { labels = λ z rest. refl; at_case = λ z rest g. refl; at_default = λ rest g. refl; ahead = λ rest. refl }
 
   pub silent-continue : Silent (λ rest. more continue rest)
-  silent-continue = record { labels = λ z rest. refl; at_case = λ z rest g. refl; at_default = λ rest g. refl }
+  silent-continue = record { labels = λ z rest. refl; at_case = λ z rest g. refl; at_default = λ rest g. refl; ahead = λ rest. refl }
 
   pub silent-give : (r : Option Register) → Silent (λ rest. more (give r) rest)
-  silent-give r = record { labels = λ z rest. refl; at_case = λ z rest g. refl; at_default = λ rest g. refl }
+  silent-give r = record { labels = λ z rest. refl; at_case = λ z rest g. refl; at_default = λ rest g. refl; ahead = λ rest. refl }
 
   pub silent-then : (F G : Plains → Plains) → Silent F → Silent G → Silent (λ rest. F (G rest))
   silent-then F G p q = record {
     labels = λ z rest. p.labels z (G rest) ∙ q.labels z rest;
     at_case = λ z rest g. p.at_case z (G rest) g ∙ q.at_case z rest g;
     at_default = λ rest g. p.at_default (G rest) g ∙ q.at_default rest g;
+    ahead = λ rest.
+        p.ahead (G rest) ∙ ap (append (F nothing)) (q.ahead rest) ∙ append-append (F nothing) (G nothing) rest ∙ ap (λ ss. append ss rest) (sym (p.ahead (G nothing)));
+  }
+
+  -- code that is the same
+  pub silent-by : (F G : Plains → Plains) → ((rest : Plains) → F rest ≡ G rest) → Silent G → Silent F
+  silent-by F G same p = record {
+    labels = λ z rest. ap (has_case z) (same rest) ∙ p.labels z rest;
+    at_case = λ z rest g. ap (λ ss. from_case again H z ss g) (same rest) ∙ p.at_case z rest g;
+    at_default = λ rest g. ap (λ ss. from_default again H ss g) (same rest) ∙ p.at_default rest g;
+    ahead = λ rest. same rest ∙ p.ahead rest ∙ ap (λ ss. append ss rest) (sym (same nothing));
   }
 
   pub silent-finished : (xs : List Local) → Silent (finished xs)
@@ -136,17 +176,17 @@ module _ (again : Again) (H : Program) where
           let parts = both (is_value a) (is_value b) ok in
           silent-then (value P.classes x a None n k)
           (λ rest. more (set n (plain.truth n)) (more (branch n (value P.classes x b None n (k + width a) (more (set n (plain.truth n)) nothing)) nothing) rest))
-          (silent-value a parts.0 x None n k) (record { labels = λ z rest. refl; at_case = λ z rest g. refl; at_default = λ rest g. refl })
+          (silent-value a parts.0 x None n k) (record { labels = λ z rest. refl; at_case = λ z rest g. refl; at_default = λ rest g. refl; ahead = λ rest. refl })
       silent-value (core.logical_or a b) ok x into n k =
           let parts = both (is_value a) (is_value b) ok in
           silent-then (value P.classes x a None n k)
           (λ rest. more (set n (plain.truth n)) (more (branch n nothing (value P.classes x b None n (k + width a) (more (set n (plain.truth n)) nothing))) rest))
-          (silent-value a parts.0 x None n k) (record { labels = λ z rest. refl; at_case = λ z rest g. refl; at_default = λ rest g. refl })
+          (silent-value a parts.0 x None n k) (record { labels = λ z rest. refl; at_case = λ z rest g. refl; at_default = λ rest g. refl; ahead = λ rest. refl })
       silent-value (core.conditional q a b) ok x into n k =
           let parts = both (is_value q) (is_value a && is_value b) ok in
           silent-then (value P.classes x q None n k)
           (λ rest. more (set n (plain.truth n)) (more (branch n (value P.classes x a None n (k + width q) nothing) (value P.classes x b None n (k + width q + width a) nothing)) rest))
-          (silent-value q parts.0 x None n k) (record { labels = λ z rest. refl; at_case = λ z rest g. refl; at_default = λ rest g. refl })
+          (silent-value q parts.0 x None n k) (record { labels = λ z rest. refl; at_case = λ z rest g. refl; at_default = λ rest g. refl; ahead = λ rest. refl })
       silent-value (core.temporary t e) ok x into n k =
           let is : is_value e ≡ true = (both (not (is_reference t)) (is_value e) ok).1 in
           let code : Plains → Plains = value P.classes x e (destination (suc n) t) (suc (suc n)) (suc k) in
@@ -166,15 +206,15 @@ module _ (again : Again) (H : Program) where
           let parts = both (is_value a) (is_value b) ok in
           silent-operands (value P.classes x a None n k) (value P.classes x b None (suc n) (k + width a))
           (λ rest. use_of (suc n) (more (set (suc (suc n)) (plain.read n)) (more (set (suc n) (plain.changed c (suc (suc n)) (suc n))) (more (act (plain.store n (suc n))) rest)))) n
-          (silent-value a parts.0 x None n k) (silent-value b parts.1 x None (suc n) (k + width a)) (record { labels = λ z rest. refl; at_case = λ z rest g. refl; at_default = λ rest g. refl })
+          (silent-value a parts.0 x None n k) (silent-value b parts.1 x None (suc n) (k + width a)) (record { labels = λ z rest. refl; at_case = λ z rest g. refl; at_default = λ rest g. refl; ahead = λ rest. refl })
       silent-value (core.step false c e) ok x into n k =
           silent-then (value P.classes x e None n k)
           (λ rest. more (set (suc n) (plain.read n)) (more (set (suc (suc n)) (plain.number (pos 1))) (more (set (suc n) (plain.changed c (suc n) (suc (suc n)))) (more (act (plain.store n (suc n))) rest))))
-          (silent-value e ok x None n k) (record { labels = λ z rest. refl; at_case = λ z rest g. refl; at_default = λ rest g. refl })
+          (silent-value e ok x None n k) (record { labels = λ z rest. refl; at_case = λ z rest g. refl; at_default = λ rest g. refl; ahead = λ rest. refl })
       silent-value (core.step true c e) ok x into n k =
           silent-then (value P.classes x e None (suc n) k)
           (λ rest. more (set n (plain.read (suc n))) (more (set (suc (suc n)) (plain.number (pos 1))) (more (set (suc (suc n)) (plain.changed c n (suc (suc n)))) (more (act (plain.store (suc n) (suc (suc n)))) rest))))
-          (silent-value e ok x None (suc n) k) (record { labels = λ z rest. refl; at_case = λ z rest g. refl; at_default = λ rest g. refl })
+          (silent-value e ok x None (suc n) k) (record { labels = λ z rest. refl; at_case = λ z rest g. refl; at_default = λ rest g. refl; ahead = λ rest. refl })
       silent-value (core.call name t absent args) ok x into n k =
           let given_args = (both (is_chain t) (are_arguments args) (both (not (is_class (result t))) (is_chain t && are_arguments args) ok).1).1 in
           let last : Plains → Plains = λ rest. more (set n (plain.call name t None (numbers k (parameters t)) (result_register t into))) rest in

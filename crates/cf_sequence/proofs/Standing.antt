@@ -1,5 +1,5 @@
 -- How the plain statements stand to the core between statements, and what further turns of a loop are.
-use Rattle.std.proofs.Common.{◌≡◌, ℕ, suc, ◌+◌, ◌≤◌, true, false, not, ◌&&◌, ◌||◌, nat_le, nat_lt, List, [], ◌++◌, refl, ◌∙◌, ap, arith}
+use Rattle.std.proofs.Common.{◌≡◌, ℕ, suc, ◌+◌, ◌≤◌, Bool, true, false, not, ◌&&◌, ◌||◌, nat_le, nat_lt, List, [], ◌++◌, refl, ◌∙◌, ap, arith}
 use Rattle.std.specs.Prelude.{Option, Some, None}
 use Rattle.std.proofs.lemmas.Bool.Decides.{nat_tests}
 use Rattle.cf_base.proofs.Tests.{both}
@@ -22,12 +22,13 @@ use Rattle.cf_plain.specs.Acts.{Registers}
 use Rattle.cf_plain.specs.Running as running
 use Rattle.cf_plain.specs.Running.{Flow, Falls, Breaks, Continues, Returns, keep, falling, turning, all}
 use Rattle.cf_sequence.specs.Follows.{Follows}
-use Rattle.cf_sequence.specs.Built.{is_value, is_initial, is_held, behind_declared, next_local, next_locals, declares_here, is_statement, are_statements}
-use Rattle.cf_sequence.specs.Made.{Local, width, width_maybe, declared}
+use Rattle.cf_sequence.specs.Built.{is_value, is_element, is_held, behind_declared, next_local, next_locals, declares_here, any_declares, is_statement, are_statements}
+use Rattle.cf_sequence.specs.Made.{Local, width, width_maybe, declared, declared_all}
 use Rattle.cf_sequence.specs.Expressions.{finished}
 use Rattle.cf_sequence.specs.Statements.{Inside, in_loop, statement, held, stepped}
 use Rattle.cf_sequence.proofs.Calling.{never}
 use Rattle.cf_sequence.proofs.Kept.{Ready, ready-more}
+use Rattle.cf_sequence.proofs.LastingCode.{Rests}
 use Rattle.cf_sequence.proofs.Moving.{all_gone, Held, held-kept, Moved, moved-ready, Beyond}
 
 -- the locals of the open scopes
@@ -105,21 +106,21 @@ pub low-bound : (m i : ℕ) → nat_le m i ≡ true → m ≤ i
 low-bound m i le = grind (arith, nat_tests)
 
 -- the locals of a declaration are numbered on
-pub behind-more : (i : ℕ) (e : Core) → (is_initial e || is_held i e) ≡ true → suc i ≤ behind_declared i e
-behind-more i (core.bind (local_temporary j t) e) ok = let lt : nat_lt i j ≡ true = (both (nat_lt i j) (not (is_reference t) && is_value e) ok).0 in grind (arith, nat_tests)
-behind-more i e ok = omega arith
+pub behind-more : (t : SourceType) (i : ℕ) (e : Core) → (is_element t e || is_held i e) ≡ true → suc i ≤ behind_declared i e
+behind-more t i (core.bind (local_temporary j u) e) ok = let lt : nat_lt i j ≡ true = (both (nat_lt i j) (not (is_reference u) && is_value e) ok).0 in grind (arith, nat_tests)
+behind-more t i e ok = omega arith
 
-pub behind-initial : (i : ℕ) (e : Core) → is_initial e ≡ true → behind_declared i e ≡ suc i
-behind-initial i (core.bind (local_temporary j t) e) ok = never ok
-behind-initial i e ok = refl
+pub behind-element : (t : SourceType) (i : ℕ) (e : Core) → is_element t e ≡ true → behind_declared i e ≡ suc i
+behind-element t i (core.bind (local_temporary j u) e) ok = never ok
+behind-element t i e ok = refl
 
 -- a statement's locals are numbered on
 mutual
   pub next-more : (m : ℕ) (s : Core) → is_statement m s ≡ true → m ≤ next_local m s
   next-more m (core.declare i t e) ok =
-      let parts = both (nat_le m i) (is_initial e || is_held i e) ok in
+      let parts = both (nat_le m i) (is_element t e || is_held i e) ok in
       let low : m ≤ i = low-bound m i parts.0 in
-      let more-locals : suc i ≤ behind_declared i e = behind-more i e parts.1 in omega arith
+      let more-locals : suc i ≤ behind_declared i e = behind-more t i e parts.1 in omega arith
   next-more m (core.sequence es) ok = next-more-all m es ok
   next-more m s ok = omega arith
 
@@ -129,15 +130,32 @@ mutual
       let parts = both (is_statement m s) (are_statements (next_local m s) rest) ok in
       let first = next-more m s parts.0 in let second = next-more-all (next_local m s) rest parts.1 in omega arith
 
-pub inner-next : (m : ℕ) (s : Core) → not (declares_here s) ≡ true → next_local m s ≡ m
-inner-next m (core.declare i t e) ok = never ok
-inner-next m (core.sequence es) ok = never ok
-inner-next m s ok = refl
+-- of two that do not declare neither does
+neither-declares : (a b : Bool) → not (a || b) ≡ true → (not a ≡ true) × (not b ≡ true)
+neither-declares true b ok = never ok
+neither-declares false b ok = (refl, ok)
 
-pub inner-declared : (s : Core) → not (declares_here s) ≡ true → declared s ≡ []
-inner-declared (core.declare i t e) ok = never ok
-inner-declared (core.sequence es) ok = never ok
-inner-declared s ok = refl
+mutual
+  pub inner-next : (m : ℕ) (s : Core) → not (declares_here s) ≡ true → next_local m s ≡ m
+  inner-next m (core.declare i t e) ok = never ok
+  inner-next m (core.sequence es) ok = inner-nexts m es ok
+  inner-next m s ok = refl
+
+  inner-nexts : (m : ℕ) (es : Cores) → not (any_declares es) ≡ true → next_locals m es ≡ m
+  inner-nexts m none ok = refl
+  inner-nexts m (core.more s rest) ok =
+      let parts = neither-declares (declares_here s) (any_declares rest) ok in ap (λ k. next_locals k rest) (inner-next m s parts.0) ∙ inner-nexts m rest parts.1
+
+mutual
+  pub inner-declared : (s : Core) → not (declares_here s) ≡ true → declared s ≡ []
+  inner-declared (core.declare i t e) ok = never ok
+  inner-declared (core.sequence es) ok = inner-declared-all es ok
+  inner-declared s ok = refl
+
+  inner-declared-all : (es : Cores) → not (any_declares es) ≡ true → declared_all es ≡ []
+  inner-declared-all none ok = refl
+  inner-declared-all (core.more s rest) ok =
+      let parts = neither-declares (declares_here s) (any_declares rest) ok in ap (λ l. l ++ declared s) (inner-declared-all rest parts.1) ∙ inner-declared s parts.0
 
 -- how further turns of a loop end
 abbrev pub EndsAs : List ℕ → Beyond → Frame → calling.Flow → State → Flow → State → Type 0
@@ -155,10 +173,11 @@ pub record Turned (D : Beyond) (m : ℕ) (s : State) (f : Frame) (x : calling.Fl
   pub moved : Moved m s f t plain
   pub ends : EndsAs s.frame.scope D plain x t y u
 
-abbrev pub Turns : calling.Again → running.Again → Program → Type 0
-Turns again again' P =
-    (R C : SourceType) → is_class R ≡ false → (how : LoopForm) (q e : MaybeCore) (body : Core) (m : ℕ) → is_statement m (core.loop how q e body) ≡ true
-    → (o : Open) (D : Beyond) (k : ℕ) (g : Registers) (s : State) (f : Frame) (w : World)
-    → Stands o D m k s f → k + width (core.loop how q e body) ≤ f.count
-    → Follows (Turned D m s f) (again (turn (core.loop how q e body)) s w)
-    (again' (running.turn (turn_code (inside_of P R C o) how q e body k) (step_code (inside_of P R C o) how q e body k) g) (with_frame f s) w)
+-- They follow each other, and functions and further turns leave what lasts of the objects of before.
+pub record Turns (again : calling.Again) (again' : running.Again) (P : Program) : Type 0 where
+  pub follow : (R C : SourceType) → is_class R ≡ false → (how : LoopForm) (q e : MaybeCore) (body : Core) (m : ℕ) → is_statement m (core.loop how q e body) ≡ true
+      → (o : Open) (D : Beyond) (k : ℕ) (g : Registers) (s : State) (f : Frame) (w : World)
+      → Stands o D m k s f → k + width (core.loop how q e body) ≤ f.count
+      → Follows (Turned D m s f) (again (turn (core.loop how q e body)) s w)
+      (again' (running.turn (turn_code (inside_of P R C o) how q e body k) (step_code (inside_of P R C o) how q e body k) g) (with_frame f s) w)
+  pub rests : Rests again P

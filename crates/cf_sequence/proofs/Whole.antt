@@ -26,7 +26,7 @@ use Rattle.cf_plain.specs.Running as running
 use Rattle.cf_plain.specs.Running.{Flow, Falls, Breaks, Continues, Returns, calls, core_flow, header, plain_named, all, falling, turning}
 use Rattle.cf_sequence.specs.Follows.{Follows}
 use Rattle.cf_sequence.specs.Built.{is_statement, is_chain, is_body, is_built_function, is_plain_role, is_plainly_built, is_built_setting, is_none, next_local}
-use Rattle.cf_sequence.specs.Made.{Local, added, declared, numbered}
+use Rattle.cf_sequence.specs.Made.{Local, added, width, declared, numbered}
 use Rattle.cf_sequence.specs.Expressions.{finished}
 use Rattle.cf_sequence.specs.Statements.{statement}
 use Rattle.cf_sequence.specs.Sequenced.{sequenced, sequenced_function, sequenced_body, class_type}
@@ -38,6 +38,7 @@ use Rattle.cf_sequence.proofs.Moving.{all_gone, gone-frame, gone-append, ends-al
 use Rattle.cf_sequence.proofs.Standing.{Open, Stands, Turned, Turns, inside_of, turn_code, step_code}
 use Rattle.cf_sequence.proofs.Scopes.{Ways, scope-steps, closing_scope}
 use Rattle.cf_sequence.proofs.Doing.{follow-statement}
+use Rattle.cf_sequence.proofs.LastingCode.{Rests, rests-at}
 use Rattle.cf_sequence.proofs.Settings.{setting_of, first-all, settings-steps}
 
 -- ---- the objects of parameters
@@ -335,14 +336,22 @@ module _ (xs : List Static) (ks : List Setting) (fs : List Function) (set : list
     };
   }
 
-  next-turns : (n : ℕ) → Both n → Turns (runs (of_parts xs ks fs) (suc n)) (running.runs Q code_of (suc n)) (of_parts xs ks fs)
-  next-turns n b R C scalar form.While q e body m is-ok o D k g s f w st room = turn-by n form.While q e body o D m k g s f w R C
+  -- what lasts of the objects of before
+  rests : (n : ℕ) → Rests (runs (of_parts xs ks fs) n) (of_parts xs ks fs)
+  rests n = rests-at (of_parts xs ks fs) refl (λ name f found. let parts = built-parts f (found-built name fs f found ok) in (parts.role, parts.statement)) n
+
+  next-follows : (n : ℕ) → Both n → (R C : SourceType) → is_class R ≡ false → (how : LoopForm) (q e : MaybeCore) (body : Core) (m : ℕ) → is_statement m (core.loop how q e body) ≡ true
+      → (o : Open) (D : Beyond) (k : ℕ) (g : Registers) (s : State) (f : Frame) (w : World)
+      → Stands o D m k s f → k + width (core.loop how q e body) ≤ f.count
+      → Follows (Turned D m s f) (runs (of_parts xs ks fs) (suc n) (calling.turn (core.loop how q e body)) s w)
+      (running.runs Q code_of (suc n) (running.turn (turn_code (inside_of (of_parts xs ks fs) R C o) how q e body k) (step_code (inside_of (of_parts xs ks fs) R C o) how q e body k) g) (with_frame f s) w)
+  next-follows n b R C scalar form.While q e body m is-ok o D k g s f w st room = turn-by n form.While q e body o D m k g s f w R C
       (follow-statement (runs (of_parts xs ks fs) n) (running.runs Q code_of n) (of_parts xs ks fs) b.bodies chains-of refl b.turns R C scalar calling.Flow Flow (Turned D m s f)
       (core.loop form.While q e body) m is-ok o D k nothing g s f w gives gives st room (turn-ways n b R C scalar o D m k s f) (λ t g h w v held low. turn-falls o D m k s f st t g h w v held))
-  next-turns n b R C scalar form.For q e body m is-ok o D k g s f w st room = turn-by n form.For q e body o D m k g s f w R C
+  next-follows n b R C scalar form.For q e body m is-ok o D k g s f w st room = turn-by n form.For q e body o D m k g s f w R C
       (follow-statement (runs (of_parts xs ks fs) n) (running.runs Q code_of n) (of_parts xs ks fs) b.bodies chains-of refl b.turns R C scalar calling.Flow Flow (Turned D m s f)
       (core.loop form.For q e body) m is-ok o D k nothing g s f w gives gives st room (turn-ways n b R C scalar o D m k s f) (λ t g h w v held low. turn-falls o D m k s f st t g h w v held))
-  next-turns n b R C scalar form.Do q e body m is-ok o D k g s f w st room = turn-by n form.Do q e body o D m k g s f w R C
+  next-follows n b R C scalar form.Do q e body m is-ok o D k g s f w st room = turn-by n form.Do q e body o D m k g s f w R C
       (follow-statement (runs (of_parts xs ks fs) n) (running.runs Q code_of n) (of_parts xs ks fs) b.bodies chains-of refl b.turns R C scalar calling.Flow Flow (Turned D m s f)
       (core.loop form.Do q e body) m is-ok o D k nothing g s f w gives gives st room (turn-ways n b R C scalar o D m k s f) (λ t g h w v held low. turn-falls o D m k s f st t g h w v held))
 
@@ -358,8 +367,8 @@ module _ (xs : List Static) (ks : List Setting) (fs : List Function) (set : list
       (entered-follows again again' xs ks fs b.bodies chains-of b.turns f (found-built name fs f found ok) args many depth s w)
 
   both-at : (n : ℕ) → Both n
-  both-at zero = record { bodies = λ name f found args many depth s w. record { by = refl }; turns = λ R C scalar how q e body m is-ok o D k g s f w st room. record { by = refl } }
-  both-at (suc n) = record { bodies = next-bodies n (both-at n); turns = next-turns n (both-at n) }
+  both-at zero = record { bodies = λ name f found args many depth s w. record { by = refl }; turns = record { follow = λ R C scalar how q e body m is-ok o D k g s f w st room. record { by = refl }; rests = rests zero } }
+  both-at (suc n) = record { bodies = next-bodies n (both-at n); turns = record { follow = next-follows n (both-at n); rests = rests (suc n) } }
 
   -- ---- the whole run
 

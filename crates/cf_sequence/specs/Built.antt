@@ -1,8 +1,8 @@
 -- The cores that are built so far: functions over numbers and pointers, with locals, references, temporaries, literals,
--- calls and all statements, and static objects with constant initialisers; no class and no list.
+-- calls and all statements, lists that are the initialisers of local arrays, and static objects with constant initialisers; no class.
 use Rattle.std.specs.Prelude.{ℕ, suc, Bool, true, false, ◌&&◌, ◌||◌, not, nat_le, nat_lt, nat_eq, List, [], ◌∷◌, length, bytes_eq, codes}
 use Rattle.std.specs.List.{list_all, starts_with}
-use Rattle.cf_core.specs.Types.{Name, SourceType, takes, gives, result, is_class, parameters}
+use Rattle.cf_core.specs.Types.{Name, SourceType, array, const, takes, gives, result, is_class, parameters, plain, element}
 use Rattle.cf_core.specs.Core as core
 use Rattle.cf_core.specs.Core.{Core, Cores, MaybeCore, no_temporary, local_temporary, none, absent, given, Role, plain_function, Function, Static, CoreFile}
 use Rattle.cf_core.specs.Calls.{Program, Setting}
@@ -76,6 +76,25 @@ is_filling e = false
 abbrev pub is_initial : Core → Bool
 is_initial e = is_filling e || is_start e
 
+-- an array, which may be const
+abbrev pub is_row : SourceType → Bool
+is_row (array t n) = true
+is_row (const (array t n)) = true
+is_row t = false
+
+-- The list that is the initialiser of an array: each element has a list of its own, or is begun as a local is; those that are left out are filled (8.4.1).
+abbrev mutual
+  pub is_list : SourceType → Core → Bool
+  is_list t (core.list es rest) = is_row t && (are_elements (element (plain t)) es && is_filling rest)
+  is_list t e = false
+
+  pub are_elements : SourceType → Cores → Bool
+  are_elements t none = true
+  are_elements t (core.more e es) = (is_initial e || is_list t e) && are_elements t es
+
+abbrev pub is_element : SourceType → Core → Bool
+is_element t e = is_initial e || is_list t e
+
 -- the temporary of a reference that is the local i: a local behind it holds it, and a value makes it (8.4.3, 12.2)
 abbrev pub is_held : ℕ → Core → Bool
 is_held i (core.bind (local_temporary j t) e) = nat_lt i j && (not (is_reference t) && is_value e)
@@ -98,10 +117,15 @@ abbrev mutual
   next_locals m (core.more s rest) = next_locals (next_local m s) rest
 
 -- whether a statement declares locals in the scope at hand
-abbrev pub declares_here : Core → Bool
-declares_here (core.declare i t e) = true
-declares_here (core.sequence es) = true
-declares_here s = false
+abbrev mutual
+  pub declares_here : Core → Bool
+  declares_here (core.declare i t e) = true
+  declares_here (core.sequence es) = any_declares es
+  declares_here s = false
+
+  pub any_declares : Cores → Bool
+  any_declares none = false
+  any_declares (core.more s rest) = declares_here s || any_declares rest
 
 -- A statement where the locals below m are those of the open scopes: each that it declares comes behind them.
 abbrev mutual
@@ -109,7 +133,7 @@ abbrev mutual
   is_statement m (core.full e) = is_start e
   is_statement m (core.block es) = are_statements m es
   is_statement m (core.sequence es) = are_statements m es
-  is_statement m (core.declare i t e) = nat_le m i && (is_initial e || is_held i e)
+  is_statement m (core.declare i t e) = nat_le m i && (is_element t e || is_held i e)
   is_statement m (core.branch c a b) = is_value c && ((not (declares_here a) && is_statement m a) && is_inner_or m b)
   is_statement m (core.loop _ c e s) = is_condition c && (is_condition e && is_statement m s)
   is_statement m (core.switch e es) = is_value e && are_cases m es

@@ -12,7 +12,7 @@ use Rattle.cf_core.specs.declared.unit.CoreFn.{CoreFn}
 use Rattle.cf_core.specs.declared.unit.CoreStatic.{CoreStatic}
 use Rattle.cf_core.specs.declared.unit.Role.{Role}
 use Rattle.cf_core.specs.declared.unit.Role.TheVariants as role
-use Rattle.cf_core.specs.Types.{SourceType, takes, gives, result, is_class}
+use Rattle.cf_core.specs.Types.{SourceType, array, takes, gives, result, is_class, plain, element}
 use Rattle.cf_core.specs.Places.{is_reference}
 use Rattle.cf_core.specs.FromTypes.{Tables, type_of}
 use Rattle.cf_core.specs.FromUnit.{Unit as CoreUnit, tables_of}
@@ -31,6 +31,7 @@ pub record Test : Type 0 where
   pub is_blank : Bool
   pub is_filling : Bool  -- whether it fills its object by itself, as an initialiser
   pub temporary : Option Temporary  -- as an initialiser
+  pub list : Option (SourceType → Option ℕ)  -- as a list that initialises an object of this type, if it is one
   pub declares : Bool  -- whether it declares locals in the scope at hand
   pub is_label : Bool
 
@@ -47,8 +48,41 @@ abbrev pub by_temporary : Option Temporary → ℕ → ℕ → Option ℕ → Op
 by_temporary None at i other = other
 by_temporary (Some x) at i other = if nat_lt i x.number then x.value else Some at
 
-abbrev pub local : ℕ → ℕ → Test → Option ℕ
-local at i e = by_temporary e.temporary at i (initial e)
+-- Lists (8.4.1).
+
+abbrev pub is_array_itself : SourceType → Bool
+is_array_itself (array t n) = true
+is_array_itself t = false
+
+-- an array, which may be const
+abbrev pub is_row : SourceType → Bool
+is_row t = is_array_itself (plain t)
+
+abbrev pub by_list : Option (SourceType → Option ℕ) → SourceType → Option ℕ → Option ℕ
+by_list None t other = other
+by_list (Some f) t other = f t
+
+-- the initialiser of an object of this type
+abbrev pub element_start : SourceType → Test → Option ℕ
+element_start t e = by_list e.list t (initial e)
+
+abbrev pub each_element : SourceType → List Test → Option ℕ
+each_element t [] = None
+each_element t (e ∷ es) = option_or (element_start t e) (each_element t es)
+
+-- what fills the elements that a list at this place leaves out
+abbrev pub filler : ℕ → Test → Option ℕ
+filler at e = if e.is_filling then None else Some at
+
+abbrev pub in_list : ℕ → List Test → Test → SourceType → Option ℕ
+in_list at es rest t = if is_row t then option_or (each_element (element (plain t)) es) (filler at rest) else Some at
+
+abbrev pub list_step : Core-F Test Test → Option (SourceType → Option ℕ)
+list_step (Core-F.List at es rest) = Some (in_list at es rest)
+list_step x = None
+
+abbrev pub local : ℕ → ℕ → SourceType → Test → Option ℕ
+local at i t e = by_temporary e.temporary at i (element_start t e)
 
 -- the number behind those of that local and its temporary
 abbrev pub behind_both : Option Temporary → ℕ → ℕ
@@ -113,19 +147,6 @@ is_function_type t = false
 abbrev pub place_in : Core-F Test Test → ℕ
 place_in x = place_step (map-Core _ _ _ _ (λ (t : Test). 0) (λ (t : Test). tt) x)
 
-abbrev pub statement_step : Core-F Test Test → ℕ → Option ℕ
-statement_step (Core-F.Full at e) m = start e
-statement_step (Core-F.Block at ss) m = each_statement m ss
-statement_step (Core-F.Sequence at ss) m = each_statement m ss
-statement_step (Core-F.Declare at i t e) m = if nat_le m i then local at i e else Some at
-statement_step (Core-F.If at c a b) m = option_or c.value (option_or (inner at m a) (inner_or at m b))
-statement_step (Core-F.Loop at how c e s) m = option_or (given c) (option_or (given e) (s.statement m))
-statement_step (Core-F.Switch at e ss) m = option_or e.value (each_case m ss)
-statement_step (Core-F.Break at) m = None
-statement_step (Core-F.Continue at) m = None
-statement_step (Core-F.Return at e) m = given e
-statement_step x m = Some (place_in x)
-
 abbrev pub next_step : Core-F Test Test → ℕ → ℕ
 next_step (Core-F.Declare at i t e) m = behind i e
 next_step (Core-F.Sequence at ss) m = next_of_all m ss
@@ -141,9 +162,13 @@ filling_step (Core-F.Zeros at) = true
 filling_step (Core-F.Characters at bytes) = true
 filling_step x = false
 
+abbrev pub any_declares : List Test → Bool
+any_declares [] = false
+any_declares (s ∷ ss) = s.declares || any_declares ss
+
 abbrev pub declares_step : Core-F Test Test → Bool
 declares_step (Core-F.Declare at i t e) = true
-declares_step (Core-F.Sequence at ss) = true
+declares_step (Core-F.Sequence at ss) = any_declares ss
 declares_step x = false
 
 abbrev pub label_step : Core-F Test Test → Bool
@@ -190,6 +215,19 @@ module _ (tables : Tables) where
   value_step (Core-F.Bind at h e) = bound at h e.value
   value_step x = Some (place_in x)
 
+  abbrev pub statement_step : Core-F Test Test → ℕ → Option ℕ
+  statement_step (Core-F.Full at e) m = start e
+  statement_step (Core-F.Block at ss) m = each_statement m ss
+  statement_step (Core-F.Sequence at ss) m = each_statement m ss
+  statement_step (Core-F.Declare at i t e) m = if nat_le m i then local at i (type_of tables t) e else Some at
+  statement_step (Core-F.If at c a b) m = option_or c.value (option_or (inner at m a) (inner_or at m b))
+  statement_step (Core-F.Loop at how c e s) m = option_or (given c) (option_or (given e) (s.statement m))
+  statement_step (Core-F.Switch at e ss) m = option_or e.value (each_case m ss)
+  statement_step (Core-F.Break at) m = None
+  statement_step (Core-F.Continue at) m = None
+  statement_step (Core-F.Return at e) m = given e
+  statement_step x m = Some (place_in x)
+
   abbrev pub held_as : ℕ → Holder → Option ℕ → Option Temporary
   held_as at (holder.LocalTemporary j t) e = Some (record { number = j; value = kept at t e })
   held_as at h e = None
@@ -206,6 +244,7 @@ module _ (tables : Tables) where
     is_blank = blank_step x;
     is_filling = filling_step x;
     temporary = temporary_step x;
+    list = list_step x;
     declares = declares_step x;
     is_label = label_step x;
   }

@@ -1,12 +1,12 @@
 ghost use Rattle.std.specs.Prelude.{◌≡◌, ◌<◌, length, map, true};
 ghost use Rattle.std.specs.Option.{option_map};
-ghost use Rattle.cf_core.specs.FromTypes.{Tables};
+ghost use Rattle.cf_core.specs.FromTypes.{Tables, type_of};
 ghost use Rattle.cf_core.specs.FromUnit.{tables_of};
 ghost use Rattle.cf_core.specs.Numbers.{are_known, all_of, maybe_of};
 ghost use Rattle.cf_sequence_built.specs.Unbuilt as spec;
 ghost use Rattle.cf_sequence_built.specs.Unbuilt.{test};
 
-use crate::types::is_reference;
+use crate::types::{element, is_reference, is_row};
 use crate::values::value;
 use cf_base::Boxed;
 use cf_core::{Core, CoreUnit, Holder};
@@ -31,10 +31,54 @@ fn initial(unit: &CoreUnit, e: &Core) -> Option<u32>
     if is_filling(e) { None } else { start(unit, e) }
 }
 
-/// Of that of the local of this number, which is declared at this place: a reference's temporary is a local behind it (8.4.3).
-fn local(unit: &CoreUnit, at: u32, number: u32, e: &Core) -> Option<u32>
-    requires { are_known (tables_of unit.now) e.now ≡ true }
-    ensures { result ≡ spec.local at number (test (tables_of unit.now) e.now) }
+/// Of that of an object of this type: a list, or another one (8.4.1).
+#[cycle(initials)]
+fn element_start(unit: &CoreUnit, ty: TyId, e: &Core) -> Option<u32>
+    requires known { are_known (tables_of unit.now) e.now ≡ true }
+    requires typed { ty < length unit.now.types.types }
+    ensures { result ≡ spec.element_start (type_of (tables_of unit.now) ty) (test (tables_of unit.now) e.now) }
+{
+    match e {
+        Core::List { at, starts, rest } => {
+            if is_row(unit, ty) {
+                let inner = element(unit, ty);
+                each_element(unit, inner, starts.as_slice()).or(filler(*at, rest.get()))
+            } else {
+                Some(*at)
+            }
+        }
+        _ => initial(unit, e),
+    }
+}
+
+/// Of those of the elements of a list, in order.
+#[cycle(initials)]
+fn each_element(unit: &CoreUnit, ty: TyId, all: &[Core]) -> Option<u32>
+    requires known { all_of (tables_of unit.now) (map (are_known (tables_of unit.now)) all.now) ≡ true }
+    requires typed { ty < length unit.now.types.types }
+    ensures { result ≡ spec.each_element (type_of (tables_of unit.now) ty) (map (test (tables_of unit.now)) all.now) }
+{
+    for e in all {
+        let found = element_start(unit, ty, e);
+        if found.is_some() {
+            return found;
+        }
+    }
+    None
+}
+
+/// Of what fills the elements that a list at this place leaves out.
+fn filler(at: u32, e: &Core) -> Option<u32>
+    ensures { (tables : Tables) → result ≡ spec.filler at (test tables e.now) }
+{
+    if is_filling(e) { None } else { Some(at) }
+}
+
+/// Of that of the local of this number and type, which is declared at this place: a reference's temporary is a local behind it (8.4.3).
+fn local(unit: &CoreUnit, at: u32, number: u32, ty: TyId, e: &Core) -> Option<u32>
+    requires known { are_known (tables_of unit.now) e.now ≡ true }
+    requires typed { ty < length unit.now.types.types }
+    ensures { result ≡ spec.local at number (type_of (tables_of unit.now) ty) (test (tables_of unit.now) e.now) }
 {
     match e {
         Core::Bind {
@@ -48,7 +92,7 @@ fn local(unit: &CoreUnit, at: u32, number: u32, e: &Core) -> Option<u32>
                 Some(at)
             }
         }
-        _ => initial(unit, e),
+        _ => element_start(unit, ty, e),
     }
 }
 
@@ -104,10 +148,28 @@ pub fn is_filling(e: &Core) -> bool
 }
 
 /// Whether a statement declares locals in the scope at hand.
-fn declares(s: &Core) -> bool
-    ensures { (tables : Tables) → result ≡ (test tables s.now).declares }
+#[cycle(declares)]
+fn declares(unit: &CoreUnit, s: &Core) -> bool
+    ensures { result ≡ (test (tables_of unit.now) s.now).declares }
 {
-    matches!(s, Core::Declare { .. } | Core::Sequence { .. })
+    match s {
+        Core::Declare { .. } => true,
+        Core::Sequence { statements, .. } => any_declares(unit, statements.as_slice()),
+        _ => false,
+    }
+}
+
+/// Whether one of these does.
+#[cycle(declares)]
+fn any_declares(unit: &CoreUnit, all: &[Core]) -> bool
+    ensures { result ≡ spec.any_declares (map (test (tables_of unit.now)) all.now) }
+{
+    for s in all {
+        if declares(unit, s) {
+            return true;
+        }
+    }
+    false
 }
 
 /// Whether it is a label of a switch.
@@ -164,11 +226,11 @@ pub fn statement(unit: &CoreUnit, below: u64, s: &Core) -> Option<u32>
         Core::Declare {
             at,
             local: number,
+            ty,
             start: e,
-            ..
         } => {
             if below <= *number as u64 {
-                local(unit, *at, *number, e.get())
+                local(unit, *at, *number, *ty, e.get())
             } else {
                 Some(*at)
             }
@@ -220,7 +282,7 @@ fn inner(unit: &CoreUnit, at: u32, below: u64, s: &Core) -> Option<u32>
     requires { are_known (tables_of unit.now) s.now ≡ true }
     ensures { result ≡ spec.inner at below (test (tables_of unit.now) s.now) }
 {
-    if declares(s) {
+    if declares(unit, s) {
         Some(at)
     } else {
         statement(unit, below, s)

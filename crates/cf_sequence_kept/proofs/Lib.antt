@@ -4,6 +4,7 @@ pub mod Fulls
 pub mod Operands
 pub mod Related
 pub mod Spans
+pub mod Lists
 pub mod Statements
 pub mod Steps
 pub mod Suits

@@ -1,5 +1,5 @@
 -- Statements: each register is set before it is used, and holds there what is taken.
-use Rattle.std.proofs.Common.{◌≡◌, inl, inr, ℕ, suc, ◌+◌, ◌<◌, Bool, true, false, ◌&&◌, ◌||◌, not, nat_le, nat_lt, if◌then◌else◌, List, [], ◌∷◌, ◌++◌, length, reverse, refl, ap, ◌∙◌, subst, arith}
+use Rattle.std.proofs.Common.{◌≡◌, inl, inr, ℕ, suc, ◌+◌, Bool, true, false, ◌&&◌, ◌||◌, not, nat_le, nat_lt, if◌then◌else◌, List, [], ◌∷◌, ◌++◌, length, reverse, refl, ap, ◌∙◌, subst, arith}
 use Rattle.std.specs.Prelude.{Option, Some, None, is_some, slice_get}
 use Rattle.cf_base.proofs.Tests.{both, all_of}
 use Rattle.cf_core.specs.declared.operators.LoopForm.{LoopForm}
@@ -19,12 +19,11 @@ use Rattle.cf_plain.specs.Plain.{Register, Plain, Plains, act, set, branch, loop
 use Rattle.cf_plain.specs.Plain as plain
 use Rattle.cf_plain_kept.specs.Kept as kept
 use Rattle.cf_plain_kept.specs.Kept.{Kept, no_value, a_place, an_object, a_truth, Keeping, keep, nothing_set, common, tested, given, integer_in, suits, all_set, untouched, after, after_all}
-use Rattle.cf_sequence.specs.Built.{is_value, is_condition, is_start, is_filling, is_initial, is_held, declares_here, is_statement, is_inner_or, are_cases, are_statements, next_local}
+use Rattle.cf_sequence.specs.Built.{is_value, is_condition, is_element, is_held, declares_here, is_statement, is_inner_or, are_cases, are_statements, next_local}
 use Rattle.cf_sequence.specs.Made.{Local, Temporary, temporaries, added, width, width_maybe, declared, declared_all}
 use Rattle.cf_sequence.specs.Expressions.{Full, flag, ended, Destination, destination, value, whole, settled, finished, used}
 use Rattle.cf_sequence.specs.Statements.{Inside, declares, opened, in_loop, in_switch, held, stepped, started, made, passing, passes_local, passed, looping, statement, statement_or, statements}
 use Rattle.cf_sequence.proofs.Calling.{never}
-use Rattle.cf_sequence.proofs.Filling.{fill, started-is}
 use Rattle.cf_sequence.proofs.Fulls.{nothing-is, held_at}
 use Rattle.cf_sequence.proofs.Labels.{passing-past}
 use Rattle.cf_sequence.proofs.Placing.{placing}
@@ -32,6 +31,7 @@ use Rattle.cf_sequence_kept.proofs.Suits.{scalar-tested, integer-tested, referen
 use Rattle.cf_sequence_kept.proofs.Related.{conditions-kept, integers-kept, held-suits}
 use Rattle.cf_sequence_kept.proofs.Values.{keep-at, keep-below, keep-above, runs, set-runs, act-runs}
 use Rattle.cf_sequence_kept.proofs.Fulls.{flagged-kept, branch-goes, flags-run, Held, held as held-value, full-room, flagged-set, ends-run}
+use Rattle.cf_sequence_kept.proofs.Lists.{object-takes, RunsAt, element-inits}
 use Rattle.cf_sequence_kept.proofs.Spans.{Span, Stays}
 use Rattle.cf_sequence_kept.proofs.Whole.{keeps-value, settled-put}
 use Rattle.cf_sequence_valid.proofs.Serves.{Serves, as_start, bound-parts, either-true, integers-serve, conditions-serve, expressions-serve}
@@ -80,11 +80,6 @@ module _ (body : Body) (locals : List SourceType) (keeps : locals_of.Kept body.s
   full-serves b c core.blank ok is = never ok
   full-serves b c e ok is = expressions-serve (typing scope e) is
 
-  runs-fill : (e : Core) → is_filling e ≡ true → (i : ℕ) (t : SourceType) (g : Keeping) → g 0 ≡ Some (an_object i t) → Runs g (λ rest. more (act (fill e 0)) rest)
-  runs-fill core.zeros ok i t g at = record { now = g; goes = λ rest. act-runs locals body.result g (plain.zeros 0) no_value rest (ap kept.filled at) }
-  runs-fill (core.string bytes) ok i t g at = record { now = g; goes = λ rest. act-runs locals body.result g (plain.bytes 0 bytes) no_value rest (ap kept.filled at) }
-  runs-fill e ok i t g at = never ok
-
   -- the local of a temporary has a type of its own, the same but for const
   record HeldLocal (j : ℕ) (u : SourceType) : Type 0 where
     type : SourceType
@@ -97,29 +92,6 @@ module _ (body : Body) (locals : List SourceType) (keeps : locals_of.Kept body.s
       by : (o : Option SourceType) → slice_get scope.locals j ≡ o → same_type o u ≡ true → HeldLocal j u
       by None e same = never same
       by (Some v) e same = record { type = v; same = same; named = ap kept.named (keeps.kept j v e) ∙ names-place v (ap not (reference-same v u same) ∙ no_reference) }
-
-  runs-started : (f : Inside) (i : ℕ) (t : SourceType) (e : Core) → is_initial e ≡ true → (is_value e ≡ true → (typing scope e).start t ≡ true) → (k : ℕ) (g : Keeping)
-      → Stand locals k (added (nodes e)) → g 0 ≡ Some (an_object i t) → Runs g (started f.classes t e 0 k)
-  runs-started f i t e ok s k g st at =
-      either-true (is_filling e) (is_start e) ok
-      (λ fills. runs-by (started f.classes t e 0 k) (λ rest. more (act (fill e 0)) rest) g (started-is f.classes t e fills 0 k) (runs-fill e fills i t g at))
-      (λ starts. either-true (is_nothing e) (is_value e) starts
-      (λ blank. runs-by (started f.classes t e 0 k) (λ rest. rest) g (λ rest. ap (λ e. started f.classes t e 0 k rest) (nothing-is e blank)) (runs-none g))
-      (λ is.
-      let m : ℕ = 1 + width e in
-      let x : Full = record { first = k; base = 1 } in
-      let ts : List Temporary = temporaries false e k in
-      let p = valued f e is (as_start t (s is)) (destination 0 t) 1 k g st in
-      let q = ends-run locals body.result e 1 k p.now p.flagged in
-      let low : 0 < 1 = omega arith in
-      record {
-        now = q.now;
-        goes = λ rest.
-            p.goes (ended x (reverse ts) (settled e 0 m rest)) ∙ q.goes (settled e 0 m rest)
-            ∙ ap (λ ss. run ss q.now) (settled-put e is 0 m rest)
-            ∙ act-runs locals body.result q.now (plain.first 0 m) no_value rest
-            (ap (λ o. kept.begun o (q.now m)) (q.same 0 ∙ p.below 0 low ∙ at) ∙ ap (kept.begun (Some (an_object i t))) (q.same m ∙ p.at) ∙ ap (λ b. given b no_value) (p.related.start t (s is)));
-      }))
 
   -- a reference's temporary: its place is in the register behind
   runs-held : (f : Inside) (i : ℕ) (t : SourceType) (e : Core) → is_held i e ≡ true → (typing scope e).start t ≡ true → (k : ℕ) (g : Keeping)
@@ -167,10 +139,14 @@ module _ (body : Body) (locals : List SourceType) (keeps : locals_of.Kept body.s
       }
   runs-held f i t e ok fit k g st at = never ok
 
-  runs-initial : (f : Inside) (i : ℕ) (t : SourceType) (e : Core) → (is_initial e || is_held i e) ≡ true → (typing scope e).start t ≡ true → (k : ℕ) (g : Keeping)
+  runs-initial : (f : Inside) (i : ℕ) (t : SourceType) (e : Core) → (is_element t e || is_held i e) ≡ true → (typing scope e).start t ≡ true → (k : ℕ) (g : Keeping)
       → Stand locals k (added (nodes e)) → g 0 ≡ Some (an_object i t) → Runs g (started f.classes t e 0 k)
   runs-initial f i t e ok fit k g st at =
-      either-true (is_initial e) (is_held i e) ok (λ initial. runs-started f i t e initial (λ v. fit) k g st at) (λ held. runs-held f i t e held fit k g st at)
+      either-true (is_element t e) (is_held i e) ok
+      (λ element.
+      let p = element-inits body locals keeps t e element fit f 0 k g st (object-takes i t (g 0) at) in
+      record { now = RunsAt.now p; goes = RunsAt.goes p })
+      (λ held. runs-held f i t e held fit k g st at)
 
   -- a condition, 1 or 0 in its register
   pub record Tested (f : Inside) (q : Core) (k : ℕ) (g : Keeping) : Type 0 where
@@ -364,7 +340,7 @@ module _ (body : Body) (locals : List SourceType) (keeps : locals_of.Kept body.s
         runs-then (statements (opened f) es k) (finished (declared_all es)) g q (runs-finished (declared_all es) q.now)
     runs-statement (core.sequence es) m b c ok is f sr k g l = runs-statements es m b c ok is f sr k g l
     runs-statement (core.declare i t e) m b c ok is f sr k g l =
-        let start = (both (nat_le m i) (is_initial e || is_held i e) ok).1 in
+        let start = (both (nat_le m i) (is_element t e || is_held i e) ok).1 in
         let parts = both (nat_le body.parameters i && same_type (slice_get scope.locals i) t && is_complete scope.classes t) ((typing scope e).start t) is in
         let first : Keeping = keep g 0 (an_object i t) in
         let q = runs-initial f i t e start parts.1 k first l (keep-at g 0 (an_object i t)) in

@@ -1,5 +1,5 @@
 -- How what is written of a function's body goes on: its statements, and the locals of the scopes that are open.
-use Rattle.std.specs.Prelude.{ℕ, ◌+◌, Bool, true, false, if◌then◌else◌, List, [], ◌∷◌, ◌++◌, length, pos, take, drop, Option, Some, None}
+use Rattle.std.specs.Prelude.{ℕ, suc, ◌+◌, Bool, true, false, if◌then◌else◌, List, [], ◌∷◌, ◌++◌, length, pos, take, drop, Option, Some, None}
 use Rattle.cf_plain.specs.declared.action.Action.{Action}
 use Rattle.cf_plain.specs.declared.action.Action.TheVariants as action
 use Rattle.cf_plain.specs.declared.statement.Plain.{Plain}
@@ -95,33 +95,40 @@ given p b = on (λ w. left_behind 0 p w (used (behind_flags 0 p) (entered 0 p w)
 unfoldable pub tested : Piece → Body → Body
 tested p b = on (λ w. left_behind 0 p w (set (behind_flags 0 p) (action.Truth (behind_flags 0 p)) (entered 0 p w))) b
 
--- What an initialiser does with the object whose place is in register 0 (8.4).
+-- What an initialiser does with an object whose place is in a register (8.4).
 pub data Initial : Type 0 where
   does_nothing : Initial
-  fills : Action → Initial  -- it fills the object by itself (8.4.1, 8.4.2)
+  fills : (ℕ → Action) → Initial  -- it fills the object whose place is in this register by itself (8.4.1, 8.4.2)
+  lists : (ℕ → ℕ → ℕ → Writing → Writing) → Initial  -- it starts the elements of an array of this type, whose place is in this register; this one is free (8.4.1)
   gives : Initial  -- it gives a value to put there
 
 abbrev pub is_blank : Initial → Bool
 is_blank does_nothing = true
 is_blank (fills a) = false
+is_blank (lists f) = false
 is_blank gives = false
 
--- the initialiser of the place in register 0
-unfoldable pub started : Initial → Piece → Writing → Writing
-started does_nothing p w = w
-started (fills a) p w = act a w
-started gives p w = act (action.First 0 (behind_flags 1 p)) (left_behind 1 p w (entered 1 p w))
+-- the initialiser of an object of this type whose place is in this register
+unfoldable pub started : Initial → Piece → ℕ → ℕ → Writing → Writing
+started does_nothing p t n w = w
+started (fills a) p t n w = act (a n) w
+started (lists f) p t n w = f t n (behind_flags (suc n) p) w
+started gives p t n w = act (action.First n (behind_flags (suc n) p)) (left_behind (suc n) p w (entered (suc n) p w))
+
+-- The place of the element of this number comes into register m: that of its array is in register n (8.4.1).
+unfoldable pub element_placed : ℕ → ℕ → ℕ → Writing → Writing
+element_placed n m i w = set m (action.Index m (suc m)) (set (suc m) (action.Number (pos i)) (set m (action.Decay n) w))
 
 -- a local with its initialiser, behind the temporary that it binds (6.7, 8.4.3)
 unfoldable pub declared : ℕ → ℕ → Initial → Option Open → Piece → Body → Body
-declared i t initial held p b = opened i t (held_too held (on (λ w. started initial p (set 0 (action.Declare i t) w)) b))
+declared i t initial held p b = opened i t (held_too held (on (λ w. started initial p t 0 (set 0 (action.Declare i t) w)) b))
 
 -- A static object with its initialiser, if it has one: control reaches it, and its place comes into register 0 (6.7, 8.4).
 unfoldable pub placed : List ℕ → ℕ → Initial → Piece → Writing → Writing
 placed name t initial p w =
     if is_blank initial
     then w
-    else act (action.FinishStatic name) (started initial p (set 0 (action.Static name t) (act (action.Reach name) w)))
+    else act (action.FinishStatic name) (started initial p t 0 (set 0 (action.Static name t) (act (action.Reach name) w)))
 
 -- Statements.
 

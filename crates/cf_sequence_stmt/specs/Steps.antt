@@ -1,5 +1,5 @@
 -- What is written for statements, node by node.
-use Rattle.std.specs.Prelude.{ℕ, Bool, false, ◌&&◌, ◌||◌, nat_lt, if◌then◌else◌, List, [], ◌∷◌, ◌++◌, length, Option, Some, None, is_some}
+use Rattle.std.specs.Prelude.{ℕ, zero, suc, ◌-◌, Bool, false, ◌&&◌, ◌||◌, nat_lt, if◌then◌else◌, List, [], ◌∷◌, ◌++◌, length, Option, Some, None, is_some}
 use Rattle.cf_types.specs.Table.{Table}
 use Rattle.cf_core.specs.declared.operators.LoopForm.{LoopForm}
 use Rattle.cf_core.specs.declared.operators.LoopForm.TheVariants as form
@@ -12,11 +12,14 @@ use Rattle.cf_core.specs.declared.node.Holder.TheVariants as holder
 use Rattle.cf_plain.specs.declared.action.Action.TheVariants as action
 use Rattle.cf_plain.specs.declared.statement.Plain.{Plain}
 use Rattle.cf_plain.specs.declared.statement.Plain.TheVariants as plain
+use Rattle.cf_sequence_expr.specs.declared.writing.Writing.{Writing}
 use Rattle.cf_sequence_expr.specs.Pieces.{Piece, piece_step}
 use Rattle.cf_sequence_stmt.specs.declared.body.Body.{Body}
 use Rattle.cf_sequence_stmt.specs.declared.body.Open.{Open}
 use Rattle.cf_sequence_stmt.specs.declared.body.Ways.{Ways}
-use Rattle.cf_sequence_stmt.specs.Bodies.{Initial, does_nothing, fills, gives, with_held, behind_flags, left_to, closed_to, full, given, tested, declared, stated, begun, chosen, turned, switched, with_code, passed_at}
+use Rattle.cf_sequence_stmt.specs.declared.rows.Row.{Row}
+use Rattle.cf_sequence_stmt.specs.Rows.{row_at}
+use Rattle.cf_sequence_stmt.specs.Bodies.{Initial, does_nothing, fills, lists, gives, started, element_placed, with_held, behind_flags, left_to, closed_to, full, given, tested, declared, stated, begun, chosen, turned, switched, with_code, passed_at}
 
 pub record Step : Type 0 where
   pub piece : Piece  -- as an expression
@@ -146,12 +149,6 @@ opens_step (Core-F.Declare at i t e) xs = with_held e.held xs ++ record { number
 opens_step (Core-F.Sequence at ss) xs = all_open ss xs
 opens_step other xs = xs
 
-abbrev pub initial_step : Core-F Step Step → Initial
-initial_step (Core-F.Blank at) = does_nothing
-initial_step (Core-F.Zeros at) = fills (action.Zeros 0)
-initial_step (Core-F.Characters at bytes) = fills (action.Characters 0 bytes)
-initial_step other = gives
-
 abbrev pub of_holder : Holder → Option Open
 of_holder (holder.LocalTemporary i t) = Some (record { number = i; ty = t })
 of_holder h = None
@@ -160,7 +157,39 @@ abbrev pub held_step : Core-F Step Step → Option Open
 held_step (Core-F.Bind at h e) = of_holder h
 held_step other = None
 
+-- Lists (8.4.1).
+
+-- elements from this number on, each by its own initialiser; they are of this type, and the place of their array is in register n
+abbrev pub elements : ℕ → ℕ → ℕ → ℕ → List Step → Writing → Writing
+elements t n m i [] w = w
+elements t n m i (e ∷ es) w = elements t n m (suc i) es (started e.initial e.piece t m (element_placed n m i w))
+
+-- so many from this number on, by one initialiser
+abbrev pub left_out : ℕ → ℕ → ℕ → ℕ → ℕ → Step → Writing → Writing
+left_out t n m i zero e w = w
+left_out t n m i (suc count) e w = left_out t n m (suc i) count e (started e.initial e.piece t m (element_placed n m i w))
+
+-- of an array, if it is one
+unfoldable pub elements_in : Option Row → List Step → ℕ → ℕ → Writing → Writing
+elements_in None es n m w = w
+elements_in (Some r) es n m w = elements r.element n m 0 es w
+
+unfoldable pub left_out_in : Option Row → ℕ → Step → ℕ → ℕ → Writing → Writing
+left_out_in None first e n m w = w
+left_out_in (Some r) first e n m w = left_out r.element n m first (r.bound - first) e w
+
+-- the elements of an array, whose place is in register n, and those that the list leaves out
+unfoldable pub listed : Option Row → List Step → Step → ℕ → ℕ → Writing → Writing
+listed o es rest n m w = left_out_in o (length es) rest n m (elements_in o es n m w)
+
 module _ (types : Table) where
+  abbrev pub initial_step : Core-F Step Step → Initial
+  initial_step (Core-F.Blank at) = does_nothing
+  initial_step (Core-F.Zeros at) = fills action.Zeros
+  initial_step (Core-F.Characters at bytes) = fills (λ n. action.Characters n bytes)
+  initial_step (Core-F.List at es rest) = lists (λ t n m w. listed (row_at types t) es rest n m w)
+  initial_step other = gives
+
   abbrev pub step_step : Core-F Step Step → Step
   step_step x = record {
     piece = piece_step types (map-Core _ _ _ _ Step.piece Step.piece x);

@@ -8,7 +8,8 @@ ghost use Rattle.cf_sequence_stmt.specs.Steps.{step};
 ghost use Rattle.cf_sequence_stmt.specs.Steps as spec;
 
 use crate::body::{Body, Ways};
-use crate::expressions::{declared, full, given, tested};
+use crate::expressions::{full, given, tested};
+use crate::initials::declared;
 use crate::passing::selected;
 use cf_base::{Boxed, Items, Memory};
 use cf_core::{Core, CoreUnit, LoopForm};

@@ -6,8 +6,11 @@
 mod body;
 mod expressions;
 mod forms;
+mod initials;
 mod passing;
+mod rows;
 
 pub use body::{Body, Open, Ways};
-pub use expressions::placed;
 pub use forms::{statement, statements};
+pub use initials::placed;
+pub use rows::Row;

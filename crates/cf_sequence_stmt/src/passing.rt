@@ -6,7 +6,7 @@ ghost use Rattle.cf_sequence_stmt.specs.Steps.{step};
 ghost use Rattle.cf_sequence_stmt.specs.Steps as spec;
 
 use crate::body::{Body, Open};
-use crate::expressions::held;
+use crate::initials::held;
 use cf_base::{Items, Memory};
 use cf_core::{Core, CoreUnit};
 use cf_plain::{Action, Plain};

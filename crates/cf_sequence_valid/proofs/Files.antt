@@ -30,7 +30,8 @@ use Rattle.cf_sequence_valid.proofs.Serves.{as_start, either-true}
 use Rattle.cf_sequence_valid.proofs.Fine.{Fine, fine-finished}
 use Rattle.cf_sequence_valid.proofs.Stands.{stand-added, Stand, stand-behind, still-there, are_there, is_there, there-two, numbered-there}
 use Rattle.cf_sequence_valid.proofs.Values.{Kept}
-use Rattle.cf_sequence_valid.proofs.Statements.{Works, works, fine-started}
+use Rattle.cf_sequence_valid.proofs.Initials.{fine-started}
+use Rattle.cf_sequence_valid.proofs.Statements.{Works, works}
 
 negated : (b : Bool) → not b ≡ true → b ≡ false
 negated true e = never e

@@ -4,6 +4,8 @@ pub mod Fine
 pub mod Passing
 pub mod Serves
 pub mod Stands
+pub mod Initials
+pub mod Lists
 pub mod Statements
 pub mod Temporaries
 pub mod Values

@@ -1,16 +1,13 @@
 -- Statements: the plain statements of a valid one are valid, and the locals that it adds have complete types.
-use Rattle.std.proofs.Common.{◌≡◌, ℕ, ◌+◌, Bool, true, false, ◌&&◌, ◌||◌, not, nat_le, nat_lt, if◌then◌else◌, List, [], ◌++◌, length, reverse, refl, sym, ap, ◌∙◌, subst, suc}
-use Rattle.std.specs.Prelude.{ℤ, int_le, Option, Some, None, slice_get}
+use Rattle.std.proofs.Common.{◌≡◌, ℕ, ◌+◌, Bool, true, false, ◌&&◌, ◌||◌, not, nat_le, if◌then◌else◌, List, [], ◌++◌, length, refl, sym, ap, ◌∙◌, subst}
+use Rattle.std.specs.Prelude.{ℤ, int_le, Some, None, slice_get}
 use Rattle.std.specs.List.{list_all}
-use Rattle.std.proofs.lemmas.Option.{slice_get_within}
-use Rattle.std.proofs.lemmas.Bool.{lt-ltb}
 use Rattle.cf_base.proofs.Tests.{both, all_of}
 use Rattle.cf_core.specs.declared.operators.LoopForm.{LoopForm}
 use Rattle.cf_core.specs.declared.operators.LoopForm.TheVariants as form
 use Rattle.cf_core.specs.Types.{SourceType, is_class}
 use Rattle.cf_core.specs.Core as core
 use Rattle.cf_core.specs.Core.{Core, Cores, MaybeCore, local_temporary, none, absent, given}
-use Rattle.cf_core.specs.Places.{is_reference}
 use Rattle.cf_core.specs.Joined.{is_nothing}
 use Rattle.cf_core.specs.Nodes.{nodes, nodes_all, nodes_maybe}
 use Rattle.cf_core.specs.Typing.{Scope, Typing, is_integer, is_expression, same_type}
@@ -24,18 +21,19 @@ use Rattle.cf_plain.specs.Plain as plain
 use Rattle.cf_plain.specs.Running.{has_case}
 use Rattle.cf_plain.specs.Valid as checks
 use Rattle.cf_plain.specs.Valid.{is_of}
-use Rattle.cf_sequence.specs.Built.{is_value, is_condition, is_start, is_filling, is_initial, is_held, declares_here, is_statement, is_inner_or, are_cases, are_statements, next_local}
-use Rattle.cf_sequence.specs.Made.{Local, Temporary, temporaries, added, width, width_maybe, declared, declared_all, held_by}
-use Rattle.cf_sequence.specs.Expressions.{Full, Destination, destination, value, whole, flags, ended, settled, finished, used}
+use Rattle.cf_sequence.specs.Built.{is_value, is_condition, is_held, declares_here, is_statement, is_inner_or, are_cases, are_statements, next_local}
+use Rattle.cf_sequence.specs.Made.{Local, added, width, width_maybe, declared, declared_all, held_by}
+use Rattle.cf_sequence.specs.Expressions.{value, whole, finished, used}
 use Rattle.cf_sequence.specs.Statements.{Inside, declares, opened, in_loop, in_switch, held, stepped, started, passed, looping, statement, statement_or, statements}
 use Rattle.cf_sequence.proofs.Calling.{never}
-use Rattle.cf_sequence.proofs.Filling.{fill, filling-adds, filling-holds, started-is}
-use Rattle.cf_sequence.proofs.Fulls.{nothing-is, held-none, held_at}
-use Rattle.cf_sequence_valid.proofs.Fine.{Fine, fine-none, fine-then, fine-by, fine-act, fine-set, fine-branch, fine-loop, fine-switch, fine-leave, fine-continue, fine-give, fine-used, fine-finished, fine-settled, fine-flags, fine-ended}
+use Rattle.cf_sequence.proofs.Fulls.{nothing-is}
+use Rattle.cf_sequence_valid.proofs.Fine.{Fine, fine-none, fine-then, fine-by, fine-set, fine-branch, fine-loop, fine-switch, fine-leave, fine-continue, fine-give, fine-used, fine-finished}
 use Rattle.cf_sequence_valid.proofs.Passing.{fine-passed}
-use Rattle.cf_sequence_valid.proofs.Serves.{Serves, as_start, bound-parts, either-true, integers-serve, conditions-serve, expressions-serve}
+use Rattle.cf_sequence_valid.proofs.Initials.{fine-whole, complete-start}
+use Rattle.cf_sequence_valid.proofs.Lists.{local-there, starts-well}
+use Rattle.cf_sequence.specs.Built.{is_element}
+use Rattle.cf_sequence_valid.proofs.Serves.{Serves, as_start, either-true, integers-serve, conditions-serve, expressions-serve}
 use Rattle.cf_sequence_valid.proofs.Stands.{Stand, stand-left, stand-right, stand-third, are_there, there-two}
-use Rattle.cf_sequence_valid.proofs.Temporaries.{ends-there}
 use Rattle.cf_sequence_valid.proofs.Values.{Kept, Good, good-value, complete-two}
 
 -- what stands in a function with these locals
@@ -89,51 +87,6 @@ module _ (body : Body) (locals : List SourceType) (keeps : Kept body.scope local
     returns = st.returns;
   }
 
-  -- Full expressions.
-
-  abbrev GoodIn : Inside → Core → Type 0
-  GoodIn f e = Good f.classes scope locals keeps e
-
-  expression-good : (f : Inside) (e : Core) → is_value e ≡ true → Serves (typing scope e) → GoodIn f e
-  expression-good f e ok s = good-value f.classes scope locals keeps e ok s
-
-  -- an expression, and then code with the register of its value
-  fine-whole : {b c : Bool} (f : Inside) (e : Core) → is_value e ≡ true → Serves (typing scope e) → (n k : ℕ) → Stand locals k (added (nodes e))
-      → (go : Register → Plains → Plains) (rest : Register → Plains → Plains) → ((m : Register) → Fine locals b c (go m)) → ((m : Register) → Fine locals b c (rest m))
-      → (into : Option Destination) → Fine locals b c (λ last. whole e n k (λ x m rest. value f.classes x e into m k (go m rest)) (λ m. rest m last))
-  fine-whole {b} {c} f e is s n k st go rest p q into =
-      let x : Full = record { first = k; base = n } in
-      let m : ℕ = n + width e in
-      let ts : List Temporary = temporaries false e k in
-      let ends : Plains → Plains = λ last. ended x (reverse ts) (rest m last) in
-      fine-then locals (flags x ts) (λ last. value f.classes x e into m k (go m (ends last))) (fine-flags locals x ts)
-      (fine-then locals (value f.classes x e into m k) (λ last. go m (ends last)) (Good.code (expression-good f e is s) b c x into m k st)
-      (fine-then locals (go m) ends (p m) (fine-then locals (ended x (reverse ts)) (rest m) (fine-ended locals x (reverse ts) (ends-there locals e is k st)) (q m))))
-
-  -- an initialiser of a place
-  fine-fill : {b c : Bool} (e : Core) → is_filling e ≡ true → (n : Register) → Fine locals b c (λ rest. more (act (fill e n)) rest)
-  fine-fill core.zeros ok n = fine-act locals (plain.zeros n) refl
-  fine-fill (core.string bytes) ok n = fine-act locals (plain.bytes n bytes) refl
-  fine-fill e ok n = never ok
-
-  pub fine-started : {b c : Bool} (f : Inside) (t : SourceType) (e : Core) → is_initial e ≡ true → (is_value e ≡ true → Serves (typing scope e)) → (n k : ℕ)
-      → Stand locals k (added (nodes e)) → Fine locals b c (started f.classes t e n k)
-  fine-started f t e ok s n k st =
-      either-true (is_filling e) (is_start e) ok
-      (λ fills. fine-by locals (started f.classes t e n k) (λ rest. more (act (fill e n)) rest) (started-is f.classes t e fills n k) (fine-fill e fills n))
-      (λ starts. either-true (is_nothing e) (is_value e) starts
-      (λ blank. fine-by locals (started f.classes t e n k) (λ rest. rest) (λ rest. ap (λ e. started f.classes t e n k rest) (nothing-is e blank)) (fine-none locals))
-      (λ is. fine-whole f e is (s is) (suc n) k st (λ m rest. rest) (λ m. settled e n m) (λ m. fine-none locals) (λ m. fine-settled locals e n m) (destination n t)))
-
-  complete-start : (e : Core) → is_start e ≡ true → (is_value e ≡ true → Serves (typing scope e)) → are_complete (added (nodes e)) ≡ true
-  complete-start e ok s =
-      either-true (is_nothing e) (is_value e) ok (λ blank. ap (λ e. are_complete (added (nodes e))) (nothing-is e blank))
-      (λ is. Good.complete (good-value [] scope locals keeps e is (s is)))
-
-  complete-initial : (e : Core) → is_initial e ≡ true → (is_value e ≡ true → Serves (typing scope e)) → are_complete (added (nodes e)) ≡ true
-  complete-initial e ok s =
-      either-true (is_filling e) (is_start e) ok (λ fills. ap are_complete (filling-adds e fills)) (λ starts. complete-start e starts s)
-
   -- an expression statement
   full-serves : (b c : Bool) (e : Core) → is_value e ≡ true → fits body b c (core.full e) ≡ true → Serves (typing scope e)
   full-serves b c core.blank ok is = never ok
@@ -155,7 +108,7 @@ module _ (body : Body) (locals : List SourceType) (keeps : Kept body.scope local
       → Fine locals true b (held f.classes q k)
   fine-held f absent ok is k st b = fine-none locals
   fine-held f (given q) ok is k st b =
-      fine-whole f q ok (conditions-serve (typing scope q) is) 0 k st (λ m rest. more (set m (plain.truth m)) rest) (λ m rest. more (branch m nothing (more leave nothing)) rest)
+      fine-whole body locals keeps f q ok (conditions-serve (typing scope q) is) 0 k st (λ m rest. more (set m (plain.truth m)) rest) (λ m rest. more (branch m nothing (more leave nothing)) rest)
       truth-fine (λ m. fine-branch locals m nothing (more leave nothing) refl refl) None
 
   -- what is done before a further turn
@@ -163,7 +116,7 @@ module _ (body : Body) (locals : List SourceType) (keeps : Kept body.scope local
       → checks.all_fit locals true false (stepped f.classes q k) ≡ true
   fit-stepped f absent ok is k st = refl
   fit-stepped f (given q) ok is k st =
-      Fine.fit (fine-whole f q ok (expressions-serve (typing scope q) is) 0 k st (λ m rest. rest) (λ m rest. rest) (λ m. fine-none locals) (λ m. fine-none locals) None) nothing refl
+      Fine.fit (fine-whole body locals keeps f q ok (expressions-serve (typing scope q) is) 0 k st (λ m rest. rest) (λ m rest. rest) (λ m. fine-none locals) (λ m. fine-none locals) None) nothing refl
 
   -- Statements.
 
@@ -199,64 +152,6 @@ module _ (body : Body) (locals : List SourceType) (keeps : Kept body.scope local
   width-maybe : (q : MaybeCore) → length (added (nodes_maybe q)) ≡ width_maybe q
   width-maybe absent = refl
   width-maybe (given e) = refl
-
-  -- a local that is declared, as a type that may differ in const
-  local-there : (i : ℕ) (t : SourceType) → same_type (slice_get scope.locals i) t ≡ true → is_of (slice_get locals i) t ≡ true
-  local-there i t ok = by (slice_get scope.locals i) refl ok
-    where
-      by : (o : Option SourceType) → slice_get scope.locals i ≡ o → same_type o t ≡ true → is_of (slice_get locals i) t ≡ true
-      by None e ok = never ok
-      by (Some u) e ok = ap (λ o. is_of o t) (keeps.kept i u e) ∙ ok
-
-  number-there : (i : ℕ) (t : SourceType) → same_type (slice_get scope.locals i) t ≡ true → nat_lt i (length locals) ≡ true
-  number-there i t ok = by (slice_get scope.locals i) refl ok
-    where
-      by : (o : Option SourceType) → slice_get scope.locals i ≡ o → same_type o t ≡ true → nat_lt i (length locals) ≡ true
-      by None e ok = never ok
-      by (Some u) e ok = lt-ltb i (length locals) (slice_get_within locals i u (keeps.kept i u e))
-
-  -- An initialiser of a local: what it adds is complete, a temporary that it binds is there, and its code fits.
-  record StartsWell (t : SourceType) (e : Core) : Type 0 where
-    complete : are_complete (added (nodes e)) ≡ true
-    there : are_there locals (held_by e) ≡ true
-    code : (b c : Bool) (f : Inside) (k : ℕ) → Stand locals k (added (nodes e)) → Fine locals b c (started f.classes t e 0 k)
-
-  starts-initial : (t : SourceType) (e : Core) → is_initial e ≡ true → (typing scope e).start t ≡ true → StartsWell t e
-  starts-initial t e ok fit = record {
-    complete = complete-initial e ok (λ v. as_start t fit);
-    there =
-        ap (λ (xs : List Local). are_there locals xs)
-        (either-true (is_filling e) (is_start e) ok (filling-holds e) (λ starts. either-true (is_nothing e) (is_value e) starts (λ blank. ap held_by (nothing-is e blank)) (held-none e)));
-    code = λ b c f k st. fine-started {b = b} {c = c} f t e ok (λ v. as_start t fit) 0 k st;
-  }
-
-  starts-held : (i : ℕ) (t : SourceType) (e : Core) → is_held i e ≡ true → (typing scope e).start t ≡ true → StartsWell t e
-  starts-held i t (core.bind (local_temporary j u) e) ok fit =
-      let is : is_value e ≡ true = (both (not (is_reference u)) (is_value e) (both (nat_lt i j) (not (is_reference u) && is_value e) ok).1).1 in
-      let parts = bound-parts scope j u (typing scope e) t fit in
-      let n : Register = held_at e 0 in
-      record {
-        complete = Good.complete (good-value [] scope locals keeps e is (as_start u parts.1));
-        there = all_of (is_of (slice_get locals j) u) true (local-there j u parts.0) refl;
-        code = λ b c f k st.
-            let x : Full = record { first = k; base = 1 } in
-            let ts : List Temporary = temporaries false e k in
-            let bound : Plains → Plains = λ rest. more (act (plain.first 0 n)) rest in
-            let last : Plains → Plains = λ rest. ended x (reverse ts) (bound rest) in
-            let inner : Plains → Plains = λ rest. value f.classes x e (destination (suc n) u) (suc (suc n)) k (settled e (suc n) (suc (suc n)) (last rest)) in
-            let named : Plains → Plains = λ rest. more (set n (plain.local j)) (inner rest) in
-            fine-then locals (flags x ts) (λ rest. more (set (suc n) (plain.declare j u)) (named rest)) (fine-flags locals x ts)
-            (fine-then locals (λ rest. more (set (suc n) (plain.declare j u)) rest) named (fine-set locals (suc n) (plain.declare j u) (local-there j u parts.0))
-            (fine-then locals (λ rest. more (set n (plain.local j)) rest) inner (fine-set locals n (plain.local j) (number-there j u parts.0))
-            (fine-then locals (value f.classes x e (destination (suc n) u) (suc (suc n)) k) (λ rest. settled e (suc n) (suc (suc n)) (last rest))
-            (Good.code (expression-good f e is (as_start u parts.1)) b c x (destination (suc n) u) (suc (suc n)) k st)
-            (fine-then locals (settled e (suc n) (suc (suc n))) last (fine-settled locals e (suc n) (suc (suc n)))
-            (fine-then locals (ended x (reverse ts)) bound (fine-ended locals x (reverse ts) (ends-there locals e is k st)) (fine-act locals (plain.first 0 n) refl))))));
-      }
-  starts-held i t e ok fit = never ok
-
-  starts-well : (i : ℕ) (t : SourceType) (e : Core) → (is_initial e || is_held i e) ≡ true → (typing scope e).start t ≡ true → StartsWell t e
-  starts-well i t e ok fit = either-true (is_initial e) (is_held i e) ok (λ initial. starts-initial t e initial fit) (λ held. starts-held i t e held fit)
 
   -- a statement of a switch, and those behind it
   case-more : {c : Bool} (s : Core) (es : Cores) → Works true c s → CasesWork c es → ((z : ℤ) → labels.has_case z (core.more s es) ≡ labels.has_case z es)
@@ -319,7 +214,7 @@ module _ (body : Body) (locals : List SourceType) (keeps : Kept body.scope local
       let differ : checks.labels_differ locals code ≡ true = work.differ (in_switch f) (stays-switch f st) (k + width e) row ends free differs in
       let fit : checks.labelled_fit locals c code ≡ true =
       work.fit (in_switch f) (stays-switch f st) (k + width e) row ends (Fine.labelled end_fine nothing refl refl) in
-      fine-whole f e is s 0 k (stand-left locals k (nodes e) (nodes_all es) l) (λ n rest. used n rest) (λ n rest. passed n es (more (switch n code) rest))
+      fine-whole body locals keeps f e is s 0 k (stand-left locals k (nodes e) (nodes_all es) l) (λ n rest. used n rest) (λ n rest. passed n es (more (switch n code) rest))
       (λ n. fine-used locals n)
       (λ n.
       fine-then locals (passed n es) (λ rest. more (switch n code) rest) (fine-passed locals n es m are work.there differs) (fine-switch locals n code differ fit)) None
@@ -333,7 +228,7 @@ module _ (body : Body) (locals : List SourceType) (keeps : Kept body.scope local
       let in_place : Plains → Plains = λ rest.
       more (set 0 plain.result) (started f.classes f.result e 0 k (finished (f.here ++ f.returns) (more (give None) rest))) in
       fine-by locals (statement f (core.give (given e)) k) by_value (λ rest. ap (λ t. if t then in_place rest else by_value rest) st.plain_result)
-      (fine-whole f e is s 0 k l (λ n rest. used n rest) (λ n rest. finished (f.here ++ f.returns) (more (give (Some n)) rest)) (λ n. fine-used locals n)
+      (fine-whole body locals keeps f e is s 0 k l (λ n rest. used n rest) (λ n rest. finished (f.here ++ f.returns) (more (give (Some n)) rest)) (λ n. fine-used locals n)
       (λ n. fine-then locals (finished (f.here ++ f.returns)) (λ rest. more (give (Some n)) rest) (fine-finished locals (f.here ++ f.returns) all_there) (fine-give locals (Some n))) None)
 
   pub record MaybeWorks (b c : Bool) (o : MaybeCore) : Type 0 where
@@ -371,12 +266,12 @@ module _ (body : Body) (locals : List SourceType) (keeps : Kept body.scope local
     pub works : (s : Core) (m : ℕ) (b c : Bool) → is_statement m s ≡ true → fits body b c s ≡ true → Works b c s
     works (core.full e) m b c ok is =
         record {
-          complete = complete-start e ok (λ v. full-serves b c e v is);
+          complete = complete-start body locals keeps e ok (λ v. full-serves b c e v is);
           there = refl;
           code = λ f st k l.
               either-true (is_nothing e) (is_value e) ok
               (λ blank. fine-by locals (statement f (core.full e) k) (λ rest. rest) (λ rest. ap (λ e. statement f (core.full e) k rest) (nothing-is e blank)) (fine-none locals))
-              (λ v. fine-whole f e v (full-serves b c e v is) 0 k l (λ m rest. rest) (λ m rest. rest) (λ m. fine-none locals) (λ m. fine-none locals) None);
+              (λ v. fine-whole body locals keeps f e v (full-serves b c e v is) 0 k l (λ m rest. rest) (λ m rest. rest) (λ m. fine-none locals) (λ m. fine-none locals) None);
         }
     works (core.block es) m b c ok is =
         let all = work-all es m b c ok is in
@@ -389,11 +284,11 @@ module _ (body : Body) (locals : List SourceType) (keeps : Kept body.scope local
     works (core.sequence es) m b c ok is =
         let all = work-all es m b c ok is in record { complete = all.complete; there = all.there; code = all.code }
     works (core.declare i t e) m b c ok is =
-        let start = (both (nat_le m i) (is_initial e || is_held i e) ok).1 in
+        let start = (both (nat_le m i) (is_element t e || is_held i e) ok).1 in
         let parts = both (nat_le body.parameters i && same_type (slice_get scope.locals i) t && is_complete scope.classes t) ((typing scope e).start t) is in
         let typed = both (nat_le body.parameters i && same_type (slice_get scope.locals i) t) (is_complete scope.classes t) parts.0 in
-        let there = local-there i t (both (nat_le body.parameters i) (same_type (slice_get scope.locals i) t) typed.0).1 in
-        let good = starts-well i t e start parts.1 in
+        let there = local-there body locals keeps i t (both (nat_le body.parameters i) (same_type (slice_get scope.locals i) t) typed.0).1 in
+        let good = starts-well body locals keeps i t e start parts.1 in
         record {
           complete = good.complete;
           there = all_of (is_of (slice_get locals i) t) (are_there locals (held_by e)) there good.there;
@@ -417,7 +312,7 @@ module _ (body : Body) (locals : List SourceType) (keeps : Kept body.scope local
               let begin = stand-left locals k (nodes q ++ nodes a) (nodes_maybe o) l in
               let left = statement f a (k + width q) nothing in
               let right = statement_or f o (k + width q + width a) nothing in
-              fine-whole f q forms.0 s 0 k (stand-left locals k (nodes q) (nodes a) begin) (λ n rest. more (set n (plain.truth n)) rest) (λ n rest. more (branch n left right) rest) truth-fine
+              fine-whole body locals keeps f q forms.0 s 0 k (stand-left locals k (nodes q) (nodes a) begin) (λ n rest. more (set n (plain.truth n)) rest) (λ n rest. more (branch n left right) rest) truth-fine
               (λ n.
               fine-branch locals n left right (Fine.fit (yes.code f st (k + width q) (stand-right locals k (nodes q) (nodes a) begin)) nothing refl)
               (Fine.fit (no.code f st (k + width q + width a) (stand-third locals k (nodes q) (nodes a) (nodes_maybe o) l)) nothing refl)) None;

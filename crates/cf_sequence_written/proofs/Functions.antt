@@ -15,7 +15,7 @@ use Rattle.cf_core.specs.FromUnit.{function_of}
 use Rattle.cf_plain.specs.Plain.{Plains, nothing}
 use Rattle.cf_plain.specs.View as plain
 use Rattle.cf_plain.specs.View.{plains_of}
-use Rattle.cf_sequence.specs.Built.{is_statement, is_body}
+use Rattle.cf_sequence.specs.Built.{is_row, is_statement, is_body}
 use Rattle.cf_sequence.specs.Made.{Local, width, numbered, declared}
 use Rattle.cf_sequence.specs.Expressions.{finished}
 use Rattle.cf_sequence.specs.Statements.{Inside, statement}
@@ -27,7 +27,7 @@ use Rattle.cf_sequence_stmt.specs.Bodies.{left_to}
 use Rattle.cf_sequence_stmt.specs.Steps.{step, inside_loop}
 use Rattle.cf_sequence_fn.specs.Functions.{opens_from, begun, written_body, written_function}
 use Rattle.cf_sequence_written.proofs.Followed.{followed-end}
-use Rattle.cf_sequence_written.proofs.Parameters.{parameters-taking}
+use Rattle.cf_sequence_written.proofs.Parameters.{RowOf, parameters-taking}
 use Rattle.cf_sequence_written.proofs.Evaluated.{is-false}
 use Rattle.cf_sequence_written.proofs.Adding.{adding, Adds}
 use Rattle.cf_sequence_written.proofs.Opens.{ends, ends-more, finished-more}
@@ -44,7 +44,8 @@ module _ (tables : Tables) where
       let x : Local = record { number = k; type = type_of tables t } in
       ap (λ ls. ls ++ x ∷ []) (ends-from (suc k) ts) ∙ sym (reverse-append (x ∷ []) (numbered (suc k) (map (type_of tables) ts)))
 
-  module _ (params : (t : ℕ) → map (type_of tables) (parameters_at tables.types t) ≡ parameters (type_of tables t)) (classes : List Class) (statics : List Static)
+  module _ (params : (t : ℕ) → map (type_of tables) (parameters_at tables.types t) ≡ parameters (type_of tables t))
+      (rows : (t : ℕ) → is_row (type_of tables t) ≡ true → RowOf tables t) (classes : List Class) (statics : List Static)
       (alloc : Global) (f : CoreFn) (built : is_body (function_of tables f) ≡ true) where
     abbrev signature : MemberRef → Name
     signature = signature_of tables
@@ -83,7 +84,7 @@ module _ (tables : Tables) where
         outer = record { breaks = ends-start; continues = ends-start; returns = ends-start; breaks_within = omega arith; continues_within = omega arith; scalar = scalar }
 
     goes : Goes tables signature (λ k rest. statement I F.body k rest) (width F.body) (declared F.body) start ((step tables.types f.body).act (inside_loop start) start)
-    goes = Acts.acts (Stated.acts (written-statement tables signature params f.body))
+    goes = Acts.acts (Stated.acts (written-statement tables signature params rows f.body))
         (stated-statement (length (parameters F.type)) F.body (both (not (is_class (result F.type))) (is_statement (length (parameters F.type)) F.body) built).1) I (inside_loop start) start stands
 
     flowed : finished (reverse (numbered 0 (parameters F.type))) nothing ≡ flowed_off F

@@ -31,7 +31,8 @@ use Rattle.cf_sequence_written.proofs.KnownPieces.{known-piece}
 use Rattle.cf_sequence_written.proofs.Objects.{objects-known}
 use Rattle.cf_sequence_written.proofs.KnownPassed.{known-passes}
 use Rattle.cf_sequence_written.proofs.Held.{held-known}
-use Rattle.cf_sequence_written.proofs.KnownSteps.{have_types, KnownBody, KnownStep, KnownSteps, no_step, one_step, known-left, known-closed, known-stated, initial-known, known-declared, known-full, known-returned, known-loop, known-choice, known-selection}
+use Rattle.cf_sequence_written.proofs.KnownLists.{initial-known}
+use Rattle.cf_sequence_written.proofs.KnownSteps.{have_types, KnownBody, KnownStep, KnownSteps, no_step, one_step, known-left, known-closed, known-stated, known-declared, known-full, known-returned, known-loop, known-choice, known-selection}
 
 module _ (tables : Tables) (names : (i : ℕ) (v : Ty) → slice_get tables.types.types i ≡ Some v → Names tables.types.funs i (length tables.types.funs) v) where
   -- what was written stays known
@@ -90,7 +91,7 @@ module _ (tables : Tables) (names : (i : ℕ) (v : Ty) → slice_get tables.type
   layer (Core-F.Sequence at es) ok = record { acts = KnownSteps.acts (row es ok) }
   layer (Core-F.Declare at i t e) ok =
       let parts = both (has_type tables t) (known_of e) ok in
-      record { acts = λ ways b k. known-declared tables i t (step tables.types e.0).initial (step tables.types e.0).held (step tables.types e.0).piece b parts.0 (initial-known tables e.0) (held-known tables e.0 parts.1) (whole e parts.1).piece k }
+      record { acts = λ ways b k. known-declared tables i t (step tables.types e.0).initial (step tables.types e.0).held (step tables.types e.0).piece b parts.0 (initial-known tables names e.0 parts.1) (held-known tables e.0 parts.1) (whole e parts.1).piece k }
   layer (Core-F.If at c a None) ok =
       let parts = both (known_of c && known_of a) true ok in
       let two = both (known_of c) (known_of a) parts.0 in

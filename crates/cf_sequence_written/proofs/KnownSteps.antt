@@ -1,15 +1,11 @@
 -- The numbers of types in what is written for the kinds of statements are there in the tables.
-use Rattle.std.proofs.Common.{◌≡◌, ℕ, zero, suc, Bool, true, false, ◌&&◌, List, [], ◌∷◌, map, length, take, drop, Option, Some, None, if◌then◌else◌, refl, ap, sym, subst, ◌∙◌}
+use Rattle.std.proofs.Common.{◌≡◌, ℕ, zero, suc, Bool, true, false, ◌&&◌, List, [], ◌∷◌, map, length, take, drop, Option, Some, None, if◌then◌else◌, refl, ap, sym, ◌∙◌}
 use Rattle.std.specs.Prelude.{pos}
 use Rattle.std.specs.List.{list_all}
 use Rattle.std.proofs.lemmas.List.Folds.{list_all-append}
 use Rattle.cf_base.proofs.Tests.{both}
 use Rattle.cf_core.specs.declared.operators.LoopForm.{LoopForm}
 use Rattle.cf_core.specs.declared.operators.LoopForm.TheVariants as form
-use Rattle.cf_core.specs.declared.node.Core.{Core as Node, ind-Core}
-use Rattle.cf_core.specs.declared.node.Core.TheOpen.{Core-F}
-use Rattle.cf_core.specs.declared.node.Core.TheFolds.{fold-roll-Core, map-Core}
-use Rattle.cf_core.specs.declared.node.PartStart.{PartStart, fold-PartStart}
 use Rattle.cf_core.specs.FromTypes.{Tables}
 use Rattle.cf_core.specs.Numbers.{has_type}
 use Rattle.cf_plain.specs.declared.action.Action.TheVariants as action
@@ -28,9 +24,8 @@ use Rattle.cf_sequence_expr.specs.Pieces.{Piece, found_in}
 use Rattle.cf_sequence_stmt.specs.declared.body.Body.{Body}
 use Rattle.cf_sequence_stmt.specs.declared.body.Open.{Open}
 use Rattle.cf_sequence_stmt.specs.declared.body.Ways.{Ways}
-use Rattle.cf_sequence_stmt.specs.Bodies.{Initial, does_nothing, fills, gives, on, behind_flags, cleared_one, cleared, over_one, over, full_at, entered, left_behind, opened, ended, left_to, closed_to, full, given, tested, started, held_too, declared, stated, begun, chosen, turned, switched, with_code, there, passed_at}
-use Rattle.cf_sequence_stmt.specs.Steps as steps
-use Rattle.cf_sequence_stmt.specs.Steps.{Step, step, step_step, initial_step, in_order, or_nothing, inside_loop, inside_switch, held, stepped, turn, repeated, loop, labelled, passing, passes, selected, selection, choice, returned}
+use Rattle.cf_sequence_stmt.specs.Bodies.{Initial, does_nothing, fills, lists, gives, on, behind_flags, cleared_one, cleared, over_one, over, full_at, entered, left_behind, opened, ended, left_to, closed_to, full, given, tested, started, held_too, declared, stated, begun, chosen, turned, switched, with_code, there, passed_at}
+use Rattle.cf_sequence_stmt.specs.Steps.{Step, in_order, or_nothing, inside_loop, inside_switch, held, stepped, turn, repeated, loop, labelled, passing, passes, selected, selection, choice, returned}
 use Rattle.cf_sequence_written.proofs.Held.{KnownHeld}
 use Rattle.cf_sequence_written.proofs.Known.{is_known, known-Act, are_typed, Typed, KnownPiece, Keeps, keeps-none, keeps-then, keeps-put, keeps-set, keeps-act, keeps-used, known-last, known-If, all-mapped, emptied-known, branched-known, and-true}
 
@@ -173,25 +168,17 @@ module _ (tables : Tables) where
 
   abbrev pub KnownInitial : Initial → Type 0
   KnownInitial does_nothing = Unit {0}
-  KnownInitial (fills a) = plain.action_known tables a ≡ true
+  KnownInitial (fills a) = (n : ℕ) → plain.action_known tables (a n) ≡ true
+  KnownInitial (lists f) = (t n m : ℕ) → has_type tables t ≡ true → Keeps tables (f t n m)
   KnownInitial gives = Unit {0}
 
-  initial-layer : (x : Core-F Node PartStart) → KnownInitial (initial_step (map-Core _ _ _ _ (step tables.types) (fold-PartStart Step Step (step_step tables.types) (steps.part_step tables.types)) x))
-  initial-layer (Core-F.Zeros at) = refl
-  initial-layer (Core-F.Characters at bytes) = refl
-  initial-layer x = tt
-
-  pub initial-known : (n : Node) → KnownInitial (step tables.types n).initial
-  initial-known =
-      ind-Core (λ n. KnownInitial (step tables.types n).initial) (λ p. Unit {0})
-      (λ x y is. subst (λ (s : Step). KnownInitial s.initial) (sym (fold-roll-Core Step Step (step_step tables.types) (steps.part_step tables.types) x)) (initial-layer x)) (λ x y is. tt)
-
-  pub keeps-started : (initial : Initial) (p : Piece) → KnownInitial initial → KnownPiece tables p → Keeps tables (started initial p)
+  pub keeps-started : (initial : Initial) (p : Piece) (t n : ℕ) → has_type tables t ≡ true → KnownInitial initial → KnownPiece tables p → Keeps tables (started initial p t n)
   unfolding started
-  keeps-started does_nothing p known q = record { keeps = λ w ok. ok }
-  keeps-started (fills a) p known q = record { keeps = Keeps.keeps (keeps-act tables a known) }
-  keeps-started gives p known q = record {
-    keeps = Keeps.keeps (keeps-then tables (keeps-around 1 p q (keeps-none tables)) (keeps-act tables (action.First 0 (behind_flags 1 p)) refl));
+  keeps-started does_nothing p t n there known q = record { keeps = λ w ok. ok }
+  keeps-started (fills a) p t n there known q = record { keeps = Keeps.keeps (keeps-act tables (a n) (known n)) }
+  keeps-started (lists f) p t n there known q = record { keeps = Keeps.keeps (known t n (behind_flags (suc n) p) there) }
+  keeps-started gives p t n there known q = record {
+    keeps = Keeps.keeps (keeps-then tables (keeps-around (suc n) p q (keeps-none tables)) (keeps-act tables (action.First n (behind_flags (suc n) p)) refl));
   }
 
   known-held_too : (o : Option Open) (b : Body) → KnownHeld tables o → KnownBody b → KnownBody (held_too o b)
@@ -203,7 +190,7 @@ module _ (tables : Tables) where
       → KnownPiece tables p → KnownBody b → KnownBody (declared i t initial held p b)
   unfolding declared
   known-declared i t initial held p b there known typed q ok =
-      known-opened i t _ there (known-held_too held _ typed (known-on b (keeps-then tables (keeps-set tables 0 (action.Declare i t) there) (keeps-started initial p known q)) ok))
+      known-opened i t _ there (known-held_too held _ typed (known-on b (keeps-then tables (keeps-set tables 0 (action.Declare i t) there) (keeps-started initial p t 0 there known q)) ok))
 
   -- Statements.
 

@@ -16,8 +16,9 @@ pub mod Wholes
 pub mod Statements
 pub mod Passed
 pub mod Loops
-pub mod Stated
 pub mod Parameters
+pub mod Lists
+pub mod Stated
 pub mod Functions
 pub mod Constants
 pub mod Objects
@@ -28,5 +29,6 @@ pub mod TestedFiles
 pub mod Known
 pub mod KnownPieces
 pub mod KnownSteps
+pub mod KnownLists
 pub mod KnownPassed
 pub mod KnownFiles

@@ -24,7 +24,7 @@ use Rattle.cf_plain.specs.Plain as plain
 use Rattle.cf_plain.specs.Numbers as plain_numbers
 use Rattle.cf_plain.specs.View as view
 use Rattle.cf_plain.specs.View.{plains_of}
-use Rattle.cf_sequence.specs.Built.{is_built_static, has_mark}
+use Rattle.cf_sequence.specs.Built.{is_row, is_list, is_built_static, has_mark}
 use Rattle.cf_sequence.specs.Made.{width}
 use Rattle.cf_sequence.specs.Statements.{type_of_static, initialised}
 use Rattle.cf_sequence.specs.Statements as definition
@@ -38,18 +38,20 @@ use Rattle.cf_sequence_expr.specs.declared.writing.Writing.{Writing}
 use Rattle.cf_sequence_expr.specs.Writes.{set, act}
 use Rattle.cf_sequence_expr.specs.Parameters.{parameters_at}
 use Rattle.cf_sequence_expr.specs.Pieces.{Piece, piece}
-use Rattle.cf_sequence_stmt.specs.Bodies.{Initial, does_nothing, fills, gives, is_blank, started, placed}
+use Rattle.cf_sequence_stmt.specs.Bodies.{Initial, does_nothing, fills, lists, gives, is_blank, started, placed}
 use Rattle.cf_sequence_stmt.specs.Steps.{step}
 use Rattle.cf_sequence_stmt.proofs.Pieces.{same_piece}
 use Rattle.cf_sequence_fn.specs.Functions.{blank_writing, written_object}
 use Rattle.cf_sequence_written.proofs.Adding.{Adds, adding}
 use Rattle.cf_sequence_written.proofs.Followed.{followed-end}
 use Rattle.cf_sequence_written.proofs.Puts.{Puts, still-set, still-act, still-then, still-puts, puts-still}
+use Rattle.cf_sequence_written.proofs.Parameters.{RowOf}
 use Rattle.cf_sequence_written.proofs.Wholes.{Initiates, as-found, puts-started}
 use Rattle.cf_sequence_written.proofs.Stated.{Stated, written-statement, initiates}
 use Rattle.cf_sequence_written.proofs.Known.{KnownPiece, Keeps, keeps-then, keeps-set, keeps-act, and-true}
 use Rattle.cf_sequence_written.proofs.KnownPieces.{known-piece}
-use Rattle.cf_sequence_written.proofs.KnownSteps.{KnownInitial, initial-known, keeps-started}
+use Rattle.cf_sequence_written.proofs.KnownSteps.{KnownInitial, keeps-started}
+use Rattle.cf_sequence_written.proofs.KnownLists.{initial-known}
 
 -- ---- the type of a name, where no two objects of a file have one name
 
@@ -99,7 +101,8 @@ own-type before x after ok =
 
 -- ---- one object
 
-module _ (tables : Tables) (params : (t : ℕ) → map (type_of tables) (parameters_at tables.types t) ≡ parameters (type_of tables t)) (classes : List Class) (statics : List Static)
+module _ (tables : Tables) (params : (t : ℕ) → map (type_of tables) (parameters_at tables.types t) ≡ parameters (type_of tables t))
+    (rows : (t : ℕ) → is_row (type_of tables t) ≡ true → RowOf tables t) (classes : List Class) (statics : List Static)
     (alloc : Global) (x : CoreStatic) (built : is_built_static (static_of tables x) ≡ true) (typed : type_of_static statics x.name ≡ type_of tables x.ty) where
   abbrev signature : MemberRef → Name
   signature = signature_of tables
@@ -113,28 +116,28 @@ module _ (tables : Tables) (params : (t : ℕ) → map (type_of tables) (paramet
   abbrev p : Piece
   p = (step tables.types x.start).piece
 
-  written : Stated tables signature params (step tables.types x.start) X.start
-  written = written-statement tables signature params x.start
+  written : Stated tables signature params rows (step tables.types x.start) X.start
+  written = written-statement tables signature params rows x.start
 
   abbrev initial : Initial
   initial = (step tables.types x.start).initial
 
-  object : is_nothing X.start ≡ false → Initiates tables signature initial p X.start
-  object e = initiates tables signature params x.start written (constant-initial X.start (something-constant X.start (constant-start X built) e))
+  object : is_nothing X.start ≡ false → Initiates tables signature initial p x.ty X.start
+  object e = initiates tables signature params rows x.start written x.ty (ap (λ b. b || is_list T X.start) (constant-initial X.start (something-constant X.start (constant-start X built) e)))
 
   blank-is : is_blank initial ≡ is_nothing X.start
   blank-is = as-found tables signature initial X.start (Stated.initial written)
 
   -- what is written where there is an initialiser
   puts-placed : is_nothing X.start ≡ false
-      → Puts tables signature (λ w. act (action.FinishStatic x.name) (started initial p (set 0 (action.Static x.name x.ty) (act (action.Reach x.name) w))))
+      → Puts tables signature (λ w. act (action.FinishStatic x.name) (started initial p x.ty 0 (set 0 (action.Static x.name x.ty) (act (action.Reach x.name) w))))
       (λ k rest. more (acts (plain.reach x.name)) (more (sets 0 (plain.static_object x.name T)) (definition.started classes T X.start 0 k (more (acts (plain.finish_static x.name)) rest)))) (width X.start)
   puts-placed e =
       still-puts tables signature (still-then tables signature (still-act tables signature (action.Reach x.name)) (still-set tables signature 0 (action.Static x.name x.ty)))
-      (puts-still tables signature (puts-started tables signature classes x.ty initial (object e)) (still-act tables signature (action.FinishStatic x.name)))
+      (puts-still tables signature (puts-started tables signature classes x.ty 0 initial (object e)) (still-act tables signature (action.FinishStatic x.name)))
 
   abbrev put_there : Writing
-  put_there = act (action.FinishStatic x.name) (started initial p (set 0 (action.Static x.name x.ty) (act (action.Reach x.name) (blank_writing alloc))))
+  put_there = act (action.FinishStatic x.name) (started initial p x.ty 0 (set 0 (action.Static x.name x.ty) (act (action.Reach x.name) (blank_writing alloc))))
 
   start-as : (b : Bool) → is_nothing X.start ≡ b
       → plains_of tables signature (Writing.code (if b then blank_writing alloc else put_there)) ≡ (if b then nothing else initialised classes T x.name X.start 0 nothing)
@@ -157,7 +160,8 @@ module _ (tables : Tables) (params : (t : ℕ) → map (type_of tables) (paramet
 
 -- ---- all of a file
 
-module _ (tables : Tables) (params : (t : ℕ) → map (type_of tables) (parameters_at tables.types t) ≡ parameters (type_of tables t)) (classes : List Class) (alloc : Global) where
+module _ (tables : Tables) (params : (t : ℕ) → map (type_of tables) (parameters_at tables.types t) ≡ parameters (type_of tables t))
+    (rows : (t : ℕ) → is_row (type_of tables t) ≡ true → RowOf tables t) (classes : List Class) (alloc : Global) where
   abbrev cores : List CoreStatic → List Static
   cores xs = map (static_of tables) xs
 
@@ -174,7 +178,7 @@ module _ (tables : Tables) (params : (t : ℕ) → map (type_of tables) (paramet
       let all = before ++ cores (x ∷ xs) in
       let moved = later before (static_of tables x) (cores xs) in
       ap (λ (y : PlainStatic). y ∷ map (view.static_of tables) (map (written_object tables.types alloc) xs))
-      (object-is tables params classes all alloc x (both (is_built_static (static_of tables x)) (not (has_mark x.name)) parts.0).0
+      (object-is tables params rows classes all alloc x (both (is_built_static (static_of tables x)) (not (has_mark x.name)) parts.0).0
       (own-type before (static_of tables x) (cores xs) (sym (ap all_differ (names-two before (cores (x ∷ xs)))) ∙ differ)))
       ∙ ap (λ (ys : List PlainStatic). sequenced_static classes all (static_of tables x) ∷ ys)
       (objects-behind (before ++ static_of tables x ∷ []) xs parts.1 (ap (λ zs. all_differ (names_of zs)) (sym moved) ∙ differ)
@@ -192,16 +196,17 @@ module _ (tables : Tables) (params : (t : ℕ) → map (type_of tables) (paramet
 
 module _ (tables : Tables) (names : (i : ℕ) (v : Ty) → slice_get tables.types.types i ≡ Some v → Names tables.types.funs i (length tables.types.funs) v) (alloc : Global) where
   keeps-set-there : (name : List ℕ) (t : ℕ) (initial : Initial) (p : Piece) → has_type tables t ≡ true → KnownInitial tables initial → KnownPiece tables p
-      → Keeps tables (λ w. act (action.FinishStatic name) (started initial p (set 0 (action.Static name t) (act (action.Reach name) w))))
+      → Keeps tables (λ w. act (action.FinishStatic name) (started initial p t 0 (set 0 (action.Static name t) (act (action.Reach name) w))))
   keeps-set-there name t initial p there known q =
       keeps-then tables
-      (keeps-then tables (keeps-then tables (keeps-act tables (action.Reach name) refl) (keeps-set tables 0 (action.Static name t) there)) (keeps-started tables initial p known q))
+      (keeps-then tables (keeps-then tables (keeps-act tables (action.Reach name) refl) (keeps-set tables 0 (action.Static name t) there)) (keeps-started tables initial p t 0 there known q))
       (keeps-act tables (action.FinishStatic name) refl)
 
   keeps-placed : (name : List ℕ) (t : ℕ) (initial : Initial) (p : Piece) → has_type tables t ≡ true → KnownInitial tables initial → KnownPiece tables p → Keeps tables (placed name t initial p)
   unfolding placed
   keeps-placed name t does_nothing p there known q = record { keeps = λ w ok. ok }
   keeps-placed name t (fills a) p there known q = keeps-set-there name t (fills a) p there known q
+  keeps-placed name t (lists f) p there known q = keeps-set-there name t (lists f) p there known q
   keeps-placed name t gives p there known q = keeps-set-there name t gives p there known q
 
   object-known : (x : CoreStatic) → numbers.static_known tables x ≡ true → plain_numbers.static_known tables (written_object tables.types alloc x) ≡ true
@@ -212,7 +217,7 @@ module _ (tables : Tables) (names : (i : ℕ) (v : Ty) → slice_get tables.type
       let s = step tables.types x.start in
       and-true (has_type tables x.ty && list_all (has_type tables) ((piece tables.types x.start).locals [])) _
       (and-true (has_type tables x.ty) _ parts.0 (KnownPiece.locals known [] refl))
-      (Keeps.keeps (keeps-placed x.name x.ty s.initial s.piece parts.0 (initial-known tables x.start) (subst (KnownPiece tables) (sym (same_piece tables.types x.start)) known)) (blank_writing alloc) refl)
+      (Keeps.keeps (keeps-placed x.name x.ty s.initial s.piece parts.0 (initial-known tables names x.start parts.1) (subst (KnownPiece tables) (sym (same_piece tables.types x.start)) known)) (blank_writing alloc) refl)
 
   pub objects-known : (xs : List CoreStatic) → list_all (numbers.static_known tables) xs ≡ true → list_all (plain_numbers.static_known tables) (map (written_object tables.types alloc) xs) ≡ true
   objects-known [] ok = refl

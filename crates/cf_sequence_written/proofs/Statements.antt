@@ -17,7 +17,7 @@ use Rattle.cf_sequence.specs.Made.{added, width, declared, declared_all}
 use Rattle.cf_sequence.specs.Expressions.{finished, value, whole, used as use_of}
 use Rattle.cf_sequence.specs.Statements.{Inside, statement, statements, statement_or, declares}
 use Rattle.cf_sequence.specs.Statements as definition
-use Rattle.cf_sequence.proofs.Calling.{never}
+use Rattle.cf_sequence.proofs.Standing.{inner-declared}
 use Rattle.cf_sequence_expr.specs.declared.writing.Writing.{Writing}
 use Rattle.cf_sequence_stmt.specs.declared.body.Body.{Body}
 use Rattle.cf_sequence_stmt.specs.declared.body.Ways.{Ways}
@@ -62,9 +62,7 @@ stated-cases m (core.more c cs) ok =
 
 -- what declares nothing in the scope at hand
 pub undeclared-inner : (m : ℕ) (c : Core) → not (declares_here c) && is_statement m c ≡ true → declared c ≡ []
-undeclared-inner m (core.declare i t e) ok = never ok
-undeclared-inner m (core.sequence es) ok = never ok
-undeclared-inner m c ok = refl
+undeclared-inner m c ok = inner-declared c (both (not (declares_here c)) (is_statement m c) ok).0
 
 module _ (tables : Tables) (signature : MemberRef → Name) where
   pub record Acts (s : Step) (c : Core) : Type 0 where

@@ -9,14 +9,14 @@ use Rattle.cf_core.specs.declared.node.Core.TheOpen.{Core-F}
 use Rattle.cf_core.specs.declared.node.Core.TheFolds.{fold-roll-Core, map-Core}
 use Rattle.cf_core.specs.declared.node.PartStart.{PartStart, fold-PartStart}
 use Rattle.cf_core.specs.declared.node.Holder.TheVariants as holder
-use Rattle.cf_core.specs.Types.{Name, SourceType, takes, result, is_class}
+use Rattle.cf_core.specs.Types.{Name, SourceType, array, const, takes, result, is_class, plain, element}
 use Rattle.cf_core.specs.Core.{Core, Cores, MaybeCore}
 use Rattle.cf_core.specs.Joined.{is_nothing}
 use Rattle.cf_core.specs.Valid.{is_label}
 use Rattle.cf_core.specs.FromTypes.{Tables, type_of}
 use Rattle.cf_core.specs.View.{Started, core_step, started_step, core_of, listed, maybe}
-use Rattle.cf_sequence.specs.Built.{is_value, is_start, is_filling, is_initial, is_held, behind_declared, is_condition, is_statement, is_inner_or, are_values, are_arguments, are_statements, are_cases, declares_here, next_local, next_locals, is_chain}
-use Rattle.cf_sequence_built.specs.Unbuilt.{Temporary, Test, test, test_step, start, initial, by_temporary, local, behind_both, given, each_value, some_values, each_statement, inner, inner_or, case, each_case, next_of_all, called, is_function_type, is_called}
+use Rattle.cf_sequence.specs.Built.{is_value, is_start, is_filling, is_initial, is_row, is_list, is_element, are_elements, is_held, behind_declared, is_condition, is_statement, is_inner_or, are_values, are_arguments, are_statements, are_cases, declares_here, any_declares, next_local, next_locals, is_chain}
+use Rattle.cf_sequence_built.specs.Unbuilt.{Temporary, Test, test, test_step, start, initial, by_temporary, by_list, element_start, each_element, filler, in_list, local, behind_both, given, each_value, some_values, each_statement, inner, inner_or, case, each_case, next_of_all, called, is_function_type, is_called}
 use Rattle.cf_sequence_built.specs.Unbuilt as unbuilt
 
 -- whether nothing was found
@@ -58,16 +58,32 @@ chain-is t = refl
 -- what is told of the temporary that a local reference binds
 abbrev pub Binds : Option Temporary → Core → Type 0
 Binds None c = ((i : ℕ) → is_held i c ≡ false) × ((i : ℕ) → behind_declared i c ≡ suc i)
-Binds (Some x) c = ((i : ℕ) → is_held i c ≡ nat_lt i x.number && clear x.value) × ((i : ℕ) → behind_declared i c ≡ suc x.number) × (is_initial c ≡ false)
+Binds (Some x) c = ((i : ℕ) → is_held i c ≡ nat_lt i x.number && clear x.value) × ((i : ℕ) → behind_declared i c ≡ suc x.number) × ((t : SourceType) → is_element t c ≡ false)
+
+-- what is told of a list, as the initialiser of an object
+abbrev pub Lists : Option (SourceType → Option ℕ) → Core → Type 0
+Lists None c = (t : SourceType) → is_list t c ≡ false
+Lists (Some f) c = ((t : SourceType) → clear (f t) ≡ is_list t c) × (is_initial c ≡ false)
 
 or-false : (b : Bool) → b ≡ (b || false)
 or-false true = refl
 or-false false = refl
 
-local-by : (o : Option Temporary) (c : Core) → Binds o c → (other : Option ℕ) → clear other ≡ is_initial c → (at i : ℕ) → clear (by_temporary o at i other) ≡ (is_initial c || is_held i c)
-local-by None c binds other e at i = e ∙ or-false (is_initial c) ∙ ap (λ b. is_initial c || b) (sym (binds.0 i))
-local-by (Some x) c binds other e at i =
-    where-true at (nat_lt i x.number) x.value (clear x.value) refl ∙ sym (binds.0 i) ∙ ap (λ b. b || is_held i c) (sym binds.2)
+local-by : (o : Option Temporary) (c : Core) → Binds o c → (t : SourceType) (other : Option ℕ) → clear other ≡ is_element t c → (at i : ℕ)
+    → clear (by_temporary o at i other) ≡ (is_element t c || is_held i c)
+local-by None c binds t other e at i = e ∙ or-false (is_element t c) ∙ ap (λ b. is_element t c || b) (sym (binds.0 i))
+local-by (Some x) c binds t other e at i =
+    where-true at (nat_lt i x.number) x.value (clear x.value) refl ∙ sym (binds.0 i) ∙ ap (λ b. b || is_held i c) (sym (binds.2 t))
+
+list-by : (o : Option (SourceType → Option ℕ)) (c : Core) → Lists o c → (t : SourceType) (other : Option ℕ) → clear other ≡ is_initial c → clear (by_list o t other) ≡ is_element t c
+list-by None c lists t other e = e ∙ or-false (is_initial c) ∙ ap (λ b. is_initial c || b) (sym (lists t))
+list-by (Some f) c lists t other e = lists.0 t ∙ ap (λ b. b || is_list t c) (sym lists.1)
+
+pub row-is : (t : SourceType) → unbuilt.is_row t ≡ is_row t
+row-is (array t n) = refl
+row-is (const (array t n)) = refl
+row-is (const t) = refl
+row-is t = refl
 
 behind-by : (o : Option Temporary) (c : Core) → Binds o c → (i : ℕ) → behind_both o i ≡ behind_declared i c
 behind-by None c binds i = sym (binds.1 i)
@@ -83,6 +99,7 @@ module _ (tables : Tables) (signature : MemberRef → Name) where
     pub declares : t.declares ≡ declares_here c
     pub label : t.is_label ≡ is_label c
     pub temporary : Binds t.temporary c
+    pub list : Lists t.list c
 
   abbrev of_node : Node → Core
   of_node = core_of tables signature
@@ -141,8 +158,29 @@ module _ (tables : Tables) (signature : MemberRef → Name) where
   initial-is : (e : Child) → clear (initial (test_of e)) ≡ is_initial (of e)
   initial-is e = ap (λ b. clear (if b then None else start (test_of e))) e.1.filling ∙ where-not (is_filling (of e)) (start (test_of e)) _ (start-is e)
 
-  local-is : (at i : ℕ) (e : Child) → clear (local at i (test_of e)) ≡ (is_initial (of e) || is_held i (of e))
-  local-is at i e = local-by (test_of e).temporary (of e) e.1.temporary (initial (test_of e)) (initial-is e) at i
+  element-is : (t : SourceType) (e : Child) → clear (element_start t (test_of e)) ≡ is_element t (of e)
+  element-is t e = list-by (test_of e).list (of e) e.1.list t (initial (test_of e)) (initial-is e)
+
+  in_elements : (t : SourceType) (es : List Child) → clear (each_element t (tests_of es)) ≡ are_elements t (cores_of es)
+  in_elements t [] = refl
+  in_elements t (e ∷ es) = and-is (element_start t (test_of e)) (each_element t (tests_of es)) _ _ (element-is t e) (in_elements t es)
+
+  filler-is : (at : ℕ) (e : Child) → clear (filler at (test_of e)) ≡ is_filling (of e)
+  filler-is at e = ap (λ b. clear (if b then None else Some at)) e.1.filling ∙ by (is_filling (of e))
+    where
+      by : (b : Bool) → clear (if b then None else Some at) ≡ b
+      by true = refl
+      by false = refl
+
+  list-is : (at : ℕ) (es : List Child) (last : Child) (t : SourceType)
+      → clear (in_list at (tests_of es) (test_of last) t) ≡ is_row t && (are_elements (element (plain t)) (cores_of es) && is_filling (of last))
+  list-is at es last t =
+      where-true at (unbuilt.is_row t) (option_or (each_element (element (plain t)) (tests_of es)) (filler at (test_of last))) _
+      (and-is (each_element (element (plain t)) (tests_of es)) (filler at (test_of last)) _ _ (in_elements (element (plain t)) es) (filler-is at last))
+      ∙ ap (λ b. b && (are_elements (element (plain t)) (cores_of es) && is_filling (of last))) (row-is t)
+
+  local-is : (at i : ℕ) (t : SourceType) (e : Child) → clear (local at i t (test_of e)) ≡ (is_element t (of e) || is_held i (of e))
+  local-is at i t e = local-by (test_of e).temporary (of e) e.1.temporary t (element_start t (test_of e)) (element-is t e) at i
 
   behind-is : (i : ℕ) (e : Child) → unbuilt.behind i (test_of e) ≡ behind_declared i (of e)
   behind-is i e = behind-by (test_of e).temporary (of e) e.1.temporary i
@@ -186,6 +224,10 @@ module _ (tables : Tables) (signature : MemberRef → Name) where
   nexts m [] = refl
   nexts m (s ∷ ss) = ap (λ k. next_of_all k (tests_of ss)) (s.1.next m) ∙ nexts (next_local m (of s)) ss
 
+  in_declares : (es : List Child) → unbuilt.any_declares (tests_of es) ≡ any_declares (cores_of es)
+  in_declares [] = refl
+  in_declares (s ∷ ss) = ap (λ b. b || unbuilt.any_declares (tests_of ss)) s.1.declares ∙ ap (λ b. declares_here (of s) || b) (in_declares ss)
+
   in_cases : (m : ℕ) (es : List Child) → clear (each_case m (tests_of es)) ≡ are_cases m (cores_of es)
   in_cases m [] = refl
   in_cases m (s ∷ ss) =
@@ -207,54 +249,54 @@ module _ (tables : Tables) (signature : MemberRef → Name) where
   IsLayer x = Tests (test_step tables (map-Core _ _ _ _ (test tables) part_test x)) (core_step tables signature (map-Core _ _ _ _ of_node started_of x))
 
   layer : (y : Core-F Child PartChild) → IsLayer (shape y)
-  layer (Core-F.Number at z) = record { value = refl; statement = λ m. refl; next = λ m. refl; blank = refl; filling = refl; declares = refl; label = refl; temporary = (λ i. refl, λ i. refl) }
-  layer (Core-F.Text at j bytes) = record { value = refl; statement = λ m. refl; next = λ m. refl; blank = refl; filling = refl; declares = refl; label = refl; temporary = (λ i. refl, λ i. refl) }
-  layer (Core-F.This at) = record { value = refl; statement = λ m. refl; next = λ m. refl; blank = refl; filling = refl; declares = refl; label = refl; temporary = (λ i. refl, λ i. refl) }
-  layer (Core-F.Local at i) = record { value = refl; statement = λ m. refl; next = λ m. refl; blank = refl; filling = refl; declares = refl; label = refl; temporary = (λ i. refl, λ i. refl) }
-  layer (Core-F.Static at n t) = record { value = refl; statement = λ m. refl; next = λ m. refl; blank = refl; filling = refl; declares = refl; label = refl; temporary = (λ i. refl, λ i. refl) }
-  layer (Core-F.Function at n t) = record { value = refl; statement = λ m. refl; next = λ m. refl; blank = refl; filling = refl; declares = refl; label = refl; temporary = (λ i. refl, λ i. refl) }
-  layer (Core-F.Member at e i) = record { value = refl; statement = λ m. refl; next = λ m. refl; blank = refl; filling = refl; declares = refl; label = refl; temporary = (λ i. refl, λ i. refl) }
-  layer (Core-F.Read at e) = record { value = e.1.value; statement = λ m. refl; next = λ m. refl; blank = refl; filling = refl; declares = refl; label = refl; temporary = (λ i. refl, λ i. refl) }
-  layer (Core-F.Address at e) = record { value = e.1.value; statement = λ m. refl; next = λ m. refl; blank = refl; filling = refl; declares = refl; label = refl; temporary = (λ i. refl, λ i. refl) }
-  layer (Core-F.Dereference at e) = record { value = e.1.value; statement = λ m. refl; next = λ m. refl; blank = refl; filling = refl; declares = refl; label = refl; temporary = (λ i. refl, λ i. refl) }
-  layer (Core-F.Decay at e) = record { value = e.1.value; statement = λ m. refl; next = λ m. refl; blank = refl; filling = refl; declares = refl; label = refl; temporary = (λ i. refl, λ i. refl) }
-  layer (Core-F.Index at a b) = record { value = two a b; statement = λ m. refl; next = λ m. refl; blank = refl; filling = refl; declares = refl; label = refl; temporary = (λ i. refl, λ i. refl) }
-  layer (Core-F.Convert at t e) = record { value = e.1.value; statement = λ m. refl; next = λ m. refl; blank = refl; filling = refl; declares = refl; label = refl; temporary = (λ i. refl, λ i. refl) }
-  layer (Core-F.Up at path e) = record { value = refl; statement = λ m. refl; next = λ m. refl; blank = refl; filling = refl; declares = refl; label = refl; temporary = (λ i. refl, λ i. refl) }
-  layer (Core-F.Down at c path e) = record { value = refl; statement = λ m. refl; next = λ m. refl; blank = refl; filling = refl; declares = refl; label = refl; temporary = (λ i. refl, λ i. refl) }
-  layer (Core-F.FromVoid at t e) = record { value = e.1.value; statement = λ m. refl; next = λ m. refl; blank = refl; filling = refl; declares = refl; label = refl; temporary = (λ i. refl, λ i. refl) }
-  layer (Core-F.ToMember at path e) = record { value = refl; statement = λ m. refl; next = λ m. refl; blank = refl; filling = refl; declares = refl; label = refl; temporary = (λ i. refl, λ i. refl) }
-  layer (Core-F.DataPointer at i) = record { value = refl; statement = λ m. refl; next = λ m. refl; blank = refl; filling = refl; declares = refl; label = refl; temporary = (λ i. refl, λ i. refl) }
-  layer (Core-F.FunctionPointer at t) = record { value = refl; statement = λ m. refl; next = λ m. refl; blank = refl; filling = refl; declares = refl; label = refl; temporary = (λ i. refl, λ i. refl) }
-  layer (Core-F.Through at a b) = record { value = refl; statement = λ m. refl; next = λ m. refl; blank = refl; filling = refl; declares = refl; label = refl; temporary = (λ i. refl, λ i. refl) }
-  layer (Core-F.Operate at op k a b) = record { value = two a b; statement = λ m. refl; next = λ m. refl; blank = refl; filling = refl; declares = refl; label = refl; temporary = (λ i. refl, λ i. refl) }
-  layer (Core-F.Unary at op k e) = record { value = e.1.value; statement = λ m. refl; next = λ m. refl; blank = refl; filling = refl; declares = refl; label = refl; temporary = (λ i. refl, λ i. refl) }
-  layer (Core-F.Not at e) = record { value = e.1.value; statement = λ m. refl; next = λ m. refl; blank = refl; filling = refl; declares = refl; label = refl; temporary = (λ i. refl, λ i. refl) }
-  layer (Core-F.And at a b) = record { value = two a b; statement = λ m. refl; next = λ m. refl; blank = refl; filling = refl; declares = refl; label = refl; temporary = (λ i. refl, λ i. refl) }
-  layer (Core-F.Or at a b) = record { value = two a b; statement = λ m. refl; next = λ m. refl; blank = refl; filling = refl; declares = refl; label = refl; temporary = (λ i. refl, λ i. refl) }
-  layer (Core-F.PointerOperate at op a b) = record { value = two a b; statement = λ m. refl; next = λ m. refl; blank = refl; filling = refl; declares = refl; label = refl; temporary = (λ i. refl, λ i. refl) }
-  layer (Core-F.Conditional at c a b) = record { value = three c a b; statement = λ m. refl; next = λ m. refl; blank = refl; filling = refl; declares = refl; label = refl; temporary = (λ i. refl, λ i. refl) }
-  layer (Core-F.Comma at es) = record { value = in_comma at es; statement = λ m. refl; next = λ m. refl; blank = refl; filling = refl; declares = refl; label = refl; temporary = (λ i. refl, λ i. refl) }
-  layer (Core-F.Store at a b) = record { value = two a b; statement = λ m. refl; next = λ m. refl; blank = refl; filling = refl; declares = refl; label = refl; temporary = (λ i. refl, λ i. refl) }
-  layer (Core-F.Update at a c b) = record { value = two a b; statement = λ m. refl; next = λ m. refl; blank = refl; filling = refl; declares = refl; label = refl; temporary = (λ i. refl, λ i. refl) }
-  layer (Core-F.Increment at is_postfix c e) = record { value = e.1.value; statement = λ m. refl; next = λ m. refl; blank = refl; filling = refl; declares = refl; label = refl; temporary = (λ i. refl, λ i. refl) }
-  layer (Core-F.Assign at t a b es) = record { value = refl; statement = λ m. refl; next = λ m. refl; blank = refl; filling = refl; declares = refl; label = refl; temporary = (λ i. refl, λ i. refl) }
-  layer (Core-F.Temporary at t e) = record { value = where-false at (is_reference (type_of tables t)) (test_of e).value _ e.1.value; statement = λ m. refl; next = λ m. refl; blank = refl; filling = refl; declares = refl; label = refl; temporary = (λ i. refl, λ i. refl) }
-  layer (Core-F.Call at f t None es) = record { value = in_call at t es; statement = λ m. refl; next = λ m. refl; blank = refl; filling = refl; declares = refl; label = refl; temporary = (λ i. refl, λ i. refl) }
-  layer (Core-F.Call at f t (Some object) es) = record { value = refl; statement = λ m. refl; next = λ m. refl; blank = refl; filling = refl; declares = refl; label = refl; temporary = (λ i. refl, λ i. refl) }
-  layer (Core-F.VirtualCall at m t e es) = record { value = refl; statement = λ m. refl; next = λ m. refl; blank = refl; filling = refl; declares = refl; label = refl; temporary = (λ i. refl, λ i. refl) }
-  layer (Core-F.PointerCall at None e t es) = record { value = in_call at t (e ∷ es); statement = λ m. refl; next = λ m. refl; blank = refl; filling = refl; declares = refl; label = refl; temporary = (λ i. refl, λ i. refl) }
-  layer (Core-F.PointerCall at (Some object) e t es) = record { value = refl; statement = λ m. refl; next = λ m. refl; blank = refl; filling = refl; declares = refl; label = refl; temporary = (λ i. refl, λ i. refl) }
-  layer (Core-F.New at t e) = record { value = refl; statement = λ m. refl; next = λ m. refl; blank = refl; filling = refl; declares = refl; label = refl; temporary = (λ i. refl, λ i. refl) }
-  layer (Core-F.NewArray at t n e) = record { value = refl; statement = λ m. refl; next = λ m. refl; blank = refl; filling = refl; declares = refl; label = refl; temporary = (λ i. refl, λ i. refl) }
-  layer (Core-F.Delete at t e) = record { value = refl; statement = λ m. refl; next = λ m. refl; blank = refl; filling = refl; declares = refl; label = refl; temporary = (λ i. refl, λ i. refl) }
-  layer (Core-F.DeleteArray at t e) = record { value = refl; statement = λ m. refl; next = λ m. refl; blank = refl; filling = refl; declares = refl; label = refl; temporary = (λ i. refl, λ i. refl) }
-  layer (Core-F.Build at f t es) = record { value = refl; statement = λ m. refl; next = λ m. refl; blank = refl; filling = refl; declares = refl; label = refl; temporary = (λ i. refl, λ i. refl) }
-  layer (Core-F.Copy at t e es) = record { value = refl; statement = λ m. refl; next = λ m. refl; blank = refl; filling = refl; declares = refl; label = refl; temporary = (λ i. refl, λ i. refl) }
-  layer (Core-F.Each at e) = record { value = refl; statement = λ m. refl; next = λ m. refl; blank = refl; filling = refl; declares = refl; label = refl; temporary = (λ i. refl, λ i. refl) }
-  layer (Core-F.List at es rest) = record { value = refl; statement = λ m. refl; next = λ m. refl; blank = refl; filling = refl; declares = refl; label = refl; temporary = (λ i. refl, λ i. refl) }
-  layer (Core-F.Characters at bytes) = record { value = refl; statement = λ m. refl; next = λ m. refl; blank = refl; filling = refl; declares = refl; label = refl; temporary = (λ i. refl, λ i. refl) }
-  layer (Core-F.Bind at holder.NoTemporary e) = record { value = e.1.value; statement = λ m. refl; next = λ m. refl; blank = refl; filling = refl; declares = refl; label = refl; temporary = (λ i. refl, λ i. refl) }
+  layer (Core-F.Number at z) = record { value = refl; statement = λ m. refl; next = λ m. refl; blank = refl; filling = refl; declares = refl; label = refl; list = λ t. refl; temporary = (λ i. refl, λ i. refl) }
+  layer (Core-F.Text at j bytes) = record { value = refl; statement = λ m. refl; next = λ m. refl; blank = refl; filling = refl; declares = refl; label = refl; list = λ t. refl; temporary = (λ i. refl, λ i. refl) }
+  layer (Core-F.This at) = record { value = refl; statement = λ m. refl; next = λ m. refl; blank = refl; filling = refl; declares = refl; label = refl; list = λ t. refl; temporary = (λ i. refl, λ i. refl) }
+  layer (Core-F.Local at i) = record { value = refl; statement = λ m. refl; next = λ m. refl; blank = refl; filling = refl; declares = refl; label = refl; list = λ t. refl; temporary = (λ i. refl, λ i. refl) }
+  layer (Core-F.Static at n t) = record { value = refl; statement = λ m. refl; next = λ m. refl; blank = refl; filling = refl; declares = refl; label = refl; list = λ t. refl; temporary = (λ i. refl, λ i. refl) }
+  layer (Core-F.Function at n t) = record { value = refl; statement = λ m. refl; next = λ m. refl; blank = refl; filling = refl; declares = refl; label = refl; list = λ t. refl; temporary = (λ i. refl, λ i. refl) }
+  layer (Core-F.Member at e i) = record { value = refl; statement = λ m. refl; next = λ m. refl; blank = refl; filling = refl; declares = refl; label = refl; list = λ t. refl; temporary = (λ i. refl, λ i. refl) }
+  layer (Core-F.Read at e) = record { value = e.1.value; statement = λ m. refl; next = λ m. refl; blank = refl; filling = refl; declares = refl; label = refl; list = λ t. refl; temporary = (λ i. refl, λ i. refl) }
+  layer (Core-F.Address at e) = record { value = e.1.value; statement = λ m. refl; next = λ m. refl; blank = refl; filling = refl; declares = refl; label = refl; list = λ t. refl; temporary = (λ i. refl, λ i. refl) }
+  layer (Core-F.Dereference at e) = record { value = e.1.value; statement = λ m. refl; next = λ m. refl; blank = refl; filling = refl; declares = refl; label = refl; list = λ t. refl; temporary = (λ i. refl, λ i. refl) }
+  layer (Core-F.Decay at e) = record { value = e.1.value; statement = λ m. refl; next = λ m. refl; blank = refl; filling = refl; declares = refl; label = refl; list = λ t. refl; temporary = (λ i. refl, λ i. refl) }
+  layer (Core-F.Index at a b) = record { value = two a b; statement = λ m. refl; next = λ m. refl; blank = refl; filling = refl; declares = refl; label = refl; list = λ t. refl; temporary = (λ i. refl, λ i. refl) }
+  layer (Core-F.Convert at t e) = record { value = e.1.value; statement = λ m. refl; next = λ m. refl; blank = refl; filling = refl; declares = refl; label = refl; list = λ t. refl; temporary = (λ i. refl, λ i. refl) }
+  layer (Core-F.Up at path e) = record { value = refl; statement = λ m. refl; next = λ m. refl; blank = refl; filling = refl; declares = refl; label = refl; list = λ t. refl; temporary = (λ i. refl, λ i. refl) }
+  layer (Core-F.Down at c path e) = record { value = refl; statement = λ m. refl; next = λ m. refl; blank = refl; filling = refl; declares = refl; label = refl; list = λ t. refl; temporary = (λ i. refl, λ i. refl) }
+  layer (Core-F.FromVoid at t e) = record { value = e.1.value; statement = λ m. refl; next = λ m. refl; blank = refl; filling = refl; declares = refl; label = refl; list = λ t. refl; temporary = (λ i. refl, λ i. refl) }
+  layer (Core-F.ToMember at path e) = record { value = refl; statement = λ m. refl; next = λ m. refl; blank = refl; filling = refl; declares = refl; label = refl; list = λ t. refl; temporary = (λ i. refl, λ i. refl) }
+  layer (Core-F.DataPointer at i) = record { value = refl; statement = λ m. refl; next = λ m. refl; blank = refl; filling = refl; declares = refl; label = refl; list = λ t. refl; temporary = (λ i. refl, λ i. refl) }
+  layer (Core-F.FunctionPointer at t) = record { value = refl; statement = λ m. refl; next = λ m. refl; blank = refl; filling = refl; declares = refl; label = refl; list = λ t. refl; temporary = (λ i. refl, λ i. refl) }
+  layer (Core-F.Through at a b) = record { value = refl; statement = λ m. refl; next = λ m. refl; blank = refl; filling = refl; declares = refl; label = refl; list = λ t. refl; temporary = (λ i. refl, λ i. refl) }
+  layer (Core-F.Operate at op k a b) = record { value = two a b; statement = λ m. refl; next = λ m. refl; blank = refl; filling = refl; declares = refl; label = refl; list = λ t. refl; temporary = (λ i. refl, λ i. refl) }
+  layer (Core-F.Unary at op k e) = record { value = e.1.value; statement = λ m. refl; next = λ m. refl; blank = refl; filling = refl; declares = refl; label = refl; list = λ t. refl; temporary = (λ i. refl, λ i. refl) }
+  layer (Core-F.Not at e) = record { value = e.1.value; statement = λ m. refl; next = λ m. refl; blank = refl; filling = refl; declares = refl; label = refl; list = λ t. refl; temporary = (λ i. refl, λ i. refl) }
+  layer (Core-F.And at a b) = record { value = two a b; statement = λ m. refl; next = λ m. refl; blank = refl; filling = refl; declares = refl; label = refl; list = λ t. refl; temporary = (λ i. refl, λ i. refl) }
+  layer (Core-F.Or at a b) = record { value = two a b; statement = λ m. refl; next = λ m. refl; blank = refl; filling = refl; declares = refl; label = refl; list = λ t. refl; temporary = (λ i. refl, λ i. refl) }
+  layer (Core-F.PointerOperate at op a b) = record { value = two a b; statement = λ m. refl; next = λ m. refl; blank = refl; filling = refl; declares = refl; label = refl; list = λ t. refl; temporary = (λ i. refl, λ i. refl) }
+  layer (Core-F.Conditional at c a b) = record { value = three c a b; statement = λ m. refl; next = λ m. refl; blank = refl; filling = refl; declares = refl; label = refl; list = λ t. refl; temporary = (λ i. refl, λ i. refl) }
+  layer (Core-F.Comma at es) = record { value = in_comma at es; statement = λ m. refl; next = λ m. refl; blank = refl; filling = refl; declares = refl; label = refl; list = λ t. refl; temporary = (λ i. refl, λ i. refl) }
+  layer (Core-F.Store at a b) = record { value = two a b; statement = λ m. refl; next = λ m. refl; blank = refl; filling = refl; declares = refl; label = refl; list = λ t. refl; temporary = (λ i. refl, λ i. refl) }
+  layer (Core-F.Update at a c b) = record { value = two a b; statement = λ m. refl; next = λ m. refl; blank = refl; filling = refl; declares = refl; label = refl; list = λ t. refl; temporary = (λ i. refl, λ i. refl) }
+  layer (Core-F.Increment at is_postfix c e) = record { value = e.1.value; statement = λ m. refl; next = λ m. refl; blank = refl; filling = refl; declares = refl; label = refl; list = λ t. refl; temporary = (λ i. refl, λ i. refl) }
+  layer (Core-F.Assign at t a b es) = record { value = refl; statement = λ m. refl; next = λ m. refl; blank = refl; filling = refl; declares = refl; label = refl; list = λ t. refl; temporary = (λ i. refl, λ i. refl) }
+  layer (Core-F.Temporary at t e) = record { value = where-false at (is_reference (type_of tables t)) (test_of e).value _ e.1.value; statement = λ m. refl; next = λ m. refl; blank = refl; filling = refl; declares = refl; label = refl; list = λ t. refl; temporary = (λ i. refl, λ i. refl) }
+  layer (Core-F.Call at f t None es) = record { value = in_call at t es; statement = λ m. refl; next = λ m. refl; blank = refl; filling = refl; declares = refl; label = refl; list = λ t. refl; temporary = (λ i. refl, λ i. refl) }
+  layer (Core-F.Call at f t (Some object) es) = record { value = refl; statement = λ m. refl; next = λ m. refl; blank = refl; filling = refl; declares = refl; label = refl; list = λ t. refl; temporary = (λ i. refl, λ i. refl) }
+  layer (Core-F.VirtualCall at m t e es) = record { value = refl; statement = λ m. refl; next = λ m. refl; blank = refl; filling = refl; declares = refl; label = refl; list = λ t. refl; temporary = (λ i. refl, λ i. refl) }
+  layer (Core-F.PointerCall at None e t es) = record { value = in_call at t (e ∷ es); statement = λ m. refl; next = λ m. refl; blank = refl; filling = refl; declares = refl; label = refl; list = λ t. refl; temporary = (λ i. refl, λ i. refl) }
+  layer (Core-F.PointerCall at (Some object) e t es) = record { value = refl; statement = λ m. refl; next = λ m. refl; blank = refl; filling = refl; declares = refl; label = refl; list = λ t. refl; temporary = (λ i. refl, λ i. refl) }
+  layer (Core-F.New at t e) = record { value = refl; statement = λ m. refl; next = λ m. refl; blank = refl; filling = refl; declares = refl; label = refl; list = λ t. refl; temporary = (λ i. refl, λ i. refl) }
+  layer (Core-F.NewArray at t n e) = record { value = refl; statement = λ m. refl; next = λ m. refl; blank = refl; filling = refl; declares = refl; label = refl; list = λ t. refl; temporary = (λ i. refl, λ i. refl) }
+  layer (Core-F.Delete at t e) = record { value = refl; statement = λ m. refl; next = λ m. refl; blank = refl; filling = refl; declares = refl; label = refl; list = λ t. refl; temporary = (λ i. refl, λ i. refl) }
+  layer (Core-F.DeleteArray at t e) = record { value = refl; statement = λ m. refl; next = λ m. refl; blank = refl; filling = refl; declares = refl; label = refl; list = λ t. refl; temporary = (λ i. refl, λ i. refl) }
+  layer (Core-F.Build at f t es) = record { value = refl; statement = λ m. refl; next = λ m. refl; blank = refl; filling = refl; declares = refl; label = refl; list = λ t. refl; temporary = (λ i. refl, λ i. refl) }
+  layer (Core-F.Copy at t e es) = record { value = refl; statement = λ m. refl; next = λ m. refl; blank = refl; filling = refl; declares = refl; label = refl; list = λ t. refl; temporary = (λ i. refl, λ i. refl) }
+  layer (Core-F.Each at e) = record { value = refl; statement = λ m. refl; next = λ m. refl; blank = refl; filling = refl; declares = refl; label = refl; list = λ t. refl; temporary = (λ i. refl, λ i. refl) }
+  layer (Core-F.List at es rest) = record { value = refl; statement = λ m. refl; next = λ m. refl; blank = refl; filling = refl; declares = refl; label = refl; list = (λ t. list-is at es rest t, refl); temporary = (λ i. refl, λ i. refl) }
+  layer (Core-F.Characters at bytes) = record { value = refl; statement = λ m. refl; next = λ m. refl; blank = refl; filling = refl; declares = refl; label = refl; list = λ t. refl; temporary = (λ i. refl, λ i. refl) }
+  layer (Core-F.Bind at holder.NoTemporary e) = record { value = e.1.value; statement = λ m. refl; next = λ m. refl; blank = refl; filling = refl; declares = refl; label = refl; list = λ t. refl; temporary = (λ i. refl, λ i. refl) }
   layer (Core-F.Bind at (holder.LocalTemporary j t) e) = record {
     value = refl;
     statement = λ m. refl;
@@ -263,34 +305,35 @@ module _ (tables : Tables) (signature : MemberRef → Name) where
     filling = refl;
     declares = refl;
     label = refl;
+    list = λ t. refl;
     temporary = (
       λ i. ap (λ b. nat_lt i j && b) (sym (where-false at (is_reference (type_of tables t)) (test_of e).value _ e.1.value)),
       λ i. refl,
-      refl,
+      λ t. refl,
     );
   }
-  layer (Core-F.Bind at (holder.StaticTemporary name) e) = record { value = refl; statement = λ m. refl; next = λ m. refl; blank = refl; filling = refl; declares = refl; label = refl; temporary = (λ i. refl, λ i. refl) }
-  layer (Core-F.Zeros at) = record { value = refl; statement = λ m. refl; next = λ m. refl; blank = refl; filling = refl; declares = refl; label = refl; temporary = (λ i. refl, λ i. refl) }
-  layer (Core-F.Blank at) = record { value = refl; statement = λ m. refl; next = λ m. refl; blank = refl; filling = refl; declares = refl; label = refl; temporary = (λ i. refl, λ i. refl) }
-  layer (Core-F.Full at e) = record { value = refl; statement = λ m. start-is e; next = λ m. refl; blank = refl; filling = refl; declares = refl; label = refl; temporary = (λ i. refl, λ i. refl) }
-  layer (Core-F.Block at es) = record { value = refl; statement = λ m. in_order m es; next = λ m. refl; blank = refl; filling = refl; declares = refl; label = refl; temporary = (λ i. refl, λ i. refl) }
-  layer (Core-F.Sequence at es) = record { value = refl; statement = λ m. in_order m es; next = λ m. nexts m es; blank = refl; filling = refl; declares = refl; label = refl; temporary = (λ i. refl, λ i. refl) }
-  layer (Core-F.Declare at i t e) = record { value = refl; statement = λ m. where-true at (nat_le m i) _ _ (local-is at i e); next = λ m. behind-is i e; blank = refl; filling = refl; declares = refl; label = refl; temporary = (λ i. refl, λ i. refl) }
-  layer (Core-F.Once at n e) = record { value = refl; statement = λ m. refl; next = λ m. refl; blank = refl; filling = refl; declares = refl; label = refl; temporary = (λ i. refl, λ i. refl) }
-  layer (Core-F.If at c a None) = record { value = refl; statement = λ m. and-is _ _ _ _ c.1.value (and-is _ _ _ _ (inner-is at m a) (inner_or-is at m None)); next = λ m. refl; blank = refl; filling = refl; declares = refl; label = refl; temporary = (λ i. refl, λ i. refl) }
-  layer (Core-F.If at c a (Some b)) = record { value = refl; statement = λ m. and-is _ _ _ _ c.1.value (and-is _ _ _ _ (inner-is at m a) (inner_or-is at m (Some b))); next = λ m. refl; blank = refl; filling = refl; declares = refl; label = refl; temporary = (λ i. refl, λ i. refl) }
-  layer (Core-F.Loop at f None None s) = record { value = refl; statement = in_loop None None s; next = λ m. refl; blank = refl; filling = refl; declares = refl; label = refl; temporary = (λ i. refl, λ i. refl) }
-  layer (Core-F.Loop at f None (Some e) s) = record { value = refl; statement = in_loop None (Some e) s; next = λ m. refl; blank = refl; filling = refl; declares = refl; label = refl; temporary = (λ i. refl, λ i. refl) }
-  layer (Core-F.Loop at f (Some c) None s) = record { value = refl; statement = in_loop (Some c) None s; next = λ m. refl; blank = refl; filling = refl; declares = refl; label = refl; temporary = (λ i. refl, λ i. refl) }
-  layer (Core-F.Loop at f (Some c) (Some e) s) = record { value = refl; statement = in_loop (Some c) (Some e) s; next = λ m. refl; blank = refl; filling = refl; declares = refl; label = refl; temporary = (λ i. refl, λ i. refl) }
-  layer (Core-F.Switch at e es) = record { value = refl; statement = λ m. and-is _ _ _ _ e.1.value (in_cases m es); next = λ m. refl; blank = refl; filling = refl; declares = refl; label = refl; temporary = (λ i. refl, λ i. refl) }
-  layer (Core-F.Case at z) = record { value = refl; statement = λ m. refl; next = λ m. refl; blank = refl; filling = refl; declares = refl; label = refl; temporary = (λ i. refl, λ i. refl) }
-  layer (Core-F.Default at) = record { value = refl; statement = λ m. refl; next = λ m. refl; blank = refl; filling = refl; declares = refl; label = refl; temporary = (λ i. refl, λ i. refl) }
-  layer (Core-F.Break at) = record { value = refl; statement = λ m. refl; next = λ m. refl; blank = refl; filling = refl; declares = refl; label = refl; temporary = (λ i. refl, λ i. refl) }
-  layer (Core-F.Continue at) = record { value = refl; statement = λ m. refl; next = λ m. refl; blank = refl; filling = refl; declares = refl; label = refl; temporary = (λ i. refl, λ i. refl) }
-  layer (Core-F.Return at None) = record { value = refl; statement = λ m. refl; next = λ m. refl; blank = refl; filling = refl; declares = refl; label = refl; temporary = (λ i. refl, λ i. refl) }
-  layer (Core-F.Return at (Some e)) = record { value = refl; statement = λ m. e.1.value; next = λ m. refl; blank = refl; filling = refl; declares = refl; label = refl; temporary = (λ i. refl, λ i. refl) }
-  layer (Core-F.Parts at ps s) = record { value = refl; statement = λ m. refl; next = λ m. refl; blank = refl; filling = refl; declares = refl; label = refl; temporary = (λ i. refl, λ i. refl) }
+  layer (Core-F.Bind at (holder.StaticTemporary name) e) = record { value = refl; statement = λ m. refl; next = λ m. refl; blank = refl; filling = refl; declares = refl; label = refl; list = λ t. refl; temporary = (λ i. refl, λ i. refl) }
+  layer (Core-F.Zeros at) = record { value = refl; statement = λ m. refl; next = λ m. refl; blank = refl; filling = refl; declares = refl; label = refl; list = λ t. refl; temporary = (λ i. refl, λ i. refl) }
+  layer (Core-F.Blank at) = record { value = refl; statement = λ m. refl; next = λ m. refl; blank = refl; filling = refl; declares = refl; label = refl; list = λ t. refl; temporary = (λ i. refl, λ i. refl) }
+  layer (Core-F.Full at e) = record { value = refl; statement = λ m. start-is e; next = λ m. refl; blank = refl; filling = refl; declares = refl; label = refl; list = λ t. refl; temporary = (λ i. refl, λ i. refl) }
+  layer (Core-F.Block at es) = record { value = refl; statement = λ m. in_order m es; next = λ m. refl; blank = refl; filling = refl; declares = refl; label = refl; list = λ t. refl; temporary = (λ i. refl, λ i. refl) }
+  layer (Core-F.Sequence at es) = record { value = refl; statement = λ m. in_order m es; next = λ m. nexts m es; blank = refl; filling = refl; declares = in_declares es; label = refl; list = λ t. refl; temporary = (λ i. refl, λ i. refl) }
+  layer (Core-F.Declare at i t e) = record { value = refl; statement = λ m. where-true at (nat_le m i) _ _ (local-is at i (type_of tables t) e); next = λ m. behind-is i e; blank = refl; filling = refl; declares = refl; label = refl; list = λ t. refl; temporary = (λ i. refl, λ i. refl) }
+  layer (Core-F.Once at n e) = record { value = refl; statement = λ m. refl; next = λ m. refl; blank = refl; filling = refl; declares = refl; label = refl; list = λ t. refl; temporary = (λ i. refl, λ i. refl) }
+  layer (Core-F.If at c a None) = record { value = refl; statement = λ m. and-is _ _ _ _ c.1.value (and-is _ _ _ _ (inner-is at m a) (inner_or-is at m None)); next = λ m. refl; blank = refl; filling = refl; declares = refl; label = refl; list = λ t. refl; temporary = (λ i. refl, λ i. refl) }
+  layer (Core-F.If at c a (Some b)) = record { value = refl; statement = λ m. and-is _ _ _ _ c.1.value (and-is _ _ _ _ (inner-is at m a) (inner_or-is at m (Some b))); next = λ m. refl; blank = refl; filling = refl; declares = refl; label = refl; list = λ t. refl; temporary = (λ i. refl, λ i. refl) }
+  layer (Core-F.Loop at f None None s) = record { value = refl; statement = in_loop None None s; next = λ m. refl; blank = refl; filling = refl; declares = refl; label = refl; list = λ t. refl; temporary = (λ i. refl, λ i. refl) }
+  layer (Core-F.Loop at f None (Some e) s) = record { value = refl; statement = in_loop None (Some e) s; next = λ m. refl; blank = refl; filling = refl; declares = refl; label = refl; list = λ t. refl; temporary = (λ i. refl, λ i. refl) }
+  layer (Core-F.Loop at f (Some c) None s) = record { value = refl; statement = in_loop (Some c) None s; next = λ m. refl; blank = refl; filling = refl; declares = refl; label = refl; list = λ t. refl; temporary = (λ i. refl, λ i. refl) }
+  layer (Core-F.Loop at f (Some c) (Some e) s) = record { value = refl; statement = in_loop (Some c) (Some e) s; next = λ m. refl; blank = refl; filling = refl; declares = refl; label = refl; list = λ t. refl; temporary = (λ i. refl, λ i. refl) }
+  layer (Core-F.Switch at e es) = record { value = refl; statement = λ m. and-is _ _ _ _ e.1.value (in_cases m es); next = λ m. refl; blank = refl; filling = refl; declares = refl; label = refl; list = λ t. refl; temporary = (λ i. refl, λ i. refl) }
+  layer (Core-F.Case at z) = record { value = refl; statement = λ m. refl; next = λ m. refl; blank = refl; filling = refl; declares = refl; label = refl; list = λ t. refl; temporary = (λ i. refl, λ i. refl) }
+  layer (Core-F.Default at) = record { value = refl; statement = λ m. refl; next = λ m. refl; blank = refl; filling = refl; declares = refl; label = refl; list = λ t. refl; temporary = (λ i. refl, λ i. refl) }
+  layer (Core-F.Break at) = record { value = refl; statement = λ m. refl; next = λ m. refl; blank = refl; filling = refl; declares = refl; label = refl; list = λ t. refl; temporary = (λ i. refl, λ i. refl) }
+  layer (Core-F.Continue at) = record { value = refl; statement = λ m. refl; next = λ m. refl; blank = refl; filling = refl; declares = refl; label = refl; list = λ t. refl; temporary = (λ i. refl, λ i. refl) }
+  layer (Core-F.Return at None) = record { value = refl; statement = λ m. refl; next = λ m. refl; blank = refl; filling = refl; declares = refl; label = refl; list = λ t. refl; temporary = (λ i. refl, λ i. refl) }
+  layer (Core-F.Return at (Some e)) = record { value = refl; statement = λ m. e.1.value; next = λ m. refl; blank = refl; filling = refl; declares = refl; label = refl; list = λ t. refl; temporary = (λ i. refl, λ i. refl) }
+  layer (Core-F.Parts at ps s) = record { value = refl; statement = λ m. refl; next = λ m. refl; blank = refl; filling = refl; declares = refl; label = refl; list = λ t. refl; temporary = (λ i. refl, λ i. refl) }
 
   rolled : (x : Core-F Node PartStart) → IsLayer x → IsTested (roll-Core x)
   rolled x p =

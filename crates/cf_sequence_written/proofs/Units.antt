@@ -16,7 +16,7 @@ use Rattle.cf_plain.specs.View as plain
 use Rattle.cf_sequence.specs.Built.{is_built_file, is_built_function, is_body, is_plain_role, is_chain, is_none}
 use Rattle.cf_sequence.specs.Sequenced.{sequenced_file, sequenced_function}
 use Rattle.cf_sequence_fn.specs.Functions.{written_function, written_unit}
-use Rattle.cf_sequence_written.proofs.Parameters.{parameters-are}
+use Rattle.cf_sequence_written.proofs.Parameters.{parameters-are, rows-are}
 use Rattle.cf_sequence_written.proofs.Functions.{function-is}
 use Rattle.cf_sequence.proofs.OwnNames.{is_own}
 use Rattle.cf_sequence_written.proofs.Objects.{objects-are}
@@ -44,7 +44,7 @@ module _ (alloc : Global) (frames : List ℕ) (unit : Unit) (valid : IsValid uni
   functions-are (f ∷ fs) ok =
       let parts = both (is_built_function (function_of tables f)) (list_all is_built_function (map (function_of tables) fs)) ok in
       ap (λ z. z ∷ map (plain.function_of tables) (map (written_function unit.types alloc) fs))
-      (function-is tables (parameters-are tables valid.names) classes statics alloc f (body-built (function_of tables f) parts.0))
+      (function-is tables (parameters-are tables valid.names) (rows-are tables valid.names) classes statics alloc f (body-built (function_of tables f) parts.0))
       ∙ ap (λ l. sequenced_function classes statics (function_of tables f) ∷ l) (functions-are fs parts.1)
 
   names-differ : checks.all_differ (map (λ (f : Function). f.name) (file_of unit).functions ++ map (λ (x : Static). x.name) statics) ≡ true
@@ -61,4 +61,4 @@ module _ (alloc : Global) (frames : List ℕ) (unit : Unit) (valid : IsValid uni
       let two = both (list_all is_own statics) (list_all is_built_function (file_of unit).functions) one.1 in
       ap (λ (fs : List PlainFunction). record (plain.file_of (written_unit alloc frames unit)) { functions = fs }) (functions-are unit.functions two.1)
       ∙ ap (λ (xs : List PlainStatic). record (sequenced_file (file_of unit)) { statics = xs })
-      (objects-are tables (parameters-are tables valid.names) classes alloc unit.statics (map (λ (f : Function). f.name) (file_of unit).functions) two.0 names-differ)
+      (objects-are tables (parameters-are tables valid.names) (rows-are tables valid.names) classes alloc unit.statics (map (λ (f : Function). f.name) (file_of unit).functions) two.0 names-differ)

@@ -1,8 +1,8 @@
 -- Full expressions of a body, and initialisers of locals.
-use Rattle.std.proofs.Common.{◌≡◌, ℕ, ◌+◌, Bool, true, false, ◌||◌, List, [], ◌∷◌, length, refl, ap, sym, subst, ◌∙◌}
+use Rattle.std.proofs.Common.{◌≡◌, ℕ, suc, ◌+◌, Bool, true, false, ◌||◌, List, [], ◌∷◌, length, refl, ap, sym, subst, ◌∙◌}
 use Rattle.std.specs.Prelude.{Option, Some, None, if◌then◌else◌}
 use Rattle.cf_classes.specs.declared.class.MemberRef.{MemberRef}
-use Rattle.cf_core.specs.Types.{Name}
+use Rattle.cf_core.specs.Types.{Name, SourceType}
 use Rattle.cf_core.specs.Classes.{Class}
 use Rattle.cf_core.specs.Core as core
 use Rattle.cf_core.specs.Core.{Core}
@@ -13,18 +13,20 @@ use Rattle.cf_plain.specs.declared.action.Action.TheVariants as action
 use Rattle.cf_plain.specs.View.{action_of}
 use Rattle.cf_plain.specs.Plain.{Plains, more, set as sets, act as acts}
 use Rattle.cf_plain.specs.Plain as plain
-use Rattle.cf_sequence.specs.Built.{is_start, is_value, is_filling}
+use Rattle.cf_sequence.specs.Built.{is_start, is_value, is_filling, is_list}
 use Rattle.cf_sequence.specs.Made.{width}
 use Rattle.cf_sequence.specs.Expressions.{destination, value, whole, builds, used as use_of}
 use Rattle.cf_sequence.specs.Statements.{Inside, statement, condition}
 use Rattle.cf_sequence.specs.Statements as definition
 use Rattle.cf_sequence.proofs.Filling.{fill, filling-adds, started-is}
+use Rattle.cf_sequence.proofs.Calling.{never}
 use Rattle.cf_sequence.proofs.Fulls.{nothing-is}
+use Rattle.cf_sequence_expr.specs.declared.writing.Writing.{Writing}
 use Rattle.cf_sequence_expr.specs.Writes.{used, set}
 use Rattle.cf_sequence_expr.specs.Pieces.{Piece}
 use Rattle.cf_sequence_stmt.specs.declared.body.Body.{Body}
 use Rattle.cf_sequence_stmt.specs.declared.body.Open.{Open}
-use Rattle.cf_sequence_stmt.specs.Bodies.{Initial, does_nothing, fills, gives, is_blank, behind_flags, full, given, tested, started, held_too, declared}
+use Rattle.cf_sequence_stmt.specs.Bodies.{Initial, does_nothing, fills, lists, gives, is_blank, behind_flags, full, given, tested, started, held_too, declared}
 use Rattle.cf_sequence_written.proofs.Puts.{Puts, Still, puts-none, still-set, still-act, still-used, puts-as, puts-still, still-puts}
 use Rattle.cf_sequence_written.proofs.Values.{Writes}
 use Rattle.cf_sequence_written.proofs.Evaluated.{gives-value}
@@ -75,11 +77,17 @@ module _ (tables : Tables) (signature : MemberRef → Name) where
 
   -- Initialisers.
 
+  -- a list: the elements of an array of this type, from a free register on
+  pub record Lists (f : ℕ → ℕ → ℕ → Writing → Writing) (e : Core) : Type 0 where
+    pub puts : (classes : List Class) (t n m : ℕ) → is_list (type_of tables t) e ≡ true → m ≡ suc n + width e
+        → Puts tables signature (f t n m) (λ k rest. definition.started classes (type_of tables t) e n k rest) (width e)
+
   -- what an initialiser is found to do
   abbrev pub Begins : Initial → Core → Type 0
   Begins does_nothing e = is_nothing e ≡ true
-  Begins (fills a) e = (is_filling e ≡ true) × (action_of tables signature a ≡ fill e 0)
-  Begins gives e = (is_nothing e ≡ false) × (is_filling e ≡ false)
+  Begins (fills a) e = (is_filling e ≡ true) × ((n : ℕ) → action_of tables signature (a n) ≡ fill e n)
+  Begins (lists f) e = (is_nothing e ≡ false) × (is_filling e ≡ false) × (builds e ≡ true) × Lists f e
+  Begins gives e = (is_nothing e ≡ false) × (is_filling e ≡ false) × ((T : SourceType) → is_list T e ≡ false)
 
   pub as-found : (i : Initial) (e : Core) → Begins i e → is_blank i ≡ is_nothing e
   as-found does_nothing e begins = sym begins
@@ -88,51 +96,64 @@ module _ (tables : Tables) (signature : MemberRef → Name) where
       by : (e : Core) → is_filling e ≡ true → false ≡ is_nothing e
       by core.blank ok = ok
       by e ok = refl
+  as-found (lists f) e begins = sym begins.0
   as-found gives e begins = sym begins.0
 
-  -- the initialiser of an object, as it is written
-  pub record Initiates (i : Initial) (p : Piece) (e : Core) : Type 0 where
+  -- the initialiser of an object of this type, as it is written
+  pub record Initiates (i : Initial) (p : Piece) (t : ℕ) (e : Core) : Type 0 where
     pub begins : Begins i e
-    pub whole : is_filling e ≡ false → Whole p e
+    pub whole : is_filling e ≡ false → is_list (type_of tables t) e ≡ false → Whole p e
+    pub count : length (p.locals []) ≡ width e
 
-  puts-value-there : {p : Piece} {e : Core} (classes : List Class) (t : ℕ) → builds e ≡ false → Whole p e
-      → Puts tables signature (started gives p) (λ k rest. definition.started classes (type_of tables t) e 0 k rest) (width e)
+  puts-value-there : {p : Piece} {e : Core} (classes : List Class) (t n : ℕ) → builds e ≡ false → Whole p e
+      → Puts tables signature (started gives p t n) (λ k rest. definition.started classes (type_of tables t) e n k rest) (width e)
   unfolding started
-  puts-value-there {p} {e} classes t gives_value w =
+  puts-value-there {p} {e} classes t n gives_value w =
       let T = type_of tables t in
       let put : ℕ → ℕ → Bool → Plains → Plains = λ k r c rest.
-      whole e 1 k (λ x m rest. value classes x e (destination 0 T) m k rest) (λ m. if c then rest else more (acts (plain.first 0 r)) rest) in
+      whole e (suc n) k (λ x m rest. value classes x e (destination n T) m k rest) (λ m. if c then rest else more (acts (plain.first n r)) rest) in
       puts-as tables signature
-      (puts-still tables signature (puts-all tables signature classes 1 (destination 0 T) (w.writes classes) (behind w 1)) (still-act tables signature (action.First 0 (behind_flags 1 p))))
-      (λ k rest. ap (λ r. put k r false rest) (behind w 1) ∙ ap (λ c. put k (1 + width e) c rest) (sym gives_value)) refl
+      (puts-still tables signature (puts-all tables signature classes (suc n) (destination n T) (w.writes classes) (behind w (suc n))) (still-act tables signature (action.First n (behind_flags (suc n) p))))
+      (λ k rest. ap (λ r. put k r false rest) (behind w (suc n)) ∙ ap (λ c. put k (suc n + width e) c rest) (sym gives_value)) refl
 
-  puts-nothing : (p : Piece) (e : Core) (classes : List Class) (t : ℕ) → is_nothing e ≡ true
-      → Puts tables signature (started does_nothing p) (λ k rest. definition.started classes (type_of tables t) e 0 k rest) (width e)
+  puts-nothing : (p : Piece) (e : Core) (classes : List Class) (t n : ℕ) → is_nothing e ≡ true
+      → Puts tables signature (started does_nothing p t n) (λ k rest. definition.started classes (type_of tables t) e n k rest) (width e)
   unfolding started
-  puts-nothing p e classes t blank =
-      subst (λ e. Puts tables signature (λ w. w) (λ k rest. definition.started classes (type_of tables t) e 0 k rest) (width e)) (sym (nothing-is e blank)) (puts-none tables signature)
+  puts-nothing p e classes t n blank =
+      subst (λ e. Puts tables signature (λ w. w) (λ k rest. definition.started classes (type_of tables t) e n k rest) (width e)) (sym (nothing-is e blank)) (puts-none tables signature)
 
-  puts-filled : (p : Piece) (e : Core) (classes : List Class) (t : ℕ) (a : Action) → is_filling e ≡ true → action_of tables signature a ≡ fill e 0
-      → Puts tables signature (started (fills a) p) (λ k rest. definition.started classes (type_of tables t) e 0 k rest) (width e)
+  puts-filled : (p : Piece) (e : Core) (classes : List Class) (t n : ℕ) (a : ℕ → Action) → is_filling e ≡ true → action_of tables signature (a n) ≡ fill e n
+      → Puts tables signature (started (fills a) p t n) (λ k rest. definition.started classes (type_of tables t) e n k rest) (width e)
   unfolding started
-  puts-filled p e classes t a filling same =
-      puts-as tables signature (puts-still tables signature (puts-none tables signature) (still-act tables signature a))
-      (λ k rest. ap (λ x. more (acts x) rest) same ∙ sym (started-is classes (type_of tables t) e filling 0 k rest)) (sym (ap length (filling-adds e filling)))
+  puts-filled p e classes t n a filling same =
+      puts-as tables signature (puts-still tables signature (puts-none tables signature) (still-act tables signature (a n)))
+      (λ k rest. ap (λ x. more (acts x) rest) same ∙ sym (started-is classes (type_of tables t) e filling n k rest)) (sym (ap length (filling-adds e filling)))
 
-  pub puts-started : {p : Piece} {e : Core} (classes : List Class) (t : ℕ) (i : Initial) → Initiates i p e
-      → Puts tables signature (started i p) (λ k rest. definition.started classes (type_of tables t) e 0 k rest) (width e)
-  puts-started {p} {e} classes t does_nothing w = puts-nothing p e classes t w.begins
-  puts-started {p} {e} classes t (fills a) w = puts-filled p e classes t a w.begins.0 w.begins.1
-  puts-started {p} {e} classes t gives w =
-      let whole = w.whole w.begins.1 in puts-value-there classes t (whole.put w.begins.0) whole
+  puts-listed : {p : Piece} {e : Core} (classes : List Class) (t n : ℕ) (f : ℕ → ℕ → ℕ → Writing → Writing) → Initiates (lists f) p t e
+      → Puts tables signature (started (lists f) p t n) (λ k rest. definition.started classes (type_of tables t) e n k rest) (width e)
+  unfolding started
+  puts-listed {p} {e} classes t n f w =
+      Lists.puts w.begins.3 classes t n (behind_flags (suc n) p) (listed (is_list (type_of tables t) e) refl) (ap (λ m. suc n + m) w.count)
+    where
+      listed : (b : Bool) → is_list (type_of tables t) e ≡ b → is_list (type_of tables t) e ≡ true
+      listed true is = is
+      listed false is = never (sym (Whole.put (w.whole w.begins.1 is) w.begins.0) ∙ w.begins.2)
 
-  pub goes-declared : {p : Piece} {e : Core} (f : Inside) (b : Body) (i t : ℕ) (initial : Initial) (held : Option Open) → Initiates initial p e
+  pub puts-started : {p : Piece} {e : Core} (classes : List Class) (t n : ℕ) (i : Initial) → Initiates i p t e
+      → Puts tables signature (started i p t n) (λ k rest. definition.started classes (type_of tables t) e n k rest) (width e)
+  puts-started {p} {e} classes t n does_nothing w = puts-nothing p e classes t n w.begins
+  puts-started {p} {e} classes t n (fills a) w = puts-filled p e classes t n a w.begins.0 (w.begins.1 n)
+  puts-started {p} {e} classes t n (lists f) w = puts-listed classes t n f w
+  puts-started {p} {e} classes t n gives w =
+      let whole = w.whole w.begins.1 (w.begins.2 (type_of tables t)) in puts-value-there classes t n (whole.put w.begins.0) whole
+
+  pub goes-declared : {p : Piece} {e : Core} (f : Inside) (b : Body) (i t : ℕ) (initial : Initial) (held : Option Open) → Initiates initial p t e
       → Goes tables signature (λ k rest. statement f (core.declare i (type_of tables t) e) k rest) (width e) (record { number = i; type = type_of tables t } ∷ ends tables (held_list held)) b
       (declared i t initial held p b)
   unfolding declared held_too
   goes-declared f b i t initial None w =
       goes-opened tables signature i t
-      (goes-on tables signature b (still-puts tables signature (still-set tables signature 0 (action.Declare i t)) (puts-started f.classes t initial w)))
+      (goes-on tables signature b (still-puts tables signature (still-set tables signature 0 (action.Declare i t)) (puts-started f.classes t 0 initial w)))
   goes-declared f b i t initial (Some x) w =
       goes-opened tables signature i t (goes-opened tables signature x.number x.ty
-      (goes-on tables signature b (still-puts tables signature (still-set tables signature 0 (action.Declare i t)) (puts-started f.classes t initial w))))
+      (goes-on tables signature b (still-puts tables signature (still-set tables signature 0 (action.Declare i t)) (puts-started f.classes t 0 initial w))))
