@@ -10,5 +10,6 @@ mod numbers;
 #[cfg(test)]
 mod tests;
 
+pub use before::{Before, behind};
 pub use laws::numbers_fit_as_their_items;
-pub use numbers::numbers_fit;
+pub use numbers::{numbers_fit, token_fits};

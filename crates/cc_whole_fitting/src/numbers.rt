@@ -28,7 +28,7 @@ fn unsigned_fits(digits: &[u8]) -> bool
 }
 
 /// Whether a token is no number that does not fit.
-fn token_fits(token: &Token, before: Before) -> bool
+pub fn token_fits(token: &Token, before: Before) -> bool
     ensures { result ≡ spec.token_fits token.now before }
 {
     match token {

@@ -1,6 +1,6 @@
 -- What the code of reading tells.
-use Rattle.std.proofs.Common.{◌≡◌, ℕ, ◌+◌, ◌<◌, ◌≤◌, ◌^◌, Bool, true, false, not, ◌&&◌, List, [], ◌∷◌, ◌++◌, length, take, drop, Option, Some, None, Result, Ok, Err, refl, ap, sym, ◌∙◌, subst, arith, length-append}
-use Rattle.std.specs.Prelude.{nat_lt, if◌then◌else◌}
+use Rattle.std.proofs.Common.{◌≡◌, ℕ, ◌+◌, ◌<◌, ◌≤◌, ◌^◌, Bool, true, false, List, length, Some, None, Result, Ok, Err, refl, ap, sym, ◌∙◌, subst, arith, length-append}
+use Rattle.std.specs.Prelude.{nat_lt}
 use Rattle.std.proofs.lemmas.Bool.{and_from, true≢false}
 use Rattle.std.proofs.lemmas.Bool.Decides.{nat_tests}
 use Rattle.cc_whole_tokens.specs.declared.token.Token.{Token}
@@ -12,7 +12,7 @@ use Rattle.cc_whole.specs.SpellsItems.{SpellsItems}
 use Rattle.cc_whole.specs.Text.{FirstLine}
 use Rattle.cc_whole.specs.Valid.{first_fault}
 use Rattle.cc_whole.specs.ValidUnit.{keeps, valid_unit}
-use Rattle.cc_whole_laws.specs.Landmark.{landmarks_in, items_marks}
+use Rattle.cc_whole_laws.specs.Landmark.{landmarks_in}
 use Rattle.cc_whole_laws.proofs.ItemMarks.{landmarks-of-texts}
 use Rattle.cc_whole_valid.specs.declared.stop.Fault.{Fault}
 use Rattle.cc_whole_valid.specs.Walk.{fault_of, where_so}
@@ -23,13 +23,13 @@ use Rattle.cc_whole_front.specs.Front.{IsFront}
 use Rattle.cc_whole_front.proofs.Laws.{placed_fronts}
 use Rattle.cc_whole_first_line.specs.FirstLine.{Begins}
 use Rattle.cc_whole.specs.declared.unit.CItem.{CItem}
-use Rattle.cc_whole_read_items.specs.Answers.{NotCAt, AreItems, AreWide}
-use Rattle.cc_whole_read.specs.Behind.{place_in, FaultIs, Spells, IsChecked, TokensStop, token, stray, TokensAreWide, ReadsTokens}
+use Rattle.cc_whole_read_items.specs.Answers.{NotCAt, AreItems, AreThese}
+use Rattle.cc_whole_read.specs.Behind.{place_in, FaultIs, Spells, IsChecked, TokensStop, token, stray, ReadsTokens}
 use Rattle.cc_whole_read.specs.Good.{all_good}
 use Rattle.cc_whole_read.specs.Landmarks.{Nth, landmark_from}
 use Rattle.cc_whole_read.proofs.Numbered.{found, too_few}
 use Rattle.cc_whole_read.proofs.SpelledTrees.{good_fronts, spelled_items}
-use Rattle.cc_whole_read.proofs.FaultPlaces.{fault_inside}
+use Rattle.cc_whole_wide.proofs.UnitPlaces.{fault_inside}
 
 -- a version of a first line is one that a text can have
 pub version_good : (version : ℕ) (line : List ℕ) → FirstLine version line → spellable_version version ≡ true
@@ -45,7 +45,7 @@ module _ (front : Front) (unit : CUnit) (is : Spells front unit) where
   spellable = spelled_items is.spelled is.good
 
   -- the definition's fault, as the code tells it
-  told : (c : Checks) (f : Fault) → Some f ≡ fault_of c → c ≡ broken f.rule f.place
+  pub told : (c : Checks) (f : Fault) → Some f ≡ fault_of c → c ≡ broken f.rule f.place
   told (Ok u) f e = absurd (cc)
   told (Err x) f e = let same : f ≡ record { rule = x.rule; place = x.place } = cc in ap (λ (y : Fault). broken {A = Unit {0}} y.rule y.place) (sym same)
 
@@ -65,7 +65,6 @@ module _ (front : Front) (unit : CUnit) (is : Spells front unit) where
       }
   fault_told f (error.NotC at) e h = absurd h
   fault_told f (error.Limit l) e h = absurd h
-  fault_told f error.Wide e h = absurd h
   fault_told f error.Memory e h = tt
 
   kept : (c : Checks) → None ≡ fault_of c → keeps c ≡ true
@@ -102,7 +101,6 @@ checked_tells version front unit (Err (error.NotC at)) whole v spelled h = absur
 checked_tells version front unit (Err (error.Invalid rule at)) whole v spelled h =
     record { unit = unit; has = record { whole = whole; same_version = v; spelled = spelled }; breaks = h }
 checked_tells version front unit (Err (error.Limit l)) whole v spelled h = absurd h
-checked_tells version front unit (Err error.Wide) whole v spelled h = absurd h
 checked_tells version front unit (Err error.Memory) whole v spelled h = tt
 
 -- the tokens of a text are good
@@ -124,19 +122,16 @@ module _ (front : Front) (ts : List Token) (same : ts ≡ front.tokens.items) wh
   pub partial_told : front.is_whole ≡ false → AreItems ts → TokensStop front front.end
   partial_told e a = stray e (subst AreItems same a) refl
 
-  pub items_there : (items : List CItem) → SpellsItems items ts → AreItems ts
-  items_there items d = record { items = items; spelled = d }
+  pub items_there : (items : List CItem) → AreThese ts items → AreItems ts
+  items_there items d = record { items = items; spelled = d.spelled }
 
-  pub wide_told : front.is_whole ≡ true → AreWide ts → TokensAreWide front
-  wide_told e w = record { whole = e; wide = subst AreWide same w }
-
-  pub spells : (version : ℕ) (items : List CItem) → spellable_version version ≡ true → all_good front.tokens.items ≡ true → SpellsItems items ts
+  pub spells : (version : ℕ) (items : List CItem) → spellable_version version ≡ true → all_good front.tokens.items ≡ true → AreThese ts items
       → Spells front (record { version = version; items = items })
-  spells version items v good d = record { spelled = subst (SpellsItems items) same d; good = good; version = v }
+  spells version items v good d = record { spelled = subst (SpellsItems items) same d.spelled; good = good; version = v }
 
-  pub unit_told : (version : ℕ) (items : List CItem) (r : Result CUnit ReadErr) → front.is_whole ≡ true → SpellsItems items ts
+  pub unit_told : (version : ℕ) (items : List CItem) (r : Result CUnit ReadErr) → front.is_whole ≡ true → AreThese ts items
       → IsChecked front (record { version = version; items = items }) r → ReadsTokens version front r
-  unit_told version items r whole d h = checked_tells version front (record { version = version; items = items }) r whole refl (subst (SpellsItems items) same d) h
+  unit_told version items r whole d h = checked_tells version front (record { version = version; items = items }) r whole refl (subst (SpellsItems items) same d.spelled) h
 
 -- what is valid is made
 pub made : {A : Type 0} (b : Bool) (u : A) → where_so b u ≡ None → b ≡ true → ⊥

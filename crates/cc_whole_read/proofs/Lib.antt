@@ -1,7 +1,7 @@
-mod Answering
-mod FaultPlaces
-mod Numbered
-mod OneAnswer
-mod ReadBack
-mod SpelledTrees
+pub mod Answering
+pub mod Numbered
+pub mod OneAnswer
+pub mod ReadBack
+pub mod SpelledTrees
 mod Telling
+mod Wide

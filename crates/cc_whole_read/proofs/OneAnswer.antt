@@ -1,5 +1,5 @@
 -- A text stops being C at one place.
-use Rattle.std.proofs.Common.{◌≡◌, ℕ, ◌+◌, Bool, true, false, List, [], ◌∷◌, ◌++◌, length, Result, Ok, Err, refl, ap, sym, ◌∙◌, subst, arith, append_assoc}
+use Rattle.std.proofs.Common.{◌≡◌, ℕ, false, List, [], ◌∷◌, ◌++◌, length, Result, Err, refl, ap, sym, ◌∙◌, subst, arith, append_assoc}
 use Rattle.cc_whole_tokens.specs.declared.token.Token.{Token}
 use Rattle.cc_whole_tokens.specs.Token.{begins}
 use Rattle.cc_whole_tokens.specs.Cut.{is_blank}
@@ -10,17 +10,16 @@ use Rattle.cc_whole_refused.specs.NotC as refused
 use Rattle.cc_whole_front.specs.Front.{NoToken, ended, stray}
 use Rattle.cc_whole_front.proofs.Only.{begun, only, Following, follow, none_behind}
 use Rattle.cc_whole_front.proofs.Places.{no_blank, one_place}
-use Rattle.cc_whole_first_line.specs.FirstLine.{first_line}
-use Rattle.cc_whole_read.specs.Read.{HasTokens, Within, IsNotC, no_line, behind_line}
+use Rattle.cc_whole_read.specs.Read.{HasTokens, IsNotC, no_line, behind_line}
 use Rattle.cc_whole_read.proofs.ReadBack.{line_read, same_line, no_such_line}
 
 -- of two beginnings of one list one goes on where the other ends, or they are one
-data Compared (ts us ms ns : List Token) : Type 0 where
+pub data Compared (ts us ms ns : List Token) : Type 0 where
   same : ts ≡ us → Compared ts us ms ns
   first_ends : (u : Token) (more rest : List Token) → us ≡ ts ++ (u ∷ more) → ms ≡ u ∷ rest → Compared ts us ms ns
   second_ends : (u : Token) (more rest : List Token) → ts ≡ us ++ (u ∷ more) → ns ≡ u ∷ rest → Compared ts us ms ns
 
-same_head : {x y : Token} {xs ys : List Token} → x ∷ xs ≡ y ∷ ys → x ≡ y
+pub same_head : {x y : Token} {xs ys : List Token} → x ∷ xs ≡ y ∷ ys → x ≡ y
 same_head e = cc
 
 same_tail : {x y : Token} {xs ys : List Token} → x ∷ xs ≡ y ∷ ys → xs ≡ ys
@@ -31,7 +30,7 @@ longer x ts us ms ns (same e) = same (ap (λ l. x ∷ l) e)
 longer x ts us ms ns (first_ends u more rest e f) = first_ends u more rest (ap (λ l. x ∷ l) e) f
 longer x ts us ms ns (second_ends u more rest e f) = second_ends u more rest (ap (λ l. x ∷ l) e) f
 
-compared : (ts us ms ns : List Token) → ts ++ ms ≡ us ++ ns → Compared ts us ms ns
+pub compared : (ts us ms ns : List Token) → ts ++ ms ≡ us ++ ns → Compared ts us ms ns
 compared [] [] ms ns e = same refl
 compared [] (u ∷ us) ms ns e = first_ends u us (us ++ ns) refl e
 compared (t ∷ ts) [] ms ns e = second_ends t ts (ts ++ ms) refl (sym e)

@@ -1,11 +1,10 @@
 -- A text of a valid unit, within the limits, is read as that unit.
-use Rattle.std.proofs.Common.{◌≡◌, ℕ, ◌+◌, ◌<◌, ◌≤◌, Bool, true, false, List, [], ◌∷◌, ◌++◌, length, Result, Ok, Err, refl, ap, sym, ◌∙◌, subst, arith, append-nil, append_assoc}
+use Rattle.std.proofs.Common.{◌≡◌, ℕ, true, false, List, [], ◌∷◌, ◌++◌, Result, Ok, Err, ap, sym, ◌∙◌, subst, arith, append-nil, append_assoc}
 use Rattle.std.proofs.lemmas.Bool.{and_parts, true≢false}
 use Rattle.cf_base.specs.declared.limit.Limit.{Limit}
 use Rattle.cc_whole_tokens.specs.declared.token.Token.{Token}
-use Rattle.cc_whole_tokens.specs.Cut.{Cut, is_blank}
+use Rattle.cc_whole_tokens.specs.Cut.{Cut}
 use Rattle.cc_whole_cut.proofs.Cuts.{one_cut}
-use Rattle.cc_whole.specs.declared.unit.CItem.{CItem}
 use Rattle.cc_whole.specs.declared.unit.CUnit.{CUnit}
 use Rattle.cc_whole.specs.Plain.{items_of}
 use Rattle.cc_whole.specs.Fault.{Checks, broken}
@@ -14,19 +13,18 @@ use Rattle.cc_whole.specs.SpellsItems.{SpellsItems}
 use Rattle.cc_whole.specs.Text.{FirstLine, Text}
 use Rattle.cc_whole.specs.Valid.{first_fault}
 use Rattle.cc_whole.specs.ValidUnit.{keeps, valid_unit}
-use Rattle.cc_whole_refused.specs.Fronts.{Begins as TokenBegins, Fronts}
+use Rattle.cc_whole_refused.specs.Fronts.{Fronts}
 use Rattle.cc_whole_refused.specs.NotC.{GoesOn, Stops, NotC}
 use Rattle.cc_whole_refused.specs.NotC as refused
-use Rattle.cc_whole_read_items.specs.Answers.{HasWide}
 use Rattle.cc_whole_read_items.proofs.WholeLaws.{one_list}
-use Rattle.cc_whole_front.specs.Front.{NoToken, ended, stray}
+use Rattle.cc_whole_front.specs.Front.{ended, stray}
 use Rattle.cc_whole_front.proofs.Only.{cut_fronts, begun, only, Following, follow, none_behind}
 use Rattle.cc_whole_first_line.specs.FirstLine.{first_line}
 use Rattle.cc_whole_first_line.proofs.FirstLines.{first_line_read}
 use Rattle.cc_whole_nesting.specs.Nesting.{passes}
 use Rattle.cc_whole_read.specs.declared.error.ReadErr.{ReadErr}
 use Rattle.cc_whole_read.specs.declared.error.ReadErr.TheVariants as error
-use Rattle.cc_whole_read.specs.Read.{text_limit, HasTokens, Within, IsNotC, no_line, behind_line, Passes, bytes, nesting, HasValid, IsRead, IsUnit}
+use Rattle.cc_whole_read.specs.Read.{HasTokens, Within, IsNotC, no_line, behind_line, Passes, bytes, nesting, IsRead, IsUnit}
 
 pub line_read : (text : List ℕ) (version : ℕ) (line body : List ℕ) → FirstLine version line → text ≡ line ++ body → first_line text ≡ Ok (version, body)
 line_read text version line body first parts = ap first_line parts ∙ first_line_read version line body first
@@ -102,12 +100,11 @@ module _ (text : List ℕ) (unit : CUnit) (is : Text text unit) where
       (and_parts (spellable_items (items_of unit.items)) (keeps (first_fault (items_of unit.items)))
       (and_parts (spellable_version unit.version) _ valid).1).1
 
-  pub read_back : (answer : Result CUnit ReadErr) → valid_unit unit ≡ true → Within text → IsRead text answer → IsUnit unit is.tokens answer
+  pub read_back : (answer : Result CUnit ReadErr) → valid_unit unit ≡ true → Within text → IsRead text answer → IsUnit unit answer
   read_back (Ok found) valid w r = one_unit text found unit r.is is
   read_back (Err (error.NotC at)) valid w r = absurd (is_c at r)
   read_back (Err (error.Invalid rule at)) valid w r =
       let same = one_unit text unit r.fault.unit is r.fault.is in
       absurd (kept (first_fault (items_of unit.items)) rule r.fault.number (no_fault valid) (ap (λ (u : CUnit). first_fault (items_of u.items)) same ∙ r.fault.fault))
   read_back (Err (error.Limit l)) valid w r = absurd (small l w r)
-  read_back (Err error.Wide) valid w r = subst HasWide (sym (same_tokens r.tokens r.has)) r.wide.number
   read_back (Err error.Memory) valid w r = tt

@@ -1,5 +1,5 @@
 -- What the tokens of a text spell is a tree that has a text: its names are names, its strings are bytes, and there is a pair where there are pairs.
-use Rattle.std.proofs.Common.{◌≡◌, ℕ, ◌<◌, ◌≤◌, Bool, true, false, ◌&&◌, List, [], ◌∷◌, ◌++◌, Option, Some, None, map, refl, ap, sym, ◌∙◌, arith}
+use Rattle.std.proofs.Common.{◌≡◌, ℕ, ◌≤◌, Bool, true, ◌&&◌, List, [], ◌∷◌, ◌++◌, Option, Some, None, map, refl, ap, ◌∙◌, arith}
 use Rattle.std.specs.Prelude.{nat_lt, ◌==◌, not}
 use Rattle.std.specs.List.{list_all}
 use Rattle.std.proofs.lemmas.Bool.{and_parts, and_from}
@@ -10,7 +10,6 @@ use Rattle.cc_whole_tokens.specs.declared.token.Token.TheVariants as token
 use Rattle.cc_whole_tokens.specs.Token.{is_name, is_token}
 use Rattle.cc_whole_tokens.specs.Cut.{Spelled, is_itself, is_octal, octal_value}
 use Rattle.cc_whole_tokens.specs.Cut as cut
-use Rattle.cc_whole.specs.declared.types.CType.{CType}
 use Rattle.cc_whole.specs.declared.types.CVariableType.{CVariableType}
 use Rattle.cc_whole.specs.declared.types.CLocalType.{CLocalType}
 use Rattle.cc_whole.specs.declared.statement.CLocal.{CLocal}

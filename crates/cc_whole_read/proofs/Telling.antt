@@ -1,5 +1,5 @@
 -- What the parts of reading tell of a text.
-use Rattle.std.proofs.Common.{◌≡◌, ◌≢◌, ℕ, suc, ◌+◌, ◌-◌, ◌<◌, ◌≤◌, Bool, true, false, List, [], ◌∷◌, ◌++◌, length, Result, Ok, Err, refl, ap, sym, ◌∙◌, subst, arith, append-nil, length-append}
+use Rattle.std.proofs.Common.{◌≡◌, ℕ, ◌+◌, ◌<◌, ◌≤◌, true, false, List, [], ◌∷◌, ◌++◌, length, Result, Ok, Err, refl, ap, sym, ◌∙◌, subst, arith, append-nil, length-append}
 use Rattle.std.specs.Prelude.{if◌then◌else◌, nat_lt, get_or}
 use Rattle.std.proofs.lemmas.Bool.{true≢false}
 use Rattle.std.proofs.lemmas.Bool.Decides.{nat_tests}
@@ -9,21 +9,20 @@ use Rattle.cc_whole.specs.declared.unit.CItem.{CItem}
 use Rattle.cc_whole.specs.declared.unit.CUnit.{CUnit}
 use Rattle.cc_whole.specs.Text.{FirstLine, Text}
 use Rattle.cc_whole.specs.SpellsItems.{SpellsItems}
-use Rattle.cc_whole_refused.specs.Fronts.{Begins as TokenBegins, Fronts}
+use Rattle.cc_whole_refused.specs.Fronts.{Fronts}
 use Rattle.cc_whole_refused.specs.NotC.{GoesOn, Stops, NotC}
 use Rattle.cc_whole_refused.specs.NotC as refused
 use Rattle.cc_whole_refused.specs.Invalid.{Invalid}
-use Rattle.cc_whole_read_items.specs.Answers.{StopsAt, NotCAt, AreItems, AreWide}
+use Rattle.cc_whole_read_items.specs.Answers.{StopsAt, NotCAt, AreItems}
 use Rattle.cc_whole_read_items.specs.Answers as items
 use Rattle.cc_whole_front.specs.declared.front.Front.{Front}
-use Rattle.cc_whole_front.specs.Front.{Placed, NoToken, ended, stray, is_empty, IsFront}
-use Rattle.cc_whole_front.proofs.Laws.{placed_fronts, fronts_cut, Placed_at, place_of, as_many}
+use Rattle.cc_whole_front.specs.Front.{NoToken, ended, stray, is_empty, IsFront}
+use Rattle.cc_whole_front.proofs.Laws.{placed_fronts, fronts_cut, place_of, as_many}
 use Rattle.cc_whole_first_line.specs.FirstLine.{Begins}
 use Rattle.cc_whole_nesting.specs.Nesting.{passes, nesting_limit}
 use Rattle.cc_whole_read.specs.declared.error.ReadErr.{ReadErr}
 use Rattle.cc_whole_read.specs.declared.error.ReadErr.TheVariants as error
-use Rattle.cc_whole_read.specs.Landmarks.{Nth}
-use Rattle.cc_whole_read.specs.Read.{text_limit, HasTokens, Nests, Within, IsNotC, behind_line, Passes, nesting, HasValid, IsInvalid, IsWide, IsRead}
+use Rattle.cc_whole_read.specs.Read.{text_limit, HasTokens, Within, behind_line, Passes, nesting, IsRead}
 use Rattle.cc_whole_read.specs.Behind.{place_in, Breaks, HasUnit, TokensStop, token, stray as stray_behind, ReadsTokens}
 
 -- the token of an index that there is
@@ -177,5 +176,4 @@ module _ (text body : List ℕ) (version before : ℕ) (line : Begins text versi
   tokens_tell (Err (error.NotC at)) flat h = behind_line (within flat) (not_c at h)
   tokens_tell (Err (error.Invalid rule at)) flat h = record { within = within flat; fault = invalid rule at h.unit h.has h.breaks }
   tokens_tell (Err (error.Limit l)) flat h = absurd h
-  tokens_tell (Err error.Wide) flat h = record { within = within flat; tokens = tokens; has = has_tokens; wide = h.wide }
   tokens_tell (Err error.Memory) flat h = tt

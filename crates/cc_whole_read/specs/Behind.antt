@@ -1,15 +1,15 @@
 -- What the parts of reading ensure.
-use Rattle.std.specs.Prelude.{◌≡◌, ℕ, ◌+◌, ◌≤◌, nat_lt, true, false, if◌then◌else◌, List, [], ◌++◌, length, get_or, Result, Ok, Err}
-use Rattle.cc_whole_tokens.specs.declared.token.Token.{Token}
-use Rattle.cc_whole.specs.declared.unit.CItem.{CItem}
+use Rattle.std.specs.Prelude.{◌≡◌, ℕ, ◌+◌, ◌≤◌, nat_lt, true, false, if◌then◌else◌, List, length, get_or, Result, Ok, Err}
 use Rattle.cc_whole.specs.declared.unit.CUnit.{CUnit}
 use Rattle.cc_whole.specs.Plain.{items_of}
+use Rattle.cc_whole.specs.Fault as definition
 use Rattle.cc_whole.specs.Fault.{broken}
+use Rattle.cc_whole_wide.specs.Place.{decoded}
 use Rattle.cc_whole.specs.SpellsItems.{SpellsItems}
 use Rattle.cc_whole.specs.Spellable.{spellable_version}
 use Rattle.cc_whole.specs.Valid.{first_fault}
 use Rattle.cc_whole.specs.ValidUnit.{valid_unit}
-use Rattle.cc_whole_read_items.specs.Answers.{NotCAt, AreItems, AreWide}
+use Rattle.cc_whole_read_items.specs.Answers.{NotCAt, AreItems}
 use Rattle.cc_whole_valid.specs.declared.stop.Fault.{Fault}
 use Rattle.cc_whole_front.specs.declared.front.Front.{Front}
 use Rattle.cc_whole_first_line.specs.FirstLine.{Begins}
@@ -34,8 +34,17 @@ abbrev pub FaultIs : Front → Fault → ReadErr → Type 0
 FaultIs front fault (error.Invalid rule at) = AtLandmark front fault rule at
 FaultIs front fault (error.NotC at) = ⊥
 FaultIs front fault (error.Limit l) = ⊥
-FaultIs front fault error.Wide = ⊥
 FaultIs front fault error.Memory = ⊥
+
+-- what a fault of others tells, where so many landmarks stand before the first constant that does not fit
+abbrev pub told_by : ℕ → Fault → definition.Fault
+told_by wide fault = decoded wide (record { rule = fault.rule; place = fault.place })
+
+abbrev pub TellsAt : Front → definition.Fault → ReadErr → Type 0
+TellsAt front f (error.Invalid rule at) = AtLandmark front (record { rule = f.rule; place = f.place }) rule at
+TellsAt front f (error.NotC at) = ⊥
+TellsAt front f (error.Limit l) = ⊥
+TellsAt front f error.Memory = ⊥
 
 -- the tokens of a text, all of which spell the items of this unit
 pub record Spells (front : Front) (unit : CUnit) : Type 0 where
@@ -61,7 +70,6 @@ IsChecked front unit (Ok found) = IsValid unit found
 IsChecked front unit (Err (error.Invalid rule at)) = Breaks front unit rule at
 IsChecked front unit (Err (error.NotC at)) = ⊥
 IsChecked front unit (Err (error.Limit l)) = ⊥
-IsChecked front unit (Err error.Wide) = ⊥
 IsChecked front unit (Err error.Memory) = Unit {0}
 
 -- a unit of this version whose items the tokens spell
@@ -84,17 +92,12 @@ pub data TokensStop (front : Front) (at : ℕ) : Type 0 where
   token : (index : ℕ) → NotCAt front.tokens.items index → at ≡ place_in front.places.items front.end index → TokensStop front at
   stray : front.is_whole ≡ false → AreItems front.tokens.items → at ≡ front.end → TokensStop front at
 
-pub record TokensAreWide (front : Front) : Type 0 where
-  pub whole : front.is_whole ≡ true
-  pub wide : AreWide front.tokens.items
-
 -- the unit of tokens at the front of some bytes
 abbrev pub ReadsTokens : ℕ → Front → Result CUnit ReadErr → Type 0
 ReadsTokens version front (Ok unit) = UnitIsValid version front unit
 ReadsTokens version front (Err (error.NotC at)) = TokensStop front at
 ReadsTokens version front (Err (error.Invalid rule at)) = UnitBreaks version front rule at
 ReadsTokens version front (Err (error.Limit l)) = ⊥
-ReadsTokens version front (Err error.Wide) = TokensAreWide front
 ReadsTokens version front (Err error.Memory) = Unit {0}
 
 -- the unit of a text from what stands behind its first line, before which so many bytes stand

@@ -1,5 +1,5 @@
 -- Tokens as a text has them: names are names, and strings have bytes.
-use Rattle.std.specs.Prelude.{ℕ, nat_lt, Bool, true, List}
+use Rattle.std.specs.Prelude.{nat_lt, Bool, true, List}
 use Rattle.std.specs.List.{list_all}
 use Rattle.cc_whole_tokens.specs.declared.token.Token.{Token}
 use Rattle.cc_whole_tokens.specs.declared.token.Token.TheVariants as token

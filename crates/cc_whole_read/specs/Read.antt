@@ -9,7 +9,6 @@ use Rattle.cc_whole.specs.ValidUnit.{valid_unit}
 use Rattle.cc_whole_refused.specs.Fronts.{Fronts}
 use Rattle.cc_whole_refused.specs.NotC.{NotC}
 use Rattle.cc_whole_refused.specs.Invalid.{Invalid}
-use Rattle.cc_whole_read_items.specs.Answers.{HasWide, AreWide}
 use Rattle.cc_whole_front.specs.Front.{NoToken}
 use Rattle.cc_whole_first_line.specs.FirstLine.{first_line}
 use Rattle.cc_whole_nesting.specs.Nesting.{passes, nesting_limit}
@@ -64,16 +63,10 @@ pub record HasValid (text : List ℕ) (unit : CUnit) : Type 0 where
   pub is : Text text unit
   pub valid : valid_unit unit ≡ true
 
+-- a unit has it, which breaks this rule first
 pub record IsInvalid (text : List ℕ) (rule at : ℕ) : Type 0 where
   pub within : Within text
   pub fault : Invalid text rule at
-
--- a unit has it, and a number stands in its tokens that does not fit 32 bits
-pub record IsWide (text : List ℕ) : Type 0 where
-  pub within : Within text
-  pub tokens : List Token
-  pub has : HasTokens text tokens
-  pub wide : AreWide tokens
 
 -- The unit that is read has the text and is valid. A refusal tells where the text stops being C, which rule its unit breaks first and where, or which
 -- limit it passes. Nothing is said where memory fails.
@@ -82,14 +75,12 @@ IsRead text (Ok unit) = HasValid text unit
 IsRead text (Err (error.NotC at)) = IsNotC text at
 IsRead text (Err (error.Invalid rule at)) = IsInvalid text rule at
 IsRead text (Err (error.Limit l)) = Passes text l
-IsRead text (Err error.Wide) = IsWide text
 IsRead text (Err error.Memory) = Unit {0}
 
--- The answer is this unit, unless memory fails or a number among the unit's tokens does not fit 32 bits with a sign before it or without.
-abbrev pub IsUnit : CUnit → List Token → Result CUnit ReadErr → Type 0
-IsUnit unit tokens (Ok found) = found ≡ unit
-IsUnit unit tokens (Err (error.NotC at)) = ⊥
-IsUnit unit tokens (Err (error.Invalid rule at)) = ⊥
-IsUnit unit tokens (Err (error.Limit l)) = ⊥
-IsUnit unit tokens (Err error.Wide) = HasWide tokens
-IsUnit unit tokens (Err error.Memory) = Unit {0}
+-- The answer is this unit, unless memory fails.
+abbrev pub IsUnit : CUnit → Result CUnit ReadErr → Type 0
+IsUnit unit (Ok found) = found ≡ unit
+IsUnit unit (Err (error.NotC at)) = ⊥
+IsUnit unit (Err (error.Invalid rule at)) = ⊥
+IsUnit unit (Err (error.Limit l)) = ⊥
+IsUnit unit (Err error.Memory) = Unit {0}

@@ -12,8 +12,6 @@ pub enum ReadErr {
     Invalid { rule: u8, at: usize },
     /// The text has too many bytes, or its tokens are nested too deeply.
     Limit(Limit),
-    /// A unit has this text, and a number stands in it that does not fit 32 bits.
-    Wide,
     /// Memory was wanting, which tells nothing of the text.
     Memory,
 }

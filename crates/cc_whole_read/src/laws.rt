@@ -12,11 +12,10 @@ pub fn text_has_one_unit()
     ensures { (text : List ℕ) (u v : CUnit) → Text text u → Text text v → u ≡ v }
 {}
 
-/// The law that a text of a valid unit, within the limits, is read as that unit, unless memory fails or a number of the text is too wide. It does
-/// nothing.
+/// The law that a text of a valid unit, within the limits, is read as that unit, unless memory fails. It does nothing.
 pub fn text_of_a_valid_unit_is_read()
-    ensures { (text : List ℕ) (unit : CUnit) (is : Text text unit) (answer : Result CUnit ReadErr) → valid_unit unit ≡ true → Within text → IsRead text answer
-        → IsUnit unit is.tokens answer }
+    ensures { (text : List ℕ) (unit : CUnit) → Text text unit → (answer : Result CUnit ReadErr) → valid_unit unit ≡ true → Within text → IsRead text answer
+        → IsUnit unit answer }
 {}
 
 /// The law that a text stops being C at one place, and then no unit has it. It does nothing.

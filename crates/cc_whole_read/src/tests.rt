@@ -112,6 +112,81 @@ fn the_first_broken_rule_is_told(rt: HostRuntime) -> Result<(), Fail> {
 }
 
 #[test]
+fn a_constant_beyond_32_bits_breaks_v11(rt: HostRuntime) -> Result<(), Fail> {
+    let alloc = rt.alloc();
+    for (text, want) in [
+        (
+            "#pragma cfront 1\nint f(void){return 4294967296u;}",
+            (11, 36),
+        ),
+        (
+            "#pragma cfront 1\nint f(void){return 2147483648;}",
+            (11, 36),
+        ),
+        (
+            "#pragma cfront 1\nint f(void){return 1-2147483648;}",
+            (11, 38),
+        ),
+        (
+            "#pragma cfront 1\nint f(void){return -2147483649;}",
+            (11, 37),
+        ),
+        (
+            "#pragma cfront 1\nint f(void){return x+4294967296;}",
+            (1, 36),
+        ),
+        (
+            "#pragma cfront 1\nint f(void){return 4294967296+x;}",
+            (11, 36),
+        ),
+        (
+            "#pragma cfront 1\nint f(char*p){return(p+4294967296)*2;}",
+            (11, 40),
+        ),
+        (
+            "#pragma cfront 1\nint f(char*p){return p*4294967296;}",
+            (3, 38),
+        ),
+        ("#pragma cfront 1\nint a[4294967296];", (11, 23)),
+        (
+            "#pragma cfront 1\nint a[2];extern int a[4294967298];",
+            (2, 37),
+        ),
+        (
+            "#pragma cfront 1\nvoid f(int x){int a[4294967296];a=x;}",
+            (11, 37),
+        ),
+        (
+            "#pragma cfront 1\nvoid f(int x){switch(x){case 2:case 4294967297:}}",
+            (11, 53),
+        ),
+        (
+            "#pragma cfront 1\nvoid f(int x){switch(x){case 1:case 4294967297:}}",
+            (8, 48),
+        ),
+        (
+            "#pragma cfront 1\nvoid f(int x){switch(x){case 1:case -4294967295:}}",
+            (8, 48),
+        ),
+        (
+            "#pragma cfront 1\nstruct __e t[1]={{4294967296,g}};",
+            (11, 35),
+        ),
+        (
+            "#pragma cfront 1\nstruct __e t[2]={{1,g},{4294967296,0}};",
+            (1, 37),
+        ),
+    ] {
+        assert_eq!(rt; fault(alloc, text.as_bytes()), Some(want), "{text}");
+    }
+    let least = b"#pragma cfront 1\nint f(void){return -2147483648;}";
+    assert_eq!(rt; count(alloc, least), Ok(1));
+    let stray = b"#pragma cfront 1\nint f(void){return 4294967296;}@";
+    assert_eq!(rt; count(alloc, stray), Err(ReadErr::NotC { at: 48 }));
+    Ok(())
+}
+
+#[test]
 fn limits_are_told(rt: HostRuntime) -> Result<(), Fail> {
     let alloc = rt.alloc();
     let mut deep = Vec::new(alloc);
@@ -127,7 +202,5 @@ fn limits_are_told(rt: HostRuntime) -> Result<(), Fail> {
     };
     assert_eq!(rt; count(alloc, deep.as_slice()), Err(ReadErr::Limit(nesting)));
     assert_eq!(rt; TEXT_LIMIT, 16_777_216);
-    let wide = b"#pragma cfront 1\nint f(void){return 4294967296u;}";
-    assert_eq!(rt; count(alloc, wide), Err(ReadErr::Wide));
     Ok(())
 }

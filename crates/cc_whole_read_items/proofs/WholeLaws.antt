@@ -1,5 +1,5 @@
 -- What the two passes over all tokens tell.
-use Rattle.std.specs.Prelude.{if◌then◌else◌}
+use Rattle.std.specs.Prelude.{if◌then◌else◌, ◌&&◌}
 use Rattle.std.proofs.Common.{◌≡◌, ℕ, suc, ◌-◌, ◌+◌, ◌<◌, Bool, true, false, Option, Some, None, List, [], ◌∷◌, ◌++◌, length, Result, Ok, Err, refl, ap, sym, ◌∙◌, subst, arith, append-nil, append_assoc, length-append}
 use Rattle.cc_whole_tokens.specs.declared.token.Token.{Token}
 use Rattle.cc_whole.specs.declared.unit.CItem.{CItem}
@@ -10,6 +10,10 @@ use Rattle.cc_whole_reading.specs.declared.stop.Stop.{Stop}
 use Rattle.cc_whole_reading.specs.declared.stop.Stop.TheVariants as stop
 use Rattle.cc_whole_reading.specs.declared.constants.Constants.{Constants}
 use Rattle.cc_whole_reading.specs.declared.constants.Constants.TheVariants as constants
+use Rattle.cc_whole_fitting.specs.declared.before.Before.{Before}
+use Rattle.cc_whole_fitting.specs.declared.before.Before.TheVariants as before
+use Rattle.cc_whole_fitting.specs.Numbers.{behind, behind_all, token_fits, fit_from, numbers_fit}
+use Rattle.cc_whole_fitting.proofs.ItemRuns.{fits_as_items}
 use Rattle.cc_whole_reading.specs.Parse.{and_then, ◌>>=◌, pure, goes_on, end}
 use Rattle.cc_whole_reading.specs.Constants.{keeps, fitting, zero_of, or_zero}
 use Rattle.cc_whole.specs.declared.types.CConstant.{CConstant}
@@ -20,10 +24,10 @@ use Rattle.cc_whole_reading.proofs.ConstantLaws.{all_kept}
 use Rattle.cc_whole_reading.proofs.Alike.{SameResult, AsTheyStand}
 use Rattle.cc_whole_read_items.specs.ReadItems.{one_item, items, whole}
 use Rattle.cc_whole_read_items.specs.Passes.{ReadsWhole, second_answer}
-use Rattle.cc_whole_read_items.specs.Answers.{StopsAt, next, ended, NotCAt, AreItems, HasWide, AreWide, Answers}
+use Rattle.cc_whole_read_items.specs.Answers.{StopsAt, next, ended, NotCAt, AreItems, AreThese, AreWide, Answers}
 use Rattle.cc_whole_read_items.proofs.ItemReads.{decides_item, item_some}
 use Rattle.cc_whole_read_items.proofs.AlikeItems.{alike_whole}
-use Rattle.cc_whole_read_items.proofs.Honest.{Honestly, Refused}
+use Rattle.cc_whole_read_items.proofs.Honest.{Strict, Refused, exactly, Ends, Honestly}
 use Rattle.cc_whole_read_items.proofs.HonestReads.{honest_whole}
 
 abbrev at_end : Follow
@@ -59,7 +63,7 @@ one_list ts is js d e =
 
 -- ---- what reading all tokens tells, with all constants
 
-abbrev Told : List Token → Result (List CItem × List Token) Stop → Type 0
+abbrev pub Told : List Token → Result (List CItem × List Token) Stop → Type 0
 Told ts (Ok q) = SpellsItems q.0 ts
 Told ts (Err (stop.NotC n)) = NotCAt ts (length ts - n)
 Told ts (Err (stop.Unfit n)) = ⊥
@@ -114,7 +118,7 @@ module _ (ts : List Token) where
   told_by (Err (stop.Unfit n)) w = w
   told_by (Err stop.Memory) w = w
 
-told : (ts : List Token) → Told ts (whole all_kept (length ts) ts)
+pub told : (ts : List Token) → Told ts (whole all_kept (length ts) ts)
 unfolding whole
 told ts = told_by ts (items all_kept (length ts) ts) (decides_items (length ts) ts (omega arith))
 
@@ -154,8 +158,42 @@ refused_once wanted ts left (new, e) = refused wanted ts left e
 read_any : (ts : List Token) (is : List CItem) → ReadsWhole (whole (keeps constants.Any) (length ts) ts) (Ok is) → AreItems ts
 read_any ts is (new, e) = some_items constants.Any ts (is, new) e
 
-pub read_exact : (ts : List Token) (is : List CItem) → ReadsWhole (whole (keeps constants.Exact) (length ts) ts) (Ok is) → SpellsItems is ts
-read_exact ts is (new, e) = these_items ts is new e
+-- nothing is left behind all items
+abbrev left_of : Result (List CItem × List Token) Stop → List Token
+left_of (Ok q) = q.1
+left_of (Err e) = []
+
+none_left : (is : List CItem) (rest : List Token) (q : List CItem × List Token) → and_then (end rest) (λ u. pure is) ≡ Ok q → q.1 ≡ []
+unfolding end
+none_left is [] q e = sym (ap left_of e)
+none_left is (t ∷ rest) q e = absurd (cc)
+
+none_behind : (r : Result (List CItem × List Token) Stop) (q : List CItem × List Token) → and_then r (λ is. end >>= (λ u. pure is)) ≡ Ok q → q.1 ≡ []
+none_behind (Ok p) q e = none_left p.0 p.1 q e
+none_behind (Err f) q e = absurd (cc)
+
+nothing_left : (ts : List Token) (q : List CItem × List Token) → whole (keeps constants.Exact) (length ts) ts ≡ Ok q → q.1 ≡ []
+unfolding whole
+nothing_left ts q e = none_behind (items (keeps constants.Exact) (length ts) ts) q e
+
+-- a constant that is read as it stands fits
+exact_fits : Strict (keeps constants.Exact)
+exact_fits c d e = go (fits_constant c) e
+  where
+    go : (b : Bool) → (if b then Some c else None) ≡ Some d → b ≡ true
+    go true f = refl
+    go false f = absurd (cc)
+
+these_fit : (ts : List Token) (is : List CItem) (new : List Token) → whole (keeps constants.Exact) (length ts) ts ≡ Ok (is, new) → numbers_fit ts ≡ true
+these_fit ts is new e =
+    let all : Ends (keeps constants.Exact) before.Other (exactly before.Other) ts new =
+    subst (Honestly (keeps constants.Exact) before.Other (exactly before.Other) ts) e ((honest_whole (keeps constants.Exact) (length ts)).holds ts) in
+    ap numbers_fit (all.run.parts ∙ (ap (λ l. all.run.front ++ l) (nothing_left ts (is, new) e) ∙ append-nil all.run.front)) ∙ all.run.fit exact_fits
+
+pub read_exact : (ts : List Token) (is : List CItem) → ReadsWhole (whole (keeps constants.Exact) (length ts) ts) (Ok is) → AreThese ts is
+read_exact ts is (new, e) =
+    let d = these_items ts is new e in
+    record { spelled = d; fit = sym (fits_as_items is ts d) ∙ these_fit ts is new e }
 
 -- ---- constants that stop the reading
 
@@ -173,29 +211,33 @@ any_reads c e = go (fitting c) e
     go None f = absurd (cc)
     go (Some d) f = absurd (cc)
 
-refused_wide : (ts : List Token) → Refused (keeps constants.Exact) ts → HasWide ts
-refused_wide ts r = record {
-  before = r.before;
-  number = r.number;
-  rest = r.rest;
-  value = r.value;
-  parts = r.parts;
-  is = r.is;
-  wide = exact_refuses r.value r.refused;
-}
+and_false : (b : Bool) → (b && false) ≡ false
+and_false true = refl
+and_false false = refl
 
-pub unfit_once : (ts : List Token) (left : ℕ) → ReadsWhole (whole (keeps constants.Exact) (length ts) ts) (Err (stop.Unfit left)) → HasWide ts
-unfit_once ts left (new, e) = refused_wide ts (subst (Honestly (keeps constants.Exact) ts) e ((honest_whole (keeps constants.Exact) (length ts)).holds ts))
+unfit_there : (xs : List Token) (t : Token) (ys : List Token) (b : Before) → token_fits t (behind_all xs b) ≡ false → fit_from (xs ++ (t ∷ ys)) b ≡ false
+unfit_there [] t ys b h = ap (λ c. c && fit_from ys (behind t b)) h
+unfit_there (x ∷ xs) t ys b h = ap (λ c. token_fits x b && c) (unfit_there xs t ys (behind x b) h) ∙ and_false (token_fits x b)
+
+refused_wide : (ts : List Token) → Refused (keeps constants.Exact) before.Other ts → numbers_fit ts ≡ false
+refused_wide ts r = ap numbers_fit r.parts ∙ unfit_there r.front r.number r.rest before.Other (r.is ∙ exact_refuses r.value r.refused)
+
+-- where a constant stops the reading, the numbers do not fit
+pub unfit_once : (ts : List Token) (left : ℕ) → ReadsWhole (whole (keeps constants.Exact) (length ts) ts) (Err (stop.Unfit left)) → numbers_fit ts ≡ false
+unfit_once ts left (new, e) =
+    refused_wide ts (subst (Honestly (keeps constants.Exact) before.Other (exactly before.Other) ts) e ((honest_whole (keeps constants.Exact) (length ts)).holds ts))
 
 never_unfit : (ts : List Token) (left : ℕ) → ReadsWhole (whole (keeps constants.Any) (length ts) ts) (Err (stop.Unfit left)) → AreWide ts
 never_unfit ts left (new, e) =
-    let r : Refused (keeps constants.Any) ts = subst (Honestly (keeps constants.Any) ts) e ((honest_whole (keeps constants.Any) (length ts)).holds ts) in
+    let r : Refused (keeps constants.Any) before.Other ts =
+    subst (Honestly (keeps constants.Any) before.Other (exactly before.Other) ts) e ((honest_whole (keeps constants.Any) (length ts)).holds ts) in
     absurd (any_reads r.value r.refused)
 
-read_wide : (ts : List Token) (is : List CItem) → HasWide ts → ReadsWhole (whole (keeps constants.Any) (length ts) ts) (Ok is) → AreWide ts
-read_wide ts is w r = record { items = read_any ts is r; number = w }
+read_wide : (ts : List Token) (is : List CItem) → numbers_fit ts ≡ false → ReadsWhole (whole (keeps constants.Any) (length ts) ts) (Ok is) → AreWide ts
+read_wide ts is w r = let a = read_any ts is r in record { items = a.items; spelled = a.spelled; wide = sym (fits_as_items a.items ts a.spelled) ∙ w }
 
-pub second_told : (ts : List Token) (r : Result (List CItem) Stop) → HasWide ts → ReadsWhole (whole (keeps constants.Any) (length ts) ts) r → Answers ts (Err (second_answer (length ts) r))
+pub second_told : (ts : List Token) (r : Result (List CItem) Stop) → numbers_fit ts ≡ false → ReadsWhole (whole (keeps constants.Any) (length ts) ts) r
+    → Answers ts (Err (second_answer (length ts) r))
 second_told ts (Ok is) w r = read_wide ts is w r
 second_told ts (Err (stop.NotC left)) w r = refused_once constants.Any ts left r
 second_told ts (Err (stop.Unfit left)) w r = never_unfit ts left r

@@ -1,11 +1,12 @@
 //! The items of tokens.
 
-ghost use Rattle.std.specs.Prelude.{◌≡◌, ◌-◌, length};
+ghost use Rattle.std.specs.Prelude.{◌≡◌, ◌-◌, false, length};
+ghost use Rattle.cc_whole_fitting.specs.Numbers.{numbers_fit};
 ghost use Rattle.cc_whole_reading.specs.Constants.{keeps};
 ghost use Rattle.cc_whole_reading.specs.declared.constants.Constants.TheVariants as constants;
 ghost use Rattle.cc_whole_read_items.specs.ReadItems.{whole as all_items};
 ghost use Rattle.cc_whole_read_items.specs.Passes.{ReadsWhole, second_answer};
-ghost use Rattle.cc_whole_read_items.specs.Answers.{Answers, HasWide};
+ghost use Rattle.cc_whole_read_items.specs.Answers.{Answers};
 
 use crate::item::whole;
 use cc_whole::CItem;
@@ -55,14 +56,14 @@ fn told(tokens: &[Token], second: Result<Items<CItem>, Stop>) -> ItemsErr
 
 /// Why tokens with a number that does not fit have no items here: they are read again, whatever the numbers are.
 fn refusal(alloc: Global, tokens: &[Token]) -> Result<Items<CItem>, ItemsErr>
-    requires { HasWide tokens.now }
+    requires { numbers_fit tokens.now ≡ false }
     ensures { Answers tokens.now result }
 {
     let second = once(alloc, Constants::Any, tokens);
     Err(told(tokens, second))
 }
 
-/// The items that tokens spell.
+/// The items that tokens spell, where all constants of the items fit 32 bits.
 ///
 /// `NotC` tells the first token that no unit with the same tokens before it has, `Wide` that they are those of a unit with
 /// a constant beyond 32 bits, `Memory` that memory fails.

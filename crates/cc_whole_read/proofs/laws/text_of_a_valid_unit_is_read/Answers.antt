@@ -2,4 +2,4 @@ use Rattle.cc_whole_read.proofs.ReadBack.{read_back}
 use Rattle.cc_whole_read.proofs.laws.text_of_a_valid_unit_is_read.Goals as goal
 
 pub returns : goal.returns
-returns c = read_back
+returns c = λ text unit is answer. read_back text unit is answer

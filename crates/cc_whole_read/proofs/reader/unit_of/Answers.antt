@@ -1,4 +1,4 @@
-use Rattle.std.proofs.Common.{◌≡◌, ℕ, Err, ap, sym, subst}
+use Rattle.std.proofs.Common.{◌≡◌, ℕ, Err, subst}
 use Rattle.cc_whole_read_items.specs.Answers.{Answers}
 use Rattle.cc_whole_read.specs.Behind.{place_in, TokensStop}
 use Rattle.cc_whole_read.proofs.Answering.{not_c_told}
@@ -12,3 +12,6 @@ returns-in-Err-NotC c =
     λ p e. not_c_told front c.as_slice.result.now c.as_slice.ensures.value c.in-Err-NotC.at p
     (subst (λ e. Answers c.as_slice.result.now (Err e)) c.in-Err-NotC.field-0-is c.in-Err-NotC.ensures) e in
     rw c.stops_at.ensures (told _ (cc))
+
+pub returns-else-not-front : goal.returns-else-not-front
+returns-else-not-front c = c.wide.ensures c.args.version

@@ -1,0 +1,5 @@
+mod Faults
+mod Limits
+mod OneAnswer
+mod SomeAnswer
+mod SomeTokens
