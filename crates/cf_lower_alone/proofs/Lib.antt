@@ -1,13 +1,6 @@
-pub mod Items
-pub mod Placed
-pub mod After
-pub mod Values
-pub mod Statements
-pub mod Statics
-pub mod Once
-pub mod Names
-pub mod Functions
-pub mod Variables
-pub mod Main
-pub mod Alone
-mod Rows
+pub mod AloneLaws
+pub mod FittingLaws
+pub mod StartLaws
+pub mod MainLaws
+pub mod ConstantLaws
+pub mod AgreesLaws

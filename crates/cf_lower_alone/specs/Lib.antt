@@ -1,1 +1,4 @@
 pub mod Linked
+pub mod Programs
+pub mod Starts
+pub mod Added

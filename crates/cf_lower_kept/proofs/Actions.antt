@@ -1,9 +1,8 @@
 -- What plain statements tell of what an action gives, lowering tells too.
-use Rattle.std.proofs.Common.{◌≡◌, Bool, true, false, ◌&&◌, ◌||◌, if◌then◌else◌, refl, sym, ap}
+use Rattle.std.proofs.Common.{◌≡◌, Bool, true, false, ◌&&◌, if◌then◌else◌, refl, sym, ap}
 use Rattle.std.specs.Prelude.{ℕ, List, Option, Some, None, slice_get}
-use Rattle.cf_base.specs.declared.kind.Kind.TheVariants.{Int, UInt}
 use Rattle.cf_base.specs.Integers.{fits}
-use Rattle.cf_core.specs.Types.{SourceType, without_const, same_but_const, result as result_type}
+use Rattle.cf_core.specs.Types.{SourceType, same_but_const, result as result_type}
 use Rattle.cf_core.specs.Core.{arithmetic, moved}
 use Rattle.cf_lower_layout.specs.Sorts.{Sort}
 use Rattle.cf_plain.specs.Plain.{Action, number, text, local, static_object, function, read, dereference, decay, index, convert, from_void, operate, unary, truth, logical_not, pointer_operate, changed, store, declare, first, zeros, bytes, finish, call, pointer_call, Register}

@@ -8,16 +8,16 @@ use Rattle.cf_base.specs.declared.arith.Arith.TheVariants as op
 use Rattle.cf_base.proofs.Tests.{both}
 use Rattle.cf_core.specs.declared.operators.PointerOperator.{PointerOperator}
 use Rattle.cf_core.specs.declared.operators.PointerOperator.TheVariants as pointer_op
-use Rattle.cf_core.specs.Types.{SourceType, void, integer, enumeration, class, pointer, reference, array, takes, gives, data_member, function_member, const, without_const, is_void, same_but_const, type_eq}
+use Rattle.cf_core.specs.Types.{SourceType, void, integer, enumeration, pointer, reference, array, takes, gives, data_member, function_member, const, without_const, is_void, same_but_const, type_eq}
 use Rattle.cf_core.specs.Typing.{is_comparison}
-use Rattle.cf_core.specs.Places.{is_reference}
-use Rattle.cf_lower_layout.specs.Sorts.{Sort, number, address, code, sort_to}
-use Rattle.cf_lower_layout.proofs.Types.{same-type, same-without_const, without-twice}
+use Rattle.cf_core.specs.Places.{is_reference, is_scalar}
+use Rattle.cf_lower_layout.specs.Sorts.{Sort, address, code, sort_to}
+use Rattle.cf_lower_layout.proofs.Types.{same-type, without-twice}
 use Rattle.cf_plain_kept.specs.Kept as plain
 use Rattle.cf_lower.specs.Kept as lower
 use Rattle.cf_lower.specs.Kept.{Kept, integer_of, holds, Locals}
-use Rattle.cf_lower_kept.specs.Ready.{is_code, names_well, names_well_if, has_objects, is_object, of_place, is_the_type}
-use Rattle.cf_lower_kept.specs.Told.{IsInteger, IsObject, Told, ToldIf}
+use Rattle.cf_lower_kept.specs.Ready.{is_code, names_well, names_well_if, has_objects, decays_well, is_object, of_place, is_the_type}
+use Rattle.cf_lower_kept.specs.Told.{IsObject, Told, ToldIf}
 
 -- ---- types
 
@@ -123,9 +123,27 @@ module _ (locals : Locals) where
   decayed-type (const t) e = decayed-type t e
   decayed-type t e = tt
 
-  pub decayed-told : (o : Option plain.Kept) (y : Kept) → ToldIf locals o y → of_place has_objects o ≡ true
+  -- an array that is declared is no scalar, so its place is told
+  object-type : (b : Bool) (i : ℕ) (t u : SourceType) → has_objects t ≡ true → is_code t ≡ false
+      → ToldIf locals (plain.decayed t) (lower.decayed_kept (if b && is_scalar t then lower.argument i u else holds (address (without_const t))))
+  object-type true i (array t n) u e h = decayed-type (array t n) e
+  object-type false i (array t n) u e h = decayed-type (array t n) e
+  object-type b i (takes p t) u e h = absurd (cc)
+  object-type b i (gives t c) u e h = absurd (cc)
+  object-type b i (const t) u e h = object-type b i t u e h
+  object-type b i t u e h = tt
+
+  object-told : (i : ℕ) (t : SourceType) (y : Kept) → IsObject locals i t y → has_objects t && not (is_code t) ≡ true
+      → ToldIf locals (plain.decayed t) (lower.decayed_kept y)
+  object-told i t y h e =
+      let w = both (has_objects t) (not (is_code t)) e in
+      subst (λ z. ToldIf locals (plain.decayed t) (lower.decayed_kept z)) (sym h.is)
+      (object-type (lower.is_argument locals i) i t t w.0 (no-not (is_code t) w.1))
+
+  pub decayed-told : (o : Option plain.Kept) (y : Kept) → ToldIf locals o y → decays_well o ≡ true
       → ToldIf locals (plain.decayed_kept o) (lower.decayed_kept y)
   decayed-told (Some (plain.a_place t)) y h e = subst (λ z. ToldIf locals (plain.decayed t) (lower.decayed_kept z)) (sym h) (decayed-type t e)
+  decayed-told (Some (plain.an_object i t)) y h e = object-told i t y h e
   decayed-told o y h e = tt
 
   -- a pointer that is moved stays one to its type
@@ -234,10 +252,12 @@ module _ (locals : Locals) where
 
   pub begun-told : (o p : Option plain.Kept) (y : Kept) → ToldIf locals (plain.begun o p) y
   begun-told (Some (plain.an_object i t)) (Some x) y = given-told (plain.suits t x) plain.no_value y tt
+  begun-told (Some (plain.a_place t)) (Some x) y = given-told (plain.suits t x) plain.no_value y tt
   begun-told o p y = tt
 
   pub filled-told : (o : Option plain.Kept) (y : Kept) → ToldIf locals (plain.filled o) y
   filled-told (Some (plain.an_object i t)) y = tt
+  filled-told (Some (plain.a_place t)) y = tt
   filled-told o y = tt
 
   pub declared-told : (i : ℕ) (t : SourceType) → is_the_type (slice_get locals.types i) t ≡ true → Told locals (plain.an_object i t) (lower.declared_kept locals i t)

@@ -4,14 +4,14 @@ use Rattle.std.specs.Prelude.{Option, Some, None, is_some, slice_get}
 use Rattle.cf_base.proofs.Tests.{both, all_of}
 use Rattle.cf_core.specs.Types.{SourceType, takes, gives, without_const, type_eq, same_but_const}
 use Rattle.cf_core.specs.Places.{is_scalar}
-use Rattle.cf_lower_layout.specs.Sorts.{Sort, address, sort_to}
+use Rattle.cf_lower_layout.specs.Sorts.{address, sort_to}
 use Rattle.cf_lower_layout.proofs.Types.{same-without_const}
-use Rattle.cf_plain.specs.Plain.{Register, Action, Plain, Plains, act, set, branch, loop, switch, case_label, default_label, leave, continue, give, parts, nothing, more}
+use Rattle.cf_plain.specs.Plain.{Register, Plain, Plains, act, set, branch, loop, switch, case_label, default_label, leave, continue, give, parts, nothing, more}
 use Rattle.cf_plain_kept.specs.Kept as plain
 use Rattle.cf_lower.specs.Kept as lower
 use Rattle.cf_lower.specs.Kept.{Kept, unknown, integer_of, holds, argument, Keeping, Locals, is_argument, declared_kept, same_kept, both_kept}
 use Rattle.cf_lower_kept.specs.Ready.{ready, all_ready}
-use Rattle.cf_lower_kept.specs.Told.{IsInteger, IsObject, Told, ToldIf, AllTold, AllToldIf}
+use Rattle.cf_lower_kept.specs.Told.{IsObject, ToldIf, AllTold, AllToldIf}
 use Rattle.cf_lower_kept.proofs.Actions.{action-told}
 use Rattle.cf_lower_kept.proofs.Types.{type-self, same-number, number-self}
 

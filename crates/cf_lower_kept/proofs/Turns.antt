@@ -1,6 +1,6 @@
 -- What the registers hold that statements do not set.
-use Rattle.std.proofs.Common.{◌≡◌, ℕ, Bool, true, false, ◌&&◌, ◌||◌, ◌==◌, if◌then◌else◌, refl, sym, ◌∙◌, ap, subst, arith, inl, inr}
-use Rattle.std.specs.Prelude.{ℤ, Option, Some, None, ◌⊎◌}
+use Rattle.std.proofs.Common.{◌≡◌, Bool, true, false, ◌&&◌, ◌||◌, ◌==◌, if◌then◌else◌, refl, sym, ◌∙◌, ap, subst, arith, inl, inr}
+use Rattle.std.specs.Prelude.{ℤ, Some, ◌⊎◌}
 use Rattle.std.proofs.lemmas.Bool.Decides.{nat_tests}
 use Rattle.cf_base.specs.declared.kind.Kind.{Kind}
 use Rattle.cf_base.specs.declared.kind.Kind.TheVariants.{Int, UInt}
@@ -14,12 +14,12 @@ use Rattle.cf_core.specs.Types.{SourceType, takes, gives, without_const, type_eq
 use Rattle.cf_core.specs.Types as types
 use Rattle.cf_core.specs.Core.{arithmetic, moved}
 use Rattle.cf_core.specs.Places.{is_scalar}
-use Rattle.cf_lower_layout.specs.Sorts.{Sort, number, address, code, sort_to, scalar_sort, sort_of}
+use Rattle.cf_lower_layout.specs.Sorts.{address, code, sort_to, scalar_sort}
 use Rattle.cf_plain.specs.Plain as plain
 use Rattle.cf_plain.specs.Plain.{Register, Action, Plain, Plains, act, set, branch, loop, switch, parts, nothing, more}
-use Rattle.cf_lower.specs.Kept.{Kept, unknown, integer_of, holds, argument, Keeping, Locals, keep, of_kind, a_truth, constant_kept, result_kept, of_sort, of_type, read_kept, decayed_kept, pointer_of, operated_kept, declared_kept, is_argument, both_kept, common, kept_by, sets, all_set, untouched, after, after_all}
+use Rattle.cf_lower.specs.Kept.{Kept, unknown, integer_of, holds, argument, Keeping, Locals, keep, constant_kept, result_kept, of_sort, of_type, read_kept, decayed_kept, pointer_of, operated_kept, is_argument, both_kept, kept_by, sets, all_set, untouched, after, after_all}
 use Rattle.cf_lower_kept.specs.Told.{Joins, AllJoin, TellsLess, builds_none, none_builds}
-use Rattle.cf_lower_kept.proofs.Statements.{pointer-self, argument-self, address-self, object-self}
+use Rattle.cf_lower_kept.proofs.Statements.{pointer-self, address-self, object-self}
 use Rattle.cf_lower_kept.proofs.Types.{type-self}
 
 -- ---- what actions give joins itself

@@ -1,15 +1,14 @@
 -- What lowering asks of plain functions beyond what their registers hold: constants are of 32 bits, no const stands on a reference, pointers are moved over
 -- objects, and a local is declared with its own type.
-use Rattle.std.specs.Prelude.{ℕ, Bool, true, false, ◌&&◌, ◌||◌, not, List, ◌++◌, Option, Some, None, slice_get}
+use Rattle.std.specs.Prelude.{Bool, true, false, ◌&&◌, ◌||◌, not, List, ◌++◌, Option, Some, None, slice_get}
 use Rattle.std.specs.List.{list_all}
 use Rattle.cf_core.specs.Types.{SourceType, array, takes, gives, const, is_void, type_eq, parameters, result as result_type}
-use Rattle.cf_core.specs.declared.operators.PointerOperator.TheVariants as pointer_operator
 use Rattle.cf_core.specs.Core.{moved}
 use Rattle.cf_core.specs.Places.{is_reference}
 use Rattle.cf_base.specs.declared.kind.Kind.TheVariants.{Int, UInt}
 use Rattle.cf_base.specs.Integers.{fits}
 use Rattle.cf_plain.specs.Plain.{Action, number, local, static_object, function, decay, index, from_void, pointer_operate, changed, declare, Plain, Plains, act, set, branch, loop, switch, parts, nothing, more, PlainFunction, PlainFile}
-use Rattle.cf_plain_kept.specs.Kept.{Kept, a_place, Keeping, nothing_set, after}
+use Rattle.cf_plain_kept.specs.Kept.{Kept, a_place, an_object, Keeping, nothing_set, after}
 
 -- whether a place of this type is a function
 abbrev pub is_code : SourceType → Bool
@@ -38,6 +37,12 @@ abbrev pub of_place : (SourceType → Bool) → Option Kept → Bool
 of_place test (Some (a_place t)) = test t
 of_place test x = true
 
+-- whether what decays is an array of objects, or a function; an object that is declared is no function
+abbrev pub decays_well : Option Kept → Bool
+decays_well (Some (a_place t)) = has_objects t
+decays_well (Some (an_object i t)) = has_objects t && not (is_code t)
+decays_well x = true
+
 abbrev pub is_the_type : Option SourceType → SourceType → Bool
 is_the_type None t = false
 is_the_type (Some u) t = type_eq u t
@@ -52,7 +57,7 @@ module _ (locals : List SourceType) (result : SourceType) where
   action_ready g (local i) = names_well_if (slice_get locals i)
   action_ready g (static_object name t) = names_well t
   action_ready g (function name t) = is_code t
-  action_ready g (decay r) = of_place has_objects (g r)
+  action_ready g (decay r) = decays_well (g r)
   action_ready g (index r q) = of_place is_object (g r) && of_place is_object (g q)
   action_ready g (from_void t r) = not (is_code t)
   action_ready g (pointer_operate op r q) = of_place is_object (g r) && of_place is_object (g q)

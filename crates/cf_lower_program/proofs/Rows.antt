@@ -14,6 +14,7 @@ use Rattle.cf_lower_place.specs.Named.{functions_in_place}
 use Rattle.cf_lower_program.specs.Names.{names_lowered, names_used, may_be_object, may_be_function}
 use Rattle.cf_lower_program.specs.Starts.{statics_known, texts_fit}
 use Rattle.cf_lower_program.specs.Counts.{shared_apart}
+use Rattle.cf_lower_program.specs.Passed.{arguments_apart}
 use Rattle.cf_lower_program.specs.Lowerable.{Lowerable}
 
 abbrev statements : List Plain → Plains
@@ -90,6 +91,7 @@ whole-is-lowered = record {
   labels = refl;
   counts = refl;
   shared = refl;
+  arguments = refl;
   kept = refl;
   ready = refl;
   opened = refl;
@@ -136,6 +138,23 @@ function-is-no-object = refl
 
 function-named : may_be_function (codes "f__Fi") ≡ true
 function-named = refl
+
+-- a name that ends as those of files do
+file-name-refused : may_be_function (codes "f__Fi__u12") ≡ false
+file-name-refused = refl
+
+longer-named : may_be_function (codes "f__Fi__u1x") ≡ true
+longer-named = refl
+
+-- int f(int x){return g(x);} where the object of x is passed on itself, and where the argument has an object of its own
+abbrev passing : ℕ → PlainFunction
+passing i = function_of (codes "f__Fi") f_type (int ∷ []) (set 0 (call (codes "g__Fi") f_type None (i ∷ []) None) ∷ give (Some 0) ∷ [])
+
+parameter-refused : arguments_apart (file (passing 0 ∷ []) []) ≡ false
+parameter-refused = refl
+
+own-passed : arguments_apart (file (passing 1 ∷ []) []) ≡ true
+own-passed = refl
 
 -- int x=g(); as a constant
 call-refused : statics_known (with_seven (static_of (codes "x") int (set 1 (call (codes "g__Fv") (no_parameters int) None [] None) ∷ act (first 0 1) ∷ []) ∷ [])) ≡ false

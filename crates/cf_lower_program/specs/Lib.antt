@@ -4,6 +4,7 @@ pub mod Actions
 pub mod Starts
 pub mod Labels
 pub mod Counts
+pub mod Passed
 pub mod Lowerable
 pub mod Links
 pub mod Agrees

@@ -14,6 +14,7 @@ use Rattle.cf_lower_program.specs.Names.{names_lowered, literals_differ, names_u
 use Rattle.cf_lower_program.specs.Starts.{statics_known, texts_fit}
 use Rattle.cf_lower_program.specs.Labels.{switches_fit}
 use Rattle.cf_lower_program.specs.Counts.{counts_fit, shared_apart}
+use Rattle.cf_lower_program.specs.Passed.{arguments_apart}
 
 abbrev pub is_none : {A : Type 0} → List A → Bool
 is_none [] = true
@@ -37,6 +38,7 @@ pub record Lowerable (file : PlainFile) : Type 0 where
   pub labels : switches_fit file ≡ true
   pub counts : counts_fit file ≡ true
   pub shared : shared_apart file ≡ true
+  pub arguments : arguments_apart file ≡ true
   pub kept : functions_kept file ≡ true
   pub ready : functions_ready file ≡ true
   pub opened : functions_open file ≡ true

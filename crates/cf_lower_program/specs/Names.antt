@@ -1,5 +1,5 @@
 -- Which names of functions and objects are lowered: link names, none of which is the C's own.
-use Rattle.std.specs.Prelude.{Bool, false, ◌&&◌, ◌||◌, not, nat_eq, nat_le, ◌==◌, List, [], ◌∷◌, ◌++◌, Some, map, bytes_eq, codes}
+use Rattle.std.specs.Prelude.{Bool, true, false, ◌&&◌, ◌||◌, not, nat_eq, nat_le, ◌==◌, List, [], ◌∷◌, ◌++◌, Some, map, drop, bytes_eq, codes}
 use Rattle.std.specs.List.{flat_map, list_all, list_any, starts_with}
 use Rattle.cf_core.specs.Types.{Name}
 use Rattle.cf_core.specs.Calls as source
@@ -26,11 +26,20 @@ is_own_name [] rest = begins_with_digit rest
 is_own_name (c ∷ cs) [] = false
 is_own_name (c ∷ cs) (d ∷ ds) = (c == d) && is_own_name cs ds
 
--- no name of the C's own, of a helper, of what runs before `main`, of the library, and not that of its `main`
+abbrev pub all_digits : Name → Bool
+all_digits [] = true
+all_digits (c ∷ cs) = nat_le 48 c && nat_le c 57 && all_digits cs
+
+-- whether it ends in `__u` and a number, as what is local to a file is named in a program (3.3)
+abbrev pub ends_as_file : Name → Bool
+ends_as_file [] = false
+ends_as_file (b ∷ rest) = (is_own_name (codes "__u") (b ∷ rest) && all_digits (drop 3 (b ∷ rest))) || ends_as_file rest
+
+-- no name of the C's own, of a helper, of what runs before `main`, of the library, not that of its `main`, and none that ends as those of files
 abbrev pub is_foreign : Name → Bool
 is_foreign name =
     not (list_any (λ front. is_own_name front name) own_fronts) && not (is_helper name) && not (bytes_eq name (codes "__sti"))
-    && not (is_library name) && not (is_main name)
+    && not (is_library name) && not (is_main name) && not (ends_as_file name)
 
 abbrev pub begins : Name → Name → Bool
 begins front name = starts_with nat_eq name front

@@ -16,7 +16,7 @@ use Rattle.cc_whole_memory.specs.Blocks.{Memory}
 use Rattle.cf_lower.specs.Kept.{nothing_kept, after_all}
 use Rattle.cc_whole_mean.specs.Callee.{own, same_result, same_types, has_type}
 use Rattle.cf_lower_layout.specs.Sorts.{Sort, sort_of}
-use Rattle.cf_lower.specs.Functions.{all_nesting, locals_of, lowered_parameters, lowered_function}
+use Rattle.cf_lower.specs.Functions.{all_nesting, locals_of, lowered_parameters}
 use Rattle.cf_lower.specs.Statements.{c_types, signature}
 use Rattle.cf_lower.specs.Written.{if_scalar, c_type, local_name}
 use Rattle.cf_lower_kept.specs.Opened.{parameters_open}
@@ -25,6 +25,7 @@ use Rattle.cf_lower_turns.specs.Scene.{Scene}
 use Rattle.cf_lower_calls.specs.Invoked.LowerActions.{Fits}
 use Rattle.cf_lower_calls.specs.Returns.Called.{Programs, Entry, FunctionsAlike}
 use Rattle.cf_lower_calls.specs.Invoked.Invoking.{StartStatic}
+use Rattle.cf_lower_calls.specs.Entered.Linked.{linked_function}
 use Rattle.cf_lower_calls.specs.Entered.Lowered.{Fitting, IsLowered, entered_scene, HasNeeds, AllLowered, AllHaveNeeds}
 use Rattle.cf_lower_calls.proofs.EnteredLaws.Fitting.{scene-fits, programs-alike}
 use Rattle.cf_lower_needed.proofs.Live.{function-needed}
@@ -53,7 +54,7 @@ parameter-types i (t ∷ ts) = by (parameter-types (suc i) ts) (sort_of t)
     by rest (Some s) = ap (λ (l : List CType). c_type s ∷ l) rest
 
 lowered-typed : (classes : List Class) (p : PlainFunction) (t : SourceType) → same_signature t p.type ≡ true
-    → has_type (signature t).result (signature t).parameters (own (lowered_function classes p)) ≡ true
+    → has_type (signature t).result (signature t).parameters (own (linked_function classes p)) ≡ true
 lowered-typed classes p t e =
     ap (λ (l : List CType). same_result (signature t).result (signature p.type).result && same_types (signature t).parameters l) (parameter-types 0 (parameters p.type)) ∙ e
 

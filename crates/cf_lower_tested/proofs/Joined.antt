@@ -84,7 +84,8 @@ foreign-other name e =
     let b = not (known.is_helper name) in
     let c = not (bytes_eq name (codes "__sti")) in
     let d = not (known.is_library name) in
-    let no = both (a && b && c) d (both (a && b && c && d) (not (known.is_main name)) e).0 in
+    let five = a && b && c && d && not (known.is_main name) in
+    let no = both (a && b && c) d (both (a && b && c && d) (not (known.is_main name)) (both five (not (names.ends_as_file name)) e).0).0 in
     choose (is_library name)
     (λ here. absurd (true-not (known.is_library name) (of-library (λ n. known.is_library n ≡ true) name here refl refl refl) no.1)) (λ other. ap not other)
 

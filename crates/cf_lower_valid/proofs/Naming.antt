@@ -1,5 +1,5 @@
 -- What actions name is known: the literals of their function, and what the file declares.
-use Rattle.std.proofs.Common.{◌≡◌, ℕ, Bool, true, false, not, ◌||◌, List, [], ◌∷◌, ◌++◌, length, map, refl, ap, sym, subst, ◌∙◌, inl, inr, ◌⊎◌}
+use Rattle.std.proofs.Common.{◌≡◌, ℕ, Bool, true, false, not, ◌||◌, List, [], ◌∷◌, ◌++◌, length, map, refl, ap, sym, subst, ◌∙◌, inl, inr, ◌⊎◌, ◌&&◌}
 use Rattle.std.specs.Prelude.{Some, bytes_eq, codes}
 use Rattle.std.specs.List.{list_any, flat_map}
 use Rattle.std.proofs.lemmas.Bool.{or_cases}
@@ -19,7 +19,7 @@ use Rattle.cc_whole.specs.Plain.{Item, declares, declares_variable, defines_vari
 use Rattle.cc_whole.specs.Valid.{named_by}
 use Rattle.cf_lower.specs.Written.{int_constant, variable_type, literal_name}
 use Rattle.cf_lower.specs.Functions.{prototype_of, owner_of, but_last, literal_at, declared_at, lowered_static, literals, start_literals, own_prototypes, own_variables, named_in}
-use Rattle.cf_lower_program.specs.Names.{own_fronts, is_own_name, begins_with_digit, is_foreign, is_function_name, is_object_name, may_be_function, may_be_object}
+use Rattle.cf_lower_program.specs.Names.{own_fronts, is_own_name, begins_with_digit, ends_as_file, is_foreign, is_function_name, is_object_name, may_be_function, may_be_object}
 use Rattle.cf_lower_program.specs.Lowerable.{Lowerable}
 use Rattle.cf_lower_valid_body.specs.Scope.{NamesObject, NamesFunction}
 use Rattle.cc_whole_sections.specs.Sections.{In, Every, Stands}
@@ -45,9 +45,19 @@ pub record Foreign (y : Name) : Type 0 where
   pub no_library : is_library y ≡ false
   pub no_main : is_main y ≡ false
 
+-- the tests of a name but the last
+pub foreign-parts : (y : Name) → is_foreign y ≡ true → (not (list_any (λ front. is_own_name front y) own_fronts) ≡ true) × (not (is_helper y) ≡ true)
+    × (not (bytes_eq y (codes "__sti")) ≡ true) × (not (is_library y) ≡ true) × (not (is_main y) ≡ true)
+foreign-parts y e =
+    let a = not (list_any (λ front. is_own_name front y) own_fronts) in
+    let b = not (is_helper y) in
+    let c = not (bytes_eq y (codes "__sti")) in
+    let d = not (is_library y) in
+    five-parts a b c d (not (is_main y)) (both (a && b && c && d && not (is_main y)) (not (ends_as_file y)) e).0
+
 foreign : (y : Name) → is_foreign y ≡ true → Foreign y
 foreign y e =
-    let all = five-parts (not (list_any (λ front. is_own_name front y) own_fronts)) (not (is_helper y)) (not (bytes_eq y (codes "__sti"))) (not (is_library y)) (not (is_main y)) e in
+    let all = foreign-parts y e in
     let apart = none-any (λ front. is_own_name front y) own_fronts (no-not (list_any (λ front. is_own_name front y) own_fronts) all.0) in
     record {
       outer = any-none (λ front. is_own_name front y) local_fronts (λ front h. apart front (in-left front local_fronts (codes "__s" ∷ []) h));

@@ -84,6 +84,7 @@ inner-lowered t e = tt
 
 decayed-lowered : (o : Option Kept) → LoweredIf o → LoweredIf (decayed_kept o)
 decayed-lowered (Some (a_place t)) h = inner-lowered t h
+decayed-lowered (Some (an_object i t)) h = inner-lowered t h
 decayed-lowered o h = tt
 
 forth-lowered : (o p : Option Kept) → LoweredIf o → LoweredIf (forth o p)
@@ -141,10 +142,12 @@ stored-lowered o p = tt
 
 begun-lowered : (o p : Option Kept) → LoweredIf (begun o p)
 begun-lowered (Some (an_object i t)) (Some x) = given-lowered (plain.suits t x) no_value refl
+begun-lowered (Some (a_place t)) (Some x) = given-lowered (plain.suits t x) no_value refl
 begun-lowered o p = tt
 
 filled-lowered : (o : Option Kept) → LoweredIf (filled o)
 filled-lowered (Some (an_object i t)) = refl
+filled-lowered (Some (a_place t)) = refl
 filled-lowered o = tt
 
 called-lowered : (t : SourceType) (o : Option Kept) → is_lowered t ≡ true → LoweredIf (pointed_call t o)

@@ -199,7 +199,17 @@ module _ (names : List Named) (f : Name) (locals : Locals) (result : SourceType)
       by : (c : Bool) → AllChecked (first_in (if c then argument i t else keeps (address (without_const t))) r (value_in h q)) here
       by true = passed-first (sort_of t) refl
       by false = scalar-stored (sort_of (without_const t)) r (value_in h q) u.0 (λ z is. value-suits h q t x v.0 suits b z (sym (sort-bare t) ∙ is))
+  first-checked (Some (plain.a_place t)) (Some x) r q h a b u v s =
+      subst (λ y. AllChecked (first_in y r (value_in h q)) here) (sym a)
+      (stored-at (without_const t) r (value_in h q) u.0
+      (λ z is. value-suits h q t x v.0 (some-given (plain.suits t x) plain.no_value s) b z (sym (sort-bare t) ∙ is)))
   first-checked o p r q h a b u v s = absurd (cc)
+
+  zeros-at : (w : SourceType) (r : Register) → r < n → size [] w ≤ 2 ^ 22 → AllChecked (zeros_in [] (keeps (sort_to w)) r) here
+  zeros-at (takes p t) r lt small = tt
+  zeros-at (gives t c) r lt small = tt
+  zeros-at w r lt small =
+      zeros-checked here w (address_in r) 0 (pointer-has names f locals result n d own types r lt) (omega (arith, small))
 
   zero-checked : (o : Option plain.Kept) (r : Register) (y : Kept) → ToldIf locals o y → FitIf n o r → is_some (plain.filled o) ≡ true
       → AllChecked (zeros_in [] y r) here
@@ -209,6 +219,8 @@ module _ (names : List Named) (f : Name) (locals : Locals) (result : SourceType)
       by true = tt
       by false = zeros-checked here (without_const t) (address_in r) 0 (pointer-has names f locals result n d own types r u.0)
           (let small = bare-small t u.1 in omega (arith, small))
+  zero-checked (Some (plain.a_place t)) r y a u s =
+      subst (λ y. AllChecked (zeros_in [] y r) here) (sym a) (zeros-at (without_const t) r u.0 (bare-small t u.1))
   zero-checked o r y a u s = absurd (cc)
 
   -- ---- calls

@@ -18,12 +18,13 @@ use Rattle.cc_whole_locals.specs.Names.{is_local, is_parameter}
 use Rattle.cc_whole_mean.specs.declared.named.Named.{Named}
 use Rattle.cc_whole_mean.specs.declared.named.Named.TheVariants as meant
 use Rattle.cc_whole_mean.specs.Callee.{Callee, own, callee_named}
-use Rattle.cf_lower.specs.Functions.{lowered_function, lowered_parameters}
+use Rattle.cf_lower.specs.Functions.{lowered_parameters}
 use Rattle.cf_lower_relate.specs.Map.{Numbered}
 use Rattle.cf_lower_steps.specs.Lowering.{is_function}
 use Rattle.cf_lower_turns.specs.Texts.{Text}
 use Rattle.cf_lower_calls.specs.Returns.Called.{Programs, fixed, Pair}
 use Rattle.cf_lower_calls.specs.Born.Laid.{c_locals, is_laid_out}
+use Rattle.cf_lower_calls.specs.Entered.Linked.{linked_function}
 use Rattle.cf_lower_calls.specs.Entered.Lowered.{Fitting, IsOutside, IsLowered, AllLowered}
 
 -- ---- the plain functions
@@ -104,7 +105,7 @@ type_of_function name None = type_of_library name
 type_of_function name (Some x) = x.type
 
 abbrev pub c_functions : List c_tree.Function
-c_functions = lowered_function [] g ∷ lowered_function [] f ∷ lowered_function [] k ∷ []
+c_functions = linked_function [] g ∷ linked_function [] f ∷ linked_function [] k ∷ []
 
 abbrev pub B : Programs
 B = record {
@@ -229,7 +230,7 @@ pub k-laid : is_laid_out B.program.classes k ≡ true
 unfolding digits
 k-laid = refl
 
-abbrev pub g-lowered : IsLowered B (header g) (lowered_function [] g)
+abbrev pub g-lowered : IsLowered B (header g) (linked_function [] g)
 g-lowered = record {
   plain = g;
   found = refl;
@@ -243,7 +244,7 @@ g-lowered = record {
   literals = λ j x e. absurd (none-text j x e);
 }
 
-abbrev pub f-lowered : IsLowered B (header f) (lowered_function [] f)
+abbrev pub f-lowered : IsLowered B (header f) (linked_function [] f)
 f-lowered = record {
   plain = f;
   found = refl;
@@ -257,7 +258,7 @@ f-lowered = record {
   literals = λ j x e. absurd (none-text j x e);
 }
 
-abbrev pub k-lowered : IsLowered B (header k) (lowered_function [] k)
+abbrev pub k-lowered : IsLowered B (header k) (linked_function [] k)
 k-lowered = record {
   plain = k;
   found = refl;
@@ -280,15 +281,15 @@ found_own a = Ok (own a)
 pub own-same : {a b : c_tree.Function} → found_own a ≡ found_own b → a ≡ b
 own-same e = cc
 
-pub g-pair : Pair B (header g) (lowered_function [] g)
+pub g-pair : Pair B (header g) (linked_function [] g)
 g-pair = record { found = refl; c_found = refl; name = refl; no_main = refl; no_helper = refl; no_library = refl; count = refl }
 
 -- a function of both, by its name
-pub with-name : (q : PlainFunction) → callee_named c_functions q.name ≡ found_own (lowered_function [] q) → IsLowered B (header q) (lowered_function [] q) → (x : Function)
+pub with-name : (q : PlainFunction) → callee_named c_functions q.name ≡ found_own (linked_function [] q) → IsLowered B (header q) (linked_function [] q) → (x : Function)
     (y : c_tree.Function) → header q ≡ x → callee_named c_functions x.name ≡ found_own y → IsLowered B x y
 with-name q at lowered x y e found =
-    let c : lowered_function [] q ≡ y = own-same (sym at ∙ ap (λ (v : Function). callee_named c_functions v.name) e ∙ found) in
-    subst (λ (v : c_tree.Function). IsLowered B x v) c (subst (λ (v : Function). IsLowered B v (lowered_function [] q)) e lowered)
+    let c : linked_function [] q ≡ y = own-same (sym at ∙ ap (λ (v : Function). callee_named c_functions v.name) e ∙ found) in
+    subst (λ (v : c_tree.Function). IsLowered B x v) c (subst (λ (v : Function). IsLowered B v (linked_function [] q)) e lowered)
 
 pub all-lowered : AllLowered B
 all-lowered x y pair = by (bytes_eq g_name x.name) (bytes_eq f_name x.name) (bytes_eq k_name x.name) pair.found

@@ -17,7 +17,7 @@ use Rattle.cc_whole_memory.specs.declared.value.Value.{Value}
 use Rattle.cc_whole_memory.specs.Blocks.{Memory}
 use Rattle.cc_whole_mean.specs.Flow.{born_arguments}
 use Rattle.cf_lower.specs.Kept.{Keeping, Locals, nothing_kept, after}
-use Rattle.cf_lower.specs.Functions.{lowered_function, locals_of}
+use Rattle.cf_lower.specs.Functions.{locals_of}
 use Rattle.cf_lower.specs.Written.{c_type}
 use Rattle.cf_lower_kept.specs.Opened.{Opened, keeping_or}
 use Rattle.cf_lower_kept.specs.Told.{AllTold}
@@ -36,6 +36,7 @@ use Rattle.cf_lower_calls.specs.Library.Pointed.{ReachesFunction, PointerFits}
 use Rattle.cf_lower_calls.proofs.LibraryLaws.Calls.{putchar-leads}
 use Rattle.cf_lower_calls.proofs.LibraryLaws.Pointed.{pointer-leads}
 use Rattle.cf_lower_calls.specs.Born.Laid.{results_from}
+use Rattle.cf_lower_calls.specs.Entered.Linked.{linked_function}
 use Rattle.cf_lower_calls.specs.Entered.Lowered.{entered_scene, HasNeeds, AllHaveNeeds}
 use Rattle.cf_lower_calls.proofs.EnteredLaws.Fitting.{scene-fits, programs-alike}
 use Rattle.cf_lower_calls.proofs.EnteredLaws.Example.{int, g_name, f_name, k_name, of_int, the_call, k_put, k_call, k_end, g, f, k, P, type_of_function, B, found_by, fitting, g-lowered, f-lowered, k-lowered, some-function, g-pair, all-lowered}
@@ -54,7 +55,7 @@ module _ (n : ℕ) (alike : (i : ℕ) → i ≤ n → FunctionsAlike B i) (E : M
     zg = entered_scene B g E first cs depth
 
     g-fits : Fits zg
-    g-fits = scene-fits B fitting n (header g) (lowered_function [] g) g-lowered E s first os cs depth entry
+    g-fits = scene-fits B fitting n (header g) (linked_function [] g) g-lowered E s first os cs depth entry
 
     abbrev lg : Locals
     lg = locals_of g
@@ -101,7 +102,7 @@ module _ (n : ℕ) (alike : (i : ℕ) → i ≤ n → FunctionsAlike B i) (E : M
     zf = entered_scene B f E first cs depth
 
     f-fits : Fits zf
-    f-fits = scene-fits B fitting n (header f) (lowered_function [] f) f-lowered E s first os cs depth entry
+    f-fits = scene-fits B fitting n (header f) (linked_function [] f) f-lowered E s first os cs depth entry
 
     abbrev lf : Locals
     lf = locals_of f
@@ -174,7 +175,7 @@ module _ (n : ℕ) (alike : (i : ℕ) → i ≤ n → FunctionsAlike B i) (E : M
               point = point_at h4 [];
               kept_there = refl;
               first =
-                  call-kept-leads zf refl refl n alike around h2 (passed ∷ []) (header g) (lowered_function [] g) g-pair (0 ∷ []) of_int 0
+                  call-kept-leads zf refl refl n alike around h2 (passed ∷ []) (header g) (linked_function [] g) g-pair (0 ∷ []) of_int 0
                   (λ same. (invokes, keeps)) refl;
               second = record {
                 point = point_never h4;
@@ -193,7 +194,7 @@ module _ (n : ℕ) (alike : (i : ℕ) → i ≤ n → FunctionsAlike B i) (E : M
     zk = entered_scene B k E first cs depth
 
     k-fits : Fits zk
-    k-fits = scene-fits B fitting n (header k) (lowered_function [] k) k-lowered E s first os cs depth entry
+    k-fits = scene-fits B fitting n (header k) (linked_function [] k) k-lowered E s first os cs depth entry
 
     abbrev lk : Locals
     lk = locals_of k
@@ -297,7 +298,7 @@ module _ (n : ℕ) (alike : (i : ℕ) → i ≤ n → FunctionsAlike B i) (E : M
     to-g = record {
       named = refl;
       is_no_library = refl;
-      callee = lowered_function [] g;
+      callee = linked_function [] g;
       pair = g-pair;
       numbered = refl;
       typed = refl;

@@ -13,12 +13,12 @@ use Rattle.cc_whole_memory.specs.declared.value.Value.{Value}
 use Rattle.cc_whole_memory.specs.Blocks.{Memory}
 use Rattle.cc_whole_mean.specs.Flow.{born_arguments}
 use Rattle.cf_lower.specs.Written.{literal_name}
-use Rattle.cf_lower.specs.Functions.{lowered_function}
 use Rattle.cf_lower_relate.specs.Map.{Map, Stage, hidden, shown, ended, is_shown, is_hidden}
 use Rattle.cf_lower_calls.specs.Invoked.LowerActions.{StaticObject, Fits}
 use Rattle.cf_lower_calls.specs.Returns.Called.{Programs, Pair, Entry, FunctionsAlike}
 use Rattle.cf_lower_calls.specs.Born.Laid.{c_locals, own_of, flags_of}
 use Rattle.cf_lower_calls.proofs.BornLaws.Blocks.{frame-born, types-fit, shaped-born, outside-born}
+use Rattle.cf_lower_calls.specs.Entered.Linked.{linked_function}
 use Rattle.cf_lower_calls.specs.Entered.Bodies.{BodyFits, FunctionFits, AllFit}
 use Rattle.cf_lower_calls.specs.Entered.Lowered.{Fitting, IsLowered, entered_scene, HasNeeds, AllLowered, AllHaveNeeds}
 use Rattle.cf_lower_calls.proofs.EnteredLaws.Alike.{alike-always}
@@ -59,7 +59,7 @@ module _ (B : Programs) (fitting : Fitting B) (n : ℕ) where
           let o = x.literals j t is in outside-born B p x.laid E s first os cs entry (literal_name p.name j) o.locals o.parameters ∙ fitting.literals p.name j t is;
     }
 
-    body-fits : HasNeeds B n p E first cs depth → BodyFits B n p (lowered_function B.program.classes p) (c_locals B.program.classes p) E first cs depth
+    body-fits : HasNeeds B n p E first cs depth → BodyFits B n p (linked_function B.program.classes p) (c_locals B.program.classes p) E first cs depth
     body-fits needed = record {
       own = own_of p first.next (born_arguments cs first).next;
       flags = flags_of p (born_arguments cs first).next;

@@ -26,22 +26,22 @@ then-follows (Went a w) f g = refl
 then-follows (Stops end trace) f g = refl
 
 -- a tick and a level of depth are spent in both
-pub sim-entered : {A B : Type 0} (S : Flow → State → c.Flow → Type 0) (x : ℕ → World → Ran (Did A)) (y : ℕ → World → Ran B) (k : Did A → World → Ran (Did Flow))
+pub sim-entered : {A B C : Type 0} (S : C → State → c.Flow → Type 0) (x : ℕ → World → Ran (Did A)) (y : ℕ → World → Ran B) (k : Did A → World → Ran (Did C))
     (l : B → World → Ran c.Flow) → ((d : ℕ) (w : World) → IsInput w.input → Simulates S (and_then (x d w) k) (and_then (y d w) l)) → (n d : ℕ) (w : World) → IsInput w.input
     → Simulates S (and_then (spend_of n w (λ w. deeper d w (λ d. x d w))) k) (and_then (spend_of n w (λ w. deeper d w (λ d. y d w))) l)
 sim-entered S x y k l same zero d w i = record { by = refl }
 sim-entered S x y k l same (suc n) zero w i = record { by = refl }
 sim-entered S x y k l same (suc n) (suc d) w i = same d (record w { ticks = n }) i
 
-module _ (K : Fixed) (texts : Texts) (E : Map) (first : Memory) (s : State) (os : List ℕ) (result : Option Sort) (t : SourceType) (S : Flow → State → c.Flow → Type 0)
-    (k : source.Value → Act Flow) (go : c.Flow → World → Ran c.Flow)
+module _ {A : Type 0} (K : Fixed) (texts : Texts) (E : Map) (first : Memory) (s : State) (os : List ℕ) (result : Option Sort) (t : SourceType) (S : A → State → c.Flow → Type 0)
+    (k : source.Value → Act A) (go : c.Flow → World → Ran c.Flow)
     (exits : (z : ℤ) (u : c.State) (w : World) → ExitsAs z w (go (c.Exits z u) w))
     (adds : (flow : c.Flow) (w : World) → Adds w.trace (go flow w))
     (T : State → Type 0)
     (next : (v : source.Value) (u : State) (flow : c.Flow) (w : World) → CameBack K texts E first s os result v u flow → T u
     → Simulates S (k (given_value t v) (with_frame s.frame u) w) (go flow w)) where
   -- the source's part of it: the frame of the caller stands again, and the value is given
-  abbrev behind : Ran (Did Flow) → Ran (Did Flow)
+  abbrev behind : Ran (Did Flow) → Ran (Did A)
   behind x =
       and_then (and_then (and_then x (λ did w. onward did (λ flow. gives (core_flow flow)) w)) (λ did w. onward did (λ flow. changed (with_frame s.frame) >> returned t flow) w))
       (λ did w. onward did k w)

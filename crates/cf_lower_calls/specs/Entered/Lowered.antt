@@ -18,7 +18,7 @@ use Rattle.cc_whole_mean.specs.declared.named.Shape.TheVariants.{Array as array}
 use Rattle.cc_whole_mean.specs.Flow.{born_arguments}
 use Rattle.cf_lower.specs.Kept.{Keeping, nothing_kept}
 use Rattle.cf_lower.specs.Written.{literal_name}
-use Rattle.cf_lower.specs.Functions.{lowered_parameters, lowered_function}
+use Rattle.cf_lower.specs.Functions.{lowered_parameters}
 use Rattle.cf_lower_kept.specs.Opened.{parameters_open}
 use Rattle.cf_lower_relate.specs.Map.{Map, Numbered}
 use Rattle.cf_lower_steps.specs.Lowering.{is_function}
@@ -29,6 +29,7 @@ use Rattle.cf_lower_calls.specs.Returns.Called.{Programs, fixed, Pair, Entry, Fu
 use Rattle.cf_lower_bounds.specs.Points.{point_at}
 use Rattle.cf_lower_bounds.specs.Bounds.{NeededTo}
 use Rattle.cf_lower_calls.specs.Born.Laid.{c_locals, own_of, flags_of, is_laid_out}
+use Rattle.cf_lower_calls.specs.Entered.Linked.{linked_function}
 use Rattle.cf_lower_calls.specs.Entered.Bodies.{scene_of, scope_in}
 
 module _ (B : Programs) where
@@ -53,7 +54,7 @@ module _ (B : Programs) where
     pub is : f ≡ header plain
     pub role : plain.role ≡ plain_function
     pub scalar : is_class (result_type plain.type) ≡ false
-    pub made : g ≡ lowered_function B.program.classes plain
+    pub made : g ≡ linked_function B.program.classes plain
     pub laid : is_laid_out B.program.classes plain ≡ true
     pub functions : (name : Name) → is_function B.program name ≡ true → IsOutside plain name
     pub statics : (name : Name) (o : ℕ) → static_number B.program name ≡ Some o → IsOutside plain name
@@ -63,7 +64,7 @@ module _ (B : Programs) where
   abbrev pub entered_scene : PlainFunction → Map → Memory → List Value → ℕ → Scene
   entered_scene f E first cs depth =
       scene_of B f (own_of f first.next (born_arguments cs first).next) (flags_of f (born_arguments cs first).next)
-      (scope_in B (lowered_function B.program.classes f) (c_locals B.program.classes f) cs first) E first depth
+      (scope_in B (linked_function B.program.classes f) (c_locals B.program.classes f) cs first) E first depth
 
   -- its statements have what they need up to a bound of ticks, from where its parameters have their values to where nothing stands
   pub record HasNeeds (n : ℕ) (f : PlainFunction) (E : Map) (first : Memory) (cs : List Value) (depth : ℕ) : Type 0 where

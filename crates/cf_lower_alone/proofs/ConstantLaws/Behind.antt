@@ -1,0 +1,185 @@
+-- Behind the constants all stands as the source's `main` needs it.
+use Rattle.std.proofs.Common.{◌≡◌, ℕ, true, false, ◌&&◌, ◌==◌, List, [], ◌∷◌, map, Some, Ok, refl, sym, subst, ◌∙◌, arith}
+use Rattle.std.specs.Prelude.{filter, find, bytes_eq, codes, option_map}
+use Rattle.std.specs.List.{flat_map}
+use Rattle.cf_base.specs.Agree.{Adds}
+use Rattle.cf_base.specs.World.{World, Ran, Went, Stops}
+use Rattle.cf_core.specs.Types.{Name}
+use Rattle.cf_core.specs.Objects.{static_number, found_literal}
+use Rattle.cf_core.specs.Program.{first_state}
+use Rattle.cf_core.specs.Run.{Literal, State, Did, Gives, Exits, Malformed, for_all}
+use Rattle.cf_plain.specs.Plain.{PlainStatic}
+use Rattle.cf_plain.specs.Program.{PlainSetting, set_constant}
+use Rattle.cf_plain.specs.Joined.{renamed_all, sets_constant, constant_setting}
+use Rattle.cf_plain.specs.Running as plain
+use Rattle.cf_plain_finished.specs.Finished.{Always, NoneFinished}
+use Rattle.cc_whole.specs.Known.{is_helper, is_main}
+use Rattle.cc_whole.specs.Plain.{Statement, in_order}
+use Rattle.cc_whole_closed.proofs.Plains.{statement_with}
+use Rattle.cc_whole_link.specs.Rename.{Renaming}
+use Rattle.cc_whole_memory.specs.declared.store.Storage.TheVariants as storage
+use Rattle.cc_whole_memory.specs.Blocks.{Memory, born}
+use Rattle.cc_whole_mean.specs.Callee.{own, callee_named}
+use Rattle.cc_whole_mean.specs.Flow as c
+use Rattle.cc_whole_mean.specs.Flow.{in_memory}
+use Rattle.cc_whole_mean.specs.Mean as mean
+use Rattle.cc_whole_mean.specs.Mean.{refused, helps_in}
+use Rattle.cc_whole_mean.proofs.Growth.{grows-runs, grows-refused, grows-does_all}
+use Rattle.cc_whole_sections.specs.Sections.{Every}
+use Rattle.cf_lower.specs.Constants.{nothing_known, constant_code}
+use Rattle.cf_lower.specs.Functions.{owner_of}
+use Rattle.cf_lower_relate.specs.Map.{Fixed, Map}
+use Rattle.cf_lower_steps.specs.Flows.{Simulates}
+use Rattle.cf_lower_turns.specs.Texts.{TextAs}
+use Rattle.cf_lower_turns.proofs.Following.{sim-as, sim-map}
+use Rattle.cf_lower_calls.specs.Returns.Called.{Programs, fixed}
+use Rattle.cf_lower_begun.specs.Begun.{static_map}
+use Rattle.cf_lower_settings.specs.Numbers.{number_statements, NamesGo}
+use Rattle.cf_lower_settings.specs.Set.{NamedThere, Since, SetAs, NoExit}
+use Rattle.cf_lower_settings.proofs.Settings.{sets-alike}
+use Rattle.cf_lower_alone.specs.Linked.{calls_of_helpers, helpers_of}
+use Rattle.cf_lower_alone.specs.Starts.{Starts}
+use Rattle.cf_lower_alone.specs.Added.{main_scope, ReadyBehind, ConstantsAlike}
+use Rattle.cf_lower_alone.proofs.AgreesLaws.Ready.{ready, place}
+use Rattle.cf_lower_alone.proofs.ConstantLaws.Helper.{around, sim-around, helper, helper-called}
+
+always-of : {A : Type 0} (K : Fixed) (F : Map) (s : State) (m : Memory) (x : Ran (Did A)) (y : Ran c.Flow) → Simulates (λ a t flow. SetAs K F s m t flow) x y → NoExit x
+    → s.finished ≡ [] → Always NoneFinished x
+always-of K F s m (Went (Gives a t) w) y h n e = record { by = h.by.related.since.finished ∙ e }
+always-of K F s m (Went (Exits z t) w) y h n e = absurd (n.by)
+always-of K F s m (Went Malformed w) y h n e = record { by = tt }
+always-of K F s m (Stops end trace) y h n e = record { by = tt }
+
+module _ (B : Programs) (depth : ℕ) (m : Memory) (start : Starts B depth m) where
+  abbrev F : Map
+  F = static_map B.program
+
+  abbrev m0 : Memory
+  m0 = born storage.Local 4 m
+
+  -- as both start nothing has changed
+  pub since-start : Since (fixed B) F (first_state B.program depth) m0 (first_state B.program depth) m0
+  since-start = record { rel = (ready B depth m start).rel; next = refl; elsewhere = λ b free. refl; depth = refl; literals = refl; finished = refl }
+
+  pub named-there : (name : Name) (o : ℕ) → static_number B.program name ≡ Some o → NamedThere B.program F B.c_program.names name o
+  named-there name o e =
+      let x = start.statics name o e in
+      record { shape = x.shape; named = x.named; known = x.known; type = x.type; shown = x.shown; base = x.base }
+
+  pub ready-behind : (t : State) (flow : c.Flow) → SetAs (fixed B) F (first_state B.program depth) m0 t flow → ReadyBehind B depth m.next t flow
+  ready-behind t flow x =
+      let R = ready B depth m start in
+      let P = place B depth m start in
+      let next = x.since.next in
+      record {
+        after = x.after;
+        is = x.is;
+        map = F;
+        ready = record {
+          rel = x.since.rel;
+          shown = R.shown;
+          texts_laid = record {
+            below = λ f j y e. let l = R.texts_laid.below f j y e in omega (arith, l, next);
+            laid = R.texts_laid.laid;
+            apart = R.texts_laid.apart;
+          };
+          texts = λ f j y e.
+              let t = R.texts f j y e in
+              subst (λ ls. TextAs (fixed B) F x.after.memory y (found_literal (find (λ (l : Literal). bytes_eq l.function f && (l.number == j)) ls))) (sym x.since.literals)
+              (record { free = t.free; block = t.block; there = x.since.elsewhere y.block t.free ∙ t.there; size = t.size; cells = t.cells });
+          statics = R.statics;
+        };
+        place = record {
+          block = x.since.elsewhere m.next P.free ∙ P.block;
+          below = let l = P.below in omega (arith, l, next);
+          no_text = P.no_text;
+          free = P.free;
+        };
+        levels = x.since.depth;
+        finished = x.since.finished;
+      }
+
+-- what is called before `main` is found
+abbrev pub HelperFound : Programs → Renaming → List Statement → Type 0
+HelperFound B r [] = Unit {0}
+HelperFound B r (s ∷ ss) =
+    (is_main (r (codes "__hci")) ≡ false) × ((is_helper (r (codes "__hci")) ≡ true)
+    × (callee_named B.c_program.functions (r (codes "__hci"))
+    ≡ Ok (own (helper (r (codes "__hci")) (in_order (map (λ (x : Statement). statement_with x r) (s ∷ ss)))))))
+
+module _ (B : Programs) (none : B.program.classes ≡ []) (first : c.State) (start : (depth : ℕ) → Starts B depth first.memory) (q r : Name → Name) (name : Name)
+    (xs : List PlainStatic) (numbers : Every (λ (x : PlainStatic). (number_statements x.start (owner_of x) nothing_known ≡ true) × NamesGo q r x.start) xs) where
+  abbrev stores : List Statement
+  stores = flat_map (λ (x : PlainStatic). constant_code [] x.start (owner_of x) nothing_known) (filter (λ (x : PlainStatic). x.is_constant) xs)
+
+  abbrev there : PlainStatic → PlainStatic
+  there x = record x { name = q x.name; start = renamed_all q x.start; owner = option_map q x.owner }
+
+  abbrev settings : List PlainSetting
+  settings = map (constant_setting name) (filter sets_constant (map there xs))
+
+  module _ (found : HelperFound B r stores) (n depth : ℕ) where
+    abbrev again : mean.Again
+    again = mean.runs B.c_program n
+
+    abbrev inner : List Statement → c.State → World → Ran c.Flow
+    inner ss u w = mean.does_all again refused B.c_program true (in_order ss) B.c_program.names depth u w
+
+    abbrev with_names : List Statement → List Statement
+    with_names ss = map (λ (x : Statement). statement_with x r) ss
+
+    inner-adds : (ss : List Statement) (u : c.State) (w : World) → Adds w.trace (inner ss u w)
+    inner-adds ss u w = grows-does_all again refused (grows-runs B.c_program n) grows-refused B.c_program true (in_order ss) B.c_program.names depth u w
+
+    abbrev F0 : Map
+    F0 = static_map B.program
+
+    abbrev s0 : State
+    s0 = first_state B.program depth
+
+    abbrev u0 : c.State
+    u0 = in_memory first (born storage.Local 4 first.memory)
+
+    abbrev source : World → Ran (Did (Unit {0}))
+    source w = for_all settings (set_constant (plain.runs B.program B.functions n) B.program) s0 w
+
+    abbrev S : State → c.Flow → Type 0
+    S t flow = SetAs (fixed B) F0 s0 u0.memory t flow
+
+    in-helper : (w : World) (ss : List Statement) → HelperFound B r ss
+        → ((u : c.State) → u.memory ≡ u0.memory → Simulates (λ a t flow. S t flow) (source w) (inner (with_names ss) u w))
+        → Simulates (λ a t flow. S t flow) (source w)
+        (mean.does_all again (helps_in again B.c_program false) B.c_program false (in_order (calls_of_helpers (helpers_of r ss)))
+        (main_scope B.c_program.names first.memory.next) depth u0 w)
+    in-helper w [] found h = h u0 refl
+    in-helper w (s ∷ ss) found h =
+        let u1 : c.State = in_memory (in_memory u0 u0.memory) u0.memory in
+        sim-as (λ a t flow. S t flow) (source w) (around u0.memory.next (inner (with_names (s ∷ ss)) u1 w)) _
+        (helper-called B.c_program again (r (codes "__hci")) (in_order (with_names (s ∷ ss))) found.0 found.1.0 found.1.1
+        (main_scope B.c_program.names first.memory.next) depth u0 w)
+        (sim-around (fixed B) F0 s0 u0.memory u0.memory.next (source w) (inner (with_names (s ∷ ss)) u1 w) (h u1 refl))
+
+    since-at : (u : c.State) → u.memory ≡ u0.memory → Since (fixed B) F0 s0 u0.memory s0 u.memory
+    since-at u e = subst (λ m. Since (fixed B) F0 s0 u0.memory s0 m) (sym e) (since-start B depth first.memory (start depth))
+
+    pub set-sim : (w : World) → Simulates (λ a t flow. S t flow) (source w)
+        (mean.does_all again (helps_in again B.c_program false) B.c_program false (in_order (calls_of_helpers (helpers_of r stores)))
+        (main_scope B.c_program.names first.memory.next) depth u0 w)
+    set-sim w =
+        let alike = sets-alike B.program B.function B.signature F0 B.c_program.names (named-there B depth first.memory (start depth)) none q r (plain.runs B.program B.functions n)
+        again refused B.c_program true depth inner-adds name xs numbers in
+        in-helper w stores found (λ u e. alike.sim s0 u0.memory s0 u w (since-at u e))
+
+    pub set-kept : (w : World) → Always NoneFinished (source w)
+    set-kept w =
+        let alike = sets-alike B.program B.function B.signature F0 B.c_program.names (named-there B depth first.memory (start depth)) none q r (plain.runs B.program B.functions n)
+        again refused B.c_program true depth inner-adds name xs numbers in
+        always-of (fixed B) F0 s0 u0.memory (source w) _ (set-sim w) (alike.goes s0 u0 w (since-start B depth first.memory (start depth)).rel) refl
+
+  pub numbers-alike : HelperFound B r stores → ConstantsAlike B settings (calls_of_helpers (helpers_of r stores)) first
+  numbers-alike found = record {
+    alike = λ n depth w input.
+        sim-map (λ a t flow. SetAs (fixed B) (static_map B.program) (first_state B.program depth) (born storage.Local 4 first.memory) t flow)
+        (λ a t flow. ReadyBehind B depth first.memory.next t flow) (λ a t flow. ready-behind B depth first.memory (start depth) t flow) _ _ (set-sim found n depth w);
+    kept = λ n depth w. set-kept found n depth w;
+  }

@@ -1,0 +1,4 @@
+pub mod Status
+pub mod Entering
+pub mod Whole
+pub mod Outcome

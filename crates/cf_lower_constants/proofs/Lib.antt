@@ -1,0 +1,9 @@
+pub mod Conversions
+pub mod Forms
+pub mod Lists
+pub mod Moves
+pub mod Operands
+pub mod Operated
+pub mod StoreLaws
+pub mod Truths
+pub mod Turns

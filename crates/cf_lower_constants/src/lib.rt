@@ -1,0 +1,18 @@
+//! The stores of constant initialisers.
+//!
+//! What their statements store is known beforehand, so each store stands by itself. `known` is what one register holds, `registers` what all do,
+//! `site` what the statements of an initialiser stand in, `numbers` operators on known numbers, `places` known places that move, `acts` what an
+//! action gives, `stores` the statements that are written, and `walk` all statements.
+#![tactic(auto)]
+
+mod acts;
+mod known;
+mod numbers;
+mod places;
+mod registers;
+mod site;
+mod stores;
+mod walk;
+
+pub use site::Site;
+pub use walk::initialiser;

@@ -1,0 +1,9 @@
+pub mod Forms
+pub mod Heads
+pub mod Lists
+pub mod LocalLaws
+pub mod Loops
+pub mod ObjectTypes
+pub mod ResultLaws
+pub mod Turns
+pub mod Whole

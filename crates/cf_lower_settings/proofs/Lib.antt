@@ -1,0 +1,4 @@
+pub mod Actions
+pub mod Stores
+pub mod Statements
+pub mod Settings

@@ -1,0 +1,13 @@
+pub mod Arounds
+pub mod Cells
+pub mod Erasing
+pub mod Forms
+pub mod Labels
+pub mod Lists
+pub mod Loops
+pub mod Objects
+pub mod Others
+pub mod Switches
+pub mod Types
+pub mod Walks
+pub mod ZeroLaws
