@@ -33,6 +33,3 @@ pub use level::Level;
 pub use place::{declarator, expr, params, type_id};
 pub use scopes::Scopes;
 pub use stop::Stop;
-
-#[cfg(test)]
-mod tests;
