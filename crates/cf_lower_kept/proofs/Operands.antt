@@ -16,7 +16,7 @@ use Rattle.cf_lower_layout.proofs.Types.{same-type, without-twice}
 use Rattle.cf_plain_kept.specs.Kept as plain
 use Rattle.cf_lower.specs.Kept as lower
 use Rattle.cf_lower.specs.Kept.{Kept, integer_of, holds, Locals}
-use Rattle.cf_lower_kept.specs.Ready.{is_code, names_well, names_well_if, has_objects, decays_well, is_object, of_place, is_the_type}
+use Rattle.cf_lower_kept.specs.Ready.{is_code, names_well, names_well_if, has_objects, decays_well, is_object, of_place, operands_ready, is_the_type}
 use Rattle.cf_lower_kept.specs.Told.{IsObject, Told, ToldIf}
 
 -- ---- types
@@ -173,7 +173,7 @@ module _ (locals : Locals) where
   compared-told o p y h = tt
 
   pub pointers-told : (o : PointerOperator) (p q : Option plain.Kept) (y z : Kept) → ToldIf locals p y → ToldIf locals q z
-      → of_place is_object p && of_place is_object q ≡ true → ToldIf locals (plain.pointer_operated o p q) (lower.operated_kept o y z)
+      → operands_ready o p q ≡ true → ToldIf locals (plain.pointer_operated o p q) (lower.operated_kept o y z)
   pointers-told pointer_op.Add p q y z h k e = moved-told p q y z h k e
   pointers-told pointer_op.Subtract p q y z h k e = back-told p q y h
   pointers-told pointer_op.Difference p q y z h k e = compared-told p q (lower.of_kind Int) (of-kind Int)

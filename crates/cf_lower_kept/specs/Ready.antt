@@ -2,6 +2,8 @@
 -- objects, and a local is declared with its own type.
 use Rattle.std.specs.Prelude.{Bool, true, false, ◌&&◌, ◌||◌, not, List, ◌++◌, Option, Some, None, slice_get}
 use Rattle.std.specs.List.{list_all}
+use Rattle.cf_core.specs.declared.operators.PointerOperator.{PointerOperator}
+use Rattle.cf_core.specs.declared.operators.PointerOperator.TheVariants as pointer
 use Rattle.cf_core.specs.Types.{SourceType, array, takes, gives, const, is_void, type_eq, parameters, result as result_type}
 use Rattle.cf_core.specs.Core.{moved}
 use Rattle.cf_core.specs.Places.{is_reference}
@@ -32,10 +34,20 @@ has_objects t = true
 abbrev pub is_object : SourceType → Bool
 is_object t = not (is_code t) && not (is_void t)
 
+-- whether pointers to this type can be compared for equality: those to void too (5.10)
+abbrev pub is_no_code : SourceType → Bool
+is_no_code t = not (is_code t)
+
 -- whether it is so of the type of a place, if it is one
 abbrev pub of_place : (SourceType → Bool) → Option Kept → Bool
 of_place test (Some (a_place t)) = test t
 of_place test x = true
+
+-- what an operator on pointers asks of its operands
+abbrev pub operands_ready : PointerOperator → Option Kept → Option Kept → Bool
+operands_ready pointer.Equal x y = of_place is_no_code x && of_place is_no_code y
+operands_ready pointer.NotEqual x y = of_place is_no_code x && of_place is_no_code y
+operands_ready op x y = of_place is_object x && of_place is_object y
 
 -- whether what decays is an array of objects, or a function; an object that is declared is no function
 abbrev pub decays_well : Option Kept → Bool
@@ -60,7 +72,7 @@ module _ (locals : List SourceType) (result : SourceType) where
   action_ready g (decay r) = decays_well (g r)
   action_ready g (index r q) = of_place is_object (g r) && of_place is_object (g q)
   action_ready g (from_void t r) = not (is_code t)
-  action_ready g (pointer_operate op r q) = of_place is_object (g r) && of_place is_object (g q)
+  action_ready g (pointer_operate op r q) = operands_ready op (g r) (g q)
   action_ready g (changed (moved back) r q) = of_place is_object (g r)
   action_ready g (declare i t) = is_the_type (slice_get locals i) t
   action_ready g a = true

@@ -3,9 +3,9 @@ use Rattle.std.proofs.Common.{◌≡◌, ℕ, List, [], ◌∷◌, ◌++◌, ref
 use Rattle.std.specs.Prelude.{pos, Some, None, true, false, codes}
 use Rattle.std.specs.Fmt.{digits}
 use Rattle.cf_base.specs.declared.kind.Kind.TheVariants.{Char, Int, UInt}
-use Rattle.cf_core.specs.Types.{Name, SourceType, void, integer, pointer, reference, data_member, takes, gives, const}
+use Rattle.cf_core.specs.Types.{Name, SourceType, void, integer, pointer, reference, array, data_member, takes, gives, const}
 use Rattle.cf_core.specs.Core.{plain_function}
-use Rattle.cf_plain.specs.Plain.{Plain, Plains, PlainFunction, PlainStatic, PlainFile, nothing, more, act, set, branch, give, number, text, read, decay, convert, truth, store, declare, first, call, function, static_object, reach, finish_static}
+use Rattle.cf_plain.specs.Plain.{Plain, Plains, PlainFunction, PlainStatic, PlainFile, nothing, more, act, set, branch, give, number, text, read, decay, convert, truth, store, declare, first, call, function, static_object, reach, finish_static, bytes}
 use Rattle.cc_whole.specs.Types.{same_type}
 use Rattle.cc_whole.specs.ValidUnit.{valid_items}
 use Rattle.cf_lower.specs.Functions.{lowered_file}
@@ -163,7 +163,7 @@ call-refused = refl
 
 -- a literal without its ending 0
 abbrev literal : List ℕ → PlainFile
-literal bytes = with_seven (static_of (codes "s") (pointer (integer Char)) (set 1 (text 0 bytes) ∷ set 1 (decay 1) ∷ act (first 0 1) ∷ []) ∷ [])
+literal b = with_seven (static_of (codes "s") (pointer (integer Char)) (set 1 (text 0 b) ∷ set 1 (decay 1) ∷ act (first 0 1) ∷ []) ∷ [])
 
 open-literal-refused : texts_fit (literal (97 ∷ [])) ≡ false
 unfolding digits
@@ -183,6 +183,14 @@ code-as-void-refused = refl
 unused-name-refused : names_used (file (main_of [] (act (static_object (codes "y") int) ∷ returns_seven) ∷ []) []) ≡ false
 unfolding digits
 unused-name-refused = refl
+
+-- an array that starts by "", and that nothing uses
+abbrev static_bytes : PlainFile
+static_bytes = with_seven (static_of (codes "s") (array (integer Char) 1) (act (bytes 0 (0 ∷ [])) ∷ []) ∷ [])
+
+unused-array-passes : names_used static_bytes ≡ true
+unfolding digits
+unused-array-passes = refl
 
 -- Files that the other tests let through, and whose units are not valid. Elaboration and sequencing make none of them.
 

@@ -11,7 +11,7 @@ use Rattle.cc_whole.specs.Spellable.{spellable_items}
 use Rattle.cc_whole.specs.Uses.{uses_of_item}
 use Rattle.cc_whole.specs.Valid.{agrees, named_by, own_type, has_type}
 use Rattle.cf_plain.specs.Plain.{PlainFunction, PlainStatic, PlainFile}
-use Rattle.cf_lower.specs.Functions.{literals, start_literals, own_prototypes, own_variables, named_in, lowered_file}
+use Rattle.cf_lower.specs.Functions.{library, literals, start_literals, own_prototypes, own_variables, named_in, lowered_file}
 
 -- what the names begin with that the C has for its own, with a digit behind: of parameters and locals, registers, flags, results, literals
 abbrev pub own_fronts : List Name
@@ -101,6 +101,11 @@ abbrev pub literals_differ : PlainFile → Bool
 literals_differ file =
     all_differ (map (λ (v : CVariable). v.name) (flat_map literals file.functions ++ flat_map start_literals file.statics))
 
--- what actions name the C uses: nothing is named where no value of it is kept
+-- the names that a file defines, and those of the library
+abbrev pub own_names : PlainFile → List Name
+own_names file = map name_of (library ++ own_prototypes file ++ own_variables file)
+
+-- what actions name and other files define the C uses: nothing is named where no value of it is kept
 abbrev pub names_used : PlainFile → Bool
-names_used file = list_all (λ i. is_in (flat_map uses_of_item (lowered_file file)) (name_of i)) (named_in file)
+names_used file =
+    list_all (λ i. is_in (own_names file) (name_of i) || is_in (flat_map uses_of_item (lowered_file file)) (name_of i)) (named_in file)

@@ -7,7 +7,7 @@ use Rattle.cf_base.specs.declared.kind.Kind.TheVariants.{Int, UInt}
 use Rattle.cf_base.specs.declared.arith.Arith.{Arith}
 use Rattle.cf_base.specs.declared.arith.Arith.TheVariants as op
 use Rattle.cf_base.specs.Integers.{fits, convert}
-use Rattle.cf_base.proofs.Tests.{both}
+use Rattle.cf_base.proofs.Tests.{both, all_of}
 use Rattle.cf_types.specs.Operators.{is_shift as source_shift}
 use Rattle.cf_core.specs.declared.operators.PointerOperator.{PointerOperator}
 use Rattle.cf_core.specs.declared.operators.PointerOperator.TheVariants as pointer
@@ -35,7 +35,7 @@ use Rattle.cf_lower.specs.Kept.{Kept, unknown, integer_of, holds, argument, Keep
 use Rattle.cf_lower.specs.Written.{c_type, register_type, int_constant, words, variable_type, local_name, register_name, literal_name}
 use Rattle.cf_lower.specs.Written as written
 use Rattle.cf_lower.specs.Expressions.{zero, in_register, integer_in, address_in, local_value, value_in, as_value, as_bits, at_kind, loaded, place_named, element_bytes, moved_by, sum_by, sum_of, equated, pointer_operated, loaded_or, read_value, same_value, converted, changed, value, constant_of}
-use Rattle.cf_lower_kept.specs.Ready.{is_code, names_well, names_well_if, is_object, of_place, action_ready, is_the_type}
+use Rattle.cf_lower_kept.specs.Ready.{is_code, names_well, names_well_if, is_object, is_no_code, of_place, operands_ready, action_ready, is_the_type}
 use Rattle.cf_lower_kept.specs.Told.{ToldIf, AllTold}
 use Rattle.cf_lower_program.specs.Types.{is_laid, is_lowered}
 use Rattle.cf_lower_valid_body.specs.Scope.{Own, NamesObject, NamesFunction, Fits, is_local_type, is_lowered_action}
@@ -198,9 +198,13 @@ module _ (names : List Named) (f : Name) (locals : Locals) (result : SourceType)
       binary-has names o p (binary op.Multiply e (constant (int_constant m))) ty.Pointer ty.Int ty.Pointer h
       (ints-have names op.Multiply e (constant (int_constant m)) k (count-has names m small)) left (moves (is_zero p))
 
-  -- what a place of an object's type is told as
+  -- what a place of a type that is no function's is told as
+  no-code-told : (t : SourceType) (y : Kept) → y ≡ holds (sort_to (without_const t)) → is_no_code t ≡ true → y ≡ holds (address (without_const t))
+  no-code-told t y e ok = e ∙ ap (λ (s : Sort). holds s) (object-sort t (no-not (is_code t) ok))
+
+  -- and of an object's type
   object-told : (t : SourceType) (y : Kept) → y ≡ holds (sort_to (without_const t)) → is_object t ≡ true → y ≡ holds (address (without_const t))
-  object-told t y e ok = e ∙ ap (λ (s : Sort). holds s) (object-sort t (no-not (is_code t) (both (not (is_code t)) (not (is_void t)) ok).0))
+  object-told t y e ok = no-code-told t y e (both (not (is_code t)) (not (is_void t)) ok).0
 
   first-place : (x : Bool) (t : SourceType) → is_object t && x ≡ true → is_object t ≡ true
   first-place x t e = (both (is_object t) x e).0
@@ -236,15 +240,25 @@ module _ (names : List Named) (f : Name) (locals : Locals) (result : SourceType)
   small-element (Some (plain.an_integer i)) (Some (plain.an_integer j)) y r h v e s = subst (λ x. element_bytes [] x ≤ 2 ^ 22) (sym h.is) (omega arith)
   small-element o p y r h v e s = absurd (cc)
 
+  -- objects are no functions
+  no-code : (o : Option plain.Kept) → of_place is_object o ≡ true → of_place is_no_code o ≡ true
+  no-code (Some (plain.a_place t)) e = (both (not (is_code t)) (not (is_void t)) e).0
+  no-code o e = refl
+
+  no-codes : (o p : Option plain.Kept) → of_place is_object o && of_place is_object p ≡ true → of_place is_no_code o && of_place is_no_code p ≡ true
+  no-codes o p e =
+      let two = both (of_place is_object o) (of_place is_object p) e in
+      all_of (of_place is_no_code o) (of_place is_no_code p) (no-code o two.0) (no-code p two.1)
+
   -- two pointers, or two integers
   compared-has : (w : Arith) → may_stand_left w ty.Pointer ≡ true → binary_type w ty.Pointer false ty.Pointer false ≡ Some ty.Int
       → arithmetic_type w ty.Int ty.Int ≡ ty.Int → (o p : Option plain.Kept) (y z : Kept) (r q : Register) → ToldIf locals o y → ToldIf locals p z
-      → FitIf n o r → FitIf n p q → of_place is_object o && of_place is_object p ≡ true → is_some (plain.compared o p) ≡ true
+      → FitIf n o r → FitIf n p q → of_place is_no_code o && of_place is_no_code p ≡ true → is_some (plain.compared o p) ≡ true
       → Has names (binary w (local_value (local_kept y) r) (local_value (local_kept z) q)) ty.Int
   compared-has w left pointers integers (Some (plain.a_place t)) (Some (plain.a_place u)) y z r q h k a b e s =
-      let two = both (is_object t) (is_object u) e in
-      subst (λ x. Has names (binary w (local_value (local_kept x) r) (local_value (local_kept z) q)) ty.Int) (sym (object-told t y h two.0))
-      (subst (λ x. Has names (binary w (in_register (address (without_const t)) r) (local_value (local_kept x) q)) ty.Int) (sym (object-told u z k two.1))
+      let two = both (is_no_code t) (is_no_code u) e in
+      subst (λ x. Has names (binary w (local_value (local_kept x) r) (local_value (local_kept z) q)) ty.Int) (sym (no-code-told t y h two.0))
+      (subst (λ x. Has names (binary w (in_register (address (without_const t)) r) (local_value (local_kept x) q)) ty.Int) (sym (no-code-told u z k two.1))
       (binary-has names w (in_register (address (without_const t)) r) (in_register (address (without_const u)) q) ty.Pointer ty.Pointer ty.Int
       (pointer-has r a.0) (pointer-has q b.0) left pointers))
   compared-has w left pointers integers (Some (plain.a_member t)) (Some (plain.a_member u)) y z r q h k a b e s = absurd (no-member a.1)
@@ -258,15 +272,15 @@ module _ (names : List Named) (f : Name) (locals : Locals) (result : SourceType)
   compared-has w left pointers integers o p y z r q h k a b e s = absurd (cc)
 
   -- equality of what is no function
-  equated-has : (w : Arith) (o p : Option plain.Kept) (y : Kept) (a b : Expression) → ToldIf locals o y → of_place is_object o ≡ true → is_some (plain.compared o p) ≡ true
+  equated-has : (w : Arith) (o p : Option plain.Kept) (y : Kept) (a b : Expression) → ToldIf locals o y → of_place is_no_code o ≡ true → is_some (plain.compared o p) ≡ true
       → kept_lowered_if o ≡ true → Has names (binary w a b) ty.Int → Has names (equated w y a b) ty.Int
-  equated-has w (Some (plain.a_place t)) p y a b h e s low had = subst (λ x. Has names (equated w x a b) ty.Int) (sym (object-told t y h e)) had
+  equated-has w (Some (plain.a_place t)) p y a b h e s low had = subst (λ x. Has names (equated w x a b) ty.Int) (sym (no-code-told t y h e)) had
   equated-has w (Some (plain.an_integer i)) p y a b h e s low had = subst (λ x. Has names (equated w x a b) ty.Int) (sym h.is) had
   equated-has w (Some (plain.a_member t)) p y a b h e s low had = absurd (cc)
   equated-has w o p y a b h e s low had = absurd (cc)
 
   pointer-gets : (w : PointerOperator) (g : plain.Keeping) (h : Keeping) (r q : Register) → AllTold locals g h → Good n g
-      → of_place is_object (g r) && of_place is_object (g q) ≡ true → is_some (plain.pointer_operated w (g r) (g q)) ≡ true
+      → operands_ready w (g r) (g q) ≡ true → is_some (plain.pointer_operated w (g r) (g q)) ≡ true
       → GetsIf names (local_kept (operated_kept w (h r) (h q))) (pointer_operated [] w h r q)
   pointer-gets pointer.Add g h r q told good e s = sum-gets (g r) (g q) (h r) (h q) r q (told r) (told q) (good r) (good q) e s
   pointer-gets pointer.Subtract g h r q told good e s =
@@ -279,19 +293,19 @@ module _ (names : List Named) (f : Name) (locals : Locals) (result : SourceType)
       (binary-has names op.Subtract (address_in r) (address_in q) ty.Pointer ty.Pointer ty.Int (pointer-has r ar) (pointer-has q aq) refl refl)
       (count-has names (element_bytes [] (h r)) small)
   pointer-gets pointer.Less g h r q told good e s =
-      compared-has op.Less refl refl refl (g r) (g q) (h r) (h q) r q (told r) (told q) (good r) (good q) e s
+      compared-has op.Less refl refl refl (g r) (g q) (h r) (h q) r q (told r) (told q) (good r) (good q) (no-codes (g r) (g q) e) s
   pointer-gets pointer.Greater g h r q told good e s =
-      compared-has op.Greater refl refl refl (g r) (g q) (h r) (h q) r q (told r) (told q) (good r) (good q) e s
+      compared-has op.Greater refl refl refl (g r) (g q) (h r) (h q) r q (told r) (told q) (good r) (good q) (no-codes (g r) (g q) e) s
   pointer-gets pointer.LessEqual g h r q told good e s =
-      compared-has op.LessEqual refl refl refl (g r) (g q) (h r) (h q) r q (told r) (told q) (good r) (good q) e s
+      compared-has op.LessEqual refl refl refl (g r) (g q) (h r) (h q) r q (told r) (told q) (good r) (good q) (no-codes (g r) (g q) e) s
   pointer-gets pointer.GreaterEqual g h r q told good e s =
-      compared-has op.GreaterEqual refl refl refl (g r) (g q) (h r) (h q) r q (told r) (told q) (good r) (good q) e s
+      compared-has op.GreaterEqual refl refl refl (g r) (g q) (h r) (h q) r q (told r) (told q) (good r) (good q) (no-codes (g r) (g q) e) s
   pointer-gets pointer.Equal g h r q told good e s =
-      equated-has op.Equal (g r) (g q) (h r) (value_in h r) (value_in h q) (told r) (both (of_place is_object (g r)) (of_place is_object (g q)) e).0 s
+      equated-has op.Equal (g r) (g q) (h r) (value_in h r) (value_in h q) (told r) (both (of_place is_no_code (g r)) (of_place is_no_code (g q)) e).0 s
       (fit-kept n (g r) r (good r))
       (compared-has op.Equal refl refl refl (g r) (g q) (h r) (h q) r q (told r) (told q) (good r) (good q) e s)
   pointer-gets pointer.NotEqual g h r q told good e s =
-      equated-has op.NotEqual (g r) (g q) (h r) (value_in h r) (value_in h q) (told r) (both (of_place is_object (g r)) (of_place is_object (g q)) e).0 s
+      equated-has op.NotEqual (g r) (g q) (h r) (value_in h r) (value_in h q) (told r) (both (of_place is_no_code (g r)) (of_place is_no_code (g q)) e).0 s
       (fit-kept n (g r) r (good r))
       (compared-has op.NotEqual refl refl refl (g r) (g q) (h r) (h q) r q (told r) (told q) (good r) (good q) e s)
 

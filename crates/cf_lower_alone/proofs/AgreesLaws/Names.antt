@@ -26,7 +26,7 @@ use Rattle.cf_lower.specs.Written.{int_constant, literal_name}
 use Rattle.cf_lower.specs.Functions.{prototype_of, but_last, literal_at, literals, declared_at, named_in, lowered_file}
 use Rattle.cf_lower_steps.specs.Lowering.{is_function}
 use Rattle.cf_lower_place.specs.Named.{library_type}
-use Rattle.cf_lower_program.specs.Names.{own_fronts, is_own_name, ends_as_file, is_foreign, is_function_name, may_be_function}
+use Rattle.cf_lower_program.specs.Names.{own_fronts, is_own_name, ends_as_file, is_foreign, is_function_name, may_be_function, own_names}
 use Rattle.cf_lower_program.specs.Lowerable.{Lowerable}
 use Rattle.cf_lower_actions.specs.Leaf.{is_text}
 use Rattle.cf_lower_calls.specs.Returns.Called.{Programs}
@@ -46,7 +46,7 @@ use Rattle.cf_lower_alone.specs.Programs.{text_numbered, bytes_in, text_at, type
 use Rattle.cf_lower_alone.proofs.AloneLaws.After.{all-actions-renamed}
 use Rattle.cf_lower_alone.proofs.AloneLaws.Statics.{differ-left, differ-right, not-true, lowered_items, function-foreign-name, object-foreign-name, locals, LocalAs, a_function, an_object, local-as}
 use Rattle.cf_lower_alone.proofs.AloneLaws.Names.{in_plain}
-use Rattle.cf_lower_alone.proofs.AloneLaws.Uses.{function-of-file, passing}
+use Rattle.cf_lower_alone.proofs.AloneLaws.Uses.{function-owned, function-of-file, passing}
 use Rattle.cf_lower_alone.proofs.AloneLaws.Variables.{function_there}
 use Rattle.cf_lower_alone.proofs.FittingLaws.Sides.{found-header, plain-found, from-file, there-foreign, differ-unmapped, joined-only, XS}
 use Rattle.cf_lower_alone.proofs.FittingLaws.Lowered.{named-itself}
@@ -153,6 +153,13 @@ module _ (fs : List PlainFunction) (xs : List PlainStatic) (low : Lowerable (fil
       let named : In i (named_in (file_of fs xs)) = (declared-in-function fs xs low f a h m).names i d in
       go named (or_cases (calls.is_library n) (may_be_function n) ((names-told fs xs low).named i named))
     where
+      -- the file defines it, or uses it
+      in-file : Foreign n → is_function_name n ≡ true → ends_as_file n ≡ false
+          → (is_in (own_names (file_of fs xs)) n ≡ true) ⊎ (is_in (flat_map uses_of_item (lowered_file (file_of fs xs))) n ≡ true)
+          → list_any (λ (f : PlainFunction). bytes_eq f.name n) fs ≡ true
+      in-file foreign is_named other (inl own) = function-owned fs xs low u program e links n foreign is_named other own
+      in-file foreign is_named other (inr used) = function-of-file fs xs low u program e links n foreign is_named other used
+
       go : In (declares (prototype_of false n t)) (named_in (file_of fs xs)) → (calls.is_library n ≡ true) ⊎ (may_be_function n ≡ true) → is_function P.program (q n) ≡ true
       go named (inl k) =
           or-left (calls.is_library (q n)) (is_some (calls.function_named P.program (q n))) (ap calls.is_library (library-stays n k) ∙ k)
@@ -160,8 +167,10 @@ module _ (fs : List PlainFunction) (xs : List PlainStatic) (low : Lowerable (fil
           let two = both (is_foreign n) (is_function_name n) k in
           or-right (calls.is_library (q n)) (is_some (calls.function_named P.program (q n)))
           (own-there n
-          (function-of-file fs xs low u program e links n (function-foreign n k) two.1 (foreign-ends n two.0)
-          (all-in (λ i. is_in (flat_map uses_of_item (lowered_file (file_of fs xs))) (name_of i)) (named_in (file_of fs xs)) low.used (declares (prototype_of false n t)) named)))
+          (in-file (function-foreign n k) two.1 (foreign-ends n two.0)
+          (or_cases (is_in (own_names (file_of fs xs)) n) (is_in (flat_map uses_of_item (lowered_file (file_of fs xs))) n)
+          (all-in (λ i. is_in (own_names (file_of fs xs)) (name_of i) || is_in (flat_map uses_of_item (lowered_file (file_of fs xs))) (name_of i))
+          (named_in (file_of fs xs)) low.used (declares (prototype_of false n t)) named))))
 
   -- by its name in the program
   abbrev IsThere : Name → Type 0

@@ -19,8 +19,8 @@ use Rattle.cc_whole.specs.Valid.{is_definition}
 use Rattle.cc_whole_link.specs.Rename.{Renaming}
 use Rattle.cc_whole_link.specs.Placed.{Placed, placed, placed_units, statics, static_renaming, longer, its_name, defines_it, defines_named}
 use Rattle.cc_whole_link.specs.Link.{Refusal, undefined_use, Breaks, undefined, twice, shared, typed, kept, FirstBroken, none, here, later, Links, version, broken, linked}
-use Rattle.cf_lower.specs.Functions.{prototype, lowered_function, lowered_static, literals, start_literals, constants_function}
-use Rattle.cf_lower_program.specs.Names.{is_own_name, all_digits, ends_as_file, is_object_name, is_function_name, is_foreign}
+use Rattle.cf_lower.specs.Functions.{prototype, lowered_function, lowered_static, literals, start_literals, library, own_prototypes, own_variables, constants_function}
+use Rattle.cf_lower_program.specs.Names.{is_own_name, all_digits, ends_as_file, is_object_name, is_function_name, is_foreign, own_names}
 use Rattle.cf_lower_program.specs.Lowerable.{Lowerable}
 use Rattle.cc_whole_sections.specs.Sections.{In, Every}
 use Rattle.cf_lower_valid.proofs.Inner.{mapped-in, every-mapped, every-append}
@@ -150,6 +150,38 @@ module _ (fs : List PlainFunction) (xs : List PlainStatic) (low : Lowerable (fil
 
     function-is : (f : PlainFunction) → In f fs → f.name ≡ n → Goal
     function-is f h same = any-there (λ (f : PlainFunction). bytes_eq f.name n) fs f h (bytes_same f.name n same)
+
+    -- of the names that the file defines and those of the library, it is that of a function
+    abbrev Owns : Item → Type 0
+    Owns i = name_of i ≡ n → Goal
+
+    library-owns : Every Owns library
+    library-owns i (inl k) = subst Owns k (λ same. absurd (true≢false (ap is_library same ∙ foreign.no_library)))
+    library-owns i (inr (inl k)) = subst Owns k (λ same. absurd (true≢false (ap is_library same ∙ foreign.no_library)))
+    library-owns i (inr (inr (inl k))) = subst Owns k (λ same. absurd (true≢false (ap is_library same ∙ foreign.no_library)))
+    library-owns i (inr (inr (inr h))) = absurd h
+
+    literal-owns : (v : CVariable) → LiteralNamed v → Owns (defines_variable v)
+    literal-owns v l same =
+        absurd (true≢false (sym (literal-own l.owner l.number) ∙ ap (is_own_name (codes "__s")) (sym l.is ∙ same) ∙ foreign.no_literal))
+
+    all-own : Every Owns (library ++ own_prototypes (file_of fs xs) ++ own_variables (file_of fs xs))
+    all-own =
+        every-append Owns (library ++ own_prototypes (file_of fs xs)) (own_variables (file_of fs xs))
+        (every-append Owns library (own_prototypes (file_of fs xs)) library-owns
+        (every-mapped Owns (λ (f : PlainFunction). declares (prototype f)) fs (λ f h same. function-is f h same)))
+        (every-mapped Owns defines_variable (variables fs xs low)
+        (every-append (λ v. Owns (defines_variable v)) (map (lowered_static []) xs ++ flat_map literals fs) (flat_map start_literals xs)
+        (every-append (λ v. Owns (defines_variable v)) (map (lowered_static []) xs) (flat_map literals fs)
+        (every-mapped (λ v. Owns (defines_variable v)) (lowered_static []) xs
+        (λ x h same. absurd (no-object x.name (both (is_foreign x.name) (is_object_name x.name) ((names-told fs xs low).statics x h)).1 same)))
+        (λ v h. literal-owns v (function-literal fs xs low v h))) (λ v h. literal-owns v (start-literal fs xs low v h))))
+
+    pub function-owned : is_in (own_names (file_of fs xs)) n ≡ true → Goal
+    function-owned e =
+        let p = passing (λ other. bytes_eq other n) (own_names (file_of fs xs)) e in
+        let m = mapped-from name_of (library ++ own_prototypes (file_of fs xs) ++ own_variables (file_of fs xs)) p.one p.there in
+        all-own m.one m.there (m.is ∙ same_bytes p.one n p.passes)
 
     -- what defines it in the unit
     abbrev Tells : Item → Type 0
