@@ -1,9 +1,9 @@
 -- Lists of the locals that are open.
-use Rattle.std.proofs.Common.{◌≡◌, ℕ, Bool, true, false, ◌||◌, ◌==◌, not, if◌then◌else◌, List, [], ◌∷◌, refl, ◌∙◌, ap, arith}
-use Rattle.std.specs.Prelude.{map}
+use Rattle.std.proofs.Common.{◌≡◌, ℕ, Bool, true, false, ◌&&◌, ◌||◌, ◌==◌, not, if◌then◌else◌, List, [], ◌∷◌, refl, ◌∙◌, ap, arith}
+use Rattle.std.specs.Prelude.{map, ℤ}
 use Rattle.std.proofs.lemmas.Bool.Decides.{nat_tests}
 use Rattle.cf_plain.specs.Plain.{Register}
-use Rattle.cf_lower_kept.specs.Opened.{Opened, is_local, is_open, closed, valued, set_in}
+use Rattle.cf_lower_kept.specs.Opened.{Opened, is_local, is_over, is_open_one, is_open, is_listed, closed, is_register, valued, tells, told_by, set_in}
 
 pub neither : (a b : Bool) → (a || b) ≡ false → (a ≡ false) × (b ≡ false)
 neither true b e = absurd (let k = e in cc)
@@ -15,12 +15,12 @@ none-of a b e h = ap (λ c. c || b) e ∙ h
 -- a register that is set changes none of them
 pub is_open-set : (r : Register) (i : ℕ) (xs : List Opened) → is_open i (set_in r xs) ≡ is_open i xs
 is_open-set r i [] = refl
-is_open-set r i (x ∷ xs) = ap (λ b. (x.local == i) || b) (is_open-set r i xs)
+is_open-set r i (x ∷ xs) = ap (λ b. is_open_one i x || b) (is_open-set r i xs)
 
-valued-local : (i : ℕ) (x : Opened) → (valued i x).local ≡ x.local
-valued-local i x = by (is_local i x)
+valued-one : (i j : ℕ) (x : Opened) → is_open_one j (valued i x) ≡ is_open_one j x
+valued-one i j x = by (is_local i x)
   where
-    by : (b : Bool) → (if b then record x { has_value = true } else x).local ≡ x.local
+    by : (b : Bool) → is_open_one j (if b then record x { has_value = true } else x) ≡ is_open_one j x
     by true = refl
     by false = refl
 
@@ -28,7 +28,20 @@ valued-local i x = by (is_local i x)
 pub is_open-valued : (i j : ℕ) (xs : List Opened) → is_open j (map (valued i) xs) ≡ is_open j xs
 is_open-valued i j [] = refl
 is_open-valued i j (x ∷ xs) =
-    ap (λ k. (k == j) || is_open j (map (valued i) xs)) (valued-local i x) ∙ ap (λ b. (x.local == j) || b) (is_open-valued i j xs)
+    ap (λ b. b || is_open j (map (valued i) xs)) (valued-one i j x) ∙ ap (λ b. is_open_one j x || b) (is_open-valued i j xs)
+
+told-one : (r : Register) (n : ℤ) (j : ℕ) (x : Opened) → is_open_one j (told_by r n x) ≡ is_open_one j x
+told-one r n j x = by (is_register x.flag r && tells x.stands n)
+  where
+    by : (b : Bool) → is_open_one j (if b then record x { is_told = true } else x) ≡ is_open_one j x
+    by true = refl
+    by false = refl
+
+-- nor does what a flag tells
+pub is_open-told : (r : Register) (n : ℤ) (j : ℕ) (xs : List Opened) → is_open j (map (told_by r n) xs) ≡ is_open j xs
+is_open-told r n j [] = refl
+is_open-told r n j (x ∷ xs) =
+    ap (λ b. b || is_open j (map (told_by r n) xs)) (told-one r n j x) ∙ ap (λ b. is_open_one j x || b) (is_open-told r n j xs)
 
 -- where one is closed, another that is not open was not open before
 pub open-closed : (i j : ℕ) → j == i ≡ false → (xs : List Opened) → is_open j (closed i xs) ≡ false → is_open j xs ≡ false
@@ -37,5 +50,14 @@ open-closed i j ne (x ∷ xs) e = by (open-closed i j ne xs) (x.local == i) refl
   where
     by : (is_open j (closed i xs) ≡ false → is_open j xs ≡ false) → (b : Bool) → x.local == i ≡ b
         → is_open j (if not b then x ∷ closed i xs else closed i xs) ≡ false → is_open j (x ∷ xs) ≡ false
-    by rest true k e = none-of (x.local == j) (is_open j xs) (grind (arith, nat_tests, k, ne)) (rest e)
-    by rest false k e = let two = neither (x.local == j) (is_open j (closed i xs)) e in none-of (x.local == j) (is_open j xs) two.0 (rest two.1)
+    by rest true k e =
+        let other : x.local == j ≡ false = grind (arith, nat_tests, k, ne) in
+        none-of (is_open_one j x) (is_open j xs) (ap (λ b. b && not (is_over x.stands)) other) (rest e)
+    by rest false k e = let two = neither (is_open_one j x) (is_open j (closed i xs)) e in none-of (is_open_one j x) (is_open j xs) two.0 (rest two.1)
+
+-- a local of which nothing is told is not open
+pub open-listed : (i : ℕ) (xs : List Opened) → is_listed i xs ≡ false → is_open i xs ≡ false
+open-listed i [] e = refl
+open-listed i (x ∷ xs) e =
+    let two = neither (x.local == i) (is_listed i xs) e in
+    none-of (is_open_one i x) (is_open i xs) (ap (λ b. b && not (is_over x.stands)) two.0) (open-listed i xs two.1)

@@ -30,7 +30,7 @@ use Rattle.cf_lower_steps.specs.Flows.{Simulates}
 use Rattle.cf_lower_steps.proofs.Branches.{block-runs, falls-on}
 use Rattle.cf_lower_steps.proofs.Statements.{runs-join}
 use Rattle.cf_lower_turns.specs.Around.{Around, depth_of, inside_at}
-use Rattle.cf_lower_bounds.specs.Needs.{IsNumber}
+use Rattle.cf_lower_bounds.specs.Needs.{IsNumber, is_nonzero}
 use Rattle.cf_lower_turns.proofs.Following.{sim-here, sim-as, leaves-pass}
 use Rattle.cf_lower_place.specs.Input.{IsInput}
 use Rattle.cf_lower_bounds.proofs.Inputs.{Takes, takes-does_all, sim-on}
@@ -112,9 +112,12 @@ module _ (z : Setup) (m : Runners) (around : Around z.Point) where
 
   -- ---- branches
 
-  module _ (r : Register) (ss ts : Plains) (p e : z.Point) (number : IsNumber (z.kept p r))
-      (first : SameFrom z m p around e (all m.again m.program ss) (λ t w. list z m (all_at z ss around p) t w))
-      (second : SameFrom z m p around e (all m.again m.program ts) (λ t w. list z m (all_at z ts around p) t w))
+  -- from points at which it is known whether the number is 0
+  module _ (r : Register) (ss ts : Plains) (p e set unset : z.Point) (number : IsNumber (z.kept p r))
+      (into_set : (g : Registers) (s : State) (t : c.State) (n : ℤ) → g r ≡ Some (source.Number n) → is_nonzero n ≡ true → z.R p d g s t → z.R set d g s t)
+      (into_unset : (g : Registers) (s : State) (t : c.State) (n : ℤ) → g r ≡ Some (source.Number n) → is_nonzero n ≡ false → z.R p d g s t → z.R unset d g s t)
+      (first : SameFrom z m set around e (all m.again m.program ss) (λ t w. list z m (all_at z ss around p) t w))
+      (second : SameFrom z m unset around e (all m.again m.program ts) (λ t w. list z m (all_at z ts around p) t w))
       (g : Registers) (s : State) (t : c.State) (w : World) (at : z.R p d g s t) (input : IsInput w.input) where
     abbrev xs : List Statement
     xs = all_at z ss around p
@@ -141,16 +144,16 @@ module _ (z : Setup) (m : Runners) (around : Around z.Point) where
         (block-runs m.c_again m.helps m.c_program m.grown m.helped m.helper z.scope m.depth xs t w)
         ∙ ap (λ y. if nonzero n then list z m xs t w else y) (block-runs m.c_again m.helps m.c_program m.grown m.helped m.helper z.scope m.depth ys t w)
 
-    by-number : (n : ℤ) → HasNumber number.kinds n (value_of (integer_in r) z.scope t.memory)
+    by-number : (n : ℤ) → g r ≡ Some (source.Number n) → HasNumber number.kinds n (value_of (integer_in r) z.scope t.memory)
         → Q (when (not (int_le n (pos 0) && int_le (pos 0) n)) (all m.again m.program ss g) (all m.again m.program ts g) s w)
-    by-number n h =
+    by-number n holds h =
         subst (λ q. Q (when q (all m.again m.program ss g) (all m.again m.program ts g) s w)) (sym (source-true n))
         (sim-as (ends z around e) (when (nonzero n) (all m.again m.program ss g) (all m.again m.program ts g) s w) (if nonzero n then list z m xs t w else list z m ys t w) target
-        (chosen n h) (by_test (nonzero n)))
+        (chosen n h) (by_test (nonzero n) refl))
       where
-        by_test : (q : Bool) → Simulates (ends z around e) (when q (all m.again m.program ss g) (all m.again m.program ts g) s w) (if q then list z m xs t w else list z m ys t w)
-        by_test true = first g s t w at input
-        by_test false = second g s t w at input
+        by_test : (q : Bool) → nonzero n ≡ q → Simulates (ends z around e) (when q (all m.again m.program ss g) (all m.again m.program ts g) s w) (if q then list z m xs t w else list z m ys t w)
+        by_test true k = first g s t w (into_set g s t n holds (source-true n ∙ k) at) input
+        by_test false k = second g s t w (into_unset g s t n holds (source-true n ∙ k) at) input
 
     pub branches : Q (does m.again m.program (branch r ss ts) g s w)
     branches = by_value (g r) refl
@@ -161,7 +164,7 @@ module _ (z : Setup) (m : Runners) (around : Around z.Point) where
         by_value (Some source.Nothing) i = record { by = tt }
         by_value (Some source.Missing) i = record { by = (list-grows (c_tree.choose (integer_in r) (block xs) (block ys) ∷ []) t w).by }
         by_value (Some source.Built) i = record { by = tt }
-        by_value (Some (source.Number n)) i = by-number n (z.laws.number p d g s t at r number.kinds n number.is i)
+        by_value (Some (source.Number n)) i = by-number n i (z.laws.number p d g s t at r number.kinds n number.is i)
         by_value (Some source.Null) i = record { by = tt }
         by_value (Some (source.At o)) i = record { by = tt }
         by_value (Some (source.Code f)) i = record { by = tt }

@@ -85,13 +85,22 @@ module _ (z : Setup) (m : Runners) (turns_again : TurnsAgain z m) (leaves_run : 
       → SameFrom z m p around h (all m.again m.program ss) (contents ss around k k)
   at-kept ss around p h k kept same = subst (λ i. SameFrom z m p around h (all m.again m.program ss) (contents ss around k i)) kept same
 
+  -- at a point at which registers hold what they do at another
+  at-same : (ss : Plains) (around : Around z.Point) (p h q : z.Point) → z.kept h ≡ z.kept p → SameFrom z m h around q (all m.again m.program ss) (λ t w. list z m (all_at z ss around h) t w)
+      → SameFrom z m h around q (all m.again m.program ss) (λ t w. list z m (all_at z ss around p) t w)
+  at-same ss around p h q kept same =
+      subst (λ k. SameFrom z m h around q (all m.again m.program ss) (λ t w. list z m (all_lowered ss (inside_at z.inside around) k) t w)) kept same
+
   mutual
     pub statement-same : (s : Plain) (around : Around z.Point) (p q : z.Point) → z.kept q ≡ after z.inside.locals s (z.kept p) → Needs z s around p q
         → SameFrom z m p around q (does m.again m.program s) (λ t w. list z m (lowered_at z s around p) t w)
     statement-same (act a) around p q kept needs = leaves_run around p (act a) q needs
     statement-same (set r a) around p q kept needs = leaves_run around p (set r a) q needs
     statement-same (branch r ss ts) around p q kept needs = λ g s t w k i.
-        branches z m around r ss ts p q needs.0 (list-same ss around p q needs.1.0) (list-same ts around p q needs.1.1) g s t w k i
+        let two = needs.1 in
+        branches z m around r ss ts p q two.if_set two.if_unset needs.0 (two.enters_set (depth_of around)) (two.enters_unset (depth_of around))
+        (at-same ss around p two.if_set q two.kept_set (list-same ss around two.if_set q two.first))
+        (at-same ts around p two.if_unset q two.kept_unset (list-same ts around two.if_unset q two.second)) g s t w k i
     statement-same (loop ss nothing) around p q kept needs =
         subst (λ k. SameFrom z m p around q (does m.again m.program (loop ss nothing))
         (λ t w. list z m (c_tree.loop (block (all_lowered ss (inside_at z.inside (turns q around)) k)) ∷ []) t w)) kept

@@ -1,5 +1,5 @@
 -- What the statements of a function need for the C to do the same: of each the points from which and to which it leads.
-use Rattle.std.specs.Prelude.{◌≡◌, ℕ, ◌<◌, Bool, true, if◌then◌else◌, ℤ, Option, Some, None}
+use Rattle.std.specs.Prelude.{◌≡◌, ℕ, ◌<◌, Bool, true, false, ◌&&◌, not, if◌then◌else◌, ℤ, pos, int_le, Option, Some, None}
 use Rattle.cf_base.specs.declared.kind.Kind.{Kind}
 use Rattle.cf_core.specs.Store as source
 use Rattle.cf_core.specs.Run.{State}
@@ -28,6 +28,9 @@ pub record Switches (x : Kept) (ss : Plains) : Type 0 where
 -- the label that a number leads to: a case, or else the default
 abbrev pub label_of : ℤ → Plains → Option ℤ
 label_of n ss = if has_case n ss then Some n else None
+
+abbrev pub is_nonzero : ℤ → Bool
+is_nonzero n = not (int_le n (pos 0) && int_le (pos 0) n)
 
 -- The points of a function: of each what registers hold there, for which the C is made, and what relates both there. Statements that are no control are leaves.
 module _ (Point : Type 0) (kept : Point → Keeping) (after : Plain → Keeping → Keeping) (R : Relation Point) (flags : ℕ)
@@ -64,12 +67,23 @@ module _ (Point : Type 0) (kept : Point → Keeping) (after : Plain → Keeping 
     pub kept_front : kept front ≡ kept q
     pub items : Items labels front
 
+  -- from a point to where a register holds a number that is not 0, and to where it holds 0
+  pub record Branched (p : Point) (r : Register) (First Second : Point → Type 0) : Type 0 where
+    pub if_set : Point
+    pub if_unset : Point
+    pub kept_set : kept if_set ≡ kept p
+    pub kept_unset : kept if_unset ≡ kept p
+    pub enters_set : (d : ℕ) (g : Registers) (s : State) (t : c.State) (n : ℤ) → g r ≡ Some (source.Number n) → is_nonzero n ≡ true → R p d g s t → R if_set d g s t
+    pub enters_unset : (d : ℕ) (g : Registers) (s : State) (t : c.State) (n : ℤ) → g r ≡ Some (source.Number n) → is_nonzero n ≡ false → R p d g s t → R if_unset d g s t
+    pub first : First if_set
+    pub second : Second if_unset
+
   abbrev mutual
     -- from the first point the statement leads to the second
     pub Needs : Plain → Around Point → Point → Point → Type 0
     Needs (act a) around p q = Leaf around p (act a) q
     Needs (set r a) around p q = Leaf around p (set r a) q
-    Needs (branch r ss ts) around p q = IsNumber (kept p r) × (AllNeed ss around p q × AllNeed ts around p q)
+    Needs (branch r ss ts) around p q = IsNumber (kept p r) × Branched p r (λ h. AllNeed ss around h q) (λ h. AllNeed ts around h q)
     Needs (loop ss nothing) around p q = Within p q × AllNeed ss (turns q around) q q
     Needs (loop ss ts) around p q = Within p q × ((depth_of around < flags) × (AllNeed ss (stepped q around) q q × AllNeed ts (step q around) q q))
     Needs (switch r ss) around p q =

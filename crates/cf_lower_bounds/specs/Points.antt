@@ -1,5 +1,5 @@
 -- Between two statements of a function: what registers hold, which of its parameters and locals have an object that stands, and what is so of both programs.
-use Rattle.std.specs.Prelude.{◌≡◌, ℕ, ◌<◌, true, false, List, [], ◌∷◌, length, ℤ, Option, Some, None}
+use Rattle.std.specs.Prelude.{◌≡◌, ℕ, ◌<◌, Bool, true, false, List, [], ◌∷◌, length, ℤ, Option, Some, None}
 use Rattle.cf_core.specs.Types.{Name}
 use Rattle.cf_core.specs.Store as source
 use Rattle.cf_core.specs.Run.{State}
@@ -10,7 +10,7 @@ use Rattle.cf_plain.specs.Acts.{Registers}
 use Rattle.cf_plain_frames.specs.Since.{HasValue}
 use Rattle.cc_whole_mean.specs.Flow as c
 use Rattle.cf_lower.specs.Kept.{Keeping}
-use Rattle.cf_lower_kept.specs.Opened.{Opened, is_open}
+use Rattle.cf_lower_kept.specs.Opened.{Opened, is_open, flag_number}
 use Rattle.cf_lower_turns.specs.Here.{Here}
 use Rattle.cf_lower_turns.specs.Scene.{Scene, GivesBack, fixed_in}
 
@@ -21,21 +21,47 @@ pub data Standing : Type 0 where
   these : List Opened → Standing
   by_number : Register → (ℤ → Option (List Opened)) → Standing  -- by the number that a register holds, where a switch follows of which labels pass locals (6.7)
 
--- the object of one of so many parameters and locals stands; the register that it was declared in has its place until the first value, and once it has one it
--- holds a value
-pub record IsOpen (count : ℕ) (x : Opened) (g : Registers) (s : State) : Type 0 where
-  pub below : x.local < count
+-- the object of one of so many parameters and locals stands
+pub record Stands (count i : ℕ) (s : State) : Type 0 where
+  pub below : i < count
   pub object : ℕ
-  pub there : s.frame.locals x.local ≡ Some object
+  pub there : s.frame.locals i ≡ Some object
   pub stands : (s.object object).is_gone ≡ false
-  pub begun : (r : Register) → x.begun ≡ Some r → g r ≡ Some (source.At (root object))
-  pub value : x.has_value ≡ true → HasValue (s.object object)
+
+-- and a register has its place
+pub record Begun (count i : ℕ) (r : Register) (g : Registers) (s : State) : Type 0 where
+  pub one : Stands count i s
+  pub place : g r ≡ Some (source.At (root one.object))
+
+-- and it holds a value
+pub record Valued (count i : ℕ) (s : State) : Type 0 where
+  pub one : Stands count i s
+  pub value : HasValue (s.object one.object)
+
+-- one of so many parameters and locals whose object does not stand
+abbrev pub IsOver : ℕ → ℕ → State → Type 0
+IsOver count i s = (o : ℕ) → i < count → s.frame.locals i ≡ Some o → (s.object o).is_gone ≡ true
+
+abbrev pub IsTold : Option Bool → Bool → Type 0
+IsTold None b = Unit {0}
+IsTold (Some a) b = a ≡ b
+
+-- The object stands or not, as is told; the register that it was declared in has its place until the first value, and once it has one it holds a value; and a flag of which
+-- that is told tells whether it stands.
+pub record IsOpen (count : ℕ) (x : Opened) (g : Registers) (s : State) : Type 0 where
+  pub way : Bool
+  pub told : IsTold x.stands way
+  pub there : way ≡ true → Stands count x.local s
+  pub over : way ≡ false → IsOver count x.local s
+  pub begun : (r : Register) → x.begun ≡ Some r → Begun count x.local r g s
+  pub value : x.has_value ≡ true → Valued count x.local s
+  pub flag : x.is_told ≡ true → (r : Register) → x.flag ≡ Some r → g r ≡ Some (source.Number (flag_number way))
 
 abbrev pub AllOpen : ℕ → List Opened → Registers → State → Type 0
 AllOpen count [] g s = Unit {0}
 AllOpen count (x ∷ xs) g s = IsOpen count x g s × AllOpen count xs g s
 
--- these stand, and no others
+-- these stand as is told, and no others
 pub record Open (count : ℕ) (xs : List Opened) (g : Registers) (s : State) : Type 0 where
   pub each : AllOpen count xs g s
   pub over : (i o : ℕ) → i < count → is_open i xs ≡ false → s.frame.locals i ≡ Some o → (s.object o).is_gone ≡ true

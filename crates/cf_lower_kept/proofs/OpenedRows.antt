@@ -1,10 +1,11 @@
--- A function with a switch of which a label passes a local: what is open there is what the switch before declares at the same label.
+-- A function with a switch of which a label passes a local: what is open there is what the switch before declares at the same label. And one with a local that stands where a branch was
+-- taken, with its flag.
 use Rattle.std.proofs.Common.{◌≡◌, true, false, [], ◌∷◌, refl}
-use Rattle.std.specs.Prelude.{pos, codes}
+use Rattle.std.specs.Prelude.{pos, codes, Some, None}
 use Rattle.cf_base.specs.declared.kind.Kind.TheVariants.{Int}
-use Rattle.cf_core.specs.Types.{void, integer, gives}
+use Rattle.cf_core.specs.Types.{SourceType, void, integer, reference, takes, gives, const}
 use Rattle.cf_core.specs.Core.{plain_function}
-use Rattle.cf_plain.specs.Plain.{number, declare, finish, Plains, act, set, switch, case_label, default_label, leave, nothing, more, PlainFunction}
+use Rattle.cf_plain.specs.Plain.{number, local, function, read, truth, declare, first, finish, call, Plains, act, set, branch, switch, case_label, default_label, leave, give, nothing, more, PlainFunction}
 use Rattle.cf_lower_kept.specs.Opened.{function_opens}
 
 function_of : Plains → PlainFunction
@@ -35,3 +36,41 @@ declared_there = refl
 declared_nowhere : function_opens (function_of (selected (more (case_label (pos 1)) (more leave (more default_label (more leave nothing)))))) ≡ false
 unfolding selected function_of
 declared_nowhere = refl
+
+-- int main(){int c=1;return c?f(2):3;} where f takes a `const int&`: local 1 is the argument, 2 what it is bound to, with the flag in register 1
+f_type : SourceType
+f_type = takes (reference (const (integer Int))) (gives (integer Int) false)
+
+main_by : Plains → PlainFunction
+main_by flagged = record {
+  name = codes "__main";
+  role = plain_function;
+  type = gives (integer Int) false;
+  locals = integer Int ∷ reference (const (integer Int)) ∷ integer Int ∷ [];
+  body =
+      more (set 0 (declare 0 (integer Int))) (more (set 1 (number (pos 1))) (more (act (first 0 1))
+      (more (set 1 (number (pos 0))) (more (set 2 (local 0)) (more (set 2 (read 2)) (more (set 2 (truth 2))
+      (more (branch 2
+      (more (act (function (codes "f__FRCi") f_type)) (more (set 2 (declare 1 (reference (const (integer Int)))))
+      (more (set 4 (declare 2 (integer Int))) (more (set 3 (local 2)) (more (set 5 (number (pos 2))) (more (act (first 4 5)) flagged))))))
+      (more (set 2 (number (pos 3))) nothing))
+      (more (branch 1 (more (act (finish (integer Int) 2)) nothing) nothing)
+      (more (act (truth 2)) (more (act (finish (integer Int) 0)) (more (give (Some 2)) nothing)))))))))));
+  is_shared = false;
+  is_local = false;
+}
+
+called : Plains
+called = more (act (first 2 3)) (more (set 2 (call (codes "f__FRCi") f_type None (1 ∷ []) None)) nothing)
+
+ended_by_flag : function_opens (main_by (more (set 1 (number (pos 1))) called)) ≡ true
+unfolding f_type main_by called
+ended_by_flag = refl
+
+flag_not_set : function_opens (main_by called) ≡ false
+unfolding f_type main_by called
+flag_not_set = refl
+
+other_flag : function_opens (main_by (more (set 1 (number (pos 0))) called)) ≡ false
+unfolding f_type main_by called
+other_flag = refl

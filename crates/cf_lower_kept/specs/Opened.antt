@@ -1,25 +1,46 @@
 -- Which parameters and locals of a plain function have an object where control is, and of which the first value is still to come: a local is declared where it has
 -- none, gets its first value, or is filled, in the register that it was declared in, is an argument once it has one, and is gone where the function ends. A switch of which a
--- label passes a local stands behind a switch by the same register, which declares the local.
-use Rattle.std.specs.Prelude.{ℕ, suc, Bool, true, false, ◌&&◌, not, ◌==◌, if◌then◌else◌, List, [], ◌∷◌, ◌++◌, map, filter, ℤ, int_le, Option, Some, None}
+-- label passes a local stands behind a switch by the same register, which declares the local. What stands where one of two ways was taken alone, as a temporary in a branch, has a
+-- flag: a register that is set to 0 before both and to 1 where the object is there, and by which a branch ends it.
+use Rattle.std.specs.Prelude.{ℕ, suc, Bool, true, false, ◌&&◌, not, ◌==◌, if◌then◌else◌, List, [], ◌∷◌, ◌++◌, map, filter, ℤ, pos, int_le, Option, Some, None}
 use Rattle.std.specs.List.{list_all, list_any}
 use Rattle.cf_core.specs.Types.{SourceType, parameters, result as result_type}
-use Rattle.cf_plain.specs.Plain.{Register, Action, declare, first, zeros, bytes, finish, call, pointer_call, Plain, Plains, act, set, branch, loop, switch, case_label, default_label, leave, continue, give, parts, nothing, more, PlainFunction, PlainFile}
+use Rattle.cf_plain.specs.Plain.{Register, Action, number, declare, first, zeros, bytes, finish, call, pointer_call, Plain, Plains, act, set, branch, loop, switch, case_label, default_label, leave, continue, give, parts, nothing, more, PlainFunction, PlainFile}
 use Rattle.cf_plain.specs.Running.{has_case}
 use Rattle.cf_plain.specs.Valid.{has_default}
 use Rattle.cf_plain_kept.specs.Kept.{Kept, an_object, Keeping, nothing_set, after}
 
--- a local that has an object, the register with its place while it has no value, and whether it has one
+-- A local that may have an object: the register with its place while it has no value, and whether it has one; whether the object stands, if that is told; and its flag, if it has one,
+-- of which may be told that it holds 1 where the object stands and 0 where it does not.
 pub record Opened : Type 0 where
   pub local : ℕ
   pub begun : Option Register
   pub has_value : Bool
+  pub stands : Option Bool
+  pub flag : Option Register
+  pub is_told : Bool
+
+-- a local that has an object
+abbrev pub open_one : ℕ → Option Register → Bool → Opened
+open_one i r v = record { local = i; begun = r; has_value = v; stands = Some true; flag = None; is_told = false }
 
 abbrev pub is_local : ℕ → Opened → Bool
 is_local i x = x.local == i
 
+abbrev pub is_over : Option Bool → Bool
+is_over None = false
+is_over (Some b) = not b
+
+-- whether the object of this local may stand
+abbrev pub is_open_one : ℕ → Opened → Bool
+is_open_one i x = is_local i x && not (is_over x.stands)
+
 abbrev pub is_open : ℕ → List Opened → Bool
-is_open i xs = list_any (is_local i) xs
+is_open i xs = list_any (is_open_one i) xs
+
+-- whether anything is told of the local
+abbrev pub is_listed : ℕ → List Opened → Bool
+is_listed i xs = list_any (is_local i) xs
 
 abbrev pub closed : ℕ → List Opened → List Opened
 closed i xs = filter (λ x. not (is_local i x)) xs
@@ -34,11 +55,11 @@ is_register (Some q) r = q == r
 
 -- the register gets another value
 abbrev pub overwritten : Register → Opened → Opened
-overwritten r x = record x { begun = if is_register x.begun r then None else x.begun }
+overwritten r x = record x { begun = if is_register x.begun r then None else x.begun; is_told = if is_register x.flag r then false else x.is_told }
 
 -- what is still so where statements run any number of times, or from any label on
 abbrev pub settled : Opened → Opened
-settled x = record { local = x.local; begun = None; has_value = false }
+settled x = record { local = x.local; begun = None; has_value = false; stands = x.stands; flag = None; is_told = false }
 
 abbrev pub valued : ℕ → Opened → Opened
 valued i x = if is_local i x then record x { has_value = true } else x
@@ -48,11 +69,81 @@ abbrev pub may_begin : ℕ → Register → List Opened → Bool
 may_begin i r xs = list_any (λ x. is_local i x && is_register x.begun r) xs
 
 abbrev pub has_its_value : List Opened → ℕ → Bool
-has_its_value xs i = list_any (λ x. is_local i x && x.has_value) xs
+has_its_value xs i = list_any (λ x. is_open_one i x && x.has_value) xs
+
+-- its object is there, and has no value yet
+abbrev pub declared_in : ℕ → Option Register → Opened → Opened
+declared_in i r x = if is_local i x then record x { begun = r; has_value = false; stands = Some true; is_told = false } else x
+
+abbrev pub declared_among : ℕ → Option Register → List Opened → List Opened
+declared_among i r xs = if is_listed i xs then map (declared_in i r) xs else open_one i r false ∷ xs
 
 abbrev pub differ : List ℕ → Bool
 differ [] = true
 differ (i ∷ is) = not (list_any (λ j. j == i) is) && differ is
+
+-- ---- flags
+
+-- what a flag holds
+abbrev pub flag_number : Bool → ℤ
+flag_number true = pos 1
+flag_number false = pos 0
+
+abbrev pub tells : Option Bool → ℤ → Bool
+tells None z = false
+tells (Some b) z = int_le z (flag_number b) && int_le (flag_number b) z
+
+-- its flag holds this number
+abbrev pub told_by : Register → ℤ → Opened → Opened
+told_by r z x = if is_register x.flag r && tells x.stands z then record x { is_told = true } else x
+
+abbrev pub numbered : Option Register → ℤ → List Opened → List Opened
+numbered None z xs = xs
+numbered (Some r) z xs = map (told_by r z) xs
+
+-- whether only the flag tells that it stands, in this register
+abbrev pub is_unknown : Option Bool → Bool
+is_unknown None = true
+is_unknown (Some b) = false
+
+abbrev pub goes_by : Register → Opened → Bool
+goes_by r x = is_register x.flag r && (x.is_told && is_unknown x.stands)
+
+abbrev pub stands_by : Register → Opened → Opened
+stands_by r x = if goes_by r x then record x { stands = Some true; flag = None; is_told = false } else x
+
+-- where a register holds a number that is not 0, and where it holds 0
+abbrev pub where_set : Register → List Opened → List Opened
+where_set r xs = map (stands_by r) xs
+
+abbrev pub where_unset : Register → List Opened → List Opened
+where_unset r xs = filter (λ x. not (goes_by r x)) xs
+
+-- the local that a branch by this register ends
+abbrev pub ended_in : Register → Plain → Option ℕ
+ended_in r (branch q (more (act (finish t i)) nothing) nothing) = if q == r then Some i else None
+ended_in r s = None
+
+abbrev pub or_behind : Option ℕ → Option ℕ → Option ℕ
+or_behind None o = o
+or_behind (Some i) o = Some i
+
+-- the same, behind statements that do not set the register but in their parts
+abbrev pub ended_by : Register → Plains → Option ℕ
+ended_by r nothing = None
+ended_by r (more (set q a) ss) = if q == r then None else ended_by r ss
+ended_by r (more s ss) = or_behind (ended_in r s) (ended_by r ss)
+
+-- a local that has no object, with a flag
+abbrev pub awaited : Register → Option ℕ → List Opened → List Opened
+awaited r None xs = xs
+awaited r (Some i) xs =
+    if is_listed i xs then xs else record { local = i; begun = None; has_value = false; stands = Some false; flag = Some r; is_told = false } ∷ xs
+
+-- before a statement with others behind it: what is set to a number may be the flag by which they end a local
+abbrev pub prepared : Plain → Plains → List Opened → List Opened
+prepared (set r (number z)) ss xs = awaited r (ended_by r ss) xs
+prepared s ss xs = xs
 
 -- ---- actions
 
@@ -80,7 +171,8 @@ action_opens g a xs = true
 
 -- behind an action, whose value goes to this register, if to any
 abbrev pub opened_by : Keeping → Option Register → Action → List Opened → List Opened
-opened_by g r (declare i t) xs = record { local = i; begun = r; has_value = false } ∷ xs
+opened_by g r (number z) xs = numbered r z xs
+opened_by g r (declare i t) xs = declared_among i r xs
 opened_by g r (first p q) xs = valued_in (object_kept (g p)) xs
 opened_by g r (finish t i) xs = closed i xs
 opened_by g r (call name t object is into) xs = closed_all is xs
@@ -104,9 +196,24 @@ abbrev pub same_begun : Option Register → Option Register → Option Register
 same_begun (Some r) (Some q) = if r == q then Some r else None
 same_begun x y = None
 
+-- where it stands on one of two ways alone its flag tells
+abbrev pub same_stand : Option Bool → Option Bool → Option Bool
+same_stand (Some true) (Some true) = Some true
+same_stand (Some false) (Some false) = Some false
+same_stand x y = None
+
+abbrev pub both_one : Opened → Opened → Opened
+both_one x y = record {
+  local = x.local;
+  begun = same_begun x.begun y.begun;
+  has_value = x.has_value && y.has_value;
+  stands = same_stand x.stands y.stands;
+  flag = same_begun x.flag y.flag;
+  is_told = x.is_told && y.is_told;
+}
+
 abbrev pub both_opened : List Opened → List Opened → List Opened
-both_opened (x ∷ xs) (y ∷ ys) =
-    record { local = x.local; begun = same_begun x.begun y.begun; has_value = x.has_value && y.has_value } ∷ both_opened xs ys
+both_opened (x ∷ xs) (y ∷ ys) = both_one x y ∷ both_opened xs ys
 both_opened xs ys = []
 
 abbrev pub joined : Where → Where → Where
@@ -116,15 +223,27 @@ joined away y = y
 joined x away = x
 joined (falls xs) (falls ys) = if same_locals xs ys then falls (both_opened xs ys) else wrong
 
+abbrev pub as_open : Option Bool → Option Bool → Bool
+as_open (Some true) (Some true) = true
+as_open (Some false) (Some false) = true
+as_open None None = true
+as_open x y = false
+
+-- whether the same stand
+abbrev pub same_open : List Opened → List Opened → Bool
+same_open [] [] = true
+same_open (x ∷ xs) (y ∷ ys) = (x.local == y.local) && (as_open x.stands y.stands && same_open xs ys)
+same_open xs ys = false
+
 -- whether they come to a place where just these are open
 abbrev pub comes_to : List Opened → Where → Bool
-comes_to xs (falls ys) = same_locals xs ys
+comes_to xs (falls ys) = same_open xs ys
 comes_to xs away = true
 comes_to xs wrong = false
 
 abbrev pub is_at : Option (List Opened) → List Opened → Bool
 is_at None xs = false
-is_at (Some ys) xs = same_locals ys xs
+is_at (Some ys) xs = same_open ys xs
 
 abbrev pub only_if : Bool → Where → Where
 only_if true x = x
@@ -155,7 +274,7 @@ is_the_label l s = false
 
 -- what is open where it is left, behind declarations alone
 abbrev pub declared : Plains → List Opened → Option (List Opened)
-declared (more (act (declare i t)) ss) xs = if is_open i xs then None else declared ss (record { local = i; begun = None; has_value = false } ∷ xs)
+declared (more (act (declare i t)) ss) xs = if is_listed i xs then None else declared ss (open_one i None false ∷ xs)
 declared (more leave ss) xs = Some xs
 declared ss xs = None
 
@@ -178,7 +297,7 @@ module _ (locals : List SourceType) (result : SourceType) where
     pub opens : Plain → Keeping → Ways → List Opened → Where
     opens (act a) g w xs = only_if (action_opens g a xs) (falls (opened_by g None a xs))
     opens (set r a) g w xs = only_if (action_opens g a xs) (falls (opened_by g (Some r) a (set_in r xs)))
-    opens (branch r ss ts) g w xs = joined (all_open ss g w xs) (all_open ts g w xs)
+    opens (branch r ss ts) g w xs = joined (all_open ss g w (where_set r xs)) (all_open ts g w (where_unset r xs))
     opens (loop ss ts) g w xs =
         let ys = map settled xs in
         only_if
@@ -209,7 +328,7 @@ module _ (locals : List SourceType) (result : SourceType) where
           | falls zs ↦ all_open (more (switch r ts) rest) first w zs
         ]
     all_open (more s ss) g w xs =
-        elim (opens s g w xs) [
+        elim (opens s g w (prepared s ss xs)) [
           | wrong ↦ wrong
           | away ↦ from_label ss w
           | falls ys ↦ all_open ss (keeping_or (after locals result s g)) w ys
@@ -225,7 +344,7 @@ module _ (locals : List SourceType) (result : SourceType) where
 -- parameters are open as a function is entered, and have their values
 abbrev pub parameters_open : ℕ → List SourceType → List Opened
 parameters_open i [] = []
-parameters_open i (t ∷ ts) = record { local = i; begun = None; has_value = true } ∷ parameters_open (suc i) ts
+parameters_open i (t ∷ ts) = open_one i None true ∷ parameters_open (suc i) ts
 
 -- nothing is open where a function ends
 abbrev pub function_opens : PlainFunction → Bool

@@ -4,7 +4,7 @@ use Rattle.std.specs.Prelude.{map, ℤ, Option, Some, None, is_some}
 use Rattle.cf_plain.specs.Plain.{Register, Plain, Plains, default_label, nothing, more}
 use Rattle.cf_lower.specs.Kept.{unknown, Keeping, sets, all_set, after}
 use Rattle.cf_lower.specs.Functions.{nesting, all_nesting}
-use Rattle.cf_lower_kept.specs.Opened.{Opened, settled, same_locals, is_at, Ways}
+use Rattle.cf_lower_kept.specs.Opened.{Opened, settled, same_open, is_at, Ways}
 use Rattle.cf_lower_kept.specs.Told.{AllJoin, builds_none}
 use Rattle.cf_lower_kept.proofs.Turns.{all-join}
 use Rattle.cf_lower_turns.specs.Around.{Around, depth_of, left_to, gone_on_to}
@@ -98,7 +98,7 @@ module _ (z : Scene) where
   leads-out n (Some ys) (Some p) h S xs l e =
       subst (λ q. LiesWithin z (point_at h xs) q) (sym l.is)
       (subst (λ y. LiesWithin z (point_at h xs) (point_at l.kept y)) (sym l.opened)
-      (to-same z h l.kept l.base xs (subst (λ y. same_locals y xs ≡ true) l.opened e) l.tells.less))
+      (to-same z h l.kept l.base xs (subst (λ y. same_open y xs ≡ true) l.opened e) l.tells.less))
 
   -- what goes with statements that set these registers and take so many flags
   pub record Context (around : Around Point) (h : Keeping) (w : Ways) (b c : Bool) (S : Register → Bool) (nest : ℕ) : Type 0 where

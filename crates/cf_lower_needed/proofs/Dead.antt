@@ -62,12 +62,18 @@ module _ (z : Scene) (n : ℕ) (fits : Keeping → Plain → Bool) where
         let q = point_never (after L (branch r ss ts) h) in
         let m = max (all_nesting ss) (all_nesting ts) in (
           number-there (h r) one.0,
-          (
-            dead-list ss around h b c two.0
-                (outs-with z around b c m (all_nesting ss) outs (flags-left (depth_of around) (all_nesting ss) (all_nesting ts) z.body.flags.bound outs.flags)) q,
-            dead-list ts around h b c two.1
-                (outs-with z around b c m (all_nesting ts) outs (flags-right (depth_of around) (all_nesting ss) (all_nesting ts) z.body.flags.bound outs.flags)) q,
-          ),
+          record {
+            if_set = point_never h;
+            if_unset = point_never h;
+            kept_set = refl;
+            kept_unset = refl;
+            enters_set = λ d g s t n e i at. at;
+            enters_unset = λ d g s t n e i at. at;
+            first = dead-list ss around h b c two.0
+                (outs-with z around b c m (all_nesting ss) outs (flags-left (depth_of around) (all_nesting ss) (all_nesting ts) z.body.flags.bound outs.flags)) q;
+            second = dead-list ts around h b c two.1
+                (outs-with z around b c m (all_nesting ts) outs (flags-right (depth_of around) (all_nesting ss) (all_nesting ts) z.body.flags.bound outs.flags)) q;
+          },
         )
     dead-one (loop ss nothing) around h b c e outs =
         let k = after L (loop ss nothing) h in

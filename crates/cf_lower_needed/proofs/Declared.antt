@@ -16,7 +16,7 @@ use Rattle.cf_plain_kept.specs.Kept as plain
 use Rattle.cc_whole_mean.specs.Flow as c
 use Rattle.cf_lower.specs.Kept.{Keeping, Locals, after}
 use Rattle.cf_lower.specs.Statements.{lowered}
-use Rattle.cf_lower_kept.specs.Opened.{Opened, falls, only_if, is_open, settled, is_the_label, declared, declared_at, stands_before}
+use Rattle.cf_lower_kept.specs.Opened.{Opened, open_one, falls, only_if, is_listed, declared_in, declared_among, settled, is_the_label, declared, declared_at, stands_before}
 use Rattle.cf_lower_kept.specs.Told.{TellsLess}
 use Rattle.cf_lower_kept.proofs.Types.{same-number}
 use Rattle.cf_lower_leaves.proofs.Narrowing.{narrows}
@@ -27,6 +27,7 @@ use Rattle.cf_lower_bounds.specs.Needs.{label_of}
 use Rattle.cf_lower_bounds.specs.Points.{Point, point_at, point_never, point_by, OpenIf, Open, OpenBy, local_count}
 use Rattle.cf_lower_bounds.specs.Bounds.{EndsAt, LiesWithin, LeafRunsTo}
 use Rattle.cf_lower_bounds.proofs.Labels.{number-itself}
+use Rattle.cf_lower_bounds.proofs.Lists.{open-listed}
 use Rattle.cf_lower_bounds.proofs.Standing.{lies-within, lies-within-by}
 use Rattle.cf_lower_place.specs.InPlace.{switches, items_in_place}
 use Rattle.cf_lower_needed.specs.Leading.{point_of, is_right, no_ways, LeavesLead}
@@ -36,7 +37,7 @@ use Rattle.cf_lower_needed.proofs.Points.{from-never}
 use Rattle.cf_lower_needed.proofs.Places.{switches-there}
 use Rattle.cf_lower_needed.proofs.Around.{StatementNeeds, ItemsNeed, Passed, Through}
 use Rattle.cf_lower_needed.proofs.Steps.{LabelsAt, some-list, settled-twice}
-use Rattle.cf_lower_needed.proofs.Labels.{has_label, same_label, same-itself, same-label-is, choose, same-tests, either-label, past-other, label-case, label-default, has-behind, differs-behind, differ-behind, declared-here, declared-behind, declared-has}
+use Rattle.cf_lower_needed.proofs.Labels.{has_label, same_label, same-itself, same-label-is, if-false, choose, same-tests, either-label, past-other, label-case, label-default, has-behind, differs-behind, differ-behind, declared-here, declared-behind, declared-has}
 
 -- ---- an action leaves the registers as they are
 
@@ -75,7 +76,7 @@ or_else ys None = ys
 or_else ys (Some zs) = zs
 
 abbrev pub fresh : ℕ → Opened
-fresh i = record { local = i; begun = None; has_value = false }
+fresh i = open_one i None false
 
 -- what is open at a label
 abbrev pub opened_at : Plains → List Opened → Option ℤ → List Opened
@@ -87,7 +88,7 @@ opens-fresh false o last e = (refl, e)
 
 declared-settled : (us : Plains) (zs last : List Opened) → map settled zs ≡ zs → declared us zs ≡ Some last → map settled last ≡ last
 declared-settled (more (act (declare i t)) us) zs last same e =
-    let one = opens-fresh (is_open i zs) (declared us (fresh i ∷ zs)) last e in
+    let one = opens-fresh (is_listed i zs) (declared us (fresh i ∷ zs)) last e in
     declared-settled us (fresh i ∷ zs) last (ap (λ os. fresh i ∷ os) same) one.1
 declared-settled (more leave us) zs last same e = subst (λ os. map settled os ≡ os) (some-list e) same
 declared-settled us zs last same e = absurd (none-some e)
@@ -192,16 +193,17 @@ module _ (z : Scene) (n : ℕ) where
                 (subst (λ us. Open (local_count z) us g s) (sym there) o)
             test false e o = absurd o
 
-    declare-leads : (l : Option ℤ) (zs : List Opened) (i : ℕ) (t : SourceType) → fits k (act (declare i t)) ≡ true → is_open i zs ≡ false
+    declare-leads : (l : Option ℤ) (zs : List Opened) (i : ℕ) (t : SourceType) → fits k (act (declare i t)) ≡ true → is_listed i zs ≡ false
         → LeafRunsTo z n inner (at_label l zs) (act (declare i t)) (at_label l (fresh i ∷ zs))
-    declare-leads l zs i t fit closed =
+    declare-leads l zs i t fit new =
         leads-by-number inner k r (for_label l zs) (for_label l (fresh i ∷ zs)) (declare i t) (λ m. by (same_label l (label_of m ss)))
       where
         one : LeafRunsTo z n inner (point_at k zs) (act (declare i t)) (point_at k (fresh i ∷ zs))
         one =
-            subst (λ b. LeafRunsTo z n inner (point_at k zs) (act (declare i t)) (point_of k (only_if (not b) (falls (fresh i ∷ zs))))) closed
+            subst (λ us. LeafRunsTo z n inner (point_at k zs) (act (declare i t)) (point_at k us)) (if-false (is_listed i zs) (map (declared_in i None) zs) (fresh i ∷ zs) new)
+            (subst (λ b. LeafRunsTo z n inner (point_at k zs) (act (declare i t)) (point_of k (only_if (not b) (falls (declared_among i None zs))))) (open-listed i zs new)
             (leads inner plain.nothing_set k no_ways zs (λ q. tt) (act (declare i t)) fit
-            (subst (λ b. is_right (only_if (not b) (falls (fresh i ∷ zs))) ≡ true) (sym closed) refl))
+            (subst (λ b. is_right (only_if (not b) (falls (declared_among i None zs))) ≡ true) (sym (open-listed i zs new)) refl)))
 
         by : (b : Bool) → LeadsIf inner k (declare i t) (if b then Some zs else None) (if b then Some (fresh i ∷ zs) else None)
         by true = one
@@ -247,7 +249,7 @@ module _ (z : Scene) (n : ℕ) where
       live-items : (us : Plains) (c : Bool) (l : Option ℤ) (zs last : List Opened) → Left c us → declared us zs ≡ Some last → opened_at ss ys l ≡ last
           → ItemsNeed z n us inner labels (at_label l zs) behind_all
       live-items (more (act (declare i t)) us) c l zs last left e there =
-          let one = opens-fresh (is_open i zs) (declared us (fresh i ∷ zs)) last e in
+          let one = opens-fresh (is_listed i zs) (declared us (fresh i ∷ zs)) last e in
           let two = both (fits k (act (declare i t))) (items_in_place L fits c us k k) left.place in
           record {
             point = at_label l (fresh i ∷ zs);

@@ -7,7 +7,7 @@ use Rattle.cf_plain.specs.Plain.{Register, Plain, Plains, switch, case_label, de
 use Rattle.cf_plain.specs.Running.{has_case}
 use Rattle.cf_plain.specs.Valid.{has_default, labels_differ}
 use Rattle.cf_plain_kept.specs.Kept as plain
-use Rattle.cf_lower_kept.specs.Opened.{Opened, Where, falls, away, wrong, Ways, is_at, settled, keeping_or, is_the_label, declared, declared_at, stands_before, opens, all_open, from_label}
+use Rattle.cf_lower_kept.specs.Opened.{Opened, Where, falls, away, wrong, Ways, is_at, settled, keeping_or, is_the_label, declared, declared_at, stands_before, prepared, opens, all_open, from_label}
 use Rattle.cf_lower_bounds.proofs.Labels.{number-same, number-itself}
 use Rattle.cf_lower_needed.specs.Leading.{is_right}
 use Rattle.cf_lower_needed.proofs.Tells.{or-left, or-right}
@@ -101,7 +101,7 @@ label-default (Some n) e = absurd (let k = e in cc)
 pub if-true : {A : Type 0} → (b : Bool) (x y : A) → b ≡ true → (if b then x else y) ≡ x
 if-true b x y e = ap (λ t. if t then x else y) e
 
-if-false : {A : Type 0} → (b : Bool) (x y : A) → b ≡ false → (if b then x else y) ≡ y
+pub if-false : {A : Type 0} → (b : Bool) (x y : A) → b ≡ false → (if b then x else y) ≡ y
 if-false b x y e = ap (λ t. if t then x else y) e
 
 pub declared-here : (l : Option ℤ) (s : Plain) (ss : Plains) (xs : List Opened) → is_the_label l s ≡ true → declared_at (more s ss) xs l ≡ declared ss xs
@@ -171,11 +171,12 @@ module _ (T : List SourceType) (R : SourceType) (w : Ways) where
     step s ss g xs alone right has dead live =
         by (either-label l s ss has) (subst (λ o. is_right o ≡ true) (next-open T R s ss g w xs alone) right)
       where
-        by : (is_the_label l s ≡ true) ⊎ (has_label l ss ≡ true) → is_right (then_open T R (opens T R s g w xs) ss (keeping_or (plain.after T R s g)) w) ≡ true
+        by : (is_the_label l s ≡ true) ⊎ (has_label l ss ≡ true) → is_right (then_open T R (opens T R s g w (prepared s ss xs)) ss (keeping_or (plain.after T R s g)) w) ≡ true
             → is_some (w.labels l) ≡ true
-        by (inl here) there = label-there l s g xs here (then-right T R (opens T R s g w xs) ss (keeping_or (plain.after T R s g)) w there)
+        by (inl here) there =
+            label-there l s g (prepared s ss xs) here (then-right T R (opens T R s g w (prepared s ss xs)) ss (keeping_or (plain.after T R s g)) w there)
         by (inr later) there =
-            behind (opens T R s g w xs) ss (keeping_or (plain.after T R s g)) there (λ k. dead later k) (λ ys k. live later (keeping_or (plain.after T R s g)) ys k)
+            behind (opens T R s g w (prepared s ss xs)) ss (keeping_or (plain.after T R s g)) there (λ k. dead later k) (λ ys k. live later (keeping_or (plain.after T R s g)) ys k)
 
     in-label : (m : Option ℤ) (ss : Plains) → is_right (at_the_label (w.labels m) ss) ≡ true → (l ≡ m) ⊎ (has_label l ss ≡ true)
         → (has_label l ss ≡ true → (ys : List Opened) → is_right (all_open T R ss plain.nothing_set w ys) ≡ true → is_some (w.labels l) ≡ true) → is_some (w.labels l) ≡ true

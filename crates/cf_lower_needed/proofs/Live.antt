@@ -8,22 +8,23 @@ use Rattle.cf_plain.specs.Valid.{labels_differ}
 use Rattle.cf_plain_kept.specs.Kept as plain
 use Rattle.cf_lower.specs.Kept.{Keeping, Locals, nothing_kept, sets, all_set, untouched, after, after_all}
 use Rattle.cf_lower.specs.Functions.{nesting, all_nesting}
-use Rattle.cf_lower_kept.specs.Opened.{Opened, falls, away, Ways, no_label, only_if, is_at, settled, comes_to, keeping_or, declared_at, stands_before, opens, all_open, from_label}
+use Rattle.cf_lower_kept.specs.Opened.{Opened, falls, away, Ways, no_label, only_if, is_at, settled, comes_to, keeping_or, declared_at, stands_before, where_set, where_unset, prepared, opens, all_open, from_label}
 use Rattle.cf_lower_kept.specs.Ready.{ready, all_ready}
 use Rattle.cf_lower_kept.specs.Told.{AllTold, AllJoin, TellsLess}
 use Rattle.cf_lower_kept.proofs.Turns.{all-join, turn-tells}
 use Rattle.cf_lower_turns.specs.Around.{Around, function, turns, stepped, step, cases, depth_of, left_to, gone_on_to}
 use Rattle.cf_lower_turns.specs.Scene.{Scene}
-use Rattle.cf_lower_bounds.specs.Points.{Point, point_at, point_never}
+use Rattle.cf_lower_bounds.specs.Points.{Point, point_at, point_never, local_count}
 use Rattle.cf_lower_bounds.specs.Bounds.{LiesWithin, NeededTo}
 use Rattle.cf_lower_place.specs.InPlace.{is_number, switches, in_place, all_in_place, items_in_place}
 use Rattle.cf_lower_needed.specs.Leading.{point_of, is_right, no_ways, LeavesLead}
 use Rattle.cf_lower_needed.proofs.Tells.{or-left, or-right, Tells, tells-behind, tells-within, tells-at, untouched-less, untouched-gone, loop-less, loop-gone}
+use Rattle.cf_lower_needed.proofs.Opens.{open-set, open-unset}
 use Rattle.cf_lower_needed.proofs.Points.{right-left, right-right, comes-right, from-never, to-settled, comes-within, within-left, within-right}
 use Rattle.cf_lower_needed.proofs.Places.{number-there, switches-there, one-builds-none, all-build-none, stands_alone, ways_behind, only-if, then_open, then-right, next-open, next-both, ready-next, told-next}
 use Rattle.cf_lower_needed.proofs.Around.{StatementNeeds, ItemsNeed, Through, passed-itself, flags-left, flags-right, flags-one, Outs, Reaches, LeadsTo, leads-on-from, leads-out, Context, context-fewer, context-first, context-behind}
 use Rattle.cf_lower_needed.proofs.Dead.{loop-outs, stepped-outs, step-outs, cases-outs, first-outs, rest-outs, dead-one, dead-list}
-use Rattle.cf_lower_needed.proofs.Steps.{LabelsAt, labels-all, ways_in, through, label-step, label-dead}
+use Rattle.cf_lower_needed.proofs.Steps.{LabelsAt, labels-all, ways_in, from-prepared, through, label-step, label-dead}
 use Rattle.cf_lower_needed.proofs.Labels.{has_label, choose, alone-or, labels-open}
 use Rattle.cf_lower_needed.proofs.Declared.{points_behind, points-there, both-through}
 
@@ -141,8 +142,9 @@ module _ (z : Scene) (n : ℕ) (fits : Keeping → Plain → Bool) (leads : Leav
         → all_in_place L fits b c (more s ss) h ≡ true → Context z around h w b c (λ r. all_set L r (more s ss)) (all_nesting (more s ss))
         → is_right (all_open T Rt (more s ss) g w xs) ≡ true → (q : Point) → LiesWithin z (point_of (after_all L (more s ss) h) (all_open T Rt (more s ss) g w xs)) q
         → stands_alone s ss ≡ true
-        → (ready T Rt s g ≡ true → in_place L fits b c s h ≡ true → Context z around h w b c (λ r. sets L r s) (nesting s) → is_right (opens T Rt s g w xs) ≡ true
-        → StatementNeeds z n s around (point_at h xs) (point_of (after L s h) (opens T Rt s g w xs)))
+        → (ready T Rt s g ≡ true → in_place L fits b c s h ≡ true → Context z around h w b c (λ r. sets L r s) (nesting s)
+        → is_right (opens T Rt s g w (prepared s ss xs)) ≡ true
+        → StatementNeeds z n s around (point_at h (prepared s ss xs)) (point_of (after L s h) (opens T Rt s g w (prepared s ss xs))))
         → ((next : plain.Keeping) (i : Keeping) (ys : List Opened) → AllTold L next i → all_ready T Rt ss next ≡ true → all_in_place L fits b c ss i ≡ true
         → Context z around i w b c (λ r. all_set L r ss) (all_nesting ss) → is_right (all_open T Rt ss next w ys) ≡ true
         → LiesWithin z (point_of (after_all L ss i) (all_open T Rt ss next w ys)) q → NeededTo z n ss around (point_at i ys) q)
@@ -152,8 +154,10 @@ module _ (z : Scene) (n : ℕ) (fits : Keeping → Plain → Bool) (leads : Leav
         let rs = ready-next T Rt s ss g re in
         let next = keeping_or (plain.after T Rt s g) in
         let opened = next-open T Rt s ss g w xs alone in
-        let fine = then-right T Rt (opens T Rt s g w xs) ss next w (subst (λ o. is_right o ≡ true) opened right) in
-        through z n around s h xs (opens T Rt s g w xs) (λ p. NeededTo z n ss around p q) (one rs.0 two.0 (context-first z around h w b c s ss x) fine) fine
+        let behind = opens T Rt s g w (prepared s ss xs) in
+        let fine = then-right T Rt behind ss next w (subst (λ o. is_right o ≡ true) opened right) in
+        through z n around s h xs behind (λ p. NeededTo z n ss around p q)
+        (from-prepared z n around s ss h xs (point_of (after L s h) behind) (one rs.0 two.0 (context-first z around h w b c s ss x) fine)) fine
         (λ k. dead-list z n fits ss around (after L s h) b c two.1 (rest-outs z n fits around b c s ss x.outs) q)
         (λ ys k.
         let same = opened ∙ ap (λ o. then_open T Rt o ss next w) k in
@@ -166,8 +170,9 @@ module _ (z : Scene) (n : ℕ) (fits : Keeping → Plain → Bool) (leads : Leav
         → Context z around h w true c (λ r. all_set L r (more s ss)) (all_nesting (more s ss))
         → Context z around k w true c (λ r. all_set L r (more s ss)) (all_nesting (more s ss)) → Tells L k h (λ r. all_set L r (more s ss))
         → comes_to (map settled base) (all_open T Rt (more s ss) g w xs) ≡ true → stands_alone s ss ≡ true
-        → (ready T Rt s g ≡ true → in_place L fits true c s h ≡ true → Context z around h w true c (λ r. sets L r s) (nesting s) → is_right (opens T Rt s g w xs) ≡ true
-        → StatementNeeds z n s around (point_at h xs) (point_of (after L s h) (opens T Rt s g w xs)))
+        → (ready T Rt s g ≡ true → in_place L fits true c s h ≡ true → Context z around h w true c (λ r. sets L r s) (nesting s)
+        → is_right (opens T Rt s g w (prepared s ss xs)) ≡ true
+        → StatementNeeds z n s around (point_at h (prepared s ss xs)) (point_of (after L s h) (opens T Rt s g w (prepared s ss xs))))
         → ((next : plain.Keeping) (i : Keeping) → all_ready T Rt ss next ≡ true → items_in_place L fits c ss k i ≡ true
         → Context z around k w true c (λ r. all_set L r ss) (all_nesting ss) → Tells L k i (λ r. all_set L r ss)
         → comes_to (map settled base) (from_label T Rt ss w) ≡ true → ItemsNeed z n ss around points (point_never i) (point_at k (map settled base)))
@@ -182,12 +187,13 @@ module _ (z : Scene) (n : ℕ) (fits : Keeping → Plain → Bool) (leads : Leav
         let next = keeping_or (plain.after T Rt s g) in
         let opened = next-open T Rt s ss g w xs alone in
         let all = comes-right (map settled base) (all_open T Rt (more s ss) g w xs) comes in
-        let fine = then-right T Rt (opens T Rt s g w xs) ss next w (subst (λ i. is_right i ≡ true) opened all) in
+        let there = opens T Rt s g w (prepared s ss xs) in
+        let fine = then-right T Rt there ss next w (subst (λ i. is_right i ≡ true) opened all) in
         let none = one-builds-none L fits s true c h two.0 in
         let less = context-rest around k w c s ss at in
         let behind = tells-behind L k h s ss none tells in
-        through z n around s h xs (opens T Rt s g w xs) (λ p. ItemsNeed z n ss around points p (point_at k (map settled base)))
-        (one rs.0 two.0 (context-first z around h w true c s ss x) fine) fine
+        through z n around s h xs there (λ p. ItemsNeed z n ss around points p (point_at k (map settled base)))
+        (from-prepared z n around s ss h xs (point_of (after L s h) there) (one rs.0 two.0 (context-first z around h w true c s ss x) fine)) fine
         (λ i. dead next (after L s h) rs.1 two.1 less behind
         (subst (λ a. comes_to (map settled base) a ≡ true) (opened ∙ ap (λ a. then_open T Rt a ss next w) i) comes))
         (λ ys i. live next (after L s h) ys (told-next L Rt s g h told rs.0) rs.1 two.1 (context-behind z around h w true c s ss none x) less behind
@@ -273,21 +279,27 @@ module _ (z : Scene) (n : ℕ) (fits : Keeping → Plain → Bool) (leads : Leav
         let one = both (is_number (h r)) (all_in_place L fits b c ss h && all_in_place L fits b c ts h) e in
         let two = both (all_in_place L fits b c ss h) (all_in_place L fits b c ts h) one.1 in
         let rs = both (all_ready T Rt ss g) (all_ready T Rt ts g) re in
-        let i = all_open T Rt ss g w xs in
-        let j = all_open T Rt ts g w xs in
+        let i = all_open T Rt ss g w (where_set r xs) in
+        let j = all_open T Rt ts g w (where_unset r xs) in
         let q = point_of (after L (branch r ss ts) h) (opens T Rt (branch r ss ts) g w xs) in
         let m = max (all_nesting ss) (all_nesting ts) in (
           number-there (h r) one.0,
-          (
-            list-needed ss around g h w xs b c told rs.0 two.0
+          record {
+            if_set = point_at h (where_set r xs);
+            if_unset = point_at h (where_unset r xs);
+            kept_set = refl;
+            kept_unset = refl;
+            enters_set = λ d f s t n e i at. record { here = at.here; frame = at.frame; standing = open-set (local_count z) f s r n e i xs at.standing };
+            enters_unset = λ d f s t n e i at. record { here = at.here; frame = at.frame; standing = open-unset (local_count z) f s r n e i xs at.standing };
+            first = list-needed ss around g h w (where_set r xs) b c told rs.0 two.0
                 (context-fewer z around h w b c (λ p. sets L p (branch r ss ts)) (λ p. all_set L p ss) m (all_nesting ss) x
                 (λ p k. or-left (all_set L p ss) (all_set L p ts) k) (flags-left (depth_of around) (all_nesting ss) (all_nesting ts) z.body.flags.bound x.outs.flags))
-                (right-left i j right) q (within-left z (after_all L ss h) (after_all L ts h) i j right),
-            list-needed ts around g h w xs b c told rs.1 two.1
+                (right-left i j right) q (within-left z (after_all L ss h) (after_all L ts h) i j right);
+            second = list-needed ts around g h w (where_unset r xs) b c told rs.1 two.1
                 (context-fewer z around h w b c (λ p. sets L p (branch r ss ts)) (λ p. all_set L p ts) m (all_nesting ts) x
                 (λ p k. or-right (all_set L p ss) (all_set L p ts) k) (flags-right (depth_of around) (all_nesting ss) (all_nesting ts) z.body.flags.bound x.outs.flags))
-                (right-right i j right) q (within-right z (after_all L ss h) (after_all L ts h) i j right),
-          ),
+                (right-right i j right) q (within-right z (after_all L ss h) (after_all L ts h) i j right);
+          },
         )
     one-needed (loop ss nothing) around g h w xs b c told re e x right =
         let ys = map settled xs in
@@ -388,7 +400,7 @@ module _ (z : Scene) (n : ℕ) (fits : Keeping → Plain → Bool) (leads : Leav
         (λ y place context fine. one-needed (switch p ss) around g h w xs b c told y place context fine)
         (λ next i ys told ready place context fine there. list-needed (more (switch r ts) rest) around next i w ys b c told ready place context fine q there))
     list-needed (more s ss) around g h w xs b c told re e x right q within =
-        list-step s ss around g h w xs b c told re e x right q within refl (λ y place context fine. one-needed s around g h w xs b c told y place context fine)
+        list-step s ss around g h w xs b c told re e x right q within refl (λ y place context fine. one-needed s around g h w (prepared s ss xs) b c told y place context fine)
         (λ next i ys told ready place context fine there. list-needed ss around next i w ys b c told ready place context fine q there)
 
     -- the labels and statements of a switch, where control comes to what is open
@@ -431,7 +443,7 @@ module _ (z : Scene) (n : ℕ) (fits : Keeping → Plain → Bool) (leads : Leav
         items-needed (more (switch r ts) rest) around k base w points next i ys c labels told ready place context fine less live))
     items-needed (more s ss) around k base w points g h xs c labels told re e x at tells comes =
         item-step s ss around k base w points g h xs c labels told re e x at tells comes refl
-        (λ y place context fine. one-needed s around g h w xs true c told y place context fine)
+        (λ y place context fine. one-needed s around g h w (prepared s ss xs) true c told y place context fine)
         (λ next i ready place fine less dead. items-dead ss around k base w points next i c labels ready place fine less dead)
         (λ next i ys told ready place context fine less live. items-needed ss around k base w points next i ys c labels told ready place context fine less live)
 

@@ -1,30 +1,68 @@
--- Lists of the locals that are open: what is still so of them at the turns of loops and behind labels, and where two ways join.
-use Rattle.std.proofs.Common.{◌≡◌, ℕ, ◌<◌, Bool, true, false, ◌||◌, ◌==◌, if◌then◌else◌, List, [], ◌∷◌, refl, sym, ◌∙◌, ap, subst}
-use Rattle.std.specs.Prelude.{map, Option, Some, None}
+-- Lists of the locals that are open: what is still so of them at the turns of loops and behind labels, where two ways part by a number, and where they join.
+use Rattle.std.proofs.Common.{◌≡◌, ℕ, ◌<◌, Bool, true, false, ◌&&◌, ◌||◌, not, ◌==◌, if◌then◌else◌, List, [], ◌∷◌, refl, sym, ◌∙◌, ap, subst}
+use Rattle.std.specs.Prelude.{map, ℤ, Option, Some, None}
 use Rattle.cf_base.proofs.Tests.{both}
+use Rattle.cf_core.specs.Store as source
 use Rattle.cf_core.specs.Run.{State}
 use Rattle.cf_plain.specs.Plain.{Register}
 use Rattle.cf_plain.specs.Acts.{Registers}
-use Rattle.cf_lower_kept.specs.Opened.{Opened, is_open, settled, same_locals, same_begun, both_opened}
+use Rattle.cf_lower_kept.specs.Opened.{Opened, is_over, is_open_one, is_open, is_listed, is_register, settled, flag_number, is_unknown, goes_by, stands_by, where_set, where_unset, awaited, same_locals, same_begun, same_stand, both_one, both_opened, as_open, same_open}
 use Rattle.cf_lower_kept.proofs.Types.{same-number}
-use Rattle.cf_lower_bounds.specs.Points.{AllOpen, Open}
+use Rattle.cf_lower_bounds.specs.Needs.{is_nonzero}
+use Rattle.cf_lower_bounds.specs.Points.{Stands, Begun, Valued, IsOver, IsTold, IsOpen, AllOpen, Open}
+use Rattle.cf_lower_bounds.proofs.Lists.{neither, none-of, open-listed}
 
 -- ---- what is settled
 
 is_open-settled : (i : ℕ) (xs : List Opened) → is_open i (map settled xs) ≡ is_open i xs
 is_open-settled i [] = refl
-is_open-settled i (x ∷ xs) = ap (λ b. (x.local == i) || b) (is_open-settled i xs)
+is_open-settled i (x ∷ xs) = ap (λ b. is_open_one i x || b) (is_open-settled i xs)
 
-abbrev settled_at : ℕ → Opened
-settled_at i = record { local = i; begun = None; has_value = false }
+abbrev settled_at : ℕ → Option Bool → Opened
+settled_at i o = record { local = i; begun = None; has_value = false; stands = o; flag = None; is_told = false }
 
-pub same-settled : (xs zs : List Opened) → same_locals (map settled xs) zs ≡ true → map settled zs ≡ map settled xs
+as-open-is : (a b : Option Bool) → as_open a b ≡ true → a ≡ b
+as-open-is (Some true) (Some true) e = refl
+as-open-is (Some false) (Some false) e = refl
+as-open-is None None e = refl
+as-open-is (Some true) (Some false) e = absurd (let k = e in cc)
+as-open-is (Some true) None e = absurd (let k = e in cc)
+as-open-is (Some false) (Some true) e = absurd (let k = e in cc)
+as-open-is (Some false) None e = absurd (let k = e in cc)
+as-open-is None (Some b) e = absurd (let k = e in cc)
+
+pub same-settled : (xs zs : List Opened) → same_open (map settled xs) zs ≡ true → map settled zs ≡ map settled xs
 same-settled [] [] e = refl
 same-settled [] (z ∷ zs) e = absurd (let k = e in cc)
 same-settled (x ∷ xs) [] e = absurd (let k = e in cc)
 same-settled (x ∷ xs) (z ∷ zs) e =
-    let two = both (x.local == z.local) (same_locals (map settled xs) zs) e in
-    ap (λ i. settled_at i ∷ map settled zs) (sym (same-number x.local z.local two.0)) ∙ ap (λ l. settled_at x.local ∷ l) (same-settled xs zs two.1)
+    let two = both (x.local == z.local) (as_open x.stands z.stands && same_open (map settled xs) zs) e in
+    let three = both (as_open x.stands z.stands) (same_open (map settled xs) zs) two.1 in
+    ap (λ i. settled_at i z.stands ∷ map settled zs) (sym (same-number x.local z.local two.0))
+    ∙ ap (λ o. settled_at x.local o ∷ map settled zs) (sym (as-open-is x.stands z.stands three.0))
+    ∙ ap (λ l. settled_at x.local x.stands ∷ l) (same-settled xs zs three.1)
+
+-- ---- tests
+
+its-register : (o : Option Register) (r : Register) → is_register o r ≡ true → o ≡ Some r
+its-register None r e = absurd (let k = e in cc)
+its-register (Some q) r e = ap (λ (i : Register). Some i) (same-number q r e)
+
+some-number : {a b : ℤ} → Some (source.Number a) ≡ Some (source.Number b) → a ≡ b
+some-number e = cc
+
+-- what a flag holds tells whether the object stands
+flag-set : (b : Bool) → is_nonzero (flag_number b) ≡ true → b ≡ true
+flag-set true e = refl
+flag-set false e = absurd (let k = e in cc)
+
+flag-unset : (b : Bool) → is_nonzero (flag_number b) ≡ false → b ≡ false
+flag-unset true e = absurd (let k = e in cc)
+flag-unset false e = refl
+
+unknown-not-over : (o : Option Bool) → is_unknown o ≡ true → is_over o ≡ false
+unknown-not-over None e = refl
+unknown-not-over (Some b) e = absurd (let k = e in cc)
 
 module _ (count : ℕ) (g : Registers) (s : State) where
   all-settled : (xs : List Opened) → AllOpen count xs g s → AllOpen count (map settled xs) g s
@@ -32,12 +70,13 @@ module _ (count : ℕ) (g : Registers) (s : State) where
   all-settled (x ∷ xs) h =
       let one = h.0 in (
         record {
-          below = one.below;
-          object = one.object;
+          way = one.way;
+          told = one.told;
           there = one.there;
-          stands = one.stands;
+          over = one.over;
           begun = λ r e. absurd (let k = e in cc);
           value = λ e. absurd (let k = e in cc);
+          flag = λ e. absurd (let k = e in cc);
         },
         all-settled xs h.1,
       )
@@ -49,8 +88,113 @@ module _ (count : ℕ) (g : Registers) (s : State) where
   }
 
   -- where just these are open
-  pub open-same : (xs zs : List Opened) → same_locals (map settled xs) zs ≡ true → Open count zs g s → Open count (map settled xs) g s
+  pub open-same : (xs zs : List Opened) → same_open (map settled xs) zs ≡ true → Open count zs g s → Open count (map settled xs) g s
   open-same xs zs e h = subst (λ ys. Open count ys g s) (same-settled xs zs e) (open-settled zs h)
+
+  -- a local of which nothing was told has no object
+  pub open-awaited : (r : Register) (o : Option ℕ) (xs : List Opened) → Open count xs g s → Open count (awaited r o xs) g s
+  open-awaited r None xs h = h
+  open-awaited r (Some i) xs h = by (is_listed i xs) refl
+    where
+      by : (b : Bool) → is_listed i xs ≡ b
+          → Open count (if b then xs else record { local = i; begun = None; has_value = false; stands = Some false; flag = Some r; is_told = false } ∷ xs) g s
+      by true e = h
+      by false e = record {
+        each = (
+          record {
+            way = false;
+            told = refl;
+            there = λ k. absurd (let j = k in cc);
+            over = λ k o lt l. h.over i o lt (open-listed i xs e) l;
+            begun = λ q k. absurd (let j = k in cc);
+            value = λ k. absurd (let j = k in cc);
+            flag = λ k. absurd (let j = k in cc);
+          },
+          h.each,
+        );
+        over = λ j o lt k l. h.over j o lt (neither ((i == j) && false) (is_open j xs) k).1 l;
+      }
+
+-- ---- where two ways part
+
+module _ (count : ℕ) (g : Registers) (s : State) (r : Register) (n : ℤ) (holds : g r ≡ Some (source.Number n)) where
+  -- of what goes by this register its number tells
+  by-number : (x : Opened) (h : IsOpen count x g s) → goes_by r x ≡ true → n ≡ flag_number h.way
+  by-number x h e =
+      let two = both (is_register x.flag r) (x.is_told && is_unknown x.stands) e in
+      let told = (both x.is_told (is_unknown x.stands) two.1).0 in
+      some-number (sym holds ∙ h.flag told r (its-register x.flag r two.0))
+
+  unknown : (x : Opened) → goes_by r x ≡ true → is_unknown x.stands ≡ true
+  unknown x e = (both x.is_told (is_unknown x.stands) (both (is_register x.flag r) (x.is_told && is_unknown x.stands) e).1).1
+
+  module _ (nonzero : is_nonzero n ≡ true) where
+    set-one : (x : Opened) → IsOpen count x g s → IsOpen count (stands_by r x) g s
+    set-one x h = by_test (goes_by r x) refl
+      where
+        by_test : (b : Bool) → goes_by r x ≡ b → IsOpen count (if b then record x { stands = Some true; flag = None; is_told = false } else x) g s
+        by_test false e = h
+        by_test true e =
+            let stands : h.way ≡ true = flag-set h.way (subst (λ m. is_nonzero m ≡ true) (by-number x h e) nonzero) in
+            record {
+              way = true;
+              told = refl;
+              there = λ k. h.there stands;
+              over = λ k. absurd (let j = k in cc);
+              begun = h.begun;
+              value = h.value;
+              flag = λ k. absurd (let j = k in cc);
+            }
+
+    all-set : (xs : List Opened) → AllOpen count xs g s → AllOpen count (where_set r xs) g s
+    all-set [] h = tt
+    all-set (x ∷ xs) h = (set-one x h.0, all-set xs h.1)
+
+    is_open-set : (i : ℕ) (xs : List Opened) → is_open i (where_set r xs) ≡ is_open i xs
+    is_open-set i [] = refl
+    is_open-set i (x ∷ xs) =
+        ap (λ b. b || is_open i (where_set r xs)) (by_test (goes_by r x) refl) ∙ ap (λ b. is_open_one i x || b) (is_open-set i xs)
+      where
+        by_test : (b : Bool) → goes_by r x ≡ b → is_open_one i (if b then record x { stands = Some true; flag = None; is_told = false } else x) ≡ is_open_one i x
+        by_test false e = refl
+        by_test true e = ap (λ b. (x.local == i) && not b) (sym (unknown-not-over x.stands (unknown x e)))
+
+    pub open-set : (xs : List Opened) → Open count xs g s → Open count (where_set r xs) g s
+    open-set xs h = record { each = all-set xs h.each; over = λ i o lt e l. h.over i o lt (sym (is_open-set i xs) ∙ e) l }
+
+  module _ (is_zero : is_nonzero n ≡ false) where
+    all-unset : (xs : List Opened) → AllOpen count xs g s → AllOpen count (where_unset r xs) g s
+    all-unset [] h = tt
+    all-unset (x ∷ xs) h = by_test (goes_by r x) (all-unset xs h.1)
+      where
+        by_test : (b : Bool) → AllOpen count (where_unset r xs) g s → AllOpen count (if not b then x ∷ where_unset r xs else where_unset r xs) g s
+        by_test true rest = rest
+        by_test false rest = (h.0, rest)
+
+    abbrev OverWhere : ℕ → ℕ → List Opened → Type 0
+    OverWhere i o xs = is_open i (where_unset r xs) ≡ false → (is_open i xs ≡ false → (s.object o).is_gone ≡ true) → (s.object o).is_gone ≡ true
+
+    -- what is no longer told of has no object
+    over-unset : (i o : ℕ) → i < count → s.frame.locals i ≡ Some o → (xs : List Opened) → AllOpen count xs g s → OverWhere i o xs
+    over-unset i o lt l [] h e over = over refl
+    over-unset i o lt l (x ∷ xs) h e over = by_test (λ none more. over-unset i o lt l xs h.1 none more) (goes_by r x) refl e
+      where
+        by_local : OverWhere i o xs → (b : Bool) → x.local == i ≡ b → goes_by r x ≡ true → is_open i (where_unset r xs) ≡ false → (s.object o).is_gone ≡ true
+        by_local again true k go none =
+            let none_there : h.0.way ≡ false = flag-unset h.0.way (subst (λ m. is_nonzero m ≡ false) (by-number x h.0 go) is_zero) in
+            subst (λ j. IsOver count j s) (same-number x.local i k) (h.0.over none_there) o lt l
+        by_local again false k go none =
+            again none
+            (λ rest. over (none-of (is_open_one i x) (is_open i xs) (ap (λ b. b && not (is_over x.stands)) k) rest))
+
+        by_test : OverWhere i o xs → (b : Bool) → goes_by r x ≡ b → is_open i (if not b then x ∷ where_unset r xs else where_unset r xs) ≡ false → (s.object o).is_gone ≡ true
+        by_test again true go none = by_local again (x.local == i) refl go none
+        by_test again false go none =
+            let two = neither (is_open_one i x) (is_open i (where_unset r xs)) none in
+            again two.1 (λ rest. over (none-of (is_open_one i x) (is_open i xs) two.0 rest))
+
+    pub open-unset : (xs : List Opened) → Open count xs g s → Open count (where_unset r xs) g s
+    open-unset xs h = record { each = all-unset xs h.each; over = λ i o lt e l. over-unset i o lt l xs h.each e (λ rest. h.over i o lt rest l) }
 
 -- ---- where two ways join
 
@@ -72,21 +216,53 @@ begun-right (Some p) (Some q) r e = by_test (p == q) refl e
     by_test true i k = ap (λ (x : Register). Some x) (sym (same-number p q i)) ∙ k
     by_test false i k = absurd (let x = k in cc)
 
-is_open-left : (i : ℕ) (xs ys : List Opened) → same_locals xs ys ≡ true → is_open i (both_opened xs ys) ≡ is_open i xs
-is_open-left i [] [] e = refl
-is_open-left i [] (y ∷ ys) e = absurd (let k = e in cc)
-is_open-left i (x ∷ xs) [] e = absurd (let k = e in cc)
-is_open-left i (x ∷ xs) (y ∷ ys) e =
-    let two = both (x.local == y.local) (same_locals xs ys) e in
-    ap (λ b. (x.local == i) || b) (is_open-left i xs ys two.1)
+stand-left : (a b : Option Bool) (w : Bool) → IsTold a w → IsTold (same_stand a b) w
+stand-left (Some true) (Some true) w h = h
+stand-left (Some false) (Some false) w h = h
+stand-left a b w h = tt
 
-is_open-right : (i : ℕ) (xs ys : List Opened) → same_locals xs ys ≡ true → is_open i (both_opened xs ys) ≡ is_open i ys
-is_open-right i [] [] e = refl
-is_open-right i [] (y ∷ ys) e = absurd (let k = e in cc)
-is_open-right i (x ∷ xs) [] e = absurd (let k = e in cc)
-is_open-right i (x ∷ xs) (y ∷ ys) e =
+stand-right : (a b : Option Bool) (w : Bool) → IsTold b w → IsTold (same_stand a b) w
+stand-right (Some true) (Some true) w h = h
+stand-right (Some false) (Some false) w h = h
+stand-right a b w h = tt
+
+over-left : (c : Bool) (a b : Option Bool) → (c && not (is_over (same_stand a b))) ≡ false → (c && not (is_over a)) ≡ false
+over-left false a b e = refl
+over-left true (Some false) b e = refl
+over-left true (Some true) (Some true) e = absurd (let k = e in cc)
+over-left true (Some true) (Some false) e = absurd (let k = e in cc)
+over-left true (Some true) None e = absurd (let k = e in cc)
+over-left true None b e = absurd (let k = e in cc)
+
+over-right : (c : Bool) (a b : Option Bool) → (c && not (is_over (same_stand a b))) ≡ false → (c && not (is_over b)) ≡ false
+over-right false a b e = refl
+over-right true a (Some false) e = refl
+over-right true (Some true) (Some true) e = absurd (let k = e in cc)
+over-right true (Some false) (Some true) e = absurd (let k = e in cc)
+over-right true None (Some true) e = absurd (let k = e in cc)
+over-right true (Some true) None e = absurd (let k = e in cc)
+over-right true (Some false) None e = absurd (let k = e in cc)
+over-right true None None e = absurd (let k = e in cc)
+
+closed-left : (i : ℕ) (xs ys : List Opened) → same_locals xs ys ≡ true → is_open i (both_opened xs ys) ≡ false → is_open i xs ≡ false
+closed-left i [] [] e k = refl
+closed-left i [] (y ∷ ys) e k = absurd (let j = e in cc)
+closed-left i (x ∷ xs) [] e k = absurd (let j = e in cc)
+closed-left i (x ∷ xs) (y ∷ ys) e k =
     let two = both (x.local == y.local) (same_locals xs ys) e in
-    ap (λ b. (x.local == i) || b) (is_open-right i xs ys two.1) ∙ ap (λ j. (j == i) || is_open i ys) (same-number x.local y.local two.0)
+    let none = neither (is_open_one i (both_one x y)) (is_open i (both_opened xs ys)) k in
+    none-of (is_open_one i x) (is_open i xs) (over-left (x.local == i) x.stands y.stands none.0) (closed-left i xs ys two.1 none.1)
+
+closed-right : (i : ℕ) (xs ys : List Opened) → same_locals xs ys ≡ true → is_open i (both_opened xs ys) ≡ false → is_open i ys ≡ false
+closed-right i [] [] e k = refl
+closed-right i [] (y ∷ ys) e k = absurd (let j = e in cc)
+closed-right i (x ∷ xs) [] e k = absurd (let j = e in cc)
+closed-right i (x ∷ xs) (y ∷ ys) e k =
+    let two = both (x.local == y.local) (same_locals xs ys) e in
+    let none = neither (is_open_one i (both_one x y)) (is_open i (both_opened xs ys)) k in
+    none-of (is_open_one i y) (is_open i ys)
+    (ap (λ j. (j == i) && not (is_over y.stands)) (sym (same-number x.local y.local two.0)) ∙ over-right (x.local == i) x.stands y.stands none.0)
+    (closed-right i xs ys two.1 none.1)
 
 module _ (count : ℕ) (g : Registers) (s : State) where
   all-left : (xs ys : List Opened) → same_locals xs ys ≡ true → AllOpen count xs g s → AllOpen count (both_opened xs ys) g s
@@ -97,12 +273,13 @@ module _ (count : ℕ) (g : Registers) (s : State) where
       let two = both (x.local == y.local) (same_locals xs ys) e in
       let one = h.0 in (
         record {
-          below = one.below;
-          object = one.object;
+          way = one.way;
+          told = stand-left x.stands y.stands one.way one.told;
           there = one.there;
-          stands = one.stands;
+          over = one.over;
           begun = λ r k. one.begun r (begun-left x.begun y.begun r k);
           value = λ v. one.value (both x.has_value y.has_value v).0;
+          flag = λ t r k. one.flag (both x.is_told y.is_told t).0 r (begun-left x.flag y.flag r k);
         },
         all-left xs ys two.1 h.1,
       )
@@ -113,15 +290,16 @@ module _ (count : ℕ) (g : Registers) (s : State) where
   all-right (x ∷ xs) [] e h = absurd (let k = e in cc)
   all-right (x ∷ xs) (y ∷ ys) e h =
       let two = both (x.local == y.local) (same_locals xs ys) e in
-      let same : x.local ≡ y.local = same-number x.local y.local two.0 in
+      let same : y.local ≡ x.local = sym (same-number x.local y.local two.0) in
       let one = h.0 in (
         record {
-          below = subst (λ i. i < count) (sym same) one.below;
-          object = one.object;
-          there = ap s.frame.locals same ∙ one.there;
-          stands = one.stands;
-          begun = λ r k. one.begun r (begun-right x.begun y.begun r k);
-          value = λ v. one.value (both x.has_value y.has_value v).1;
+          way = one.way;
+          told = stand-right x.stands y.stands one.way one.told;
+          there = λ k. subst (λ i. Stands count i s) same (one.there k);
+          over = λ k. subst (λ i. IsOver count i s) same (one.over k);
+          begun = λ r k. subst (λ i. Begun count i r g s) same (one.begun r (begun-right x.begun y.begun r k));
+          value = λ v. subst (λ i. Valued count i s) same (one.value (both x.has_value y.has_value v).1);
+          flag = λ t r k. one.flag (both x.is_told y.is_told t).1 r (begun-right x.flag y.flag r k);
         },
         all-right xs ys two.1 h.1,
       )
@@ -129,11 +307,11 @@ module _ (count : ℕ) (g : Registers) (s : State) where
   pub open-left : (xs ys : List Opened) → same_locals xs ys ≡ true → Open count xs g s → Open count (both_opened xs ys) g s
   open-left xs ys e h = record {
     each = all-left xs ys e h.each;
-    over = λ i o lt k l. h.over i o lt (sym (is_open-left i xs ys e) ∙ k) l;
+    over = λ i o lt k l. h.over i o lt (closed-left i xs ys e k) l;
   }
 
   pub open-right : (xs ys : List Opened) → same_locals xs ys ≡ true → Open count ys g s → Open count (both_opened xs ys) g s
   open-right xs ys e h = record {
     each = all-right xs ys e h.each;
-    over = λ i o lt k l. h.over i o lt (sym (is_open-right i xs ys e) ∙ k) l;
+    over = λ i o lt k l. h.over i o lt (closed-right i xs ys e k) l;
   }

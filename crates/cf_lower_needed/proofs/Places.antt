@@ -7,7 +7,7 @@ use Rattle.cf_core.specs.Types.{SourceType}
 use Rattle.cf_plain.specs.Plain.{Register, Plain, Plains, branch, switch, parts, nothing, more}
 use Rattle.cf_plain_kept.specs.Kept as plain
 use Rattle.cf_lower.specs.Kept.{Kept, integer_of, Keeping, Locals, after}
-use Rattle.cf_lower_kept.specs.Opened.{Opened, Where, falls, away, wrong, Ways, only_if, settled, comes_to, keeping_or, declared_at, stands_before, opens, all_open, from_label}
+use Rattle.cf_lower_kept.specs.Opened.{Opened, Where, falls, away, wrong, Ways, only_if, settled, comes_to, keeping_or, declared_at, stands_before, prepared, opens, all_open, from_label}
 use Rattle.cf_lower_kept.specs.Ready.{ready, all_ready}
 use Rattle.cf_lower_kept.specs.Told.{AllTold, AllToldIf, builds_none, none_builds}
 use Rattle.cf_lower_kept.proofs.Statements.{statement-told}
@@ -86,7 +86,7 @@ module _ (locals : List SourceType) (result : SourceType) where
   not-true false e = refl
 
   pub next-open : (s : Plain) (ss : Plains) (g : plain.Keeping) (w : Ways) (xs : List Opened) → stands_alone s ss ≡ true
-      → all_open locals result (more s ss) g w xs ≡ then_open (opens locals result s g w xs) ss (keeping_or (plain.after locals result s g)) w
+      → all_open locals result (more s ss) g w xs ≡ then_open (opens locals result s g w (prepared s ss xs)) ss (keeping_or (plain.after locals result s g)) w
   next-open (switch q ss) (more (switch r ts) rest) g w xs e =
       let ys = map settled xs in
       let inside : Ways = record { breaks = Some ys; continues = w.continues; labels = declared_at ss ys } in

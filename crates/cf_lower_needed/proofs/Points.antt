@@ -5,7 +5,7 @@ use Rattle.cf_core.specs.Types.{type_eq}
 use Rattle.cf_lower_layout.specs.Sorts.{Sort, number, address, code}
 use Rattle.cf_base.specs.declared.kind.Kind.TheVariants.{Int}
 use Rattle.cf_lower.specs.Kept.{Kept, unknown, integer_of, holds, argument, Keeping, local_kept, same_kept, both_kept, common}
-use Rattle.cf_lower_kept.specs.Opened.{Opened, settled, same_locals, both_opened, Where, falls, away, wrong, joined, comes_to}
+use Rattle.cf_lower_kept.specs.Opened.{Opened, settled, same_locals, same_open, both_opened, Where, falls, away, wrong, joined, comes_to}
 use Rattle.cf_lower_kept.specs.Told.{TellsLess}
 use Rattle.cf_lower_leaves.proofs.Narrowing.{narrows}
 use Rattle.cf_lower_steps.proofs.Branches.{common-left, common-right}
@@ -77,7 +77,7 @@ module _ (z : Scene) where
       lies-within z (point_at h xs) (point_at k (map settled xs))
       (record { registers = narrows (fixed_in z) z.body h k less; standing = λ g s o. open-settled (local_count z) g s xs o })
 
-  pub to-same : (h k : Keeping) (xs zs : List Opened) → same_locals (map settled xs) zs ≡ true → TellsLess h k
+  pub to-same : (h k : Keeping) (xs zs : List Opened) → same_open (map settled xs) zs ≡ true → TellsLess h k
       → LiesWithin z (point_at h zs) (point_at k (map settled xs))
   to-same h k xs zs e less =
       lies-within z (point_at h zs) (point_at k (map settled xs))

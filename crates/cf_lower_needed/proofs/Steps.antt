@@ -1,17 +1,17 @@
 -- One statement of several where control comes: it falls to what is open behind it, or control does not come behind it. And labels.
 use Rattle.std.proofs.Common.{◌≡◌, ℕ, Bool, true, false, List, [], ◌∷◌, refl, sym, ◌∙◌, ap, subst}
 use Rattle.std.specs.Prelude.{map, ℤ, Option, Some, None}
-use Rattle.cf_plain.specs.Plain.{Plain, Plains}
+use Rattle.cf_plain.specs.Plain.{number, Plain, Plains, set}
 use Rattle.cf_plain_kept.specs.Kept as plain
 use Rattle.cf_lower.specs.Kept.{Keeping, after}
-use Rattle.cf_lower_kept.specs.Opened.{Opened, Where, falls, away, wrong, Ways, only_if, is_at, settled, same_locals, comes_to, all_open}
+use Rattle.cf_lower_kept.specs.Opened.{Opened, Where, falls, away, wrong, Ways, only_if, is_at, settled, same_open, comes_to, ended_by, prepared, all_open}
 use Rattle.cf_lower_kept.specs.Told.{TellsLess}
 use Rattle.cf_lower_turns.specs.Around.{Around}
 use Rattle.cf_lower_turns.specs.Scene.{Scene}
-use Rattle.cf_lower_bounds.specs.Points.{Point, point_at, point_never}
+use Rattle.cf_lower_bounds.specs.Points.{Point, point_at, point_never, local_count}
 use Rattle.cf_lower_bounds.specs.Bounds.{LiesWithin}
 use Rattle.cf_lower_needed.specs.Leading.{point_of, is_right}
-use Rattle.cf_lower_needed.proofs.Opens.{same-settled}
+use Rattle.cf_lower_needed.proofs.Opens.{same-settled, open-awaited}
 use Rattle.cf_lower_needed.proofs.Points.{from-never, to-same}
 use Rattle.cf_lower_needed.proofs.Places.{then_open}
 use Rattle.cf_lower_needed.proofs.Around.{StatementNeeds, ItemsNeed, Through}
@@ -42,6 +42,13 @@ abbrev pub ways_in : List Opened → Option (List Opened) → (Option ℤ → Op
 ways_in ys continues labels = record { breaks = Some ys; continues = continues; labels = labels }
 
 module _ (z : Scene) (n : ℕ) (around : Around Point) where
+  -- what a statement needs where a local with a flag is told of as one that has no object, it needs where nothing is told of that local
+  pub from-prepared : (s : Plain) (ss : Plains) (h : Keeping) (xs : List Opened) (q : Point) → StatementNeeds z n s around (point_at h (prepared s ss xs)) q
+      → StatementNeeds z n s around (point_at h xs) q
+  from-prepared (set r (number y)) ss h xs q needs = λ k le g s t w at input.
+      needs k le g s t w (record { here = at.here; frame = at.frame; standing = open-awaited (local_count z) g s r (ended_by r ss) xs at.standing }) input
+  from-prepared s ss h xs q needs = needs
+
   -- what the statement needs, and what is behind it
   pub through : (s : Plain) (h : Keeping) (xs : List Opened) (o : Where) (Rest : Point → Type 0)
       → StatementNeeds z n s around (point_at h xs) (point_of (after z.inside.locals s h) o) → is_right o ≡ true
@@ -62,15 +69,15 @@ module _ (z : Scene) (n : ℕ) (around : Around Point) where
         → comes_to ys (then_open z.inside.locals.types z.inside.result (only_if (is_at o xs) (falls (map settled xs))) ss plain.nothing_set w) ≡ true
         → LiesWithin z (point_at h xs) (points l) × ItemsNeed z n ss around points (points l) q
     label-step xs less None there e = absurd (let i = e in cc)
-    label-step xs less (Some zs) there e = by (same_locals zs xs) refl e
+    label-step xs less (Some zs) there e = by (same_open zs xs) refl e
       where
-        by : (t : Bool) → same_locals zs xs ≡ t
+        by : (t : Bool) → same_open zs xs ≡ t
             → comes_to ys (then_open z.inside.locals.types z.inside.result (only_if t (falls (map settled xs))) ss plain.nothing_set w) ≡ true
             → LiesWithin z (point_at h xs) (points l) × ItemsNeed z n ss around points (points l) q
         by false same i = absurd (let j = i in cc)
         by true same i =
             let itself = at.settled_there l zs there in
-            let same_settled = ap (λ us. same_locals us xs) itself ∙ same in
+            let same_settled = ap (λ us. same_open us xs) itself ∙ same in
             let opened = same-settled zs xs same_settled ∙ itself in
             let is = at.is l zs there in (
               subst (λ p. LiesWithin z (point_at h xs) p) (sym is)

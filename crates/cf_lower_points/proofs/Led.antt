@@ -1,6 +1,6 @@
 -- Where plain statements that are no control lead to: what they make of the frame, and which locals stand behind them.
 use Rattle.std.proofs.Common.{◌≡◌, ℕ, zero, suc, ◌<◌, nat_lt, Bool, true, false, ◌&&◌, ◌||◌, ◌==◌, not, if◌then◌else◌, List, [], ◌∷◌, refl, sym, ◌∙◌, ap, subst, arith}
-use Rattle.std.specs.Prelude.{Option, Some, None}
+use Rattle.std.specs.Prelude.{ℤ, Option, Some, None, map}
 use Rattle.std.proofs.lemmas.Bool.Decides.{nat_tests}
 use Rattle.cf_base.proofs.Tests.{both}
 use Rattle.cf_base.specs.World.{World, Ran, Went, Stops, and_then}
@@ -22,16 +22,15 @@ use Rattle.cf_plain_frames.specs.Since.{HasValue, Always}
 use Rattle.cf_plain_frames.proofs.Values.{keeps-used_in}
 use Rattle.cf_plain_kept.specs.Kept as told
 use Rattle.cf_lower.specs.Kept.{Keeping}
-use Rattle.cf_lower_kept.specs.Opened.{Opened, is_open, closed, object_kept, action_opens, opened_by, valued_in, set_in}
+use Rattle.cf_lower_kept.specs.Opened.{Opened, closed, declared_among, told_by, object_kept, action_opens, opened_by, valued_in, set_in}
 use Rattle.cf_lower_turns.specs.Scene.{Scene}
 use Rattle.cf_lower_actions.specs.Leaf.{may_set, may_do, is_leaf}
 use Rattle.cf_lower_actions.specs.Leaf as leaf
 use Rattle.cf_lower_bounds.specs.Points.{Standing, never, these, Open, StandsAs, InFrame, local_count}
 use Rattle.cf_lower_points.specs.Leading.{leads_on, standing_behind}
-use Rattle.cf_lower_points.proofs.Before.{begun-as, not-true, declared-below}
-use Rattle.cf_lower_bounds.proofs.Lists.{is_open-set}
+use Rattle.cf_lower_points.proofs.Before.{begun-as, declared-below}
 use Rattle.cf_lower_points.proofs.Quiet.{is_quiet, quiet-opens}
-use Rattle.cf_lower_points.proofs.Standing.{Bounded, begun-member, open-set, open-stays, open-valued, open-declared, frame-declared, open-finished, frame-finished, frame-stays}
+use Rattle.cf_lower_points.proofs.Standing.{Bounded, begun-member, open-set, open-told, open-stays, open-valued, open-declared, frame-declared, open-finished, frame-finished, frame-stays}
 use Rattle.cf_lower_points.proofs.Stays.{Stays, stays-itself, quiet-stays, keeps-first_value}
 
 -- ---- what a run gives
@@ -65,9 +64,6 @@ Behind z k (Falls g) s = InFrame z s × StandsAs (local_count z) k g s
 Behind z k (Returns v) s = InFrame z s × ((i o : ℕ) → i < local_count z → s.frame.locals i ≡ Some o → (s.object o).is_gone ≡ true)
 Behind z k (Breaks g) s = ⊥
 Behind z k (Continues g) s = ⊥
-
-some-object : {i j : ℕ} → Some i ≡ Some j → i ≡ j
-some-object e = cc
 
 some-register : {r q : Register} → Some r ≡ Some q → r ≡ q
 some-register e = cc
@@ -114,25 +110,39 @@ module _ (z : Scene) (again : Again) (gk : told.Keeping) (h : Keeping) (xs : Lis
         );
       })
 
+  -- ---- a number, which may be what a flag tells
+
+  number-act : (y : ℤ) → Given (Behind z (these xs)) (does_so (act (plain.number y)))
+  number-act y = record { by = (frame, open_here) }
+
+  number-set : (r : Register) (y : ℤ) → Given (Behind z (these (map (told_by r y) (set_in r xs)))) (does_so (set r (plain.number y)))
+  number-set r y = record {
+    by = (
+      frame,
+      open-told (local_count z) r y (keep g r (source.Number y)) s (set_in r xs) (kept-same g r (source.Number y))
+          (open-set (local_count z) r (source.Number y) g s xs open_here),
+    );
+  }
+
   -- ---- a declaration
 
-  module _ (i : ℕ) (t : SourceType) (lt : i < local_count z) (fresh : is_open i xs ≡ false) where
-    declare-act : (b : Bool) → Given (Behind z (these (record { local = i; begun = None; has_value = false } ∷ xs)))
+  module _ (i : ℕ) (t : SourceType) (lt : i < local_count z) where
+    declare-act : (b : Bool) → Given (Behind z (these (declared_among i None xs)))
         (((valid b >> (declared_object t >>= (λ o. frame_changed (lists_local i o) >> gives o))) >>= (λ o. gives (source.At (root o))) >> gives (Falls g)) s w)
     declare-act true = record {
       by = (
         frame-declared (local_count z) s i t bounded lt z frame statics,
-        open-declared (local_count z) s i t bounded lt g None xs fresh open_here (λ r e. absurd (let k = e in cc)),
+        open-declared (local_count z) s i t bounded lt g None xs open_here (λ r e. absurd (let k = e in cc)),
       );
     }
     declare-act false = record { by = tt }
 
-    declare-set : (r : Register) (b : Bool) → Given (Behind z (these (record { local = i; begun = Some r; has_value = false } ∷ set_in r xs)))
+    declare-set : (r : Register) (b : Bool) → Given (Behind z (these (declared_among i (Some r) (set_in r xs))))
         (((valid b >> (declared_object t >>= (λ o. frame_changed (lists_local i o) >> gives o))) >>= (λ o. gives (source.At (root o))) >>= (λ v. gives (Falls (keep g r v)))) s w)
     declare-set r true = record {
       by = (
         frame-declared (local_count z) s i t bounded lt z frame statics,
-        open-declared (local_count z) s i t bounded lt (keep g r (source.At (root s.next))) (Some r) (set_in r xs) (is_open-set r i xs ∙ fresh)
+        open-declared (local_count z) s i t bounded lt (keep g r (source.At (root s.next))) (Some r) (set_in r xs)
             (open-set (local_count z) r (source.At (root s.next)) g s xs open_here)
             (λ q e. ap (keep g r (source.At (root s.next))) (some-register (sym e)) ∙ kept-same g r (source.At (root s.next))),
       );
@@ -141,8 +151,8 @@ module _ (z : Scene) (again : Again) (gk : told.Keeping) (h : Keeping) (xs : Lis
 
   -- ---- a first value
 
-  module _ (p q : Register) (i o : ℕ) (t : SourceType) (local : gk p ≡ Some (told.an_object i t)) (there : s.frame.locals i ≡ Some o)
-      (place : g p ≡ Some (source.At (root o))) (lo : o < s.next) (no_built : g q ≡ Some source.Built → ⊥) where
+  module _ (p q : Register) (i o : ℕ) (t : SourceType) (local : gk p ≡ Some (told.an_object i t)) (below : i < local_count z) (there : s.frame.locals i ≡ Some o)
+      (live : (s.object o).is_gone ≡ false) (place : g p ≡ Some (source.At (root o))) (lo : o < s.next) (no_built : g q ≡ Some source.Built → ⊥) where
     abbrev Led : Flow → State → Type 0
     Led = Behind z (these (opened_by gk None (plain.first p q) xs))
 
@@ -160,7 +170,7 @@ module _ (z : Scene) (again : Again) (gk : told.Keeping) (h : Keeping) (xs : Lis
             frame-stays z s (record s { object = λ j. if j == o then hold [] (Some v) (s.object o) else s.object j }) st frame statics,
             subst (λ k. Open (local_count z) (valued_in (object_kept k) xs) g (record s { object = λ j. if j == o then hold [] (Some v) (s.object o) else s.object j })) (sym local)
                 (open-valued (local_count z) g (record s { object = λ j. if j == o then hold [] (Some v) (s.object o) else s.object j }) i
-                (λ j e. subst (λ k. HasValue (if k == o then hold [] (Some v) (s.object o) else s.object k)) (some-object (sym there ∙ e)) (held-now v)) xs
+                (record { one = record { below = below; object = o; there = there; stands = st.gone o lo ∙ live }; value = held-now v }) xs
                 (open-stays (local_count z) g s (record s { object = λ j. if j == o then hold [] (Some v) (s.object o) else s.object j }) st bounded xs open_here)),
           );
         }
@@ -225,11 +235,11 @@ module _ (z : Scene) (again : Again) (gk : told.Keeping) (h : Keeping) (xs : Lis
 
   act-led : (a : Action) → may_do z h a ≡ true → action_opens gk a xs ≡ true → LedBy (act a)
   act-led (plain.declare i t) l e =
-      declare-act i t (declared-below z i t l) (not-true (is_open i xs) e) (nat_lt i s.frame.count)
+      declare-act i t (declared-below z i t l) (nat_lt i s.frame.count)
   act-led (plain.first p q) l e =
       let x = begun-as (gk p) p xs e in
       let m = begun-member (local_count z) g s x.local p xs x.test open_here.each in
-      first-act p q x.local m.one.object x.type x.is m.one.there m.place (bounded x.local m.one.object m.one.below m.one.there) (built_none q p l)
+      first-act p q x.local m.one.object x.type x.is m.one.below m.one.there m.one.stands m.place (bounded x.local m.one.object m.one.below m.one.there) (built_none q p l)
   act-led (plain.finish t i) l e =
       let two = both (nat_lt i (local_count z)) (has_bytes t) l in
       finish-act i t (number-below i (local_count z) two.0) two.1
@@ -237,7 +247,7 @@ module _ (z : Scene) (again : Again) (gk : told.Keeping) (h : Keeping) (xs : Lis
   act-led (plain.store r q) l e = quiet-act (plain.store r q) refl
   act-led (plain.zeros r) l e = quiet-act (plain.zeros r) refl
   act-led (plain.bytes r b) l e = quiet-act (plain.bytes r b) refl
-  act-led (plain.number y) l e = quiet-act (plain.number y) refl
+  act-led (plain.number y) l e = number-act y
   act-led (plain.local i) l e = quiet-act (plain.local i) refl
   act-led (plain.static_object name t) l e = quiet-act (plain.static_object name t) refl
   act-led (plain.function name t) l e = quiet-act (plain.function name t) refl
@@ -256,9 +266,9 @@ module _ (z : Scene) (again : Again) (gk : told.Keeping) (h : Keeping) (xs : Lis
   act-led a l e = absurd (let k = l in cc)
 
   set-led : (r : Register) (a : Action) → may_set z h a ≡ true → action_opens gk a xs ≡ true → LedBy (set r a)
-  set-led r (plain.declare i t) l e = declare-set i t (declared-below z i t l) (not-true (is_open i xs) e) r (nat_lt i s.frame.count)
+  set-led r (plain.declare i t) l e = declare-set i t (declared-below z i t l) r (nat_lt i s.frame.count)
   set-led r (plain.text j b) l e = quiet-set r (plain.text j b) refl
-  set-led r (plain.number y) l e = quiet-set r (plain.number y) refl
+  set-led r (plain.number y) l e = number-set r y
   set-led r (plain.local i) l e = quiet-set r (plain.local i) refl
   set-led r (plain.static_object name t) l e = quiet-set r (plain.static_object name t) refl
   set-led r (plain.function name t) l e = quiet-set r (plain.function name t) refl

@@ -1,4 +1,4 @@
--- The actions that make and end no object of a local, and give none its first value.
+-- The actions that make and end no object of a local, give none its first value, and set no flag.
 use Rattle.std.proofs.Common.{◌≡◌, Bool, true, false, ◌&&◌, ◌||◌, List, refl}
 use Rattle.std.specs.Prelude.{Option}
 use Rattle.cf_plain.specs.Plain.{Register, Action, number, text, local, static_object, function, read, dereference, decay, index, convert, from_void, operate, unary, truth, logical_not, pointer_operate, changed, store, declare, first, zeros, bytes, finish, call, pointer_call}
@@ -6,7 +6,6 @@ use Rattle.cf_plain_kept.specs.Kept as plain
 use Rattle.cf_lower_kept.specs.Opened.{Opened, opened_by}
 
 abbrev pub is_quiet : Action → Bool
-is_quiet (number z) = true
 is_quiet (text j b) = true
 is_quiet (local i) = true
 is_quiet (static_object name t) = true
@@ -29,6 +28,7 @@ is_quiet (bytes r b) = true
 is_quiet a = false
 
 pub quiet-opens : (g : plain.Keeping) (r : Option Register) (a : Action) (xs : List Opened) → is_quiet a ≡ true → opened_by g r a xs ≡ xs
+quiet-opens g r (number z) xs h = absurd (let k = h in cc)
 quiet-opens g r (declare i t) xs h = absurd (let k = h in cc)
 quiet-opens g r (first p q) xs h = absurd (let k = h in cc)
 quiet-opens g r (finish t i) xs h = absurd (let k = h in cc)

@@ -8,7 +8,7 @@ use Rattle.cf_plain.specs.Plain as plain
 use Rattle.cf_plain.specs.Plain.{Plain, Plains, act, set, give, nothing, more}
 use Rattle.cf_plain_kept.specs.Kept as told
 use Rattle.cf_lower.specs.Kept.{Keeping, Locals, nothing_kept, after}
-use Rattle.cf_lower_kept.specs.Opened.{Opened, keeping_or}
+use Rattle.cf_lower_kept.specs.Opened.{Opened, open_one, keeping_or}
 use Rattle.cf_lower_kept.specs.Told.{AllTold}
 use Rattle.cf_lower_kept.proofs.Statements.{statement-told}
 use Rattle.cf_lower_turns.specs.Around.{Around, function}
@@ -109,13 +109,13 @@ module _ (z : Scene) (fits : Fits (small_scene z)) (n : ℕ) where
 
   -- the local as it is declared, and once it has its value
   abbrev begun : Opened
-  begun = record { local = 0; begun = Some 0; has_value = false }
+  begun = open_one 0 (Some 0) false
 
   abbrev valued : Opened
-  valued = record { local = 0; begun = Some 0; has_value = true }
+  valued = open_one 0 (Some 0) true
 
   abbrev later : Opened
-  later = record { local = 0; begun = None; has_value = true }
+  later = open_one 0 None true
 
   one : Leads told.nothing_set nothing_kept first_statement []
   one = leads-on (small_scene z) fits here told.nothing_set nothing_kept [] (λ r. tt) first_statement refl refl n

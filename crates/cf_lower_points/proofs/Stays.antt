@@ -121,7 +121,6 @@ module _ (e : State) where
         keeps-then Q (held g r >>= truth_of) (λ b. gives (go b)) (keeps-then Q (held g r) truth_of (keeps-held Q g r) (keeps-truth Q)) (λ b. keeps-gives Q (go b))
 
     pub quiet-stays : (a : Action) → is_quiet a ≡ true → Keeps Q (acts (calls again) P g a)
-    quiet-stays (plain.number z) h = keeps-gives Q (Number z)
     quiet-stays (plain.text j b) h = keeps-then Q (literal_object j b) (λ o. gives (At (root o))) (keeps-literal j b) (λ o. keeps-gives Q (At (root o)))
     quiet-stays (plain.local i) h = keeps-then Q (local_place i) (followed P.classes) (keeps-local Q i) (keeps-followed Q P.classes)
     quiet-stays (plain.static_object name t) h =

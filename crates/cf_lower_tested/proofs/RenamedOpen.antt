@@ -3,12 +3,12 @@ use Rattle.std.proofs.Common.{◌≡◌, true, false, ◌&&◌, ◌||◌, not, �
 use Rattle.std.specs.Prelude.{map, ℤ, int_le, Option, Some, None}
 use Rattle.std.proofs.Math.Path.{fun_ext}
 use Rattle.cf_core.specs.Types.{Name, SourceType}
-use Rattle.cf_plain.specs.Plain.{Register, Action, declare, call, Plain, Plains, act, set, branch, loop, switch, case_label, default_label, leave, nothing, more}
+use Rattle.cf_plain.specs.Plain.{Register, Action, number, declare, finish, call, Plain, Plains, act, set, branch, loop, switch, case_label, default_label, leave, nothing, more}
 use Rattle.cf_plain.specs.Joined.{renamed_action, renamed, renamed_all}
 use Rattle.cf_plain.specs.Running.{has_case}
 use Rattle.cf_plain.specs.Valid.{has_default, labels_differ}
 use Rattle.cf_plain_kept.specs.Kept.{Keeping, nothing_set, after}
-use Rattle.cf_lower_kept.specs.Opened.{Opened, is_open, settled, action_opens, opened_by, Where, falls, away, wrong, joined, comes_to, only_if, set_in, keeping_or, Ways, no_label, is_the_label, declared, declared_at, stands_before, opens, all_open, from_label}
+use Rattle.cf_lower_kept.specs.Opened.{Opened, open_one, is_listed, settled, where_set, where_unset, ended_in, or_behind, ended_by, awaited, prepared, action_opens, opened_by, Where, falls, away, wrong, joined, comes_to, only_if, set_in, keeping_or, Ways, no_label, is_the_label, declared, declared_at, stands_before, opens, all_open, from_label}
 use Rattle.cf_lower_needed.proofs.Labels.{choose, if-true, alone-or}
 use Rattle.cf_lower_needed.proofs.Places.{stands_alone, ways_behind, then_open, next-open}
 use Rattle.cf_lower_tested.proofs.RenamedTold.{after-same}
@@ -41,8 +41,7 @@ module _ (r : Name → Name) where
   label-same (Some n) s = refl
 
   declared-same : (ss : Plains) (xs : List Opened) → declared (renamed_all r ss) xs ≡ declared ss xs
-  declared-same (more (act (declare i t)) ss) xs =
-      ap (λ o. if is_open i xs then None else o) (declared-same ss (record { local = i; begun = None; has_value = false } ∷ xs))
+  declared-same (more (act (declare i t)) ss) xs = ap (λ o. if is_listed i xs then None else o) (declared-same ss (open_one i None false ∷ xs))
   declared-same (more leave ss) xs = refl
   declared-same ss xs = refl
 
@@ -66,6 +65,21 @@ module _ (r : Name → Name) where
   before-same (more (act (declare i t)) ss) ts = before-same ss ts
   before-same (more leave ss) ts = before-same ss ts
   before-same (more s ss) ts = refl
+
+  -- ---- flags
+
+  ended-in-same : (q : Register) (s : Plain) → ended_in q (renamed r s) ≡ ended_in q s
+  ended-in-same q (branch p (more (act (finish t i)) nothing) nothing) = refl
+  ended-in-same q s = refl
+
+  ended-by-same : (q : Register) (ss : Plains) → ended_by q (renamed_all r ss) ≡ ended_by q ss
+  ended-by-same q nothing = refl
+  ended-by-same q (more (set p a) ss) = ap (λ o. if p == q then None else o) (ended-by-same q ss)
+  ended-by-same q (more s ss) = ap (λ o. or_behind o (ended_by q (renamed_all r ss))) (ended-in-same q s) ∙ ap (or_behind (ended_in q s)) (ended-by-same q ss)
+
+  prepared-same : (s : Plain) (ss : Plains) (xs : List Opened) → prepared (renamed r s) (renamed_all r ss) xs ≡ prepared s ss xs
+  prepared-same (set q (number z)) ss xs = ap (λ o. awaited q o xs) (ended-by-same q ss)
+  prepared-same s ss xs = refl
 
   -- ---- statements
 
@@ -103,14 +117,15 @@ module _ (r : Name → Name) where
     then-same (falls ys) ss g w dead live = live ys
 
     step-same : (s : Plain) (ss : Plains) (g : Keeping) (w : Ways) (xs : List Opened) → stands_alone (renamed r s) (renamed_all r ss) ≡ true → stands_alone s ss ≡ true
-        → opens T R (renamed r s) g w xs ≡ opens T R s g w xs → (from_label T R (renamed_all r ss) w ≡ from_label T R ss w)
+        → ((zs : List Opened) → opens T R (renamed r s) g w zs ≡ opens T R s g w zs) → (from_label T R (renamed_all r ss) w ≡ from_label T R ss w)
         → ((k : Keeping) (ys : List Opened) → all_open T R (renamed_all r ss) k w ys ≡ all_open T R ss k w ys)
         → all_open T R (more (renamed r s) (renamed_all r ss)) g w xs ≡ all_open T R (more s ss) g w xs
     step-same s ss g w xs one two first dead live =
         next-open T R (renamed r s) (renamed_all r ss) g w xs one
-        ∙ ap (λ o. then_open T R o (renamed_all r ss) (keeping_or (after T R (renamed r s) g)) w) first
-        ∙ ap (λ o. then_open T R (opens T R s g w xs) (renamed_all r ss) (keeping_or o) w) (after-same r T R s g)
-        ∙ then-same (opens T R s g w xs) ss (keeping_or (after T R s g)) w dead (λ ys. live (keeping_or (after T R s g)) ys)
+        ∙ ap (λ zs. then_open T R (opens T R (renamed r s) g w zs) (renamed_all r ss) (keeping_or (after T R (renamed r s) g)) w) (prepared-same s ss xs)
+        ∙ ap (λ o. then_open T R o (renamed_all r ss) (keeping_or (after T R (renamed r s) g)) w) (first (prepared s ss xs))
+        ∙ ap (λ o. then_open T R (opens T R s g w (prepared s ss xs)) (renamed_all r ss) (keeping_or o) w) (after-same r T R s g)
+        ∙ then-same (opens T R s g w (prepared s ss xs)) ss (keeping_or (after T R s g)) w dead (λ ys. live (keeping_or (after T R s g)) ys)
         ∙ sym (next-open T R s ss g w xs two)
 
     label-there-same : (o : Option (List Opened)) (ss : Plains) (w : Ways) → ((ys : List Opened) → all_open T R (renamed_all r ss) nothing_set w ys ≡ all_open T R ss nothing_set w ys)
@@ -128,7 +143,8 @@ module _ (r : Name → Name) where
           ap (λ b. only_if b (falls (opened_by g (Some q) (renamed_action r a) (set_in q xs)))) (action-opens-same g a xs)
           ∙ ap (λ ys. only_if (action_opens g a xs) (falls ys)) (opened-by-same g (Some q) a (set_in q xs))
       opens-same (branch q ss ts) g w xs =
-          ap (λ o. joined o (all_open T R (renamed_all r ts) g w xs)) (all-open-same ss g w xs) ∙ ap (λ o. joined (all_open T R ss g w xs) o) (all-open-same ts g w xs)
+          ap (λ o. joined o (all_open T R (renamed_all r ts) g w (where_unset q xs))) (all-open-same ss g w (where_set q xs))
+          ∙ ap (λ o. joined (all_open T R ss g w (where_set q xs)) o) (all-open-same ts g w (where_unset q xs))
       opens-same (loop ss ts) g w xs =
           let ys = map settled xs in
           let turn : Ways = record { breaks = Some ys; continues = Some ys; labels = no_label } in
@@ -161,9 +177,9 @@ module _ (r : Name → Name) where
           (λ k.
           step-same (switch q ss) (more (switch p ts) rest) g w xs
           (alone-or q p (renamed_all r ss) (renamed_all r ts) (renamed_all r rest) (ap (λ b. (q == p) && b) (before-same ss ts) ∙ k)) (alone-or q p ss ts rest k)
-          (opens-same (switch q ss) g w xs) (from-label-same (more (switch p ts) rest) w) (λ h ys. all-open-same (more (switch p ts) rest) h w ys))
+          (λ zs. opens-same (switch q ss) g w zs) (from-label-same (more (switch p ts) rest) w) (λ h ys. all-open-same (more (switch p ts) rest) h w ys))
       all-open-same (more s ss) g w xs =
-          step-same s ss g w xs refl refl (opens-same s g w xs) (from-label-same ss w) (λ h ys. all-open-same ss h w ys)
+          step-same s ss g w xs refl refl (λ zs. opens-same s g w zs) (from-label-same ss w) (λ h ys. all-open-same ss h w ys)
 
       from-label-same : (ss : Plains) (w : Ways) → from_label T R (renamed_all r ss) w ≡ from_label T R ss w
       from-label-same nothing w = refl

@@ -41,7 +41,7 @@ use Rattle.cf_lower_turns.proofs.Following.{sim-as, sim-of}
 use Rattle.cf_lower_calls.specs.Returns.Called.{Programs, fixed, Entry, ComesBack, FunctionsAlike}
 use Rattle.cf_lower_calls.proofs.FramesLaws.Begin.{here-first, among-number, there-at}
 use Rattle.cf_lower_calls.proofs.InvokedLaws.Entry.{typed-count, entered-at}
-use Rattle.cf_lower_bounds.specs.Points.{Point, point_at, IsOpen, InFrame, local_count, At}
+use Rattle.cf_lower_bounds.specs.Points.{Point, point_at, Stands, IsOpen, InFrame, local_count, At}
 use Rattle.cf_lower_bounds.specs.Bounds.{EndsAt}
 use Rattle.cf_lower_bounds.proofs.Turns.{statements-to}
 use Rattle.cf_lower_bounds.proofs.Written.{then-then}
@@ -129,13 +129,20 @@ module _ (B : Programs) (none : B.program.classes ≡ []) (simple : functions_si
       let at = there-at os j lo in
       let among = among-number os j at.object at.is in
       let live = shown-stands (E.stage at.object) (entered-at E os first.next entry.stand at.object among).0 in
-      record {
+      let one : Stands (local_count z) j s1 = record {
         below = let a = entry.count in let b = x.frame.locals.few in omega (arith, a, b, lo);
         object = at.object;
         there = at.is;
         stands = entry.rel.gone at.object (entry.known at.object among) ∙ live;
+      } in
+      record {
+        way = true;
+        told = refl;
+        there = λ e. one;
+        over = λ e. absurd (let k = e in cc);
         begun = λ r e. absurd (let k = e in cc);
-        value = λ e. entry.valued at.object among;
+        value = λ e. record { one = one; value = entry.valued at.object among };
+        flag = λ e. absurd (let k = e in cc);
       }
 
   frame-first : InFrame z s1

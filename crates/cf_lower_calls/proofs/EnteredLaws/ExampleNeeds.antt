@@ -19,7 +19,7 @@ use Rattle.cc_whole_mean.specs.Flow.{born_arguments}
 use Rattle.cf_lower.specs.Kept.{Keeping, Locals, nothing_kept, after}
 use Rattle.cf_lower.specs.Functions.{locals_of}
 use Rattle.cf_lower.specs.Written.{c_type}
-use Rattle.cf_lower_kept.specs.Opened.{Opened, keeping_or}
+use Rattle.cf_lower_kept.specs.Opened.{Opened, open_one, keeping_or}
 use Rattle.cf_lower_kept.specs.Told.{AllTold}
 use Rattle.cf_lower_kept.proofs.Statements.{statement-told}
 use Rattle.cf_lower_relate.specs.Map.{Map}
@@ -47,7 +47,7 @@ abbrev around : Around Point
 around = function
 
 abbrev valued : Opened
-valued = record { local = 0; begun = None; has_value = true }
+valued = open_one 0 None true
 
 module _ (n : ℕ) (alike : (i : ℕ) → i ≤ n → FunctionsAlike B i) (E : Map) (s : State) (first : Memory) (os : List ℕ) (cs : List Value) (depth : ℕ) where
   module _ (entry : Entry B (header g) E s first os cs) where
@@ -139,10 +139,10 @@ module _ (n : ℕ) (alike : (i : ℕ) → i ≤ n → FunctionsAlike B i) (E : M
     tells2 = statement-told lf int s2 k1 h1 tells1 refl
 
     abbrev begun : Opened
-    begun = record { local = 0; begun = Some 0; has_value = false }
+    begun = open_one 0 (Some 0) false
 
     abbrev passed : Opened
-    passed = record { local = 0; begun = Some 0; has_value = true }
+    passed = open_one 0 (Some 0) true
 
     some-sort : {a b : Sort} → Some a ≡ Some b → a ≡ b
     some-sort e = cc
@@ -271,16 +271,16 @@ module _ (n : ℕ) (alike : (i : ℕ) → i ≤ n → FunctionsAlike B i) (E : M
     k-tells8 = statement-told lk int u8 t7 p7 k-tells7 refl
 
     abbrev begun1 : Opened
-    begun1 = record { local = 1; begun = Some 0; has_value = false }
+    begun1 = open_one 1 (Some 0) false
 
     abbrev passed1 : Opened
-    passed1 = record { local = 1; begun = Some 0; has_value = true }
+    passed1 = open_one 1 (Some 0) true
 
     abbrev begun2 : Opened
-    begun2 = record { local = 2; begun = Some 1; has_value = false }
+    begun2 = open_one 2 (Some 1) false
 
     abbrev passed2 : Opened
-    passed2 = record { local = 2; begun = Some 1; has_value = true }
+    passed2 = open_one 2 (Some 1) true
 
     int-local : HasLocal zk ty.Int
     int-local = record { block = (born_arguments cs first).next + (results_from k + 0); is = refl }

@@ -10,8 +10,8 @@ use Rattle.cf_lower_layout.specs.Sorts.{sort_of}
 use Rattle.cf_plain.specs.Acts.{Registers}
 use Rattle.cf_plain_frames.specs.Since.{is_among}
 use Rattle.cf_lower.specs.Kept.{Locals, type_of_local, is_argument}
-use Rattle.cf_lower_kept.specs.Opened.{Opened, is_local, has_its_value}
-use Rattle.cf_lower_points.specs.BoundsPoints.{IsOpen, AllOpen}
+use Rattle.cf_lower_kept.specs.Opened.{Opened, is_local, is_over, is_open_one, has_its_value}
+use Rattle.cf_lower_points.specs.BoundsPoints.{Valued, AllOpen}
 use Rattle.cf_lower_calls.specs.Arguments.Passing.{is_passed, are_passed, ArgumentThere, ArgumentsThere}
 
 same-local : (i j : ℕ) → i == j ≡ true → i ≡ j
@@ -25,20 +25,16 @@ module _ (count : ℕ) (g : Registers) (s : State) where
 
   pub one-there : (i : ℕ) (xs : List Opened) → has_its_value xs i ≡ true → AllOpen count xs g s → OneThere i
   one-there i [] e h = absurd (let k = e in cc)
-  one-there i (x ∷ xs) e h = by (λ k. one-there i xs k h.1) (is_local i x && x.has_value) refl
+  one-there i (x ∷ xs) e h = by (λ k. one-there i xs k h.1) (is_open_one i x && x.has_value) refl
     where
-      by : (has_its_value xs i ≡ true → OneThere i) → (b : Bool) → is_local i x && x.has_value ≡ b → OneThere i
+      by : (has_its_value xs i ≡ true → OneThere i) → (b : Bool) → is_open_one i x && x.has_value ≡ b → OneThere i
       by rest true k =
-          let two = both (is_local i x) x.has_value k in
-          let v = h.0.value two.1 in
+          let two = both (is_open_one i x) x.has_value k in
+          let same = same-local x.local i (both (is_local i x) (not (is_over x.stands)) two.0).0 in
+          let v = subst (λ j. Valued count j s) same (h.0.value two.1) in
           record {
-            object = h.0.object;
-            there = record {
-              local = subst (λ j. s.frame.locals j ≡ Some h.0.object) (same-local x.local i two.0) h.0.there;
-              stands = h.0.stands;
-              value = v.value;
-              held = v.held;
-            };
+            object = v.one.object;
+            there = record { local = v.one.there; stands = v.one.stands; value = v.value.value; held = v.value.held };
           }
       by rest false k = rest (sym (ap (λ b. b || has_its_value xs i) k) ∙ e)
 

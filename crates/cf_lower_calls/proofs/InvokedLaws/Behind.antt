@@ -21,7 +21,7 @@ use Rattle.cf_lower_turns.specs.Scene.{Scene, fixed_in}
 use Rattle.cf_lower_calls.specs.Evaluated.Arguments.{entered_all}
 use Rattle.cf_lower_calls.specs.Returns.Called.{CameBack}
 use Rattle.cf_lower_calls.proofs.ReturnsLaws.Caller.{here-again}
-use Rattle.cf_lower_points.specs.BoundsPoints.{IsOpen, AllOpen, Open, InFrame, local_count}
+use Rattle.cf_lower_points.specs.BoundsPoints.{Stands, IsOpen, AllOpen, Open, InFrame, local_count}
 use Rattle.cf_lower_calls.specs.Invoked.Invoking.{programs_of, Invokes, InvokedBefore}
 use Rattle.cf_lower_calls.proofs.InvokedLaws.Arguments.{one-of, object-among, passed-below}
 use Rattle.cf_lower_calls.proofs.InvokedLaws.Closing.{OthersOpen, all-closed, was-closed}
@@ -88,31 +88,47 @@ module _ (z : Scene) (d : ℕ) (h : Keeping) (f : Function) (is : List ℕ) (nee
             let later = em.block o among in
             absurd (omega (arith, block, home, later))
 
+    -- what had ended has, and the arguments have
+    gone-behind : (o : ℕ) → o < s.next → (s.object o).is_gone ≡ true → (b : Bool) → is_among o os ≡ b → (x.object o).is_gone ≡ true
+    gone-behind o lt over true q = argument-gone o q lt
+    gone-behind o lt over false q = since.kept o lt q ∙ over
+
     -- what stood stands, but for the arguments
+    apart : (j : ℕ) → is_among j is ≡ false → (k : Stands (local_count z) j s) → (b : Bool) → is_among k.object os ≡ b → is_among k.object os ≡ false
+    apart j fresh k false q = q
+    apart j fresh k true q =
+        let a = one-of s is os k.object before.there q in
+        let lj : a.local < local_count z = passed-below z.body.own.locals is a.local needs.passed a.among in
+        let same : a.local ≡ j = alone j a.local k.object k.below lj k.there a.there.local k.stands in
+        absurd (true-false (subst (λ i. is_among i is ≡ true) same a.among) fresh)
+
+    abbrev stands-behind : (j : ℕ) → is_among j is ≡ false → Stands (local_count z) j s → Stands (local_count z) j behind
+    stands-behind j fresh k = record {
+      below = k.below;
+      object = k.object;
+      there = k.there;
+      stands = since.kept k.object (bounded j k.object k.below k.there) (apart j fresh k (is_among k.object os) refl) ∙ k.stands;
+    }
+
     module _ (r : Registers) where
       others : (ys : List Opened) → AllOpen (local_count z) ys r s → OthersOpen (local_count z) r behind is ys
       others [] k = tt
       others (y ∷ ys) k = (λ fresh. one fresh, others ys k.1)
         where
-          lt : k.0.object < s.next
-          lt = bounded y.local k.0.object k.0.below k.0.there
-
-          apart : is_among y.local is ≡ false → (b : Bool) → is_among k.0.object os ≡ b → is_among k.0.object os ≡ false
-          apart fresh false q = q
-          apart fresh true q =
-              let a = one-of s is os k.0.object before.there q in
-              let lj : a.local < local_count z = passed-below z.body.own.locals is a.local needs.passed a.among in
-              let same : a.local ≡ y.local = alone y.local a.local k.0.object k.0.below lj k.0.there a.there.local k.0.stands in
-              absurd (true-false (subst (λ j. is_among j is ≡ true) same a.among) fresh)
-
           one : is_among y.local is ≡ false → IsOpen (local_count z) y r behind
           one fresh = record {
-            below = k.0.below;
-            object = k.0.object;
-            there = k.0.there;
-            stands = since.kept k.0.object lt (apart fresh (is_among k.0.object os) refl) ∙ k.0.stands;
-            begun = k.0.begun;
-            value = λ q. since.valued k.0.object lt (k.0.value q);
+            way = k.0.way;
+            told = k.0.told;
+            there = λ e. stands-behind y.local fresh (k.0.there e);
+            over = λ e o lo q. gone-behind o (bounded y.local o lo q) (k.0.over e o lo q) (is_among o os) refl;
+            begun = λ q e. let b = k.0.begun q e in record { one = stands-behind y.local fresh b.one; place = b.place };
+            value = λ e.
+                let v = k.0.value e in
+                record {
+                  one = stands-behind y.local fresh v.one;
+                  value = since.valued v.one.object (bounded y.local v.one.object v.one.below v.one.there) v.value;
+                };
+            flag = k.0.flag;
           }
 
       pub open-behind : (ys : List Opened) → Open (local_count z) ys r s → Open (local_count z) (closed_all is ys) r behind
@@ -121,13 +137,9 @@ module _ (z : Scene) (d : ℕ) (h : Keeping) (f : Function) (is : List ℕ) (nee
         over = λ j o lj fresh k. by_closed j o lj k (was-closed is ys j fresh);
       }
         where
-          by_test : (j o : ℕ) → j < local_count z → s.frame.locals j ≡ Some o → is_open j ys ≡ false → (b : Bool) → is_among o os ≡ b → (x.object o).is_gone ≡ true
-          by_test j o lj k none true q = argument-gone o q (bounded j o lj k)
-          by_test j o lj k none false q = since.kept o (bounded j o lj k) q ∙ open_here.over j o lj none k
-
           by_closed : (j o : ℕ) → j < local_count z → s.frame.locals j ≡ Some o → ((is_among j is ≡ true) ⊎ (is_open j ys ≡ false)) → (x.object o).is_gone ≡ true
           by_closed j o lj k (inl among) = argument-gone o (object-among s is os before.there j o among k) (bounded j o lj k)
-          by_closed j o lj k (inr none) = by_test j o lj k none (is_among o os) refl
+          by_closed j o lj k (inr none) = gone-behind o (bounded j o lj k) (open_here.over j o lj none k) (is_among o os) refl
 
     pub frame-behind : InFrame z behind
     frame-behind = record {

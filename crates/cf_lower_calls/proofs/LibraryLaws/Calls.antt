@@ -33,7 +33,7 @@ use Rattle.cc_whole_mean.specs.Values.{values_of}
 use Rattle.cf_lower.specs.Kept.{Keeping, keep, of_sort, of_type}
 use Rattle.cf_lower.specs.Written.{if_scalar, c_type, result_name}
 use Rattle.cf_lower.specs.Statements.{passed, lowered}
-use Rattle.cf_lower_kept.specs.Opened.{Opened, is_local, is_open, closed, set_in, has_its_value}
+use Rattle.cf_lower_kept.specs.Opened.{Opened, is_open_one, is_open, closed, set_in, has_its_value}
 use Rattle.cf_lower_relate.specs.Map.{Is}
 use Rattle.cf_lower_relate.proofs.Counts.{fits-negsuc, fits-pos}
 use Rattle.cf_lower_steps.specs.Flows.{Simulates}
@@ -58,7 +58,7 @@ use Rattle.cf_lower_calls.proofs.LibraryLaws.Passing.{byte-fits, IsNumberOf, num
 -- what holds a value is open
 valued-open : (i : ℕ) (xs : List Opened) → has_its_value xs i ≡ true → is_open i xs ≡ true
 valued-open i [] e = e
-valued-open i (x ∷ xs) e = by_test (valued-open i xs) (is_local i x) x.has_value e
+valued-open i (x ∷ xs) e = by_test (valued-open i xs) (is_open_one i x) x.has_value e
   where
     by_test : (has_its_value xs i ≡ true → is_open i xs ≡ true) → (b v : Bool) → (b && v) || has_its_value xs i ≡ true → b || is_open i xs ≡ true
     by_test rest true v k = refl
