@@ -38,7 +38,9 @@ use Rattle.cf_lower_steps.proofs.Conversions.{pointer-sort}
 use Rattle.cf_lower_steps.proofs.Tests.{test-valid, test-used}
 use Rattle.cc_whole_mean.specs.Scope.{Scope}
 use Rattle.cf_lower_relate.specs.Map.{Map}
-use Rattle.cf_lower_settings.specs.Alike.{Fact, no_fact, left, of_type, fact_by, is_told, has_number, converts, action_alike, NameGoes}
+use Rattle.cf_lower_program.specs.Alike.{Fact, no_fact, left, of_type, fact_by, has_number, converts, action_alike}
+use Rattle.cf_lower_program.specs.Starts.{is_known}
+use Rattle.cf_lower_settings.specs.Named.{NameGoes}
 use Rattle.cf_lower_settings.specs.Set.{NamesStand}
 use Rattle.cf_lower_settings.proofs.Runs.{test-held}
 use Rattle.cf_lower_settings.proofs.Places.{reference-without}
@@ -160,7 +162,7 @@ module _ (P : Program) (function : Name → ℕ) (signature : Name → SourceTyp
 
   -- ---- truth
 
-  truth-of : (x : Known) (f : Fact) (v : source.Value) → is_told x ≡ true → Is x f v
+  truth-of : (x : Known) (f : Fact) (v : source.Value) → is_known x ≡ true → Is x f v
       → G (Is (truth_known (holds_truth x)) no_fact) ((truth_of v >>= (λ b. gives (truth_value b))) s w)
   truth-of (a_number (pos zero)) f v e is = subst (λ v. G (Is (a_number (pos 0)) no_fact) ((truth_of v >>= (λ b. gives (truth_value b))) s w)) (sym is) (given _ _ refl)
   truth-of (a_number (pos (suc n))) f v e is = subst (λ v. G (Is (a_number (pos 1)) no_fact) ((truth_of v >>= (λ b. gives (truth_value b))) s w)) (sym is) (given _ _ refl)
@@ -170,7 +172,7 @@ module _ (P : Program) (function : Name → ℕ) (signature : Name → SourceTyp
   truth-of (a_function n) f v e is = subst (λ v. G (Is (a_number (pos 1)) no_fact) ((truth_of v >>= (λ b. gives (truth_value b))) s w)) (sym is.is) (given _ _ refl)
   truth-of unknown f v e is = absurd (true≢false (sym e))
 
-  not-of : (x : Known) (f : Fact) (v : source.Value) → is_told x ≡ true → Is x f v
+  not-of : (x : Known) (f : Fact) (v : source.Value) → is_known x ≡ true → Is x f v
       → G (Is (truth_known (inverted (holds_truth x))) no_fact) ((truth_of v >>= (λ b. gives (truth_value (not b)))) s w)
   not-of (a_number (pos zero)) f v e is = subst (λ v. G (Is (a_number (pos 1)) no_fact) ((truth_of v >>= (λ b. gives (truth_value (not b)))) s w)) (sym is) (given _ _ refl)
   not-of (a_number (pos (suc n))) f v e is = subst (λ v. G (Is (a_number (pos 0)) no_fact) ((truth_of v >>= (λ b. gives (truth_value (not b)))) s w)) (sym is) (given _ _ refl)
@@ -266,6 +268,7 @@ module _ (P : Program) (function : Name → ℕ) (signature : Name → SourceTyp
   pub action-known : (f : Name) (a : Action) → NameGoes q r a → action_alike g a ≡ true → G (Is (known_by [] f g a) (fact_by g h a)) (acts again P regs (renamed_action q a) s w)
   action-known f (plain.number z) goes e = given (Is (a_number z) no_fact) (source.Number z) refl
   action-known f (plain.static_object n t) goes e = static-known n t goes e
+  action-known f (plain.text j b) goes e = absurd goes
   action-known f (plain.function n t) goes e = function-known n t goes e
   action-known f (plain.dereference i) goes e =
       used-known (Is (g i) (h i)) i _ (λ v is. pointed-known P N.none function signature F names q r s w typed laid (Is (g i) (h i)) v is)

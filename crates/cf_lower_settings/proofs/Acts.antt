@@ -40,7 +40,8 @@ use Rattle.cf_lower_steps.specs.Lowering.{fixed_of}
 use Rattle.cf_lower_steps.proofs.Holding.{usable}
 use Rattle.cf_lower_steps.proofs.Statements.{different}
 use Rattle.cf_lower_steps.proofs.Tests.{test-valid, test-place}
-use Rattle.cf_lower_settings.specs.Alike.{Fact, Part, Told, left_of, is_told, fits_scalar, is_own, fits_first, part_of, clear_of, is_clear, is_text_type, takes_bytes, act_alike, parts_by}
+use Rattle.cf_lower_program.specs.Alike.{Fact, Part, Told, left_of, fits_scalar, is_own, fits_first, part_of, clear_of, is_clear, is_text_type, takes_bytes, act_alike, parts_by}
+use Rattle.cf_lower_program.specs.Starts.{is_known}
 use Rattle.cf_lower_settings.specs.Set.{NamesStand, OwnObject, Clear}
 use Rattle.cf_lower_settings.proofs.Runs.{GivesAs, test-held}
 use Rattle.cf_lower_settings.proofs.Places.{left-leads}
@@ -133,10 +134,10 @@ module _ (P : Program) (function : Name → ℕ) (signature : Name → SourceTyp
         go (Some o) =
             subst (λ b. G [] told.parts (doing (when b (changed (λ s. record s { finished = o ∷ s.finished })) done) s w)) (sym destructor) (record { by = (refl, nothing-done) })
 
-    truth-done : (i : Register) → is_told (g i) ≡ true → G [] told.parts (acts again P regs (plain.truth i) s w)
+    truth-done : (i : Register) → is_known (g i) ≡ true → G [] told.parts (acts again P regs (plain.truth i) s w)
     truth-done i e = by (regs i) refl
       where
-        of : (x : Known) (f : Fact) (v : source.Value) → is_told x ≡ true → Is x f v → G [] told.parts (acts again P (λ j. Some v) (plain.truth 0) s w)
+        of : (x : Known) (f : Fact) (v : source.Value) → is_known x ≡ true → Is x f v → G [] told.parts (acts again P (λ j. Some v) (plain.truth 0) s w)
         of (a_number (pos zero)) f v e is = subst (λ v. G [] told.parts (acts again P (λ j. Some v) (plain.truth 0) s w)) (sym is) (record { by = (refl, nothing-done) })
         of (a_number (pos (suc n))) f v e is = subst (λ v. G [] told.parts (acts again P (λ j. Some v) (plain.truth 0) s w)) (sym is) (record { by = (refl, nothing-done) })
         of (a_number (negsuc n)) f v e is = subst (λ v. G [] told.parts (acts again P (λ j. Some v) (plain.truth 0) s w)) (sym is) (record { by = (refl, nothing-done) })

@@ -40,7 +40,7 @@ use Rattle.cf_lower_relate.proofs.Sorts.{sort-bytes}
 use Rattle.cf_lower_relate.proofs.Words.{convert-same}
 use Rattle.cf_lower_steps.specs.Lowering.{fixed_of}
 use Rattle.cf_lower_steps.proofs.Results.{convert-fits}
-use Rattle.cf_lower_settings.specs.Alike.{Part}
+use Rattle.cf_lower_program.specs.Alike.{Part}
 use Rattle.cf_lower_settings.specs.Set.{Clear}
 use Rattle.cf_lower_settings.proofs.Clear.{clear-stored}
 use Rattle.cf_lower_settings.proofs.Done.{with_names, DoneBy, done-none, done-then, done-store, since-none}

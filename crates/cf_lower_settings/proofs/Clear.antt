@@ -20,7 +20,7 @@ use Rattle.cf_lower_relate.specs.Map.{Fixed, Map, is_ended}
 use Rattle.cf_lower_relate.specs.Relation.{InCells, Stands, Rel}
 use Rattle.cf_lower_relate.proofs.Objects.{upd-cases, upd-same}
 use Rattle.cf_lower_relate.proofs.Sorts.{bytes-some, sort-bytes}
-use Rattle.cf_lower_settings.specs.Alike.{Part, clear_of}
+use Rattle.cf_lower_program.specs.Alike.{Part, clear_of}
 use Rattle.cf_lower_settings.specs.Set.{Clear}
 
 -- ---- ranges

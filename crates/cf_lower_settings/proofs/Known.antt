@@ -17,7 +17,7 @@ use Rattle.cc_whole_mean.specs.declared.named.Shape.{Shape}
 use Rattle.cc_whole_mean.specs.Scope.{Scope}
 use Rattle.cf_lower_relate.specs.Map.{Map, is_shown}
 use Rattle.cf_lower_steps.specs.Lowering.{is_function}
-use Rattle.cf_lower_settings.specs.Alike.{Fact, of_type, left_of, tell}
+use Rattle.cf_lower_program.specs.Alike.{Fact, of_type, left_of, tell}
 
 module _ (P : Program) (function : Name → ℕ) (signature : Name → SourceType) (F : Map) (names : Scope) (q r : Name → Name) where
   -- a place so many bytes behind the start of what the C's variable of this name holds, which is of this type or any, with so many elements left

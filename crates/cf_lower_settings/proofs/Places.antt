@@ -15,7 +15,7 @@ use Rattle.cf_lower_layout.proofs.Elements.{moved-points, moved-offset, moved-ty
 use Rattle.cf_lower_layout.proofs.Laid.{laid-at, has-first, element-without}
 use Rattle.cf_lower_layout.proofs.Order.{leads-inside}
 use Rattle.cf_lower_relate.proofs.Moves.{some-same}
-use Rattle.cf_lower_settings.specs.Alike.{left_behind}
+use Rattle.cf_lower_program.specs.Alike.{left_behind}
 
 -- ---- what const does not change
 

@@ -26,7 +26,8 @@ use Rattle.cf_lower.specs.Constants.{Known, unknown, a_number, null, at, a_funct
 use Rattle.cf_lower_steps.proofs.Tests.{test-valid, test-need}
 use Rattle.cc_whole_mean.specs.Scope.{Scope}
 use Rattle.cf_lower_relate.specs.Map.{Map}
-use Rattle.cf_lower_settings.specs.Alike.{Fact, left, left_of, left_behind, sum_fact, pointer_fact, decayed_fact, points_as, decays, moves, moves_by, is_pointed, is_told}
+use Rattle.cf_lower_program.specs.Alike.{Fact, left, left_of, left_behind, sum_fact, pointer_fact, decayed_fact, points_as, decays, moves, moves_by, is_pointed}
+use Rattle.cf_lower_program.specs.Starts.{is_known}
 use Rattle.cf_lower_settings.proofs.Runs.{GivesAs}
 use Rattle.cf_lower_settings.proofs.Places.{byte_of, moved-to, first-at}
 use Rattle.cf_lower_settings.proofs.Known.{IsAt, KnownAs, at-itself, at-type, function-itself}
@@ -263,7 +264,7 @@ module _ (P : Program) (none : P.classes ≡ []) (function : Name → ℕ) (sign
   as-pointer (address u) not_number unknown f v e h = absurd (true≢false (sym e))
   as-pointer (code u) not_number unknown f v e h = absurd (true≢false (sym e))
 
-  pub from-void-known : (t : SourceType) (x : Known) (f : Fact) (v : source.Value) → is_told x ≡ true → Is x f v
+  pub from-void-known : (t : SourceType) (x : Known) (f : Fact) (v : source.Value) → is_known x ≡ true → Is x f v
       → Q (Is (converted_known [] (Some (address t)) x) f) (from_void_value P.classes t v s w)
   from-void-known t (a_number z) f v e h = subst (λ v. Q (Is null f) (from_void_value P.classes t v s w)) (sym h) (wrong _)
   from-void-known t null f v e h = subst (λ v. Q (Is null f) (from_void_value P.classes t v s w)) (sym h) (here (Is null f) source.Null refl)

@@ -28,7 +28,8 @@ use Rattle.cf_lower.specs.Constants.{nothing_known, all_known_after, constant_co
 use Rattle.cf_lower.specs.Functions.{owner_of}
 use Rattle.cf_lower_steps.specs.Lowering.{fixed_of}
 use Rattle.cf_lower_steps.specs.Flows.{Simulates}
-use Rattle.cf_lower_settings.specs.Alike.{nothing_told, all_told_after, statements_alike, start_alike, NamesGo}
+use Rattle.cf_lower_program.specs.Alike.{nothing_told, all_told_after, statements_alike, start_alike}
+use Rattle.cf_lower_settings.specs.Named.{NamesGo}
 use Rattle.cf_lower_settings.specs.Set.{NamesStand, OwnObject, Clear, SetAs, NoExit}
 use Rattle.cf_lower_settings.proofs.Runs.{GivesAs, gives-then, gives-map}
 use Rattle.cf_lower_settings.proofs.Done.{with_names, c_all, DoneBy, done-none, done-both, since-none}

@@ -24,7 +24,8 @@ use Rattle.cf_lower_relate.specs.Map.{Fixed, Map}
 use Rattle.cf_lower_relate.specs.Relation.{Rel}
 use Rattle.cf_lower.specs.Constants.{Known, a_number, nothing_known, holds_truth, known_by, known_after, all_known_after, constant_stores, constant_code}
 use Rattle.cf_lower_steps.specs.Lowering.{fixed_of}
-use Rattle.cf_lower_settings.specs.Alike.{Told, nothing_told, fact_by, parts_by, has_number, told_after, all_told_after, statement_alike, statements_alike, NamesIn, NamesGo}
+use Rattle.cf_lower_program.specs.Alike.{Told, nothing_told, fact_by, parts_by, has_number, told_after, all_told_after, statement_alike, statements_alike}
+use Rattle.cf_lower_settings.specs.Named.{NamesIn, NamesGo}
 use Rattle.cf_lower_settings.specs.Set.{NamesStand, OwnObject, Clear}
 use Rattle.cf_lower_settings.proofs.Runs.{GivesAs, gives-then}
 use Rattle.cf_lower_settings.proofs.Known.{KnownAs, Knows, knows-set}

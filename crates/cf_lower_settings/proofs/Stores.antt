@@ -45,7 +45,7 @@ use Rattle.cf_lower.specs.Expressions.{as_stored}
 use Rattle.cf_lower_steps.specs.Lowering.{fixed_of}
 use Rattle.cf_lower_steps.proofs.Registers.{same-register}
 use Rattle.cf_lower_steps.proofs.Values.{stored-scalar}
-use Rattle.cf_lower_settings.specs.Alike.{Fact, of_type, left_of, fits_scalar}
+use Rattle.cf_lower_program.specs.Alike.{Fact, of_type, left_of, fits_scalar}
 use Rattle.cf_lower_settings.specs.Set.{Since}
 use Rattle.cf_lower_settings.proofs.Places.{left-leads}
 use Rattle.cf_lower_settings.proofs.Known.{IsAt, KnownAs}

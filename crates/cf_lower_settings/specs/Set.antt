@@ -21,7 +21,7 @@ use Rattle.cf_lower_relate.specs.Map.{Fixed, Map, is_shown}
 use Rattle.cf_lower_relate.specs.Relation.{Rel}
 use Rattle.cf_lower_steps.specs.Lowering.{is_function}
 use Rattle.cf_lower_turns.specs.Texts.{Free}
-use Rattle.cf_lower_settings.specs.Alike.{Part, clear_of}
+use Rattle.cf_lower_program.specs.Alike.{Part, clear_of}
 
 -- a static object stands in the variable of its name
 pub record NamedThere (P : Program) (F : Map) (names : Scope) (name : Name) (o : ℕ) : Type 0 where

@@ -21,7 +21,8 @@ ghost use Rattle.cf_lower_relate.specs.Relation.{Rel};
 ghost use Rattle.cf_lower.specs.Constants.{nothing_known, constant_code};
 ghost use Rattle.cf_lower_steps.specs.Lowering.{fixed_of};
 ghost use Rattle.cf_lower_steps.specs.Flows.{Simulates};
-ghost use Rattle.cf_lower_settings.specs.Alike.{nothing_told, statements_alike, NamesGo};
+ghost use Rattle.cf_lower_program.specs.Alike.{nothing_told, statements_alike};
+ghost use Rattle.cf_lower_settings.specs.Named.{NamesGo};
 ghost use Rattle.cf_lower_settings.specs.Set.{NamesStand, OwnObject, Clear, SetAs};
 
 /// The law that an initialiser which sets its own object, scalars to values of their types, does in the source what its stores do in the C (8.4). It does nothing.

@@ -1,7 +1,7 @@
 -- One file linked alone does what its source means.
 use Rattle.std.proofs.Common.{◌≡◌, ℕ, true, false, ◌||◌, cond, List, [], ◌∷◌, ◌++◌, map, Ok, refl, ap, sym, subst, ◌∙◌, inl, inr, ◌⊎◌}
 use Rattle.std.specs.Prelude.{Some, None, Err, filter, bytes_eq, codes}
-use Rattle.std.specs.List.{list_any}
+use Rattle.std.specs.List.{list_all, list_any}
 use Rattle.std.proofs.lemmas.Bool.{true≢false, or_cases}
 use Rattle.cf_core.specs.Types.{Name}
 use Rattle.cf_core.specs.Classes.{Class}
@@ -45,7 +45,8 @@ use Rattle.cf_lower_valid.proofs.Naming.{object-foreign, function-foreign, decla
 use Rattle.cf_lower_valid.proofs.Once.{told-apart, either-way}
 use Rattle.cf_lower_valid.proofs.Tests.{file_of, all-in, names-told}
 use Rattle.cf_lower_calls.specs.Entered.Linked.{linked_function}
-use Rattle.cf_lower_settings.specs.Alike.{start_alike, starts_alike, NameGoes, NamesIn, NamesGo}
+use Rattle.cf_lower_program.specs.Alike.{start_alike}
+use Rattle.cf_lower_settings.specs.Named.{NameGoes, NamesIn, NamesGo, is_no_text, names_no_text}
 use Rattle.cf_lower_settings.specs.Set.{NamesStand}
 use Rattle.cf_lower_settings.proofs.Settings.{Sets}
 use Rattle.cf_lower_alone.specs.Linked.{in_program, stores_of, helpers_of, calls_of_helpers, main_function, LinkedAlone}
@@ -148,7 +149,7 @@ module _ (fs : List PlainFunction) (xs : List PlainStatic) (low : Lowerable (fil
   with-constants helpers found constants =
       program-agrees (file ∷ []) program (one-fits file u program low is links) tested mains (joined-initialisers fs xs low) helpers found constants registers
 
-  module _ (alike : starts_alike file ≡ true) where
+  module _ (no_text : names_no_text file ≡ true) where
     start-names : (x : PlainStatic) → In x xs → (a : Action) → In a (all_actions x.start) → NameGoes (in_plain fs xs low) (in_program file) a
     start-names x h (plain_action.static_object n t) m =
         let i : Item = declares_variable (variable_type [] t) n in
@@ -165,6 +166,8 @@ module _ (fs : List PlainFunction) (xs : List PlainStatic) (low : Lowerable (fil
         library-named (inl k) lib = library-stays fs xs low u program is.items links A n k
         library-named (inr k) lib =
             absurd (true≢false (sym lib ∙ source-library (in_plain fs xs low n) (foreign-there (list_any (bytes_eq n) (locals fs xs low)) n (function-foreign n k))))
+    start-names x h (plain_action.text j b) m =
+        absurd (true≢false (sym (all-in is_no_text (all_actions x.start) (all-in (λ (x : PlainStatic). list_all is_no_text (all_actions x.start)) xs no_text x h) (plain_action.text j b) m)))
     start-names x h a m = tt
 
     typed-names : NamesTyped B
@@ -189,7 +192,7 @@ module _ (fs : List PlainFunction) (xs : List PlainStatic) (low : Lowerable (fil
     sets x h =
         let number = has-number fs xs low program A x h in
         record {
-          alike = all-in start_alike xs alike x h;
+          alike = all-in start_alike xs low.starts x h;
           names_go = names-go (in_plain fs xs low) (in_program file) x.start (start-names x h);
           object = number.object;
           numbered = number.is;
@@ -252,9 +255,9 @@ one-agrees file unit program helpers valid low is links found =
     (c_start.first_state (items_of program.items)) → ProgramAgrees (with_classes file cs ∷ []) program) (no-classes file.classes low.no_classes)
     (λ low is links constants. with-constants file.functions file.statics low unit program is links valid helpers found constants) low is links
 
-pub one-agrees-alike : (file : PlainFile) (unit : CUnit) (program : CProgram) → valid_program program ≡ true → Lowerable file → IsLowered file unit
-    → Links (unit ∷ []) (Ok program) → starts_alike file ≡ true → ProgramAgrees (file ∷ []) program
-one-agrees-alike file unit program valid low is links =
-    subst (λ cs. Lowerable (with_classes file cs) → IsLowered (with_classes file cs) unit → Links (unit ∷ []) (Ok program) → starts_alike (with_classes file cs) ≡ true
+pub one-agrees-alone : (file : PlainFile) (unit : CUnit) (program : CProgram) → valid_program program ≡ true → Lowerable file → IsLowered file unit
+    → Links (unit ∷ []) (Ok program) → names_no_text file ≡ true → ProgramAgrees (file ∷ []) program
+one-agrees-alone file unit program valid low is links =
+    subst (λ cs. Lowerable (with_classes file cs) → IsLowered (with_classes file cs) unit → Links (unit ∷ []) (Ok program) → names_no_text (with_classes file cs) ≡ true
     → ProgramAgrees (with_classes file cs ∷ []) program) (no-classes file.classes low.no_classes)
-    (λ low is links alike. without-constants file.functions file.statics low unit program is links valid alike) low is links
+    (λ low is links no_text. without-constants file.functions file.statics low unit program is links valid no_text) low is links

@@ -1,6 +1,6 @@
 -- Initialisers of static objects that do the same in both programs: each sets its own object alone, scalars to values of their types, and nothing to zeros that it has
 -- set before.
-use Rattle.std.specs.Prelude.{◌≡◌, ℕ, ◌+◌, ◌-◌, nat_eq, nat_lt, nat_le, Bool, true, false, ◌&&◌, ◌||◌, not, if◌then◌else◌, List, [], ◌∷◌, ℤ, pos, negsuc, neg_ℤ, Option, Some, None, bytes_eq}
+use Rattle.std.specs.Prelude.{ℕ, ◌+◌, ◌-◌, nat_eq, nat_lt, nat_le, Bool, true, false, ◌&&◌, ◌||◌, not, if◌then◌else◌, List, [], ◌∷◌, ℤ, pos, negsuc, neg_ℤ, Option, Some, None, bytes_eq}
 use Rattle.std.specs.List.{list_all}
 use Rattle.cf_base.specs.declared.kind.Kind.TheVariants.{Char}
 use Rattle.cf_base.specs.Integers.{fits}
@@ -8,7 +8,6 @@ use Rattle.cf_core.specs.declared.operators.PointerOperator.{PointerOperator}
 use Rattle.cf_core.specs.declared.operators.PointerOperator.TheVariants as pointer_operator
 use Rattle.cf_core.specs.Types.{Name, SourceType, void, integer, enumeration, pointer, array, const, is_void, type_eq, without_const}
 use Rattle.cf_core.specs.Places.{bound, is_reference}
-use Rattle.cf_core.specs.Calls.{is_library}
 use Rattle.cf_core.specs.Size.{size}
 use Rattle.cf_lower_layout.specs.Layout.{const_once}
 use Rattle.cf_lower_layout.specs.Sorts.{Sort, number, address, code, sort_of}
@@ -17,6 +16,7 @@ use Rattle.cf_plain.specs.Plain.{Register, Action, Plain, Plains, act, set, bran
 use Rattle.cf_lower.specs.Constants.{Known, unknown, a_number, null, at, a_function, nothing_known, holds_truth, known_after}
 use Rattle.cf_lower.specs.Functions.{owner_of}
 use Rattle.cf_lower_place.specs.Named.{may_be_named}
+use Rattle.cf_lower_program.specs.Starts.{is_known}
 
 -- ---- what else is known
 
@@ -68,6 +68,7 @@ decayed_fact x f = f
 
 abbrev pub fact_by : (Register → Known) → (Register → Fact) → Action → Fact
 fact_by g h (plain.static_object n t) = left 1
+fact_by g h (plain.text j b) = left 1
 fact_by g h (plain.function n t) = of_type t
 fact_by g h (plain.dereference r) = h r
 fact_by g h (plain.decay r) = decayed_fact (g r) (h r)
@@ -81,10 +82,6 @@ abbrev pub tell : (Register → Fact) → Register → Fact → Register → Fac
 tell h r x q = if nat_eq q r then x else h q
 
 -- ---- values
-
-abbrev pub is_told : Known → Bool
-is_told unknown = false
-is_told x = true
 
 abbrev pub has_number : Known → Bool
 has_number (a_number z) = true
@@ -112,7 +109,7 @@ moves_by o x y = false
 abbrev pub is_pointed : Option Sort → Known → Bool
 is_pointed None x = false
 is_pointed (Some (address u)) (at n o t) = points_as t u
-is_pointed (Some s) x = is_told x
+is_pointed (Some s) x = is_known x
 
 abbrev pub converts : SourceType → Known → Bool
 converts (integer k) x = has_number x
@@ -125,16 +122,17 @@ converts t x = false
 abbrev pub action_alike : (Register → Known) → Action → Bool
 action_alike g (plain.number z) = true
 action_alike g (plain.static_object n t) = not (is_reference t)
+action_alike g (plain.text j b) = true
 action_alike g (plain.function n t) = may_be_named n t
-action_alike g (plain.dereference r) = is_told (g r)
+action_alike g (plain.dereference r) = is_known (g r)
 action_alike g (plain.decay r) = decays (g r)
 action_alike g (plain.index r q) = moves (g r) (g q)
 action_alike g (plain.convert t r) = converts t (g r)
-action_alike g (plain.from_void t r) = is_told (g r)
+action_alike g (plain.from_void t r) = is_known (g r)
 action_alike g (plain.operate o k r q) = has_number (g r) && has_number (g q)
 action_alike g (plain.unary o k r) = has_number (g r)
-action_alike g (plain.truth r) = is_told (g r)
-action_alike g (plain.logical_not r) = is_told (g r)
+action_alike g (plain.truth r) = is_known (g r)
+action_alike g (plain.logical_not r) = is_known (g r)
 action_alike g (plain.pointer_operate o r q) = moves_by o (g r) (g q)
 action_alike g a = false
 
@@ -184,7 +182,7 @@ takes_bytes x = false
 abbrev pub act_alike : Name → (Register → Known) → Told → Action → Bool
 act_alike name g x (plain.reach n) = true
 act_alike name g x (plain.finish_static n) = true
-act_alike name g x (plain.truth r) = is_told (g r)
+act_alike name g x (plain.truth r) = is_known (g r)
 act_alike name g x (plain.first r q) = is_own name (g r) (x.facts r) && fits_first (g r) (g q) (x.facts q)
 act_alike name g x (plain.zeros r) = is_clear name (g r) x.parts
 act_alike name g x (plain.bytes r b) = is_own name (g r) (x.facts r) && is_clear name (g r) x.parts && takes_bytes (g r)
@@ -229,21 +227,3 @@ start_alike x = statements_alike x.name x.start (owner_of x) nothing_known nothi
 -- all initialisers of the file are such
 abbrev pub starts_alike : PlainFile → Bool
 starts_alike file = list_all start_alike file.statics
-
--- ---- names
-
--- Names of static objects and functions are the same after both renamings, the C's and the source's; those of the library stay.
-abbrev pub NameGoes : (Name → Name) → (Name → Name) → Action → Type 0
-NameGoes q r (plain.static_object n t) = r n ≡ q n
-NameGoes q r (plain.function n t) = (r n ≡ q n) × (is_library (q n) ≡ true → q n ≡ n)
-NameGoes q r a = Unit {0}
-
-abbrev mutual
-  pub NamesIn : (Name → Name) → (Name → Name) → Plain → Type 0
-  NamesIn q r (set i a) = NameGoes q r a
-  NamesIn q r (branch i ss ts) = NamesGo q r ss × NamesGo q r ts
-  NamesIn q r s = Unit {0}
-
-  pub NamesGo : (Name → Name) → (Name → Name) → Plains → Type 0
-  NamesGo q r nothing = Unit {0}
-  NamesGo q r (more s ss) = NamesIn q r s × NamesGo q r ss
