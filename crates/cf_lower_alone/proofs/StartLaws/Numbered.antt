@@ -1,6 +1,6 @@
 -- Each static object of one file has a number, and no two have one.
 use Rattle.std.proofs.Common.{◌≡◌, ℕ, nat_lt, Bool, true, false, cond, List, [], ◌∷◌, ◌++◌, length, slice_get, map, refl, ap, sym, subst, ◌∙◌, inl, inr, arith}
-use Rattle.std.specs.Prelude.{Option, Some, None, bytes_eq, find, position}
+use Rattle.std.specs.Prelude.{Some, None, bytes_eq, find, position}
 use Rattle.std.specs.List.{position_or_len, flat_map}
 use Rattle.std.proofs.lemmas.Bool.{true≢false}
 use Rattle.std.proofs.lemmas.Bool.Decides.{nat_tests}
@@ -16,7 +16,7 @@ use Rattle.cc_whole.specs.declared.unit.CVariable.{CVariable}
 use Rattle.cf_lower_calls.specs.Returns.Called.{Programs}
 use Rattle.cf_lower_program.specs.Lowerable.{Lowerable}
 use Rattle.cf_lower_settings.proofs.Settings.{Different}
-use Rattle.cc_whole_sections.specs.Sections.{In, Every}
+use Rattle.cc_whole_sections.specs.Sections.{In}
 use Rattle.cf_lower_valid.proofs.Inner.{mapped-in}
 use Rattle.cf_lower_valid.proofs.Once.{Differ}
 use Rattle.cf_lower_valid.proofs.Tests.{file_of}
