@@ -1,3 +1,4 @@
 pub mod Statics
 pub mod Texts
 pub mod Start
+pub mod Numbered

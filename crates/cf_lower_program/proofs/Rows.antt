@@ -2,10 +2,10 @@
 use Rattle.std.proofs.Common.{◌≡◌, ℕ, List, [], ◌∷◌, ◌++◌, refl}
 use Rattle.std.specs.Prelude.{pos, Some, None, true, false, codes}
 use Rattle.std.specs.Fmt.{digits}
-use Rattle.cf_base.specs.declared.kind.Kind.TheVariants.{Char, Int, UInt}
+use Rattle.cf_base.specs.declared.kind.Kind.TheVariants.{Char, UChar, Int, UInt}
 use Rattle.cf_core.specs.Types.{Name, SourceType, void, integer, pointer, reference, array, data_member, takes, gives, const}
 use Rattle.cf_core.specs.Core.{plain_function}
-use Rattle.cf_plain.specs.Plain.{Plain, Plains, PlainFunction, PlainStatic, PlainFile, nothing, more, act, set, branch, give, number, text, read, decay, convert, truth, store, declare, first, call, function, static_object, reach, finish_static, bytes}
+use Rattle.cf_plain.specs.Plain.{Plain, Plains, PlainFunction, PlainStatic, PlainFile, nothing, more, act, set, branch, give, number, text, read, decay, index, convert, truth, store, declare, first, zeros, bytes, call, function, static_object, reach, finish_static}
 use Rattle.cc_whole.specs.Types.{same_type}
 use Rattle.cc_whole.specs.ValidUnit.{valid_items}
 use Rattle.cf_lower.specs.Functions.{lowered_file}
@@ -13,6 +13,7 @@ use Rattle.cf_lower_program.specs.Types.{types_lowered}
 use Rattle.cf_lower_place.specs.Named.{functions_in_place}
 use Rattle.cf_lower_program.specs.Names.{names_lowered, names_used, may_be_object, may_be_function}
 use Rattle.cf_lower_program.specs.Starts.{statics_known, texts_fit}
+use Rattle.cf_lower_program.specs.Alike.{start_alike}
 use Rattle.cf_lower_program.specs.Counts.{shared_apart}
 use Rattle.cf_lower_program.specs.Passed.{arguments_apart}
 use Rattle.cf_lower_program.specs.Lowerable.{Lowerable}
@@ -86,6 +87,7 @@ whole-is-lowered = record {
   names = refl;
   used = refl;
   statics = refl;
+  starts = refl;
   texts = refl;
   literals = refl;
   labels = refl;
@@ -241,3 +243,56 @@ number-pointer-invalid = refl
 number-pointer-refused : statics_known number_as_pointer ≡ false
 unfolding digits
 number-pointer-refused = refl
+
+-- ---- initialisers that do the same in both
+
+abbrev three : SourceType
+three = array int 3
+
+-- int a[3]={1}; by elements, and zeros for the rest
+list-passes : start_alike (static_of (codes "a") three
+    (set 1 (decay 0) ∷ set 2 (number (pos 0)) ∷ set 3 (index 1 2) ∷ set 4 (number (pos 1)) ∷ act (first 3 4) ∷ set 2 (number (pos 2)) ∷ set 3 (index 1 2) ∷ act (zeros 3) ∷ [])) ≡ true
+list-passes = refl
+
+-- a store at the end of the array
+end-refused : start_alike (static_of (codes "a") three
+    (set 1 (decay 0) ∷ set 2 (number (pos 3)) ∷ set 3 (index 1 2) ∷ set 4 (number (pos 1)) ∷ act (first 3 4) ∷ [])) ≡ false
+end-refused = refl
+
+-- zeros for what was set before
+zeros-behind-refused : start_alike (static_of (codes "x") int (set 1 (number (pos 1)) ∷ act (first 0 1) ∷ act (zeros 0) ∷ [])) ≡ false
+zeros-behind-refused = refl
+
+-- a number that a char does not have
+wide-number-refused : start_alike (static_of (codes "c") (integer Char) (set 1 (number (pos 300)) ∷ act (first 0 1) ∷ [])) ≡ false
+wide-number-refused = refl
+
+-- the object of another name
+other-object-refused : start_alike (static_of (codes "x") int (set 1 (static_object (codes "y") int) ∷ set 2 (number (pos 1)) ∷ act (first 1 2) ∷ [])) ≡ false
+other-object-refused = refl
+
+-- int*p=&x; and the same as a pointer to unsigned int
+pointer-passes : start_alike (static_of (codes "p") (pointer int) (set 1 (static_object (codes "x") int) ∷ act (first 0 1) ∷ [])) ≡ true
+pointer-passes = refl
+
+other-pointer-refused : start_alike (static_of (codes "p") (pointer (integer UInt)) (set 1 (static_object (codes "x") int) ∷ act (first 0 1) ∷ [])) ≡ false
+other-pointer-refused = refl
+
+-- a pointer to void that is moved
+void-moved-refused : start_alike (static_of (codes "p") (pointer void)
+    (set 1 (static_object (codes "x") int) ∷ set 1 (convert (pointer void) 1) ∷ set 2 (number (pos 1)) ∷ set 1 (index 1 2) ∷ act (first 0 1) ∷ [])) ≡ false
+void-moved-refused = refl
+
+-- int(*p)(int)=f; and with a function that takes nothing
+function-passes : start_alike (static_of (codes "p") (pointer f_type) (set 1 (function (codes "f__Fi") f_type) ∷ act (first 0 1) ∷ [])) ≡ true
+function-passes = refl
+
+other-function-refused : start_alike (static_of (codes "p") (pointer f_type) (set 1 (function (codes "g__Fv") (no_parameters int)) ∷ act (first 0 1) ∷ [])) ≡ false
+other-function-refused = refl
+
+-- char s[]="a"; and the same of unsigned char
+bytes-pass : start_alike (static_of (codes "s") (array (integer Char) 2) (act (bytes 0 (97 ∷ 0 ∷ [])) ∷ [])) ≡ true
+bytes-pass = refl
+
+unsigned-bytes-refused : start_alike (static_of (codes "s") (array (integer UChar) 2) (act (bytes 0 (97 ∷ 0 ∷ [])) ∷ [])) ≡ false
+unsigned-bytes-refused = refl

@@ -1,5 +1,5 @@
 -- Which actions of initialisers are lowered: operators are of kinds that integral promotion leaves as they are (4.1).
-use Rattle.std.specs.Prelude.{Bool, true, List}
+use Rattle.std.specs.Prelude.{Bool, true}
 use Rattle.std.specs.List.{flat_map, list_all}
 use Rattle.cf_plain.specs.Plain.{Action, operate, unary, changed, PlainStatic, PlainFile}
 use Rattle.cf_plain.specs.Named.{all_actions}

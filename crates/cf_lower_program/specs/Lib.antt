@@ -2,6 +2,7 @@ pub mod Types
 pub mod Names
 pub mod Actions
 pub mod Starts
+pub mod Alike
 pub mod Labels
 pub mod Counts
 pub mod Passed

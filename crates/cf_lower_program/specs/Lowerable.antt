@@ -12,6 +12,7 @@ use Rattle.cf_lower_program.specs.Types.{types_lowered}
 use Rattle.cf_lower_program.specs.Actions.{actions_lowered}
 use Rattle.cf_lower_program.specs.Names.{names_lowered, literals_differ, names_used}
 use Rattle.cf_lower_program.specs.Starts.{statics_known, texts_fit}
+use Rattle.cf_lower_program.specs.Alike.{starts_alike}
 use Rattle.cf_lower_program.specs.Labels.{switches_fit}
 use Rattle.cf_lower_program.specs.Counts.{counts_fit, shared_apart}
 use Rattle.cf_lower_program.specs.Passed.{arguments_apart}
@@ -33,6 +34,7 @@ pub record Lowerable (file : PlainFile) : Type 0 where
   pub names : names_lowered file ≡ true
   pub used : names_used file ≡ true
   pub statics : statics_known file ≡ true
+  pub starts : starts_alike file ≡ true
   pub texts : texts_fit file ≡ true
   pub literals : literals_differ file ≡ true
   pub labels : switches_fit file ≡ true

@@ -1,4 +1,12 @@
+pub mod Runs
+pub mod Places
+pub mod Known
+pub mod Pointing
 pub mod Actions
 pub mod Stores
+pub mod Clear
+pub mod Done
+pub mod Bytes
+pub mod Acts
 pub mod Statements
 pub mod Settings

@@ -1,14 +1,14 @@
 -- Static objects are set one after another in both.
-use Rattle.std.proofs.Common.{◌≡◌, ℕ, Bool, true, false, not, ◌&&◌, cond, List, [], ◌∷◌, ◌++◌, map, refl, ap, sym, subst, ◌∙◌, inl, inr}
-use Rattle.std.specs.Prelude.{Some, filter, option_map}
+use Rattle.std.proofs.Common.{◌≡◌, ℕ, Bool, true, false, not, ◌&&◌, cond, List, [], ◌∷◌, ◌++◌, map, Some, refl, ap, sym, subst, ◌∙◌, inl, inr, append-nil}
+use Rattle.std.specs.Prelude.{filter, option_map}
 use Rattle.std.specs.List.{flat_map}
 use Rattle.std.proofs.lemmas.Bool.{true≢false}
-use Rattle.std.proofs.lemmas.List.{map-append}
 use Rattle.cf_base.specs.Event.{Ended, Ticks, Depth, Undefined}
-use Rattle.cf_base.specs.World.{World, Ran, Went, Stops, and_then}
-use Rattle.cf_base.specs.Agree.{Adds}
+use Rattle.cf_base.specs.World.{World, Ran, Went, Stops, shown}
+use Rattle.cf_base.specs.Agree.{Begins, Adds}
 use Rattle.cf_core.specs.Types.{Name, SourceType}
-use Rattle.cf_core.specs.Run.{State, Did, Gives, Exits, Malformed, Act, onward, ◌>>◌, done, for_all, with_frame}
+use Rattle.cf_core.specs.Store.{Object}
+use Rattle.cf_core.specs.Run.{State, Did, Gives, Exits, Malformed, Act, done, for_all, with_frame}
 use Rattle.cf_core.specs.Calls.{Program}
 use Rattle.cf_core.specs.Objects.{static_number}
 use Rattle.cf_plain.specs.Plain.{Plains, nothing, more, PlainStatic}
@@ -17,50 +17,23 @@ use Rattle.cf_plain.specs.Joined.{renamed_all, is_empty, sets_constant, constant
 use Rattle.cf_plain.specs.Program.{set_constant}
 use Rattle.cf_plain.specs.Running as running
 use Rattle.cf_plain.specs.Running.{Flow, all}
-use Rattle.cc_whole.specs.Plain.{Statement, in_order}
-use Rattle.cc_whole_closed.proofs.Plains.{statement_with}
-use Rattle.cc_whole_memory.specs.Blocks.{Memory}
+use Rattle.cc_whole.specs.Plain.{Statement}
 use Rattle.cc_whole_mean.specs.Flow as c
-use Rattle.cc_whole_mean.specs.Flow.{falling}
 use Rattle.cc_whole_mean.specs.Mean as mean
 use Rattle.cc_whole_mean.specs.Scope.{Scope}
-use Rattle.cc_whole_mean.proofs.Growth.{grows-falling}
 use Rattle.cc_whole_sections.specs.Sections.{Every}
 use Rattle.cf_lower_relate.specs.Map.{Fixed, Map}
 use Rattle.cf_lower_relate.specs.Relation.{Rel}
-use Rattle.cf_lower.specs.Constants.{nothing_known, constant_code}
+use Rattle.cf_lower.specs.Constants.{nothing_known, all_known_after, constant_code}
 use Rattle.cf_lower.specs.Functions.{owner_of}
 use Rattle.cf_lower_steps.specs.Lowering.{fixed_of}
 use Rattle.cf_lower_steps.specs.Flows.{Simulates}
-use Rattle.cf_lower_turns.proofs.Following.{sim-here, sim-as, sim-next}
-use Rattle.cf_lower_settings.specs.Numbers.{number_statements, NamesGo}
-use Rattle.cf_lower_settings.specs.Set.{NamedThere, Since, SetAs, NoExit}
-use Rattle.cf_lower_settings.proofs.Statements.{all-set, all-goes, nothing-holds}
-
--- ---- what the source does behind
-
-sim-done : (S : State → c.Flow → Type 0) (x : Ran (Did Flow)) (y : Ran c.Flow) → Simulates (λ a s flow. S s flow) x y
-    → Simulates (λ a s flow. S s flow) (and_then x (λ did w. onward did (λ _. done) w)) y
-sim-done S (Went (Gives a s) w) y h = record { by = record { value = h.by.value; run = h.by.run; related = h.by.related } }
-sim-done S (Went (Exits z s) w) y h = record { by = h.by }
-sim-done S (Went Malformed w) y h = record { by = tt }
-sim-done S (Stops (Undefined act) trace) y h = record { by = h.by }
-sim-done S (Stops (Ended status) trace) y h = record { by = h.by }
-sim-done S (Stops Ticks trace) y h = record { by = h.by }
-sim-done S (Stops Depth trace) y h = record { by = h.by }
-
-goes-done : (x : Ran (Did Flow)) → NoExit x → NoExit (and_then x (λ did w. onward did (λ _. done) w))
-goes-done (Went (Gives a s) w) h = record { by = tt }
-goes-done (Went (Exits z s) w) h = absurd (h.by)
-goes-done (Went Malformed w) h = record { by = tt }
-goes-done (Stops end trace) h = record { by = tt }
-
-goes-then : (S : State → c.Flow → Type 0) (x : Ran (Did (Unit {0}))) (y : Ran c.Flow) (next : Act (Unit {0})) → Simulates (λ a s flow. S s flow) x y → NoExit x
-    → ((s : State) (flow : c.Flow) (w : World) → S s flow → NoExit (next s w)) → NoExit (and_then x (λ did w. onward did (λ _. next) w))
-goes-then S (Went (Gives a s) w) y next h n go = go s h.by.value w h.by.related
-goes-then S (Went (Exits z s) w) y next h n go = absurd (n.by)
-goes-then S (Went Malformed w) y next h n go = record { by = tt }
-goes-then S (Stops end trace) y next h n go = record { by = tt }
+use Rattle.cf_lower_program.specs.Alike.{nothing_told, all_told_after, statements_alike, start_alike}
+use Rattle.cf_lower_settings.specs.Named.{NamesGo}
+use Rattle.cf_lower_settings.specs.Set.{NamesStand, OwnObject, Clear, SetAs, NoExit}
+use Rattle.cf_lower_settings.proofs.Runs.{GivesAs, gives-then, gives-map}
+use Rattle.cf_lower_settings.proofs.Done.{with_names, c_all, DoneBy, done-none, done-both, since-none}
+use Rattle.cf_lower_settings.proofs.Statements.{Walked, statements-walk}
 
 -- ---- an empty initialiser
 
@@ -68,96 +41,114 @@ empty-code : (ss : Plains) (f : Name) (q : Name → Name) → is_empty (renamed_
 empty-code nothing f q e = refl
 empty-code (more s ss) f q e = absurd (true≢false (sym e))
 
--- ---- statements behind statements
+-- what is asked of a static object, whose object has this number
+pub record Sets (P : Program) (q r : Name → Name) (x : PlainStatic) : Type 0 where
+  pub alike : start_alike x ≡ true
+  pub names_go : NamesGo q r x.start
+  pub object : ℕ
+  pub numbered : static_number P (q x.name) ≡ Some object
+  pub goes : r x.name ≡ q x.name
 
-falls-then : (ss rest : c.State → World → Ran c.Flow) (flow : c.Flow) (w : World)
-    → falling (λ t w. and_then (ss t w) (falling rest)) flow w ≡ and_then (falling ss flow w) (falling rest)
-falls-then ss rest (c.Falls t) w = refl
-falls-then ss rest (c.Breaks t) w = refl
-falls-then ss rest (c.Continues t) w = refl
-falls-then ss rest (c.Returns v t) w = refl
-falls-then ss rest (c.Exits z t) w = refl
+-- different static objects are different objects
+abbrev pub Different : Program → (Name → Name) → List PlainStatic → Type 0
+Different P q [] = Unit {0}
+Different P q (x ∷ xs) =
+    Every (λ (y : PlainStatic). (a b : ℕ) → static_number P (q x.name) ≡ Some a → static_number P (q y.name) ≡ Some b → b ≡ a → ⊥) xs × Different P q xs
 
-run-then : (x : Ran c.Flow) (ss rest : c.State → World → Ran c.Flow)
-    → and_then x (falling (λ t w. and_then (ss t w) (falling rest))) ≡ and_then (and_then x (falling ss)) (falling rest)
-run-then (Went flow w) ss rest = falls-then ss rest flow w
-run-then (Stops end trace) ss rest = refl
-
-module _ (P : Program) (function : Name → ℕ) (signature : Name → SourceType) (F : Map) (names : Scope)
-    (there : (name : Name) (o : ℕ) → static_number P name ≡ Some o → NamedThere P F names name o) (none : P.classes ≡ []) (q r : Name → Name)
-    (again : running.Again) (c_again helps : mean.Again) (p : mean.Program) (inside : Bool) (depth : ℕ)
-    (adds : (ss : List Statement) (u : c.State) (w : World) → Adds w.trace (mean.does_all c_again helps p inside (in_order ss) names depth u w)) where
+module _ (P : Program) (function : Name → ℕ) (signature : Name → SourceType) (F : Map) (names : Scope) (N : NamesStand P function signature F names) (q r : Name → Name)
+    (again : running.Again) (c_again helps : mean.Again) (program : mean.Program) (inside : Bool) (depth : ℕ) where
   abbrev K : Fixed
   K = fixed_of P function signature
 
-  abbrev pub c_all : List Statement → c.State → World → Ran c.Flow
-  c_all ss u w = mean.does_all c_again helps p inside (in_order ss) names depth u w
+  abbrev pub Done : List Statement → State → c.State → State → Type 0
+  Done = DoneBy K F names r c_again helps program inside depth
 
-  abbrev with_names : List Statement → List Statement
-  with_names ss = map (λ (x : Statement). statement_with x r) ss
+  abbrev pub c_run : List Statement → c.State → World → Ran c.Flow
+  c_run ss u w = c_all K F names r c_again helps program inside depth ss u w
 
-  all-then : (xs ys : List Statement) (t : c.State) (w : World) → c_all (xs ++ ys) t w ≡ and_then (c_all xs t w) (falling (λ t w. c_all ys t w))
-  all-then [] ys t w = refl
-  all-then (x ∷ xs) ys t w =
-      ap (λ go. and_then (mean.does c_again helps p inside x names depth t w) (falling go)) (λ j t w. all-then xs ys t w j)
-      ∙ run-then (mean.does c_again helps p inside x names depth t w) (λ t w. c_all xs t w) (λ t w. c_all ys t w)
+  -- ---- both runs from what the source does
 
-  -- what the source does, and these statements of the C
-  pub record SetsAlike (act : Act (Unit {0})) (ss : List Statement) : Type 0 where
-    pub sim : (s : State) (m : Memory) (t : State) (u : c.State) (w : World) → Since K F s m t u.memory
-        → Simulates (λ a t flow. SetAs K F s m t flow) (act t w) (c_all ss u w)
-    pub goes : (t : State) (u : c.State) (w : World) → Rel K F t u.memory → NoExit (act t w)
+  pub sim-of : {A : Type 0} (xs : List Statement) (s : State) (u : c.State) (w : World) → Adds w.trace (c_run xs u w) → (x : Ran (Did A))
+      → GivesAs x w (λ a t. Done xs s u t) → Simulates (λ a t flow. SetAs K F s u.memory t flow) x (c_run xs u w)
+  sim-of xs s u w adds (Went (Gives a t) w1) h =
+      let d = h.by.1 in
+      subst (λ w1. Simulates (λ a t flow. SetAs K F s u.memory t flow) (Went (Gives a t) w1) (c_run xs u w)) (sym h.by.0) (record {
+        by = record {
+          value = c.Falls d.after;
+          run = ap (λ l. c_run l u w) (sym (append-nil xs)) ∙ d.runs [] w;
+          related = record { after = d.after; is = refl; since = d.since };
+        };
+      })
+  sim-of xs s u w adds (Went (Exits z t) w1) h = absurd (h.by)
+  sim-of xs s u w adds (Went Malformed w1) h = record { by = tt }
+  sim-of xs s u w adds (Stops (Undefined n) trace) h = record { by = subst (λ t. Begins t (shown (c_run xs u w))) (sym h.by) adds.by }
+  sim-of xs s u w adds (Stops (Ended z) trace) h = absurd (h.by)
+  sim-of xs s u w adds (Stops Ticks trace) h = absurd (h.by)
+  sim-of xs s u w adds (Stops Depth trace) h = absurd (h.by)
 
-  sets-none : SetsAlike done []
-  sets-none = record {
-    sim = λ s m t u w since. sim-here (λ a t flow. SetAs K F s m t flow) tt t w (c_all [] u w) (c.Falls u) refl (record { after = u; is = refl; since = since });
-    goes = λ t u w rel. record { by = tt };
-  }
+  pub no-exit : {A : Type 0} (R : A → State → Type 0) (x : Ran (Did A)) (w : World) → GivesAs x w R → NoExit x
+  no-exit R (Went (Gives a t) w1) w h = record { by = tt }
+  no-exit R (Went (Exits z t) w1) w h = absurd (h.by)
+  no-exit R (Went Malformed w1) w h = record { by = tt }
+  no-exit R (Stops end trace) w h = record { by = tt }
 
-  sets-then : (a b : Act (Unit {0})) (xs ys : List Statement) → SetsAlike a xs → SetsAlike b ys → SetsAlike (a >> b) (xs ++ ys)
-  sets-then a b xs ys h k = record {
-    sim = λ s m t u w since.
-        sim-as (λ a t flow. SetAs K F s m t flow) ((a >> b) t w) (and_then (c_all xs u w) (falling (λ u w. c_all ys u w))) (c_all (xs ++ ys) u w) (all-then xs ys u w)
-        (sim-next (λ a t flow. SetAs K F s m t flow) (λ a t flow. SetAs K F s m t flow) (a t w) (c_all xs u w) (λ _. b) (falling (λ u w. c_all ys u w)) (h.sim s m t u w since)
-        (λ x t flow w set.
-        sim-as (λ a t flow. SetAs K F s m t flow) (b t w) (c_all ys set.after w) (falling (λ u w. c_all ys u w) flow w) (ap (λ f. falling (λ u w. c_all ys u w) f w) set.is)
-        (k.sim s m t set.after w set.since))
-        (λ z t w. refl) (λ flow w. grows-falling (λ u w. c_all ys u w) (λ u w. adds ys u w) flow w));
-    goes = λ t u w rel.
-        goes-then (λ x flow. SetAs K F t u.memory x flow) (a t w) (c_all xs u w) b (h.sim t u.memory t u w (still t u.memory rel)) (h.goes t u w rel)
-        (λ x flow w set. k.goes x set.after w set.since.rel);
-  }
-    where
-      still : (t : State) (m : Memory) → Rel K F t m → Since K F t m t m
-      still t m rel = record { rel = rel; next = refl; elsewhere = λ b free. refl; depth = refl; literals = refl; finished = refl }
+  -- ---- one initialiser
 
-  -- one static object
+  -- its stores are done, and no other object has changed
+  pub record SetsOwn (xs : List Statement) (own : ℕ) (s : State) (u : c.State) (t : State) : Type 0 where
+    pub done : Done xs s u t
+    pub kept : (o : ℕ) → (o ≡ own → ⊥) → t.object o ≡ s.object o
+
+  pub one-set : (name : Name) (own : ℕ) → OwnObject F names r name own → (ss : Plains) (f : Name) (s : State) (u : c.State) (w : World)
+      → statements_alike name ss f nothing_known nothing_told ≡ true → NamesGo q r ss → Rel K F s u.memory → Clear (F.type own) [] own s
+      → GivesAs (all again P (renamed_all q ss) no_registers s w) w (λ flow t. SetsOwn (with_names r (constant_code [] ss f nothing_known)) own s u t)
+  one-set name own O ss f s u w e goes rel clear =
+      gives-map
+      (Walked P function signature F names N q r again c_again helps program inside depth name own O (constant_code [] ss f nothing_known)
+      (all_known_after [] ss f nothing_known) (all_told_after ss f nothing_known nothing_told) s u)
+      (λ flow t. SetsOwn (with_names r (constant_code [] ss f nothing_known)) own s u t) (all again P (renamed_all q ss) no_registers s w) w
+      (λ flow t d. record { done = d.done; kept = d.kept })
+      (statements-walk P function signature F names N q r again c_again helps program inside depth name own O ss f nothing_known nothing_told no_registers s u w
+      (λ i v e. tt) rel clear e goes)
+
+  -- one static object, in the frame of its function
   abbrev framed : Name → State → State
   framed g t = with_frame (record t.frame { function = g }) t
 
-  rel-framed : (g : Name) (t : State) (m : Memory) → Rel K F t m → Rel K F (framed g t) m
-  rel-framed g t m r = record { count = r.count; type = r.type; laid = r.laid; gone = r.gone; stands = r.stands; below = r.below; apart = r.apart }
+  rel-framed : (g : Name) (t : State) (u : c.State) → Rel K F t u.memory → Rel K F (framed g t) u.memory
+  rel-framed g t u r = record { count = r.count; type = r.type; laid = r.laid; gone = r.gone; stands = r.stands; below = r.below; apart = r.apart }
 
-  sets-one : (ss : Plains) (f g : Name) → number_statements ss f nothing_known ≡ true → NamesGo q r ss
-      → SetsAlike (set_constant again P (record { function = g; start = renamed_all q ss })) (with_names (constant_code [] ss f nothing_known))
-  sets-one ss f g e go = record {
-    sim = λ s m t u w since.
-        sim-done (λ t flow. SetAs K F s m t flow) (all again P (renamed_all q ss) no_registers (framed g t) w) (c_all (with_names (constant_code [] ss f nothing_known)) u w)
-        (all-set P function signature F names there none q r again c_again helps p inside depth adds ss f nothing_known no_registers s m (framed g t) u w
-        (nothing-holds P F names there q r) e go
-        (record {
-          rel = rel-framed g t u.memory since.rel;
-          next = since.next;
-          elsewhere = since.elsewhere;
-          depth = since.depth;
-          literals = since.literals;
-          finished = since.finished;
-        }));
-    goes = λ t u w rel.
-        goes-done (all again P (renamed_all q ss) no_registers (framed g t) w)
-        (all-goes P function signature F names there none q r again c_again helps p inside depth adds ss f nothing_known no_registers (framed g t) u w
-        (nothing-holds P F names there q r) e go (rel-framed g t u.memory rel));
+  own-object : (x : PlainStatic) (h : Sets P q r x) → OwnObject F names r x.name h.object
+  own-object x h =
+      let y = N.statics (q x.name) h.object h.numbered in
+      record { shape = y.shape; named = ap names h.goes ∙ y.named; known = y.known; shown = y.shown }
+
+  framed-done : (g : Name) (xs : List Statement) (own : ℕ) (s : State) (u : c.State) (t : State) → SetsOwn xs own (framed g s) u t → SetsOwn xs own s u t
+  framed-done g xs own s u t h = record {
+    done = record {
+      after = h.done.after;
+      runs = h.done.runs;
+      since = record {
+        rel = h.done.since.rel;
+        next = h.done.since.next;
+        elsewhere = h.done.since.elsewhere;
+        depth = h.done.since.depth;
+        literals = h.done.since.literals;
+        finished = h.done.since.finished;
+      };
+    };
+    kept = h.kept;
   }
+
+  static-set : (x : PlainStatic) (h : Sets P q r x) (g : Name) (s : State) (u : c.State) (w : World) → Rel K F s u.memory → Clear (F.type h.object) [] h.object s
+      → GivesAs (set_constant again P (record { function = g; start = renamed_all q x.start }) s w) w
+      (λ a t. SetsOwn (with_names r (constant_code [] x.start (owner_of x) nothing_known)) h.object s u t)
+  static-set x h g s u w rel clear =
+      gives-then (λ flow t. SetsOwn (with_names r (constant_code [] x.start (owner_of x) nothing_known)) h.object (framed g s) u t)
+      (λ a t. SetsOwn (with_names r (constant_code [] x.start (owner_of x) nothing_known)) h.object s u t)
+      (all again P (renamed_all q x.start) no_registers (framed g s) w) w (λ _. done)
+      (one-set x.name h.object (own-object x h) x.start (owner_of x) (framed g s) u w h.alike h.names_go (rel-framed g s u rel) clear)
+      (λ flow t d. record { by = (refl, framed-done g _ h.object s u t d) })
 
   -- ---- all of a file
 
@@ -173,12 +164,15 @@ module _ (P : Program) (function : Name → ℕ) (signature : Name → SourceTyp
   abbrev pub c_stores : List PlainStatic → List Statement
   c_stores xs = flat_map code_of (filter (λ (x : PlainStatic). x.is_constant) xs)
 
-  abbrev pub NumbersIn : PlainStatic → Type 0
-  NumbersIn x = (number_statements x.start (owner_of x) nothing_known ≡ true) × NamesGo q r x.start
+  -- none of them was set
+  abbrev pub Unset : List PlainStatic → State → Type 0
+  Unset xs s = Every (λ (x : PlainStatic). (o : ℕ) → static_number P (q x.name) ≡ Some o → Clear (F.type o) [] o s) xs
 
-  pub sets-alike : (name : Name) (xs : List PlainStatic) → Every NumbersIn xs → SetsAlike (source_sets name xs) (with_names (c_stores xs))
-  sets-alike name [] h = sets-none
-  sets-alike name (x ∷ xs) h = go x.is_constant (sets-alike name xs (λ y k. h y (inr k)))
+  settings-step : (name : Name) (x : PlainStatic) (xs : List PlainStatic) (mine : Sets P q r x)
+      → Every (λ (y : PlainStatic). (a b : ℕ) → static_number P (q x.name) ≡ Some a → static_number P (q y.name) ≡ Some b → b ≡ a → ⊥) xs → (w : World)
+      → ((s : State) (u : c.State) → Rel K F s u.memory → Unset xs s → GivesAs (source_sets name xs s w) w (λ a t. Done (with_names r (c_stores xs)) s u t))
+      → (s : State) (u : c.State) → Rel K F s u.memory → Unset (x ∷ xs) s → GivesAs (source_sets name (x ∷ xs) s w) w (λ a t. Done (with_names r (c_stores (x ∷ xs))) s u t)
+  settings-step name x xs mine apart w again-set s u rel unset = go x.is_constant
     where
       L : List PlainStatic
       L = filter sets_constant (map renamed_static xs)
@@ -186,19 +180,38 @@ module _ (P : Program) (function : Name → ℕ) (signature : Name → SourceTyp
       M : List PlainStatic
       M = filter (λ (x : PlainStatic). x.is_constant) xs
 
-      both-ways : (e : Bool) → is_empty (renamed_all q x.start) ≡ e → SetsAlike (for_all (map (constant_setting name) L) (set_constant again P)) (with_names (flat_map code_of M))
-          → SetsAlike (for_all (map (constant_setting name) (cond (not e) (renamed_static x ∷ L) L)) (set_constant again P)) (with_names (code_of x ++ flat_map code_of M))
-      both-ways true is rest =
-          subst (λ l. SetsAlike (for_all (map (constant_setting name) L) (set_constant again P)) (with_names (l ++ flat_map code_of M))) (sym (empty-code x.start (owner_of x) q is)) rest
-      both-ways false is rest =
-          let two = h x (inl refl) in
-          subst (λ l. SetsAlike (for_all (map (constant_setting name) (renamed_static x ∷ L)) (set_constant again P)) l)
-          (sym (map-append (λ (x : Statement). statement_with x r) (code_of x) (flat_map code_of M)))
-          (sets-then (set_constant again P (constant_setting name (renamed_static x))) (for_all (map (constant_setting name) L) (set_constant again P)) (with_names (code_of x))
-          (with_names (flat_map code_of M)) (sets-one x.start (owner_of x) (constant_setting name (renamed_static x)).function two.0 two.1) rest)
+      Goal : List PlainStatic → List Statement → Type 0
+      Goal l ss = GivesAs (for_all (map (constant_setting name) l) (set_constant again P) s w) w (λ a t. Done (with_names r ss) s u t)
 
-      go : (b : Bool) → SetsAlike (for_all (map (constant_setting name) L) (set_constant again P)) (with_names (flat_map code_of M))
-          → SetsAlike (for_all (map (constant_setting name) (cond (b && not (is_empty (renamed_all q x.start))) (renamed_static x ∷ L) L)) (set_constant again P))
-          (with_names (flat_map code_of (cond b (x ∷ M) M)))
-      go true rest = both-ways (is_empty (renamed_all q x.start)) refl rest
-      go false rest = rest
+      without : Goal L (flat_map code_of M)
+      without = again-set s u rel (λ y k. unset y (inr k))
+
+      still-unset : (t : State) → ((o : ℕ) → (o ≡ mine.object → ⊥) → t.object o ≡ s.object o) → Unset xs t
+      still-unset t kept y k o is =
+          subst (λ (z : Object). Clear (F.type o) [] o (record s { object = λ p. z })) (sym (kept o (λ e. apart y k mine.object o mine.numbered is e))) (unset y (inr k) o is)
+
+      with-it : Goal (renamed_static x ∷ L) (code_of x ++ flat_map code_of M)
+      with-it =
+          gives-then (λ a t. SetsOwn (with_names r (code_of x)) mine.object s u t) (λ a t. Done (with_names r (code_of x ++ flat_map code_of M)) s u t)
+          (set_constant again P (constant_setting name (renamed_static x)) s w) w (λ _. for_all (map (constant_setting name) L) (set_constant again P))
+          (static-set x mine (constant_setting name (renamed_static x)).function s u w rel (unset x (inl refl) mine.object mine.numbered))
+          (λ a t d.
+          gives-map (λ a v. Done (with_names r (flat_map code_of M)) t d.done.after v) (λ a v. Done (with_names r (code_of x ++ flat_map code_of M)) s u v)
+          (for_all (map (constant_setting name) L) (set_constant again P) t w) w
+          (λ a v e. done-both K F names r c_again helps program inside depth (code_of x) (flat_map code_of M) s u t v d.done e)
+          (again-set t d.done.after d.done.since.rel (still-unset t d.kept)))
+
+      both-ways : (e : Bool) → is_empty (renamed_all q x.start) ≡ e → Goal (cond (not e) (renamed_static x ∷ L) L) (code_of x ++ flat_map code_of M)
+      both-ways true is = subst (λ l. Goal L (l ++ flat_map code_of M)) (sym (empty-code x.start (owner_of x) q is)) without
+      both-ways false is = with-it
+
+      go : (b : Bool) → Goal (cond (b && not (is_empty (renamed_all q x.start))) (renamed_static x ∷ L) L) (flat_map code_of (cond b (x ∷ M) M))
+      go true = both-ways (is_empty (renamed_all q x.start)) refl
+      go false = without
+
+  pub settings-alike : (name : Name) (xs : List PlainStatic) → Every (Sets P q r) xs → Different P q xs → (s : State) (u : c.State) (w : World) → Rel K F s u.memory → Unset xs s
+      → GivesAs (source_sets name xs s w) w (λ a t. Done (with_names r (c_stores xs)) s u t)
+  settings-alike name [] h apart s u w rel unset =
+      record { by = (refl, done-none K F names r c_again helps program inside depth s u s (since-none K F s u.memory rel)) }
+  settings-alike name (x ∷ xs) h apart s u w rel unset =
+      settings-step name x xs (h x (inl refl)) apart.0 w (λ s u rel unset. settings-alike name xs (λ y k. h y (inr k)) apart.1 s u w rel unset) s u rel unset

@@ -1,18 +1,27 @@
 -- What setting static objects with constants does in both programs.
-use Rattle.std.specs.Prelude.{◌≡◌, ℕ, ◌<◌, true, Some}
-use Rattle.cf_core.specs.Types.{Name}
+use Rattle.std.specs.Prelude.{◌≡◌, ℕ, ◌<◌, true, List, [], Some}
+use Rattle.cf_core.specs.Types.{Name, SourceType}
 use Rattle.cf_base.specs.World.{Ran, Went, Stops}
+use Rattle.cf_core.specs.Core.{Function}
+use Rattle.cf_core.specs.Places.{Route, type_at}
 use Rattle.cf_core.specs.Run.{State, Did, Gives, Exits, Malformed}
-use Rattle.cf_core.specs.Calls.{Program}
-use Rattle.cf_core.specs.Objects.{static_type}
+use Rattle.cf_core.specs.Calls.{Program, is_library, function_named}
+use Rattle.cf_core.specs.Objects.{static_number, static_type}
+use Rattle.cf_core.specs.Size.{size}
+use Rattle.cf_core.specs.Store.{zero_of}
 use Rattle.cc_whole_memory.specs.Blocks.{Memory}
 use Rattle.cc_whole_mean.specs.declared.named.Named.TheVariants as meant
 use Rattle.cc_whole_mean.specs.declared.named.Shape.{Shape}
 use Rattle.cc_whole_mean.specs.Flow as c
 use Rattle.cc_whole_mean.specs.Scope.{Scope}
+use Rattle.cf_lower_layout.specs.Layout.{offset, leads}
+use Rattle.cf_lower_layout.specs.Sorts.{Sort, sort_of}
+use Rattle.cf_lower_place.specs.Named.{library_type}
 use Rattle.cf_lower_relate.specs.Map.{Fixed, Map, is_shown}
 use Rattle.cf_lower_relate.specs.Relation.{Rel}
+use Rattle.cf_lower_steps.specs.Lowering.{is_function}
 use Rattle.cf_lower_turns.specs.Texts.{Free}
+use Rattle.cf_lower_program.specs.Alike.{Part, clear_of}
 
 -- a static object stands in the variable of its name
 pub record NamedThere (P : Program) (F : Map) (names : Scope) (name : Name) (o : ℕ) : Type 0 where
@@ -22,6 +31,27 @@ pub record NamedThere (P : Program) (F : Map) (names : Scope) (name : Name) (o :
   pub type : F.type o ≡ static_type P name
   pub shown : is_shown (F.stage o) ≡ true
   pub base : F.base o ≡ 0
+
+-- Static objects stand in the variables of their names, functions are those of theirs, and each function has the type that is told of it. There is no class.
+pub record NamesStand (P : Program) (function : Name → ℕ) (signature : Name → SourceType) (F : Map) (names : Scope) : Type 0 where
+  pub none : P.classes ≡ []
+  pub statics : (name : Name) (o : ℕ) → static_number P name ≡ Some o → NamedThere P F names name o
+  pub functions : (name : Name) → is_function P name ≡ true → names name ≡ Some (meant.Function (function name))
+  pub typed : (name : Name) (f : Function) → function_named P name ≡ Some f → signature name ≡ f.type
+  pub library : (name : Name) → is_library name ≡ true → signature name ≡ library_type name
+
+-- the object that an initialiser sets, in the variable of its name
+pub record OwnObject (F : Map) (names : Scope) (r : Name → Name) (name : Name) (o : ℕ) : Type 0 where
+  pub shape : Shape
+  pub named : names (r name) ≡ Some (meant.Variable (F.block o) shape)
+  pub known : o < F.count
+  pub shown : is_shown (F.stage o) ≡ true
+
+-- Each scalar of an object of this type is 0 or null of which no byte is in these parts.
+abbrev pub Clear : SourceType → List Part → ℕ → State → Type 0
+Clear t parts o s =
+    (π : Route) (u : Sort) → leads [] t π ≡ true → sort_of (type_at [] t π) ≡ Some u → clear_of (offset [] t π) (size [] (type_at [] t π)) parts ≡ true
+    → (s.object o).held π ≡ Some (zero_of (type_at [] t π))
 
 -- Nothing but what objects hold has changed, and what is reached.
 pub record Since (K : Fixed) (F : Map) (s : State) (m : Memory) (t : State) (n : Memory) : Type 0 where

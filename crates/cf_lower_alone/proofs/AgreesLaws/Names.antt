@@ -126,10 +126,10 @@ module _ (fs : List PlainFunction) (xs : List PlainStatic) (low : Lowerable (fil
   -- ---- functions
 
   -- none of the library is the file's
-  library-apart : (n : Name) → calls.is_library n ≡ true → (f : Name) → Foreign f → f ≡ n → ⊥
+  pub library-apart : (n : Name) → calls.is_library n ≡ true → (f : Name) → Foreign f → f ≡ n → ⊥
   library-apart n h f p same = true≢false (sym h ∙ ap calls.is_library (sym same) ∙ source-library f p)
 
-  library-stays : (n : Name) → calls.is_library n ≡ true → q n ≡ n
+  pub library-stays : (n : Name) → calls.is_library n ≡ true → q n ≡ n
   library-stays n h = ap (λ c. cond c (in_file 1 n) n) (not-true (list_any (bytes_eq n) (locals fs xs low)) (λ k. go (local-as fs xs low n k)))
     where
       go : LocalAs fs xs low n → ⊥
@@ -274,7 +274,7 @@ module _ (fs : List PlainFunction) (xs : List PlainStatic) (low : Lowerable (fil
   library-typed : (n : Name) → calls.is_library n ≡ true → P.signature n ≡ type_of_function n None
   library-typed n h = ap (type_of_function n) (found-header G n ∙ ap (option_map header) (library-none n h))
 
-  names-typed : NamesTyped P
+  pub names-typed : NamesTyped P
   names-typed = record {
     library = λ name h. of-library (λ n. P.signature n ≡ library_type n) name h (library-typed (codes "putchar") refl) (library-typed (codes "getchar") refl)
         (library-typed (codes "exit") refl);

@@ -1,12 +1,15 @@
 -- Behind the constants all stands as the source's `main` needs it.
-use Rattle.std.proofs.Common.{◌≡◌, ℕ, true, false, ◌&&◌, ◌==◌, List, [], ◌∷◌, map, Some, Ok, refl, sym, subst, ◌∙◌, arith}
+use Rattle.std.proofs.Common.{◌≡◌, ℕ, true, false, ◌&&◌, ◌==◌, List, [], ◌∷◌, slice_get, map, Option, Some, None, Ok, refl, ap, sym, subst, ◌∙◌, arith}
 use Rattle.std.specs.Prelude.{filter, find, bytes_eq, codes, option_map}
 use Rattle.std.specs.List.{flat_map}
 use Rattle.cf_base.specs.Agree.{Adds}
 use Rattle.cf_base.specs.World.{World, Ran, Went, Stops}
-use Rattle.cf_core.specs.Types.{Name}
+use Rattle.cf_core.specs.Types.{Name, void}
+use Rattle.cf_core.specs.Core.{Static}
+use Rattle.cf_core.specs.Places.{Route, type_at}
+use Rattle.cf_core.specs.Store.{zero_of}
 use Rattle.cf_core.specs.Objects.{static_number, found_literal}
-use Rattle.cf_core.specs.Program.{first_state}
+use Rattle.cf_core.specs.Program.{static_object_of, first_state}
 use Rattle.cf_core.specs.Run.{Literal, State, Did, Gives, Exits, Malformed, for_all}
 use Rattle.cf_plain.specs.Plain.{PlainStatic}
 use Rattle.cf_plain.specs.Program.{PlainSetting, set_constant}
@@ -34,9 +37,9 @@ use Rattle.cf_lower_turns.specs.Texts.{TextAs}
 use Rattle.cf_lower_turns.proofs.Following.{sim-as, sim-map}
 use Rattle.cf_lower_calls.specs.Returns.Called.{Programs, fixed}
 use Rattle.cf_lower_begun.specs.Begun.{static_map}
-use Rattle.cf_lower_settings.specs.Numbers.{number_statements, NamesGo}
-use Rattle.cf_lower_settings.specs.Set.{NamedThere, Since, SetAs, NoExit}
-use Rattle.cf_lower_settings.proofs.Settings.{sets-alike}
+use Rattle.cf_lower_settings.specs.Set.{NamedThere, NamesStand, Clear, Since, SetAs, NoExit}
+use Rattle.cf_lower_settings.proofs.Runs.{GivesAs}
+use Rattle.cf_lower_settings.proofs.Settings.{Done, Sets, Different, sim-of, no-exit, settings-alike}
 use Rattle.cf_lower_alone.specs.Linked.{calls_of_helpers, helpers_of}
 use Rattle.cf_lower_alone.specs.Starts.{Starts}
 use Rattle.cf_lower_alone.specs.Added.{main_scope, ReadyBehind, ConstantsAlike}
@@ -107,8 +110,20 @@ HelperFound B r (s ∷ ss) =
     × (callee_named B.c_program.functions (r (codes "__hci"))
     ≡ Ok (own (helper (r (codes "__hci")) (in_order (map (λ (x : Statement). statement_with x r) (s ∷ ss)))))))
 
-module _ (B : Programs) (none : B.program.classes ≡ []) (first : c.State) (start : (depth : ℕ) → Starts B depth first.memory) (q r : Name → Name) (name : Name)
-    (xs : List PlainStatic) (numbers : Every (λ (x : PlainStatic). (number_statements x.start (owner_of x) nothing_known ≡ true) × NamesGo q r x.start) xs) where
+module _ (B : Programs) (none : B.program.classes ≡ []) where
+  -- static storage is zero as the program starts
+  zeroed-first : (x : Option Static) (π : Route) → (static_object_of B.program.classes x).held π
+      ≡ Some (zero_of (type_at [] (static_object_of B.program.classes x).type π))
+  zeroed-first None π = ap (λ cs. Some (zero_of (type_at cs void π))) none
+  zeroed-first (Some x) π = ap (λ cs. Some (zero_of (type_at cs x.type π))) none
+
+  unset-first : (depth : ℕ) (q : Name → Name) (xs : List PlainStatic)
+      → Every (λ (x : PlainStatic). (o : ℕ) → static_number B.program (q x.name) ≡ Some o → Clear ((static_map B.program).type o) [] o (first_state B.program depth)) xs
+  unset-first depth q xs x h o is π u lead sort free = zeroed-first (slice_get B.program.statics o) π
+
+module _ (B : Programs) (none : B.program.classes ≡ []) (first : c.State) (start : (depth : ℕ) → Starts B depth first.memory)
+    (N : NamesStand B.program B.function B.signature (static_map B.program) B.c_program.names) (q r : Name → Name) (name : Name) (xs : List PlainStatic)
+    (sets : Every (Sets B.program q r) xs) (differ : Different B.program q xs) where
   abbrev stores : List Statement
   stores = flat_map (λ (x : PlainStatic). constant_code [] x.start (owner_of x) nothing_known) (filter (λ (x : PlainStatic). x.is_constant) xs)
 
@@ -162,22 +177,30 @@ module _ (B : Programs) (none : B.program.classes ≡ []) (first : c.State) (sta
     since-at : (u : c.State) → u.memory ≡ u0.memory → Since (fixed B) F0 s0 u0.memory s0 u.memory
     since-at u e = subst (λ m. Since (fixed B) F0 s0 u0.memory s0 m) (sym e) (since-start B depth first.memory (start depth))
 
+    -- all are set in both, from a state of the C with this memory
+    all-set : (u : c.State) → u.memory ≡ u0.memory → (w : World)
+        → GivesAs (source w) w (λ a t. Done B.program B.function B.signature F0 B.c_program.names N q r (plain.runs B.program B.functions n) again refused B.c_program true depth
+        (with_names stores) s0 u t)
+    all-set u e w =
+        settings-alike B.program B.function B.signature F0 B.c_program.names N q r (plain.runs B.program B.functions n) again refused B.c_program true depth name xs sets differ s0 u w
+        (since-at u e).rel (unset-first B none depth q xs)
+
     pub set-sim : (w : World) → Simulates (λ a t flow. S t flow) (source w)
         (mean.does_all again (helps_in again B.c_program false) B.c_program false (in_order (calls_of_helpers (helpers_of r stores)))
         (main_scope B.c_program.names first.memory.next) depth u0 w)
     set-sim w =
-        let alike = sets-alike B.program B.function B.signature F0 B.c_program.names (named-there B depth first.memory (start depth)) none q r (plain.runs B.program B.functions n)
-        again refused B.c_program true depth inner-adds name xs numbers in
-        in-helper w stores found (λ u e. alike.sim s0 u0.memory s0 u w (since-at u e))
+        in-helper w stores found (λ u e.
+        subst (λ m. Simulates (λ a t flow. SetAs (fixed B) F0 s0 m t flow) (source w) (inner (with_names stores) u w)) e
+        (sim-of B.program B.function B.signature F0 B.c_program.names N q r (plain.runs B.program B.functions n) again refused B.c_program true depth (with_names stores) s0 u w
+        (inner-adds (with_names stores) u w) (source w) (all-set u e w)))
 
     pub set-kept : (w : World) → Always NoneFinished (source w)
     set-kept w =
-        let alike = sets-alike B.program B.function B.signature F0 B.c_program.names (named-there B depth first.memory (start depth)) none q r (plain.runs B.program B.functions n)
-        again refused B.c_program true depth inner-adds name xs numbers in
-        always-of (fixed B) F0 s0 u0.memory (source w) _ (set-sim w) (alike.goes s0 u0 w (since-start B depth first.memory (start depth)).rel) refl
+        always-of (fixed B) F0 s0 u0.memory (source w) _ (set-sim w)
+        (no-exit B.program B.function B.signature F0 B.c_program.names N q r (plain.runs B.program B.functions n) again refused B.c_program true depth _ (source w) w (all-set u0 refl w)) refl
 
-  pub numbers-alike : HelperFound B r stores → ConstantsAlike B settings (calls_of_helpers (helpers_of r stores)) first
-  numbers-alike found = record {
+  pub constants-alike : HelperFound B r stores → ConstantsAlike B settings (calls_of_helpers (helpers_of r stores)) first
+  constants-alike found = record {
     alike = λ n depth w input.
         sim-map (λ a t flow. SetAs (fixed B) (static_map B.program) (first_state B.program depth) (born storage.Local 4 first.memory) t flow)
         (λ a t flow. ReadyBehind B depth first.memory.next t flow) (λ a t flow. ready-behind B depth first.memory (start depth) t flow) _ _ (set-sim found n depth w);

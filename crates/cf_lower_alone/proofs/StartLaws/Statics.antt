@@ -77,11 +77,11 @@ index-once n (z ∷ xs) (suc i) (suc j) x y d e h s = ap (λ (k : ℕ). suc k) (
 
 -- ---- static objects by name
 
-record AtNumber (xs : List Static) (name : Name) (o : ℕ) : Type 0 where
-  one : Static
-  at : slice_get xs o ≡ Some one
-  found : find (λ (x : Static). bytes_eq x.name name) xs ≡ Some one
-  named : one.name ≡ name
+pub record AtNumber (xs : List Static) (name : Name) (o : ℕ) : Type 0 where
+  pub one : Static
+  pub at : slice_get xs o ≡ Some one
+  pub found : find (λ (x : Static). bytes_eq x.name name) xs ≡ Some one
+  pub named : one.name ≡ name
 
 record SliceThere {A : Type 0} (xs : List A) (i : ℕ) : Type 0 where
   one : A
@@ -103,7 +103,7 @@ find-passes p (y ∷ xs) x e = go (p y) refl (λ k. find-passes p xs x k) e
     go true is again k = ap p (sym (some-same k)) ∙ is
     go false is again k = again k
 
-at-number : (xs : List Static) (name : Name) (o : ℕ) → position (λ (x : Static). bytes_eq x.name name) xs ≡ Some o → AtNumber xs name o
+pub at-number : (xs : List Static) (name : Name) (o : ℕ) → position (λ (x : Static). bytes_eq x.name name) xs ≡ Some o → AtNumber xs name o
 at-number xs name o e = go (position_or_len (λ (x : Static). bytes_eq x.name name) xs) refl e
   where
     go : (at : ℕ) → position_or_len (λ (x : Static). bytes_eq x.name name) xs ≡ at → cond (nat_lt at (length xs)) (Some at) None ≡ Some o → AtNumber xs name o
