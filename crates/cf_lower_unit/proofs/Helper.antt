@@ -1,6 +1,6 @@
 -- The helper that stores what constant initialisers do, by whether there is anything.
 use Rattle.std.proofs.Common.{◌≡◌, List, [], ◌∷◌, ◌++◌, refl, sym, ap, ◌∙◌, append-nil}
-use Rattle.std.specs.Prelude.{Bool, true, false, None, codes}
+use Rattle.std.specs.Prelude.{true, false, None, codes}
 use Rattle.cc_whole.specs.declared.statement.CLocal.{CLocal}
 use Rattle.cc_whole.specs.declared.statement.CStatement.{CStatement}
 use Rattle.cc_whole.specs.declared.unit.CParameter.{CParameter}

@@ -1,20 +1,19 @@
 -- Lists of items, made part by part.
-use Rattle.std.proofs.Common.{◌≡◌, List, [], ◌∷◌, ◌++◌, map, refl, sym, ap, ◌∙◌, append_assoc}
+use Rattle.std.proofs.Common.{◌≡◌, List, [], ◌∷◌, ◌++◌, map, sym, ap, ◌∙◌, append_assoc}
 use Rattle.std.proofs.lemmas.List.{map-append}
-use Rattle.std.specs.Prelude.{Option, Some, None, codes}
+use Rattle.std.specs.Prelude.{Some, None, codes}
 use Rattle.std.specs.List.{flat_map}
-use Rattle.cc_whole.specs.declared.types.CType.{CType}
 use Rattle.cc_whole.specs.declared.types.CType.TheVariants as ty
 use Rattle.cc_whole.specs.declared.unit.CItem.{CItem}
 use Rattle.cc_whole.specs.declared.unit.CParameter.{CParameter}
-use Rattle.cc_whole.specs.Plain.{Item, Statement, declares, defines_variable, items_of, name_of}
+use Rattle.cc_whole.specs.Plain.{Item, declares, defines_variable, items_of, name_of}
 use Rattle.cf_classes.specs.ClassTable.{ClassTable}
 use Rattle.cf_core.specs.FromTypes.{Tables}
 use Rattle.cf_plain.specs.declared.unit.PlainFn.{PlainFn}
 use Rattle.cf_plain.specs.declared.unit.PlainStatic.{PlainStatic}
 use Rattle.cf_plain.specs.View.{Unit as PlainUnit, file_of, function_of, static_of}
 use Rattle.cf_types.specs.Table.{Table}
-use Rattle.cf_lower.specs.Functions.{constants_function, defined_elsewhere, library, literals, lowered_file, lowered_static, named_in, other_names, own_prototypes, own_variables, parameter, start_literals}
+use Rattle.cf_lower.specs.Functions.{constants_function, defined_elsewhere, library, literals, lowered_file, lowered_static, other_names, own_variables, parameter, start_literals}
 use Rattle.cf_lower.specs.Written.{local_name}
 use Rattle.cf_lower_types.specs.Bare.{classes_of}
 use Rattle.cf_lower_unit.specs.Pieces.{all_done, all_started, all_starts, bodies_of, file_with, front_of, library_head, named_by, objects_of, own_heads, start_texts_of, texts_of}

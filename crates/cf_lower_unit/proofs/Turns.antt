@@ -15,7 +15,7 @@ use Rattle.cf_lower_types.specs.Bare.{classes_of}
 use Rattle.cf_plain.specs.declared.action.Action.{Action as CodeAction}
 use Rattle.cf_plain.specs.declared.unit.PlainFn.{PlainFn}
 use Rattle.cf_plain.specs.declared.unit.PlainStatic.{PlainStatic}
-use Rattle.cf_plain.specs.Plain.{Action, PlainFunction}
+use Rattle.cf_plain.specs.Plain.{Action}
 use Rattle.cf_plain.specs.Named.{all_actions}
 use Rattle.cf_plain.specs.View.{function_of, static_of}
 use Rattle.cf_lower_unit.specs.Pieces.{all_done, all_started, all_starts, bodies_of, named_by, names_behind, objects_of, own_heads, start_at, start_texts_of, texts, texts_of}
