@@ -17,3 +17,5 @@ pub mod Weights
 pub mod WeightStatements
 pub mod LiteralLaws
 pub mod NameLaws
+pub mod KnownSteps
+pub mod KnownLaws

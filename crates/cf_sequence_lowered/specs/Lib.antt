@@ -4,5 +4,6 @@ pub mod Operators
 pub mod Texts
 pub mod Literals
 pub mod Names
+pub mod Known
 pub mod Labels
 pub mod Counts

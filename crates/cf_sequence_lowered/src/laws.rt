@@ -2,6 +2,7 @@
 ghost use Rattle.std.specs.Prelude.{◌≡◌, true};
 ghost use Rattle.std.specs.List.{list_all};
 ghost use Rattle.cf_core.specs.Core.{CoreFile};
+ghost use Rattle.cf_core.specs.Valid.{valid_file};
 ghost use Rattle.cf_plain.specs.Plain.{PlainFunction};
 ghost use Rattle.cf_sequence.specs.Built.{is_built_file};
 ghost use Rattle.cf_sequence.specs.Sequenced.{sequenced_file};
@@ -11,9 +12,10 @@ ghost use Rattle.cf_lower_program.specs.Labels.{switches_fit};
 ghost use Rattle.cf_lower_program.specs.Lowerable.{is_none, is_plain};
 ghost use Rattle.cf_lower_program.specs.Names.{literals_differ, names_lowered};
 ghost use Rattle.cf_lower_program.specs.Passed.{arguments_apart};
-ghost use Rattle.cf_lower_program.specs.Starts.{texts_fit};
+ghost use Rattle.cf_lower_program.specs.Starts.{statics_known, texts_fit};
 ghost use Rattle.cf_lower_program.specs.Types.{types_lowered};
 ghost use Rattle.cf_sequence_lowered.specs.Counts.{all_small, none_shared_and_local};
+ghost use Rattle.cf_sequence_lowered.specs.Known.{core_statics_known};
 ghost use Rattle.cf_sequence_lowered.specs.Labels.{all_labels_agree};
 ghost use Rattle.cf_sequence_lowered.specs.Literals.{core_literals_differ};
 ghost use Rattle.cf_sequence_lowered.specs.Names.{core_names_fit};
@@ -74,4 +76,9 @@ pub fn sequenced_literals_differ()
 /// The law that all names are link names and each has one type, where this is so in the core. It does nothing.
 pub fn sequenced_names_are_lowered()
     ensures { (file : CoreFile) → is_built_file file ≡ true → core_names_fit file ≡ true → names_lowered (sequenced_file file) ≡ true }
+{}
+
+/// The law that what initialisers of static objects do is known before the run, where their values are known of the core. It does nothing.
+pub fn sequenced_statics_are_known()
+    ensures { (file : CoreFile) → valid_file file ≡ true → is_built_file file ≡ true → core_statics_known file ≡ true → statics_known (sequenced_file file) ≡ true }
 {}
