@@ -1,6 +1,6 @@
 -- Expressions: what is so of each of their nodes makes their plain statements pass.
-use Rattle.std.proofs.Common.{◌≡◌, ℕ, suc, ◌+◌, ◌<◌, ◌≤◌, Bool, true, false, ◌&&◌, not, List, [], ◌∷◌, ◌++◌, length, refl, arith}
-use Rattle.std.specs.Prelude.{ℤ, pos, Option, Some, None}
+use Rattle.std.proofs.Common.{◌≡◌, ℕ, suc, ◌+◌, ◌<◌, true, false, ◌&&◌, not, List, [], ◌∷◌, ◌++◌, length, refl, arith}
+use Rattle.std.specs.Prelude.{ℤ, pos, Option, None}
 use Rattle.cf_base.proofs.Tests.{both}
 use Rattle.cf_core.specs.Types.{SourceType, parameters, result, is_class}
 use Rattle.cf_core.specs.Classes.{Class}
@@ -11,7 +11,7 @@ use Rattle.cf_core.specs.Places.{is_reference}
 use Rattle.cf_plain.specs.Plain.{Register, Action, Plains, act, set, branch, nothing, more}
 use Rattle.cf_plain.specs.Plain as plain
 use Rattle.cf_sequence.specs.Built.{is_value, are_values, are_arguments, is_chain}
-use Rattle.cf_sequence.specs.Made.{added, makes, width, numbers}
+use Rattle.cf_sequence.specs.Made.{makes, width, numbers}
 use Rattle.cf_sequence.specs.Expressions.{Full, flag, Destination, destination, value, values, arguments, settled, result_register, used}
 use Rattle.cf_sequence.proofs.Calling.{never}
 use Rattle.cf_sequence_lowered.proofs.Each.{Each, each-left, each-right}
@@ -149,10 +149,13 @@ module _ (T : Action → Type 0) (L : List ℤ → Type 0) (U : Core → Type 0)
         (λ rest. used (suc n) (more (set (suc (suc n)) (plain.read n)) (more (set (suc n) (plain.changed change (suc (suc n)) (suc n))) (more (act (plain.store n (suc n))) rest)))) refl
         (good-value a parts.0 (each-left U (nodes a) (nodes b) u.1)) (good-value b parts.1 (each-right U (nodes a) (nodes b) u.1)) r
         (record {
-          pass = λ rest good.
-              (suits.neutral (plain.truth (suc n)) refl,
-              ((low B p x k n e ab r, suits.neutral (plain.read n) refl),
-              ((lower B p x k n e ab r, suits.update a b change (suc (suc n)) (suc n) u.0), (suits.neutral (plain.store n (suc n)) refl, good))));
+          pass = λ rest good. (
+            suits.neutral (plain.truth (suc n)) refl,
+            (
+              (low B p x k n e ab r, suits.neutral (plain.read n) refl),
+              ((lower B p x k n e ab r, suits.update a b change (suc (suc n)) (suc n) u.0), (suits.neutral (plain.store n (suc n)) refl, good)),
+            ),
+          );
           labelled = λ rest. refl;
         })
     good-value (core.step false change e) ok u d x into n k r =
@@ -161,10 +164,13 @@ module _ (T : Action → Type 0) (L : List ℤ → Type 0) (U : Core → Type 0)
         (λ rest. more (set (suc n) (plain.read n)) (more (set (suc (suc n)) (plain.number (pos 1))) (more (set (suc n) (plain.changed change (suc n) (suc (suc n)))) (more (act (plain.store n (suc n))) rest))))
         (good-value e ok u.1 d x None n k (room-parts B p x k n n s (nodes e) refl (omega arith) r))
         (record {
-          pass = λ rest good.
-              ((lower B p x k n s (nodes e) r, suits.neutral (plain.read n) refl),
-              ((low B p x k n s (nodes e) r, suits.counter 1),
-              ((lower B p x k n s (nodes e) r, suits.step false change e (suc n) (suc (suc n)) u.0), (suits.neutral (plain.store n (suc n)) refl, good))));
+          pass = λ rest good. (
+            (lower B p x k n s (nodes e) r, suits.neutral (plain.read n) refl),
+            (
+              (low B p x k n s (nodes e) r, suits.counter 1),
+              ((lower B p x k n s (nodes e) r, suits.step false change e (suc n) (suc (suc n)) u.0), (suits.neutral (plain.store n (suc n)) refl, good)),
+            ),
+          );
           labelled = λ rest. refl;
         })
     good-value (core.step true change e) ok u d x into n k r =
@@ -173,10 +179,13 @@ module _ (T : Action → Type 0) (L : List ℤ → Type 0) (U : Core → Type 0)
         (λ rest. more (set n (plain.read (suc n))) (more (set (suc (suc n)) (plain.number (pos 1))) (more (set (suc (suc n)) (plain.changed change n (suc (suc n)))) (more (act (plain.store (suc n) (suc (suc n)))) rest))))
         (good-value e ok u.1 d x None (suc n) k (room-parts B p x k n (suc n) s (nodes e) refl (omega arith) r))
         (record {
-          pass = λ rest good.
-              ((lowest B p x k n s (nodes e) r, suits.neutral (plain.read (suc n)) refl),
-              ((low B p x k n s (nodes e) r, suits.counter 1),
-              ((low B p x k n s (nodes e) r, suits.step true change e n (suc (suc n)) u.0), (suits.neutral (plain.store (suc n) (suc (suc n))) refl, good))));
+          pass = λ rest good. (
+            (lowest B p x k n s (nodes e) r, suits.neutral (plain.read (suc n)) refl),
+            (
+              (low B p x k n s (nodes e) r, suits.counter 1),
+              ((low B p x k n s (nodes e) r, suits.step true change e n (suc (suc n)) u.0), (suits.neutral (plain.store (suc n) (suc (suc n))) refl, good)),
+            ),
+          );
           labelled = λ rest. refl;
         })
     good-value (core.temporary t e) ok u d x into n k r =

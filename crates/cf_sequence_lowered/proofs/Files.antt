@@ -1,16 +1,15 @@
 -- Files: what is so of each node of a built file is told of each action of its plain file.
-use Rattle.std.proofs.Common.{◌≡◌, ℕ, ◌+◌, ◌≤◌, Bool, true, ◌&&◌, ◌||◌, not, List, map, length, arith}
+use Rattle.std.proofs.Common.{◌≡◌, ◌+◌, Bool, true, ◌&&◌, ◌||◌, not, List, map, length, arith}
 use Rattle.std.specs.Prelude.{ℤ, bytes_eq, codes}
 use Rattle.std.specs.List.{list_all, flat_map}
 use Rattle.cf_base.proofs.Tests.{both}
-use Rattle.cf_core.specs.Types.{SourceType, parameters}
+use Rattle.cf_core.specs.Types.{parameters}
 use Rattle.cf_core.specs.Core.{Core, Function, Static, CoreFile}
 use Rattle.cf_core.specs.Nodes.{nodes}
 use Rattle.cf_plain.specs.Plain.{Action, PlainFunction, PlainStatic}
 use Rattle.cf_plain.specs.Plain as plain
 use Rattle.cf_plain.specs.Named.{all_actions}
 use Rattle.cf_sequence.specs.Built.{is_built_file, is_built_function, is_built_static, is_body, is_chain, is_plain_role, is_none}
-use Rattle.cf_sequence.specs.Made.{added}
 use Rattle.cf_sequence.specs.Statements.{type_of_static}
 use Rattle.cf_sequence.specs.Sequenced.{sequenced_body, sequenced_start, sequenced_function, sequenced_static, sequenced_file}
 use Rattle.cf_sequence.proofs.OwnNames.{is_own}

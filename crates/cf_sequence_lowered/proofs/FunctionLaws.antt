@@ -1,8 +1,7 @@
 -- The labels of switches, the numbers of registers, flags and locals, and the objects of calls' arguments.
-use Rattle.std.proofs.Common.{◌≡◌, ℕ, suc, ◌+◌, ◌*◌, ◌^◌, ◌≤◌, Bool, true, ◌&&◌, nat_le, nat_lt, List, [], ◌∷◌, ◌++◌, map, length, length-append, refl, sym, ap, ◌∙◌, subst, arith}
+use Rattle.std.proofs.Common.{◌≡◌, ℕ, suc, ◌+◌, ◌*◌, ◌^◌, ◌≤◌, Bool, true, ◌&&◌, nat_le, nat_lt, List, [], ◌∷◌, ◌++◌, map, length, length-append, ap, ◌∙◌, arith}
 use Rattle.std.specs.Prelude.{ℤ}
 use Rattle.std.specs.List.{list_all, flat_map}
-use Rattle.std.proofs.lemmas.Bool.{lt-ltb}
 use Rattle.std.proofs.lemmas.Bool.Decides.{nat_tests}
 use Rattle.std.proofs.Math.Nat.{mul-le-mul_left}
 use Rattle.cf_base.proofs.Tests.{both, all_of}
@@ -24,10 +23,10 @@ use Rattle.cf_lower_program.specs.Passed.{behind_parameters, arguments_apart}
 use Rattle.cf_sequence_lowered.specs.Counts.{is_small, all_small}
 use Rattle.cf_sequence_lowered.specs.Nodes.{core_labels}
 use Rattle.cf_sequence_lowered.specs.Labels.{labels_agree, all_labels_agree}
-use Rattle.cf_sequence_lowered.proofs.Each.{Each, each-as, each-of, all-of, each-both, each-joined, each-mapped}
+use Rattle.cf_sequence_lowered.proofs.Each.{Each, each-of, all-of, each-both, each-joined, each-mapped}
 use Rattle.cf_sequence_lowered.proofs.Files.{AnyLabels, BuiltFunction, built-functions}
 use Rattle.cf_sequence_lowered.proofs.Functions.{function-passes, registers_of, width_of, space-of}
-use Rattle.cf_sequence_lowered.proofs.Suits.{Suits, Declared, Passed, Stays, is_neutral}
+use Rattle.cf_sequence_lowered.proofs.Suits.{Suits, Declared, Passed, is_neutral}
 use Rattle.cf_sequence_lowered.proofs.Told.{all-actions-pass, bounds-within, nestings-within, all-labels-one}
 use Rattle.cf_sequence_lowered.proofs.Walk.{AllPass}
 

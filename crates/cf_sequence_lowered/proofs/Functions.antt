@@ -1,5 +1,5 @@
 -- Functions and static objects: what is so of each of their nodes makes their plain statements pass.
-use Rattle.std.proofs.Common.{◌≡◌, ℕ, suc, ◌+◌, ◌*◌, ◌≤◌, Bool, true, false, ◌&&◌, not, if◌then◌else◌, List, [], ◌∷◌, ◌++◌, length, reverse, refl, sym, ap, ◌∙◌, subst, arith}
+use Rattle.std.proofs.Common.{◌≡◌, ℕ, suc, ◌+◌, ◌*◌, ◌≤◌, Bool, true, false, not, if◌then◌else◌, List, [], ◌∷◌, length, reverse, refl, sym, subst, arith}
 use Rattle.std.specs.Prelude.{ℤ}
 use Rattle.cf_base.proofs.Tests.{both}
 use Rattle.cf_core.specs.Types.{SourceType, parameters, result, is_class}
@@ -21,7 +21,7 @@ use Rattle.cf_sequence_lowered.proofs.Rooms.{Space}
 use Rattle.cf_sequence_lowered.proofs.Suits.{Suits, Own, Passed}
 use Rattle.cf_sequence_lowered.proofs.Temporaries.{fine-finished}
 use Rattle.cf_sequence_lowered.proofs.Initials.{initial-sound}
-use Rattle.cf_sequence_lowered.proofs.Statements.{Around, Works, works}
+use Rattle.cf_sequence_lowered.proofs.Statements.{Works, works}
 use Rattle.cf_sequence_lowered.proofs.Walk.{AllPass, Fine}
 
 negated : (b : Bool) → not b ≡ true → b ≡ false
@@ -70,8 +70,11 @@ module _ (T : Action → Type 0) (L : List ℤ → Type 0) (U : Core → Type 0)
           → AllPass T L B (if b then nothing else initialised classes t x.name x.start 0 nothing) d
       by t named true e = tt
       by t named false e =
-          let initial = constant-initial x.start (something-constant x.start (constant-start x built) e) in
-          (suits.neutral (plain.reach x.name) refl,
-          ((omega arith, named),
-          Fine.pass (initial-sound T L U B p W suits classes x.start initial u d t 0 0 space) (more (act (plain.finish_static x.name)) nothing)
-          (suits.neutral (plain.finish_static x.name) refl, tt)))
+          let initial = constant-initial x.start (something-constant x.start (constant-start x built) e) in (
+            suits.neutral (plain.reach x.name) refl,
+            (
+              (omega arith, named),
+              Fine.pass (initial-sound T L U B p W suits classes x.start initial u d t 0 0 space) (more (act (plain.finish_static x.name)) nothing)
+                  (suits.neutral (plain.finish_static x.name) refl, tt),
+            ),
+          )

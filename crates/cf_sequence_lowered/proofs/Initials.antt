@@ -1,6 +1,6 @@
 -- Full expressions, initialisers and lists: what is so of each of their nodes makes their plain statements pass.
-use Rattle.std.proofs.Common.{◌≡◌, ℕ, suc, zero, ◌+◌, ◌-◌, ◌*◌, ◌<◌, ◌≤◌, Bool, true, false, ◌&&◌, ◌||◌, not, nat_lt, if◌then◌else◌, List, [], ◌∷◌, ◌++◌, length, reverse, refl, sym, ap, ◌∙◌, subst, arith}
-use Rattle.std.specs.Prelude.{ℤ, pos, Option, Some, None}
+use Rattle.std.proofs.Common.{◌≡◌, ℕ, suc, zero, ◌+◌, ◌-◌, ◌*◌, ◌<◌, ◌≤◌, Bool, true, false, ◌&&◌, ◌||◌, not, nat_lt, if◌then◌else◌, List, ◌++◌, length, reverse, refl, sym, ap, subst, arith}
+use Rattle.std.specs.Prelude.{ℤ, pos, Option}
 use Rattle.cf_base.proofs.Tests.{both}
 use Rattle.cf_core.specs.Types.{SourceType, is_class, is_array, element, plain as unqualified}
 use Rattle.cf_core.specs.Classes.{Class}
@@ -13,8 +13,8 @@ use Rattle.cf_core.specs.Places.{is_reference}
 use Rattle.cf_plain.specs.Plain.{Register, Action, Plains, act, set, branch, loop, leave, nothing, more}
 use Rattle.cf_plain.specs.Plain as plain
 use Rattle.cf_sequence.specs.Built.{is_value, is_start, is_filling, is_initial, is_row, is_list, is_element, are_elements, is_held}
-use Rattle.cf_sequence.specs.Made.{Temporary, temporaries, added, width, width_all, held_by}
-use Rattle.cf_sequence.specs.Expressions.{Full, flag, Destination, destination, value, whole, flags, ended, settled, elements, repeated, in_turn, part_in, part_type, parts_count, begun, built}
+use Rattle.cf_sequence.specs.Made.{Temporary, temporaries, width, width_all, held_by}
+use Rattle.cf_sequence.specs.Expressions.{Full, Destination, destination, value, whole, flags, ended, settled, elements, repeated, in_turn, part_in, part_type, parts_count, begun, built}
 use Rattle.cf_sequence.specs.Statements.{started}
 use Rattle.cf_sequence.proofs.Calling.{never, or-else}
 use Rattle.cf_sequence.proofs.Elements.{no-tick}
@@ -22,10 +22,10 @@ use Rattle.cf_sequence.proofs.Filling.{fill, started-is, element-holds}
 use Rattle.cf_sequence.proofs.Fulls.{nothing-is, held_at}
 use Rattle.cf_sequence.proofs.Lists.{element-costs}
 use Rattle.cf_sequence_lowered.proofs.Each.{Each, each-left, each-right}
-use Rattle.cf_sequence_lowered.proofs.Rooms.{Room, Space, space-parts, space-left, space-right, space-elements, space-low}
+use Rattle.cf_sequence_lowered.proofs.Rooms.{Room, Space, space-left, space-right, space-elements}
 use Rattle.cf_sequence_lowered.proofs.Suits.{Suits, Own, Stays}
 use Rattle.cf_sequence_lowered.proofs.Temporaries.{ends, ends-reversed, fine-flags, fine-ended}
-use Rattle.cf_sequence_lowered.proofs.Expressions.{Good, good-value}
+use Rattle.cf_sequence_lowered.proofs.Expressions.{good-value}
 use Rattle.cf_sequence_lowered.proofs.Walk.{Fine, fine-none, fine-then, fine-by, fine-set, fine-act, fine-settled}
 
 module _ (T : Action → Type 0) (L : List ℤ → Type 0) (U : Core → Type 0) (B p W : ℕ) (suits : Suits T L U p) (classes : List Class) where

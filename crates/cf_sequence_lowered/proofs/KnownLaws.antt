@@ -1,6 +1,6 @@
 -- Static objects: where what a core's initialisers give is known before the run, it is known of their plain statements.
-use Rattle.std.proofs.Common.{◌≡◌, ℕ, zero, suc, ◌+◌, ◌<◌, ◌≤◌, Bool, true, false, ◌&&◌, ◌||◌, not, if◌then◌else◌, List, [], ◌∷◌, ◌++◌, map, reverse, refl, sym, ap, ◌∙◌, subst, arith}
-use Rattle.std.specs.Prelude.{pos, Option, Some, None, bytes_eq, codes}
+use Rattle.std.proofs.Common.{◌≡◌, ℕ, suc, ◌+◌, Bool, true, false, ◌&&◌, ◌||◌, not, if◌then◌else◌, List, [], ◌∷◌, ◌++◌, map, reverse, refl, sym, ap, ◌∙◌, subst, arith}
+use Rattle.std.specs.Prelude.{pos, Option, Some, None, bytes_eq}
 use Rattle.std.specs.List.{list_all, list_any}
 use Rattle.cf_base.proofs.Tests.{both, all_of}
 use Rattle.cf_base.specs.declared.kind.Kind.{Kind}
@@ -15,12 +15,12 @@ use Rattle.cf_core.specs.Valid as valid
 use Rattle.cf_lower_layout.specs.Sorts.{sort_of}
 use Rattle.cf_plain.specs.Plain.{Register, Plains, PlainFunction, PlainStatic, act, set, branch, nothing, more}
 use Rattle.cf_plain.specs.Plain as plain
-use Rattle.cf_sequence.specs.Built.{is_built_file, is_built_static, is_constant_value, is_constant_initial, is_filling}
+use Rattle.cf_sequence.specs.Built.{is_built_file, is_built_static, is_constant_value, is_filling}
 use Rattle.cf_sequence.specs.Made.{Temporary, temporaries, width}
 use Rattle.cf_sequence.specs.Expressions.{Full, Destination, destination, value, used, flags, ended, settled, builds}
 use Rattle.cf_sequence.specs.Statements.{type_of_static, started, initialised}
 use Rattle.cf_sequence.specs.Sequenced.{sequenced_start, sequenced_function, sequenced_static, sequenced_file}
-use Rattle.cf_sequence.proofs.Calling.{never, or-else}
+use Rattle.cf_sequence.proofs.Calling.{never}
 use Rattle.cf_sequence.proofs.Constants.{constant-start, something-constant, constant-object, start-is}
 use Rattle.cf_sequence.proofs.Filling.{fill, started-is}
 use Rattle.cf_lower.specs.Constants.{Known, unknown, a_number, null, at, a_function, know, nothing_known, known_by, holds_truth, truth_known, inverted, decayed, sum, pointer_known, converted_known}
@@ -30,7 +30,7 @@ use Rattle.cf_sequence_lowered.specs.Known.{operands, chosen, core_known, all_kn
 use Rattle.cf_sequence_lowered.specs.Literals.{owner_name}
 use Rattle.cf_sequence_lowered.proofs.Each.{Each, each-as, each-of, all-of, each-both, each-mapped}
 use Rattle.cf_sequence_lowered.proofs.Files.{built-statics}
-use Rattle.cf_sequence_lowered.proofs.KnownSteps.{Knowing, Steps, Finds, Ends, same-register, truth-known, inverted-known, steps-then, steps-used, finds-set, finds-one, finds-two, finds-branch, ends-of, ends-none}
+use Rattle.cf_sequence_lowered.proofs.KnownSteps.{Knowing, Steps, Finds, Ends, truth-known, inverted-known, steps-then, steps-used, finds-set, finds-one, finds-two, finds-branch, ends-of, ends-none}
 
 decayed-known : (x : Known) → is_known x ≡ true → is_known (decayed x) ≡ true
 decayed-known unknown ok = never ok

@@ -1,11 +1,10 @@
 -- Literals: where those of a core have names of their own, those of its plain file do.
-use Rattle.std.proofs.Common.{◌≡◌, ℕ, suc, ◌+◌, ◌≤◌, Bool, true, false, ◌&&◌, ◌||◌, not, List, [], ◌∷◌, ◌++◌, map, refl, sym, ap, ◌∙◌, subst, arith}
+use Rattle.std.proofs.Common.{◌≡◌, ℕ, ◌+◌, ◌≤◌, Bool, true, false, ◌||◌, not, List, [], ◌∷◌, ◌++◌, map, refl, sym, ap, ◌∙◌, subst, arith}
 use Rattle.std.specs.Prelude.{bytes_eq}
 use Rattle.std.specs.List.{list_any, flat_map}
 use Rattle.std.proofs.lemmas.List.Concat.{flat_map-append}
 use Rattle.cf_base.proofs.Tests.{both, all_of, bytes_same, same_bytes}
 use Rattle.cf_core.specs.Types.{Name}
-use Rattle.cf_core.specs.Classes.{Class}
 use Rattle.cf_core.specs.Core as core
 use Rattle.cf_core.specs.Core.{Core, Function, Static, CoreFile}
 use Rattle.cf_core.specs.Nodes.{nodes}
@@ -17,7 +16,7 @@ use Rattle.cf_sequence.specs.Built.{is_built_file, is_built_static}
 use Rattle.cf_sequence.specs.Sequenced.{sequenced_body, sequenced_start, sequenced_function, sequenced_static, sequenced_file}
 use Rattle.cf_sequence.proofs.Calling.{never}
 use Rattle.cc_whole.specs.declared.unit.CVariable.{CVariable}
-use Rattle.cf_lower.specs.Functions.{literal_at, literals, start_literals, owner_of}
+use Rattle.cf_lower.specs.Functions.{literal_at, literals, start_literals}
 use Rattle.cf_lower.specs.Written.{literal_name}
 use Rattle.cf_lower_program.specs.Names.{literals_differ}
 use Rattle.cf_sequence_lowered.specs.Literals.{literal_of, owner_name, core_literals_differ}

@@ -1,11 +1,10 @@
 -- Names: what is so of all that a core defines and names is so of what its plain file does.
-use Rattle.std.proofs.Common.{◌≡◌, ℕ, ◌≤◌, Bool, true, ◌&&◌, ◌||◌, not, List, [], ◌∷◌, ◌++◌, map, refl}
+use Rattle.std.proofs.Common.{◌≡◌, Bool, true, ◌&&◌, ◌||◌, not, List, [], ◌∷◌, ◌++◌, map}
 use Rattle.std.specs.Prelude.{Some, bytes_eq}
 use Rattle.std.specs.List.{list_all, flat_map}
 use Rattle.cf_base.proofs.Tests.{both, all_of}
 use Rattle.cf_core.specs.Types.{Name, SourceType, parameters}
 use Rattle.cf_core.specs.Classes.{Class}
-use Rattle.cf_core.specs.Core as core
 use Rattle.cf_core.specs.Core.{Core, Function, Static, CoreFile}
 use Rattle.cf_core.specs.Nodes.{nodes}
 use Rattle.cf_plain.specs.Plain.{Action, PlainFunction, PlainStatic}
@@ -25,8 +24,8 @@ use Rattle.cf_lower_program.specs.Names.{may_be_function, may_be_object, is_well
 use Rattle.cf_sequence_lowered.specs.Literals.{owner_name}
 use Rattle.cf_sequence_lowered.specs.Names.{declared_by, variable_of, function_variables, static_variables, static_variable, core_named, core_items, core_names_fit}
 use Rattle.cf_sequence_lowered.proofs.Each.{Each, each-two, each-left, each-right, each-as, each-of, all-of, each-both, each-flat, each-joined, each-mapped, each-unflat, each-unmapped, each-any}
-use Rattle.cf_sequence_lowered.proofs.Files.{AnyLabels, BuiltFunction, FunctionSuits, StaticSuits, built-functions, built-statics, function-actions, start-actions}
-use Rattle.cf_sequence_lowered.proofs.Suits.{Suits, Declared, Passed, Stays, is_neutral}
+use Rattle.cf_sequence_lowered.proofs.Files.{AnyLabels, BuiltFunction, built-functions, built-statics, function-actions, start-actions}
+use Rattle.cf_sequence_lowered.proofs.Suits.{Suits, Declared, Passed, is_neutral}
 
 -- whether two items agree on a name
 abbrev alike : Item → Item → Bool
@@ -200,10 +199,12 @@ module _ (file : CoreFile) (built : is_built_file file ≡ true) where
     static-nodes names vars =
         each-both (λ (x : Static). Each P (start_names x)) (λ (x : Static). Each Defined (static_variables x)) StartNamed file.statics
         (λ x n v.
-        let is_static : Bool = x.is_local || not x.is_shared in
-        (each-both (λ (e : Core). Each P (declared_by file.classes e)) (λ (e : Core). Each Defined (variable_of (owner_name x) x.is_shared is_static e)) (NodeStart x) (nodes x.start)
-        (λ e a b. (a, each-mapped Q defines_variable (variable_of (owner_name x) x.is_shared is_static e) b)) (each-unflat P (declared_by file.classes) (nodes x.start) n.1)
-        (each-unflat Defined (variable_of (owner_name x) x.is_shared is_static) (nodes x.start) v), n.0))
+        let is_static : Bool = x.is_local || not x.is_shared in (
+          each-both (λ (e : Core). Each P (declared_by file.classes e)) (λ (e : Core). Each Defined (variable_of (owner_name x) x.is_shared is_static e)) (NodeStart x) (nodes x.start)
+              (λ e a b. (a, each-mapped Q defines_variable (variable_of (owner_name x) x.is_shared is_static e) b)) (each-unflat P (declared_by file.classes) (nodes x.start) n.1)
+              (each-unflat Defined (variable_of (owner_name x) x.is_shared is_static) (nodes x.start) v),
+          n.0,
+        ))
         (each-unflat P start_names file.statics names) (each-unflat Defined static_variables file.statics vars)
 
   -- what the plain file names

@@ -1,6 +1,6 @@
 -- The type that the name of a static object has in its file is that of one of the file's objects.
 use Rattle.std.proofs.Common.{◌≡◌, Bool, true, false, ◌||◌, cond, List, [], ◌∷◌, refl}
-use Rattle.std.specs.Prelude.{Option, Some, None, find, bytes_eq}
+use Rattle.std.specs.Prelude.{Some, find, bytes_eq}
 use Rattle.std.specs.List.{list_any}
 use Rattle.cf_core.specs.Types.{Name, SourceType}
 use Rattle.cf_core.specs.Core.{Static}
@@ -23,10 +23,11 @@ or-left false b e = never e
 
 all-named : (xs : List Static) → Each (λ (x : Static). is_named x.name xs ≡ true) xs
 all-named [] = tt
-all-named (x ∷ xs) =
-    (or-left (bytes_eq x.name x.name) (is_named x.name xs) (bytes_same x.name x.name refl),
-    each-as (λ (y : Static). is_named y.name xs ≡ true) (λ (y : Static). is_named y.name (x ∷ xs) ≡ true) xs (λ y ok. or-right (bytes_eq x.name y.name) (is_named y.name xs) ok)
-    (all-named xs))
+all-named (x ∷ xs) = (
+  or-left (bytes_eq x.name x.name) (is_named x.name xs) (bytes_same x.name x.name refl),
+  each-as (λ (y : Static). is_named y.name xs ≡ true) (λ (y : Static). is_named y.name (x ∷ xs) ≡ true) xs (λ y ok. or-right (bytes_eq x.name y.name) (is_named y.name xs) ok)
+      (all-named xs),
+)
 
 module _ (P : SourceType → Type 0) where
   type-named : (xs : List Static) (name : Name) → Each (λ (x : Static). P x.type) xs → is_named name xs ≡ true → P (type_of_static xs name)

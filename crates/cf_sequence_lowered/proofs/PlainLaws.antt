@@ -1,9 +1,8 @@
 -- What is copied from a core, and its literals and the operators of its initialisers.
-use Rattle.std.proofs.Common.{◌≡◌, ℕ, ◌≤◌, Bool, true, ◌&&◌, not, List, [], ◌∷◌, map, refl}
+use Rattle.std.proofs.Common.{◌≡◌, Bool, true, ◌&&◌, not, List, [], ◌∷◌, map, refl}
 use Rattle.std.specs.List.{list_all, flat_map}
 use Rattle.cf_base.proofs.Tests.{both, all_of}
 use Rattle.cf_core.specs.Types.{SourceType, parameters}
-use Rattle.cf_core.specs.Core as core
 use Rattle.cf_core.specs.Core.{Core, Role, plain_function, Function, Static, CoreFile}
 use Rattle.cf_core.specs.Classes.{Class}
 use Rattle.cf_core.specs.Nodes.{nodes}
@@ -12,7 +11,6 @@ use Rattle.cf_plain.specs.Plain as plain
 use Rattle.cf_plain.specs.Named.{all_actions}
 use Rattle.cf_sequence.specs.Built.{is_built_file, is_built_static, is_plain_role}
 use Rattle.cf_sequence.specs.Built as built
-use Rattle.cf_sequence.specs.Statements.{type_of_static}
 use Rattle.cf_sequence.specs.Sequenced.{sequenced_function, sequenced_static, sequenced_start, sequenced_file}
 use Rattle.cf_sequence.proofs.Calling.{never}
 use Rattle.cf_lower_program.specs.Actions.{has_promoted, actions_lowered}
@@ -26,7 +24,7 @@ use Rattle.cf_sequence_lowered.specs.Operators.{operand_is_promoted, operands_ar
 use Rattle.cf_sequence_lowered.specs.Texts.{literal_fits, literals_fit}
 use Rattle.cf_sequence_lowered.proofs.Each.{Each, each-as, each-of, all-of, each-both, each-flat, each-mapped}
 use Rattle.cf_sequence_lowered.proofs.Files.{AnyLabels, BuiltFunction, FunctionSuits, StaticSuits, no-classes, built-functions, built-statics, start-actions, actions-pass}
-use Rattle.cf_sequence_lowered.proofs.Suits.{Suits, Declared, Passed, Stays, is_neutral}
+use Rattle.cf_sequence_lowered.proofs.Suits.{Suits, Declared, Passed, is_neutral}
 
 -- ---- what is copied
 

@@ -1,19 +1,18 @@
 -- Statements: what is so of each of their nodes makes their plain statements pass.
-use Rattle.std.proofs.Common.{◌≡◌, ℕ, suc, ◌+◌, ◌*◌, ◌<◌, ◌≤◌, Bool, true, false, ◌&&◌, ◌||◌, not, nat_le, if◌then◌else◌, List, [], ◌∷◌, ◌++◌, length, reverse, refl, sym, ap, ◌∙◌, subst, arith}
-use Rattle.std.specs.Prelude.{ℤ, Option, Some, None}
+use Rattle.std.proofs.Common.{◌≡◌, ℕ, suc, ◌+◌, ◌<◌, ◌≤◌, Bool, true, false, ◌&&◌, ◌||◌, not, nat_le, if◌then◌else◌, List, [], ◌∷◌, ◌++◌, length, reverse, refl, sym, ap, ◌∙◌, subst, arith}
+use Rattle.std.specs.Prelude.{ℤ, Some, None}
 use Rattle.cf_base.proofs.Tests.{both}
 use Rattle.cf_core.specs.declared.operators.LoopForm.{LoopForm}
 use Rattle.cf_core.specs.declared.operators.LoopForm.TheVariants as form
-use Rattle.cf_core.specs.Types.{SourceType, is_class}
+use Rattle.cf_core.specs.Types.{is_class}
 use Rattle.cf_core.specs.Core as core
 use Rattle.cf_core.specs.Core.{Core, Cores, MaybeCore, none, absent, given}
 use Rattle.cf_core.specs.Joined.{is_nothing}
 use Rattle.cf_core.specs.Nodes.{nodes, nodes_all, nodes_maybe}
-use Rattle.cf_core.specs.Valid.{is_label}
 use Rattle.cf_plain.specs.Plain.{Register, Action, Plains, act, set, branch, loop, switch, case_label, default_label, leave, continue, give, nothing, more}
 use Rattle.cf_plain.specs.Plain as plain
 use Rattle.cf_sequence.specs.Built.{is_value, is_start, is_condition, is_element, is_held, declares_here, is_statement, is_inner_or, are_cases, are_statements, next_local}
-use Rattle.cf_sequence.specs.Made.{Local, added, width, width_maybe, declared, declared_all, held_by}
+use Rattle.cf_sequence.specs.Made.{Local, added, width, width_maybe, declared, declared_all}
 use Rattle.cf_sequence.specs.Expressions.{value, whole, finished, used}
 use Rattle.cf_sequence.specs.Statements.{Inside, declares, opened, in_loop, in_switch, held, stepped, started, made, passing, passes_local, passed, looping, statement, statement_or, statements}
 use Rattle.cf_sequence.proofs.Calling.{never, or-else}
@@ -252,9 +251,10 @@ module _ (T : Action → Type 0) (L : List ℤ → Type 0) (U : Core → Type 0)
 
       tests : (c : ℕ) → length all ≤ c → Space B p W c 0 k (nodes_maybe q) × Space B p W c 0 (k + width_maybe q) (nodes_maybe e)
       tests c le =
-          let begin = space-left B p W c 0 k (nodes_maybe q ++ nodes_maybe e) (nodes s) (parts c le) in
-          (space-left B p W c 0 k (nodes_maybe q) (nodes_maybe e) begin,
-          subst (λ n. Space B p W c 0 (k + n) (nodes_maybe e)) (width-maybe q) (space-right B p W c 0 k (nodes_maybe q) (nodes_maybe e) begin))
+          let begin = space-left B p W c 0 k (nodes_maybe q ++ nodes_maybe e) (nodes s) (parts c le) in (
+            space-left B p W c 0 k (nodes_maybe q) (nodes_maybe e) begin,
+            subst (λ n. Space B p W c 0 (k + n) (nodes_maybe e)) (width-maybe q) (space-right B p W c 0 k (nodes_maybe q) (nodes_maybe e) begin),
+          )
 
       body : (c : ℕ) → length all ≤ c → Space B p W c 0 (k + width_maybe q + width_maybe e) (nodes s)
       body c le =

@@ -1,6 +1,6 @@
 -- What is to be so of the actions that sequencing writes for each node of a core.
 use Rattle.std.proofs.Common.{◌≡◌, ℕ, ◌≤◌, Bool, true, false, List}
-use Rattle.std.specs.Prelude.{ℤ, pos, Option, Some, None}
+use Rattle.std.specs.Prelude.{ℤ, pos, Option, None}
 use Rattle.cf_base.specs.declared.kind.Kind.{Kind}
 use Rattle.cf_base.specs.declared.arith.Arith.{Arith}
 use Rattle.cf_core.specs.declared.operators.UnaryOperator.{UnaryOperator}

@@ -1,8 +1,8 @@
 -- The temporaries of a full expression: their flags are registers that are free, and their ends pass.
-use Rattle.std.proofs.Common.{◌≡◌, ℕ, suc, ◌+◌, ◌<◌, ◌≤◌, Bool, true, false, ◌&&◌, not, List, [], ◌∷◌, ◌++◌, length, reverse, refl, arith}
+use Rattle.std.proofs.Common.{◌≡◌, ℕ, suc, ◌+◌, ◌<◌, Bool, true, false, ◌&&◌, not, List, [], ◌∷◌, ◌++◌, length, reverse, refl, arith}
 use Rattle.std.specs.Prelude.{ℤ, pos}
 use Rattle.cf_base.proofs.Tests.{both}
-use Rattle.cf_core.specs.Types.{SourceType, parameters, result, is_class}
+use Rattle.cf_core.specs.Types.{parameters, result, is_class}
 use Rattle.cf_core.specs.Core as core
 use Rattle.cf_core.specs.Core.{Core, Cores, no_temporary, none, absent}
 use Rattle.cf_core.specs.Nodes.{nodes, nodes_all}
@@ -10,7 +10,7 @@ use Rattle.cf_core.specs.Places.{is_reference}
 use Rattle.cf_plain.specs.Plain.{Register, Action, Plains, act, set, branch, nothing, more}
 use Rattle.cf_plain.specs.Plain as plain
 use Rattle.cf_sequence.specs.Built.{is_value, are_values, are_arguments, is_chain}
-use Rattle.cf_sequence.specs.Made.{Local, Temporary, temporaries, temporaries_all, added, makes, width}
+use Rattle.cf_sequence.specs.Made.{Local, Temporary, temporaries, temporaries_all, makes, width}
 use Rattle.cf_sequence.specs.Expressions.{Full, flag, flags, ended, finished}
 use Rattle.cf_sequence.proofs.Calling.{never}
 use Rattle.cf_sequence_lowered.proofs.Each.{Each, each-two, each-left, each-right, each-reversed}

@@ -1,9 +1,9 @@
 -- What plain statements that pass tell: T of each action, that the registers are below B, how deep loops and switches stand in each other, and L of the
 -- labels of each switch.
-use Rattle.std.proofs.Common.{◌≡◌, ℕ, zero, suc, ◌<◌, ◌≤◌, List, [], ◌∷◌, ◌++◌, Bool, true, refl, arith}
+use Rattle.std.proofs.Common.{◌≡◌, ℕ, zero, suc, ◌≤◌, List, ◌++◌, true, refl, arith}
 use Rattle.std.specs.Prelude.{ℤ}
 use Rattle.cf_base.proofs.Tests.{all_of}
-use Rattle.cf_plain.specs.Plain.{Register, Action, Plain, Plains, act, set, branch, loop, switch, case_label, default_label, leave, continue, give, parts, nothing, more}
+use Rattle.cf_plain.specs.Plain.{Action, Plain, Plains, act, set, branch, loop, switch, case_label, default_label, leave, continue, give, parts, nothing, more}
 use Rattle.cf_plain.specs.Named.{actions, all_actions}
 use Rattle.cf_lower.specs.Functions.{bound, all_bound, nesting, all_nesting}
 use Rattle.cf_lower_program.specs.Labels.{labels, one_kind, labels_fit, all_labels_fit}

@@ -1,5 +1,5 @@
 -- Types: those of a core are those of its plain file.
-use Rattle.std.proofs.Common.{◌≡◌, ℕ, ◌≤◌, Bool, true, ◌&&◌, not, List, [], ◌∷◌, ◌++◌, map, refl, sym, ap, ◌∙◌}
+use Rattle.std.proofs.Common.{◌≡◌, ℕ, Bool, true, ◌&&◌, not, List, [], ◌∷◌, ◌++◌, map, refl}
 use Rattle.std.specs.List.{list_all, flat_map}
 use Rattle.cf_base.proofs.Tests.{both, all_of}
 use Rattle.cf_core.specs.Types.{SourceType, takes, parameters}
@@ -178,9 +178,10 @@ module _ (file : CoreFile) (built : is_built_file file ≡ true) (ok : core_type
   actions-fit =
       actions-pass Fits Node suits file built
       (each-as FunctionFits (FunctionSuits Fits Node suits) file.functions
-      (λ f fits.
-      (FunctionFits.body fits,
-      each-as Low (Passed Fits AnyLabels Node 0) (parameters f.type) (λ t low i. stays i t low) (low-parameters f.type (OfFunction.low (of-function f.type (FunctionFits.type fits))))))
+      (λ f fits. (
+        FunctionFits.body fits,
+        each-as Low (Passed Fits AnyLabels Node 0) (parameters f.type) (λ t low i. stays i t low) (low-parameters f.type (OfFunction.low (of-function f.type (FunctionFits.type fits)))),
+      ))
       functions-fit)
       (each-both StaticFits (λ (x : Static). is_of_static (type_of_static file.statics x.name) ≡ true) (StaticSuits Fits Node suits file.statics) file.statics
       (λ x fits named.
@@ -207,10 +208,11 @@ module _ (file : CoreFile) (built : is_built_file file ≡ true) (ok : core_type
       (λ f fits. (OfFunction.low (of-function f.type (FunctionFits.type fits)), each-as OfObject Low (f.locals ++ added (nodes f.body)) (λ t p. p.0) (all-locals f fits))) functions-fit))
       (each-flat Low (λ (x : PlainStatic). x.type ∷ x.locals) static file.statics
       (each-as StaticFits (λ (x : Static). Each Low (x.type ∷ added (nodes x.start))) file.statics
-      (λ x fits.
-      ((both (is_lowered x.type) (is_laid x.type && not (is_code x.type)) (StaticFits.type fits)).0,
-      each-as OfObject Low (added (nodes x.start)) (λ t p. p.0)
-      (each-joined OfObject makes (nodes x.start) (each-as Node (λ (e : Core). Each OfObject (makes e)) (nodes x.start) makes-fit (StaticFits.start fits))))) statics-fit)))
+      (λ x fits. (
+        (both (is_lowered x.type) (is_laid x.type && not (is_code x.type)) (StaticFits.type fits)).0,
+        each-as OfObject Low (added (nodes x.start)) (λ t p. p.0)
+            (each-joined OfObject makes (nodes x.start) (each-as Node (λ (e : Core). Each OfObject (makes e)) (nodes x.start) makes-fit (StaticFits.start fits))),
+      )) statics-fit)))
       (each-joined Low types_at (file_actions (sequenced_file file))
       (each-as Fits (λ (a : Action). Each Low (types_at a)) (file_actions (sequenced_file file)) (λ a p. each-of is_lowered (types_at a) p.0) actions-fit))
 

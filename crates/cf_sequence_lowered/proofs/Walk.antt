@@ -1,6 +1,6 @@
 -- What holds of each action of plain statements, of the registers that they set, of the labels of their switches, and of how deep loops and switches
 -- stand in each other; and code that keeps it, before whatever stands behind it.
-use Rattle.std.proofs.Common.{◌≡◌, ℕ, zero, suc, ◌<◌, ◌≤◌, List, [], ◌∷◌, ◌++◌, Bool, true, false, if◌then◌else◌, refl, ap, ◌∙◌, subst, sym, arith}
+use Rattle.std.proofs.Common.{◌≡◌, ℕ, zero, suc, ◌<◌, ◌≤◌, List, Bool, true, false, if◌then◌else◌, refl, ap, ◌∙◌, subst, sym, arith}
 use Rattle.std.specs.Prelude.{ℤ, Option}
 use Rattle.cf_core.specs.Core.{Core}
 use Rattle.cf_plain.specs.Plain.{Register, Action, Plain, Plains, act, set, branch, loop, switch, case_label, default_label, leave, continue, give, parts, nothing, more}

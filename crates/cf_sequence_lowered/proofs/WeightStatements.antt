@@ -1,6 +1,6 @@
 -- How often the plain statements of a statement have a literal: no more often than their core has it.
-use Rattle.std.proofs.Common.{◌≡◌, ℕ, suc, ◌+◌, ◌≤◌, Bool, true, false, ◌&&◌, ◌||◌, not, nat_le, if◌then◌else◌, List, [], ◌∷◌, ◌++◌, length, reverse, refl, sym, ap, ◌∙◌, subst, arith}
-use Rattle.std.specs.Prelude.{Option, Some, None}
+use Rattle.std.proofs.Common.{◌≡◌, ℕ, ◌+◌, ◌≤◌, Bool, true, false, ◌&&◌, ◌||◌, not, nat_le, if◌then◌else◌, List, [], ◌∷◌, ◌++◌, length, reverse, refl, sym, ap, subst, arith}
+use Rattle.std.specs.Prelude.{Some, None}
 use Rattle.cf_base.proofs.Tests.{both}
 use Rattle.cf_core.specs.declared.operators.LoopForm.{LoopForm}
 use Rattle.cf_core.specs.declared.operators.LoopForm.TheVariants as form
@@ -21,7 +21,7 @@ use Rattle.cf_sequence.proofs.Calling.{never, or-else}
 use Rattle.cf_sequence.proofs.Constants.{constant-start, constant-initial, something-constant, start-is}
 use Rattle.cf_sequence.proofs.Fulls.{nothing-is}
 use Rattle.cf_sequence.proofs.Labels.{passing-past}
-use Rattle.cf_sequence_lowered.proofs.Weights.{mass, mass_of, nodes_weight, node_weight, weight-two, Light, light-none, light-then, light-more, light-by, light-set, light-act, light-first, light-last, light-finished, light-whole, light-element, light-held, light-initial}
+use Rattle.cf_sequence_lowered.proofs.Weights.{mass, nodes_weight, weight-two, Light, light-none, light-then, light-more, light-by, light-set, light-act, light-first, light-last, light-finished, light-whole, light-element, light-held, light-initial}
 
 negated : (b : Bool) → not b ≡ true → b ≡ false
 negated true e = never e

@@ -1,6 +1,6 @@
 -- Static objects of a core whose initialisers are known before the run (8.4): their values are found by the rules by which lowering finds those of
 -- plain statements, node by node.
-use Rattle.std.specs.Prelude.{ℕ, zero, suc, Bool, true, false, ◌&&◌, ◌||◌, not, List, [], length, pos, Option, Some, None}
+use Rattle.std.specs.Prelude.{zero, suc, Bool, true, false, ◌&&◌, ◌||◌, not, [], length, pos, Option, Some, None}
 use Rattle.std.specs.List.{list_all}
 use Rattle.cf_base.specs.declared.kind.Kind.TheVariants.{Char}
 use Rattle.cf_core.specs.Types.{Name, SourceType, integer, array}

@@ -1,5 +1,5 @@
 -- Each literal of a core has a number of its own in its function, so the names by which the C has them differ (2.5.4).
-use Rattle.std.specs.Prelude.{Bool, List, [], ◌∷◌, ◌++◌, Option, Some, None, codes}
+use Rattle.std.specs.Prelude.{Bool, List, [], ◌∷◌, ◌++◌, Some, None, codes}
 use Rattle.std.specs.List.{flat_map}
 use Rattle.cf_core.specs.Types.{Name}
 use Rattle.cf_core.specs.Core.{Core, text, Function, Static, CoreFile}
