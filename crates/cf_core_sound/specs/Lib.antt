@@ -1,0 +1,7 @@
+pub mod Calls
+pub mod Laws
+pub mod Proper
+pub mod Simple
+pub mod States
+pub mod Values
+pub mod Well
