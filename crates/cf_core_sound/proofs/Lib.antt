@@ -3,6 +3,7 @@ pub mod Calling
 pub mod Changing
 pub mod Combined
 pub mod Converting
+pub mod Doing
 pub mod Good
 pub mod Moments
 pub mod Names
@@ -10,9 +11,11 @@ pub mod Nodes
 pub mod Operators
 pub mod Parts
 pub mod Pointing
+pub mod Scopes
 pub mod Shapes
 pub mod States
 pub mod Steps
+pub mod Turning
 pub mod Typings
 pub mod Values
 pub mod Wells

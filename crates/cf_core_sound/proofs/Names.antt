@@ -40,7 +40,7 @@ none-is a e = absurd (cc)
 
 -- ---- lists
 
-below-there : {A : Type 0} (xs : List A) (i : ℕ) (x : A) → slice_get xs i ≡ Some x → nat_lt i (length xs) ≡ true
+pub below-there : {A : Type 0} (xs : List A) (i : ℕ) (x : A) → slice_get xs i ≡ Some x → nat_lt i (length xs) ≡ true
 below-there [] i x e = absurd (none-is x e)
 below-there (y ∷ xs) zero x e = grind (arith, nat_tests)
 below-there (y ∷ xs) (suc i) x e = let h = below-there xs i x e in grind (arith, nat_tests, h)

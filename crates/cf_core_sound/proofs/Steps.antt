@@ -53,6 +53,10 @@ module _ (P : Program) (locals : List SourceType) where
   unfolding Solid
   solid-value x t e n s v k = is-used P s (shape t) v (void-shape t ∙ n) (k.value t e)
 
+  pub solid-start : (x : Typing) (t : SourceType) → x.start t ≡ true → is_scalar t ≡ true → Solid x
+  unfolding Solid
+  solid-start x t e sc s v k = is-used P s (shape t) v (void-shape t ∙ scalar-no-void t sc) (k.start t e)
+
   pub solid-integer : (x : Typing) → is_integer x ≡ true → Solid x
   unfolding Solid
   solid-integer x e s v k = let n = integer-number P s x v e k in subst (λ u. used u ≡ gives u) (sym n.1) refl

@@ -1,16 +1,19 @@
--- What is proved of expressions.
-use Rattle.std.specs.Prelude.{◌≡◌, true, List, Option}
+-- What is proved of expressions and of statements.
+use Rattle.std.specs.Prelude.{◌≡◌, Bool, true, List, Option}
 use Rattle.cf_core.specs.Core.{Core, Function, Static}
 use Rattle.cf_core.specs.Places.{Place}
 use Rattle.cf_core.specs.Run.{State}
 use Rattle.cf_core.specs.Calls.{Setting, Again}
 use Rattle.cf_core.specs.Typing.{Scope}
 use Rattle.cf_core.specs.Typed.{typing}
+use Rattle.cf_core.specs.Valid.{Body, fits}
 use Rattle.cf_core.specs.Expressions.{value}
+use Rattle.cf_core.specs.Statements.{does}
 use Rattle.cf_core_sound.specs.Values.{Fit, Told}
 use Rattle.cf_core_sound.specs.States.{Sound}
 use Rattle.cf_core_sound.specs.Well.{Well}
 use Rattle.cf_core_sound.specs.Simple.{is_simple}
+use Rattle.cf_core_sound.specs.Statements.{is_simple_statement, EndsWell, Turns}
 use Rattle.cf_core_sound.specs.Calls.{Bodies, Around, classless}
 
 -- In a program without classes whose bodies give back what their functions' types say: an expression that is something, from a sound moment and with
@@ -25,3 +28,17 @@ ValuesAreSound =
     → Well (classless functions statics settings initialisers) scope.locals s
     (λ v t. Fit (classless functions statics settings initialisers) t (typing scope e) v)
     (value again (classless functions statics settings initialisers) e into)
+
+-- And a statement that fits its function's body, where the turns of loops end as their loops do: it is never malformed, and ends as it may.
+abbrev pub StatementsAreSound : Type 0
+StatementsAreSound =
+    (again : Again) (functions : List Function) (statics : List Static) (settings : List Setting) (initialisers : List Function) (f : Body)
+    → Around (classless functions statics settings initialisers) f.scope.locals
+    → Bodies (classless functions statics settings initialisers) again
+    → Turns (classless functions statics settings initialisers) again f
+    → (breaks continues : Bool) (e : Core) (s : State)
+    → is_simple_statement (classless functions statics settings initialisers) f.scope e ≡ true → fits f breaks continues e ≡ true
+    → Sound (classless functions statics settings initialisers) f.scope.locals s
+    → Well (classless functions statics settings initialisers) f.scope.locals s
+        (EndsWell (classless functions statics settings initialisers) f.result breaks continues)
+        (does again (classless functions statics settings initialisers) e)
