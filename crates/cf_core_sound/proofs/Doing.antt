@@ -228,7 +228,7 @@ module _ (again : Again) (fs : List Function) (xs : List Static) (ks : List Sett
           (subst (λ a. Leads P y a (At (root q))) k.same (function-shape u whole.proper ∙ n, record { below = st.below; same = inr st.same; near = tt })) in
       well-gives P L y (At (root q)) g.sound (inr is)))))
 
-  initial-well : (s : State) (t : SourceType) (o : ℕ) (e : Core) → Sound P L s → Target s t (root o) → is_proper t ≡ true → is_simple_initial P S e ≡ true → (typing S e).start t ≡ true
+  pub initial-well : (s : State) (t : SourceType) (o : ℕ) (e : Core) → Sound P L s → Target s t (root o) → is_proper t ≡ true → is_simple_initial P S e ≡ true → (typing S e).start t ≡ true
       → Well P L s Done (settled [] (root o) (full_expression again P (value again P e (Some (root o)))))
   initial-well s t o core.zeros h at p ok k = built-well s o (value again P core.zeros (Some (root o))) h (λ u b.
       well-then P L u (built_at (Some (root o)) >>= fill_zeros []) (λ _. gives Built) (zeros u (target-later s u t (root o) b.later at)  b.sound) (λ _ v c q. well-gives P L v Built c.sound refl))

@@ -5,12 +5,14 @@ pub mod Combined
 pub mod Converting
 pub mod Doing
 pub mod Good
+pub mod Main
 pub mod Moments
 pub mod Names
 pub mod Nodes
 pub mod Operators
 pub mod Parts
 pub mod Pointing
+pub mod Runs
 pub mod Scopes
 pub mod Shapes
 pub mod States

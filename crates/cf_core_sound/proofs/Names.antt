@@ -46,10 +46,10 @@ below-there (y ∷ xs) zero x e = grind (arith, nat_tests)
 below-there (y ∷ xs) (suc i) x e = let h = below-there xs i x e in grind (arith, nat_tests, h)
 
 -- a static object by its name
-record StaticAt (xs : List Static) (name : Name) (i : ℕ) : Type 0 where
-  object : Static
-  there : slice_get xs i ≡ Some object
-  found : find (λ (x : Static). bytes_eq x.name name) xs ≡ Some object
+pub record StaticAt (xs : List Static) (name : Name) (i : ℕ) : Type 0 where
+  pub object : Static
+  pub there : slice_get xs i ≡ Some object
+  pub found : find (λ (x : Static). bytes_eq x.name name) xs ≡ Some object
 
 at-number : (name : Name) (xs : List Static) → nat_lt (prefix_len (λ (x : Static). not (bytes_eq x.name name)) xs) (length xs) ≡ true
     → StaticAt xs name (prefix_len (λ (x : Static). not (bytes_eq x.name name)) xs)
@@ -67,7 +67,7 @@ at-number name (x ∷ xs) e = by_test (λ below. at-number name xs below) (bytes
         let rest = rest_of below in
         rw (t, one) (record { object = rest.object; there = rest.there; found = rw t rest.found })
 
-static-at : (name : Name) (xs : List Static) (i : ℕ) → position (λ (x : Static). bytes_eq x.name name) xs ≡ Some i → StaticAt xs name i
+pub static-at : (name : Name) (xs : List Static) (i : ℕ) → position (λ (x : Static). bytes_eq x.name name) xs ≡ Some i → StaticAt xs name i
 static-at name xs i e = by_test (nat_lt (prefix_len (λ (x : Static). not (bytes_eq x.name name)) xs) (length xs)) refl e
   where
     by_test : (b : Bool) → nat_lt (prefix_len (λ (x : Static). not (bytes_eq x.name name)) xs) (length xs) ≡ b
@@ -201,11 +201,11 @@ module _ (P : Program) (locals : List SourceType) where
 
   -- ---- static objects
 
-  some-there : {A : Type 0} (x : Option A) → is_some x ≡ true → (a : A) × (x ≡ Some a)
+  pub some-there : {A : Type 0} (x : Option A) → is_some x ≡ true → (a : A) × (x ≡ Some a)
   some-there None e = absurd (no-test e)
   some-there (Some a) e = (a, refl)
 
-  static-place : (name : Name) (i : ℕ) → static_number P name ≡ Some i → static_place P name ≡ gives (root i)
+  pub static-place : (name : Name) (i : ℕ) → static_number P name ≡ Some i → static_place P name ≡ gives (root i)
   static-place name i e = ap (λ (x : Option ℕ). some_or x malformed >>= (λ o. gives (root o))) e
 
   abbrev type_found : Option Static → SourceType
@@ -230,7 +230,7 @@ module _ (P : Program) (locals : List SourceType) where
       (named-well s i (same_but_const (static_type P name) t) h) (λ q u b k.
       let same : shape at.object.type ≡ shape t = ap shape (sym type) ∙ same-shape (static_type P name) t k.1 in
       let there = b.sound.statics i at.object at.there in
-      let stands : Stands u t i = record { below = there.below; same = there.same ∙ same } in
+      let stands : Stands u t i = record { below = there.0; same = ap shape there.1 ∙ same } in
       let no : is_function t ≡ false = sym (function-shape t p) ∙ ap is_function (sym same) ∙ function-shape at.object.type so.0 ∙ so.1 in
       subst (λ r. Well P locals u (λ v u. Fit P u (of_name (Some t)) v) (followed [] r)) (sym k.0) (well-followed u t i b.sound stands p no)))
 

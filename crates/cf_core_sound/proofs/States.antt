@@ -3,7 +3,7 @@ use Rattle.std.proofs.Common.{◌≡◌, ℕ, suc, ◌<◌, ◌≤◌, Bool, tru
 use Rattle.std.specs.Prelude.{Option, Some, None, slice_get}
 use Rattle.std.proofs.lemmas.Bool.{eqb-true}
 use Rattle.std.proofs.lemmas.Bool.Decides.{nat_tests}
-use Rattle.cf_core.specs.Types.{SourceType}
+use Rattle.cf_core.specs.Types.{Name, SourceType}
 use Rattle.cf_core.specs.Core.{Static}
 use Rattle.cf_core.specs.Places.{Route, Place, type_at, is_scalar}
 use Rattle.cf_core.specs.Store.{Value, Object}
@@ -13,6 +13,10 @@ use Rattle.cf_core_sound.specs.Proper.{is_proper, shape}
 use Rattle.cf_core_sound.specs.Values.{IsOf}
 use Rattle.cf_core_sound.specs.States.{Stands, LiteralsStand, char_array, Sound, Later, Behind}
 use Rattle.cf_core_sound.proofs.Moments.{is-later, stands-later, literals-later}
+
+-- an object of this very type stays one
+same-type : (s t : State) (i : ℕ) (a : SourceType) → Later s t → (i < s.next) × ((s.object i).type ≡ a) → (i < t.next) × ((t.object i).type ≡ a)
+same-type s t i a h k = (let lt = k.0 in let le = h.next in omega (arith, lt, le), h.types i k.0 ∙ k.1)
 
 -- ---- a map that is changed at a number
 
@@ -53,7 +57,7 @@ module _ (P : Program) (locals : List SourceType) (s : State) (h : Sound P local
     object-behind holds = record {
       later = object-later;
       sound = record {
-        statics = λ i x e. stands-later s (with_object o f s) x.type i object-later (h.statics i x e);
+        statics = λ i x e. same-type s (with_object o f s) i x.type (object-later) (h.statics i x e);
         proper = λ j lt. subst (λ t. is_proper t ≡ true) (sym (object-types j)) (h.proper j lt);
         holds = λ j π v lt. by_case j π v lt (upd-cases o (f (s.object o)) s.object j);
         literals = literals-later s (with_object o f s) s.literals object-later h.literals;
@@ -97,7 +101,7 @@ module _ (P : Program) (locals : List SourceType) (s : State) (h : Sound P local
     new-behind proper holds = record {
       later = new-later;
       sound = record {
-        statics = λ i y e. stands-later s with_new y.type i new-later (h.statics i y e);
+        statics = λ i y e. same-type s with_new i y.type (new-later) (h.statics i y e);
         proper = λ j lt. proper_at j lt (upd-cases s.next x s.object j);
         holds = λ j π v lt. by_case j π v lt (upd-cases s.next x s.object j);
         literals = literals-later s with_new s.literals new-later h.literals;
@@ -128,7 +132,7 @@ module _ (P : Program) (locals : List SourceType) (s : State) (h : Sound P local
   literal-behind x stands = record {
     later = listed;
     sound = record {
-      statics = λ i y e. stands-later s (record s { literals = x ∷ s.literals }) y.type i listed (h.statics i y e);
+      statics = λ i y e. same-type s (record s { literals = x ∷ s.literals }) i y.type (listed) (h.statics i y e);
       proper = h.proper;
       holds = λ j π v lt sc e. is-later P s (record s { literals = x ∷ s.literals }) listed _ v (h.holds j π v lt sc e);
       literals = (stands-later s (record s { literals = x ∷ s.literals }) char_array x.object listed stands, literals-later s (record s { literals = x ∷ s.literals }) s.literals listed h.literals);
@@ -141,6 +145,21 @@ module _ (P : Program) (locals : List SourceType) (s : State) (h : Sound P local
       listed : Later s (record s { literals = x ∷ s.literals })
       listed = record { next = omega arith; types = λ j lt. refl }
 
+  -- control has reached a static object
+  pub reached-behind : (names : List Name) → Behind P locals s (record s { reached = names })
+  reached-behind names = record { later = there; sound = record {
+    statics = λ i y e. same-type s (record s { reached = names }) i y.type there (h.statics i y e);
+    proper = h.proper;
+    holds = λ j π v lt sc e. is-later P s (record s { reached = names }) there _ v (h.holds j π v lt sc e);
+    literals = literals-later s (record s { reached = names }) s.literals there h.literals;
+    count = h.count;
+    result = h.result;
+    locals_stand = λ i j t e k. stands-later s (record s { reached = names }) t j there (h.locals_stand i j t e k);
+  } }
+    where
+      there : Later s (record s { reached = names })
+      there = record { next = omega arith; types = λ j lt. refl }
+
   -- ---- the frame is changed
 
   pub frame-later : (f : Frame) → Later s (with_frame f s)
@@ -150,7 +169,7 @@ module _ (P : Program) (locals : List SourceType) (s : State) (h : Sound P local
   pub frame-sound : (ls : List SourceType) (f : Frame) → f.count ≡ length ls → f.result ≡ None
       → ((i o : ℕ) (t : SourceType) → f.locals i ≡ Some o → slice_get ls i ≡ Some t → Stands s t o) → Sound P ls (with_frame f s)
   frame-sound ls f count result stand = record {
-    statics = λ i x e. stands-later s (with_frame f s) x.type i (frame-later f) (h.statics i x e);
+    statics = λ i x e. same-type s (with_frame f s) i x.type ((frame-later f)) (h.statics i x e);
     proper = h.proper;
     holds = λ j π v lt sc e. is-later P s (with_frame f s) (frame-later f) _ v (h.holds j π v lt sc e);
     literals = literals-later s (with_frame f s) s.literals (frame-later f) h.literals;

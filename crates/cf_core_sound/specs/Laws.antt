@@ -1,5 +1,5 @@
--- What is proved of expressions and of statements.
-use Rattle.std.specs.Prelude.{◌≡◌, Bool, true, List, Option}
+-- What is proved of expressions, of statements and of programs.
+use Rattle.std.specs.Prelude.{◌≡◌, ◌≢◌, ℕ, Bool, true, List, [], Option, None}
 use Rattle.cf_core.specs.Core.{Core, Function, Static}
 use Rattle.cf_core.specs.Places.{Place}
 use Rattle.cf_core.specs.Run.{State}
@@ -9,11 +9,13 @@ use Rattle.cf_core.specs.Typed.{typing}
 use Rattle.cf_core.specs.Valid.{Body, fits}
 use Rattle.cf_core.specs.Expressions.{value}
 use Rattle.cf_core.specs.Statements.{does}
+use Rattle.cf_core.specs.Program.{Mean}
 use Rattle.cf_core_sound.specs.Values.{Fit, Told}
 use Rattle.cf_core_sound.specs.States.{Sound}
-use Rattle.cf_core_sound.specs.Well.{Well}
+use Rattle.cf_core_sound.specs.Well.{OfBytes, Well}
 use Rattle.cf_core_sound.specs.Simple.{is_simple}
 use Rattle.cf_core_sound.specs.Statements.{is_simple_statement, EndsWell, Turns}
+use Rattle.cf_core_sound.specs.Programs.{is_sound_program}
 use Rattle.cf_core_sound.specs.Calls.{Bodies, Around, classless}
 
 -- In a program without classes whose bodies give back what their functions' types say: an expression that is something, from a sound moment and with
@@ -42,3 +44,11 @@ StatementsAreSound =
     → Well (classless functions statics settings initialisers) f.scope.locals s
         (EndsWell (classless functions statics settings initialisers) f.result breaks continues)
         (does again (classless functions statics settings initialisers) e)
+
+-- And whole programs: each run of bytes has a trace and an end.
+abbrev pub ProgramsAreSound : Type 0
+ProgramsAreSound =
+    (functions : List Function) (statics : List Static) (settings : List Setting)
+    → is_sound_program (classless functions statics settings []) ≡ true
+    → (input : List ℕ) → OfBytes input → (heap depth n : ℕ)
+    → Mean (classless functions statics settings []) input heap depth n ≢ None

@@ -1,5 +1,6 @@
 pub mod Calls
 pub mod Laws
+pub mod Programs
 pub mod Proper
 pub mod Simple
 pub mod Statements

@@ -25,7 +25,7 @@ LiteralsStand s (x ∷ rest) = Stands s char_array x.object × LiteralsStand s r
 
 -- of a program, in a function with these parameters and locals
 pub record Sound (P : Program) (locals : List SourceType) (s : State) : Type 0 where
-  pub statics : (i : ℕ) (x : Static) → slice_get P.statics i ≡ Some x → Stands s x.type i
+  pub statics : (i : ℕ) (x : Static) → slice_get P.statics i ≡ Some x → (i < s.next) × ((s.object i).type ≡ x.type)
   pub proper : (o : ℕ) → o < s.next → is_proper (s.object o).type ≡ true
   pub holds : (o : ℕ) (π : Route) (v : Value) → o < s.next → is_scalar (type_at [] (s.object o).type π) ≡ true
       → (s.object o).held π ≡ Some v → IsOf P s (shape (type_at [] (s.object o).type π)) v

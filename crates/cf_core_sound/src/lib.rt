@@ -4,7 +4,13 @@
 //! (`Well`), and of which expressions and statements this is told (`Simple`, `Statements`). There is no code here: the laws are functions that do nothing.
 #![tactic(auto)]
 
-ghost use Rattle.cf_core_sound.specs.Laws.{StatementsAreSound, ValuesAreSound};
+ghost use Rattle.cf_core_sound.specs.Laws.{ProgramsAreSound, StatementsAreSound, ValuesAreSound};
+
+/// The law that programs without classes, whose functions and constants are typed and of the forms that `Programs` has, are never malformed: for every
+/// input of bytes, heap limit, depth limit and bound of ticks the meaning gives a trace and an end. It does nothing.
+pub fn programs_are_sound()
+    ensures { ProgramsAreSound }
+{}
 
 /// The law that expressions are sound: from a sound moment none is malformed, its value is as its typing says, and it leaves a sound moment. It does
 /// nothing.
