@@ -12,6 +12,7 @@ pub mod Nodes
 pub mod Operators
 pub mod Parts
 pub mod Pointing
+pub mod Rows
 pub mod Runs
 pub mod Scopes
 pub mod Shapes

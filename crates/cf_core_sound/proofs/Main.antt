@@ -208,3 +208,12 @@ module _ (fs : List Function) (xs : List Static) (ks : List Setting) where
       let third = both (list_all is_sound_static xs) (list_all (is_sound_setting P) ks) second.1 in
       outcome-there (runs P n) (λ z u. Unit {0}) depth (suc n) (first_state P depth) (main_run (runs P n) P (first_state P depth) (world_at n input heap))
       ((main-well (runs P n) (bodies-sound fs xs ks [] second.0 third.0 n) third.0 (first_state P depth) third.1 first.0 (first-sound depth third.0)).by (world_at n input heap) bytes)
+
+-- the same of a program that has neither classes nor initialisers
+abbrev Law : Program → Type 0
+Law Q = is_sound_program Q ≡ true → (input : List ℕ) → OfBytes input → (heap depth n : ℕ) → Mean Q input heap depth n ≡ None → ⊥
+
+pub whole-sound : (P : Program) → P.classes ≡ [] → P.initialisers ≡ [] → is_sound_program P ≡ true → (input : List ℕ) → OfBytes input → (heap depth n : ℕ) → Mean P input heap depth n ≡ None → ⊥
+whole-sound P none nothing =
+    subst (λ cs. Law (record P { classes = cs })) (sym none)
+    (subst (λ inits. Law (record P { classes = []; initialisers = inits })) (sym nothing) (λ ok. program-sound P.functions P.statics P.constants ok))

@@ -1,9 +1,9 @@
 -- What is proved of expressions, of statements and of programs.
-use Rattle.std.specs.Prelude.{◌≡◌, ◌≢◌, ℕ, Bool, true, List, [], Option, None}
+use Rattle.std.specs.Prelude.{◌≡◌, ℕ, Bool, true, List, [], Option, None}
 use Rattle.cf_core.specs.Core.{Core, Function, Static}
 use Rattle.cf_core.specs.Places.{Place}
 use Rattle.cf_core.specs.Run.{State}
-use Rattle.cf_core.specs.Calls.{Setting, Again}
+use Rattle.cf_core.specs.Calls.{Setting, Program, Again}
 use Rattle.cf_core.specs.Typing.{Scope}
 use Rattle.cf_core.specs.Typed.{typing}
 use Rattle.cf_core.specs.Valid.{Body, fits}
@@ -45,10 +45,8 @@ StatementsAreSound =
         (EndsWell (classless functions statics settings initialisers) f.result breaks continues)
         (does again (classless functions statics settings initialisers) e)
 
--- And whole programs: each run of bytes has a trace and an end.
+-- And whole programs: each run on bytes has a trace and an end.
 abbrev pub ProgramsAreSound : Type 0
 ProgramsAreSound =
-    (functions : List Function) (statics : List Static) (settings : List Setting)
-    → is_sound_program (classless functions statics settings []) ≡ true
-    → (input : List ℕ) → OfBytes input → (heap depth n : ℕ)
-    → Mean (classless functions statics settings []) input heap depth n ≢ None
+    (P : Program) → P.classes ≡ [] → P.initialisers ≡ [] → is_sound_program P ≡ true
+    → (input : List ℕ) → OfBytes input → (heap depth n : ℕ) → Mean P input heap depth n ≡ None → ⊥

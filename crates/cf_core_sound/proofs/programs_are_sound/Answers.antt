@@ -1,5 +1,5 @@
-use Rattle.cf_core_sound.proofs.Main.{program-sound}
+use Rattle.cf_core_sound.proofs.Main.{whole-sound}
 use Rattle.cf_core_sound.proofs.programs_are_sound.Goals as goal
 
 pub returns : goal.returns
-returns c = program-sound
+returns c = whole-sound
