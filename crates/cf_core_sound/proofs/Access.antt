@@ -1,27 +1,24 @@
 -- Reading, writing and filling places, and the objects that are made, from a sound moment.
-use Rattle.std.proofs.Common.{◌≡◌, ℕ, suc, ◌<◌, ◌≤◌, Bool, true, false, ◌&&◌, not, if◌then◌else◌, List, [], ◌∷◌, ◌++◌, ℤ, pos, ◌⊎◌, inl, inr, refl, sym, ap, ◌∙◌, subst, true≢false, arith}
+use Rattle.std.proofs.Common.{◌≡◌, ℕ, ◌<◌, Bool, true, false, not, List, [], ◌∷◌, ◌++◌, pos, ◌⊎◌, inl, inr, refl, sym, ap, ◌∙◌, subst, true≢false, arith}
 use Rattle.std.specs.Prelude.{Option, Some, None, option_map, is_some}
-use Rattle.cf_base.specs.World.{World, Went, and_then}
-use Rattle.cf_base.specs.declared.kind.Kind.TheVariants.{Int}
-use Rattle.cf_base.specs.Integers.{fits}
+use Rattle.cf_base.specs.World.{World, and_then}
 use Rattle.cf_core.specs.Types.{SourceType, void, integer, enumeration, class, pointer, reference, array, takes, gives as gives_type, data_member, function_member, const, is_void}
 use Rattle.cf_core.specs.Core.{Part}
 use Rattle.cf_core.specs.Places.{Route, Place, type_at, is_scalar, is_reference, route_eq, beyond, is_inside}
-use Rattle.cf_core.specs.Store.{Value, Nothing, Missing, Built, Number, Null, At, Code, DataMember, FunctionMember, Object, Storage, automatic, new_object, hold, hold_all, from_part, zero_of, is_usable, is_constant_place}
-use Rattle.cf_core.specs.Run.{State, Act, upd, ◌>>=◌, ◌>>◌, gives, malformed, undefined, state, done, need, valid, some_or, when, onward, object_changed, born, declared_object, not_alive, outside_array, no_value, write_to_const}
-use Rattle.cf_core.specs.Access.{place_type, used, place_of, names_scalar, use_place, name_part, read_place, write_place, first_value, bound_to, fill_zeros}
+use Rattle.cf_core.specs.Store.{Value, Nothing, Missing, Built, Number, Null, At, Code, DataMember, FunctionMember, Object, automatic, new_object, hold, hold_all, from_part, zero_of, is_usable, is_constant_place}
+use Rattle.cf_core.specs.Run.{State, Act, upd, ◌>>=◌, ◌>>◌, gives, malformed, undefined, state, need, valid, some_or, when, onward, object_changed, born, declared_object, not_alive, outside_array, no_value, write_to_const}
+use Rattle.cf_core.specs.Access.{place_type, used, names_scalar, use_place, name_part, read_place, write_place, first_value, fill_zeros}
 use Rattle.cf_core.specs.Calls.{Program, root}
 use Rattle.cf_core.specs.Objects.{settle}
 use Rattle.cf_lower_layout.proofs.Parts.{same-route, route-self}
 use Rattle.cf_elab_numbers.proofs.Fits.{zero-fits}
 use Rattle.cf_core_sound.specs.Proper.{is_proper, Whole, shape}
 use Rattle.cf_core_sound.specs.Values.{IsPlace, Leads, IsOf}
-use Rattle.cf_core_sound.specs.States.{Stands, Sound, Later, Behind}
+use Rattle.cf_core_sound.specs.States.{Sound, Later}
 use Rattle.cf_core_sound.specs.Well.{OfBytes, Ends, Well}
 use Rattle.cf_core_sound.proofs.Shapes.{scalar-shape, void-shape, at-whole}
-use Rattle.cf_core_sound.proofs.Moments.{behind-self}
 use Rattle.cf_core_sound.proofs.States.{HoldsOf, object-behind, new-behind, upd-there}
-use Rattle.cf_core_sound.proofs.Wells.{well-then, well-next, well-gives, well-at, well-need, well-some, well-when, well-as}
+use Rattle.cf_core_sound.proofs.Wells.{well-gives, well-at, well-need, well-as}
 
 -- ---- values that are used
 

@@ -1,22 +1,20 @@
 -- Calls: a function is entered on objects of its parameters' types, and gives back a value of its result's type.
-use Rattle.std.proofs.Common.{◌≡◌, ℕ, zero, suc, ◌+◌, ◌-◌, ◌%◌, ◌<◌, ◌≤◌, nat_lt, Bool, true, false, ◌&&◌, ◌||◌, not, if◌then◌else◌, List, [], ◌∷◌, ◌++◌, length, length-append, ℤ, pos, negsuc, ◌⊎◌, inl, inr, refl, sym, ap, ◌∙◌, subst, true≢false, arith, codes, bytes_eq}
+use Rattle.std.proofs.Common.{◌≡◌, ℕ, zero, suc, ◌-◌, ◌%◌, ◌<◌, nat_lt, Bool, true, false, if◌then◌else◌, List, [], ◌∷◌, ◌++◌, length, length-append, ℤ, pos, negsuc, inl, inr, refl, sym, ap, ◌∙◌, subst, true≢false, arith, codes, bytes_eq}
 use Rattle.std.specs.Prelude.{Option, Some, None, is_some, slice_get, nat_eq}
 use Rattle.std.proofs.lemmas.Bool.Decides.{nat_tests}
-use Rattle.cf_base.proofs.Tests.{both}
-use Rattle.cf_base.specs.Event.{Enter, In, Out}
+use Rattle.cf_base.specs.Event.{Enter}
 use Rattle.cf_base.specs.World.{World, Ran, Went, Stops, and_then, spend, spend_of, deeper, show, next_of}
 use Rattle.cf_base.specs.declared.kind.Kind.TheVariants.{Int}
 use Rattle.cf_base.specs.Integers.{fits, bits_of}
-use Rattle.cf_core.specs.Types.{Name, SourceType, void, integer, enumeration, class, pointer, reference, array, takes, gives as gives_type, data_member, function_member, const, parameters, result, is_class, is_void}
+use Rattle.cf_core.specs.Types.{Name, SourceType, void, integer, enumeration, class, pointer, reference, array, takes, gives as gives_type, data_member, function_member, const, parameters, result, is_void}
 use Rattle.cf_core.specs.Core.{Function}
 use Rattle.cf_core.specs.Places.{is_scalar}
-use Rattle.cf_core.specs.Store.{Value, Nothing, Missing, Built, Number, Null, At, Code, DataMember, FunctionMember, Object}
-use Rattle.cf_core.specs.Run.{State, Did, Gives, Exits, Malformed, Act, onward, ◌>>=◌, ◌>>◌, gives, malformed, undefined, state, changed, done, valid, some_or, when, for_all, object_changed, gone, with_frame}
+use Rattle.cf_core.specs.Store.{Value, Nothing, Missing, Built, Number, Null, At, Code, DataMember, FunctionMember}
+use Rattle.cf_core.specs.Run.{State, Did, Gives, Exits, Malformed, Act, onward, ◌>>=◌, ◌>>◌, gives, malformed, changed, some_or, when, for_all, object_changed, gone, with_frame}
 use Rattle.cf_core.specs.Calls.{Program, Flow, Falls, Breaks, Continues, Returns, body, Again, function_named, is_library, put, get, byte_value, leave_with, argument, run_library, call_library, frame_of, local_count, without_value, given_value, returned, enter, enter_found, run_named}
-use Rattle.cf_core.specs.Typing.{Typing, of_result, of_value, of_place}
-use Rattle.cf_core_typed.specs.Same.{takes_const}
-use Rattle.cf_core_sound.specs.Proper.{is_proper, shape}
-use Rattle.cf_core_sound.specs.Values.{library_type, named_type, type_of_function, IsFunction, Leads, IsOf, Fits, Fit}
+use Rattle.cf_core.specs.Typing.{of_result}
+use Rattle.cf_core_sound.specs.Proper.{shape}
+use Rattle.cf_core_sound.specs.Values.{library_type, type_of_function, IsFunction, IsOf, Fits, Fit}
 use Rattle.cf_core_sound.specs.States.{Stands, Sound, Later, Behind}
 use Rattle.cf_core_sound.specs.Well.{OfBytes, Ends, Well}
 use Rattle.cf_core_sound.specs.Simple.{is_chain}
@@ -25,7 +23,7 @@ use Rattle.cf_core_sound.proofs.Shapes.{scalar-shape}
 use Rattle.cf_core_sound.proofs.Moments.{behind-self, later-then, stands-later, is-later}
 use Rattle.cf_core_sound.proofs.States.{object-behind, frame-later, frame-sound}
 use Rattle.cf_core_sound.proofs.Typings.{fits-value, fits-place}
-use Rattle.cf_core_sound.proofs.Wells.{ends-behind, well-then, well-next, well-gives, well-at, well-valid, well-as}
+use Rattle.cf_core_sound.proofs.Wells.{ends-behind, well-then, well-next, well-gives, well-at, well-valid}
 
 no-test : false ≡ true → ⊥
 no-test e = true≢false (sym e)

@@ -1,47 +1,35 @@
 -- Changes in place, temporaries, conversions and what references bind.
-use Rattle.std.proofs.Common.{◌≡◌, ℕ, zero, suc, Bool, true, false, ◌&&◌, ◌||◌, not, if◌then◌else◌, List, [], ◌∷◌, length, ℤ, pos, negsuc, ◌⊎◌, inl, inr, refl, sym, ap, ◌∙◌, subst, true≢false}
-use Rattle.std.specs.Prelude.{Option, Some, None, is_some, slice_get}
+use Rattle.std.proofs.Common.{◌≡◌, ℕ, Bool, true, false, ◌&&◌, ◌||◌, not, if◌then◌else◌, List, [], ◌∷◌, pos, ◌⊎◌, inl, inr, refl, sym, ap, ◌∙◌, subst, true≢false}
+use Rattle.std.specs.Prelude.{Option, Some, None, is_some}
 use Rattle.cf_base.proofs.Tests.{both}
-use Rattle.cf_base.specs.declared.kind.Kind.{Kind}
-use Rattle.cf_base.specs.declared.kind.Kind.TheVariants.{Int, Char}
-use Rattle.cf_base.specs.declared.arith.Arith.{Arith}
-use Rattle.cf_base.specs.Integers.{fits}
-use Rattle.cf_core.specs.Types.{Name, SourceType, void, integer, enumeration, class, pointer, reference, array, takes, gives as gives_type, data_member, function_member, const, plain, same_but_const, is_void, is_class, parameters, result}
-use Rattle.cf_core.specs.Core as core
-use Rattle.cf_core.specs.Core.{Core, Cores, no_temporary, absent, given, Function, Static, Change}
-use Rattle.cf_core.specs.Places.{Place, is_scalar, is_reference}
-use Rattle.cf_core.specs.Store.{Value, Nothing, Missing, Built, Number, Null, At, Code}
-use Rattle.cf_core.specs.Run.{State, Act, ◌>>=◌, ◌>>◌, gives, undefined, when, declared_object, frame_changed, lists_temporary}
-use Rattle.cf_core.specs.Access.{used, using, placed, read_place, write_place, followed, place_of}
-use Rattle.cf_core.specs.Pointers.{truth_value, pointer_op, from_void_value}
-use Rattle.cf_core.specs.Scalars.{truth_of, converted_value, operated, signed, changed_value, indexed, decayed, pointed_to}
-use Rattle.cf_core.specs.Calls.{Program, Setting, Again, root, run_named, name_function}
-use Rattle.cf_core.specs.Objects.{result_place, local_place, static_place, same_type, literal_object, settle, settled, run_pointer}
-use Rattle.cf_core.specs.Expressions.{value, last_value, object_place, arguments}
-use Rattle.cf_core.specs.Typing.{Scope, Typing, no_typing, allowed, is_function, of_start, of_value, of_number, of_place, of_name, of_result, null_if, is_zero, is_integer, is_condition, is_expression, pointed, operated_type, is_right_operand, pointer_operated, changes, either, converts, same_type as type_is}
-use Rattle.cf_core.specs.Typed.{typing, typings, typing_maybe, last_typing, fit, on_object, is_called, read_type, decayed_type, pointed_place, address_type, stored, changed_in_place, indexed_type, stepped, binds, void_pointer}
-use Rattle.cf_elab.specs.Arithmetic.{result_kind}
+use Rattle.cf_core.specs.Types.{SourceType, void, integer, enumeration, class, pointer, reference, array, takes, gives as gives_type, data_member, function_member, const, plain, is_class, parameters, result}
+use Rattle.cf_core.specs.Core.{no_temporary, Change}
+use Rattle.cf_core.specs.Places.{Place, is_scalar}
+use Rattle.cf_core.specs.Store.{Value, Missing, Number, At}
+use Rattle.cf_core.specs.Run.{State, Act, ◌>>=◌, ◌>>◌, gives, declared_object, frame_changed, lists_temporary}
+use Rattle.cf_core.specs.Access.{using, placed, read_place, write_place}
+use Rattle.cf_core.specs.Scalars.{converted_value, changed_value}
+use Rattle.cf_core.specs.Calls.{Program, root}
+use Rattle.cf_core.specs.Objects.{result_place, settle, settled}
+use Rattle.cf_core.specs.Typing.{Scope, Typing, allowed, is_function, of_start, of_value, of_number, of_place, null_if, is_zero, pointed, changes, converts, same_type as type_is}
+use Rattle.cf_core.specs.Typed.{changed_in_place, stepped, binds}
 use Rattle.cf_core_sound.specs.Proper.{is_proper, Whole, shape}
-use Rattle.cf_core_sound.specs.Values.{IsFunction, IsPlace, Leads, IsOf, Fits, Fit, Told, told_place, told_type, told_number, told_value, told_start}
-use Rattle.cf_core_sound.specs.States.{Stands, char_array, Sound, Later, Behind}
-use Rattle.cf_core_sound.specs.Well.{Ends, Well}
-use Rattle.cf_core_sound.specs.Simple.{is_simple, are_simple, are_arguments, is_whole, is_chain, is_called_type, function_fits, has_object, keeps_functions, leads_to_void, leads_to_function}
-use Rattle.cf_core_sound.specs.Calls.{Bodies, Around, classless}
-use Rattle.cf_core_sound.proofs.Shapes.{same-shape, scalar-shape, function-shape, plain-shape, whole-tested}
+use Rattle.cf_core_sound.specs.Values.{IsPlace, Leads, IsOf, Fits, Fit, Told, told_place, told_type, told_number, told_value, told_start}
+use Rattle.cf_core_sound.specs.States.{Stands, Sound, Later}
+use Rattle.cf_core_sound.specs.Well.{Well}
+use Rattle.cf_core_sound.specs.Simple.{is_chain, leads_to_void, leads_to_function}
+use Rattle.cf_core_sound.proofs.Shapes.{same-shape, scalar-shape, plain-shape}
 use Rattle.cf_core_sound.proofs.Moments.{place-later, fits-later, is-later, stands-later}
 use Rattle.cf_core_sound.proofs.States.{frame-behind}
-use Rattle.cf_core_sound.proofs.Access.{Target, target-later, well-declared, well-settle-scalar, well-read, well-write, scalar-no-void}
-use Rattle.cf_core_sound.proofs.Good.{Good, good}
-use Rattle.cf_core_sound.proofs.Typings.{nothing-told, allowed-told, null-told, changed-told, integer-told, or-cases, fits-value, fits-place, fits-allowed, fits-null}
-use Rattle.cf_core_sound.proofs.Operators.{IsNumber}
+use Rattle.cf_core_sound.proofs.Access.{Target, target-later, well-declared, well-settle-scalar, well-read, well-write}
+use Rattle.cf_core_sound.proofs.Good.{Good}
+use Rattle.cf_core_sound.proofs.Typings.{nothing-told, allowed-told, changed-told, integer-told, or-cases, fits-value, fits-place, fits-allowed, fits-null}
 use Rattle.cf_core_sound.proofs.Pointing.{converted-plain}
-use Rattle.cf_core_sound.proofs.Steps.{Solid, solid-place, solid-value, Changes, of_number as by_number, of_pointer as by_pointer, changes-told, changes-solid, well-changed, well-using}
+use Rattle.cf_core_sound.proofs.Steps.{Changes, of_number as by_number, of_pointer as by_pointer, changes-told, changes-solid, well-changed, well-using}
 use Rattle.cf_core_sound.proofs.Combined.{fits-number}
-use Rattle.cf_core_sound.proofs.Converting.{converts-told, well-converted, expression-told}
-use Rattle.cf_core_sound.proofs.Names.{well-local, well-static, well-named, well-literal}
-use Rattle.cf_core_sound.proofs.Calling.{ArgsStand, args-later, run-well}
-use Rattle.cf_core_sound.proofs.Parts.{Operand, place-operand, right-told, at-place, read-well, address-well, dereference-well, decay-well, from-void-well, index-well, pointer-node, operate-well, unary-well, not-well, and-well, or-well, conditional-well, store-well}
-use Rattle.cf_core_sound.proofs.Wells.{well-then, well-next, well-gives, well-as, well-changed as well-set, well-undefined}
+use Rattle.cf_core_sound.proofs.Converting.{converts-told, well-converted}
+use Rattle.cf_core_sound.proofs.Parts.{Operand, place-operand, right-told, at-place}
+use Rattle.cf_core_sound.proofs.Wells.{well-then, well-next, well-gives, well-as, well-changed as well-set}
 
 no-test : false ≡ true → ⊥
 no-test e = true≢false (sym e)

@@ -1,36 +1,17 @@
 -- Nodes of two parts, choices, conversions and names: what they give is as their typings say.
-use Rattle.std.proofs.Common.{◌≡◌, ℕ, zero, suc, Bool, true, false, ◌&&◌, ◌||◌, not, if◌then◌else◌, List, [], ◌∷◌, ℤ, pos, negsuc, neg_ℤ, ◌⊎◌, inl, inr, refl, sym, ap, ◌∙◌, subst, true≢false}
-use Rattle.std.specs.Prelude.{Option, Some, None, is_some, find, position, slice_get, bytes_eq}
+use Rattle.std.proofs.Common.{◌≡◌, Bool, true, false, ◌&&◌, if◌then◌else◌, ℤ, ◌⊎◌, inl, inr, refl, sym, ap, ◌∙◌, subst, true≢false}
+use Rattle.std.specs.Prelude.{Option, Some, None}
 use Rattle.cf_base.proofs.Tests.{both}
-use Rattle.cf_base.specs.declared.kind.Kind.TheVariants.{Int}
-use Rattle.cf_base.specs.Integers.{fits}
-use Rattle.cf_core.specs.declared.operators.PointerOperator.{PointerOperator}
-use Rattle.cf_core.specs.declared.operators.PointerOperator.TheVariants as ptr
-use Rattle.cf_core.specs.Types.{SourceType, void, integer, enumeration, class, pointer, reference, array, takes, gives as gives_type, data_member, function_member, const, plain, same_but_const, is_void}
-use Rattle.cf_core.specs.Places.{Place, is_scalar}
-use Rattle.cf_core.specs.Store.{Value, Nothing, Missing, Built, Number, Null, At, Code}
-use Rattle.cf_core.specs.Run.{State, Act, ◌>>=◌, gives, undefined}
-use Rattle.cf_core.specs.Access.{used, using, place_of, placed, number_of}
-use Rattle.cf_core.specs.Pointers.{truth_value, moved_value, sum_of, moved_back, difference_of, ordered, equal_values, pointer_op}
-use Rattle.cf_core.specs.Scalars.{converted_value, as_pointer}
+use Rattle.cf_core.specs.Types.{SourceType, void, integer, enumeration, class, pointer, reference, array, takes, gives as gives_type, data_member, function_member, const, same_but_const}
+use Rattle.cf_core.specs.Places.{is_scalar}
+use Rattle.cf_core.specs.Store.{Value, Number}
+use Rattle.cf_core.specs.Run.{State}
 use Rattle.cf_core.specs.Calls.{Program}
-use Rattle.cf_core.specs.Core.{Core}
-use Rattle.cf_core.specs.Typing.{Scope, Typing, no_typing, allowed, is_function, is_integral, integral_type, scalar_type, is_integer, is_expression, is_zero, of_value, of_place, of_name, of_number, null_if, pointed, points_to_object, pointers_alike, may_be_equal, pointer_operated, both as both_types, or_else, either, converts, to_pointer, holds_number}
-use Rattle.cf_core.specs.Typed.{typing, pointed_place, indexed_type}
-use Rattle.cf_core_typed.specs.Same.{is_bare}
-use Rattle.cf_core_sound.specs.Proper.{is_proper, Whole, shape}
-use Rattle.cf_core_sound.specs.Values.{IsPlace, Leads, IsOf, Fits, Fit, Told, told_place, told_type, told_number, told_value, told_start}
-use Rattle.cf_core_sound.specs.States.{Sound, Behind}
-use Rattle.cf_core_sound.specs.Well.{Ends, Well}
-use Rattle.cf_core_sound.specs.Simple.{leads_to_void, leads_to_function}
-use Rattle.cf_core_sound.proofs.Shapes.{same-shape, void-shape, function-shape, plain-shape, pointed-whole}
-use Rattle.cf_core_sound.proofs.Access.{is-used, scalar-no-void, not-built}
-use Rattle.cf_core_sound.proofs.Good.{Bare, Good}
-use Rattle.cf_core_sound.proofs.Typings.{There, ToObject, nothing-told, allowed-told, object-told, integral-told, scalar-told, or-cases, integer-number, integer-told, fits-value, fits-place, fits-allowed, fits-null}
-use Rattle.cf_core_sound.proofs.Operators.{IsNumber, well-moves}
-use Rattle.cf_core_sound.proofs.Pointing.{truth-number, well-difference, well-ordered, well-equal, well-to-kind, well-missing-kind, well-zero, well-null, well-kept, well-missing-pointer, pointer-anywhere, converted-plain}
-use Rattle.cf_core_sound.proofs.Steps.{Solid, solid-type, solid-value, solid-integer}
-use Rattle.cf_core_sound.proofs.Wells.{well-then, well-gives, well-as, well-undefined}
+use Rattle.cf_core.specs.Typing.{Typing, of_number, both as both_types, or_else, either, holds_number}
+use Rattle.cf_core_sound.specs.Proper.{shape}
+use Rattle.cf_core_sound.specs.Values.{Leads, IsOf, Fits, Told, told_place, told_type, told_number, told_value, told_start}
+use Rattle.cf_core_sound.proofs.Shapes.{same-shape}
+use Rattle.cf_core_sound.proofs.Typings.{There}
 
 -- ---- constants
 

@@ -1,16 +1,15 @@
 -- What conversions give.
-use Rattle.std.proofs.Common.{◌≡◌, zero, Bool, true, false, ◌&&◌, ◌||◌, not, List, [], ℤ, pos, negsuc, suc, ◌⊎◌, inl, inr, refl, sym, ap, ◌∙◌, subst, true≢false}
+use Rattle.std.proofs.Common.{◌≡◌, zero, Bool, true, false, ◌&&◌, ◌||◌, not, List, ℤ, pos, negsuc, suc, ◌⊎◌, inl, inr, refl, sym, ap, ◌∙◌, subst, true≢false}
 use Rattle.std.specs.Prelude.{Option, Some, None, is_some}
-use Rattle.cf_base.proofs.Tests.{both}
 use Rattle.cf_base.specs.declared.kind.Kind.TheVariants.{Int}
 use Rattle.cf_core.specs.Types.{SourceType, void, integer, enumeration, class, pointer, reference, array, takes, gives as gives_type, data_member, function_member, const, plain, same_but_const, is_void}
 use Rattle.cf_core.specs.Store.{Value, Nothing, Missing, Built, Number, Null, At, Code, DataMember, FunctionMember}
-use Rattle.cf_core.specs.Run.{State, Act, ◌>>=◌, gives}
+use Rattle.cf_core.specs.Run.{State, Act, ◌>>=◌}
 use Rattle.cf_core.specs.Access.{used}
 use Rattle.cf_core.specs.Scalars.{converted_value, as_pointer}
 use Rattle.cf_core.specs.Calls.{Program}
 use Rattle.cf_core.specs.Typing.{Typing, is_function, is_integer, is_expression, is_zero, of_value, pointed, converts, to_pointer}
-use Rattle.cf_core_sound.specs.Proper.{is_proper, Whole, shape}
+use Rattle.cf_core_sound.specs.Proper.{shape}
 use Rattle.cf_core_sound.specs.Values.{Leads, IsOf, Fits, Fit, Told, told_place, told_type, told_number, told_value}
 use Rattle.cf_core_sound.specs.States.{Sound}
 use Rattle.cf_core_sound.specs.Well.{Well}
@@ -19,7 +18,6 @@ use Rattle.cf_core_sound.proofs.Shapes.{same-shape, function-shape, void-shape, 
 use Rattle.cf_core_sound.proofs.Access.{not-built}
 use Rattle.cf_core_sound.proofs.Good.{Good}
 use Rattle.cf_core_sound.proofs.Typings.{integer-number, integer-told, or-cases, fits-value}
-use Rattle.cf_core_sound.proofs.Operators.{IsNumber}
 use Rattle.cf_core_sound.proofs.Pointing.{well-to-kind, well-missing-kind, well-zero, well-null, well-kept, well-missing-pointer, pointer-anywhere}
 use Rattle.cf_core_sound.proofs.Wells.{well-gives, well-as}
 

@@ -1,46 +1,44 @@
 -- Statements: from a sound moment none is malformed, and each ends as it may.
-use Rattle.std.proofs.Common.{◌≡◌, ℕ, zero, suc, ◌<◌, nat_lt, nat_le, Bool, true, false, ◌&&◌, ◌||◌, not, List, [], ◌∷◌, length, ℤ, ◌⊎◌, inl, inr, refl, sym, ap, ◌∙◌, subst, true≢false, arith}
-use Rattle.std.specs.Prelude.{Option, Some, None, is_some, slice_get, int_le}
-use Rattle.std.proofs.lemmas.Bool.Decides.{nat_tests}
+use Rattle.std.proofs.Common.{◌≡◌, ℕ, nat_lt, nat_le, Bool, true, false, ◌&&◌, not, List, [], ◌⊎◌, inl, inr, refl, sym, ap, ◌∙◌, subst, true≢false}
+use Rattle.std.specs.Prelude.{Option, Some, None, slice_get}
 use Rattle.cf_base.proofs.Tests.{both}
-use Rattle.cf_core.specs.declared.operators.LoopForm.{LoopForm}
-use Rattle.cf_core.specs.Types.{SourceType, void, integer, enumeration, class, pointer, reference, array, takes, gives as gives_type, data_member, function_member, const, same_but_const, is_void}
+use Rattle.cf_core.specs.Types.{SourceType, void, integer, enumeration, class, pointer, reference, array, takes, gives as gives_type, data_member, function_member, const, same_but_const}
 use Rattle.cf_core.specs.Core as core
 use Rattle.cf_core.specs.Core.{Core, Cores, MaybeCore, no_temporary, local_temporary, static_temporary, absent, given, Function, Static}
 use Rattle.cf_core.specs.Places.{Place, is_scalar, is_reference}
-use Rattle.cf_core.specs.Store.{Value, Nothing, Missing, Built, Number, At}
-use Rattle.cf_core.specs.Run.{State, Frame, Act, ◌>>=◌, ◌>>◌, gives, state, done, tick, valid, when, declared_object, frame_changed, lists_local, lists_in_scope}
-use Rattle.cf_core.specs.Access.{using, number_of, fill_zeros}
+use Rattle.cf_core.specs.Store.{Value, Missing, Built, At}
+use Rattle.cf_core.specs.Run.{State, Act, ◌>>=◌, ◌>>◌, gives, valid, declared_object, frame_changed, lists_local, lists_in_scope}
+use Rattle.cf_core.specs.Access.{using, fill_zeros}
 use Rattle.cf_core.specs.Scalars.{truth_of}
-use Rattle.cf_core.specs.Calls.{Program, Setting, Flow, Falls, Breaks, Continues, Returns, Again, turn, root, full_expression, in_scope}
+use Rattle.cf_core.specs.Calls.{Program, Setting, Falls, Breaks, Continues, Returns, Again, root, full_expression}
 use Rattle.cf_core.specs.Objects.{new_local, settle, settled, built_at}
 use Rattle.cf_core.specs.Expressions.{value}
-use Rattle.cf_core.specs.Statements.{has_case, has_default, passes, passes_all, falling, turning, tests_first, leaving, holds, result_of, step_and, declares, does, does_maybe, does_all, from_case, from_default}
+use Rattle.cf_core.specs.Statements.{holds, result_of, declares}
 use Rattle.cf_core.specs.Joined.{is_nothing}
-use Rattle.cf_core.specs.Typing.{Scope, Typing, is_function, is_expression, is_condition, is_integer, same_type}
+use Rattle.cf_core.specs.Typing.{Scope, Typing, is_function, is_expression, is_condition, same_type}
 use Rattle.cf_core.specs.Typed.{typing, binds}
-use Rattle.cf_core.specs.Valid.{Body, fits, fits_maybe, all_fit, labelled_fit, condition_fits, expression_fits, is_label, has_label, initialises_local, any_initialises, labels_differ, passes_none, is_complete}
+use Rattle.cf_core.specs.Valid.{Body, fits, condition_fits, is_complete}
 use Rattle.cf_core_sound.specs.Proper.{is_proper, Whole, shape}
-use Rattle.cf_core_sound.specs.Values.{Leads, IsOf, Fits, Fit, Told, told_start}
-use Rattle.cf_core_sound.specs.States.{Stands, Sound, Later, Behind}
-use Rattle.cf_core_sound.specs.Well.{Ends, Well}
+use Rattle.cf_core_sound.specs.Values.{Leads, IsOf, Fits, Fit, told_start}
+use Rattle.cf_core_sound.specs.States.{Stands, Sound, Behind}
+use Rattle.cf_core_sound.specs.Well.{Well}
 use Rattle.cf_core_sound.specs.Simple.{is_simple, is_whole}
-use Rattle.cf_core_sound.specs.Statements.{is_object, is_simple_start, is_simple_maybe, is_simple_initial, is_simple_statement, is_simple_inner, are_simple_statements, are_simple_cases, EndsWell, Turns}
-use Rattle.cf_core_sound.specs.Calls.{IsGiven, Bodies, Around, classless}
+use Rattle.cf_core_sound.specs.Statements.{is_object, is_simple_start, is_simple_maybe, is_simple_initial, EndsWell}
+use Rattle.cf_core_sound.specs.Calls.{Bodies, Around, classless}
 use Rattle.cf_core_sound.proofs.Shapes.{same-shape, function-shape, whole-tested}
 use Rattle.cf_core_sound.proofs.Moments.{is-later, stands-later, fit-later, fits-later}
 use Rattle.cf_core_sound.proofs.States.{frame-behind, local-behind}
 use Rattle.cf_core_sound.proofs.Access.{Target, target-later, well-declared, well-settle-scalar, well-zeros}
 use Rattle.cf_core_sound.proofs.Good.{Good, good}
-use Rattle.cf_core_sound.proofs.Typings.{or-cases, integer-number, integer-told}
-use Rattle.cf_core_sound.proofs.Steps.{Solid, solid-integer, solid-start, well-using}
+use Rattle.cf_core_sound.proofs.Typings.{or-cases}
+use Rattle.cf_core_sound.proofs.Steps.{Solid, solid-start, well-using}
 use Rattle.cf_core_sound.proofs.Converting.{expression-told}
 use Rattle.cf_core_sound.proofs.Names.{below-there}
 use Rattle.cf_core_sound.proofs.Parts.{Operand, test-well}
 use Rattle.cf_core_sound.proofs.Changing.{settled-well, target-stands}
-use Rattle.cf_core_sound.proofs.Scopes.{Stays, full-well, scope-well}
+use Rattle.cf_core_sound.proofs.Scopes.{Stays, full-well}
 use Rattle.cf_core_sound.proofs.Values.{value-well}
-use Rattle.cf_core_sound.proofs.Wells.{well-then, well-next, well-gives, well-at, well-as, well-valid, well-when, well-changed}
+use Rattle.cf_core_sound.proofs.Wells.{well-then, well-next, well-gives, well-at, well-as, well-valid, well-changed}
 
 pub no-test : false ≡ true → ⊥
 no-test e = true≢false (sym e)
@@ -177,7 +175,7 @@ module _ (again : Again) (fs : List Function) (xs : List Static) (ks : List Sett
       (well-then P L s (declared_object t) (λ o. frame_changed (lists_local i o) >> gives o) (well-declared P L s t h p) (λ o v b at.
       let stands : Stands v u o = record { below = at.below; same = ap shape at.is ∙ sym same } in
       well-next P L v (frame_changed (lists_local i o)) (gives o)
-          (well-changed P L v (λ s. record s { frame = lists_local i o s.frame }) (local-behind P L v b.sound (lists_local i o v.frame) i o u refl refl refl there stands)) (λ _ w c e.
+      (well-changed P L v (λ s. record s { frame = lists_local i o s.frame }) (local-behind P L v b.sound (lists_local i o v.frame) i o u refl refl refl there stands)) (λ _ w c e.
       well-gives P L w o c.sound (target-later v w t (root o) c.later at)))))
 
   pub listed-well : (s : State) (o : ℕ) → Sound P L s → Well P L s Done (frame_changed (lists_in_scope o))
@@ -219,19 +217,19 @@ module _ (again : Again) (fs : List Function) (xs : List Static) (ks : List Sett
       → Well P L s Done (settled [] (root o) (full_expression again P (value again P (core.bind (local_temporary j u) e) (Some (root o)))))
   held-initial s t u o j e h at whole n ok k = scalar-well s t o (value again P (core.bind (local_temporary j u) e) (Some (root o))) h at k.scalar (λ v b.
       well-then P L v (new_local j u) (λ q. settled [] (root q) (value again P e (Some (root q))) >> (frame_changed (lists_in_scope q) >> gives (At (root q))))
-          (new-well v j u k.local b.sound whole.proper k.there k.alike) (λ q w c at.
+      (new-well v j u k.local b.sound whole.proper k.there k.alike) (λ q w c at.
       well-next P L w (settled [] (root q) (value again P e (Some (root q)))) (frame_changed (lists_in_scope q) >> gives (At (root q)))
-          (settled-well P S L w u q (typing S e) (value again P e (Some (root q))) c.sound at ((G e ok).start u k.start) k.start (val e ok (Some (root q)))) (λ _ x d held.
+      (settled-well P S L w u q (typing S e) (value again P e (Some (root q))) c.sound at ((G e ok).start u k.start) k.start (val e ok (Some (root q)))) (λ _ x d held.
       well-next P L {Q = Done} x (frame_changed (lists_in_scope q)) (gives (At (root q))) (listed-well x q d.sound) (λ _ y g e.
       let st = stands-later x y u q g.later (target-stands P S L w x u q d.later at) in
       let is : IsOf P y (shape t) (At (root q)) = subst (λ a. IsOf P y a (At (root q))) (sym k.reference)
-          (subst (λ a. Leads P y a (At (root q))) k.same (function-shape u whole.proper ∙ n, record { below = st.below; same = inr st.same; near = tt })) in
+      (subst (λ a. Leads P y a (At (root q))) k.same (function-shape u whole.proper ∙ n, record { below = st.below; same = inr st.same; near = tt })) in
       well-gives P L y (At (root q)) g.sound (inr is)))))
 
   pub initial-well : (s : State) (t : SourceType) (o : ℕ) (e : Core) → Sound P L s → Target s t (root o) → is_proper t ≡ true → is_simple_initial P S e ≡ true → (typing S e).start t ≡ true
       → Well P L s Done (settled [] (root o) (full_expression again P (value again P e (Some (root o)))))
   initial-well s t o core.zeros h at p ok k = built-well s o (value again P core.zeros (Some (root o))) h (λ u b.
-      well-then P L u (built_at (Some (root o)) >>= fill_zeros []) (λ _. gives Built) (zeros u (target-later s u t (root o) b.later at)  b.sound) (λ _ v c q. well-gives P L v Built c.sound refl))
+      well-then P L u (built_at (Some (root o)) >>= fill_zeros []) (λ _. gives Built) (zeros u (target-later s u t (root o) b.later at) b.sound) (λ _ v c q. well-gives P L v Built c.sound refl))
     where
       zeros : (u : State) → Target u t (root o) → Sound P L u → Well P L u Done (built_at (Some (root o)) >>= fill_zeros [])
       zeros u at h = record { by = λ w bytes. (well-zeros P L u (root o) h (subst Whole (sym at.is) (record { proper = p; no_reference = not-true (is_reference t) k }))).by w bytes }
@@ -251,9 +249,9 @@ module _ (again : Again) (fs : List Function) (xs : List Static) (ks : List Sett
       let there = local-there (slice_get L i) t typed.1 in
       well-next P L {Q = Done} s (declares again P i t e) (gives Falls)
       (well-then P L s (new_local i t) (λ o. settled [] (root o) (full_expression again P (value again P e (Some (root o)))) >> frame_changed (lists_in_scope o))
-          (new-well s i t there.0 h object.0 there.1 there.2) (λ o u d at.
+      (new-well s i t there.0 h object.0 there.1 there.2) (λ o u d at.
       well-next P L {Q = Done} u (settled [] (root o) (full_expression again P (value again P e (Some (root o))))) (frame_changed (lists_in_scope o))
-          (initial-well u t o e d.sound at object.0 parts.1 typed.3) (λ _ v g q. listed-well v o g.sound))) (λ _ u d q. falls b c u d.sound)
+      (initial-well u t o e d.sound at object.0 parts.1 typed.3) (λ _ v g q. listed-well v o g.sound))) (λ _ u d q. falls b c u d.sound)
 
   -- ---- what is returned
 
@@ -269,8 +267,8 @@ module _ (again : Again) (fs : List Function) (xs : List Static) (ks : List Sett
         | Some p ↦ settled [] p (full_expression again P (value again P e (Some p))) >> gives Built
       ])) (sym h.result)
       (well-as P L s (full_expression again P (using (value again P e None)))
-          (full-well again fs xs ks inits L s (using (value again P e None)) h (fits-stay (typing S e)) (λ u d. well-using P L u (typing S e) (value again P e None) ((val e ok None).by u d.sound (told_start f.result k)) (start-solid e ok k)))
-          (λ v u d g. g.start f.result k))))
+      (full-well again fs xs ks inits L s (using (value again P e None)) h (fits-stay (typing S e)) (λ u d. well-using P L u (typing S e) (value again P e None) ((val e ok None).by u d.sound (told_start f.result k)) (start-solid e ok k)))
+      (λ v u d g. g.start f.result k))))
       (λ v u d i. well-gives P L u (Returns v) d.sound (inr (inr i)))
     where
       start-solid : (e : Core) → is_simple P S e ≡ true → (typing S e).start f.result ≡ true → Solid P L (typing S e)

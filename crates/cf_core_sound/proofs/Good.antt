@@ -1,22 +1,21 @@
 -- The types that a simple node's typing tells are whole, and only scalars are initialised by values.
-use Rattle.std.proofs.Common.{◌≡◌, ℕ, Bool, true, false, ◌&&◌, ◌||◌, not, if◌then◌else◌, List, [], ◌∷◌, ◌⊎◌, inl, inr, ℤ, refl, sym, ap, ◌∙◌, subst, true≢false, nat_le, length}
+use Rattle.std.proofs.Common.{◌≡◌, ℕ, Bool, true, false, ◌&&◌, not, if◌then◌else◌, ℤ, refl, sym, subst, true≢false, length}
 use Rattle.std.specs.Prelude.{Option, Some, None, slice_get}
-use Rattle.std.specs.List.{list_all}
 use Rattle.cf_base.proofs.Tests.{both}
 use Rattle.cf_base.specs.declared.kind.Kind.{Kind}
 use Rattle.cf_base.specs.declared.kind.Kind.TheVariants.{Int, Char}
 use Rattle.cf_base.specs.declared.arith.Arith.{Arith}
 use Rattle.cf_core.specs.declared.operators.PointerOperator.{PointerOperator}
 use Rattle.cf_core.specs.declared.operators.PointerOperator.TheVariants as ptr
-use Rattle.cf_core.specs.Types.{Name, SourceType, void, integer, enumeration, class, pointer, reference, array, takes, gives, data_member, function_member, const, plain, same_but_const, is_void, is_class, result}
+use Rattle.cf_core.specs.Types.{SourceType, void, integer, enumeration, class, pointer, reference, array, takes, gives, data_member, function_member, const, plain, same_but_const, is_class, result}
 use Rattle.cf_core.specs.Core as core
 use Rattle.cf_core.specs.Core.{Core, Cores, no_temporary, local_temporary, static_temporary, absent, given, Change}
 use Rattle.cf_core.specs.Places.{is_scalar, is_reference}
 use Rattle.cf_core.specs.Calls.{Program}
-use Rattle.cf_core.specs.Typing.{Scope, Typing, no_typing, allowed, is_function, of_start, of_value, of_number, of_place, of_name, of_result, null_if, holds_number, pointed, is_comparison, operated_type, pointer_operated, points_to_object, is_integer, pointers_alike, may_be_equal, both as both_types, or_else, either}
-use Rattle.cf_core.specs.Typed.{typing, typings, typing_maybe, last_typing, read_type, decayed_type, pointed_place, address_type, stored, changed_in_place, indexed_type, stepped, binds}
+use Rattle.cf_core.specs.Typing.{Scope, Typing, no_typing, allowed, is_function, of_value, of_place, of_name, of_result, null_if, holds_number, pointed, is_comparison, operated_type, pointer_operated, both as both_types, or_else, either}
+use Rattle.cf_core.specs.Typed.{typing, last_typing, read_type, decayed_type, pointed_place, address_type, stored, changed_in_place, indexed_type, stepped, binds}
 use Rattle.cf_core_typed.specs.Same.{is_bare, takes_const}
-use Rattle.cf_core_sound.specs.Proper.{most, is_proper, Whole, shape}
+use Rattle.cf_core_sound.specs.Proper.{is_proper, Whole}
 use Rattle.cf_core_sound.specs.Simple.{is_simple, are_simple, is_whole, is_called_type}
 use Rattle.cf_core_sound.proofs.Shapes.{plain-whole, whole-tested, pointed-whole, referred-whole, element-whole, pointer-whole}
 

@@ -1,40 +1,40 @@
 -- A whole run: static objects begin with zeros, constants are set, `main` runs, and nothing is destroyed.
-use Rattle.std.proofs.Common.{◌≡◌, ℕ, zero, suc, ◌<◌, ◌≤◌, Bool, true, false, ◌&&◌, not, List, [], ◌∷◌, length, ℤ, pos, ◌⊎◌, inl, inr, refl, sym, ap, ◌∙◌, subst, true≢false, arith, codes}
-use Rattle.std.specs.Prelude.{Option, Some, None, is_some, slice_get}
+use Rattle.std.proofs.Common.{◌≡◌, ℕ, zero, suc, ◌<◌, Bool, true, false, ◌&&◌, not, List, [], ◌∷◌, ℤ, pos, inl, inr, refl, sym, ap, subst, true≢false, arith, codes}
+use Rattle.std.specs.Prelude.{Option, Some, None, slice_get}
 use Rattle.std.specs.List.{list_all}
 use Rattle.cf_base.proofs.Tests.{both}
-use Rattle.cf_base.specs.World.{World, Ran, Went, Stops, and_then, world_at, Outcome}
+use Rattle.cf_base.specs.World.{World, Ran, Went, Stops, and_then, world_at}
 use Rattle.cf_base.specs.declared.kind.Kind.TheVariants.{Int}
-use Rattle.cf_core.specs.Types.{Name, SourceType, void, integer, enumeration, class, pointer, reference, array, takes, gives as gives_type, data_member, function_member, const}
-use Rattle.cf_core.specs.Core.{Core, Function, Static, item}
+use Rattle.cf_core.specs.Types.{SourceType, void, integer, enumeration, class, pointer, reference, array, takes, gives as gives_type, data_member, function_member, const}
+use Rattle.cf_core.specs.Core.{Function, Static, item}
 use Rattle.cf_core.specs.Places.{Route, Place, inner, type_at, is_scalar, is_reference}
-use Rattle.cf_core.specs.Store.{Value, Missing, Number, zeroed_object}
-use Rattle.cf_core.specs.Run.{State, Frame, Did, Gives, Exits, Malformed, Act, onward, ◌>>=◌, ◌>>◌, gives, state, done, tick, when, for_each_back, for_all, changed, frame_changed}
-use Rattle.cf_core.specs.Calls.{Program, Setting, Again, function_named, root, has_destructor, destroy, full_expression, finish_static, run_named}
-use Rattle.cf_core.specs.Objects.{static_number, static_type, static_place, settled}
+use Rattle.cf_core.specs.Store.{Value}
+use Rattle.cf_core.specs.Run.{State, Did, Gives, Exits, Malformed, ◌>>=◌, ◌>>◌, done, tick, when, for_each_back, for_all, changed, frame_changed}
+use Rattle.cf_core.specs.Calls.{Program, Setting, Again, function_named, root, destroy, full_expression, finish_static, run_named}
+use Rattle.cf_core.specs.Objects.{static_number, static_type, settled}
 use Rattle.cf_core.specs.Expressions.{value}
 use Rattle.cf_core.specs.Statements.{initialises}
-use Rattle.cf_core.specs.Program.{runs, no_frame, static_object_of, length_of, first_state, set_constant, status_of, main_run, left, destroy_static, resumed, destroy_statics, ended_run, run_outcome, Mean}
+use Rattle.cf_core.specs.Program.{runs, static_object_of, length_of, first_state, set_constant, status_of, main_run, left, destroy_static, resumed, destroy_statics, ended_run, run_outcome, Mean}
 use Rattle.cf_core.specs.Typing.{of_result, is_function}
 use Rattle.cf_core.specs.Typed.{typing}
 use Rattle.cf_core.specs.Valid.{Body}
 use Rattle.cf_core_typed.proofs.Same.{type-equal}
 use Rattle.cf_core_sound.specs.Proper.{is_proper, Whole, shape}
-use Rattle.cf_core_sound.specs.Values.{IsFunction, IsOf, Fits, Fit}
-use Rattle.cf_core_sound.specs.States.{Stands, Sound, Later, Behind}
+use Rattle.cf_core_sound.specs.Values.{IsFunction, IsOf, Fit}
+use Rattle.cf_core_sound.specs.States.{Sound}
 use Rattle.cf_core_sound.specs.Well.{OfBytes, Ends, Well}
 use Rattle.cf_core_sound.specs.Simple.{has_object}
 use Rattle.cf_core_sound.specs.Statements.{is_object, is_simple_initial}
 use Rattle.cf_core_sound.specs.Calls.{Bodies, Around, classless}
 use Rattle.cf_core_sound.specs.Programs.{is_sound_function, is_sound_static, outside, is_sound_setting, is_main, is_sound_program}
-use Rattle.cf_core_sound.proofs.Shapes.{at-proper, at-whole}
+use Rattle.cf_core_sound.proofs.Shapes.{at-whole}
 use Rattle.cf_core_sound.proofs.States.{frame-behind, reached-behind}
-use Rattle.cf_core_sound.proofs.Access.{Target, zero-of}
-use Rattle.cf_core_sound.proofs.Names.{StaticAt, static-at, some-there, static-place}
+use Rattle.cf_core_sound.proofs.Access.{zero-of}
+use Rattle.cf_core_sound.proofs.Names.{static-at, some-there, static-place}
 use Rattle.cf_core_sound.proofs.Calling.{run-well}
 use Rattle.cf_core_sound.proofs.Scopes.{no-destructor}
 use Rattle.cf_core_sound.proofs.Doing.{initial-well}
-use Rattle.cf_core_sound.proofs.Runs.{at-all, object-told, statics-around, bodies-sound}
+use Rattle.cf_core_sound.proofs.Runs.{at-all, statics-around, bodies-sound}
 use Rattle.cf_core_sound.proofs.Wells.{well-then, well-next, well-gives, well-as, well-changed}
 
 no-test : false ≡ true → ⊥
@@ -89,9 +89,9 @@ module _ (fs : List Function) (xs : List Static) (ks : List Setting) where
           → (static_object_of [] (slice_get xs o)).held π ≡ Some v → IsOf P (first_state P depth) (shape (type_at [] (static_object_of [] (slice_get xs o)).type π)) v
       holds o π v k =
           subst (λ (y : Option Static). is_scalar (type_at [] (static_object_of [] y).type π) ≡ true → (static_object_of [] y).held π ≡ Some v
-              → IsOf P (first_state P depth) (shape (type_at [] (static_object_of [] y).type π)) v) (sym k.1)
+          → IsOf P (first_state P depth) (shape (type_at [] (static_object_of [] y).type π)) v) (sym k.1)
           (λ sc e. subst (λ z. IsOf P (first_state P depth) (shape (type_at [] k.0.type π)) z) (of-some _ v e)
-              (zero-of P (first_state P depth) (type_at [] k.0.type π) sc (at-whole k.0.type π (whole o k.0 k.1)).no_reference))
+          (zero-of P (first_state P depth) (type_at [] k.0.type π) sc (at-whole k.0.type π (whole o k.0 k.1)).no_reference))
 
   -- ---- constants
 
@@ -120,18 +120,20 @@ module _ (fs : List Function) (xs : List Static) (ks : List Setting) where
         let type : static_type P x.object ≡ at.object.type = ap type_found at.found in
         let so = statics-around fs xs ks [] statics i at.object at.there in
         well-next P [] {Q = λ _ u. Unit {0}} s (frame_changed (λ g. record g { function = x.function })) (initialises again P x.object x.start)
-            (well-as P [] s (frame_changed (λ g. record g { function = x.function }))
-                (well-changed P [] s (λ s. record s { frame = record s.frame { function = x.function } }) (frame-behind P [] s h (record s.frame { function = x.function }) refl refl refl)) (λ _ u b e. tt)) (λ _ u b q.
+        (well-as P [] s (frame_changed (λ g. record g { function = x.function }))
+        (well-changed P [] s (λ s. record s { frame = record s.frame { function = x.function } }) (frame-behind P [] s h (record s.frame { function = x.function }) refl refl refl)) (λ _ u b e. tt)) (λ _ u b q.
         subst (λ act. Well P [] u (λ _ u. Unit {0}) (act >>= (λ p. changed (λ s. record s { reached = x.object ∷ s.reached })
-            >> (settled [] p (full_expression again P (value again P x.start (Some p))) >> finish_static P (static_type P x.object) p.object)))) (sym (static-place P [] x.object i number.1))
-        (record { by = λ w bytes. (well-next P [] {Q = λ _ u. Unit {0}} u (changed (λ s. record s { reached = x.object ∷ s.reached }))
-            (settled [] (root i) (full_expression again P (value again P x.start (Some (root i)))) >> finish_static P (static_type P x.object) i)
-            (well-as P [] u (changed (λ s. record s { reached = x.object ∷ s.reached })) (well-changed P [] u (λ s. record s { reached = x.object ∷ s.reached }) (reached-behind P [] u b.sound (x.object ∷ u.reached))) (λ _ v c e. tt)) (λ _ v c q.
-        let there = c.sound.statics i at.object at.there in
-        well-next P [] {Q = λ _ u. Unit {0}} v (settled [] (root i) (full_expression again P (value again P x.start (Some (root i))))) (finish_static P (static_type P x.object) i)
-            (initial-well again fs xs ks [] nobody around bodies v at.object.type i x.start c.sound (record { below = there.0; is = there.1 }) so.0 second.0
-                (subst (λ t. (typing (outside P) x.start).start t ≡ true) type second.1)) (λ _ w d q.
-        finish-well w (static_type P x.object) i d.sound))).by w bytes }))
+        >> (settled [] p (full_expression again P (value again P x.start (Some p))) >> finish_static P (static_type P x.object) p.object)))) (sym (static-place P [] x.object i number.1))
+        (record {
+          by = λ w bytes. (well-next P [] {Q = λ _ u. Unit {0}} u (changed (λ s. record s { reached = x.object ∷ s.reached }))
+              (settled [] (root i) (full_expression again P (value again P x.start (Some (root i)))) >> finish_static P (static_type P x.object) i)
+              (well-as P [] u (changed (λ s. record s { reached = x.object ∷ s.reached })) (well-changed P [] u (λ s. record s { reached = x.object ∷ s.reached }) (reached-behind P [] u b.sound (x.object ∷ u.reached))) (λ _ v c e. tt)) (λ _ v c q.
+              let there = c.sound.statics i at.object at.there in
+              well-next P [] {Q = λ _ u. Unit {0}} v (settled [] (root i) (full_expression again P (value again P x.start (Some (root i))))) (finish_static P (static_type P x.object) i)
+              (initial-well again fs xs ks [] nobody around bodies v at.object.type i x.start c.sound (record { below = there.0; is = there.1 }) so.0 second.0
+              (subst (λ t. (typing (outside P) x.start).start t ≡ true) type second.1)) (λ _ w d q.
+              finish-well w (static_type P x.object) i d.sound))).by w bytes;
+        }))
 
     settings-well : (ys : List Setting) (s : State) → list_all (is_sound_setting P) ys ≡ true → Sound P [] s → Well P [] s (λ _ u. Unit {0}) (for_all ys (set_constant again P))
     settings-well [] s ok h = well-gives P [] s tt h tt
@@ -158,9 +160,11 @@ module _ (fs : List Function) (xs : List Static) (ks : List Setting) where
     main-well : (s : State) → list_all (is_sound_setting P) ks ≡ true → is_main (function_named P (codes "__main")) ≡ true → Sound P [] s → Well P [] s (λ z u. Unit {0}) (main_run again P)
     main-well s settings main h =
         well-next P [] {Q = λ _ u. Unit {0}} s (for_all ks (set_constant again P)) (done >> (run_named again P (codes "__main") [] None None >>= status_of)) (settings-well ks s settings h) (λ _ u b q.
-        record { by = λ w bytes. (well-then P [] u (run_named again P (codes "__main") [] None None) status_of
-            (run-well P [] again bodies u (codes "__main") (gives_type (integer Int) false) [] b.sound refl (main-function (function_named P (codes "__main")) refl main) tt (λ o e. absurd (cc)))
-            (λ v x c f. status-well x v c.sound f)).by w bytes })
+        record {
+          by = λ w bytes. (well-then P [] u (run_named again P (codes "__main") [] None None) status_of
+              (run-well P [] again bodies u (codes "__main") (gives_type (integer Int) false) [] b.sound refl (main-function (function_named P (codes "__main")) refl main) tt (λ o e. absurd (cc)))
+              (λ v x c f. status-well x v c.sound f)).by w bytes;
+        })
 
   -- ---- nothing is destroyed
 

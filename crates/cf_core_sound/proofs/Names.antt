@@ -1,5 +1,5 @@
 -- What names and literals stand for.
-use Rattle.std.proofs.Common.{◌≡◌, ℕ, zero, suc, ◌+◌, ◌<◌, ◌≤◌, nat_lt, ◌==◌, Bool, true, false, ◌&&◌, ◌||◌, not, cond, if◌then◌else◌, List, [], ◌∷◌, length, ℤ, pos, ◌⊎◌, inl, inr, refl, sym, ap, ◌∙◌, subst, true≢false, arith}
+use Rattle.std.proofs.Common.{◌≡◌, ℕ, zero, suc, ◌+◌, nat_lt, ◌==◌, Bool, true, false, ◌&&◌, ◌||◌, not, cond, List, [], ◌∷◌, length, pos, inr, refl, sym, ap, ◌∙◌, subst, true≢false, arith}
 use Rattle.std.specs.Prelude.{Option, Some, None, is_some, find, position, slice_get, bytes_eq}
 use Rattle.std.specs.List.{prefix_len}
 use Rattle.std.proofs.lemmas.Bool.Decides.{nat_tests}
@@ -7,27 +7,27 @@ use Rattle.cf_base.proofs.Tests.{both}
 use Rattle.cf_base.specs.declared.kind.Kind.TheVariants.{Char}
 use Rattle.cf_base.specs.Integers.{convert as converted}
 use Rattle.cf_elab_numbers.proofs.Fits.{convert-fits}
-use Rattle.cf_core.specs.Types.{Name, SourceType, void, integer, enumeration, class, pointer, reference, array, takes, gives as gives_type, data_member, function_member, const, same_but_const, is_void}
+use Rattle.cf_core.specs.Types.{Name, SourceType, void, integer, enumeration, class, pointer, reference, array, takes, gives as gives_type, data_member, function_member, const, same_but_const}
 use Rattle.cf_core.specs.Core.{Function, Static, item, past, field, within}
-use Rattle.cf_core.specs.Places.{Route, Place, type_at, is_scalar, is_reference}
+use Rattle.cf_core.specs.Places.{is_reference}
 use Rattle.cf_core.specs.Store.{Value, Nothing, Missing, Built, Number, Null, At, Code, DataMember, FunctionMember, Object}
-use Rattle.cf_core.specs.Run.{State, Literal, Act, ◌>>=◌, ◌>>◌, gives, malformed, undefined, state, done, need, valid, some_or, when, changed, born, not_alive, cast_from_void}
+use Rattle.cf_core.specs.Run.{State, Literal, ◌>>=◌, ◌>>◌, gives, malformed, undefined, done, need, valid, some_or, when, changed, born, not_alive, cast_from_void}
 use Rattle.cf_core.specs.Access.{place_type, read_place, bound_to, followed}
 use Rattle.cf_core.specs.Calls.{Program, root, is_library, function_named, has_type, name_function}
-use Rattle.cf_core.specs.Objects.{local_place, static_number, static_type, static_place, same_type, byte_at, literal_of, found_literal, literal_object}
-use Rattle.cf_core.specs.Typing.{Typing, of_place, of_name, is_function}
+use Rattle.cf_core.specs.Objects.{local_place, static_number, static_type, static_place, same_type, literal_of, found_literal, literal_object}
+use Rattle.cf_core.specs.Typing.{of_place, of_name, is_function}
 use Rattle.cf_core_typed.specs.Same.{takes_const}
-use Rattle.cf_core_sound.specs.Proper.{is_proper, Whole, shape}
-use Rattle.cf_core_sound.specs.Values.{library_type, named_type, type_of_function, IsFunction, IsPlace, Leads, IsOf, Fits, Fit, Told}
-use Rattle.cf_core_sound.specs.States.{Stands, LiteralsStand, char_array, Sound, Later, Behind}
-use Rattle.cf_core_sound.specs.Well.{Ends, Well}
+use Rattle.cf_core_sound.specs.Proper.{is_proper, shape}
+use Rattle.cf_core_sound.specs.Values.{library_type, named_type, type_of_function, IsFunction, IsPlace, Leads, IsOf, Fit, Told}
+use Rattle.cf_core_sound.specs.States.{Stands, LiteralsStand, char_array, Sound}
+use Rattle.cf_core_sound.specs.Well.{Well}
 use Rattle.cf_core_sound.specs.Simple.{library_fits, has_object, has_function, function_fits}
 use Rattle.cf_core_sound.proofs.Shapes.{same-shape, reference-shape, function-shape}
-use Rattle.cf_core_sound.proofs.Moments.{stands-later, literals-later, behind-self, later-self, is-later}
+use Rattle.cf_core_sound.proofs.Moments.{stands-later, behind-self}
 use Rattle.cf_core_sound.proofs.States.{HoldsOf, literal-behind}
 use Rattle.cf_core_sound.proofs.Typings.{nothing-told, fits-place}
 use Rattle.cf_core_sound.proofs.Access.{well-read, well-born}
-use Rattle.cf_core_sound.proofs.Wells.{well-then, well-next, well-gives, well-as, well-at, well-need, well-valid, well-some, well-undefined, well-changed}
+use Rattle.cf_core_sound.proofs.Wells.{well-then, well-next, well-gives, well-as, well-at, well-valid, well-some, well-undefined, well-changed}
 
 no-test : false ≡ true → ⊥
 no-test e = true≢false (sym e)

@@ -1,35 +1,30 @@
 -- Nodes by their parts: pointers and integers, conversions, names and literals.
-use Rattle.std.proofs.Common.{◌≡◌, ℕ, zero, suc, nat_lt, nat_le, Bool, true, false, ◌&&◌, ◌||◌, not, if◌then◌else◌, List, [], ◌∷◌, length, ℤ, pos, negsuc, neg_ℤ, ◌⊎◌, inl, inr, refl, sym, ap, ◌∙◌, subst, true≢false, arith}
-use Rattle.std.specs.Prelude.{Option, Some, None, is_some, find, position, slice_get, bytes_eq}
-use Rattle.std.proofs.lemmas.Bool.Decides.{nat_tests}
+use Rattle.std.proofs.Common.{◌≡◌, ℕ, nat_lt, nat_le, Bool, true, false, ◌&&◌, not, if◌then◌else◌, List, [], ℤ, neg_ℤ, ◌⊎◌, inl, inr, refl, sym, ap, ◌∙◌, subst, true≢false}
+use Rattle.std.specs.Prelude.{Option, Some, None}
 use Rattle.cf_base.proofs.Tests.{both}
-use Rattle.cf_base.specs.declared.kind.Kind.{Kind}
-use Rattle.cf_base.specs.declared.kind.Kind.TheVariants.{Int, Char}
+use Rattle.cf_base.specs.declared.kind.Kind.TheVariants.{Int}
 use Rattle.cf_core.specs.declared.operators.PointerOperator.{PointerOperator}
 use Rattle.cf_core.specs.declared.operators.PointerOperator.TheVariants as ptr
-use Rattle.cf_core.specs.Types.{Name, SourceType, void, integer, enumeration, class, pointer, reference, array, takes, gives as gives_type, data_member, function_member, const, plain, same_but_const, is_void}
-use Rattle.cf_core.specs.Core.{Core}
+use Rattle.cf_core.specs.Types.{SourceType, void, integer, enumeration, class, pointer, reference, array, takes, gives as gives_type, data_member, function_member, const}
 use Rattle.cf_core.specs.Places.{Place, is_scalar}
-use Rattle.cf_core.specs.Store.{Value, Nothing, Missing, Built, Number, Null, At, Code}
-use Rattle.cf_core.specs.Run.{State, Act, ◌>>=◌, ◌>>◌, gives, undefined}
-use Rattle.cf_core.specs.Access.{used, number_of}
+use Rattle.cf_core.specs.Store.{Value, Number, Null, At}
+use Rattle.cf_core.specs.Run.{State, Act, ◌>>=◌, gives}
 use Rattle.cf_core.specs.Pointers.{truth_value, moved_value, sum_of, moved_back, difference_of, ordered, equal_values, pointer_op}
-use Rattle.cf_core.specs.Scalars.{converted_value, as_pointer, indexed}
+use Rattle.cf_core.specs.Scalars.{indexed}
 use Rattle.cf_core.specs.Calls.{Program}
-use Rattle.cf_core.specs.Typing.{Scope, Typing, no_typing, allowed, is_function, is_integral, integral_type, scalar_type, is_integer, is_expression, is_zero, of_value, of_place, null_if, pointed, points_to_object, pointers_alike, may_be_equal, pointer_operated, converts, to_pointer}
+use Rattle.cf_core.specs.Typing.{Scope, Typing, no_typing, allowed, is_function, is_integral, integral_type, scalar_type, is_integer, of_value, of_place, pointed, points_to_object, pointers_alike, may_be_equal, pointer_operated}
 use Rattle.cf_core.specs.Typed.{pointed_place, indexed_type}
 use Rattle.cf_core_typed.specs.Same.{is_bare}
-use Rattle.cf_core_sound.specs.Proper.{is_proper, Whole, shape}
-use Rattle.cf_core_sound.specs.Values.{Leads, IsOf, Fits, Fit, Told, told_type, told_value}
-use Rattle.cf_core_sound.specs.States.{Sound, Behind}
+use Rattle.cf_core_sound.specs.Proper.{shape}
+use Rattle.cf_core_sound.specs.Values.{Leads, Fits, Fit, Told, told_type, told_value}
+use Rattle.cf_core_sound.specs.States.{Sound}
 use Rattle.cf_core_sound.specs.Well.{Well}
-use Rattle.cf_core_sound.specs.Simple.{leads_to_void, leads_to_function}
-use Rattle.cf_core_sound.proofs.Shapes.{same-shape, void-shape, function-shape, plain-shape, pointed-whole}
+use Rattle.cf_core_sound.proofs.Shapes.{function-shape, pointed-whole}
 use Rattle.cf_core_sound.proofs.Access.{scalar-no-void}
-use Rattle.cf_core_sound.proofs.Good.{Bare, Good}
-use Rattle.cf_core_sound.proofs.Typings.{There, ToObject, nothing-told, allowed-told, object-told, integer-told, integer-number, fits-value, fits-place, fits-allowed, fits-null}
+use Rattle.cf_core_sound.proofs.Good.{Good}
+use Rattle.cf_core_sound.proofs.Typings.{nothing-told, allowed-told, object-told, integer-told, integer-number, fits-value, fits-place}
 use Rattle.cf_core_sound.proofs.Operators.{IsNumber, well-moves}
-use Rattle.cf_core_sound.proofs.Pointing.{truth-number, well-difference, well-ordered, well-equal, well-to-kind, well-missing-kind, well-zero, well-null, well-kept, well-missing-pointer, pointer-anywhere, converted-plain}
+use Rattle.cf_core_sound.proofs.Pointing.{truth-number, well-difference, well-ordered, well-equal}
 use Rattle.cf_core_sound.proofs.Steps.{Solid, solid-type, solid-value, solid-integer}
 use Rattle.cf_core_sound.proofs.Wells.{well-then, well-gives, well-as}
 

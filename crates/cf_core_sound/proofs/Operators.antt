@@ -1,10 +1,8 @@
 -- What operators and conversions give is of their types.
-use Rattle.std.proofs.Common.{◌≡◌, ℕ, zero, suc, ◌+◌, ◌-◌, ◌<◌, ◌≤◌, Bool, true, false, ◌&&◌, ◌||◌, not, nat_le, nat_lt, List, [], ◌∷◌, ℤ, pos, negsuc, ◌-ℤ◌, neg_ℤ, ◌⊎◌, inl, inr, refl, sym, ap, ◌∙◌, subst, true≢false, arith, if◌then◌else◌}
-use Rattle.std.specs.Prelude.{Option, Some, None, Result, Ok, Err, IsTrue}
+use Rattle.std.proofs.Common.{◌≡◌, ℕ, zero, suc, ◌≤◌, Bool, true, false, ◌&&◌, ◌||◌, not, nat_le, List, [], ◌∷◌, ℤ, pos, negsuc, ◌⊎◌, inl, inr, refl, sym, ap, ◌∙◌, subst, true≢false, arith}
+use Rattle.std.specs.Prelude.{Option, Some, None, Result, Ok, Err}
 use Rattle.std.proofs.lemmas.Bool.Decides.{nat_tests}
-use Rattle.cf_base.proofs.Tests.{both}
 use Rattle.cf_base.specs.declared.kind.Kind.{Kind}
-use Rattle.cf_base.specs.declared.kind.Kind.TheVariants.{Int}
 use Rattle.cf_base.specs.declared.arith.Arith.{Arith}
 use Rattle.cf_base.specs.declared.arith.Arith.TheVariants as op
 use Rattle.cf_base.specs.Integers.{fits, int_op, convert as converted}
@@ -13,26 +11,24 @@ use Rattle.cf_elab.specs.Arithmetic.{result_kind}
 use Rattle.cf_elab_numbers.proofs.Fits.{convert-fits, zero-fits, result-fits}
 use Rattle.cf_core.specs.declared.operators.UnaryOperator.{UnaryOperator}
 use Rattle.cf_core.specs.declared.operators.UnaryOperator.TheVariants as sign
-use Rattle.cf_core.specs.declared.operators.PointerOperator.{PointerOperator}
-use Rattle.cf_core.specs.declared.operators.PointerOperator.TheVariants as ptr
 use Rattle.cf_core.specs.Types.{SourceType, void, integer, enumeration, class, pointer, reference, array, takes, gives as gives_type, data_member, function_member, const, is_void, is_array, plain, element}
-use Rattle.cf_core.specs.Core.{item, past, field, within, Change, arithmetic, moved}
-use Rattle.cf_core.specs.Places.{Route, Place, inner, type_at, bound, is_scalar}
+use Rattle.cf_core.specs.Core.{item, past, field, within}
+use Rattle.cf_core.specs.Places.{Route, Place, inner, type_at, bound}
 use Rattle.cf_core.specs.Store.{Value, Nothing, Missing, Built, Number, Null, At, Code, DataMember, FunctionMember, is_dead}
-use Rattle.cf_core.specs.Run.{State, Act, ◌>>=◌, ◌>>◌, gives, malformed, undefined, state, need, valid, ok_or_act, null_used, not_alive, outside_array, no_result}
-use Rattle.cf_core.specs.Access.{place_type, number_of, name_part, used}
-use Rattle.cf_core.specs.Pointers.{Element, element_of, lone_route, route_of, lone_bound, bound_of, further, up_to, moved_place, moved_value}
-use Rattle.cf_core.specs.Scalars.{truth_of, as_pointer, converted_value, operated, signed, minus, moved_by, changed_value, indexed, decayed, pointed_to}
+use Rattle.cf_core.specs.Run.{State, Act, ◌>>=◌, ◌>>◌, gives, need, valid, ok_or_act, null_used, not_alive, outside_array}
+use Rattle.cf_core.specs.Access.{place_type, name_part}
+use Rattle.cf_core.specs.Pointers.{Element, element_of, route_of, lone_bound, bound_of, further, up_to, moved_place, moved_value}
+use Rattle.cf_core.specs.Scalars.{truth_of, operated, signed, decayed, pointed_to}
 use Rattle.cf_core.specs.Calls.{Program}
-use Rattle.cf_core.specs.Typing.{is_function, is_comparison, operated_type}
+use Rattle.cf_core.specs.Typing.{is_function, operated_type}
 use Rattle.cf_core_sound.specs.Proper.{most, is_proper, shape}
 use Rattle.cf_core_sound.specs.Values.{IsNear, IsPlace, Leads, IsOf}
-use Rattle.cf_core_sound.specs.States.{Sound, Later, Behind}
-use Rattle.cf_core_sound.specs.Well.{Ends, Well}
+use Rattle.cf_core_sound.specs.States.{Sound}
+use Rattle.cf_core_sound.specs.Well.{Well}
 use Rattle.cf_core_sound.proofs.Shapes.{at-proper, bound-near, Array, array-form}
 use Rattle.cf_core_sound.proofs.Moments.{behind-self, place-later}
 use Rattle.cf_core_sound.proofs.Access.{well-part}
-use Rattle.cf_core_sound.proofs.Wells.{well-then, well-next, well-gives, well-at, well-need, well-valid, well-some, well-when, well-undefined, well-as}
+use Rattle.cf_core_sound.proofs.Wells.{well-then, well-gives, well-at, well-need, well-valid, well-undefined}
 
 -- ---- numbers
 

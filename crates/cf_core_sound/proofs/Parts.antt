@@ -1,42 +1,38 @@
 -- A node by what its parts give.
-use Rattle.std.proofs.Common.{◌≡◌, ℕ, zero, suc, Bool, true, false, ◌&&◌, ◌||◌, not, if◌then◌else◌, List, [], ◌∷◌, ℤ, pos, negsuc, ◌⊎◌, inl, inr, refl, sym, ap, ◌∙◌, subst, true≢false}
-use Rattle.std.specs.Prelude.{Option, Some, None, is_some}
+use Rattle.std.proofs.Common.{◌≡◌, ℕ, Bool, true, false, ◌&&◌, not, if◌then◌else◌, List, [], ◌⊎◌, inl, inr, refl, sym, ap, ◌∙◌, subst, true≢false}
+use Rattle.std.specs.Prelude.{Option, Some, None}
 use Rattle.cf_base.proofs.Tests.{both}
 use Rattle.cf_base.specs.declared.kind.Kind.{Kind}
 use Rattle.cf_base.specs.declared.kind.Kind.TheVariants.{Int}
 use Rattle.cf_base.specs.declared.arith.Arith.{Arith}
-use Rattle.cf_base.specs.Integers.{fits}
 use Rattle.cf_core.specs.declared.operators.UnaryOperator.{UnaryOperator}
 use Rattle.cf_core.specs.declared.operators.PointerOperator.{PointerOperator}
-use Rattle.cf_core.specs.Types.{SourceType, void, integer, enumeration, class, pointer, reference, array, takes, gives as gives_type, data_member, function_member, const, plain, same_but_const, is_void}
-use Rattle.cf_core.specs.Core.{Change}
-use Rattle.cf_core.specs.Places.{Place, is_scalar, is_reference}
-use Rattle.cf_core.specs.Store.{Value, Nothing, Missing, Built, Number, Null, At, Code}
-use Rattle.cf_core.specs.Run.{State, Act, ◌>>=◌, ◌>>◌, gives, undefined, when}
-use Rattle.cf_core.specs.Access.{used, using, placed, read_place, write_place}
+use Rattle.cf_core.specs.Types.{SourceType, void, integer, enumeration, class, pointer, reference, array, takes, gives as gives_type, data_member, function_member, const, plain, is_void}
+use Rattle.cf_core.specs.Places.{Place, is_scalar}
+use Rattle.cf_core.specs.Store.{Value, Number, At}
+use Rattle.cf_core.specs.Run.{State, Act, ◌>>=◌, ◌>>◌, gives, when}
+use Rattle.cf_core.specs.Access.{using, placed, read_place, write_place}
 use Rattle.cf_core.specs.Pointers.{truth_value, pointer_op, from_void_value}
-use Rattle.cf_core.specs.Scalars.{truth_of, converted_value, operated, signed, changed_value, indexed, decayed, pointed_to}
-use Rattle.cf_core.specs.Calls.{Program, root}
-use Rattle.cf_core.specs.Typing.{Scope, Typing, no_typing, allowed, is_function, of_start, of_value, of_number, of_place, null_if, is_zero, is_integer, is_condition, pointed, operated_type, is_right_operand, pointer_operated, changes, either, converts, same_type as type_is}
-use Rattle.cf_core.specs.Typed.{read_type, decayed_type, pointed_place, address_type, stored, changed_in_place, indexed_type, stepped, binds, void_pointer}
+use Rattle.cf_core.specs.Scalars.{truth_of, operated, signed, indexed, decayed, pointed_to}
+use Rattle.cf_core.specs.Calls.{Program}
+use Rattle.cf_core.specs.Typing.{Scope, Typing, allowed, is_function, of_value, of_place, is_integer, is_condition, pointed, operated_type, is_right_operand, pointer_operated, either}
+use Rattle.cf_core.specs.Typed.{read_type, decayed_type, pointed_place, address_type, stored, indexed_type, void_pointer}
 use Rattle.cf_elab.specs.Arithmetic.{result_kind}
 use Rattle.cf_core_sound.specs.Proper.{is_proper, Whole, shape}
-use Rattle.cf_core_sound.specs.Values.{IsPlace, Leads, IsOf, Fits, Fit, Told, told_place, told_type, told_number, told_value, told_start}
-use Rattle.cf_core_sound.specs.States.{Sound, Later, Behind}
-use Rattle.cf_core_sound.specs.Well.{Ends, Well}
-use Rattle.cf_core_sound.specs.Simple.{leads_to_void, leads_to_function}
-use Rattle.cf_core_sound.proofs.Shapes.{same-shape, void-shape, function-shape, plain-shape, pointed-whole, elements-told}
-use Rattle.cf_core_sound.proofs.Moments.{behind-self, place-later, fits-later, is-later, leads-later}
+use Rattle.cf_core_sound.specs.Values.{IsPlace, IsOf, Fits, Fit, Told, told_place, told_type, told_value}
+use Rattle.cf_core_sound.specs.States.{Sound}
+use Rattle.cf_core_sound.specs.Well.{Well}
+use Rattle.cf_core_sound.proofs.Shapes.{function-shape, plain-shape, elements-told}
+use Rattle.cf_core_sound.proofs.Moments.{place-later, fits-later}
 use Rattle.cf_types.specs.Operators.{is_shift}
 use Rattle.cf_core_sound.proofs.Access.{well-read, well-write, scalar-no-void}
-use Rattle.cf_core_sound.proofs.Good.{Bare, Good}
-use Rattle.cf_core_sound.proofs.Typings.{There, nothing-told, allowed-told, null-told, read-told, address-told, pointed-told, stored-told, changed-told, condition-told, integer-told, fits-value, fits-place, fits-allowed, fits-null}
-use Rattle.cf_core_sound.proofs.Operators.{IsNumber, well-signed, well-decayed, well-decayed-function, well-pointed, result-type}
-use Rattle.cf_core_sound.proofs.Pointing.{truth-number, well-from-void, converted-plain}
-use Rattle.cf_core_sound.proofs.Steps.{Solid, solid-place, solid-type, solid-value, solid-integer, well-using, well-placed, well-condition, right-operand, right-solid, well-operation, Changes, changes-told, changes-solid, well-changed}
-use Rattle.cf_core_sound.proofs.Combined.{fits-number, fits-first, fits-second, either-told}
+use Rattle.cf_core_sound.proofs.Good.{Good}
+use Rattle.cf_core_sound.proofs.Typings.{nothing-told, allowed-told, read-told, address-told, pointed-told, stored-told, condition-told, integer-told, fits-value, fits-place, fits-allowed}
+use Rattle.cf_core_sound.proofs.Operators.{well-signed, well-decayed, well-decayed-function, well-pointed, result-type}
+use Rattle.cf_core_sound.proofs.Pointing.{truth-number, well-from-void}
+use Rattle.cf_core_sound.proofs.Steps.{solid-place, solid-type, solid-value, well-using, well-placed, well-condition, right-operand, right-solid, well-operation}
+use Rattle.cf_core_sound.proofs.Combined.{fits-first, fits-second, either-told}
 use Rattle.cf_core_sound.proofs.Nodes.{Uses, indexed-uses, well-indexed, operated-uses, well-pointer}
-use Rattle.cf_core_sound.proofs.Converting.{converts-told, well-converted}
 use Rattle.cf_core_sound.proofs.Wells.{well-then, well-next, well-gives, well-as, well-when}
 
 no-test : false ≡ true → ⊥

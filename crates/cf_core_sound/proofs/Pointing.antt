@@ -1,30 +1,28 @@
 -- Sums, differences and comparisons of pointers, and conversions.
-use Rattle.std.proofs.Common.{◌≡◌, ℕ, zero, suc, ◌+◌, ◌-◌, ◌<◌, ◌≤◌, Bool, true, false, ◌&&◌, ◌||◌, not, nat_le, nat_lt, List, [], ◌∷◌, ℤ, pos, negsuc, ◌-ℤ◌, neg_ℤ, ◌⊎◌, inl, inr, refl, sym, ap, ◌∙◌, subst, true≢false, arith, if◌then◌else◌}
-use Rattle.std.specs.Prelude.{Option, Some, None, bytes_eq}
+use Rattle.std.proofs.Common.{◌≡◌, ℕ, zero, suc, ◌+◌, ◌-◌, ◌<◌, ◌≤◌, Bool, true, false, nat_lt, List, [], ℤ, pos, negsuc, ◌-ℤ◌, inl, inr, refl, sym, ◌∙◌, subst, true≢false, arith, if◌then◌else◌}
+use Rattle.std.specs.Prelude.{bytes_eq}
 use Rattle.std.proofs.lemmas.Bool.Decides.{nat_tests}
 use Rattle.cf_base.specs.declared.kind.Kind.{Kind}
 use Rattle.cf_base.specs.declared.kind.Kind.TheVariants.{Int}
-use Rattle.cf_base.specs.Integers.{fits, fits_bits, convert as converted}
+use Rattle.cf_base.specs.Integers.{fits, convert as converted}
 use Rattle.cf_elab_numbers.proofs.Fits.{convert-fits}
-use Rattle.cf_core.specs.declared.operators.PointerOperator.{PointerOperator}
-use Rattle.cf_core.specs.declared.operators.PointerOperator.TheVariants as ptr
 use Rattle.cf_core.specs.Types.{SourceType, void, integer, enumeration, class, pointer, reference, array, takes, gives as gives_type, data_member, function_member, const, is_void, plain, same_but_const}
-use Rattle.cf_core.specs.Places.{Route, Place, is_scalar, place_eq}
+use Rattle.cf_core.specs.Places.{Place, place_eq}
 use Rattle.cf_core.specs.Store.{Value, Nothing, Missing, Built, Number, Null, At, Code, DataMember, FunctionMember}
-use Rattle.cf_core.specs.Run.{State, Act, ◌>>=◌, ◌>>◌, gives, malformed, undefined, state, need, null_used, not_alive, outside_array, compared, cast_from_void}
+use Rattle.cf_core.specs.Run.{State, Act, ◌>>=◌, ◌>>◌, gives, need, null_used, not_alive, outside_array, compared, cast_from_void}
 use Rattle.cf_core.specs.Access.{place_type, number_of, used}
-use Rattle.cf_core.specs.Pointers.{element_of, moved_place, moved_value, sum_of, moved_back, same_array, both_stand, truth_value, difference_of, ordered, comparable, equal_values, from_void_value}
-use Rattle.cf_core.specs.Scalars.{as_pointer, converted_value, indexed, moved_by}
+use Rattle.cf_core.specs.Pointers.{element_of, same_array, both_stand, truth_value, difference_of, ordered, comparable, equal_values, from_void_value}
+use Rattle.cf_core.specs.Scalars.{as_pointer, converted_value}
 use Rattle.cf_core.specs.Calls.{Program}
 use Rattle.cf_core.specs.Typing.{is_function, is_integral}
 use Rattle.cf_core_sound.specs.Proper.{most, shape}
-use Rattle.cf_core_sound.specs.Values.{IsNear, IsPlace, Leads, IsOf}
+use Rattle.cf_core_sound.specs.Values.{IsPlace, Leads, IsOf}
 use Rattle.cf_core_sound.specs.States.{Sound}
-use Rattle.cf_core_sound.specs.Well.{Ends, Well}
+use Rattle.cf_core_sound.specs.Well.{Well}
 use Rattle.cf_core_sound.proofs.Shapes.{same-shape}
 use Rattle.cf_core_sound.proofs.Moments.{behind-self}
 use Rattle.cf_core_sound.proofs.Operators.{ObjectPointer, a_null, a_place, object-pointer, near-index, IsNumber}
-use Rattle.cf_core_sound.proofs.Wells.{well-then, well-gives, well-at, well-need, well-undefined, well-as}
+use Rattle.cf_core_sound.proofs.Wells.{well-gives, well-at, well-need, well-undefined, well-as}
 
 -- the number of elements between two of an array is an int
 below-told : (n m : ℕ) → n < m → nat_lt n m ≡ true

@@ -1,8 +1,7 @@
 -- Programs of which the laws speak: they are of the forms, and typed.
 use Rattle.std.proofs.Common.{◌≡◌, [], ◌∷◌, refl}
-use Rattle.std.specs.Prelude.{pos, true, codes}
-use Rattle.cf_core.specs.Types.{pointer, array, reference}
-use Rattle.cf_core.specs.Core.{local, read, declare, decay, dereference, update, arithmetic, absent, given, loop, store}
+use Rattle.std.specs.Prelude.{true, codes}
+use Rattle.cf_core.specs.Core.{local, declare}
 use Rattle.cf_core.proofs.Sample.{int, function_of, in_block, main_of, program, returns, num, add, put_digit, value_of, set, called}
 use Rattle.cf_core_sound.specs.Programs.{is_sound_program}
 

@@ -1,46 +1,31 @@
 -- Functions and turns at each bound of ticks, and the whole run.
-use Rattle.std.proofs.Common.{◌≡◌, ℕ, zero, suc, ◌<◌, ◌≤◌, cond, Bool, true, false, ◌&&◌, not, List, [], ◌∷◌, ◌++◌, length, reverse, ℤ, pos, ◌⊎◌, inl, inr, refl, sym, ap, ◌∙◌, subst, true≢false, arith, codes, bytes_eq}
-use Rattle.std.specs.Prelude.{Option, Some, None, is_some, slice_get, find}
+use Rattle.std.proofs.Common.{◌≡◌, ℕ, zero, suc, cond, Bool, true, false, not, List, [], ◌∷◌, reverse, inl, inr, refl, sym, subst, true≢false, bytes_eq}
+use Rattle.std.specs.Prelude.{Some, None, slice_get, find}
 use Rattle.std.specs.List.{list_all}
 use Rattle.cf_base.proofs.Tests.{both}
-use Rattle.cf_base.specs.World.{World, Ran, Went, Stops, and_then, world_at, Outcome}
-use Rattle.cf_base.specs.declared.kind.Kind.TheVariants.{Int}
-use Rattle.cf_core.specs.Types.{Name, SourceType, integer, gives as gives_type, parameters, result, is_class}
+use Rattle.cf_core.specs.Types.{Name, SourceType, result, is_class}
 use Rattle.cf_core.specs.Core.{Core, Role, plain_function, member_function, constructor, destructor, Function, Static}
-use Rattle.cf_core.specs.Places.{type_at, is_scalar}
-use Rattle.cf_core.specs.Store.{Value, Nothing, Missing, Number}
-use Rattle.cf_core.specs.Run.{State, Frame, Did, Gives, Exits, Malformed, Act, onward, ◌>>=◌, ◌>>◌, gives, state, done, for_all, frame_changed}
-use Rattle.cf_core.specs.Calls.{Program, Setting, Flow, Falls, Breaks, Continues, Returns, Task, body, turn, Again, function_named, root, end_object, in_scope, run_named}
-use Rattle.cf_core.specs.Statements.{does, initialises}
-use Rattle.cf_core.specs.Program.{begins, unbuilds, ends, ended_well, run_body, perform, runs, no_frame, static_object_of, length_of, first_state, set_constant, status_of, main_run}
-use Rattle.cf_core.specs.Typing.{Scope}
+use Rattle.cf_core.specs.Run.{State, Act, ◌>>=◌, ◌>>◌, gives, state, done, for_all}
+use Rattle.cf_core.specs.Calls.{Program, Setting, Flow, Falls, Breaks, Continues, Returns, Again, function_named, end_object, in_scope}
+use Rattle.cf_core.specs.Statements.{does}
+use Rattle.cf_core.specs.Program.{begins, unbuilds, ends, ended_well, runs}
 use Rattle.cf_core.specs.Valid.{Body, fits}
 use Rattle.cf_core_sound.specs.Proper.{is_proper, shape}
-use Rattle.cf_core_sound.specs.Values.{IsOf}
-use Rattle.cf_core_sound.specs.States.{Sound, Later, Behind}
-use Rattle.cf_core_sound.specs.Well.{OfBytes, Ends, Well}
+use Rattle.cf_core_sound.specs.States.{Sound, Later}
+use Rattle.cf_core_sound.specs.Well.{Well}
 use Rattle.cf_core_sound.specs.Simple.{is_chain}
 use Rattle.cf_core_sound.specs.Statements.{is_object, is_simple_statement, EndsWell, Turns}
-use Rattle.cf_core_sound.specs.Calls.{IsGiven, IsBack, frame_types, Bodies, Around, classless}
+use Rattle.cf_core_sound.specs.Calls.{IsBack, frame_types, Bodies, Around, classless}
 use Rattle.cf_core.specs.Places.{is_reference}
-use Rattle.cf_core.specs.Objects.{static_number, static_type, static_place, settled}
-use Rattle.cf_core.specs.Types.{SourceType, void, type_eq}
-use Rattle.cf_core.specs.Typing.{is_function, of_result, of_value, of_start}
-use Rattle.cf_core.specs.Typed.{typing}
+use Rattle.cf_core.specs.Types.{SourceType}
+use Rattle.cf_core.specs.Typing.{is_function}
 use Rattle.cf_core.specs.Valid.{body_of}
-use Rattle.cf_core.specs.Calls.{is_library, finish_static, has_destructor, full_expression}
-use Rattle.cf_core.specs.Expressions.{value}
-use Rattle.cf_core.specs.Run.{tick, changed, undefined, no_result}
-use Rattle.cf_core_typed.proofs.Same.{type-equal}
-use Rattle.cf_core_sound.specs.Values.{IsFunction, Fit}
-use Rattle.cf_core_sound.specs.Statements.{is_simple_initial}
-use Rattle.cf_core_sound.specs.Programs.{is_plain_role, in_program, is_sound_function, is_sound_static, outside, is_sound_setting, is_main, is_sound_program}
-use Rattle.cf_core_sound.proofs.Moments.{behind-self, is-later}
-use Rattle.cf_core_sound.proofs.Calling.{run-well}
-use Rattle.cf_core_sound.proofs.Scopes.{Stays, no-destructor, ends-well, scope-well}
-use Rattle.cf_core_sound.proofs.Doing.{initial-well}
+use Rattle.cf_core.specs.Run.{no_result}
+use Rattle.cf_core_sound.specs.Programs.{is_plain_role, in_program, is_sound_function, is_sound_static}
+use Rattle.cf_core_sound.proofs.Moments.{is-later}
+use Rattle.cf_core_sound.proofs.Scopes.{Stays, ends-well, scope-well}
 use Rattle.cf_core_sound.proofs.Turning.{does-well}
-use Rattle.cf_core_sound.proofs.Wells.{well-then, well-next, well-gives, well-at, well-as, well-changed, well-undefined}
+use Rattle.cf_core_sound.proofs.Wells.{well-then, well-next, well-gives, well-at, well-undefined}
 
 no-test : false ≡ true → ⊥
 no-test e = true≢false (sym e)
@@ -129,15 +114,18 @@ module _ (fs : List Function) (xs : List Static) (ks : List Setting) (inits : Li
       → Well P (frame_types f) s (IsBack P (result f.type)) (body_run again plain_function b f.body args)
   run-body again f b args s h k =
       well-at P L s (λ before. done >> (in_scope again P (does again P f.body) >>= (λ flow. ended_well b flow >> (done >> (for_all (reverse args) (end_object again P) >> (done >> gives flow)))))) h
-      (record { by = λ w bytes. (well-then P L s (in_scope again P (does again P f.body)) (λ flow. ended_well b flow >> (done >> (for_all (reverse args) (end_object again P) >> (done >> gives flow))))
-      (scope-well again fs xs ks inits L s (does again P f.body) h (end-stays again L (result f.type)) (λ u d. k u d.sound)) (λ flow u d q.
-      well-next P L {Q = λ _ v. Unit {0}} u (ended_well b flow) (done >> (for_all (reverse args) (end_object again P) >> (done >> gives flow))) (ended-well L u b flow d.sound) (λ _ v e i.
-      record { by = λ w bytes. (well-next P L {Q = λ _ v. Unit {0}} v (for_all (reverse args) (end_object again P)) (done >> gives flow) (ends-well again fs xs ks inits L (reverse args) v e.sound) (λ _ x g j.
-      record { by = λ w bytes. (well-gives P L x flow g.sound (back-of (result f.type) flow x (end-later (result f.type) flow v x g.later (end-later (result f.type) flow u v e.later q)))).by w bytes })).by w bytes }))).by w bytes })
+      (record {
+        by = λ w bytes. (well-then P L s (in_scope again P (does again P f.body)) (λ flow. ended_well b flow >> (done >> (for_all (reverse args) (end_object again P) >> (done >> gives flow))))
+            (scope-well again fs xs ks inits L s (does again P f.body) h (end-stays again L (result f.type)) (λ u d. k u d.sound)) (λ flow u d q.
+            well-next P L {Q = λ _ v. Unit {0}} u (ended_well b flow) (done >> (for_all (reverse args) (end_object again P) >> (done >> gives flow))) (ended-well L u b flow d.sound) (λ _ v e i.
+            record {
+              by = λ w bytes. (well-next P L {Q = λ _ v. Unit {0}} v (for_all (reverse args) (end_object again P)) (done >> gives flow) (ends-well again fs xs ks inits L (reverse args) v e.sound) (λ _ x g j.
+                  record { by = λ w bytes. (well-gives P L x flow g.sound (back-of (result f.type) flow x (end-later (result f.type) flow v x g.later (end-later (result f.type) flow u v e.later q)))).by w bytes })).by w bytes;
+            }))).by w bytes;
+      })
     where
       L : List SourceType
       L = frame_types f
-
 
   -- ---- each bound of ticks
 
@@ -183,8 +171,12 @@ module _ (fs : List Function) (xs : List Static) (ks : List Setting) (inits : Li
         chain = λ name f e. (sound-of name f e).chain;
         by = λ name f e s os h. record { by = λ w bytes. (body-goes n g f (sound-of name f e) s os h).by w bytes };
       };
-      turns = λ B around. record { by = λ e ok b c k s h. record { by = λ w bytes.
-          (does-well (runs P n) fs xs ks inits B around g.bodies (g.turns B around) b c e s ok k h).by w bytes } };
+      turns = λ B around. record {
+        by = λ e ok b c k s h. record {
+          by = λ w bytes.
+              (does-well (runs P n) fs xs ks inits B around g.bodies (g.turns B around) b c e s ok k h).by w bytes;
+        };
+      };
     }
 
     all-goes : (n : ℕ) → Goes (runs P n)

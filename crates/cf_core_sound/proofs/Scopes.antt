@@ -1,6 +1,5 @@
 -- Full expressions and scopes: what they leave ends, and nothing is destroyed where there are no classes.
-use Rattle.std.proofs.Common.{◌≡◌, ℕ, Bool, true, false, List, [], ◌∷◌, refl, sym, ap, ◌∙◌, subst}
-use Rattle.std.specs.Prelude.{Option, Some, None}
+use Rattle.std.proofs.Common.{◌≡◌, ℕ, false, List, [], ◌∷◌, refl, sym, subst}
 use Rattle.cf_core.specs.Types.{SourceType, void, integer, enumeration, class, pointer, reference, array, takes, gives as gives_type, data_member, function_member, const}
 use Rattle.cf_core.specs.Core.{Function, Static, item}
 use Rattle.cf_core.specs.Places.{Place, inner}

@@ -1,17 +1,16 @@
 -- A moment stays sound where an object is changed by values of its scalars' types, where one is made, and where the frame's lists change.
-use Rattle.std.proofs.Common.{◌≡◌, ℕ, suc, ◌<◌, ◌≤◌, Bool, true, false, ◌==◌, if◌then◌else◌, List, [], ◌∷◌, ◌⊎◌, inl, inr, refl, sym, ap, ◌∙◌, subst, arith, length}
-use Rattle.std.specs.Prelude.{Option, Some, None, slice_get}
+use Rattle.std.proofs.Common.{◌≡◌, ℕ, suc, ◌<◌, Bool, true, false, ◌==◌, List, [], ◌∷◌, ◌⊎◌, inl, inr, refl, sym, ap, ◌∙◌, subst, arith, length}
+use Rattle.std.specs.Prelude.{Some, None, slice_get}
 use Rattle.std.proofs.lemmas.Bool.{eqb-true}
 use Rattle.std.proofs.lemmas.Bool.Decides.{nat_tests}
 use Rattle.cf_core.specs.Types.{Name, SourceType}
-use Rattle.cf_core.specs.Core.{Static}
-use Rattle.cf_core.specs.Places.{Route, Place, type_at, is_scalar}
+use Rattle.cf_core.specs.Places.{Route, type_at, is_scalar}
 use Rattle.cf_core.specs.Store.{Value, Object}
 use Rattle.cf_core.specs.Run.{State, Frame, Literal, upd, with_object, with_frame}
-use Rattle.cf_core.specs.Calls.{Program, root}
+use Rattle.cf_core.specs.Calls.{Program}
 use Rattle.cf_core_sound.specs.Proper.{is_proper, shape}
 use Rattle.cf_core_sound.specs.Values.{IsOf}
-use Rattle.cf_core_sound.specs.States.{Stands, LiteralsStand, char_array, Sound, Later, Behind}
+use Rattle.cf_core_sound.specs.States.{Stands, char_array, Sound, Later, Behind}
 use Rattle.cf_core_sound.proofs.Moments.{is-later, stands-later, literals-later}
 
 -- an object of this very type stays one
@@ -147,15 +146,18 @@ module _ (P : Program) (locals : List SourceType) (s : State) (h : Sound P local
 
   -- control has reached a static object
   pub reached-behind : (names : List Name) → Behind P locals s (record s { reached = names })
-  reached-behind names = record { later = there; sound = record {
-    statics = λ i y e. same-type s (record s { reached = names }) i y.type there (h.statics i y e);
-    proper = h.proper;
-    holds = λ j π v lt sc e. is-later P s (record s { reached = names }) there _ v (h.holds j π v lt sc e);
-    literals = literals-later s (record s { reached = names }) s.literals there h.literals;
-    count = h.count;
-    result = h.result;
-    locals_stand = λ i j t e k. stands-later s (record s { reached = names }) t j there (h.locals_stand i j t e k);
-  } }
+  reached-behind names = record {
+    later = there;
+    sound = record {
+      statics = λ i y e. same-type s (record s { reached = names }) i y.type there (h.statics i y e);
+      proper = h.proper;
+      holds = λ j π v lt sc e. is-later P s (record s { reached = names }) there _ v (h.holds j π v lt sc e);
+      literals = literals-later s (record s { reached = names }) s.literals there h.literals;
+      count = h.count;
+      result = h.result;
+      locals_stand = λ i j t e k. stands-later s (record s { reached = names }) t j there (h.locals_stand i j t e k);
+    };
+  }
     where
       there : Later s (record s { reached = names })
       there = record { next = omega arith; types = λ j lt. refl }

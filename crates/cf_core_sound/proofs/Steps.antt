@@ -1,37 +1,30 @@
 -- Operands: what is used of a part's value, by what its typing says.
-use Rattle.std.proofs.Common.{◌≡◌, ℕ, zero, suc, Bool, true, false, ◌&&◌, ◌||◌, not, if◌then◌else◌, List, [], ℤ, pos, negsuc, neg_ℤ, ◌⊎◌, inl, inr, refl, sym, ap, ◌∙◌, subst, true≢false}
-use Rattle.std.specs.Prelude.{Option, Some, None}
+use Rattle.std.proofs.Common.{◌≡◌, zero, suc, Bool, true, false, ◌&&◌, ◌||◌, not, if◌then◌else◌, List, [], ℤ, pos, negsuc, ◌⊎◌, inl, inr, refl, sym, ap, ◌∙◌, subst, true≢false}
+use Rattle.std.specs.Prelude.{Some}
 use Rattle.cf_base.proofs.Tests.{both}
 use Rattle.cf_base.specs.declared.kind.Kind.{Kind}
-use Rattle.cf_base.specs.declared.kind.Kind.TheVariants.{Int}
 use Rattle.cf_base.specs.declared.arith.Arith.{Arith}
 use Rattle.cf_base.specs.Integers.{fits, convert as converted}
 use Rattle.cf_types.specs.Operators.{is_shift}
 use Rattle.cf_elab.specs.Arithmetic.{result_kind}
 use Rattle.cf_elab_numbers.proofs.Fits.{convert-fits}
-use Rattle.cf_core.specs.declared.operators.PointerOperator.{PointerOperator}
-use Rattle.cf_core.specs.declared.operators.PointerOperator.TheVariants as ptr
-use Rattle.cf_core.specs.Types.{SourceType, void, integer, enumeration, class, pointer, reference, array, takes, gives as gives_type, data_member, function_member, const, plain, same_but_const, is_void}
+use Rattle.cf_core.specs.Types.{SourceType, void, integer, enumeration, class, pointer, reference, array, takes, gives as gives_type, data_member, function_member, const, same_but_const, is_void}
 use Rattle.cf_core.specs.Core.{Change, arithmetic, moved}
-use Rattle.cf_core.specs.Places.{Place, is_scalar}
-use Rattle.cf_core.specs.Store.{Value, Nothing, Missing, Built, Number, Null, At, Code}
-use Rattle.cf_core.specs.Run.{State, Act, ◌>>=◌, gives, undefined, ok_or_act}
+use Rattle.cf_core.specs.Places.{is_scalar}
+use Rattle.cf_core.specs.Store.{Value, Missing, Number}
+use Rattle.cf_core.specs.Run.{State, Act, ◌>>=◌, gives}
 use Rattle.cf_core.specs.Access.{used, using, place_of, placed, number_of}
-use Rattle.cf_core.specs.Pointers.{truth_value, moved_value, sum_of, moved_back, difference_of, ordered, equal_values, pointer_op}
 use Rattle.cf_core.specs.Scalars.{truth_of, operated, minus, moved_by, changed_value}
 use Rattle.cf_core.specs.Calls.{Program}
-use Rattle.cf_core.specs.Typing.{Typing, is_function, is_integral, integral_type, scalar_type, is_integer, is_condition, is_right_operand, changes, pointed, points_to_object, pointers_alike}
-use Rattle.cf_core_typed.specs.Same.{is_bare}
-use Rattle.cf_core_sound.specs.Proper.{is_proper, Whole, shape}
-use Rattle.cf_core_sound.specs.Values.{IsPlace, Leads, IsOf, Fits, Fit}
-use Rattle.cf_core_sound.specs.States.{Sound, Behind}
-use Rattle.cf_core_sound.specs.Well.{Ends, Well}
-use Rattle.cf_core_sound.proofs.Shapes.{same-shape, void-shape, function-shape, plain-shape, pointed-whole}
-use Rattle.cf_core_sound.proofs.Moments.{behind-self}
+use Rattle.cf_core.specs.Typing.{Typing, is_function, scalar_type, is_integer, is_condition, is_right_operand, changes}
+use Rattle.cf_core_sound.specs.Proper.{is_proper, shape}
+use Rattle.cf_core_sound.specs.Values.{IsPlace, IsOf, Fits, Fit}
+use Rattle.cf_core_sound.specs.States.{Sound}
+use Rattle.cf_core_sound.specs.Well.{Well}
+use Rattle.cf_core_sound.proofs.Shapes.{same-shape, void-shape, function-shape, pointed-whole}
 use Rattle.cf_core_sound.proofs.Access.{leads-used, is-used, scalar-no-void}
-use Rattle.cf_core_sound.proofs.Typings.{There, ToObject, object-told, integral-told, scalar-told, or-cases, integer-number}
+use Rattle.cf_core_sound.proofs.Typings.{scalar-told, or-cases, integer-number}
 use Rattle.cf_core_sound.proofs.Operators.{IsNumber, well-operated, well-truth, well-number-truth, well-moves, place-led}
-use Rattle.cf_core_sound.proofs.Pointing.{truth-number, well-difference, well-ordered, well-equal}
 use Rattle.cf_core_sound.proofs.Wells.{well-then, well-gives, well-as, well-undefined}
 
 module _ (P : Program) (locals : List SourceType) where

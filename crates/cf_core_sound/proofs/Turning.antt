@@ -1,46 +1,31 @@
 -- Loops, labels, and all statements: from a sound moment none is malformed, and each ends as it may.
-use Rattle.std.proofs.Common.{◌≡◌, ℕ, zero, suc, ◌<◌, nat_lt, nat_le, Bool, true, false, ◌&&◌, ◌||◌, not, List, [], ◌∷◌, length, ℤ, ◌⊎◌, inl, inr, refl, sym, ap, ◌∙◌, subst, true≢false, arith}
-use Rattle.std.specs.Prelude.{Option, Some, None, is_some, slice_get, int_le}
-use Rattle.std.proofs.lemmas.Bool.Decides.{nat_tests}
+use Rattle.std.proofs.Common.{◌≡◌, ℕ, zero, suc, nat_le, Bool, true, false, ◌&&◌, ◌||◌, not, List, ℤ, inl, refl, sym, subst, true≢false}
+use Rattle.std.specs.Prelude.{None, slice_get, int_le}
 use Rattle.cf_base.proofs.Tests.{both}
 use Rattle.cf_core.specs.declared.operators.LoopForm.{LoopForm}
-use Rattle.cf_core.specs.Types.{SourceType, void, integer, enumeration, class, pointer, reference, array, takes, gives as gives_type, data_member, function_member, const, same_but_const, is_void}
+use Rattle.cf_core.specs.Types.{SourceType}
 use Rattle.cf_core.specs.Core as core
 use Rattle.cf_core.specs.Core.{Core, Cores, MaybeCore, no_temporary, local_temporary, static_temporary, absent, given, Function, Static}
-use Rattle.cf_core.specs.Places.{Place, is_scalar, is_reference}
-use Rattle.cf_core.specs.Store.{Value, Nothing, Missing, Built, Number, At}
-use Rattle.cf_core.specs.Run.{State, Frame, Act, ◌>>=◌, ◌>>◌, gives, state, done, tick, valid, when, declared_object, frame_changed, lists_local, lists_in_scope}
-use Rattle.cf_core.specs.Access.{using, number_of, fill_zeros}
-use Rattle.cf_core.specs.Scalars.{truth_of}
-use Rattle.cf_core.specs.Calls.{Program, Setting, Flow, Falls, Breaks, Continues, Returns, Again, turn, root, full_expression, in_scope}
-use Rattle.cf_core.specs.Objects.{new_local, settle, settled, built_at}
+use Rattle.cf_core.specs.Store.{Nothing}
+use Rattle.cf_core.specs.Run.{State, Act, ◌>>=◌, ◌>>◌, gives, tick, when, frame_changed, lists_in_scope}
+use Rattle.cf_core.specs.Access.{using, number_of}
+use Rattle.cf_core.specs.Calls.{Program, Setting, Flow, Falls, Breaks, Continues, Returns, Again, turn, full_expression, in_scope}
+use Rattle.cf_core.specs.Objects.{new_local}
 use Rattle.cf_core.specs.Expressions.{value}
-use Rattle.cf_core.specs.Statements.{has_case, has_default, passes, passes_all, falling, turning, tests_first, leaving, holds, result_of, step_and, declares, does, does_maybe, does_all, from_case, from_default}
-use Rattle.cf_core.specs.Joined.{is_nothing}
-use Rattle.cf_core.specs.Typing.{Scope, Typing, is_function, is_expression, is_condition, is_integer, same_type}
-use Rattle.cf_core.specs.Typed.{typing, binds}
+use Rattle.cf_core.specs.Statements.{has_case, has_default, passes, passes_all, falling, turning, tests_first, leaving, holds, step_and, does, does_maybe, does_all, from_case, from_default}
+use Rattle.cf_core.specs.Typing.{Scope, is_function, is_condition, is_integer, same_type}
+use Rattle.cf_core.specs.Typed.{typing}
 use Rattle.cf_core.specs.Valid.{Body, fits, fits_maybe, all_fit, labelled_fit, condition_fits, expression_fits, is_label, has_label, initialises_local, any_initialises, labels_differ, passes_none, is_complete}
-use Rattle.cf_core_sound.specs.Proper.{is_proper, Whole, shape}
-use Rattle.cf_core_sound.specs.Values.{Leads, IsOf, Fits, Fit, Told, told_start}
-use Rattle.cf_core_sound.specs.States.{Stands, Sound, Later, Behind}
+use Rattle.cf_core_sound.specs.Proper.{is_proper}
+use Rattle.cf_core_sound.specs.States.{Sound}
 use Rattle.cf_core_sound.specs.Well.{Ends, Well}
-use Rattle.cf_core_sound.specs.Simple.{is_simple, is_whole}
-use Rattle.cf_core_sound.specs.Statements.{is_object, is_simple_start, is_simple_maybe, is_simple_initial, is_simple_statement, is_simple_inner, are_simple_statements, are_simple_cases, EndsWell, Turns}
-use Rattle.cf_core_sound.specs.Calls.{IsGiven, Bodies, Around, classless}
-use Rattle.cf_core_sound.proofs.Shapes.{same-shape, function-shape, whole-tested}
-use Rattle.cf_core_sound.proofs.Moments.{is-later, stands-later, fit-later, fits-later}
-use Rattle.cf_core_sound.proofs.States.{frame-behind, local-behind}
-use Rattle.cf_core_sound.proofs.Access.{Target, target-later, well-declared, well-settle-scalar, well-zeros}
-use Rattle.cf_core_sound.proofs.Good.{Good, good}
-use Rattle.cf_core_sound.proofs.Typings.{or-cases, integer-number, integer-told}
-use Rattle.cf_core_sound.proofs.Steps.{Solid, solid-integer, solid-start, well-using}
-use Rattle.cf_core_sound.proofs.Converting.{expression-told}
-use Rattle.cf_core_sound.proofs.Names.{below-there}
-use Rattle.cf_core_sound.proofs.Parts.{Operand, test-well}
-use Rattle.cf_core_sound.proofs.Changing.{settled-well, target-stands}
-use Rattle.cf_core_sound.proofs.Scopes.{Stays, full-well, scope-well}
-use Rattle.cf_core_sound.proofs.Values.{value-well}
-use Rattle.cf_core_sound.proofs.Wells.{well-then, well-next, well-gives, well-at, well-as, well-valid, well-when, well-changed}
+use Rattle.cf_core_sound.specs.Simple.{is_simple}
+use Rattle.cf_core_sound.specs.Statements.{is_object, is_simple_maybe, is_simple_statement, is_simple_inner, are_simple_statements, are_simple_cases, EndsWell, Turns}
+use Rattle.cf_core_sound.specs.Calls.{Bodies, Around, classless}
+use Rattle.cf_core_sound.proofs.Typings.{integer-number, integer-told}
+use Rattle.cf_core_sound.proofs.Steps.{solid-integer, well-using}
+use Rattle.cf_core_sound.proofs.Scopes.{full-well, scope-well}
+use Rattle.cf_core_sound.proofs.Wells.{well-then, well-next, well-gives, well-when}
 use Rattle.cf_base.specs.World.{World, Went, spend_of}
 use Rattle.cf_core.specs.Run.{Gives}
 use Rattle.cf_core_sound.specs.Well.{OfBytes}
@@ -223,20 +208,20 @@ module _ (again : Again) (fs : List Function) (xs : List Static) (ks : List Sett
           well-when P L u z (does again P x) (does_maybe again P y) (λ _. does-well b c x u inner.0 typed.1 d.sound) (λ _. maybe-well b c y u inner.1 typed.2 d.sound))
       does-well b c (core.loop how t e body) s ok k h =
           loop-well b c how t e body s h ok k (λ u h. does-well true true body u
-              (both (is_simple_maybe P S e) (is_simple_statement P S body) (both (is_simple_maybe P S t) (is_simple_maybe P S e && is_simple_statement P S body) ok).1).1
-              (three (condition_fits f t) (expression_fits f e) (fits f true true body) k).2 h)
+          (both (is_simple_maybe P S e) (is_simple_statement P S body) (both (is_simple_maybe P S t) (is_simple_maybe P S e && is_simple_statement P S body) ok).1).1
+          (three (condition_fits f t) (expression_fits f e) (fits f true true body) k).2 h)
       does-well b c (core.switch e es) s ok k h =
           let parts = both (is_simple P S e) (are_simple_cases P S es) ok in
           let typed = four (is_integer (typing S e)) (labels_differ es) (passes_none es) (labelled_fit f true c es) k in
           well-then P L s (full_expression again P (using (value again P e None)) >>= number_of)
-              (λ z. in_scope again P (when (has_case z es) (from_case again P z es) (when (has_default es) (from_default again P es) (gives Falls))) >>= leaving)
-              (number-well e s parts.0 typed.0 h) (λ z u d q.
+          (λ z. in_scope again P (when (has_case z es) (from_case again P z es) (when (has_default es) (from_default again P es) (gives Falls))) >>= leaving)
+          (number-well e s parts.0 typed.0 h) (λ z u d q.
           well-then P L u (in_scope again P (when (has_case z es) (from_case again P z es) (when (has_default es) (from_default again P es) (gives Falls)))) leaving
-              (scope-well again fs xs ks inits L u (when (has_case z es) (from_case again P z es) (when (has_default es) (from_default again P es) (gives Falls))) d.sound (ends-stay again fs xs ks inits f around bodies f.result true c) (λ v g.
-              well-when P L v (has_case z es) (from_case again P z es) (when (has_default es) (from_default again P es) (gives Falls))
-              (λ has. case-well c z es v parts.1 typed.3 typed.2 has g.sound)
-              (λ _. well-when P L v (has_default es) (from_default again P es) (gives Falls) (λ has. default-well c es v parts.1 typed.3 typed.2 has g.sound) (λ _. falls again fs xs ks inits f around bodies true c v g.sound))))
-              (λ flow v g q. leaving-well b c v flow g.sound q))
+          (scope-well again fs xs ks inits L u (when (has_case z es) (from_case again P z es) (when (has_default es) (from_default again P es) (gives Falls))) d.sound (ends-stay again fs xs ks inits f around bodies f.result true c) (λ v g.
+          well-when P L v (has_case z es) (from_case again P z es) (when (has_default es) (from_default again P es) (gives Falls))
+          (λ has. case-well c z es v parts.1 typed.3 typed.2 has g.sound)
+          (λ _. well-when P L v (has_default es) (from_default again P es) (gives Falls) (λ has. default-well c es v parts.1 typed.3 typed.2 has g.sound) (λ _. falls again fs xs ks inits f around bodies true c v g.sound))))
+          (λ flow v g q. leaving-well b c v flow g.sound q))
       does-well b c core.leave s ok k h = well-gives P L s Breaks h k
       does-well b c core.continue s ok k h = well-gives P L s Continues h k
       does-well b c (core.give absent) s ok k h = well-gives P L s (Returns Nothing) h (inl refl)

@@ -1,18 +1,18 @@
 -- What a node's typing says where the node is something.
-use Rattle.std.proofs.Common.{◌≡◌, ℕ, Bool, true, false, ◌&&◌, ◌||◌, not, List, ◌⊎◌, inl, inr, ℤ, refl, sym, ap, ◌∙◌, subst, true≢false}
+use Rattle.std.proofs.Common.{◌≡◌, Bool, true, false, ◌&&◌, ◌||◌, not, ◌⊎◌, inl, inr, ℤ, refl, sym, subst, true≢false}
 use Rattle.std.specs.Prelude.{Option, Some, None, is_some}
 use Rattle.cf_base.proofs.Tests.{both}
 use Rattle.cf_base.specs.declared.kind.Kind.TheVariants.{Int, ULong}
 use Rattle.cf_core.specs.Types.{SourceType, void, integer, enumeration, class, pointer, reference, array, takes, gives, data_member, function_member, const, plain, same_but_const, is_void}
-use Rattle.cf_core.specs.Places.{is_scalar, is_reference}
-use Rattle.cf_core.specs.Store.{Value, Missing, Number, Null, At, Code}
+use Rattle.cf_core.specs.Places.{is_scalar}
+use Rattle.cf_core.specs.Store.{Value, Number}
 use Rattle.cf_core.specs.Run.{State}
 use Rattle.cf_core.specs.Calls.{Program}
-use Rattle.cf_core.specs.Typing.{Scope, Typing, no_typing, allowed, is_function, is_integral, of_value, of_number, of_place, of_name, null_if, holds_number, integral_type, is_integer, scalar_type, is_condition, pointed, points_to_object}
-use Rattle.cf_core.specs.Typed.{read_type, decayed_type, pointed_place, address_type, stored, changed_in_place}
-use Rattle.cf_core_sound.specs.Proper.{is_proper, Whole, shape}
-use Rattle.cf_core_sound.specs.Values.{Leads, IsOf, Fits, Fit, Told, told_place, told_type, told_number, told_value, told_start}
-use Rattle.cf_core_sound.proofs.Shapes.{same-shape, void-shape, scalar-shape}
+use Rattle.cf_core.specs.Typing.{Scope, Typing, no_typing, allowed, is_function, is_integral, of_value, of_place, null_if, integral_type, is_integer, scalar_type, is_condition, pointed, points_to_object}
+use Rattle.cf_core.specs.Typed.{read_type, pointed_place, address_type, stored, changed_in_place}
+use Rattle.cf_core_sound.specs.Proper.{shape}
+use Rattle.cf_core_sound.specs.Values.{Leads, IsOf, Fits, Told, told_place, told_type, told_number, told_value, told_start}
+use Rattle.cf_core_sound.proofs.Shapes.{same-shape}
 
 -- ---- nothing is told of a node that is nothing
 

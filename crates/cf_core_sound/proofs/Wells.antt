@@ -1,13 +1,13 @@
 -- Acts that never are malformed, one after another.
 use Rattle.std.proofs.Common.{◌≡◌, ℕ, Bool, true, false, List, refl}
-use Rattle.std.specs.Prelude.{Option, Some, None, Result, Ok, Err}
-use Rattle.cf_base.specs.World.{World, Ran, Went, Stops, and_then}
+use Rattle.std.specs.Prelude.{Option, Some, None}
+use Rattle.cf_base.specs.World.{Ran, Went, Stops, and_then}
 use Rattle.cf_core.specs.Types.{SourceType}
-use Rattle.cf_core.specs.Run.{State, Did, Gives, Exits, Malformed, Act, onward, ◌>>=◌, ◌>>◌, gives, undefined, state, changed, need, valid, some_or, ok_or_act, when}
+use Rattle.cf_core.specs.Run.{State, Did, Gives, Exits, Malformed, Act, onward, ◌>>=◌, ◌>>◌, gives, undefined, state, changed, need, valid, some_or, when}
 use Rattle.cf_core.specs.Calls.{Program}
 use Rattle.cf_core_sound.specs.States.{Sound, Later, Behind}
 use Rattle.cf_core_sound.specs.Well.{Ends, Well}
-use Rattle.cf_core_sound.proofs.Moments.{later-then, behind-self, behind-then}
+use Rattle.cf_core_sound.proofs.Moments.{behind-self, behind-then}
 
 module _ (P : Program) (locals : List SourceType) where
   pub ends-behind : {A : Type 0} {Q : A → State → Type 0} (s t : State) (x : Ran (Did A)) → Later s t → Ends P locals t Q x → Ends P locals s Q x

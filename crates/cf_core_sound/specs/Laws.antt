@@ -42,8 +42,8 @@ StatementsAreSound =
     → is_simple_statement (classless functions statics settings initialisers) f.scope e ≡ true → fits f breaks continues e ≡ true
     → Sound (classless functions statics settings initialisers) f.scope.locals s
     → Well (classless functions statics settings initialisers) f.scope.locals s
-        (EndsWell (classless functions statics settings initialisers) f.result breaks continues)
-        (does again (classless functions statics settings initialisers) e)
+    (EndsWell (classless functions statics settings initialisers) f.result breaks continues)
+    (does again (classless functions statics settings initialisers) e)
 
 -- And whole programs: each run on bytes has a trace and an end.
 abbrev pub ProgramsAreSound : Type 0

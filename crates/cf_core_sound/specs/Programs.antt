@@ -1,15 +1,15 @@
 -- The programs whose soundness is told: without classes, each function and setting is typed and simple, and `main` takes nothing and gives an int.
-use Rattle.std.specs.Prelude.{◌≡◌, Bool, true, false, ◌&&◌, not, List, [], Option, Some, None, codes}
+use Rattle.std.specs.Prelude.{Bool, true, false, ◌&&◌, not, [], Option, Some, None, codes}
 use Rattle.std.specs.List.{list_all}
 use Rattle.cf_base.specs.declared.kind.Kind.TheVariants.{Int}
-use Rattle.cf_core.specs.Types.{Name, SourceType, void, integer, gives, type_eq}
+use Rattle.cf_core.specs.Types.{integer, gives, type_eq}
 use Rattle.cf_core.specs.Core.{Role, plain_function, member_function, constructor, destructor, Function, Static, CoreFile}
 use Rattle.cf_core.specs.Places.{is_reference}
 use Rattle.cf_core.specs.Calls.{Setting, Program, function_named}
 use Rattle.cf_core.specs.Objects.{static_type}
 use Rattle.cf_core.specs.Typing.{Scope}
 use Rattle.cf_core.specs.Typed.{typing}
-use Rattle.cf_core.specs.Valid.{Body, body_of, fits}
+use Rattle.cf_core.specs.Valid.{body_of, fits}
 use Rattle.cf_core_sound.specs.Simple.{is_chain, has_object}
 use Rattle.cf_core_sound.specs.Statements.{is_object, is_simple_initial, is_simple_statement}
 use Rattle.cf_core_sound.specs.Calls.{frame_types}

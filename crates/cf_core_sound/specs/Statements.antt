@@ -1,5 +1,5 @@
 -- The statements whose soundness is told, and how they end.
-use Rattle.std.specs.Prelude.{◌≡◌, Bool, true, false, ◌&&◌, ◌||◌, not, List, []}
+use Rattle.std.specs.Prelude.{◌≡◌, Bool, true, false, ◌&&◌, ◌||◌, not}
 use Rattle.cf_core.specs.Types.{SourceType}
 use Rattle.cf_core.specs.Core as core
 use Rattle.cf_core.specs.Core.{Core, Cores, MaybeCore, local_temporary, absent, given}
