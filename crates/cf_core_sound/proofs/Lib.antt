@@ -4,6 +4,7 @@ pub mod Changing
 pub mod Combined
 pub mod Converting
 pub mod Doing
+pub mod Finds
 pub mod Good
 pub mod Main
 pub mod Moments
