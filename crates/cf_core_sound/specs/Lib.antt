@@ -1,0 +1,9 @@
+pub mod Calls
+pub mod Laws
+pub mod Programs
+pub mod Proper
+pub mod Simple
+pub mod Statements
+pub mod States
+pub mod Values
+pub mod Well
