@@ -14,7 +14,7 @@ use Rattle.cf_core.specs.Joined.{is_nothing}
 use Rattle.cf_plain.specs.Plain.{Plains, PlainStatic, nothing}
 use Rattle.cf_plain.specs.Program.{PlainSetting}
 use Rattle.cf_plain.specs.Joined as plain
-use Rattle.cf_sequence.specs.Built.{is_constant_initial, is_built_static, is_built_setting}
+use Rattle.cf_sequence.specs.Built.{is_constant_element, is_built_static, is_built_setting}
 use Rattle.cf_sequence.specs.Statements.{type_of_static, initialised}
 use Rattle.cf_sequence.specs.Sequenced.{sequenced_static}
 use Rattle.cf_sequence.proofs.Calling.{never}
@@ -125,14 +125,24 @@ absent-is : (b : Bool) → not b ≡ true → b ≡ false
 absent-is true e = sym e
 absent-is false e = refl
 
-pub new-built : (xs ys : List Static) → list_all is_built_static ys ≡ true → list_all is_built_static (core.new_statics xs ys) ≡ true
-new-built xs [] ok = refl
-new-built xs (y ∷ ys) ok =
-    let parts = both (is_built_static y) (list_all is_built_static ys) ok in by (is_among y.name xs) parts.0 (new-built xs ys parts.1)
+pub new-all : (p : Static → Bool) (xs ys : List Static) → list_all p ys ≡ true → list_all p (core.new_statics xs ys) ≡ true
+new-all p xs [] ok = refl
+new-all p xs (y ∷ ys) ok =
+    let parts = both (p y) (list_all p ys) ok in by (is_among y.name xs) parts.0 (new-all p xs ys parts.1)
   where
-    by : (b : Bool) → is_built_static y ≡ true → list_all is_built_static (core.new_statics xs ys) ≡ true → list_all is_built_static ((if b then [] else y ∷ []) ++ core.new_statics xs ys) ≡ true
+    by : (b : Bool) → p y ≡ true → list_all p (core.new_statics xs ys) ≡ true → list_all p ((if b then [] else y ∷ []) ++ core.new_statics xs ys) ≡ true
     by true first later = later
-    by false first later = all_of (is_built_static y) (list_all is_built_static (core.new_statics xs ys)) first later
+    by false first later = all_of (p y) (list_all p (core.new_statics xs ys)) first later
+
+-- objects with constant initialisers
+abbrev pub are_constant : List Static → Bool
+are_constant xs = list_all (λ (x : Static). x.is_constant) xs
+
+pub built-constant : (all ws : List Static) → list_all (is_built_static all) ws ≡ true → are_constant ws ≡ true
+built-constant all [] ok = refl
+built-constant all (w ∷ ws) ok =
+    let parts = both (is_built_static all w) (list_all (is_built_static all) ws) ok in
+    all_of w.is_constant (are_constant ws) (constant-object all w parts.0) (built-constant all ws parts.1)
 
 -- ---- plain statements
 
@@ -140,34 +150,34 @@ new-built xs (y ∷ ys) ok =
 abbrev pub beside : List Static → Static → PlainStatic
 beside all x = sequenced_static [] all x
 
-same-object : (xs ys : List Static) (x : Static) → is_built_static x ≡ true → type_of_static xs x.name ≡ type_of_static ys x.name → beside xs x ≡ beside ys x
+same-object : (xs ys : List Static) (x : Static) → x.is_constant ≡ true → type_of_static xs x.name ≡ type_of_static ys x.name → beside xs x ≡ beside ys x
 same-object xs ys x ok e =
     ap (λ ss. let y : PlainStatic = record (beside ys x) { start = ss } in y) (start-is [] xs x ok ∙ ap (set_as [] x) e ∙ sym (start-is [] ys x ok))
 
-pub objects-grown : (xs zs : List Static) (ws : List Static) → list_all is_built_static ws ≡ true → are_among xs ws ≡ true → map (beside (xs ++ zs)) ws ≡ map (beside xs) ws
+pub objects-grown : (xs zs : List Static) (ws : List Static) → are_constant ws ≡ true → are_among xs ws ≡ true → map (beside (xs ++ zs)) ws ≡ map (beside xs) ws
 objects-grown xs zs [] ok there = refl
 objects-grown xs zs (w ∷ ws) ok there =
-    let parts = both (is_built_static w) (list_all is_built_static ws) ok in
+    let parts = both w.is_constant (are_constant ws) ok in
     let known = both (is_among w.name xs) (are_among xs ws) there in
     ap (λ (x : PlainStatic). x ∷ map (beside (xs ++ zs)) ws) (same-object (xs ++ zs) xs w parts.0 (type-grown xs zs w.name known.0))
     ∙ ap (λ (us : List PlainStatic). beside xs w ∷ us) (objects-grown xs zs ws parts.1 known.1)
 
-objects-new : (xs ys : List Static) (ws : List Static) → list_all is_built_static ws ≡ true → are_absent xs ws ≡ true → map (beside (xs ++ core.new_statics xs ys)) ws ≡ map (beside ys) ws
+objects-new : (xs ys : List Static) (ws : List Static) → are_constant ws ≡ true → are_absent xs ws ≡ true → map (beside (xs ++ core.new_statics xs ys)) ws ≡ map (beside ys) ws
 objects-new xs ys [] ok none = refl
 objects-new xs ys (w ∷ ws) ok none =
     let all = xs ++ core.new_statics xs ys in
-    let parts = both (is_built_static w) (list_all is_built_static ws) ok in
+    let parts = both w.is_constant (are_constant ws) ok in
     let known = both (not (is_among w.name xs)) (are_absent xs ws) none in
     ap (λ (x : PlainStatic). x ∷ map (beside all) ws) (same-object all ys w parts.0 (type-joined xs ys w.name (absent-is (is_among w.name xs) known.0)))
     ∙ ap (λ (us : List PlainStatic). beside ys w ∷ us) (objects-new xs ys ws parts.1 known.1)
 
-pub objects-joined : (xs ys : List Static) → list_all is_built_static xs ≡ true → list_all is_built_static ys ≡ true
+pub objects-joined : (xs ys : List Static) → are_constant xs ≡ true → are_constant ys ≡ true
     → map (beside (xs ++ core.new_statics xs ys)) (xs ++ core.new_statics xs ys) ≡ map (beside xs) xs ++ map (beside ys) (core.new_statics xs ys)
 objects-joined xs ys ok good =
     let new = core.new_statics xs ys in
     map-append (beside (xs ++ new)) xs new
     ∙ ap (λ (us : List PlainStatic). us ++ map (beside (xs ++ new)) new) (objects-grown xs new xs ok (their-own xs))
-    ∙ ap (λ (us : List PlainStatic). map (beside xs) xs ++ us) (objects-new xs ys new (new-built xs ys good) (new-absent xs ys))
+    ∙ ap (λ (us : List PlainStatic). map (beside xs) xs ++ us) (objects-new xs ys new (new-all (λ (x : Static). x.is_constant) xs ys good) (new-absent xs ys))
 
 -- shared objects stand once
 any-same : (all : List Static) (name : Name) (xs : List Static) → list_any (λ (y : PlainStatic). bytes_eq y.name name) (map (beside all) xs) ≡ is_among name xs
@@ -206,7 +216,7 @@ built-grown xs zs (x ∷ ks) there ok =
     let known = both (is_among x.object xs) (set_among xs ks) there in
     let parts = both (is_built_setting xs x) (list_all (is_built_setting xs) ks) ok in
     all_of (is_built_setting (xs ++ zs) x) (list_all (is_built_setting (xs ++ zs)) ks)
-    (ap (λ t. not (is_reference t) && is_constant_initial x.start) (type-grown xs zs x.object known.0) ∙ parts.0) (built-grown xs zs ks known.1 parts.1)
+    (ap (λ t. not (is_reference t) && is_constant_element t x.start) (type-grown xs zs x.object known.0) ∙ parts.0) (built-grown xs zs ks known.1 parts.1)
 
 pub among-grown : (xs zs : List Static) (ks : List Setting) → set_among xs ks ≡ true → set_among (xs ++ zs) ks ≡ true
 among-grown xs zs [] there = refl
@@ -218,14 +228,14 @@ empty-is : (x : Static) (t : SourceType) (b : Bool) → plain.is_empty (if b the
 empty-is x t true = refl
 empty-is x t false = refl
 
-sets-same : (ys : List Static) (x : Static) → is_built_static x ≡ true → plain.sets_constant (beside ys x) ≡ core.sets_constant x
+sets-same : (ys : List Static) (x : Static) → x.is_constant ≡ true → plain.sets_constant (beside ys x) ≡ core.sets_constant x
 sets-same ys x ok =
     ap (λ ss. x.is_constant && not (plain.is_empty ss)) (start-is [] ys x ok) ∙ ap (λ b. x.is_constant && not b) (empty-is x (type_of_static ys x.name) (is_nothing x.start))
 
-pub filtered : (ys ws : List Static) → list_all is_built_static ws ≡ true → filter plain.sets_constant (map (beside ys) ws) ≡ map (beside ys) (filter core.sets_constant ws)
+pub filtered : (ys ws : List Static) → are_constant ws ≡ true → filter plain.sets_constant (map (beside ys) ws) ≡ map (beside ys) (filter core.sets_constant ws)
 filtered ys [] ok = refl
 filtered ys (w ∷ ws) ok =
-    let parts = both (is_built_static w) (list_all is_built_static ws) ok in
+    let parts = both w.is_constant (are_constant ws) ok in
     pick (core.sets_constant w) (plain.sets_constant (beside ys w)) (filter core.sets_constant ws) (filter plain.sets_constant (map (beside ys) ws)) (sets-same ys w parts.0) (filtered ys ws parts.1)
   where
     pick : (b c : Bool) (old : List Static) (new : List PlainStatic) → c ≡ b → new ≡ map (beside ys) old → cond c (beside ys w ∷ new) new ≡ map (beside ys) (cond b (w ∷ old) old)
@@ -233,15 +243,15 @@ filtered ys (w ∷ ws) ok =
     pick false c old new e h = ap (λ c. cond c (beside ys w ∷ new) new) e ∙ h
 
 -- those of a further file
-pub settings-new : (xs ys : List Static) (name : Name) (ws : List Static) → list_all is_built_static ws ≡ true → are_absent xs ws ≡ true
+pub settings-new : (xs ys : List Static) (name : Name) (ws : List Static) → are_constant ws ≡ true → are_absent xs ws ≡ true
     → map (plain.constant_setting name) (map (beside ys) (filter core.sets_constant ws)) ≡ map (placed (xs ++ core.new_statics xs ys)) (map (core.constant_setting name) (filter core.sets_constant ws))
 settings-new xs ys name [] ok none = refl
 settings-new xs ys name (w ∷ ws) ok none =
     by (core.sets_constant w) refl
-    (settings-new xs ys name ws (both (is_built_static w) (list_all is_built_static ws) ok).1 (both (not (is_among w.name xs)) (are_absent xs ws) none).1)
+    (settings-new xs ys name ws (both w.is_constant (are_constant ws) ok).1 (both (not (is_among w.name xs)) (are_absent xs ws) none).1)
   where
-    parts : (is_built_static w ≡ true) × (list_all is_built_static ws ≡ true)
-    parts = both (is_built_static w) (list_all is_built_static ws) ok
+    parts : (w.is_constant ≡ true) × (are_constant ws ≡ true)
+    parts = both w.is_constant (are_constant ws) ok
 
     known : (not (is_among w.name xs) ≡ true) × (are_absent xs ws ≡ true)
     known = both (not (is_among w.name xs)) (are_absent xs ws) none
@@ -267,30 +277,19 @@ settings-new xs ys name (w ∷ ws) ok none =
         ∙ ap (λ (us : List PlainSetting). placed all (core.constant_setting name w) ∷ us) later
     by false e later = later
 
--- the type of a name in a file of built objects is no reference
-no-reference : (ys : List Static) (name : Name) → list_all is_built_static ys ≡ true → not (is_reference (type_of_static ys name)) ≡ true
-no-reference [] name ok = refl
-no-reference (y ∷ ys) name ok =
-    let parts = both (is_built_static y) (list_all is_built_static ys) ok in by (bytes_eq y.name name) (plain-object y parts.0) (no-reference ys name parts.1)
-  where
-    by : (b : Bool) → not (is_reference y.type) ≡ true → not (is_reference (type_of_static ys name)) ≡ true
-        → not (is_reference (type_found (cond b (Some y) (find (λ (x : Static). bytes_eq x.name name) ys)))) ≡ true
-    by true first later = first
-    by false first later = later
+starts-constant : (all : List Static) (x : Static) → is_built_static all x ≡ true → core.sets_constant x ≡ true → is_constant_element (type_of_static all x.name) x.start ≡ true
+starts-constant all x ok sets =
+    something-constant (type_of_static all x.name) x.start (constant-start all x ok) (absent-is (is_nothing x.start) (both x.is_constant (not (is_nothing x.start)) sets).1)
 
-starts-constant : (x : Static) → is_built_static x ≡ true → core.sets_constant x ≡ true → is_constant_initial x.start ≡ true
-starts-constant x ok sets =
-    something-constant x.start (constant-start x ok) (absent-is (is_nothing x.start) (both x.is_constant (not (is_nothing x.start)) sets).1)
-
-pub built-new : (xs ys : List Static) (name : Name) → list_all is_built_static ys ≡ true → (ws : List Static) → list_all is_built_static ws ≡ true → are_absent xs ws ≡ true
+pub built-new : (xs ys : List Static) (name : Name) (ws : List Static) → list_all (is_built_static ys) ws ≡ true → are_absent xs ws ≡ true
     → list_all (is_built_setting (xs ++ core.new_statics xs ys)) (map (core.constant_setting name) (filter core.sets_constant ws)) ≡ true
-built-new xs ys name good [] ok none = refl
-built-new xs ys name good (w ∷ ws) ok none =
+built-new xs ys name [] ok none = refl
+built-new xs ys name (w ∷ ws) ok none =
     by (core.sets_constant w) refl
-    (built-new xs ys name good ws (both (is_built_static w) (list_all is_built_static ws) ok).1 (both (not (is_among w.name xs)) (are_absent xs ws) none).1)
+    (built-new xs ys name ws (both (is_built_static ys w) (list_all (is_built_static ys) ws) ok).1 (both (not (is_among w.name xs)) (are_absent xs ws) none).1)
   where
-    parts : (is_built_static w ≡ true) × (list_all is_built_static ws ≡ true)
-    parts = both (is_built_static w) (list_all is_built_static ws) ok
+    parts : (is_built_static ys w ≡ true) × (list_all (is_built_static ys) ws ≡ true)
+    parts = both (is_built_static ys w) (list_all (is_built_static ys) ws) ok
 
     known : (not (is_among w.name xs) ≡ true) × (are_absent xs ws ≡ true)
     known = both (not (is_among w.name xs)) (are_absent xs ws) none
@@ -305,8 +304,8 @@ built-new xs ys name good (w ∷ ws) ok none =
         → list_all (is_built_setting all) (map (core.constant_setting name) (cond b (w ∷ others) others)) ≡ true
     by true e later =
         all_of (is_built_setting all (core.constant_setting name w)) (list_all (is_built_setting all) (map (core.constant_setting name) others))
-        (all_of (not (is_reference (type_of_static all w.name))) (is_constant_initial w.start)
-        (ap (λ t. not (is_reference t)) (type-joined xs ys w.name (absent-is (is_among w.name xs) known.0)) ∙ no-reference ys w.name good) (starts-constant w parts.0 e))
+        (ap (λ t. not (is_reference t) && is_constant_element t w.start) (type-joined xs ys w.name (absent-is (is_among w.name xs) known.0))
+        ∙ all_of (not (is_reference (type_of_static ys w.name))) (is_constant_element (type_of_static ys w.name) w.start) (plain-object ys w parts.0) (starts-constant ys w parts.0 e))
         later
     by false e later = later
 
@@ -329,21 +328,22 @@ pub record Set (xs ys : List Static) (name : Name) (ks : List Setting) : Type 0 
   pub built : list_all (is_built_setting (xs ++ core.new_statics xs ys)) (ks ++ map (core.constant_setting name) (filter core.sets_constant (core.new_statics xs ys))) ≡ true
   pub among : set_among (xs ++ core.new_statics xs ys) (ks ++ map (core.constant_setting name) (filter core.sets_constant (core.new_statics xs ys))) ≡ true
 
-pub settings-joined : (xs ys : List Static) (name : Name) (ks : List Setting) → list_all is_built_static ys ≡ true → set_among xs ks ≡ true → list_all (is_built_setting xs) ks ≡ true → Set xs ys name ks
+pub settings-joined : (xs ys : List Static) (name : Name) (ks : List Setting) → list_all (is_built_static ys) ys ≡ true → set_among xs ks ≡ true → list_all (is_built_setting xs) ks ≡ true → Set xs ys name ks
 settings-joined xs ys name ks good there ok =
     let new = core.new_statics xs ys in
     let sets = map (core.constant_setting name) (filter core.sets_constant new) in
-    let built = new-built xs ys good in
+    let built = new-all (is_built_static ys) xs ys good in
+    let constant = built-constant ys new built in
     let absent = new-absent xs ys in
     record {
       same =
-          ap (λ us. map (placed xs) ks ++ map (plain.constant_setting name) us) (filtered ys new built)
-          ∙ ap (λ (us : List PlainSetting). map (placed xs) ks ++ us) (settings-new xs ys name new built absent)
+          ap (λ us. map (placed xs) ks ++ map (plain.constant_setting name) us) (filtered ys new constant)
+          ∙ ap (λ (us : List PlainSetting). map (placed xs) ks ++ us) (settings-new xs ys name new constant absent)
           ∙ ap (λ (us : List PlainSetting). us ++ map (placed (xs ++ new)) sets) (sym (settings-grown xs new ks there))
           ∙ sym (map-append (placed (xs ++ new)) ks sets);
       built =
           list_all-append (is_built_setting (xs ++ new)) ks sets
-          ∙ all_of (list_all (is_built_setting (xs ++ new)) ks) (list_all (is_built_setting (xs ++ new)) sets) (built-grown xs new ks there ok) (built-new xs ys name good new built absent);
+          ∙ all_of (list_all (is_built_setting (xs ++ new)) ks) (list_all (is_built_setting (xs ++ new)) sets) (built-grown xs new ks there ok) (built-new xs ys name new built absent);
       among =
           list_all-append (λ (x : Setting). is_among x.object (xs ++ new)) ks sets
           ∙ all_of (set_among (xs ++ new) ks) (set_among (xs ++ new) sets) (among-grown xs new ks there)
@@ -352,15 +352,15 @@ settings-joined xs ys name ks good there ok =
 
 -- ---- what is not constant: there is none
 
-pub none-needed : (ws : List Static) → list_all is_built_static ws ≡ true → filter core.needs_initialiser ws ≡ []
+pub none-needed : (ws : List Static) → are_constant ws ≡ true → filter core.needs_initialiser ws ≡ []
 none-needed [] ok = refl
 none-needed (w ∷ ws) ok =
-    let parts = both (is_built_static w) (list_all is_built_static ws) ok in
-    ap (λ b. cond (not b && not (is_some w.owner)) (w ∷ filter core.needs_initialiser ws) (filter core.needs_initialiser ws)) (constant-object w parts.0) ∙ none-needed ws parts.1
+    let parts = both w.is_constant (are_constant ws) ok in
+    ap (λ b. cond (not b && not (is_some w.owner)) (w ∷ filter core.needs_initialiser ws) (filter core.needs_initialiser ws)) parts.0 ∙ none-needed ws parts.1
 
-pub none-needed-beside : (ys ws : List Static) → list_all is_built_static ws ≡ true → filter plain.needs_initialiser (map (beside ys) ws) ≡ []
+pub none-needed-beside : (ys ws : List Static) → are_constant ws ≡ true → filter plain.needs_initialiser (map (beside ys) ws) ≡ []
 none-needed-beside ys [] ok = refl
 none-needed-beside ys (w ∷ ws) ok =
-    let parts = both (is_built_static w) (list_all is_built_static ws) ok in
+    let parts = both w.is_constant (are_constant ws) ok in
     let others = filter plain.needs_initialiser (map (beside ys) ws) in
-    ap (λ b. cond (not b && not (is_some w.owner)) (beside ys w ∷ others) others) (constant-object w parts.0) ∙ none-needed-beside ys ws parts.1
+    ap (λ b. cond (not b && not (is_some w.owner)) (beside ys w ∷ others) others) parts.0 ∙ none-needed-beside ys ws parts.1

@@ -20,7 +20,7 @@ use Rattle.cf_sequence.specs.Built.{is_built_function, is_built_static, is_built
 use Rattle.cf_sequence.specs.Sequenced.{sequenced, sequenced_function, sequenced_file}
 use Rattle.cf_sequence.proofs.Whole.{of_parts, empty-list, programs-agree}
 use Rattle.cf_sequence.proofs.SameStatics.{same-functions}
-use Rattle.cf_sequence.proofs.JoinedObjects.{beside as object_beside, placed, set_among, new-built, new-same as new-same-objects, objects-joined, settings-joined, Set, none-needed, none-needed-beside}
+use Rattle.cf_sequence.proofs.JoinedObjects.{beside as object_beside, placed, set_among, are_constant, built-constant, new-all, new-same as new-same-objects, objects-joined, settings-joined, Set, none-needed, none-needed-beside}
 use Rattle.cf_sequence.proofs.OwnNames.{in_file, is_own, own-functions, own-objects, own-is}
 
 abbrev beside : Function → PlainFunction
@@ -71,27 +71,28 @@ module _ (xs ys : List Static) (ks : List Setting) (hs gs : List Function) (k : 
   abbrev then_on : Program
   then_on = of_parts (xs ++ new) (ks ++ sets) functions
 
-  with-core : list_all is_built_static ys ≡ true → core.with_file so_far k (in_file ys gs) ≡ then_on
+  with-core : are_constant ys ≡ true → core.with_file so_far k (in_file ys gs) ≡ then_on
   with-core ok =
       ap (λ (zs : List Static). let R : Program = record { classes = []; functions = functions; statics = xs ++ new; constants = ks ++ sets; initialisers = core.file_initialiser (starter k) zs } in R)
-      (none-needed new (new-built xs ys ok))
+      (none-needed new (new-all (λ (x : Static). x.is_constant) xs ys ok))
 
   -- the plain program so far, with the functions beside its own
   plain-so-far : list_all is_built_function hs ≡ true → sequenced so_far ≡ of_plain (map (object_beside xs) xs) (map (placed xs) ks) (map beside hs)
   plain-so-far built = ap (of_plain (map (object_beside xs) xs) (map (placed xs) ks)) (same-functions xs hs built)
 
-  plain-then-on : list_all is_built_static xs ≡ true → list_all is_built_static ys ≡ true → list_all is_built_function functions ≡ true
+  plain-then-on : are_constant xs ≡ true → are_constant ys ≡ true → list_all is_built_function functions ≡ true
       → sequenced then_on ≡ of_plain (map (object_beside xs) xs ++ map (object_beside ys) new) (map (placed (xs ++ new)) (ks ++ sets)) (map beside functions)
   plain-then-on olds news built =
       ap (of_plain (map (object_beside (xs ++ new)) (xs ++ new)) (map (placed (xs ++ new)) (ks ++ sets))) (same-functions (xs ++ new) functions built)
       ∙ ap (λ (us : List PlainStatic). of_plain us (map (placed (xs ++ new)) (ks ++ sets)) (map beside functions)) (objects-joined xs ys olds news)
 
-  with-plain : list_all is_built_static xs ≡ true → set_among xs ks ≡ true → list_all (is_built_setting xs) ks ≡ true → list_all is_built_function hs ≡ true
-      → list_all is_built_static ys ≡ true → list_all is_built_function gs ≡ true → list_all is_built_function functions ≡ true
+  with-plain : are_constant xs ≡ true → set_among xs ks ≡ true → list_all (is_built_setting xs) ks ≡ true → list_all is_built_function hs ≡ true
+      → list_all (is_built_static ys) ys ≡ true → list_all is_built_function gs ≡ true → list_all is_built_function functions ≡ true
       → plain.with_file (sequenced so_far) k (sequenced_file (in_file ys gs)) ≡ sequenced then_on
   with-plain olds there set built news ok all =
       let os = map (object_beside xs) xs in
       let us = map (object_beside ys) new in
+      let constant = built-constant ys ys news in
       let step : List PlainStatic → PlainProgram = λ zs. record {
         classes = [];
         functions = map beside hs ++ plain.new_functions (map beside hs) (map beside gs);
@@ -102,11 +103,11 @@ module _ (xs ys : List Static) (ks : List Setting) (hs gs : List Function) (k : 
       ap (λ (fs : List PlainFunction). plain.with_file (sequenced so_far) k (plain_file (map (object_beside ys) ys) fs)) (same-functions ys gs ok)
       ∙ ap (λ Q. plain.with_file Q k (plain_file (map (object_beside ys) ys) (map beside gs))) (plain-so-far built)
       ∙ ap step (new-same-objects xs xs ys ys)
-      ∙ ap (λ (zs : List PlainStatic). let R : PlainProgram = record (step us) { initialisers = plain.file_initialiser (starter k) zs } in R) (none-needed-beside ys new (new-built xs ys news))
+      ∙ ap (λ (zs : List PlainStatic). let R : PlainProgram = record (step us) { initialisers = plain.file_initialiser (starter k) zs } in R) (none-needed-beside ys new (new-all (λ (x : Static). x.is_constant) xs ys constant))
       ∙ ap (λ (fs : List PlainFunction). of_plain (os ++ us) (map (placed xs) ks ++ map (plain.constant_setting (starter k)) (filter plain.sets_constant us)) (map beside hs ++ fs)) (new-same hs gs)
       ∙ ap (of_plain (os ++ us) (map (placed xs) ks ++ map (plain.constant_setting (starter k)) (filter plain.sets_constant us))) (sym (map-append beside hs (core.new_functions hs gs)))
       ∙ ap (λ (zs : List PlainSetting). of_plain (os ++ us) zs (map beside functions)) (Set.same (settings-joined xs ys (starter k) ks news there set))
-      ∙ sym (plain-then-on olds news all)
+      ∙ sym (plain-then-on olds constant all)
 
 -- ---- what is joined is built
 
@@ -139,13 +140,13 @@ record Together (files : List CoreFile) (xs : List Static) (ks : List Setting) (
 file-is : (file : CoreFile) → is_none file.classes ≡ true → file ≡ in_file file.statics file.functions
 file-is file none = ap (λ (cs : List Class). let x : CoreFile = record { classes = cs; functions = file.functions; statics = file.statics } in x) (empty-list file.classes none)
 
-together : (files : List CoreFile) (xs : List Static) (ks : List Setting) (hs : List Function) (k : ℕ) → list_all is_built_file files ≡ true → list_all is_built_static xs ≡ true
+together : (files : List CoreFile) (xs : List Static) (ks : List Setting) (hs : List Function) (k : ℕ) → list_all is_built_file files ≡ true → are_constant xs ≡ true
     → set_among xs ks ≡ true → list_all (is_built_setting xs) ks ≡ true → list_all is_built_function hs ≡ true → Together files xs ks hs k
 together [] xs ks hs k ok olds there set built = record { objects = xs; settings = ks; functions = hs; set = set; built = built; in_core = refl; in_plain = refl }
 together (file ∷ files) xs ks hs k ok olds there set built =
     let parts = both (is_built_file file) (list_all is_built_file files) ok in
-    let one = both (is_none file.classes) (list_all is_own file.statics && list_all is_built_function file.functions) parts.0 in
-    let two = both (list_all is_own file.statics) (list_all is_built_function file.functions) one.1 in
+    let one = both (is_none file.classes) (list_all (is_own file.statics) file.statics && list_all is_built_function file.functions) parts.0 in
+    let two = both (list_all (is_own file.statics) file.statics) (list_all is_built_function file.functions) one.1 in
     let names = core.local_names (in_file file.statics file.functions) in
     let ys : List Static = map (core.static_in_file (core.name_in k names)) file.statics in
     let gs : List Function = map (core.function_in_file (core.name_in k names)) file.functions in
@@ -153,8 +154,10 @@ together (file ∷ files) xs ks hs k ok olds there set built =
     let good = own-functions k names file.functions two.1 in
     let all = all-both hs (core.new_functions hs gs) built (functions-built hs gs good) in
     let now = settings-joined xs ys (starter k) ks news there set in
-    let objects : list_all is_built_static (xs ++ core.new_statics xs ys) ≡ true =
-    list_all-append is_built_static xs (core.new_statics xs ys) ∙ all_of (list_all is_built_static xs) (list_all is_built_static (core.new_statics xs ys)) olds (new-built xs ys news) in
+    let constant = built-constant ys ys news in
+    let objects : are_constant (xs ++ core.new_statics xs ys) ≡ true =
+    list_all-append (λ (x : Static). x.is_constant) xs (core.new_statics xs ys)
+    ∙ all_of (are_constant xs) (are_constant (core.new_statics xs ys)) olds (new-all (λ (x : Static). x.is_constant) xs ys constant) in
     let rest = together files (xs ++ core.new_statics xs ys) (ks ++ sets xs ys ks hs gs k) (hs ++ core.new_functions hs gs) (suc k) parts.1 objects now.among now.built all in
     record {
       objects = rest.objects;
@@ -163,7 +166,7 @@ together (file ∷ files) xs ks hs k ok olds there set built =
       set = rest.set;
       built = rest.built;
       in_core = ap (λ x. core.with_files (core.with_file (of_parts xs ks hs) k (core.own_names k x)) (suc k) files) (file-is file one.0)
-          ∙ ap (λ P. core.with_files P (suc k) files) (with-core xs ys ks hs gs k news) ∙ rest.in_core;
+          ∙ ap (λ P. core.with_files P (suc k) files) (with-core xs ys ks hs gs k constant) ∙ rest.in_core;
       in_plain = ap (λ x. plain.with_files (plain.with_file (sequenced (of_parts xs ks hs)) k (plain.own_names k (sequenced_file x))) (suc k) (map sequenced_file files)) (file-is file one.0)
           ∙ ap (λ x. plain.with_files (plain.with_file (sequenced (of_parts xs ks hs)) k x) (suc k) (map sequenced_file files)) (own-is k file.statics file.functions two.0 two.1)
           ∙ ap (λ Q. plain.with_files Q (suc k) (map sequenced_file files)) (with-plain xs ys ks hs gs k olds there set built news good all) ∙ rest.in_plain;

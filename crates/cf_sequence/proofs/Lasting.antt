@@ -68,6 +68,10 @@ module _ (Q : State → Type 0) where
   pub keeps-at : {A : Type 0} (go : State → Act A) → ((s : State) → Keeps Q (go s)) → Keeps Q (state >>= go)
   keeps-at go k = record { by = λ s w q. Keeps.by (k s) s w q }
 
+  -- where what is so is known of the state
+  pub keeps-seen : {A : Type 0} (go : State → Act A) → ((s : State) → Q s → Keeps Q (go s)) → Keeps Q (state >>= go)
+  keeps-seen go k = record { by = λ s w q. Keeps.by (k s q) s w q }
+
   pub keeps-when : {A : Type 0} (b : Bool) (act other : Act A) → Keeps Q act → Keeps Q other → Keeps Q (when b act other)
   keeps-when true act other p k = p
   keeps-when false act other p k = k

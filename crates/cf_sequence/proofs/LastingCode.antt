@@ -237,12 +237,12 @@ module _ (again : calling.Again) (P : Program) (classless : P.classes ≡ []) (r
 
   -- ---- lists
 
-  each-keeps : (base : List ℕ) (i n : ℕ) (act : ℕ → Act (Unit {0})) → ((i : ℕ) → Keeps (L base) (act i)) → Keeps (L base) (for_each i n act)
+  pub each-keeps : (base : List ℕ) (i n : ℕ) (act : ℕ → Act (Unit {0})) → ((i : ℕ) → Keeps (L base) (act i)) → Keeps (L base) (for_each i n act)
   each-keeps base i zero act k = keeps-gives (L base) tt
   each-keeps base i (suc n) act k = keeps-next (L base) (act i) (for_each (suc i) n act) (k i) (each-keeps base (suc i) n act k)
 
   -- one element, by itself
-  item-keeps : (base : List ℕ) (tick_first : Bool) (e : Core) (q : Place) → Keeps (L base) (meaning.value again P e (Some q))
+  pub item-keeps : (base : List ℕ) (tick_first : Bool) (e : Core) (q : Place) → Keeps (L base) (meaning.value again P e (Some q))
       → Keeps (L base) (one_tick tick_first >> (full_expression again P (meaning.value again P e (Some q)) >>= settle P.classes q))
   item-keeps base tick_first e q k =
       keeps-next (L base) (one_tick tick_first) _ (keeps-when (L base) tick_first tick done (keeps-tick (L base)) (keeps-gives (L base) tt)) (settled-keeps base e q k)

@@ -38,6 +38,7 @@ pub mod StaticObjects
 pub mod SameTypes
 pub mod Constants
 pub mod Settings
+pub mod LastingStatics
 pub mod SameStatics
 pub mod JoinedObjects
 pub mod Renamed
@@ -50,3 +51,4 @@ pub mod Switching
 pub mod Temporaries
 pub mod Whole
 mod ScalarRows
+mod StaticListRows

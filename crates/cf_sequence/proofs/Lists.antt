@@ -127,6 +127,17 @@ pub record Lies (cs : List Class) (T t : SourceType) (p : Place) : Type 0 where
   pub type : type_at cs T p.route ≡ t
   pub inside : is_inside cs T p.route ≡ true
 
+-- it goes on standing where what lasts of it does
+pub still-intact : (T : SourceType) (o : ℕ) (s t : State) (base : List ℕ) → Intact T o s → Lasting s.next s.object base t → Intact T o t
+still-intact T o s t base i l =
+    let same = l.objects o i.below in
+    record {
+      below = (let a = i.below in let b = l.next in omega arith);
+      type = same.type ∙ i.type;
+      life = same.life ∙ i.life;
+      stands = same.gone ∙ i.stands;
+    }
+
 two-false : (a b : Bool) → a ≡ false → b ≡ false → a || b ≡ false
 two-false true b p q = p
 two-false false b p q = q
@@ -178,14 +189,14 @@ move-there cs p i s w stands within =
     goes j = gives (At (record (inner (item 0) p) { route = route_of (element_of (item 0 ∷ p.route)) j }))
 
 -- what is known of the core's state behind a step
-known : {A B : Type 0} {R : A → State → B → State → Type 0} (Q : A → State → Type 0) (x : Ran (Did A)) (y : Ran (Did B)) → Gave Q x → Follows R x y
+pub known : {A B : Type 0} {R : A → State → B → State → Type 0} (Q : A → State → Type 0) (x : Ran (Did A)) (y : Ran (Did B)) → Gave Q x → Follows R x y
     → Follows (λ a s b t. R a s b t × Q a s) x y
 known Q (Went (Gives a s) w) y q h = record { by = record { value = h.by.value; after = h.by.after; run = h.by.run; related = (h.by.related, q) } }
 known Q (Went (Exits z s) w) y q h = record { by = record { after = h.by.after; run = h.by.run; same = h.by.same } }
 known Q (Went Malformed w) y q h = record { by = tt }
 known Q (Stops end trace) y q h = record { by = h.by }
 
-alone : {A : Type 0} (x : Ran (Did A)) → and_then x (on gives) ≡ x
+pub alone : {A : Type 0} (x : Ran (Did A)) → and_then x (on gives) ≡ x
 alone (Went (Gives a s) w) = refl
 alone (Went (Exits z s) w) = refl
 alone (Went Malformed w) = refl
@@ -306,18 +317,6 @@ module _ (again : calling.Again) (again' : running.Again) (P : Program) (bodies 
     (A B : Type 0) (S : A → State → B → State → Type 0) where
   abbrev pub Hp : Program
   Hp = H again again' P
-
-  -- ---- an object that stands goes on standing
-
-  still-intact : (T : SourceType) (o : ℕ) (s t : State) (base : List ℕ) → Intact T o s → Lasting s.next s.object base t → Intact T o t
-  still-intact T o s t base i l =
-      let same = l.objects o i.below in
-      record {
-        below = (let a = i.below in let b = l.next in omega arith);
-        type = same.type ∙ i.type;
-        life = same.life ∙ i.life;
-        stands = same.gone ∙ i.stands;
-      }
 
   lasting-now : (s : State) → s.frame.temporaries ≡ [] → Lasting s.next s.object s.frame.scope s
   lasting-now s empty = record {

@@ -12,17 +12,18 @@ use Rattle.cf_core.specs.Joined.{renamed, is_nothing}
 use Rattle.cf_plain.specs.Plain.{Plains, PlainFunction, PlainStatic, PlainFile, act, set, nothing, more}
 use Rattle.cf_plain.specs.Plain as plain_tree
 use Rattle.cf_plain.specs.Joined as plain
-use Rattle.cf_sequence.specs.Built.{is_statement, is_built_function, is_body, is_plain_role, is_chain, is_none, is_built_static, begins_mark, has_mark}
+use Rattle.cf_sequence.specs.Built.{is_statement, is_built_function, is_body, is_plain_role, is_chain, is_none, is_constant_start, is_built_static, begins_mark, has_mark}
 use Rattle.cf_sequence.specs.Made.{declared, numbered}
 use Rattle.cf_sequence.specs.Expressions.{finished}
 use Rattle.cf_sequence.specs.Statements.{type_of_static, initialised, statement}
 use Rattle.cf_sequence.specs.Sequenced.{inside, flowed_off, sequenced_body, sequenced_function, sequenced_file}
 use Rattle.cf_sequence.proofs.Calling.{never}
 use Rattle.cf_sequence.proofs.StaticObjects.{type_found}
-use Rattle.cf_sequence.proofs.Constants.{set_as, start-is, constant-start, something-constant, constant-initial}
+use Rattle.cf_sequence.proofs.Constants.{set_as, start-is, constant-object, constant-start, something-constant, constant-element}
 use Rattle.cf_sequence.proofs.JoinedObjects.{beside}
 use Rattle.cf_sequence.proofs.Renamed.{same-adds, same-nothing, same-declared, same-statement, same-constant-start}
-use Rattle.cf_sequence.proofs.RenamedCode.{over-finished, over-started}
+use Rattle.cf_sequence.proofs.RenamedCode.{over-finished}
+use Rattle.cf_sequence.proofs.RenamedLists.{over-element}
 use Rattle.cf_sequence.proofs.RenamedStatements.{over-statement}
 use Rattle.cf_sequence.proofs.SameStatics.{same-function}
 use Rattle.cf_sequence.proofs.Whole.{built-parts}
@@ -49,8 +50,8 @@ not-main k n = by n (bytes_eq (core.in_file k n) (codes "__main")) refl
     by n true e = sym (marked n (decimal k)) ∙ ap has_mark (same_bytes (core.in_file k n) (codes "__main") e)
     by n false e = refl
 
-abbrev pub is_own : Static → Bool
-is_own x = is_built_static x && not (has_mark x.name)
+abbrev pub is_own : List Static → Static → Bool
+is_own statics x = is_built_static statics x && not (has_mark x.name)
 
 module _ (k : ℕ) (names : List Name) where
   abbrev r : Name → Name
@@ -75,13 +76,13 @@ module _ (k : ℕ) (names : List Name) where
       by false false e f = refl
 
   -- the type of a name stays
-  same-type : (xs : List Static) → list_all is_own xs ≡ true → (n : Name) → not (has_mark n) ≡ true → type_of_static (map (core.static_in_file r) xs) (r n) ≡ type_of_static xs n
-  same-type [] ok n plain_n = refl
-  same-type (x ∷ xs) ok n plain_n =
-      let parts = both (is_own x) (list_all is_own xs) ok in
+  same-type : (all xs : List Static) → list_all (is_own all) xs ≡ true → (n : Name) → not (has_mark n) ≡ true → type_of_static (map (core.static_in_file r) xs) (r n) ≡ type_of_static xs n
+  same-type all [] ok n plain_n = refl
+  same-type all (x ∷ xs) ok n plain_n =
+      let parts = both (is_own all x) (list_all (is_own all) xs) ok in
       ap (λ b. type_found (cond b (Some (core.static_in_file r x)) (find (λ (y : Static). bytes_eq y.name (r n)) (map (core.static_in_file r) xs))))
-      (same-test x.name n (both (is_built_static x) (not (has_mark x.name)) parts.0).1 plain_n)
-      ∙ by (bytes_eq x.name n) (same-type xs parts.1 n plain_n)
+      (same-test x.name n (both (is_built_static all x) (not (has_mark x.name)) parts.0).1 plain_n)
+      ∙ by (bytes_eq x.name n) (same-type all xs parts.1 n plain_n)
     where
       others : Option Static
       others = find (λ (y : Static). bytes_eq y.name (r n)) (map (core.static_in_file r) xs)
@@ -160,44 +161,54 @@ module _ (k : ℕ) (names : List Name) where
   abbrev plain_static_in_file : PlainStatic → PlainStatic
   plain_static_in_file x = record x { name = r x.name; start = plain.renamed_all r x.start; owner = option_map r x.owner }
 
-  pub own-object : (x : Static) → is_built_static x ≡ true → is_built_static (core.static_in_file r x) ≡ true
-  own-object x ok = ap (λ b. x.is_constant && (not (is_reference x.type) && b)) (same-constant-start r x.start) ∙ ok
+  module _ (ys : List Static) (all : list_all (is_own ys) ys ≡ true) where
+    abbrev zs : List Static
+    zs = map (core.static_in_file r) ys
 
-  pub own-objects : (xs : List Static) → list_all is_own xs ≡ true → list_all is_built_static (map (core.static_in_file r) xs) ≡ true
-  own-objects [] ok = refl
-  own-objects (x ∷ xs) ok =
-      let parts = both (is_own x) (list_all is_own xs) ok in
-      all_of (is_built_static (core.static_in_file r x)) (list_all is_built_static (map (core.static_in_file r) xs))
-      (own-object x (both (is_built_static x) (not (has_mark x.name)) parts.0).0) (own-objects xs parts.1)
+    own-object : (x : Static) → is_own ys x ≡ true → is_built_static zs (core.static_in_file r x) ≡ true
+    own-object x ok =
+        let parts = both (is_built_static ys x) (not (has_mark x.name)) ok in
+        ap (λ t. x.is_constant && (not (is_reference t) && is_constant_start t (renamed r x.start))) (same-type ys ys all x.name parts.1)
+        ∙ ap (λ b. x.is_constant && (not (is_reference (type_of_static ys x.name)) && b)) (same-constant-start r (type_of_static ys x.name) x.start) ∙ parts.0
 
-  over-set : (x : Static) → is_built_static x ≡ true → (t : SourceType) → plain.renamed_all r (set_as [] x t) ≡ set_as [] (core.static_in_file r x) t
-  over-set x ok t = by (is_nothing x.start) refl ∙ ap (λ b. if b then nothing else initialised [] t (r x.name) (renamed r x.start) 0 nothing) (sym (same-nothing r x.start))
-    where
-      by : (b : Bool) → is_nothing x.start ≡ b
-          → plain.renamed_all r (if b then nothing else initialised [] t x.name x.start 0 nothing) ≡ (if b then nothing else initialised [] t (r x.name) (renamed r x.start) 0 nothing)
-      by true e = refl
-      by false e =
-          let initial = constant-initial x.start (something-constant x.start (constant-start x ok) e) in
-          ap (λ ss. more (act (plain_tree.reach (r x.name))) (more (set 0 (plain_tree.static_object (r x.name) t)) ss))
-          (over-started r [] t x.start initial 0 0 (more (act (plain_tree.finish_static x.name)) nothing))
+    own-each : (xs : List Static) → list_all (is_own ys) xs ≡ true → list_all (is_built_static zs) (map (core.static_in_file r) xs) ≡ true
+    own-each [] ok = refl
+    own-each (x ∷ xs) ok =
+        let parts = both (is_own ys x) (list_all (is_own ys) xs) ok in
+        all_of (is_built_static zs (core.static_in_file r x)) (list_all (is_built_static zs) (map (core.static_in_file r) xs)) (own-object x parts.0) (own-each xs parts.1)
 
-  over-object : (ys : List Static) → list_all is_own ys ≡ true → (x : Static) → is_own x ≡ true → plain_static_in_file (beside ys x) ≡ beside (map (core.static_in_file r) ys) (core.static_in_file r x)
-  over-object ys all x ok =
-      let zs = map (core.static_in_file r) ys in
-      let y = core.static_in_file r x in
-      let parts = both (is_built_static x) (not (has_mark x.name)) ok in
-      ap (λ ss. let z : PlainStatic = record (plain_static_in_file (beside ys x)) { start = ss } in z)
-      (ap (plain.renamed_all r) (start-is [] ys x parts.0) ∙ over-set x parts.0 (type_of_static ys x.name)
-      ∙ ap (set_as [] y) (sym (same-type ys all x.name parts.1)) ∙ sym (start-is [] zs y (own-object x parts.0)))
-      ∙ ap (λ (ls : List SourceType). let z : PlainStatic = record (beside zs y) { locals = ls } in z) (sym (same-adds r x.start))
+    pub own-objects : list_all (is_built_static zs) zs ≡ true
+    own-objects = own-each ys all
 
-  over-objects : (ys : List Static) → list_all is_own ys ≡ true → (xs : List Static) → list_all is_own xs ≡ true
-      → map plain_static_in_file (map (beside ys) xs) ≡ map (beside (map (core.static_in_file r) ys)) (map (core.static_in_file r) xs)
-  over-objects ys all [] ok = refl
-  over-objects ys all (x ∷ xs) ok =
-      let parts = both (is_own x) (list_all is_own xs) ok in
-      ap (λ (y : PlainStatic). y ∷ map plain_static_in_file (map (beside ys) xs)) (over-object ys all x parts.0)
-      ∙ ap (λ (zs : List PlainStatic). beside (map (core.static_in_file r) ys) (core.static_in_file r x) ∷ zs) (over-objects ys all xs parts.1)
+    over-set : (x : Static) → is_built_static ys x ≡ true → plain.renamed_all r (set_as [] x (type_of_static ys x.name)) ≡ set_as [] (core.static_in_file r x) (type_of_static ys x.name)
+    over-set x ok = by (is_nothing x.start) refl ∙ ap (λ b. if b then nothing else initialised [] t (r x.name) (renamed r x.start) 0 nothing) (sym (same-nothing r x.start))
+      where
+        t : SourceType
+        t = type_of_static ys x.name
+
+        by : (b : Bool) → is_nothing x.start ≡ b
+            → plain.renamed_all r (if b then nothing else initialised [] t x.name x.start 0 nothing) ≡ (if b then nothing else initialised [] t (r x.name) (renamed r x.start) 0 nothing)
+        by true e = refl
+        by false e =
+            let element = constant-element t x.start (something-constant t x.start (constant-start ys x ok) e) in
+            ap (λ ss. more (act (plain_tree.reach (r x.name))) (more (set 0 (plain_tree.static_object (r x.name) t)) ss))
+            (over-element r [] t x.start element t 0 0 (more (act (plain_tree.finish_static x.name)) nothing))
+
+    over-object : (x : Static) → is_own ys x ≡ true → plain_static_in_file (beside ys x) ≡ beside zs (core.static_in_file r x)
+    over-object x ok =
+        let y = core.static_in_file r x in
+        let parts = both (is_built_static ys x) (not (has_mark x.name)) ok in
+        ap (λ ss. let z : PlainStatic = record (plain_static_in_file (beside ys x)) { start = ss } in z)
+        (ap (plain.renamed_all r) (start-is [] ys x (constant-object ys x parts.0)) ∙ over-set x parts.0
+        ∙ ap (set_as [] y) (sym (same-type ys ys all x.name parts.1)) ∙ sym (start-is [] zs y (constant-object ys x parts.0)))
+        ∙ ap (λ (ls : List SourceType). let z : PlainStatic = record (beside zs y) { locals = ls } in z) (sym (same-adds r x.start))
+
+    over-objects : (xs : List Static) → list_all (is_own ys) xs ≡ true → map plain_static_in_file (map (beside ys) xs) ≡ map (beside zs) (map (core.static_in_file r) xs)
+    over-objects [] ok = refl
+    over-objects (x ∷ xs) ok =
+        let parts = both (is_own ys x) (list_all (is_own ys) xs) ok in
+        ap (λ (y : PlainStatic). y ∷ map plain_static_in_file (map (beside ys) xs)) (over-object x parts.0)
+        ∙ ap (λ (us : List PlainStatic). beside zs (core.static_in_file r x) ∷ us) (over-objects xs parts.1)
 
 -- ---- the names that are local
 
@@ -232,7 +243,7 @@ local-objects ys (x ∷ xs) = by x.is_local (local-objects ys xs)
 abbrev pub in_file : List Static → List Function → CoreFile
 in_file xs gs = record { classes = []; functions = gs; statics = xs }
 
-pub own-is : (k : ℕ) (ys : List Static) (gs : List Function) → list_all is_own ys ≡ true → list_all is_built_function gs ≡ true
+pub own-is : (k : ℕ) (ys : List Static) (gs : List Function) → list_all (is_own ys) ys ≡ true → list_all is_built_function gs ≡ true
     → plain.own_names k (sequenced_file (in_file ys gs)) ≡ sequenced_file (core.own_names k (in_file ys gs))
 own-is k ys gs own ok =
     let names = core.local_names (in_file ys gs) in

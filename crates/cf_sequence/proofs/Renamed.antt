@@ -10,7 +10,7 @@ use Rattle.cf_core.specs.Places.{is_reference}
 use Rattle.cf_core.specs.Nodes.{nodes, nodes_all, nodes_maybe, nodes_parts}
 use Rattle.cf_core.specs.Joined.{renamed, renamed_all, renamed_maybe, renamed_parts, is_nothing}
 use Rattle.cf_core.specs.Valid.{is_label, has_label}
-use Rattle.cf_sequence.specs.Built.{is_row, is_chain, is_value, are_values, are_arguments, is_condition, is_start, is_filling, is_initial, is_list, is_element, are_elements, is_held, behind_declared, next_local, next_locals, declares_here, any_declares, is_statement, is_inner_or, are_cases, are_statements, is_constant_value, is_constant_initial, is_constant_start}
+use Rattle.cf_sequence.specs.Built.{is_row, is_chain, is_value, are_values, are_arguments, is_condition, is_start, is_filling, is_initial, is_list, is_element, are_elements, is_held, behind_declared, next_local, next_locals, declares_here, any_declares, is_statement, is_inner_or, are_cases, are_statements, is_constant_value, is_constant_initial, is_constant_list, are_constant_elements, is_constant_element, is_constant_start}
 use Rattle.cf_sequence.specs.Made.{Local, temporaries, temporaries_all, added, makes, width, width_maybe, width_all, declared, declared_all, held_by}
 use Rattle.cf_sequence.specs.Expressions.{builds}
 use Rattle.cf_sequence.proofs.Calling.{never}
@@ -298,11 +298,29 @@ module _ (r : Name → Name) where
       (two-same (is_constant_value (renamed r a)) (is_constant_value (renamed r b)) (is_constant_value a) (is_constant_value b) (same-constant a) (same-constant b))
   same-constant e = refl
 
-  pub same-constant-start : (e : Core) → is_constant_start (renamed r e) ≡ is_constant_start e
-  same-constant-start e =
-      ap (λ b. b || is_constant_initial (renamed r e)) (same-nothing e)
-      ∙ ap (λ b. is_nothing e || (b || is_constant_value (renamed r e))) (same-filling e)
-      ∙ ap (λ b. is_nothing e || (is_filling e || b)) (same-constant e)
+  same-constant-initial : (e : Core) → is_constant_initial (renamed r e) ≡ is_constant_initial e
+  same-constant-initial e = ap (λ b. b || is_constant_value (renamed r e)) (same-filling e) ∙ ap (λ b. is_filling e || b) (same-constant e)
+
+  mutual
+    same-constant-list : (t : SourceType) (e : Core) → is_constant_list t (renamed r e) ≡ is_constant_list t e
+    same-constant-list t (core.list es rest) =
+        let u : SourceType = element (plain t) in
+        ap (λ b. is_row t && b)
+        (two-same (are_constant_elements u (renamed_all r es)) (is_filling (renamed r rest)) (are_constant_elements u es) (is_filling rest) (same-constant-elements u es) (same-filling rest))
+    same-constant-list t core.zeros = refl
+    same-constant-list t e = refl
+
+    same-constant-elements : (t : SourceType) (es : Cores) → are_constant_elements t (renamed_all r es) ≡ are_constant_elements t es
+    same-constant-elements t none = refl
+    same-constant-elements t (core.more e es) =
+        two-same (is_constant_element t (renamed r e)) (are_constant_elements t (renamed_all r es)) (is_constant_element t e) (are_constant_elements t es)
+        (ap (λ b. b || is_constant_list t (renamed r e)) (same-constant-initial e) ∙ ap (λ b. is_constant_initial e || b) (same-constant-list t e)) (same-constant-elements t es)
+
+  pub same-constant-start : (t : SourceType) (e : Core) → is_constant_start t (renamed r e) ≡ is_constant_start t e
+  same-constant-start t e =
+      ap (λ b. b || is_constant_element t (renamed r e)) (same-nothing e)
+      ∙ ap (λ b. is_nothing e || (b || is_constant_list t (renamed r e))) (same-constant-initial e)
+      ∙ ap (λ b. is_nothing e || (is_constant_initial e || b)) (same-constant-list t e)
 
   same-condition : (e : MaybeCore) → is_condition (renamed_maybe r e) ≡ is_condition e
   same-condition absent = refl

@@ -1,14 +1,13 @@
 -- Static objects: the plain program has the program's, by the same names and numbers and with the same types.
-use Rattle.std.proofs.Common.{◌≡◌, ℕ, zero, suc, ◌+◌, Bool, true, false, not, cond, nat_lt, List, [], ◌∷◌, ◌&&◌, map, length, refl, ◌∙◌, ap, subst, slice_get, arith}
+use Rattle.std.proofs.Common.{◌≡◌, ℕ, zero, suc, ◌+◌, Bool, true, false, not, cond, nat_lt, List, [], ◌∷◌, map, length, refl, ◌∙◌, ap, subst, slice_get, arith}
 use Rattle.std.specs.Prelude.{Option, Some, None, find, bytes_eq, position}
 use Rattle.std.specs.List.{prefix_len}
 use Rattle.std.proofs.lemmas.Bool.Decides.{nat_tests}
-use Rattle.cf_base.proofs.Tests.{all_of}
 use Rattle.cf_core.specs.Types.{Name, SourceType, void, same_but_const}
 use Rattle.cf_core.specs.Classes.{Class}
 use Rattle.cf_core.specs.Core.{Static}
 use Rattle.cf_core.specs.Store.{Object}
-use Rattle.cf_core.specs.Places.{Place, is_reference}
+use Rattle.cf_core.specs.Places.{Place}
 use Rattle.cf_core.specs.Run.{State, Act, ◌>>=◌, ◌>>◌, gives, malformed, need, some_or, cast_from_void}
 use Rattle.cf_core.specs.Calls.{Program, root}
 use Rattle.cf_core.specs.Program.{length_of, static_object_of, first_state, no_frame}
@@ -104,7 +103,7 @@ one-less : (m n : ℕ) → nat_lt (1 + m) (suc n) ≡ true → nat_lt m n ≡ tr
 one-less m n lt = grind (arith, nat_tests)
 
 module _ (cs : List Class) (name : Name) where
-  abbrev before : List Static → ℕ
+  abbrev pub before : List Static → ℕ
   before xs = prefix_len (λ (x : Static). not (bytes_eq x.name name)) xs
 
   found-one : (x : Static) (xs : List Static) (n : ℕ) (b : Bool) (others : Option Static)
@@ -114,30 +113,12 @@ module _ (cs : List Class) (name : Name) where
   found-one x xs n false others e = ap (λ m. (static_object_of cs (slice_get (x ∷ xs) m)).type) (let same : 1 + n ≡ suc n = omega arith in same) ∙ e refl
 
   -- the first object of the name has the type that the name has
-  found-type-first : (xs : List Static) → nat_lt (before xs) (length xs) ≡ true
+  pub found-type-first : (xs : List Static) → nat_lt (before xs) (length xs) ≡ true
       → (static_object_of cs (slice_get xs (before xs))).type ≡ type_of_static xs name
   found-type-first [] lt = never lt
   found-type-first (x ∷ xs) lt = found-one x xs (before xs) (bytes_eq x.name name) (find (λ (x : Static). bytes_eq x.name name) xs)
       (λ other. found-type-first xs (one-less (before xs) (length xs) (subst (λ b. nat_lt (cond (not b) (1 + before xs) 0) (suc (length xs)) ≡ true) other lt)))
 
-length-is : (xs : List Static) → length_of xs ≡ length xs
+pub length-is : (xs : List Static) → length_of xs ≡ length xs
 length-is [] = refl
 length-is (x ∷ xs) = ap suc (length-is xs)
-
--- The object of a number is there and is no reference.
-abbrev pub is_plain_object : State → Option ℕ → Bool
-is_plain_object s None = true
-is_plain_object s (Some o) = nat_lt o s.next && not (is_reference (s.object o).type)
-
-pub first-plain : (P : Program) (depth : ℕ) (name : Name) → not (is_reference (type_of_static P.statics name)) ≡ true
-    → is_plain_object (first_state P depth) (static_number P name) ≡ true
-first-plain P depth name ok = by-bound (nat_lt n (length P.statics)) refl
-  where
-    n : ℕ
-    n = prefix_len (λ (x : Static). not (bytes_eq x.name name)) P.statics
-
-    by-bound : (b : Bool) → nat_lt n (length P.statics) ≡ b → is_plain_object (first_state P depth) (cond b (Some n) None) ≡ true
-    by-bound false lt = refl
-    by-bound true lt =
-        all_of (nat_lt n (length_of P.statics)) (not (is_reference (static_object_of P.classes (slice_get P.statics n)).type)) (ap (nat_lt n) (length-is P.statics) ∙ lt)
-        (ap (λ t. not (is_reference t)) (found-type-first P.classes name P.statics lt) ∙ ok)

@@ -39,7 +39,7 @@ use Rattle.cf_sequence.proofs.Standing.{Open, Stands, Turned, Turns, inside_of, 
 use Rattle.cf_sequence.proofs.Scopes.{Ways, scope-steps, closing_scope}
 use Rattle.cf_sequence.proofs.Doing.{follow-statement}
 use Rattle.cf_sequence.proofs.LastingCode.{Rests, rests-at}
-use Rattle.cf_sequence.proofs.Settings.{setting_of, first-all, settings-steps}
+use Rattle.cf_sequence.proofs.Settings.{setting_of, first-stood, settings-steps}
 
 -- ---- the objects of parameters
 
@@ -443,9 +443,9 @@ module _ (xs : List Static) (ks : List Setting) (fs : List Function) (set : list
       outcomes again (calls again') Q refl depth (suc n) _ _ o
       (subst (λ t. Follows SameNumber (main_run again (of_parts xs ks fs) s (world_at n input heap)) (plain_program.main_run again' Q (map (setting_of (of_parts xs ks fs)) ks) t (world_at n input heap)))
       (sym (same-first (of_parts xs ks fs) depth))
-      (settings-steps again again' (of_parts xs ks fs) (both-at n).bodies chains-of refl ℤ ℤ SameNumber ks set s s.frame (world_at n input heap)
-      (record { alike = record { function = refl; this = refl; result = refl; depth = refl }; count = omega arith; wide = omega arith; locals = λ i lt. refl })
-      (first-all (of_parts xs ks fs) depth ks set)
+      (settings-steps again again' (of_parts xs ks fs) (both-at n).bodies chains-of refl (rests n) s (first-stood (of_parts xs ks fs) depth) {S = SameNumber} ks set s s.frame (world_at n input heap)
+      (record { alike = record { function = refl; this = refl; result = refl; depth = refl }; count = omega arith; wide = omega arith; locals = λ i lt. refl }) refl
+      (record { next = omega arith; objects = λ o lt. record { type = refl; life = refl; gone = refl }; temporaries = tt; scope = record { newer = []; parts = refl; new = tt } })
       (λ u. run_named again (of_parts xs ks fs) (codes "__main") [] None None >>= status_of) (λ u. run_named (calls again') Q (codes "__main") [] None None >>= status_of)
       (λ t g w ready. main-follows n (function_named (of_parts xs ks fs) (codes "__main")) refl t g w ready.alike))) is
 

@@ -1,5 +1,5 @@
 -- The cores that are built so far: functions over numbers and pointers, with locals, references, temporaries, literals,
--- calls and all statements, lists that are the initialisers of local arrays, and static objects with constant initialisers; no class.
+-- calls and all statements, lists that are the initialisers of arrays, and static objects with constant initialisers; no class.
 use Rattle.std.specs.Prelude.{ℕ, suc, Bool, true, false, ◌&&◌, ◌||◌, not, nat_le, nat_lt, nat_eq, List, [], ◌∷◌, length, bytes_eq, codes}
 use Rattle.std.specs.List.{list_all, starts_with}
 use Rattle.cf_core.specs.Types.{Name, SourceType, array, const, takes, gives, result, is_class, parameters, plain, element}
@@ -180,8 +180,21 @@ is_constant_value e = false
 abbrev pub is_constant_initial : Core → Bool
 is_constant_initial e = is_filling e || is_constant_value e
 
-abbrev pub is_constant_start : Core → Bool
-is_constant_start e = is_nothing e || is_constant_initial e
+-- The list that sets a static array of this type: each element is constant, or has a list of its own (8.4.1).
+abbrev mutual
+  pub is_constant_list : SourceType → Core → Bool
+  is_constant_list t (core.list es rest) = is_row t && (are_constant_elements (element (plain t)) es && is_filling rest)
+  is_constant_list t e = false
+
+  pub are_constant_elements : SourceType → Cores → Bool
+  are_constant_elements t none = true
+  are_constant_elements t (core.more e es) = (is_constant_initial e || is_constant_list t e) && are_constant_elements t es
+
+abbrev pub is_constant_element : SourceType → Core → Bool
+is_constant_element t e = is_constant_initial e || is_constant_list t e
+
+abbrev pub is_constant_start : SourceType → Core → Bool
+is_constant_start t e = is_nothing e || is_constant_element t e
 
 abbrev pub is_none : {A : Type 0} → List A → Bool
 is_none [] = true
@@ -200,13 +213,15 @@ abbrev pub is_built_function : Function → Bool
 is_built_function f =
     is_plain_role f.role && (is_chain f.type && ((not (bytes_eq f.name (codes "__main")) || is_none (parameters f.type)) && is_body f))
 
--- A static object with a constant initialiser, which is no reference.
-abbrev pub is_built_static : Static → Bool
-is_built_static x = x.is_constant && (not (is_reference x.type) && is_constant_start x.start)
+-- A static object with a constant initialiser, which is no reference. Its name has a type among these objects.
+abbrev pub is_built_static : List Static → Static → Bool
+is_built_static statics x =
+    x.is_constant && (not (is_reference (type_of_static statics x.name)) && is_constant_start (type_of_static statics x.name) x.start)
 
 -- what sets such an object, in a program
 abbrev pub is_built_setting : List Static → Setting → Bool
-is_built_setting statics x = not (is_reference (type_of_static statics x.object)) && is_constant_initial x.start
+is_built_setting statics x =
+    not (is_reference (type_of_static statics x.object)) && is_constant_element (type_of_static statics x.object) x.start
 
 -- A program of such functions and objects.
 abbrev pub is_plainly_built : Program → Bool
@@ -226,4 +241,4 @@ has_mark (b ∷ rest) = begins_mark (b ∷ rest) || has_mark rest
 abbrev pub is_built_file : CoreFile → Bool
 is_built_file file =
     is_none file.classes
-    && (list_all (λ (x : Static). is_built_static x && not (has_mark x.name)) file.statics && list_all is_built_function file.functions)
+    && (list_all (λ (x : Static). is_built_static file.statics x && not (has_mark x.name)) file.statics && list_all is_built_function file.functions)

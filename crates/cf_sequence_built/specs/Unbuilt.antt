@@ -1,5 +1,5 @@
 -- The place of the first construct of a core that is not built so far.
-use Rattle.std.specs.Prelude.{ℕ, Bool, true, false, ◌&&◌, ◌||◌, not, ◌==◌, nat_le, nat_lt, nat_eq, if◌then◌else◌, List, [], ◌∷◌, length, codes, bytes_eq, suc, Option, Some, None}
+use Rattle.std.specs.Prelude.{ℕ, Bool, true, false, ◌&&◌, ◌||◌, not, ◌==◌, nat_le, nat_lt, nat_eq, if◌then◌else◌, List, [], ◌∷◌, length, codes, bytes_eq, suc, Option, Some, None, find}
 use Rattle.std.specs.List.{starts_with}
 use Rattle.std.specs.Option.{option_or}
 use Rattle.cf_core.specs.declared.node.Core.{Core as Node, fold-Core}
@@ -12,7 +12,7 @@ use Rattle.cf_core.specs.declared.unit.CoreFn.{CoreFn}
 use Rattle.cf_core.specs.declared.unit.CoreStatic.{CoreStatic}
 use Rattle.cf_core.specs.declared.unit.Role.{Role}
 use Rattle.cf_core.specs.declared.unit.Role.TheVariants as role
-use Rattle.cf_core.specs.Types.{SourceType, array, takes, gives, result, is_class, plain, element}
+use Rattle.cf_core.specs.Types.{SourceType, void, array, takes, gives, result, is_class, plain, element}
 use Rattle.cf_core.specs.Places.{is_reference}
 use Rattle.cf_core.specs.FromTypes.{Tables, type_of}
 use Rattle.cf_core.specs.FromUnit.{Unit as CoreUnit, tables_of}
@@ -274,31 +274,60 @@ abbrev pub in_functions : Tables → List CoreFn → Option ℕ
 in_functions tables [] = None
 in_functions tables (f ∷ fs) = option_or (in_function tables f) (in_functions tables fs)
 
--- whether an expression is known before any function is entered (8.4)
-abbrev pub constant_step : Core-F Bool Bool → Bool
-constant_step (Core-F.Number at z) = true
-constant_step (Core-F.Text at j bytes) = true
-constant_step (Core-F.Static at n t) = true
-constant_step (Core-F.Function at n t) = true
-constant_step (Core-F.Address at e) = e
-constant_step (Core-F.Dereference at e) = e
-constant_step (Core-F.Decay at e) = e
-constant_step (Core-F.Index at a b) = a && b
-constant_step (Core-F.Convert at t e) = e
-constant_step (Core-F.Operate at op k a b) = a && b
-constant_step (Core-F.Unary at op k e) = e
-constant_step (Core-F.Not at e) = e
-constant_step (Core-F.And at a b) = a && b
-constant_step (Core-F.Or at a b) = a && b
-constant_step (Core-F.PointerOperate at op a b) = a && b
-constant_step (Core-F.Conditional at c a b) = c && (a && b)
-constant_step x = false
+-- What is known of a node as what sets a static object before any function is entered (8.4).
+pub record Constant : Type 0 where
+  pub value : Bool  -- as an expression
+  pub is_filling : Bool  -- whether it fills its object by itself
+  pub list : Option (SourceType → Bool)  -- as a list that sets an object of this type, if it is one
 
-abbrev pub constant_part : PartStart-F Bool Bool → Bool
+abbrev pub constant_value : Core-F Constant Constant → Bool
+constant_value (Core-F.Number at z) = true
+constant_value (Core-F.Text at j bytes) = true
+constant_value (Core-F.Static at n t) = true
+constant_value (Core-F.Function at n t) = true
+constant_value (Core-F.Address at e) = e.value
+constant_value (Core-F.Dereference at e) = e.value
+constant_value (Core-F.Decay at e) = e.value
+constant_value (Core-F.Index at a b) = a.value && b.value
+constant_value (Core-F.Convert at t e) = e.value
+constant_value (Core-F.Operate at op k a b) = a.value && b.value
+constant_value (Core-F.Unary at op k e) = e.value
+constant_value (Core-F.Not at e) = e.value
+constant_value (Core-F.And at a b) = a.value && b.value
+constant_value (Core-F.Or at a b) = a.value && b.value
+constant_value (Core-F.PointerOperate at op a b) = a.value && b.value
+constant_value (Core-F.Conditional at c a b) = c.value && (a.value && b.value)
+constant_value x = false
+
+abbrev pub constant_filling : Core-F Constant Constant → Bool
+constant_filling (Core-F.Zeros at) = true
+constant_filling (Core-F.Characters at bytes) = true
+constant_filling x = false
+
+abbrev pub set_by_list : Option (SourceType → Bool) → SourceType → Bool → Bool
+set_by_list None t other = other
+set_by_list (Some f) t other = f t
+
+-- whether it sets an object of this type: by zeros, the characters of a literal, a constant or a list of these (8.4.1)
+abbrev pub sets : SourceType → Constant → Bool
+sets t e = set_by_list e.list t (e.is_filling || e.value)
+
+abbrev pub each_sets : SourceType → List Constant → Bool
+each_sets t [] = true
+each_sets t (e ∷ es) = sets t e && each_sets t es
+
+abbrev pub constant_list : Core-F Constant Constant → Option (SourceType → Bool)
+constant_list (Core-F.List at es rest) = Some (λ t. is_row t && (each_sets (element (plain t)) es && rest.is_filling))
+constant_list x = None
+
+abbrev pub constant_step : Core-F Constant Constant → Constant
+constant_step x = record { value = constant_value x; is_filling = constant_filling x; list = constant_list x }
+
+abbrev pub constant_part : PartStart-F Constant Constant → Constant
 constant_part x = x.start
 
-abbrev pub is_constant : Node → Bool
-is_constant = fold-Core Bool Bool constant_step constant_part
+abbrev pub constant : Node → Constant
+constant = fold-Core Constant Constant constant_step constant_part
 
 -- whether a name has `__u` in it, which joining puts behind a name that is local to its file
 abbrev pub begins_mark : List ℕ → Bool
@@ -308,19 +337,29 @@ abbrev pub has_mark : List ℕ → Bool
 has_mark [] = false
 has_mark (b ∷ rest) = begins_mark (b ∷ rest) || has_mark rest
 
--- A static object with a constant initialiser, which is no reference.
-abbrev pub is_usual_object : Tables → CoreStatic → Bool
-is_usual_object tables x =
-    x.is_constant && (not (is_reference (type_of tables x.ty)) && (((test tables x.start).is_blank || ((test tables x.start).is_filling || is_constant x.start)) && not (has_mark x.name)))
+-- the type of a name among the objects of a file
+abbrev pub type_named : Tables → List CoreStatic → List ℕ → SourceType
+type_named tables xs name = found (find (λ (x : CoreStatic). bytes_eq x.name name) xs)
+  where
+    found : Option CoreStatic → SourceType
+    found None = void
+    found (Some x) = type_of tables x.ty
 
-abbrev pub in_static : Tables → CoreStatic → Option ℕ
-in_static tables x = if is_usual_object tables x then None else Some (place x.start)
+-- A static object with a constant initialiser, which is no reference, among the objects of its file.
+abbrev pub is_usual_object : Tables → List CoreStatic → CoreStatic → Bool
+is_usual_object tables all x =
+    x.is_constant
+    && (not (is_reference (type_named tables all x.name))
+    && (((test tables x.start).is_blank || sets (type_named tables all x.name) (constant x.start)) && not (has_mark x.name)))
 
-abbrev pub in_statics : Tables → List CoreStatic → Option ℕ
-in_statics tables [] = None
-in_statics tables (x ∷ xs) = option_or (in_static tables x) (in_statics tables xs)
+abbrev pub in_static : Tables → List CoreStatic → CoreStatic → Option ℕ
+in_static tables all x = if is_usual_object tables all x then None else Some (place x.start)
+
+abbrev pub in_statics : Tables → List CoreStatic → List CoreStatic → Option ℕ
+in_statics tables all [] = None
+in_statics tables all (x ∷ xs) = option_or (in_static tables all x) (in_statics tables all xs)
 
 -- A file has no class. Where a class is defined, the place is the begin of the file.
 abbrev pub in_file : CoreUnit → Option ℕ
 in_file unit =
-    if length unit.classes.defined == 0 then option_or (in_statics (tables_of unit) unit.statics) (in_functions (tables_of unit) unit.functions) else Some 0
+    if length unit.classes.defined == 0 then option_or (in_statics (tables_of unit) unit.statics unit.statics) (in_functions (tables_of unit) unit.functions) else Some 0

@@ -1,11 +1,12 @@
 ghost use Rattle.std.specs.Prelude.{◌≡◌, true};
+ghost use Rattle.cf_core.specs.FromTypes.{type_of};
 ghost use Rattle.cf_core.specs.FromUnit.{tables_of};
 ghost use Rattle.cf_core.specs.Numbers.{function_known, static_known};
 ghost use Rattle.cf_sequence_built.specs.Unbuilt as spec;
 
-use crate::statements::{is_blank, is_filling, statement};
+use crate::constants::sets;
+use crate::statements::{is_blank, statement};
 use crate::types::{is_of_class, is_reference};
-use crate::values::is_constant;
 use cf_core::{CoreFn, CoreStatic, CoreUnit, Role};
 
 /// Whether it is a function of numbers and pointers; `main` takes nothing.
@@ -55,19 +56,21 @@ fn has_mark(name: &[u8]) -> bool
 
 /// Whether it is a static object with a constant initialiser, which is no reference.
 fn is_usual_object(unit: &CoreUnit, x: &CoreStatic) -> bool
-    requires { static_known (tables_of unit.now) x.now ≡ true }
-    ensures { result ≡ spec.is_usual_object (tables_of unit.now) x.now }
+    requires known { static_known (tables_of unit.now) x.now ≡ true }
+    requires named { spec.type_named (tables_of unit.now) unit.now.statics x.now.name ≡ type_of (tables_of unit.now) x.now.ty }
+    ensures { result ≡ spec.is_usual_object (tables_of unit.now) unit.now.statics x.now }
 {
     x.is_constant
         && !is_reference(unit, x.ty)
-        && (is_blank(&x.start) || is_filling(&x.start) || is_constant(&x.start))
+        && (is_blank(&x.start) || sets(unit, x.ty, &x.start))
         && !has_mark(x.name.as_slice())
 }
 
 /// The place of the initialiser of a static object that is not built.
 fn in_static(unit: &CoreUnit, x: &CoreStatic) -> Option<u32>
-    requires { static_known (tables_of unit.now) x.now ≡ true }
-    ensures { result ≡ spec.in_static (tables_of unit.now) x.now }
+    requires known { static_known (tables_of unit.now) x.now ≡ true }
+    requires named { spec.type_named (tables_of unit.now) unit.now.statics x.now.name ≡ type_of (tables_of unit.now) x.now.ty }
+    ensures { result ≡ spec.in_static (tables_of unit.now) unit.now.statics x.now }
 {
     if is_usual_object(unit, x) {
         None
@@ -78,7 +81,7 @@ fn in_static(unit: &CoreUnit, x: &CoreStatic) -> Option<u32>
 
 /// The same of the static objects in order.
 fn in_statics(unit: &CoreUnit) -> Option<u32>
-    ensures { result ≡ spec.in_statics (tables_of unit.now) unit.now.statics }
+    ensures { result ≡ spec.in_statics (tables_of unit.now) unit.now.statics unit.now.statics }
 {
     let _valid = unit.functions();
     for x in unit.statics() {

@@ -142,7 +142,8 @@ pub fn is_blank(e: &Core) -> bool
 
 /// Whether an initialiser fills its object by itself: zeros, or the characters of a literal (8.4.1, 8.4.2).
 pub fn is_filling(e: &Core) -> bool
-    ensures { (tables : Tables) → result ≡ (test tables e.now).is_filling }
+    ensures tested { (tables : Tables) → result ≡ (test tables e.now).is_filling }
+    ensures constant { result ≡ (spec.constant e.now).is_filling }
 {
     matches!(e, Core::Zeros { .. } | Core::Characters { .. })
 }

@@ -143,7 +143,7 @@ fn some_values(unit: &CoreUnit, at: u32, all: &[Core]) -> Option<u32>
 
 /// Whether an expression is known before any function is entered: a number, or the place or the address of an object or a function (8.4).
 pub fn is_constant(e: &Core) -> bool
-    ensures { result ≡ spec.is_constant e.now }
+    ensures { result ≡ (spec.constant e.now).value }
 {
     match e {
         Core::Number { .. } | Core::Text { .. } | Core::Static { .. } | Core::Function { .. } =>

@@ -80,5 +80,5 @@ module _ (file : CoreFile) where
       let names : List Name = map (λ (f : Function). f.name) file.functions ++ map (λ (x : Static). x.name) file.statics in
       let functions_good : Bool = list_all (valid.function_fits file) file.functions in
       let one = both (classes_good && all_differ names && functions_good) (list_all (valid.static_fits file) file.statics) is in
-      let some = both (is_none file.classes) (list_all is_own file.statics && list_all is_built_function file.functions) built in
-      all-keep file.functions (both (list_all is_own file.statics) (list_all is_built_function file.functions) some.1).1 (both (classes_good && all_differ names) functions_good one.0).1
+      let some = both (is_none file.classes) (list_all (is_own file.statics) file.statics && list_all is_built_function file.functions) built in
+      all-keep file.functions (both (list_all (is_own file.statics) file.statics) (list_all is_built_function file.functions) some.1).1 (both (classes_good && all_differ names) functions_good one.0).1

@@ -26,6 +26,7 @@ use Rattle.cf_plain.specs.View as plain
 use Rattle.cf_plain.specs.Valid as checks
 use Rattle.cf_sequence.specs.Built.{is_built_file, is_built_function, is_built_static, is_none, has_mark}
 use Rattle.cf_sequence.specs.Made.{added, makes}
+use Rattle.cf_sequence.specs.Statements.{type_of_static}
 use Rattle.cf_sequence.proofs.Constants.{constant-start, start-adds}
 use Rattle.cf_sequence.proofs.OwnNames.{is_own}
 use Rattle.cf_sequence.proofs.Calling.{never}
@@ -68,8 +69,8 @@ module _ (unit : CoreUnit) (valid : IsValid unit) (none : in_file unit ≡ None)
   abbrev are_good : Bool
   are_good = list_all is_built_function file.functions
 
-  parts : (is_none file.classes ≡ true) × (list_all is_own file.statics && are_good ≡ true)
-  parts = both (is_none file.classes) (list_all is_own file.statics && are_good) (built-file unit none)
+  parts : (is_none file.classes ≡ true) × (list_all (is_own file.statics) file.statics && are_good ≡ true)
+  parts = both (is_none file.classes) (list_all (is_own file.statics) file.statics && are_good) (built-file unit none)
 
   pub no-definitions : unit.classes.defined ≡ []
   no-definitions = by unit.classes.defined parts.0
@@ -88,12 +89,12 @@ module _ (unit : CoreUnit) (valid : IsValid unit) (none : in_file unit ≡ None)
   object_nodes xs = flat_map (λ (x : Static). nodes x.start) xs
 
   -- initialisers add no local
-  objects-add : (xs : List Static) → list_all is_own xs ≡ true → added (object_nodes xs) ≡ []
+  objects-add : (xs : List Static) → list_all (is_own file.statics) xs ≡ true → added (object_nodes xs) ≡ []
   objects-add [] ok = refl
   objects-add (x ∷ xs) ok =
-      let parts = both (is_own x) (list_all is_own xs) ok in
+      let parts = both (is_own file.statics x) (list_all (is_own file.statics) xs) ok in
       flat_map-append makes (nodes x.start) (object_nodes xs)
-      ∙ ap (λ l. l ++ added (object_nodes xs)) (start-adds x.start (constant-start x (both (is_built_static x) (not (has_mark x.name)) parts.0).0)) ∙ objects-add xs parts.1
+      ∙ ap (λ l. l ++ added (object_nodes xs)) (start-adds (type_of_static file.statics x.name) x.start (constant-start file.statics x (both (is_built_static file.statics x) (not (has_mark x.name)) parts.0).0)) ∙ objects-add xs parts.1
 
   -- nothing in it makes a class object
   pub none-made : makes_none (nodes_of file)
@@ -101,7 +102,7 @@ module _ (unit : CoreUnit) (valid : IsValid unit) (none : in_file unit ≡ None)
       let complete : List SourceType → Bool = list_all (is_complete file.classes) in
       nodes-make-none (function_nodes ++ object_nodes file.statics)
       (ap (λ cs. list_all (is_complete cs) (added (function_nodes ++ object_nodes file.statics))) (sym no-classes)
-      ∙ ap complete (flat_map-append makes function_nodes (object_nodes file.statics) ∙ ap (λ l. added function_nodes ++ l) (objects-add file.statics (both (list_all is_own file.statics) are_good parts.1).0)
+      ∙ ap complete (flat_map-append makes function_nodes (object_nodes file.statics) ∙ ap (λ l. added function_nodes ++ l) (objects-add file.statics (both (list_all (is_own file.statics) file.statics) are_good parts.1).0)
       ∙ append-nil (added function_nodes))
       ∙ file-complete file valid.file (built-file unit none))
 

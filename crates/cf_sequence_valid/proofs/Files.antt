@@ -24,13 +24,13 @@ use Rattle.cf_sequence.specs.Expressions.{finished}
 use Rattle.cf_sequence.specs.Statements.{type_of_static, initialised}
 use Rattle.cf_sequence.specs.Sequenced.{inside, outside, flowed_off, sequenced_body, sequenced_function, sequenced_start, sequenced_static, sequenced_file}
 use Rattle.cf_sequence.proofs.Calling.{never}
-use Rattle.cf_sequence.proofs.Constants.{constant-initial, constant-start, something-constant, start-adds, start-is}
+use Rattle.cf_sequence.proofs.Constants.{constant-element, constant-object, constant-start, something-constant, start-adds, start-is}
 use Rattle.cf_sequence.proofs.OwnNames.{is_own}
-use Rattle.cf_sequence_valid.proofs.Serves.{as_start, either-true}
+use Rattle.cf_sequence_valid.proofs.Serves.{either-true}
 use Rattle.cf_sequence_valid.proofs.Fine.{Fine, fine-finished}
 use Rattle.cf_sequence_valid.proofs.Stands.{stand-added, Stand, stand-behind, still-there, are_there, is_there, there-two, numbered-there}
 use Rattle.cf_sequence_valid.proofs.Values.{Kept}
-use Rattle.cf_sequence_valid.proofs.Initials.{fine-started}
+use Rattle.cf_sequence_valid.proofs.Lists.{Sound, element-sound}
 use Rattle.cf_sequence_valid.proofs.Statements.{Works, works}
 
 negated : (b : Bool) → not b ≡ true → b ≡ false
@@ -165,7 +165,10 @@ module _ (file : CoreFile) where
   same-objects (x ∷ xs) = ap (λ l. x.name ∷ l) (same-objects xs)
 
   -- Static objects: what sets one is valid, and adds no local.
-  module _ (x : Static) (built : is_built_static x ≡ true) (is : valid.static_fits file x ≡ true) where
+  module _ (x : Static) (built : is_built_static file.statics x ≡ true) (is : valid.static_fits file x ≡ true) where
+    abbrev T : SourceType
+    T = type_of_static file.statics x.name
+
     abbrev outer : Scope
     outer = record { classes = file.classes; statics = file.statics; locals = []; this = None }
 
@@ -173,7 +176,7 @@ module _ (file : CoreFile) where
     alone = record { scope = outer; parameters = 0; result = void; is_main = false }
 
     adds_none : added (nodes x.start) ≡ []
-    adds_none = start-adds x.start (constant-start x built)
+    adds_none = start-adds T x.start (constant-start file.statics x built)
 
     abbrev starting : Bool
     starting = (is_some x.owner && is_nothing x.start) || (typing outer x.start).start x.type
@@ -188,13 +191,13 @@ module _ (file : CoreFile) where
         (λ none. never (sym there_is ∙ (both (is_some x.owner) (is_nothing x.start) none).1)) (λ ok. ok)
 
     set-fits : (b : Bool) → is_nothing x.start ≡ b
-        → checks.all_fit [] false false (if b then nothing else initialised file.classes (type_of_static file.statics x.name) x.name x.start 0 nothing) ≡ true
+        → checks.all_fit [] false false (if b then nothing else initialised file.classes T x.name x.start 0 nothing) ≡ true
     set-fits true e = refl
     set-fits false e =
-        let initial = constant-initial x.start (something-constant x.start (constant-start x built) e) in
+        let element = constant-element T x.start (something-constant T x.start (constant-start file.statics x built) e) in
         Fine.fit
-        (fine-started alone [] (record { kept = λ i t at. absurd (cc) }) {b = false} {c = false} (outside file.classes file.statics) (type_of_static file.statics x.name) x.start
-        initial (λ v. as_start x.type (start-typed e)) 0 0 (subst (Stand [] 0) (sym adds_none) tt))
+        (Sound.code (element-sound alone [] (record { kept = λ i t at. absurd (cc) }) T x.type x.start element (start-typed e)) false false (outside file.classes file.statics) T 0 0
+        (subst (Stand [] 0) (sym adds_none) tt))
         (plain.more (plain.act (plain.finish_static x.name)) nothing) refl
 
     pub static-fits : checks.static_fits (sequenced_file file) (sequenced_static file.classes file.statics x) ≡ true
@@ -202,16 +205,16 @@ module _ (file : CoreFile) where
         ap (λ (ls : List SourceType). is_complete file.classes x.type && completes ls && checks.all_fit ls false false (sequenced_start file.classes file.statics x)) adds_none
         ∙ all_of (is_complete file.classes x.type && true) (checks.all_fit [] false false (sequenced_start file.classes file.statics x))
         (all_of (is_complete file.classes x.type) true there.0 refl)
-        (ap (checks.all_fit [] false false) (start-is file.classes file.statics x built) ∙ set-fits (is_nothing x.start) refl)
+        (ap (checks.all_fit [] false false) (start-is file.classes file.statics x (constant-object file.statics x built)) ∙ set-fits (is_nothing x.start) refl)
 
-  statics-fit : (xs : List Static) → list_all is_own xs ≡ true → list_all (valid.static_fits file) xs ≡ true
+  statics-fit : (xs : List Static) → list_all (is_own file.statics) xs ≡ true → list_all (valid.static_fits file) xs ≡ true
       → list_all (checks.static_fits (sequenced_file file)) (map (sequenced_static file.classes file.statics) xs) ≡ true
   statics-fit [] ok is = refl
   statics-fit (x ∷ xs) ok is =
-      let own = both (is_own x) (list_all is_own xs) ok in
+      let own = both (is_own file.statics x) (list_all (is_own file.statics) xs) ok in
       let parts = both (valid.static_fits file x) (list_all (valid.static_fits file) xs) is in
       all_of (checks.static_fits (sequenced_file file) (sequenced_static file.classes file.statics x)) _
-      (static-fits x (both (is_built_static x) (not (has_mark x.name)) own.0).0 parts.0) (statics-fit xs own.1 parts.1)
+      (static-fits x (both (is_built_static file.statics x) (not (has_mark x.name)) own.0).0 parts.0) (statics-fit xs own.1 parts.1)
 
   -- the objects that are made for calls are of complete types
   pub file-complete : valid.valid_file file ≡ true → is_built_file file ≡ true → completes (added (function_nodes file.functions)) ≡ true
@@ -220,8 +223,8 @@ module _ (file : CoreFile) where
       let names : List Name = map (λ (f : Function). f.name) file.functions ++ map (λ (x : Static). x.name) file.statics in
       let functions_good : Bool = list_all (valid.function_fits file) file.functions in
       let one = both (classes_good && all_differ names && functions_good) (list_all (valid.static_fits file) file.statics) is in
-      let some = both (is_none file.classes) (list_all is_own file.statics && list_all is_built_function file.functions) built in
-      functions-complete file.functions (both (list_all is_own file.statics) (list_all is_built_function file.functions) some.1).1 (both (classes_good && all_differ names) functions_good one.0).1
+      let some = both (is_none file.classes) (list_all (is_own file.statics) file.statics && list_all is_built_function file.functions) built in
+      functions-complete file.functions (both (list_all (is_own file.statics) file.statics) (list_all is_built_function file.functions) some.1).1 (both (classes_good && all_differ names) functions_good one.0).1
 
   pub file-fits : valid.valid_file file ≡ true → is_built_file file ≡ true → checks.valid_file (sequenced_file file) ≡ true
   file-fits is built =
@@ -237,8 +240,8 @@ module _ (file : CoreFile) where
       let same : names_now ≡ names =
       ap (λ l. l ++ map (λ (x : PlainStatic). x.name) (map (sequenced_static file.classes file.statics) file.statics)) (same-names file.functions)
       ∙ ap (λ l. map (λ (f : Function). f.name) file.functions ++ l) (same-objects file.statics) in
-      let some = both (is_none file.classes) (list_all is_own file.statics && list_all is_built_function file.functions) built in
-      let more = both (list_all is_own file.statics) (list_all is_built_function file.functions) some.1 in
+      let some = both (is_none file.classes) (list_all (is_own file.statics) file.statics && list_all is_built_function file.functions) built in
+      let more = both (list_all (is_own file.statics) file.statics) (list_all is_built_function file.functions) some.1 in
       let functions_now : Bool = list_all (checks.function_fits (sequenced_file file)) (map (sequenced_function file.classes file.statics) file.functions) in
       all_of (classes_good && all_differ names_now && functions_now) (list_all (checks.static_fits (sequenced_file file)) (map (sequenced_static file.classes file.statics) file.statics))
       (all_of (classes_good && all_differ names_now) functions_now (all_of classes_good (all_differ names_now) three.0 (ap all_differ same ∙ three.1)) (functions-fit file.functions more.1 two.1))

@@ -172,6 +172,12 @@ module _ (body : Body) (locals : List SourceType) (keeps : Kept body.scope local
         let parts = both (is_element u e) (are_elements u es) ok in
         row-of e es (either-true (is_initial e) (is_list u e) parts.0 (λ initial. initial-sound e initial each.0) (λ is. list-sound u e is each.0)) (elements-sound u es parts.1 each.1)
 
+  -- an initialiser of an object of one type, as it is typed at another
+  pub element-sound : (u t : SourceType) (e : Core) → is_element u e ≡ true → (typing scope e).start t ≡ true → Sound e
+  element-sound u t e ok fit =
+      let begins : Begins e = record { type = t; starts = fit } in
+      either-true (is_initial e) (is_list u e) ok (λ initial. initial-sound e initial begins) (λ is. list-sound u e is begins)
+
   -- ---- the initialisers of locals
 
   -- a local that is declared, as a type that may differ in const
@@ -197,8 +203,7 @@ module _ (body : Body) (locals : List SourceType) (keeps : Kept body.scope local
 
   starts-element : (t : SourceType) (e : Core) → is_element t e ≡ true → (typing scope e).start t ≡ true → StartsWell t e
   starts-element t e ok fit =
-      let begins : Begins e = record { type = t; starts = fit } in
-      let sound = either-true (is_initial e) (is_list t e) ok (λ initial. initial-sound e initial begins) (λ is. list-sound t e is begins) in
+      let sound = element-sound t t e ok fit in
       record {
         complete = Sound.complete sound;
         there = ap (λ (xs : List Local). are_there locals xs) (element-holds t e ok);

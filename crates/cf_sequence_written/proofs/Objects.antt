@@ -24,12 +24,12 @@ use Rattle.cf_plain.specs.Plain as plain
 use Rattle.cf_plain.specs.Numbers as plain_numbers
 use Rattle.cf_plain.specs.View as view
 use Rattle.cf_plain.specs.View.{plains_of}
-use Rattle.cf_sequence.specs.Built.{is_row, is_list, is_built_static, has_mark}
+use Rattle.cf_sequence.specs.Built.{is_row, is_element, is_built_static, has_mark}
 use Rattle.cf_sequence.specs.Made.{width}
 use Rattle.cf_sequence.specs.Statements.{type_of_static, initialised}
 use Rattle.cf_sequence.specs.Statements as definition
 use Rattle.cf_sequence.specs.Sequenced.{sequenced_start, sequenced_static}
-use Rattle.cf_sequence.proofs.Constants.{set_as, start-is, constant-start, something-constant, constant-initial}
+use Rattle.cf_sequence.proofs.Constants.{set_as, start-is, constant-object, constant-start, something-constant, constant-element}
 use Rattle.cf_sequence.proofs.JoinedObjects.{is_among, type-behind}
 use Rattle.cf_sequence.proofs.OwnNames.{is_own}
 use Rattle.cf_sequence.proofs.StaticObjects.{type_found}
@@ -103,7 +103,7 @@ own-type before x after ok =
 
 module _ (tables : Tables) (params : (t : ℕ) → map (type_of tables) (parameters_at tables.types t) ≡ parameters (type_of tables t))
     (rows : (t : ℕ) → is_row (type_of tables t) ≡ true → RowOf tables t) (classes : List Class) (statics : List Static)
-    (alloc : Global) (x : CoreStatic) (built : is_built_static (static_of tables x) ≡ true) (typed : type_of_static statics x.name ≡ type_of tables x.ty) where
+    (alloc : Global) (x : CoreStatic) (built : is_built_static statics (static_of tables x) ≡ true) (typed : type_of_static statics x.name ≡ type_of tables x.ty) where
   abbrev signature : MemberRef → Name
   signature = signature_of tables
 
@@ -123,7 +123,10 @@ module _ (tables : Tables) (params : (t : ℕ) → map (type_of tables) (paramet
   initial = (step tables.types x.start).initial
 
   object : is_nothing X.start ≡ false → Initiates tables signature initial p x.ty X.start
-  object e = initiates tables signature params rows x.start written x.ty (ap (λ b. b || is_list T X.start) (constant-initial X.start (something-constant X.start (constant-start X built) e)))
+  object e =
+      let t : SourceType = type_of_static statics x.name in
+      initiates tables signature params rows x.start written x.ty
+      (subst (λ t. is_element t X.start ≡ true) typed (constant-element t X.start (something-constant t X.start (constant-start statics X built) e)))
 
   blank-is : is_blank initial ≡ is_nothing X.start
   blank-is = as-found tables signature initial X.start (Stated.initial written)
@@ -150,7 +153,7 @@ module _ (tables : Tables) (params : (t : ℕ) → map (type_of tables) (paramet
       ap (λ b. plains_of tables signature (Writing.code (if b then blank_writing alloc else put_there))) blank-is
       ∙ start-as (is_nothing X.start) refl
       ∙ ap (set_as classes X) (sym typed)
-      ∙ sym (start-is classes statics X built)
+      ∙ sym (start-is classes statics X (constant-object statics X built))
 
   pub object-is : view.static_of tables (written_object tables.types alloc x) ≡ sequenced_static classes statics X
   unfolding written_object
@@ -170,27 +173,25 @@ module _ (tables : Tables) (params : (t : ℕ) → map (type_of tables) (paramet
   later (y ∷ ys) x after = ap (λ (zs : List Static). y ∷ zs) (later ys x after)
 
   -- of those behind others
-  objects-behind : (before : List Static) (xs : List CoreStatic) → list_all is_own (cores xs) ≡ true → all_differ (names_of (before ++ cores xs)) ≡ true
-      → map (view.static_of tables) (map (written_object tables.types alloc) xs) ≡ map (sequenced_static classes (before ++ cores xs)) (cores xs)
-  objects-behind before [] ok differ = refl
-  objects-behind before (x ∷ xs) ok differ =
-      let parts = both (is_own (static_of tables x)) (list_all is_own (cores xs)) ok in
-      let all = before ++ cores (x ∷ xs) in
-      let moved = later before (static_of tables x) (cores xs) in
+  objects-behind : (all before : List Static) (xs : List CoreStatic) → all ≡ before ++ cores xs → list_all (is_own all) (cores xs) ≡ true → all_differ (names_of all) ≡ true
+      → map (view.static_of tables) (map (written_object tables.types alloc) xs) ≡ map (sequenced_static classes all) (cores xs)
+  objects-behind all before [] is ok differ = refl
+  objects-behind all before (x ∷ xs) is ok differ =
+      let parts = both (is_own all (static_of tables x)) (list_all (is_own all) (cores xs)) ok in
       ap (λ (y : PlainStatic). y ∷ map (view.static_of tables) (map (written_object tables.types alloc) xs))
-      (object-is tables params rows classes all alloc x (both (is_built_static (static_of tables x)) (not (has_mark x.name)) parts.0).0
-      (own-type before (static_of tables x) (cores xs) (sym (ap all_differ (names-two before (cores (x ∷ xs)))) ∙ differ)))
+      (object-is tables params rows classes all alloc x (both (is_built_static all (static_of tables x)) (not (has_mark x.name)) parts.0).0
+      (ap (λ zs. type_of_static zs x.name) is
+      ∙ own-type before (static_of tables x) (cores xs) (sym (ap all_differ (names-two before (cores (x ∷ xs)))) ∙ ap (λ zs. all_differ (names_of zs)) (sym is) ∙ differ)))
       ∙ ap (λ (ys : List PlainStatic). sequenced_static classes all (static_of tables x) ∷ ys)
-      (objects-behind (before ++ static_of tables x ∷ []) xs parts.1 (ap (λ zs. all_differ (names_of zs)) (sym moved) ∙ differ)
-      ∙ ap (λ zs. map (sequenced_static classes zs) (cores xs)) (sym moved))
+      (objects-behind all (before ++ static_of tables x ∷ []) xs (is ∙ later before (static_of tables x) (cores xs)) parts.1 differ)
     where
       names-two : (xs ys : List Static) → names_of (xs ++ ys) ≡ names_of xs ++ names_of ys
       names-two [] ys = refl
       names-two (x ∷ xs) ys = ap (λ (ns : List Name). x.name ∷ ns) (names-two xs ys)
 
-  pub objects-are : (xs : List CoreStatic) (functions : List Name) → list_all is_own (cores xs) ≡ true → all_differ (functions ++ names_of (cores xs)) ≡ true
+  pub objects-are : (xs : List CoreStatic) (functions : List Name) → list_all (is_own (cores xs)) (cores xs) ≡ true → all_differ (functions ++ names_of (cores xs)) ≡ true
       → map (view.static_of tables) (map (written_object tables.types alloc) xs) ≡ map (sequenced_static classes (cores xs)) (cores xs)
-  objects-are xs functions ok differ = objects-behind [] xs ok (differ-right functions (names_of (cores xs)) differ)
+  objects-are xs functions ok differ = objects-behind (cores xs) [] xs refl ok (differ-right functions (names_of (cores xs)) differ)
 
 -- ---- numbers of types
 

@@ -1,6 +1,6 @@
 -- A file is built where the test finds nothing in it.
 use Rattle.std.proofs.Common.{◌≡◌, ℕ, suc, ◌==◌, Bool, true, false, not, ◌&&◌, ◌||◌, List, [], ◌∷◌, map, length, Option, Some, None, refl, ap, sym, ◌∙◌, arith}
-use Rattle.std.specs.Prelude.{is_some, bytes_eq, codes, if◌then◌else◌}
+use Rattle.std.specs.Prelude.{is_some, bytes_eq, codes, cond, find, if◌then◌else◌}
 use Rattle.std.specs.List.{list_all}
 use Rattle.std.proofs.lemmas.Bool.{eqb-true}
 use Rattle.std.proofs.lemmas.List.{length-map}
@@ -9,7 +9,7 @@ use Rattle.cf_core.specs.declared.unit.CoreFn.{CoreFn}
 use Rattle.cf_core.specs.declared.unit.CoreStatic.{CoreStatic}
 use Rattle.cf_core.specs.declared.unit.Role.{Role}
 use Rattle.cf_core.specs.declared.unit.Role.TheVariants as role
-use Rattle.cf_core.specs.Types.{SourceType, gives, parameters, is_class}
+use Rattle.cf_core.specs.Types.{Name, SourceType, void, gives, parameters, is_class}
 use Rattle.cf_core.specs.Core.{Function, Static}
 use Rattle.cf_core.specs.Joined.{is_nothing}
 use Rattle.cf_core.specs.Places.{is_reference}
@@ -17,11 +17,13 @@ use Rattle.cf_core.specs.NodePlace.{place}
 use Rattle.cf_core.specs.FromTypes.{Tables, type_of, taking}
 use Rattle.cf_core.specs.FromClasses.{signature_of, classes_in}
 use Rattle.cf_core.specs.FromUnit.{Unit as CoreUnit, tables_of, file_of, function_of, static_of, role_of}
-use Rattle.cf_sequence.specs.Built.{is_statement, is_filling, is_chain, is_plain_role, is_none, is_built_function, is_built_static, is_built_file, begins_mark, has_mark}
+use Rattle.cf_sequence.specs.Built.{is_statement, is_chain, is_plain_role, is_none, is_built_function, is_built_static, is_built_file, begins_mark, has_mark}
+use Rattle.cf_sequence.specs.Statements.{type_of_static}
+use Rattle.cf_sequence.proofs.StaticObjects.{type_found}
 use Rattle.cf_sequence_built.specs.Unbuilt as unbuilt
-use Rattle.cf_sequence_built.specs.Unbuilt.{test, is_plain, takes_nothing, is_usual, in_function, in_functions, is_constant, is_usual_object, in_static, in_statics, in_file}
+use Rattle.cf_sequence_built.specs.Unbuilt.{Test, test, is_plain, takes_nothing, is_usual, in_function, in_functions, constant, sets, type_named, is_usual_object, in_static, in_statics, in_file}
 use Rattle.cf_sequence_written.proofs.Parameters.{parameters-taking, result-taking}
-use Rattle.cf_sequence_written.proofs.Constants.{constant-is}
+use Rattle.cf_sequence_written.proofs.Constants.{sets-is, told}
 use Rattle.cf_sequence_written.proofs.Tested.{clear, and-is, where-true, Tests, tested}
 
 some-first : (n : ℕ) → (suc n == 0) ≡ false
@@ -85,27 +87,44 @@ module _ (tables : Tables) where
   functions-are [] = refl
   functions-are (f ∷ fs) = and-is (in_function tables f) (in_functions tables fs) _ _ (function-is f) (functions-are fs)
 
-  abbrev is_own : Static → Bool
-  is_own x = is_built_static x && not (has_mark x.name)
+  abbrev is_own : List Static → Static → Bool
+  is_own all x = is_built_static all x && not (has_mark x.name)
+
+  abbrev found_type : Option CoreStatic → SourceType
+  found_type None = void
+  found_type (Some x) = type_of tables x.ty
+
+  abbrev statics_of : List CoreStatic → List Static
+  statics_of xs = map (static_of tables) xs
+
+  picked : (b : Bool) (x : CoreStatic) (new : Option CoreStatic) (old : Option Static) → found_type new ≡ type_found old → found_type (cond b (Some x) new) ≡ type_found (cond b (Some (static_of tables x)) old)
+  picked true x new old e = refl
+  picked false x new old e = e
+
+  named-is : (xs : List CoreStatic) (name : Name) → type_named tables xs name ≡ type_of_static (statics_of xs) name
+  named-is [] name = refl
+  named-is (x ∷ xs) name =
+      picked (bytes_eq x.name name) x (find (λ (y : CoreStatic). bytes_eq y.name name) xs) (find (λ (y : Static). bytes_eq y.name name) (statics_of xs)) (named-is xs name)
 
   mark-is : (bytes : List ℕ) → unbuilt.has_mark bytes ≡ has_mark bytes
   mark-is [] = refl
   mark-is (b ∷ rest) = ap (λ v. begins_mark (b ∷ rest) || v) (mark-is rest)
 
-  object-is : (x : CoreStatic) → clear (in_static tables x) ≡ is_own (static_of tables x)
-  object-is x =
+  object-is : (all : List CoreStatic) (x : CoreStatic) → clear (in_static tables all x) ≡ is_own (statics_of all) (static_of tables x)
+  object-is all x =
       let X : Static = static_of tables x in
-      let no_reference : Bool = not (is_reference (type_of tables x.ty)) in
-      where-false (place x.start) (is_usual_object tables x)
-      ∙ ap (λ m. x.is_constant && (no_reference && (((test tables x.start).is_blank || ((test tables x.start).is_filling || is_constant x.start)) && not m))) (mark-is x.name)
-      ∙ object-parts x.is_constant no_reference ((test tables x.start).is_blank || ((test tables x.start).is_filling || is_constant x.start)) (not (has_mark x.name))
-      ∙ ap (λ b. (x.is_constant && (no_reference && (b || ((test tables x.start).is_filling || is_constant x.start)))) && not (has_mark x.name)) (Tests.blank (tested tables (signature_of tables) x.start))
-      ∙ ap (λ b. (x.is_constant && (no_reference && (is_nothing X.start || (b || is_constant x.start)))) && not (has_mark x.name)) (Tests.filling (tested tables (signature_of tables) x.start))
-      ∙ ap (λ b. (x.is_constant && (no_reference && (is_nothing X.start || (is_filling X.start || b)))) && not (has_mark x.name)) (constant-is tables (signature_of tables) x.start)
+      let known : Test = test tables x.start in
+      let T : SourceType = type_of_static (statics_of all) x.name in
+      where-false (place x.start) (is_usual_object tables all x)
+      ∙ ap (λ t. x.is_constant && (not (is_reference t) && ((known.is_blank || sets t (constant x.start)) && not (unbuilt.has_mark x.name)))) (named-is all x.name)
+      ∙ ap (λ m. x.is_constant && (not (is_reference T) && ((known.is_blank || sets T (constant x.start)) && not m))) (mark-is x.name)
+      ∙ object-parts x.is_constant (not (is_reference T)) (known.is_blank || sets T (constant x.start)) (not (has_mark x.name))
+      ∙ ap (λ b. (x.is_constant && (not (is_reference T) && (b || sets T (constant x.start)))) && not (has_mark x.name)) (Tests.blank (tested tables (signature_of tables) x.start))
+      ∙ ap (λ b. (x.is_constant && (not (is_reference T) && (is_nothing X.start || b))) && not (has_mark x.name)) (sets-is (constant x.start) X.start (told tables (signature_of tables) x.start) T)
 
-  statics-are : (xs : List CoreStatic) → clear (in_statics tables xs) ≡ list_all is_own (map (static_of tables) xs)
-  statics-are [] = refl
-  statics-are (x ∷ xs) = and-is (in_static tables x) (in_statics tables xs) _ _ (object-is x) (statics-are xs)
+  statics-are : (all xs : List CoreStatic) → clear (in_statics tables all xs) ≡ list_all (is_own (statics_of all)) (statics_of xs)
+  statics-are all [] = refl
+  statics-are all (x ∷ xs) = and-is (in_static tables all x) (in_statics tables all xs) _ _ (object-is all x) (statics-are all xs)
 
   classes-are : (ds : List (ℕ × ClassDef)) → (length ds == 0) ≡ is_none (classes_in tables ds)
   classes-are [] = refl
@@ -114,9 +133,9 @@ module _ (tables : Tables) where
 file-clear : (unit : CoreUnit) → clear (in_file unit) ≡ is_built_file (file_of unit)
 file-clear unit =
     let tables = tables_of unit in
-    let good = and-is (in_statics tables unit.statics) (in_functions tables unit.functions) _ _ (statics-are tables unit.statics) (functions-are tables unit.functions) in
+    let good = and-is (in_statics tables unit.statics unit.statics) (in_functions tables unit.functions) _ _ (statics-are tables unit.statics unit.statics) (functions-are tables unit.functions) in
     where-true 0 (length unit.classes.defined == 0) _ _ good
-    ∙ ap (λ b. b && (list_all (is_own tables) (file_of unit).statics && list_all is_built_function (file_of unit).functions)) (classes-are tables unit.classes.defined)
+    ∙ ap (λ b. b && (list_all (is_own tables (file_of unit).statics) (file_of unit).statics && list_all is_built_function (file_of unit).functions)) (classes-are tables unit.classes.defined)
 
 found : (o : Option ℕ) → is_some o ≡ not (clear o)
 found None = refl

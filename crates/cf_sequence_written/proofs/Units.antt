@@ -57,8 +57,8 @@ module _ (alloc : Global) (frames : List ℕ) (unit : Unit) (valid : IsValid uni
 
   pub file-is : plain.file_of (written_unit alloc frames unit) ≡ sequenced_file (file_of unit)
   file-is =
-      let one = both (is_none classes) (list_all is_own statics && list_all is_built_function (file_of unit).functions) built in
-      let two = both (list_all is_own statics) (list_all is_built_function (file_of unit).functions) one.1 in
+      let one = both (is_none classes) (list_all (is_own statics) statics && list_all is_built_function (file_of unit).functions) built in
+      let two = both (list_all (is_own statics) statics) (list_all is_built_function (file_of unit).functions) one.1 in
       ap (λ (fs : List PlainFunction). record (plain.file_of (written_unit alloc frames unit)) { functions = fs }) (functions-are unit.functions two.1)
       ∙ ap (λ (xs : List PlainStatic). record (sequenced_file (file_of unit)) { statics = xs })
       (objects-are tables (parameters-are tables valid.names) (rows-are tables valid.names) classes alloc unit.statics (map (λ (f : Function). f.name) (file_of unit).functions) two.0 names-differ)
