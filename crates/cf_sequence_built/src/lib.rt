@@ -3,6 +3,7 @@
 //! `specs/Unbuilt` has the place node by node.
 #![tactic(auto)]
 
+mod arms;
 mod files;
 mod statements;
 mod types;
