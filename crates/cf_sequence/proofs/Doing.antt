@@ -25,7 +25,7 @@ use Rattle.cf_plain.specs.Acts.{Registers}
 use Rattle.cf_plain.specs.Running as running
 use Rattle.cf_plain.specs.Running.{Flow, Falls, Breaks, Continues, Returns, keep, falling, turning, all}
 use Rattle.cf_sequence.specs.Follows.{Follows}
-use Rattle.cf_sequence.specs.Built.{is_value, is_initial, is_list, is_element, is_held, is_chain, next_local, next_locals, declares_here, is_statement, is_inner_or, are_cases, are_statements}
+use Rattle.cf_sequence.specs.Built.{is_value, is_initial, is_list, is_element, is_held, is_chain, behind_declared, next_local, next_locals, declares_here, is_statement, is_statement_or, are_cases, are_statements, declares_last, or_declares_last, all_declare_last, none_declares}
 use Rattle.cf_sequence.specs.Made.{Local, added, width, width_maybe, declared, declared_all, held_by}
 use Rattle.cf_sequence.specs.Expressions.{finished, whole, value, used as use_of}
 use Rattle.cf_sequence.specs.Statements.{statement, statement_or, statements, started, returned}
@@ -40,7 +40,7 @@ use Rattle.cf_sequence.proofs.Elements.{nested-steps}
 use Rattle.cf_sequence.proofs.Moving.{all_gone, Held, held-kept, held-append, finished-steps, Moved, moved-count, moved-then, with_scope, Beyond}
 use Rattle.cf_sequence.proofs.Fulls.{nothing-is, full-steps, condition-steps, used-steps}
 use Rattle.cf_sequence.proofs.Standing.{Open, inside_of, opened, Stands, stands-later, moved-all, settled_full, result_act, behind-element, next-more, low-bound, Turns}
-use Rattle.cf_sequence.proofs.Scopes.{Ways, ways-later, Fallen, fall-on, closing_scope, moved-out, block-ways, close-steps, Does, by-or, behind, arm-steps, stands-on}
+use Rattle.cf_sequence.proofs.Scopes.{Ways, ways-later, Fallen, FallenAt, fallen, fall-on, closing_scope, moved-out, block-ways, close-steps, DoesAt, does-first, by-or, behind, arm-steps, stands-on}
 use Rattle.cf_sequence.proofs.Passing.{declared-state, declared-moved, low-number}
 use Rattle.cf_sequence.proofs.References.{declared-ready, held-declaration}
 use Rattle.cf_sequence.proofs.Switching.{DoAll, switch-steps}
@@ -110,23 +110,23 @@ module _ (again : calling.Again) (again' : running.Again) (P : Program) (bodies 
       (local-steps T e ok o k rest h1 s1 f1 w (λ u. frame_changed (lists_in_scope o) >>= (λ u. c calling.Falls)) K (keep-same 0 g (At (root o))) (declared-ready i k o s.frame f st.ready) room (intact-now i T s)
       (λ t h f2 w2 same kept. declared-falls i k o T m op D rest s f c K st le lt (held_by e) (element-holds T e ok) falls t f2 h w2 same kept)))
 
-  abbrev DoesMaybe : MaybeCore → Type 0
-  DoesMaybe absent = Unit {0}
-  DoesMaybe (given s) = (Does again again' P bodies chains classless turns R C plain-result A B S) s
+  abbrev DoesMaybe : Bool → MaybeCore → Type 0
+  DoesMaybe last absent = Unit {0}
+  DoesMaybe last (given s) = (DoesAt again again' P bodies chains classless turns R C plain-result A B S) last s
 
   -- one arm or the other
-  one-arm : (t : Bool) (a : Core) (b : MaybeCore) → (Does again again' P bodies chains classless turns R C plain-result A B S) a → DoesMaybe b → (m : ℕ) → not (declares_here a) ≡ true → is_statement m a ≡ true → is_inner_or m b ≡ true
+  one-arm : (last t : Bool) (a : Core) (b : MaybeCore) → (DoesAt again again' P bodies chains classless turns R C plain-result A B S) last a → DoesMaybe last b → (last || not (declares_here a)) ≡ true → or_declares_last last b ≡ true
+      → (m : ℕ) → is_statement m a ≡ true → is_statement_or m b ≡ true
       → (o : Open) (D : Beyond) (k l n : ℕ) (rest : Plains) (h : Registers) (s : State) (f : Frame) (u : State) (g : Frame) (w : World) (c : calling.Flow → Act A) (K : Flow → Act B)
-      → Stands o D m k s f → Moved m s f u g → Stands o D m l u g → Stands o D m n u g → l + width a ≤ g.count → n + width_maybe b ≤ g.count → (Ways again again' P bodies chains classless turns R C plain-result A B S) D m s f c K → (Fallen again again' P bodies chains classless turns R C plain-result A B S) m o.here m c K rest s f
+      → Stands o D m k s f → Moved m s f u g → Stands o D m l u g → Stands o D m n u g → l + width a ≤ g.count → n + width_maybe b ≤ g.count → (Ways again again' P bodies chains classless turns R C plain-result A B S) D m s f c K → (FallenAt again again' P bodies chains classless turns R C plain-result A B S) last m o.here m c K rest s f
       → Follows S (and_then (when t (does.does again P a) (does.does_maybe again P b) u w) (on c))
-      (runs_on again' (H again again' P) (pick t (statement (inside_of P R C o) a l nothing) (statement_or (inside_of P R C o) b n nothing)) h ((behind again again' P bodies chains classless turns R C plain-result A B S) rest K) (with_frame g u) w)
-  one-arm true a b does-a does-b m inner ok ok-b o D k l n rest h s f u g w c K st v st1 st2 room-a room-b ways falls =
-      (arm-steps again again' P bodies chains classless turns R C plain-result A B S) a does-a m inner ok o D k l rest h s f u g w c K st v st1 room-a ways falls
-  one-arm false a absent does-a does-b m inner ok ok-b o D k l n rest h s f u g w c K st v st1 st2 room-a room-b ways falls =
-      falls u g h w v st2.here st2.low
-  one-arm false a (given s1) does-a does-b m inner ok ok-b o D k l n rest h s f u g w c K st v st1 st2 room-a room-b ways falls =
-      let parts = both (not (declares_here s1)) (is_statement m s1) ok-b in
-      (arm-steps again again' P bodies chains classless turns R C plain-result A B S) s1 does-b m parts.0 parts.1 o D k n rest h s f u g w c K st v st2 room-b ways falls
+      (runs_on again' (H again again' P) (pick t (statement (inside_of P R C o) a l (finished (declared a) nothing)) (statement_or (inside_of P R C o) b n nothing)) h ((behind again again' P bodies chains classless turns R C plain-result A B S) rest K) (with_frame g u) w)
+  one-arm last true a b does-a does-b placed placed-b m ok ok-b o D k l n rest h s f u g w c K st v st1 st2 room-a room-b ways falls =
+      (arm-steps again again' P bodies chains classless turns R C plain-result A B S) last a does-a placed m ok o D k l rest h s f u g w c K st v st1 room-a ways falls
+  one-arm last false a absent does-a does-b placed placed-b m ok ok-b o D k l n rest h s f u g w c K st v st1 st2 room-a room-b ways falls =
+      falls u g h w v [] u.frame.scope refl (λ e. refl) st2.here st2.low
+  one-arm last false a (given s1) does-a does-b placed placed-b m ok ok-b o D k l n rest h s f u g w c K st v st1 st2 room-a room-b ways falls =
+      (arm-steps again again' P bodies chains classless turns R C plain-result A B S) last s1 does-b (both (last || not (declares_here s1)) (declares_last last s1) placed-b).0 m ok-b o D k n rest h s f u g w c K st v st2 room-b ways falls
 
   -- ---- returns
 
@@ -157,8 +157,9 @@ module _ (again : calling.Again) (again' : running.Again) (P : Program) (bodies 
   -- ---- statements
 
   mutual
-    pub follow-statement : (st : Core) → (Does again again' P bodies chains classless turns R C plain-result A B S) st
-    follow-statement (core.full e) m ok o D k rest g s f w c K st room ways falls =
+    pub follow-statement : (st : Core) (last : Bool) → declares_last last st ≡ true → (DoesAt again again' P bodies chains classless turns R C plain-result A B S) last st
+    follow-statement (core.full e) last placed m ok o D k rest g s f w c K st room ways falls-at =
+        let falls = (fallen again again' P bodies chains classless turns R C plain-result A B S) last m o.here m c K rest s f falls-at in
         (by-or again again' P bodies chains classless turns R C plain-result A B S) (is_nothing e) (is_value e) ok
         (λ blank.
         subst (λ e. Follows S (and_then ((full_expression again P (meaning.value again P e None) >> gives calling.Falls) s w) (on c))
@@ -168,10 +169,11 @@ module _ (again : calling.Again) (again' : running.Again) (P : Program) (bodies 
         pull (full_expression again P (meaning.value again P e None) s w) (λ u. gives calling.Falls) c _
         (full-steps again again' P bodies chains classless A B S e is None None 0 k (λ n. rest) g s f w (λ v. c calling.Falls) K st.ready room (λ v t h f1 w1 done.
         (fall-on again again' P bodies chains classless turns R C plain-result A B S) o D m k c K rest s f st falls t f1 h w1 done.frame done.kept)))
-    follow-statement (core.block es) m ok o D k rest g s f w c K st room ways falls =
+    follow-statement (core.block es) last placed m ok o D k rest g s f w c K st room ways falls-at =
+        let falls = (fallen again again' P bodies chains classless turns R C plain-result A B S) last m o.here m c K rest s f falls-at in
         let D1 : Beyond = record { breaks = s.frame.scope ++ D.breaks; continues = s.frame.scope ++ D.continues; returns = s.frame.scope ++ D.returns } in
         pull (does.does_all again P es (with_scope [] s) w) ((closing_scope again again' P bodies chains classless turns R C plain-result A B S) s.frame.scope) c _
-        (follow-statements es m ok (opened o) D1 k (finished (declared_all es) rest) g (with_scope [] s) f w (λ flow. (closing_scope again again' P bodies chains classless turns R C plain-result A B S) s.frame.scope flow >>= c) K
+        (follow-statements es true placed m ok (opened o) D1 k (finished (declared_all es) rest) g (with_scope [] s) f w (λ flow. (closing_scope again again' P bodies chains classless turns R C plain-result A B S) s.frame.scope flow >>= c) K
         (record {
           ready = record { alike = record { function = st.ready.alike.function; this = st.ready.alike.this; result = st.ready.alike.result; depth = st.ready.alike.depth }; count = st.ready.count; wide = st.ready.wide; locals = st.ready.locals };
           low = st.low;
@@ -181,13 +183,14 @@ module _ (again : calling.Again) (again' : running.Again) (P : Program) (bodies 
           continues = held-append f.locals m o.here o.continues s.frame.scope D.continues st.here st.continues;
           returns = held-append f.locals m o.here o.returns s.frame.scope D.returns st.here st.returns;
         })
-        room ((block-ways again again' P bodies chains classless turns R C plain-result A B S) D m s f c K ways) (λ t g1 h w1 v held-now low.
-        (close-steps again again' P bodies chains classless turns R C plain-result A B S) m (next_locals m es) (declared_all es) s f s.frame.scope rest c K calling.Falls t g1 h w1 held-now
+        room ((block-ways again again' P bodies chains classless turns R C plain-result A B S) D m s f c K ways) (λ t g1 h w1 v ps qs split early held-now low.
+        (close-steps again again' P bodies chains classless turns R C plain-result A B S) (next_locals m es) (declared_all es) s.frame.scope rest c K calling.Falls t g1 h w1 ps qs split held-now
         (falls (with_scope s.frame.scope (all_gone t.frame.scope t)) g1 h w1 ((moved-out again again' P bodies chains classless turns R C plain-result A B S) m s f t g1 v)
         (held-kept f.locals g1.locals m m o.here s.frame.scope st.here (omega arith) v.below)
         (let a = moved-count m s f (with_scope s.frame.scope (all_gone t.frame.scope t)) g1 ((moved-out again again' P bodies chains classless turns R C plain-result A B S) m s f t g1 v) in let b = st.low in omega arith))))
-    follow-statement (core.sequence es) m ok o D k rest g s f w c K st room ways falls = follow-statements es m ok o D k rest g s f w c K st room ways falls
-    follow-statement (core.declare i T e) m ok o D k rest g s f w c K st room ways falls =
+    follow-statement (core.sequence es) last placed m ok o D k rest g s f w c K st room ways falls = follow-statements es last placed m ok o D k rest g s f w c K st room ways falls
+    follow-statement (core.declare i T e) last placed m ok o D k rest g s f w c K st room ways falls-at =
+        let falls = (fallen again again' P bodies chains classless turns R C plain-result A B S) last (behind_declared i e) ((record { number = i; type = T } ∷ held_by e) ++ o.here) m c K rest s f falls-at in
         let parts = both (nat_le m i) (is_element T e || is_held i e) ok in
         pull (does.declares again P i T e s w) (λ u. gives calling.Falls) c _
         (pull (new_local i T s w) (λ x. settled_full again P (root x) e >> frame_changed (lists_in_scope x)) (λ u. c calling.Falls) _
@@ -197,76 +200,91 @@ module _ (again : calling.Again) (again' : running.Again) (P : Program) (bodies 
         (subst (λ n. (Fallen again again' P bodies chains classless turns R C plain-result A B S) n ((record { number = i; type = T } ∷ held_by e) ++ o.here) m c K rest s f) (behind-element T i e initial) falls)
         (nat_lt i s.frame.count) refl)
         (λ held. held-declaration again again' P bodies chains classless turns R C plain-result A B S i T e m parts.0 held o D k rest g s f w c K st room falls (nat_lt i s.frame.count) refl)))
-    follow-statement (core.branch q a b) m ok o D k rest g s f w c K st room ways falls =
-        let parts = both (is_value q) ((not (declares_here a) && is_statement m a) && is_inner_or m b) ok in
-        let arms = both (not (declares_here a) && is_statement m a) (is_inner_or m b) parts.1 in
-        let left = both (not (declares_here a)) (is_statement m a) arms.0 in
+    follow-statement (core.branch q a b) last placed m ok o D k rest g s f w c K st room ways falls =
+        let parts = both (is_value q) (is_statement m a && is_statement_or m b) ok in
+        let arms = both (is_statement m a) (is_statement_or m b) parts.1 in
+        let sides = both ((last || not (declares_here a)) && declares_last last a) (or_declares_last last b) placed in
+        let left = both (last || not (declares_here a)) (declares_last last a) sides.0 in
         let two-room : k + length (added (nodes q ++ nodes a)) ≤ f.count = first-room k f.count (nodes q ++ nodes a) (nodes_maybe b) room in
         let last-room : (k + width q + width a) + width_maybe b ≤ f.count =
         (let x = added-two (nodes q) (nodes a) in let y = (maybe-width again again' P bodies chains classless turns R C plain-result A B S) b in let r = second-room k f.count (nodes q ++ nodes a) (nodes_maybe b) room in omega arith) in
-        let yes-code : Plains = statement (inside_of P R C o) a (k + width q) nothing in
+        let yes-code : Plains = statement (inside_of P R C o) a (k + width q) (finished (declared a) nothing) in
         let no-code : Plains = statement_or (inside_of P R C o) b (k + width q + width a) nothing in
         pull (full_expression again P (meaning.value again P q None >>= truth_of) s w) (λ t. when t (does.does again P a) (does.does_maybe again P b)) c _
         (condition-steps again again' P bodies chains classless A B S q parts.0 k (λ n. more (branch n yes-code no-code) rest) g s f w
         (λ t. when t (does.does again P a) (does.does_maybe again P b) >>= c) K st.ready (first-room k f.count (nodes q) (nodes a) two-room) (λ t u h f1 w1 at same kept.
         let later = (stands-on again again' P bodies chains classless turns R C plain-result A B S) o D m k (k + width q) s f u f1 st same kept (omega arith) (first-room k f.count (nodes q) (nodes a) two-room) in
-        let last = (stands-on again again' P bodies chains classless turns R C plain-result A B S) o D m k (k + width q + width a) s f u f1 st same kept (omega arith) (second-room k f.count (nodes q) (nodes a) two-room) in
+        let other = (stands-on again again' P bodies chains classless turns R C plain-result A B S) o D m k (k + width q + width a) s f u f1 st same kept (omega arith) (second-room k f.count (nodes q) (nodes a) two-room) in
         let count : f1.count ≡ f.count = ap (λ (x : Frame). x.count) kept.frame in
         branch-steps again' (H again again' P) t (0 + width q) yes-code no-code rest h K _ (with_frame f1 u) w1 at
-        (one-arm t a b (follow-statement a) (follow-maybe b) m left.0 left.1 arms.1 o D k (k + width q) (k + width q + width a) rest h s f u f1 w1 c K st later.0 later.1 last.1
+        (one-arm last t a b (follow-statement a last left.1) (follow-maybe b last sides.1) left.0 sides.1 m arms.0 arms.1 o D k (k + width q) (k + width q + width a) rest h s f u f1 w1 c K st later.0 later.1 other.1
         (let r = second-room k f.count (nodes q) (nodes a) two-room in omega arith) (omega arith) ways falls)))
-    follow-statement (core.loop form.While q e body) m ok o D k rest g s f w c K st room ways falls =
+    follow-statement (core.loop form.While q e body) last placed m ok o D k rest g s f w c K st room ways falls-at =
+        let falls = (fallen again again' P bodies chains classless turns R C plain-result A B S) last m o.here m c K rest s f falls-at in
         (loop-whole again again' P bodies chains classless turns R C plain-result A B S) form.While q e body m rest g (with_frame f s) w c K o k
         (does.holds again P q >>= (λ t. when t (in_scope again P (does.does again P body) >>= does.turning (does.step_and again P e (again (turn (core.loop form.While q e body))))) (gives calling.Falls))) s
-        (λ w. (loop-first again again' P bodies chains classless turns R C plain-result A B S) q e body (follow-statement body) form.While m ok o D k rest g s f w c K st room ways falls refl refl)
-    follow-statement (core.loop form.For q e body) m ok o D k rest g s f w c K st room ways falls =
+        (λ w. (loop-first again again' P bodies chains classless turns R C plain-result A B S) q e body (follow-statement body true placed) form.While m ok placed o D k rest g s f w c K st room ways falls refl refl)
+    follow-statement (core.loop form.For q e body) last placed m ok o D k rest g s f w c K st room ways falls-at =
+        let falls = (fallen again again' P bodies chains classless turns R C plain-result A B S) last m o.here m c K rest s f falls-at in
         (loop-whole again again' P bodies chains classless turns R C plain-result A B S) form.For q e body m rest g (with_frame f s) w c K o k
         (does.holds again P q >>= (λ t. when t (in_scope again P (does.does again P body) >>= does.turning (does.step_and again P e (again (turn (core.loop form.For q e body))))) (gives calling.Falls))) s
-        (λ w. (loop-first again again' P bodies chains classless turns R C plain-result A B S) q e body (follow-statement body) form.For m ok o D k rest g s f w c K st room ways falls refl refl)
-    follow-statement (core.loop form.Do q e body) m ok o D k rest g s f w c K st room ways falls =
+        (λ w. (loop-first again again' P bodies chains classless turns R C plain-result A B S) q e body (follow-statement body true placed) form.For m ok placed o D k rest g s f w c K st room ways falls refl refl)
+    follow-statement (core.loop form.Do q e body) last placed m ok o D k rest g s f w c K st room ways falls-at =
+        let falls = (fallen again again' P bodies chains classless turns R C plain-result A B S) last m o.here m c K rest s f falls-at in
         (loop-whole again again' P bodies chains classless turns R C plain-result A B S) form.Do q e body m rest g (with_frame f s) w c K o k
         (in_scope again P (does.does again P body) >>= does.turning (does.holds again P q >>= (λ t. when t (again (turn (core.loop form.Do q e body))) (gives calling.Falls)))) s
-        (λ w. (loop-last again again' P bodies chains classless turns R C plain-result A B S) q e body (follow-statement body) m ok o D k rest g s f w c K st room ways falls)
-    follow-statement (core.switch e es) m ok o D k rest g s f w c K st room ways falls =
+        (λ w. (loop-last again again' P bodies chains classless turns R C plain-result A B S) q e body (follow-statement body true placed) m ok placed o D k rest g s f w c K st room ways falls)
+    follow-statement (core.switch e es) last placed m ok o D k rest g s f w c K st room ways falls-at =
+        let falls = (fallen again again' P bodies chains classless turns R C plain-result A B S) last m o.here m c K rest s f falls-at in
         let parts = both (is_value e) (are_cases m es) ok in
-        switch-steps again again' P bodies chains classless turns R C plain-result A B S e es (follow-cases es) m parts.0 parts.1 o D k rest g s f w c K st room ways falls
-    follow-statement core.leave m ok o D k rest g s f w c K st room ways falls =
+        switch-steps again again' P bodies chains classless turns R C plain-result A B S e es (follow-cases es placed) m parts.0 parts.1 o D k rest g s f w c K st room ways falls
+    follow-statement core.leave last placed m ok o D k rest g s f w c K st room ways falls =
         finished-steps again' (H again again' P) classless A B S (o.here ++ o.breaks) (s.frame.scope ++ D.breaks) m (more leave rest) g K _ s f w
         (held-append f.locals m o.here o.breaks s.frame.scope D.breaks st.here st.breaks) (ways.breaks s f g w (moved-all m k s f st.ready))
-    follow-statement core.continue m ok o D k rest g s f w c K st room ways falls =
+    follow-statement core.continue last placed m ok o D k rest g s f w c K st room ways falls =
         finished-steps again' (H again again' P) classless A B S (o.here ++ o.continues) (s.frame.scope ++ D.continues) m (more continue rest) g K _ s f w
         (held-append f.locals m o.here o.continues s.frame.scope D.continues st.here st.continues) (ways.continues s f g w (moved-all m k s f st.ready))
-    follow-statement (core.give absent) m ok o D k rest g s f w c K st room ways falls =
+    follow-statement (core.give absent) last placed m ok o D k rest g s f w c K st room ways falls =
         finished-steps again' (H again again' P) classless A B S (o.here ++ o.returns) (s.frame.scope ++ D.returns) m (more (give None) rest) g K _ s f w
         (held-append f.locals m o.here o.returns s.frame.scope D.returns st.here st.returns) (ways.returns Nothing s f w (moved-all m k s f st.ready))
-    follow-statement (core.give (given e)) m ok o D k rest g s f w c K st room ways falls = return-steps e ok m o D k rest g s f w c K st room ways
-    follow-statement e m ok o D k rest g s f w c K st room ways falls = never ok
+    follow-statement (core.give (given e)) last placed m ok o D k rest g s f w c K st room ways falls = return-steps e ok m o D k rest g s f w c K st room ways
+    follow-statement e last placed m ok o D k rest g s f w c K st room ways falls = never ok
 
-    follow-cases : (es : Cores) → DoAll again again' P bodies chains classless turns R C plain-result A B S es
-    follow-cases none = tt
-    follow-cases (core.more s1 es) = (follow-statement s1, follow-cases es)
+    follow-cases : (es : Cores) → none_declares es ≡ true → DoAll again again' P bodies chains classless turns R C plain-result A B S es
+    follow-cases none placed = tt
+    follow-cases (core.more s1 es) placed =
+        let parts = both (declares_last false s1) (none_declares es) placed in
+        ((does-first again again' P bodies chains classless turns R C plain-result A B S) s1 (follow-statement s1 false parts.0), follow-cases es parts.1)
 
-    pub follow-maybe : (b : MaybeCore) → DoesMaybe b
-    follow-maybe absent = tt
-    follow-maybe (given s1) = follow-statement s1
+    pub follow-maybe : (b : MaybeCore) (last : Bool) → or_declares_last last b ≡ true → DoesMaybe last b
+    follow-maybe absent last placed = tt
+    follow-maybe (given s1) last placed = follow-statement s1 last (both (last || not (declares_here s1)) (declares_last last s1) placed).1
 
-    pub follow-statements : (es : Cores) (m : ℕ) → are_statements m es ≡ true → (o : Open) (D : Beyond) (k : ℕ) (rest : Plains) (g : Registers) (s : State) (f : Frame) (w : World)
+    pub follow-statements : (es : Cores) (last : Bool) → all_declare_last last es ≡ true → (m : ℕ) → are_statements m es ≡ true
+        → (o : Open) (D : Beyond) (k : ℕ) (rest : Plains) (g : Registers) (s : State) (f : Frame) (w : World)
         (c : calling.Flow → Act A) (K : Flow → Act B)
-        → Stands o D m k s f → k + length (added (nodes_all es)) ≤ f.count → (Ways again again' P bodies chains classless turns R C plain-result A B S) D m s f c K → (Fallen again again' P bodies chains classless turns R C plain-result A B S) (next_locals m es) (declared_all es ++ o.here) m c K rest s f
+        → Stands o D m k s f → k + length (added (nodes_all es)) ≤ f.count → (Ways again again' P bodies chains classless turns R C plain-result A B S) D m s f c K → (FallenAt again again' P bodies chains classless turns R C plain-result A B S) last (next_locals m es) (declared_all es ++ o.here) m c K rest s f
         → Follows S (and_then (does.does_all again P es s w) (on c)) (runs_on again' (H again again' P) (statements (inside_of P R C o) es k rest) g K (with_frame f s) w)
-    follow-statements none m ok o D k rest g s f w c K st room ways falls = falls s f g w (moved-all m k s f st.ready) st.here st.low
-    follow-statements (core.more s1 es) m ok o D k rest g s f w c K st room ways falls =
-        let parts = both (is_statement m s1) (are_statements (next_local m s1) es) ok in
+    follow-statements none last placed m ok o D k rest g s f w c K st room ways falls = falls s f g w (moved-all m k s f st.ready) [] s.frame.scope refl (λ e. refl) st.here st.low
+    follow-statements (core.more s1 none) last placed m ok o D k rest g s f w c K st room ways falls =
+        pull (does.does again P s1 s w) (does.falling (does.does_all again P none)) c _
+        (follow-statement s1 last placed m (both (is_statement m s1) true ok).0 o D k rest g s f w (λ flow. does.falling (does.does_all again P none) flow >>= c) K st
+        (first-room k f.count (nodes s1) (nodes_all none) room) (record { breaks = ways.breaks; continues = ways.continues; returns = ways.returns })
+        (λ t g1 h w1 v ps qs split early held-now low. falls t g1 h w1 v ps qs split early held-now low))
+    follow-statements (core.more s1 (core.more s2 es)) last placed m ok o D k rest g s f w c K st room ways falls =
+        let others : Cores = core.more s2 es in
+        let parts = both (is_statement m s1) (are_statements (next_local m s1) others) ok in
+        let places = both (declares_last false s1) (all_declare_last last others) placed in
         let further-on : m ≤ next_local m s1 = next-more m s1 parts.0 in
-        let first : k + width s1 ≤ f.count = first-room k f.count (nodes s1) (nodes_all es) room in
-        let second : (k + width s1) + length (added (nodes_all es)) ≤ f.count = second-room k f.count (nodes s1) (nodes_all es) room in
-        pull (does.does again P s1 s w) (does.falling (does.does_all again P es)) c _
-        (follow-statement s1 m parts.0 o D k (statements (inside_of P R C (record o { here = declared s1 ++ o.here })) es (k + width s1) rest) g s f w
-        (λ flow. does.falling (does.does_all again P es) flow >>= c) K st first
+        let first : k + width s1 ≤ f.count = first-room k f.count (nodes s1) (nodes_all others) room in
+        let second : (k + width s1) + length (added (nodes_all others)) ≤ f.count = second-room k f.count (nodes s1) (nodes_all others) room in
+        pull (does.does again P s1 s w) (does.falling (does.does_all again P others)) c _
+        ((does-first again again' P bodies chains classless turns R C plain-result A B S) s1 (follow-statement s1 false places.0) m parts.0 o D k (statements (inside_of P R C (record o { here = declared s1 ++ o.here })) others (k + width s1) rest) g s f w
+        (λ flow. does.falling (does.does_all again P others) flow >>= c) K st first
         (record { breaks = ways.breaks; continues = ways.continues; returns = ways.returns }) (λ t g1 h w1 v held-now low.
         let count : g1.count ≡ f.count = ap (λ (x : Frame). x.count) v.plain in
-        follow-statements es (next_local m s1) parts.1 (record o { here = declared s1 ++ o.here }) D (k + width s1) rest h t g1 w1 c K
+        follow-statements (core.more s2 es) last places.1 (next_local m s1) parts.1 (record o { here = declared s1 ++ o.here }) D (k + width s1) rest h t g1 w1 c K
         (stands-later o D m (next_local m s1) k (k + width s1) (declared s1 ++ o.here) s f t g1 st v further-on low (omega arith) (omega arith) held-now)
-        (omega arith) ((ways-later again again' P bodies chains classless turns R C plain-result A B S) D m (next_local m s1) s f t g1 c K further-on v ways) (λ u g2 h2 w2 v2 held-then low2.
-        falls u g2 h2 w2 (moved-then m (next_local m s1) s f t g1 u g2 further-on v v2)
-        (subst (λ xs. Held g2.locals (next_locals (next_local m s1) es) xs u.frame.scope) (sym (append_assoc (declared_all es) (declared s1) o.here)) held-then) low2)))
+        (omega arith) ((ways-later again again' P bodies chains classless turns R C plain-result A B S) D m (next_local m s1) s f t g1 c K further-on v ways) (λ u g2 h2 w2 v2 ps qs split early held-then low2.
+        falls u g2 h2 w2 (moved-then m (next_local m s1) s f t g1 u g2 further-on v v2) ps qs split early
+        (subst (λ xs. Held g2.locals (next_locals (next_local m s1) others) xs qs) (sym (append_assoc (declared_all others) (declared s1) o.here)) held-then) low2)))

@@ -18,7 +18,7 @@ use Rattle.cf_plain.specs.Plain as plain
 use Rattle.cf_plain.specs.Acts.{Registers}
 use Rattle.cf_plain.specs.Running as running
 use Rattle.cf_plain.specs.Running.{Flow, Falls, Breaks, Continues, Returns, falling, all}
-use Rattle.cf_sequence.specs.Built.{is_value, is_element, is_held, declares_here, is_statement, is_inner_or, are_statements, are_cases, next_local}
+use Rattle.cf_sequence.specs.Built.{is_value, is_element, is_held, is_statement, is_statement_or, are_statements, are_cases, next_local}
 use Rattle.cf_sequence.specs.Made.{Local, Temporary, temporaries, width, declared, declared_all}
 use Rattle.cf_sequence.specs.Expressions.{Full, destination, finished, flags, ended, settled, whole, value, used as use_of}
 use Rattle.cf_sequence.specs.Statements.{Inside, in_switch, statement, statement_or, statements, started, made, passing, passes_local, passed}
@@ -218,8 +218,8 @@ module _ (again : running.Again) (H : Program) (P : Program) (R C : SourceType) 
         silent-then again H (λ rest. more (set 0 (plain.declare i t)) rest) (started P.classes t e 0 k) (silent-set again H 0 (plain.declare i t))
         (or-else (is_element t e) (is_held i e) (both (nat_le m i) (is_element t e || is_held i e) ok).1 (λ element. silent-element again H P t e element t 0 k) (silent-held i t e k))
     silent-statement (core.branch q a b) m ok o k =
-        let is = (both (is_value q) ((not (declares_here a) && is_statement m a) && is_inner_or m b) ok).0 in
-        let yes : Plains = statement (inside_of P R C o) a (k + width q) nothing in
+        let is = (both (is_value q) (is_statement m a && is_statement_or m b) ok).0 in
+        let yes : Plains = statement (inside_of P R C o) a (k + width q) (finished (declared a) nothing) in
         let other : Plains = statement_or (inside_of P R C o) b (k + width q + width a) nothing in
         silent-whole again H P q is 0 k None (λ m rest. more (set m (plain.truth m)) rest) (λ m rest. more (plain.branch m yes other) rest)
         (λ m. silent-set again H m (plain.truth m)) (λ m. silent-branch again H m yes other)

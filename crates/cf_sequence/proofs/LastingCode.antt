@@ -22,7 +22,7 @@ use Rattle.cf_core.specs.Program.{begins, unbuilds, ends, ended_well, run_body, 
 use Rattle.cf_core.specs.Statements as does
 use Rattle.cf_core.specs.Statements.{has_case, has_default, passes, passes_all, falling, turning, leaving, tests_first}
 use Rattle.cf_core.specs.Valid.{is_label}
-use Rattle.cf_sequence.specs.Built.{is_row, is_value, are_values, are_arguments, is_chain, is_condition, is_start, is_filling, is_initial, is_list, is_element, are_elements, is_held, next_local, declares_here, is_statement, is_inner_or, are_cases, are_statements}
+use Rattle.cf_sequence.specs.Built.{is_row, is_value, are_values, are_arguments, is_chain, is_condition, is_start, is_filling, is_initial, is_list, is_element, are_elements, is_held, next_local, is_statement, is_statement_or, are_cases, are_statements}
 use Rattle.cf_sequence.proofs.Following.{Looks, looks-pure, pure-valid}
 use Rattle.cf_sequence.proofs.Steps.{pure-used, pure-place_of, pure-number_of, pure-truth_of, pure-converted_value, pure-operated, pure-signed, pure-changed, looks-read_place, looks-followed}
 use Rattle.cf_sequence.proofs.Pointers.{pure-pointed_to, looks-indexed, looks-decayed, looks-moved_by, looks-from_void, looks-pointer_op}
@@ -365,11 +365,11 @@ module _ (again : calling.Again) (P : Program) (classless : P.classes ≡ []) (r
         or-else (is_element t e) (is_held i e) (both (nat_le n i) (is_element t e || is_held i e) ok).1 (λ started. declared-keeps base i t e (element-keeps base t e started))
         (λ held. declared-keeps base i t e (λ p le. held-keeps base i e held p))
     statement-lasts (core.branch c a b) n ok base =
-        let forms = both (is_value c) ((not (declares_here a) && is_statement n a) && is_inner_or n b) ok in
-        let arms = both (not (declares_here a) && is_statement n a) (is_inner_or n b) forms.1 in
+        let forms = both (is_value c) (is_statement n a && is_statement_or n b) ok in
+        let arms = both (is_statement n a) (is_statement_or n b) forms.1 in
         keeps-then (L base) (does.holds again P (given c)) _ (holds-keeps base (given c) forms.0)
         (λ t. keeps-when (L base) t (does.does again P a) (does.does_maybe again P b)
-        (statement-lasts a n (both (not (declares_here a)) (is_statement n a) arms.0).1 base) (maybe-lasts b n arms.1 base))
+        (statement-lasts a n arms.0 base) (maybe-lasts b n arms.1 base))
     statement-lasts (core.loop how q e s) n ok base =
         let forms = both (is_condition q) (is_condition e && is_statement n s) ok in
         let inner = both (is_condition e) (is_statement n s) forms.1 in
@@ -401,9 +401,9 @@ module _ (again : calling.Again) (P : Program) (classless : P.classes ≡ []) (r
         keeps-then (L base) (does.result_of again P e) _ (result-keeps base e ok) (λ v. keeps-gives (L base) (Returns v))
     statement-lasts st n ok base = never ok
 
-    maybe-lasts : (o : MaybeCore) (n : ℕ) → is_inner_or n o ≡ true → (base : List ℕ) → Keeps (L base) (does.does_maybe again P o)
+    maybe-lasts : (o : MaybeCore) (n : ℕ) → is_statement_or n o ≡ true → (base : List ℕ) → Keeps (L base) (does.does_maybe again P o)
     maybe-lasts absent n ok base = keeps-gives (L base) Falls
-    maybe-lasts (given s) n ok base = statement-lasts s n (both (not (declares_here s)) (is_statement n s) ok).1 base
+    maybe-lasts (given s) n ok base = statement-lasts s n ok base
 
     all-last : (es : Cores) (n : ℕ) → are_statements n es ≡ true → (base : List ℕ) → Keeps (L base) (does.does_all again P es)
     all-last none n ok base = keeps-gives (L base) Falls

@@ -9,6 +9,7 @@ mod ControlRows
 mod OrderRows
 mod TemporaryRows
 mod ListRows
+mod ArmRows
 pub mod Doing
 pub mod Loops
 pub mod Scopes

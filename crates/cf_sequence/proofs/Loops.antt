@@ -20,7 +20,7 @@ use Rattle.cf_plain.specs.Acts.{Registers}
 use Rattle.cf_plain.specs.Running as running
 use Rattle.cf_plain.specs.Running.{Flow, Falls, Breaks, Continues, Returns, keep, falling, turning, all}
 use Rattle.cf_sequence.specs.Follows.{Follows}
-use Rattle.cf_sequence.specs.Built.{is_condition, is_chain, next_local, is_statement}
+use Rattle.cf_sequence.specs.Built.{is_condition, is_chain, next_local, is_statement, declares_last}
 use Rattle.cf_sequence.specs.Made.{added, width, width_maybe, declared}
 use Rattle.cf_sequence.specs.Expressions.{finished}
 use Rattle.cf_sequence.specs.Statements.{statement, held, stepped}
@@ -32,7 +32,7 @@ use Rattle.cf_sequence.proofs.Operands.{H}
 use Rattle.cf_sequence.proofs.Moving.{all_gone, Held, held-kept, held-append, finished-steps, Moved, moved-count, moved-then, moved-kept, moved-ready, with_scope, Beyond}
 use Rattle.cf_sequence.proofs.Fulls.{full-steps, condition-steps}
 use Rattle.cf_sequence.proofs.Standing.{Open, inside_of, looped, turn_code, step_code, Stands, stands-later, EndsAs, Turns}
-use Rattle.cf_sequence.proofs.Scopes.{Ways, Fallen, closing_scope, scope-closed, scope-gone, moved-out, Does, behind, stands-on}
+use Rattle.cf_sequence.proofs.Scopes.{Ways, Fallen, closing_scope, scope-closed, scope-gone, scope-ended, moved-out, DoesAt, behind, stands-on}
 
 module _ (again : calling.Again) (again' : running.Again) (P : Program) (bodies : Bodies again again' P)
     (chains : (name : Name) (f : Function) → function_named P name ≡ Some f → is_chain f.type ≡ true)
@@ -40,7 +40,7 @@ module _ (again : calling.Again) (again' : running.Again) (P : Program) (bodies 
     (A B : Type 0) (S : A → State → B → State → Type 0) where
   -- ---- loops
 
-  module _ (how : LoopForm) (q e : MaybeCore) (body : Core) (m : ℕ) (ok : is_statement m (core.loop how q e body) ≡ true) (o : Open) (D : Beyond) (k : ℕ) (rest : Plains)
+  module _ (how : LoopForm) (q e : MaybeCore) (body : Core) (m : ℕ) (ok : is_statement m (core.loop how q e body) ≡ true) (placed : declares_last true body ≡ true) (o : Open) (D : Beyond) (k : ℕ) (rest : Plains)
       (s : State) (f : Frame) (c : calling.Flow → Act A) (K : Flow → Act B) (st : Stands o D m k s f) (room : k + width (core.loop how q e body) ≤ f.count)
       (ways : (Ways again again' P bodies chains classless turns R C plain-result A B S) D m s f c K) (falls : (Fallen again again' P bodies chains classless turns R C plain-result A B S) m o.here m c K rest s f) where
     abbrev the_loop : Core
@@ -94,7 +94,7 @@ module _ (again : calling.Again) (again' : running.Again) (P : Program) (bodies 
         stands-later o D m m k k o.here s f t g st v (omega arith) (let a = moved-count m s f t g v in let low = st.low in omega arith) (omega arith) (let wide = st.ready.wide in omega arith)
         (subst (λ os. Held g.locals m o.here os) (sym same) (held-kept f.locals g.locals m m o.here s.frame.scope st.here (omega arith) v.below)) in
         follows-then (again (turn the_loop) t w) (again' (running.turn SS EE h) (with_frame g t) w) c ((behind again again' P bodies chains classless turns R C plain-result A B S) rest K)
-        (turns.follow R C plain-result how q e body m ok o D k h t g w st1 (omega arith))
+        (turns.follow R C plain-result how q e body m ok placed o D k h t g w st1 (omega arith))
         (λ x t2 y u w2 r. turned-end t g v same x t2 y u w2 r.plain r.moved r.ends)
 
   abbrev still : State → World → Ran (Did (Unit {0}))
@@ -133,7 +133,7 @@ module _ (again : calling.Again) (again' : running.Again) (P : Program) (bodies 
       subst (λ r. Follows S (and_then (and_then r (on (does.turning N))) (on c)) y) (sym ((scope-closed again again' P bodies chains classless turns R C plain-result A B S) os flow t w)) h
 
   -- a loop's body in a scope of its own, and what comes behind it
-  body-steps : (body : Core) → (Does again again' P bodies chains classless turns R C plain-result A B S) body → (m : ℕ) → is_statement m body ≡ true → (o : Open) (D : Beyond) (k : ℕ) (h : Registers) (s : State) (f : Frame) (t : State) (g : Frame) (w : World)
+  body-steps : (body : Core) → (DoesAt again again' P bodies chains classless turns R C plain-result A B S) true body → (m : ℕ) → is_statement m body ≡ true → (o : Open) (D : Beyond) (k : ℕ) (h : Registers) (s : State) (f : Frame) (t : State) (g : Frame) (w : World)
       (N : Act calling.Flow) (M : Registers → Act Flow) (c : calling.Flow → Act A) (K : Flow → Act B)
       → Stands o D m k t g → k + width body ≤ g.count
       → ((u : State) (g2 : Frame) (h2 : Registers) (w2 : World) → Moved m t g u g2 → u.frame.scope ≡ t.frame.scope → Follows S (and_then (N u w2) (on c)) (and_then (M h2 (with_frame g2 u) w2) (on K)))
@@ -172,10 +172,12 @@ module _ (again : calling.Again) (again' : running.Again) (P : Program) (bodies 
             ((scope-gone again again' P bodies chains classless turns R C plain-result A B S) (os ++ D.returns) u.frame.scope u g2 (record (all_gone u.frame.scope u).frame { scope = os }))
             (gives-back x (with_scope os (all_gone u.frame.scope u)) g2 w2 ((moved-out again again' P bodies chains classless turns R C plain-result A B S) m t g u g2 v)));
       })
-      (λ u g2 h2 w2 v held-now low.
-      finished-steps again' (H again again' P) classless A B S (declared body) u.frame.scope (next_local m body) nothing h2 K1 _ u g2 w2
-      (subst (λ ys. Held g2.locals (next_local m body) ys u.frame.scope) (append-nil (declared body)) held-now)
-      (scope-turn os N calling.Falls u w2 c _ (after (with_scope os (all_gone u.frame.scope u)) g2 h2 w2 ((moved-out again again' P bodies chains classless turns R C plain-result A B S) m t g u g2 v) refl))))
+      (λ u g2 h2 w2 v ps qs split early held-now low.
+      finished-steps again' (H again again' P) classless A B S (declared body) qs (next_local m body) nothing h2 K1 _ (all_gone ps u) g2 w2
+      (subst (λ ys. Held g2.locals (next_local m body) ys qs) (append-nil (declared body)) held-now)
+      (subst (λ z. Follows S (and_then (((closing_scope again again' P bodies chains classless turns R C plain-result A B S) os calling.Falls >>= does.turning N) u w2) (on c)) (K1 (Falls h2) (with_frame g2 z) w2))
+      ((scope-ended again again' P bodies chains classless turns R C plain-result A B S) ps qs u split)
+      (scope-turn os N calling.Falls u w2 c _ (after (with_scope os (all_gone u.frame.scope u)) g2 h2 w2 ((moved-out again again' P bodies chains classless turns R C plain-result A B S) m t g u g2 v) refl)))))
 
   pub maybe-width : (q : MaybeCore) → length (added (nodes_maybe q)) ≡ width_maybe q
   maybe-width absent = refl
@@ -188,7 +190,7 @@ module _ (again : calling.Again) (again' : running.Again) (P : Program) (bodies 
       let x = maybe-width q in let y = maybe-width e in omega arith
 
   -- the step of a loop, and its further turns
-  step-steps : (how : LoopForm) (q e : MaybeCore) (body : Core) (m : ℕ) (ok : is_statement m (core.loop how q e body) ≡ true) (o : Open) (D : Beyond) (k : ℕ) (rest : Plains)
+  step-steps : (how : LoopForm) (q e : MaybeCore) (body : Core) (m : ℕ) (ok : is_statement m (core.loop how q e body) ≡ true) (placed : declares_last true body ≡ true) (o : Open) (D : Beyond) (k : ℕ) (rest : Plains)
       (s : State) (f : Frame) (c : calling.Flow → Act A) (K : Flow → Act B) (st : Stands o D m k s f) (room : k + width (core.loop how q e body) ≤ f.count)
       (ways : (Ways again again' P bodies chains classless turns R C plain-result A B S) D m s f c K) (falls : (Fallen again again' P bodies chains classless turns R C plain-result A B S) m o.here m c K rest s f)
       → is_condition e ≡ true → step_code (inside_of P R C o) how q e body k ≡ stepped P.classes e (k + width_maybe q)
@@ -196,11 +198,11 @@ module _ (again : calling.Again) (again' : running.Again) (P : Program) (bodies 
       → Follows S (and_then (does.step_and again P e (again (turn (core.loop how q e body))) u w2) (on c))
       (and_then ((all again' (H again again' P) (step_code (inside_of P R C o) how q e body k) h2
       >>= turning (λ h. again' (running.turn (turn_code (inside_of P R C o) how q e body k) (step_code (inside_of P R C o) how q e body k) h))) (with_frame g2 u) w2) (on ((behind again again' P bodies chains classless turns R C plain-result A B S) rest K)))
-  step-steps how q absent body m ok o D k rest s f c K st room ways falls good is-step u g2 h2 w2 v scope =
+  step-steps how q absent body m ok placed o D k rest s f c K st room ways falls good is-step u g2 h2 w2 v scope =
       let AG : Registers → Act Flow = λ h. again' (running.turn (turn_code (inside_of P R C o) how q absent body k) (step_code (inside_of P R C o) how q absent body k) h) in
       subst (λ code. Follows S (and_then (again (turn (core.loop how q absent body)) u w2) (on c)) (and_then ((all again' (H again again' P) code h2 >>= turning AG) (with_frame g2 u) w2) (on ((behind again again' P bodies chains classless turns R C plain-result A B S) rest K))))
-      (sym is-step) (further how q absent body m ok o D k rest s f c K st room ways falls u g2 h2 w2 v scope)
-  step-steps how q (given e) body m ok o D k rest s f c K st room ways falls good is-step u g2 h2 w2 v scope =
+      (sym is-step) (further how q absent body m ok placed o D k rest s f c K st room ways falls u g2 h2 w2 v scope)
+  step-steps how q (given e) body m ok placed o D k rest s f c K st room ways falls good is-step u g2 h2 w2 v scope =
       let body-room : (k + width_maybe q + width e) + width body ≤ f.count = loop-room k f.count q (given e) body room in
       let count : g2.count ≡ f.count = ap (λ (x : Frame). x.count) v.plain in
       let AG : Registers → Act Flow = λ h. again' (running.turn (turn_code (inside_of P R C o) how q (given e) body k) (step_code (inside_of P R C o) how q (given e) body k) h) in
@@ -211,12 +213,12 @@ module _ (again : calling.Again) (again' : running.Again) (P : Program) (bodies 
       (push (all again' (H again again' P) (stepped P.classes (given e) (k + width_maybe q)) h2 (with_frame g2 u) w2) (turning AG) ((behind again again' P bodies chains classless turns R C plain-result A B S) rest K) _
       (full-steps again again' P bodies chains classless A B S e good None None 0 (k + width_maybe q) (λ n. nothing) h2 u g2 w2 (λ x. again (turn (core.loop how q (given e) body)) >>= c)
       (λ flow. turning AG flow >>= (behind again again' P bodies chains classless turns R C plain-result A B S) rest K) ready (omega arith) (λ x t h f1 w1 done.
-      further how q (given e) body m ok o D k rest s f c K st room ways falls t f1 h w1
+      further how q (given e) body m ok placed o D k rest s f c K st room ways falls t f1 h w1
       (moved-then m m s f u g2 t f1 (omega arith) v (moved-kept m (k + width_maybe q) u g2 t f1 (let l = st.low in let c1 = st.ready.count in omega arith) ready done.frame done.kept))
       (ap (λ (x : Frame). x.scope) done.frame ∙ scope)))))
 
   -- where each turn begins with the condition
-  pub loop-first : (q e : MaybeCore) (body : Core) → (Does again again' P bodies chains classless turns R C plain-result A B S) body → (how : LoopForm) (m : ℕ) (ok : is_statement m (core.loop how q e body) ≡ true) (o : Open) (D : Beyond) (k : ℕ) (rest : Plains)
+  pub loop-first : (q e : MaybeCore) (body : Core) → (DoesAt again again' P bodies chains classless turns R C plain-result A B S) true body → (how : LoopForm) (m : ℕ) (ok : is_statement m (core.loop how q e body) ≡ true) (placed : declares_last true body ≡ true) (o : Open) (D : Beyond) (k : ℕ) (rest : Plains)
       (g : Registers) (s : State) (f : Frame) (w : World) (c : calling.Flow → Act A) (K : Flow → Act B) (st : Stands o D m k s f) (room : k + width (core.loop how q e body) ≤ f.count)
       (ways : (Ways again again' P bodies chains classless turns R C plain-result A B S) D m s f c K) (falls : (Fallen again again' P bodies chains classless turns R C plain-result A B S) m o.here m c K rest s f)
       → turn_code (inside_of P R C o) how q e body k ≡ held P.classes q k (statement (inside_of P R C (looped o)) body (k + width_maybe q + width_maybe e) (finished (declared body) nothing))
@@ -226,7 +228,7 @@ module _ (again : calling.Again) (again' : running.Again) (P : Program) (bodies 
       (runs_on again' (H again again' P) (turn_code (inside_of P R C o) how q e body k) g
       (λ flow. turning (λ h. all again' (H again again' P) (step_code (inside_of P R C o) how q e body k) h >>= turning (λ h. again' (running.turn (turn_code (inside_of P R C o) how q e body k) (step_code (inside_of P R C o) how q e body k) h))) flow >>= (behind again again' P bodies chains classless turns R C plain-result A B S) rest K)
       (with_frame f s) w)
-  loop-first q e body does-body how m ok o D k rest g s f w c K st room ways falls is-turn is-step =
+  loop-first q e body does-body how m ok placed o D k rest g s f w c K st room ways falls is-turn is-step =
       let conditions = both (is_condition q) (is_condition e && is_statement m body) ok in
       let parts = both (is_condition e) (is_statement m body) conditions.1 in
       let body-room : (k + width_maybe q + width_maybe e) + width body ≤ f.count = loop-room k f.count q e body room in
@@ -247,15 +249,15 @@ module _ (again : calling.Again) (again' : running.Again) (P : Program) (bodies 
       let scope-same : t.frame.scope ≡ s.frame.scope = ap (λ (x : Frame). x.scope) same in
       body-steps body does-body m parts.1 o D (k + width_maybe q + width_maybe e) h s f t g1 w1 N M c ((behind again again' P bodies chains classless turns R C plain-result A B S) rest K) on-turn.1 (omega arith)
       (λ u g2 h2 w2 v scope.
-      step-steps how q e body m ok o D k rest s f c K st room ways falls parts.0 is-step u g2 h2 w2 (moved-then m m s f t g1 u g2 (omega arith) on-turn.0 v) (scope ∙ scope-same))
-      (λ u g2 h2 w2 v scope. loop-left how q e body m ok o D k rest s f c K st room ways falls u g2 h2 w2 (moved-then m m s f t g1 u g2 (omega arith) on-turn.0 v) (scope ∙ scope-same))
+      step-steps how q e body m ok placed o D k rest s f c K st room ways falls parts.0 is-step u g2 h2 w2 (moved-then m m s f t g1 u g2 (omega arith) on-turn.0 v) (scope ∙ scope-same))
+      (λ u g2 h2 w2 v scope. loop-left how q e body m ok placed o D k rest s f c K st room ways falls u g2 h2 w2 (moved-then m m s f t g1 u g2 (omega arith) on-turn.0 v) (scope ∙ scope-same))
       (λ x u g2 w2 v. ways.returns x u g2 w2 (moved-then m m s f t g1 u g2 (omega arith) on-turn.0 v)))
       (λ t h g1 w1 same kept.
       let on-turn = (stands-on again again' P bodies chains classless turns R C plain-result A B S) o D m k k s f t g1 st same kept (omega arith) (let wide = st.ready.wide in omega arith) in
-      loop-left how q e body m ok o D k rest s f c K st room ways falls t g1 h w1 on-turn.0 (ap (λ (x : Frame). x.scope) same))))
+      loop-left how q e body m ok placed o D k rest s f c K st room ways falls t g1 h w1 on-turn.0 (ap (λ (x : Frame). x.scope) same))))
 
   -- where each turn ends with the condition
-  pub loop-last : (q e : MaybeCore) (body : Core) → (Does again again' P bodies chains classless turns R C plain-result A B S) body → (m : ℕ) (ok : is_statement m (core.loop form.Do q e body) ≡ true) (o : Open) (D : Beyond) (k : ℕ) (rest : Plains)
+  pub loop-last : (q e : MaybeCore) (body : Core) → (DoesAt again again' P bodies chains classless turns R C plain-result A B S) true body → (m : ℕ) (ok : is_statement m (core.loop form.Do q e body) ≡ true) (placed : declares_last true body ≡ true) (o : Open) (D : Beyond) (k : ℕ) (rest : Plains)
       (g : Registers) (s : State) (f : Frame) (w : World) (c : calling.Flow → Act A) (K : Flow → Act B) (st : Stands o D m k s f) (room : k + width (core.loop form.Do q e body) ≤ f.count)
       (ways : (Ways again again' P bodies chains classless turns R C plain-result A B S) D m s f c K) (falls : (Fallen again again' P bodies chains classless turns R C plain-result A B S) m o.here m c K rest s f)
       → Follows S
@@ -263,7 +265,7 @@ module _ (again : calling.Again) (again' : running.Again) (P : Program) (bodies 
       (runs_on again' (H again again' P) (turn_code (inside_of P R C o) form.Do q e body k) g
       (λ flow. turning (λ h. all again' (H again again' P) (step_code (inside_of P R C o) form.Do q e body k) h >>= turning (λ h. again' (running.turn (turn_code (inside_of P R C o) form.Do q e body k) (step_code (inside_of P R C o) form.Do q e body k) h))) flow >>= (behind again again' P bodies chains classless turns R C plain-result A B S) rest K)
       (with_frame f s) w)
-  loop-last q e body does-body m ok o D k rest g s f w c K st room ways falls =
+  loop-last q e body does-body m ok placed o D k rest g s f w c K st room ways falls =
       let conditions = both (is_condition q) (is_condition e && is_statement m body) ok in
       let parts = both (is_condition e) (is_statement m body) conditions.1 in
       let body-room : (k + width_maybe q + width_maybe e) + width body ≤ f.count = loop-room k f.count q e body room in
@@ -291,11 +293,11 @@ module _ (again : calling.Again) (again' : running.Again) (P : Program) (bodies 
       (moved-ready m k s f u g2 st.ready v) (omega arith)
       (λ t h f1 w1 same kept.
       let later = moved-kept m k u g2 t f1 (let low = st.low in let c1 = st.ready.count in omega arith) (moved-ready m k s f u g2 st.ready v) same kept in
-      further form.Do q e body m ok o D k rest s f c K st room ways falls t f1 h w1 (moved-then m m s f u g2 t f1 (omega arith) v later) (ap (λ (x : Frame). x.scope) same ∙ scope))
+      further form.Do q e body m ok placed o D k rest s f c K st room ways falls t f1 h w1 (moved-then m m s f u g2 t f1 (omega arith) v later) (ap (λ (x : Frame). x.scope) same ∙ scope))
       (λ t h f1 w1 same kept.
       let later = moved-kept m k u g2 t f1 (let low = st.low in let c1 = st.ready.count in omega arith) (moved-ready m k s f u g2 st.ready v) same kept in
-      loop-left form.Do q e body m ok o D k rest s f c K st room ways falls t f1 h w1 (moved-then m m s f u g2 t f1 (omega arith) v later) (ap (λ (x : Frame). x.scope) same ∙ scope)))))
-      (λ u g2 h2 w2 v scope. loop-left form.Do q e body m ok o D k rest s f c K st room ways falls u g2 h2 w2 v scope)
+      loop-left form.Do q e body m ok placed o D k rest s f c K st room ways falls t f1 h w1 (moved-then m m s f u g2 t f1 (omega arith) v later) (ap (λ (x : Frame). x.scope) same ∙ scope)))))
+      (λ u g2 h2 w2 v scope. loop-left form.Do q e body m ok placed o D k rest s f c K st room ways falls u g2 h2 w2 v scope)
       (λ x u g2 w2 v. ways.returns x u g2 w2 v)
 
   -- a loop spends a tick, and is followed by what stands behind it

@@ -84,6 +84,33 @@ held-append locals m [] ys (o ∷ os) ps h k = absurd h
 held-append locals m (x ∷ xs) ys [] ps h k = absurd h
 held-append locals m (x ∷ xs) ys (o ∷ os) ps h k = (h.0, h.1, held-append locals m xs ys os ps h.2 k)
 
+-- the objects of the first of them, and those of the others
+pub record HeldParts (locals : ℕ → Option ℕ) (m : ℕ) (xs ys : List Local) (os : List ℕ) : Type 0 where
+  pub first : List ℕ
+  pub second : List ℕ
+  pub parts : os ≡ first ++ second
+  pub first_held : Held locals m xs first
+  pub second_held : Held locals m ys second
+
+pub held-parts : (locals : ℕ → Option ℕ) (m : ℕ) (xs ys : List Local) (os : List ℕ) → Held locals m (xs ++ ys) os → HeldParts locals m xs ys os
+held-parts locals m [] ys os h = record { first = []; second = os; parts = refl; first_held = tt; second_held = h }
+held-parts locals m (x ∷ xs) ys [] h = absurd h
+held-parts locals m (x ∷ xs) ys (o ∷ os) h =
+    let r = held-parts locals m xs ys os h.2 in
+    record { first = o ∷ r.first; second = r.second; parts = ap (λ ps. o ∷ ps) r.parts; first_held = (h.0, h.1, r.first_held); second_held = r.second_held }
+
+pub held-none : (locals : ℕ → Option ℕ) (m : ℕ) (os : List ℕ) → Held locals m [] os → os ≡ []
+held-none locals m [] h = refl
+held-none locals m (o ∷ os) h = absurd h
+
+-- below another bound
+pub held-below : (locals later : ℕ → Option ℕ) (m n : ℕ) (xs : List Local) (os ps : List ℕ) → Held locals m xs os → Held later n xs ps → Held later m xs ps
+held-below locals later m n [] os [] h k = tt
+held-below locals later m n [] os (p ∷ ps) h k = k
+held-below locals later m n (x ∷ xs) os [] h k = k
+held-below locals later m n (x ∷ xs) [] (p ∷ ps) h k = absurd h
+held-below locals later m n (x ∷ xs) (o ∷ os) (p ∷ ps) h k = (k.0, h.1, held-below locals later m n xs os ps h.2 k.2)
+
 module _ (again : running.Again) (H : Program) (classless : H.classes ≡ []) (A B : Type 0) (S : A → State → B → State → Type 0) where
   -- locals end in the plain program
   pub finished-steps : (xs : List Local) (os : List ℕ) (m : ℕ) (rest : Plains) (g : Registers) (K : Flow → Act B) (x : Ran (Did A)) (s : State) (f : Frame) (w : World)

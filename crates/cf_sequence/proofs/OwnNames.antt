@@ -1,7 +1,11 @@
 -- The names of what is local to a file are replaced alike in its core and in its plain statements.
-use Rattle.std.proofs.Common.{◌≡◌, ℕ, ◌+◌, Bool, true, false, not, ◌&&◌, ◌||◌, cond, if◌then◌else◌, List, [], ◌∷◌, ◌++◌, map, filter, length, refl, sym, ◌∙◌, ap}
+use Rattle.std.proofs.Common.{◌≡◌, ℕ, zero, suc, ◌+◌, ◌/◌, ◌%◌, ◌<◌, ◌==◌, nat_le, nat_lt, arith, Bool, true, false, not, ◌&&◌, ◌||◌, cond, if◌then◌else◌, List, [], ◌∷◌, ◌++◌, map, filter, length, refl, sym, ◌∙◌, ap}
 use Rattle.std.specs.Prelude.{Option, Some, find, bytes_eq, codes, decimal, option_map, reverse}
+use Rattle.std.specs.Char.{is_ascii_digit}
+use Rattle.std.specs.Fmt.{digits, digits_onto, digit_glyph}
 use Rattle.std.specs.List.{list_all, list_any}
+use Rattle.std.proofs.Math.Nat.{mod-lt}
+use Rattle.std.proofs.lemmas.Bool.Decides.{nat_tests}
 use Rattle.std.proofs.lemmas.List.{append_cancel_right}
 use Rattle.cf_base.proofs.Tests.{both, all_of, same_bytes, bytes_same}
 use Rattle.cf_core.specs.Types.{Name, SourceType, parameters, result, is_class}
@@ -12,7 +16,7 @@ use Rattle.cf_core.specs.Joined.{renamed, is_nothing}
 use Rattle.cf_plain.specs.Plain.{Plains, PlainFunction, PlainStatic, PlainFile, act, set, nothing, more}
 use Rattle.cf_plain.specs.Plain as plain_tree
 use Rattle.cf_plain.specs.Joined as plain
-use Rattle.cf_sequence.specs.Built.{is_statement, is_built_function, is_body, is_plain_role, is_chain, is_none, is_constant_start, is_built_static, begins_mark, has_mark}
+use Rattle.cf_sequence.specs.Built.{is_statement, is_built_function, is_body, is_plain_role, is_chain, is_none, is_constant_start, is_built_static, has_mark, declares_last, is_numeral, is_mark}
 use Rattle.cf_sequence.specs.Made.{declared, numbered}
 use Rattle.cf_sequence.specs.Expressions.{finished}
 use Rattle.cf_sequence.specs.Statements.{type_of_static, initialised, statement}
@@ -21,7 +25,7 @@ use Rattle.cf_sequence.proofs.Calling.{never}
 use Rattle.cf_sequence.proofs.StaticObjects.{type_found}
 use Rattle.cf_sequence.proofs.Constants.{set_as, start-is, constant-object, constant-start, something-constant, constant-element}
 use Rattle.cf_sequence.proofs.JoinedObjects.{beside}
-use Rattle.cf_sequence.proofs.Renamed.{same-adds, same-nothing, same-declared, same-statement, same-constant-start}
+use Rattle.cf_sequence.proofs.Renamed.{same-adds, same-nothing, same-declared, same-statement, same-constant-start, same-last}
 use Rattle.cf_sequence.proofs.RenamedCode.{over-finished}
 use Rattle.cf_sequence.proofs.RenamedLists.{over-element}
 use Rattle.cf_sequence.proofs.RenamedStatements.{over-statement}
@@ -37,17 +41,54 @@ mark-or : (a : Bool) → a || true ≡ true
 mark-or true = refl
 mark-or false = refl
 
+-- each byte of a number's digits is a digit, however large it is
+glyph-digit : (d : ℕ) → d < 10 → is_ascii_digit (digit_glyph false d) ≡ true
+glyph-digit d lt = ap is_ascii_digit small ∙ inside (nat_le 48 (48 + d)) (nat_le (48 + d) 57) refl refl
+  where
+    small : digit_glyph false d ≡ 48 + d
+    small = ap (λ (b : Bool). if b then 48 + d else 87 + d) (let less : nat_lt d 10 ≡ true = grind (arith, nat_tests) in less)
+
+    inside : (a b : Bool) → nat_le 48 (48 + d) ≡ a → nat_le (48 + d) 57 ≡ b → a && b ≡ true
+    inside true true e f = refl
+    inside true false e f = grind (arith, nat_tests)
+    inside false b e f = grind (arith, nat_tests)
+
+-- a digit before those that there are
+digit-before : (n : ℕ) (acc : Name) → list_all is_ascii_digit acc ≡ true → list_all is_ascii_digit (digit_glyph false (n % 10) ∷ acc) ≡ true
+digit-before n acc ok =
+    all_of (is_ascii_digit (digit_glyph false (n % 10))) (list_all is_ascii_digit acc) (glyph-digit (n % 10) (let lt : n % 10 < 10 = mod-lt n (omega arith) in lt)) ok
+
+either-numeral : (b : Bool) (xs ys : Name) → is_numeral xs ≡ true → is_numeral ys ≡ true → is_numeral (if b then xs else ys) ≡ true
+either-numeral true xs ys p q = p
+either-numeral false xs ys p q = q
+
+digits-onto : (k n : ℕ) (acc : Name) → list_all is_ascii_digit acc ≡ true → is_numeral (digits_onto (suc k) 10 false n acc) ≡ true
+digits-onto zero n acc ok =
+    let d : ℕ = digit_glyph false (n % 10) in
+    let digits : list_all is_ascii_digit (d ∷ acc) ≡ true = digit-before n acc ok in either-numeral (n / 10 == 0) (d ∷ acc) (d ∷ acc) digits digits
+digits-onto (suc k) n acc ok =
+    let d : ℕ = digit_glyph false (n % 10) in
+    let digits : list_all is_ascii_digit (d ∷ acc) ≡ true = digit-before n acc ok in
+    either-numeral (n / 10 == 0) (d ∷ acc) (digits_onto (suc k) 10 false (n / 10) (d ∷ acc)) digits (digits-onto k (n / 10) (d ∷ acc) digits)
+
+numeral : (k : ℕ) → is_numeral (decimal k) ≡ true
+unfolding digits
+numeral k = digits-onto 63 k [] refl
+
 -- a name that joining makes has a mark
-marked : (n rest : Name) → has_mark (n ++ mark ++ rest) ≡ true
-marked [] rest = refl
-marked (b ∷ n) rest = ap (λ v. begins_mark (b ∷ (n ++ mark ++ rest)) || v) (marked n rest) ∙ mark-or (begins_mark (b ∷ (n ++ mark ++ rest)))
+marked : (n rest : Name) → is_numeral rest ≡ true → has_mark (n ++ mark ++ rest) ≡ true
+marked [] rest ok = ap (λ v. v || has_mark (95 ∷ 117 ∷ rest)) ok
+marked (b ∷ n) rest ok = ap (λ v. is_mark (b ∷ (n ++ mark ++ rest)) || v) (marked n rest ok) ∙ mark-or (is_mark (b ∷ (n ++ mark ++ rest)))
+
+file-marked : (k : ℕ) (n : Name) → has_mark (core.in_file k n) ≡ true
+file-marked k n = marked n (decimal k) (numeral k)
 
 -- it is not that of `main`
 not-main : (k : ℕ) (n : Name) → bytes_eq (core.in_file k n) (codes "__main") ≡ false
 not-main k n = by n (bytes_eq (core.in_file k n) (codes "__main")) refl
   where
     by : (n : Name) (b : Bool) → bytes_eq (core.in_file k n) (codes "__main") ≡ b → b ≡ false
-    by n true e = sym (marked n (decimal k)) ∙ ap has_mark (same_bytes (core.in_file k n) (codes "__main") e)
+    by n true e = sym (file-marked k n) ∙ ap has_mark (same_bytes (core.in_file k n) (codes "__main") e)
     by n false e = refl
 
 abbrev pub is_own : List Static → Static → Bool
@@ -63,8 +104,8 @@ module _ (k : ℕ) (names : List Name) where
     where
       by : (u v : Bool) → (if u then core.in_file k a else a) ≡ (if v then core.in_file k b else b) → a ≡ b
       by true true e = append_cancel_right a b mark (append_cancel_right (a ++ mark) (b ++ mark) (decimal k) e)
-      by true false e = never (sym (ap not (sym (ap has_mark e) ∙ marked a (decimal k))) ∙ plain_b)
-      by false true e = never (sym (ap not (ap has_mark e ∙ marked b (decimal k))) ∙ plain_a)
+      by true false e = never (sym (ap not (sym (ap has_mark e) ∙ file-marked k a)) ∙ plain_b)
+      by false true e = never (sym (ap not (ap has_mark e ∙ file-marked k b)) ∙ plain_a)
       by false false e = e
 
   same-test : (a b : Name) → not (has_mark a) ≡ true → not (has_mark b) ≡ true → bytes_eq (r a) (r b) ≡ bytes_eq a b
@@ -131,15 +172,18 @@ module _ (k : ℕ) (names : List Name) where
       let main_ok : Bool = not (bytes_eq f.name (codes "__main")) || is_none (parameters f.type) in
       let main_own : Bool = not (bytes_eq (r f.name) (codes "__main")) || is_none (parameters f.type) in
       let plain_result : Bool = not (is_class (result f.type)) in
-      let stated : Bool = is_statement (length (parameters f.type)) (renamed r f.body) in
+      let stated : Bool = is_statement (length (parameters f.type)) (renamed r f.body) && declares_last true (renamed r f.body) in
       let one = both (is_plain_role f.role) (is_chain f.type && (main_ok && is_body f)) ok in
       let two = both (is_chain f.type) (main_ok && is_body f) one.1 in
       let three = both main_ok (is_body f) two.1 in
-      let four = both plain_result (is_statement (length (parameters f.type)) f.body) three.1 in
+      let four = both plain_result (is_statement (length (parameters f.type)) f.body && declares_last true f.body) three.1 in
+      let five = both (is_statement (length (parameters f.type)) f.body) (declares_last true f.body) four.1 in
       all_of (is_plain_role f.role) (is_chain f.type && (main_own && (plain_result && stated))) one.0
       (all_of (is_chain f.type) (main_own && (plain_result && stated)) two.0
       (all_of main_own (plain_result && stated) (main-stays f three.0)
-      (all_of plain_result stated four.0 (same-statement r (length (parameters f.type)) f.body ∙ four.1))))
+      (all_of plain_result stated four.0
+      (all_of (is_statement (length (parameters f.type)) (renamed r f.body)) (declares_last true (renamed r f.body)) (same-statement r (length (parameters f.type)) f.body ∙ five.0)
+      (same-last r true f.body ∙ five.1)))))
 
   pub own-functions : (gs : List Function) → list_all is_built_function gs ≡ true → list_all is_built_function (map (core.function_in_file r) gs) ≡ true
   own-functions [] ok = refl

@@ -1,5 +1,5 @@
 -- Cores whose names are replaced: what they are built of, and the locals that they add and declare, stay.
-use Rattle.std.proofs.Common.{◌≡◌, ℕ, suc, ◌+◌, Bool, true, not, ◌&&◌, ◌||◌, nat_le, nat_lt, List, [], ◌∷◌, ◌++◌, length, refl, sym, ◌∙◌, ap}
+use Rattle.std.proofs.Common.{◌≡◌, ℕ, suc, ◌+◌, Bool, true, false, not, ◌&&◌, ◌||◌, nat_le, nat_lt, List, [], ◌∷◌, ◌++◌, length, refl, sym, ◌∙◌, ap}
 use Rattle.cf_base.proofs.Tests.{both}
 use Rattle.std.proofs.lemmas.Grind.{flat_map-append}
 use Rattle.cf_core.specs.Types.{Name, SourceType, parameters, result, is_class, plain, element}
@@ -10,7 +10,7 @@ use Rattle.cf_core.specs.Places.{is_reference}
 use Rattle.cf_core.specs.Nodes.{nodes, nodes_all, nodes_maybe, nodes_parts}
 use Rattle.cf_core.specs.Joined.{renamed, renamed_all, renamed_maybe, renamed_parts, is_nothing}
 use Rattle.cf_core.specs.Valid.{is_label, has_label}
-use Rattle.cf_sequence.specs.Built.{is_row, is_chain, is_value, are_values, are_arguments, is_condition, is_start, is_filling, is_initial, is_list, is_element, are_elements, is_held, behind_declared, next_local, next_locals, declares_here, any_declares, is_statement, is_inner_or, are_cases, are_statements, is_constant_value, is_constant_initial, is_constant_list, are_constant_elements, is_constant_element, is_constant_start}
+use Rattle.cf_sequence.specs.Built.{is_row, is_chain, is_value, are_values, are_arguments, is_condition, is_start, is_filling, is_initial, is_list, is_element, are_elements, is_held, behind_declared, next_local, next_locals, declares_here, any_declares, is_statement, are_cases, are_statements, is_constant_value, is_constant_initial, is_constant_list, are_constant_elements, is_constant_element, is_constant_start, is_statement_or, declares_last, or_declares_last, all_declare_last, none_declares}
 use Rattle.cf_sequence.specs.Made.{Local, temporaries, temporaries_all, added, makes, width, width_maybe, width_all, declared, declared_all, held_by}
 use Rattle.cf_sequence.specs.Expressions.{builds}
 use Rattle.cf_sequence.proofs.Calling.{never}
@@ -394,10 +394,8 @@ module _ (r : Name → Name) where
     same-statement m (core.declare i t e) =
         ap (λ b. nat_le m i && (b || is_held i (renamed r e))) (same-element t e) ∙ ap (λ b. nat_le m i && (is_element t e || b)) (same-kept i e)
     same-statement m (core.branch c a b) =
-        two-same (is_value (renamed r c)) ((not (declares_here (renamed r a)) && is_statement m (renamed r a)) && is_inner_or m (renamed_maybe r b)) (is_value c)
-        ((not (declares_here a) && is_statement m a) && is_inner_or m b) (same-value c)
-        (two-same (not (declares_here (renamed r a)) && is_statement m (renamed r a)) (is_inner_or m (renamed_maybe r b)) (not (declares_here a) && is_statement m a) (is_inner_or m b)
-        (two-same (not (declares_here (renamed r a))) (is_statement m (renamed r a)) (not (declares_here a)) (is_statement m a) (ap not (same-declares a)) (same-statement m a)) (same-inner m b))
+        two-same (is_value (renamed r c)) (is_statement m (renamed r a) && is_statement_or m (renamed_maybe r b)) (is_value c) (is_statement m a && is_statement_or m b) (same-value c)
+        (two-same (is_statement m (renamed r a)) (is_statement_or m (renamed_maybe r b)) (is_statement m a) (is_statement_or m b) (same-statement m a) (same-inner m b))
     same-statement m (core.loop f c e s) =
         two-same (is_condition (renamed_maybe r c)) (is_condition (renamed_maybe r e) && is_statement m (renamed r s)) (is_condition c) (is_condition e && is_statement m s) (same-condition c)
         (two-same (is_condition (renamed_maybe r e)) (is_statement m (renamed r s)) (is_condition e) (is_statement m s) (same-condition e) (same-statement m s))
@@ -406,10 +404,9 @@ module _ (r : Name → Name) where
     same-statement m (core.give absent) = refl
     same-statement m s = refl
 
-    same-inner : (m : ℕ) (b : MaybeCore) → is_inner_or m (renamed_maybe r b) ≡ is_inner_or m b
+    same-inner : (m : ℕ) (b : MaybeCore) → is_statement_or m (renamed_maybe r b) ≡ is_statement_or m b
     same-inner m absent = refl
-    same-inner m (given s) =
-        two-same (not (declares_here (renamed r s))) (is_statement m (renamed r s)) (not (declares_here s)) (is_statement m s) (ap not (same-declares s)) (same-statement m s)
+    same-inner m (given s) = same-statement m s
 
     pub same-cases : (m : ℕ) (es : Cores) → are_cases m (renamed_all r es) ≡ are_cases m es
     same-cases m none = refl
@@ -423,3 +420,35 @@ module _ (r : Name → Name) where
     same-statements m (core.more s es) =
         two-same (is_statement m (renamed r s)) (are_statements (next_local m (renamed r s)) (renamed_all r es)) (is_statement m s) (are_statements (next_local m s) es) (same-statement m s)
         (ap (λ k. are_statements k (renamed_all r es)) (same-next m s) ∙ same-statements (next_local m s) es)
+
+  same-arm : (last : Bool) (s : Core) → declares_last last (renamed r s) ≡ declares_last last s
+      → (last || not (declares_here (renamed r s))) && declares_last last (renamed r s) ≡ (last || not (declares_here s)) && declares_last last s
+  same-arm last s e =
+      two-same (last || not (declares_here (renamed r s))) (declares_last last (renamed r s)) (last || not (declares_here s)) (declares_last last s)
+      (ap (λ b. last || not b) (same-declares s)) e
+
+  mutual
+    pub same-last : (last : Bool) (s : Core) → declares_last last (renamed r s) ≡ declares_last last s
+    same-last last (core.block es) = same-all-last true es
+    same-last last (core.sequence es) = same-all-last last es
+    same-last last (core.branch c a b) =
+        two-same ((last || not (declares_here (renamed r a))) && declares_last last (renamed r a)) (or_declares_last last (renamed_maybe r b))
+        ((last || not (declares_here a)) && declares_last last a) (or_declares_last last b) (same-arm last a (same-last last a)) (same-or-last last b)
+    same-last last (core.loop f c e s) = same-last true s
+    same-last last (core.switch e es) = same-none es
+    same-last last s = refl
+
+    same-or-last : (last : Bool) (b : MaybeCore) → or_declares_last last (renamed_maybe r b) ≡ or_declares_last last b
+    same-or-last last absent = refl
+    same-or-last last (given s) = same-arm last s (same-last last s)
+
+    same-all-last : (last : Bool) (es : Cores) → all_declare_last last (renamed_all r es) ≡ all_declare_last last es
+    same-all-last last none = refl
+    same-all-last last (core.more s none) = same-last last s
+    same-all-last last (core.more s (core.more e es)) =
+        two-same (declares_last false (renamed r s)) (all_declare_last last (renamed_all r (core.more e es))) (declares_last false s) (all_declare_last last (core.more e es))
+        (same-last false s) (same-all-last last (core.more e es))
+
+    same-none : (es : Cores) → none_declares (renamed_all r es) ≡ none_declares es
+    same-none none = refl
+    same-none (core.more s es) = two-same (declares_last false (renamed r s)) (none_declares (renamed_all r es)) (declares_last false s) (none_declares es) (same-last false s) (same-none es)

@@ -1,5 +1,5 @@
 -- The plain statements of a statement whose names are replaced are those of the statement, with the names replaced.
-use Rattle.std.proofs.Common.{◌≡◌, ℕ, ◌+◌, Bool, true, false, not, ◌&&◌, ◌||◌, nat_le, List, [], ◌∷◌, ◌++◌, reverse, refl, sym, ◌∙◌, ap, subst, if◌then◌else◌}
+use Rattle.std.proofs.Common.{◌≡◌, ℕ, ◌+◌, Bool, true, false, ◌&&◌, ◌||◌, nat_le, List, [], ◌∷◌, ◌++◌, reverse, refl, sym, ◌∙◌, ap, subst, if◌then◌else◌}
 use Rattle.std.specs.Prelude.{Some, None}
 use Rattle.cf_base.proofs.Tests.{both}
 use Rattle.cf_core.specs.declared.operators.LoopForm.TheVariants as form
@@ -12,7 +12,7 @@ use Rattle.cf_core.specs.Valid.{has_label}
 use Rattle.cf_plain.specs.Plain.{Register, Plains, act, set, branch, loop, switch, case_label, default_label, leave, continue, give, nothing, more}
 use Rattle.cf_plain.specs.Plain as plain
 use Rattle.cf_plain.specs.Joined as joined
-use Rattle.cf_sequence.specs.Built.{is_value, is_condition, is_element, is_held, declares_here, is_statement, is_inner_or, are_cases, are_statements, next_local}
+use Rattle.cf_sequence.specs.Built.{is_value, is_condition, is_element, is_held, is_statement, is_statement_or, are_cases, are_statements, next_local}
 use Rattle.cf_sequence.specs.Made.{Local, width, width_maybe, declared, declared_all}
 use Rattle.cf_sequence.specs.Expressions.{value, whole, finished, used}
 use Rattle.cf_sequence.specs.Statements.{Inside, opened, in_loop, in_switch, declares, held, stepped, started, returned, looping, made, passing, passes_local, passed, statement, statement_or, statements}
@@ -118,18 +118,21 @@ module _ (r : Name → Name) where
         (or-else (is_element t e) (is_held i e) (both (nat_le m i) (is_element t e || is_held i e) ok).1
         (λ element. over-element r f.classes t e element t 0 k rest) (λ kept. over-kept r f.classes i t e kept 0 k rest))
     over-statement (core.branch q a b) m ok f pr k rest =
-        let parts = both (is_value q) ((not (declares_here a) && is_statement m a) && is_inner_or m b) ok in
-        let arms = both (not (declares_here a) && is_statement m a) (is_inner_or m b) parts.1 in
-        let left = both (not (declares_here a)) (is_statement m a) arms.0 in
-        let first : over (statement f a (k + width q) nothing) ≡ statement f (again a) (k + width (again q)) nothing =
-        over-statement a m left.1 f pr (k + width q) nothing ∙ ap (λ w. statement f (again a) (k + w) nothing) (sym (same-width r q)) in
+        let parts = both (is_value q) (is_statement m a && is_statement_or m b) ok in
+        let arms = both (is_statement m a) (is_statement_or m b) parts.1 in
+        let yes : Plains = statement f a (k + width q) (finished (declared a) nothing) in
+        let yes_again : Plains = statement f (again a) (k + width (again q)) (finished (declared (again a)) nothing) in
+        let first : over yes ≡ yes_again =
+        over-statement a m arms.0 f pr (k + width q) (finished (declared a) nothing)
+        ∙ ap (statement f (again a) (k + width q)) (over-finished r (declared a) nothing ∙ ap (λ xs. finished xs nothing) (sym (same-declared r a)))
+        ∙ ap (λ w. statement f (again a) (k + w) (finished (declared (again a)) nothing)) (sym (same-width r q)) in
         let second : over (statement_or f b (k + width q + width a) nothing) ≡ statement_or f (renamed_maybe r b) (k + width (again q) + width (again a)) nothing =
         over-or b m arms.1 f pr (k + width q + width a) nothing ∙ ap (λ w. statement_or f (renamed_maybe r b) (k + w + width a) nothing) (sym (same-width r q))
         ∙ ap (λ w. statement_or f (renamed_maybe r b) (k + width (again q) + w) nothing) (sym (same-width r a)) in
-        over-condition r f.classes q parts.0 k (λ n. more (branch n (statement f a (k + width q) nothing) (statement_or f b (k + width q + width a) nothing)) rest)
-        (λ n. more (branch n (statement f (again a) (k + width (again q)) nothing) (statement_or f (renamed_maybe r b) (k + width (again q) + width (again a)) nothing)) (over rest))
+        over-condition r f.classes q parts.0 k (λ n. more (branch n yes (statement_or f b (k + width q + width a) nothing)) rest)
+        (λ n. more (branch n yes_again (statement_or f (renamed_maybe r b) (k + width (again q) + width (again a)) nothing)) (over rest))
         (λ n. ap (λ ss. more (branch n ss (over (statement_or f b (k + width q + width a) nothing))) (over rest)) first
-        ∙ ap (λ ss. more (branch n (statement f (again a) (k + width (again q)) nothing) ss) (over rest)) second)
+        ∙ ap (λ ss. more (branch n yes_again ss) (over rest)) second)
     over-statement (core.loop form.While q e body) m ok f pr k rest =
         let parts = both (is_condition q) (is_condition e && is_statement m body) ok in
         let inner = both (is_condition e) (is_statement m body) parts.1 in
@@ -166,10 +169,12 @@ module _ (r : Name → Name) where
     over-statement (core.give (given e)) m ok f pr k rest = over-returned f pr e ok k rest
     over-statement s m ok f pr k rest = never ok
 
-    over-or : (b : MaybeCore) (m : ℕ) → is_inner_or m b ≡ true → (f : Inside) → is_class f.result ≡ false → (k : ℕ) (rest : Plains)
+    over-or : (b : MaybeCore) (m : ℕ) → is_statement_or m b ≡ true → (f : Inside) → is_class f.result ≡ false → (k : ℕ) (rest : Plains)
         → over (statement_or f b k rest) ≡ statement_or f (renamed_maybe r b) k (over rest)
     over-or absent m ok f pr k rest = refl
-    over-or (given s) m ok f pr k rest = over-statement s m (both (not (declares_here s)) (is_statement m s) ok).1 f pr k rest
+    over-or (given s) m ok f pr k rest =
+        over-statement s m ok f pr k (finished (declared s) rest)
+        ∙ ap (statement f (again s) k) (over-finished r (declared s) rest ∙ ap (λ xs. finished xs (over rest)) (sym (same-declared r s)))
 
     over-statements : (es : Cores) (m : ℕ) → are_statements m es ≡ true → (f : Inside) → is_class f.result ≡ false → (k : ℕ) (rest : Plains)
         → over (statements f es k rest) ≡ statements f (renamed_all r es) k (over rest)

@@ -1,5 +1,5 @@
 -- The plain statements of a built function don't depend on the static objects of its file.
-use Rattle.std.proofs.Common.{◌≡◌, ℕ, ◌+◌, true, not, ◌&&◌, List, [], ◌∷◌, refl, ◌∙◌, ap, length}
+use Rattle.std.proofs.Common.{◌≡◌, ℕ, ◌+◌, true, ◌&&◌, List, [], ◌∷◌, refl, ◌∙◌, ap, length}
 use Rattle.std.specs.Prelude.{map, None}
 use Rattle.std.specs.List.{list_all}
 use Rattle.cf_base.proofs.Tests.{both}
@@ -8,7 +8,7 @@ use Rattle.cf_core.specs.Types.{parameters}
 use Rattle.cf_core.specs.Core as core
 use Rattle.cf_core.specs.Core.{Core, Cores, MaybeCore, Function, Static, none, absent, given}
 use Rattle.cf_plain.specs.Plain.{Plains, PlainFunction, branch, loop, switch, case_label, default_label, nothing, more}
-use Rattle.cf_sequence.specs.Built.{is_value, is_condition, declares_here, is_statement, is_inner_or, are_cases, are_statements, next_local, is_built_function}
+use Rattle.cf_sequence.specs.Built.{is_value, is_condition, is_statement, is_statement_or, are_cases, are_statements, next_local, is_built_function}
 use Rattle.cf_sequence.specs.Made.{width, width_maybe, declared, declared_all}
 use Rattle.cf_sequence.specs.Expressions.{value, whole, finished, used}
 use Rattle.cf_sequence.specs.Statements.{Inside, opened, in_loop, in_switch, declares, condition, held, passed, looping, statement, statement_or, statements}
@@ -27,11 +27,10 @@ module _ (xs : List Static) where
     same-statement (core.sequence es) m ok f k rest = same-statements es m ok f k rest
     same-statement (core.declare i t e) m ok f k rest = refl
     same-statement (core.branch q a b) m ok f k rest =
-        let parts = both (is_value q) ((not (declares_here a) && is_statement m a) && is_inner_or m b) ok in
-        let arms = both (not (declares_here a) && is_statement m a) (is_inner_or m b) parts.1 in
-        let left = both (not (declares_here a)) (is_statement m a) arms.0 in
-        ap (λ ss. condition f.classes q k (λ n. more (branch n ss (statement_or (over f) b (k + width q + width a) nothing)) rest)) (same-statement a m left.1 f (k + width q) nothing)
-        ∙ ap (λ ss. condition f.classes q k (λ n. more (branch n (statement f a (k + width q) nothing) ss) rest)) (same-or b m arms.1 f (k + width q + width a) nothing)
+        let parts = both (is_value q) (is_statement m a && is_statement_or m b) ok in
+        let arms = both (is_statement m a) (is_statement_or m b) parts.1 in
+        ap (λ ss. condition f.classes q k (λ n. more (branch n ss (statement_or (over f) b (k + width q + width a) nothing)) rest)) (same-statement a m arms.0 f (k + width q) (finished (declared a) nothing))
+        ∙ ap (λ ss. condition f.classes q k (λ n. more (branch n (statement f a (k + width q) (finished (declared a) nothing)) ss) rest)) (same-or b m arms.1 f (k + width q + width a) nothing)
     same-statement (core.loop form.While q e body) m ok f k rest =
         let inner = (both (is_condition e) (is_statement m body) (both (is_condition q) (is_condition e && is_statement m body) ok).1).1 in
         ap (λ ss. looping f.classes q e k ss rest) (same-statement body m inner (in_loop f) (k + width_maybe q + width_maybe e) (finished (declared body) nothing))
@@ -51,9 +50,9 @@ module _ (xs : List Static) where
     same-statement (core.give (given e)) m ok f k rest = refl
     same-statement s m ok f k rest = never ok
 
-    same-or : (b : MaybeCore) (m : ℕ) → is_inner_or m b ≡ true → (f : Inside) (k : ℕ) (rest : Plains) → statement_or (over f) b k rest ≡ statement_or f b k rest
+    same-or : (b : MaybeCore) (m : ℕ) → is_statement_or m b ≡ true → (f : Inside) (k : ℕ) (rest : Plains) → statement_or (over f) b k rest ≡ statement_or f b k rest
     same-or absent m ok f k rest = refl
-    same-or (given s) m ok f k rest = same-statement s m (both (not (declares_here s)) (is_statement m s) ok).1 f k rest
+    same-or (given s) m ok f k rest = same-statement s m ok f k (finished (declared s) rest)
 
     same-statements : (es : Cores) (m : ℕ) → are_statements m es ≡ true → (f : Inside) (k : ℕ) (rest : Plains) → statements (over f) es k rest ≡ statements f es k rest
     same-statements none m ok f k rest = refl

@@ -1,5 +1,5 @@
 -- Scopes: the ways out of a statement, the end of a scope, and the arms of a branch.
-use Rattle.std.proofs.Common.{◌≡◌, ℕ, ◌+◌, ◌≤◌, Bool, true, false, not, ◌||◌, List, [], ◌++◌, refl, sym, ◌∙◌, ap, subst, arith, append-nil}
+use Rattle.std.proofs.Common.{◌≡◌, ℕ, ◌+◌, ◌≤◌, Bool, true, false, not, ◌||◌, List, [], ◌++◌, refl, sym, ◌∙◌, ap, subst, arith, append-nil, append_assoc}
 use Rattle.std.specs.Prelude.{Some}
 use Rattle.cf_base.specs.World.{World, Ran, Went, and_then}
 use Rattle.cf_core.specs.Types.{SourceType, Name, is_class}
@@ -23,8 +23,8 @@ use Rattle.cf_sequence.proofs.Calling.{Bodies}
 use Rattle.cf_sequence.proofs.Kept.{Kept}
 use Rattle.cf_sequence.proofs.PlainSteps.{runs_on}
 use Rattle.cf_sequence.proofs.Operands.{H}
-use Rattle.cf_sequence.proofs.Moving.{all_gone, gone-frame, gone-append, ends-all, Held, held-kept, finished-steps, Moved, moved-count, moved-then, moved-kept, with_scope, moved-scope, moved-opened, moved-gone, Beyond}
-use Rattle.cf_sequence.proofs.Standing.{Open, inside_of, Stands, stands-later, inner-next, inner-declared, Turns}
+use Rattle.cf_sequence.proofs.Moving.{all_gone, gone-frame, gone-append, ends-all, Held, held-kept, held-parts, held-none, held-below, finished-steps, Moved, moved-count, moved-then, moved-kept, with_scope, moved-scope, moved-opened, moved-gone, Beyond}
+use Rattle.cf_sequence.proofs.Standing.{Open, inside_of, Stands, stands-later, inner-declared, Turns}
 
 module _ (again : calling.Again) (again' : running.Again) (P : Program) (bodies : Bodies again again' P)
     (chains : (name : Name) (f : Function) → function_named P name ≡ Some f → is_chain f.type ≡ true)
@@ -52,6 +52,23 @@ module _ (again : calling.Again) (again' : running.Again) (P : Program) (bodies 
   Fallen n xs m c K rest s f =
       (t : State) (g : Frame) (h : Registers) (w : World) → Moved m s f t g → Held g.locals n xs t.frame.scope → n ≤ t.frame.count
       → Follows S (c calling.Falls t w) (runs_on again' (H again again' P) rest h K (with_frame g t) w)
+
+  -- The same where that is the last statement of its scope: then the plain statements may have ended the newest objects of the scope already.
+  abbrev pub FallenAt : Bool → (n : ℕ) (xs : List Local) (m : ℕ) (c : calling.Flow → Act A) (K : Flow → Act B) (rest : Plains) (s : State) (f : Frame) → Type 0
+  FallenAt last n xs m c K rest s f =
+      (t : State) (g : Frame) (h : Registers) (w : World) → Moved m s f t g → (os ps : List ℕ) → t.frame.scope ≡ os ++ ps → (last ≡ false → os ≡ []) → Held g.locals n xs ps → n ≤ t.frame.count
+      → Follows S (c calling.Falls t w) (runs_on again' (H again again' P) rest h K (with_frame g (all_gone os t)) w)
+
+  pub fallen : (last : Bool) (n : ℕ) (xs : List Local) (m : ℕ) (c : calling.Flow → Act A) (K : Flow → Act B) (rest : Plains) (s : State) (f : Frame)
+      → FallenAt last n xs m c K rest s f → Fallen n xs m c K rest s f
+  fallen last n xs m c K rest s f falls t g h w v held low = falls t g h w v [] t.frame.scope refl (λ e. refl) held low
+
+  pub fallen-at : (n : ℕ) (xs : List Local) (m : ℕ) (c : calling.Flow → Act A) (K : Flow → Act B) (rest : Plains) (s : State) (f : Frame)
+      → Fallen n xs m c K rest s f → FallenAt false n xs m c K rest s f
+  fallen-at n xs m c K rest s f falls t g h w v os ps split early held low =
+      let empty : os ≡ [] = early refl in
+      subst (λ qs. Follows S (c calling.Falls t w) (runs_on again' (H again again' P) rest h K (with_frame g (all_gone qs t)) w)) (sym empty)
+      (falls t g h w v (subst (λ qs. Held g.locals n xs qs) (sym (split ∙ ap (λ qs. qs ++ ps) empty)) held) low)
 
   -- behind an expression
   pub fall-on : (o : Open) (D : Beyond) (m k : ℕ) (c : calling.Flow → Act A) (K : Flow → Act B) (rest : Plains) (s : State) (f : Frame) → Stands o D m k s f → Fallen m o.here m c K rest s f
@@ -81,6 +98,9 @@ module _ (again : calling.Again) (again' : running.Again) (P : Program) (bodies 
   pub scope-gone : (xs os : List ℕ) (t : State) (h fr : Frame) → with_frame h (all_gone xs (with_frame fr (all_gone os t))) ≡ with_frame h (all_gone (os ++ xs) t)
   scope-gone xs os t h fr = ap (with_frame h) (gone-frame xs (all_gone os t) fr) ∙ sym (ap (with_frame h) (gone-append os xs t))
 
+  pub scope-ended : (ps qs : List ℕ) (t : State) → t.frame.scope ≡ ps ++ qs → all_gone t.frame.scope t ≡ all_gone qs (all_gone ps t)
+  scope-ended ps qs t split = ap (λ os. all_gone os t) split ∙ gone-append ps qs t
+
   pub moved-out : (m : ℕ) (s : State) (f : Frame) (t : State) (g : Frame) → Moved m (with_scope [] s) f t g → Moved m s f (with_scope s.frame.scope (all_gone t.frame.scope t)) g
   moved-out m s f t g v =
       moved-scope m s f (all_gone t.frame.scope t) g s.frame.scope (moved-gone m s f t g t.frame.scope (moved-opened m s [] f t g v))
@@ -107,16 +127,17 @@ module _ (again : calling.Again) (again' : running.Again) (P : Program) (bodies 
         (ways.returns x (with_scope s.frame.scope (all_gone t.frame.scope t)) g w (moved-out m s f t g v)));
   }
 
-  -- the end of a scope
-  pub close-steps : (m n : ℕ) (xs : List Local) (s : State) (f : Frame) (os : List ℕ) (rest : Plains) (c : calling.Flow → Act A) (K : Flow → Act B) (flow : calling.Flow)
-      (t : State) (g : Frame) (h : Registers) (w : World)
-      → Held g.locals n (xs ++ []) t.frame.scope
+  -- the end of a scope, of which the newest objects have ended already
+  pub close-steps : (n : ℕ) (xs : List Local) (os : List ℕ) (rest : Plains) (c : calling.Flow → Act A) (K : Flow → Act B) (flow : calling.Flow)
+      (t : State) (g : Frame) (h : Registers) (w : World) (ps qs : List ℕ)
+      → t.frame.scope ≡ ps ++ qs → Held g.locals n (xs ++ []) qs
       → Follows S (c flow (with_scope os (all_gone t.frame.scope t)) w) (runs_on again' (H again again' P) rest h K (with_frame g (all_gone t.frame.scope t)) w)
-      → Follows S (and_then (closing_scope os flow t w) (on c)) (runs_on again' (H again again' P) (finished xs rest) h K (with_frame g t) w)
-  close-steps m n xs s f os rest c K flow t g h w held next =
-      finished-steps again' (H again again' P) classless A B S xs t.frame.scope n rest h K _ t g w
-      (subst (λ ys. Held g.locals n ys t.frame.scope) (append-nil xs) held)
-      (scope-steps os flow t w c _ next)
+      → Follows S (and_then (closing_scope os flow t w) (on c)) (runs_on again' (H again again' P) (finished xs rest) h K (with_frame g (all_gone ps t)) w)
+  close-steps n xs os rest c K flow t g h w ps qs split held next =
+      finished-steps again' (H again again' P) classless A B S xs qs n rest h K _ (all_gone ps t) g w
+      (subst (λ ys. Held g.locals n ys qs) (append-nil xs) held)
+      (subst (λ z. Follows S (and_then (closing_scope os flow t w) (on c)) (runs_on again' (H again again' P) rest h K (with_frame g z) w)) (scope-ended ps qs t split)
+      (scope-steps os flow t w c _ next))
 
   abbrev pub Does : Core → Type 0
   Does st =
@@ -124,6 +145,18 @@ module _ (again : calling.Again) (again' : running.Again) (P : Program) (bodies 
       (c : calling.Flow → Act A) (K : Flow → Act B)
       → Stands o D m k s f → k + width st ≤ f.count → Ways D m s f c K → Fallen (next_local m st) (declared st ++ o.here) m c K rest s f
       → Follows S (and_then (does.does again P st s w) (on c)) (runs_on again' (H again again' P) (statement (inside_of P R C o) st k rest) g K (with_frame f s) w)
+
+  -- where a statement may be the last of its scope
+  abbrev pub DoesAt : Bool → Core → Type 0
+  DoesAt last st =
+      (m : ℕ) → is_statement m st ≡ true → (o : Open) (D : Beyond) (k : ℕ) (rest : Plains) (g : Registers) (s : State) (f : Frame) (w : World)
+      (c : calling.Flow → Act A) (K : Flow → Act B)
+      → Stands o D m k s f → k + width st ≤ f.count → Ways D m s f c K → FallenAt last (next_local m st) (declared st ++ o.here) m c K rest s f
+      → Follows S (and_then (does.does again P st s w) (on c)) (runs_on again' (H again again' P) (statement (inside_of P R C o) st k rest) g K (with_frame f s) w)
+
+  pub does-first : (st : Core) → DoesAt false st → Does st
+  does-first st does-it m ok o D k rest g s f w c K st0 room ways falls =
+      does-it m ok o D k rest g s f w c K st0 room ways (fallen-at (next_local m st) (declared st ++ o.here) m c K rest s f falls)
 
   pub by-or : {X : Type 0} (a b : Bool) → (a || b) ≡ true → (a ≡ true → X) → (b ≡ true → X) → X
   by-or true b ok f g = f refl
@@ -136,16 +169,26 @@ module _ (again : calling.Again) (again' : running.Again) (P : Program) (bodies 
   pub ways-behind : (rest : Plains) (D : Beyond) (m : ℕ) (s : State) (f : Frame) (c : calling.Flow → Act A) (K : Flow → Act B) → Ways D m s f c K → Ways D m s f c (behind rest K)
   ways-behind rest D m s f c K ways = record { breaks = ways.breaks; continues = ways.continues; returns = ways.returns }
 
-  -- one arm of a branch
-  pub arm-steps : (a : Core) → Does a → (m : ℕ) → not (declares_here a) ≡ true → is_statement m a ≡ true
+  -- one arm of a branch: what it declares in the scope at hand ends with it, where that is the last statement of the scope
+  pub arm-steps : (last : Bool) (a : Core) → DoesAt last a → (last || not (declares_here a)) ≡ true → (m : ℕ) → is_statement m a ≡ true
       → (o : Open) (D : Beyond) (k l : ℕ) (rest : Plains) (h : Registers) (s : State) (f : Frame) (t : State) (g : Frame) (w : World) (c : calling.Flow → Act A) (K : Flow → Act B)
-      → Stands o D m k s f → Moved m s f t g → Stands o D m l t g → l + width a ≤ g.count → Ways D m s f c K → Fallen m o.here m c K rest s f
-      → Follows S (and_then (does.does again P a t w) (on c)) (runs_on again' (H again again' P) (statement (inside_of P R C o) a l nothing) h (behind rest K) (with_frame g t) w)
-  arm-steps a does-a m inner ok o D k l rest h s f t g w c K st v st1 room ways falls =
-      does-a m ok o D l nothing h t g w c (behind rest K) st1 room (ways-behind rest D m t g c K (ways-later D m m s f t g c K (omega arith) v ways)) (λ u g2 h2 w2 v2 held low.
-      falls u g2 h2 w2 (moved-then m m s f t g u g2 (omega arith) v v2)
-      (subst (λ xs. Held g2.locals m (xs ++ o.here) u.frame.scope) (inner-declared a inner) (subst (λ n. Held g2.locals n (declared a ++ o.here) u.frame.scope) (inner-next m a inner) held))
-      (subst (λ n. n ≤ u.frame.count) (inner-next m a inner) low))
+      → Stands o D m k s f → Moved m s f t g → Stands o D m l t g → l + width a ≤ g.count → Ways D m s f c K → FallenAt last m o.here m c K rest s f
+      → Follows S (and_then (does.does again P a t w) (on c))
+      (runs_on again' (H again again' P) (statement (inside_of P R C o) a l (finished (declared a) nothing)) h (behind rest K) (with_frame g t) w)
+  arm-steps last a does-a placed m ok o D k l rest h s f t g w c K st v st1 room ways falls =
+      does-a m ok o D l (finished (declared a) nothing) h t g w c (behind rest K) st1 room (ways-behind rest D m t g c K (ways-later D m m s f t g c K (omega arith) v ways))
+      (λ u g2 h2 w2 v2 os ps split early held low.
+      let both = held-parts g2.locals (next_local m a) (declared a) o.here ps held in
+      let later : Moved m s f u g2 = moved-then m m s f t g u g2 (omega arith) v v2 in
+      finished-steps again' (H again again' P) classless A B S (declared a) both.first (next_local m a) nothing h2 (behind rest K) _ (all_gone os u) g2 w2 both.first_held
+      (subst (λ z. Follows S (c calling.Falls u w2) (runs_on again' (H again again' P) rest h2 K (with_frame g2 z) w2)) (gone-append os both.first u)
+      (falls u g2 h2 w2 later (os ++ both.first) both.second (split ∙ ap (λ qs. os ++ qs) both.parts ∙ sym (append_assoc os both.first both.second))
+      (λ e.
+      ap (λ qs. qs ++ both.first) (early e)
+      ∙ held-none g2.locals (next_local m a) both.first
+      (subst (λ xs. Held g2.locals (next_local m a) xs both.first) (inner-declared a (subst (λ b. (b || not (declares_here a)) ≡ true) e placed)) both.first_held))
+      (held-below f.locals g2.locals m (next_local m a) o.here s.frame.scope both.second st.here both.second_held)
+      (let e = moved-count m s f u g2 later in let first = st.low in omega arith))))
 
   -- behind a condition
   pub stands-on : (o : Open) (D : Beyond) (m k l : ℕ) (s : State) (f : Frame) (t : State) (g : Frame) → Stands o D m k s f → t.frame ≡ s.frame → Kept k f g → k ≤ l → l ≤ f.count

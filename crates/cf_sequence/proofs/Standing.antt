@@ -22,7 +22,7 @@ use Rattle.cf_plain.specs.Acts.{Registers}
 use Rattle.cf_plain.specs.Running as running
 use Rattle.cf_plain.specs.Running.{Flow, Falls, Breaks, Continues, Returns, keep, falling, turning, all}
 use Rattle.cf_sequence.specs.Follows.{Follows}
-use Rattle.cf_sequence.specs.Built.{is_value, is_element, is_held, behind_declared, next_local, next_locals, declares_here, any_declares, is_statement, are_statements}
+use Rattle.cf_sequence.specs.Built.{is_value, is_element, is_held, behind_declared, next_local, next_locals, declares_here, any_declares, is_statement, are_statements, declares_last}
 use Rattle.cf_sequence.specs.Made.{Local, width, width_maybe, declared, declared_all}
 use Rattle.cf_sequence.specs.Expressions.{finished}
 use Rattle.cf_sequence.specs.Statements.{Inside, in_loop, statement, held, stepped}
@@ -136,17 +136,6 @@ neither-declares true b ok = never ok
 neither-declares false b ok = (refl, ok)
 
 mutual
-  pub inner-next : (m : ℕ) (s : Core) → not (declares_here s) ≡ true → next_local m s ≡ m
-  inner-next m (core.declare i t e) ok = never ok
-  inner-next m (core.sequence es) ok = inner-nexts m es ok
-  inner-next m s ok = refl
-
-  inner-nexts : (m : ℕ) (es : Cores) → not (any_declares es) ≡ true → next_locals m es ≡ m
-  inner-nexts m none ok = refl
-  inner-nexts m (core.more s rest) ok =
-      let parts = neither-declares (declares_here s) (any_declares rest) ok in ap (λ k. next_locals k rest) (inner-next m s parts.0) ∙ inner-nexts m rest parts.1
-
-mutual
   pub inner-declared : (s : Core) → not (declares_here s) ≡ true → declared s ≡ []
   inner-declared (core.declare i t e) ok = never ok
   inner-declared (core.sequence es) ok = inner-declared-all es ok
@@ -175,7 +164,7 @@ pub record Turned (D : Beyond) (m : ℕ) (s : State) (f : Frame) (x : calling.Fl
 
 -- They follow each other, and functions and further turns leave what lasts of the objects of before.
 pub record Turns (again : calling.Again) (again' : running.Again) (P : Program) : Type 0 where
-  pub follow : (R C : SourceType) → is_class R ≡ false → (how : LoopForm) (q e : MaybeCore) (body : Core) (m : ℕ) → is_statement m (core.loop how q e body) ≡ true
+  pub follow : (R C : SourceType) → is_class R ≡ false → (how : LoopForm) (q e : MaybeCore) (body : Core) (m : ℕ) → is_statement m (core.loop how q e body) ≡ true → declares_last true body ≡ true
       → (o : Open) (D : Beyond) (k : ℕ) (g : Registers) (s : State) (f : Frame) (w : World)
       → Stands o D m k s f → k + width (core.loop how q e body) ≤ f.count
       → Follows (Turned D m s f) (again (turn (core.loop how q e body)) s w)

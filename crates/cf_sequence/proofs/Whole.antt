@@ -25,7 +25,7 @@ use Rattle.cf_plain.specs.Program.{PlainMean, headers}
 use Rattle.cf_plain.specs.Running as running
 use Rattle.cf_plain.specs.Running.{Flow, Falls, Breaks, Continues, Returns, calls, core_flow, header, plain_named, all, falling, turning}
 use Rattle.cf_sequence.specs.Follows.{Follows}
-use Rattle.cf_sequence.specs.Built.{is_statement, is_chain, is_body, is_built_function, is_plain_role, is_plainly_built, is_built_setting, is_none, next_local}
+use Rattle.cf_sequence.specs.Built.{is_statement, is_chain, is_body, is_built_function, is_plain_role, is_plainly_built, is_built_setting, is_none, next_local, declares_last}
 use Rattle.cf_sequence.specs.Made.{Local, added, width, declared, numbered}
 use Rattle.cf_sequence.specs.Expressions.{finished}
 use Rattle.cf_sequence.specs.Statements.{statement}
@@ -36,7 +36,7 @@ use Rattle.cf_sequence.proofs.Following.{on, pull}
 use Rattle.cf_sequence.proofs.Calling.{Alike, Bodies, FlowAs, SameObjects, Ended, never, named-header, found-steps, plain_program as plain_of, plain_function as beside}
 use Rattle.cf_sequence.proofs.Moving.{all_gone, gone-frame, gone-append, ends-all, destroy-nothing, Held, held-kept, finished-steps, Moved, with_scope, Beyond}
 use Rattle.cf_sequence.proofs.Standing.{Open, Stands, Turned, Turns, inside_of, turn_code, step_code}
-use Rattle.cf_sequence.proofs.Scopes.{Ways, scope-steps, closing_scope}
+use Rattle.cf_sequence.proofs.Scopes.{Ways, fallen-at, scope-ended, scope-steps, closing_scope}
 use Rattle.cf_sequence.proofs.Doing.{follow-statement}
 use Rattle.cf_sequence.proofs.LastingCode.{Rests, rests-at}
 use Rattle.cf_sequence.proofs.Settings.{setting_of, first-stood, settings-steps}
@@ -164,6 +164,7 @@ pub record Parts (f : Function) : Type 0 where
   pub main : (not (bytes_eq f.name (codes "__main")) || is_none (parameters f.type)) ≡ true
   pub scalar : is_class (result f.type) ≡ false
   pub statement : is_statement (length (parameters f.type)) f.body ≡ true
+  pub last : declares_last true f.body ≡ true
 
 pub built-parts : (f : Function) → is_built_function f ≡ true → Parts f
 built-parts f ok =
@@ -171,8 +172,9 @@ built-parts f ok =
     let one = both (is_plain_role f.role) (is_chain f.type && (main_ok && is_body f)) ok in
     let two = both (is_chain f.type) (main_ok && is_body f) one.1 in
     let three = both main_ok (is_body f) two.1 in
-    let four = both (not (is_class (result f.type))) (is_statement (length (parameters f.type)) f.body) three.1 in
-    record { role = role-is f.role one.0; chain = two.0; main = three.0; scalar = no-result (is_class (result f.type)) four.0; statement = four.1 }
+    let four = both (not (is_class (result f.type))) (is_statement (length (parameters f.type)) f.body && declares_last true f.body) three.1 in
+    let five = both (is_statement (length (parameters f.type)) f.body) (declares_last true f.body) four.1 in
+    record { role = role-is f.role one.0; chain = two.0; main = three.0; scalar = no-result (is_class (result f.type)) four.0; statement = five.0; last = five.1 }
 
 module _ (again : calling.Again) (again' : running.Again) (xs : List Static) (ks : List Setting) (fs : List Function) (bodies : Bodies again again' (of_parts xs ks fs))
     (chains : (name : Name) (f : Function) → function_named (of_parts xs ks fs) name ≡ Some f → is_chain f.type ≡ true)
@@ -208,13 +210,13 @@ module _ (again : calling.Again) (again' : running.Again) (xs : List Static) (ks
     all-returned : (t : State) (g : Frame) → with_frame g (all_gone (t.frame.scope ++ reverse args) t) ≡ with_frame g (all_gone (reverse args) (with_scope [] (all_gone t.frame.scope t)))
     all-returned t g = ap (with_frame g) (gone-append t.frame.scope (reverse args) t) ∙ all-ended t g
 
-  body-follows : (f : Function) → is_class (result f.type) ≡ false → is_statement (length (parameters f.type)) f.body ≡ true → (args : List ℕ) → length args ≡ length (parameters f.type)
+  body-follows : (f : Function) → is_class (result f.type) ≡ false → is_statement (length (parameters f.type)) f.body ≡ true → declares_last true f.body ≡ true → (args : List ℕ) → length args ≡ length (parameters f.type)
       → (depth : ℕ) (s : State) (w : World)
       → Follows Ended
       (and_then (in_scope again P (does.does again P f.body) (with_frame (frame_of f.name (local_count f) args None None depth) s) w)
       (on (λ flow. for_all (reverse args) (end_object again P) >> gives flow)))
       (and_then (all again' H (sequenced_body [] xs f) no_registers (with_frame (frame_of f.name (local_count (beside again again' P f)) args None None depth) s) w) (on gives))
-  body-follows f scalar ok args many depth s w =
+  body-follows f scalar ok placed args many depth s w =
       let e : Frame = frame_of f.name (local_count f) args None None depth in
       let g : Frame = frame_of f.name (local_count (beside again again' P f)) args None None depth in
       let s0 : State = with_frame e s in
@@ -234,7 +236,7 @@ module _ (again : calling.Again) (again' : running.Again) (xs : List Static) (ks
       (and_then (all again' H (statement (inside_of P R C o) f.body k (finished (declared f.body) (if b then nothing else finished params nothing))) no_registers (with_frame g s) w) (on gives)))
       (sym scalar)
       (pull (does.does again P f.body s0 w) (closes R C scalar args) (last R C scalar args) _
-      (follow-statement again again' P bodies chains refl turns R C scalar calling.Flow Flow Ended f.body m ok o D k
+      (follow-statement again again' P bodies chains refl turns R C scalar calling.Flow Flow Ended f.body true placed m ok o D k
       (finished (declared f.body) (finished params nothing)) no_registers s0 g w (λ flow. closes R C scalar args flow >>= last R C scalar args) gives
       (record {
         ready = record { alike = record { function = refl; this = refl; result = refl; depth = refl }; count = omega arith; wide = omega arith; locals = λ i lt. refl };
@@ -251,12 +253,14 @@ module _ (again : calling.Again) (again' : running.Again) (xs : List Static) (ks
         continues = λ t g2 h w2 v. ended-with R C scalar args calling.Continues (Continues h) t _ w2 tt tt;
         returns = λ x t g2 w2 v. ended-with R C scalar args (calling.Returns x) (Returns x) t (with_frame g2 (all_gone (t.frame.scope ++ reverse args) t)) w2 refl (all-returned R C scalar args t g2);
       })
-      (λ t g2 h w2 v held-now low.
-      finished-steps again' H refl calling.Flow Flow Ended (declared f.body) t.frame.scope (next_local m f.body) (finished params nothing) h gives _ t g2 w2
-      (subst (λ xs. Held g2.locals (next_local m f.body) xs t.frame.scope) (append-nil (declared f.body)) held-now)
+      (λ t g2 h w2 v ps qs split early held-now low.
+      finished-steps again' H refl calling.Flow Flow Ended (declared f.body) qs (next_local m f.body) (finished params nothing) h gives _ (all_gone ps t) g2 w2
+      (subst (λ xs. Held g2.locals (next_local m f.body) xs qs) (append-nil (declared f.body)) held-now)
+      (subst (λ z. Follows Ended (and_then (closes R C scalar args calling.Falls t w2) (on (last R C scalar args))) (and_then (all again' H (finished params nothing) h (with_frame g2 z) w2) (on gives)))
+      ((scope-ended again again' P bodies chains refl turns R C scalar calling.Flow Flow Ended) ps qs t split)
       (finished-steps again' H refl calling.Flow Flow Ended params (reverse args) m nothing h gives _ (all_gone t.frame.scope t) g2 w2
       (held-kept (λ i. slice_get args i) g2.locals m m params (reverse args) held (omega arith) v.below)
-      (ended-with R C scalar args calling.Falls (Falls h) t (with_frame g2 (all_gone (reverse args) (all_gone t.frame.scope t))) w2 tt (all-ended R C scalar args t g2))))))
+      (ended-with R C scalar args calling.Falls (Falls h) t (with_frame g2 (all_gone (reverse args) (all_gone t.frame.scope t))) w2 tt (all-ended R C scalar args t g2)))))))
 
   -- a function's body, with what comes round it
   entered-follows : (f : Function) → is_built_function f ≡ true → (args : List ℕ) → length args ≡ length (parameters f.type) → (depth : ℕ) (s : State) (w : World)
@@ -270,7 +274,7 @@ module _ (again : calling.Again) (again' : running.Again) (xs : List Static) (ks
       subst (λ role. Follows Ended (core_body again P role (is_class (result f.type)) f.body args s0 w) (plain_body again' H role (is_class (result f.type)) (sequenced_body [] xs f) t0 w))
       (sym parts.role)
       (subst (λ b. Follows Ended (core_body again P plain_function b f.body args s0 w) (plain_body again' H plain_function b (sequenced_body [] xs f) t0 w)) (sym parts.scalar)
-      (body-follows f parts.scalar parts.statement args many depth s w))
+      (body-follows f parts.scalar parts.statement parts.last args many depth s w))
 
 unit-right : {A : Type 0} (x : Ran (Did A)) → and_then x (on gives) ≡ x
 unit-right (Went (Gives a s) w) = refl
@@ -340,20 +344,23 @@ module _ (xs : List Static) (ks : List Setting) (fs : List Function) (set : list
   rests : (n : ℕ) → Rests (runs (of_parts xs ks fs) n) (of_parts xs ks fs)
   rests n = rests-at (of_parts xs ks fs) refl (λ name f found. let parts = built-parts f (found-built name fs f found ok) in (parts.role, parts.statement)) n
 
-  next-follows : (n : ℕ) → Both n → (R C : SourceType) → is_class R ≡ false → (how : LoopForm) (q e : MaybeCore) (body : Core) (m : ℕ) → is_statement m (core.loop how q e body) ≡ true
+  next-follows : (n : ℕ) → Both n → (R C : SourceType) → is_class R ≡ false → (how : LoopForm) (q e : MaybeCore) (body : Core) (m : ℕ) → is_statement m (core.loop how q e body) ≡ true → declares_last true body ≡ true
       → (o : Open) (D : Beyond) (k : ℕ) (g : Registers) (s : State) (f : Frame) (w : World)
       → Stands o D m k s f → k + width (core.loop how q e body) ≤ f.count
       → Follows (Turned D m s f) (runs (of_parts xs ks fs) (suc n) (calling.turn (core.loop how q e body)) s w)
       (running.runs Q code_of (suc n) (running.turn (turn_code (inside_of (of_parts xs ks fs) R C o) how q e body k) (step_code (inside_of (of_parts xs ks fs) R C o) how q e body k) g) (with_frame f s) w)
-  next-follows n b R C scalar form.While q e body m is-ok o D k g s f w st room = turn-by n form.While q e body o D m k g s f w R C
+  next-follows n b R C scalar form.While q e body m is-ok placed o D k g s f w st room = turn-by n form.While q e body o D m k g s f w R C
       (follow-statement (runs (of_parts xs ks fs) n) (running.runs Q code_of n) (of_parts xs ks fs) b.bodies chains-of refl b.turns R C scalar calling.Flow Flow (Turned D m s f)
-      (core.loop form.While q e body) m is-ok o D k nothing g s f w gives gives st room (turn-ways n b R C scalar o D m k s f) (λ t g h w v held low. turn-falls o D m k s f st t g h w v held))
-  next-follows n b R C scalar form.For q e body m is-ok o D k g s f w st room = turn-by n form.For q e body o D m k g s f w R C
+      (core.loop form.While q e body) false placed m is-ok o D k nothing g s f w gives gives st room (turn-ways n b R C scalar o D m k s f) (fallen-at (runs (of_parts xs ks fs) n) (running.runs Q code_of n) (of_parts xs ks fs) b.bodies chains-of refl b.turns R C scalar calling.Flow Flow (Turned D m s f)
+      m o.here m gives gives nothing s f (λ t g h w v held low. turn-falls o D m k s f st t g h w v held)))
+  next-follows n b R C scalar form.For q e body m is-ok placed o D k g s f w st room = turn-by n form.For q e body o D m k g s f w R C
       (follow-statement (runs (of_parts xs ks fs) n) (running.runs Q code_of n) (of_parts xs ks fs) b.bodies chains-of refl b.turns R C scalar calling.Flow Flow (Turned D m s f)
-      (core.loop form.For q e body) m is-ok o D k nothing g s f w gives gives st room (turn-ways n b R C scalar o D m k s f) (λ t g h w v held low. turn-falls o D m k s f st t g h w v held))
-  next-follows n b R C scalar form.Do q e body m is-ok o D k g s f w st room = turn-by n form.Do q e body o D m k g s f w R C
+      (core.loop form.For q e body) false placed m is-ok o D k nothing g s f w gives gives st room (turn-ways n b R C scalar o D m k s f) (fallen-at (runs (of_parts xs ks fs) n) (running.runs Q code_of n) (of_parts xs ks fs) b.bodies chains-of refl b.turns R C scalar calling.Flow Flow (Turned D m s f)
+      m o.here m gives gives nothing s f (λ t g h w v held low. turn-falls o D m k s f st t g h w v held)))
+  next-follows n b R C scalar form.Do q e body m is-ok placed o D k g s f w st room = turn-by n form.Do q e body o D m k g s f w R C
       (follow-statement (runs (of_parts xs ks fs) n) (running.runs Q code_of n) (of_parts xs ks fs) b.bodies chains-of refl b.turns R C scalar calling.Flow Flow (Turned D m s f)
-      (core.loop form.Do q e body) m is-ok o D k nothing g s f w gives gives st room (turn-ways n b R C scalar o D m k s f) (λ t g h w v held low. turn-falls o D m k s f st t g h w v held))
+      (core.loop form.Do q e body) false placed m is-ok o D k nothing g s f w gives gives st room (turn-ways n b R C scalar o D m k s f) (fallen-at (runs (of_parts xs ks fs) n) (running.runs Q code_of n) (of_parts xs ks fs) b.bodies chains-of refl b.turns R C scalar calling.Flow Flow (Turned D m s f)
+      m o.here m gives gives nothing s f (λ t g h w v held low. turn-falls o D m k s f st t g h w v held)))
 
   next-bodies : (n : ℕ) → Both n → Bodies (runs (of_parts xs ks fs) (suc n)) (running.runs Q code_of (suc n)) (of_parts xs ks fs)
   next-bodies n b name f found args many depth s w =
@@ -367,7 +374,7 @@ module _ (xs : List Static) (ks : List Setting) (fs : List Function) (set : list
       (entered-follows again again' xs ks fs b.bodies chains-of b.turns f (found-built name fs f found ok) args many depth s w)
 
   both-at : (n : ℕ) → Both n
-  both-at zero = record { bodies = λ name f found args many depth s w. record { by = refl }; turns = record { follow = λ R C scalar how q e body m is-ok o D k g s f w st room. record { by = refl }; rests = rests zero } }
+  both-at zero = record { bodies = λ name f found args many depth s w. record { by = refl }; turns = record { follow = λ R C scalar how q e body m is-ok placed o D k g s f w st room. record { by = refl }; rests = rests zero } }
   both-at (suc n) = record { bodies = next-bodies n (both-at n); turns = record { follow = next-follows n (both-at n); rests = rests (suc n) } }
 
   -- ---- the whole run

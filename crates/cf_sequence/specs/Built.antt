@@ -1,6 +1,7 @@
 -- The cores that are built so far: functions over numbers and pointers, with locals, references, temporaries, literals,
 -- calls and all statements, lists that are the initialisers of arrays, and static objects with constant initialisers; no class.
 use Rattle.std.specs.Prelude.{ℕ, suc, Bool, true, false, ◌&&◌, ◌||◌, not, nat_le, nat_lt, nat_eq, List, [], ◌∷◌, length, bytes_eq, codes}
+use Rattle.std.specs.Char.{is_ascii_digit}
 use Rattle.std.specs.List.{list_all, starts_with}
 use Rattle.cf_core.specs.Types.{Name, SourceType, array, const, takes, gives, result, is_class, parameters, plain, element}
 use Rattle.cf_core.specs.Core as core
@@ -134,7 +135,7 @@ abbrev mutual
   is_statement m (core.block es) = are_statements m es
   is_statement m (core.sequence es) = are_statements m es
   is_statement m (core.declare i t e) = nat_le m i && (is_element t e || is_held i e)
-  is_statement m (core.branch c a b) = is_value c && ((not (declares_here a) && is_statement m a) && is_inner_or m b)
+  is_statement m (core.branch c a b) = is_value c && (is_statement m a && is_statement_or m b)
   is_statement m (core.loop _ c e s) = is_condition c && (is_condition e && is_statement m s)
   is_statement m (core.switch e es) = is_value e && are_cases m es
   is_statement m core.leave = true
@@ -143,9 +144,9 @@ abbrev mutual
   is_statement m (core.give (given e)) = is_value e
   is_statement m s = false
 
-  pub is_inner_or : ℕ → MaybeCore → Bool
-  is_inner_or m absent = true
-  is_inner_or m (given s) = not (declares_here s) && is_statement m s
+  pub is_statement_or : ℕ → MaybeCore → Bool
+  is_statement_or m absent = true
+  is_statement_or m (given s) = is_statement m s
 
   -- the labels of a switch and its statements
   pub are_cases : ℕ → Cores → Bool
@@ -155,6 +156,31 @@ abbrev mutual
   pub are_statements : ℕ → Cores → Bool
   are_statements m none = true
   are_statements m (core.more s rest) = is_statement m s && are_statements (next_local m s) rest
+
+-- What is declared as the statement of an `if` by itself ends with the scope around it (6.5.3). An arm ends what it declares, so that the `if` has to be the last
+-- statement of its scope; `last` tells whether a statement is.
+abbrev mutual
+  pub declares_last : Bool → Core → Bool
+  declares_last last (core.block es) = all_declare_last true es
+  declares_last last (core.sequence es) = all_declare_last last es
+  declares_last last (core.branch c a b) = ((last || not (declares_here a)) && declares_last last a) && or_declares_last last b
+  declares_last last (core.loop _ c e s) = declares_last true s
+  declares_last last (core.switch e es) = none_declares es
+  declares_last last s = true
+
+  pub or_declares_last : Bool → MaybeCore → Bool
+  or_declares_last last absent = true
+  or_declares_last last (given s) = (last || not (declares_here s)) && declares_last last s
+
+  pub all_declare_last : Bool → Cores → Bool
+  all_declare_last last none = true
+  all_declare_last last (core.more s none) = declares_last last s
+  all_declare_last last (core.more s (core.more e es)) = declares_last false s && all_declare_last last (core.more e es)
+
+  -- of the statements of a switch none counts as the last
+  pub none_declares : Cores → Bool
+  none_declares none = true
+  none_declares (core.more s es) = declares_last false s && none_declares es
 
 -- what is known before any function is entered: a number, or the place or the address of an object or a function (8.4)
 abbrev pub is_constant_value : Core → Bool
@@ -206,7 +232,7 @@ is_plain_role plain_function = true
 is_plain_role role = false
 
 abbrev pub is_body : Function → Bool
-is_body f = not (is_class (result f.type)) && is_statement (length (parameters f.type)) f.body
+is_body f = not (is_class (result f.type)) && (is_statement (length (parameters f.type)) f.body && declares_last true f.body)
 
 -- `main` takes nothing
 abbrev pub is_built_function : Function → Bool
@@ -229,13 +255,19 @@ is_plainly_built P =
     is_none P.classes
     && (list_all (is_built_setting P.statics) P.constants && (is_none P.initialisers && list_all is_built_function P.functions))
 
--- whether a name has `__u` in it, which joining puts behind a name that is local to its file
-abbrev pub begins_mark : Name → Bool
-begins_mark n = starts_with nat_eq n (codes "__u")
+-- a number: decimal digits, one at least
+abbrev pub is_numeral : Name → Bool
+is_numeral n = not (is_none n) && list_all is_ascii_digit n
 
+-- whether a name is `__u` and a number
+abbrev pub is_mark : Name → Bool
+is_mark (a ∷ b ∷ c ∷ rest) = starts_with nat_eq (a ∷ b ∷ c ∷ rest) (codes "__u") && is_numeral rest
+is_mark n = false
+
+-- whether a name ends so: joining puts that behind a name that is local to its file, and no link name of a file has it
 abbrev pub has_mark : Name → Bool
 has_mark [] = false
-has_mark (b ∷ rest) = begins_mark (b ∷ rest) || has_mark rest
+has_mark (b ∷ rest) = is_mark (b ∷ rest) || has_mark rest
 
 -- Files of such functions and objects, where no object has a name that joining may make.
 abbrev pub is_built_file : CoreFile → Bool

@@ -1,6 +1,7 @@
 -- The place of the first construct of a core that is not built so far.
 use Rattle.std.specs.Prelude.{ℕ, Bool, true, false, ◌&&◌, ◌||◌, not, ◌==◌, nat_le, nat_lt, nat_eq, if◌then◌else◌, List, [], ◌∷◌, length, codes, bytes_eq, suc, Option, Some, None, find}
-use Rattle.std.specs.List.{starts_with}
+use Rattle.std.specs.List.{starts_with, list_all}
+use Rattle.std.specs.Char.{is_ascii_digit}
 use Rattle.std.specs.Option.{option_or}
 use Rattle.cf_core.specs.declared.node.Core.{Core as Node, fold-Core}
 use Rattle.cf_core.specs.declared.node.Core.TheOpen.{Core-F}
@@ -33,6 +34,8 @@ pub record Test : Type 0 where
   pub temporary : Option Temporary  -- as an initialiser
   pub list : Option (SourceType → Option ℕ)  -- as a list that initialises an object of this type, if it is one
   pub declares : Bool  -- whether it declares locals in the scope at hand
+  pub arms : Bool  -- whether it has an `if` in the scope at hand of which the statement declares
+  pub crowd : Option ℕ  -- as a statement: that of the first scope in it where something follows such an `if`
   pub is_label : Bool
 
 -- an expression statement
@@ -109,13 +112,9 @@ abbrev pub each_statement : ℕ → List Test → Option ℕ
 each_statement m [] = None
 each_statement m (s ∷ ss) = option_or (s.statement m) (each_statement (s.next m) ss)
 
--- what stands in a branch, where nothing is declared in the scope at hand
-abbrev pub inner : ℕ → ℕ → Test → Option ℕ
-inner at m s = if s.declares then Some at else s.statement m
-
-abbrev pub inner_or : ℕ → ℕ → Option Test → Option ℕ
-inner_or at m None = None
-inner_or at m (Some s) = inner at m s
+abbrev pub statement_or : ℕ → Option Test → Option ℕ
+statement_or m None = None
+statement_or m (Some s) = s.statement m
 
 -- a label of a switch, or a statement
 abbrev pub case : ℕ → Test → Option ℕ
@@ -171,6 +170,46 @@ declares_step (Core-F.Declare at i t e) = true
 declares_step (Core-F.Sequence at ss) = any_declares ss
 declares_step x = false
 
+-- What is declared as the statement of an `if` by itself ends with the scope around it; the `if` ends it, so that nothing may follow there (6.5.3).
+
+abbrev pub arm : Test → Bool
+arm s = s.declares || s.arms
+
+abbrev pub any_arms : List Test → Bool
+any_arms [] = false
+any_arms (s ∷ ss) = s.arms || any_arms ss
+
+abbrev pub or_arms : Option Test → Bool
+or_arms None = false
+or_arms (Some s) = arm s
+
+abbrev pub arms_step : Core-F Test Test → Bool
+arms_step (Core-F.Sequence at ss) = any_arms ss
+arms_step (Core-F.If at c a b) = arm a || or_arms b
+arms_step x = false
+
+-- of statements in order, before which there is such an `if` or not
+abbrev pub crowded : ℕ → Bool → List Test → Option ℕ
+crowded at b [] = None
+crowded at b (s ∷ ss) = if b then Some at else option_or s.crowd (crowded at s.arms ss)
+
+-- of those of a switch, where nothing counts as the last
+abbrev pub crowded_cases : ℕ → List Test → Option ℕ
+crowded_cases at [] = None
+crowded_cases at (s ∷ ss) = if s.arms then Some at else option_or s.crowd (crowded_cases at ss)
+
+abbrev pub or_crowd : Option Test → Option ℕ
+or_crowd None = None
+or_crowd (Some s) = s.crowd
+
+abbrev pub crowd_step : Core-F Test Test → Option ℕ
+crowd_step (Core-F.Block at ss) = crowded at false ss
+crowd_step (Core-F.Sequence at ss) = crowded at false ss
+crowd_step (Core-F.If at c a b) = option_or a.crowd (or_crowd b)
+crowd_step (Core-F.Loop at how c e s) = s.crowd
+crowd_step (Core-F.Switch at e ss) = crowded_cases at ss
+crowd_step x = None
+
 abbrev pub label_step : Core-F Test Test → Bool
 label_step (Core-F.Case at z) = true
 label_step (Core-F.Default at) = true
@@ -220,7 +259,7 @@ module _ (tables : Tables) where
   statement_step (Core-F.Block at ss) m = each_statement m ss
   statement_step (Core-F.Sequence at ss) m = each_statement m ss
   statement_step (Core-F.Declare at i t e) m = if nat_le m i then local at i (type_of tables t) e else Some at
-  statement_step (Core-F.If at c a b) m = option_or c.value (option_or (inner at m a) (inner_or at m b))
+  statement_step (Core-F.If at c a b) m = option_or c.value (option_or (a.statement m) (statement_or m b))
   statement_step (Core-F.Loop at how c e s) m = option_or (given c) (option_or (given e) (s.statement m))
   statement_step (Core-F.Switch at e ss) m = option_or e.value (each_case m ss)
   statement_step (Core-F.Break at) m = None
@@ -246,6 +285,8 @@ module _ (tables : Tables) where
     temporary = temporary_step x;
     list = list_step x;
     declares = declares_step x;
+    arms = arms_step x;
+    crowd = crowd_step x;
     is_label = label_step x;
   }
 
@@ -267,8 +308,11 @@ abbrev pub is_usual : Tables → CoreFn → Bool
 is_usual tables f =
     is_plain f.role && ((not (bytes_eq f.name (codes "__main")) || takes_nothing f) && not (is_class (type_of tables f.result)))
 
+abbrev pub in_body : Tables → CoreFn → Option ℕ
+in_body tables f = option_or ((test tables f.body).statement (length f.params)) (test tables f.body).crowd
+
 abbrev pub in_function : Tables → CoreFn → Option ℕ
-in_function tables f = if is_usual tables f then (test tables f.body).statement (length f.params) else Some (place f.body)
+in_function tables f = if is_usual tables f then in_body tables f else Some (place f.body)
 
 abbrev pub in_functions : Tables → List CoreFn → Option ℕ
 in_functions tables [] = None
@@ -329,13 +373,19 @@ constant_part x = x.start
 abbrev pub constant : Node → Constant
 constant = fold-Core Constant Constant constant_step constant_part
 
--- whether a name has `__u` in it, which joining puts behind a name that is local to its file
-abbrev pub begins_mark : List ℕ → Bool
-begins_mark bytes = starts_with nat_eq bytes (codes "__u")
+-- a number: decimal digits, one at least
+abbrev pub is_numeral : List ℕ → Bool
+is_numeral bytes = not (length bytes == 0) && list_all is_ascii_digit bytes
 
+-- whether a name is `__u` and a number
+abbrev pub is_mark : List ℕ → Bool
+is_mark (a ∷ b ∷ c ∷ rest) = starts_with nat_eq (a ∷ b ∷ c ∷ rest) (codes "__u") && is_numeral rest
+is_mark bytes = false
+
+-- whether a name ends so: joining puts that behind a name that is local to its file, and no link name of a file has it
 abbrev pub has_mark : List ℕ → Bool
 has_mark [] = false
-has_mark (b ∷ rest) = begins_mark (b ∷ rest) || has_mark rest
+has_mark (b ∷ rest) = is_mark (b ∷ rest) || has_mark rest
 
 -- the type of a name among the objects of a file
 abbrev pub type_named : Tables → List CoreStatic → List ℕ → SourceType

@@ -1,11 +1,14 @@
 ghost use Rattle.std.specs.Prelude.{◌≡◌, true};
 ghost use Rattle.cf_core.specs.FromTypes.{type_of};
+ghost use Rattle.std.specs.Char.{is_ascii_digit};
+ghost use Rattle.std.specs.List.{list_all};
 ghost use Rattle.cf_core.specs.FromUnit.{tables_of};
 ghost use Rattle.cf_core.specs.Numbers.{function_known, static_known};
 ghost use Rattle.cf_sequence_built.specs.Unbuilt as spec;
 
 use crate::constants::sets;
 use crate::statements::{is_blank, statement};
+use crate::arms::crowd;
 use crate::types::{is_of_class, is_reference};
 use cf_core::{CoreFn, CoreStatic, CoreUnit, Role};
 
@@ -25,7 +28,7 @@ fn in_function(unit: &CoreUnit, f: &CoreFn) -> Option<u32>
     ensures { result ≡ spec.in_function (tables_of unit.now) f.now }
 {
     if is_usual(unit, f) {
-        statement(unit, f.params.len() as u64, &f.body)
+        statement(unit, f.params.len() as u64, &f.body).or(crowd(unit, &f.body))
     } else {
         Some(f.body.at())
     }
@@ -44,13 +47,37 @@ fn in_functions(unit: &CoreUnit) -> Option<u32>
     None
 }
 
-/// Whether a name has `__u` in it, which joining puts behind a name that is local to its file.
+/// Whether these are decimal digits.
+fn are_digits(bytes: &[u8]) -> bool
+    ensures { result ≡ list_all is_ascii_digit bytes.now }
+{
+    bytes.iter().all(|byte| byte.is_ascii_digit())
+}
+
+/// Whether these are decimal digits, one at least.
+fn is_numeral(bytes: &[u8]) -> bool
+    ensures { result ≡ spec.is_numeral bytes.now }
+{
+    !bytes.is_empty() && are_digits(bytes)
+}
+
+/// Whether a name is `__u` and a number.
+fn is_mark(name: &[u8]) -> bool
+    ensures { result ≡ spec.is_mark name.now }
+{
+    match name {
+        [_, _, _, rest @ ..] => name.starts_with(b"__u") && is_numeral(rest),
+        _ => false,
+    }
+}
+
+/// Whether a name ends so, which joining puts behind a name that is local to its file.
 fn has_mark(name: &[u8]) -> bool
     ensures { result ≡ spec.has_mark name.now }
 {
     match name {
         [] => false,
-        [_, rest @ ..] => name.starts_with(b"__u") || has_mark(rest),
+        [_, rest @ ..] => is_mark(name) || has_mark(rest),
     }
 }
 

@@ -3,6 +3,7 @@
 //! `specs/Unbuilt` has the place node by node.
 #![tactic(auto)]
 
+mod arms;
 mod constants;
 mod files;
 mod statements;

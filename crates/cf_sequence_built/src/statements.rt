@@ -148,31 +148,6 @@ pub fn is_filling(e: &Core) -> bool
     matches!(e, Core::Zeros { .. } | Core::Characters { .. })
 }
 
-/// Whether a statement declares locals in the scope at hand.
-#[cycle(declares)]
-fn declares(unit: &CoreUnit, s: &Core) -> bool
-    ensures { result ≡ (test (tables_of unit.now) s.now).declares }
-{
-    match s {
-        Core::Declare { .. } => true,
-        Core::Sequence { statements, .. } => any_declares(unit, statements.as_slice()),
-        _ => false,
-    }
-}
-
-/// Whether one of these does.
-#[cycle(declares)]
-fn any_declares(unit: &CoreUnit, all: &[Core]) -> bool
-    ensures { result ≡ spec.any_declares (map (test (tables_of unit.now)) all.now) }
-{
-    for s in all {
-        if declares(unit, s) {
-            return true;
-        }
-    }
-    false
-}
-
 /// Whether it is a label of a switch.
 fn is_label(s: &Core) -> bool
     ensures { (tables : Tables) → result ≡ (test tables s.now).is_label }
@@ -237,12 +212,12 @@ pub fn statement(unit: &CoreUnit, below: u64, s: &Core) -> Option<u32>
             }
         }
         Core::If {
-            at,
             condition,
             yes,
             no,
+            ..
         } => {
-            let sides = inner(unit, *at, below, yes.get()).or(inner_or(unit, *at, below, no));
+            let sides = statement(unit, below, yes.get()).or(statement_or(unit, below, no));
             value(unit, condition.get()).or(sides)
         }
         Core::Loop {
@@ -277,28 +252,15 @@ fn each_statement(unit: &CoreUnit, below: u64, all: &[Core]) -> Option<u32>
     None
 }
 
-/// Of a statement in a branch of what stands at this place. It declares nothing in the scope at hand.
-#[cycle(statements)]
-fn inner(unit: &CoreUnit, at: u32, below: u64, s: &Core) -> Option<u32>
-    requires { are_known (tables_of unit.now) s.now ≡ true }
-    ensures { result ≡ spec.inner at below (test (tables_of unit.now) s.now) }
-{
-    if declares(unit, s) {
-        Some(at)
-    } else {
-        statement(unit, below, s)
-    }
-}
-
 /// Of the statement behind `else`, if there is one (6.4.1).
 #[cycle(statements)]
-fn inner_or(unit: &CoreUnit, at: u32, below: u64, s: &Option<Boxed<Core>>) -> Option<u32>
+fn statement_or(unit: &CoreUnit, below: u64, s: &Option<Boxed<Core>>) -> Option<u32>
     requires { maybe_of (tables_of unit.now) (option_map (are_known (tables_of unit.now)) s.now) ≡ true }
-    ensures { result ≡ spec.inner_or at below (option_map (test (tables_of unit.now)) s.now) }
+    ensures { result ≡ spec.statement_or below (option_map (test (tables_of unit.now)) s.now) }
 {
     match s {
         None => None,
-        Some(s) => inner(unit, at, below, s.get()),
+        Some(s) => statement(unit, below, s.get()),
     }
 }
 

@@ -35,9 +35,13 @@ abbrev pub in_order : List Step → Ways → Body → Body
 in_order [] ways b = b
 in_order (s ∷ ss) ways b = in_order ss ways (s.act ways b)
 
+-- an arm of an `if`, with the ends of what it declares in the scope at hand
+abbrev pub arm : Step → Ways → Body → Body
+arm s ways b = closed_to (length b.scope) (s.act ways b)
+
 abbrev pub or_nothing : Option Step → Ways → Body → Body
 or_nothing None ways b = b
-or_nothing (Some s) ways b = s.act ways b
+or_nothing (Some s) ways b = arm s ways b
 
 -- statements in a scope of their own (6.3)
 abbrev pub block : List Step → Ways → Body → Body
@@ -112,7 +116,7 @@ selection e ss ways b =
 abbrev pub choice : Step → Step → Option Step → Ways → Body → Body
 choice c a b ways body =
     let t = tested c.piece body in
-    let first = a.act ways (begun t) in
+    let first = arm a ways (begun t) in
     chosen (behind_flags 0 c.piece) t.writing.code first.writing.code (or_nothing b ways (begun first))
 
 -- all that is open ends before the function does (6.6.3)

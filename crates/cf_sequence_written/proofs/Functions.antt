@@ -1,5 +1,5 @@
 -- What is written for a built function is the definition's.
-use Rattle.std.proofs.Common.{◌≡◌, ℕ, suc, ◌+◌, true, false, not, List, [], ◌∷◌, ◌++◌, map, length, drop, reverse, refl, ap, sym, ◌∙◌, arith}
+use Rattle.std.proofs.Common.{◌≡◌, ℕ, suc, ◌+◌, true, false, not, ◌&&◌, List, [], ◌∷◌, ◌++◌, map, length, drop, reverse, refl, ap, sym, ◌∙◌, arith}
 use Rattle.std.specs.Prelude.{if◌then◌else◌}
 use Rattle.std.specs.declared.alloc.Global.{Global}
 use Rattle.std.proofs.lemmas.List.{length-map, reverse-append}
@@ -15,7 +15,7 @@ use Rattle.cf_core.specs.FromUnit.{function_of}
 use Rattle.cf_plain.specs.Plain.{Plains, nothing}
 use Rattle.cf_plain.specs.View as plain
 use Rattle.cf_plain.specs.View.{plains_of}
-use Rattle.cf_sequence.specs.Built.{is_row, is_statement, is_body}
+use Rattle.cf_sequence.specs.Built.{is_row, is_statement, declares_last, is_body}
 use Rattle.cf_sequence.specs.Made.{Local, width, numbered, declared}
 use Rattle.cf_sequence.specs.Expressions.{finished}
 use Rattle.cf_sequence.specs.Statements.{Inside, statement}
@@ -60,7 +60,12 @@ module _ (tables : Tables) where
     params-are = parameters-taking (map (type_of tables) f.params) (type_of tables f.result) false
 
     scalar : is_class (result F.type) ≡ false
-    scalar = is-false (is_class (result F.type)) (both (not (is_class (result F.type))) (is_statement (length (parameters F.type)) F.body) built).0
+    scalar = is-false (is_class (result F.type)) (both (not (is_class (result F.type))) (is_statement (length (parameters F.type)) F.body && declares_last true F.body) built).0
+
+    is-stated : is_statement (length (parameters F.type)) F.body ≡ true
+    is-stated =
+        (both (is_statement (length (parameters F.type)) F.body) (declares_last true F.body)
+        (both (not (is_class (result F.type))) (is_statement (length (parameters F.type)) F.body && declares_last true F.body) built).1).0
 
     abbrev start : Body
     start = begun alloc f
@@ -85,7 +90,7 @@ module _ (tables : Tables) where
 
     goes : Goes tables signature (λ k rest. statement I F.body k rest) (width F.body) (declared F.body) start ((step tables.types f.body).act (inside_loop start) start)
     goes = Acts.acts (Stated.acts (written-statement tables signature params rows f.body))
-        (stated-statement (length (parameters F.type)) F.body (both (not (is_class (result F.type))) (is_statement (length (parameters F.type)) F.body) built).1) I (inside_loop start) start stands
+        (stated-statement (length (parameters F.type)) F.body is-stated) I (inside_loop start) start stands
 
     flowed : finished (reverse (numbered 0 (parameters F.type))) nothing ≡ flowed_off F
     flowed = ap (λ c. if c then nothing else finished (reverse (numbered 0 (parameters F.type))) nothing) (sym scalar)

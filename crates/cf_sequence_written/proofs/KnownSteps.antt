@@ -25,7 +25,7 @@ use Rattle.cf_sequence_stmt.specs.declared.body.Body.{Body}
 use Rattle.cf_sequence_stmt.specs.declared.body.Open.{Open}
 use Rattle.cf_sequence_stmt.specs.declared.body.Ways.{Ways}
 use Rattle.cf_sequence_stmt.specs.Bodies.{Initial, does_nothing, fills, lists, gives, on, behind_flags, cleared_one, cleared, over_one, over, full_at, entered, left_behind, opened, ended, left_to, closed_to, full, given, tested, started, held_too, declared, stated, begun, chosen, turned, switched, with_code, there, passed_at}
-use Rattle.cf_sequence_stmt.specs.Steps.{Step, in_order, or_nothing, inside_loop, inside_switch, held, stepped, turn, repeated, loop, labelled, passing, passes, selected, selection, choice, returned}
+use Rattle.cf_sequence_stmt.specs.Steps.{Step, in_order, or_nothing, arm, inside_loop, inside_switch, held, stepped, turn, repeated, loop, labelled, passing, passes, selected, selection, choice, returned}
 use Rattle.cf_sequence_written.proofs.Held.{KnownHeld}
 use Rattle.cf_sequence_written.proofs.Known.{is_known, known-Act, are_typed, Typed, KnownPiece, Keeps, keeps-none, keeps-then, keeps-put, keeps-set, keeps-act, keeps-used, known-last, known-If, all-mapped, emptied-known, branched-known, and-true}
 
@@ -233,15 +233,18 @@ module _ (tables : Tables) where
       let second = known-stepped (begun (held o (begun b))) r (known-begun (held o (begun b)) first) in
       known-repeated how (Writing.code b.writing) _ _ s _ ok.code first.code second.code k (known-begun (stepped p (begun (held o (begun b)))) second)
 
+  known-arm : (s : Step) (ways : Ways) (b : Body) → KnownStep s → KnownBody b → KnownBody (arm s ways b)
+  known-arm s ways b k ok = known-closed (length b.scope) (s.act ways b) (k.acts ways b ok)
+
   known-or : {o : Option Step} (ways : Ways) (b : Body) → MaybeKnown o → KnownBody b → KnownBody (or_nothing o ways b)
   known-or ways b no_step ok = ok
-  known-or ways b (one_step s k) ok = k.acts ways b ok
+  known-or ways b (one_step s k) ok = known-arm s ways b k ok
 
   pub known-choice : {o : Option Step} (c a : Step) (ways : Ways) (b : Body) → KnownStep c → KnownStep a → MaybeKnown o → KnownBody b → KnownBody (choice c a o ways b)
   known-choice c a ways b q k o ok =
       let t = known-tested c.piece b q.piece ok in
-      let first = k.acts ways (begun (tested c.piece b)) (known-begun (tested c.piece b) t) in
-      known-chosen (behind_flags 0 c.piece) _ _ _ t.code first.code (known-or ways _ o (known-begun (a.act ways (begun (tested c.piece b))) first))
+      let first = known-arm a ways (begun (tested c.piece b)) k (known-begun (tested c.piece b) t) in
+      known-chosen (behind_flags 0 c.piece) _ _ _ t.code first.code (known-or ways _ o (known-begun (arm a ways (begun (tested c.piece b))) first))
 
   -- Labels of a switch, and what they pass.
 

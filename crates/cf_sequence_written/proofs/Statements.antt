@@ -1,5 +1,5 @@
 -- What is written for statements without loops and switches is the definition's.
-use Rattle.std.proofs.Common.{◌≡◌, ℕ, ◌+◌, Bool, true, false, not, ◌&&◌, ◌||◌, List, [], ◌∷◌, ◌++◌, length, refl, ap, sym, subst, ◌∙◌, arith}
+use Rattle.std.proofs.Common.{◌≡◌, ℕ, ◌+◌, Bool, true, false, ◌||◌, List, [], ◌∷◌, ◌++◌, length, refl, ap, sym, subst, ◌∙◌, arith}
 use Rattle.std.specs.Prelude.{Option, Some, None, if◌then◌else◌}
 use Rattle.cf_base.proofs.Tests.{both}
 use Rattle.cf_classes.specs.declared.class.MemberRef.{MemberRef}
@@ -12,23 +12,22 @@ use Rattle.cf_core.specs.FromTypes.{Tables}
 use Rattle.cf_plain.specs.declared.statement.Plain.TheVariants as code
 use Rattle.cf_plain.specs.Plain.{Plains, nothing, more, branch, leave, continue, give, set as sets}
 use Rattle.cf_plain.specs.Plain as plain
-use Rattle.cf_sequence.specs.Built.{is_statement, is_inner_or, are_statements, are_cases, declares_here, next_local}
+use Rattle.cf_sequence.specs.Built.{is_statement, is_statement_or, are_statements, are_cases, next_local}
 use Rattle.cf_sequence.specs.Made.{added, width, declared, declared_all}
 use Rattle.cf_sequence.specs.Expressions.{finished, value, whole, used as use_of}
 use Rattle.cf_sequence.specs.Statements.{Inside, statement, statements, statement_or, declares}
 use Rattle.cf_sequence.specs.Statements as definition
-use Rattle.cf_sequence.proofs.Standing.{inner-declared}
 use Rattle.cf_sequence_expr.specs.declared.writing.Writing.{Writing}
 use Rattle.cf_sequence_stmt.specs.declared.body.Body.{Body}
 use Rattle.cf_sequence_stmt.specs.declared.body.Ways.{Ways}
 use Rattle.cf_sequence_stmt.specs.Bodies.{begun, chosen, left_to, stated, behind_flags, tested}
 use Rattle.cf_sequence_stmt.specs.Bodies as bodies
-use Rattle.cf_sequence_stmt.specs.Steps.{Step, in_order, or_nothing, block, choice, returned}
+use Rattle.cf_sequence_stmt.specs.Steps.{Step, in_order, or_nothing, arm, block, choice, returned}
 use Rattle.cf_sequence_written.proofs.Views.{of-Break, of-Continue, of-Return}
 use Rattle.cf_sequence_written.proofs.Followed.{followed, followed-branch, next-branched}
 use Rattle.cf_sequence_written.proofs.Values.{nodes-count}
 use Rattle.cf_sequence_written.proofs.Opens.{no-opens}
-use Rattle.cf_sequence_written.proofs.Bodies.{Goes, goes-none, goes-as, goes-then, goes-rest, goes-declares, goes-stated, goes-left-as, goes-closed, goes-alone, next-begun, scope-begun, same-scope}
+use Rattle.cf_sequence_written.proofs.Bodies.{Goes, goes-none, goes-as, goes-then, goes-rest, goes-stated, goes-left-as, goes-closed, goes-alone, next-begun, scope-begun, same-scope}
 use Rattle.cf_sequence_written.proofs.Standing.{Stands, stands-more, stands-opened}
 use Rattle.cf_sequence_written.proofs.Wholes.{Whole, register, goes-given, goes-tested}
 
@@ -59,10 +58,6 @@ stated-cases m core.none ok = tt
 stated-cases m (core.more c cs) ok =
     let parts = both (is_label c || is_statement m c) (are_cases (next_local m c) cs) ok in
     (record { below = m; stated = parts.0 }, stated-cases (next_local m c) cs parts.1)
-
--- what declares nothing in the scope at hand
-pub undeclared-inner : (m : ℕ) (c : Core) → not (declares_here c) && is_statement m c ≡ true → declared c ≡ []
-undeclared-inner m c ok = inner-declared c (both (not (declares_here c)) (is_statement m c) ok).0
 
 module _ (tables : Tables) (signature : MemberRef → Name) where
   pub record Acts (s : Step) (c : Core) : Type 0 where
@@ -95,7 +90,7 @@ module _ (tables : Tables) (signature : MemberRef → Name) where
   -- Branches (6.4.1).
 
   pub record ActsOr (o : Option Step) (c : MaybeCore) : Type 0 where
-    pub acts : (m : ℕ) → is_inner_or m c ≡ true → (f : Inside) (ways : Ways) (b : Body) → Stands tables f ways b.scope
+    pub acts : (m : ℕ) → is_statement_or m c ≡ true → (f : Inside) (ways : Ways) (b : Body) → Stands tables f ways b.scope
         → Goes tables signature (λ k rest. statement_or f c k rest) (length (added (nodes_maybe c))) [] b (or_nothing o ways b)
 
   pub acts-absent : ActsOr None absent
@@ -103,8 +98,7 @@ module _ (tables : Tables) (signature : MemberRef → Name) where
 
   pub acts-given : {s : Step} {c : Core} → Acts s c → ActsOr (Some s) (given c)
   acts-given {s} {c} one = record {
-    acts = λ m ok f ways b at.
-        goes-declares tables signature (one.acts (stated-statement m c (both (not (declares_here c)) (is_statement m c) ok).1) f ways b at) (undeclared-inner m c ok);
+    acts = λ m ok f ways b at. goes-closed tables signature (one.acts (stated-statement m c ok) f ways b at);
   }
 
   -- both sides behind a test, by the number in this register
@@ -135,17 +129,17 @@ module _ (tables : Tables) (signature : MemberRef → Name) where
       }
 
   pub goes-choice : (s : Step) {t : Step} {o : Option Step} {c a : Core} {d : MaybeCore} → Whole tables signature s.piece c → Acts t a → ActsOr o d
-      → (m : ℕ) → not (declares_here a) && is_statement m a ≡ true → is_inner_or m d ≡ true → (f : Inside) (ways : Ways) (b : Body) → Stands tables f ways b.scope
+      → (m : ℕ) → is_statement m a ≡ true → is_statement_or m d ≡ true → (f : Inside) (ways : Ways) (b : Body) → Stands tables f ways b.scope
       → Goes tables signature (λ k rest. statement f (core.branch c a d) k rest) (width (core.branch c a d)) [] b (choice s t o ways b)
   goes-choice s {t} {o} {c} {a} {d} w one other m ok ok-other f ways b at =
       let test = goes-tested tables signature f.classes b w in
       let at-one : Stands tables f ways (Body.scope (begun (tested s.piece b))) =
       subst (Stands tables f ways) (sym (scope-begun tables signature (tested s.piece b) ∙ same-scope tables signature test)) at in
-      let first = goes-declares tables signature (one.acts (stated-statement m a (both (not (declares_here a)) (is_statement m a) ok).1) f ways (begun (tested s.piece b)) at-one)
-      (undeclared-inner m a ok) in
-      let at-two : Stands tables f ways (Body.scope (begun (t.act ways (begun (tested s.piece b))))) =
-      subst (Stands tables f ways) (sym (scope-begun tables signature (t.act ways (begun (tested s.piece b))) ∙ same-scope tables signature first)) at-one in
-      let second = other.acts m ok-other f ways (begun (t.act ways (begun (tested s.piece b)))) at-two in
+      let yes : Body = arm t ways (begun (tested s.piece b)) in
+      let first = goes-closed tables signature (one.acts (stated-statement m a ok) f ways (begun (tested s.piece b)) at-one) in
+      let at-two : Stands tables f ways (Body.scope (begun yes)) =
+      subst (Stands tables f ways) (sym (scope-begun tables signature yes ∙ same-scope tables signature first)) at-one in
+      let second = other.acts m ok-other f ways (begun yes) at-two in
       goes-as tables signature (goes-chosen (behind_flags 0 s.piece) (0 + width c) (register tables signature w) test first second)
       (λ rest. refl)
       (ap (λ z. z + length (added (nodes_maybe d))) (nodes-count (nodes c) (nodes a)) ∙ nodes-count (nodes c ++ nodes a) (nodes_maybe d))

@@ -15,9 +15,10 @@ use Rattle.cf_core.specs.Joined.{is_nothing}
 use Rattle.cf_core.specs.Valid.{is_label}
 use Rattle.cf_core.specs.FromTypes.{Tables, type_of}
 use Rattle.cf_core.specs.View.{Started, core_step, started_step, core_of, listed, maybe}
-use Rattle.cf_sequence.specs.Built.{is_value, is_start, is_filling, is_initial, is_row, is_list, is_element, are_elements, is_held, behind_declared, is_condition, is_statement, is_inner_or, are_values, are_arguments, are_statements, are_cases, declares_here, any_declares, next_local, next_locals, is_chain}
-use Rattle.cf_sequence_built.specs.Unbuilt.{Temporary, Test, test, test_step, start, initial, by_temporary, by_list, element_start, each_element, filler, in_list, local, behind_both, given, each_value, some_values, each_statement, inner, inner_or, case, each_case, next_of_all, called, is_function_type, is_called}
+use Rattle.cf_sequence.specs.Built.{is_value, is_start, is_filling, is_initial, is_row, is_list, is_element, are_elements, is_held, behind_declared, is_condition, is_statement, is_statement_or, are_values, are_arguments, are_statements, are_cases, declares_here, any_declares, next_local, next_locals, is_chain}
+use Rattle.cf_sequence_built.specs.Unbuilt.{Temporary, Test, test, test_step, start, initial, by_temporary, by_list, element_start, each_element, filler, in_list, local, behind_both, given, each_value, some_values, each_statement, statement_or, case, crowded, crowded_cases, each_case, next_of_all, called, is_function_type, is_called}
 use Rattle.cf_sequence_built.specs.Unbuilt as unbuilt
+use Rattle.cf_sequence_written.proofs.Lasts.{arms_declare, or_arms_declare, any_arms_declare, is_free, or_free, are_free, cases_free}
 
 -- whether nothing was found
 abbrev pub clear : Option ℕ → Bool
@@ -97,6 +98,8 @@ module _ (tables : Tables) (signature : MemberRef → Name) where
     pub blank : t.is_blank ≡ is_nothing c
     pub filling : t.is_filling ≡ is_filling c
     pub declares : t.declares ≡ declares_here c
+    pub arms : t.arms ≡ arms_declare c
+    pub crowd : clear t.crowd ≡ is_free c
     pub label : t.is_label ≡ is_label c
     pub temporary : Binds t.temporary c
     pub list : Lists t.list c
@@ -185,13 +188,23 @@ module _ (tables : Tables) (signature : MemberRef → Name) where
   behind-is : (i : ℕ) (e : Child) → unbuilt.behind i (test_of e) ≡ behind_declared i (of e)
   behind-is i e = behind-by (test_of e).temporary (of e) e.1.temporary i
 
-  inner-is : (at m : ℕ) (s : Child) → clear (inner at m (test_of s)) ≡ not (declares_here (of s)) && is_statement m (of s)
-  inner-is at m s =
-      ap (λ b. clear (if b then Some at else (test_of s).statement m)) s.1.declares ∙ where-false at (declares_here (of s)) ((test_of s).statement m) _ (s.1.statement m)
+  statement_or-is : (m : ℕ) (o : Option Child) → clear (statement_or m (maybe_test o)) ≡ is_statement_or m (maybe_core o)
+  statement_or-is m None = refl
+  statement_or-is m (Some s) = s.1.statement m
 
-  inner_or-is : (at m : ℕ) (o : Option Child) → clear (inner_or at m (maybe_test o)) ≡ is_inner_or m (maybe_core o)
-  inner_or-is at m None = refl
-  inner_or-is at m (Some s) = inner-is at m s
+  arm-is : (s : Child) → unbuilt.arm (test_of s) ≡ (declares_here (of s) || arms_declare (of s))
+  arm-is s = ap (λ b. b || (test_of s).arms) s.1.declares ∙ ap (λ b. declares_here (of s) || b) s.1.arms
+
+  or_arms-are : (o : Option Child) → unbuilt.or_arms (maybe_test o) ≡ or_arms_declare (maybe_core o)
+  or_arms-are None = refl
+  or_arms-are (Some s) = arm-is s
+
+  arms-are : (a : Child) (o : Option Child) → (unbuilt.arm (test_of a) || unbuilt.or_arms (maybe_test o)) ≡ ((declares_here (of a) || arms_declare (of a)) || or_arms_declare (maybe_core o))
+  arms-are a o = ap (λ b. b || unbuilt.or_arms (maybe_test o)) (arm-is a) ∙ ap (λ b. (declares_here (of a) || arms_declare (of a)) || b) (or_arms-are o)
+
+  or_crowd-is : (o : Option Child) → clear (unbuilt.or_crowd (maybe_test o)) ≡ or_free (maybe_core o)
+  or_crowd-is None = refl
+  or_crowd-is (Some s) = s.1.crowd
 
   given-is : (o : Option Child) → clear (given (maybe_test o)) ≡ is_condition (maybe_core o)
   given-is None = refl
@@ -228,6 +241,24 @@ module _ (tables : Tables) (signature : MemberRef → Name) where
   in_declares [] = refl
   in_declares (s ∷ ss) = ap (λ b. b || unbuilt.any_declares (tests_of ss)) s.1.declares ∙ ap (λ b. declares_here (of s) || b) (in_declares ss)
 
+  in_arms : (es : List Child) → unbuilt.any_arms (tests_of es) ≡ any_arms_declare (cores_of es)
+  in_arms [] = refl
+  in_arms (s ∷ ss) = ap (λ b. b || unbuilt.any_arms (tests_of ss)) s.1.arms ∙ ap (λ b. arms_declare (of s) || b) (in_arms ss)
+
+  in_crowd : (at : ℕ) (follows : Bool) (es : List Child) → clear (crowded at follows (tests_of es)) ≡ are_free follows (cores_of es)
+  in_crowd at follows [] = refl
+  in_crowd at follows (s ∷ ss) =
+      where-false at follows (option_or (test_of s).crowd (crowded at (test_of s).arms (tests_of ss))) _
+      (and-is (test_of s).crowd (crowded at (test_of s).arms (tests_of ss)) _ _ s.1.crowd (in_crowd at (test_of s).arms ss))
+      ∙ ap (λ b. not follows && (is_free (of s) && are_free b (cores_of ss))) s.1.arms
+
+  in_crowded_cases : (at : ℕ) (es : List Child) → clear (crowded_cases at (tests_of es)) ≡ cases_free (cores_of es)
+  in_crowded_cases at [] = refl
+  in_crowded_cases at (s ∷ ss) =
+      where-false at (test_of s).arms (option_or (test_of s).crowd (crowded_cases at (tests_of ss))) _
+      (and-is (test_of s).crowd (crowded_cases at (tests_of ss)) _ _ s.1.crowd (in_crowded_cases at ss))
+      ∙ ap (λ b. not b && (is_free (of s) && cases_free (cores_of ss))) s.1.arms
+
   in_cases : (m : ℕ) (es : List Child) → clear (each_case m (tests_of es)) ≡ are_cases m (cores_of es)
   in_cases m [] = refl
   in_cases m (s ∷ ss) =
@@ -249,54 +280,54 @@ module _ (tables : Tables) (signature : MemberRef → Name) where
   IsLayer x = Tests (test_step tables (map-Core _ _ _ _ (test tables) part_test x)) (core_step tables signature (map-Core _ _ _ _ of_node started_of x))
 
   layer : (y : Core-F Child PartChild) → IsLayer (shape y)
-  layer (Core-F.Number at z) = record { value = refl; statement = λ m. refl; next = λ m. refl; blank = refl; filling = refl; declares = refl; label = refl; list = λ t. refl; temporary = (λ i. refl, λ i. refl) }
-  layer (Core-F.Text at j bytes) = record { value = refl; statement = λ m. refl; next = λ m. refl; blank = refl; filling = refl; declares = refl; label = refl; list = λ t. refl; temporary = (λ i. refl, λ i. refl) }
-  layer (Core-F.This at) = record { value = refl; statement = λ m. refl; next = λ m. refl; blank = refl; filling = refl; declares = refl; label = refl; list = λ t. refl; temporary = (λ i. refl, λ i. refl) }
-  layer (Core-F.Local at i) = record { value = refl; statement = λ m. refl; next = λ m. refl; blank = refl; filling = refl; declares = refl; label = refl; list = λ t. refl; temporary = (λ i. refl, λ i. refl) }
-  layer (Core-F.Static at n t) = record { value = refl; statement = λ m. refl; next = λ m. refl; blank = refl; filling = refl; declares = refl; label = refl; list = λ t. refl; temporary = (λ i. refl, λ i. refl) }
-  layer (Core-F.Function at n t) = record { value = refl; statement = λ m. refl; next = λ m. refl; blank = refl; filling = refl; declares = refl; label = refl; list = λ t. refl; temporary = (λ i. refl, λ i. refl) }
-  layer (Core-F.Member at e i) = record { value = refl; statement = λ m. refl; next = λ m. refl; blank = refl; filling = refl; declares = refl; label = refl; list = λ t. refl; temporary = (λ i. refl, λ i. refl) }
-  layer (Core-F.Read at e) = record { value = e.1.value; statement = λ m. refl; next = λ m. refl; blank = refl; filling = refl; declares = refl; label = refl; list = λ t. refl; temporary = (λ i. refl, λ i. refl) }
-  layer (Core-F.Address at e) = record { value = e.1.value; statement = λ m. refl; next = λ m. refl; blank = refl; filling = refl; declares = refl; label = refl; list = λ t. refl; temporary = (λ i. refl, λ i. refl) }
-  layer (Core-F.Dereference at e) = record { value = e.1.value; statement = λ m. refl; next = λ m. refl; blank = refl; filling = refl; declares = refl; label = refl; list = λ t. refl; temporary = (λ i. refl, λ i. refl) }
-  layer (Core-F.Decay at e) = record { value = e.1.value; statement = λ m. refl; next = λ m. refl; blank = refl; filling = refl; declares = refl; label = refl; list = λ t. refl; temporary = (λ i. refl, λ i. refl) }
-  layer (Core-F.Index at a b) = record { value = two a b; statement = λ m. refl; next = λ m. refl; blank = refl; filling = refl; declares = refl; label = refl; list = λ t. refl; temporary = (λ i. refl, λ i. refl) }
-  layer (Core-F.Convert at t e) = record { value = e.1.value; statement = λ m. refl; next = λ m. refl; blank = refl; filling = refl; declares = refl; label = refl; list = λ t. refl; temporary = (λ i. refl, λ i. refl) }
-  layer (Core-F.Up at path e) = record { value = refl; statement = λ m. refl; next = λ m. refl; blank = refl; filling = refl; declares = refl; label = refl; list = λ t. refl; temporary = (λ i. refl, λ i. refl) }
-  layer (Core-F.Down at c path e) = record { value = refl; statement = λ m. refl; next = λ m. refl; blank = refl; filling = refl; declares = refl; label = refl; list = λ t. refl; temporary = (λ i. refl, λ i. refl) }
-  layer (Core-F.FromVoid at t e) = record { value = e.1.value; statement = λ m. refl; next = λ m. refl; blank = refl; filling = refl; declares = refl; label = refl; list = λ t. refl; temporary = (λ i. refl, λ i. refl) }
-  layer (Core-F.ToMember at path e) = record { value = refl; statement = λ m. refl; next = λ m. refl; blank = refl; filling = refl; declares = refl; label = refl; list = λ t. refl; temporary = (λ i. refl, λ i. refl) }
-  layer (Core-F.DataPointer at i) = record { value = refl; statement = λ m. refl; next = λ m. refl; blank = refl; filling = refl; declares = refl; label = refl; list = λ t. refl; temporary = (λ i. refl, λ i. refl) }
-  layer (Core-F.FunctionPointer at t) = record { value = refl; statement = λ m. refl; next = λ m. refl; blank = refl; filling = refl; declares = refl; label = refl; list = λ t. refl; temporary = (λ i. refl, λ i. refl) }
-  layer (Core-F.Through at a b) = record { value = refl; statement = λ m. refl; next = λ m. refl; blank = refl; filling = refl; declares = refl; label = refl; list = λ t. refl; temporary = (λ i. refl, λ i. refl) }
-  layer (Core-F.Operate at op k a b) = record { value = two a b; statement = λ m. refl; next = λ m. refl; blank = refl; filling = refl; declares = refl; label = refl; list = λ t. refl; temporary = (λ i. refl, λ i. refl) }
-  layer (Core-F.Unary at op k e) = record { value = e.1.value; statement = λ m. refl; next = λ m. refl; blank = refl; filling = refl; declares = refl; label = refl; list = λ t. refl; temporary = (λ i. refl, λ i. refl) }
-  layer (Core-F.Not at e) = record { value = e.1.value; statement = λ m. refl; next = λ m. refl; blank = refl; filling = refl; declares = refl; label = refl; list = λ t. refl; temporary = (λ i. refl, λ i. refl) }
-  layer (Core-F.And at a b) = record { value = two a b; statement = λ m. refl; next = λ m. refl; blank = refl; filling = refl; declares = refl; label = refl; list = λ t. refl; temporary = (λ i. refl, λ i. refl) }
-  layer (Core-F.Or at a b) = record { value = two a b; statement = λ m. refl; next = λ m. refl; blank = refl; filling = refl; declares = refl; label = refl; list = λ t. refl; temporary = (λ i. refl, λ i. refl) }
-  layer (Core-F.PointerOperate at op a b) = record { value = two a b; statement = λ m. refl; next = λ m. refl; blank = refl; filling = refl; declares = refl; label = refl; list = λ t. refl; temporary = (λ i. refl, λ i. refl) }
-  layer (Core-F.Conditional at c a b) = record { value = three c a b; statement = λ m. refl; next = λ m. refl; blank = refl; filling = refl; declares = refl; label = refl; list = λ t. refl; temporary = (λ i. refl, λ i. refl) }
-  layer (Core-F.Comma at es) = record { value = in_comma at es; statement = λ m. refl; next = λ m. refl; blank = refl; filling = refl; declares = refl; label = refl; list = λ t. refl; temporary = (λ i. refl, λ i. refl) }
-  layer (Core-F.Store at a b) = record { value = two a b; statement = λ m. refl; next = λ m. refl; blank = refl; filling = refl; declares = refl; label = refl; list = λ t. refl; temporary = (λ i. refl, λ i. refl) }
-  layer (Core-F.Update at a c b) = record { value = two a b; statement = λ m. refl; next = λ m. refl; blank = refl; filling = refl; declares = refl; label = refl; list = λ t. refl; temporary = (λ i. refl, λ i. refl) }
-  layer (Core-F.Increment at is_postfix c e) = record { value = e.1.value; statement = λ m. refl; next = λ m. refl; blank = refl; filling = refl; declares = refl; label = refl; list = λ t. refl; temporary = (λ i. refl, λ i. refl) }
-  layer (Core-F.Assign at t a b es) = record { value = refl; statement = λ m. refl; next = λ m. refl; blank = refl; filling = refl; declares = refl; label = refl; list = λ t. refl; temporary = (λ i. refl, λ i. refl) }
-  layer (Core-F.Temporary at t e) = record { value = where-false at (is_reference (type_of tables t)) (test_of e).value _ e.1.value; statement = λ m. refl; next = λ m. refl; blank = refl; filling = refl; declares = refl; label = refl; list = λ t. refl; temporary = (λ i. refl, λ i. refl) }
-  layer (Core-F.Call at f t None es) = record { value = in_call at t es; statement = λ m. refl; next = λ m. refl; blank = refl; filling = refl; declares = refl; label = refl; list = λ t. refl; temporary = (λ i. refl, λ i. refl) }
-  layer (Core-F.Call at f t (Some object) es) = record { value = refl; statement = λ m. refl; next = λ m. refl; blank = refl; filling = refl; declares = refl; label = refl; list = λ t. refl; temporary = (λ i. refl, λ i. refl) }
-  layer (Core-F.VirtualCall at m t e es) = record { value = refl; statement = λ m. refl; next = λ m. refl; blank = refl; filling = refl; declares = refl; label = refl; list = λ t. refl; temporary = (λ i. refl, λ i. refl) }
-  layer (Core-F.PointerCall at None e t es) = record { value = in_call at t (e ∷ es); statement = λ m. refl; next = λ m. refl; blank = refl; filling = refl; declares = refl; label = refl; list = λ t. refl; temporary = (λ i. refl, λ i. refl) }
-  layer (Core-F.PointerCall at (Some object) e t es) = record { value = refl; statement = λ m. refl; next = λ m. refl; blank = refl; filling = refl; declares = refl; label = refl; list = λ t. refl; temporary = (λ i. refl, λ i. refl) }
-  layer (Core-F.New at t e) = record { value = refl; statement = λ m. refl; next = λ m. refl; blank = refl; filling = refl; declares = refl; label = refl; list = λ t. refl; temporary = (λ i. refl, λ i. refl) }
-  layer (Core-F.NewArray at t n e) = record { value = refl; statement = λ m. refl; next = λ m. refl; blank = refl; filling = refl; declares = refl; label = refl; list = λ t. refl; temporary = (λ i. refl, λ i. refl) }
-  layer (Core-F.Delete at t e) = record { value = refl; statement = λ m. refl; next = λ m. refl; blank = refl; filling = refl; declares = refl; label = refl; list = λ t. refl; temporary = (λ i. refl, λ i. refl) }
-  layer (Core-F.DeleteArray at t e) = record { value = refl; statement = λ m. refl; next = λ m. refl; blank = refl; filling = refl; declares = refl; label = refl; list = λ t. refl; temporary = (λ i. refl, λ i. refl) }
-  layer (Core-F.Build at f t es) = record { value = refl; statement = λ m. refl; next = λ m. refl; blank = refl; filling = refl; declares = refl; label = refl; list = λ t. refl; temporary = (λ i. refl, λ i. refl) }
-  layer (Core-F.Copy at t e es) = record { value = refl; statement = λ m. refl; next = λ m. refl; blank = refl; filling = refl; declares = refl; label = refl; list = λ t. refl; temporary = (λ i. refl, λ i. refl) }
-  layer (Core-F.Each at e) = record { value = refl; statement = λ m. refl; next = λ m. refl; blank = refl; filling = refl; declares = refl; label = refl; list = λ t. refl; temporary = (λ i. refl, λ i. refl) }
-  layer (Core-F.List at es rest) = record { value = refl; statement = λ m. refl; next = λ m. refl; blank = refl; filling = refl; declares = refl; label = refl; list = (λ t. list-is at es rest t, refl); temporary = (λ i. refl, λ i. refl) }
-  layer (Core-F.Characters at bytes) = record { value = refl; statement = λ m. refl; next = λ m. refl; blank = refl; filling = refl; declares = refl; label = refl; list = λ t. refl; temporary = (λ i. refl, λ i. refl) }
-  layer (Core-F.Bind at holder.NoTemporary e) = record { value = e.1.value; statement = λ m. refl; next = λ m. refl; blank = refl; filling = refl; declares = refl; label = refl; list = λ t. refl; temporary = (λ i. refl, λ i. refl) }
+  layer (Core-F.Number at z) = record { value = refl; statement = λ m. refl; next = λ m. refl; blank = refl; filling = refl; declares = refl; arms = refl; crowd = refl; label = refl; list = λ t. refl; temporary = (λ i. refl, λ i. refl) }
+  layer (Core-F.Text at j bytes) = record { value = refl; statement = λ m. refl; next = λ m. refl; blank = refl; filling = refl; declares = refl; arms = refl; crowd = refl; label = refl; list = λ t. refl; temporary = (λ i. refl, λ i. refl) }
+  layer (Core-F.This at) = record { value = refl; statement = λ m. refl; next = λ m. refl; blank = refl; filling = refl; declares = refl; arms = refl; crowd = refl; label = refl; list = λ t. refl; temporary = (λ i. refl, λ i. refl) }
+  layer (Core-F.Local at i) = record { value = refl; statement = λ m. refl; next = λ m. refl; blank = refl; filling = refl; declares = refl; arms = refl; crowd = refl; label = refl; list = λ t. refl; temporary = (λ i. refl, λ i. refl) }
+  layer (Core-F.Static at n t) = record { value = refl; statement = λ m. refl; next = λ m. refl; blank = refl; filling = refl; declares = refl; arms = refl; crowd = refl; label = refl; list = λ t. refl; temporary = (λ i. refl, λ i. refl) }
+  layer (Core-F.Function at n t) = record { value = refl; statement = λ m. refl; next = λ m. refl; blank = refl; filling = refl; declares = refl; arms = refl; crowd = refl; label = refl; list = λ t. refl; temporary = (λ i. refl, λ i. refl) }
+  layer (Core-F.Member at e i) = record { value = refl; statement = λ m. refl; next = λ m. refl; blank = refl; filling = refl; declares = refl; arms = refl; crowd = refl; label = refl; list = λ t. refl; temporary = (λ i. refl, λ i. refl) }
+  layer (Core-F.Read at e) = record { value = e.1.value; statement = λ m. refl; next = λ m. refl; blank = refl; filling = refl; declares = refl; arms = refl; crowd = refl; label = refl; list = λ t. refl; temporary = (λ i. refl, λ i. refl) }
+  layer (Core-F.Address at e) = record { value = e.1.value; statement = λ m. refl; next = λ m. refl; blank = refl; filling = refl; declares = refl; arms = refl; crowd = refl; label = refl; list = λ t. refl; temporary = (λ i. refl, λ i. refl) }
+  layer (Core-F.Dereference at e) = record { value = e.1.value; statement = λ m. refl; next = λ m. refl; blank = refl; filling = refl; declares = refl; arms = refl; crowd = refl; label = refl; list = λ t. refl; temporary = (λ i. refl, λ i. refl) }
+  layer (Core-F.Decay at e) = record { value = e.1.value; statement = λ m. refl; next = λ m. refl; blank = refl; filling = refl; declares = refl; arms = refl; crowd = refl; label = refl; list = λ t. refl; temporary = (λ i. refl, λ i. refl) }
+  layer (Core-F.Index at a b) = record { value = two a b; statement = λ m. refl; next = λ m. refl; blank = refl; filling = refl; declares = refl; arms = refl; crowd = refl; label = refl; list = λ t. refl; temporary = (λ i. refl, λ i. refl) }
+  layer (Core-F.Convert at t e) = record { value = e.1.value; statement = λ m. refl; next = λ m. refl; blank = refl; filling = refl; declares = refl; arms = refl; crowd = refl; label = refl; list = λ t. refl; temporary = (λ i. refl, λ i. refl) }
+  layer (Core-F.Up at path e) = record { value = refl; statement = λ m. refl; next = λ m. refl; blank = refl; filling = refl; declares = refl; arms = refl; crowd = refl; label = refl; list = λ t. refl; temporary = (λ i. refl, λ i. refl) }
+  layer (Core-F.Down at c path e) = record { value = refl; statement = λ m. refl; next = λ m. refl; blank = refl; filling = refl; declares = refl; arms = refl; crowd = refl; label = refl; list = λ t. refl; temporary = (λ i. refl, λ i. refl) }
+  layer (Core-F.FromVoid at t e) = record { value = e.1.value; statement = λ m. refl; next = λ m. refl; blank = refl; filling = refl; declares = refl; arms = refl; crowd = refl; label = refl; list = λ t. refl; temporary = (λ i. refl, λ i. refl) }
+  layer (Core-F.ToMember at path e) = record { value = refl; statement = λ m. refl; next = λ m. refl; blank = refl; filling = refl; declares = refl; arms = refl; crowd = refl; label = refl; list = λ t. refl; temporary = (λ i. refl, λ i. refl) }
+  layer (Core-F.DataPointer at i) = record { value = refl; statement = λ m. refl; next = λ m. refl; blank = refl; filling = refl; declares = refl; arms = refl; crowd = refl; label = refl; list = λ t. refl; temporary = (λ i. refl, λ i. refl) }
+  layer (Core-F.FunctionPointer at t) = record { value = refl; statement = λ m. refl; next = λ m. refl; blank = refl; filling = refl; declares = refl; arms = refl; crowd = refl; label = refl; list = λ t. refl; temporary = (λ i. refl, λ i. refl) }
+  layer (Core-F.Through at a b) = record { value = refl; statement = λ m. refl; next = λ m. refl; blank = refl; filling = refl; declares = refl; arms = refl; crowd = refl; label = refl; list = λ t. refl; temporary = (λ i. refl, λ i. refl) }
+  layer (Core-F.Operate at op k a b) = record { value = two a b; statement = λ m. refl; next = λ m. refl; blank = refl; filling = refl; declares = refl; arms = refl; crowd = refl; label = refl; list = λ t. refl; temporary = (λ i. refl, λ i. refl) }
+  layer (Core-F.Unary at op k e) = record { value = e.1.value; statement = λ m. refl; next = λ m. refl; blank = refl; filling = refl; declares = refl; arms = refl; crowd = refl; label = refl; list = λ t. refl; temporary = (λ i. refl, λ i. refl) }
+  layer (Core-F.Not at e) = record { value = e.1.value; statement = λ m. refl; next = λ m. refl; blank = refl; filling = refl; declares = refl; arms = refl; crowd = refl; label = refl; list = λ t. refl; temporary = (λ i. refl, λ i. refl) }
+  layer (Core-F.And at a b) = record { value = two a b; statement = λ m. refl; next = λ m. refl; blank = refl; filling = refl; declares = refl; arms = refl; crowd = refl; label = refl; list = λ t. refl; temporary = (λ i. refl, λ i. refl) }
+  layer (Core-F.Or at a b) = record { value = two a b; statement = λ m. refl; next = λ m. refl; blank = refl; filling = refl; declares = refl; arms = refl; crowd = refl; label = refl; list = λ t. refl; temporary = (λ i. refl, λ i. refl) }
+  layer (Core-F.PointerOperate at op a b) = record { value = two a b; statement = λ m. refl; next = λ m. refl; blank = refl; filling = refl; declares = refl; arms = refl; crowd = refl; label = refl; list = λ t. refl; temporary = (λ i. refl, λ i. refl) }
+  layer (Core-F.Conditional at c a b) = record { value = three c a b; statement = λ m. refl; next = λ m. refl; blank = refl; filling = refl; declares = refl; arms = refl; crowd = refl; label = refl; list = λ t. refl; temporary = (λ i. refl, λ i. refl) }
+  layer (Core-F.Comma at es) = record { value = in_comma at es; statement = λ m. refl; next = λ m. refl; blank = refl; filling = refl; declares = refl; arms = refl; crowd = refl; label = refl; list = λ t. refl; temporary = (λ i. refl, λ i. refl) }
+  layer (Core-F.Store at a b) = record { value = two a b; statement = λ m. refl; next = λ m. refl; blank = refl; filling = refl; declares = refl; arms = refl; crowd = refl; label = refl; list = λ t. refl; temporary = (λ i. refl, λ i. refl) }
+  layer (Core-F.Update at a c b) = record { value = two a b; statement = λ m. refl; next = λ m. refl; blank = refl; filling = refl; declares = refl; arms = refl; crowd = refl; label = refl; list = λ t. refl; temporary = (λ i. refl, λ i. refl) }
+  layer (Core-F.Increment at is_postfix c e) = record { value = e.1.value; statement = λ m. refl; next = λ m. refl; blank = refl; filling = refl; declares = refl; arms = refl; crowd = refl; label = refl; list = λ t. refl; temporary = (λ i. refl, λ i. refl) }
+  layer (Core-F.Assign at t a b es) = record { value = refl; statement = λ m. refl; next = λ m. refl; blank = refl; filling = refl; declares = refl; arms = refl; crowd = refl; label = refl; list = λ t. refl; temporary = (λ i. refl, λ i. refl) }
+  layer (Core-F.Temporary at t e) = record { value = where-false at (is_reference (type_of tables t)) (test_of e).value _ e.1.value; statement = λ m. refl; next = λ m. refl; blank = refl; filling = refl; declares = refl; arms = refl; crowd = refl; label = refl; list = λ t. refl; temporary = (λ i. refl, λ i. refl) }
+  layer (Core-F.Call at f t None es) = record { value = in_call at t es; statement = λ m. refl; next = λ m. refl; blank = refl; filling = refl; declares = refl; arms = refl; crowd = refl; label = refl; list = λ t. refl; temporary = (λ i. refl, λ i. refl) }
+  layer (Core-F.Call at f t (Some object) es) = record { value = refl; statement = λ m. refl; next = λ m. refl; blank = refl; filling = refl; declares = refl; arms = refl; crowd = refl; label = refl; list = λ t. refl; temporary = (λ i. refl, λ i. refl) }
+  layer (Core-F.VirtualCall at m t e es) = record { value = refl; statement = λ m. refl; next = λ m. refl; blank = refl; filling = refl; declares = refl; arms = refl; crowd = refl; label = refl; list = λ t. refl; temporary = (λ i. refl, λ i. refl) }
+  layer (Core-F.PointerCall at None e t es) = record { value = in_call at t (e ∷ es); statement = λ m. refl; next = λ m. refl; blank = refl; filling = refl; declares = refl; arms = refl; crowd = refl; label = refl; list = λ t. refl; temporary = (λ i. refl, λ i. refl) }
+  layer (Core-F.PointerCall at (Some object) e t es) = record { value = refl; statement = λ m. refl; next = λ m. refl; blank = refl; filling = refl; declares = refl; arms = refl; crowd = refl; label = refl; list = λ t. refl; temporary = (λ i. refl, λ i. refl) }
+  layer (Core-F.New at t e) = record { value = refl; statement = λ m. refl; next = λ m. refl; blank = refl; filling = refl; declares = refl; arms = refl; crowd = refl; label = refl; list = λ t. refl; temporary = (λ i. refl, λ i. refl) }
+  layer (Core-F.NewArray at t n e) = record { value = refl; statement = λ m. refl; next = λ m. refl; blank = refl; filling = refl; declares = refl; arms = refl; crowd = refl; label = refl; list = λ t. refl; temporary = (λ i. refl, λ i. refl) }
+  layer (Core-F.Delete at t e) = record { value = refl; statement = λ m. refl; next = λ m. refl; blank = refl; filling = refl; declares = refl; arms = refl; crowd = refl; label = refl; list = λ t. refl; temporary = (λ i. refl, λ i. refl) }
+  layer (Core-F.DeleteArray at t e) = record { value = refl; statement = λ m. refl; next = λ m. refl; blank = refl; filling = refl; declares = refl; arms = refl; crowd = refl; label = refl; list = λ t. refl; temporary = (λ i. refl, λ i. refl) }
+  layer (Core-F.Build at f t es) = record { value = refl; statement = λ m. refl; next = λ m. refl; blank = refl; filling = refl; declares = refl; arms = refl; crowd = refl; label = refl; list = λ t. refl; temporary = (λ i. refl, λ i. refl) }
+  layer (Core-F.Copy at t e es) = record { value = refl; statement = λ m. refl; next = λ m. refl; blank = refl; filling = refl; declares = refl; arms = refl; crowd = refl; label = refl; list = λ t. refl; temporary = (λ i. refl, λ i. refl) }
+  layer (Core-F.Each at e) = record { value = refl; statement = λ m. refl; next = λ m. refl; blank = refl; filling = refl; declares = refl; arms = refl; crowd = refl; label = refl; list = λ t. refl; temporary = (λ i. refl, λ i. refl) }
+  layer (Core-F.List at es rest) = record { value = refl; statement = λ m. refl; next = λ m. refl; blank = refl; filling = refl; declares = refl; arms = refl; crowd = refl; label = refl; list = (λ t. list-is at es rest t, refl); temporary = (λ i. refl, λ i. refl) }
+  layer (Core-F.Characters at bytes) = record { value = refl; statement = λ m. refl; next = λ m. refl; blank = refl; filling = refl; declares = refl; arms = refl; crowd = refl; label = refl; list = λ t. refl; temporary = (λ i. refl, λ i. refl) }
+  layer (Core-F.Bind at holder.NoTemporary e) = record { value = e.1.value; statement = λ m. refl; next = λ m. refl; blank = refl; filling = refl; declares = refl; arms = refl; crowd = refl; label = refl; list = λ t. refl; temporary = (λ i. refl, λ i. refl) }
   layer (Core-F.Bind at (holder.LocalTemporary j t) e) = record {
     value = refl;
     statement = λ m. refl;
@@ -304,6 +335,8 @@ module _ (tables : Tables) (signature : MemberRef → Name) where
     blank = refl;
     filling = refl;
     declares = refl;
+    arms = refl;
+    crowd = refl;
     label = refl;
     list = λ t. refl;
     temporary = (
@@ -312,28 +345,28 @@ module _ (tables : Tables) (signature : MemberRef → Name) where
       λ t. refl,
     );
   }
-  layer (Core-F.Bind at (holder.StaticTemporary name) e) = record { value = refl; statement = λ m. refl; next = λ m. refl; blank = refl; filling = refl; declares = refl; label = refl; list = λ t. refl; temporary = (λ i. refl, λ i. refl) }
-  layer (Core-F.Zeros at) = record { value = refl; statement = λ m. refl; next = λ m. refl; blank = refl; filling = refl; declares = refl; label = refl; list = λ t. refl; temporary = (λ i. refl, λ i. refl) }
-  layer (Core-F.Blank at) = record { value = refl; statement = λ m. refl; next = λ m. refl; blank = refl; filling = refl; declares = refl; label = refl; list = λ t. refl; temporary = (λ i. refl, λ i. refl) }
-  layer (Core-F.Full at e) = record { value = refl; statement = λ m. start-is e; next = λ m. refl; blank = refl; filling = refl; declares = refl; label = refl; list = λ t. refl; temporary = (λ i. refl, λ i. refl) }
-  layer (Core-F.Block at es) = record { value = refl; statement = λ m. in_order m es; next = λ m. refl; blank = refl; filling = refl; declares = refl; label = refl; list = λ t. refl; temporary = (λ i. refl, λ i. refl) }
-  layer (Core-F.Sequence at es) = record { value = refl; statement = λ m. in_order m es; next = λ m. nexts m es; blank = refl; filling = refl; declares = in_declares es; label = refl; list = λ t. refl; temporary = (λ i. refl, λ i. refl) }
-  layer (Core-F.Declare at i t e) = record { value = refl; statement = λ m. where-true at (nat_le m i) _ _ (local-is at i (type_of tables t) e); next = λ m. behind-is i e; blank = refl; filling = refl; declares = refl; label = refl; list = λ t. refl; temporary = (λ i. refl, λ i. refl) }
-  layer (Core-F.Once at n e) = record { value = refl; statement = λ m. refl; next = λ m. refl; blank = refl; filling = refl; declares = refl; label = refl; list = λ t. refl; temporary = (λ i. refl, λ i. refl) }
-  layer (Core-F.If at c a None) = record { value = refl; statement = λ m. and-is _ _ _ _ c.1.value (and-is _ _ _ _ (inner-is at m a) (inner_or-is at m None)); next = λ m. refl; blank = refl; filling = refl; declares = refl; label = refl; list = λ t. refl; temporary = (λ i. refl, λ i. refl) }
-  layer (Core-F.If at c a (Some b)) = record { value = refl; statement = λ m. and-is _ _ _ _ c.1.value (and-is _ _ _ _ (inner-is at m a) (inner_or-is at m (Some b))); next = λ m. refl; blank = refl; filling = refl; declares = refl; label = refl; list = λ t. refl; temporary = (λ i. refl, λ i. refl) }
-  layer (Core-F.Loop at f None None s) = record { value = refl; statement = in_loop None None s; next = λ m. refl; blank = refl; filling = refl; declares = refl; label = refl; list = λ t. refl; temporary = (λ i. refl, λ i. refl) }
-  layer (Core-F.Loop at f None (Some e) s) = record { value = refl; statement = in_loop None (Some e) s; next = λ m. refl; blank = refl; filling = refl; declares = refl; label = refl; list = λ t. refl; temporary = (λ i. refl, λ i. refl) }
-  layer (Core-F.Loop at f (Some c) None s) = record { value = refl; statement = in_loop (Some c) None s; next = λ m. refl; blank = refl; filling = refl; declares = refl; label = refl; list = λ t. refl; temporary = (λ i. refl, λ i. refl) }
-  layer (Core-F.Loop at f (Some c) (Some e) s) = record { value = refl; statement = in_loop (Some c) (Some e) s; next = λ m. refl; blank = refl; filling = refl; declares = refl; label = refl; list = λ t. refl; temporary = (λ i. refl, λ i. refl) }
-  layer (Core-F.Switch at e es) = record { value = refl; statement = λ m. and-is _ _ _ _ e.1.value (in_cases m es); next = λ m. refl; blank = refl; filling = refl; declares = refl; label = refl; list = λ t. refl; temporary = (λ i. refl, λ i. refl) }
-  layer (Core-F.Case at z) = record { value = refl; statement = λ m. refl; next = λ m. refl; blank = refl; filling = refl; declares = refl; label = refl; list = λ t. refl; temporary = (λ i. refl, λ i. refl) }
-  layer (Core-F.Default at) = record { value = refl; statement = λ m. refl; next = λ m. refl; blank = refl; filling = refl; declares = refl; label = refl; list = λ t. refl; temporary = (λ i. refl, λ i. refl) }
-  layer (Core-F.Break at) = record { value = refl; statement = λ m. refl; next = λ m. refl; blank = refl; filling = refl; declares = refl; label = refl; list = λ t. refl; temporary = (λ i. refl, λ i. refl) }
-  layer (Core-F.Continue at) = record { value = refl; statement = λ m. refl; next = λ m. refl; blank = refl; filling = refl; declares = refl; label = refl; list = λ t. refl; temporary = (λ i. refl, λ i. refl) }
-  layer (Core-F.Return at None) = record { value = refl; statement = λ m. refl; next = λ m. refl; blank = refl; filling = refl; declares = refl; label = refl; list = λ t. refl; temporary = (λ i. refl, λ i. refl) }
-  layer (Core-F.Return at (Some e)) = record { value = refl; statement = λ m. e.1.value; next = λ m. refl; blank = refl; filling = refl; declares = refl; label = refl; list = λ t. refl; temporary = (λ i. refl, λ i. refl) }
-  layer (Core-F.Parts at ps s) = record { value = refl; statement = λ m. refl; next = λ m. refl; blank = refl; filling = refl; declares = refl; label = refl; list = λ t. refl; temporary = (λ i. refl, λ i. refl) }
+  layer (Core-F.Bind at (holder.StaticTemporary name) e) = record { value = refl; statement = λ m. refl; next = λ m. refl; blank = refl; filling = refl; declares = refl; arms = refl; crowd = refl; label = refl; list = λ t. refl; temporary = (λ i. refl, λ i. refl) }
+  layer (Core-F.Zeros at) = record { value = refl; statement = λ m. refl; next = λ m. refl; blank = refl; filling = refl; declares = refl; arms = refl; crowd = refl; label = refl; list = λ t. refl; temporary = (λ i. refl, λ i. refl) }
+  layer (Core-F.Blank at) = record { value = refl; statement = λ m. refl; next = λ m. refl; blank = refl; filling = refl; declares = refl; arms = refl; crowd = refl; label = refl; list = λ t. refl; temporary = (λ i. refl, λ i. refl) }
+  layer (Core-F.Full at e) = record { value = refl; statement = λ m. start-is e; next = λ m. refl; blank = refl; filling = refl; declares = refl; arms = refl; crowd = refl; label = refl; list = λ t. refl; temporary = (λ i. refl, λ i. refl) }
+  layer (Core-F.Block at es) = record { value = refl; statement = λ m. in_order m es; next = λ m. refl; blank = refl; filling = refl; declares = refl; arms = refl; crowd = in_crowd at false es; label = refl; list = λ t. refl; temporary = (λ i. refl, λ i. refl) }
+  layer (Core-F.Sequence at es) = record { value = refl; statement = λ m. in_order m es; next = λ m. nexts m es; blank = refl; filling = refl; declares = in_declares es; arms = in_arms es; crowd = in_crowd at false es; label = refl; list = λ t. refl; temporary = (λ i. refl, λ i. refl) }
+  layer (Core-F.Declare at i t e) = record { value = refl; statement = λ m. where-true at (nat_le m i) _ _ (local-is at i (type_of tables t) e); next = λ m. behind-is i e; blank = refl; filling = refl; declares = refl; arms = refl; crowd = refl; label = refl; list = λ t. refl; temporary = (λ i. refl, λ i. refl) }
+  layer (Core-F.Once at n e) = record { value = refl; statement = λ m. refl; next = λ m. refl; blank = refl; filling = refl; declares = refl; arms = refl; crowd = refl; label = refl; list = λ t. refl; temporary = (λ i. refl, λ i. refl) }
+  layer (Core-F.If at c a None) = record { value = refl; statement = λ m. and-is _ _ _ _ c.1.value (and-is _ _ _ _ (a.1.statement m) (statement_or-is m None)); next = λ m. refl; blank = refl; filling = refl; declares = refl; arms = arms-are a None; crowd = and-is _ _ _ _ a.1.crowd (or_crowd-is None); label = refl; list = λ t. refl; temporary = (λ i. refl, λ i. refl) }
+  layer (Core-F.If at c a (Some b)) = record { value = refl; statement = λ m. and-is _ _ _ _ c.1.value (and-is _ _ _ _ (a.1.statement m) (statement_or-is m (Some b))); next = λ m. refl; blank = refl; filling = refl; declares = refl; arms = arms-are a (Some b); crowd = and-is _ _ _ _ a.1.crowd (or_crowd-is (Some b)); label = refl; list = λ t. refl; temporary = (λ i. refl, λ i. refl) }
+  layer (Core-F.Loop at f None None s) = record { value = refl; statement = in_loop None None s; next = λ m. refl; blank = refl; filling = refl; declares = refl; arms = refl; crowd = s.1.crowd; label = refl; list = λ t. refl; temporary = (λ i. refl, λ i. refl) }
+  layer (Core-F.Loop at f None (Some e) s) = record { value = refl; statement = in_loop None (Some e) s; next = λ m. refl; blank = refl; filling = refl; declares = refl; arms = refl; crowd = s.1.crowd; label = refl; list = λ t. refl; temporary = (λ i. refl, λ i. refl) }
+  layer (Core-F.Loop at f (Some c) None s) = record { value = refl; statement = in_loop (Some c) None s; next = λ m. refl; blank = refl; filling = refl; declares = refl; arms = refl; crowd = s.1.crowd; label = refl; list = λ t. refl; temporary = (λ i. refl, λ i. refl) }
+  layer (Core-F.Loop at f (Some c) (Some e) s) = record { value = refl; statement = in_loop (Some c) (Some e) s; next = λ m. refl; blank = refl; filling = refl; declares = refl; arms = refl; crowd = s.1.crowd; label = refl; list = λ t. refl; temporary = (λ i. refl, λ i. refl) }
+  layer (Core-F.Switch at e es) = record { value = refl; statement = λ m. and-is _ _ _ _ e.1.value (in_cases m es); next = λ m. refl; blank = refl; filling = refl; declares = refl; arms = refl; crowd = in_crowded_cases at es; label = refl; list = λ t. refl; temporary = (λ i. refl, λ i. refl) }
+  layer (Core-F.Case at z) = record { value = refl; statement = λ m. refl; next = λ m. refl; blank = refl; filling = refl; declares = refl; arms = refl; crowd = refl; label = refl; list = λ t. refl; temporary = (λ i. refl, λ i. refl) }
+  layer (Core-F.Default at) = record { value = refl; statement = λ m. refl; next = λ m. refl; blank = refl; filling = refl; declares = refl; arms = refl; crowd = refl; label = refl; list = λ t. refl; temporary = (λ i. refl, λ i. refl) }
+  layer (Core-F.Break at) = record { value = refl; statement = λ m. refl; next = λ m. refl; blank = refl; filling = refl; declares = refl; arms = refl; crowd = refl; label = refl; list = λ t. refl; temporary = (λ i. refl, λ i. refl) }
+  layer (Core-F.Continue at) = record { value = refl; statement = λ m. refl; next = λ m. refl; blank = refl; filling = refl; declares = refl; arms = refl; crowd = refl; label = refl; list = λ t. refl; temporary = (λ i. refl, λ i. refl) }
+  layer (Core-F.Return at None) = record { value = refl; statement = λ m. refl; next = λ m. refl; blank = refl; filling = refl; declares = refl; arms = refl; crowd = refl; label = refl; list = λ t. refl; temporary = (λ i. refl, λ i. refl) }
+  layer (Core-F.Return at (Some e)) = record { value = refl; statement = λ m. e.1.value; next = λ m. refl; blank = refl; filling = refl; declares = refl; arms = refl; crowd = refl; label = refl; list = λ t. refl; temporary = (λ i. refl, λ i. refl) }
+  layer (Core-F.Parts at ps s) = record { value = refl; statement = λ m. refl; next = λ m. refl; blank = refl; filling = refl; declares = refl; arms = refl; crowd = refl; label = refl; list = λ t. refl; temporary = (λ i. refl, λ i. refl) }
 
   rolled : (x : Core-F Node PartStart) → IsLayer x → IsTested (roll-Core x)
   rolled x p =

@@ -1,7 +1,8 @@
 -- A file is built where the test finds nothing in it.
 use Rattle.std.proofs.Common.{◌≡◌, ℕ, suc, ◌==◌, Bool, true, false, not, ◌&&◌, ◌||◌, List, [], ◌∷◌, map, length, Option, Some, None, refl, ap, sym, ◌∙◌, arith}
-use Rattle.std.specs.Prelude.{is_some, bytes_eq, codes, cond, find, if◌then◌else◌}
-use Rattle.std.specs.List.{list_all}
+use Rattle.std.specs.Prelude.{is_some, bytes_eq, codes, cond, find, if◌then◌else◌, nat_eq}
+use Rattle.std.specs.List.{list_all, starts_with}
+use Rattle.std.specs.Char.{is_ascii_digit}
 use Rattle.std.proofs.lemmas.Bool.{eqb-true}
 use Rattle.std.proofs.lemmas.List.{length-map}
 use Rattle.cf_classes.specs.declared.class.ClassDef.{ClassDef}
@@ -17,13 +18,14 @@ use Rattle.cf_core.specs.NodePlace.{place}
 use Rattle.cf_core.specs.FromTypes.{Tables, type_of, taking}
 use Rattle.cf_core.specs.FromClasses.{signature_of, classes_in}
 use Rattle.cf_core.specs.FromUnit.{Unit as CoreUnit, tables_of, file_of, function_of, static_of, role_of}
-use Rattle.cf_sequence.specs.Built.{is_statement, is_chain, is_plain_role, is_none, is_built_function, is_built_static, is_built_file, begins_mark, has_mark}
+use Rattle.cf_sequence.specs.Built.{is_statement, is_chain, is_plain_role, is_none, is_built_function, is_built_static, is_built_file, has_mark, declares_last, is_numeral, is_mark}
 use Rattle.cf_sequence.specs.Statements.{type_of_static}
 use Rattle.cf_sequence.proofs.StaticObjects.{type_found}
 use Rattle.cf_sequence_built.specs.Unbuilt as unbuilt
-use Rattle.cf_sequence_built.specs.Unbuilt.{Test, test, is_plain, takes_nothing, is_usual, in_function, in_functions, constant, sets, type_named, is_usual_object, in_static, in_statics, in_file}
+use Rattle.cf_sequence_built.specs.Unbuilt.{Test, test, is_plain, takes_nothing, is_usual, in_function, in_functions, constant, sets, type_named, is_usual_object, in_static, in_statics, in_file, in_body}
 use Rattle.cf_sequence_written.proofs.Parameters.{parameters-taking, result-taking}
 use Rattle.cf_sequence_written.proofs.Constants.{sets-is, told}
+use Rattle.cf_sequence_written.proofs.Lasts.{last-is}
 use Rattle.cf_sequence_written.proofs.Tested.{clear, and-is, where-true, Tests, tested}
 
 some-first : (n : ℕ) → (suc n == 0) ≡ false
@@ -71,9 +73,11 @@ module _ (tables : Tables) where
       let params : parameters F.type ≡ map (type_of tables) f.params = parameters-taking (map (type_of tables) f.params) (type_of tables f.result) false in
       let count : length f.params ≡ length (parameters F.type) = sym (length-map f.params (type_of tables)) ∙ ap length (sym params) in
       let named : Bool = not (bytes_eq f.name (codes "__main")) in
-      let body : Bool = is_statement (length (parameters F.type)) F.body in
-      where-true (place f.body) (is_usual tables f) ((test tables f.body).statement (length f.params)) body
-      (Tests.statement (tested tables (signature_of tables) f.body) (length f.params) ∙ ap (λ m. is_statement m F.body) count)
+      let body : Bool = is_statement (length (parameters F.type)) F.body && declares_last true F.body in
+      let tests = tested tables (signature_of tables) f.body in
+      where-true (place f.body) (is_usual tables f) (in_body tables f) body
+      (and-is ((test tables f.body).statement (length f.params)) (test tables f.body).crowd (is_statement (length (parameters F.type)) F.body) (declares_last true F.body)
+      (Tests.statement tests (length f.params) ∙ ap (λ m. is_statement m F.body) count) (Tests.crowd tests ∙ sym (last-is true F.body)))
       ∙ parts-are (is_plain f.role) (named || takes_nothing f) (not (is_class (type_of tables f.result))) body
       ∙ ap (λ p. p && (true && ((named || takes_nothing f) && (not (is_class (type_of tables f.result)) && body)))) (role-is f.role)
       ∙ ap (λ k. is_plain_role F.role && (k && ((named || takes_nothing f) && (not (is_class (type_of tables f.result)) && body))))
@@ -106,9 +110,17 @@ module _ (tables : Tables) where
   named-is (x ∷ xs) name =
       picked (bytes_eq x.name name) x (find (λ (y : CoreStatic). bytes_eq y.name name) xs) (find (λ (y : Static). bytes_eq y.name name) (statics_of xs)) (named-is xs name)
 
+  numeral-is : (bytes : List ℕ) → unbuilt.is_numeral bytes ≡ is_numeral bytes
+  numeral-is [] = refl
+  numeral-is (b ∷ rest) = ap (λ v. not v && list_all is_ascii_digit (b ∷ rest)) (some-first (length rest))
+
+  one-mark : (bytes : List ℕ) → unbuilt.is_mark bytes ≡ is_mark bytes
+  one-mark (a ∷ b ∷ c ∷ rest) = ap (λ v. starts_with nat_eq (a ∷ b ∷ c ∷ rest) (codes "__u") && v) (numeral-is rest)
+  one-mark bytes = refl
+
   mark-is : (bytes : List ℕ) → unbuilt.has_mark bytes ≡ has_mark bytes
   mark-is [] = refl
-  mark-is (b ∷ rest) = ap (λ v. begins_mark (b ∷ rest) || v) (mark-is rest)
+  mark-is (b ∷ rest) = ap (λ v. v || unbuilt.has_mark rest) (one-mark (b ∷ rest)) ∙ ap (λ v. is_mark (b ∷ rest) || v) (mark-is rest)
 
   object-is : (all : List CoreStatic) (x : CoreStatic) → clear (in_static tables all x) ≡ is_own (statics_of all) (static_of tables x)
   object-is all x =

@@ -1,0 +1,74 @@
+-- Objects that are declared as the statement of an `if` by itself: they end with the scope around it (6.5.3).
+use Rattle.std.proofs.Common.{◌≡◌, List, [], ◌∷◌, refl}
+use Rattle.std.specs.List.{list_all}
+use Rattle.std.specs.Prelude.{ℕ, pos, codes, true, false}
+use Rattle.cf_base.specs.declared.kind.Kind.TheVariants.{Int}
+use Rattle.cf_base.specs.declared.arith.Arith.TheVariants as op
+use Rattle.cf_base.specs.Event.{Ended, Undefined}
+use Rattle.cf_core.specs.declared.operators.LoopForm.TheVariants as form
+use Rattle.cf_core.specs.Types.{pointer, reference, const}
+use Rattle.cf_core.specs.Core.{Core, absent, given, local, read, address, dereference, operate, step, arithmetic, bind, local_temporary, blank, sequence, declare, branch, loop, leave}
+use Rattle.cf_core.specs.Calls.{Program}
+use Rattle.cf_core.proofs.Sample.{int, function_of, listed, in_block, main_of, program, returns, num, add, put_digit, value_of, set, called}
+use Rattle.cf_sequence.specs.Built.{is_plainly_built}
+use Rattle.cf_sequence.proofs.Sample.{Shows}
+
+abbrev shown : Core → Core
+shown e = called (codes "p__Fi") (int ∷ []) int (e ∷ [])
+
+-- int p(int a){putchar('0'+a);return a;} and a main function
+abbrev with_main : List Core → Program
+with_main ss = program []
+    (function_of (codes "p__Fi") (int ∷ []) int (in_block (put_digit (value_of 0) ∷ returns (value_of 0) ∷ [])) ∷ main_of ss ∷ []) []
+
+-- for(int i=from;i<to;i=i+1)body
+abbrev counted : ℕ → Core → Core → Core → Core
+counted i from to body = sequence (listed (declare i int from
+    ∷ loop form.For (given (operate op.Less Int (value_of i) to)) (given (step true (arithmetic op.Add Int Int) (local i))) body ∷ []))
+
+-- int*q;{if(p(c))for(int i=3;i<5;i++)q=&i;}return *q;: the object has ended with the block, where there was one
+abbrev in_an_arm : ℕ → Program
+in_an_arm c = with_main (declare 0 (pointer int) blank
+    ∷ in_block (branch (shown (num c)) (counted 1 (num 3) (num 5) (set (local 0) (address (local 1)))) absent ∷ [])
+    ∷ returns (read (dereference (value_of 0))) ∷ [])
+
+object_of_an_arm_ends : Shows (in_an_arm 1) [] 20 (record { end = Undefined 5; out = codes "1" })
+object_of_an_arm_ends = record { core = refl; plain = refl }
+
+no_object_of_an_arm : Shows (in_an_arm 0) [] 20 (record { end = Undefined 7; out = codes "0" })
+no_object_of_an_arm = record { core = refl; plain = refl }
+
+-- int n=0;for(int i=0;i<3;i++)if(p(i))for(int j=0;j<i;j++)n=n+1;else int k=p(n+5);return n;: each turn has objects of its own
+abbrev in_turns : Program
+in_turns = with_main (declare 0 int (num 0)
+    ∷ counted 1 (num 0) (num 3) (branch (shown (value_of 1)) (counted 2 (num 0) (value_of 1) (set (local 0) (add (value_of 0) (num 1))))
+    (given (declare 3 int (shown (add (value_of 0) (num 5))))))
+    ∷ returns (value_of 0) ∷ [])
+
+arms_in_turns : Shows in_turns [] 40 (record { end = Ended (pos 3); out = codes "0512" })
+arms_in_turns = record { core = refl; plain = refl }
+
+-- int a=1;if(p(2))if(p(a))for(int i=4;i<9;i++)return p(i);: a way out of an arm ends what is declared there
+abbrev out_of_an_arm : Program
+out_of_an_arm = with_main (declare 0 int (num 1)
+    ∷ branch (shown (num 2)) (branch (shown (value_of 0)) (counted 1 (num 4) (num 9) (returns (shown (value_of 1)))) absent) absent ∷ [])
+
+way_out_of_an_arm : Shows out_of_an_arm [] 20 (record { end = Ended (pos 4); out = codes "214" })
+way_out_of_an_arm = record { core = refl; plain = refl }
+
+-- const int*q;{if(p(1))for(const int&r=p(4);;){q=&r;break;}}return *q;: a reference's temporary ends so too
+abbrev reference_in_an_arm : Program
+reference_in_an_arm = with_main (declare 0 (pointer (const int)) blank
+    ∷ in_block (branch (shown (num 1)) (sequence (listed (declare 1 (reference (const int)) (bind (local_temporary 2 (const int)) (shown (num 4)))
+    ∷ loop form.For absent absent (in_block (set (local 0) (address (local 1)) ∷ leave ∷ [])) ∷ []))) absent ∷ [])
+    ∷ returns (read (dereference (value_of 0))) ∷ [])
+
+temporary_of_an_arm_ends : Shows reference_in_an_arm [] 20 (record { end = Undefined 5; out = codes "14" })
+temporary_of_an_arm_ends = record { core = refl; plain = refl }
+
+arms_are_built : list_all is_plainly_built (in_an_arm 1 ∷ in_turns ∷ out_of_an_arm ∷ reference_in_an_arm ∷ []) ≡ true
+arms_are_built = refl
+
+-- if(1)int x=2;return 0;: not built, since the object lives on behind the `if`
+not_last : is_plainly_built (with_main (branch (num 1) (declare 0 int (num 2)) absent ∷ returns (num 0) ∷ [])) ≡ false
+not_last = refl
