@@ -6,9 +6,9 @@ ghost use Rattle.cf_core.specs.FromUnit.{tables_of};
 ghost use Rattle.cf_core.specs.Numbers.{function_known, static_known};
 ghost use Rattle.cf_sequence_built.specs.Unbuilt as spec;
 
+use crate::arms::crowd;
 use crate::constants::sets;
 use crate::statements::{is_blank, statement};
-use crate::arms::crowd;
 use crate::types::{is_of_class, is_reference};
 use cf_core::{CoreFn, CoreStatic, CoreUnit, Role};
 
