@@ -49,7 +49,7 @@ IsTold (Some a) b = a ≡ b
 -- The object stands or not, as is told; the register that it was declared in has its place until the first value, and once it has one it holds a value; and a flag of which
 -- that is told tells whether it stands.
 pub record IsOpen (count : ℕ) (x : Opened) (g : Registers) (s : State) : Type 0 where
-  pub way : Bool
+  pub way : Bool  -- whether it stands
   pub told : IsTold x.stands way
   pub there : way ≡ true → Stands count x.local s
   pub over : way ≡ false → IsOver count x.local s

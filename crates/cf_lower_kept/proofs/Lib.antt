@@ -1,5 +1,6 @@
 pub mod Actions
 mod OpenedRows
+mod ReadyRows
 pub mod Operands
 pub mod Statements
 pub mod Turns
