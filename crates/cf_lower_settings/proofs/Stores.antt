@@ -207,7 +207,7 @@ module _ (P : Program) (none : P.classes ≡ []) (function : Name → ℕ) (sign
           rel = done.rel;
           next = done.next;
           elsewhere = λ b free. done.elsewhere b (other-block b (F.block p.object) (λ e. free p.object known live e));
-          depth = refl;
+          frame = refl;
           literals = refl;
           finished = refl;
         };
