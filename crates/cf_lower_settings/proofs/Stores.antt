@@ -56,7 +56,7 @@ shown-live hidden e = refl
 shown-live shown e = refl
 shown-live ended e = absurd (cc)
 
-shown-visible : (st : Stage) → is_shown st ≡ true → is_hidden st ≡ false
+pub shown-visible : (st : Stage) → is_shown st ≡ true → is_hidden st ≡ false
 shown-visible hidden e = absurd (cc)
 shown-visible shown e = refl
 shown-visible ended e = refl
