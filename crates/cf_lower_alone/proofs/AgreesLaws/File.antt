@@ -146,7 +146,7 @@ module _ (fs : List PlainFunction) (xs : List PlainStatic) (low : Lowerable (fil
   registers : RegistersNothing (items_of program.items)
   registers = registers-nothing (items_of program.items) (no-fault program valid) A.no_exit
 
-  pub with-constants : (helpers : List Function) → function_named (functions_of (items_of program.items)) (codes "main") ≡ Some (main_function helpers)
+  with-constants : (helpers : List Function) → function_named (functions_of (items_of program.items)) (codes "main") ≡ Some (main_function helpers)
       → ConstantsAlike B (program_of (file ∷ [])).constants (calls_of_helpers helpers) first → ProgramAgrees (file ∷ []) program
   with-constants helpers found constants =
       program-agrees (file ∷ []) program (one-fits file u program low is links) tested mains (joined-initialisers fs xs low) helpers found constants registers
@@ -248,8 +248,8 @@ module _ (fs : List PlainFunction) (xs : List PlainStatic) (low : Lowerable (fil
       (constants-alike B fits.fitting.none first starts names-stand (in_plain fs xs low) (in_program file) (in_file 1 (codes "__sti")) xs texts all-texts sets
       (numbers-differ fs xs low program A) (helper-found (stores_of file) A.stored)))
 
-  pub without-constants : ProgramAgrees (file ∷ []) program
-  without-constants = with-constants A.helpers (main-found fs xs low program A) constants
+  pub file-agrees : ProgramAgrees (file ∷ []) program
+  file-agrees = with-constants A.helpers (main-found fs xs low program A) constants
 
 -- ---- of any file, which has no classes
 
@@ -260,19 +260,8 @@ no-classes (c ∷ cs) e = absurd (true≢false (sym e))
 abbrev with_classes : PlainFile → List Class → PlainFile
 with_classes file cs = record { classes = cs; functions = file.functions; statics = file.statics }
 
-pub one-agrees : (file : PlainFile) (unit : CUnit) (program : CProgram) (helpers : List Function) → valid_program program ≡ true → Lowerable file → IsLowered file unit
-    → Links (unit ∷ []) (Ok program) → function_named (functions_of (items_of program.items)) (codes "main") ≡ Some (main_function helpers)
-    → ConstantsAlike (programs (file ∷ []) program) (program_of (file ∷ [])).constants (calls_of_helpers helpers) (c_start.first_state (items_of program.items))
-    → ProgramAgrees (file ∷ []) program
-one-agrees file unit program helpers valid low is links found =
-    subst (λ cs. Lowerable (with_classes file cs) → IsLowered (with_classes file cs) unit → Links (unit ∷ []) (Ok program)
-    → ConstantsAlike (programs (with_classes file cs ∷ []) program) (program_of (with_classes file cs ∷ [])).constants (calls_of_helpers helpers)
-    (c_start.first_state (items_of program.items)) → ProgramAgrees (with_classes file cs ∷ []) program) (no-classes file.classes low.no_classes)
-    (λ low is links constants. with-constants file.functions file.statics low unit program is links valid helpers found constants) low is links
-
-pub one-agrees-alone : (file : PlainFile) (unit : CUnit) (program : CProgram) → valid_program program ≡ true → Lowerable file → IsLowered file unit
+pub one-agrees : (file : PlainFile) (unit : CUnit) (program : CProgram) → valid_program program ≡ true → Lowerable file → IsLowered file unit
     → Links (unit ∷ []) (Ok program) → ProgramAgrees (file ∷ []) program
-one-agrees-alone file unit program valid low is links =
-    subst (λ cs. Lowerable (with_classes file cs) → IsLowered (with_classes file cs) unit → Links (unit ∷ []) (Ok program)
-    → ProgramAgrees (with_classes file cs ∷ []) program) (no-classes file.classes low.no_classes)
-    (λ low is links. without-constants file.functions file.statics low unit program is links valid) low is links
+one-agrees file unit program valid low is links =
+    subst (λ cs. Lowerable (with_classes file cs) → IsLowered (with_classes file cs) unit → Links (unit ∷ []) (Ok program) → ProgramAgrees (with_classes file cs ∷ []) program)
+    (no-classes file.classes low.no_classes) (λ low is links. file-agrees file.functions file.statics low unit program is links valid) low is links
